@@ -1,4 +1,4 @@
--- What is known of actions and of clause 2 at the pairs of a row.
+-- Allowed actions and clause 2 at the pairs of a row.
 use Rattle.std.proofs.Common.{◌≡◌, ℕ, ◌+◌, ◌*◌, ◌<◌, ◌≤◌, Bool, true, false, not, ◌&&◌, ◌||◌, length, refl, sym, ap, ap₂, ◌∙◌, arith, zero, suc, eqb, List, [], ◌∷◌, inl, inr, slice_get, slice_index}
 use Rattle.std.proofs.lemmas.Bool.{both_ways, cases_eq}
 use Rattle.roman_model.specs.Lists.{is_empty, all_below}
@@ -20,13 +20,13 @@ use Rattle.std.proofs.lemmas.List.{length-map}
 pub open_here : (s : Sys) (row : Row) (x a lane : ℕ) → IsRow s x row → lane < lanes_in s → is_allowed s (pair_at (sizes_of s) (x * lanes_in s + lane)) a ≡ is_open s row a
 open_here s row x a lane ok l = ap₂ (λ t e. not (is_empty (env_next s.env e a)) && not (is_empty (beh_next s.target t e a))) (ok.targets lane l) (ok.envs lane l)
 
--- where an action leads somewhere it is allowed
+-- where an action leads somewhere, it is allowed
 pub turn_open : (s : Sys) (row : Row) (a : ℕ) (turn : Turn) → IsTurn s row a turn → is_open s row a ≡ true
 turn_open s row a turn ok =
     let some : is_empty (env_next s.env row.env a) ≡ false = ap is_empty (sym ok.worlds) ∙ ok.some in
     ap₂ (λ x ts. not x && not (is_empty ts)) some ok.target
 
--- where it isn't allowed no action is a reason
+-- where an action isn't allowed, it is no reason
 pub refused : (s : Sys) (row : Row) (x a lane : ℕ) (gone : ℕ → Bool) → IsRow s x row → lane < lanes_in s → is_open s row a ≡ false → false ≡ is_justified (numbered s) gone (x * lanes_in s + lane) (Act a)
 refused s row x a lane gone ok l off =
     sym (ap (λ b. b && all_below (is_beaten (numbered s) gone (x * lanes_in s + lane) a) (length s.seats)) (open_here s row x a lane ok l ∙ off))
@@ -36,7 +36,7 @@ pub judged : (s : Sys) (row : Row) (x a lane : ℕ) (gone : ℕ → Bool) → Is
 judged s row x a lane gone ok l on =
     sym (ap (λ b. b && all_below (is_beaten (numbered s) gone (x * lanes_in s + lane) a) (length s.seats)) (open_here s row x a lane ok l ∙ on))
 
--- and no seat serves it
+-- where an action isn't allowed, no seat serves it
 pub unopened : (s : Sys) (row : Row) (x a k lane : ℕ) (gone : ℕ → Bool) → IsNumbered (numbered s) → IsRow s x row → lane < lanes_in s → is_open s row a ≡ false →
     is_beaten (numbered s) gone (x * lanes_in s + lane) a k ≡ true
 unopened s row x a k lane gone nodes ok l off =
@@ -46,12 +46,12 @@ unopened s row x a k lane gone nodes ok l off =
 pub and_nothing : (b c : Bool) → false ≡ c → false ≡ (b && c)
 and_nothing b c e = grind arith
 
--- what no seat so far serves, where nothing is left
+-- where nothing is left after the first k, nothing is left after n
 pub cut_off : (p : ℕ → Bool) (k n : ℕ) (wanted : Bool) → k ≤ n → (wanted && all_below p k) ≡ false → (wanted && all_below p n) ≡ false
 cut_off p k n false l e = refl
 cut_off p k n true l e = by_test (all_below p n) (λ t. absurd (both_ways (all_below p k) e (all_below_from p k (λ i m. all_below_at p n i t (omega arith))))) (λ f. f)
 
--- further ones that all pass change nothing
+-- further numbers that all pass change nothing
 pub all_further : (p : ℕ → Bool) (k n : ℕ) → k ≤ n → ((j : ℕ) → k ≤ j → j < n → p j ≡ true) → all_below p k ≡ all_below p n
 all_further p k zero l on = let none : k ≡ zero = omega arith in ap (all_below p) none
 all_further p k (suc n) l on = elim (cases_eq k (suc n)) [
@@ -61,12 +61,12 @@ all_further p k (suc n) l on = elim (cases_eq k (suc n)) [
       all_further p k n less (λ j past m. on j past (omega arith)) ∙ (sym (and-true (all_below p n)) ∙ ap (λ b. all_below p n && b) (sym (on n less (omega arith))))
 ]
 
--- the first of all that are below
+-- the test of all numbers below a bound, with the first one split off
 all_first : (p : ℕ → Bool) (n : ℕ) → all_below p (suc n) ≡ (p 0 && all_below (λ k. p (suc k)) n)
 all_first p zero = sym (and-true (p 0))
 all_first p (suc n) = ap (λ b. b && p (suc n)) (all_first p n) ∙ and_assoc (p 0) (all_below (λ k. p (suc k)) n) (p (suc n))
 
--- each seat may rest, seat by seat
+-- all services that rest are final exactly if each seat may rest
 pub all_rest : (seats : List Seat) (bs : List ℕ) → length bs ≡ length seats → all_final seats bs ≡ all_below (λ k. may_rest (slice_get seats k) (slice_index bs k)) (length seats)
 all_rest [] bs h = refl
 all_rest (seat ∷ seats) [] h = absurd (omega (arith, h))
@@ -74,7 +74,7 @@ all_rest (seat ∷ seats) (b ∷ bs) h =
     ap (λ t. (not seat.rests || is_final seat.beh b) && t) (all_rest seats bs (omega (arith, h)))
     ∙ sym (all_first (λ k. may_rest (slice_get (seat ∷ seats) k) (slice_index (b ∷ bs) k)) (length seats))
 
--- at a pair of a row
+-- clause 2 at a pair of a row
 pub fine_there : (s : Sys) (row : Row) (x lane : ℕ) → IsRow s x row → lane < lanes_in s →
     (numbered s).fine (x * lanes_in s + lane) ≡ (not (is_final s.target row.target) || all_below (λ k. may_rest (slice_get s.seats k) (slice_index (pair_at (sizes_of s) (x * lanes_in s + lane)).bs k)) (length s.seats))
 fine_there s row x lane ok l =
@@ -82,6 +82,6 @@ fine_there s row x lane ok l =
     let long : length (pair_at (sizes_of s) p).bs ≡ length s.seats = AreBelow-length (sizes_of s).seats (pair_at (sizes_of s) p).bs (IsPairOf-at (sizes_of s) p (ok.below lane l)).bs ∙ length-map s.seats (λ (y : Seat). y.beh.states) in
     ap₂ (λ t b. not (is_final s.target t) || b) (ok.targets lane l) (all_rest s.seats (pair_at (sizes_of s) p).bs long)
 
--- a test of the one state that is meant
+-- a test behind an equality can be made at the equal number
 pub same_state : (m b : ℕ) (f : ℕ → Bool) → (eqb m b && f b) ≡ (eqb m b && f m)
 same_state m b f = grind (arith, nat_tests)

@@ -9,7 +9,7 @@ use Rattle.roman_joint.specs.NamedSys.{NamedSys, system_of, IsNamedSys}
 use Rattle.roman_rules.specs.Numbered.{IsNumbered}
 use Rattle.roman_joint.proofs.Rows.{count_fits}
 
--- a joint's system is one over numbers
+-- a joint's system is an arena over numbers
 pub joint_numbered : (n : NamedSys) → IsNamedSys n → IsNumbered (numbered (system_of n))
 joint_numbered n known =
     let s = system_of n in
@@ -36,5 +36,5 @@ beaten_where A gone p a k none = by_test (is_empty (A.outcomes p a k))
     (λ empty. ap (λ b. b || list_any gone (A.outcomes p a k)) empty)
     (λ some. let (q, i) = not_empty_in (A.outcomes p a k) some in absurd (none q i))
 
--- the nodes are as many as the pairs
+-- the number of nodes is the number of pairs
 pub ruleset pair_count = (length-below)

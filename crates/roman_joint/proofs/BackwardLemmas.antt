@@ -1,4 +1,4 @@
--- The delegations found backwards are those that lead to the pair.
+-- The delegations that are found backwards are those that lead to the pair.
 use Rattle.std.proofs.Common.{◌≡◌, ℕ, ◌<◌, Bool, true, false, cond, [], map, length, Option, Some, None, IsTrue, IsFalse, slice_get, slice_index, slice_set, refl, sym, ap, ◌∙◌, subst, arith}
 use Rattle.roman_model.specs.Lists.{IsIn, HasNoRepeats, HoldsEachOnce, below}
 use Rattle.roman_model.specs.System.{Env, Sys, Seat, Pair, IsSys, IsPair, IsBeh, has_triple, has_move}
@@ -35,13 +35,13 @@ pub in_seat_prev : (env : Env) (o : Option Seat) (seat : Seat) (b' e a b : ℕ) 
 in_seat_prev env o seat b' e a b seated ok ready moves =
     subst (λ y. IsIn b (seat_prev y b' e a)) (sym seated) (subst (λ f. IsIn b (cond f [] (beh_prev seat.beh b' e a))) (sym ready) (in_beh_prev env seat.beh b e a b' ok moves))
 
--- the steps of a state of a seat, where the others are such steps
+-- the steps from a predecessor state of a seat, with those of the environment and the target
 state_steps : (s : Sys) (q : Pair) (a e t k b : ℕ) → IsIn e (env_prev s.env q.e a) → IsIn t (beh_prev s.target q.t e a) → IsIn b (seat_prev (slice_get s.seats k) (slice_index q.bs k) e a) → Steps s q a e t k b
 state_steps s q a e t k b in_env in_target in_states =
     let (seat, seated, ready, moves) = from_seat_prev (slice_get s.seats k) (slice_index q.bs k) e a b in_states in
     record { seat = seat; seated = seated; ready = ready; world = from_env_prev s.env e a q.e in_env; goal = from_beh_prev s.target t e a q.t in_target; moves = moves }
 
--- each delegation found is one of those steps
+-- each delegation that is found has such steps
 pub record Found (s : Sys) (q : Pair) (d : Delegation ℕ) : Type 0 where
   pub e : ℕ
   pub t : ℕ
@@ -59,7 +59,7 @@ from_all_found s q d i =
     let found : Found s q (delegation s q a e t k b) = record { e = e; t = t; b = b; steps = state_steps s q a e t k b in_env in_target in_states; is = refl } in
     subst (Found s q) (sym is) found
 
--- and each of those steps is found
+-- each delegation with such steps is found
 pub in_all : (s : Sys) (q : Pair) (a e t k b : ℕ) → IsSys s → Steps s q a e t k b → IsIn (delegation s q a e t k b) (from_all s q)
 in_all s q a e t k b sys steps =
     let d : Delegation ℕ = delegation s q a e t k b in
@@ -76,7 +76,7 @@ in_all s q a e t k b sys steps =
 length_of_pair : (s : Sys) (p : Pair) → IsPair s p → length p.bs ≡ length s.seats
 length_of_pair s p ok = AreBelow-length (map (λ seat. seat.beh.states) s.seats) p.bs (IsPairOf-from s p ok).bs ∙ length-map s.seats (λ seat. seat.beh.states)
 
--- the pair from which the steps go
+-- the pair from which the steps lead
 abbrev pub origin : Pair → ℕ → ℕ → ℕ → ℕ → Pair
 origin q e t k b = record { t = t; e = e; bs = slice_set q.bs k b }
 
@@ -103,7 +103,7 @@ steps_lead s q a e t k b sys ok steps =
       is = sym (set-set q.bs k b (slice_index q.bs k) ∙ set-get_or q.bs k 0);
     })
 
--- what leads to q comes from there by such steps
+-- a delegation that leads to q has such steps
 pub record Comes (s : Sys) (q p : Pair) (a k : ℕ) : Type 0 where
   pub steps : Steps s q a p.e p.t k (slice_index p.bs k)
   pub from : origin q p.e p.t k (slice_index p.bs k) ≡ p
@@ -126,7 +126,7 @@ outcome_steps s q p a k ok i =
       from = rw back;
     }
 
--- each delegation found leads to q
+-- each delegation that is found leads to q
 pub found_leads : (s : Sys) (p : ℕ) (d : Delegation ℕ) → IsSys s → p < count (sizes_of s) → IsIn d (from_all s (pair_at (sizes_of s) p)) → IsIn d (back (numbered s) p)
 found_leads s p d sys below_p i =
     let q : Pair = pair_at (sizes_of s) p in
@@ -142,7 +142,7 @@ found_leads s p d sys below_p i =
     (in_back (numbered s) (numbered_is_arena s sys) p (number (sizes_of s) r) d.action d.seat
     (in_below (count (sizes_of s)) (number (sizes_of s) r) ((numbers_are_pairs s).below r ok_r)) there)
 
--- and what leads to q is found
+-- each delegation that leads to q is found
 pub leads_found : (s : Sys) (p : ℕ) (d : Delegation ℕ) → IsSys s → p < count (sizes_of s) → IsIn d (back (numbered s) p) → IsIn d (from_all s (pair_at (sizes_of s) p))
 leads_found s p d sys below_p i =
     let q : Pair = pair_at (sizes_of s) p in
@@ -156,7 +156,7 @@ leads_found s p d sys below_p i =
     let node : number (sizes_of s) (origin q r.e r.t d.seat (slice_index r.bs d.seat)) ≡ d.node = ap (number (sizes_of s)) comes.from ∙ (numbers_are_pairs s).there d.node below_d in
     rw node at (in_all s q d.action r.e r.t d.seat (slice_index r.bs d.seat) sys comes.steps)
 
--- the states and the seat of a delegation found are those that it was found by
+-- the states and the seat of a delegation are those by which it was found
 pub record FoundAt (s : Sys) (q : Pair) (e t k : ℕ) (d : Delegation ℕ) : Type 0 where
   pub env : (pair_at (sizes_of s) d.node).e ≡ e
   pub target : (pair_at (sizes_of s) d.node).t ≡ t
@@ -233,7 +233,7 @@ module _ (s : Sys) (q : Pair) (sys : IsSys s) (ok : IsPair s q) where
       HasNoRepeats-flat_map (from_action s q) (below s.env.actions) (λ a i. action_once a)
       (λ a b d i j l m. sym (action_at a d l) ∙ action_at b d m) (HasNoRepeats-below s.env.actions)
 
--- the delegations found backwards are those that lead to the pair, each once
+-- the delegations that are found backwards are those that lead to the pair, each once
 pub found_backwards : (s : Sys) (p : ℕ) → IsSys s → p < count (sizes_of s) → HoldsEachOnce (from_all s (pair_at (sizes_of s) p)) (back (numbered s) p)
 found_backwards s p sys below_p = record {
   once = all_once s (pair_at (sizes_of s) p) sys ((numbers_are_pairs s).pair p below_p);

@@ -101,7 +101,7 @@ mid_low s k l = omega (arith, l, low_of-le (row_sizes (sizes_of s)).seats, lengt
 pub first_in : (s : Sys) → IsSizes (sizes_of s) → 0 < band_in s
 first_in s h = lanes_positive (row_sizes (sizes_of s)).seats (IsSizes-rows (sizes_of s) h).seats
 
--- where the rows to which a row of a band goes begin
+-- the rows to which row i of a band goes
 pub record BandBefore (s : Sys) (r : Rows) (turn : Turn) (k part i long : ℕ) (states : List ℕ) : Type 0 where
   pub taken : part * slice_index r.strides k ≤ turn.base
   pub few : long < 2 ^ 32
@@ -153,7 +153,7 @@ module _ (s : Sys) (r : Rows) (y a : ℕ) (first : Row) (turn : Turn) (h : Known
       beaten_before s r (y * band_in s + i) a k (row_in s (y * band_in s + i) first) (turn_at turn i) states gone (known_at i l) laid (turned i l) (mid_low s k before)
       (is_states ∙ ap (λ b. seat_next (slice_get s.seats k) b first.env a) (sym ((here i l).before k before))) none
 
--- one row more is judged
+-- one more row is judged
 pub keeps_more : (s : Sys) (x i good word : ℕ) (test : ℕ → Bool) (old now : List ℕ) → i < length now → Keeps (lanes_in s) x i test old now →
     ((lane : ℕ) → lane < lanes_in s → is_on good lane ≡ not (test ((x + i) * lanes_in s + lane))) →
     ((lane : ℕ) → is_on word lane ≡ (is_on (slice_index now i) lane && not (is_on good lane))) → Keeps (lanes_in s) x (i + 1) test old (set now i word)
@@ -172,7 +172,7 @@ keeps_more s x i good word test old now room before served told = record {
   ];
 }
 
--- a seat that serves nothing
+-- a seat that serves at no pair clears nothing
 pub keeps_all : (s : Sys) (x many : ℕ) (test : ℕ → Bool) (now : List ℕ) → ((i : ℕ) → i < many → HasLanes (lanes_in s) (x + i) (λ p. not (test p)) 0) → Keeps (lanes_in s) x many test now now
 keeps_all s x many test now nothing = record {
   each = λ i lane l m.
@@ -189,7 +189,7 @@ pub record OwnRow (s : Sys) (r : Rows) (k i part : ℕ) : Type 0 where
   pub state : part < slice_index (sizes_of s).seats k
   pub there : (b : ℕ) → b < slice_index (sizes_of s).seats k → i - part * slice_index r.strides k + b * slice_index r.strides k < band_in s
 
--- what is known of one of a band's own seats
+-- facts about one of a band's own seats
 pub record OwnSeat (s : Sys) (r : Rows) (k : ℕ) : Type 0 where
   pub stride : slice_index r.strides k ≡ stride_of (row_sizes (sizes_of s)) k
   pub size : slice_index r.sizes k ≡ slice_index (row_sizes (sizes_of s)).seats k
@@ -236,7 +236,7 @@ own_row s r k i part sizes laid within low l is_part =
           omega (arith, to, step, moved, taken);
     }
 
--- a band is so many blocks of all states of one of its own seats
+-- a band consists of blocks of all states of one of its own seats
 pub record OwnBlocks (s : Sys) (r : Rows) (k : ℕ) : Type 0 where
   pub some : 0 < slice_index r.sizes k * slice_index r.strides k
   pub few : slice_index r.sizes k * slice_index r.strides k ≤ 64
@@ -306,7 +306,7 @@ module _ (s : Sys) (r : Rows) (y a : ℕ) (first : Row) (turn : Turn) (h : Known
       ∙ any_turned (λ b e. gone (to lane e b)) states turn.envs.now)
       ∙ leads_served (numbered s) gone (x * w + lane) a k turn.envs.now states (to lane) (λ e b. gone (to lane e b)) (leads lane m) ok.some some (λ e b v j. refl))
 
--- what is left stays left
+-- two tests, one after another, are both tests at once
 pub keeps_then : (s : Sys) (x many : ℕ) (p q : ℕ → Bool) (old now new : List ℕ) → Keeps (lanes_in s) x many p old now → Keeps (lanes_in s) x many q now new → Keeps (lanes_in s) x many (λ i. p i && q i) old new
 keeps_then s x many p q old now new first then = record {
   each = λ i lane l m.
@@ -316,7 +316,7 @@ keeps_then s x many p q old now new first then = record {
   none = λ i lane off. then.none i lane (first.none i lane off);
 }
 
--- another test that says the same of the pairs
+-- a test can be replaced by one that agrees at the pairs
 pub keeps_same : (s : Sys) (x many : ℕ) (p q : ℕ → Bool) (old new : List ℕ) → ((i lane : ℕ) → i < many → lane < lanes_in s → p ((x + i) * lanes_in s + lane) ≡ q ((x + i) * lanes_in s + lane)) → Keeps (lanes_in s) x many p old new → Keeps (lanes_in s) x many q old new
 keeps_same s x many p q old new same h = record {
   each = λ i lane l m. h.each i lane l m ∙ ap (λ b. is_on (slice_index old i) lane && b) (same i lane l m);
@@ -324,7 +324,7 @@ keeps_same s x many p q old new same h = record {
   none = h.none;
 }
 
--- where nothing is left further tests change nothing
+-- where nothing is left, further tests change nothing
 pub keeps_cut : (s : Sys) (x many k n : ℕ) (p : ℕ → ℕ → Bool) (old now : List ℕ) → k ≤ n → ((i : ℕ) → i < many → slice_index now i ≡ 0) → Keeps (lanes_in s) x many (λ q. all_below (p q) k) old now → Keeps (lanes_in s) x many (λ q. all_below (p q) n) old now
 keeps_cut s x many k n p old now l clear h = record {
   each = λ i lane m v.
@@ -353,7 +353,7 @@ keeps_one s x word test old one told off = record {
   ];
 }
 
--- a word of nothing for each row
+-- where no pair passes, all words are 0
 pub keeps_nothing : (s : Sys) (x many : ℕ) (p : ℕ → Bool) (old now : List ℕ) → length old ≤ many → length now ≡ length old → ((i : ℕ) → i < length old → slice_index now i ≡ 0) →
     ((i lane : ℕ) → i < many → lane < lanes_in s → false ≡ p ((x + i) * lanes_in s + lane)) → Keeps (lanes_in s) x many p old now
 keeps_nothing s x many p old now few long clear off = record {
@@ -368,13 +368,13 @@ keeps_nothing s x many p old now few long clear off = record {
       | inr past ↦ get_or_past now i 0 (omega (arith, long, past))
     ]
 
--- one seat more is judged
+-- one more seat is judged
 pub keeps_seat : (s : Sys) (x many k : ℕ) (p : ℕ → ℕ → Bool) (old now new : List ℕ) → Keeps (lanes_in s) x many (λ q. all_below (p q) k) old now → Keeps (lanes_in s) x many (λ q. p q k) now new → Keeps (lanes_in s) x many (λ q. all_below (p q) (k + 1)) old new
 keeps_seat s x many k p old now new before here =
     let next : suc k ≡ k + 1 = omega arith in
     subst (λ m. Keeps (lanes_in s) x many (λ q. all_below (p q) m) old new) next (keeps_then s x many (λ q. all_below (p q) k) (λ q. p q k) old now new before here)
 
--- a band's own seats and those before them are some of the seats
+-- the seats before a band's own are among the seats
 pub mid_few : (s : Sys) → mid_in s ≤ length s.seats
 mid_few s =
     let n = sizes_of s in
@@ -392,7 +392,7 @@ keeps_clear s x many test old new good few long served told = record {
   ];
 }
 
--- the rows of one state more
+-- the rows of one more state
 pub where_more : (s : Sys) (x b : ℕ) (digit : ℕ → ℕ) (test : ℕ → Bool) (old now new : List ℕ) → KeepsWhere s x (λ i. digit i < b) test old now → KeepsWhere s x (λ i. digit i ≡ b) test now new → KeepsWhere s x (λ i. digit i < b + 1) test old new
 where_more s x b digit test old now new before here = record {
   each = λ i lane l m less. elim (cases_lt (digit i) b) [

@@ -1,4 +1,4 @@
--- What is known of the behaviour of a service.
+-- Facts about the behaviour of a service.
 use Rattle.std.proofs.Common.{◌≡◌, ℕ, zero, suc, ◌<◌, List, [], ◌∷◌, Some, length, slice_get, get_or, sym, ap, ◌∙◌, subst, arith}
 use Rattle.std.specs.Option.{option_map}
 use Rattle.std.proofs.lemmas.Option.{slice_get-map, slice_get_within, get_or_from_slice_get, slice_get-get_or}
@@ -10,7 +10,7 @@ use Rattle.roman_joint.specs.NamedSys.{NamedSys, IsNamedSys, IsOverEnv, system_o
 use Rattle.roman_joint.specs.declared.seat.Seat.{Seat}
 use Rattle.roman_joint.specs.Behaviours.{IsSeatBehaviour}
 
--- what is read at a place of the catalogue
+-- the behaviour that is read at a place of the catalogue
 pub beh_read : (catalogue : List NamedBeh) (i : ℕ) (beh : NamedBeh) → slice_get catalogue i ≡ Some beh → beh_at catalogue i ≡ beh.beh
 beh_read [] i beh h = cc
 beh_read (x ∷ xs) zero beh h = let e : x ≡ beh = cc in ap (λ (y : NamedBeh). y.beh) e
@@ -47,7 +47,7 @@ seat_within n k seat h =
     let l = slice_get_within (system_of n).seats k seat h in
     omega (arith, l, length-map n.seats (seat_of n.catalogue))
 
--- what is read at a place of the catalogue stands there
+-- the behaviour that is read at a place of the catalogue stands there
 pub beh_placed : (n : NamedSys) (k : ℕ) (seat : Seat) (catalogue : List NamedBeh) (beh : NamedBeh) → IsNamedSys n → slice_get n.seats k ≡ Some seat → catalogue ≡ n.catalogue →
     beh ≡ get_or catalogue seat.behaviour beh → slice_get n.catalogue seat.behaviour ≡ Some beh
 beh_placed n k seat catalogue beh known seated same h =

@@ -2,11 +2,11 @@
 
 -- Searches for the first element that passes, step by step.
 pub use Rattle.roman_joint.proofs.Finds.{if_some}
--- Services and their behaviours, one after the other.
+-- Services and their behaviours, read one after another.
 pub use Rattle.roman_joint.proofs.SeatLemmas.{seat_beh_read, states_range}
--- What changes where a service is frozen, goes or comes.
+-- The system after a service is frozen, dropped or added.
 pub use Rattle.roman_joint.proofs.SeatChanges.{frozen_known, frozen_system, gone_known, gone_system, joined_known, joined_system}
 -- Arenas over numbers keep the laws of arenas.
 pub use Rattle.roman_joint.proofs.ArenaFacts.{joint_numbered}
--- What is known of the behaviour of a service.
+-- Facts about the behaviour of a service.
 pub use Rattle.roman_joint.proofs.BehaviourLemmas.{Behaves, beh_read, behaves, seat_read, seat_within}

@@ -26,13 +26,13 @@ find-map f p (x ∷ xs) = ap (cond (p (f x)) (Some (f x))) (find-map f p xs) ∙
     of_test true = refl
     of_test false = refl
 
--- in the first of some lists
+-- the search finds an element in the first of some lists
 pub find_in_first : {X Y : Type 0} (f : X → List Y) (p : Y → Bool) (xs : List X) (i : ℕ) (d : X) (y : Y) → i < length xs → find p (f (get_or xs i d)) ≡ Some y →
     find p (flat_map f (drop i xs)) ≡ Some y
 find_in_first f p xs i d y l h =
     ap (λ ys. find p (flat_map f ys)) (drop_more xs i d l) ∙ (find-append p (f (get_or xs i d)) (flat_map f (drop (i + 1) xs)) ∙ ap (λ o. option_or o (find p (flat_map f (drop (i + 1) xs)))) h)
 
--- not in the first of some lists
+-- the search goes on past the first of some lists
 pub find_in_rest : {X Y : Type 0} (f : X → List Y) (p : Y → Bool) (xs : List X) (i : ℕ) (d : X) → i < length xs → find p (f (get_or xs i d)) ≡ None →
     find p (flat_map f (drop i xs)) ≡ find p (flat_map f (drop (i + 1) xs))
 find_in_rest f p xs i d l h =
@@ -41,7 +41,7 @@ find_in_rest f p xs i d l h =
 pub find_in_none : {X Y : Type 0} (f : X → List Y) (p : Y → Bool) (xs : List X) (i : ℕ) → length xs ≤ i → find p (flat_map f (drop i xs)) ≡ None
 find_in_none f p xs i l = ap (λ ys. find p (flat_map f ys)) (drop_all i xs l)
 
--- what stands at a place is in the list
+-- the element at a place is in the list
 pub in_at : {X : Type 0} (xs : List X) (i : ℕ) (d : X) → i < length xs → IsIn (get_or xs i d) xs
 in_at [] i d l = absurd (omega arith)
 in_at (x ∷ xs) zero d l = inl refl
@@ -60,14 +60,14 @@ numbers_of_all g (e ∷ envs) states =
     map-append (λ (x : ℕ × ℕ). g x.0 x.1) (map (λ b. (e, b)) states) (flat_map (λ e. map (λ b. (e, b)) states) envs)
     ∙ ap₂ (λ xs ys. xs ++ ys) (numbers_of_pairs g e states) (numbers_of_all g envs states)
 
--- a search among numbers of two states each
+-- a search among numbers that are made of two states
 pub find_numbers : (g : ℕ → ℕ → ℕ) (gone : ℕ → Bool) (envs states : List ℕ) (o : Option (ℕ × ℕ)) →
     o ≡ find (λ x. gone (g x.0 x.1)) (flat_map (λ e. map (λ b. (e, b)) states) envs) → find gone (flat_map (λ e. map (g e) states) envs) ≡ option_map (λ (x : ℕ × ℕ). g x.0 x.1) o
 find_numbers g gone envs states o h =
     ap (find gone) (sym (numbers_of_all g envs states))
     ∙ (find-map (λ (x : ℕ × ℕ). g x.0 x.1) gone (flat_map (λ e. map (λ b. (e, b)) states) envs) ∙ ap (option_map (λ (x : ℕ × ℕ). g x.0 x.1)) (sym h))
 
--- no states make no numbers
+-- without states there are no numbers
 pub no_numbers : (g : ℕ → ℕ → ℕ) (envs states : List ℕ) → states ≡ [] → flat_map (λ e. map (g e) states) envs ≡ []
 no_numbers g envs states h = ap (λ bs. flat_map (λ e. map (g e) bs) envs) h ∙ none envs
   where
@@ -75,13 +75,13 @@ no_numbers g envs states h = ap (λ bs. flat_map (λ e. map (g e) bs) envs) h �
     none [] = refl
     none (e ∷ es) = none es
 
--- some of both make some
+-- with states of both kinds there are numbers
 pub some_numbers : (g : ℕ → ℕ → ℕ) (envs states : List ℕ) (b : ℕ) → IsFalse (is_empty envs) → IsIn b states → IsFalse (is_empty (flat_map (λ e. map (g e) states) envs))
 some_numbers g [] states b some i = some
 some_numbers g (e ∷ envs) states b some i =
     in_not_empty (g e b) (flat_map (λ e. map (g e) states) (e ∷ envs)) (in_flat_map (λ e. map (g e) states) e (g e b) (e ∷ envs) (inl refl) (in_map (g e) b states i))
 
--- what `is_empty` says of a slice
+-- a slice is empty where `is_empty` says so
 pub none_there : (xs : List ℕ) (answer : Bool) → answer ≡ (length xs == 0) → answer ≡ true → xs ≡ []
 none_there xs answer h e = nil_from_length xs (eqb-true (length xs) 0 (sym h ∙ e))
 

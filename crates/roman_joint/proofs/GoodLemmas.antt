@@ -1,4 +1,4 @@
--- Where a seat serves an action at the pairs of a row.
+-- The pairs of a row at which a seat serves an action.
 use Rattle.std.proofs.Common.{◌≡◌, ◌⊎◌, ℕ, zero, suc, ◌+◌, ◌-◌, ◌*◌, ◌/◌, ◌%◌, ◌<◌, ◌≤◌, ◌^◌, Bool, true, false, not, ◌&&◌, ◌||◌, eqb, ltb, inl, inr, List, [], length, slice_get, slice_index, IsFalse, refl, sym, ap, ap₂, ◌∙◌, subst, arith}
 use Rattle.std.specs.List.{list_any}
 use Rattle.std.proofs.Math.Nat.{add-mod-mod}
@@ -30,7 +30,7 @@ use Rattle.roman_joint.proofs.WordLemmas.{on_shl, on_below, not_not}
 use Rattle.roman_joint.proofs.SplitLemmas.{joint_sizes, positive_of, factor}
 use Rattle.roman_joint.proofs.LeadLemmas.{Leads, leads_within, leads_served, leads_nothing, start_before, leads_before, lanes_parts, stride_positive, lane_state, leads_lanes}
 
--- What is known of a row.
+-- Facts about a row.
 pub record Known (s : Sys) (x : ℕ) (row : Row) : Type 0 where
   pub nodes : IsNumbered (numbered s)
   pub sys : IsSys s
@@ -46,7 +46,7 @@ width_positive s sizes = lanes_positive (sizes_of s).seats sizes.seats
 pub env_rows_positive : (s : Sys) → IsSizes (sizes_of s) → 0 < env_rows_of (sizes_of s)
 env_rows_positive s sizes = positive_of (env_rows_of (sizes_of s)) (lanes_in s) (env_stride_of (sizes_of s)) (env_rows_are (sizes_of s)) (product_positive (sizes_of s).seats sizes.seats)
 
--- the rows are as many as the words
+-- the number of rows times the lanes is the number of pairs
 rows_whole : (s : Sys) → s.target.states * s.env.states * env_rows_of (sizes_of s) * lanes_in s ≡ count (sizes_of s)
 rows_whole s =
     let whole : s.target.states * s.env.states * (env_rows_of (sizes_of s) * lanes_in s) ≡ count (sizes_of s) = ap (λ m. s.target.states * s.env.states * m) (env_rows_are (sizes_of s)) in
@@ -55,7 +55,7 @@ rows_whole s =
 pub rows_all : (s : Sys) (long : ℕ) → IsSizes (sizes_of s) → long * lanes_in s ≡ count (sizes_of s) → long ≡ s.target.states * s.env.states * env_rows_of (sizes_of s)
 rows_all s long sizes room = factor long (s.target.states * s.env.states * env_rows_of (sizes_of s)) (lanes_in s) (width_positive s sizes) (room ∙ sym (rows_whole s))
 
--- a row at other states of the target and the environment is one
+-- a row at other states of the target and the environment is in range
 pub row_there : (target env r to e part : ℕ) → to < target → e < env → part < r → to * (env * r) + part + e * r < target * env * r
 row_there target env r to e part a b c =
     let front : to * env + e < env * target = mul-add-lt to env e target a b in
@@ -73,7 +73,7 @@ rows_few s long sizes room =
     let less : long * 1 ≤ long * lanes_in s = mul-le long 1 long (lanes_in s) (omega arith) (omega arith) in
     omega (arith, less, room, sizes.counted)
 
--- the first row of a turn is a number of 32 bits
+-- the first row of a turn has a number of 32 bits
 pub turn_fits : (n : NamedSys) (r : Rows) (x : ℕ) (row : Row) (to : ℕ) → IsNamedSys n → AreRowsOf (sizes_of (system_of n)) r → IsRow (system_of n) x row → to < (system_of n).target.states →
     (to * r.target_rows < 2 ^ 32) × (to * r.target_rows + row.part < 2 ^ 32)
 turn_fits n r x row to ok laid looked in_target =
@@ -149,7 +149,7 @@ full_on n r lane laid l = laid.full lane ∙ lt-ltb lane (lanes_of n.seats) l
 pub full_off : (n : Sizes) (r : Rows) (lane : ℕ) → AreRowsOf n r → lanes_of n.seats ≤ lane → is_on r.full lane ≡ false
 full_off n r lane laid l = laid.full lane ∙ le-ltb lane (lanes_of n.seats) l
 
--- where a seat before the lanes serves
+-- the pairs at which a seat before the lanes serves
 pub serves_before : (s : Sys) (r : Rows) (x a k part word : ℕ) (row : Row) (turn : Turn) (states words : List ℕ) (gone : ℕ → Bool) → Known s x row → AreRowsOf (sizes_of s) r → IsTurn s row a turn → k < low_in s →
     length words * lanes_in s ≡ count (sizes_of s) → states ≡ seat_next (slice_get s.seats k) (slice_index row.states k) row.env a → part ≡ slice_index row.states k → IsFalse (is_empty states) →
     AreRows (lanes_in s) (λ q. not (gone q)) words →
@@ -183,7 +183,7 @@ beaten_before s r x a k row turn states gone h laid ok before is_states none = r
   rest = λ lane l. on_zero lane;
 }
 
--- the lanes at which the rows of a turn are alive
+-- the alive lanes of a turn
 pub alive_there : (s : Sys) (r : Rows) (x a alive : ℕ) (row : Row) (turn : Turn) (words : List ℕ) (gone : ℕ → Bool) → Known s x row → AreRowsOf (sizes_of s) r → IsTurn s row a turn → length words * lanes_in s ≡ count (sizes_of s) →
     AreRows (lanes_in s) (λ q. not (gone q)) words →
     ((lane : ℕ) → is_on alive lane ≡ (is_on r.full lane && not (list_any (λ e. not (is_on (slice_index words (turn.base + e * r.env_rows)) lane)) turn.envs.now))) → AreAlive s gone turn alive
@@ -198,7 +198,7 @@ alive_there s r x a alive row turn words gone h laid ok room rows told = record 
         let here : is_on (slice_index words (turn.base + e * r.env_rows)) lane ≡ not (gone ((turn.base + e * r.env_rows) * lanes_in s + lane)) = (rows.each (turn.base + e * r.env_rows) (all.there e i)).each lane l in
         ap not here ∙ (sym (not_not (gone ((turn.base + e * r.env_rows) * lanes_in s + lane))) ∙ ap (λ m. gone ((turn.base + e * m) * lanes_in s + lane)) laid.env)
 
--- a state's lanes begin within the lanes
+-- the lanes of a state begin within the word
 pub state_below : (n : Sizes) (k b : ℕ) → IsSizes n → low_of n.seats ≤ k → k < length n.seats → b < slice_index n.seats k → b * stride_of n k < 64
 state_below n k b h within seat state =
     let (m, e) = lanes_parts n k within seat in
@@ -250,7 +250,7 @@ state_shift first b st size lane is pos l low = elim (cases_lt lane (b * st)) [
         turned m r b size k l (inl e) = grind (arith, nat_tests)
         turned m r b size k l (inr e) = grind (arith, nat_tests)
 
--- where no lane is left alive a seat within the lanes serves nothing
+-- without an alive lane, a seat within the lanes serves at no pair
 pub beaten_dead : (s : Sys) (x a k lane : ℕ) (row : Row) (turn : Turn) (gone : ℕ → Bool) → Known s x row → IsTurn s row a turn → low_in s ≤ k → k < length s.seats → AreAlive s gone turn 0 → lane < lanes_in s →
     is_beaten (numbered s) gone (x * lanes_in s + lane) a k ≡ true
 beaten_dead s x a k lane row turn gone h ok within seat living in_lanes =
@@ -277,7 +277,7 @@ beaten_dead s x a k lane row turn gone h ok within seat living in_lanes =
     let served = leads_served (numbered s) gone (x * lanes_in s + lane) a k turn.envs.now states to (λ c d. gone (to c d)) leads ok.some some (λ c d u v. refl) in
     not_not (is_beaten (numbered s) gone (x * lanes_in s + lane) a k) ∙ ap not (sym served ∙ ap not left))
 
--- the lanes of one state more
+-- the lanes of the states so far, with one more
 pub below_more : (m b : ℕ) (x : Bool) → ((ltb m b && x) || (eqb m b && x)) ≡ (ltb m (b + 1) && x)
 below_more m b x = grind (arith, nat_tests)
 
@@ -293,7 +293,7 @@ low_few n k ok l =
     let same = length-map n.seats (seat_of n.catalogue) in
     (omega (arith, few, long, ok.system.few), omega (arith, few, long, same))
 
--- what is known of a seat within the lanes
+-- facts about a seat within the lanes
 pub record Within (n : NamedSys) (r : Rows) (k : ℕ) : Type 0 where
   pub seats : k < length (sizes_of (system_of n)).seats
   pub seat : k < length (system_of n).seats

@@ -1,4 +1,4 @@
--- Where a delegation leads, by rows and lanes.
+-- The outcomes of a delegation, by rows and lanes.
 use Rattle.std.proofs.Common.{◌≡◌, ℕ, ◌+◌, ◌-◌, ◌*◌, ◌/◌, ◌%◌, ◌<◌, ◌≤◌, Bool, true, false, not, ◌||◌, List, [], ◌∷◌, length, drop, map, slice_get, slice_index, IsTrue, IsFalse, refl, sym, ap, ap₂, ◌∙◌, subst, arith}
 use Rattle.std.specs.List.{list_any, flat_map}
 use Rattle.std.proofs.Math.Nat.{mul-add-mod_self_right}
@@ -20,7 +20,7 @@ use Rattle.roman_joint.proofs.SplitLemmas.{target_rows_are}
 use Rattle.roman_joint.specs.Rows.{lanes_in, low_in, lane_state_of, IsRow}
 use Rattle.roman_joint.specs.declared.row.Row.{Row}
 
--- the outcomes are those numbers
+-- the outcomes have these numbers
 pub record Leads (A : Arena ℕ) (p a k : ℕ) (envs states : List ℕ) (to : ℕ → ℕ → ℕ) : Type 0 where
   pub outcomes : A.outcomes p a k ≡ flat_map (λ e. map (to e) states) envs
 
@@ -55,7 +55,7 @@ any_turn test xs ys t =
 pub any_turned : (test : ℕ → ℕ → Bool) (xs ys : List ℕ) → list_any (λ x. list_any (test x) ys) xs ≡ list_any (λ y. list_any (λ x. test x y) xs) ys
 any_turned test xs ys = same_test _ _ (any_turn test xs ys) (any_turn (λ y x. test x y) ys xs)
 
--- an outcome's number by rows: the seat in state b goes from one state to another
+-- an outcome's number by rows, for a seat that goes to state b
 pub row_moves : (to_rows rest u w lane r part e b : ℕ) → lane < w → part * (u * w) ≤ to_rows * w + (rest * w + lane) →
     to_rows * w + (rest * w + lane) - part * (u * w) + e * (r * w) + b * (u * w) ≡ (to_rows + rest - part * u + e * r + b * u) * w + lane
 row_moves to_rows rest u w lane r part e b h l =
@@ -71,7 +71,7 @@ row_moves to_rows rest u w lane r part e b h l =
         let spread : (y + e * r + b * u) * w ≡ y * w + e * (r * w) + b * (u * w) = omega arith in
         omega arith
 
--- where the numbers begin for a seat before the lanes
+-- the first number for a seat before the lanes
 pub start_before : (s : Sys) (row : Row) (x lane k to u : ℕ) → IsSys s → IsRow s x row → lane < lanes_in s → k < low_in s → to < s.target.states → u * lanes_in s ≡ stride_of (sizes_of s) k →
     StartsAt (sizes_of s) (x * lanes_in s + lane) k to (to * target_rows_of (sizes_of s) * lanes_in s + (row.part * lanes_in s + lane)) (slice_index row.states k) (env_rows_of (sizes_of s) * lanes_in s) (u * lanes_in s)
 start_before s row x lane k to u sys ok in_lanes before in_target stride =
@@ -87,7 +87,7 @@ start_before s row x lane k to u sys ok in_lanes before in_target stride =
     let whole : to * (target_rows_of n * w) + p % (R * w) ≡ to * target_rows_of n * w + (row.part * w + lane) = ap (λ m. to * (target_rows_of n * w) + m) within_env ∙ omega arith in
     subst (λ m. StartsAt n p k to m (slice_index row.states k) (R * w) (u * w)) whole start
 
--- a seat before the lanes
+-- the outcomes of a delegation to a seat before the lanes
 pub leads_before : (s : Sys) (row : Row) (x lane a k to base u : ℕ) (envs states : List ℕ) → IsSys s → IsRow s x row → lane < lanes_in s → k < low_in s → u * lanes_in s ≡ stride_of (sizes_of s) k →
     beh_next s.target row.target row.env a ≡ to ∷ [] → envs ≡ env_next s.env row.env a → states ≡ seat_next (slice_get s.seats k) (slice_index row.states k) row.env a →
     base ≡ to * target_rows_of (sizes_of s) + row.part - slice_index row.states k * u →
@@ -133,7 +133,7 @@ lane_moves lane st size m pos some h =
           omega arith,
     )
 
--- the strides of seats within the lanes go into them
+-- the stride times the size of a seat within the lanes divides the lanes
 pub lanes_parts : (n : Sizes) (k : ℕ) → low_of n.seats ≤ k → k < length n.seats → (m : ℕ) × (lanes_of n.seats ≡ m * slice_index n.seats k * stride_of n k)
 lanes_parts n k within seat =
     let (m, e) = tails_from n.seats (low_of n.seats) k within in
@@ -152,7 +152,7 @@ lane_state n k lane h within seat l =
       moves = λ b less. subst (λ x. lane + b * stride_of n k - lane_state_of n k lane * stride_of n k < x) (sym e) (moves b less);
     }
 
--- the state at a pair is that of its lane
+-- a seat's state at a pair is its state at the pair's lane
 digit_at : (row lane st size m : ℕ) → 0 < st → (row * (m * size * st) + lane) / st % size ≡ lane / st % size
 digit_at row lane st size m pos =
     let split : lane / st * st + lane % st ≡ lane = div-add-mod' lane st in
@@ -167,7 +167,7 @@ lane_part n x lane k h inside within seat =
     part_at n (x * lanes_of n.seats + lane) k inside seat
     ∙ (ap (λ w. (x * w + lane) / stride_of n k % slice_index n.seats k) e ∙ digit_at x lane (stride_of n k) (slice_index n.seats k) m (stride_positive n k h))
 
--- a seat within the lanes
+-- the outcomes of a delegation to a seat within the lanes
 pub leads_lanes : (s : Sys) (row : Row) (x lane a k to base part : ℕ) (envs states : List ℕ) → IsSys s → IsSizes (sizes_of s) → IsRow s x row → lane < lanes_in s →
     low_in s ≤ k → k < length s.seats → part ≡ lane_state_of (sizes_of s) k lane →
     beh_next s.target row.target row.env a ≡ to ∷ [] → envs ≡ env_next s.env row.env a → states ≡ seat_next (slice_get s.seats k) part row.env a → base ≡ to * target_rows_of (sizes_of s) + row.part →

@@ -1,4 +1,4 @@
--- Marks on the bands before a band.
+-- Marks on the bands from which a band can be reached.
 use Rattle.std.proofs.Common.{◌≡◌, ◌≢◌, ℕ, zero, suc, ◌+◌, ◌-◌, ◌*◌, ◌/◌, ◌%◌, ◌^◌, ◌<◌, ◌≤◌, Bool, true, cond, count_by, map, List, [], ◌∷◌, ◌++◌, length, take, get_or, Option, Some, slice_get, slice_index, IsTrue, IsFalse, inl, inr, refl, sym, ap, ap₂, ◌∙◌, subst, arith, add-one}
 use Rattle.std.proofs.Math.ListN.{set}
 use Rattle.std.specs.Prelude.{bit_or, ltb}
@@ -35,7 +35,7 @@ use Rattle.roman_joint.proofs.SplitLemmas.{stride_rows, quotient}
 use Rattle.roman_joint.proofs.LeadLemmas.{lane_state, lane_part}
 use Rattle.roman_joint.proofs.BandLemmas.{row_in, InBand, in_band, mid_low}
 
--- Marks that are added
+-- Adding marks.
 
 pub grows_itself : (marks : List ℕ) → Grows marks marks
 grows_itself marks = record { long = refl; still = λ x t. t }
@@ -64,7 +64,7 @@ each_in [] P each x i = absurd i
 each_in (y ∷ ys) P each x (inl e) = subst P (sym e) (each 0 (omega arith))
 each_in (y ∷ ys) P each x (inr j) = each_in ys P (λ i l. each (suc i) (omega arith)) x j
 
--- one more of a count
+-- one more number below a bound
 pub more_below : (n : ℕ) (P : ℕ → Type 0) → ((j : ℕ) → j < n → P j) → P n → (j : ℕ) → j < n + 1 → P j
 more_below n P old new j l = elim (cases_eq j n) [ inl e ↦ subst P (sym e) new | inr ne ↦ old j (omega arith) ]
 
@@ -72,7 +72,7 @@ flag_is : (marks : List ℕ) (x : ℕ) → has_flag marks x ≡ is_on (slice_ind
 unfolding has_flag is_on
 flag_is marks x = refl
 
--- one mark more
+-- one more mark
 pub put_mark : (marks : List ℕ) (y place lane : ℕ) → place < length marks → place ≡ y / 64 → lane ≡ y % 64 →
     Grows marks (set marks place (bit_or (get_or marks place 0) (1 * 2 ^ lane % 2 ^ 64))) × IsTrue (has_flag (set marks place (bit_or (get_or marks place 0) (1 * 2 ^ lane % 2 ^ 64))) y)
 put_mark marks y place lane room at is = (
@@ -99,9 +99,9 @@ put_mark marks y place lane room at is = (
       | inr other ↦ ap (λ w. is_on w (z % 64)) (get_or-set_other marks place (z / 64) word 0 other) ∙ t
     ]
 
--- Rows from which a row is reached
+-- The rows from which a row is reached.
 
--- the numbers of a pair and one before it, by rows
+-- the numbers of a pair and of a previous one, by rows
 number_before : (s : Sys) (row : Row) (x from lane l e t k b : ℕ) → IsRow s x row → lane < lanes_in s → k < length (sizes_of s).seats →
     from * lanes_in s + l ≡ number (sizes_of s) (origin (pair_at (sizes_of s) (x * lanes_in s + lane)) e t k b) →
     from * lanes_in s + l + slice_index (pair_at (sizes_of s) (x * lanes_in s + lane)).bs k * stride_of (sizes_of s) k ≡ row_at s row e t * lanes_in s + lane + b * stride_of (sizes_of s) k
@@ -144,7 +144,7 @@ own_row from l own w at lane b S in_l taken moves is =
     let sides : from * w + l ≡ at * w + (lane + b * S - own * S) = omega arith in
     (same_from_place from l at (lane + b * S - own * S) w in_l moves sides).0
 
--- a band's first row at other states of the target and the environment is again a band's first
+-- a band's first row at other states of the target and the environment is again the first row of a band
 first_at : (s : Sys) (row : Row) (y e t : ℕ) → IsSizes (sizes_of s) → IsRow s (y * band_in s) row → (c : ℕ) × (row_at s row e t ≡ c * band_in s)
 first_at s row y e t sizes ok =
     let n = sizes_of s in
@@ -162,7 +162,7 @@ first_at s row y e t sizes ok =
     sums : (t m e g v r part d : ℕ) → g * v ≡ r → part ≡ d * v + 0 → t * (m * r) + e * r + part ≡ (t * (m * g) + e * g + d) * v
     sums t m e g v r part d whole is = subst (λ x. t * (m * x) + e * x + part ≡ (t * (m * g) + e * g + d) * v) whole (omega arith)
 
--- by a seat before the bands' own the band changes, and the row within it stays
+-- a seat before the band's own changes the band, and keeps the row's place within it
 band_before : (from own u at b v i h c : ℕ) → 0 < v → i < v → h * v ≡ u → at ≡ c * v → from + own * u ≡ at + i + b * u →
     from / v * v + own * u ≡ at + b * u
 band_before from own u at b v i h c pos in_v e is sum =
@@ -173,7 +173,7 @@ band_before from own u at b v i h c pos in_v e is sum =
     let (same, rest) = same_from_place (from / v + own * h) (from % v) (c + b * h) i v (mod_below from v pos) in_v sides in
     omega (arith, split, rest, sum)
 
--- the bands marked are those before the band
+-- the bands from which the band can be reached are marked
 pub marks_all : (s : Sys) (row : Row) (y i lane p a k : ℕ) (marks : List ℕ) → IsSys s → IsSizes (sizes_of s) → IsRow s (y * band_in s) row → i < band_in s → lane < lanes_in s →
     count (sizes_of s) ≤ 64 * length marks * band_in s * lanes_in s →
     ((a : ℕ) → a < s.env.actions → MarksAction s row marks a) → p < count (sizes_of s) → IsIn ((y * band_in s + i) * lanes_in s + lane) ((numbered s).outcomes p a k) →
@@ -266,13 +266,13 @@ marks_all s row y i lane p a k marks sys sizes first in_band_ in_lanes room all 
               own_band (same_from_place (from / v) (from % v) c i v in_v in_band_ (omega (arith, split, is_at, up, bands))).0
         ]
 
--- the states before of a seat that is ready
+-- the predecessor states of a ready seat are its behaviour's
 pub ready_prev : (o : Option Seat) (seat : Seat) (b e a : ℕ) → o ≡ Some seat → IsFalse seat.frozen → seat_prev o b e a ≡ beh_prev seat.beh b e a
 ready_prev o seat b e a seated ready = ap (λ y. seat_prev y b e a) seated ∙ ap (λ f. cond f [] (beh_prev seat.beh b e a)) ready
 
--- What is counted
+-- The number of steps.
 
--- one element more of what comes together
+-- the length of joined lists with one more
 pub count_more : {X : Type 0} (f : ℕ → List X) (xs : List ℕ) (i : ℕ) → i < length xs → length (flat_map f (take (i + 1) xs)) ≡ length (flat_map f (take i xs)) + length (f (get_or xs i 0))
 count_more f xs i l =
     ap (λ ys. length (flat_map f ys)) (take_more xs i 0 l)
@@ -282,12 +282,12 @@ count_more f xs i l =
 pub count_below : {X : Type 0} (f : ℕ → List X) (k : ℕ) → length (flat_map f (below (k + 1))) ≡ length (flat_map f (below k)) + length (f k)
 count_below f k = rw add-one (ap length (flat_map-append f (below k) (k ∷ [])) ∙ (length-append (flat_map f (below k)) (f k ++ []) ∙ ap (λ ys. length (flat_map f (below k)) + length ys) (append-nil (f k))))
 
--- the delegations of a seat are as many as the states before
+-- a seat has as many delegations as predecessor states
 pub count_seat : (s : Sys) (q : Pair) (a e t k : ℕ) (row : Row) → IsAt s row q → k < mid_in s → length (from_seat s q a e t k) ≡ length (seat_prev (slice_get s.seats k) (slice_index row.states k) e a)
 count_seat s q a e t k row at before =
     length-map (seat_prev (slice_get s.seats k) (slice_index q.bs k) e a) _ ∙ ap (λ b. length (seat_prev (slice_get s.seats k) b e a)) (at.states k before)
 
--- a pair of the band is in the states of its first row
+-- a pair of the band has the states that the band shares
 pub pair_there : (s : Sys) (row : Row) (y i lane : ℕ) → IsSizes (sizes_of s) → IsRow s (y * band_in s) row → i < band_in s → lane < lanes_in s →
     IsAt s row (pair_at (sizes_of s) ((y * band_in s + i) * lanes_in s + lane))
 pair_there s row y i lane sizes ok in_rows in_lanes =
@@ -298,7 +298,7 @@ pair_there s row y i lane sizes ok in_rows in_lanes =
       states = λ k front. here.looked.states k lane (mid_low s k front) in_lanes ∙ here.before k front;
     }
 
--- where an action doesn't lead to a band, no delegation does
+-- where an action doesn't lead to a band, none of its delegations does
 pub none_leads : (s : Sys) (q : Pair) (row : Row) (a : ℕ) → IsAt s row q → AreLeading s.env s.target row.target row.env row.leading → a < s.env.actions → bit_at row.leading a ≡ 0 →
     length (front_action s q a) ≡ 0
 none_leads s q row a at leading l off =
@@ -313,7 +313,7 @@ none_leads s q row a at leading l off =
     none [] = refl
     none (x ∷ xs) = none xs
 
--- Those that are counted are the delegations to the first seats
+-- The counted delegations are those to the first seats.
 
 only_flat : {X Y : Type 0} (f : Y → Bool) (g : X → List Y) (xs : List X) → filter f (flat_map g xs) ≡ flat_map (λ x. filter f (g x)) xs
 only_flat f g [] = refl
@@ -328,7 +328,7 @@ first_only f g m (suc n) l same none = elim (cases_eq m (suc n)) [
       ∙ (append-nil (flat_map f (below n)) ∙ first_only f g m n (omega arith) same none))
 ]
 
--- the delegation is to a seat before the bands' own
+-- the delegation is to a seat before the band's own
 abbrev is_front : Sys → Delegation ℕ → Bool
 is_front s d = ltb d.seat (mid_in s)
 
@@ -363,7 +363,7 @@ front_only s q =
     few : mid_in s ≤ length s.seats
     few = omega (arith, low_of-le (row_sizes (sizes_of s)).seats, length_rows (sizes_of s), low_of-le (sizes_of s).seats, length-map s.seats (λ (z : Seat). z.beh.states))
 
--- those found backwards to first seats are just as many as lead to the pair
+-- the delegations to first seats that are found backwards are as many as those that lead to the pair
 pub count_front : (s : Sys) (p : ℕ) → IsSys s → p < count (sizes_of s) → count_by (λ (d : Delegation ℕ). ltb d.seat (mid_in s)) (back (numbered s) p) ≡ length (front_all s (pair_at (sizes_of s) p))
 count_front s p sys l =
     let found = found_backwards s p sys l in

@@ -41,11 +41,11 @@ use Rattle.roman_joint.proofs.WordLemmas.{not_not}
 use Rattle.roman_joint.proofs.LeadLemmas.{Leads, leads_served, leads_nothing, any_turned, lane_state, leads_lanes}
 use Rattle.roman_joint.proofs.GoodLemmas.{Known, state_below}
 
--- next states are states
+-- next states are in range
 pub next_below : (beh : Beh) (b e a c : ℕ) → IsIn c (beh_next beh b e a) → c < beh.states
 next_below beh b e a c i = from_below beh.states c (filter_in _ c (below beh.states) i).0
 
--- as many ways as there may be
+-- an upper bound on the number of ways
 pub room_fits : (ns : List ℕ) → AreSizes ns → ways_room ns ≤ 2 * product_of ns + length ns
 room_fits [] h = omega arith
 room_fits (n ∷ ns) h =
@@ -64,7 +64,7 @@ lanes_room n h =
     let few : lanes_of n.seats ≤ 64 = lanes_few n.seats in
     omega (arith, fits, few, length-drop (low_of n.seats) n.seats, h.few)
 
--- one way more
+-- one more way
 pub way_more : (lanes : List ℕ) (last stride j : ℕ) → lane_moves_from lanes last stride (j + 1) ≡ lane_moves_from lanes last stride j ++ cond (eqb (slice_index lanes j) 0) [] (lane_move lanes last stride j ∷ [])
 way_more lanes last stride j =
     ap (λ m. map (lane_move lanes last stride) (filter (λ i. not (slice_index lanes i == 0)) (below m))) (add-one j)
@@ -81,7 +81,7 @@ ways_few lanes last stride count =
     let some = λ (j : ℕ). not (slice_index lanes j == 0) in
     omega (arith, length-map (filter some (below count)) (lane_move lanes last stride), length-filter some (below count), count_by-le-length some (below count), length-below count)
 
--- where a way leads
+-- the lane to which a way leads
 way_goes : (lane st last j digit b : ℕ) → b + (last + 1) ≡ j + 1 + digit → digit * st ≤ lane → ((last - j) * st ≤ lane) × (lane + (j - last) * st - (last - j) * st ≡ lane + b * st - digit * st)
 way_goes lane st last j digit b e taken = elim (cases_lt j last) [
   | inl down ↦
@@ -150,7 +150,7 @@ moves_made n k last e a beh ways h within seat states size ok = assumption (ok, 
           record { taken = to.0; there = to.1 },
         )
 
--- where a service within the lanes serves, by its moves
+-- the pairs at which a service within the lanes serves, by its moves
 pub serves_within : (s : Sys) (x a k some good alive : ℕ) (row : Row) (turn : Turn) (seat : Seat) (moves : List Move) (gone : ℕ → Bool) → Known s x row → IsTurn s row a turn → low_in s ≤ k →
     slice_get s.seats k ≡ Some seat → IsFalse seat.frozen → AreMovesOf (sizes_of s) k seat.beh row.env a some moves → AreAlive s gone turn alive →
     ((lane : ℕ) → lane < 64 → ((move : Move) → IsIn move moves → is_on move.lanes lane ≡ true → (move.from ≤ lane) × (lane + move.to - move.from < 64)) →
@@ -220,7 +220,7 @@ serves_within s x a k some good alive row turn seat moves gone h ok within seate
         (to.taken, omega (arith, to.there, there lane b l j, lanes_few n.seats)))
         ∙ (ap₂ (λ y z. y && not z) (are.each lane l ∙ ap not full) (same_any lane l) ∙ all_alive lane l full))
 
--- a frozen service serves nowhere
+-- a frozen service serves at no pair
 pub beaten_frozen : (s : Sys) (x a k : ℕ) (seat : Seat) (gone : ℕ → Bool) → IsNumbered (numbered s) → slice_get s.seats k ≡ Some seat → IsTrue seat.frozen →
     HasLanes (lanes_in s) x (λ p. not (is_beaten (numbered s) gone p a k)) 0
 beaten_frozen s x a k seat gone nodes seated frozen = record {
@@ -244,7 +244,7 @@ range_new xs ys a b first end =
     let long : b - a ≡ length ys = omega (arith, first, end, length-append xs ys) in
     ap₂ (λ m d. take m (drop d (xs ++ ys))) long first ∙ (ap (take (length ys)) (drop-append-le (length xs) xs ys (omega arith) ∙ ap (λ zs. zs ++ ys) (drop_all (length xs) xs (omega arith))) ∙ take_all (length ys) ys (omega arith))
 
--- a place of the table is one of a seat within the lanes, an action and a state of the environment
+-- the place in the table of a seat within the lanes, an action and a state of the environment
 record IsPlaceOf (s : Sys) (k e a i : ℕ) : Type 0 where
   seat : low_in s + i % within_in s ≡ k
   env : i / within_in s / s.env.actions ≡ e
@@ -268,7 +268,7 @@ span_at s k e a i span moves seat seated within action is ok =
     let of = place_of s k e a i (slice_get_within s.seats k seat seated) within action is in
     rw (of.seat, of.env, of.action) at (ok.moves_of seat (ap (slice_get s.seats) of.seat ∙ seated))
 
--- one span more
+-- one more span
 pub spans_more : (s : Sys) (k e a : ℕ) (beh : Beh) (old new : Moves) (seat : Seat) → slice_get s.seats k ≡ Some seat → beh ≡ seat.beh → low_in s ≤ k → a < s.env.actions →
     length old.spans.items ≡ (e * s.env.actions + a) * within_in s + (k - low_in s) → HoldsSpans s old.spans.items old.moves.items → IsAdded (sizes_of s) k beh e a old new → HoldsSpans s new.spans.items new.moves.items
 spans_more s k e a beh old new seat seated is_beh within action long held added = record { each = λ i span l at. each i span l at }
@@ -305,7 +305,7 @@ spans_more s k e a beh old new seat seated is_beh within action long held added 
           record { first = there.first; last = omega (arith, there.last, moves_long); moves_of = λ other_seat seated_there. rw range (there.moves_of other_seat seated_there) }
     ]
 
--- where the span of a seat stands in the table that a joint has
+-- the place of a seat's span in a joint's table
 pub record StandsAt (s : Sys) (k e a i : ℕ) (table : Moves) : Type 0 where
   pub place : i ≡ (e * s.env.actions + a) * within_in s + (k - low_in s)
   pub inside : i < length table.spans.items
@@ -322,12 +322,12 @@ stands_at s table k e a x y l j held within seat env action is_e is_a is_l is_j 
     let inside : (x * table.actions + y) * l + j < length table.spans.items = omega (arith, place, below, same, held.long) in
     record { place = place; inside = inside; span = λ span at. held.spans_at.each ((x * table.actions + y) * l + j) span inside at }
 
--- What is kept.
+-- Tables that are kept.
 
 pub kept_on : (a b c : Moves) → IsKept a b → IsKept b c → IsKept a c
 kept_on a b c x y = assumption (y.same_envs ∙ x.same_envs, y.same_actions ∙ x.same_actions, y.spans_room ∙ x.spans_room, y.moves_room ∙ x.moves_room)
 
--- what is known of a service that is read
+-- facts about a service that is read
 pub record SeatHere (n : NamedSys) (sizes : Sizes) (k : ℕ) (beh : Beh) : Type 0 where
   pub seat : Seat
   pub seated : slice_get (system_of n).seats k ≡ Some seat
@@ -349,7 +349,7 @@ seat_here n catalogue seats sizes envs actions k x y of l at_seat at_beh =
       few = subst (λ (b : Beh). b.states ≤ 64) (sym read.beh) ok.states.1;
     }
 
--- as many sizes as services
+-- there are as many sizes as services
 pub sizes_long : (n : NamedSys) (catalogue : List NamedBeh) (seats : List declared.Seat) (sizes : Sizes) (envs actions : ℕ) → AreSeatsOf n catalogue seats sizes envs actions → length sizes.seats ≡ length seats
 sizes_long n catalogue seats sizes envs actions of =
     ap (λ (m : Sizes). length m.seats) of.sizes_are ∙ (length-map (system_of n).seats (λ (y : Seat). y.beh.states) ∙ (length-map n.seats (seat_of n.catalogue) ∙ ap length (sym of.seats_of)))
@@ -357,7 +357,7 @@ sizes_long n catalogue seats sizes envs actions of =
 pub room_more : (ns : List ℕ) (k : ℕ) → k < length ns → ways_room (drop k ns) ≡ 2 * get_or ns k 0 - 1 + ways_room (drop (k + 1) ns)
 room_more ns k l = ap ways_room (drop_more ns k 0 l)
 
--- one service more, whatever the system
+-- one more service, for any system
 pub turn_more : (n : NamedSys) (catalogue : List NamedBeh) (seats : List declared.Seat) (sizes : Sizes) (k e a : ℕ) (beh : Beh) (first old new : Moves) → IsKept first old → IsAdded sizes k beh e a old new →
     AreSeatsOf n catalogue seats sizes new.envs new.actions → SeatHere n sizes k beh → low_of sizes.seats ≤ k → a < first.actions →
     length first.spans.items ≡ (e * first.actions + a) * (length seats - low_of sizes.seats) → length old.spans.items ≡ length first.spans.items + (k - low_of sizes.seats) →
@@ -372,7 +372,7 @@ turn_more n catalogue seats sizes k e a beh first old new kept added of here low
     spans_more s k e a beh old new here.seat here.seated here.beh_of (subst (λ m. m ≤ k) is_low low) (subst (λ m. a < m) acts action) place held
     (subst (λ m. IsAdded m k beh e a old new) of.sizes_are added)
 
--- A service that is frozen or made ready has the moves that it had.
+-- A service that is frozen or made ready keeps its moves.
 
 within_same : (s t : Sys) → sizes_of t ≡ sizes_of s → within_in t ≡ within_in s
 within_same s t sizes =

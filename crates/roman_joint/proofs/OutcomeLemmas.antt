@@ -1,4 +1,4 @@
--- The numbers of the pairs to which a delegation may lead.
+-- The numbers of the pairs to which a delegation can lead.
 use Rattle.std.proofs.Common.{◌≡◌, ℕ, ◌+◌, ◌-◌, ◌*◌, ◌%◌, ◌<◌, ◌≤◌, cond, List, [], ◌∷◌, ◌++◌, Option, Some, IsTrue, IsFalse, map, length, slice_get, slice_index, slice_set, refl, sym, ap, ap₂, ◌∙◌, subst, inl, arith}
 use Rattle.std.specs.List.{flat_map}
 use Rattle.std.proofs.lemmas.List.{append-nil, map-append, length-map, get_or-set_same}
@@ -12,7 +12,7 @@ use Rattle.roman_model.proofs.CallerLemmas.{triple_in_range, move_in_range, from
 use Rattle.roman_radix.specs.Radix.{stride_of, env_stride_of, target_stride_of, moved}
 use Rattle.roman_joint.specs.Outcomes.{IsPairWith}
 
--- where the numbers begin, and how they move
+-- the first number, and how the numbers change
 pub record StartsAt (n : Sizes) (p k to row part env_stride stride : ℕ) : Type 0 where
   pub fits : row < count n
   pub taken : part * stride ≤ row
@@ -43,7 +43,7 @@ pub starts_at : (n : Sizes) (p k to from target_stride part env_stride stride : 
 starts_at n p k to from target_stride part env_stride stride below_p within target is_from is_target is_part is_env is_stride =
     rw (is_from, is_target, is_part, is_env, is_stride) (starts_by n p k to below_p within target)
 
--- the numbers of a list of pairs, where each has that number
+-- the numbers of a list of pairs, where g gives the number of each
 numbers_of_states : (n : Sizes) (f : ℕ → Pair) (g : ℕ → ℕ) (bs : List ℕ) → ((b : ℕ) → g b ≡ number n (f b)) → map (number n) (map f bs) ≡ map g bs
 numbers_of_states n f g [] h = refl
 numbers_of_states n f g (b ∷ bs) h = ap₂ (λ x xs. x ∷ xs) (sym (h b)) (numbers_of_states n f g bs h)
@@ -74,11 +74,11 @@ target_in_range s t e a to sys next =
     let there : IsIn to (beh_next s.target t e a) = subst (λ ts. IsIn to ts) (sym next) (inl refl) in
     (move_in_range s.env s.target t e a to sys.target (from_beh_next s.target t e a to there)).3
 
--- a seat that is there and ready isn't frozen
+-- a ready seat isn't frozen
 pub seat_ready : (o : Option Seat) (seat : Seat) → o ≡ Some seat → IsTrue (is_ready o) → IsFalse seat.frozen
 seat_ready o seat is ready = not-true seat.frozen (subst (λ x. IsTrue (is_ready x)) is ready)
 
--- the pairs to which the action may lead are those with these numbers
+-- the pairs to which the action can lead have these numbers
 pub record AreOutcomes (s : Sys) (p a k : ℕ) (g : ℕ → ℕ → ℕ) (envs states : List ℕ) : Type 0 where
   pub numbers : map (number (sizes_of s)) (outcomes s (pair_at (sizes_of s) p) a k) ≡ flat_map (λ e. map (g e) states) envs
   pub places : (e b : ℕ) → IsIn e envs → IsIn b states → IsPairWith (sizes_of s) k (g e b) e b

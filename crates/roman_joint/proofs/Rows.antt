@@ -1,4 +1,4 @@
--- The running number of a walk: it moves with a state by a product.
+-- The current number of a walk, and how it changes with a state.
 use Rattle.std.proofs.Common.{◌≡◌, ℕ, zero, suc, ◌+◌, ◌-◌, ◌*◌, ◌<◌, ◌≤◌, List, [], ◌∷◌, Some, map, length, slice_get, slice_index, slice_set, refl, sym, ap, ◌∙◌, subst, arith}
 use Rattle.std.proofs.Math.Nat.{mul-le-mul_left}
 use Rattle.roman_model.specs.Lists.{product_of}
@@ -20,13 +20,13 @@ count_fits n known =
     let more : count (sizes_of s) * 1 ≤ count (sizes_of s) * s.env.actions = mul-le-mul_left (count (sizes_of s)) known.system.env.actions.0 in
     omega (arith, known.fits, known.limit.1)
 
--- with other states of the target and the environment a pair is one
+-- a pair with other states of the target and the environment is in range
 pub row_pair : (s : Sys) (w : Walk) (t e : ℕ) → IsWalk s w → t < s.target.states → e < s.env.states → IsPair s (record { t = t; e = e; bs = (goal_of s w).bs })
 row_pair s w t e ok target env =
     let pair = (numbers_are_pairs s).pair w.pair ok.pair in
     record { t = target; e = env; bs = pair.bs }
 
--- the walk's row moves to a pair
+-- the walk's row changes to the number of a pair
 pub record RowMoves (s : Sys) (w : Walk) (from to stride : ℕ) (q : Pair) : Type 0 where
   pub taken : from * stride ≤ w.row
   pub number : w.row - from * stride + to * stride ≡ number (sizes_of s) q
@@ -38,27 +38,27 @@ row_moves s w from to stride t e ok target env taken number =
     let q : Pair = record { t = t; e = e; bs = (goal_of s w).bs } in
     record { taken = taken; number = number; below = subst (λ x. x < count (sizes_of s)) (sym number) (number_below (sizes_of s) q (IsPairOf-from s q (row_pair s w t e ok target env))) }
 
--- the target's state moves to t
+-- the target's state changes to t
 pub target_moves : (s : Sys) (w : Walk) (t stride : ℕ) → IsWalk s w → t < s.target.states → stride ≡ target_stride_of (sizes_of s) → RowMoves s w w.target t stride (record { t = t; e = w.env; bs = (goal_of s w).bs })
 target_moves s w t stride ok within is_stride =
     let n = sizes_of s in
     let row : w.row ≡ w.target * target_stride_of n + w.env * product_of n.seats + states_number n.seats (goal_of s w).bs = ok.row ∙ omega arith in
     row_moves s w w.target t stride t w.env ok within ok.env (rw is_stride (omega arith)) (rw is_stride (omega arith))
 
--- the environment's state moves to e
+-- the environment's state changes to e
 pub env_moves : (s : Sys) (w : Walk) (e stride : ℕ) → IsWalk s w → e < s.env.states → stride ≡ env_stride_of (sizes_of s) → RowMoves s w w.env e stride (record { t = w.target; e = e; bs = (goal_of s w).bs })
 env_moves s w e stride ok within is_stride =
     let n = sizes_of s in
     let row : w.row ≡ (w.target * n.env) * product_of n.seats + w.env * product_of n.seats + states_number n.seats (goal_of s w).bs = ok.row ∙ omega arith in
     row_moves s w w.env e stride w.target e ok ok.target within (rw is_stride (omega arith)) (rw is_stride (omega arith))
 
--- the sizes at a place are the seat's states
+-- the size at a place is the number of the seat's states
 pub size_of_seat : (seats : List Seat) (k : ℕ) (seat : Seat) → slice_get seats k ≡ Some seat → slice_index (map (λ x. x.beh.states) seats) k ≡ seat.beh.states
 size_of_seat [] k seat h = cc
 size_of_seat (x ∷ seats) zero seat h = let same : x ≡ seat = cc in ap (λ (y : Seat). y.beh.states) same
 size_of_seat (x ∷ seats) (suc k) seat h = size_of_seat seats k seat h
 
--- the state of the present seat moves to b
+-- the state of the current seat changes to b
 pub seat_moves : (s : Sys) (w : Walk) (from b stride : ℕ) → IsWalk s w → w.seat < length s.seats → b < slice_index (sizes_of s).seats w.seat →
     from ≡ slice_index (goal_of s w).bs w.seat → stride ≡ stride_of (sizes_of s) w.seat → RowMoves s w from b stride (record { t = w.target; e = w.env; bs = slice_set (goal_of s w).bs w.seat b })
 seat_moves s w from b stride ok within state is_from is_stride =

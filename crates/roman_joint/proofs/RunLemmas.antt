@@ -9,7 +9,7 @@ state_at t b size stride j l m =
     let place : t * (size * stride) + b * stride + j ≡ (t * size + b) * stride + j = omega arith in
     ap (λ z. z / stride % size) place ∙ (ap (λ z. z % size) (div-mul-add (t * size + b) stride j m) ∙ mod-mul-add t size b l)
 
--- the place of a word by its block, its state and what is left
+-- the place of a word from its block, its state and the rest
 pub place_of : (i block b size stride : ℕ) → 0 < stride → 0 < size → i / stride % size ≡ b → block * (size * stride) ≤ i → i < (block + 1) * (size * stride) → i ≡ block * (size * stride) + b * stride + i % stride
 place_of i block b size stride pos some is low high =
     let q = i / stride / size in
@@ -27,7 +27,7 @@ place_of i block b size stride pos some is low high =
     let own : i / stride % size * stride ≡ b * stride = ap (λ z. z * stride) is in
     omega (arith, whole, times, spread, front, own)
 
--- the words of a state of a block are some of all
+-- the words of a state of a block are among all words
 pub in_block : (block blocks size stride c : ℕ) → block < blocks → c < size → (c * stride + stride ≤ size * stride) × (block * (size * stride) + (c * stride + stride) ≤ blocks * (size * stride))
 in_block block blocks size stride c l m =
     let next : (c + 1) * stride ≤ size * stride = mul-le (c + 1) stride size stride (omega arith) (omega arith) in

@@ -1,4 +1,4 @@
--- What scenes say of a system.
+-- Scenes and the system's actions.
 use Rattle.std.proofs.Common.{◌≡◌, ℕ, ◌+◌, ◌/◌, ◌%◌, ◌<◌, ◌≤◌, IsFalse, List, [], ◌∷◌, ◌++◌, length, take, get_or, slice_index_or, inl, inr, refl, sym, ap, ◌∙◌, subst, arith}
 use Rattle.std.specs.Int.{bit_at}
 use Rattle.std.specs.List.{flat_map}
@@ -15,14 +15,14 @@ use Rattle.roman_joint.specs.Backward.{from_target, from_env, from_action}
 use Rattle.roman_rules.specs.Bits.{bit_of, HasBits}
 use Rattle.roman_joint.specs.Scenes.{ArePermitted, AreLeading, IsScene}
 
--- one more of the numbers for which there is nothing
+-- one more number at which the list is empty
 pub none_more : (xs : List ℕ) (i : ℕ) (f : ℕ → List ℕ) → i < length xs → f (get_or xs i 0) ≡ [] → ((e : ℕ) → IsIn e (take i xs) → f e ≡ []) → (e : ℕ) → IsIn e (take (i + 1) xs) → f e ≡ []
 none_more xs i f l here before e j = elim (from_push e (get_or xs i 0) (take i xs) (subst (IsIn e) (take_more xs i 0 l) j)) [
   | inl k ↦ before e k
   | inr same ↦ ap f same ∙ here
 ]
 
--- one scene more
+-- one more scene
 pub scenes_more : (env : Env) (target : Beh) (old new : List Scene) (i : ℕ) (scene : Scene) → length old ≡ i → new ≡ old ++ scene ∷ [] →
     ((j : ℕ) (x : Scene) → j < i → x ≡ slice_index_or old j x → IsScene env target (j / env.states) (j % env.states) x) → IsScene env target (i / env.states) (i % env.states) scene →
     (j : ℕ) (x : Scene) → j < i + 1 → x ≡ slice_index_or new j x → IsScene env target (j / env.states) (j % env.states) x
@@ -39,7 +39,7 @@ permitted_at s p bits sys ok =
     by_test ((numbered s).allows p a) (λ t. let within : a < s.env.actions = (numbered_is_arena s sys).allowed p a t in absurd (omega arith)) (λ f. f) in
     record { each = λ a m. elim (cases_lt a s.env.actions) [ inl less ↦ ok.each a less | inr more ↦ ok.rest a more ∙ sym (ap bit_of (past a more)) ] }
 
--- where the functions give nothing, nothing comes together
+-- where all lists are empty, the joined list is empty
 pub flat_map-none : {X Y : Type 0} (f : X → List Y) (xs : List X) → ((x : X) → IsIn x xs → f x ≡ []) → flat_map f xs ≡ []
 flat_map-none f [] none = refl
 flat_map-none f (x ∷ xs) none = ap (λ ys. ys ++ flat_map f xs) (none x (inl refl)) ∙ flat_map-none f xs (λ y i. none y (inr i))

@@ -1,4 +1,4 @@
--- What changes where a service is frozen, goes or comes.
+-- The system after a service is frozen, dropped or added.
 use Rattle.std.proofs.Common.{◌≡◌, ℕ, zero, suc, ◌*◌, ◌/◌, ◌<◌, ◌≤◌, ◌↔◌, Bool, true, false, if◌then◌else◌, List, [], ◌∷◌, ◌++◌, Some, slice_get, slice_index, get_or, map, length, take, drop, refl, sym, ap, ap₂, ◌∙◌, subst, arith}
 use Rattle.std.specs.List.{AllByRecursion, remove}
 use Rattle.std.proofs.Math.ListN.{set}
@@ -20,7 +20,7 @@ use Rattle.roman_joint.specs.Parts.{HasSameParts}
 use Rattle.roman_joint.proofs.Rows.{size_of_seat}
 use Rattle.roman_joint.proofs.SeatLemmas.{seat_there, recursion-push}
 
--- a system after a change is one
+-- a system after a change is well formed
 changed : (change : Change) (s : Sys) → IsSys s → CanChange change s → IsSys (after change s)
 changed change s sys can = (renaming_keeps change s [] sys can (λ x i. absurd i) tt).system
 
@@ -28,19 +28,19 @@ changed change s sys can = (renaming_keeps change s [] sys can (λ x i. absurd i
 abbrev pub with_seats : NamedSys → List Seat → NamedSys
 with_seats n seats = record { environment = n.environment; catalogue = n.catalogue; target = n.target; seats = seats; limit = n.limit }
 
--- a system with other seats, and sizes with those of other seats
+-- a system with other seats, and sizes with other seats
 abbrev with_model_seats : Sys → List model.Seat → Sys
 with_model_seats s seats = record { env = s.env; target = s.target; seats = seats }
 
 abbrev with_sizes : Sizes → List ℕ → Sizes
 with_sizes m sizes = record { target = m.target; env = m.env; seats = sizes }
 
--- a system with the seats of one that differs in its seats alone
+-- a system with the seats of another that differs only in them is that other system
 pub with_the_seats : (m n : NamedSys) (seats : List Seat) → HasSameParts m n → seats ≡ n.seats → with_seats m seats ≡ n
 with_the_seats m n seats parts same =
     λ i. record { environment = parts.environment i; catalogue = parts.catalogue i; target = parts.target i; seats = same i; limit = parts.limit i }
 
--- Frozen, or ready.
+-- A service is frozen or made ready.
 
 pub frozen_set : (seats : List Seat) (k : ℕ) (x : Seat) (frozen : Bool) → x ≡ get_or seats k x →
     set seats k (record { name = x.name; behaviour = x.behaviour; frozen = frozen; rests = x.rests }) ≡ with_frozen seats k frozen
@@ -93,7 +93,7 @@ frozen_known n k frozen known within = record {
   target = known.target;
 }
 
--- Gone.
+-- A service is dropped.
 
 map-remove : {X Y : Type 0} (f : X → Y) (xs : List X) (k : ℕ) → map f (remove xs k) ≡ remove (map f xs) k
 map-remove f xs k = map-append f (take k xs) (drop (suc k) xs) ∙ ap₂ (λ ys zs. ys ++ zs) (sym (take-map f k xs)) (sym (drop-map f (suc k) xs))
@@ -141,7 +141,7 @@ gone_known n k x known within is =
       target = known.target;
     }
 
--- Come.
+-- A service is added.
 
 pub joined_system : (n : NamedSys) (seat : Seat) → system_of (with_seats n (n.seats ++ seat ∷ [])) ≡ after (Join (seat_of n.catalogue seat)) (system_of n)
 joined_system n seat = ap (with_model_seats (system_of n)) (map_push (seat_of n.catalogue) n.seats seat)
@@ -152,7 +152,7 @@ joined_sizes n seat =
     (sym (map_push (λ (y : model.Seat). y.beh.states) (system_of n).seats (seat_of n.catalogue seat))
     ∙ ap (map (λ (y : model.Seat). y.beh.states)) (sym (map_push (seat_of n.catalogue) n.seats seat)))
 
--- the grown pairs are few enough exactly where the cells are
+-- the grown pairs fit exactly if the grown cells are within the limit
 pub joined_fit : (n : NamedSys) (seat : Seat) → IsNamedSys n →
     (count (grown_sizes (sizes_of (system_of n)) (beh_at n.catalogue seat.behaviour).states) ≤ n.limit / n.environment.env.actions)
     ↔ (cells (after (Join (seat_of n.catalogue seat)) (system_of n)) ≤ n.limit)
@@ -179,7 +179,7 @@ joined_known n seat known room place beh new fits = record {
   target = known.target;
 }
 
--- the same of numbers that are equal to the system's
+-- the test of the grown pairs, for numbers that are equal to the system's
 pub joined_test : (n : NamedSys) (seat : Seat) (m : Sizes) (size actions : ℕ) → IsNamedSys n → m ≡ sizes_of (system_of n) → size ≡ (beh_at n.catalogue seat.behaviour).states →
     actions ≡ n.environment.env.actions →
     (count (grown_sizes m size) ≤ n.limit / actions) ↔ (cells (after (Join (seat_of n.catalogue seat)) (system_of n)) ≤ n.limit)

@@ -1,4 +1,4 @@
--- Services and their behaviours, one after the other.
+-- Services and their behaviours, read one after another.
 use Rattle.std.proofs.Common.{◌≡◌, ℕ, zero, suc, ◌+◌, ◌*◌, ◌/◌, ◌%◌, ◌^◌, ◌<◌, ◌≤◌, List, [], ◌∷◌, ◌++◌, Some, All, slice_get, get_or, map, length, take, drop, refl, sym, ap, ap₂, ◌∙◌, subst, inl, inr, arith, ◌==◌, slice_index}
 use Rattle.std.specs.List.{AllByRecursion}
 use Rattle.std.specs.Option.{option_map}
@@ -19,7 +19,7 @@ use Rattle.roman_joint.specs.NamedSys.{beh_at, seat_of, IsOverEnv, NamedSys, sys
 use Rattle.std.proofs.lemmas.Bool.{ne_eqb}
 use Rattle.roman_model.specs.declared.limits.TheConstants.{MAX_SERVICES}
 
--- what is read of a place of the catalogue
+-- the behaviour that is read at a place of the catalogue
 pub seat_beh_read : (behs : List NamedBeh) (i : ℕ) (y : NamedBeh) → i < length behs → y ≡ get_or behs i y → y.beh ≡ beh_at behs i
 seat_beh_read [] i y l h = absurd (omega arith)
 seat_beh_read (beh ∷ behs) zero y l h = ap (λ (x : NamedBeh). x.beh) h
@@ -29,7 +29,7 @@ pub seat_there : (catalogue : List NamedBeh) (seats : List Seat) (k : ℕ) (x : 
     slice_get (map (seat_of catalogue) seats) k ≡ Some (seat_of catalogue x)
 seat_there catalogue seats k x l h = slice_get-map (seat_of catalogue) seats k ∙ ap (option_map (seat_of catalogue)) (slice_get-get_or seats k x l ∙ ap Some (sym h))
 
--- a behaviour has some states, and few, whatever environment it is over
+-- a behaviour has from 1 to 64 states, over any environment
 pub states_range : (y : NamedBeh) → IsOver y.env_states y.actions y.beh → (0 < y.beh.states) × (y.beh.states ≤ 64)
 states_range y known =
     let env : Env = record { states = y.env_states; actions = y.actions; start = 0; triples = [] } in
@@ -71,14 +71,14 @@ pub same_sizes : (catalogue : List NamedBeh) (seats : List Seat) → map (λ sea
 same_sizes catalogue [] = refl
 same_sizes catalogue (seat ∷ seats) = ap (λ ns. (beh_at catalogue seat.behaviour).states ∷ ns) (same_sizes catalogue seats)
 
--- what is said of the services' behaviours is said of the system's seats
+-- what holds of the services' behaviours holds of the system's seats
 pub seats_known : (catalogue : List NamedBeh) (seats : List Seat) (env : Env) → AllByRecursion (λ seat. IsBeh env (beh_at catalogue seat.behaviour)) seats →
     (x : model.Seat) → IsIn x (map (seat_of catalogue) seats) → IsBeh env x.beh
 seats_known catalogue [] env h x i = absurd i
 seats_known catalogue (seat ∷ seats) env h x (inl e) = subst (λ (y : model.Seat). IsBeh env y.beh) (sym e) h.0
 seats_known catalogue (seat ∷ seats) env h x (inr i) = seats_known catalogue seats env h.1 x i
 
--- a number of states is split into the first and those behind it
+-- a number of states is split into the first state and the number of the later ones
 pub record Splits (sizes : List ℕ) (k rest stride : ℕ) : Type 0 where
   pub positive : 0 < stride
   pub state : rest / stride < get_or sizes k 0
@@ -91,7 +91,7 @@ splits sizes k rest stride ok within below is =
     let product : stride * get_or sizes k 0 ≡ product_of (drop k sizes) = product_more sizes k (k + 1) stride (get_or sizes k 0) refl within refl is in
     record { positive = positive; state = div_below rest stride (get_or sizes k 0) positive (omega arith); below = omega (arith, is, mod_below rest stride positive); byte = (AreSizes-index sizes k ok within).1 }
 
--- the size at a place is how many states the service's behaviour has
+-- the size at a place is the number of states of the service's behaviour
 pub size_read : (catalogue : List NamedBeh) (seats : List Seat) (sizes : List ℕ) (k : ℕ) (x : Seat) (y : NamedBeh) → sizes ≡ map (λ seat. (beh_at catalogue seat.behaviour).states) seats →
     k < length seats → x ≡ get_or seats k x → y.beh ≡ beh_at catalogue x.behaviour → get_or sizes k 0 ≡ y.beh.states
 size_read catalogue seats sizes k x y is within at_seat read =
@@ -108,7 +108,7 @@ positive_sizes catalogue seats env h = All-from_recursion (λ size. 0 < size) (m
     each [] h = tt
     each (x ∷ xs) h = (h.0.states.0, each xs h.1)
 
--- What is read of a seat and its behaviour.
+-- A seat and its behaviour, as they are read.
 pub record SeatRead (n : NamedSys) (k : ℕ) (x : Seat) (y : NamedBeh) : Type 0 where
   pub beh : y.beh ≡ beh_at n.catalogue x.behaviour
   pub seated : slice_get (system_of n).seats k ≡ Some (seat_of n.catalogue x)
@@ -133,7 +133,7 @@ seat_read n k x catalogue y known at_place same in_catalogue =
       actions = over.1;
     }
 
--- where the seat stands in the system
+-- the seat of a service stands at the service's place in the system
 pub seat_placed : (n : NamedSys) (k : ℕ) (x : Seat) → slice_get n.seats k ≡ Some x → slice_get (system_of n).seats k ≡ Some (seat_of n.catalogue x)
 seat_placed n k x at_place = seat_there n.catalogue n.seats k x (slice_get_within n.seats k x at_place) (sym (get_or_from_slice_get n.seats k x x at_place))
 

@@ -1,4 +1,4 @@
--- What a joint's fields are, by the system that it shows.
+-- A joint's fields in terms of the system that it holds.
 use Rattle.std.proofs.Common.{◌≡◌, ℕ, ◌≤◌, ◌*◌, not, ◌&&◌, length, vec_len, vec_capacity, refl, sym, ap, ap₂, ◌∙◌, subst, arith}
 use Rattle.std.proofs.lemmas.List.{length-map}
 use Rattle.roman_model.specs.Numbers.{sizes_of, pair_at}
@@ -32,7 +32,7 @@ shown a n h e =
     subst (λ m. Shows a m) e
     (record { known = h.known; environment = refl; catalogue = refl; target = refl; seats = refl; limit = refl; shape = h.shape; rows = h.rows; moves = h.moves; scenes = h.scenes; room = h.room })
 
--- what the fields of a joint are for the system that they show
+-- the fields of a joint fit the system that they hold
 pub record Fits (a : Inside) (n : NamedSys) : Type 0 where
   pub known : IsNamedSys n
   pub shape : a.shape ≡ sizes_of (system_of n)
@@ -45,7 +45,7 @@ pub record Fits (a : Inside) (n : NamedSys) : Type 0 where
 pub is_joint : (a : Inside) (n : NamedSys) → named_sys_in a ≡ n → Fits a n → IsJoint a
 is_joint a n same ok = let own : Fits a (named_sys_in a) = subst (Fits a) (sym same) ok in assumption
 
--- there is as much room where the table is kept
+-- a table that is kept has the same room
 pub room_kept : (old new : Moves) → IsKept old new → HasRoom old → HasRoom new
 room_kept old new kept room = record {
   few_envs = omega (arith, kept.same_envs, room.few_envs);
@@ -58,7 +58,7 @@ room_kept old new kept room = record {
 pub seats_shown : (a : Inside) (n : NamedSys) → Shows a n → vec_len a.seats ≡ length (system_of n).seats
 seats_shown a n fields = a.seats.ok.0 ∙ (ap length fields.seats ∙ sym (length-map n.seats (seat_of n.catalogue)))
 
--- what the environment and the target say of an action is whether it is allowed
+-- an action is allowed exactly if both the environment and the target have a step by it
 pub allowed_shown : (s : Sys) (p a : ℕ) (env : Env) (beh : Beh) (t e : ℕ) → env ≡ s.env → beh ≡ s.target → t ≡ (pair_at (sizes_of s) p).t → e ≡ (pair_at (sizes_of s) p).e →
     (not (is_empty (env_next env e a)) && not (is_empty (beh_next beh t e a))) ≡ is_allowed s (pair_at (sizes_of s) p) a
 allowed_shown s p a env beh t e is_env is_beh is_t is_e = rw (is_env, is_beh, is_t, is_e) refl

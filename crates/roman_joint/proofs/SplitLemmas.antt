@@ -1,4 +1,4 @@
--- How rows and what is looked up of them are made.
+-- How rows are made and looked up.
 use Rattle.std.proofs.Common.{◌≡◌, ℕ, zero, suc, ◌+◌, ◌*◌, ◌/◌, ◌%◌, ◌^◌, ◌<◌, ◌≤◌, cond, List, [], ◌∷◌, length, map, drop, slice_index, inl, inr, refl, sym, ap, ap₂, ◌∙◌, subst, arith, ltb}
 use Rattle.std.proofs.lemmas.Bool.{cases_eq, lt-ltb, le-ltb}
 use Rattle.std.proofs.lemmas.Nat.{mul-add-lt, mod_below, div-mul-add, mod-mul-add, div-add-mod'}
@@ -19,7 +19,7 @@ use Rattle.roman_joint.specs.declared.layout.Rows.{Rows}
 use Rattle.roman_joint.specs.declared.row.Row.{Row}
 use Rattle.roman_joint.proofs.Rows.{count_fits}
 
--- a joint's sizes are those of pairs with numbers of 32 bits
+-- the pairs of a joint have numbers of 32 bits
 pub joint_sizes : (n : NamedSys) → IsNamedSys n → IsSizes (sizes_of (system_of n))
 joint_sizes n known =
     let s = system_of n in
@@ -40,7 +40,7 @@ pub positive_of : (a w p : ℕ) → a * w ≡ p → 0 < p → 0 < a
 positive_of zero w p e pos = absurd (omega (arith, e, pos))
 positive_of (suc a) w p e pos = omega arith
 
--- a factor may be left out
+-- a factor can be cancelled
 pub factor : (x y w : ℕ) → 0 < w → x * w ≡ y * w → x ≡ y
 factor x y w pos e =
     let less : x ≤ y = row_least x y w 0 pos (omega arith) in
@@ -60,7 +60,7 @@ target_rows_are n = by n.env (env_rows_of n) (lanes_of n.seats) (env_stride_of n
     by : (e r w p : ℕ) → r * w ≡ p → e * r * w ≡ e * p
     by e r w p is = let same : e * (r * w) ≡ e * p = ap (λ x. e * x) is in omega arith
 
--- how often a factor goes into a product
+-- a product divided by a factor
 pub quotient : (a m w : ℕ) → 0 < w → m * w ≡ a → a / w ≡ m
 quotient a m w pos is = factor (a / w) m w pos (exact a m w pos (sym is) ∙ sym is)
 
@@ -89,7 +89,7 @@ rows_made n r h is_low is_mid is_band is_lanes full rows env target strides size
   firsts = firsts;
 }
 
--- what a seat before the lanes adds to a row's number
+-- the stride of a seat before the lanes, counted in rows
 pub row_stride : (n : Sizes) (r : Rows) (k : ℕ) → IsSizes n → AreRowsOf n r → k < low_of n.seats → slice_index r.strides k ≡ stride_of n k / lanes_of n.seats
 row_stride n r k h rows l = factor (slice_index r.strides k) (stride_of n k / lanes_of n.seats) (lanes_of n.seats) (lanes_positive n.seats h.seats) (rows.before k l ∙ sym (stride_rows n k h l))
 
@@ -97,7 +97,7 @@ stride_in_rows : (n : Sizes) (r : Rows) (k : ℕ) → IsSizes n → AreRowsOf n 
 stride_in_rows n r k h rows low =
     positive_of (slice_index r.strides k) (lanes_of n.seats) (stride_of n k) (rows.before k low) (product_positive (drop (k + 1) n.seats) (AreSizes-drop (k + 1) n.seats h.seats))
 
--- a seat before the lanes has a place in tables, and adds something to a row's number
+-- a seat before the lanes has a place in tables, and a positive stride
 pub record Before (n : Sizes) (r : Rows) (k : ℕ) : Type 0 where
   pub low : k < low_of n.seats
   pub few : k < 32
@@ -123,7 +123,7 @@ split_again x u size pos some =
     let is : x % (u * size) ≡ x / u % size * u + x % u = ap (λ m. m % (u * size)) sum ∙ mod-mul-add (x / u / size) (u * size) (x / u % size * u + x % u) below in
     (ap (λ m. m / u) is ∙ div-mul-add (x / u % size) u (x % u) part, ap (λ m. m % u) is ∙ mod-mul-add (x / u % size) u (x % u) part)
 
--- what is left of a row's number from a seat before the lanes on: its state, and what is left behind it
+-- the rest of a row's number from a seat before the lanes on: the seat's state, and the rest after it
 pub record LeftAt (n : Sizes) (r : Rows) (x k rest : ℕ) : Type 0 where
   pub state : rest / slice_index r.strides k ≡ x / (stride_of n k / lanes_of n.seats) % slice_index n.seats k
   pub byte : rest / slice_index r.strides k < 2 ^ 8
@@ -151,11 +151,11 @@ left_at n r x k rest h rows low is =
       behind = ap (λ m. m % u) here ∙ (behind ∙ ap (λ m. x % m) stride);
     }
 
--- before the first seat all of a row's part is left
+-- before the first seat, the rest is the whole part of the row
 pub left_first : (n : Sizes) (r : Rows) (x : ℕ) → IsSizes n → AreRowsOf n r → x % r.env_rows ≡ x % (product_of (drop 0 n.seats) / lanes_of n.seats)
 left_first n r x h rows = ap (λ m. x % m) (rows.env ∙ sym (quotient (product_of n.seats) (env_rows_of n) (lanes_of n.seats) (lanes_positive n.seats h.seats) (env_rows_are n)))
 
--- the state of one seat more
+-- the states of a row with one more seat
 pub row_states_more : (n : Sizes) (states : List ℕ) (x k state : ℕ) → k < length states → state ≡ x / (stride_of n k / lanes_of n.seats) % slice_index n.seats k →
     ((j : ℕ) → j < k → slice_index states j ≡ x / (stride_of n j / lanes_of n.seats) % slice_index n.seats j) →
     (j : ℕ) → j < k + 1 → slice_index (set states k state) j ≡ x / (stride_of n j / lanes_of n.seats) % slice_index n.seats j
@@ -164,14 +164,14 @@ row_states_more n states x k state room is before j l = elim (cases_eq j k) [
   | inr other ↦ get_or-set_other states k j state 0 other ∙ before j (omega arith)
 ]
 
--- the pairs of a row are pairs
+-- the pairs of a row are in range
 pub row_inside : (n : Sizes) (x lane rows : ℕ) → rows * lanes_of n.seats ≡ count n → x < rows → lane < lanes_of n.seats → x * lanes_of n.seats + lane < count n
 row_inside n x lane rows is l m = omega (arith, is, mul-add-lt x (lanes_of n.seats) lane rows l m)
 
 pub row_number : (x rows w c : ℕ) → 0 < w → rows * w ≡ c → x * w < c → x < rows
 row_number x rows w c pos is l = row_below x w 0 rows (omega arith)
 
--- what is looked up of a row
+-- the looked-up facts of a row are right
 pub row_made : (s : Sys) (x : ℕ) (row : Row) → IsSizes (sizes_of s) → x * lanes_in s < count (sizes_of s) → (rows : ℕ) → rows * lanes_in s ≡ count (sizes_of s) → row.part ≡ x % env_rows_of (sizes_of s) →
     row.target ≡ (pair_at (sizes_of s) (x * lanes_in s)).t → row.env ≡ (pair_at (sizes_of s) (x * lanes_in s)).e →
     ((k : ℕ) → k < low_in s → slice_index row.states k ≡ x / (stride_of (sizes_of s) k / lanes_in s) % slice_index (sizes_of s).seats k) →

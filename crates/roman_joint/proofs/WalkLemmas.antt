@@ -1,4 +1,4 @@
--- One step of a walk backwards: what is left, and where the walk then is.
+-- One step of a walk backwards: the delegations that are left, and the new position.
 use Rattle.std.proofs.Common.{◌≡◌, ◌⊎◌, ℕ, zero, suc, ◌+◌, ◌<◌, ◌≤◌, Bool, true, false, cond, List, [], ◌∷◌, ◌++◌, length, take, drop, get_or, Option, None, Some, slice_get, slice_index, slice_set, inl, inr, refl, sym, ap, ap₂, ◌∙◌, subst, arith}
 use Rattle.std.specs.Int.{bit_at}
 use Rattle.std.specs.List.{flat_map}
@@ -16,14 +16,14 @@ use Rattle.roman_joint.proofs.BackwardLemmas.{found_backwards}
 use Rattle.roman_joint.specs.Backward.{seat_prev, from_states, from_seat, from_target, from_env, from_action, from_all}
 use Rattle.roman_joint.specs.Walks.{goal_of, IsWalk, states_before, left_of_seat, left_of_target, left_of_env, left_of_action, left_of_all, left, WalkGoesOn}
 
--- the first of some lists, and the rest
+-- joined lists are the first one and the rest
 flat_map-drop : {X Y : Type 0} (f : X → List Y) (xs : List X) (i : ℕ) (d : X) → i < length xs → flat_map f (drop i xs) ≡ f (get_or xs i d) ++ flat_map f (drop (i + 1) xs)
 flat_map-drop f xs i d l = ap (flat_map f) (drop_more xs i d l)
 
 pub flat_map-past : {X Y : Type 0} (f : X → List Y) (xs : List X) (i : ℕ) → length xs ≤ i → flat_map f (drop i xs) ≡ []
 flat_map-past f xs i l = ap (flat_map f) (drop_all i xs l)
 
--- the same for numbers in their order
+-- the same for the numbers below a bound
 flat_map-below : {Y : Type 0} (f : ℕ → List Y) (n i : ℕ) → i < n → flat_map f (drop i (below n)) ≡ f i ++ flat_map f (drop (i + 1) (below n))
 flat_map-below f n i l =
     flat_map-drop f (below n) i 0 (omega (arith, length-below n)) ∙ ap (λ j. f j ++ flat_map f (drop (i + 1) (below n))) (get_or-below n i 0 l)
@@ -31,7 +31,7 @@ flat_map-below f n i l =
 pub below-past : {Y : Type 0} (f : ℕ → List Y) (n i : ℕ) → n ≤ i → flat_map f (drop i (below n)) ≡ []
 below-past f n i l = flat_map-past f (below n) i (omega (arith, length-below n))
 
--- a seat that isn't there has no states before
+-- a place past the last seat has no predecessor states
 no_seat : (seats : List Seat) (k b' e a : ℕ) → length seats ≤ k → seat_prev (slice_get seats k) b' e a ≡ []
 no_seat [] k b' e a l = refl
 no_seat (seat ∷ seats) zero b' e a l = absurd (omega arith)
@@ -48,7 +48,7 @@ past_seat : (s : Sys) (q : Pair) (a e t k n : ℕ) → length s.seats ≤ k → 
 past_seat s q a e t k n past =
     ap (λ bs. from_states s q a e t k (drop n bs)) (no_seat s.seats k (slice_index q.bs k) e a past) ∙ ap (from_states s q a e t k) (drop_all n [] (omega arith))
 
--- the seats from one on are that seat and those behind it
+-- the seats from one on are that seat and those after it
 seats_from : (s : Sys) (q : Pair) (a e t k : ℕ) →
     from_seat s q a e t k ++ flat_map (from_seat s q a e t) (drop (k + 1) (below (length s.seats))) ≡ flat_map (from_seat s q a e t) (drop k (below (length s.seats)))
 seats_from s q a e t k = elim (cases_lt k (length s.seats)) [
@@ -60,11 +60,11 @@ seats_from s q a e t k = elim (cases_lt k (length s.seats)) [
     f : ℕ → List (Delegation ℕ)
     f = from_seat s q a e t
 
--- the first parts of what is left are none
+-- empty first parts can be left out
 after_none : {X : Type 0} (xs ys rest : List X) → xs ≡ [] → ys ≡ [] → xs ++ (ys ++ rest) ≡ rest
 after_none xs ys rest x y = ap (λ zs. zs ++ (ys ++ rest)) x ∙ ap (λ zs. zs ++ rest) y
 
--- a count that starts anew
+-- a new count is within its bound
 none_taken : 0 ≤ 64
 none_taken = omega arith
 
@@ -85,7 +85,7 @@ module _ (s : Sys) (sys : IsSys s) (w : Walk) (ok : IsWalk s w) where
   pub goes_seat : left_of_seat s w ≡ [] → w.seat + 1 < length s.seats → WalkGoesOn s w seat_on
   goes_seat no_states more = record { walk = seat_walk (omega arith); left = seat_left no_states; falls = omega arith }
 
-  -- the walk at the target's next state, which counts as the last where it is
+  -- the walk at the target's next predecessor state, with m states taken
   abbrev pub target_on : ℕ → ℕ → ℕ → Walk
   target_on t row m = record w { target = t; row = row; targets_taken = m; seat = 0; states_taken = 0 }
 
@@ -108,7 +108,7 @@ module _ (s : Sys) (sys : IsSys s) (w : Walk) (ok : IsWalk s w) where
       let first : 0 ≤ length s.seats = omega arith in
       record { walk = assumption (none_taken); left = then ∙ sym old; falls = omega (arith, sys.few) }
 
-  -- the walk at the environment's next state, which counts as the last where it is; k is the number of seats
+  -- the walk at the environment's next predecessor state, with m states taken; k is the number of seats
   abbrev pub env_on : ℕ → ℕ → ℕ → ℕ → Walk
   env_on e row m k = record w { env = e; row = row; envs_taken = m; targets_taken = 0; seat = k; states_taken = 0 }
 
@@ -131,7 +131,7 @@ module _ (s : Sys) (sys : IsSys s) (w : Walk) (ok : IsWalk s w) where
       (below-past (from_seat s (goal_of s w) w.action e w.target) (length s.seats) (k + 1) (omega arith)) in
       record { walk = assumption (none_taken); left = then ∙ sym old; falls = omega (arith, sys.few) }
 
-  -- the walk at the next action, on which all of the environment's states count as taken where it doesn't lead to the pair
+  -- the walk at the next action, with m of the environment's states taken: all of them if the action doesn't lead to the pair
   abbrev pub action_on : ℕ → ℕ → Walk
   action_on m k = record w { action = w.action + 1; envs_taken = m; targets_taken = 64; seat = k; states_taken = 0 }
 
@@ -160,7 +160,7 @@ module _ (s : Sys) (sys : IsSys s) (w : Walk) (ok : IsWalk s w) where
       let taken : 64 ≤ 64 = omega arith in
       record { walk = assumption (none_taken); left = then ∙ sym old; falls = omega (arith, sys.few, small) }
 
--- a seat's states before are few
+-- a seat has at most 64 predecessor states
 pub few_seat_prev : (s : Sys) (k b' e a : ℕ) → IsSys s → length (seat_prev (slice_get s.seats k) b' e a) ≤ 64
 few_seat_prev s k b' e a sys = by (slice_get s.seats k) (λ seat there. sys.seats seat (seat_in s.seats k seat there))
   where
@@ -172,7 +172,7 @@ few_seat_prev s k b' e a sys = by (slice_get s.seats k) (λ seat there. sys.seat
         of true few = omega arith
         of false few = few
 
--- a state of the present seat is taken
+-- a predecessor state of the current seat is taken
 pub record Takes (s : Sys) (old new : Walk) (node : ℕ) : Type 0 where
   pub walk : IsWalk s new
   pub action : new.action ≡ old.action
@@ -198,7 +198,7 @@ module _ (s : Sys) (sys : IsSys s) (w : Walk) (ok : IsWalk s w) where
   no_state_left past = ap (from_states s (goal_of s w) w.action w.env w.target w.seat) (drop_all w.states_taken (states_before s w) past)
 
 module _ (s : Sys) (sys : IsSys s) (w : Walk) (ok : IsWalk s w) where
-  -- a state of the present seat is taken, and with the last the walk goes past the seat
+  -- a predecessor state of the current seat is taken, and after the last one the walk moves on to the next seat
   pub passes_state : (node : ℕ) (new : Walk) → w.seat < length s.seats → w.states_taken < length (states_before s w) →
       node ≡ number (sizes_of s) (record { t = w.target; e = w.env; bs = slice_set (goal_of s w).bs w.seat (get_or (states_before s w) w.states_taken 0) }) →
       (w.states_taken + 1 < length (states_before s w) → new ≡ record w { states_taken = w.states_taken + 1 }) →
@@ -220,7 +220,7 @@ module _ (s : Sys) (sys : IsSys s) (w : Walk) (ok : IsWalk s w) where
       takes : Takes s w v node
       takes = takes_state s sys w ok node left is
 
--- a walk that begins: all that leads to the pair is left
+-- a walk that begins: all delegations that lead to the pair are left
 pub record Begins (s : Sys) (p : ℕ) (w : Walk) : Type 0 where
   pub walk : IsWalk s w
   pub left : HoldsEachOnce (left s w) (back (numbered s) p)

@@ -28,7 +28,7 @@ pub on_shr : (a d i j : ℕ) → j ≡ d + i → is_on (a / 2 ^ d) i ≡ is_on a
 unfolding is_on
 on_shr a d i j e = ap (λ n. eqb n 1) (sym (shr_and_one (a / 2 ^ d) i) ∙ (ap (λ n. bit_and n 1) (shr-shr a d i) ∙ (shr_and_one a (d + i) ∙ ap (bit_at a) (sym e))))
 
--- the lanes of a word that is shifted up are those of the product
+-- the lanes of a word that is shifted up are the lanes of the product
 on_product : (a d i : ℕ) → i < 64 → is_on (a * 2 ^ d % 2 ^ 64) i ≡ is_on (a * 2 ^ d + 0) i
 unfolding is_on
 on_product a d i h =
@@ -48,31 +48,31 @@ on_below a d i l = elim (cases_lt i 64) [
   | inr past ↦ let small : a * 2 ^ d % 2 ^ 64 < 2 ^ 64 = omega arith in ap (λ n. eqb n 1) (bit_at_above (a * 2 ^ d % 2 ^ 64) 64 i small past)
 ]
 
--- one more of a list is asked
+-- the test of one more element
 pub some_more : {X : Type 0} (p : X → Bool) (xs : List X) (i : ℕ) (d : X) → i < length xs → list_any p (take (i + 1) xs) ≡ (list_any p (take i xs) || p (get_or xs i d))
 some_more p xs i d l = ap (list_any p) (take_more xs i d l) ∙ (list_any-append p (take i xs) (get_or xs i d ∷ []) ∙ ap (λ b. list_any p (take i xs) || b) (or-false (p (get_or xs i d))))
 
--- none of both
+-- whether no element so far passes, with one more element
 pub none_after : {X : Type 0} (test : X → Bool) (xs : List X) (i : ℕ) (d : X) (good alive next : Bool) → i < length xs →
     alive ≡ (good && not (list_any test (take i xs))) → next ≡ (alive && not (test (get_or xs i d))) → next ≡ (good && not (list_any test (take (i + 1) xs)))
 none_after test xs i d good alive next l before here = grind (arith, some_more test xs i d l)
 
--- one word more
+-- the alive lanes with one more word
 pub alive_more : {X : Type 0} (test : X → Bool) (xs : List X) (i : ℕ) (d : X) (good alive word lane : ℕ) → i < length xs →
     is_on alive lane ≡ (is_on good lane && not (list_any test (take i xs))) → is_on word lane ≡ not (test (get_or xs i d)) →
     is_on (bit_and alive word) lane ≡ (is_on good lane && not (list_any test (take (i + 1) xs)))
 alive_more test xs i d good alive word lane l before here =
     none_after test xs i d (is_on good lane) (is_on alive lane) (is_on (bit_and alive word) lane) l before (on_and alive word lane ∙ ap (λ b. is_on alive lane && b) here)
 
--- what is on is said twice
+-- a double negation
 pub not_not : (b : Bool) → b ≡ not (not b)
 not_not b = sym (not-not b)
 
--- nothing is tested
+-- without a test the value stays
 pub all_pass : (b : Bool) → b ≡ (b && true)
 all_pass b = sym (and-true b)
 
--- those of a word that aren't of another
+-- the lanes of a word that aren't lanes of another
 pub on_less : (word other lane : ℕ) → word < 2 ^ 64 → other < 2 ^ 64 → is_on (bit_and word (bit_not w64 other)) lane ≡ (is_on word lane && not (is_on other lane))
 on_less word other lane l m = elim (cases_lt lane 64) [
   | inl less ↦ on_and word (bit_not w64 other) lane ∙ ap (λ b. is_on word lane && b) (on_not other lane m less)

@@ -1,4 +1,4 @@
--- The delegations that lead to a pair, by the states that the environment, the target and a seat come from.
+-- The delegations that lead to a pair, by the states from which the environment, the target and a seat come.
 use Rattle.std.specs.Prelude.{ℕ, List, [], map, length, Option, None, Some, if◌then◌else◌, slice_get, slice_index, slice_set}
 use Rattle.std.specs.List.{flat_map}
 use Rattle.roman_model.specs.Lists.{below}
@@ -7,12 +7,12 @@ use Rattle.roman_model.specs.SystemArena.{env_prev, beh_prev}
 use Rattle.roman_model.specs.Arena.{Delegation}
 use Rattle.roman_model.specs.Numbers.{sizes_of, number}
 
--- a seat's states before, rising: none where it is frozen
+-- a seat's predecessor states, from which it goes to b', in rising order: none if it is frozen
 abbrev pub seat_prev : Option Seat → ℕ → ℕ → ℕ → List ℕ
 seat_prev None b' e a = []
 seat_prev (Some seat) b' e a = if seat.frozen then [] else beh_prev seat.beh b' e a
 
--- the delegations of a to seat k from the target's state t and the environment's e, where the seat is in one of those states
+-- the delegations of a to seat k from the target's state t, the environment's e and one of these states of the seat
 abbrev pub from_states : Sys → Pair → ℕ → ℕ → ℕ → ℕ → List ℕ → List (Delegation ℕ)
 from_states s q a e t k bs =
     map (λ b. record { node = number (sizes_of s) (record { t = t; e = e; bs = slice_set q.bs k b }); action = a; seat = k }) bs

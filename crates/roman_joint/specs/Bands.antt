@@ -1,4 +1,4 @@
--- Bands of rows: runs of neighbouring rows, which differ in the states of the last of the seats before the lanes alone.
+-- Bands of rows: runs of neighbouring rows, which differ only in the states of the last seats before the lanes.
 use Rattle.std.specs.Prelude.{◌≡◌, ℕ, ◌+◌, ◌*◌, ◌<◌, ◌≤◌, ◌&&◌, Bool, false, List, slice_index}
 use Rattle.roman_model.specs.System.{Sys}
 use Rattle.roman_model.specs.Numbers.{sizes_of}
@@ -7,23 +7,24 @@ use Rattle.roman_lanes.specs.Rows.{is_on}
 use Rattle.roman_joint.specs.Rows.{lanes_in, AreAlive}
 use Rattle.roman_joint.specs.declared.turn.Turn.{Turn}
 
--- how many seats stand before a band's own
+-- the number of seats before a band's own
 abbrev pub mid_in : Sys → ℕ
 mid_in s = low_of (row_sizes (sizes_of s)).seats
 
--- how many rows a band has
+-- the number of rows in a band
 abbrev pub band_in : Sys → ℕ
 band_in s = lanes_of (row_sizes (sizes_of s)).seats
 
--- the turn of a row of a band, from that of its first
+-- the turn of row i of a band, from that of its first row
 abbrev pub turn_at : Turn → ℕ → Turn
 turn_at turn i = record { base = turn.base + i; envs = turn.envs }
 
--- each word tells the lanes at which the turn of its row of the band leads nowhere that is gone
+-- each word has the alive lanes of its row's turn: those at which the turn leads to no pair that is gone
 pub record AllAlive (s : Sys) (gone : ℕ → Bool) (turn : Turn) (alive : List ℕ) : Type 0 where
   pub each : (i : ℕ) → i < band_in s → AreAlive s gone (turn_at turn i) (slice_index alive i)
 
--- of the pairs of those rows of a band that are meant, those on are those that were and pass the test; x is the band's first row
+-- in the words of the meant rows of a band, exactly the set lanes whose pairs pass the test stay set, and no lane is
+-- newly set; the words of other rows stay; x is the band's first row
 pub record KeepsWhere (s : Sys) (x : ℕ) (meant : ℕ → Type 0) (test : ℕ → Bool) (old new : List ℕ) : Type 0 where
   pub each : (i lane : ℕ) → i < band_in s → lane < lanes_in s → meant i → is_on (slice_index new i) lane ≡ (is_on (slice_index old i) lane && test ((x + i) * lanes_in s + lane))
   pub others : (i : ℕ) → (meant i → ⊥) → slice_index new i ≡ slice_index old i

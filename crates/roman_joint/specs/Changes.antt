@@ -1,8 +1,8 @@
--- Services after a change.
+-- Services after one is frozen or made ready.
 use Rattle.std.specs.Prelude.{ℕ, zero, suc, Bool, List, [], ◌∷◌}
 use Rattle.roman_joint.specs.declared.seat.Seat.{Seat}
 
--- the services, with that of place k frozen or ready
+-- the services, with the one at place k frozen or ready
 abbrev pub with_frozen : List Seat → ℕ → Bool → List Seat
 with_frozen [] k frozen = []
 with_frozen (seat ∷ seats) zero frozen = record { name = seat.name; behaviour = seat.behaviour; frozen = frozen; rests = seat.rests } ∷ seats

@@ -1,4 +1,4 @@
--- What the fields of a joint are.
+-- The fields of a joint.
 use Rattle.std.specs.Prelude.{◌≡◌, ◌≤◌, vec_capacity}
 use Rattle.roman_model.specs.Numbers.{sizes_of}
 use Rattle.roman_model.specs.declared.limits.TheConstants.{MAX_SERVICES}
@@ -8,7 +8,7 @@ use Rattle.roman_joint.specs.Scenes.{AreScenes}
 use Rattle.roman_joint.specs.Rows.{AreRowsOf}
 use Rattle.roman_joint.specs.Moves.{HoldsMoves, HasRoom}
 
--- the system with its names that the fields show
+-- the system with its names that the fields hold
 abbrev pub named_sys_in : Inside → NamedSys
 named_sys_in a = record {
   environment = a.environment;
@@ -18,7 +18,8 @@ named_sys_in a = record {
   limit = a.limit;
 }
 
--- the parts make a system, the shape numbers its pairs, the rows are the shape's, the moves are those of its services, the scenes are those of its target and environment, and there is room for the greatest number of services
+-- the parts are those of a system; the shape, the rows, the moves and the scenes are those of this system; there is
+-- room for the greatest number of services
 pub record IsJoint (a : Inside) : Type 0 where
   pub known : IsNamedSys (named_sys_in a)
   pub shape : a.shape ≡ sizes_of (system_of (named_sys_in a))

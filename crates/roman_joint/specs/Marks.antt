@@ -1,4 +1,4 @@
--- Marks on the bands before a band.
+-- Marks on the bands from which a band can be reached.
 use Rattle.std.specs.Prelude.{◌≡◌, ℕ, ◌+◌, ◌*◌, ◌/◌, ◌<◌, List, length, slice_get, slice_index, IsTrue}
 use Rattle.std.specs.List.{flat_map}
 use Rattle.roman_model.specs.Lists.{IsIn, below}
@@ -18,51 +18,52 @@ use Rattle.roman_joint.specs.declared.row.Row.{Row}
 abbrev pub IsMarked : List ℕ → ℕ → Type 0
 IsMarked marks y = y < 64 * length marks → IsTrue (has_flag marks y)
 
--- marks are added, none is taken off
+-- marks are only added
 pub record Grows (old new : List ℕ) : Type 0 where
   pub long : length new ≡ length old
   pub still : (y : ℕ) → IsTrue (has_flag old y) → IsTrue (has_flag new y)
 
--- the row at the target's t and the environment's e at which the seats before the lanes are in the row's states
+-- the row at the target's t and the environment's e, with the row's states of the seats before the lanes
 abbrev pub row_at : Sys → Row → ℕ → ℕ → ℕ
 row_at s row e t = t * target_rows_of (sizes_of s) + e * env_rows_of (sizes_of s) + row.part
 
--- the bands are marked from which seat k goes by a, in environment state e, to its state in the row, where `base` is the row before with the seat in that state, and u rows lie between two of its states
+-- the bands are marked from which seat k goes by a, in environment state e, to its state in the row; `base` is the
+-- earlier row if the seat kept its state, and u the number of rows between two of its states
 pub record MarksSeat (s : Sys) (row : Row) (marks : List ℕ) (a e base k : ℕ) : Type 0 where
   pub moved : (u b x : ℕ) → u * lanes_in s ≡ stride_of (sizes_of s) k → IsIn b (seat_prev (slice_get s.seats k) (slice_index row.states k) e a) →
       x + slice_index row.states k * u ≡ base + b * u → IsMarked marks (x / band_in s)
 
--- the bands at the target's t and the environment's e from which a leads to the row's are marked
+-- the bands at the target's t and the environment's e from which a leads to the row's band are marked
 pub record MarksTurn (s : Sys) (row : Row) (marks : List ℕ) (a e t : ℕ) : Type 0 where
   pub own : IsMarked marks (row_at s row e t / band_in s)
   pub seats : (k : ℕ) → k < mid_in s → MarksSeat s row marks a e (row_at s row e t) k
 
--- the bands at the environment's e from which a leads to the row's are marked
+-- the bands at the environment's e from which a leads to the row's band are marked
 pub record MarksEnv (s : Sys) (row : Row) (marks : List ℕ) (a e : ℕ) : Type 0 where
   pub turns : (t : ℕ) → IsIn t (beh_prev s.target row.target e a) → MarksTurn s row marks a e t
 
--- the bands from which a leads to the row's are marked
+-- the bands from which a leads to the row's band are marked
 pub record MarksAction (s : Sys) (row : Row) (marks : List ℕ) (a : ℕ) : Type 0 where
   pub envs : (e : ℕ) → IsIn e (env_prev s.env row.env a) → MarksEnv s row marks a e
 
--- the pair is in the states that all pairs of the row's band have
+-- the pair has the states that all pairs of the row's band share
 pub record IsAt (s : Sys) (row : Row) (q : Pair) : Type 0 where
   pub target : q.t ≡ row.target
   pub env : q.e ≡ row.env
   pub states : (k : ℕ) → k < mid_in s → slice_index q.bs k ≡ slice_index row.states k
 
--- the delegations of a to a seat before the bands' own, from the target's state t and the environment's e, that lead to q
+-- the delegations of a to a seat before the band's own, from the target's state t and the environment's e, that lead to q
 abbrev pub front_target : Sys → Pair → ℕ → ℕ → ℕ → List (Delegation ℕ)
 front_target s q a e t = flat_map (from_seat s q a e t) (below (mid_in s))
 
--- those from the environment's state e
+-- the delegations of a to a seat before the band's own, from the environment's state e, that lead to q
 abbrev pub front_env : Sys → Pair → ℕ → ℕ → List (Delegation ℕ)
 front_env s q a e = flat_map (front_target s q a e) (beh_prev s.target q.t e a)
 
--- those of a
+-- the delegations of a to a seat before the band's own that lead to q
 abbrev pub front_action : Sys → Pair → ℕ → List (Delegation ℕ)
 front_action s q a = flat_map (front_env s q a) (env_prev s.env q.e a)
 
--- all that lead to q
+-- all delegations to a seat before the band's own that lead to q
 abbrev pub front_all : Sys → Pair → List (Delegation ℕ)
 front_all s q = flat_map (front_action s q) (below s.env.actions)

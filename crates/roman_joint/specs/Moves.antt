@@ -17,12 +17,13 @@ use Rattle.roman_joint.specs.declared.moves.Span.{Span}
 use Rattle.roman_joint.specs.declared.moves.Moves.{Moves}
 use Rattle.roman_joint.specs.declared.ways.Ways.{Ways}
 
--- by that move the lane goes to that of state b
+-- by the move, the lane goes to the lane of state b
 pub record GoesTo (n : Sizes) (k lane b : ℕ) (move : Move) : Type 0 where
   pub taken : move.from ≤ lane
   pub there : lane + move.to - move.from ≡ lane + b * stride_of n k - lane_state_of n k lane * stride_of n k
 
--- those are the moves of seat k with that behaviour on a while the environment is in e: each lane goes to those of the states that are next, and `some` are the lanes that have one
+-- these are the moves of seat k with the behaviour on a in environment state e: each lane goes to the lanes of its next
+-- states, and `some` are the lanes that have a next state
 pub record AreMovesOf (n : Sizes) (k : ℕ) (beh : Beh) (e a some : ℕ) (moves : List Move) : Type 0 where
   pub each : (lane : ℕ) → lane < lanes_of n.seats → is_on some lane ≡ not (is_empty (beh_next beh (lane_state_of n k lane) e a))
   pub rest : (lane : ℕ) → lanes_of n.seats ≤ lane → is_on some lane ≡ false
@@ -32,7 +33,8 @@ pub record AreMovesOf (n : Sizes) (k : ℕ) (beh : Beh) (e a some : ℕ) (moves 
   pub whole : (b lane : ℕ) → lane < lanes_of n.seats → IsIn b (beh_next beh (lane_state_of n k lane) e a) →
       (move : Move) × IsIn move moves × (is_on move.lanes lane ≡ true) × GoesTo n k lane b move
 
--- the lanes that go each way are those of seat k with that behaviour on a while the environment is in e: way j leads up by j + 1 states less their number
+-- the lanes of each way are those of seat k with the behaviour on a in environment state e: way j leads j + 1 - n
+-- states up, where n is the number of states
 pub record AreWays (n : Sizes) (k : ℕ) (beh : Beh) (e a : ℕ) (ways : Ways) : Type 0 where
   pub each : (lane : ℕ) → lane < lanes_of n.seats → is_on ways.some lane ≡ not (is_empty (beh_next beh (lane_state_of n k lane) e a))
   pub rest : (lane : ℕ) → lanes_of n.seats ≤ lane → is_on ways.some lane ≡ false
@@ -42,27 +44,27 @@ pub record AreWays (n : Sizes) (k : ℕ) (beh : Beh) (e a : ℕ) (ways : Ways) :
 abbrev pub lane_move : List ℕ → ℕ → ℕ → ℕ → Move
 lane_move lanes last stride j = record { lanes = slice_index lanes j; from = (last - j) * stride; to = (j - last) * stride }
 
--- the moves of the first ways, less those that no lane goes
+-- the moves of the first `count` ways, without the ways that no lane goes
 abbrev pub lane_moves_from : List ℕ → ℕ → ℕ → ℕ → List Move
 lane_moves_from lanes last stride count = map (lane_move lanes last stride) (filter (λ j. not (slice_index lanes j == 0)) (below count))
 
--- how many ways seats of those sizes have at most
+-- the greatest number of ways of seats of these sizes
 abbrev pub ways_room : List ℕ → ℕ
 ways_room [] = 0
 ways_room (size ∷ sizes) = 2 * size - 1 + ways_room sizes
 
--- how many seats stand within the lanes
+-- the number of seats within the lanes
 abbrev pub within_in : Sys → ℕ
 within_in s = length s.seats - low_in s
 
--- the span at place i of a table stands for a seat within the lanes, an action and a state of the environment, the seat's place changing fastest
+-- the span at place i of a table is that of a seat within the lanes, an action and a state of the environment, where the seat's place changes fastest
 pub record IsSpan (s : Sys) (i : ℕ) (span : Span) (moves : List Move) : Type 0 where
   pub first : span.first ≤ span.end
   pub last : span.end ≤ length moves
   pub moves_of : (seat : Seat) → slice_get s.seats (low_in s + i % within_in s) ≡ Some seat →
       AreMovesOf (sizes_of s) (low_in s + i % within_in s) seat.beh (i / within_in s / s.env.actions) (i / within_in s % s.env.actions) span.some (slice_range moves span.first span.end)
 
--- each span of the table is that of its place
+-- each span of the table is right for its place
 pub record HoldsSpans (s : Sys) (spans : List Span) (moves : List Move) : Type 0 where
   pub each : (i : ℕ) (span : Span) → i < length spans → span ≡ slice_index_or spans i span → IsSpan s i span moves
 
@@ -73,21 +75,21 @@ pub record HoldsMoves (s : Sys) (table : Moves) : Type 0 where
   pub long : length table.spans.items ≡ s.env.states * s.env.actions * within_in s
   pub spans_at : HoldsSpans s table.spans.items table.moves.items
 
--- there are places for the moves of all services that there may be
+-- there is room for the moves of the greatest number of services
 pub record HasRoom (table : Moves) : Type 0 where
   pub few_envs : table.envs ≤ 64
   pub few_actions : table.actions ≤ 32
   pub for_spans : vec_capacity table.spans ≡ table.envs * table.actions * 32
   pub for_moves : vec_capacity table.moves ≡ table.envs * table.actions * 160
 
--- the table is for as many states of the environment and actions as before, with as many places
+-- the table has the same numbers of states of the environment and of actions as before, and the same room
 pub record IsKept (old new : Moves) : Type 0 where
   pub same_envs : new.envs ≡ old.envs
   pub same_actions : new.actions ≡ old.actions
   pub spans_room : vec_capacity new.spans ≡ vec_capacity old.spans
   pub moves_room : vec_capacity new.moves ≡ vec_capacity old.moves
 
--- the services, their behaviours and their sizes are those of a system with so many states of the environment and actions
+-- the services, their behaviours and their sizes are those of a system with these numbers of states of the environment and of actions
 pub record AreSeatsOf (n : NamedSys) (catalogue : List NamedBeh) (seats : List declared.Seat) (sizes : Sizes) (envs actions : ℕ) : Type 0 where
   pub known : IsNamedSys n
   pub catalogue_of : catalogue ≡ n.catalogue
@@ -96,7 +98,7 @@ pub record AreSeatsOf (n : NamedSys) (catalogue : List NamedBeh) (seats : List d
   pub envs_are : envs ≡ n.environment.env.states
   pub actions_are : actions ≡ n.environment.env.actions
 
--- one span more, with its moves; nothing before changes
+-- one more span, with its moves, is added at the end
 pub record IsAdded (n : Sizes) (k : ℕ) (beh : Beh) (e a : ℕ) (old new : Moves) : Type 0 where
   pub span : Span
   pub more : List Move

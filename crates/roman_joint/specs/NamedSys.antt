@@ -8,7 +8,7 @@ use Rattle.roman_model.specs.declared.limits.TheConstants.{MAX_CELLS}
 use Rattle.roman_parts.specs.Named.{NamedEnv, NamedBeh, NamedTarget}
 use Rattle.roman_joint.specs.declared.seat.Seat.{Seat}
 
--- an environment, the behaviours that services may have, a target, the services, and the limit on cells
+-- an environment, the behaviours that services can have, a target, the services, and the limit on cells
 pub record NamedSys : Type 0 where
   pub environment : NamedEnv
   pub catalogue : List NamedBeh
@@ -30,7 +30,7 @@ beh_at [] i = still
 beh_at (beh ∷ behs) zero = beh.beh
 beh_at (beh ∷ behs) (suc i) = beh_at behs i
 
--- the service's place in a system
+-- the seat of a service in a system
 abbrev pub seat_of : List NamedBeh → Seat → model.Seat
 seat_of catalogue seat = record { beh = beh_at catalogue seat.behaviour; frozen = seat.frozen; rests = seat.rests }
 
@@ -38,19 +38,19 @@ seat_of catalogue seat = record { beh = beh_at catalogue seat.behaviour; frozen 
 abbrev pub system_of : NamedSys → Sys
 system_of n = record { env = n.environment.env; target = n.target.beh; seats = map (seat_of n.catalogue) n.seats }
 
--- how many cells the system has: pairs times actions
+-- the number of cells of the system: pairs times actions
 abbrev pub cells : Sys → ℕ
 cells s = count (sizes_of s) * s.env.actions
 
--- the behaviour was made over that environment
+-- the behaviour was made over the environment
 abbrev pub IsOverEnv : NamedEnv → NamedBeh → Type 0
 IsOverEnv environment beh = (beh.env_states ≡ environment.env.states) × (beh.actions ≡ environment.env.actions)
 
--- the target was made over that environment
+-- the target was made over the environment
 abbrev pub TargetIsOverEnv : NamedEnv → NamedTarget → Type 0
 TargetIsOverEnv environment target = (target.env_states ≡ environment.env.states) × (target.actions ≡ environment.env.actions)
 
--- the parts are made over one environment and are those of a system within the limit, which is at most the greatest there is, and no two services have one name
+-- the parts are made over one environment and are those of a system within the limit, the limit is in range, and no two services have the same name
 pub record IsNamedSys (n : NamedSys) : Type 0 where
   pub system : IsSys (system_of n)
   pub fits : cells (system_of n) ≤ n.limit

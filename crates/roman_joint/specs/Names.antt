@@ -21,7 +21,7 @@ beh_states beh = beh.states
 abbrev pub states_of_behaviour : List NamedBeh → ℕ → List (List ℕ)
 states_of_behaviour catalogue i = slice_index_or (map beh_states catalogue) i []
 
--- the name of a service, and those of its states
+-- the name of a service, and the names of its states
 abbrev pub names_of_seat : List NamedBeh → Seat → SeatNames
 names_of_seat catalogue seat = record { service = seat.name; states = states_of_behaviour catalogue seat.behaviour }
 

@@ -1,4 +1,4 @@
--- The numbers of the pairs to which a delegation may lead.
+-- The numbers of the pairs to which a delegation can lead.
 use Rattle.std.specs.Prelude.{◌≡◌, ℕ, ◌+◌, ◌*◌, ◌<◌, List, map, slice_index}
 use Rattle.std.specs.List.{flat_map}
 use Rattle.roman_model.specs.Numbers.{Sizes, count, pair_at}
@@ -8,11 +8,11 @@ use Rattle.roman_joint.specs.declared.outcomes.Outcomes.{Outcomes}
 abbrev pub outcome_number : Outcomes → ℕ → ℕ → ℕ
 outcome_number o e b = o.base + e * o.env_stride + b * o.stride
 
--- all numbers, by the environment's state and then by the seat's
+-- all numbers, ordered by the environment's state and then by the seat's
 abbrev pub outcome_numbers : Outcomes → List ℕ
 outcome_numbers o = flat_map (λ e. map (λ b. outcome_number o e b) o.states.now) o.envs.now
 
--- the number is that of a pair with the environment in e and seat k in b
+-- the number is that of a pair with the environment in state e and seat k in state b
 pub record IsPairWith (n : Sizes) (k q e b : ℕ) : Type 0 where
   pub below : q < count n
   pub env : (pair_at n q).e ≡ e

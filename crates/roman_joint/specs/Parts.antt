@@ -1,4 +1,4 @@
--- Joints that differ in their services alone.
+-- Joints that differ only in their services.
 use Rattle.std.specs.Prelude.{◌≡◌}
 use Rattle.roman_joint.specs.NamedSys.{NamedSys}
 

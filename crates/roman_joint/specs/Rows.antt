@@ -13,15 +13,15 @@ use Rattle.roman_joint.specs.declared.layout.Rows.{Rows}
 use Rattle.roman_joint.specs.declared.row.Row.{Row}
 use Rattle.roman_joint.specs.declared.turn.Turn.{Turn}
 
--- how many pairs a row of the system has
+-- the number of pairs in a row of the system
 abbrev pub lanes_in : Sys → ℕ
 lanes_in s = lanes_of (sizes_of s).seats
 
--- how many seats stand before the lanes
+-- the number of seats before the lanes
 abbrev pub low_in : Sys → ℕ
 low_in s = low_of (sizes_of s).seats
 
--- the lane is one of state b, for a seat of that stride and size
+-- at the lane, a seat of this stride and size is in state b
 unfoldable pub lane_has_state : ℕ → ℕ → ℕ → ℕ → Bool
 lane_has_state stride size b lane = lane / stride % size == b
 
@@ -29,7 +29,7 @@ lane_has_state stride size b lane = lane / stride % size == b
 abbrev pub lane_state_of : Sizes → ℕ → ℕ → ℕ
 lane_state_of n k lane = lane / stride_of n k % slice_index n.seats k
 
--- the rows are those of the sizes: strides of seats before the lanes are counted in rows, those of seats within them in lanes
+-- the rows are those of the sizes: strides of seats before the lanes are counted in rows, and those of seats within them in lanes
 pub record AreRowsOf (n : Sizes) (r : Rows) : Type 0 where
   pub low : r.low ≡ low_of n.seats
   pub mid : r.mid ≡ low_of (row_sizes n).seats
@@ -44,7 +44,7 @@ pub record AreRowsOf (n : Sizes) (r : Rows) : Type 0 where
   pub sizes : (k : ℕ) → k < length n.seats → slice_index r.sizes k ≡ slice_index n.seats k
   pub firsts : (k lane : ℕ) → k < length n.seats → lane < 64 → is_on (slice_index r.firsts k) lane ≡ lane_has_state (stride_of n k) (slice_index n.seats k) 0 lane
 
--- what was looked up is that of row x: all its pairs have these states of the target, the environment and the seats before the lanes
+-- the looked-up facts are those of row x: all its pairs have these states of the target, the environment and the seats before the lanes
 pub record IsRow (s : Sys) (x : ℕ) (row : Row) : Type 0 where
   pub part : row.part ≡ x % env_rows_of (sizes_of s)
   pub target_range : row.target < s.target.states
@@ -61,7 +61,8 @@ pub record IsRow (s : Sys) (x : ℕ) (row : Row) : Type 0 where
 abbrev pub is_open : Sys → Row → ℕ → Bool
 is_open s row a = not (is_empty (env_next s.env row.env a)) && not (is_empty (beh_next s.target row.target row.env a))
 
--- the action leads from the row to one state of the target and these of the environment; `base` is the row at that state of the target and state 0 of the environment
+-- the action leads from the row to one state of the target and these states of the environment; `base` is the row at
+-- that state of the target and state 0 of the environment
 pub record IsTurn (s : Sys) (row : Row) (a : ℕ) (turn : Turn) : Type 0 where
   pub to : ℕ
   pub target : beh_next s.target row.target row.env a ≡ to ∷ []
@@ -69,11 +70,11 @@ pub record IsTurn (s : Sys) (row : Row) (a : ℕ) (turn : Turn) : Type 0 where
   pub worlds : turn.envs.now ≡ env_next s.env row.env a
   pub some : IsFalse (is_empty turn.envs.now)
 
--- the lanes are those at which no row of the turn, whichever state of the environment comes, holds a pair that is gone
+-- these are the alive lanes of the turn: those at which it leads to no pair that is gone, in any state of the environment
 pub record AreAlive (s : Sys) (gone : ℕ → Bool) (turn : Turn) (alive : ℕ) : Type 0 where
   pub each : (lane : ℕ) → lane < lanes_in s → is_on alive lane ≡ not (list_any (λ e. gone ((turn.base + e * env_rows_of (sizes_of s)) * lanes_in s + lane)) turn.envs.now)
 
--- the seat may rest in state b: it is final there, or needn't be
+-- the seat may rest in state b: the state is final, or the seat needn't rest
 abbrev pub may_rest : Option Seat → ℕ → Bool
 may_rest None b = true
 may_rest (Some seat) b = not seat.rests || is_final seat.beh b

@@ -1,4 +1,4 @@
--- What the target and the environment say of actions.
+-- Scenes: the actions that the target and the environment allow.
 use Rattle.std.specs.Prelude.{◌≡◌, ℕ, ◌*◌, ◌/◌, ◌%◌, ◌<◌, ◌≤◌, ◌&&◌, not, List, [], length, slice_index_or}
 use Rattle.std.specs.Int.{bit_at}
 use Rattle.roman_model.specs.Lists.{IsIn, is_empty}
@@ -23,7 +23,7 @@ pub record IsScene (env : Env) (target : Beh) (t e : ℕ) (scene : Scene) : Type
   pub allowed : ArePermitted env target t e scene.allowed
   pub leading : AreLeading env target t e scene.leading
 
--- there is a scene for each state of the target and of the environment, the environment's changing fastest
+-- there is a scene for each state of the target and of the environment, where the environment's changes fastest
 pub record AreScenes (env : Env) (target : Beh) (scenes : List Scene) : Type 0 where
   pub long : length scenes ≡ target.states * env.states
   pub each : (i : ℕ) (scene : Scene) → i < length scenes → scene ≡ slice_index_or scenes i scene → IsScene env target (i / env.states) (i % env.states) scene

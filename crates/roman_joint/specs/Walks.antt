@@ -14,7 +14,7 @@ use Rattle.roman_joint.specs.Backward.{seat_prev, from_states, from_seat, from_t
 abbrev pub goal_of : Sys → Walk → Pair
 goal_of s walk = pair_at (sizes_of s) walk.pair
 
--- the walk is one over this system
+-- the walk is a walk of this system
 pub record IsWalk (s : Sys) (walk : Walk) : Type 0 where
   pub pair : walk.pair < count (sizes_of s)
   pub to_target : walk.to_target ≡ (goal_of s walk).t
@@ -30,41 +30,41 @@ pub record IsWalk (s : Sys) (walk : Walk) : Type 0 where
   pub targets_taken : walk.targets_taken ≤ 64
   pub envs_taken : walk.envs_taken ≤ 64
 
--- the states from which the present service goes to the pair's
+-- the predecessor states of the current service: those from which it goes to its state at the pair
 abbrev pub states_before : Sys → Walk → List ℕ
 states_before s walk = seat_prev (slice_get s.seats walk.seat) (slice_index (goal_of s walk).bs walk.seat) walk.env walk.action
 
--- what is left of the present service at these states of the environment and the target
+-- the delegations that are left to the current service, at the current states of the environment and the target
 abbrev pub left_of_seat : Sys → Walk → List (Delegation ℕ)
 left_of_seat s walk = from_states s (goal_of s walk) walk.action walk.env walk.target walk.seat (drop walk.states_taken (states_before s walk))
 
--- what is left of the services behind the present one, at the same states of the environment and the target
+-- the delegations that are left to the services after the current one, at the same states of the environment and the target
 abbrev pub left_of_target : Sys → Walk → List (Delegation ℕ)
 left_of_target s walk = flat_map (from_seat s (goal_of s walk) walk.action walk.env walk.target) (drop (walk.seat + 1) (below (length s.seats)))
 
--- what is left of the target's states that weren't taken, at the same state of the environment
+-- the delegations that are left from the target's states that weren't taken, at the same state of the environment
 abbrev pub left_of_env : Sys → Walk → List (Delegation ℕ)
 left_of_env s walk =
     flat_map (from_target s (goal_of s walk) walk.action walk.env) (drop walk.targets_taken (beh_prev s.target (goal_of s walk).t walk.env walk.action))
 
--- what is left of the environment's states that weren't taken, on the same action
+-- the delegations that are left from the environment's states that weren't taken, on the same action
 abbrev pub left_of_action : Sys → Walk → List (Delegation ℕ)
 left_of_action s walk = flat_map (from_env s (goal_of s walk) walk.action) (drop walk.envs_taken (env_prev s.env (goal_of s walk).e walk.action))
 
--- what is left of the actions behind the present one
+-- the delegations that are left of the actions after the current one
 abbrev pub left_of_all : Sys → Walk → List (Delegation ℕ)
 left_of_all s walk = flat_map (from_action s (goal_of s walk)) (drop (walk.action + 1) (below s.env.actions))
 
--- the delegations that are left
+-- all delegations that are left
 abbrev pub left : Sys → Walk → List (Delegation ℕ)
 left s walk = left_of_seat s walk ++ (left_of_target s walk ++ (left_of_env s walk ++ (left_of_action s walk ++ left_of_all s walk)))
 
--- how far the walk may go on, where each part counts more than all behind it
+-- how far the walk can go on: each part counts more than all parts after it
 abbrev pub way_left : Sys → Walk → ℕ
 way_left s walk =
     (s.env.actions - walk.action) * 2 ^ 20 + (64 - walk.envs_taken) * 2 ^ 13 + (64 - walk.targets_taken) * 2 ^ 6 + (length s.seats - walk.seat)
 
--- the walk goes on, and what is left stays
+-- the walk moves on, and the same delegations are left
 pub record WalkGoesOn (s : Sys) (old new : Walk) : Type 0 where
   pub walk : IsWalk s new
   pub left : left s new ≡ left s old

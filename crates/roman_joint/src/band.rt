@@ -1,4 +1,4 @@
-//! Which pairs of a band of rows no service serves.
+//! The pairs of a band of rows that no service serves.
 ghost use Rattle.std.specs.Prelude.{◌≡◌, ℕ, ◌+◌, ◌*◌, ◌<◌, ◌≤◌, Bool, not, count_by, sum_by, length, slice_index};
 ghost use Rattle.roman_model.specs.Lists.{all_below, below};
 ghost use Rattle.roman_model.specs.Arena.{is_beaten, is_justified, mask as mask_of};
@@ -24,8 +24,8 @@ use crate::words::{less, moves_alive};
 /// The greatest number of rows in a band.
 const BAND: usize = 64;
 
-/// Clears the pairs of a band at which a seat before the band's own serves the action. What `all`
-/// holds before and after doesn't matter.
+/// Clears, in `left`, the pairs of a band at which the seat `k` serves the action. The seat stands
+/// before the band's own. `all` is scratch space, and its contents don't matter.
 pub(crate) fn clear_before(
     joint: &Joint,
     words: &[u64],
@@ -73,8 +73,8 @@ pub(crate) fn clear_before(
     clear_good(left, all);
 }
 
-/// For each row of a band the lanes at which the pairs of its turn aren't gone, whichever state of the
-/// environment comes.
+/// Writes, for each row of a band, the alive lanes of its turn: those at which it leads to no pair
+/// that is gone, in any state of the environment.
 fn alive_each(joint: &Joint, words: &[u64], turn: &Turn<'_>, alive: &mut [u64])
     requires turn { (y : ℕ) × (row : Row) × (a : ℕ) × IsRow (system_of joint.now) (y * band_in (system_of joint.now)) row × IsTurn (system_of joint.now) row a turn.now }
     requires room { length words.now * lanes_in (system_of joint.now) ≡ count (sizes_of (system_of joint.now)) }
@@ -89,8 +89,8 @@ fn alive_each(joint: &Joint, words: &[u64], turn: &Turn<'_>, alive: &mut [u64])
     rows_alive_each(alive, many, words, turn.base, turn.envs, rows.env_rows);
 }
 
-/// Clears the pairs of those rows of a band in which one of the band's own seats is in a state, where
-/// it serves the action there, by the lanes that each row's turn leaves alive.
+/// Clears, in `left`, the pairs of a band at which the seat `k` is in state `b` and serves the action.
+/// The seat is one of the band's own. `alive` holds the alive lanes of each row's turn.
 fn clear_own_state(joint: &Joint, row: &Row, alive: &[u64], a: u8, k: u8, b: u8, left: &mut [u64])
     requires row { (y : ℕ) × IsRow (system_of joint.now) (y * band_in (system_of joint.now)) row.now }
     requires action { a < (system_of joint.now).env.actions }
@@ -116,8 +116,8 @@ fn clear_own_state(joint: &Joint, row: &Row, alive: &[u64], a: u8, k: u8, b: u8,
     clear_state(left, alive, states, b, size, stride, blocks, rows.full);
 }
 
-/// Clears the pairs of a band at which one of the band's own seats serves the action, by the lanes
-/// that each row's turn leaves alive.
+/// Clears, in `left`, the pairs of a band at which the seat `k` serves the action. The seat is one of
+/// the band's own. `alive` holds the alive lanes of each row's turn.
 fn clear_own(joint: &Joint, row: &Row, alive: &[u64], a: u8, k: u8, left: &mut [u64])
     requires row { (y : ℕ) × IsRow (system_of joint.now) (y * band_in (system_of joint.now)) row.now }
     requires action { a < (system_of joint.now).env.actions }
@@ -137,8 +137,8 @@ fn clear_own(joint: &Joint, row: &Row, alive: &[u64], a: u8, k: u8, left: &mut [
     }
 }
 
-/// Clears the pairs of a band at which a seat within the lanes serves the action, by the lanes that
-/// each row's turn leaves alive.
+/// Clears, in `left`, the pairs of a band at which the seat `k` serves the action. The seat is within
+/// the lanes. `alive` holds the alive lanes of each row's turn.
 fn clear_within(joint: &Joint, row: &Row, alive: &[u64], a: u8, k: u8, left: &mut [u64])
     requires row { (y : ℕ) × IsRow (system_of joint.now) (y * band_in (system_of joint.now)) row.now }
     requires action { a < (system_of joint.now).env.actions }
@@ -163,8 +163,8 @@ fn clear_within(joint: &Joint, row: &Row, alive: &[u64], a: u8, k: u8, left: &mu
     }
 }
 
-/// Clears the pairs of a band at which a seat that isn't before the band's own serves the action, by
-/// the lanes that each row's turn leaves alive.
+/// Clears, in `left`, the pairs of a band at which the seat `k` serves the action. The seat is one of
+/// the band's own or within the lanes. `alive` holds the alive lanes of each row's turn.
 fn clear_behind(joint: &Joint, row: &Row, alive: &[u64], a: u8, k: u8, left: &mut [u64])
     requires row { (y : ℕ) × IsRow (system_of joint.now) (y * band_in (system_of joint.now)) row.now }
     requires action { a < (system_of joint.now).env.actions }
@@ -185,7 +185,7 @@ fn clear_behind(joint: &Joint, row: &Row, alive: &[u64], a: u8, k: u8, left: &mu
     }
 }
 
-/// Clears the pairs of a band at which some seat serves the action.
+/// Clears, in `left`, the pairs of a band at which some seat serves the action.
 fn clear_served(joint: &Joint, words: &[u64], row: &Row, turn: &Turn<'_>, a: u8, left: &mut [u64])
     requires row { (y : ℕ) × IsRow (system_of joint.now) (y * band_in (system_of joint.now)) row.now }
     requires turn { IsTurn (system_of joint.now) row.now a turn.now }
@@ -215,8 +215,8 @@ fn clear_served(joint: &Joint, words: &[u64], row: &Row, turn: &Turn<'_>, a: u8,
     }
 }
 
-/// Clears the pairs of a band at which a seat serves the action, by the lanes that each row's turn leaves
-/// alive. What `all` holds before and after doesn't matter.
+/// Clears, in `left`, the pairs of a band at which the seat `k` serves the action. `alive` holds the
+/// alive lanes of each row's turn. `all` is scratch space, and its contents don't matter.
 fn clear_seat(
     joint: &Joint,
     words: &[u64],
@@ -249,7 +249,8 @@ fn clear_seat(
     }
 }
 
-/// At how many pairs of a band a seat serves the action, by the lanes that each row's turn leaves alive.
+/// Returns the number of pairs of a band at which the seat `k` serves the action. `alive` holds the
+/// alive lanes of each row's turn.
 fn served_by(
     joint: &Joint,
     words: &[u64],
@@ -286,9 +287,9 @@ fn served_by(
 }
 
 impl Joint {
-    /// Clears those of the pairs `left` of a band of rows at which the action `a` isn't allowed or some
-    /// service serves it. The row is the band's first; there is a word of `left` for each row of the
-    /// band. The words tell the pairs that aren't gone, row by row.
+    /// Clears, in `left`, the pairs of a band at which the action `a` isn't allowed or some service
+    /// serves it. `row` is the first row of the band. `left` has one word for each row of the band.
+    /// `words` has, row by row, the bits of the pairs that aren't gone.
     pub fn unserved_band(&self, row: &Row, words: &[u64], a: u8, left: &mut [u64])
         requires row { (y : ℕ) × IsRow (system_of self.now) (y * band_in (system_of self.now)) row.now }
         requires action { a < (system_of self.now).env.actions }
@@ -312,9 +313,9 @@ impl Joint {
         clear_served(self, words, row, &turn, a, left);
     }
 
-    /// How many choices of a service there are for the action `a` at all pairs of a band together, at
-    /// most 131,072: over the pairs, the services that serve it. The row is the band's first. The words
-    /// tell the pairs that aren't gone, row by row.
+    /// Returns the number of choices of a service for the action `a` at all pairs of a band together,
+    /// at most 131,072: the sum, over the pairs, of the number of services that serve it. `row` is the
+    /// first row of the band. `words` has, row by row, the bits of the pairs that aren't gone.
     pub fn choices(&self, row: &Row, words: &[u64], a: u8) -> u32
         requires row { (y : ℕ) × IsRow (system_of self.now) (y * band_in (system_of self.now)) row.now }
         requires action { a < (system_of self.now).env.actions }
@@ -339,7 +340,7 @@ impl Joint {
         count
     }
 
-    /// How many rows a band has, from 1 to 64: row x is row `x % band` of band `x / band`.
+    /// Returns the number of rows in a band, from 1 to 64. Row x is row `x % band` of band `x / band`.
     pub fn band(&self) -> u32
         ensures value { result ≡ band_in (system_of self.now) }
         ensures few { (0 < result) × (result ≤ 64) }
@@ -347,7 +348,7 @@ impl Joint {
         self.layout().band
     }
 
-    /// How many bands there are.
+    /// Returns the number of bands.
     pub fn bands(&self) -> u32
         ensures { result * band_in (system_of self.now) * lanes_in (system_of self.now) ≡ count (sizes_of (system_of self.now)) }
     {

@@ -1,4 +1,4 @@
-//! Why a joint isn't built, and why a service isn't seated.
+//! The errors of building a joint and of adding a service.
 ghost use Rattle.std.specs.Prelude.{◌≡◌};
 ghost use Rattle.roman_joint.specs.Errors.{joint_error_number, seat_error_number};
 ghost use Rattle.roman_joint.specs.declared.error.JointError.TheVariants.{Memory};
@@ -6,19 +6,19 @@ ghost use Rattle.roman_joint.specs.declared.error.JointError.TheVariants.{Memory
 use std::alloc::AllocError;
 use thiserror::Error;
 
-/// Why a joint isn't built.
+/// Why a joint can't be built.
 #[derive(Clone, Copy, Debug, PartialEq, Eq, Error)]
 pub enum JointError {
     /// The system has more cells than the limit.
     #[error("the system has more cells than the limit")]
     Limit,
-    /// There is no memory for the joint's tables.
+    /// There is no memory left for the joint's tables.
     #[error("there is no memory")]
     Memory,
 }
 
 impl JointError {
-    /// The error's number: 1 for `Limit` and 2 for `Memory`.
+    /// Returns the error's number: 1 for `Limit` and 2 for `Memory`.
     pub fn number(&self) -> u8
         ensures number { result ≡ joint_error_number self.now }
     {
@@ -37,10 +37,10 @@ impl From<AllocError> for JointError {
     }
 }
 
-/// Why a service isn't seated.
+/// Why a service can't be added.
 #[derive(Clone, Copy, Debug, PartialEq, Eq, Error)]
 pub enum SeatError {
-    /// There are as many services as there may be.
+    /// There are 32 services already, the greatest number.
     #[error("there is no seat left")]
     Full,
     /// The system would have more cells than the limit.
@@ -49,7 +49,7 @@ pub enum SeatError {
 }
 
 impl SeatError {
-    /// The error's number: 1 for `Full` and 2 for `Limit`.
+    /// Returns the error's number: 1 for `Full` and 2 for `Limit`.
     pub fn number(&self) -> u8
         ensures number { result ≡ seat_error_number self.now }
     {

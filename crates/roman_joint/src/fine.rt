@@ -1,4 +1,4 @@
-//! Which pairs of a row don't meet clause 2.
+//! The pairs of rows and bands that don't meet clause 2 of an ND-simulation.
 ghost use Rattle.std.specs.Prelude.{◌≡◌, ℕ, ◌+◌, ◌*◌, ◌<◌, ◌≤◌, not, length, slice_get, slice_index};
 ghost use Rattle.roman_model.specs.Lists.{all_below};
 ghost use Rattle.roman_model.specs.Numbers.{sizes_of, pair_at, numbered};
@@ -13,7 +13,7 @@ use crate::runs::clear;
 use crate::states::{may_rest, state_lanes};
 use crate::words::{less, with_lanes};
 
-/// The lanes in which a seat within the lanes may rest.
+/// Returns the lanes in which a seat within the lanes may rest.
 fn rests_within(joint: &Joint, k: u8) -> u64
     requires within { low_in (system_of joint.now) ≤ k }
     requires seat { k < length joint.now.seats }
@@ -32,7 +32,7 @@ fn rests_within(joint: &Joint, k: u8) -> u64
     lanes
 }
 
-/// The lanes of a row at which a seat may rest.
+/// Returns the lanes of a row at which a seat may rest.
 fn rests_on(joint: &Joint, row: &Row, k: u8) -> u64
     requires row { (x : ℕ) × IsRow (system_of joint.now) x row.now }
     requires seat { k < length joint.now.seats }
@@ -48,7 +48,7 @@ fn rests_on(joint: &Joint, row: &Row, k: u8) -> u64
     rests_within(joint, k)
 }
 
-/// The lanes of a row of a band at which a seat may rest: of the band's i-th row, from its first.
+/// Returns the lanes of row `i` of a band, counted from its first row, at which a seat may rest.
 fn rests_in(joint: &Joint, row: &Row, i: u32, k: u8) -> u64
     requires row { (y : ℕ) × IsRow (system_of joint.now) (y * band_in (system_of joint.now)) row.now }
     requires within { i < band_in (system_of joint.now) }
@@ -66,7 +66,7 @@ fn rests_in(joint: &Joint, row: &Row, i: u32, k: u8) -> u64
     with_lanes(0, rows.full, rests)
 }
 
-/// The lanes of the i-th row of a band at which each seat may rest.
+/// Returns the lanes of row `i` of a band at which all seats may rest.
 fn all_rest_in(joint: &Joint, row: &Row, i: u32) -> u64
     requires row { (y : ℕ) × IsRow (system_of joint.now) (y * band_in (system_of joint.now)) row.now }
     requires within { i < band_in (system_of joint.now) }
@@ -86,9 +86,9 @@ fn all_rest_in(joint: &Joint, row: &Row, i: u32) -> u64
 }
 
 impl Joint {
-    /// The pairs of a row that don't meet clause 2 of an ND-simulation: the target is final there, and
-    /// some service that rests isn't. Bit l is for the pair at lane l, and no bit is set past the
-    /// lanes.
+    /// Returns the pairs of a row that don't meet clause 2 of an ND-simulation: the target's state is
+    /// final, and some service that rests isn't in a final state. Bit l stands for the pair at lane l.
+    /// No bit is set past the lanes.
     pub fn unfine(&self, row: &Row) -> u64
         requires { (x : ℕ) × IsRow (system_of self.now) x row.now }
         ensures { let s = system_of self.now in
@@ -109,8 +109,8 @@ impl Joint {
         }
         less(full, rests)
     }
-    /// Clears those of the pairs `left` of a band that meet clause 2 of an ND-simulation. The row is the
-    /// band's first; there is a word of `left` for each row of the band.
+    /// Clears, in `left`, the pairs of a band that meet clause 2 of an ND-simulation. `row` is the
+    /// first row of the band. `left` has one word for each row of the band.
     pub fn unfine_band(&self, row: &Row, left: &mut [u64])
         requires row { (y : ℕ) × IsRow (system_of self.now) (y * band_in (system_of self.now)) row.now }
         requires long { length left.old ≡ band_in (system_of self.now) }

@@ -1,4 +1,4 @@
-//! At which pairs of a row a seat serves an action, and how many seats do.
+//! The pairs of a row at which seats serve an action.
 ghost use Rattle.std.specs.Prelude.{◌≡◌, ℕ, ◌+◌, ◌*◌, ◌<◌, ◌≤◌, Bool, not, ◌&&◌, false, length, sum_by};
 ghost use Rattle.roman_model.specs.Lists.{below};
 ghost use Rattle.roman_model.specs.System.{has};
@@ -19,7 +19,7 @@ use crate::turn::{Turn, turn_of};
 use crate::words::{all_alive, less, moves_alive, rows_alive};
 use roman_rules::SeatSet;
 
-/// The lanes at which a seat before the lanes serves the action.
+/// Returns the lanes at which a seat before the lanes serves the action.
 fn good_before(joint: &Joint, words: &[u64], row: &Row, turn: &Turn<'_>, a: u8, k: u8) -> u64
     requires row { (x : ℕ) × IsRow (system_of joint.now) x row.now }
     requires turn { IsTurn (system_of joint.now) row.now a turn.now }
@@ -50,7 +50,8 @@ fn good_before(joint: &Joint, words: &[u64], row: &Row, turn: &Turn<'_>, a: u8, 
     )
 }
 
-/// The lanes at which the pairs of a turn aren't gone, whichever state of the environment comes.
+/// Returns the alive lanes of a turn: those at which it leads to no pair that is gone, in any state of
+/// the environment.
 fn alive_on(joint: &Joint, words: &[u64], turn: &Turn<'_>) -> u64
     requires turn { (x : ℕ) × (row : Row) × (a : ℕ) × IsRow (system_of joint.now) x row × IsTurn (system_of joint.now) row a turn.now }
     requires room { length words.now * lanes_in (system_of joint.now) ≡ count (sizes_of (system_of joint.now)) }
@@ -61,7 +62,8 @@ fn alive_on(joint: &Joint, words: &[u64], turn: &Turn<'_>) -> u64
     rows_alive(words, turn.base, turn.envs, rows.env_rows, rows.full)
 }
 
-/// The lanes at which a seat within the lanes serves the action, by those that the turn leaves alive.
+/// Returns the lanes at which a seat within the lanes serves the action. `alive` holds the alive lanes
+/// of the turn.
 fn good_within(joint: &Joint, row: &Row, alive: u64, a: u8, k: u8) -> u64
     requires row { (x : ℕ) × IsRow (system_of joint.now) x row.now }
     requires action { a < (system_of joint.now).env.actions }
@@ -80,7 +82,7 @@ fn good_within(joint: &Joint, row: &Row, alive: u64, a: u8, k: u8) -> u64
     moves_alive(alive, moves, some)
 }
 
-/// The lanes at which a seat serves the action, by those that the turn leaves alive.
+/// Returns the lanes at which a seat serves the action. `alive` holds the alive lanes of the turn.
 fn good_on(
     joint: &Joint,
     words: &[u64],
@@ -107,8 +109,8 @@ fn good_on(
     }
 }
 
-/// As many of the first seats as may serve an action: where no lane is left alive, those within the
-/// lanes serve nothing.
+/// Returns how many of the first seats can serve an action. Without an alive lane, the seats within
+/// the lanes serve at no pair.
 fn serving(joint: &Joint, alive: u64) -> u8
     ensures few { result ≤ length joint.now.seats }
     ensures rest { (k : ℕ) → result ≤ k → k < length joint.now.seats → (low_in (system_of joint.now) ≤ k) × (alive ≡ 0) }
@@ -120,10 +122,10 @@ fn serving(joint: &Joint, alive: u64) -> u8
 }
 
 impl Joint {
-    /// The pairs of a row at which the service `k` serves the action `a`: it is ready, and has an
-    /// outcome there and none that is gone. The words tell the pairs that aren't gone, row by row. Bit
-    /// l is for the pair at lane l; no bit is set past the lanes, nor where the target doesn't allow
-    /// the action.
+    /// Returns the pairs of a row at which the service `k` serves the action `a`: it is ready, and has
+    /// an outcome there and none that is gone. `words` has, row by row, the bits of the pairs that
+    /// aren't gone. Bit l stands for the pair at lane l. No bit is set past the lanes, or where the
+    /// target doesn't allow the action.
     pub fn good(&self, row: &Row, words: &[u64], a: u8, k: u8) -> u64
         requires row { (x : ℕ) × IsRow (system_of self.now) x row.now }
         requires action { a < (system_of self.now).env.actions }
@@ -142,9 +144,9 @@ impl Joint {
         good_on(self, words, row, &turn, alive, a, k)
     }
 
-    /// The mask of the pair at a lane of a row and the action `a`: the services that are ready and have
-    /// an outcome there, and none that is gone. The words tell the pairs that aren't gone, row by row.
-    /// It is empty where the target doesn't allow the action.
+    /// Returns the mask of the action `a` at the pair at a lane of a row: the services that are ready
+    /// and have an outcome there, and none that is gone. `words` has, row by row, the bits of the
+    /// pairs that aren't gone. The mask is empty where the target doesn't allow the action.
     pub fn mask(&self, row: &Row, words: &[u64], a: u8, lane: u32) -> SeatSet
         requires row { (x : ℕ) × IsRow (system_of self.now) x row.now }
         requires action { a < (system_of self.now).env.actions }
@@ -168,9 +170,9 @@ impl Joint {
         mask
     }
 
-    /// Those of the pairs `wanted` of a row at which the action `a` is allowed and no service serves
-    /// it. The words tell the pairs that aren't gone, row by row; no bit is set that `wanted` doesn't
-    /// have.
+    /// Returns those of the pairs `wanted` of a row at which the action `a` is allowed and no service
+    /// serves it. `words` has, row by row, the bits of the pairs that aren't gone. A bit that isn't
+    /// set in `wanted` isn't set in the result.
     pub fn unserved(&self, row: &Row, words: &[u64], a: u8, wanted: u64) -> u64
         requires row { (x : ℕ) × IsRow (system_of self.now) x row.now }
         requires action { a < (system_of self.now).env.actions }

@@ -1,4 +1,4 @@
-//! Joints: how they are built, and what they are made of.
+//! Joints: their parts, how they are built, and the calls that read the parts.
 ghost use Rattle.std.specs.Prelude.{◌≡◌, ◌<◌, ◌≤◌, ◌↔◌, All, length, map, vec_len, Some, Err, IfOk, slice_get};
 ghost use Rattle.roman_model.specs.Lists.{HasNoRepeats};
 ghost use Rattle.roman_model.specs.Numbers.{sizes_of};
@@ -33,20 +33,20 @@ use std::marker::Model;
 /// system of the Roman model (De Giacomo, Patrizi and Sardina, "Automatic Behavior Composition
 /// Synthesis", Artificial Intelligence 196, 2013).
 ///
-/// The numbers of the system's pairs are those of its [shape](Joint::shape). Services are named by
-/// their places, and actions and states by their numbers. Where nothing else is said, the numbers that
-/// are passed are in range, and no call takes memory.
+/// The pairs of the system have the numbers of its [shape](Joint::shape). Services are given by their
+/// places, and actions and states by their numbers. Unless a call says otherwise, numbers that are
+/// passed must be in range, and the call takes no memory.
 #[derive(Drop)]
 pub struct Joint {
     environment: Environment,
     catalogue: Vec<Behaviour>,
     target: Target,
-    // There is room for the greatest number of services.
+    // Has room for the greatest number of services.
     seats: Vec<Seat>,
     shape: Shape,
     rows: Rows,
     moves: Moves,
-    // By the target's state and then by the environment's.
+    // Ordered by the target's state, and then by the environment's.
     scenes: Vec<Scene>,
     limit: u32,
 }
@@ -64,12 +64,13 @@ impl Model for Joint {
 }
 
 impl Joint {
-    /// The joint of these parts: a catalogue and a target that were made over this environment, and at
-    /// most 32 services with distinct names, whose behaviours are places of the catalogue. The limit, 1
-    /// to 16,777,216, is on cells: pairs times actions. Places for 32 services and their moves are
-    /// taken at once, so that later changes take no memory.
+    /// Builds the joint of these parts. The catalogue and the target must be made over this
+    /// environment. There must be at most 32 services with distinct names, whose behaviours are places
+    /// of the catalogue. The limit, from 1 to 16,777,216, is on cells: pairs times actions. Takes the
+    /// memory for 32 services and their moves at once, so later changes take none.
     ///
-    /// `Limit` comes exactly where the cells exceed the limit, and `Memory` only where there is none.
+    /// Fails with `Limit` exactly where the cells exceed the limit, and with `Memory` only when out of
+    /// memory.
     pub fn build(
         alloc: Global,
         environment: Environment,
@@ -109,28 +110,28 @@ impl Joint {
         })
     }
 
-    /// The environment that all services share.
+    /// Returns the environment that all services share.
     pub fn environment(&self) -> &Environment
         ensures { result.now ≡ self.now.environment }
     {
         &self.environment
     }
 
-    /// The behaviours that services may have, by their places.
+    /// Returns the behaviours that services can have, by their places.
     pub fn catalogue(&self) -> &[Behaviour]
         ensures { result.now ≡ self.now.catalogue }
     {
         &self.catalogue
     }
 
-    /// The target that is to be composed.
+    /// Returns the target that is to be composed.
     pub fn target(&self) -> &Target
         ensures { result.now ≡ self.now.target }
     {
         &self.target
     }
 
-    /// The number of services, at most 32.
+    /// Returns the number of services, at most 32.
     pub fn seats(&self) -> u8
         ensures count { result ≡ length self.now.seats }
         ensures few { result ≤ MAX_SERVICES }
@@ -138,7 +139,7 @@ impl Joint {
         self.seats.len() as u8
     }
 
-    /// The service at place k, from 0.
+    /// Returns the service at place `k`, from 0.
     pub fn seat(&self, k: u8) -> &Seat
         requires { k < length self.now.seats }
         ensures { slice_get self.now.seats k ≡ Some result.now }
@@ -146,7 +147,7 @@ impl Joint {
         &self.seats[k as usize]
     }
 
-    /// The behaviour of the service at place k, from the catalogue.
+    /// Returns the behaviour of the service at place `k`, from the catalogue.
     pub fn behaviour(&self, k: u8) -> &Behaviour
         requires { k < length self.now.seats }
         ensures { IsSeatBehaviour self.now k result.now }
@@ -156,14 +157,14 @@ impl Joint {
         &self.catalogue()[seat.behaviour as usize]
     }
 
-    /// The numbering of the system's pairs, with the services as its components.
+    /// Returns the numbering of the system's pairs, with the services as its components.
     pub fn shape(&self) -> &Shape
         ensures { result.now ≡ sizes_of (system_of self.now) }
     {
         &self.shape
     }
 
-    // How the numbers of pairs split into rows and lanes.
+    // Returns how the numbers of pairs split into rows and lanes.
     pub(crate) fn layout(&self) -> &Rows
         ensures known { IsNamedSys self.now }
         ensures rows { AreRowsOf (sizes_of (system_of self.now)) result.now }
@@ -171,9 +172,9 @@ impl Joint {
         &self.rows
     }
 
-    // The moves of the service at place k, within the lanes, on an action while the environment is
-    // in a state, whether it is frozen or not: the lanes from which its behaviour goes somewhere,
-    // and where lanes go.
+    // Returns the moves of the service at place `k`, within the lanes, on an action in a state of the
+    // environment: the lanes from which its behaviour has a step, and the moves of these lanes. They
+    // don't depend on whether the service is frozen.
     pub(crate) fn lane_moves(&self, k: u8, e: u8, a: u8) -> (u64, &[Move])
         requires within { low_in (system_of self.now) ≤ k }
         requires seat { k < length self.now.seats }
@@ -189,15 +190,15 @@ impl Joint {
         (span.some, part(&table.moves, span.first, span.end))
     }
 
-    /// The greatest number of cells, pairs times actions, that the system may have.
+    /// Returns the greatest number of cells, pairs times actions, that the system may have.
     pub fn limit(&self) -> u32
         ensures { result ≡ self.now.limit }
     {
         self.limit
     }
 
-    /// Tells a prover what holds of every joint: its parts are those of a system within the limit. It
-    /// does nothing.
+    /// Does nothing. Its contract states what holds of every joint: its parts are those of a system
+    /// within the limit.
     pub fn known(&self)
         ensures { IsNamedSys self.now }
     {

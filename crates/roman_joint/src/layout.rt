@@ -6,35 +6,36 @@ ghost use Rattle.roman_joint.specs.Rows.{lane_has_state, AreRowsOf};
 use crate::seat::PLACES;
 use roman_radix::Shape;
 
-/// How the numbers of pairs split: the states of the last services are a pair's lane, and the rest is
-/// its row.
+/// How the numbers of pairs split into rows and lanes: the states of the last services give a pair's
+/// lane, and the other states give its row.
 #[derive(Clone, Copy, Debug)]
 pub(crate) struct Rows {
     /// The first service within the lanes.
     pub(crate) low: u8,
-    /// The first service within a band.
+    /// The first of a band's own services.
     pub(crate) mid: u8,
-    /// How many rows a band has.
+    /// The number of rows in a band.
     pub(crate) band: u32,
-    /// How many lanes a row has.
+    /// The number of lanes in a row.
     pub(crate) lanes: u32,
-    /// All lanes.
+    /// The word with all lanes set.
     pub(crate) full: u64,
-    /// How many rows there are.
+    /// The number of rows.
     pub(crate) rows: u32,
-    /// How many there are for each state of the target and of the environment.
+    /// The number of rows for each state of the target and of the environment.
     pub(crate) env_rows: u32,
-    /// How many there are for each state of the target.
+    /// The number of rows for each state of the target.
     pub(crate) target_rows: u32,
-    /// What one more state of a service adds: rows for one before the lanes, lanes for one within them.
+    /// What one more state of a service adds: rows for a service before the lanes, lanes for one
+    /// within them.
     pub(crate) strides: [u32; PLACES],
-    /// How many states each service has.
+    /// The number of states of each service.
     pub(crate) sizes: [u8; PLACES],
     /// The lanes in which a service within the lanes is in its first state.
     pub(crate) firsts: [u64; PLACES],
 }
 
-/// The rows of a shape.
+/// Returns how the numbers of a shape's pairs split.
 pub(crate) fn rows_of(shape: &Shape) -> Rows
     ensures { AreRowsOf shape.now result }
 {
@@ -67,7 +68,7 @@ pub(crate) fn rows_of(shape: &Shape) -> Rows
     }
 }
 
-/// A stride, in rows where `in_rows` says so, and else in lanes, as it is given.
+/// Returns a stride, converted from lanes to rows if `in_rows` is true.
 fn scaled(stride: u32, lanes: u32, in_rows: bool) -> u32
     requires { 0 < lanes }
     ensures { result ≡ (if in_rows then stride / lanes else stride) }
@@ -75,7 +76,7 @@ fn scaled(stride: u32, lanes: u32, in_rows: bool) -> u32
     if in_rows { stride / lanes } else { stride }
 }
 
-/// The word of the first lanes.
+/// Returns the word with the first `lanes` lanes set.
 fn all_lanes(lanes: u32) -> u64
     requires { (0 < lanes) × (lanes ≤ 64) }
     ensures { (lane : ℕ) → is_on result lane ≡ ltb lane lanes }
@@ -83,7 +84,7 @@ fn all_lanes(lanes: u32) -> u64
     u64::MAX >> (64 - lanes)
 }
 
-/// The lanes in which a service of that stride and size is in its first state.
+/// Returns the lanes in which a service of the given stride and size is in its first state.
 fn first_lanes(stride: u32, size: u8) -> u64
     requires stride { 0 < stride }
     requires size { 0 < size }
@@ -97,7 +98,7 @@ fn first_lanes(stride: u32, size: u8) -> u64
     lanes
 }
 
-/// The word with that lane set where `is_in` says so.
+/// Returns the word with the given lane set if `is_in` is true.
 fn with_lane(word: u64, lane: u32, is_in: bool) -> u64
     requires { lane < 64 }
     ensures own { is_on result lane ≡ (if is_in then true else is_on word lane) }

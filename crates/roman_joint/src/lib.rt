@@ -1,12 +1,11 @@
-//! Joints: an environment, a catalogue of behaviours, a target and the services, as one system whose
-//! pairs are numbered.
+//! Joints: an environment, a catalogue of behaviours, a target and the services, as one system with
+//! numbered pairs.
 //!
-//! A joint answers what the system does at a pair: which actions the target allows, whether a final
-//! target rests on a final system, and what an action leads to that is delegated to a service. It
-//! also walks backwards, over the delegations that may lead to a pair. What it answers of a pair it
-//! answers of a row of up to 64 neighbouring pairs at once, by words. Contracts see a joint as a
-//! system with its names (`specs/NamedSys`), and its answers as those of the arena over the numbers
-//! of that system's pairs.
+//! A joint answers what the system does at a pair: which actions the target allows, whether the
+//! services may rest where the target does, and to which pairs a delegated action can lead. It also
+//! walks backwards over the delegations that can lead to a pair. It gives the same answers for a row
+//! of up to 64 neighbouring pairs at once, as words. Contracts see a joint as a system with its names
+//! (`specs/NamedSys`), and its answers as those of the arena over the numbers of that system's pairs.
 #![tactic(auto)]
 
 mod band;

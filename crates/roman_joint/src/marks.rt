@@ -1,4 +1,4 @@
-//! Marks on the bands from which pairs of a band are reached.
+//! Marking the bands from which a band can be reached.
 ghost use Rattle.std.specs.Prelude.{◌≡◌, ℕ, ◌+◌, ◌*◌, ◌/◌, ◌^◌, ◌<◌, ◌≤◌, true, length, count_by, ltb};
 ghost use Rattle.roman_model.specs.Lists.{IsIn};
 ghost use Rattle.roman_model.specs.System.{Pair};
@@ -17,7 +17,7 @@ use crate::states::prev_states;
 use roman_io::Steps;
 use std::sync::ledger::Ledger;
 
-/// Marks a band, if the table has a place for it.
+/// Marks the band `y`, if the table has a place for it.
 fn mark(marks: &mut [u64], y: u64)
     ensures grows { Grows marks.old marks.new }
     ensures marked { IsMarked marks.new y }
@@ -30,7 +30,7 @@ fn mark(marks: &mut [u64], y: u64)
     marks[place as usize] |= 1 << lane;
 }
 
-/// A product that fits.
+/// Returns the product of a state and a stride, which can't overflow.
 fn times(state: u8, stride: u32) -> u64
     ensures value { result ≡ state * stride }
     ensures small { result < 2 ^ 40 }
@@ -38,7 +38,8 @@ fn times(state: u8, stride: u32) -> u64
     u64::from(state) * u64::from(stride)
 }
 
-/// Marks the band of the row that lies a state's rows after another, less those of the present state.
+/// Marks the band of the row `base + b * stride - taken`: the row in which a seat is in state `b`.
+/// `taken` is the offset of the seat's current state.
 fn mark_moved(marks: &mut [u64], base: u64, b: u8, stride: u32, taken: u64, band: u32)
     requires base { base < 2 ^ 50 }
     requires band { 0 < band }
@@ -52,8 +53,8 @@ fn mark_moved(marks: &mut [u64], base: u64, b: u8, stride: u32, taken: u64, band
     mark(marks, (whole - taken) / u64::from(band));
 }
 
-/// Marks the bands from which a seat before the bands' own goes to its state in the row, where `base` is
-/// the row before with the seat in that state.
+/// Marks the bands from which the seat `k`, before the band's own, goes to its state in the row.
+/// `base` is the earlier row if the seat kept its state.
 fn mark_seat<L: Ledger>(
     joint: &Joint,
     row: &Row,
@@ -85,9 +86,9 @@ fn mark_seat<L: Ledger>(
     }
 }
 
-/// Marks the bands at a state of the target and one of the environment from which an action leads to
-/// the row's band. The one with the same states of the seats before the bands' own is marked for all
-/// other seats.
+/// Marks the bands at the target's state `t` and the environment's state `e` from which the action
+/// leads to the row's band. For a seat that isn't before the band's own, that is the band with the
+/// same states of the seats before.
 fn mark_turn<L: Ledger>(
     joint: &Joint,
     row: &Row,
@@ -113,7 +114,7 @@ fn mark_turn<L: Ledger>(
     }
 }
 
-/// Marks the bands at a state of the environment from which an action leads to the row's band.
+/// Marks the bands at the environment's state `e` from which the action leads to the row's band.
 fn mark_env<L: Ledger>(
     joint: &Joint,
     row: &Row,
@@ -136,7 +137,7 @@ fn mark_env<L: Ledger>(
     }
 }
 
-/// Marks the bands from which an action leads to the row's band.
+/// Marks the bands from which the action leads to the row's band.
 fn mark_action<L: Ledger>(joint: &Joint, row: &Row, marks: &mut [u64], a: u8, steps: &mut Steps<L>)
     requires row { (x : ℕ) × IsRow (system_of joint.now) x row.now }
     requires action { a < (system_of joint.now).env.actions }
@@ -155,12 +156,12 @@ fn mark_action<L: Ledger>(joint: &Joint, row: &Row, marks: &mut [u64], a: u8, st
 }
 
 impl Joint {
-    /// Goes back from a band: marks each band with a pair that has one of this band's as an outcome; other
-    /// bands may be marked as well. The row is the band's first. The marks are flags, 64 to a word, one
-    /// for each band, and those that are set stay.
+    /// Marks each band with a pair that has a pair of the given band as an outcome. It can mark other
+    /// bands as well. `row` is the first row of the given band. `marks` has one flag for each band, 64
+    /// to a word. Flags that are set stay set.
     ///
-    /// A step is counted for each delegation to a service before the bands' own that leads to a pair of
-    /// the band: there are as many at each.
+    /// Counts as many steps as delegations to services before the band's own lead to one pair of the
+    /// band. That number is the same for each pair of the band.
     pub fn mark_before<L: Ledger>(&self, row: &Row, marks: &mut [u64], steps: &mut Steps<L>)
         requires row { (y : ℕ) × IsRow (system_of self.now) (y * band_in (system_of self.now)) row.now }
         requires room { count (sizes_of (system_of self.now)) ≤ 64 * length marks.old * band_in (system_of self.now) * lanes_in (system_of self.now) }

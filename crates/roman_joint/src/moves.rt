@@ -1,6 +1,6 @@
-//! Moves of services within the lanes: for each of them, each action and each state of the
-//! environment the lanes from which its behaviour goes somewhere, and together those that go the
-//! same way. Whether a service is frozen makes no difference to them.
+//! Moves of services within the lanes. For each such service, each action and each state of the
+//! environment, the table has the lanes from which the behaviour has a step, grouped by the way in
+//! which they move. Moves don't depend on whether a service is frozen.
 ghost use Rattle.std.specs.Prelude.{◌≡◌, ◌+◌, ◌-◌, ◌*◌, ◌<◌, ◌≤◌, ◌++◌, ◌∷◌, [], ◌==◌, ◌^◌, if◌then◌else◌, length, slice_index, slice_range, vec_len, vec_capacity, IfOk};
 ghost use Rattle.roman_radix.specs.Rows.{low_of};
 ghost use Rattle.roman_joint.specs.NamedSys.{NamedSys, system_of};
@@ -18,13 +18,13 @@ use std::alloc::{AllocError, Global};
 /// The greatest number of services within the lanes.
 const MAX_SPANS: u32 = MAX_SERVICES as u32;
 
-/// No fewer than the ways that services within the lanes may go on one action while the environment
-/// is in one state: the sizes of those with more than one state add up to at most 64, as their
-/// product is at most that, and each goes fewer ways than twice its size; the others go one way
-/// each.
+/// An upper bound on the moves of all services within the lanes, on one action in one state of the
+/// environment. The product of their sizes is at most 64, so those with more than one state have sizes
+/// that add up to at most 64. Each of these has fewer moves than twice its size. Each other service
+/// has at most one move.
 const MAX_MOVES: u32 = 2 * 64 + MAX_SPANS;
 
-/// Lanes from which a service goes the same way: lane l goes to lane `l + to - from`.
+/// Lanes from which a service moves in the same way: lane l moves to lane `l + to - from`.
 #[derive(Clone, Copy, Debug)]
 pub(crate) struct Move {
     pub(crate) lanes: u64,
@@ -32,10 +32,10 @@ pub(crate) struct Move {
     pub(crate) to: u32,
 }
 
-/// Where the moves stand of a service on one action while the environment is in one state.
+/// The place of a service's moves in the table, on one action in one state of the environment.
 #[derive(Clone, Copy, Debug)]
 pub(crate) struct Span {
-    /// The lanes from which the service's behaviour goes somewhere.
+    /// The lanes from which the service's behaviour has a step.
     pub(crate) some: u64,
     pub(crate) first: u32,
     pub(crate) end: u32,
@@ -44,15 +44,15 @@ pub(crate) struct Span {
 /// The moves of all services within the lanes.
 #[derive(Drop)]
 pub(crate) struct Moves {
-    /// How many states the environment has, and how many actions there are.
+    /// The number of states of the environment, and the number of actions.
     pub(crate) envs: u32,
     pub(crate) actions: u32,
-    /// By the environment's state, then by the action and then by the service.
+    /// Ordered by the environment's state, then by the action and then by the service.
     pub(crate) spans: Vec<Span>,
     pub(crate) moves: Vec<Move>,
 }
 
-/// The moves from one place of a table to another.
+/// Returns the moves of a table from place `first` on, up to place `end`.
 pub(crate) fn part(moves: &[Move], first: u32, end: u32) -> &[Move]
     requires order { first ≤ end }
     requires within { end ≤ length moves.now }
@@ -61,14 +61,14 @@ pub(crate) fn part(moves: &[Move], first: u32, end: u32) -> &[Move]
     &moves[first as usize..end as usize]
 }
 
-/// How much a number is more than another: 0 where it isn't.
+/// Returns `a - b`, or 0 where `b` is greater.
 fn beyond(a: u8, b: u8) -> u32
     ensures { result ≡ a - b }
 {
     if a > b { u32::from(a - b) } else { 0 }
 }
 
-/// Adds the move of a way, where some lane goes it.
+/// Adds the move of a way, if some lane moves in that way.
 fn push_way(moves: &mut Vec<Move>, lanes: u64, j: u8, last: u8, stride: u32)
     requires room { vec_len moves.old < vec_capacity moves.old }
     requires small { last * stride < 64 }
@@ -101,7 +101,8 @@ fn push_ways(moves: &mut Vec<Move>, lanes: &[u64], last: u8, stride: u32)
 }
 
 impl Moves {
-    /// No moves yet, with places for those of all services that there may be.
+    /// Makes a table without moves, with room for those of the greatest number of services. Fails only
+    /// when out of memory.
     pub(crate) fn reserve(alloc: Global, envs: u32, actions: u32) -> Result<Moves, AllocError>
         requires few { (envs ≤ 64) × (actions ≤ 32) }
         ensures envs { IfOk result (λ moves. moves.envs ≡ envs) }
@@ -119,7 +120,7 @@ impl Moves {
         })
     }
 
-    /// Adds the moves of a service on an action while the environment is in a state.
+    /// Adds the moves of a service on an action in a state of the environment.
     fn add(&mut self, shape: &Shape, rows: &Rows, behaviour: &Behaviour, k: u8, e: u8, a: u8)
         requires rows { AreRowsOf shape.now rows.now }
         requires within { low_of shape.now.seats ≤ k }
@@ -146,7 +147,7 @@ impl Moves {
         });
     }
 
-    /// Adds the moves of all services within the lanes on an action while the environment is in a state.
+    /// Adds the moves of all services within the lanes on an action in a state of the environment.
     fn fill_turn(
         &mut self,
         catalogue: &[Behaviour],
@@ -177,7 +178,7 @@ impl Moves {
         }
     }
 
-    /// Writes the moves of all services within the lanes.
+    /// Replaces all moves by those of all services within the lanes.
     pub(crate) fn fill(
         &mut self,
         catalogue: &[Behaviour],
@@ -201,7 +202,8 @@ impl Moves {
     }
 }
 
-/// The moves of these services, with places for those of all services that there may be.
+/// Makes the moves of these services, with room for those of the greatest number of services. Fails
+/// only when out of memory.
 pub(crate) fn moves_of(
     alloc: Global,
     environment: &Environment,

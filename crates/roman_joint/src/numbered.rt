@@ -1,4 +1,4 @@
-//! A joint as algorithms over the numbers of its pairs see it.
+//! The interface [`Rules`] of a joint, for algorithms over the numbers of its pairs.
 
 use crate::joint::Joint;
 use crate::row::Row;

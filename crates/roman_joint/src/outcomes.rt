@@ -1,28 +1,28 @@
-//! The pairs to which a delegation may lead.
+//! The pairs to which a delegation can lead.
 ghost use Rattle.std.specs.Prelude.{◌≡◌, ℕ, ◌+◌, ◌*◌, ◌^◌, ◌<◌, Bool, not, map, All, IfSome};
 ghost use Rattle.std.specs.List.{find, flat_map};
 ghost use Rattle.roman_model.specs.Lists.{IsIn};
 ghost use Rattle.roman_joint.specs.Outcomes.{outcome_number};
 
-/// The pairs to which an action may lead that is delegated to a service: for each state e of `envs` and
-/// each state b of `states` the one with the number `base + e * env_stride + b * stride`. There is none
-/// where `states` is empty.
+/// The pairs to which an action can lead that is delegated to a service. For each state e of `envs`
+/// and each state b of `states` it is the pair with the number `base + e * env_stride + b * stride`.
+/// There is no pair where `states` is empty.
 #[derive(Clone, Copy)]
 pub struct Outcomes<'a> {
-    /// The number of the pair with both states 0, where there is an outcome.
+    /// The number of the pair with both states 0, if there is an outcome.
     pub base: u32,
-    /// The environment's next states, rising.
+    /// The environment's next states, in rising order.
     pub envs: &'a [u8],
     /// What one more state of the environment adds to a pair's number.
     pub env_stride: u32,
-    /// The service's next states, rising.
+    /// The service's next states, in rising order.
     pub states: &'a [u8],
     /// What one more state of the service adds to a pair's number.
     pub stride: u32,
 }
 
 impl Outcomes<'_> {
-    /// The number of the pair with these states of the environment and the service.
+    /// Returns the number of the pair with these states of the environment and the service.
     pub(crate) fn number(&self, env: u8, state: u8) -> u32
         requires { outcome_number self.now env state < 2 ^ 32 }
         ensures { result ≡ outcome_number self.now env state }
@@ -31,8 +31,8 @@ impl Outcomes<'_> {
     }
 }
 
-/// The first of the states, by a service's state, whose pair isn't alive. The pair with state b has
-/// the number `row + b * stride`.
+/// Returns the first of a service's states whose pair isn't alive. The pair with state b has the
+/// number `row + b * stride`.
 pub(crate) fn state_gone<A: Fn(u32) -> bool>(
     alive: &A,
     row: u32,
@@ -54,8 +54,9 @@ pub(crate) fn state_gone<A: Fn(u32) -> bool>(
     None
 }
 
-/// The first of the environment's states and a service's whose pair isn't alive. The pair with the
-/// states e and b has the number `base + e * env_stride + b * stride`.
+/// Returns the first states of the environment and a service whose pair isn't alive, ordered by the
+/// environment's. The pair with the states e and b has the number
+/// `base + e * env_stride + b * stride`.
 pub(crate) fn outcome_gone<A: Fn(u32) -> bool>(
     alive: &A,
     base: u32,

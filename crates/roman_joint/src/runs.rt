@@ -1,11 +1,11 @@
-//! Runs of words: those of neighbouring rows, which are combined word by word.
+//! Runs of words, one for each of neighbouring rows, which are combined word by word.
 ghost use Rattle.std.specs.Prelude.{◌≡◌, ◌≢◌, ◌↔◌, IsTrue, ℕ, ◌+◌, ◌-◌, ◌*◌, ◌/◌, ◌%◌, ◌^◌, ◌<◌, ◌≤◌, not, ◌&&◌, false, All, length, slice_index, bit_and};
 ghost use Rattle.std.specs.List.{list_any};
 ghost use Rattle.roman_lanes.specs.Rows.{is_on};
 
 use crate::words::{less, rows_alive};
 
-/// Whether no word has a lane that is on.
+/// Returns whether all words are 0.
 pub(crate) fn is_clear(words: &[u64]) -> bool
     ensures { IsTrue result ↔ ((i : ℕ) → i < length words.now → slice_index words.now i ≡ 0) }
 {
@@ -16,7 +16,7 @@ pub(crate) fn is_clear(words: &[u64]) -> bool
     all == 0
 }
 
-/// Turns off all lanes of all words.
+/// Sets all words to 0.
 pub(crate) fn clear(words: &mut [u64])
     ensures long { length words.new ≡ length words.old }
     ensures off { (i : ℕ) → i < length words.old → slice_index words.new i ≡ 0 }
@@ -24,7 +24,7 @@ pub(crate) fn clear(words: &mut [u64])
     words.fill(0);
 }
 
-/// Sets the first words to one.
+/// Sets the first `many` words to `word`.
 pub(crate) fn set_first(to: &mut [u64], many: usize, word: u64)
     requires { many ≤ length to.old }
     ensures long { length to.new ≡ length to.old }
@@ -35,7 +35,8 @@ pub(crate) fn set_first(to: &mut [u64], many: usize, word: u64)
     }
 }
 
-/// Turns off in the first words the lanes that aren't on in those of `with` from a place on.
+/// Clears, in the first `many` words, the lanes that aren't set in the words of `with` from place
+/// `from` on.
 pub(crate) fn and_from(to: &mut [u64], many: usize, with: &[u64], from: usize)
     requires to { many ≤ length to.old }
     requires with { from + many ≤ length with.now }
@@ -47,7 +48,7 @@ pub(crate) fn and_from(to: &mut [u64], many: usize, with: &[u64], from: usize)
     }
 }
 
-/// Turns off in the words of `left` the lanes that are on in those of `good`.
+/// Clears, in the words of `left`, the lanes that are set in the words of `good`.
 pub(crate) fn clear_good(left: &mut [u64], good: &[u64])
     requires { length left.old ≤ length good.now }
     ensures long { length left.new ≡ length left.old }
@@ -58,8 +59,8 @@ pub(crate) fn clear_good(left: &mut [u64], good: &[u64])
     }
 }
 
-/// Leaves of the lanes of the first words those that are on in all of the rows `base + b * stride`,
-/// for each state b, where the words are those of neighbouring rows.
+/// Clears, in the first `many` words, the lanes that aren't set in all rows of the word: the rows of
+/// word i are `base + i + b * stride`, for each state b.
 pub(crate) fn rows_alive_each(
     all: &mut [u64],
     many: usize,
@@ -81,8 +82,9 @@ pub(crate) fn rows_alive_each(
     }
 }
 
-/// Leaves of the lanes of the first words those that are on in all of the rows
-/// `base + e * env_stride + b * stride`, where the words are those of neighbouring rows.
+/// Clears, in the first `many` words, the lanes that aren't set in all rows of the word: the rows of
+/// word i are `base + i + e * env_stride + b * stride`, for each state e of the environment and each
+/// state b.
 pub(crate) fn all_alive_each(
     all: &mut [u64],
     many: usize,
@@ -107,8 +109,9 @@ pub(crate) fn all_alive_each(
     }
 }
 
-/// Turns off in a run of words of `left` the lanes of `full` that are on in all of the words
-/// `from + b * stride` on of `alive`, for each state b.
+/// Clears, in the words of `left` from place `to` on, the lanes of `full` that are set in all words
+/// `from + j + b * stride` of `alive`, for word j of the run and each state b. The run has `stride`
+/// words.
 fn clear_run(
     left: &mut [u64],
     to: u32,
@@ -135,9 +138,9 @@ fn clear_run(
     }
 }
 
-/// Turns off in the words of `left` in which a component is in state b the lanes of `full` that are on
-/// in all of the words of `alive` at which it is in one of the other states instead. One more state
-/// adds `stride` to a word's place; the words are that many blocks of all states.
+/// Clears, in the words of `left` in which a component is in state `b`, the lanes of `full` that are
+/// set in all words of `alive` in which the component is in one of `states` instead. One more state
+/// adds `stride` to a word's place. The words are `blocks` blocks, each of all `size` states.
 pub(crate) fn clear_state(
     left: &mut [u64],
     alive: &[u64],

@@ -1,4 +1,4 @@
-//! What the target and the environment say of actions, whatever the services do.
+//! Scenes: the actions that the target and the environment allow, whatever the services do.
 ghost use Rattle.std.specs.Prelude.{◌≡◌, ℕ, ◌<◌, [], IsFalse, IfOk};
 ghost use Rattle.roman_model.specs.Lists.{IsIn};
 ghost use Rattle.roman_model.specs.SystemArena.{env_prev, beh_prev};
@@ -9,18 +9,20 @@ use roman_parts::{Environment, Target};
 use roman_rules::with_bit;
 use std::alloc::{AllocError, Global};
 
-/// A state of the target and one of the environment, and what they say of each action.
+/// A state of the target and a state of the environment, with the actions that are allowed there and
+/// those that can lead there.
 #[derive(Clone, Copy, Debug)]
 pub(crate) struct Scene {
     pub(crate) target: u8,
     pub(crate) env: u8,
     /// The actions that are allowed there.
     pub(crate) allowed: u32,
-    /// The actions that may lead there. No other does.
+    /// The actions that can lead there. An action outside this set doesn't.
     pub(crate) leading: u32,
 }
 
-/// All scenes, by the target's state and then by the environment's.
+/// Makes all scenes, ordered by the target's state and then by the environment's. Fails only when out
+/// of memory.
 pub(crate) fn all_scenes(
     alloc: Global,
     environment: &Environment,
@@ -39,7 +41,7 @@ pub(crate) fn all_scenes(
     Ok(scenes)
 }
 
-/// The scene of these states.
+/// Returns the scene of these states.
 fn scene_of(environment: &Environment, target: &Target, t: u8, e: u8) -> Scene
     requires over { TargetIsOverEnv environment.now target.now }
     requires target { t < target.now.beh.states }
@@ -54,7 +56,7 @@ fn scene_of(environment: &Environment, target: &Target, t: u8, e: u8) -> Scene
     }
 }
 
-/// The actions that are allowed in these states.
+/// Returns the actions that are allowed in these states.
 fn allowed_in(environment: &Environment, target: &Target, t: u8, e: u8) -> u32
     requires over { TargetIsOverEnv environment.now target.now }
     requires target { t < target.now.beh.states }
@@ -69,7 +71,7 @@ fn allowed_in(environment: &Environment, target: &Target, t: u8, e: u8) -> u32
     allowed
 }
 
-/// The actions that may lead to these states.
+/// Returns the actions that can lead to these states.
 fn leading_to(environment: &Environment, target: &Target, t2: u8, e2: u8) -> u32
     requires over { TargetIsOverEnv environment.now target.now }
     requires target { t2 < target.now.beh.states }
@@ -84,7 +86,8 @@ fn leading_to(environment: &Environment, target: &Target, t2: u8, e2: u8) -> u32
     leading
 }
 
-/// Whether an action may lead to these states: from some states of the environment and the target.
+/// Returns whether an action can lead to these states, from some states of the environment and the
+/// target.
 fn may_lead(environment: &Environment, target: &Target, t2: u8, e2: u8, a: u8) -> bool
     requires over { TargetIsOverEnv environment.now target.now }
     requires target { t2 < target.now.beh.states }

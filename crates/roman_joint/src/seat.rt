@@ -3,7 +3,7 @@
 use roman_model::MAX_SERVICES;
 use roman_parts::Name;
 
-/// How many services a table has room for.
+/// The number of services that a table has room for.
 pub(crate) const PLACES: usize = MAX_SERVICES as usize;
 
 /// A service: a named instance of a behaviour, with its place in a system.
@@ -15,6 +15,7 @@ pub struct Seat {
     pub behaviour: u8,
     /// Whether the service takes no delegations for now.
     pub frozen: bool,
-    /// Whether the service's state must be final where the target's is. Else the service is loose.
+    /// Whether the service's state must be final wherever the target's is. If not, the service is
+    /// loose.
     pub rests: bool,
 }

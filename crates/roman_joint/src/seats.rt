@@ -1,5 +1,5 @@
-//! The services of a joint: copies of them, their sizes and the shape of these, and where they
-//! rest.
+//! The services of a joint: copies, sizes, the shape of these sizes, and the states in which services
+//! may rest.
 ghost use Rattle.std.specs.Prelude.{◌≡◌, ◌+◌, ◌/◌, ◌%◌, ◌≤◌, ◌<◌, ◌↔◌, ◌||◌, not, All, length, map, take, drop, slice_index, IsSome, IfSome, IfOk, vec_capacity};
 ghost use Rattle.std.specs.List.{AllByRecursion};
 ghost use Rattle.roman_model.specs.Lists.{product_of};
@@ -15,7 +15,7 @@ use roman_parts::{Behaviour, Environment, Target};
 use roman_radix::Shape;
 use std::alloc::{AllocError, Global};
 
-/// The same services again, with room for as many as there may be.
+/// Copies the services into a table with room for 32. Fails only when out of memory.
 pub(crate) fn copy_seats(alloc: Global, seats: &[Seat]) -> Result<Vec<Seat>, AllocError>
     ensures items { IfOk result (λ copy. copy.items ≡ seats.now) }
     ensures room { IfOk result (λ copy. MAX_SERVICES ≤ vec_capacity copy) }
@@ -25,7 +25,7 @@ pub(crate) fn copy_seats(alloc: Global, seats: &[Seat]) -> Result<Vec<Seat>, All
     Ok(copy)
 }
 
-/// How many states each service has, in the first places of a table.
+/// Returns the number of states of each service, in the first places of a table.
 pub(crate) fn sizes_of_seats(catalogue: &[Behaviour], seats: &[Seat]) -> [u8; PLACES]
     requires few { length seats.now ≤ MAX_SERVICES }
     requires behaviours { All (λ seat. seat.behaviour < length catalogue.now) seats.now }
@@ -40,7 +40,8 @@ pub(crate) fn sizes_of_seats(catalogue: &[Behaviour], seats: &[Seat]) -> [u8; PL
     sizes
 }
 
-/// The numbering of the system's pairs; `None` exactly where it has more cells than the limit.
+/// Returns the numbering of the system's pairs, or `None` exactly where the system has more cells than
+/// the limit.
 pub(crate) fn shape_of(
     environment: &Environment,
     catalogue: &[Behaviour],
@@ -67,7 +68,7 @@ pub(crate) fn shape_of(
     )
 }
 
-/// Whether each service that rests is in a final state at pair p.
+/// Returns whether each service that rests is in a final state at pair `p`.
 pub(crate) fn are_final(catalogue: &[Behaviour], seats: &[Seat], shape: &Shape, p: u32) -> bool
     requires behaviours { All (λ seat. seat.behaviour < length catalogue.now) seats.now }
     requires sizes { shape.now.seats ≡ map (λ seat. (beh_at catalogue.now seat.behaviour).states) seats.now }
@@ -86,8 +87,8 @@ pub(crate) fn are_final(catalogue: &[Behaviour], seats: &[Seat], shape: &Shape, 
     true
 }
 
-/// The state of component k in a number of states from this component's on, and the number of those
-/// behind it.
+/// Splits the number of the states from component `k` on. Returns the state of component `k`, and the
+/// number of the states after it.
 fn split(shape: &Shape, k: u8, rest: u32) -> (u8, u32)
     requires component { k < length shape.now.seats }
     requires rest { rest < product_of (drop k shape.now.seats) }
@@ -101,7 +102,7 @@ fn split(shape: &Shape, k: u8, rest: u32) -> (u8, u32)
     ((rest / stride) as u8, rest % stride)
 }
 
-/// Whether a service may rest in a state: it is final there, or needn't be.
+/// Returns whether a service may rest in a state: the state is final, or the service needn't rest.
 fn may_rest(catalogue: &[Behaviour], seat: &Seat, state: u8) -> bool
     requires behaviour { seat.now.behaviour < length catalogue.now }
     requires state { state < (beh_at catalogue.now seat.now.behaviour).states }

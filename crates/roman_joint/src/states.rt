@@ -1,4 +1,4 @@
-//! The states of services: where they are, where they go, where they come from and where they may rest.
+//! The states of services: present, next and predecessor states, and the states in which they may rest.
 ghost use Rattle.std.specs.Prelude.{◌≡◌, ℕ, ◌/◌, ◌%◌, ◌<◌, ◌≤◌, false, length, slice_get, slice_index, All};
 ghost use Rattle.roman_model.specs.SystemArena.{seat_next};
 ghost use Rattle.roman_model.specs.Numbers.{sizes_of};
@@ -14,7 +14,8 @@ use crate::layout::Rows;
 use crate::seat::PLACES;
 use roman_radix::Shape;
 
-/// The states of the services before the lanes at the pairs of a row, in the first places of a table.
+/// Returns the states of the services before the lanes at the pairs of row `x`, in the first places of
+/// a table.
 pub(crate) fn row_states(joint: &Joint, x: u32) -> [u8; PLACES]
     ensures { (k : ℕ) → k < low_in (system_of joint.now) → slice_index result k
         ≡ x / (stride_of (sizes_of (system_of joint.now)) k / lanes_in (system_of joint.now)) % slice_index (sizes_of (system_of joint.now)).seats k }
@@ -30,7 +31,7 @@ pub(crate) fn row_states(joint: &Joint, x: u32) -> [u8; PLACES]
     states
 }
 
-/// The states to which a service goes: none where it is frozen.
+/// Returns the states to which a service goes from state `b`. Returns none if it is frozen.
 pub(crate) fn next_states<'a>(joint: &'a Joint, k: u8, b: u8, e: u8, a: u8) -> &'a [u8]
     requires seat { k < length joint.now.seats }
     requires state { b < slice_index (sizes_of (system_of joint.now)).seats k }
@@ -48,7 +49,7 @@ pub(crate) fn next_states<'a>(joint: &'a Joint, k: u8, b: u8, e: u8, a: u8) -> &
     behaviour.out(b, e, a)
 }
 
-/// The states from which a service goes to one: none where it is frozen.
+/// Returns the states from which a service goes to state `b`. Returns none if it is frozen.
 pub(crate) fn prev_states<'a>(joint: &'a Joint, k: u8, b: u8, e: u8, a: u8) -> &'a [u8]
     requires seat { k < length joint.now.seats }
     requires state { b < slice_index (sizes_of (system_of joint.now)).seats k }
@@ -67,7 +68,7 @@ pub(crate) fn prev_states<'a>(joint: &'a Joint, k: u8, b: u8, e: u8, a: u8) -> &
     behaviour.into(b, e, a)
 }
 
-/// Whether a service may rest in a state: it is final there, or needn't be.
+/// Returns whether a service may rest in a state: the state is final, or the service needn't rest.
 pub(crate) fn may_rest(joint: &Joint, k: u8, b: u8) -> bool
     requires seat { k < length joint.now.seats }
     requires state { b < slice_index (sizes_of (system_of joint.now)).seats k }
@@ -82,7 +83,7 @@ pub(crate) fn may_rest(joint: &Joint, k: u8, b: u8) -> bool
     behaviour.is_final(b)
 }
 
-/// The lanes in which a service within the lanes is in a state.
+/// Returns the lanes in which a service within the lanes is in state `b`.
 pub(crate) fn state_lanes(shape: &Shape, rows: &Rows, k: u8, b: u8) -> u64
     requires rows { AreRowsOf shape.now rows.now }
     requires within { low_of shape.now.seats ≤ k }

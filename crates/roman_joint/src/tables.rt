@@ -1,4 +1,4 @@
-//! The tables of a joint, taken once.
+//! The tables of a joint, which are allocated once.
 ghost use Rattle.std.specs.Prelude.{◌≡◌, ◌≤◌, vec_capacity, IfOk};
 ghost use Rattle.roman_model.specs.declared.limits.TheConstants.{MAX_SERVICES};
 ghost use Rattle.roman_joint.specs.NamedSys.{NamedSys, system_of, TargetIsOverEnv};
@@ -25,7 +25,7 @@ pub(crate) struct Tables {
     pub(crate) moves: Moves,
 }
 
-/// The tables of these parts, whose pairs have that shape.
+/// Makes the tables of these parts, whose pairs have the given shape. Fails only when out of memory.
 pub(crate) fn tables_of(
     alloc: Global,
     environment: &Environment,

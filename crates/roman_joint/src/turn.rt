@@ -1,4 +1,4 @@
-//! Where an action leads from a row, whoever serves it.
+//! The states to which an action leads from a row, whichever service serves it.
 ghost use Rattle.std.specs.Prelude.{ℕ, ◌<◌, IsFalse, MatchOption};
 ghost use Rattle.roman_joint.specs.NamedSys.{system_of};
 ghost use Rattle.roman_joint.specs.Rows.{IsRow, IsTurn, is_open};
@@ -6,16 +6,18 @@ ghost use Rattle.roman_joint.specs.Rows.{IsRow, IsTurn, is_open};
 use crate::joint::Joint;
 use crate::row::Row;
 
-/// Where an action leads from a row: to one state of the target and some of the environment.
+/// The states to which an action leads from a row: one state of the target, and some of the
+/// environment.
 #[derive(Clone, Copy)]
 pub(crate) struct Turn<'a> {
-    /// The row at that state of the target and the environment's first.
+    /// The row at that state of the target and the environment's state 0, with unchanged services.
     pub(crate) base: u32,
-    /// The environment's states.
+    /// The environment's next states.
     pub(crate) envs: &'a [u8],
 }
 
-/// Where the action leads from a row; `None` exactly where it isn't allowed there.
+/// Returns the turn of the action `a` from a row, or `None` exactly where the action isn't allowed
+/// there.
 pub(crate) fn turn_of<'a>(joint: &'a Joint, row: &Row, a: u8) -> Option<Turn<'a>>
     requires row { (x : ℕ) × IsRow (system_of joint.now) x row.now }
     requires action { a < (system_of joint.now).env.actions }

@@ -5,9 +5,10 @@ ghost use Rattle.std.specs.Int.{bit_at};
 use crate::seat::PLACES;
 use roman_model::MAX_STATES;
 
-/// Where a walk backwards from a pair has come: the delegations of an action that may lead to the
-/// pair are given by action, then by the environment's state, the target's, the service and the
-/// service's state from which they lead there.
+/// The position of a walk backwards from a pair. The walk goes through the delegations that can lead
+/// to the pair, by action, then by the predecessor states of the environment and of the target, by the
+/// service, and by its predecessor state. A predecessor state is one from which a step leads to the
+/// pair's state.
 #[derive(Clone, Copy, Debug)]
 pub struct Walk {
     // The pair to which the delegations lead, and its states.
@@ -15,26 +16,27 @@ pub struct Walk {
     pub(crate) to_target: u8,
     pub(crate) to_env: u8,
     pub(crate) to_states: [u8; PLACES],
-    // The actions that may lead to those of the target and the environment.
+    // The actions that can lead to the pair's states of the target and the environment.
     pub(crate) leading: u32,
-    // The present action, and how many of the environment's states before were taken on it.
+    // The current action, and how many of the environment's predecessor states were taken on it.
     pub(crate) action: u8,
     pub(crate) envs_taken: u8,
-    // The last of those, and how many of the target's states before were taken there.
+    // The environment's state taken last, and how many of the target's predecessor states were taken
+    // there.
     pub(crate) env: u8,
     pub(crate) targets_taken: u8,
-    // The last of those, and the number of the pair with these two states and the services' of the
-    // pair to which the delegations lead.
+    // The target's state taken last, and the number of the pair with the target and the environment in
+    // the states taken last, and the services in those of the pair to which the delegations lead.
     pub(crate) target: u8,
     pub(crate) row: u32,
-    // The present service, and how many of its states before were taken.
+    // The current service, and how many of its predecessor states were taken.
     pub(crate) seat: u8,
     pub(crate) states_taken: u8,
 }
 
 impl Walk {
-    /// Goes past a state of the present service, which has `count` of them: with the last to the next
-    /// service.
+    /// Passes one of the `count` predecessor states of the current service. After the last one, moves
+    /// on to the next service.
     pub(crate) fn pass_state(&mut self, count: usize)
         requires seat { self.old.seat < 32 }
         requires few { count ≤ 64 }
@@ -50,7 +52,8 @@ impl Walk {
     }
 }
 
-/// The number of a pair, moved from a state to another of which one more adds `stride`.
+/// Returns the number of a pair after one of its states changes from `from` to `to`. One more state
+/// adds `stride`.
 pub(crate) fn moved(row: u32, from: u8, to: u8, stride: u32) -> u32
     requires { (from * stride ≤ row) × (row - from * stride + to * stride < 2 ^ 32) }
     ensures { result ≡ row - from * stride + to * stride }
@@ -58,8 +61,8 @@ pub(crate) fn moved(row: u32, from: u8, to: u8, stride: u32) -> u32
     row - u32::from(from) * stride + u32::from(to) * stride
 }
 
-/// How many of `count` states are taken with one more. With the last one it is the greatest number of
-/// states: that none is left is then known without a look.
+/// Returns how many of `count` states are taken after one more. After the last one, returns the
+/// greatest number of states, so that the end is known without a look-up.
 pub(crate) fn one_more(taken: u8, count: usize) -> u8
     requires left { taken < count }
     requires few { count ≤ 64 }
@@ -73,8 +76,8 @@ pub(crate) fn one_more(taken: u8, count: usize) -> u8
     }
 }
 
-/// How many of the environment's states before count as taken where an action comes up: all, where it
-/// isn't among those that may lead to the pair.
+/// Returns how many of the environment's predecessor states count as taken when an action begins:
+/// none, or all if the action isn't among those that can lead to the pair.
 pub(crate) fn first_env(leading: u32, action: u8) -> u8
     requires { action < 32 }
     ensures { (result ≡ 0) ⊎ ((result ≡ 64) × (bit_at leading action ≡ 0)) }

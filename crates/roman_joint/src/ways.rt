@@ -1,4 +1,4 @@
-//! The ways that a service within the lanes goes on one action while the environment is in one state.
+//! The ways in which a service within the lanes moves, on one action in one state of the environment.
 ghost use Rattle.std.specs.Prelude.{◌≡◌, ℕ, ◌+◌, ◌<◌, ◌≤◌, ◌==◌, ◌&&◌, ◌||◌, All, length, slice_index};
 ghost use Rattle.std.specs.List.{list_any};
 ghost use Rattle.roman_radix.specs.Rows.{low_of};
@@ -12,18 +12,19 @@ use crate::words::with_lanes;
 use roman_parts::Behaviour;
 use roman_radix::Shape;
 
-/// The places for ways: 64 states go at most 127 ways, from each state to each.
+/// The number of places for ways. There are at most 127 ways from one of 64 states to another.
 const WAYS: usize = 128;
 
-/// The lanes that go each way: way j goes up by j + 1 states, less the number of states.
+/// The lanes that move in each way. Way j goes up by `j + 1 - n` states, where n is the number of
+/// states.
 #[derive(Drop)]
 pub(crate) struct Ways {
-    /// The lanes from which the behaviour goes somewhere.
+    /// The lanes from which the behaviour has a step.
     pub(crate) some: u64,
     pub(crate) lanes: [u64; WAYS],
 }
 
-/// Adds the lanes to each way that leads to one of the states, where way `up` leads to the first state.
+/// Adds the lanes `here` to each way that leads to one of the states. The way to state b is `b + up`.
 fn add_ways(lanes: &mut [u64], here: u64, up: u8, states: &[u8])
     requires { All (λ b. b + up < length lanes.old) states.now }
     ensures long { length lanes.new ≡ length lanes.old }
@@ -35,7 +36,8 @@ fn add_ways(lanes: &mut [u64], here: u64, up: u8, states: &[u8])
     }
 }
 
-/// The ways that a service within the lanes goes, whose behaviour is given.
+/// Returns the ways in which the service `k` moves. The service is within the lanes and has the given
+/// behaviour.
 pub(crate) fn ways_of(
     shape: &Shape,
     rows: &Rows,

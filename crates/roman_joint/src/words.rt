@@ -1,4 +1,4 @@
-//! Words of lanes: what several rows have in common.
+//! Words of lanes: combining the words of several rows.
 ghost use Rattle.std.specs.Prelude.{◌≡◌, ℕ, ◌+◌, ◌-◌, ◌*◌, ◌^◌, ◌<◌, ◌≤◌, false, not, true, ◌&&◌, ◌||◌, All, length, slice_index};
 ghost use Rattle.std.specs.List.{list_any};
 ghost use Rattle.roman_model.specs.Lists.{IsIn};
@@ -7,7 +7,7 @@ ghost use Rattle.roman_joint.specs.declared.moves.Move.{Move};
 
 use crate::moves::Move;
 
-/// Those of the lanes `good` that are on in all of the rows `base + b * stride`, for each state b.
+/// Returns the lanes of `good` that are set in all rows `base + b * stride`, for each state b.
 pub(crate) fn rows_alive(words: &[u64], base: u32, states: &[u8], stride: u32, good: u64) -> u64
     requires fits { All (λ b. base + b * stride < 2 ^ 32) states.now }
     requires within { All (λ b. base + b * stride < length words.now) states.now }
@@ -21,7 +21,8 @@ pub(crate) fn rows_alive(words: &[u64], base: u32, states: &[u8], stride: u32, g
     alive
 }
 
-/// Those of the lanes `good` that are on in all of the rows `base + e * env_stride + b * stride`.
+/// Returns the lanes of `good` that are set in all rows `base + e * env_stride + b * stride`, for each
+/// state e of the environment and each state b.
 pub(crate) fn all_alive(
     words: &[u64],
     base: u32,
@@ -50,7 +51,7 @@ pub(crate) fn all_alive(
     alive
 }
 
-/// The word whose lane `l` is lane `l + to - from` of this one.
+/// Returns the word whose lane l is lane `l + to - from` of the given one.
 pub(crate) fn shifted(word: u64, from: u32, to: u32) -> u64
     requires from { from < 64 }
     requires to { to < 64 }
@@ -63,14 +64,15 @@ pub(crate) fn shifted(word: u64, from: u32, to: u32) -> u64
     }
 }
 
-/// The lanes that don't move, or to lanes that are on.
+/// Returns the lanes that don't move, or that move to a set lane. `lanes` are the lanes that move, and
+/// `moved` has the lane to which each moves.
 fn unmoved(lanes: u64, moved: u64) -> u64
     ensures { (lane : ℕ) → lane < 64 → is_on result lane ≡ not (is_on lanes lane && not (is_on moved lane)) }
 {
     !lanes | moved
 }
 
-/// Those of the lanes `good` from which all moves go to lanes that are on.
+/// Returns the lanes of `good` from which all moves lead to lanes of `alive`.
 pub(crate) fn moves_alive(alive: u64, moves: &[Move], good: u64) -> u64
     requires { (move : Move) → IsIn move moves.now → (move.from < 64) × (move.to < 64) }
     ensures alive { (lane : ℕ) → lane < 64 → ((move : Move) → IsIn move moves.now → is_on move.lanes lane ≡ true → (move.from ≤ lane) × (lane + move.to - move.from < 64)) →
@@ -84,14 +86,14 @@ pub(crate) fn moves_alive(alive: u64, moves: &[Move], good: u64) -> u64
     left
 }
 
-/// The lanes of a word with those of another where `is_in` says so.
+/// Returns the lanes of a word, with those of another added if `is_in` is true.
 pub(crate) fn with_lanes(word: u64, lanes: u64, is_in: bool) -> u64
     ensures { (lane : ℕ) → is_on result lane ≡ (is_on word lane || (is_on lanes lane && is_in)) }
 {
     if is_in { word | lanes } else { word }
 }
 
-/// The lanes of a word that aren't those of another.
+/// Returns the lanes of a word that aren't lanes of another.
 pub(crate) fn less(word: u64, other: u64) -> u64
     ensures { (lane : ℕ) → is_on result lane ≡ (is_on word lane && not (is_on other lane)) }
 {

@@ -17,8 +17,8 @@ use roman_model::MAX_SERVICES;
 use roman_radix::Shape;
 
 impl Joint {
-    /// Freezes the service at place k, so that it takes no delegations, or makes it ready. Nothing else
-    /// changes.
+    /// Freezes the service at place `k`, so that it takes no delegations, or makes it ready again.
+    /// Nothing else changes.
     pub fn set_frozen(&mut self, k: u8, frozen: bool)
         requires { k < length self.old.seats }
         ensures seats { self.new ≡ record self.old { seats = with_frozen self.old.seats k frozen } }
@@ -27,8 +27,8 @@ impl Joint {
         self.seats[k as usize].frozen = frozen;
     }
 
-    /// Takes the service at place k out of the system. Later services move up by one place, and pairs
-    /// are numbered anew; nothing else changes.
+    /// Removes the service at place `k`. Later services move up by one place, and the pairs get new
+    /// numbers. Nothing else changes.
     pub fn drop_seat(&mut self, k: u8)
         requires { k < length self.old.seats }
         ensures seats { self.new ≡ record self.old { seats = remove self.old.seats k } }
@@ -41,11 +41,12 @@ impl Joint {
             .fill(&self.catalogue, &self.seats, &self.shape, &self.rows);
     }
 
-    /// Adds a service, whose name is new and whose behaviour is a place of the catalogue, at the last
-    /// place. Pairs are numbered anew, and nothing else changes.
+    /// Adds a service at the last place. Requires a new name, and a behaviour that is a place of the
+    /// catalogue. The pairs get new numbers. Nothing else changes.
     ///
-    /// `Full` comes exactly where there are 32 services, and `Limit` exactly where there are fewer and
-    /// the system with the service has more cells than the limit. The joint then stays as it is.
+    /// Fails with `Full` exactly where there are 32 services already, and with `Limit` exactly where
+    /// there are fewer and the system with the service has more cells than the limit. The joint is
+    /// then unchanged.
     pub fn push_seat(&mut self, seat: Seat) -> Result<(), SeatError>
         requires behaviour { seat.behaviour < length self.old.catalogue }
         requires name { IsIn seat.name (map (λ other. other.name) self.old.seats) → ⊥ }
@@ -70,8 +71,8 @@ impl Joint {
         Ok(())
     }
 
-    // The numbering with one more service, whose name is new; `None` exactly where the system with it
-    // has more cells than the limit.
+    // Returns the numbering with one more service, or `None` exactly where the system with it has more
+    // cells than the limit. Requires a service with a new name.
     fn shape_with(&self, seat: &Seat) -> Option<Shape>
         requires room { length self.now.seats < MAX_SERVICES }
         requires behaviour { seat.now.behaviour < length self.now.catalogue }

@@ -1,4 +1,4 @@
-//! Equal joints.
+//! Making equal joints.
 ghost use Rattle.std.specs.Prelude.{◌≡◌, ◌≤◌, IfOk, length, vec_capacity};
 ghost use Rattle.roman_joint.specs.Parts.{HasSameParts};
 
@@ -10,11 +10,13 @@ use roman_parts::Behaviour;
 use std::alloc::{AllocError, Global};
 
 impl Joint {
-    /// An equal joint, with places for as many services. The one error is that there is no memory.
+    /// Makes an equal joint, with room for 32 services.
+    ///
+    /// Fails only when out of memory.
     pub fn copy(&self, alloc: Global) -> Result<Joint, AllocError>
         ensures same { IfOk result (λ copy. copy ≡ self.now) }
     {
-        // Each `?` drops what is copied by then, so what is least to drop comes first.
+        // Each `?` drops the copies before it, so the copies that are cheapest to drop come first.
         Ok(Joint {
             moves: moves_of(
                 alloc,
@@ -35,8 +37,8 @@ impl Joint {
         })
     }
 
-    /// Becomes equal to a joint with the same environment, catalogue, target and limit, which may
-    /// differ in its services. No memory is taken.
+    /// Makes this joint equal to `from`. Requires the same environment, catalogue, target and limit;
+    /// the services can differ. Takes no memory.
     pub fn reset_seats_to(&mut self, from: &Joint)
         requires { HasSameParts self.old from.now }
         ensures { self.new ≡ from.now }
@@ -49,7 +51,7 @@ impl Joint {
     }
 }
 
-/// The same behaviours again.
+/// Copies the behaviours.
 fn copy_catalogue(alloc: Global, catalogue: &[Behaviour]) -> Result<Vec<Behaviour>, AllocError>
     ensures { IfOk result (λ copies. copies.items ≡ catalogue.now) }
 {
@@ -60,7 +62,7 @@ fn copy_catalogue(alloc: Global, catalogue: &[Behaviour]) -> Result<Vec<Behaviou
     Ok(copies)
 }
 
-/// Puts these services in place of those that are there. There is room for them.
+/// Replaces the services of a table. Requires room for the new ones.
 fn put_seats(places: &mut Vec<Seat>, seats: &[Seat])
     requires { length seats.now ≤ vec_capacity places.old }
     ensures items { places.new.items ≡ seats.now }

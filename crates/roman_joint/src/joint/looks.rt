@@ -1,4 +1,4 @@
-//! What the system does at a pair.
+//! The actions, outcomes and finality of a pair.
 ghost use Rattle.std.specs.Prelude.{◌≡◌, ℕ, ◌+◌, ◌*◌, ◌<◌, ◌≤◌, ◌∷◌, [], Bool, not, length, slice_index, IsTrue, IsFalse};
 ghost use Rattle.roman_model.specs.Lists.{IsIn, is_empty};
 ghost use Rattle.roman_model.specs.SystemArena.{beh_next};
@@ -20,8 +20,8 @@ use roman_rules::Finding;
 use std::sync::ledger::Ledger;
 
 impl Joint {
-    /// Whether the target allows the action `a` at the pair `p`: the target has a step by it there, and
-    /// so has the environment.
+    /// Returns whether the target allows the action `a` at the pair `p`: whether both the target and
+    /// the environment have a step by it there.
     pub fn allowed(&self, p: u32, a: u8) -> bool
         requires pair { p < count (sizes_of (system_of self.now)) }
         requires action { a < (system_of self.now).env.actions }
@@ -32,7 +32,7 @@ impl Joint {
         self.target.allows(&self.environment, t, e, a)
     }
 
-    // What the target and the environment say of actions at a pair.
+    // Returns the scene of a pair: its states of the target and the environment, and their actions.
     pub(super) fn scene_at(&self, p: u32) -> Scene
         requires { p < count (sizes_of (system_of self.now)) }
         ensures { let s = system_of self.now in
@@ -41,8 +41,8 @@ impl Joint {
         self.scenes[(p / self.shape.env_stride()) as usize]
     }
 
-    /// Whether all services that rest are in final states at the pair `p`, where the target's state is
-    /// final: clause 2 of an ND-simulation. It holds where the target's isn't.
+    /// Returns whether the pair `p` meets clause 2 of an ND-simulation: where the target's state is
+    /// final, all services that rest are in final states.
     pub fn final_ok(&self, p: u32) -> bool
         requires { p < count (sizes_of (system_of self.now)) }
         ensures { result ≡ (numbered (system_of self.now)).fine p }
@@ -53,10 +53,11 @@ impl Joint {
         are_final(&self.catalogue, &self.seats, &self.shape, p)
     }
 
-    /// Looks for an outcome of the action `a` at the pair `p`, delegated to the service `k`, whose pair
-    /// isn't alive: outcomes are gone through by the environment's next state and then by the
-    /// service's. The action must be allowed there, the service ready, and `alive` may be called at
-    /// every pair. Exactly one step is counted, however many outcomes there are.
+    /// Examines the outcomes of the action `a` at the pair `p`, delegated to the service `k`, and
+    /// finds the first whose pair isn't alive. Outcomes are ordered by the environment's next state
+    /// and then by the service's. Requires that the action is allowed at the pair, that the service is
+    /// ready, and that `alive` can be called at every pair. Counts exactly one step, however many
+    /// outcomes there are.
     pub fn examine<A: Fn(u32) -> bool, L: Ledger>(
         &self,
         alive: &A,
@@ -96,9 +97,10 @@ impl Joint {
         }
     }
 
-    /// The pairs to which the action `a` may lead from the pair `p`, delegated to the service `k`, as
-    /// the lists of states from which their numbers are made. The action must be allowed there, and the
-    /// service ready. No state of the service is listed where it has no step.
+    /// Returns the pairs to which the action `a` can lead from the pair `p`, delegated to the service
+    /// `k`, as the lists of states from which their numbers are computed. Requires that the action is
+    /// allowed at the pair, and that the service is ready. The list of the service's states is empty
+    /// where it has no step.
     pub fn outcomes(&self, p: u32, a: u8, k: u8) -> Outcomes<'_>
         requires pair { p < count (sizes_of (system_of self.now)) }
         requires seat { k < length self.now.seats }
@@ -124,7 +126,8 @@ impl Joint {
         }
     }
 
-    // The target's state after an action that is allowed at a pair, where the environment is in e.
+    // Returns the target's state after the action `a` at the pair `p`. Requires that the action is
+    // allowed there, and that `e` is the environment's state.
     fn target_after(&self, p: u32, e: u8, a: u8) -> u8
         requires pair { p < count (sizes_of (system_of self.now)) }
         requires env { e ≡ (pair_at (sizes_of (system_of self.now)) p).e }
@@ -138,8 +141,9 @@ impl Joint {
     }
 }
 
-/// The number of pair p with the target in state `to`, and the environment and component k, which is
-/// in state b, in their first states.
+/// Returns the number of the pair that has the target's state `to`, the environment's state 0 and the
+/// state 0 of component `k`, and otherwise the states of pair `p`. Requires that component `k` has
+/// state `b` at pair `p`.
 fn first_outcome(shape: &Shape, p: u32, to: u8, k: u8, b: u8) -> u32
     requires pair { p < count shape.now }
     requires target { to < shape.now.target }

@@ -9,7 +9,7 @@ use super::Joint;
 use roman_parts::Name;
 
 impl Joint {
-    /// The name of a state of the target.
+    /// Returns the name of the target's state `t`.
     pub fn target_name(&self, t: u8) -> &Name
         requires { t < (system_of self.now).target.states }
         ensures { result.now ≡ name_at (names_in self.now).target t }
@@ -17,7 +17,7 @@ impl Joint {
         self.target().states().at(u32::from(t))
     }
 
-    /// The name of a state of the environment.
+    /// Returns the name of the environment's state `e`.
     pub fn env_name(&self, e: u8) -> &Name
         requires { e < (system_of self.now).env.states }
         ensures { result.now ≡ name_at (names_in self.now).env e }
@@ -25,7 +25,7 @@ impl Joint {
         self.environment().states().at(u32::from(e))
     }
 
-    /// The name of an action.
+    /// Returns the name of the action `a`.
     pub fn action_name(&self, a: u8) -> &Name
         requires { a < (system_of self.now).env.actions }
         ensures { result.now ≡ name_at (names_in self.now).actions a }
@@ -33,7 +33,7 @@ impl Joint {
         self.environment().actions().at(u32::from(a))
     }
 
-    /// The name of the service at place k.
+    /// Returns the name of the service at place `k`.
     pub fn service_name(&self, k: u8) -> &Name
         requires { k < length self.now.seats }
         ensures { result.now ≡ (seat_names (names_in self.now) k).service }
@@ -41,7 +41,7 @@ impl Joint {
         &self.seat(k).name
     }
 
-    /// The name of a state of the service at place k.
+    /// Returns the name of the state `b` of the service at place `k`.
     pub fn state_name(&self, k: u8, b: u8) -> &Name
         requires seat { k < length self.now.seats }
         requires state { b < slice_index (sizes_of (system_of self.now)).seats k }

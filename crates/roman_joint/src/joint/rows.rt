@@ -1,4 +1,4 @@
-//! What the system does at the pairs of a row.
+//! Looking up rows of pairs.
 ghost use Rattle.std.specs.Prelude.{◌≡◌, ℕ, ◌+◌, ◌*◌, ◌<◌, ◌≤◌};
 ghost use Rattle.roman_model.specs.Numbers.{sizes_of, count, numbered};
 ghost use Rattle.roman_rules.specs.Bits.{HasBits};
@@ -11,7 +11,8 @@ use crate::row::Row;
 use crate::states::row_states;
 
 impl Joint {
-    /// How many pairs a row has, from 1 to 64: pair p is lane `p % lanes` of row `p / lanes`.
+    /// Returns the number of pairs in a row, from 1 to 64. Pair p is lane `p % lanes` of row
+    /// `p / lanes`.
     pub fn lanes(&self) -> u32
         ensures value { result ≡ lanes_in (system_of self.now) }
         ensures few { (0 < result) × (result ≤ 64) }
@@ -19,15 +20,15 @@ impl Joint {
         self.shape.lanes()
     }
 
-    /// How many rows there are.
+    /// Returns the number of rows.
     pub fn rows(&self) -> u32
         ensures { result * lanes_in (system_of self.now) ≡ count (sizes_of (system_of self.now)) }
     {
         self.rows.rows
     }
 
-    /// Looks up what holds of all pairs of the row `x`, for the calls that take a row. It is good until
-    /// the services change.
+    /// Looks up the row `x`, for the calls that take a row. The result is valid until the services
+    /// change.
     pub fn row(&self, x: u32) -> Row
         requires { x * lanes_in (system_of self.now) < count (sizes_of (system_of self.now)) }
         ensures { IsRow (system_of self.now) x result }
@@ -45,7 +46,7 @@ impl Joint {
         }
     }
 
-    /// Looks up what holds of all pairs of the band `y`: its first row.
+    /// Looks up the first row of the band `y`, for the calls that take a band.
     pub fn first_row(&self, y: u32) -> Row
         requires { y * band_in (system_of self.now) * lanes_in (system_of self.now) < count (sizes_of (system_of self.now)) }
         ensures { IsRow (system_of self.now) (y * band_in (system_of self.now)) result }
@@ -53,8 +54,9 @@ impl Joint {
         self.row(y * self.layout().band)
     }
 
-    /// The actions that the target allows at the pairs of a row, which are the same at each, and at
-    /// those of a band where the row is its first: bit a is set exactly where it allows a.
+    /// Returns the actions that the target allows at the pairs of a row: bit a is set exactly where it
+    /// allows a. They are the same at all pairs of a row, and at all pairs of a band if the row is its
+    /// first.
     pub fn row_actions(&self, row: &Row) -> u32
         ensures row { (x lane : ℕ) → IsRow (system_of self.now) x row.now → lane < lanes_in (system_of self.now) →
             HasBits result ((numbered (system_of self.now)).allows (x * lanes_in (system_of self.now) + lane)) }

@@ -15,8 +15,8 @@ use roman_model::MAX_STATES;
 use std::sync::ledger::Ledger;
 
 impl Joint {
-    /// Begins to go backwards from the pair `p2`. The delegations that are left are all those of an
-    /// action that is allowed at a pair, to a ready service, that may lead to `p2`, each once.
+    /// Begins a walk backwards from the pair `p2`. The walk has each delegation once that can lead to
+    /// `p2`: of an action, at a pair at which it is allowed, to a ready service.
     pub fn walk(&self, p2: u32) -> Walk
         requires { p2 < count (sizes_of (system_of self.now)) }
         ensures walk { IsWalk (system_of self.now) result }
@@ -40,9 +40,9 @@ impl Joint {
         }
     }
 
-    /// Gives a delegation that is left: the pair that it leads from, the action and the service. `None`
-    /// comes exactly where none is left. A delegation that is given counts as one step, and the end as
-    /// none. The walk must be one of this joint, whose services haven't changed since.
+    /// Takes the next delegation of a walk: the pair from which it leads, the action and the service.
+    /// Returns `None` exactly where none is left. Counts one step for a delegation, and none for the
+    /// end. Requires a walk of this joint, whose services haven't changed since.
     pub fn back<L: Ledger>(&self, walk: &mut Walk, steps: &mut Steps<L>) -> Option<(u32, u8, u8)>
         requires { IsWalk (system_of self.now) walk.old }
         ensures walk { IsWalk (system_of self.now) walk.new }
@@ -61,8 +61,9 @@ impl Joint {
         }
     }
 
-    // Takes a state of the present service from which it goes to the pair's: gives the pair that this
-    // is in, and the service. With the last such state the walk goes on to the next service.
+    // Takes a state of the current service from which it goes to its state at the walk's pair. Returns
+    // the pair in which it has that state, and the service. After the last such state, moves on to the
+    // next service.
     fn take_state(&self, walk: &mut Walk) -> Option<(u32, u8)>
         requires { IsWalk (system_of self.now) walk.old }
         ensures walk { IsWalk (system_of self.now) walk.new }
@@ -86,8 +87,8 @@ impl Joint {
         Some((pair, place))
     }
 
-    // Goes on to the next service, state of the target, state of the environment or action, where
-    // nothing is left of the present service.
+    // Moves on to the next service, state of the target, state of the environment or action, and
+    // returns whether there is one. Requires that nothing is left of the current service.
     fn go_on(&self, walk: &mut Walk) -> bool
         requires walk { IsWalk (system_of self.now) walk.old }
         requires seat { left_of_seat (system_of self.now) walk.old ≡ [] }
@@ -100,7 +101,7 @@ impl Joint {
             || self.next_action(walk)
     }
 
-    // Goes on to the next service.
+    // Moves on to the next service, and returns whether there is one.
     fn next_seat(&self, walk: &mut Walk) -> bool
         requires walk { IsWalk (system_of self.now) walk.old }
         requires seat { left_of_seat (system_of self.now) walk.old ≡ [] }
@@ -116,7 +117,8 @@ impl Joint {
         true
     }
 
-    // Goes on to the first service at the target's next state before.
+    // Moves on to the target's next predecessor state and the first service, and returns whether there
+    // is one.
     fn next_target(&self, walk: &mut Walk) -> bool
         requires walk { IsWalk (system_of self.now) walk.old }
         requires seat { left_of_seat (system_of self.now) walk.old ≡ [] }
@@ -142,7 +144,8 @@ impl Joint {
         true
     }
 
-    // The states from which the target goes to the pair's, rising.
+    // Returns the target's predecessor states, in rising order: those from which it goes to its state
+    // at the pair.
     fn targets_before(&self, walk: &Walk) -> &[u8]
         requires { IsWalk (system_of self.now) walk.now }
         ensures prev { result.now ≡ beh_prev (system_of self.now).target (goal_of (system_of self.now) walk.now).t walk.now.env walk.now.action }
@@ -153,7 +156,8 @@ impl Joint {
         target.into(walk.to_target, walk.env, walk.action)
     }
 
-    // Goes on to the environment's next state before, where no state of the target is taken yet.
+    // Moves on to the environment's next predecessor state, at which no state of the target is taken
+    // yet, and returns whether there is one.
     fn next_env(&self, walk: &mut Walk) -> bool
         requires walk { IsWalk (system_of self.now) walk.old }
         requires seat { left_of_seat (system_of self.now) walk.old ≡ [] }
@@ -181,7 +185,8 @@ impl Joint {
         true
     }
 
-    // The states from which the environment goes to the pair's, rising.
+    // Returns the environment's predecessor states, in rising order: those from which it goes to its
+    // state at the pair.
     fn envs_before(&self, walk: &Walk) -> &[u8]
         requires { IsWalk (system_of self.now) walk.now }
         ensures prev { result.now ≡ env_prev (system_of self.now).env (goal_of (system_of self.now) walk.now).e walk.now.action }
@@ -191,8 +196,8 @@ impl Joint {
         self.environment.prev(walk.to_env, walk.action)
     }
 
-    // Goes on to the next action, where no state of the environment is taken yet, or all are where the
-    // action doesn't lead to the pair.
+    // Moves on to the next action, and returns whether there is one. No state of the environment is
+    // taken there yet, or all of them if the action doesn't lead to the pair.
     fn next_action(&self, walk: &mut Walk) -> bool
         requires walk { IsWalk (system_of self.now) walk.old }
         requires seat { left_of_seat (system_of self.now) walk.old ≡ [] }

@@ -8,7 +8,7 @@ use Rattle.roman_joint.specs.Bands.{band_in, AllAlive, KeepsWhere}
 use Rattle.roman_joint.specs.declared.turn.Turn.{Turn}
 use Rattle.roman_joint.proofs.band.clear_own.Given as goal
 
--- the rows of the states so far
+-- the pairs of the rows of the states so far are cleared
 abbrev pub invariant-loop-b : goal.invariant-loop-b
 invariant-loop-b l = record {
   long : length l.left ≡ length l.fn.left;

@@ -24,7 +24,7 @@ blocks c = own_blocks (system_of c.args.joint.now) c.layout-rows.result.now c.ar
 own : (c : After-layout-rows) → OwnSeat (system_of c.args.joint.now) c.layout-rows.result.now c.args.k
 own c = own_seat (system_of c.args.joint.now) c.layout-rows.result.now c.args.k (joint_sizes c.args.joint.now c.layout-rows.ensures.known) c.layout-rows.ensures.rows c.requires.seat
 
--- the seat's state by the table's numbers
+-- the seat's state, from the numbers of the table
 digit : (c : After-layout-rows) (i : ℕ) → i / slice_index c.layout-rows.result.now.strides c.args.k % slice_index c.layout-rows.result.now.sizes c.args.k ≡ lane_state_of (row_sizes (sizes_of (system_of c.args.joint.now))) c.args.k i
 digit c i = ap₂ (λ u z. i / u % z) (own c).stride (own c).size
 

@@ -8,7 +8,7 @@ use Rattle.roman_joint.specs.Rows.{lanes_in, IsRow}
 use Rattle.roman_joint.specs.Bands.{band_in}
 use Rattle.roman_joint.proofs.band.clear_served.Given as goal
 
--- those that no seat so far serves
+-- the pairs that no seat so far serves are left
 abbrev pub invariant-loop-k : goal.invariant-loop-k
 invariant-loop-k l = record {
   wide : length l.alive ≡ 64;

@@ -8,7 +8,7 @@ use Rattle.roman_joint.specs.Bands.{band_in, AllAlive}
 use Rattle.roman_joint.specs.declared.turn.Turn.{Turn}
 use Rattle.roman_joint.proofs.band.clear_within.Given as goal
 
--- the rows so far
+-- the pairs of the rows so far are cleared
 abbrev pub invariant-loop-i : goal.invariant-loop-i
 invariant-loop-i l = record {
   long : length l.left ≡ length l.fn.left;

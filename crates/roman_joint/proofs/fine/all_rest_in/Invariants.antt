@@ -7,7 +7,7 @@ use Rattle.roman_joint.specs.Rows.{lanes_in, IsRow, may_rest}
 use Rattle.roman_joint.specs.Bands.{band_in}
 use Rattle.roman_joint.proofs.fine.all_rest_in.Given as goal
 
--- those at which the seats so far may rest
+-- the lanes at which the seats so far may rest
 abbrev pub invariant-loop-k : goal.invariant-loop-k
 invariant-loop-k l =
     let s = system_of l.joint in

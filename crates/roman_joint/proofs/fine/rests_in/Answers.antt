@@ -12,7 +12,7 @@ use Rattle.roman_joint.proofs.BandLemmas.{in_band, own_seat, own_row, mid_low}
 use Rattle.roman_joint.proofs.fine.rests_in.Goals as goal
 use Rattle.roman_joint.proofs.fine.rests_in.Goals.{then-k-rows-via-then-k-rows, then-k-rows-via-else-k-rows+then-rows-k}
 
--- a seat that isn't one of the band's own is in the same state at a lane of all its rows
+-- a seat that isn't one of the band's own has the same state at a lane in all rows of the band
 pub returns-then-k-rows : goal.returns-then-k-rows
 returns-then-k-rows c y lane ok l =
     let n = c.args.joint.now in

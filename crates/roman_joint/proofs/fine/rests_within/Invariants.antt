@@ -5,7 +5,7 @@ use Rattle.roman_joint.specs.NamedSys.{system_of}
 use Rattle.roman_joint.specs.Rows.{lanes_in, lane_state_of, may_rest}
 use Rattle.roman_joint.proofs.fine.rests_within.Given as goal
 
--- those of the states so far
+-- the lanes of the states so far in which the seat may rest
 abbrev pub invariant-loop-b : goal.invariant-loop-b
 invariant-loop-b l =
     let s = system_of l.joint in

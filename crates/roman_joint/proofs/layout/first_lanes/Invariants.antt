@@ -3,7 +3,7 @@ use Rattle.roman_lanes.specs.Rows.{is_on}
 use Rattle.roman_joint.specs.Rows.{lane_has_state}
 use Rattle.roman_joint.proofs.layout.first_lanes.Given as goal
 
--- the lanes so far are set
+-- the word is right for the lanes so far
 abbrev pub invariant-loop-lane : goal.invariant-loop-lane
 invariant-loop-lane l = record {
   set : (j : ℕ) → j < l.lane → is_on l.lanes j ≡ lane_has_state l.stride l.size 0 j;

@@ -2,7 +2,7 @@ use Rattle.std.proofs.Common.{◌≡◌, ℕ, ◌+◌, ◌*◌, ◌/◌, ◌<◌
 use Rattle.roman_joint.specs.Marks.{Grows, IsMarked}
 use Rattle.roman_joint.proofs.marks.mark_seat.Given as goal
 
--- the bands of the states so far are marked, a step for each
+-- the bands of the states so far are marked, with one step for each
 abbrev pub invariant-loop-b : goal.invariant-loop-b
 invariant-loop-b g l = record {
   grows : Grows l.fn.marks l.marks;

@@ -2,7 +2,7 @@ use Rattle.std.proofs.Common.{◌≡◌, ℕ, ◌+◌, ◌*◌, Bool, not, map, 
 use Rattle.std.specs.List.{find, flat_map}
 use Rattle.roman_joint.proofs.outcomes.outcome_gone.Given as goal
 
--- the first that is gone is the first of those that are left
+-- the first pair that is gone is the first one among those that are left
 abbrev pub invariant-loop-env : goal.invariant-loop-env
 invariant-loop-env g l =
     let number = λ (x : ℕ × ℕ). l.base + x.0 * l.env_stride + x.1 * l.stride in

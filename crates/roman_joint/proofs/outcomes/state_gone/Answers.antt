@@ -6,7 +6,7 @@ use Rattle.roman_joint.proofs.outcomes.state_gone.Goals as goal
 pub returns-then-not-alive-clause-among : goal.returns-then-not-alive-clause-among
 returns-then-not-alive-clause-among g c = in_at c.args.states.now c.loop-state.state-index 0 c.loop-state-test.true
 
--- what isn't alive is gone, and what is alive isn't
+-- a pair is gone exactly if it isn't alive
 pub returns-then-not-alive-clause-first : goal.returns-then-not-alive-clause-first
 returns-then-not-alive-clause-first g c = λ gone told.
     let states = c.args.states.now in

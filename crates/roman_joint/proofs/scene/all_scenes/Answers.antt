@@ -6,7 +6,7 @@ use Rattle.roman_joint.proofs.SceneLemmas.{scenes_more}
 use Rattle.roman_joint.proofs.scene.all_scenes.Goals as goal
 use Rattle.roman_joint.proofs.scene.all_scenes.Goals.{After-len}
 
--- how many states there are
+-- the numbers of states
 counts : (c : After-len) → (c.len-envs.result ≡ c.args.environment.now.env.states) × (c.len.result ≡ c.args.target.now.beh.states) × (c.len.result ≤ 64)
 counts c =
     let few = (c.states-2.ensures.known c.args.environment.now.env (sym c.requires.0) (sym c.requires.1)).states.1 in

@@ -3,7 +3,7 @@ use Rattle.roman_joint.specs.Scenes.{IsScene}
 use Rattle.roman_joint.specs.declared.scene.Scene.{Scene}
 use Rattle.roman_joint.proofs.scene.all_scenes.Given as goal
 
--- the scenes so far are there
+-- the scenes so far are made
 abbrev pub invariant-loop-i : goal.invariant-loop-i
 invariant-loop-i l = record {
   long : length l.scenes.items ≡ l.i;

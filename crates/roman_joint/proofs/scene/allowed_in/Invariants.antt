@@ -5,7 +5,7 @@ use Rattle.roman_model.specs.SystemArena.{env_next, beh_next}
 use Rattle.roman_rules.specs.Bits.{bit_of}
 use Rattle.roman_joint.proofs.scene.allowed_in.Given as goal
 
--- the actions so far are asked, and no other is in
+-- the set is right for the actions so far, and has no other action
 abbrev pub invariant-loop-a : goal.invariant-loop-a
 invariant-loop-a l = record {
   asked : (b : ℕ) → b < l.a → bit_at l.allowed b ≡ bit_of (not (is_empty (env_next l.environment.env l.e b)) && not (is_empty (beh_next l.target.beh l.t l.e b)));

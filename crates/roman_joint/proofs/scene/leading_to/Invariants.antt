@@ -4,6 +4,6 @@ use Rattle.roman_model.specs.Lists.{IsIn}
 use Rattle.roman_model.specs.SystemArena.{env_prev, beh_prev}
 use Rattle.roman_joint.proofs.scene.leading_to.Given as goal
 
--- of the actions so far, those that aren't in don't lead there
+-- of the actions so far, those outside the set don't lead there
 abbrev pub invariant-loop-a : goal.invariant-loop-a
 invariant-loop-a l = (b : ℕ) → b < l.a → bit_at l.leading b ≡ 0 → (e : ℕ) → IsIn e (env_prev l.environment.env l.e2 b) → beh_prev l.target.beh l.t2 e b ≡ []

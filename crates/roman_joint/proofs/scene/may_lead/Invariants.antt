@@ -3,6 +3,6 @@ use Rattle.roman_model.specs.Lists.{IsIn}
 use Rattle.roman_model.specs.SystemArena.{env_prev, beh_prev}
 use Rattle.roman_joint.proofs.scene.may_lead.Given as goal
 
--- nothing leads there from the environment's states so far
+-- the action doesn't lead there from the environment's states so far
 abbrev pub invariant-loop-e : goal.invariant-loop-e
 invariant-loop-e l = (e : ℕ) → IsIn e (take l.e-index (env_prev l.environment.env l.e2 l.a)) → beh_prev l.target.beh l.t2 e l.a ≡ []

@@ -5,7 +5,7 @@ use Rattle.roman_model.specs.Numbers.{pair_at, states_at}
 use Rattle.roman_joint.specs.NamedSys.{seat_of}
 use Rattle.roman_joint.proofs.seats.are_final.Given as goal
 
--- it is said by the services that are left, at what is left of the number
+-- the result is that of the services that are left, at the rest of the number
 abbrev pub invariant-loop-k : goal.invariant-loop-k
 invariant-loop-k l = record {
   final : all_final (map (seat_of l.catalogue) (drop l.k l.seats)) (states_at (drop l.k l.shape.seats) l.rest)

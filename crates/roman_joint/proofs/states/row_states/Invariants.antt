@@ -6,7 +6,7 @@ use Rattle.roman_joint.specs.NamedSys.{system_of}
 use Rattle.roman_joint.specs.Rows.{lanes_in}
 use Rattle.roman_joint.proofs.states.row_states.Given as goal
 
--- the states of the services so far, and what is left of the row's number behind them
+-- the states of the services so far, and the number of the states after them
 abbrev pub invariant-loop-k : goal.invariant-loop-k
 invariant-loop-k l =
     let n = sizes_of (system_of l.joint) in

@@ -12,7 +12,7 @@ use Rattle.roman_joint.proofs.LeadLemmas.{stride_positive}
 use Rattle.roman_joint.proofs.GoodLemmas.{full_on, full_off, state_below, state_shift}
 use Rattle.roman_joint.proofs.states.state_lanes.Goals as goal
 
--- where the lanes of a state begin
+-- the first lane of a state is within the word
 begins : (n : Sizes) (r : Rows) (k b from : ℕ) → IsSizes n → AreRowsOf n r → low_of n.seats ≤ k → k < length n.seats → b < slice_index n.seats k → from ≡ b → from * slice_index r.strides k < 64
 begins n r k b from sizes laid within seat state is = subst (λ m. m < 64) (sym (ap₂ (λ m u. m * u) is (laid.within k within seat))) (state_below n k b sizes within seat state)
 

@@ -9,7 +9,7 @@ use Rattle.roman_lanes.proofs.CallerLemmas.{on_or}
 use Rattle.roman_joint.proofs.WordLemmas.{some_more}
 use Rattle.roman_joint.proofs.ways.add_ways.Goals as goal
 
--- the lanes go one way more
+-- the lanes are added to one more way
 put : (lanes : List ℕ) (p here j lane : ℕ) → p < length lanes → is_on (slice_index (set lanes p (bit_or (get_or lanes p 0) here)) j) lane ≡ (is_on (slice_index lanes j) lane || (is_on here lane && eqb p j))
 put lanes p here j lane room = elim (cases_eq j p) [
   | inl same ↦

@@ -24,7 +24,7 @@ nothing_on n j lane = ap (λ w. is_on w lane) (nothing n j) ∙ on_zero lane
     nothing (suc n) zero = refl
     nothing (suc n) (suc j) = nothing n j
 
--- a way by its number
+-- the number of a way
 same_way : (b size d j : ℕ) → d < size → eqb (b + (size - 1 - d)) j ≡ eqb (b + size) (j + 1 + d)
 same_way b size d j l = grind (arith, nat_tests)
 

@@ -18,7 +18,7 @@ shifted-requires-clause-to c = (c.requires (get_or c.args.moves.now c.loop-way.w
 pub loop-way-init : goal.loop-way-init
 loop-way-init c = record { alive = λ lane l h. all_pass (is_on c.args.good lane); within = λ lane off. off }
 
--- a test is asked only where it matters
+-- tests that agree where it matters give the same result
 where_on : (on a b : Bool) → (on ≡ true → a ≡ b) → not (on && not a) ≡ not (on && not b)
 where_on true a b h = ap (λ t. not (not t)) (h refl)
 where_on false a b h = refl

@@ -5,7 +5,7 @@ use Rattle.roman_lanes.specs.Rows.{is_on}
 use Rattle.roman_joint.specs.declared.moves.Move.{Move}
 use Rattle.roman_joint.proofs.words.moves_alive.Given as goal
 
--- those of the moves so far
+-- the lanes from which the moves so far lead to alive lanes
 abbrev pub invariant-loop-way : goal.invariant-loop-way
 invariant-loop-way l = record {
   alive : (lane : ℕ) → lane < 64 → ((move : Move) → IsIn move l.moves → is_on move.lanes lane ≡ true → (move.from ≤ lane) × (lane + move.to - move.from < 64)) →

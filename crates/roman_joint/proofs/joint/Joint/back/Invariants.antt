@@ -3,7 +3,7 @@ use Rattle.roman_joint.specs.NamedSys.{system_of}
 use Rattle.roman_joint.specs.Walks.{IsWalk, left, way_left}
 use Rattle.roman_joint.proofs.joint.Joint.back.Given as goal
 
--- nothing was given yet
+-- no delegation was returned yet
 abbrev pub invariant-on : goal.invariant-on
 invariant-on g l = record {
   walk : IsWalk (system_of l.self) l.walk;

@@ -6,7 +6,7 @@ use Rattle.roman_joint.proofs.MoveLemmas.{StandsAt, span_at, stands_at}
 use Rattle.roman_joint.proofs.joint.Joint.lane_moves.Goals as goal
 use Rattle.roman_joint.proofs.joint.Joint.lane_moves.Goals.{After-from-4}
 
--- where the span stands in the table
+-- the place of the span in the table
 stands : (c : After-from-4) → StandsAt (system_of c.args.self.now) c.args.k c.args.e c.args.a
     ((c.from.result * c.self.inside.moves.actions + c.from-2.result) * (c.len.result - c.from-3.result) + c.from-4.result) c.self.inside.moves
 stands c =

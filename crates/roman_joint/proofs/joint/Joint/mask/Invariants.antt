@@ -9,7 +9,7 @@ use Rattle.roman_joint.specs.NamedSys.{system_of}
 use Rattle.roman_joint.specs.Rows.{lanes_in, IsRow}
 use Rattle.roman_joint.proofs.joint.Joint.mask.Given as goal
 
--- the bits of the seats so far are set, and no other
+-- the mask is right for the seats so far, and has no other seat
 abbrev pub invariant-loop-k : goal.invariant-loop-k
 invariant-loop-k l =
     let s = system_of l.self in

@@ -6,7 +6,7 @@ use Rattle.roman_joint.specs.NamedSys.{system_of}
 use Rattle.roman_joint.specs.Rows.{lanes_in, IsRow, may_rest}
 use Rattle.roman_joint.proofs.joint.Joint.unfine.Given as goal
 
--- those at which the seats so far may rest
+-- the lanes at which the seats so far may rest
 abbrev pub invariant-loop-k : goal.invariant-loop-k
 invariant-loop-k l =
     let s = system_of l.self in

@@ -6,7 +6,7 @@ use Rattle.roman_joint.specs.Rows.{lanes_in, IsRow}
 use Rattle.roman_joint.specs.Bands.{band_in}
 use Rattle.roman_joint.proofs.joint.Joint.unfine_band.Given as goal
 
--- the rows so far have lost those that meet clause 2
+-- in the rows so far, the pairs that meet clause 2 are cleared
 abbrev pub invariant-loop-i : goal.invariant-loop-i
 invariant-loop-i l =
     let s = system_of l.self in

@@ -7,7 +7,7 @@ use Rattle.roman_joint.specs.NamedSys.{system_of}
 use Rattle.roman_joint.specs.Rows.{lanes_in, IsRow}
 use Rattle.roman_joint.proofs.joint.Joint.unserved.Given as goal
 
--- those that no seat so far serves
+-- the pairs that no seat so far serves are left
 abbrev pub invariant-loop-k : goal.invariant-loop-k
 invariant-loop-k l = record {
   lost : (x : ℕ) (gone : ℕ → Bool) → IsRow (system_of l.self) x l.row → AreRows (lanes_in (system_of l.self)) (λ q. not (gone q)) l.words → (lane : ℕ) → lane < lanes_in (system_of l.self) →

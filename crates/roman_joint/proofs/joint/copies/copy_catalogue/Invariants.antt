@@ -1,6 +1,6 @@
 use Rattle.std.proofs.Common.{◌≡◌, take}
 use Rattle.roman_joint.proofs.joint.copies.copy_catalogue.Given as goal
 
--- the first behaviours are there again
+-- the behaviours so far are copied
 abbrev pub invariant-loop-behaviour : goal.invariant-loop-behaviour
 invariant-loop-behaviour l = l.copies.items ≡ take l.behaviour-index l.catalogue

@@ -10,7 +10,7 @@ overflow_add-row c =
     c.requires.pair c.requires.component c.requires.target c.from.ensures c.target_stride.ensures c.requires.state c.env_stride.ensures refl in
     omega (arith, start.fits, c.known.ensures.counted)
 
--- where the numbers begin
+-- the first number
 start : (c : After-stride) → StartsAt c.args.shape.now c.args.p c.args.k c.args.to (c.from.result * c.target_stride.result + c.args.p % c.env_stride.result) c.from-2.result c.env_stride.result c.stride.result
 start c = starts_at c.args.shape.now c.args.p c.args.k c.args.to c.from.result c.target_stride.result c.from-2.result c.env_stride.result c.stride.result
     c.requires.pair c.requires.component c.requires.target c.from.ensures c.target_stride.ensures (c.from-2.ensures ∙ c.requires.state) c.env_stride.ensures c.stride.ensures

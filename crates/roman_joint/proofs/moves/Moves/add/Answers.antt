@@ -6,7 +6,7 @@ use Rattle.roman_joint.proofs.MoveLemmas.{moves_made, ways_few}
 use Rattle.roman_joint.proofs.moves.Moves.add.Goals as goal
 use Rattle.roman_joint.proofs.moves.Moves.add.Goals.{After-known}
 
--- the service has a state
+-- the service has at least one state
 own : (c : After-known) → (slice_index c.args.rows.now.sizes c.args.k ≡ slice_index c.args.shape.now.seats c.args.k) × (0 < slice_index c.args.shape.now.seats c.args.k)
 own c = (c.requires.rows.sizes c.args.k c.requires.seat, (AreSizes-index c.args.shape.now.seats c.args.k c.known.ensures.seats c.requires.seat).0)
 
