@@ -93,14 +93,14 @@ pub record IsFree (b : Board) (x lost : ℕ) : Type 0 where
   pub within : (lane : ℕ) → is_on lost lane ≡ true → lane < b.lanes
   pub alive : (lane : ℕ) → is_on lost lane ≡ true → has_entry b.list (x * b.lanes + lane) ≡ false
 
--- the entries of such pairs can be added
+-- entries for unlisted pairs of a row can be added
 pushed_placed : (a : Inside) (x lost : ℕ) (reason : Reason) → IsSound a → IsFree (board_of a) x lost →
     IsPlaced (a.rows * a.lanes) (removal_list a ++ entries_in a.lanes x lost reason)
 pushed_placed a x lost reason sound free =
     IsPlaced-lanes (a.rows * a.lanes) (x * a.lanes) reason (set_lanes lost) (removal_list a) (lanes_once lost)
     (λ lane i. let on = (in_lanes lost lane i).1 in (pair_below a.rows a.lanes x lane free.row (free.within lane on), free.alive lane on)) sound.placed
 
--- the tables have room for the entries
+-- the tables have room for entries for the lanes of `lost`
 pub record HasRoom (a : Inside) (lost : ℕ) : Type 0 where
   pub events : length a.events.items < a.room
   pub firsts : length a.firsts.items < a.room
@@ -124,7 +124,7 @@ room-row a x lost reason sound free fits some =
       count = omega (arith, within, ones_of lost fits, sound.sized.few);
     }
 
--- an order is sound after the entries were added
+-- an order is sound after entries for unlisted pairs of a row were added
 pub pushed_sound : (a b : Inside) (x lost : ℕ) (reason : Reason) → IsSound a → IsFree (board_of a) x lost → lost < 2 ^ 64 → 0 < length (set_lanes lost) → b.rows ≡ a.rows →
     b.lanes ≡ a.lanes → CanWait b.waiting_lanes (drop b.next b.waiting.items) → b.count ≡ a.count + count_ones lost → b.firsts.items ≡ a.firsts.items ++ a.count ∷ [] →
     b.events.items ≡ a.events.items ++ record { row = x; reason = reason; lanes = lost } ∷ [] →

@@ -58,6 +58,6 @@ set_lanes word = filter (is_on word) (below 64)
 abbrev pub entries_in : ℕ → ℕ → ℕ → Reason → List (Entry ℕ)
 entries_in lanes row word reason = map (λ lane. as_entry (row * lanes + lane, reason)) (set_lanes word)
 
--- the same for `rows` rows from row x on, with one word for each
+-- the entries of the pairs of `rows` rows from row x on, with one word for each row, for one reason
 abbrev pub entries_in_rows : ℕ → ℕ → ℕ → List ℕ → Reason → List (Entry ℕ)
 entries_in_rows lanes x rows words reason = flat_map (λ i. entries_in lanes (x + i) (slice_index words i) reason) (below rows)

@@ -131,7 +131,7 @@ digit_taken n parts p j k rest size whole state in_range here component room is_
     digit : rest % size ≡ slice_index (pair_at n p).bs j
     digit = ap₂ (λ x y. x % y) (is_rest ∙ ap (λ x. p / product_of (drop x n.seats)) here) is_size ∙ sym (part_at n p j in_range component)
 
--- all digits
+-- all digits of a number
 pub digits_all : (n : Sizes) (parts : List ℕ) (p k : ℕ) → p < count n → k ≡ 0 → length n.seats ≤ length parts →
     ((i : ℕ) → k ≤ i → i < length n.seats → get_or parts i 0 ≡ slice_index (pair_at n p).bs i) → take (length n.seats) parts ≡ (pair_at n p).bs
 digits_all n parts p k in_range here room states =
