@@ -1,4 +1,4 @@
--- Bands that were gone back from.
+-- The bands that were noted in a round.
 use Rattle.std.proofs.Common.{◌≡◌, ℕ, zero, suc, ◌+◌, ◌*◌, ◌/◌, ◌<◌, ◌≤◌, Bool, true, false, cond, ◌||◌, ◌==◌, List, [], ◌∷◌, ◌++◌, length, take, drop, slice_index, IsTrue, IsFalse, inl, inr, refl, sym, ap, ap₂, ◌∙◌, subst, arith, take-append-drop, append_assoc, sum_by}
 use Rattle.std.proofs.Math.Bool.{or-false}
 use Rattle.std.proofs.Math.Seq.{take-append_seam, take-append-add, take-length, drop-append_seam}
@@ -23,7 +23,7 @@ use Rattle.roman_relation.proofs.Marks.{IsNoted, noted_own, noted_other}
 
 -- ---- sums
 
--- one number more passes
+-- one more number passes
 sum_one_more : (f : ℕ → ℕ) (t u : ℕ → Bool) (n y : ℕ) → y < n → t y ≡ false → u y ≡ true → ((z : ℕ) → (z ≡ y → ⊥) → u z ≡ t z) →
     sum_by (λ z. cond (u z) (f z) 0) (below n) ≡ sum_by (λ z. cond (t z) (f z) 0) (below n) + f y
 sum_one_more f t u zero y l off on same = absurd (omega arith)
@@ -39,7 +39,7 @@ sum_one_more f t u (suc n) y l off on same =
 
 -- ---- the band of an event
 
--- an event has a lane
+-- an event has some lane
 pub event_lane : (n : ℕ) (e : Event) → IsEvent n e → (lane : ℕ) × (lane < 64) × (is_on e.lanes lane ≡ true)
 event_lane n e is = first (set_lanes e.lanes) is.some (λ lane i. in_lanes e.lanes lane i)
   where
@@ -72,9 +72,9 @@ own_more n w M e is = band_more n w (e.row / w) M (entries_at n e) ∙ or_right 
 other_more : (n w z : ℕ) (M : List (Entry ℕ)) (e : Event) → IsEvent n e → (z ≡ e.row / w → ⊥) → has_band n w (M ++ entries_at n e) z ≡ has_band n w M z
 other_more n w z M e is ne = band_more n w z M (entries_at n e) ∙ (ap (λ b. has_band n w M z || b) (other_band n w z e is ne) ∙ or-false (has_band n w M z))
 
--- ---- one event further
+-- ---- one more event
 
--- where the words that were kept have one of the event's lanes, its band wasn't gone back from; and where they have none, it was
+-- where the kept words have one of the event's lanes, its band wasn't noted; where they have none, it was
 pub band_is_new : (A : Arena ℕ) (n w start row lane : ℕ) (M : List (Entry ℕ)) (b : Board) → AreGoneBack A n w start M b → lane < n → row * n + lane < length A.nodes →
     on_at n b.before (row * n + lane) ≡ true → IsTrue (is_listed A b.list (row * n + lane)) → has_band n w M (row / w) ≡ false
 band_is_new A n w start row lane M b back l inside on listed =
@@ -89,7 +89,7 @@ band_is_old A n w start row lane M b back l inside off fresh =
     let band : p / n / w ≡ row / w = ap (λ x. x / w) (lane_place n row lane l).0 in
     by_test (has_band n w M (row / w)) (λ t. t) (λ f. absurd (both_ways (on_at n b.before p) off (back.fresh p inside (ap (has_band n w M) band ∙ f) fresh)))
 
--- an event of a band that was gone back from
+-- one more event of a noted band changes nothing
 pub back_again : (A : Arena ℕ) (n w mid start : ℕ) (M : List (Entry ℕ)) (e : Event) (b : Board) → IsEvent n e → has_band n w M (e.row / w) ≡ true → AreGoneBack A n w start M b →
     AreGoneBack A n w start (M ++ entries_at n e) b × (moves_to_all A n w mid b.rows (M ++ entries_at n e) ≡ moves_to_all A n w mid b.rows M)
 back_again A n w mid start M e b is old back = (
@@ -104,7 +104,7 @@ back_again A n w mid start M e b is old back = (
       | inr ne ↦ other_more n w z M e is ne
     ]
 
--- an event of another, which is noted
+-- one more event of another band, which is then noted
 pub back_now : (A : Arena ℕ) (n w mid start : ℕ) (M : List (Entry ℕ)) (e : Event) (b c : Board) → IsEvent n e → has_band n w M (e.row / w) ≡ false → e.row / w < b.rows → c.rows ≡ b.rows →
     IsNoted A n w (e.row / w) b c → AreGoneBack A n w start M b →
     AreGoneBack A n w start (M ++ entries_at n e) c × (moves_to_all A n w mid c.rows (M ++ entries_at n e) ≡ moves_to_all A n w mid b.rows M + moves_to A n w mid (e.row / w))
@@ -125,14 +125,14 @@ back_now A n w mid start M e b c is new inside rows noted back = (
 
 -- ---- the entries of the round
 
--- those up to the end of an event
+-- the entries up to the end of an event
 pub take_entries : (L : List (Entry ℕ)) (i : ℕ) (E R : List (Entry ℕ)) → i ≤ length L → drop i L ≡ E ++ R → take (i + length E) L ≡ take i L ++ E
 take_entries L i E R within rest =
     let parts : take i L ++ (E ++ R) ≡ L = ap (λ M. take i L ++ M) (sym rest) ∙ take-append-drop i L in
     let long : length (take i L) + length E ≡ i + length E = omega (arith, length-take-le i L within) in
     ap (take (i + length E)) (sym parts) ∙ (ap (λ k. take k (take i L ++ (E ++ R))) (sym long) ∙ (take-append-add (take i L) (E ++ R) (length E) ∙ ap (λ M. take i L ++ M) (take-append_seam E R)))
 
--- what was listed before them isn't theirs
+-- the entries before the round don't list the pairs of an event of the round
 pub event_new : (A : Arena ℕ) (n : ℕ) (L R : List (Entry ℕ)) (start i : ℕ) (e : Event) (lane : ℕ) → IsOrder A L → start ≤ i → drop i L ≡ entries_at n e ++ R → lane < 64 → is_on e.lanes lane ≡ true →
     IsFalse (is_listed A (take start L) (e.row * n + lane))
 event_new A n L R start i e lane order first rest low on =
@@ -147,17 +147,17 @@ event_new A n L R start i e lane order first rest low on =
     let off = (or_parts (is_listed A T p) (is_listed A B p) (sym (listed_append A T B p) ∙ before)).0 in
     false_from_ne_true (is_listed A (take start L) p) (λ t. both_ways (is_listed A T p) off (take_listed A start T p (subst (λ M. IsTrue (is_listed A M p)) (sym (take-take start i L first)) t)))
 
--- at the beginning none was gone back from
+-- at the beginning, no band was noted
 pub none_back : (A : Arena ℕ) (n w start : ℕ) (b : Board) → ((p : ℕ) → p < length A.nodes → IsFalse (is_listed A (take start b.list) p) → on_at n b.before p ≡ true) → AreGoneBack A n w start [] b
 none_back A n w start b kept = record { fresh = λ p l off new. kept p l new; gone = λ p l on listed. cc }
 
--- at the end those of all entries of the round were
+-- at the end, the noted entries are all entries of the round
 pub all_back : (L M : List (Entry ℕ)) (start : ℕ) → start ≤ length L → take (length L) L ≡ take start L ++ M → M ≡ drop start L
 all_back L M start within parts =
     let long : length (take start L) ≡ start = length-take-le start L within in
     sym (drop-append_seam (take start L) M) ∙ (ap (λ k. drop k (take start L ++ M)) long ∙ ap (drop start) (sym parts ∙ take-length L))
 
--- to no band nothing moves
+-- without entries the sum of moves is 0
 pub none_moves : (A : Arena ℕ) (n w mid bands : ℕ) → moves_to_all A n w mid bands [] ≡ 0
 none_moves A n w mid zero = refl
 none_moves A n w mid (suc bands) = sum_by_push (λ y. cond (has_band n w [] y) (moves_to A n w mid y) 0) (below bands) bands ∙ ap (λ k. k + 0) (none_moves A n w mid bands)

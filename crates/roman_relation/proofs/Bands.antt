@@ -8,7 +8,7 @@ use Rattle.roman_order.specs.Board.{Board}
 use Rattle.roman_relation.specs.Shaped.{IsShaped}
 use Rattle.roman_relation.proofs.Lanes.{lane_place, shaped_pairs, shaped_rows}
 
--- a pair by its band, its row there and its lane
+-- a pair from its band, its row within the band, and its lane
 pub pair_in : (lanes band p : ℕ) → (p / lanes / band * band + p / lanes % band) * lanes + p % lanes ≡ p
 pair_in lanes band p = ap (λ x. x * lanes + p % lanes) (div-add-mod' (p / lanes) band) ∙ div-add-mod' p lanes
 
@@ -19,7 +19,7 @@ in_band band y row some e =
     let l = mod_below row band some in
     (omega arith, omega arith)
 
--- what lies between is of the band
+-- a row between the first rows of a band and of the next lies in the band
 pub band_at : (band y row : ℕ) → y * band ≤ row → row < y * band + band → row / band ≡ y
 band_at band y row low high =
     let place : y * band + (row - y * band) ≡ row = omega arith in
@@ -34,14 +34,14 @@ outside_band band y row some ne = elim (cases_lt row (y * band)) [
   ]
 ]
 
--- a band that begins below so many bands ends there
+-- a band below the number of bands ends within their rows
 pub band_ends : (band y bands : ℕ) → y < bands → y * band + band ≤ bands * band
 band_ends band y bands l =
     let next : suc y * band ≡ y * band + band = omega arith in
     let h = mul-le (suc y) band bands band (omega arith) (omega arith) in
     omega arith
 
--- the order has whole bands
+-- the order consists of whole bands
 pub whole_bands : (A : Arena ℕ) (lanes band bands : ℕ) (b : Board) → IsShaped A lanes b → 0 < lanes → bands * band * lanes ≡ length A.nodes → bands * band ≡ b.rows
 whole_bands A lanes band bands b shaped some e = shaped_rows A lanes (bands * band) b shaped some e
 
@@ -52,14 +52,14 @@ row_band A lanes band bands row b shaped some many e l =
     let h = band_ends band (row / band) bands (div_below row band bands many (omega arith)) in
     omega arith
 
--- the first pair of a row that there is
+-- the first pair of a row is in range
 pub band_begins : (lanes x rows : ℕ) → x < rows → 0 < lanes → x * lanes < rows * lanes
 band_begins lanes x rows l some =
     let h = mul-le (suc x) lanes rows lanes (omega arith) (omega arith) in
     let next : suc x * lanes ≡ x * lanes + lanes = omega arith in
     omega arith
 
--- a pair between the first of a band and the first of the next
+-- a pair between the first pair of a band and that of the next lies in the band
 pub pair_past : (lanes band y p : ℕ) → 0 < lanes → y * band * lanes ≤ p → p < (y + 1) * band * lanes →
     (i : ℕ) × (lane : ℕ) × (i < band) × (lane < lanes) × ((y * band + i) * lanes + lane ≡ p)
 pair_past lanes band y p some h l =
@@ -77,6 +77,6 @@ pair_past lanes band y p some h l =
 pub row_of_band : (band row rows : ℕ) → row < rows → row / band < rows
 row_of_band band row rows l = let h = div-le_self row band in omega arith
 
--- the pairs of the order's rows are those of the arena
+-- the pairs of the order's rows are nodes of the arena
 pub pair_inside : (A : Arena ℕ) (lanes row lane : ℕ) (b : Board) → IsShaped A lanes b → row < b.rows → lane < lanes → row * lanes + lane < length A.nodes
 pair_inside A lanes row lane b shaped l h = let m = mul-add-lt row lanes lane b.rows l h in omega (arith, m, shaped_pairs A lanes b shaped)

@@ -1,4 +1,4 @@
--- Lists of entries that begin with others.
+-- Lists of entries that begin with other lists.
 use Rattle.std.proofs.Common.{◌≡◌, ℕ, ◌<◌, ◌≤◌, ◌==◌, List, length, take, drop, get_or, IsTrue, IsFalse, sym, ap, ◌∙◌, subst, arith, take-append-drop}
 use Rattle.std.proofs.Math.Seq.{take-length}
 use Rattle.std.proofs.lemmas.Bool.{both_ways, or_left, false_from_ne_true}
@@ -19,7 +19,7 @@ begins_length L M b = let same : length (take (length L) M) ≡ length L = ap le
 pub begins_itself : (L : List (Entry ℕ)) → Begins L L
 begins_itself L = take-length L
 
--- what a list begins with begins with the same as it
+-- a list and its prefix have the same shorter prefixes
 pub begins_same : (L M : List (Entry ℕ)) (i : ℕ) → Begins L M → i ≤ length L → take i M ≡ take i L
 begins_same L M i b l = sym (take-take i (length L) M l) ∙ ap (take i) b
 
@@ -29,7 +29,7 @@ begins_on L M N b c = begins_same M N (length L) c (begins_length L M b) ∙ b
 pub begins_get : (L M : List (Entry ℕ)) (i : ℕ) (d : Entry ℕ) → Begins L M → i < length L → get_or M i d ≡ get_or L i d
 begins_get L M i d b l = sym (get_or-take (length L) M i d l) ∙ ap (λ N. get_or N i d) b
 
--- what is listed in a prefix of a list is listed in it
+-- a node that a prefix of a list lists is listed in the list
 pub take_listed : (A : Arena ℕ) (i : ℕ) (L : List (Entry ℕ)) (p : ℕ) → IsTrue (is_listed A (take i L) p) → IsTrue (is_listed A L p)
 take_listed A i L p t =
     subst (λ M. IsTrue (is_listed A M p)) (take-append-drop i L)

@@ -1,8 +1,8 @@
 -- What the proofs of other crates may cite of this one. All else in proofs/ can be renamed freely.
 
--- Lists of entries that begin with others.
+-- Lists of entries that begin with other lists.
 pub use Rattle.roman_relation.proofs.Beginnings.{listed_is}
 -- Pairs as lanes of rows.
 pub use Rattle.roman_relation.proofs.Lanes.{words_rows}
--- What a relation whose list is complete says of the greatest ND-simulation.
+-- Relations with a complete list, and the greatest ND-simulation.
 pub use Rattle.roman_relation.proofs.Relating.{listed_numbers, room_for_pairs}

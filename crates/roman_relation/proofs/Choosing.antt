@@ -1,10 +1,10 @@
--- How many seats all masks have.
+-- The number of seats in all masks.
 use Rattle.std.proofs.Common.{◌≡◌, ℕ, zero, suc, ◌+◌, ◌*◌, sum_by, sym, ap, ◌∙◌, arith}
 use Rattle.std.proofs.lemmas.List.Sums.{sum_by_push}
 use Rattle.roman_model.specs.Lists.{below}
 use Rattle.roman_rules.proofs.CallerLemmas.{sum_further}
 
--- a sum over rows is one over all pairs
+-- a sum over rows and lanes is a sum over all pairs
 pub sum_rows : (f : ℕ → ℕ) (lanes rows : ℕ) → sum_by (λ row. sum_by (λ lane. f (row * lanes + lane)) (below lanes)) (below rows) ≡ sum_by f (below (rows * lanes))
 sum_rows f lanes zero = let none : zero * lanes ≡ zero = omega arith in ap (λ m. sum_by f (below m)) (sym none)
 sum_rows f lanes (suc rows) =

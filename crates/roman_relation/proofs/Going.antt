@@ -1,4 +1,4 @@
--- Orders that go on from others.
+-- Orders that extend others.
 use Rattle.std.proofs.Common.{◌≡◌, ℕ, ◌+◌, ◌*◌, List, ◌++◌, length, take, drop, refl, sym, ap, ap₂, ◌∙◌, subst, take-append-drop}
 use Rattle.std.proofs.Math.Seq.{take-append_seam, take-length}
 use Rattle.roman_model.specs.Arena.{Arena, Entry, IsOrder, fall}
@@ -28,24 +28,24 @@ SameFrame b c = (c.cap_pairs ≡ b.cap_pairs) × (c.rows ≡ b.rows) × (c.lanes
 pub shaped_like : (A : Arena ℕ) (lanes : ℕ) (b c : Board) → SameFrame b c → IsShaped A lanes b → IsShaped A lanes c
 shaped_like A lanes b c same s = record { pairs = ap₂ (λ x y. x * y) same.1 same.2 ∙ s.pairs; lanes = same.2 ∙ s.lanes }
 
--- what has the shape and has gone on has the shape
+-- an order that extends another keeps its shape
 pub shaped_on : (A : Arena ℕ) (lanes : ℕ) (b c : Board) → IsShaped A lanes b → SettlesOn A b c → IsShaped A lanes c
 shaped_on A lanes b c s g = shaped_like A lanes b c (subst (SameFrame b) (sym g.rest) (refl, refl, refl, refl, refl)) s
 
--- by entries that a removal list can have next
+-- an order is extended by entries that a removal list can have next
 pub goes_on_added : (A : Arena ℕ) (b c : Board) (M : List (Entry ℕ)) → IsOrder A (b.list ++ M) → c ≡ record b { list = b.list ++ M } → SettlesOn A b c
 goes_on_added A b c M order e = subst (λ (d : Board). SettlesOn A b d) (sym e) (record { valid = order; begins = begins_append b.list M; rest = refl })
 
--- a longer list is a fall of more
+-- the fall of a longer list is that of its prefix and that of the rest
 pub fall_added : (A : Arena ℕ) (L M : List (Entry ℕ)) → Begins L M → fall A M ≡ fall A L + fall A (drop (length L) M)
 fall_added A L M b =
     ap (fall A) (sym (take-append-drop (length L) M) ∙ ap (λ N. N ++ drop (length L) M) b) ∙ fall_append A L (drop (length L) M)
 
--- a list that begins with one as long is that one
+-- a list that begins with a list of the same length is that list
 pub same_list : (L M : List (Entry ℕ)) → Begins L M → length M ≡ length L → M ≡ L
 same_list L M b e = sym (take-length M) ∙ (ap (λ n. take n M) e ∙ b)
 
--- such an order differs in nothing but what rounds change
+-- an order with the same frame differs only in what rounds change
 pub rest_from : (b c : Board) → SameFrame b c → c ≡ record b { list = c.list; marks = c.marks; before = c.before; levels = c.levels }
 rest_from b c (room, rows, lanes, waiting, waiting_lanes) =
     λ i. record { cap_pairs = room i; rows = rows i; lanes = lanes i; list = c.list; waiting = waiting i; waiting_lanes = waiting_lanes i; marks = c.marks; before = c.before; levels = c.levels }

@@ -11,7 +11,7 @@ use Rattle.roman_relation.specs.Shaped.{IsShaped}
 use Rattle.roman_relation.specs.Rounds.{AreUnlisted, on_at}
 use Rattle.roman_relation.proofs.Beginnings.{listed_is}
 
--- where there is an entry is where a node is listed
+-- a word of the pairs without an entry is a word of the pairs that aren't listed
 pub unlisted_row : (A : Arena ℕ) → IsNumbered A → (lanes row : ℕ) (L : List (Entry ℕ)) (word : ℕ) → HasLanes lanes row (λ p. not (has_entry L p)) word → HasLanes lanes row (λ p. not (is_listed A L p)) word
 unlisted_row A ok lanes row L word is = record { each = λ lane l. is.each lane l ∙ ap not (sym (listed_is A ok L (row * lanes + lane))); rest = is.rest }
 
@@ -26,25 +26,25 @@ lane_place lanes row lane l =
 pub on_lane : (lanes row lane : ℕ) (words : List ℕ) → lane < lanes → on_at lanes words (row * lanes + lane) ≡ is_on (slice_index words row) lane
 on_lane lanes row lane words l = let (e, f) = lane_place lanes row lane l in ap₂ (λ x y. is_on (slice_index words x) y) e f
 
--- the bit of a pair is the test of it
+-- the bit of a pair is the result of its test
 pub at_pair : (lanes : ℕ) (test : ℕ → Bool) (words : List ℕ) (p : ℕ) → 0 < lanes → p < length words * lanes → AreRows lanes test words → on_at lanes words p ≡ test p
 at_pair lanes test words p some l are =
     (are.each (p / lanes) (div_below p lanes (length words) some l)).each (p % lanes) (mod_below p lanes some) ∙ ap test (div-add-mod' p lanes)
 
--- the words tell which pairs aren't listed
+-- the words have the bits of the pairs that aren't listed
 pub words_rows : (A : Arena ℕ) → IsNumbered A → (lanes : ℕ) (b : Board) (words : List ℕ) → IsShaped A lanes b →
     AreRows b.lanes (λ p. not (has_entry b.list p)) words → AreUnlisted A lanes b.list words
 words_rows A ok lanes b words shaped are = record {
   each = λ row l. unlisted_row A ok lanes row b.list (slice_index words row) ((subst (λ n. AreRows n (λ p. not (has_entry b.list p)) words) shaped.lanes are).each row l);
 }
 
--- the word of a row tells which of its pairs aren't listed
+-- the word of a row has the bits of its pairs that aren't listed
 pub words_row : (A : Arena ℕ) → IsNumbered A → (lanes row : ℕ) (b : Board) (words : List ℕ) → IsShaped A lanes b → length words ≡ b.rows →
     row < b.rows → AreRows b.lanes (λ p. not (has_entry b.list p)) words →
     HasLanes lanes row (λ p. not (is_listed A b.list p)) (slice_index words row)
 words_row A ok lanes row b words shaped long inside are = (words_rows A ok lanes b words shaped are).each row (omega arith)
 
--- where it is 0 all of them are listed
+-- where the word of a row is 0, all its pairs are listed
 pub all_listed : (A : Arena ℕ) → IsNumbered A → (lanes row lane : ℕ) (b : Board) (words : List ℕ) → IsShaped A lanes b → length words ≡ b.rows →
     row < b.rows → AreRows b.lanes (λ p. not (has_entry b.list p)) words → slice_index words row ≡ 0 → lane < lanes → IsFalse (is_listed A b.list (row * lanes + lane)) → ⊥
 all_listed A ok lanes row lane b words shaped long inside are empty l off =
@@ -52,7 +52,7 @@ all_listed A ok lanes row lane b words shaped long inside are empty l off =
     let is = words_row A ok lanes row b words shaped long inside are in
     both_ways (is_on (slice_index words row) lane) none (is.each lane l ∙ not_from_false (is_listed A b.list (row * lanes + lane)) off)
 
--- an order that is shaped for the arena has its rows
+-- an order that is shaped for the arena has the arena's rows
 pub shaped_pairs : (A : Arena ℕ) (lanes : ℕ) (b : Board) → IsShaped A lanes b → b.rows * lanes ≡ length A.nodes
 shaped_pairs A lanes b shaped = ap (λ m. b.rows * m) (sym shaped.lanes) ∙ shaped.pairs
 

@@ -1,4 +1,4 @@
--- Entries of an event that are noted together.
+-- Noting the entries of an event together.
 use Rattle.std.proofs.Common.{◌≡◌, ◌≢◌, ℕ, zero, suc, ◌+◌, ◌*◌, ◌^◌, ◌<◌, ◌≤◌, true, false, ◌&&◌, List, [], ◌∷◌, ◌++◌, length, take, drop, slice_index, IsTrue, inl, inr, refl, sym, ap, ap₂, ◌∙◌, subst, arith, bit_and, take-append-drop, ◌==◌}
 use Rattle.std.proofs.lemmas.Bool.{both_ways, false_from_ne_true, and_from, and_parts, or_left, or_right, eq-eqb}
 use Rattle.std.proofs.lemmas.Nat.{and_le_l}
@@ -46,7 +46,7 @@ pub lane_in : (word lane : ℕ) → lane < 64 → is_on word lane ≡ true → I
 unfolding set_lanes
 lane_in word lane low on = in_filter (is_on word) lane (below 64) (in_below 64 lane low) on
 
--- what leads to one of its pairs is no more than what leads to all
+-- at most as many delegations lead to one pair of an event as to all
 pub fall_one : (A : Arena ℕ) (n : ℕ) (e : Event) (lane : ℕ) → lane < 64 → is_on e.lanes lane ≡ true → length (back A (e.row * n + lane)) ≤ fall A (entries_at n e)
 fall_one A n e lane low on =
     let f = λ (l : ℕ). as_entry (e.row * n + l, e.reason) in
@@ -58,7 +58,7 @@ fall_one A n e lane low on =
     one y x xs inside (inl s) = subst (λ z. IsIn z xs) (sym s) inside
     one y x xs inside (inr never) = absurd never
 
--- its pairs are listed
+-- the pairs of an event are listed
 pub event_listed : (A : Arena ℕ) → IsNumbered A → (n : ℕ) (L R : List (Entry ℕ)) (i : ℕ) (e : Event) (lane : ℕ) → n ≤ 64 → IsEvent n e → drop i L ≡ entries_at n e ++ R → is_on e.lanes lane ≡ true →
     IsTrue (is_listed A L (e.row * n + lane))
 event_listed A ok n L R i e lane few is rest on =
@@ -69,7 +69,7 @@ event_listed A ok n L R i e lane few is rest on =
     ∙ (list_any-append (λ (x : Entry ℕ). p == x.node) (take i L) (entries_at n e ++ R)
     ∙ or_right (has_entry (take i L) p) _ (list_any-append (λ (x : Entry ℕ). p == x.node) (entries_at n e) R ∙ or_left (has_entry (entries_at n e) p) _ inside)))
 
--- ---- as many entries further
+-- ---- all entries of an event are noted
 
 pub noted_entries : (A : Arena ℕ) → IsNumbered A → (n band start i : ℕ) (b : Board) (M R : List (Entry ℕ)) → drop i b.list ≡ M ++ R →
     ((x : Entry ℕ) → IsIn x M → on_at n b.before x.node ≡ false) → IsMarking A n band start i b → IsMarking A n band start (i + length M) b
@@ -85,7 +85,7 @@ fall_entries A L i (x ∷ M) R rest =
     let same : i + suc (length M) ≡ i + 1 + length M = omega arith in
     omega (arith, ap (λ j. fall A (take j L)) same, fall_entries A L (i + 1) M R (drop_next L i x (M ++ R) rest), fall_more A L i x (get_first L i x (M ++ R) rest), sum_by-cons (λ (y : Entry ℕ). length (back A y.node)) x M)
 
--- the entries of an event whose lanes are off are off
+-- where the bits of an event's lanes are cleared, so are the bits of its entries
 pub entries_off : (n : ℕ) (words : List ℕ) (e : Event) → ((lane : ℕ) → is_on e.lanes lane ≡ true → on_at n words (e.row * n + lane) ≡ false) → (x : Entry ℕ) → IsIn x (entries_at n e) → on_at n words x.node ≡ false
 entries_off n words e off x i =
     let (lane, j, same) = from_map (λ lane. as_entry (e.row * n + lane, e.reason)) x (set_lanes e.lanes) i in

@@ -1,4 +1,4 @@
--- Marks that are taken off one by one, and bands that are noted.
+-- Clearing marks one by one, and noting bands.
 use Rattle.std.proofs.Common.{◌≡◌, ◌≢◌, ℕ, zero, suc, ◌+◌, ◌*◌, ◌/◌, ◌%◌, ◌<◌, ◌==◌, Bool, true, false, cond, not, List, [], ◌∷◌, ◌++◌, length, take, Some, slice_get, slice_index, IsTrue, inl, inr, refl, sym, ap, ◌∙◌, subst, arith}
 use Rattle.std.specs.Prelude.{count_by}
 use Rattle.std.proofs.lemmas.Bool.{cases_eq, cases_lt, both_ways, not_from_true, not_from_false, not-true, false_from_ne_true, or_cases, eqb-true}
@@ -25,7 +25,7 @@ use Rattle.roman_relation.proofs.Beginnings.{listed_is, take_listed}
 count_same : (f h : ℕ → Bool) (n : ℕ) → ((q : ℕ) → q < n → h q ≡ f q) → count_by h (below n) ≡ count_by f (below n)
 count_same f h n same = sum_by_same (λ q. cond (h q) 1 0) (λ q. cond (f q) 1 0) (below n) (λ q i. rw (same q (from_below n q i)) refl)
 
--- one that no longer passes
+-- the count falls when one number no longer passes
 pub count_falls : (f h : ℕ → Bool) (n p : ℕ) → p < n → f p ≡ true → h p ≡ false → ((q : ℕ) → q ≢ p → h q ≡ f q) → count_by h (below n) < count_by f (below n)
 count_falls f h zero p l on off same = absurd (omega arith)
 count_falls f h (suc n) p l on off same =
@@ -37,7 +37,7 @@ count_falls f h (suc n) p l on off same =
       | inr ne ↦ omega (arith, one, two, ap as_number (same n ne), count_falls f h n p (omega arith) on off same)
     ]
 
--- what is marked has a place in the words
+-- a marked number has a place in the words
 pub marked_within : (words : List ℕ) (p : ℕ) → has_flag words p ≡ true → p < 64 * length words
 unfolding has_flag
 marked_within words p on = elim (cases_lt p (64 * length words)) [
@@ -47,13 +47,13 @@ marked_within words p on = elim (cases_lt p (64 * length words)) [
       absurd (both_ways (bit_at (slice_index words (p / 64)) (p % 64) == 1) (ap (λ w. bit_at w (p % 64) == 1) none ∙ ap (λ n. n == 1) (bit_at-zero (p % 64))) on)
 ]
 
--- what is still marked once a mark is taken off was marked
+-- a number that is marked after a mark was cleared was marked before
 pub still_marked : (b c : Board) (y z : ℕ) → is_marked b y ≡ true → ((z ≡ y → ⊥) → is_marked c z ≡ is_marked b z) → is_marked c z ≡ true → is_marked b z ≡ true
 still_marked b c y z some others on = elim (cases_eq z y) [ inl e ↦ ap (is_marked b) e ∙ some | inr ne ↦ sym (others ne) ∙ on ]
 
--- ---- a band that is noted
+-- ---- noting a band
 
--- the words of the band's rows are kept, and the bands before it are marked
+-- a band is noted: the present words of its rows are kept, and the bands that lead to it are marked
 pub record IsNoted (A : Arena ℕ) (lanes band y : ℕ) (b c : Board) : Type 0 where
   pub some : 0 < lanes
   pub same : c.list ≡ b.list
@@ -63,11 +63,11 @@ pub record IsNoted (A : Arena ℕ) (lanes band y : ℕ) (b c : Board) : Type 0 w
   pub still : (z : ℕ) → is_marked b z ≡ true → is_marked c z ≡ true
   pub marked : (p q a k : ℕ) → p < length A.nodes → q / lanes / band ≡ y → IsIn q (A.outcomes p a k) → is_marked c (p / lanes / band) ≡ true
 
--- the bit of a pair of the band
+-- the kept bit of a pair of the noted band
 pub noted_own : (A : Arena ℕ) (lanes band y : ℕ) (b c : Board) (p : ℕ) → IsNoted A lanes band y b c → p / lanes / band ≡ y → on_at lanes c.before p ≡ not (is_listed A b.list p)
 noted_own A lanes band y b c p is e = (is.kept (p / lanes) e).each (p % lanes) (mod_below p lanes is.some) ∙ ap (λ q. not (is_listed A b.list q)) (div-add-mod' p lanes)
 
--- the bit of another pair
+-- the kept bit of a pair of another band
 pub noted_other : (A : Arena ℕ) (lanes band y : ℕ) (b c : Board) (p : ℕ) → IsNoted A lanes band y b c → p / lanes / band ≢ y → on_at lanes c.before p ≡ on_at lanes b.before p
 noted_other A lanes band y b c p is ne = ap (λ w. is_on w (p % lanes)) (is.others (p / lanes) ne)
 
@@ -103,7 +103,7 @@ noted_marking A lanes band y start end b c is marking = subst (IsMarking A lanes
     other : (p : ℕ) → p / lanes / band ≢ y → on_at lanes c.before p ≡ on_at lanes b.before p
     other p ne = noted_other A lanes band y b c p is ne
 
--- one entry further
+-- one more entry is noted
 pub noted_more : (A : Arena ℕ) → IsNumbered A → (lanes band start i : ℕ) (b : Board) (x : Entry ℕ) → slice_get b.list i ≡ Some x → on_at lanes b.before x.node ≡ false → IsMarking A lanes band start i b → IsMarking A lanes band start (i + 1) b
 noted_more A ok lanes band start i b x e off marking =
     let within : i < length b.list = slice_get_within b.list i x e in
@@ -119,11 +119,11 @@ noted_more A ok lanes band start i b x e off marking =
       marked = marking.marked;
     }
 
--- an entry's node is listed
+-- the node of an entry is listed
 pub entry_listed : (A : Arena ℕ) → IsNumbered A → (L : List (Entry ℕ)) (i : ℕ) (x : Entry ℕ) → slice_get L i ≡ Some x → IsTrue (is_listed A L x.node)
 entry_listed A ok L i x e = in_listed A (numbered_same A ok) L x (contains_in L x (i, slice_get_within L i x e, get_or_from_slice_get L i x x e))
 
--- one entry further the fall has what leads to its node
+-- with one more entry, the fall grows by the delegations that lead to its node
 pub fall_more : (A : Arena ℕ) (L : List (Entry ℕ)) (i : ℕ) (x : Entry ℕ) → slice_get L i ≡ Some x → fall A (take (i + 1) L) ≡ fall A (take i L) + length (back A x.node)
 fall_more A L i x e =
     let within : i < length L = slice_get_within L i x e in

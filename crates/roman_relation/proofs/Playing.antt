@@ -1,4 +1,4 @@
--- What a round as a whole does.
+-- A whole round.
 use Rattle.std.proofs.Common.{◌≡◌, ℕ, suc, ◌+◌, ◌*◌, ◌/◌, ◌<◌, ◌≤◌, true, false, not, List, length, take, IsTrue, IsFalse, inl, inr, sym, ap, ◌∙◌, subst, arith}
 use Rattle.std.specs.List.{list_any}
 use Rattle.std.proofs.Math.Seq.{take-length}
@@ -17,7 +17,7 @@ use Rattle.roman_relation.specs.Rounds.{AreUnlisted, AwaitsRound, InRound, IsJud
 use Rattle.roman_relation.proofs.Beginnings.{listed_is, begins_listed, begins_unlisted, take_listed}
 use Rattle.roman_relation.proofs.Lanes.{at_pair, on_lane}
 
--- between rounds a round can begin
+-- a round can begin between two rounds
 pub round_begins : (A : Arena ℕ) (lanes band start : ℕ) (b : Board) → start ≡ length b.list → AwaitsRound A lanes band b → InRound A lanes start b
 round_begins A lanes band start b e ready =
     let all : take start b.list ≡ b.list = ap (λ n. take n b.list) e ∙ take-length b.list in
@@ -28,14 +28,14 @@ round_begins A lanes band start b e ready =
       because = λ p t. inl (subst (λ L. IsTrue (is_listed A L p)) (sym all) t);
     }
 
--- after the marked bands were judged all pairs are done
+-- after the marked bands were judged, all pairs are judged
 pub all_done : (A : Arena ℕ) (lanes band start : ℕ) (b c : Board) → start ≡ length b.list → AwaitsRound A lanes band b → Begins b.list c.list →
     ((p : ℕ) → p < length A.nodes → is_marked b (p / lanes / band) ≡ true → IsPairJudged A start c p) → (p : ℕ) → p < length A.nodes → IsPairJudged A start c p
 all_done A lanes band start b c e ready begins done p l a off = by_test (is_marked b (p / lanes / band))
     (λ t. done p l t a off)
     (λ f. subst (λ L. IsFalse (is_justified A (is_listed A L) p (Act a))) (sym (ap (λ n. take n c.list) e ∙ begins)) (ready.served p a l f (begins_unlisted A b.list c.list p begins off)))
 
--- then nothing is marked, and the words that were kept are those at the round's start
+-- when marking begins, nothing is marked, and the kept words are those at the round's start
 pub marking_starts : (A : Arena ℕ) (lanes band start : ℕ) (c : Board) → 0 < lanes → length A.nodes ≤ length c.before * lanes → InRound A lanes start c → IsMarking A lanes band start start c
 marking_starts A lanes band start c some long round = record {
   old = λ p l on. not-true (is_listed A (take start c.list) p) (sym (at p l) ∙ on);
@@ -51,7 +51,7 @@ marking_starts A lanes band start c some long round = record {
 pub round_keeps : (A : Arena ℕ) (lanes start : ℕ) (c : Board) → 0 < lanes → length A.nodes ≤ length c.before * lanes → InRound A lanes start c → (p : ℕ) → p < length A.nodes → IsFalse (is_listed A (take start c.list) p) → on_at lanes c.before p ≡ true
 round_keeps A lanes start c some long round p l off = at_pair lanes (λ q. not (is_listed A (take start c.list) q)) c.before p some (omega arith) round.kept ∙ not_from_false (is_listed A (take start c.list) p) off
 
--- when all entries are noted, the words that were kept are those of the list
+-- when all entries are noted, the kept words are those of the list
 kept_at : (A : Arena ℕ) (lanes band start : ℕ) (d : Board) → IsMarking A lanes band start (length d.list) d → (p : ℕ) → p < length A.nodes → on_at lanes d.before p ≡ not (is_listed A d.list p)
 kept_at A lanes band start d marking p l = by_test (is_listed A d.list p)
     (λ t. by_test (is_listed A (take start d.list) p)
@@ -70,7 +70,7 @@ kept_ends A lanes band start d some long marking = record {
     below_all : (row lane : ℕ) → row < length d.before → lane < lanes → row * lanes + lane < length A.nodes
     below_all row lane h l = let m = mul-add-lt row lanes lane (length d.before) h l in omega (arith, m)
 
--- pairs of bands that aren't marked are served
+-- in bands that aren't marked, each allowed action is served
 pub served_next : (A : Arena ℕ) → IsNumbered A → (lanes band start : ℕ) (d : Board) → IsMarking A lanes band start (length d.list) d → ((p : ℕ) → p < length A.nodes → IsPairJudged A start d p) →
     (p a : ℕ) → p < length A.nodes → is_marked d (p / lanes / band) ≡ false → IsFalse (is_listed A d.list p) → IsFalse (is_justified A (is_listed A d.list) p (Act a))
 served_next A ok lanes band start d marking done p a l certain off =
@@ -84,7 +84,7 @@ served_next A ok lanes band start d marking done p a l certain off =
         let kept_off : on_at lanes d.before q ≡ false = kept_at A lanes band start d marking q m ∙ not_from_true (is_listed A d.list q) t in
         absurd (both_ways (is_marked d (p / lanes / band)) certain (marking.marked p q a k l m i t f kept_off))))
 
--- ---- what a round lists
+-- ---- the pairs that a round lists
 
 pub lost_more : (A : Arena ℕ) → IsNumbered A → (lanes start n : ℕ) (b c : Board) → start ≡ length b.list → Begins b.list c.list → InRound A lanes start c → ((p : ℕ) → p < length A.nodes → IsPairJudged A start c p) →
     HoldsLost A n b.list → HoldsLost A (suc n) c.list
@@ -122,11 +122,11 @@ settled_round A ok start c valid here done fine in_range = record {
     no_more p l off Final = not_from_true (A.fine p) (fine p l off)
     no_more p l off (Act a) = subst (λ L. IsFalse (is_justified A (is_listed A L) p (Act a))) (ap (λ m. take m c.list) here ∙ take-length c.list) (done p l a off)
 
--- a change of marks alone
+-- a round in which only the marks change
 pub round_marks : (A : Arena ℕ) (lanes start : ℕ) (b c : Board) → c ≡ record b { marks = c.marks } → InRound A lanes start b → InRound A lanes start c
 round_marks A lanes start b c e round = subst (InRound A lanes start) (sym e) (record { valid = round.valid; begun = round.begun; kept = round.kept; because = round.because })
 
--- a change of levels alone
+-- a state between rounds in which only the levels change
 pub awaits_levels : (A : Arena ℕ) (lanes band : ℕ) (b c : Board) (levels : List ℕ) → c ≡ record b { levels = levels } → AwaitsRound A lanes band b → AwaitsRound A lanes band c
 awaits_levels A lanes band b c levels e ready = subst (AwaitsRound A lanes band) (sym e) (record {
   shaped = record { pairs = ready.shaped.pairs; lanes = ready.shaped.lanes };

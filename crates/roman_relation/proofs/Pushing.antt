@@ -36,7 +36,7 @@ order_lanes A ok gone first reason L (l ∷ ls) order once less each =
       (each m (inr i)).1,
     )))
 
--- what is listed among the entries of lanes
+-- the pairs that the entries of a row's lanes list
 pub listed_lane : (A : Arena ℕ) → IsNumbered A → (lanes row lost : ℕ) (reason : Reason) (q : ℕ) → IsTrue (is_listed A (entries_in lanes row lost reason) q) →
     (lane : ℕ) × (lane < 64) × (is_on lost lane ≡ true) × (q ≡ row * lanes + lane)
 listed_lane A ok lanes row lost reason q t =
@@ -45,7 +45,7 @@ listed_lane A ok lanes row lost reason q t =
     let (low, on) = in_lanes lost lane j in
     (lane, low, on, e ∙ ap (λ (y : Entry ℕ). y.node) f)
 
--- after the push the pair at a lane is listed where it was, or where its lane is one of them
+-- after the push, the pair at a lane is listed if it was before, or if its lane was added
 pub pushed_lane : (A : Arena ℕ) → IsNumbered A → (L : List (Entry ℕ)) (lanes row lost lane : ℕ) (reason : Reason) → lane < 64 →
     is_listed A (L ++ entries_in lanes row lost reason) (row * lanes + lane) ≡ (is_listed A L (row * lanes + lane) || is_on lost lane)
 pushed_lane A ok L lanes row lost lane reason low =
@@ -54,7 +54,7 @@ pushed_lane A ok L lanes row lost lane reason low =
 
 -- ---- the lanes that a row loses for a reason
 
--- they are those of its pairs that aren't listed, and at which the reason holds where those nodes are gone
+-- the lost lanes are those of the row's pairs that aren't listed, and at which the reason holds with these nodes gone
 pub record IsLost (A : Arena ℕ) (gone : ℕ → Bool) (L : List (Entry ℕ)) (lanes row : ℕ) (reason : Reason) (lost : ℕ) : Type 0 where
   pub few : lanes ≤ 64
   pub within : (lane : ℕ) → is_on lost lane ≡ true → lane < lanes
@@ -75,7 +75,7 @@ lost_order A ok gone L lanes row reason lost is less order =
     order_lanes A ok gone (row * lanes) reason L (set_lanes lost) order (lanes_once lost) less
     (λ lane i. lost_parts A gone L lanes row reason lost lane is (in_lanes lost lane i).1)
 
--- where a pair of the row is still left, the reason doesn't hold
+-- where a pair of the row isn't listed after the push, the reason doesn't hold
 lost_left : (A : Arena ℕ) → IsNumbered A → (gone : ℕ → Bool) (L : List (Entry ℕ)) (lanes row : ℕ) (reason : Reason) (lost lane : ℕ) →
     IsLost A gone L lanes row reason lost → lane < lanes →
     IsFalse (is_listed A (L ++ entries_in lanes row lost reason) (row * lanes + lane)) → IsFalse (is_justified A gone (row * lanes + lane) reason)
@@ -86,7 +86,7 @@ lost_left A ok gone L lanes row reason lost lane is l off =
     false_from_ne_true (is_justified A gone p reason)
     (λ t. both_ways (is_on lost lane) parts.1 (is.is lane l ∙ and_from (not (is_listed A L p)) (is_justified A gone p reason) (not_from_false (is_listed A L p) parts.0) t))
 
--- a pair that is listed then was listed, or the reason holds there
+-- a pair that is listed after the push was listed before, or the reason holds there
 lost_because : (A : Arena ℕ) → IsNumbered A → (gone : ℕ → Bool) (L : List (Entry ℕ)) (lanes row : ℕ) (reason : Reason) (lost q : ℕ) →
     IsLost A gone L lanes row reason lost →
     IsTrue (is_listed A (L ++ entries_in lanes row lost reason) q) → IsTrue (is_listed A L q) ⊎ IsTrue (is_justified A gone q reason)
@@ -100,13 +100,13 @@ lost_because A ok gone L lanes row reason lost q is t =
 
 -- ---- the pairs that neighbouring rows lose for a reason
 
--- a word for each row
+-- the lost lanes of neighbouring rows: one word for each row
 pub record AreLost (A : Arena ℕ) (gone : ℕ → Bool) (L : List (Entry ℕ)) (lanes x rows : ℕ) (reason : Reason) (lost : List ℕ) : Type 0 where
   pub few : lanes ≤ 64
   pub within : (i lane : ℕ) → is_on (slice_index lost i) lane ≡ true → lane < lanes
   pub is : (i lane : ℕ) → i < rows → lane < lanes → is_on (slice_index lost i) lane ≡ (not (is_listed A L ((x + i) * lanes + lane)) && is_justified A gone ((x + i) * lanes + lane) reason)
 
--- by the words of the rows and what is found of them
+-- the lost lanes, from the words of the rows and the pairs at which the reason holds
 pub are_lost : (A : Arena ℕ) (gone : ℕ → Bool) (L : List (Entry ℕ)) (lanes x rows : ℕ) (reason : Reason) (words old lost : List ℕ) → lanes ≤ 64 → AreUnlisted A lanes L words →
     x + rows ≤ length words → length old ≡ rows → ((i : ℕ) → i < rows → slice_index old i ≡ slice_index words (x + i)) →
     Keeps lanes x rows (λ p. is_justified A gone p reason) old lost → AreLost A gone L lanes x rows reason lost
@@ -123,7 +123,7 @@ are_lost A gone L lanes x rows reason words old lost few are inside long same ke
       | inr out ↦ ap (λ w. is_on w lane) (get_or_past old i 0 (omega arith)) ∙ on_zero lane
     ]
 
--- they aren't listed yet
+-- the pairs that the rows lose aren't listed yet
 pub lost_free : (A : Arena ℕ) → IsNumbered A → (gone : ℕ → Bool) (b : Board) (lanes x rows : ℕ) (reason : Reason) (lost : List ℕ) (i lane : ℕ) → b.lanes ≡ lanes → length lost ≡ rows →
     AreLost A gone b.list lanes x rows reason lost → is_on (slice_index lost i) lane ≡ true → has_entry b.list ((x + i) * b.lanes + lane) ≡ false
 lost_free A ok gone b lanes x rows reason lost i lane same long are on = elim (cases_lt i rows) [
@@ -135,7 +135,7 @@ lost_free A ok gone b lanes x rows reason lost i lane same long are on = elim (c
   | inr out ↦ absurd (both_ways (is_on (slice_index lost i) lane) (ap (λ w. is_on w lane) (get_or_past lost i 0 (omega arith)) ∙ on_zero lane) on)
 ]
 
--- what a row loses after those before it
+-- the lost lanes of a row stay the same after the entries of the rows before it
 lost_row : (A : Arena ℕ) → IsNumbered A → (gone : ℕ → Bool) (L : List (Entry ℕ)) (lanes x rows : ℕ) (reason : Reason) (lost : List ℕ) (n : ℕ) → AreLost A gone L lanes x rows reason lost → n < rows →
     IsLost A gone (L ++ entries_in_rows lanes x n lost reason) lanes (x + n) reason (slice_index lost n)
 lost_row A ok gone L lanes x rows reason lost n are h = record {
@@ -149,7 +149,7 @@ lost_row A ok gone L lanes x rows reason lost n are h = record {
         listed_is A ok (L ++ entries_in_rows lanes x n lost reason) ((x + n) * lanes + lane)
         ∙ (has_entry-later L lanes x lost reason are.within n n lane (omega arith) l ∙ sym (listed_is A ok L ((x + n) * lanes + lane)))
 
--- a removal list with their entries is one
+-- a removal list stays one with the entries of the lost pairs
 pub rows_order : (A : Arena ℕ) → IsNumbered A → (gone : ℕ → Bool) (L : List (Entry ℕ)) (lanes x rows : ℕ) (reason : Reason) (lost : List ℕ) → AreLost A gone L lanes x rows reason lost →
     ((q : ℕ) → IsTrue (gone q) → IsTrue (is_listed A L q)) → IsOrder A L → (n : ℕ) → n ≤ rows → IsOrder A (L ++ entries_in_rows lanes x n lost reason)
 rows_order A ok gone L lanes x rows reason lost are less order zero h = subst (IsOrder A) (sym (append-nil L)) order
@@ -160,7 +160,7 @@ rows_order A ok gone L lanes x rows reason lost are less order (suc n) h =
     (λ q t. listed_append A L (entries_in_rows lanes x n lost reason) q ∙ or_left (is_listed A L q) (is_listed A (entries_in_rows lanes x n lost reason) q) (less q t))
     (rows_order A ok gone L lanes x rows reason lost are less order n (omega arith)))
 
--- a pair that is listed then was listed, or the reason holds there
+-- a pair that is listed after the push was listed before, or the reason holds there
 pub rows_because : (A : Arena ℕ) → IsNumbered A → (gone : ℕ → Bool) (L : List (Entry ℕ)) (lanes x rows : ℕ) (reason : Reason) (lost : List ℕ) → AreLost A gone L lanes x rows reason lost →
     (n q : ℕ) → n ≤ rows → IsTrue (is_listed A (L ++ entries_in_rows lanes x n lost reason) q) → IsTrue (is_listed A L q) ⊎ IsTrue (is_justified A gone q reason)
 rows_because A ok gone L lanes x rows reason lost are zero q h t = inl (subst (λ M. IsTrue (is_listed A M q)) (append-nil L) t)
@@ -171,7 +171,7 @@ rows_because A ok gone L lanes x rows reason lost are (suc n) q h t =
       | inr here ↦ inr here
     ]
 
--- where a pair of one of the rows is still left, the reason doesn't hold
+-- where a pair of one of the rows isn't listed after the push, the reason doesn't hold
 pub rows_left : (A : Arena ℕ) → IsNumbered A → (gone : ℕ → Bool) (L : List (Entry ℕ)) (lanes x rows : ℕ) (reason : Reason) (lost : List ℕ) → AreLost A gone L lanes x rows reason lost →
     (n i lane : ℕ) → n ≤ rows → i < n → lane < lanes → IsFalse (is_listed A (L ++ entries_in_rows lanes x n lost reason) ((x + i) * lanes + lane)) → IsFalse (is_justified A gone ((x + i) * lanes + lane) reason)
 rows_left A ok gone L lanes x rows reason lost are zero i lane h m l off = absurd (omega arith)
@@ -189,7 +189,7 @@ rows_left A ok gone L lanes x rows reason lost are (suc n) i lane h m l off =
           (or_parts (is_listed A M p) (is_listed A (entries_in lanes (x + n) (slice_index lost n) reason) p) (sym (listed_append A M (entries_in lanes (x + n) (slice_index lost n) reason) p) ∙ off_row)).0
     ]
 
--- a pair that is listed then was listed, or lies in one of the rows
+-- a pair that is listed after the push was listed before, or lies in one of the rows
 pub rows_only : (A : Arena ℕ) → IsNumbered A → (gone : ℕ → Bool) (L : List (Entry ℕ)) (lanes x rows : ℕ) (reason : Reason) (lost : List ℕ) → AreLost A gone L lanes x rows reason lost →
     (n q : ℕ) → IsTrue (is_listed A (L ++ entries_in_rows lanes x n lost reason) q) → IsTrue (is_listed A L q) ⊎ ((x ≤ q / lanes) × (q / lanes < x + n))
 rows_only A ok gone L lanes x rows reason lost are zero q t = inl (subst (λ M. IsTrue (is_listed A M q)) (append-nil L) t)
@@ -204,7 +204,7 @@ rows_only A ok gone L lanes x rows reason lost are (suc n) q t =
           inr (omega arith, omega arith)
     ]
 
--- ---- an action
+-- ---- a round's entries for an action
 
 pub rows_round : (A : Arena ℕ) → IsNumbered A → (lanes start x rows a : ℕ) (lost : List ℕ) (b c : Board) → a < A.actions →
     AreLost A (is_listed A (take start b.list)) b.list lanes x rows (Act a) lost →
@@ -230,7 +230,7 @@ rows_judged A ok lanes start x rows a lost i lane b c are e begun h l = subst (�
     (λ off. subst (λ L. IsFalse (is_justified A (is_listed A L) ((x + i) * lanes + lane) (Act a))) (sym (take-append-le start b.list _ begun))
     (rows_left A ok (is_listed A (take start b.list)) b.list lanes x rows (Act a) lost are rows i lane (omega arith) h l off))
 
--- what is judged stays judged
+-- a judged pair stays judged
 pub judged_on : (A : Arena ℕ) (start p a : ℕ) (b c : Board) → start ≤ length b.list → Begins b.list c.list → IsJudged A start b p a → IsJudged A start c p a
 judged_on A start p a b c begun begins judged off =
     subst (λ L. IsFalse (is_justified A (is_listed A L) p (Act a))) (sym (begins_same b.list c.list start begins begun)) (judged (begins_unlisted A b.list c.list p begins off))

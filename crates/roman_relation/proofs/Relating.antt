@@ -1,4 +1,4 @@
--- What a relation whose list is complete says of the greatest ND-simulation.
+-- Relations with a complete list, and the greatest ND-simulation.
 use Rattle.std.proofs.Common.{◌≡◌, ◌≢◌, ℕ, ◌+◌, ◌/◌, ◌<◌, ◌≤◌, ◌↔◌, ◌⊎◌, Bool, true, not, List, [], ◌∷◌, length, filter, IsTrue, inl, inr, refl, sym, ap, ◌∙◌, subst, arith}
 use Rattle.std.proofs.Math.Bool.{not-not}
 use Rattle.std.proofs.Math.Nat.{le-div_iff_mul-le}
@@ -15,7 +15,7 @@ use Rattle.roman_order.specs.Board.{Board, pairs_of, has_entry}
 use Rattle.roman_relation.specs.Settled.{IsSettled, AreLevels}
 use Rattle.roman_relation.specs.Greatest.{arena_of, HasCaps, HasCompleteList}
 
--- the levels are those of the list, or there are none
+-- there are no levels, or they are those of the list
 pub either_levels : (A : Arena ℕ) (L : List (Entry ℕ)) (board : Board) → (L ≡ [] → AreLevels A board.levels board.list) → (L ≢ [] → board.levels ≡ []) → (board.levels ≡ []) ⊎ AreLevels A board.levels board.list
 either_levels A [] board fresh stale = inr (fresh refl)
 either_levels A (x ∷ L) board fresh stale = inl (stale (λ e. cc))
@@ -32,13 +32,13 @@ completed n board known settled idle levels =
       levels = levels;
     }
 
--- the entries are of pairs
+-- the entries are those of pairs
 pub listed_numbers : (s : Sys) (board : Board) → pairs_of board ≡ length (below (count (sizes_of s))) → ((p : ℕ) → has_entry board.list p ≡ true → p < pairs_of board) → AreNumbers s board.list
 listed_numbers s board pairs in_range x i =
     let within : x.node < pairs_of board = in_range x.node (in_listed (numbered s) (numbered_is_same s) board.list x i) in
     omega (arith, pairs, length-below (count (sizes_of s)))
 
--- a pair that isn't listed is related, and no other
+-- a pair is related exactly if it isn't listed
 pub alive_related : (n : NamedSys) (board : Board) (p : ℕ) (alive : Bool) → IsNamedSys n → HasCompleteList n board → AreNumbers (system_of n) board.list → p < count (sizes_of (system_of n)) →
     alive ≡ not (has_entry board.list p) → IsTrue alive ↔ Great (system_of n) (pair_at (sizes_of (system_of n)) p)
 alive_related n board p alive known complete are l is =

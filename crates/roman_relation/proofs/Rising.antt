@@ -12,11 +12,11 @@ use Rattle.roman_relation.specs.Settled.{Begins, HoldsLost, RisesByDepth, AreLev
 use Rattle.roman_relation.proofs.Beginnings.{listed_is, begins_get, begins_length, begins_same, begins_listed}
 use Rattle.roman_relation.proofs.Marks.{entry_listed}
 
--- an entry of the prefix is one of the list
+-- an entry within the prefix is an entry of the prefix
 front_entry : (L M : List (Entry ℕ)) (i : ℕ) (x : Entry ℕ) → Begins L M → i < length L → slice_get M i ≡ Some x → slice_get L i ≡ Some x
 front_entry L M i x b l e = slice_get-get_or L i x l ∙ ap Some (sym (begins_get L M i x b l) ∙ get_or_from_slice_get M i x x e)
 
--- an entry past the prefix is of a node that the prefix doesn't list
+-- the prefix doesn't list the node of an entry past it
 new_entry : (A : Arena ℕ) → IsNumbered A → (L M : List (Entry ℕ)) (j : ℕ) (y : Entry ℕ) → Begins L M → IsOrder A M → length L ≤ j → slice_get M j ≡ Some y → IsFalse (is_listed A L y.node)
 new_entry A ok L M j y begins order past e =
     let front : take (length L) M ≡ L = begins in
@@ -25,7 +25,7 @@ new_entry A ok L M j y begins order past e =
     false_from_ne_true (is_listed A L y.node) (λ t. both_ways (is_listed A (take j M) y.node) (subst (λ (z : Entry ℕ). IsFalse (is_listed A (take j M) z.node)) (get_or_from_slice_get M j y y e) before)
     (begins_listed A L (take j M) y.node (take-take (length L) j M past ∙ front) t))
 
--- the list after the start
+-- the list before the first round rises by depth
 pub rises_start : (A : Arena ℕ) → IsNumbered A → (L : List (Entry ℕ)) → ((p : ℕ) → has_entry L p ≡ true → p < length A.nodes) → HoldsLost A 0 L → RisesByDepth A L
 rises_start A ok L in_range holds = record {
   each = λ n i j x y l e f t.
@@ -34,7 +34,7 @@ rises_start A ok L in_range holds = record {
       loses_up A 0 n x.node (omega arith) (sym (holds.each x.node inside) ∙ listed);
 }
 
--- the list after one more round
+-- the list after one more round rises by depth
 pub rises_more : (A : Arena ℕ) → IsNumbered A → (n : ℕ) (L M : List (Entry ℕ)) → Begins L M → IsOrder A M → ((p : ℕ) → has_entry M p ≡ true → p < length A.nodes) →
     HoldsLost A n L → HoldsLost A (suc n) M → RisesByDepth A L → RisesByDepth A M
 rises_more A ok n L M begins order in_range old new rises = record {

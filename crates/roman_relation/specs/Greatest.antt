@@ -1,4 +1,4 @@
--- What a relation is made of: a joint and an order beside it.
+-- Relations: a joint with an order of its pairs.
 use Rattle.std.specs.Prelude.{◌≡◌, ℕ, ◌/◌, ◌⊎◌, []}
 use Rattle.roman_model.specs.Arena.{Arena}
 use Rattle.roman_model.specs.Numbers.{numbered, IsCompleteList}
@@ -12,15 +12,15 @@ use Rattle.roman_relation.specs.Settled.{AreLevels}
 abbrev pub arena_of : NamedSys → Arena ℕ
 arena_of joint = numbered (system_of joint)
 
--- how many pairs a row of the joint has
+-- the number of pairs in a row of the joint
 abbrev pub row_lanes : NamedSys → ℕ
 row_lanes joint = lanes_in (system_of joint)
 
--- the order has room for just as many pairs as a system within the joint's limit may have
+-- the order has room for exactly as many pairs as a system within the joint's limit can have
 pub record HasCaps (joint : NamedSys) (order : Board) : Type 0 where
   pub pairs : joint.limit / (system_of joint).env.actions ≡ order.cap_pairs
 
--- the list is complete, nothing waits, and the levels, where they weren't forgotten, are those of the list
+-- the list is complete, no entry waits, and the levels, unless they were forgotten, are those of the list
 pub record HasCompleteList (joint : NamedSys) (order : Board) : Type 0 where
   pub list : IsCompleteList (system_of joint) order.list
   pub idle : order.waiting ≡ []

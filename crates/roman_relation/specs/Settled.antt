@@ -1,4 +1,4 @@
--- Removal lists that go on from others, until nothing can be added.
+-- Removal lists that extend others, until nothing can be added.
 use Rattle.std.specs.Prelude.{◌≡◌, ℕ, ◌-◌, ◌<◌, ◌≤◌, List, length, take, slice_get, slice_index, Some, IsTrue, IsFalse}
 use Rattle.roman_model.specs.Lists.{IsIn}
 use Rattle.roman_model.specs.Arena.{Arena, Entry, is_listed, is_justified, loses, IsOrder}
@@ -9,7 +9,7 @@ use Rattle.roman_order.specs.Board.{Board}
 abbrev pub Begins : List (Entry ℕ) → List (Entry ℕ) → Type 0
 Begins L M = take (length L) M ≡ L
 
--- the new order has a removal list that begins with the old one's, and nothing else has changed but marks and kept words
+-- the new order has a removal list that begins with the old one's, and otherwise only its marks and kept words have changed
 pub record SettlesOn (A : Arena ℕ) (old new : Board) : Type 0 where
   pub valid : IsOrder A new.list
   pub begins : Begins old.list new.list
@@ -25,12 +25,12 @@ pub record IsSettled (A : Arena ℕ) (L : List (Entry ℕ)) : Type 0 where
 pub record HoldsLost (A : Arena ℕ) (n : ℕ) (L : List (Entry ℕ)) : Type 0 where
   pub each : (p : ℕ) → p < length A.nodes → is_listed A L p ≡ loses A n p
 
--- the entries rise by depth: within as many requests as at an entry's node the opponent wins at those of all entries before it
+-- the entries rise by depth: if the opponent wins at an entry's node within n requests, it does so at the nodes of all earlier entries
 pub record RisesByDepth (A : Arena ℕ) (L : List (Entry ℕ)) : Type 0 where
   pub each : (n i j : ℕ) (x y : Entry ℕ) → i < j → slice_get L i ≡ Some x → slice_get L j ≡ Some y → IsTrue (loses A n y.node) → IsTrue (loses A n x.node)
 
--- the list in levels: where level n ends it has exactly the nodes at which the opponent wins within n requests, and the last
--- level ends the list
+-- the list in levels: up to the end of level n it has exactly the nodes at which the opponent wins within n requests,
+-- and the last level ends with the list
 pub record AreLevels (A : Arena ℕ) (levels : List ℕ) (L : List (Entry ℕ)) : Type 0 where
   pub some : 0 < length levels
   pub within : (n : ℕ) → n < length levels → slice_index levels n ≤ length L

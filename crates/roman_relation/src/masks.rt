@@ -1,4 +1,4 @@
-//! Masks, and how many seats all of them have.
+//! Masks, and the number of seats in all of them.
 ghost use Rattle.std.specs.Prelude.{◌≡◌, ◌+◌, ◌*◌, ◌<◌, ◌≤◌, length, sum_by};
 ghost use Rattle.roman_model.specs.Lists.{below};
 ghost use Rattle.roman_model.specs.System.{has};
@@ -9,8 +9,8 @@ ghost use Rattle.roman_relation.specs.Shaped.{IsShaped};
 use roman_order::Order;
 use roman_rules::{Rules, SeatSet};
 
-/// The mask of the pair `p` and the action `a`: the seats that have an outcome there, and none that is
-/// listed.
+/// Returns the mask of the action `a` at the pair `p`: the seats that have an outcome there, and none
+/// that is listed.
 pub(crate) fn mask<J: Rules>(joint: &J, order: &Order, p: u32, a: u8) -> SeatSet
     requires shaped { IsShaped (J.arena joint.now) (J.lanes joint.now) order.now }
     requires pair { p < length (J.arena joint.now).nodes }
@@ -25,7 +25,7 @@ pub(crate) fn mask<J: Rules>(joint: &J, order: &Order, p: u32, a: u8) -> SeatSet
     joint.mask(&row, order.words(), a, p % lanes)
 }
 
-/// How many seats the masks of all pairs and actions have together.
+/// Returns the number of seats in the masks of all pairs and actions together.
 pub(crate) fn choices<J: Rules>(joint: &J, order: &Order) -> u64
     requires { IsShaped (J.arena joint.now) (J.lanes joint.now) order.now }
     ensures { let A = J.arena joint.now in
@@ -39,7 +39,8 @@ pub(crate) fn choices<J: Rules>(joint: &J, order: &Order) -> u64
     count
 }
 
-/// How many seats the masks of the pairs of a band have together, over all actions: at most 4,194,304.
+/// Returns the number of seats in the masks of the pairs of the band `y` together, over all actions.
+/// It is at most 4,194,304.
 fn band_choices<J: Rules>(joint: &J, order: &Order, y: u32) -> u64
     requires shaped { IsShaped (J.arena joint.now) (J.lanes joint.now) order.now }
     requires band { y * J.band joint.now < order.now.rows }

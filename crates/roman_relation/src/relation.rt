@@ -24,15 +24,15 @@ use roman_rules::{Rules, SeatSet};
 use std::alloc::{AllocError, Global};
 use std::sync::ledger::Ledger;
 
-/// A joint, and the removal list that tells which of its pairs the greatest ND-simulation holds: a pair
-/// is related where it isn't listed. The notion is that of De Giacomo, Patrizi and Sardina, "Automatic
+/// A joint, and the removal list of the pairs that the greatest ND-simulation doesn't hold. A pair is
+/// related where it isn't listed. The notion is that of De Giacomo, Patrizi and Sardina, "Automatic
 /// Behavior Composition Synthesis" (Artificial Intelligence 196, 2013).
 ///
-/// The two fields can be lent apart. What the calls say of the greatest ND-simulation they say where
-/// the list is [complete](Relation::build): it holds exactly the pairs that aren't related, and
-/// nothing waits. The order must be shaped for the joint, as [`build`](Relation::build) leaves it;
-/// [`afresh`](Relation::afresh) and [`reset_to`](Relation::reset_to) shape it themselves, and need
-/// the room that `build` reserves.
+/// The two fields can be borrowed separately. What the calls promise about the greatest ND-simulation
+/// holds where the list is [complete](Relation::build): it has exactly the pairs that aren't related,
+/// and no entry waits. The order must be shaped for the joint, as [`build`](Relation::build) leaves
+/// it. Only [`afresh`](Relation::afresh) and [`reset_to`](Relation::reset_to) shape it themselves, and
+/// need the room that `build` reserves.
 #[derive(Drop)]
 pub struct Relation {
     /// The system.
@@ -42,9 +42,11 @@ pub struct Relation {
 }
 
 impl Relation {
-    /// The greatest relation of a joint, with a complete removal list whose entries rise by depth,
-    /// level by level, and room for every system within the joint's limit. The one error is that there
-    /// is no memory. No other call but [`scratch`](Relation::scratch) takes any.
+    /// Makes the greatest relation of a joint. Its removal list is complete, and the entries rise by
+    /// depth, level by level. It has room for every system within the joint's limit. No other call but
+    /// [`scratch`](Relation::scratch) takes memory.
+    ///
+    /// Fails only when out of memory.
     pub fn build<L: Ledger>(
         alloc: Global,
         joint: Joint,
@@ -65,8 +67,9 @@ impl Relation {
         Ok(relation)
     }
 
-    /// An equal relation with tables of its own and the same room, so that changes can be tried on it.
-    /// The one error is that there is no memory.
+    /// Makes an equal relation with its own tables and the same room, on which changes can be tried.
+    ///
+    /// Fails only when out of memory.
     pub fn scratch(&self, alloc: Global) -> Result<Relation, AllocError>
         ensures { IfOk result (λ scratch. scratch ≡ self.now) }
     {
@@ -76,9 +79,9 @@ impl Relation {
         })
     }
 
-    /// Becomes equal to `from`, in which nothing waits, and which differs in its services and its list
-    /// alone. What is written is what the tables of `from` hold, not what they have room for, and no
-    /// memory is taken.
+    /// Makes this relation equal to `from`. Requires that the two differ only in their services and
+    /// their lists, and that no entry of `from` waits. Writes only what the tables of `from` hold, not
+    /// what they have room for. Takes no memory.
     pub fn reset_to(&mut self, from: &Relation)
         requires parts { HasSameParts self.old.joint from.now.joint }
         requires caps { HasCaps self.old.joint self.old.order }
@@ -90,7 +93,7 @@ impl Relation {
         self.order.reset_to(&from.order);
     }
 
-    /// Whether the pair `p` is related: one bit is looked up.
+    /// Returns whether the pair `p` is related, by looking up one bit.
     pub fn related(&self, p: u32) -> bool
         requires shaped { IsShaped (arena_of self.now.joint) (row_lanes self.now.joint) self.now.order }
         requires pair { p < count (sizes_of (system_of self.now.joint)) }
@@ -104,7 +107,7 @@ impl Relation {
         self.order.alive(p)
     }
 
-    /// How many pairs are related, with no pass over them.
+    /// Returns the number of related pairs, without a pass over them.
     pub fn count(&self) -> u32
         requires { IsShaped (arena_of self.now.joint) (row_lanes self.now.joint) self.now.order }
         ensures listed { result + length self.now.order.list
@@ -117,9 +120,9 @@ impl Relation {
         self.order.unlisted()
     }
 
-    /// The mask of the pair `p` and the action `a`, whether the pair is related or not: the services
-    /// that are ready and have an outcome there, and none that is listed. It is empty where the target
-    /// doesn't allow the action. It is asked of the services, and not stored.
+    /// Returns the mask of the action `a` at the pair `p`, related or not: the services that are ready
+    /// and have an outcome there, and none that is listed. The mask is empty where the target doesn't
+    /// allow the action. It is computed from the services, and not stored.
     pub fn mask(&self, p: u32, a: u8) -> SeatSet
         requires shaped { IsShaped (arena_of self.now.joint) (row_lanes self.now.joint) self.now.order }
         requires pair { p < count (sizes_of (system_of self.now.joint)) }
@@ -131,22 +134,22 @@ impl Relation {
         masks::mask(&self.joint, &self.order, p, a)
     }
 
-    /// The system, lent for reading alone.
+    /// Returns the system.
     pub fn joint(&self) -> &Joint
         ensures { result.now ≡ self.now.joint }
     {
         &self.joint
     }
 
-    /// The removal list with its tables, lent for reading alone.
+    /// Returns the removal list with its tables.
     pub fn order(&self) -> &Order
         ensures { result.now ≡ self.now.order }
     {
         &self.order
     }
 
-    /// How many services the masks of all pairs and actions have together, whether the pairs are
-    /// related or not. The masks are counted anew, row by row.
+    /// Returns the number of services in the masks of all pairs and actions together, whether the
+    /// pairs are related or not. Computes the masks anew, band by band.
     pub fn choices(&self) -> u64
         requires { IsShaped (arena_of self.now.joint) (row_lanes self.now.joint) self.now.order }
         ensures { HasCompleteList self.now.joint self.now.order
@@ -157,9 +160,9 @@ impl Relation {
         masks::choices(&self.joint, &self.order)
     }
 
-    /// Shapes the order for the joint, empties the list, and makes it complete by rounds, as
-    /// [`build`](Relation::build) does but without taking memory. The entries then rise by depth, level
-    /// by level. Nothing may wait.
+    /// Shapes the order for the joint, empties the list, and makes it complete by rounds. Does what
+    /// [`build`](Relation::build) does, but without taking memory. The entries then rise by depth,
+    /// level by level. Requires an order without waiting entries.
     pub fn afresh<L: Ledger>(&mut self, steps: &mut Steps<L>)
         requires caps { HasCaps self.old.joint self.old.order }
         requires idle { self.old.order.waiting ≡ [] }
@@ -176,9 +179,9 @@ impl Relation {
         settle_list(&self.joint, &mut self.order, steps);
     }
 
-    /// Goes on from a removal list, each entry of which is justified by those before it, to a complete
-    /// one that begins with it. Nothing may wait. The steps are at most as many as delegations lead to
-    /// the pairs that are added; levels are kept only where the list was empty.
+    /// Extends the removal list to a complete one. Requires a list in which each entry is justified by
+    /// those before it, and an order without waiting entries. Counts at most as many steps as
+    /// delegations lead to the added pairs. Levels are kept only where the list was empty.
     pub fn settle<L: Ledger>(&mut self, steps: &mut Steps<L>)
         requires shaped { IsShaped (arena_of self.old.joint) (row_lanes self.old.joint) self.old.order }
         requires valid { IsOrder (arena_of self.old.joint) self.old.order.list }

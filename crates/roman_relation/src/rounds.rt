@@ -19,8 +19,8 @@ use roman_rules::Rules;
 use std::sync::ledger::Ledger;
 use unfine::list_unfine;
 
-/// Begins rounds on a removal list: lists the pairs that don't meet clause 2 of an ND-simulation, keeps
-/// the words of all rows, and marks all bands for the first round.
+/// Prepares a removal list for rounds: lists the pairs that don't meet clause 2 of an ND-simulation,
+/// keeps the words of all rows, and marks all bands for the first round.
 pub fn begin_rounds<J: Rules>(joint: &J, order: &mut Order)
     requires shaped { IsShaped (J.arena joint.now) (J.lanes joint.now) order.old }
     requires valid { IsOrder (J.arena joint.now) order.old.list }
@@ -34,13 +34,15 @@ pub fn begin_rounds<J: Rules>(joint: &J, order: &mut Order)
     order.mark_front(joint.bands());
 }
 
-/// One round, after [`begin_rounds`] or another round: lists each pair at which some allowed action is
-/// served by no service that keeps to the pairs that were left before the round, with the least such
-/// action. Only the pairs of marked bands are judged, and the bands that the next round has to judge are
-/// then marked. The list is complete when a round adds nothing.
+/// Plays one round, after [`begin_rounds`] or another round. Lists each pair at which some allowed
+/// action is served by no service, with the least such action. A service serves an action if it has an
+/// outcome there, and only outcomes that weren't listed before the round. Judges only the pairs of
+/// marked bands, and then marks the bands that the next round has to judge. The list is complete when
+/// a round adds nothing.
 ///
-/// The steps are the moves of services before the bands' own that lead to the bands of the pairs that are
-/// added, each band once: at most as many as delegations lead to those pairs.
+/// For each band in which pairs were added, counts as many steps as delegations to services before the
+/// band's own lead to one of its pairs. These are at most as many as delegations lead to the added
+/// pairs.
 pub fn play_round<J: Rules, L: Ledger>(joint: &J, order: &mut Order, steps: &mut Steps<L>)
     requires ready { AwaitsRound (J.arena joint.now) (J.lanes joint.now) (J.band joint.now) order.old }
     ensures ready { AwaitsRound (J.arena joint.now) (J.lanes joint.now) (J.band joint.now) order.new }
@@ -66,11 +68,12 @@ pub fn play_round<J: Rules, L: Ledger>(joint: &J, order: &mut Order, steps: &mut
     order.known();
 }
 
-/// Goes on from a removal list to a complete one, to which no reason adds a pair, by rounds.
+/// Extends a removal list to a complete one, to which no reason adds a pair, by rounds. Requires a
+/// list in which each entry is justified by those before it.
 ///
-/// The steps are at most as many as delegations lead to the pairs that are added. From an empty list
-/// the entries rise by depth, and the order keeps where its levels ended: level n has the pairs at
-/// which the opponent wins within n requests. From another list no levels are kept.
+/// Counts at most as many steps as delegations lead to the added pairs. From an empty list the entries
+/// rise by depth, and the order keeps the ends of the levels: up to the end of level n the list has
+/// the pairs at which the opponent wins within n requests. From another list no levels are kept.
 pub fn settle_list<J: Rules, L: Ledger>(joint: &J, order: &mut Order, steps: &mut Steps<L>)
     requires shaped { IsShaped (J.arena joint.now) (J.lanes joint.now) order.old }
     requires valid { IsOrder (J.arena joint.now) order.old.list }
@@ -105,7 +108,7 @@ pub fn settle_list<J: Rules, L: Ledger>(joint: &J, order: &mut Order, steps: &mu
     }
 }
 
-// Ends a level, where the levels are kept.
+// Ends a level if `is_kept` is true.
 fn end_level(order: &mut Order, is_kept: bool)
     requires { length order.old.levels ≤ order.old.cap_pairs }
     ensures rest { order.new ≡ record order.old { levels = order.new.levels } }

@@ -1,4 +1,4 @@
-//! The bands that are marked, judged against the words that were kept.
+//! Judging the marked bands against the kept words.
 ghost use Rattle.std.specs.Prelude.{◌≡◌, ℕ, ◌+◌, ◌*◌, ◌/◌, ◌<◌, ◌≤◌, ◌⊎◌, true, false, IsTrue};
 ghost use Rattle.std.specs.Prelude.{length};
 ghost use Rattle.roman_model.specs.Arena.{is_listed};
@@ -15,7 +15,7 @@ use roman_rules::{Rules, are_clear, copy_rows};
 /// The greatest number of rows in a band.
 const BAND: usize = 64;
 
-/// Takes all marks off, and judges the bands that had one.
+/// Clears all marks, and judges the bands that were marked.
 pub(crate) fn judge_marked<J: Rules>(joint: &J, order: &mut Order)
     requires shaped { IsShaped (J.arena joint.now) (J.lanes joint.now) order.old }
     requires round { (start : ℕ) × InRound (J.arena joint.now) (J.lanes joint.now) start order.old }
@@ -40,7 +40,7 @@ pub(crate) fn judge_marked<J: Rules>(joint: &J, order: &mut Order)
     }
 }
 
-/// Judges the band `y`, if it is one.
+/// Judges the band `y` if `is_band` is true.
 fn judge_if<J: Rules>(joint: &J, order: &mut Order, y: u32, is_band: bool, left: &mut [u64])
     requires shaped { IsShaped (J.arena joint.now) (J.lanes joint.now) order.old }
     requires round { (start : ℕ) × InRound (J.arena joint.now) (J.lanes joint.now) start order.old }
@@ -63,7 +63,8 @@ fn judge_if<J: Rules>(joint: &J, order: &mut Order, y: u32, is_band: bool, left:
     }
 }
 
-/// Judges the band `y`: lists each of its pairs at which some action is a reason, with the least.
+/// Judges the band `y`: lists each of its pairs at which some action is a reason, with the least such
+/// action.
 fn judge<J: Rules>(joint: &J, order: &mut Order, y: u32, left: &mut [u64])
     requires shaped { IsShaped (J.arena joint.now) (J.lanes joint.now) order.old }
     requires round { (start : ℕ) × InRound (J.arena joint.now) (J.lanes joint.now) start order.old }
@@ -96,7 +97,7 @@ fn judge<J: Rules>(joint: &J, order: &mut Order, y: u32, left: &mut [u64])
     }
 }
 
-// Whether an action is in a set.
+// Returns whether the action `a` is in a set.
 fn is_in(actions: u32, a: u8) -> bool
     requires { a < 32 }
     ensures { result ≡ is_on actions a }
@@ -104,7 +105,7 @@ fn is_in(actions: u32, a: u8) -> bool
     (actions >> a) & 1 == 1
 }
 
-/// Judges the band whose first row is `x` for the action `a`, if it is allowed there.
+/// Judges the band whose first row is `x` for the action `a`, if `is_allowed` is true.
 fn judge_on<J: Rules>(
     joint: &J,
     order: &mut Order,

@@ -1,4 +1,4 @@
-//! The bands before what a round has listed.
+//! Marking the bands that lead to the pairs that a round has listed.
 ghost use Rattle.std.specs.Prelude.{◌≡◌, ℕ, ◌+◌, ◌*◌, ◌/◌, ◌<◌, ◌≤◌, true, false, List, [], ◌++◌};
 ghost use Rattle.std.specs.Prelude.{length, take, drop, IsTrue, IsFalse};
 ghost use Rattle.roman_lanes.specs.Rows.{is_on};
@@ -12,8 +12,9 @@ use roman_order::{Event, Order};
 use roman_rules::Rules;
 use std::sync::ledger::Ledger;
 
-/// Marks the bands before the pairs of the entries from `start` on, and keeps the words of their bands.
-/// The first of them is found at once if `near` is how many events there were before.
+/// Marks the bands that lead to the pairs of the entries from `start` on, and keeps the words of the
+/// bands of these pairs. If `near` is the number of events before `start`, the first event is found at
+/// once.
 pub(crate) fn mark_losses<J: Rules, L: Ledger>(
     joint: &J,
     order: &mut Order,
@@ -44,7 +45,8 @@ pub(crate) fn mark_losses<J: Rules, L: Ledger>(
     }
 }
 
-/// Marks the bands before that of an event, and keeps the words of the event's band. Nothing is done where none of the event's lanes was kept.
+/// Marks the bands that lead to the band of an event, and keeps the words of the event's band. Does
+/// nothing if the kept word of the event's row has none of the event's lanes.
 fn mark_event<J: Rules, L: Ledger>(joint: &J, order: &mut Order, event: Event, steps: &mut Steps<L>)
     requires shaped { IsShaped (J.arena joint.now) (J.lanes joint.now) order.old }
     requires row { event.row < order.old.rows }
@@ -78,7 +80,7 @@ fn mark_event<J: Rules, L: Ledger>(joint: &J, order: &mut Order, event: Event, s
     order.keep_rows(y * band, band);
 }
 
-// Whether a word has some of the lanes of another.
+// Returns whether a word has some lane of another.
 fn meets(word: u64, other: u64) -> bool
     ensures none { result ≡ false → (lane : ℕ) → is_on other lane ≡ true → is_on word lane ≡ false }
     ensures some { result ≡ true → (lane : ℕ) × (is_on word lane ≡ true) × (is_on other lane ≡ true) }

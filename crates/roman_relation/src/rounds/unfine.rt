@@ -1,4 +1,4 @@
-//! The pairs that don't meet clause 2.
+//! Listing the pairs that don't meet clause 2.
 ghost use Rattle.std.specs.Prelude.{◌≡◌, ℕ, ◌+◌, ◌*◌, ◌<◌, ◌≤◌, ◌⊎◌};
 ghost use Rattle.std.specs.Prelude.{length, IsTrue, IsFalse};
 ghost use Rattle.roman_model.specs.Arena.{is_listed, IsOrder};

@@ -5,7 +5,7 @@ use Rattle.roman_relation.specs.Settled.{Begins, HoldsLost, RisesByDepth, AreLev
 use Rattle.roman_relation.specs.Rounds.{AwaitsRound}
 use Rattle.roman_relation.proofs.rounds.settle_list.Given as goal
 
--- rounds were played; from an empty list the list has what is lost within as many requests, level by level
+-- rounds were played; from an empty list, the list has the pairs that are lost within as many requests, level by level
 abbrev pub invariant-rounds : goal.invariant-rounds
 invariant-rounds g l =
     let A = g.J.Rules.arena l.joint in

@@ -106,7 +106,7 @@ returns-clause-done g c start i lane round h l a =
     subst (λ m. IsJudged A start c.loop-a.order ((c.args.y * m + i) * n + lane) a) c.band.ensures.value judged)
     (λ refused off. unallowed_unjustified A _ p a refused)
 
--- a band of which all pairs are listed
+-- a band whose pairs are all listed
 pub returns-then-are_clear-clause-done : goal.returns-then-are_clear-clause-done
 returns-then-are_clear-clause-done g c start i lane round h l a off =
     let A = g.J.Rules.arena c.args.joint.now in

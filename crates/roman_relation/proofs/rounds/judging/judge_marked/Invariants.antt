@@ -7,7 +7,7 @@ use Rattle.roman_relation.specs.Settled.{Begins}
 use Rattle.roman_relation.specs.Rounds.{InRound, IsPairJudged}
 use Rattle.roman_relation.proofs.rounds.judging.judge_marked.Given as goal
 
--- the pairs of bands that were marked are done, or their band is still marked
+-- the pairs of each band that was marked are judged, or the band is still marked
 abbrev pub invariant-bands : goal.invariant-bands
 invariant-bands g l =
     let A = g.J.Rules.arena l.joint in
@@ -24,6 +24,6 @@ invariant-bands g l =
           (is_marked l.order (p / n / w) ≡ true) ⊎ IsPairJudged A start l.order p;
     }
 
--- each turn takes a mark off
+-- each turn clears a mark
 abbrev pub decreases-bands : goal.decreases-bands
 decreases-bands g l = count_by (is_marked l.order) (below (64 * length l.order.marks))
