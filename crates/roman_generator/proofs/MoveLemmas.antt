@@ -1,4 +1,4 @@
--- Moves by a request that is served.
+-- Moves by a served request.
 use Rattle.std.proofs.Common.{◌≡◌, ℕ, ◌<◌, List, [], ◌∷◌, Option, Some, None, IsTrue, IsFalse, IfSome, IfNone, MatchOption, inl, length, slice_get, slice_index, refl, sym, ap, ◌∙◌, subst, arith}
 use Rattle.std.proofs.lemmas.List.{get_or-set_same, length-map}
 use Rattle.std.proofs.lemmas.Bool.{both_ways, not-true}
@@ -16,16 +16,16 @@ use Rattle.roman_generator.specs.declared.sight.Sight.{Sight}
 pub states_long : (s : Sys) (p : Pair) → IsPair s p → length p.bs ≡ length s.seats
 states_long s p pair = AreBelow-length (sizes_of s).seats p.bs (states_below s.seats p.bs pair.bs) ∙ length-map s.seats (λ (x : Seat). x.beh.states)
 
--- two seats at one place are one
+-- two seats at one place are equal
 pub same_seat : (s : Sys) (k : ℕ) (x y : Seat) → slice_get s.seats k ≡ Some x → slice_get s.seats k ≡ Some y → x ≡ y
 same_seat s k x y h g = cc
 
--- a seat that is ready is there
+-- a ready seat exists
 pub ready_seat : (o : Option Seat) → IsTrue (is_ready o) → (seat : Seat) × (o ≡ Some seat) × IsFalse seat.frozen
 ready_seat None h = cc
 ready_seat (Some seat) h = (seat, refl, not-true seat.frozen h)
 
--- what a system step asks of the environment and of the seat
+-- a system step to the states that are seen serves the action
 pub served_is : (s : Sys) (p : Pair) (x : Sight) → IsPair s p → CanMove s p x.action x.seat x.state x.env → IsServed s p.e (slice_index p.bs x.seat) x
 served_is s p x pair step =
     let within : x.seat < length p.bs = omega (arith, states_long s p pair, slice_get_within s.seats x.seat step.seat step.seated) in
@@ -39,22 +39,22 @@ served_is s p x pair step =
       moves = subst (λ (b : ℕ). IsTrue (has_move step.seat.beh (slice_index p.bs x.seat) p.e x.action b)) (sym to) step.moves;
     }
 
--- so no step leads where nothing is served
+-- where the action isn't served, no system step leads to the states that are seen
 pub none_moves : (s : Sys) (p : Pair) (x : Sight) (o : Option ℕ) → IsPair s p → IfNone o (IsServed s p.e (slice_index p.bs x.seat) x → ⊥) → IfNone o (CanMove s p x.action x.seat x.state x.env → ⊥)
 none_moves s p x None pair none = λ step. none (served_is s p x pair step)
 none_moves s p x (Some to) pair none = tt
 
--- and the other way
+-- where the action is served, a system step leads to the states that are seen
 pub served_moves : (s : Sys) (p : Pair) (x : Sight) → IsServed s p.e (slice_index p.bs x.seat) x → CanMove s p x.action x.seat x.state x.env
 served_moves s p x served = record { seat = served.seat; seated = served.seated; ready = served.ready; world = served.world; to = x.state; moves = served.moves; is = refl }
 
--- no action is served, where the environment has no step
+-- where the environment has no step, the action isn't served
 pub env_stays : (s : Sys) (e b : ℕ) (x : Sight) → IsSys s → IsFalse (has (env_next s.env e x.action) x.env) → IsServed s e b x → ⊥
 env_stays s e b x ok out served =
     let next = env_next s.env e x.action in
     both_ways (has next x.env) out (listed_number next x.env (in_env_next s.env e x.action x.env ok.env served.world))
 
--- nor where the service has none
+-- where the service has no step, the action isn't served
 pub seat_stays : (s : Sys) (e b : ℕ) (x : Sight) (seat : Seat) → IsSys s → slice_get s.seats x.seat ≡ Some seat → IsFalse (has (beh_next seat.beh b e x.action) x.state) → IsServed s e b x → ⊥
 seat_stays s e b x seat ok seated out served =
     let next = beh_next seat.beh b e x.action in
@@ -62,7 +62,7 @@ seat_stays s e b x seat ok seated out served =
     let moves = subst (λ (y : Seat). IsTrue (has_move y.beh b e x.action x.state)) same served.moves in
     both_ways (has next x.state) out (listed_number next x.state (in_beh_next s.env seat.beh b e x.action x.state (ok.seats seat (seat_in s.seats x.seat seat seated)) moves))
 
--- where both have a step the action is served
+-- where both the environment and the service have a step, the action is served
 pub served_from : (s : Sys) (e b : ℕ) (x : Sight) (seat : Seat) → slice_get s.seats x.seat ≡ Some seat → IsTrue (is_ready (slice_get s.seats x.seat)) →
     IsTrue (has (env_next s.env e x.action) x.env) → IsTrue (has (beh_next seat.beh b e x.action) x.state) → IsServed s e b x
 served_from s e b x seat seated ready has_e has_b =
@@ -75,19 +75,19 @@ served_from s e b x seat seated ready has_e has_b =
       moves = from_beh_next seat.beh b e x.action x.state (number_listed (beh_next seat.beh b e x.action) x.state has_b);
     }
 
--- the target then goes to the state that is looked up
+-- where the action is served, the target goes to the state that is looked up
 pub target_goes : (s : Sys) (t e b : ℕ) (x : Sight) (o : Option ℕ) → IsServed s e b x →
     MatchOption o (beh_next s.target t e x.action ≡ []) (λ to. beh_next s.target t e x.action ≡ to ∷ []) → IfSome o (λ to. TStep s t e x.action to x.env × IsServed s e b x)
 target_goes s t e b x None served next = tt
 target_goes s t e b x (Some to) served next = ((served.world, from_beh_next s.target t e x.action to (subst (IsIn to) (sym next) (inl refl))), served)
 
--- and there is one, where the action is allowed
+-- where the action is allowed, the target has a next state
 pub target_there : (s : Sys) (t e b : ℕ) (x : Sight) (o : Option ℕ) → IsSys s → Allows s t e x.action →
     MatchOption o (beh_next s.target t e x.action ≡ []) (λ to. beh_next s.target t e x.action ≡ to ∷ []) → IfNone o (IsServed s e b x → ⊥)
 target_there s t e b x None ok (to, e', step) next = λ served. subst (IsIn to) next (in_beh_next s.env s.target t e x.action to ok.target step.1)
 target_there s t e b x (Some to) ok allowed next = tt
 
--- where an action is allowed all is in range
+-- where an action is allowed, all numbers are in range
 pub allowed_within : (s : Sys) (t e a : ℕ) → IsSys s → Allows s t e a → (t < s.target.states) × (e < s.env.states) × (a < s.env.actions)
 allowed_within s t e a ok (to, e', step) =
     let (from, env, action, there) = move_in_range s.env s.target t e a to ok.target step.1 in
@@ -99,7 +99,7 @@ served_within s e b x ok served =
     let within = (move_in_range s.env served.seat.beh b e x.action x.state (ok.seats served.seat (seat_in s.seats x.seat served.seat served.seated)) served.moves).3 in
     omega (arith, within, size_at s.seats x.seat served.seat served.seated)
 
--- where all three have a step the pair moves
+-- where the target, the environment and the service have a step, the pair moves
 pub all_move : (s : Sys) (p : ℕ) (x : Sight) (to q : ℕ) → IsSys s → p < count (sizes_of s) →
     TStep s (pair_at (sizes_of s) p).t (pair_at (sizes_of s) p).e x.action to x.env → IsServed s (pair_at (sizes_of s) p).e (slice_index (pair_at (sizes_of s) p).bs x.seat) x →
     q ≡ number (sizes_of s) (moved (pair_at (sizes_of s) p) to x.env x.seat x.state) → q < count (sizes_of s) → Becomes s (pair_at (sizes_of s) p) x.action x.seat x.state x.env q
@@ -117,19 +117,19 @@ all_move s p x to q ok l target served is below =
       pair = ap (pair_at n) is ∙ pair_at-number n (moved here to x.env x.seat x.state) there;
     }
 
--- the state of a seat is one of its behaviour
+-- the state of a seat is a state of its behaviour
 pub state_within : (s : Sys) (p : Pair) (k : ℕ) (seat : Seat) → IsPair s p → slice_get s.seats k ≡ Some seat → slice_index p.bs k < seat.beh.states
 state_within s p k seat pair seated =
     let l = slice_get_within s.seats k seat seated in
     let below = AreBelow-index (sizes_of s).seats p.bs k (states_below s.seats p.bs pair.bs) (omega (arith, l, length-map s.seats (λ (x : Seat). x.beh.states))) in
     subst (λ (n : ℕ). slice_index p.bs k < n) (size_at s.seats k seat seated) below
 
--- and is there for the seat of a service that is ready
+-- the state of a ready service is a state of its seat's behaviour
 pub state_seated : (s : Sys) (p : Pair) (k : ℕ) → IsPair s p → IsTrue (is_ready (slice_get s.seats k)) → IfSome (slice_get s.seats k) (λ seat. slice_index p.bs k < seat.beh.states)
 state_seated s p k pair ready =
     let (seat, seated, unfrozen) = ready_seat (slice_get s.seats k) ready in
     subst (λ (o : Option Seat). IfSome o (λ seat. slice_index p.bs k < seat.beh.states)) (sym seated) (state_within s p k seat pair seated)
 
--- so that it is a state of any behaviour of that seat
+-- a state of the looked-up seat is a state of the seat
 pub state_of_seat : (s : Sys) (k b : ℕ) (seat : Seat) → slice_get s.seats k ≡ Some seat → IfSome (slice_get s.seats k) (λ seat. b < seat.beh.states) → b < seat.beh.states
 state_of_seat s k b seat seated within = subst (λ (o : Option Seat). IfSome o (λ seat. b < seat.beh.states)) seated within

@@ -1,4 +1,4 @@
--- The mask of a complete list has the offers.
+-- The mask of a complete list is the set of offers.
 use Rattle.std.proofs.Common.{◌≡◌, ◌≢◌, ℕ, ◌<◌, true, List, IsTrue, ap, ◌∙◌, subst, arith}
 use Rattle.std.specs.Int.{bit_at}
 use Rattle.std.proofs.lemmas.Nat.Bits.{bit_at-zero}
@@ -14,14 +14,14 @@ use Rattle.roman_order.specs.Board.{Board, pairs_of, has_entry}
 use Rattle.roman_relation.specs.Greatest.{arena_of, IsRelation}
 use Rattle.roman_relation.proofs.CallerLemmas.{listed_numbers}
 
--- the mask of the list has the offers' bits
+-- the mask of the list has the bits of the offers
 pub mask_offers : (joint : NamedSys) (board : Board) (p a bits : ℕ) → IsNamedSys joint → IsRelation joint board → ((p : ℕ) → has_entry board.list p ≡ true → p < pairs_of board) →
     p < count (sizes_of (system_of joint)) → HasBits bits (has (mask (arena_of joint) (is_listed (arena_of joint) board.list) p a)) → HasBits bits (has (offers (system_of joint) (pair_at (sizes_of (system_of joint)) p) a))
 mask_offers joint board p a bits known relation in_range l is =
     let s = system_of joint in
     subst (λ (ks : List ℕ). HasBits bits (has ks)) (numbered_offers s board.list p a known.system (listed_numbers s board relation.shaped.pairs in_range) relation.complete.list l) is
 
--- some bit is set
+-- some offer exists, so some bit is set
 pub offers_set : (joint : NamedSys) (p a bits : ℕ) → IsNamedSys joint → p < count (sizes_of (system_of joint)) →
     IsTrue (is_related (system_of joint) (pair_at (sizes_of (system_of joint)) p)) → IsTrue (is_allowed (system_of joint) (pair_at (sizes_of (system_of joint)) p) a) →
     HasBits bits (has (offers (system_of joint) (pair_at (sizes_of (system_of joint)) p) a)) → bits ≢ 0

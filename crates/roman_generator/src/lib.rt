@@ -1,5 +1,5 @@
-//! The orchestrator generator: the services that may be offered for a request ([`offers`]), and what
-//! follows when one of them has served it ([`next_pair`], [`next_target`]).
+//! The orchestrator generator: the services that can be offered for a request ([`offers`]), and the
+//! pair or the target's state after one of them has served it ([`next_pair`], [`next_target`]).
 #![tactic(auto)]
 
 mod moves;

@@ -1,4 +1,4 @@
-//! Moves from pair to pair.
+//! Moves from one pair to the next.
 ghost use Rattle.std.specs.Prelude.{◌≡◌, ◌<◌, IsTrue, IfSome, IfNone, slice_get};
 ghost use Rattle.roman_model.specs.System.{Pair, IsPair, TStep, Allows, has};
 ghost use Rattle.roman_model.specs.SystemArena.{is_allowed, is_ready};
@@ -9,10 +9,10 @@ ghost use Rattle.roman_generator.specs.Moves.{CanMove, Becomes, IsServed};
 use crate::sight::Sight;
 use roman_joint::Joint;
 
-/// The number of the pair after the action `a`, which is allowed at the pair `p`, served by the service
-/// `k`, which is ready, where the service is then in state `b2` and the environment in `e2`. The two
-/// states may be any numbers: `None` comes exactly where no step of the system leads there. No memory
-/// is taken.
+/// Returns the number of the pair after the service `k` has served the action `a` at the pair `p`, and
+/// is in state `b2` then, with the environment in state `e2`. Requires that the action is allowed at
+/// the pair, and that the service is ready. The two states can be any numbers: returns `None` exactly
+/// where no step of the system leads there. Takes no memory.
 pub fn next_pair(joint: &Joint, p: u32, a: u8, k: u8, b2: u8, e2: u8) -> Option<u32>
     requires pair { p < count (sizes_of (system_of joint.now)) }
     requires allowed { IsTrue (is_allowed (system_of joint.now) (pair_at (sizes_of (system_of joint.now)) p) a) }
@@ -35,10 +35,10 @@ pub fn next_pair(joint: &Joint, p: u32, a: u8, k: u8, b2: u8, e2: u8) -> Option<
     Some(shape.moved(p, to, e2, k, b2))
 }
 
-/// The target's state after what is seen, where the target was in state `t`, the environment in `e`
-/// and the services in these states. The action is allowed there, and its service is ready. The two
-/// states that are seen may be any numbers: `None` comes exactly where no step of the system leads
-/// there. No memory is taken.
+/// Returns the target's state after the action that `sight` describes. Before it, the target is in
+/// state `t`, the environment in state `e`, and the services are in the given states. Requires that
+/// the action is allowed there, and that its service is ready. The two states that are seen can be any
+/// numbers: returns `None` exactly where no step of the system leads there. Takes no memory.
 pub fn next_target(joint: &Joint, t: u8, e: u8, states: &[u8], sight: Sight) -> Option<u8>
     requires pair { IsPair (system_of joint.now) (record { t = t; e = e; bs = states.now }) }
     requires allowed { IsTrue (is_allowed (system_of joint.now) (record { t = t; e = e; bs = states.now }) sight.action) }
@@ -51,8 +51,8 @@ pub fn next_target(joint: &Joint, t: u8, e: u8, states: &[u8], sight: Sight) -> 
     target_after(joint, t, e, states[sight.seat as usize], sight)
 }
 
-// The target's state after what is seen, where the target was in state t, the environment in e and
-// the service in b.
+// Returns the target's state after the action that `sight` describes. Before it, the target is in
+// state `t`, the environment in state `e`, and the service in state `b`.
 fn target_after(joint: &Joint, t: u8, e: u8, b: u8, sight: Sight) -> Option<u8>
     requires allowed { Allows (system_of joint.now) t e sight.action }
     requires ready { IsTrue (is_ready (slice_get (system_of joint.now).seats sight.seat)) }
@@ -71,7 +71,7 @@ fn target_after(joint: &Joint, t: u8, e: u8, b: u8, sight: Sight) -> Option<u8>
     joint.target().step(t, e, sight.action)
 }
 
-// Whether a state is one of these.
+// Returns whether a state is one of `states`.
 fn holds(states: &[u8], state: u8) -> bool
     ensures { result ≡ has states.now state }
 {

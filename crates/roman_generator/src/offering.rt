@@ -1,4 +1,4 @@
-//! Offers.
+//! The services that can be offered.
 ghost use Rattle.std.specs.Prelude.{◌≢◌, ◌<◌, IsTrue};
 ghost use Rattle.roman_model.specs.System.{has};
 ghost use Rattle.roman_model.specs.SystemArena.{is_allowed};
@@ -11,10 +11,10 @@ ghost use Rattle.roman_relation.specs.Greatest.{IsRelation};
 use roman_relation::Relation;
 use roman_rules::SeatSet;
 
-/// The services that may be offered for the action `a` at the pair `p`, which is related, where `a`
-/// is allowed: the ready ones that have an outcome on it, and only outcomes that are related. There
-/// is at least one, and no memory is taken. The relation's list must be complete, as
-/// [`Relation::build`] and the repairs leave it.
+/// Returns the services that can be offered for the action `a` at the pair `p`: the ready ones that
+/// have an outcome there, and only related outcomes. There is at least one. Requires a related pair at
+/// which the action is allowed, and a relation whose list is complete, as [`Relation::build`] and the
+/// repairs leave it. Takes no memory.
 ///
 /// These are the offers of the orchestrator generator of De Giacomo, Patrizi and Sardina, "Automatic
 /// Behavior Composition Synthesis" (Artificial Intelligence 196, 2013).

@@ -1,14 +1,14 @@
-//! What is seen after a delegation.
+//! Sights: the states that are seen after a delegation.
 
-/// What is seen of an action that a service has served.
+/// An action that a service has served, and the states that are seen then.
 #[derive(Clone, Copy, Debug, PartialEq, Eq)]
 pub struct Sight {
     /// The action, by its number.
     pub action: u8,
     /// The service to which it was delegated, by its place.
     pub seat: u8,
-    /// The state that the service is in since then.
+    /// The service's state after it has served the action.
     pub state: u8,
-    /// The state that the environment is in since then.
+    /// The environment's state after the action.
     pub env: u8,
 }
