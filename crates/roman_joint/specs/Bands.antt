@@ -23,8 +23,7 @@ turn_at turn i = record { base = turn.base + i; envs = turn.envs }
 pub record AllAlive (s : Sys) (gone : ℕ → Bool) (turn : Turn) (alive : List ℕ) : Type 0 where
   pub each : (i : ℕ) → i < band_in s → AreAlive s gone (turn_at turn i) (slice_index alive i)
 
--- in the words of the meant rows of a band, exactly the set lanes whose pairs pass the test stay set, and no lane is
--- newly set; the words of other rows stay; x is the band's first row
+-- in the meant rows of the band that begins at row x, exactly the set lanes whose pairs pass the test stay set; no lane is newly set, and other rows stay
 pub record KeepsWhere (s : Sys) (x : ℕ) (meant : ℕ → Type 0) (test : ℕ → Bool) (old new : List ℕ) : Type 0 where
   pub each : (i lane : ℕ) → i < band_in s → lane < lanes_in s → meant i → is_on (slice_index new i) lane ≡ (is_on (slice_index old i) lane && test ((x + i) * lanes_in s + lane))
   pub others : (i : ℕ) → (meant i → ⊥) → slice_index new i ≡ slice_index old i

@@ -18,8 +18,7 @@ named_sys_in a = record {
   limit = a.limit;
 }
 
--- the parts are those of a system; the shape, the rows, the moves and the scenes are those of this system; there is
--- room for the greatest number of services
+-- the parts are those of a system, the tables are those of this system, and there is room for the greatest number of services
 pub record IsJoint (a : Inside) : Type 0 where
   pub known : IsNamedSys (named_sys_in a)
   pub shape : a.shape ≡ sizes_of (system_of (named_sys_in a))

@@ -27,8 +27,7 @@ pub record Grows (old new : List ℕ) : Type 0 where
 abbrev pub row_at : Sys → Row → ℕ → ℕ → ℕ
 row_at s row e t = t * target_rows_of (sizes_of s) + e * env_rows_of (sizes_of s) + row.part
 
--- the bands are marked from which seat k goes by a, in environment state e, to its state in the row; `base` is the
--- earlier row if the seat kept its state, and u the number of rows between two of its states
+-- the bands are marked from which seat k goes by a, in environment state e, to its state in the row; `base` is the earlier row with the seat unmoved, u its stride in rows
 pub record MarksSeat (s : Sys) (row : Row) (marks : List ℕ) (a e base k : ℕ) : Type 0 where
   pub moved : (u b x : ℕ) → u * lanes_in s ≡ stride_of (sizes_of s) k → IsIn b (seat_prev (slice_get s.seats k) (slice_index row.states k) e a) →
       x + slice_index row.states k * u ≡ base + b * u → IsMarked marks (x / band_in s)

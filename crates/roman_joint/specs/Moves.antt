@@ -22,8 +22,7 @@ pub record GoesTo (n : Sizes) (k lane b : ℕ) (move : Move) : Type 0 where
   pub taken : move.from ≤ lane
   pub there : lane + move.to - move.from ≡ lane + b * stride_of n k - lane_state_of n k lane * stride_of n k
 
--- these are the moves of seat k with the behaviour on a in environment state e: each lane goes to the lanes of its next
--- states, and `some` are the lanes that have a next state
+-- these are the moves of seat k with the behaviour on a in environment state e, from each lane to those of its next states; `some` are the lanes with a next state
 pub record AreMovesOf (n : Sizes) (k : ℕ) (beh : Beh) (e a some : ℕ) (moves : List Move) : Type 0 where
   pub each : (lane : ℕ) → lane < lanes_of n.seats → is_on some lane ≡ not (is_empty (beh_next beh (lane_state_of n k lane) e a))
   pub rest : (lane : ℕ) → lanes_of n.seats ≤ lane → is_on some lane ≡ false
@@ -33,8 +32,7 @@ pub record AreMovesOf (n : Sizes) (k : ℕ) (beh : Beh) (e a some : ℕ) (moves 
   pub whole : (b lane : ℕ) → lane < lanes_of n.seats → IsIn b (beh_next beh (lane_state_of n k lane) e a) →
       (move : Move) × IsIn move moves × (is_on move.lanes lane ≡ true) × GoesTo n k lane b move
 
--- the lanes of each way are those of seat k with the behaviour on a in environment state e: way j leads j + 1 - n
--- states up, where n is the number of states
+-- the lanes of each way are those of seat k with the behaviour on a in environment state e; way j leads j + 1 - n states up, of n states
 pub record AreWays (n : Sizes) (k : ℕ) (beh : Beh) (e a : ℕ) (ways : Ways) : Type 0 where
   pub each : (lane : ℕ) → lane < lanes_of n.seats → is_on ways.some lane ≡ not (is_empty (beh_next beh (lane_state_of n k lane) e a))
   pub rest : (lane : ℕ) → lanes_of n.seats ≤ lane → is_on ways.some lane ≡ false

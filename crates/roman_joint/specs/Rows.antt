@@ -61,8 +61,7 @@ pub record IsRow (s : Sys) (x : ℕ) (row : Row) : Type 0 where
 abbrev pub is_open : Sys → Row → ℕ → Bool
 is_open s row a = not (is_empty (env_next s.env row.env a)) && not (is_empty (beh_next s.target row.target row.env a))
 
--- the action leads from the row to one state of the target and these states of the environment; `base` is the row at
--- that state of the target and state 0 of the environment
+-- the action leads from the row to one state of the target and these of the environment; `base` is the row at that state of the target and state 0 of the environment
 pub record IsTurn (s : Sys) (row : Row) (a : ℕ) (turn : Turn) : Type 0 where
   pub to : ℕ
   pub target : beh_next s.target row.target row.env a ≡ to ∷ []
