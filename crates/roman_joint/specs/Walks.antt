@@ -59,7 +59,7 @@ left_of_all s walk = flat_map (from_action s (goal_of s walk)) (drop (walk.actio
 abbrev pub left : Sys → Walk → List (Delegation ℕ)
 left s walk = left_of_seat s walk ++ (left_of_target s walk ++ (left_of_env s walk ++ (left_of_action s walk ++ left_of_all s walk)))
 
--- how far the walk can go on: each part counts more than all parts after it
+-- a number that falls with each move of the walk: each part counts more than all parts after it
 abbrev pub way_left : Sys → Walk → ℕ
 way_left s walk =
     (s.env.actions - walk.action) * 2 ^ 20 + (64 - walk.envs_taken) * 2 ^ 13 + (64 - walk.targets_taken) * 2 ^ 6 + (length s.seats - walk.seat)

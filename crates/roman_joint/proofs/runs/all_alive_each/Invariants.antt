@@ -3,7 +3,7 @@ use Rattle.std.specs.List.{list_any}
 use Rattle.roman_lanes.specs.Rows.{is_on}
 use Rattle.roman_joint.proofs.runs.all_alive_each.Given as goal
 
--- those of the environment's states so far
+-- the lanes that are set in the rows of the environment's states so far are left
 abbrev pub invariant-loop-env : goal.invariant-loop-env
 invariant-loop-env l = record {
   long : length l.all ≡ length l.fn.all;

@@ -3,7 +3,7 @@ use Rattle.std.specs.List.{list_any}
 use Rattle.roman_lanes.specs.Rows.{is_on}
 use Rattle.roman_joint.proofs.runs.clear_state.Given as goal
 
--- the blocks so far
+-- the blocks so far are cleared
 abbrev pub invariant-loop-block : goal.invariant-loop-block
 invariant-loop-block l = record {
   long : length l.left ≡ length l.fn.left;

@@ -3,7 +3,7 @@ use Rattle.std.specs.List.{list_any}
 use Rattle.roman_lanes.specs.Rows.{is_on}
 use Rattle.roman_joint.proofs.runs.rows_alive_each.Given as goal
 
--- those of the states so far
+-- the lanes that are set in the rows of the states so far are left
 abbrev pub invariant-loop-state : goal.invariant-loop-state
 invariant-loop-state l = record {
   long : length l.all ≡ length l.fn.all;

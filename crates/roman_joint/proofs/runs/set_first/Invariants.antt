@@ -1,7 +1,7 @@
 use Rattle.std.proofs.Common.{◌≡◌, ℕ, ◌<◌, length, slice_index}
 use Rattle.roman_joint.proofs.runs.set_first.Given as goal
 
--- the words so far
+-- the words so far are set
 abbrev pub invariant-loop-i : goal.invariant-loop-i
 invariant-loop-i l = record {
   long : length l.to ≡ length l.fn.to;
