@@ -28,6 +28,7 @@ use Rattle.roman_order.specs.declared.event.Event.{Event}
 use Rattle.roman_order.proofs.CallerLemmas.{in_lanes, lanes_once, set_lanes-zero}
 use Rattle.roman_relation.specs.Shaped.{IsShaped}
 use Rattle.roman_repair.specs.Deaths.{entries_left, list_with, entries_from, IsPart}
+use Rattle.roman_repair.proofs.Fronts.{false_else, none_so_far}
 use Rattle.roman_repair.proofs.DeathStates.{seat_in_sizes}
 use Rattle.roman_repair.proofs.DeathParts.{part_number, part_state, part_place, row_of_left, part_word, part_lanes, moved_lanes}
 use Rattle.roman_repair.proofs.Joined.{map_as}
@@ -217,8 +218,13 @@ lanes_below word n few within =
     sym (ap (λ m. filter (is_on word) (below m)) whole
     ∙ only_so_far (is_on word) n (64 - n) (λ i l. false_else (is_on word (n + i)) (λ t. let past : n + i < n = within (n + i) t in omega (arith, past))))
 
-pub row_whole : (n x word : ℕ) (reason : Reason) → n ≤ 64 → ((lane : ℕ) → is_on word lane ≡ true → lane < n) → entries_below n x word n reason ≡ entries_in n x word reason
-row_whole n x word reason few within = ap (map (λ lane. as_entry (x * n + lane, reason))) (lanes_below word n few within)
+pub row_whole : (n x word bound : ℕ) (reason : Reason) → bound ≤ 64 → ((lane : ℕ) → is_on word lane ≡ true → lane < bound) → entries_below n x word bound reason ≡ entries_in n x word reason
+row_whole n x word bound reason few within = ap (map (λ lane. as_entry (x * n + lane, reason))) (lanes_below word bound few within)
+
+-- no entry is below the first lane
+pub row_begin : (n x word bound : ℕ) (reason : Reason) → ((lane : ℕ) → is_on word lane ≡ true → bound ≤ lane) → entries_below n x word bound reason ≡ []
+row_begin n x word bound reason first =
+    ap (map (λ lane. as_entry (x * n + lane, reason))) (none_so_far (is_on word) bound (λ lane l. false_else (is_on word lane) (λ on. omega (arith, first lane on, l))))
 
 -- The pairs of a pending event are in range.
 

@@ -110,6 +110,10 @@ part_place n k w j lanes part some is pos =
 pub part_end : (i w lanes : ℕ) → i < lanes / w → (i + 1) * w ≤ lanes
 part_end i w lanes l = let most : (i + 1) * w ≤ lanes / w * w = mul-le (i + 1) w (lanes / w) w (omega arith) (omega arith) in omega (arith, most, div-add-mod' lanes w)
 
+-- so many parts fit into a row
+pub parts_fit : (i w lanes : ℕ) → i ≤ lanes / w → i * w ≤ lanes
+parts_fit i w lanes l = let most : i * w ≤ lanes / w * w = mul-le i w (lanes / w) w l (omega arith) in omega (arith, most, div-add-mod' lanes w)
+
 -- a row ends within the pairs
 pub row_end : (n : Sizes) (x : ℕ) → IsSizes n → x * lanes_of n.seats < count n → (x + 1) * lanes_of n.seats ≤ count n
 row_end n x h l =

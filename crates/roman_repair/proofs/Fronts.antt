@@ -1,12 +1,12 @@
 -- The front of a word's lanes, and the front of a replay.
 use Rattle.std.proofs.Common.{◌≡◌, ◌≢◌, ℕ, zero, suc, ◌+◌, ◌-◌, ◌*◌, ◌/◌, ◌%◌, ◌^◌, ◌<◌, ◌≤◌, Bool, true, false, not, ◌&&◌, ◌⊎◌, List, [], ◌∷◌, ◌++◌, map, length, filter, cond, IsTrue, IsFalse, inl, inr, refl, sym, ap, ap₂, ◌∙◌, subst, arith, append-nil, append_assoc, bit_and, eqb, length-append}
-use Rattle.std.specs.Int.{bit_not, trailing_zeros, w64}
+use Rattle.std.specs.Int.{bit_at, bit_not, leading_zeros, trailing_zeros, w64}
 use Rattle.std.proofs.Math.Pow.{pow-lt}
 use Rattle.std.proofs.lemmas.Bool.{cases_eq, cases_lt, both_ways, and_parts, or_left, eq-eqb}
 use Rattle.std.proofs.lemmas.List.{map-append}
 use Rattle.std.proofs.lemmas.List.Sums.{sum_by-cons, sum_by-append}
-use Rattle.std.proofs.lemmas.Nat.{and_le_l, and_le_r}
-use Rattle.std.proofs.lemmas.Nat.Bits.{bit_at-trailing_zeros}
+use Rattle.std.proofs.lemmas.Nat.{and_le_l, and_le_r, leading_top}
+use Rattle.std.proofs.lemmas.Nat.Bits.{bit_at_above, bit_at_cat_high, bit_at-trailing_zeros}
 use Rattle.std.proofs.Math.Nat.{mul-le-mul_left}
 use Rattle.roman_model.specs.Lists.{IsIn, below}
 use Rattle.roman_model.specs.Arena.{Arena, Entry, is_listed, is_justified}
@@ -37,6 +37,26 @@ first_lane word some fits =
     let h = bit_at-trailing_zeros w64 word (omega arith) fits in
     record { low = h.0; on = eq-eqb _ 1 h.1; before = λ bit l. ap (λ n. eqb n 1) (h.2 bit l) }
 
+-- the last lane of a word
+pub record IsLast (word lane : ℕ) : Type 0 where
+  pub on : is_on word lane ≡ true
+  pub past : (bit : ℕ) → is_on word bit ≡ true → bit ≤ lane
+
+pub last_lane : (word : ℕ) → word ≢ 0 → word < 2 ^ 64 → IsLast word (63 - leading_zeros w64 word)
+unfolding is_on
+last_lane word some fits =
+    let (j, place, low, high) = leading_top 64 word (omega arith) fits in
+    let here : 63 - leading_zeros w64 word ≡ j = omega (arith, place) in
+    let top : bit_at word j ≡ 1 = ap (λ n. bit_at n j) (let parts : word ≡ 1 * 2 ^ j + (word - 2 ^ j) = omega (arith, low) in parts)
+    ∙ bit_at_cat_high 1 j (word - 2 ^ j) j (omega (arith, low, high)) (omega arith) ∙ ap (bit_at 1) (let none : j - j ≡ 0 = omega arith in none) in
+    subst (IsLast word) (sym here) record {
+      on = eq-eqb _ 1 top;
+      past = λ bit on. elim (cases_lt j bit) [
+        | inl more ↦ absurd (both_ways (is_on word bit) (ap (λ n. eqb n 1) (bit_at_above word (suc j) bit high (omega (arith, more)))) on)
+        | inr few ↦ few
+      ];
+    }
+
 pub false_else : (b : Bool) → (b ≡ true → ⊥) → b ≡ false
 false_else true never = absurd (never refl)
 false_else false never = refl
@@ -50,7 +70,7 @@ pub record IsCut (word front rest cut : ℕ) : Type 0 where
   pub high : (lane : ℕ) → lane < 64 → cut ≤ lane → (is_on front lane ≡ false) × (is_on rest lane ≡ is_on word lane)
 
 -- the list is empty where no lane passes so far
-none_so_far : (p : ℕ → Bool) (m : ℕ) → ((lane : ℕ) → lane < m → p lane ≡ false) → filter p (below m) ≡ []
+pub none_so_far : (p : ℕ → Bool) (m : ℕ) → ((lane : ℕ) → lane < m → p lane ≡ false) → filter p (below m) ≡ []
 none_so_far p zero off = refl
 none_so_far p (suc m) off = rw (filter_below_more p m, none_so_far p m (λ lane l. off lane (omega arith)), off m (omega arith)) refl
 

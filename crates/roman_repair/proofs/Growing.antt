@@ -19,7 +19,7 @@ use Rattle.roman_repair.specs.Replays.{AreCandidates, AreSlices, with_replay, re
 use Rattle.roman_repair.proofs.Keeping.{candidates_left, candidates_replayed}
 use Rattle.roman_repair.proofs.Joined.{positive, grown_part}
 use Rattle.roman_repair.proofs.DeathParts.{part_word, part_in}
-use Rattle.roman_repair.proofs.DeathEntries.{entries_below, row_next, row_whole, lanes_below}
+use Rattle.roman_repair.proofs.DeathEntries.{entries_below, row_begin, row_next, row_whole, lanes_below}
 use Rattle.roman_repair.proofs.Fronts.{cut_lanes, filter_split, false_else}
 
 -- ---- spread lanes
@@ -100,8 +100,11 @@ grown_next states lanes x word i m reason few =
     sym (flat_map-append (grown_numbers states) (entries_below lanes x word (i * m) reason) (entries_from (x * lanes + i * m) (part_word word (i * m) m) reason))
     ∙ ap (flat_map (grown_numbers states)) (row_next lanes x word i m reason few)
 
-pub grown_whole : (states lanes x word : ℕ) (reason : Reason) → lanes ≤ 64 → ((lane : ℕ) → is_on word lane ≡ true → lane < lanes) → grown_below states lanes x word lanes reason ≡ flat_map (grown_numbers states) (entries_in lanes x word reason)
-grown_whole states lanes x word reason few within = ap (flat_map (grown_numbers states)) (row_whole lanes x word reason few within)
+pub grown_whole : (states lanes x word bound : ℕ) (reason : Reason) → bound ≤ 64 → ((lane : ℕ) → is_on word lane ≡ true → lane < bound) → grown_below states lanes x word bound reason ≡ flat_map (grown_numbers states) (entries_in lanes x word reason)
+grown_whole states lanes x word bound reason few within = ap (flat_map (grown_numbers states)) (row_whole lanes x word bound reason few within)
+
+pub grown_begin : (states lanes x word bound : ℕ) (reason : Reason) → ((lane : ℕ) → is_on word lane ≡ true → bound ≤ lane) → grown_below states lanes x word bound reason ≡ []
+grown_begin states lanes x word bound reason first = ap (flat_map (grown_numbers states)) (row_begin lanes x word bound reason first)
 
 -- the entries of the row that a part becomes
 pub part_entries : (n lanes states slices many x word i width grown : ℕ) (reason : Reason) → IsSliced n lanes states slices many → width ≡ states →

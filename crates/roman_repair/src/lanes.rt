@@ -59,3 +59,20 @@ pub(crate) fn spread_lanes(word: u64, lanes: u32, width: u32) -> u64
     }
     spread
 }
+
+/// Returns the first part of a word that has a lane, and the part after the last one that has a lane.
+/// Each of the `parts` parts has `width` lanes. Returns 0 twice where the word has no lane.
+pub(crate) fn filled_parts(word: u64, width: u32, parts: u32) -> (u32, u32)
+    requires width { 0 < width }
+    requires within { (lane : ℕ) → is_on word lane ≡ true → lane < parts * width }
+    ensures first { (lane : ℕ) → is_on word lane ≡ true → result.0 * width ≤ lane }
+    ensures end { (lane : ℕ) → is_on word lane ≡ true → lane < result.1 * width }
+    ensures ordered { (result.0 ≤ result.1) × (result.1 ≤ parts) }
+{
+    if word == 0 {
+        return (0, 0);
+    }
+    let first = word.trailing_zeros() / width;
+    let last = (63 - word.leading_zeros()) / width;
+    (first, last + 1)
+}

@@ -9,7 +9,7 @@ ghost use Rattle.roman_relation.specs.Shaped.{IsShaped};
 ghost use Rattle.roman_repair.specs.Replays.{AreCandidates, AreSlices, with_replay, readings_of_entries};
 
 use crate::events::keep_lanes;
-use crate::lanes::spread_lanes;
+use crate::lanes::{filled_parts, spread_lanes};
 use roman_io::Steps;
 use roman_model::Reason;
 use roman_order::Order;
@@ -73,7 +73,8 @@ fn keep_grown<J: Rules, L: Ledger>(
     let width = u32::from(states);
     let slices = joint.lanes() / width;
     let many = lanes / slices;
-    for i in 0..many {
+    let (begin, end) = filled_parts(word, slices, many);
+    for i in begin..end {
         let part = (word >> (i * slices)) & (u64::MAX >> (64 - slices));
         let grown = spread_lanes(part, slices, width);
         keep_part(joint, order, asked, x, many, i, grown, reason, steps);

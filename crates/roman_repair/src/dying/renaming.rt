@@ -13,6 +13,7 @@ ghost use Rattle.roman_relation.specs.Shaped.{IsShaped};
 ghost use Rattle.roman_repair.specs.Deaths.{list_with, entries_from, IsPart};
 
 use super::states::may_go;
+use crate::lanes::filled_parts;
 use roman_joint::Joint;
 use roman_model::Reason;
 use roman_order::Order;
@@ -99,7 +100,8 @@ fn rename_row(
     let width = part_width(shape, k);
     let wide = shape.lanes();
     let first = x * wide;
-    for i in 0..wide / width {
+    let (begin, end) = filled_parts(word, width, wide / width);
+    for i in begin..end {
         let part = (word >> (i * width)) & (u64::MAX >> (64 - width));
         rename_part(joint, order, k, lanes, first + i * width, part, reason);
     }

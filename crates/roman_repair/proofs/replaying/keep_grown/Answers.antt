@@ -1,14 +1,35 @@
-use Rattle.std.proofs.Common.{◌≡◌, ◌+◌, ◌*◌, ◌/◌, sym, ap, ap₂, ◌∙◌, subst, arith}
+use Rattle.std.proofs.Common.{◌≡◌, ◌+◌, ◌*◌, ◌/◌, ◌≤◌, refl, sym, ap, ap₂, ◌∙◌, subst, arith, append-nil}
 use Rattle.roman_order.specs.Board.{Board, entries_in}
 use Rattle.roman_repair.specs.Replays.{AreCandidates, with_replay, readings_of_entries}
 use Rattle.roman_repair.proofs.Keeping.{with_replay_append}
-use Rattle.roman_repair.proofs.DeathParts.{part_word, part_end}
-use Rattle.roman_repair.proofs.Growing.{sliced, grown_below, grown_from, grown_next, grown_whole, part_entries, part_candidates, readings_both}
+use Rattle.roman_repair.proofs.DeathParts.{part_word, part_end, parts_fit}
+use Rattle.roman_repair.proofs.Growing.{sliced, grown_begin, grown_below, grown_from, grown_next, grown_whole, part_entries, part_candidates, readings_both}
 use Rattle.roman_repair.proofs.replaying.keep_grown.Goals as goal
 
 pub nonzero_div-many : goal.nonzero_div-many
 nonzero_div-many g c =
     (sliced (g.J.Rules.lanes c.args.joint.now) c.args.lanes c.args.states c.lanes.result c.from-width.result c.lanes.ensures.value c.from-width.ensures c.requires.slices c.known.ensures.lanes.0 c.known.ensures.lanes.1).some
+
+pub filled_parts-begin-requires-clause-width : goal.filled_parts-begin-requires-clause-width
+filled_parts-begin-requires-clause-width g c =
+    (sliced (g.J.Rules.lanes c.args.joint.now) c.args.lanes c.args.states c.lanes.result c.from-width.result c.lanes.ensures.value c.from-width.ensures c.requires.slices c.known.ensures.lanes.0 c.known.ensures.lanes.1).some
+
+pub filled_parts-begin-requires-clause-within : goal.filled_parts-begin-requires-clause-within
+filled_parts-begin-requires-clause-within g c lane on =
+    let is = sliced (g.J.Rules.lanes c.args.joint.now) c.args.lanes c.args.states c.lanes.result c.from-width.result c.lanes.ensures.value c.from-width.ensures c.requires.slices c.known.ensures.lanes.0 c.known.ensures.lanes.1 in
+    omega (arith, c.requires.within lane on, is.parts)
+
+pub loop-i-init : goal.loop-i-init
+loop-i-init g c =
+    let A = g.J.Rules.arena c.args.joint.now in
+    let m = c.lanes.result / c.from-width.result in
+    let none = grown_begin c.args.states c.args.lanes c.args.x c.args.word (c.filled_parts-begin.result.0 * m) c.args.reason c.filled_parts-begin.ensures.first in
+    record {
+      list = sym (append-nil c.args.order.now.list) ∙ ap (with_replay A c.args.order.now.list) (sym none);
+      known = c.requires.known;
+      rest = refl;
+      cost = omega arith;
+    }
 
 pub keep_part-requires-clause-candidates : goal.keep_part-requires-clause-candidates
 keep_part-requires-clause-candidates g c =
@@ -21,8 +42,8 @@ keep_part-requires-clause-candidates g c =
     let m = c.lanes.result / c.from-width.result in
     let L = c.args.order.now.list in
     let is = sliced n lanes states c.lanes.result c.from-width.result c.lanes.ensures.value c.from-width.ensures c.requires.slices c.known.ensures.lanes.0 c.known.ensures.lanes.1 in
-    let all = subst (AreCandidates A L) (sym (grown_whole states lanes c.args.x word c.args.reason c.requires.slices.few c.requires.within)) c.requires.candidates in
-    let part = part_candidates A L states lanes c.args.x word i m c.args.reason is.few (part_end i m lanes c.loop-i-test.true) all in
+    let all = subst (AreCandidates A L) (sym (grown_whole states lanes c.args.x word lanes c.args.reason c.requires.slices.few c.requires.within)) c.requires.candidates in
+    let part = part_candidates A L states lanes c.args.x word i m c.args.reason is.few (part_end i m lanes (omega (arith, c.loop-i-test.true, c.filled_parts-begin.ensures.ordered.1))) all in
     let before = with_replay A L (grown_below states lanes c.args.x word (i * m) c.args.reason) in
     let those = entries_in n (c.args.x * (lanes / m) + i) c.spread_lanes-grown.result c.args.reason in
     subst (λ K. AreCandidates A K those) (sym c.loop-i.invariant.list)
@@ -60,11 +81,12 @@ returns-clause-list g c =
     let lanes = c.args.lanes in
     let states = c.args.states in
     let m = c.lanes.result / c.from-width.result in
-    let is = sliced (g.J.Rules.lanes c.args.joint.now) lanes states c.lanes.result c.from-width.result c.lanes.ensures.value c.from-width.ensures c.requires.slices c.known.ensures.lanes.0 c.known.ensures.lanes.1 in
-    let end : c.loop-i.i ≡ lanes / m = omega (arith, c.loop-i-test.false, c.loop-i.auto.i-end) in
-    let whole : c.loop-i.i * m ≡ lanes = ap (λ i. i * m) end ∙ sym is.parts in
+    let end = c.filled_parts-begin.result.1 in
+    let last : c.loop-i.i ≡ end = omega (arith, c.loop-i-test.false, c.loop-i.auto.i-end, c.filled_parts-begin.ensures.ordered.0) in
+    let few : end * m ≤ 64 = omega (arith, parts_fit end m lanes c.filled_parts-begin.ensures.ordered.1, c.requires.slices.few) in
     c.loop-i.invariant.list
-    ∙ ap (with_replay A c.args.order.now.list) (ap (λ b. grown_below states lanes c.args.x c.args.word b c.args.reason) whole ∙ grown_whole states lanes c.args.x c.args.word c.args.reason c.requires.slices.few c.requires.within)
+    ∙ ap (λ i. with_replay A c.args.order.now.list (grown_below states lanes c.args.x c.args.word (i * m) c.args.reason)) last
+    ∙ ap (with_replay A c.args.order.now.list) (grown_whole states lanes c.args.x c.args.word (end * m) c.args.reason few c.filled_parts-begin.ensures.end)
 
 pub returns-clause-cost : goal.returns-clause-cost
 returns-clause-cost g c =
@@ -72,8 +94,8 @@ returns-clause-cost g c =
     let lanes = c.args.lanes in
     let states = c.args.states in
     let m = c.lanes.result / c.from-width.result in
-    let is = sliced (g.J.Rules.lanes c.args.joint.now) lanes states c.lanes.result c.from-width.result c.lanes.ensures.value c.from-width.ensures c.requires.slices c.known.ensures.lanes.0 c.known.ensures.lanes.1 in
-    let end : c.loop-i.i ≡ lanes / m = omega (arith, c.loop-i-test.false, c.loop-i.auto.i-end) in
-    let whole : c.loop-i.i * m ≡ lanes = ap (λ i. i * m) end ∙ sym is.parts in
-    let same = ap (readings_of_entries A) (ap (λ b. grown_below states lanes c.args.x c.args.word b c.args.reason) whole ∙ grown_whole states lanes c.args.x c.args.word c.args.reason c.requires.slices.few c.requires.within) in
+    let end = c.filled_parts-begin.result.1 in
+    let last : c.loop-i.i ≡ end = omega (arith, c.loop-i-test.false, c.loop-i.auto.i-end, c.filled_parts-begin.ensures.ordered.0) in
+    let few : end * m ≤ 64 = omega (arith, parts_fit end m lanes c.filled_parts-begin.ensures.ordered.1, c.requires.slices.few) in
+    let same = ap (readings_of_entries A) (ap (λ i. grown_below states lanes c.args.x c.args.word (i * m) c.args.reason) last ∙ grown_whole states lanes c.args.x c.args.word (end * m) c.args.reason few c.filled_parts-begin.ensures.end) in
     omega (arith, same, c.loop-i.invariant.cost)

@@ -1,4 +1,4 @@
-use Rattle.std.proofs.Common.{◌≡◌, ◌+◌, ◌*◌, ◌/◌, ◌≤◌, sym, ap, ◌∙◌, subst, arith}
+use Rattle.std.proofs.Common.{◌≡◌, ◌+◌, ◌*◌, ◌≤◌, refl, sym, ap, ◌∙◌, subst, arith, append-nil}
 use Rattle.roman_model.specs.Numbers.{Sizes, sizes_of, count}
 use Rattle.roman_radix.specs.Rows.{lanes_of}
 use Rattle.roman_radix.proofs.CallerLemmas.{exact}
@@ -6,8 +6,8 @@ use Rattle.roman_joint.specs.NamedSys.{system_of}
 use Rattle.roman_joint.specs.Rows.{lanes_in}
 use Rattle.roman_order.specs.Board.{Board}
 use Rattle.roman_repair.specs.Deaths.{IsPart, list_with, entries_from}
-use Rattle.roman_repair.proofs.DeathParts.{part_word, part_in, part_end, row_end, part_begins}
-use Rattle.roman_repair.proofs.DeathEntries.{list_with_append, entries_below, row_next, row_whole}
+use Rattle.roman_repair.proofs.DeathParts.{part_word, part_in, part_end, parts_fit, row_end, part_begins}
+use Rattle.roman_repair.proofs.DeathEntries.{list_with_append, entries_below, row_begin, row_next, row_whole}
 use Rattle.roman_repair.proofs.dying.renaming.rename_row.Goals as goal
 
 pub overflow_mul-first : goal.overflow_mul-first
@@ -22,7 +22,22 @@ overflow_add-first c =
     let wide = ap (λ m. c.args.x * m) c.lanes-wide.ensures.value in
     let more = ap (λ (m : Sizes). c.args.x * lanes_of m.seats) c.shape-shape.ensures in
     let end = row_end shape c.args.x c.known-2.ensures (omega (arith, more, c.requires.some, ap count c.shape-shape.ensures)) in
-    omega (arith, wide, end, part_end c.loop-i.i c.part_width-width.result c.lanes-wide.result c.loop-i-test.true, c.lanes-wide.ensures.value, c.known-2.ensures.counted)
+    omega (arith, wide, end, part_end c.loop-i.i c.part_width-width.result c.lanes-wide.result (omega (arith, c.loop-i-test.true, c.filled_parts-begin.ensures.ordered.1)), c.lanes-wide.ensures.value, c.known-2.ensures.counted)
+
+pub filled_parts-begin-requires-clause-within : goal.filled_parts-begin-requires-clause-within
+filled_parts-begin-requires-clause-within c lane on =
+    let (d, is) = c.part_width-width.ensures.part.lanes in
+    let wide = c.lanes-wide.ensures.value ∙ ap (λ (m : Sizes). lanes_of m.seats) c.shape-shape.ensures in
+    omega (arith, (c.requires.within lane on).0, wide, exact c.lanes-wide.result d c.part_width-width.result c.part_width-width.ensures.few.0 (c.lanes-wide.ensures.value ∙ is))
+
+pub loop-i-init : goal.loop-i-init
+loop-i-init c =
+    let n = sizes_of (system_of c.args.joint.now) in
+    let none = row_begin (lanes_in (system_of c.args.joint.now)) c.args.x c.args.word (c.filled_parts-begin.result.0 * c.part_width-width.result) c.args.reason c.filled_parts-begin.ensures.first in
+    record {
+      list = λ seat seated. sym (append-nil c.args.order.now.list) ∙ ap (list_with n c.args.k seat c.args.order.now.list) (sym none);
+      rest = refl;
+    }
 
 pub rename_part-requires-clause-first : goal.rename_part-requires-clause-first
 rename_part-requires-clause-first c =
@@ -30,7 +45,7 @@ rename_part-requires-clause-first c =
     let wide = ap (λ m. c.args.x * m) c.lanes-wide.ensures.value in
     let more = ap (λ (m : Sizes). c.args.x * lanes_of m.seats) c.shape-shape.ensures in
     let end = row_end shape c.args.x c.known-2.ensures (omega (arith, more, c.requires.some, ap count c.shape-shape.ensures)) in
-    omega (arith, wide, end, part_end c.loop-i.i c.part_width-width.result c.lanes-wide.result c.loop-i-test.true, c.lanes-wide.ensures.value, c.part_width-width.ensures.few.0, ap count c.shape-shape.ensures)
+    omega (arith, wide, end, part_end c.loop-i.i c.part_width-width.result c.lanes-wide.result (omega (arith, c.loop-i-test.true, c.filled_parts-begin.ensures.ordered.1)), c.lanes-wide.ensures.value, c.part_width-width.ensures.few.0, ap count c.shape-shape.ensures)
 
 pub rename_part-requires-clause-pair : goal.rename_part-requires-clause-pair
 rename_part-requires-clause-pair c i on =
@@ -74,11 +89,9 @@ returns-clause-list c seat seated =
     let n = sizes_of (system_of c.args.joint.now) in
     let lanes = lanes_in (system_of c.args.joint.now) in
     let w = c.part_width-width.result in
-    let wide = c.lanes-wide.ensures.value ∙ ap (λ (m : Sizes). lanes_of m.seats) c.shape-shape.ensures in
-    let (d, is) = c.part_width-width.ensures.part.lanes in
-    let end : c.loop-i.i ≡ c.lanes-wide.result / w = omega (arith, c.loop-i-test.false, c.loop-i.auto.i-end) in
-    let whole : c.loop-i.i * w ≡ lanes = ap (λ i. i * w) end ∙ exact c.lanes-wide.result d w c.part_width-width.ensures.few.0 (c.lanes-wide.ensures.value ∙ is) ∙ wide in
-    let few : lanes ≤ 64 = omega (arith, wide, c.lanes-wide.ensures.few.1) in
+    let end = c.filled_parts-begin.result.1 in
+    let last : c.loop-i.i ≡ end = omega (arith, c.loop-i-test.false, c.loop-i.auto.i-end, c.filled_parts-begin.ensures.ordered.0) in
+    let few : end * w ≤ 64 = omega (arith, parts_fit end w c.lanes-wide.result c.filled_parts-begin.ensures.ordered.1, c.lanes-wide.ensures.few.1) in
     c.loop-i.invariant.list seat seated
-    ∙ ap (λ m. list_with n c.args.k seat c.args.order.now.list (entries_below lanes c.args.x c.args.word m c.args.reason)) whole
-    ∙ ap (list_with n c.args.k seat c.args.order.now.list) (row_whole lanes c.args.x c.args.word c.args.reason few (λ lane on. (c.requires.within lane on).0))
+    ∙ ap (λ i. list_with n c.args.k seat c.args.order.now.list (entries_below lanes c.args.x c.args.word (i * w) c.args.reason)) last
+    ∙ ap (list_with n c.args.k seat c.args.order.now.list) (row_whole lanes c.args.x c.args.word (end * w) c.args.reason few c.filled_parts-begin.ensures.end)
