@@ -1,4 +1,5 @@
 pub mod RowBits
 mod Lanes
 mod Blocks
+mod Parts
 pub mod CallerLemmas

@@ -2,8 +2,8 @@
 use Rattle.std.proofs.Common.{◌≡◌, ◌≢◌, ℕ, zero, ◌-◌, ◌*◌, ◌/◌, ◌%◌, ◌^◌, ◌<◌, ◌≤◌, min, max, true, false, not, ◌&&◌, ◌||◌, inl, inr, refl, sym, ap, ◌∙◌, arith, eqb, bit_and}
 use Rattle.std.specs.Int.{bit_at, bit_not, w64}
 use Rattle.std.specs.Prelude.{bit_or}
-use Rattle.std.proofs.lemmas.Bool.{cases_eq, eq-eqb}
-use Rattle.std.proofs.lemmas.Nat.Bits.{bit_at_and, bit_at_or, bit_at_not, bit_at-lt, bit_at-zero, bit_at_ones, bit_at_ones_above, bit_at-pow_same, bit_at-pow_other, bit_at_set_same, bit_at_set_other, bit_at_clear_same, bit_at_clear_other, ones_shr, shr_and_one}
+use Rattle.std.proofs.lemmas.Bool.{cases_eq, cases_lt, eq-eqb}
+use Rattle.std.proofs.lemmas.Nat.Bits.{bit_at_and, bit_at_or, bit_at_not, bit_at-lt, bit_at-zero, bit_at_above, bit_at_ones, bit_at_ones_above, bit_at-pow_same, bit_at-pow_other, bit_at_set_same, bit_at_set_other, bit_at_clear_same, bit_at_clear_other, ones_shr, shr_and_one}
 use Rattle.roman_lanes.specs.Rows.{is_on}
 
 pub on_zero : (i : ℕ) → is_on zero i ≡ false
@@ -102,3 +102,17 @@ on_tested w i some =
 pub off_tested : (w i : ℕ) → bit_and (w / 2 ^ i) 1 ≡ 0 → is_on w i ≡ false
 unfolding is_on
 off_tested w i none = ap (λ n. eqb n 1) (sym (shr_and_one w i) ∙ none)
+
+-- past its 64 bits a word has no bit
+on_past : (a i : ℕ) → a < 2 ^ 64 → 64 ≤ i → is_on a i ≡ false
+unfolding is_on
+on_past a i h l = ap (λ n. eqb n 1) (bit_at_above a 64 i h l)
+
+-- the lanes of one word that aren't lanes of another, past the 64 bits too
+pub on_without : (word other lane : ℕ) → word < 2 ^ 64 → other < 2 ^ 64 → is_on (bit_and word (bit_not w64 other)) lane ≡ (is_on word lane && not (is_on other lane))
+on_without word other lane l m = elim (cases_lt lane 64) [
+  | inl less ↦ on_and word (bit_not w64 other) lane ∙ ap (λ b. is_on word lane && b) (on_not other lane m less)
+  | inr past ↦
+      on_and word (bit_not w64 other) lane
+      ∙ (ap (λ b. b && is_on (bit_not w64 other) lane) (on_past word lane l past) ∙ sym (ap (λ b. b && not (is_on other lane)) (on_past word lane l past)))
+]

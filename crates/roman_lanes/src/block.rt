@@ -42,6 +42,16 @@ fn part(words: &[u64], at: usize) -> u64x8
     u64x8::from_slice(&words[at..])
 }
 
+/// Returns the N words from `at` on.
+#[inline(always)]
+pub fn load<const N: usize>(words: &[u64], at: usize) -> Simd<u64, N>
+    requires { at + N ≤ length words.now }
+    ensures long { length result ≡ N }
+    ensures each { (k : ℕ) → k < N → slice_index result k ≡ slice_index words.now (at + k) }
+{
+    Simd::<u64, N>::from_slice(&words[at..])
+}
+
 /// Returns the bitwise or of the two vectors.
 #[inline(always)]
 fn either(a: u64x8, b: u64x8) -> u64x8

@@ -1,5 +1,5 @@
 //! Compares each kernel with its plain definition, at each length up to some blocks and a rest.
-use crate::{count_equal, first_set};
+use crate::{both, count_equal, first_set, less};
 use std::test::*;
 
 /// One block of numbers and one number more. Every fourth is the greatest number.
@@ -34,11 +34,11 @@ fn outside_examples(rt: HostRuntime) {
 
 #[test]
 fn numbers_are_counted_at_each_length(rt: HostRuntime) {
-    let mut cells = [0; 40];
+    let mut cells = [0; 200];
     for (i, cell) in cells.iter_mut().enumerate() {
         *cell = i as u32 % 3;
     }
-    for length in 0..41usize {
+    for length in 0..201usize {
         let values = &cells[..length];
         let plain = values.iter().filter(|x| **x == 2).count();
         assert_eq!(rt; count_equal(values, 2), plain);
@@ -47,15 +47,47 @@ fn numbers_are_counted_at_each_length(rt: HostRuntime) {
 
 #[test]
 fn each_word_is_found_at_each_length(rt: HostRuntime) {
-    for length in 0..71usize {
-        assert_eq!(rt; first_set(&[0; 70][..length], 0), None);
+    for length in 0..201usize {
+        assert_eq!(rt; first_set(&[0; 200][..length], 0), None);
         for place in 0..length {
-            let mut words = [0; 70];
+            let mut words = [0; 200];
             words[place] = 1 << (place % 64);
             let words = &words[..length];
             assert_eq!(rt; first_set(words, 0), Some(place));
             assert_eq!(rt; first_set(words, place), Some(place));
             assert_eq!(rt; first_set(words, place + 1), None);
+        }
+    }
+}
+
+/// Returns 200 different words, each computed from the word before it. The first comes from `first`.
+fn words_from(first: u64) -> [u64; 200] {
+    let mut words = [0; 200];
+    let mut word = first;
+    for place in words.iter_mut() {
+        word = word.wrapping_mul(0x9e37_79b9_7f4a_7c15).wrapping_add(1);
+        *place = word;
+    }
+    words
+}
+
+#[test]
+fn words_are_combined_at_each_length(rt: HostRuntime) {
+    let old = words_from(1);
+    let other = words_from(2);
+    for length in 0..201usize {
+        let mut met = old;
+        both(&mut met[..length], &other);
+        let mut left = old;
+        less(&mut left[..length], &other);
+        for i in 0..200usize {
+            let (common, rest) = if i < length {
+                (old[i] & other[i], old[i] & !other[i])
+            } else {
+                (old[i], old[i])
+            };
+            assert_eq!(rt; met[i], common);
+            assert_eq!(rt; left[i], rest);
         }
     }
 }
