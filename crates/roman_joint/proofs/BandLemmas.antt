@@ -380,15 +380,15 @@ mid_few s =
     let n = sizes_of s in
     omega (arith, low_of-le (row_sizes n).seats, length_rows n, low_of-le n.seats, length-map s.seats (λ (y : Seat). y.beh.states))
 
--- all rows are judged at once
-pub keeps_clear : (s : Sys) (x many : ℕ) (test : ℕ → Bool) (old new good : List ℕ) → length old ≡ many → length new ≡ length old → ((i : ℕ) → i < many → HasLanes (lanes_in s) (x + i) (λ p. not (test p)) (slice_index good i)) →
-    ((i lane : ℕ) → i < length old → is_on (slice_index new i) lane ≡ (is_on (slice_index old i) lane && not (is_on (slice_index good i) lane))) → Keeps (lanes_in s) x many test old new
-keeps_clear s x many test old new good few long served told = record {
-  each = λ i lane l m. told i lane (omega (arith, l, few)) ∙ ap (λ b. is_on (slice_index old i) lane && b) (ap not ((served i l).each lane m) ∙ sym (not_not (test ((x + i) * lanes_in s + lane))));
+-- all rows are judged at once, each by a word of the lanes at which its pairs are served
+pub keeps_clear : (s : Sys) (x many : ℕ) (test : ℕ → Bool) (old new : List ℕ) → length old ≡ many → length new ≡ length old →
+    ((i : ℕ) → i < many → (good : ℕ) × HasLanes (lanes_in s) (x + i) (λ p. not (test p)) good × ((lane : ℕ) → is_on (slice_index new i) lane ≡ (is_on (slice_index old i) lane && not (is_on good lane)))) → Keeps (lanes_in s) x many test old new
+keeps_clear s x many test old new few long served = record {
+  each = λ i lane l m. (served i l).2 lane ∙ ap (λ b. is_on (slice_index old i) lane && b) (ap not ((served i l).1.each lane m) ∙ sym (not_not (test ((x + i) * lanes_in s + lane))));
   others = λ i l. get_or_past new i 0 (omega (arith, l, few, long)) ∙ sym (get_or_past old i 0 (omega (arith, l, few)));
-  none = λ i lane off. elim (cases_lt i (length old)) [
-    | inl less ↦ told i lane less ∙ ap (λ b. b && not (is_on (slice_index good i) lane)) off
-    | inr past ↦ ap (λ z. is_on z lane) (get_or_past new i 0 (omega (arith, past, long))) ∙ on_zero lane
+  none = λ i lane off. elim (cases_lt i many) [
+    | inl less ↦ (served i less).2 lane ∙ ap (λ b. b && not (is_on (served i less).0 lane)) off
+    | inr past ↦ ap (λ z. is_on z lane) (get_or_past new i 0 (omega (arith, past, long, few))) ∙ on_zero lane
   ];
 }
 

@@ -1,7 +1,7 @@
 -- The lanes of words that are combined.
-use Rattle.std.proofs.Common.{◌≡◌, ℕ, ◌+◌, ◌-◌, ◌*◌, ◌/◌, ◌%◌, ◌^◌, ◌<◌, ◌≤◌, Bool, true, false, not, ◌&&◌, ◌||◌, List, [], ◌∷◌, length, take, get_or, inl, inr, sym, ap, ◌∙◌, arith, eqb, ltb, bit_and}
+use Rattle.std.proofs.Common.{◌≡◌, ℕ, ◌+◌, ◌-◌, ◌*◌, ◌/◌, ◌%◌, ◌^◌, ◌<◌, Bool, true, false, not, ◌&&◌, ◌||◌, List, [], ◌∷◌, length, take, get_or, inl, inr, sym, ap, ◌∙◌, arith, eqb, ltb, bit_and}
 use Rattle.std.proofs.Math.Bool.{and-true, or-false, not-not}
-use Rattle.std.specs.Int.{bit_at, bit_not, w64}
+use Rattle.std.specs.Int.{bit_at}
 use Rattle.std.specs.List.{list_any}
 use Rattle.std.proofs.lemmas.Bool.{cases_lt, lt-ltb, le-ltb}
 use Rattle.std.proofs.lemmas.Nat.{shr-shr, pow_pos}
@@ -9,7 +9,7 @@ use Rattle.std.proofs.lemmas.Nat.Bits.{bit_at-zero, bit_at_ones, bit_at_ones_abo
 use Rattle.std.proofs.lemmas.List.{take_more}
 use Rattle.std.proofs.lemmas.List.Folds.{list_any-append}
 use Rattle.roman_lanes.specs.Rows.{is_on}
-use Rattle.roman_lanes.proofs.CallerLemmas.{on_and, on_not}
+use Rattle.roman_lanes.proofs.CallerLemmas.{on_and}
 pub use Rattle.roman_lanes.proofs.CallerLemmas.{on_set_same, on_set_other}
 
 -- the first lanes
@@ -19,10 +19,6 @@ on_first k i = elim (cases_lt i k) [
   | inl less ↦ ap (λ n. eqb n 1) (bit_at_ones k i less) ∙ sym (lt-ltb i k less)
   | inr more ↦ ap (λ n. eqb n 1) (bit_at_ones_above k i more) ∙ sym (le-ltb i k more)
 ]
-
-pub on_past : (a i : ℕ) → a < 2 ^ 64 → 64 ≤ i → is_on a i ≡ false
-unfolding is_on
-on_past a i h l = ap (λ n. eqb n 1) (bit_at_above a 64 i h l)
 
 pub on_shr : (a d i j : ℕ) → j ≡ d + i → is_on (a / 2 ^ d) i ≡ is_on a j
 unfolding is_on
@@ -71,12 +67,3 @@ not_not b = sym (not-not b)
 -- without a test the value stays
 pub all_pass : (b : Bool) → b ≡ (b && true)
 all_pass b = sym (and-true b)
-
--- the lanes of a word that aren't lanes of another
-pub on_less : (word other lane : ℕ) → word < 2 ^ 64 → other < 2 ^ 64 → is_on (bit_and word (bit_not w64 other)) lane ≡ (is_on word lane && not (is_on other lane))
-on_less word other lane l m = elim (cases_lt lane 64) [
-  | inl less ↦ on_and word (bit_not w64 other) lane ∙ ap (λ b. is_on word lane && b) (on_not other lane m less)
-  | inr past ↦
-      on_and word (bit_not w64 other) lane
-      ∙ (ap (λ b. b && is_on (bit_not w64 other) lane) (on_past word lane l past) ∙ sym (ap (λ b. b && not (is_on other lane)) (on_past word lane l past)))
-]

@@ -1,5 +1,5 @@
 -- Bands of rows: runs of neighbouring rows, which differ only in the states of the last seats before the lanes.
-use Rattle.std.specs.Prelude.{◌≡◌, ℕ, ◌+◌, ◌*◌, ◌<◌, ◌≤◌, ◌&&◌, Bool, false, List, slice_index}
+use Rattle.std.specs.Prelude.{◌≡◌, ℕ, ◌+◌, ◌*◌, ◌^◌, ◌<◌, ◌≤◌, ◌&&◌, All, Bool, false, List, length, slice_index}
 use Rattle.roman_model.specs.System.{Sys}
 use Rattle.roman_model.specs.Numbers.{sizes_of}
 use Rattle.roman_radix.specs.Rows.{low_of, lanes_of, row_sizes}
@@ -22,6 +22,11 @@ turn_at turn i = record { base = turn.base + i; envs = turn.envs }
 -- each word has the alive lanes of its row's turn: those at which the turn leads to no pair that is gone
 pub record AllAlive (s : Sys) (gone : ℕ → Bool) (turn : Turn) (alive : List ℕ) : Type 0 where
   pub each : (i : ℕ) → i < band_in s → AreAlive s gone (turn_at turn i) (slice_index alive i)
+
+-- `alive` has, for each of the states, the words of `many` neighbouring rows; the words of state 0 begin at place `from`
+pub record SuitsRun (alive states : List ℕ) (from stride many : ℕ) : Type 0 where
+  pub few : from + many < 2 ^ 32
+  pub within : All (λ b. from + many + b * stride ≤ length alive) states
 
 -- in the meant rows of the band that begins at row x, exactly the set lanes whose pairs pass the test stay set; no lane is newly set, and other rows stay
 pub record KeepsWhere (s : Sys) (x : ℕ) (meant : ℕ → Type 0) (test : ℕ → Bool) (old new : List ℕ) : Type 0 where

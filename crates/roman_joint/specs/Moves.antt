@@ -1,5 +1,5 @@
 -- Moves of services within the lanes.
-use Rattle.std.specs.Prelude.{◌≡◌, ℕ, ◌+◌, ◌-◌, ◌*◌, ◌/◌, ◌%◌, ◌<◌, ◌≤◌, ◌==◌, true, false, not, List, [], ◌∷◌, Some, map, length, slice_get, slice_index, slice_index_or, slice_range, ◌++◌, vec_capacity}
+use Rattle.std.specs.Prelude.{◌≡◌, ℕ, ◌+◌, ◌-◌, ◌*◌, ◌/◌, ◌%◌, ◌<◌, ◌≤◌, ◌==◌, ◌&&◌, true, false, not, List, [], ◌∷◌, Some, map, length, slice_get, slice_index, slice_index_or, slice_range, ◌++◌, vec_capacity}
 use Rattle.std.specs.List.{list_any, filter}
 use Rattle.roman_model.specs.Lists.{IsIn, is_empty, below}
 use Rattle.roman_model.specs.System.{Sys, Beh, Seat}
@@ -31,6 +31,19 @@ pub record AreMovesOf (n : Sizes) (k : ℕ) (beh : Beh) (e a some : ℕ) (moves 
       (b : ℕ) × IsIn b (beh_next beh (lane_state_of n k lane) e a) × GoesTo n k lane b move
   pub whole : (b lane : ℕ) → lane < lanes_of n.seats → IsIn b (beh_next beh (lane_state_of n k lane) e a) →
       (move : Move) × IsIn move moves × (is_on move.lanes lane ≡ true) × GoesTo n k lane b move
+
+-- there are words of alive lanes for `many` rows, and the moves stay below 64 lanes
+pub record SuitsMoving (alive : List ℕ) (moves : List Move) (many : ℕ) : Type 0 where
+  pub long : many ≤ length alive
+  pub small : (move : Move) → IsIn move moves → (move.from < 64) × (move.to < 64)
+
+-- the new word is the old one without those lanes of `some` from which all moves lead to alive lanes
+pub record LosesMoving (some : ℕ) (moves : List Move) (alive old new : ℕ) : Type 0 where
+  pub good : ℕ
+  pub served : (lane : ℕ) → lane < 64 → ((move : Move) → IsIn move moves → is_on move.lanes lane ≡ true → (move.from ≤ lane) × (lane + move.to - move.from < 64)) →
+      is_on good lane ≡ (is_on some lane && not (list_any (λ move. is_on move.lanes lane && not (is_on alive (lane + move.to - move.from))) moves))
+  pub within : (lane : ℕ) → is_on some lane ≡ false → is_on good lane ≡ false
+  pub left : (lane : ℕ) → is_on new lane ≡ (is_on old lane && not (is_on good lane))
 
 -- the lanes of each way are those of seat k with the behaviour on a in environment state e; way j leads j + 1 - n states up, of n states
 pub record AreWays (n : Sizes) (k : ℕ) (beh : Beh) (e a : ℕ) (ways : Ways) : Type 0 where

@@ -13,13 +13,12 @@ ghost use Rattle.roman_joint.specs.declared.row.Row.{Row};
 ghost use Rattle.roman_joint.specs.declared.turn.Turn.{Turn};
 
 use crate::joint::Joint;
+use crate::moving::clear_moving;
 use crate::row::Row;
-use crate::runs::{
-    all_alive_each, clear, clear_good, clear_state, is_clear, rows_alive_each, set_first,
-};
+use crate::runs::{all_alive_each, clear, clear_state, is_clear, rows_alive_each, set_first};
 use crate::states::next_states;
 use crate::turn::{Turn, turn_of};
-use crate::words::{less, moves_alive};
+use crate::words::less;
 
 /// The greatest number of rows in a band.
 const BAND: usize = 64;
@@ -70,7 +69,7 @@ pub(crate) fn clear_before(
         states,
         stride,
     );
-    clear_good(left, all);
+    roman_lanes::less(left, all);
 }
 
 /// Writes, for each row of a band, the alive lanes of its turn: those at which it leads to no pair
@@ -152,15 +151,12 @@ fn clear_within(joint: &Joint, row: &Row, alive: &[u64], a: u8, k: u8, left: &mu
         IsTurn s row.now a turn → AllAlive s gone turn alive.now →
         Keeps (lanes_in s) (y * band_in s) (band_in s) (λ p. is_beaten (numbered s) gone p a k) left.old left.new }
 {
-    let rows = joint.layout();
+    joint.layout();
     if joint.seat(k).frozen {
         return;
     }
     let (some, moves) = joint.lane_moves(k, row.env, a);
-    for i in 0..rows.band {
-        let good = moves_alive(alive[i as usize], moves, some);
-        left[i as usize] = less(left[i as usize], good);
-    }
+    clear_moving(left, alive, moves, some);
 }
 
 /// Clears, in `left`, the pairs of a band at which the seat `k` serves the action. The seat is one of
@@ -250,7 +246,8 @@ fn clear_seat(
 }
 
 /// Returns the number of pairs of a band at which the seat `k` serves the action. `alive` holds the
-/// alive lanes of each row's turn.
+/// alive lanes of each row's turn. `all` and `left` are scratch space, and their contents don't
+/// matter.
 fn served_by(
     joint: &Joint,
     words: &[u64],
@@ -259,6 +256,8 @@ fn served_by(
     alive: &[u64],
     a: u8,
     k: u8,
+    all: &mut [u64],
+    left: &mut [u64],
 ) -> u32
     requires row { (y : ℕ) × IsRow (system_of joint.now) (y * band_in (system_of joint.now)) row.now }
     requires turn { IsTurn (system_of joint.now) row.now a turn.now }
@@ -266,6 +265,10 @@ fn served_by(
     requires room { length words.now * lanes_in (system_of joint.now) ≡ count (sizes_of (system_of joint.now)) }
     requires seat { k < length joint.now.seats }
     requires alive { band_in (system_of joint.now) ≤ length alive.now }
+    requires all { band_in (system_of joint.now) ≤ length all.old }
+    requires long { length left.old ≡ band_in (system_of joint.now) }
+    ensures all { length all.new ≡ length all.old }
+    ensures long { length left.new ≡ length left.old }
     ensures counted { let s = system_of joint.now in
         (y : ℕ) (gone : ℕ → Bool) → IsRow s (y * band_in s) row.now →
         AreRows (lanes_in s) (λ q. not (gone q)) words.now → AllAlive s gone turn.now alive.now →
@@ -274,11 +277,8 @@ fn served_by(
 {
     let rows = joint.layout();
     let many = joint.band() as usize;
-    let mut all = [0; BAND];
-    let mut room = [0; BAND];
-    let left = &mut room[..many];
     set_first(left, many, rows.full);
-    clear_seat(joint, words, row, turn, alive, a, k, &mut all, left);
+    clear_seat(joint, words, row, turn, alive, a, k, all, left);
     let mut count = 0;
     for i in 0..many {
         count += less(rows.full, left[i]).count_ones();
@@ -333,9 +333,12 @@ impl Joint {
         };
         let mut alive = [0; BAND];
         alive_each(self, words, &turn, &mut alive);
+        let mut all = [0; BAND];
+        let mut room = [0; BAND];
+        let left = &mut room[..self.band() as usize];
         let mut count = 0;
         for k in 0..self.seats() {
-            count += served_by(self, words, row, &turn, &alive, a, k);
+            count += served_by(self, words, row, &turn, &alive, a, k, &mut all, left);
         }
         count
     }

@@ -16,6 +16,7 @@ mod joint;
 mod layout;
 mod marks;
 mod moves;
+mod moving;
 mod numbered;
 mod outcomes;
 mod row;

@@ -2,18 +2,20 @@
 ghost use Rattle.std.specs.Prelude.{◌≡◌, ◌≢◌, ◌↔◌, IsTrue, ℕ, ◌+◌, ◌-◌, ◌*◌, ◌/◌, ◌%◌, ◌^◌, ◌<◌, ◌≤◌, not, ◌&&◌, false, All, length, slice_index, bit_and};
 ghost use Rattle.std.specs.List.{list_any};
 ghost use Rattle.roman_lanes.specs.Rows.{is_on};
+ghost use Rattle.roman_joint.specs.Bands.{SuitsRun};
 
-use crate::words::{less, rows_alive};
+use crate::words::each_rows_alive;
+use roman_lanes::{Change, ChangeOf, both, change_each, first_set, without};
+use std::simd::prelude::*;
 
 /// Returns whether all words are 0.
 pub(crate) fn is_clear(words: &[u64]) -> bool
     ensures { IsTrue result ↔ ((i : ℕ) → i < length words.now → slice_index words.now i ≡ 0) }
 {
-    let mut all = 0;
-    for i in 0..words.len() {
-        all |= words[i];
+    match first_set(words, 0) {
+        None => true,
+        Some(_) => false,
     }
-    all == 0
 }
 
 /// Sets all words to 0.
@@ -43,20 +45,7 @@ pub(crate) fn and_from(to: &mut [u64], many: usize, with: &[u64], from: usize)
     ensures long { length to.new ≡ length to.old }
     ensures each { (i : ℕ) → i < many → slice_index to.new i ≡ bit_and (slice_index to.old i) (slice_index with.now (from + i)) }
 {
-    for i in 0..many {
-        to[i] &= with[from + i];
-    }
-}
-
-/// Clears, in the words of `left`, the lanes that are set in the words of `good`.
-pub(crate) fn clear_good(left: &mut [u64], good: &[u64])
-    requires { length left.old ≤ length good.now }
-    ensures long { length left.new ≡ length left.old }
-    ensures each { (i lane : ℕ) → i < length left.old → is_on (slice_index left.new i) lane ≡ (is_on (slice_index left.old i) lane && not (is_on (slice_index good.now i) lane)) }
-{
-    for i in 0..left.len() {
-        left[i] = less(left[i], good[i]);
-    }
+    both(&mut to[..many], &with[from..]);
 }
 
 /// Clears, in the first `many` words, the lanes that aren't set in all rows of the word: the rows of
@@ -109,6 +98,48 @@ pub(crate) fn all_alive_each(
     }
 }
 
+/// Clears, in the word at place i, the lanes of `full` that are set in all words
+/// `from + i + b * stride` of `alive`, for each state b.
+#[derive(Clone, Copy)]
+struct Run<'a> {
+    alive: &'a [u64],
+    from: usize,
+    states: &'a [u8],
+    stride: usize,
+    full: u64,
+}
+
+impl Change for Run<'_> {
+    ghost use Rattle.std.specs.Prelude.{◌≡◌, ℕ, ◌+◌, ◌*◌, not, ◌&&◌, slice_index};
+    ghost use Rattle.std.specs.List.{list_any};
+    ghost use Rattle.roman_lanes.specs.Rows.{is_on};
+    ghost use Rattle.roman_joint.specs.Bands.{SuitsRun};
+
+    ghost suits = { λ run many. SuitsRun run.alive.now run.states.now run.from run.stride many };
+
+    ghost makes = { λ run i old new. (lane : ℕ) → is_on new lane
+        ≡ (is_on old lane && not (is_on run.full lane && not (list_any (λ b. not (is_on (slice_index run.alive.now (run.from + i + b * run.stride)) lane)) run.states.now))) };
+}
+
+impl<const N: usize> ChangeOf<N> for Run<'_> {
+    #[inline(always)]
+    fn changed(&self, words: Simd<u64, N>, at: usize) -> Simd<u64, N>
+        requires { (many : ℕ) × (at + N ≤ many) × SuitsRun self.now.alive.now self.now.states.now self.now.from self.now.stride many }
+        ensures long { length result ≡ N }
+        ensures each { (i : ℕ) → i < N → (lane : ℕ) → is_on (slice_index result i) lane
+            ≡ (is_on (slice_index words.entry i) lane && not (is_on self.now.full lane && not (list_any (λ b. not (is_on (slice_index self.now.alive.now (self.now.from + (at + i) + b * self.now.stride)) lane)) self.now.states.now))) }
+    {
+        let good = each_rows_alive::<N>(
+            self.alive,
+            self.from + at,
+            self.states,
+            self.stride,
+            self.full,
+        );
+        without(words, good)
+    }
+}
+
 /// Clears, in the words of `left` from place `to` on, the lanes of `full` that are set in all words
 /// `from + j + b * stride` of `alive`, for word j of the run and each state b. The run has `stride`
 /// words.
@@ -132,10 +163,14 @@ fn clear_run(
     ensures above { (i : ℕ) → to + stride ≤ i → slice_index left.new i ≡ slice_index left.old i }
     ensures none { (i lane : ℕ) → is_on (slice_index left.old i) lane ≡ false → is_on (slice_index left.new i) lane ≡ false }
 {
-    for j in 0..stride {
-        let good = rows_alive(alive, from + j, states, stride, full);
-        left[(to + j) as usize] = less(left[(to + j) as usize], good);
-    }
+    let run = Run {
+        alive,
+        from: from as usize,
+        states,
+        stride: stride as usize,
+        full,
+    };
+    change_each(&run, &mut left[to as usize..(to + stride) as usize]);
 }
 
 /// Clears, in the words of `left` in which a component is in state `b`, the lanes of `full` that are

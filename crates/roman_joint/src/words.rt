@@ -6,6 +6,8 @@ ghost use Rattle.roman_lanes.specs.Rows.{is_on};
 ghost use Rattle.roman_joint.specs.declared.moves.Move.{Move};
 
 use crate::moves::Move;
+use roman_lanes::load;
+use std::simd::prelude::*;
 
 /// Returns the lanes of `good` that are set in all rows `base + b * stride`, for each state b.
 pub(crate) fn rows_alive(words: &[u64], base: u32, states: &[u8], stride: u32, good: u64) -> u64
@@ -17,6 +19,28 @@ pub(crate) fn rows_alive(words: &[u64], base: u32, states: &[u8], stride: u32, g
     let mut alive = good;
     for state in states {
         alive &= words[(base + u32::from(*state) * stride) as usize];
+    }
+    alive
+}
+
+/// Returns, for each i below N, the lanes of `good` that are set in all rows `base + i + b * stride`,
+/// for each state b.
+#[inline(always)]
+pub(crate) fn each_rows_alive<const N: usize>(
+    words: &[u64],
+    base: usize,
+    states: &[u8],
+    stride: usize,
+    good: u64,
+) -> Simd<u64, N>
+    requires within { All (λ b. base + N + b * stride ≤ length words.now) states.now }
+    ensures long { length result ≡ N }
+    ensures each { (i lane : ℕ) → i < N → is_on (slice_index result i) lane
+        ≡ (is_on good lane && not (list_any (λ b. not (is_on (slice_index words.now (base + i + b * stride)) lane)) states.now)) }
+{
+    let mut alive = Simd::<u64, N>::splat(good);
+    for b in states {
+        alive &= load::<N>(words, base + usize::from(*b) * stride);
     }
     alive
 }
@@ -51,25 +75,70 @@ pub(crate) fn all_alive(
     alive
 }
 
-/// Returns the word whose lane l is lane `l + to - from` of the given one.
-pub(crate) fn shifted(word: u64, from: u32, to: u32) -> u64
+/// Returns the words whose lane l is lane `l + by` of the given ones.
+#[inline(always)]
+fn moved_down<const N: usize>(words: Simd<u64, N>, by: u64) -> Simd<u64, N>
+    requires { by < 64 }
+    ensures long { length result ≡ N }
+    ensures each { (i lane : ℕ) → i < N → is_on (slice_index result i) lane ≡ is_on (slice_index words.entry i) (by + lane) }
+{
+    words >> Simd::<u64, N>::splat(by)
+}
+
+/// Returns the words whose lane `l + by` is lane l of the given ones.
+#[inline(always)]
+fn moved_up<const N: usize>(words: Simd<u64, N>, by: u64) -> Simd<u64, N>
+    requires { by < 64 }
+    ensures long { length result ≡ N }
+    ensures each { (i lane : ℕ) → i < N → by + lane < 64 → is_on (slice_index result i) (by + lane) ≡ is_on (slice_index words.entry i) lane }
+{
+    words << Simd::<u64, N>::splat(by)
+}
+
+/// Returns the words whose lane l is lane `l + to - from` of the given ones.
+#[inline(always)]
+fn shifted<const N: usize>(words: Simd<u64, N>, from: u32, to: u32) -> Simd<u64, N>
     requires from { from < 64 }
     requires to { to < 64 }
-    ensures { (lane : ℕ) → from ≤ lane → lane < 64 → lane + to - from < 64 → is_on result lane ≡ is_on word (lane + to - from) }
+    ensures long { length result ≡ N }
+    ensures each { (i lane : ℕ) → i < N → from ≤ lane → lane < 64 → lane + to - from < 64 → is_on (slice_index result i) lane ≡ is_on (slice_index words.entry i) (lane + to - from) }
 {
     if to >= from {
-        word >> (to - from)
+        moved_down(words, u64::from(to - from))
     } else {
-        word << (from - to)
+        moved_up(words, u64::from(from - to))
     }
 }
 
-/// Returns the lanes that don't move, or that move to a set lane. `lanes` are the lanes that move, and
-/// `moved` has the lane to which each moves.
-fn unmoved(lanes: u64, moved: u64) -> u64
-    ensures { (lane : ℕ) → lane < 64 → is_on result lane ≡ not (is_on lanes lane && not (is_on moved lane)) }
+/// Returns, for each word, the lanes that don't move, or that move to a set lane. `lanes` are the lanes
+/// that move, and `moved` has the lane to which each moves.
+#[inline(always)]
+fn unmoved<const N: usize>(lanes: u64, moved: Simd<u64, N>) -> Simd<u64, N>
+    ensures long { length result ≡ N }
+    ensures each { (i lane : ℕ) → i < N → lane < 64 → is_on (slice_index result i) lane ≡ not (is_on lanes lane && not (is_on (slice_index moved.entry i) lane)) }
 {
-    !lanes | moved
+    Simd::<u64, N>::splat(!lanes) | moved
+}
+
+/// Returns, for each word of `alive`, the lanes of `good` from which all moves lead to lanes of the
+/// word.
+#[inline(always)]
+pub(crate) fn each_moves_alive<const N: usize>(
+    alive: Simd<u64, N>,
+    moves: &[Move],
+    good: u64,
+) -> Simd<u64, N>
+    requires { (move : Move) → IsIn move moves.now → (move.from < 64) × (move.to < 64) }
+    ensures long { length result ≡ N }
+    ensures alive { (i lane : ℕ) → i < N → lane < 64 → ((move : Move) → IsIn move moves.now → is_on move.lanes lane ≡ true → (move.from ≤ lane) × (lane + move.to - move.from < 64)) →
+        is_on (slice_index result i) lane ≡ (is_on good lane && not (list_any (λ move. is_on move.lanes lane && not (is_on (slice_index alive.entry i) (lane + move.to - move.from))) moves.now)) }
+    ensures within { (i lane : ℕ) → i < N → is_on good lane ≡ false → is_on (slice_index result i) lane ≡ false }
+{
+    let mut left = Simd::<u64, N>::splat(good);
+    for way in moves {
+        left &= unmoved(way.lanes, shifted(alive, way.from, way.to));
+    }
+    left
 }
 
 /// Returns the lanes of `good` from which all moves lead to lanes of `alive`.
@@ -79,11 +148,9 @@ pub(crate) fn moves_alive(alive: u64, moves: &[Move], good: u64) -> u64
         is_on result lane ≡ (is_on good lane && not (list_any (λ move. is_on move.lanes lane && not (is_on alive (lane + move.to - move.from))) moves.now)) }
     ensures within { (lane : ℕ) → is_on good lane ≡ false → is_on result lane ≡ false }
 {
-    let mut left = good;
-    for way in moves {
-        left &= unmoved(way.lanes, shifted(alive, way.from, way.to));
-    }
-    left
+    let mut words = [0];
+    each_moves_alive(Simd::<u64, 1>::splat(alive), moves, good).copy_to_slice(&mut words);
+    words[0]
 }
 
 /// Returns the lanes of a word, with those of another added if `is_in` is true.

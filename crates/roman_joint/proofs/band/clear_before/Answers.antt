@@ -91,12 +91,15 @@ returns-clause-left c y gone ok rows =
     let states = c.next_states-states.result.now in
     let h = known n (y * band_in s) c.args.row.now c.layout-rows.ensures.known ok in
     let some : IsFalse (is_empty states) = sym (len_empty states) ∙ (sym c.is_empty.ensures ∙ c.if-is_empty.false) in
-    keeps_clear s (y * band_in s) (band_in s) (λ p. is_beaten (numbered s) gone p c.args.a c.args.k) c.args.left.now c.clear_good.new.left c.all_alive_each.new.all c.requires.long c.clear_good.ensures.long
-    (λ i l. serves_band s r y c.args.a c.args.row.now c.args.turn.now h c.layout-rows.ensures.rows c.requires.turn i c.args.k c.from.result (c.args.turn.now.base - c.from.result * u + i) (slice_index c.all_alive_each.new.all i)
-    states c.args.words.now gone l c.requires.seat c.requires.room c.next_states-states.ensures.next c.from.ensures some rows refl
-    (λ lane.
-    let many : i < length c.args.left.now = omega (arith, l, c.requires.long) in
-    c.all_alive_each.ensures.each i lane many
-    ∙ ap (λ z. is_on z lane && not (list_any (λ e. list_any (λ b. not (is_on (slice_index c.args.words.now (c.args.turn.now.base - c.from.result * u + i + e * r.env_rows + b * u)) lane)) states) c.args.turn.now.envs.now))
-    (c.set_first.ensures.each i many)))
-    c.clear_good.ensures.each
+    keeps_clear s (y * band_in s) (band_in s) (λ p. is_beaten (numbered s) gone p c.args.a c.args.k) c.args.left.now c.less.new.words c.requires.long c.less.ensures.long
+    (λ i l.
+    let many : i < length c.args.left.now = omega (arith, l, c.requires.long) in (
+      slice_index c.all_alive_each.new.all i,
+      serves_band s r y c.args.a c.args.row.now c.args.turn.now h c.layout-rows.ensures.rows c.requires.turn i c.args.k c.from.result (c.args.turn.now.base - c.from.result * u + i) (slice_index c.all_alive_each.new.all i)
+          states c.args.words.now gone l c.requires.seat c.requires.room c.next_states-states.ensures.next c.from.ensures some rows refl
+          (λ lane.
+          c.all_alive_each.ensures.each i lane many
+          ∙ ap (λ z. is_on z lane && not (list_any (λ e. list_any (λ b. not (is_on (slice_index c.args.words.now (c.args.turn.now.base - c.from.result * u + i + e * r.env_rows + b * u)) lane)) states) c.args.turn.now.envs.now))
+          (c.set_first.ensures.each i many)),
+      λ lane. c.less.ensures.each i lane many,
+    ))

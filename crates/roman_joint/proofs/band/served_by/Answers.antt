@@ -1,4 +1,4 @@
-use Rattle.std.proofs.Common.{◌≡◌, ℕ, ◌+◌, ◌*◌, ◌<◌, ◌≤◌, true, not, ◌&&◌, length, slice_index, sum_by, sym, ap, ap₂, ◌∙◌, arith}
+use Rattle.std.proofs.Common.{◌≡◌, ℕ, ◌+◌, ◌*◌, ◌<◌, true, not, ◌&&◌, slice_index, sum_by, ap, ap₂, ◌∙◌, arith}
 use Rattle.roman_model.specs.Lists.{below}
 use Rattle.roman_model.specs.Arena.{is_beaten}
 use Rattle.roman_model.specs.Numbers.{sizes_of, numbered}
@@ -10,9 +10,6 @@ use Rattle.roman_joint.specs.Rows.{lanes_in}
 use Rattle.roman_joint.specs.Bands.{band_in}
 use Rattle.roman_joint.proofs.GoodLemmas.{full_on, full_off}
 use Rattle.roman_joint.proofs.band.served_by.Goals as goal
-
-pub clear_seat-requires-clause-all : goal.clear_seat-requires-clause-all
-clear_seat-requires-clause-all c = omega (arith, c.band-many.ensures.value, c.band-many.ensures.few)
 
 pub loop-i-preserved : goal.loop-i-preserved
 loop-i-preserved c =

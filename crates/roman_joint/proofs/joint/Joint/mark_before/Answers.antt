@@ -1,10 +1,7 @@
-use Rattle.std.proofs.Common.{◌≡◌, ℕ, ◌+◌, ◌*◌, ◌/◌, ◌<◌, length, slice_index, sym, ap, ◌∙◌, IsTrue, arith}
-use Rattle.std.specs.Int.{bit_at}
-use Rattle.roman_model.specs.Lists.{IsIn}
-use Rattle.roman_model.specs.Numbers.{sizes_of, count, pair_at, numbered}
-use Rattle.roman_lanes.specs.Flags.{has_flag}
+use Rattle.std.proofs.Common.{◌≡◌, ℕ, ◌+◌, ◌*◌, ◌<◌, length, ap, ◌∙◌, arith}
+use Rattle.roman_model.specs.Numbers.{sizes_of, count, pair_at}
 use Rattle.roman_joint.specs.NamedSys.{system_of}
-use Rattle.roman_joint.specs.Rows.{lanes_in, IsRow}
+use Rattle.roman_joint.specs.Rows.{lanes_in}
 use Rattle.roman_joint.specs.Bands.{band_in}
 use Rattle.roman_joint.specs.Marks.{MarksAction, front_action}
 use Rattle.roman_joint.proofs.SplitLemmas.{joint_sizes}

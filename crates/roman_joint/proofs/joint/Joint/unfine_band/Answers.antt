@@ -1,10 +1,9 @@
-use Rattle.std.proofs.Common.{◌≡◌, ℕ, ◌+◌, ◌*◌, ◌<◌, true, false, not, ◌&&◌, ◌||◌, length, refl, slice_get, slice_index, sym, ap, ◌∙◌, subst, arith}
+use Rattle.std.proofs.Common.{◌≡◌, ◌+◌, ◌*◌, ◌<◌, true, false, not, ◌||◌, length, refl, slice_get, slice_index, sym, ap, ◌∙◌, subst, arith}
 use Rattle.std.proofs.lemmas.List.{length-set}
 use Rattle.roman_model.specs.Lists.{all_below}
 use Rattle.roman_model.specs.System.{is_final}
 use Rattle.roman_model.specs.Numbers.{sizes_of, pair_at, numbered}
-use Rattle.roman_lanes.specs.Rows.{is_on, Keeps}
-use Rattle.roman_lanes.proofs.CallerLemmas.{on_zero}
+use Rattle.roman_lanes.specs.Rows.{Keeps}
 use Rattle.roman_joint.specs.NamedSys.{system_of}
 use Rattle.roman_joint.specs.Rows.{lanes_in, may_rest}
 use Rattle.roman_joint.specs.Bands.{band_in}

@@ -1,4 +1,4 @@
-use Rattle.std.proofs.Common.{◌≡◌, ℕ, ◌+◌, ◌*◌, ◌<◌, ◌≤◌, length, not}
+use Rattle.std.proofs.Common.{◌≡◌, ℕ, ◌*◌, length, not}
 use Rattle.roman_model.specs.Numbers.{numbered}
 use Rattle.roman_lanes.specs.Rows.{Keeps}
 use Rattle.roman_joint.specs.NamedSys.{system_of}

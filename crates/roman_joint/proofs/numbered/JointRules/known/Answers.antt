@@ -1,4 +1,4 @@
-use Rattle.std.proofs.Common.{◌≡◌, ◌*◌, ◌/◌, sym, ap, ◌∙◌}
+use Rattle.std.proofs.Common.{◌*◌, ◌/◌, sym, ap, ◌∙◌}
 use Rattle.roman_model.specs.Numbers.{sizes_of, count}
 use Rattle.roman_model.proofs.CallerLemmas.{length-below}
 use Rattle.roman_radix.specs.Rows.{row_sizes}

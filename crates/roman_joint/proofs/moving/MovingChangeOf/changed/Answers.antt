@@ -1,0 +1,23 @@
+use Rattle.std.proofs.Common.{◌≡◌, ◌+◌, ◌-◌, not, ◌&&◌, get_or, subst, arith}
+use Rattle.std.specs.List.{list_any}
+use Rattle.roman_lanes.specs.Rows.{is_on}
+use Rattle.roman_joint.proofs.moving.MovingChangeOf.changed.Goals as goal
+
+pub load-alive-requires : goal.load-alive-requires
+load-alive-requires g c = omega (arith, c.requires.1, c.requires.2.long)
+
+pub each_moves_alive-requires : goal.each_moves_alive-requires
+each_moves_alive-requires g c = (omega arith, c.requires.2.small)
+
+pub returns : goal.returns
+returns g c = record {
+  long = c.without.ensures.long;
+  each = λ i within. record {
+    good = get_or c.each_moves_alive.result i 0;
+    served = λ lane l h.
+        subst (λ word. is_on (get_or c.each_moves_alive.result i 0) lane ≡ (is_on c.args.self.now.some lane && not (list_any (λ move. is_on move.lanes lane && not (is_on word (lane + move.to - move.from))) c.args.self.now.moves.now)))
+        (c.load-alive.ensures.each i within) (c.each_moves_alive.ensures.alive i lane within l h);
+    within = λ lane off. c.each_moves_alive.ensures.within i lane within off;
+    left = λ lane. c.without.ensures.each i lane within;
+  };
+}

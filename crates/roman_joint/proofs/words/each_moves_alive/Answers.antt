@@ -1,0 +1,50 @@
+use Rattle.std.proofs.Common.{◌≡◌, ℕ, ◌+◌, ◌-◌, ◌<◌, Bool, true, false, not, ◌&&◌, get_or, bit_and, refl, sym, ap, ◌∙◌, arith, rules}
+use Rattle.std.proofs.lemmas.Simd.{length-zip2, length-replicate, get_or-zip2, get_or-replicate}
+use Rattle.roman_lanes.specs.Rows.{is_on}
+use Rattle.roman_joint.specs.declared.moves.Move.{Move}
+use Rattle.roman_joint.proofs.Finds.{in_at}
+use Rattle.roman_lanes.proofs.CallerLemmas.{on_and}
+use Rattle.roman_joint.proofs.WordLemmas.{alive_more, all_pass}
+use Rattle.roman_joint.proofs.words.each_moves_alive.Goals as goal
+
+abbrev nowhere : Move
+nowhere = record { lanes = 0; from = 0; to = 0 }
+
+pub shifted-requires : goal.shifted-requires
+shifted-requires g c =
+    (search rules, c.requires (get_or c.args.moves.now c.loop-way.way-index nowhere) (in_at c.args.moves.now c.loop-way.way-index nowhere (omega arith)))
+
+pub loop-way-init : goal.loop-way-init
+loop-way-init g c =
+    let word = λ (i lane : ℕ) (within : i < g.row.N). ap (λ z. is_on z lane) (get_or-replicate g.row.N i c.args.good 0 within) in record {
+      long = length-replicate g.row.N c.args.good;
+      alive = λ i lane within l h. word i lane within ∙ all_pass (is_on c.args.good lane);
+      within = λ i lane within off. word i lane within ∙ off;
+    }
+
+-- tests that agree where it matters give the same result
+where_on : (on a b : Bool) → (on ≡ true → a ≡ b) → not (on && not a) ≡ not (on && not b)
+where_on true a b h = ap (λ t. not (not t)) (h refl)
+where_on false a b h = refl
+
+pub loop-way-preserved : goal.loop-way-preserved
+loop-way-preserved g c =
+    let left = c.loop-way.left in
+    let next = c.unmoved-left.result in
+    let before = c.loop-way.invariant in
+    let long = c.unmoved-left.ensures.long in
+    let word = λ (i lane : ℕ) (within : i < g.row.N). ap (λ z. is_on z lane) (get_or-zip2 bit_and left next i 0 0 0 (omega (arith, before.long)) (omega (arith, long))) in record {
+      long = length-zip2 bit_and left next (before.long ∙ sym long) ∙ before.long;
+      alive = λ i lane within l h.
+          let moves = c.args.moves.now in
+          let at = c.loop-way.way-index in
+          let move = get_or moves at nowhere in
+          let in_moves = in_at moves at nowhere (omega arith) in
+          let alive = get_or c.args.alive i 0 in
+          let test = λ (m : Move). is_on m.lanes lane && not (is_on alive (lane + m.to - m.from)) in
+          word i lane within
+          ∙ alive_more test moves at nowhere c.args.good (get_or left i 0) (get_or next i 0) lane (omega arith) (before.alive i lane within l h)
+          (c.unmoved-left.ensures.each i lane within l
+          ∙ where_on (is_on move.lanes lane) (is_on (get_or c.shifted.result i 0) lane) (is_on alive (lane + move.to - move.from)) (λ on. let to = h move in_moves on in c.shifted.ensures.each i lane within to.0 l to.1));
+      within = λ i lane within off. word i lane within ∙ (on_and (get_or left i 0) (get_or next i 0) lane ∙ ap (λ b. b && is_on (get_or next i 0) lane) (before.within i lane within off));
+    }

@@ -1,0 +1,15 @@
+use Rattle.std.proofs.Common.{◌≡◌, ℕ, ◌+◌, ◌-◌, ◌<◌, ◌≤◌, true, false, not, ◌&&◌, length, take, slice_index}
+use Rattle.std.specs.List.{list_any}
+use Rattle.roman_model.specs.Lists.{IsIn}
+use Rattle.roman_lanes.specs.Rows.{is_on}
+use Rattle.roman_joint.specs.declared.moves.Move.{Move}
+use Rattle.roman_joint.proofs.words.each_moves_alive.Given as goal
+
+-- the lanes from which the moves so far lead to alive lanes
+abbrev pub invariant-loop-way : goal.invariant-loop-way
+invariant-loop-way g l = record {
+  long : length l.left ≡ g.row.N;
+  alive : (i lane : ℕ) → i < g.row.N → lane < 64 → ((move : Move) → IsIn move l.moves → is_on move.lanes lane ≡ true → (move.from ≤ lane) × (lane + move.to - move.from < 64)) →
+      is_on (slice_index l.left i) lane ≡ (is_on l.good lane && not (list_any (λ move. is_on move.lanes lane && not (is_on (slice_index l.alive i) (lane + move.to - move.from))) (take l.way-index l.moves)));
+  within : (i lane : ℕ) → i < g.row.N → is_on l.good lane ≡ false → is_on (slice_index l.left i) lane ≡ false;
+}

@@ -1,0 +1,51 @@
+//! Clearing the lanes at which a service within the lanes serves an action.
+ghost use Rattle.std.specs.Prelude.{◌≡◌, ℕ, ◌+◌, ◌<◌, ◌≤◌, length, slice_index};
+ghost use Rattle.roman_model.specs.Lists.{IsIn};
+ghost use Rattle.roman_joint.specs.Moves.{SuitsMoving, LosesMoving};
+ghost use Rattle.roman_joint.specs.declared.moves.Move.{Move};
+
+use crate::moves::Move;
+use crate::words::each_moves_alive;
+use roman_lanes::{Change, ChangeOf, change_each, load, without};
+use std::simd::prelude::*;
+
+/// Clears, in each word, the lanes of `some` from which all moves lead to lanes of the word of `alive`
+/// at its place.
+#[derive(Clone, Copy)]
+struct Moving<'a> {
+    alive: &'a [u64],
+    moves: &'a [Move],
+    some: u64,
+}
+
+impl Change for Moving<'_> {
+    ghost use Rattle.std.specs.Prelude.{slice_index};
+    ghost use Rattle.roman_joint.specs.Moves.{SuitsMoving, LosesMoving};
+
+    ghost suits = { λ change many. SuitsMoving change.alive.now change.moves.now many };
+
+    ghost makes = { λ change i old new. LosesMoving change.some change.moves.now (slice_index change.alive.now i) old new };
+}
+
+impl<const N: usize> ChangeOf<N> for Moving<'_> {
+    #[inline(always)]
+    fn changed(&self, words: Simd<u64, N>, at: usize) -> Simd<u64, N>
+        requires { (many : ℕ) × (at + N ≤ many) × SuitsMoving self.now.alive.now self.now.moves.now many }
+        ensures long { length result ≡ N }
+        ensures each { (i : ℕ) → i < N → LosesMoving self.now.some self.now.moves.now (slice_index self.now.alive.now (at + i)) (slice_index words.entry i) (slice_index result i) }
+    {
+        let alive = load::<N>(self.alive, at);
+        without(words, each_moves_alive(alive, self.moves, self.some))
+    }
+}
+
+/// Clears, in each word of `left`, the lanes of `some` from which all moves lead to lanes of the word
+/// of `alive` at its place.
+pub(crate) fn clear_moving(left: &mut [u64], alive: &[u64], moves: &[Move], some: u64)
+    requires alive { length left.old ≤ length alive.now }
+    requires moves { (move : Move) → IsIn move moves.now → (move.from < 64) × (move.to < 64) }
+    ensures long { length left.new ≡ length left.old }
+    ensures each { (i : ℕ) → i < length left.old → LosesMoving some moves.now (slice_index alive.now i) (slice_index left.old i) (slice_index left.new i) }
+{
+    change_each(&Moving { alive, moves, some }, left);
+}
