@@ -131,7 +131,7 @@ part_begins x lanes c w i is = let slices : x * lanes ≡ x * (c * w) = ap (λ m
 
 -- ---- the lanes of a part
 
-on_lowered : (a d i : ℕ) → is_on (a / 2 ^ d) i ≡ is_on a (d + i)
+pub on_lowered : (a d i : ℕ) → is_on (a / 2 ^ d) i ≡ is_on a (d + i)
 unfolding is_on
 on_lowered a d i = ap (λ n. eqb n 1) (sym (shr_and_one (a / 2 ^ d) i) ∙ (ap (λ n. bit_and n 1) (shr-shr a d i) ∙ shr_and_one a (d + i)))
 

@@ -15,12 +15,11 @@ use Rattle.roman_model.proofs.CallerLemmas.{filter_below_more, from_map, in_map,
 use Rattle.roman_lanes.specs.Rows.{is_on}
 use Rattle.roman_lanes.proofs.CallerLemmas.{on_and, on_full, on_full_past, on_less, on_ones, on_ones_above, on_not}
 use Rattle.roman_rules.specs.Numbered.{IsNumbered}
-use Rattle.roman_rules.specs.Asked.{HoldsWhereKept, IsReasonOf, readings_of_reason}
-use Rattle.roman_rules.specs.declared.asked.Asked.{Asked}
-use Rattle.roman_rules.proofs.CallerLemmas.{known_more}
+use Rattle.roman_rules.specs.Asked.{IsReasonOf, readings_of_reason}
 use Rattle.roman_order.specs.Board.{Board, as_entry, set_lanes, entries_in, has_entry}
 use Rattle.roman_order.proofs.CallerLemmas.{in_lanes}
-use Rattle.roman_repair.specs.Replays.{AreCandidates, with_replay, readings_of_entries}
+use Rattle.roman_relation.specs.Shaped.{IsShaped}
+use Rattle.roman_repair.specs.Replays.{is_possible, AreCandidates, with_replay, readings_of_entries}
 use Rattle.roman_repair.proofs.Keeping.{with_replay_step, with_replay_append, candidates_replayed, possible_reason, IsReplaying, replaying_still, replaying_part}
 
 -- ---- the lanes of a word, split in two
@@ -358,18 +357,24 @@ pub record IsInRow (A : Arena ℕ) (rows n x : ℕ) (reason : Reason) : Type 0 w
   pub node : x * n < length A.nodes
   pub action : IsReasonOf A reason
 
-pub in_row : (A : Arena ℕ) → IsNumbered A → (kept : List (Entry ℕ)) (rows n x word : ℕ) (reason : Reason) → AreCandidates A kept (entries_in n x word reason) → word ≢ 0 → word < 2 ^ 64 → rows * n ≡ length A.nodes →
-    IsInRow A rows n x reason
-in_row A ok kept rows n x word reason are some fits pairs =
+pub in_row : (A : Arena ℕ) → IsNumbered A → (board : Board) (n x word : ℕ) (reason : Reason) → IsShaped A n board → AreCandidates A board.list (entries_in n x word reason) → word ≢ 0 → word < 2 ^ 64 → IsInRow A board.rows n x reason
+in_row A ok board n x word reason shaped are some fits =
     let first = first_lane word some fits in
     let lane : ℕ = trailing_zeros w64 word in
     let i = in_map (λ lane. as_entry (x * n + lane, reason)) lane (set_lanes word) (on_in word lane first.low first.on) in
     let node : x * n + lane < length A.nodes = are.nodes (as_entry (x * n + lane, reason)) i in
+    let pairs : board.rows * n ≡ length A.nodes = ap (λ m. board.rows * m) (sym shaped.lanes) ∙ shaped.pairs in
     record {
-      row = elim (cases_lt x rows) [ inl l ↦ l | inr past ↦ absurd (let more : n * rows ≤ n * x = mul-le-mul_left n past in omega (arith, more, node, pairs)) ];
+      row = elim (cases_lt x board.rows) [ inl l ↦ l | inr past ↦ absurd (let more : n * board.rows ≤ n * x = mul-le-mul_left n past in omega (arith, more, node, pairs)) ];
       node = omega (arith, node);
       action = possible_reason A ok (x * n + lane) reason (are.possible (as_entry (x * n + lane, reason)) i);
     }
+
+-- the number of the row is small
+pub row_few : (A : Arena ℕ) → IsNumbered A → (board : Board) (n x word : ℕ) (reason : Reason) → IsShaped A n board → AreCandidates A board.list (entries_in n x word reason) → word ≢ 0 → word < 2 ^ 64 → 0 < n → x < 2 ^ 32
+row_few A ok board n x word reason shaped are some fits wide =
+    let less : x * 1 ≤ x * n = mul-le-mul_left x wide in
+    omega (arith, (in_row A ok board n x word reason shaped are some fits).node, less, ok.few_nodes)
 
 -- none of them is listed
 pub lane_alive : (A : Arena ℕ) (kept : List (Entry ℕ)) (n wide x word lane : ℕ) (reason : Reason) → AreCandidates A kept (entries_in n x word reason) → wide ≡ n → lane < 64 → is_on word lane ≡ true →
@@ -377,10 +382,9 @@ pub lane_alive : (A : Arena ℕ) (kept : List (Entry ℕ)) (n wide x word lane :
 lane_alive A kept n wide x word lane reason are e l on =
     ap (λ m. has_entry kept (x * m + lane)) e ∙ are.new (as_entry (x * n + lane, reason)) (in_map (λ lane. as_entry (x * n + lane, reason)) lane (set_lanes word) (on_in word lane l on))
 
--- known reasons stay known when more entries are listed
-pub known_on : (A : Arena ℕ) (lanes : ℕ) (asked : Asked) (kept new M : List (Entry ℕ)) → new ≡ kept ++ M → HoldsWhereKept A lanes (is_listed A kept) asked → HoldsWhereKept A lanes (is_listed A new) asked
-known_on A lanes asked kept new M is known = subst (λ L. HoldsWhereKept A lanes (is_listed A L) asked) (sym is)
-    (known_more A lanes (is_listed A kept) (is_listed A (kept ++ M)) asked (λ q t. listed_append A kept M q ∙ or_left (is_listed A kept q) (is_listed A M q) t) known)
+-- and their reason is possible
+pub lane_possible : (A : Arena ℕ) (kept : List (Entry ℕ)) (n x word lane : ℕ) (reason : Reason) → AreCandidates A kept (entries_in n x word reason) → lane < 64 → is_on word lane ≡ true → IsTrue (is_possible A (x * n + lane) reason)
+lane_possible A kept n x word lane reason are l on = are.possible (as_entry (x * n + lane, reason)) (in_map (λ lane. as_entry (x * n + lane, reason)) lane (set_lanes word) (on_in word lane l on))
 
 pub shorter : (word front rest : ℕ) → set_lanes word ≡ set_lanes front ++ set_lanes rest → 0 < length (set_lanes front) → length (set_lanes rest) < length (set_lanes word)
 shorter word front rest parts some = omega (arith, ap length parts, length-append (set_lanes front) (set_lanes rest), some)

@@ -8,3 +8,5 @@ pub mod DeathEntries
 pub mod Whole
 pub mod Fronts
 pub mod Growing
+pub mod BandAnswers
+pub mod Gathering

@@ -1,3 +1,4 @@
 pub mod Repairs
 pub mod Replays
 pub mod Deaths
+pub mod AskedBands

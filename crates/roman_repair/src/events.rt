@@ -3,16 +3,17 @@
 ghost use Rattle.std.specs.Prelude.{◌≡◌, ◌≢◌, ℕ, ◌+◌, ◌<◌, ◌≤◌, true, [], length};
 ghost use Rattle.roman_lanes.specs.Rows.{is_on};
 ghost use Rattle.roman_model.specs.Arena.{is_listed};
-ghost use Rattle.roman_rules.specs.Asked.{HoldsWhereKept};
+ghost use Rattle.roman_repair.specs.AskedBands.{HoldsInBand};
 ghost use Rattle.roman_order.specs.Board.{set_lanes, entries_in};
 ghost use Rattle.roman_relation.specs.Shaped.{IsShaped};
 ghost use Rattle.roman_repair.specs.Replays.{AreCandidates, with_replay, readings_of_entries};
 
+use crate::asked_band::AskedBand;
 use crate::lanes::split_lanes;
 use roman_io::Steps;
 use roman_model::Reason;
 use roman_order::Order;
-use roman_rules::{Asked, Rules};
+use roman_rules::Rules;
 use std::sync::ledger::Ledger;
 
 /// Judges the first entries for the lanes `lanes` of the row `x`. Lists the entries before the
@@ -22,7 +23,7 @@ use std::sync::ledger::Ledger;
 fn keep_front<J: Rules, L: Ledger>(
     joint: &J,
     order: &mut Order,
-    asked: &mut Asked,
+    asked: &mut AskedBand,
     x: u32,
     lanes: u64,
     reason: Reason,
@@ -32,13 +33,13 @@ fn keep_front<J: Rules, L: Ledger>(
     requires some { lanes ≢ 0 }
     requires within { (lane : ℕ) → is_on lanes lane ≡ true → lane < J.lanes joint.now }
     requires candidates { AreCandidates (J.arena joint.now) order.old.list (entries_in (J.lanes joint.now) x lanes reason) }
-    requires known { HoldsWhereKept (J.arena joint.now) (J.lanes joint.now) (is_listed (J.arena joint.now) order.old.list) asked.old }
+    requires known { HoldsInBand (J.arena joint.now) (J.lanes joint.now) (is_listed (J.arena joint.now) order.old.list) asked.old }
     ensures list { let A = J.arena joint.now in let n = J.lanes joint.now in
         with_replay A order.new.list (entries_in n x result reason) ≡ with_replay A order.old.list (entries_in n x lanes reason) }
     ensures candidates { AreCandidates (J.arena joint.now) order.new.list (entries_in (J.lanes joint.now) x result reason) }
     ensures within { (lane : ℕ) → is_on result lane ≡ true → lane < J.lanes joint.now }
     ensures fewer { length (set_lanes result) < length (set_lanes lanes) }
-    ensures known { HoldsWhereKept (J.arena joint.now) (J.lanes joint.now) (is_listed (J.arena joint.now) order.new.list) asked.new }
+    ensures known { HoldsInBand (J.arena joint.now) (J.lanes joint.now) (is_listed (J.arena joint.now) order.new.list) asked.new }
     ensures rest { order.new ≡ record order.old { list = order.new.list } }
     ensures cost { let A = J.arena joint.now in let n = J.lanes joint.now in
         steps.new + readings_of_entries A (entries_in n x result reason) ≤ steps.old + readings_of_entries A (entries_in n x lanes reason) }
@@ -64,7 +65,7 @@ fn keep_front<J: Rules, L: Ledger>(
 pub(crate) fn keep_lanes<J: Rules, L: Ledger>(
     joint: &J,
     order: &mut Order,
-    asked: &mut Asked,
+    asked: &mut AskedBand,
     x: u32,
     lanes: u64,
     reason: Reason,
@@ -73,9 +74,9 @@ pub(crate) fn keep_lanes<J: Rules, L: Ledger>(
     requires shaped { IsShaped (J.arena joint.now) (J.lanes joint.now) order.old }
     requires within { (lane : ℕ) → is_on lanes lane ≡ true → lane < J.lanes joint.now }
     requires candidates { AreCandidates (J.arena joint.now) order.old.list (entries_in (J.lanes joint.now) x lanes reason) }
-    requires known { HoldsWhereKept (J.arena joint.now) (J.lanes joint.now) (is_listed (J.arena joint.now) order.old.list) asked.old }
+    requires known { HoldsInBand (J.arena joint.now) (J.lanes joint.now) (is_listed (J.arena joint.now) order.old.list) asked.old }
     ensures list { order.new.list ≡ with_replay (J.arena joint.now) order.old.list (entries_in (J.lanes joint.now) x lanes reason) }
-    ensures known { HoldsWhereKept (J.arena joint.now) (J.lanes joint.now) (is_listed (J.arena joint.now) order.new.list) asked.new }
+    ensures known { HoldsInBand (J.arena joint.now) (J.lanes joint.now) (is_listed (J.arena joint.now) order.new.list) asked.new }
     ensures rest { order.new ≡ record order.old { list = order.new.list } }
     ensures cost { steps.new ≤ steps.old + readings_of_entries (J.arena joint.now) (entries_in (J.lanes joint.now) x lanes reason) }
 {
@@ -95,7 +96,7 @@ pub(crate) fn replay_events<J: Rules, L: Ledger>(joint: &J, order: &mut Order, s
     ensures rest { order.new ≡ record order.old { list = order.new.list; waiting = [] } }
     ensures cost { steps.new ≤ steps.old + readings_of_entries (J.arena joint.now) order.old.waiting }
 {
-    let mut asked = Asked::nothing();
+    let mut asked = AskedBand::nothing(0, Reason::Final);
     'replay: while let Some(event) = order.next_waiting_event() {
         keep_lanes(
             joint,

@@ -3,17 +3,18 @@ ghost use Rattle.std.specs.Prelude.{◌≡◌, ℕ, ◌+◌, ◌*◌, ◌<◌, �
 ghost use Rattle.roman_model.specs.Arena.{is_listed};
 ghost use Rattle.roman_model.specs.NumberedChange.{grown_numbers};
 ghost use Rattle.roman_lanes.specs.Rows.{is_on};
-ghost use Rattle.roman_rules.specs.Asked.{HoldsWhereKept};
+ghost use Rattle.roman_repair.specs.AskedBands.{HoldsInBand};
 ghost use Rattle.roman_order.specs.Board.{entries_in};
 ghost use Rattle.roman_relation.specs.Shaped.{IsShaped};
 ghost use Rattle.roman_repair.specs.Replays.{AreCandidates, AreSlices, with_replay, readings_of_entries};
 
+use crate::asked_band::AskedBand;
 use crate::events::keep_lanes;
 use crate::lanes::{filled_parts, spread_lanes};
 use roman_io::Steps;
 use roman_model::Reason;
 use roman_order::Order;
-use roman_rules::{Asked, Rules};
+use roman_rules::Rules;
 use std::sync::ledger::Ledger;
 
 /// Replays the entries for some lanes of one of the rows that row `x` becomes: of `many` rows the one
@@ -21,7 +22,7 @@ use std::sync::ledger::Ledger;
 fn keep_part<J: Rules, L: Ledger>(
     joint: &J,
     order: &mut Order,
-    asked: &mut Asked,
+    asked: &mut AskedBand,
     x: u32,
     many: u32,
     i: u32,
@@ -32,9 +33,9 @@ fn keep_part<J: Rules, L: Ledger>(
     requires shaped { IsShaped (J.arena joint.now) (J.lanes joint.now) order.old }
     requires within { (lane : ℕ) → is_on word lane ≡ true → lane < J.lanes joint.now }
     requires candidates { AreCandidates (J.arena joint.now) order.old.list (entries_in (J.lanes joint.now) (x * many + i) word reason) }
-    requires known { HoldsWhereKept (J.arena joint.now) (J.lanes joint.now) (is_listed (J.arena joint.now) order.old.list) asked.old }
+    requires known { HoldsInBand (J.arena joint.now) (J.lanes joint.now) (is_listed (J.arena joint.now) order.old.list) asked.old }
     ensures list { order.new.list ≡ with_replay (J.arena joint.now) order.old.list (entries_in (J.lanes joint.now) (x * many + i) word reason) }
-    ensures known { HoldsWhereKept (J.arena joint.now) (J.lanes joint.now) (is_listed (J.arena joint.now) order.new.list) asked.new }
+    ensures known { HoldsInBand (J.arena joint.now) (J.lanes joint.now) (is_listed (J.arena joint.now) order.new.list) asked.new }
     ensures rest { order.new ≡ record order.old { list = order.new.list } }
     ensures cost { steps.new ≤ steps.old + readings_of_entries (J.arena joint.now) (entries_in (J.lanes joint.now) (x * many + i) word reason) }
 {
@@ -51,7 +52,7 @@ fn keep_part<J: Rules, L: Ledger>(
 fn keep_grown<J: Rules, L: Ledger>(
     joint: &J,
     order: &mut Order,
-    asked: &mut Asked,
+    asked: &mut AskedBand,
     states: u8,
     lanes: u32,
     x: u32,
@@ -63,9 +64,9 @@ fn keep_grown<J: Rules, L: Ledger>(
     requires slices { AreSlices (J.lanes joint.now) lanes states }
     requires within { (lane : ℕ) → is_on word lane ≡ true → lane < lanes }
     requires candidates { AreCandidates (J.arena joint.now) order.old.list (flat_map (grown_numbers states) (entries_in lanes x word reason)) }
-    requires known { HoldsWhereKept (J.arena joint.now) (J.lanes joint.now) (is_listed (J.arena joint.now) order.old.list) asked.old }
+    requires known { HoldsInBand (J.arena joint.now) (J.lanes joint.now) (is_listed (J.arena joint.now) order.old.list) asked.old }
     ensures list { order.new.list ≡ with_replay (J.arena joint.now) order.old.list (flat_map (grown_numbers states) (entries_in lanes x word reason)) }
-    ensures known { HoldsWhereKept (J.arena joint.now) (J.lanes joint.now) (is_listed (J.arena joint.now) order.new.list) asked.new }
+    ensures known { HoldsInBand (J.arena joint.now) (J.lanes joint.now) (is_listed (J.arena joint.now) order.new.list) asked.new }
     ensures rest { order.new ≡ record order.old { list = order.new.list } }
     ensures cost { steps.new ≤ steps.old + readings_of_entries (J.arena joint.now) (flat_map (grown_numbers states) (entries_in lanes x word reason)) }
 {
@@ -99,7 +100,7 @@ pub(crate) fn replay<J: Rules, L: Ledger>(
     ensures cost { steps.new ≤ steps.old + readings_of_entries (J.arena joint.now) (flat_map (grown_numbers states) order.old.waiting) }
 {
     joint.known();
-    let mut asked = Asked::nothing();
+    let mut asked = AskedBand::nothing(0, Reason::Final);
     'replay: while let Some(event) = order.next_waiting_event() {
         keep_grown(
             joint,

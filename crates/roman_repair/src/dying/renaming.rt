@@ -10,13 +10,14 @@ ghost use Rattle.roman_joint.specs.NamedSys.{system_of};
 ghost use Rattle.roman_joint.specs.Rows.{lanes_in};
 ghost use Rattle.roman_order.specs.Board.{pairs_of, entries_in};
 ghost use Rattle.roman_relation.specs.Shaped.{IsShaped};
-ghost use Rattle.roman_repair.specs.Deaths.{list_with, entries_from, IsPart};
+ghost use Rattle.roman_repair.specs.Deaths.{list_and, list_with, entries_from, IsGathered, IsPart};
 
+use super::gathering::{gather, push_gathered, unlisted};
 use super::states::may_go;
 use crate::lanes::filled_parts;
 use roman_joint::Joint;
 use roman_model::Reason;
-use roman_order::Order;
+use roman_order::{Event, Order};
 use roman_radix::Shape;
 
 /// Returns the number of neighbouring pairs in each part into which rows fall when the service `k`
@@ -34,13 +35,14 @@ fn part_width(shape: &Shape, k: u8) -> u32
     shape.stride(k)
 }
 
-/// Renames the entries for pairs of one part, and appends them to the list: one for each renamed
-/// pair that isn't listed yet. Appends nothing where the service `k` may not leave its state
+/// Renames the entries for pairs of one part, and gathers them after the list: one for each renamed
+/// pair of which there is no entry yet. Gathers nothing where the service `k` may not leave its state
 /// behind. The bits of `word` give the pairs, counted from `first`. `lanes` is the number of lanes
 /// of a row without the service.
 fn rename_part(
     joint: &Joint,
     order: &mut Order,
+    gathered: &mut Event,
     k: u8,
     lanes: u32,
     first: u32,
@@ -53,8 +55,10 @@ fn rename_part(
     requires part { (width : ℕ) × (j : ℕ) × IsPart (sizes_of (system_of joint.now)).seats k width × (first ≡ j * width) × ((i : ℕ) → is_on word i ≡ true → i < width) }
     requires shaped { pairs_of order.old ≡ count (sizes_without k (sizes_of (system_of joint.now))) }
     requires lanes { (lanes ≡ order.old.lanes) × (order.old.lanes ≡ lanes_of (sizes_without k (sizes_of (system_of joint.now))).seats) }
+    requires gathered { IsGathered order.old gathered.old }
     ensures list { (seat : Seat) → CanChange (Die k seat) (system_of joint.now) →
-        order.new.list ≡ list_with (sizes_of (system_of joint.now)) k seat order.old.list (entries_from first word reason) }
+        list_and order.new gathered.new ≡ list_with (sizes_of (system_of joint.now)) k seat (list_and order.old gathered.old) (entries_from first word reason) }
+    ensures gathered { IsGathered order.new gathered.new }
     ensures rest { order.new ≡ record order.old { list = order.new.list } }
 {
     joint.known();
@@ -68,16 +72,17 @@ fn rename_part(
     }
     let left = shape.without(first, k);
     let x = left / lanes;
-    let lost = (word << (left % lanes)) & order.words()[x as usize];
-    order.push_lanes(x, lost, reason);
+    let lost = (word << (left % lanes)) & unlisted(order, gathered, x);
+    gather(order, gathered, x, lost, reason);
 }
 
-/// Renames the entries for the lanes `word` of the row `x`, part by part, and appends them to the
-/// list: for each renamed pair that isn't listed yet, the first entry in which the service `k` may
-/// leave its state behind. `lanes` is the number of lanes of a row without the service.
+/// Renames the entries for the lanes `word` of the row `x`, part by part, and gathers them after the
+/// list: for each renamed pair of which there is no entry yet, the first entry in which the service `k`
+/// may leave its state behind. `lanes` is the number of lanes of a row without the service.
 fn rename_row(
     joint: &Joint,
     order: &mut Order,
+    gathered: &mut Event,
     k: u8,
     lanes: u32,
     x: u32,
@@ -90,8 +95,10 @@ fn rename_row(
     requires some { x * lanes_in (system_of joint.now) < count (sizes_of (system_of joint.now)) }
     requires shaped { pairs_of order.old ≡ count (sizes_without k (sizes_of (system_of joint.now))) }
     requires lanes { (lanes ≡ order.old.lanes) × (order.old.lanes ≡ lanes_of (sizes_without k (sizes_of (system_of joint.now))).seats) }
+    requires gathered { IsGathered order.old gathered.old }
     ensures list { (seat : Seat) → CanChange (Die k seat) (system_of joint.now) →
-        order.new.list ≡ list_with (sizes_of (system_of joint.now)) k seat order.old.list (entries_in (lanes_in (system_of joint.now)) x word reason) }
+        list_and order.new gathered.new ≡ list_with (sizes_of (system_of joint.now)) k seat (list_and order.old gathered.old) (entries_in (lanes_in (system_of joint.now)) x word reason) }
+    ensures gathered { IsGathered order.new gathered.new }
     ensures rest { order.new ≡ record order.old { list = order.new.list } }
 {
     joint.known();
@@ -103,7 +110,16 @@ fn rename_row(
     let (begin, end) = filled_parts(word, width, wide / width);
     for i in begin..end {
         let part = (word >> (i * width)) & (u64::MAX >> (64 - width));
-        rename_part(joint, order, k, lanes, first + i * width, part, reason);
+        rename_part(
+            joint,
+            order,
+            gathered,
+            k,
+            lanes,
+            first + i * width,
+            part,
+            reason,
+        );
     }
 }
 
@@ -127,7 +143,22 @@ pub(crate) fn rename_list(joint: &Joint, order: &mut Order, k: u8)
     let small = shape.shrink(k);
     let lanes = small.lanes();
     order.reopen(small.rows(), lanes);
+    let mut gathered = Event {
+        row: 0,
+        reason: Reason::Final,
+        lanes: 0,
+    };
     'waiting: while let Some(event) = order.next_waiting_event() {
-        rename_row(joint, order, k, lanes, event.row, event.lanes, event.reason);
+        rename_row(
+            joint,
+            order,
+            &mut gathered,
+            k,
+            lanes,
+            event.row,
+            event.lanes,
+            event.reason,
+        );
     }
+    push_gathered(order, &gathered);
 }

@@ -1,17 +1,16 @@
-use Rattle.std.proofs.Common.{◌≡◌, ℕ, ◌-◌, ◌*◌, ◌<◌, ◌++◌, true, length, inl, inr, sym, ap, ◌∙◌, subst, arith, rules, length-append}
+use Rattle.std.proofs.Common.{◌≡◌, ℕ, ◌-◌, ◌<◌, ◌++◌, true, length, inl, inr, sym, ap, ◌∙◌, subst, arith, rules, length-append}
 use Rattle.roman_model.specs.Arena.{is_listed}
 use Rattle.roman_lanes.specs.Rows.{is_on}
 use Rattle.roman_order.specs.Board.{Board, set_lanes, entries_in}
 use Rattle.roman_relation.proofs.CallerLemmas.{words_rows}
 use Rattle.roman_repair.specs.Replays.{AreCandidates, with_replay}
-use Rattle.roman_repair.proofs.Fronts.{first_lane, in_row, lane_alive, front_kept, front_dropped, known_on, shorter, either_front, one_less, entries_more, on_not_off}
+use Rattle.roman_repair.proofs.Fronts.{first_lane, in_row, lane_alive, front_kept, front_dropped, lane_possible, shorter, either_front, one_less, entries_more, on_not_off}
+use Rattle.roman_repair.proofs.BandAnswers.{known_on}
 use Rattle.roman_repair.proofs.events.keep_front.Goals as goal
 
 pub push_lanes-requires-clause-row : goal.push_lanes-requires-clause-row
 push_lanes-requires-clause-row g c =
-    let pairs : c.args.order.now.rows * g.J.Rules.lanes c.args.joint.now ≡ length (g.J.Rules.arena c.args.joint.now).nodes =
-    ap (λ m. c.args.order.now.rows * m) (sym c.requires.shaped.lanes) ∙ c.requires.shaped.pairs in
-    (in_row _ c.known.ensures.numbered c.args.order.now.list c.args.order.now.rows _ c.args.x c.args.lanes c.args.reason c.requires.candidates c.requires.some c.ranges.lanes.fits pairs).row
+    (in_row _ c.known.ensures.numbered c.args.order.now _ c.args.x c.args.lanes c.args.reason c.requires.shaped c.requires.candidates c.requires.some c.ranges.lanes.fits).row
 
 pub push_lanes-requires-clause-alive : goal.push_lanes-requires-clause-alive
 push_lanes-requires-clause-alive g c lane on =
@@ -46,21 +45,15 @@ returns-then-front-ne0 g c =
 
 pub ask-held-requires-clause-row : goal.ask-held-requires-clause-row
 ask-held-requires-clause-row g c =
-    let pairs : c.args.order.now.rows * g.J.Rules.lanes c.args.joint.now ≡ length (g.J.Rules.arena c.args.joint.now).nodes =
-    ap (λ m. c.args.order.now.rows * m) (sym c.requires.shaped.lanes) ∙ c.requires.shaped.pairs in
-    (in_row _ c.known.ensures.numbered c.args.order.now.list c.args.order.now.rows _ c.args.x c.args.lanes c.args.reason c.requires.candidates c.requires.some c.ranges.lanes.fits pairs).node
+    (in_row _ c.known.ensures.numbered c.args.order.now _ c.args.x c.args.lanes c.args.reason c.requires.shaped c.requires.candidates c.requires.some c.ranges.lanes.fits).node
 
 pub ask-held-requires-clause-reason : goal.ask-held-requires-clause-reason
 ask-held-requires-clause-reason g c =
-    let pairs : c.args.order.now.rows * g.J.Rules.lanes c.args.joint.now ≡ length (g.J.Rules.arena c.args.joint.now).nodes =
-    ap (λ m. c.args.order.now.rows * m) (sym c.requires.shaped.lanes) ∙ c.requires.shaped.pairs in
-    (in_row _ c.known.ensures.numbered c.args.order.now.list c.args.order.now.rows _ c.args.x c.args.lanes c.args.reason c.requires.candidates c.requires.some c.ranges.lanes.fits pairs).action
+    (in_row _ c.known.ensures.numbered c.args.order.now _ c.args.x c.args.lanes c.args.reason c.requires.shaped c.requires.candidates c.requires.some c.ranges.lanes.fits).action
 
 pub push_lanes-requires-2-clause-row : goal.push_lanes-requires-2-clause-row
 push_lanes-requires-2-clause-row g c =
-    let pairs : c.args.order.now.rows * g.J.Rules.lanes c.args.joint.now ≡ length (g.J.Rules.arena c.args.joint.now).nodes =
-    ap (λ m. c.args.order.now.rows * m) (sym c.requires.shaped.lanes) ∙ c.requires.shaped.pairs in
-    (in_row _ c.known.ensures.numbered c.args.order.now.list c.args.order.now.rows _ c.args.x c.args.lanes c.args.reason c.requires.candidates c.requires.some c.ranges.lanes.fits pairs).row
+    (in_row _ c.known.ensures.numbered c.args.order.now _ c.args.x c.args.lanes c.args.reason c.requires.shaped c.requires.candidates c.requires.some c.ranges.lanes.fits).row
 
 pub push_lanes-requires-2-clause-alive : goal.push_lanes-requires-2-clause-alive
 push_lanes-requires-2-clause-alive g c lane on =
@@ -93,7 +86,7 @@ returns g c =
     c.split_lanes-from_held.ensures.some c.split_lanes-front-2.ensures.some of_from in
     let reading : ℕ = c.ask-held.new.steps - c.args.steps.now in
     let paid = one_less A n c.args.x c.args.lanes off from front rest reading c.args.reason parts more some
-    (λ lane l on. omega (arith, c.ask-held.ensures.cost lane (c.requires.within lane on))) c.split_lanes-from_held.ensures.front of_front in
+    (λ lane l on. omega (arith, c.ask-held.ensures.cost lane (c.requires.within lane on) (lane_possible A L n c.args.x c.args.lanes lane c.args.reason c.requires.candidates l on))) c.split_lanes-from_held.ensures.front of_front in
     record {
       list = ap (λ K. with_replay A K (entries_in n c.args.x rest c.args.reason)) new ∙ after.list;
       candidates = subst (λ K. AreCandidates A K (entries_in n c.args.x rest c.args.reason)) (sym new) after.candidates;
@@ -102,7 +95,7 @@ returns g c =
         | inl s ↦ omega (arith, shorter c.args.lanes off from parts s, ap length more, length-append (set_lanes front) (set_lanes rest))
         | inr s ↦ omega (arith, shorter from front rest more s, ap length parts, length-append (set_lanes off) (set_lanes from))
       ];
-      known = known_on A n c.ask-held.new.self L c.push_lanes-2.new.self.list (entries_in n c.args.x front c.args.reason) new (c.ask-held.ensures.known (is_listed A L) rows);
+      known = known_on A n c.ask-held.new.self L c.push_lanes-2.new.self.list (entries_in n c.args.x front c.args.reason) new (c.ask-held.ensures.known (is_listed A L) rows c.requires.known);
       rest = search rules;
       cost = omega (arith, paid);
     }

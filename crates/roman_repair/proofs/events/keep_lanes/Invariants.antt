@@ -1,7 +1,7 @@
 use Rattle.std.proofs.Common.{◌≡◌, ℕ, ◌+◌, ◌<◌, ◌≤◌, true, length}
 use Rattle.roman_lanes.specs.Rows.{is_on}
 use Rattle.roman_model.specs.Arena.{is_listed}
-use Rattle.roman_rules.specs.Asked.{HoldsWhereKept}
+use Rattle.roman_repair.specs.AskedBands.{HoldsInBand}
 use Rattle.roman_order.specs.Board.{set_lanes, entries_in}
 use Rattle.roman_repair.specs.Replays.{AreCandidates, with_replay, readings_of_entries}
 use Rattle.roman_repair.proofs.events.keep_lanes.Given as goal
@@ -15,7 +15,7 @@ invariant-left g l =
       list : with_replay A l.order.list (entries_in n l.x l.left l.reason) ≡ with_replay A l.fn.order.list (entries_in n l.x l.lanes l.reason);
       candidates : AreCandidates A l.order.list (entries_in n l.x l.left l.reason);
       within : (lane : ℕ) → is_on l.left lane ≡ true → lane < n;
-      known : HoldsWhereKept A n (is_listed A l.order.list) l.asked;
+      known : HoldsInBand A n (is_listed A l.order.list) l.asked;
       rest : l.order ≡ record l.fn.order { list = l.order.list };
       cost : l.steps + readings_of_entries A (entries_in n l.x l.left l.reason) ≤ l.fn.steps + readings_of_entries A (entries_in n l.x l.lanes l.reason);
     }

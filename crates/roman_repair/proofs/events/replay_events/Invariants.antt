@@ -1,6 +1,6 @@
 use Rattle.std.proofs.Common.{◌+◌, ◌≤◌, length}
 use Rattle.roman_model.specs.Arena.{is_listed}
-use Rattle.roman_rules.specs.Asked.{HoldsWhereKept}
+use Rattle.roman_repair.specs.AskedBands.{HoldsInBand}
 use Rattle.roman_repair.specs.Replays.{readings_of_entries}
 use Rattle.roman_repair.proofs.Keeping.{IsReplaying}
 use Rattle.roman_repair.proofs.events.replay_events.Given as goal
@@ -11,7 +11,7 @@ invariant-replay g l =
     let A = g.J.Rules.arena l.joint in
     record {
       replaying : IsReplaying A l.fn.order l.order l.fn.order.waiting l.order.waiting;
-      known : HoldsWhereKept A (g.J.Rules.lanes l.joint) (is_listed A l.order.list) l.asked;
+      known : HoldsInBand A (g.J.Rules.lanes l.joint) (is_listed A l.order.list) l.asked;
       cost : l.steps + readings_of_entries A l.order.waiting ≤ l.fn.steps + readings_of_entries A l.fn.order.waiting;
     }
 

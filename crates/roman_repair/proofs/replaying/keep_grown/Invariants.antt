@@ -1,6 +1,6 @@
 use Rattle.std.proofs.Common.{◌≡◌, ◌+◌, ◌*◌, ◌≤◌}
 use Rattle.roman_model.specs.Arena.{is_listed}
-use Rattle.roman_rules.specs.Asked.{HoldsWhereKept}
+use Rattle.roman_repair.specs.AskedBands.{HoldsInBand}
 use Rattle.roman_repair.specs.Replays.{with_replay, readings_of_entries}
 use Rattle.roman_repair.proofs.Growing.{grown_below}
 use Rattle.roman_repair.proofs.replaying.keep_grown.Given as goal
@@ -11,7 +11,7 @@ invariant-loop-i g l =
     let A = g.J.Rules.arena l.joint in
     record {
       list : l.order.list ≡ with_replay A l.fn.order.list (grown_below l.states l.lanes l.x l.word (l.i * l.slices) l.reason);
-      known : HoldsWhereKept A (g.J.Rules.lanes l.joint) (is_listed A l.order.list) l.asked;
+      known : HoldsInBand A (g.J.Rules.lanes l.joint) (is_listed A l.order.list) l.asked;
       rest : l.order ≡ record l.fn.order { list = l.order.list };
       cost : l.steps ≤ l.fn.steps + readings_of_entries A (grown_below l.states l.lanes l.x l.word (l.i * l.slices) l.reason);
     }

@@ -1,7 +1,7 @@
 use Rattle.std.proofs.Common.{◌+◌, ◌≤◌, flat_map, length}
 use Rattle.roman_model.specs.Arena.{is_listed}
 use Rattle.roman_model.specs.NumberedChange.{grown_numbers}
-use Rattle.roman_rules.specs.Asked.{HoldsWhereKept}
+use Rattle.roman_repair.specs.AskedBands.{HoldsInBand}
 use Rattle.roman_repair.specs.Replays.{readings_of_entries}
 use Rattle.roman_repair.proofs.Keeping.{IsReplaying}
 use Rattle.roman_repair.proofs.replaying.replay.Given as goal
@@ -14,7 +14,7 @@ invariant-replay g l =
     let left = flat_map (grown_numbers l.states) l.order.waiting in
     record {
       replaying : IsReplaying A l.fn.order l.order all left;
-      known : HoldsWhereKept A (g.J.Rules.lanes l.joint) (is_listed A l.order.list) l.asked;
+      known : HoldsInBand A (g.J.Rules.lanes l.joint) (is_listed A l.order.list) l.asked;
       cost : l.steps + readings_of_entries A left ≤ l.fn.steps + readings_of_entries A all;
     }
 

@@ -2,13 +2,15 @@ use Rattle.std.proofs.Common.{◌≡◌, ℕ, ◌*◌, ◌≤◌, List, [], ◌+
 use Rattle.roman_model.specs.Lists.{IsIn}
 use Rattle.roman_model.specs.Arena.{Entry}
 use Rattle.roman_model.specs.Numbers.{sizes_of, sizes_without, count}
+use Rattle.roman_model.specs.declared.reason.Reason.TheVariants.{Final}
 use Rattle.roman_model.proofs.CallerLemmas.{length-below}
 use Rattle.roman_joint.specs.NamedSys.{system_of}
 use Rattle.roman_joint.specs.Rows.{lanes_in}
 use Rattle.roman_order.specs.Board.{Board, entries_in}
 use Rattle.roman_relation.proofs.CallerLemmas.{listed_numbers}
-use Rattle.roman_repair.specs.Deaths.{list_with}
+use Rattle.roman_repair.specs.Deaths.{list_and, list_with}
 use Rattle.roman_repair.proofs.DeathEntries.{event_in_range, list_with_append, fewer_pairs, small_pairs}
+use Rattle.roman_repair.proofs.Gathering.{no_entries, nothing_gathered, still_gathered}
 use Rattle.roman_repair.proofs.dying.renaming.rename_list.Goals as goal
 
 pub reopen-requires-clause-pairs : goal.reopen-requires-clause-pairs
@@ -25,7 +27,8 @@ waiting-init c =
     let list : c.reopen.new.self.list ≡ [] = ap (λ (x : Board). x.list) c.reopen.ensures.moved in
     let waiting : c.reopen.new.self.waiting ≡ c.args.order.now.list = ap (λ (x : Board). x.waiting) c.reopen.ensures.moved in
     record {
-      list = λ seat seated. ap₂ (λ L W. list_with (sizes_of (system_of c.args.joint.now)) c.args.k seat L W) list waiting;
+      list = λ seat seated. ap₂ (λ L W. list_with (sizes_of (system_of c.args.joint.now)) c.args.k seat L W) (sym (no_entries c.reopen.new.self.lanes 0 0 Final c.reopen.new.self.list refl) ∙ list) waiting;
+      gathered = nothing_gathered c.reopen.new.self;
       waiting = λ x i. listed_numbers (system_of c.args.joint.now) c.args.order.now c.requires.shaped.pairs c.known-3.ensures.in_range x (subst (λ W. IsIn x W) waiting i);
       rest = refl;
     }
@@ -43,6 +46,9 @@ rename_row-requires-clause-some c =
     (event_in_range c.waiting.order.waiting_lanes (lanes_in (system_of c.args.joint.now)) (count (sizes_of (system_of c.args.joint.now))) c.waiting.order.waiting c.next_waiting_event.new.self.waiting
     c.in-Some.event wide (omega (arith, c.known-3.ensures.lanes.1, c.requires.shaped.lanes)) c.in-Some.ensures.first c.in-Some.ensures.event c.waiting.invariant.waiting).row
 
+pub rename_row-requires-clause-gathered : goal.rename_row-requires-clause-gathered
+rename_row-requires-clause-gathered c = still_gathered c.waiting.order c.next_waiting_event.new.self c.waiting.gathered c.next_waiting_event.ensures.rest c.waiting.invariant.gathered
+
 pub waiting-preserved : goal.waiting-preserved
 waiting-preserved c =
     let n = sizes_of (system_of c.args.joint.now) in
@@ -50,7 +56,8 @@ waiting-preserved c =
     let e = c.in-Some.event in
     let mid = c.next_waiting_event.new.self in
     let new = c.rename_row.new.order in
-    let list : mid.list ≡ c.waiting.order.list = ap (λ (y : Board). y.list) c.next_waiting_event.ensures.rest in
+    let L = list_and c.waiting.order c.waiting.gathered in
+    let list : list_and mid c.waiting.gathered ≡ L = ap (λ (y : Board). list_and y c.waiting.gathered) c.next_waiting_event.ensures.rest in
     let waiting : new.waiting ≡ mid.waiting = ap (λ (y : Board). y.waiting) c.rename_row.ensures.rest in
     let wide = ap (λ (b : Board). b.waiting_lanes) c.waiting.invariant.rest ∙ ap (λ (b : Board). b.waiting_lanes) c.reopen.ensures.moved ∙ c.requires.shaped.lanes in
     let is = event_in_range c.waiting.order.waiting_lanes lanes (count n) c.waiting.order.waiting mid.waiting e wide (omega (arith, c.known-3.ensures.lanes.1, c.requires.shaped.lanes)) c.in-Some.ensures.first
@@ -59,11 +66,12 @@ waiting-preserved c =
     let first : c.waiting.order.waiting ≡ part ++ mid.waiting = c.in-Some.ensures.first ∙ ap (λ m. entries_in m e.row e.lanes e.reason ++ mid.waiting) wide in
     record {
       list = λ seat seated.
-          let done : new.list ≡ list_with n c.args.k seat c.waiting.order.list part = c.rename_row.ensures.list seat seated ∙ ap (λ L. list_with n c.args.k seat L part) list in
-          ap₂ (λ L W. list_with n c.args.k seat L W) done waiting
-          ∙ sym (list_with_append n c.args.k seat c.waiting.order.list part mid.waiting)
-          ∙ ap (list_with n c.args.k seat c.waiting.order.list) (sym first)
+          let done : list_and new c.rename_row.new.gathered ≡ list_with n c.args.k seat L part = c.rename_row.ensures.list seat seated ∙ ap (λ M. list_with n c.args.k seat M part) list in
+          ap₂ (λ M W. list_with n c.args.k seat M W) done waiting
+          ∙ sym (list_with_append n c.args.k seat L part mid.waiting)
+          ∙ ap (list_with n c.args.k seat L) (sym first)
           ∙ c.waiting.invariant.list seat seated;
+      gathered = c.rename_row.ensures.gathered;
       waiting = λ y i. is.others y (subst (λ W. IsIn y W) waiting i);
       rest =
           c.rename_row.ensures.rest

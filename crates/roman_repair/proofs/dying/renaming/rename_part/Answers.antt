@@ -5,14 +5,15 @@ use Rattle.roman_model.specs.Numbers.{Sizes, sizes_of, sizes_without, count, num
 use Rattle.roman_model.proofs.CallerLemmas.{number_without-is}
 use Rattle.roman_lanes.specs.Rows.{HasLanes}
 use Rattle.roman_joint.specs.NamedSys.{system_of}
-use Rattle.roman_order.specs.Board.{Board, has_entry, entries_in}
+use Rattle.roman_order.specs.Board.{has_entry, entries_in}
+use Rattle.roman_repair.specs.Deaths.{list_and}
 use Rattle.roman_repair.proofs.DeathStates.{seat_in_sizes}
 use Rattle.roman_repair.proofs.DeathEntries.{left_row, nothing_left, part_stays, part_left, lost_within}
 use Rattle.roman_repair.proofs.dying.renaming.rename_part.Goals as goal
 
 pub returns-then-word-eq0-clause-list : goal.returns-then-word-eq0-clause-list
 returns-then-word-eq0-clause-list c seat seated =
-    nothing_left (sizes_of (system_of c.args.joint.now)) c.args.k seat c.args.first c.args.word c.args.reason c.args.order.now.list c.if-word-eq0.true
+    nothing_left (sizes_of (system_of c.args.joint.now)) c.args.k seat c.args.first c.args.word c.args.reason (list_and c.args.order.now c.args.gathered.now) c.if-word-eq0.true
 
 pub part_of-requires-clause-pair : goal.part_of-requires-clause-pair
 part_of-requires-clause-pair c = omega (arith, c.requires.first, ap count c.shape-shape.ensures)
@@ -20,7 +21,7 @@ part_of-requires-clause-pair c = omega (arith, c.requires.first, ap count c.shap
 pub returns-then-not-may_go-clause-list : goal.returns-then-not-may_go-clause-list
 returns-then-not-may_go-clause-list c seat seated =
     let n = sizes_of (system_of c.args.joint.now) in
-    part_stays n c.args.k seat c.args.first c.args.word c.args.reason c.args.order.now.list (record {
+    part_stays n c.args.k seat c.args.first c.args.word c.args.reason (list_and c.args.order.now c.args.gathered.now) (record {
       part = c.requires.part;
       seat_in = seat_in_sizes c.args.joint.now c.args.k c.requires.seat;
       pair = c.requires.pair;
@@ -32,28 +33,25 @@ returns-then-not-may_go-clause-list c seat seated =
 pub without-left-requires-clause-pair : goal.without-left-requires-clause-pair
 without-left-requires-clause-pair c = omega (arith, c.requires.first, ap count c.shape-shape.ensures)
 
-pub bounds-words-x : goal.bounds-words-x
-bounds-words-x c =
-    let order = c.args.order.now in
-    let row = left_row (sizes_of (system_of c.args.joint.now)) c.shape-shape.result.now c.args.k c.without-left.result c.args.lanes order c.without-left.ensures.below c.shape-shape.ensures c.requires.shaped c.requires.lanes.0 in
-    omega (arith, row, c.words.ensures.long)
-
-pub push_lanes-requires-clause-row : goal.push_lanes-requires-clause-row
-push_lanes-requires-clause-row c =
+pub unlisted-requires-clause-row : goal.unlisted-requires-clause-row
+unlisted-requires-clause-row c =
     let order = c.args.order.now in
     left_row (sizes_of (system_of c.args.joint.now)) c.shape-shape.result.now c.args.k c.without-left.result c.args.lanes order c.without-left.ensures.below c.shape-shape.ensures c.requires.shaped c.requires.lanes.0
 
-pub push_lanes-requires-clause-within : goal.push_lanes-requires-clause-within
-push_lanes-requires-clause-within c lane on =
+pub gather-requires-clause-row : goal.gather-requires-clause-row
+gather-requires-clause-row c =
     let order = c.args.order.now in
-    let row = left_row (sizes_of (system_of c.args.joint.now)) c.shape-shape.result.now c.args.k c.without-left.result c.args.lanes order c.without-left.ensures.below c.shape-shape.ensures c.requires.shaped c.requires.lanes.0 in
-    (lost_within order.lanes (c.without-left.result / c.args.lanes) _ _ lane order.list (c.words.ensures.alive.each (c.without-left.result / c.args.lanes) (omega (arith, row, c.words.ensures.long))) on).0
+    left_row (sizes_of (system_of c.args.joint.now)) c.shape-shape.result.now c.args.k c.without-left.result c.args.lanes order c.without-left.ensures.below c.shape-shape.ensures c.requires.shaped c.requires.lanes.0
 
-pub push_lanes-requires-clause-alive : goal.push_lanes-requires-clause-alive
-push_lanes-requires-clause-alive c lane on =
+pub gather-requires-clause-within : goal.gather-requires-clause-within
+gather-requires-clause-within c lane on =
     let order = c.args.order.now in
-    let row = left_row (sizes_of (system_of c.args.joint.now)) c.shape-shape.result.now c.args.k c.without-left.result c.args.lanes order c.without-left.ensures.below c.shape-shape.ensures c.requires.shaped c.requires.lanes.0 in
-    (lost_within order.lanes (c.without-left.result / c.args.lanes) _ _ lane order.list (c.words.ensures.alive.each (c.without-left.result / c.args.lanes) (omega (arith, row, c.words.ensures.long))) on).1
+    (lost_within order.lanes (c.without-left.result / c.args.lanes) _ _ lane (list_and order c.args.gathered.now) c.unlisted.ensures on).0
+
+pub gather-requires-clause-alive : goal.gather-requires-clause-alive
+gather-requires-clause-alive c lane on =
+    let order = c.args.order.now in
+    (lost_within order.lanes (c.without-left.result / c.args.lanes) _ _ lane (list_and order c.args.gathered.now) c.unlisted.ensures on).1
 
 pub returns-clause-list : goal.returns-clause-list
 returns-clause-list c seat seated =
@@ -62,14 +60,14 @@ returns-clause-list c seat seated =
     let order = c.args.order.now in
     let left = c.without-left.result in
     let lanes = c.args.lanes in
-    let alive = slice_index c.words.result.now (left / lanes) in
+    let L = list_and order c.args.gathered.now in
+    let alive = c.unlisted.result in
     let lost = bit_and (c.args.word * 2 ^ (left % lanes) % 2 ^ 64) alive in
     let few = c.known-2.ensures.lanes in
     let same = c.requires.lanes.0 in
-    let row = left_row (sizes_of (system_of c.args.joint.now)) c.shape-shape.result.now c.args.k c.without-left.result c.args.lanes order c.without-left.ensures.below c.shape-shape.ensures c.requires.shaped c.requires.lanes.0 in
-    ap (λ (b : Board). b.list) c.push_lanes.ensures
-    ∙ ap (λ m. order.list ++ entries_in m (left / lanes) lost c.args.reason) (sym same)
-    ∙ part_left n k seat c.args.first c.args.word left lanes alive c.args.reason order.list (record {
+    c.gather.ensures.list
+    ∙ ap (λ m. L ++ entries_in m (left / lanes) lost c.args.reason) (sym same)
+    ∙ part_left n k seat c.args.first c.args.word left lanes alive c.args.reason L (record {
       part = c.requires.part;
       seat_in = seat_in_sizes c.args.joint.now k c.requires.seat;
       pair = c.requires.pair;
@@ -79,4 +77,4 @@ returns-clause-list c seat seated =
     }) (c.without-left.ensures.number
     ∙ ap (λ (m : Sizes). number (sizes_without k m) (without k (pair_at m c.args.first))) c.shape-shape.ensures
     ∙ number_without-is n c.args.first k c.requires.first (seat_in_sizes c.args.joint.now k c.requires.seat)) (same ∙ c.requires.lanes.1) (omega (arith, few.0, same), omega (arith, few.1, same))
-    (subst (λ m. HasLanes m (left / lanes) (λ p. not (has_entry order.list p)) alive) (sym same) (c.words.ensures.alive.each (left / lanes) (omega (arith, row, c.words.ensures.long))))
+    (subst (λ m. HasLanes m (left / lanes) (λ p. not (has_entry L p)) alive) (sym same) c.unlisted.ensures)

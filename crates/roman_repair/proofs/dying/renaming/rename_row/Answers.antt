@@ -5,7 +5,7 @@ use Rattle.roman_radix.proofs.CallerLemmas.{exact}
 use Rattle.roman_joint.specs.NamedSys.{system_of}
 use Rattle.roman_joint.specs.Rows.{lanes_in}
 use Rattle.roman_order.specs.Board.{Board}
-use Rattle.roman_repair.specs.Deaths.{IsPart, list_with, entries_from}
+use Rattle.roman_repair.specs.Deaths.{IsPart, list_and, list_with, entries_from}
 use Rattle.roman_repair.proofs.DeathParts.{part_word, part_in, part_end, parts_fit, row_end, part_begins}
 use Rattle.roman_repair.proofs.DeathEntries.{list_with_append, entries_below, row_begin, row_next, row_whole}
 use Rattle.roman_repair.proofs.dying.renaming.rename_row.Goals as goal
@@ -34,8 +34,10 @@ pub loop-i-init : goal.loop-i-init
 loop-i-init c =
     let n = sizes_of (system_of c.args.joint.now) in
     let none = row_begin (lanes_in (system_of c.args.joint.now)) c.args.x c.args.word (c.filled_parts-begin.result.0 * c.part_width-width.result) c.args.reason c.filled_parts-begin.ensures.first in
+    let L = list_and c.args.order.now c.args.gathered.now in
     record {
-      list = λ seat seated. sym (append-nil c.args.order.now.list) ∙ ap (list_with n c.args.k seat c.args.order.now.list) (sym none);
+      list = λ seat seated. sym (append-nil L) ∙ ap (list_with n c.args.k seat L) (sym none);
+      gathered = c.requires.gathered;
       rest = refl;
     }
 
@@ -74,13 +76,15 @@ loop-i-preserved c =
     let new = c.rename_part.new.order in
     let wide = c.lanes-wide.ensures.value ∙ ap (λ (m : Sizes). lanes_of m.seats) c.shape-shape.ensures in
     let part = part_word c.args.word (i * w) w in
+    let L = list_and c.args.order.now c.args.gathered.now in
     record {
       list = λ seat seated.
           c.rename_part.ensures.list seat seated
-          ∙ ap (λ L. list_with n c.args.k seat L (entries_from (c.args.x * c.lanes-wide.result + i * w) part c.args.reason)) (c.loop-i.invariant.list seat seated)
-          ∙ ap (λ m. list_with n c.args.k seat (list_with n c.args.k seat c.args.order.now.list (entries_below lanes c.args.x c.args.word (i * w) c.args.reason)) (entries_from (c.args.x * m + i * w) part c.args.reason)) wide
-          ∙ sym (list_with_append n c.args.k seat c.args.order.now.list (entries_below lanes c.args.x c.args.word (i * w) c.args.reason) (entries_from (c.args.x * lanes + i * w) part c.args.reason))
-          ∙ ap (list_with n c.args.k seat c.args.order.now.list) (row_next lanes c.args.x c.args.word i w c.args.reason c.part_width-width.ensures.few.1);
+          ∙ ap (λ M. list_with n c.args.k seat M (entries_from (c.args.x * c.lanes-wide.result + i * w) part c.args.reason)) (c.loop-i.invariant.list seat seated)
+          ∙ ap (λ m. list_with n c.args.k seat (list_with n c.args.k seat L (entries_below lanes c.args.x c.args.word (i * w) c.args.reason)) (entries_from (c.args.x * m + i * w) part c.args.reason)) wide
+          ∙ sym (list_with_append n c.args.k seat L (entries_below lanes c.args.x c.args.word (i * w) c.args.reason) (entries_from (c.args.x * lanes + i * w) part c.args.reason))
+          ∙ ap (list_with n c.args.k seat L) (row_next lanes c.args.x c.args.word i w c.args.reason c.part_width-width.ensures.few.1);
+      gathered = c.rename_part.ensures.gathered;
       rest = c.rename_part.ensures.rest ∙ ap (λ (b : Board). record b { list = new.list }) c.loop-i.invariant.rest;
     }
 
@@ -89,9 +93,10 @@ returns-clause-list c seat seated =
     let n = sizes_of (system_of c.args.joint.now) in
     let lanes = lanes_in (system_of c.args.joint.now) in
     let w = c.part_width-width.result in
+    let L = list_and c.args.order.now c.args.gathered.now in
     let end = c.filled_parts-begin.result.1 in
     let last : c.loop-i.i ≡ end = omega (arith, c.loop-i-test.false, c.loop-i.auto.i-end, c.filled_parts-begin.ensures.ordered.0) in
     let few : end * w ≤ 64 = omega (arith, parts_fit end w c.lanes-wide.result c.filled_parts-begin.ensures.ordered.1, c.lanes-wide.ensures.few.1) in
     c.loop-i.invariant.list seat seated
-    ∙ ap (λ i. list_with n c.args.k seat c.args.order.now.list (entries_below lanes c.args.x c.args.word (i * w) c.args.reason)) last
-    ∙ ap (list_with n c.args.k seat c.args.order.now.list) (row_whole lanes c.args.x c.args.word (end * w) c.args.reason few c.filled_parts-begin.ensures.end)
+    ∙ ap (λ i. list_with n c.args.k seat L (entries_below lanes c.args.x c.args.word (i * w) c.args.reason)) last
+    ∙ ap (list_with n c.args.k seat L) (row_whole lanes c.args.x c.args.word (end * w) c.args.reason few c.filled_parts-begin.ensures.end)

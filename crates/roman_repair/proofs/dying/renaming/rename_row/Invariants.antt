@@ -4,7 +4,7 @@ use Rattle.roman_model.specs.Change.{Die, CanChange}
 use Rattle.roman_model.specs.Numbers.{sizes_of}
 use Rattle.roman_joint.specs.NamedSys.{system_of}
 use Rattle.roman_joint.specs.Rows.{lanes_in}
-use Rattle.roman_repair.specs.Deaths.{list_with}
+use Rattle.roman_repair.specs.Deaths.{list_and, list_with, IsGathered}
 use Rattle.roman_repair.proofs.DeathEntries.{entries_below}
 use Rattle.roman_repair.proofs.dying.renaming.rename_row.Given as goal
 
@@ -12,6 +12,7 @@ use Rattle.roman_repair.proofs.dying.renaming.rename_row.Given as goal
 abbrev pub invariant-loop-i : goal.invariant-loop-i
 invariant-loop-i l = record {
   list : (seat : Seat) → CanChange (Die l.k seat) (system_of l.joint) →
-      l.order.list ≡ list_with (sizes_of (system_of l.joint)) l.k seat l.fn.order.list (entries_below (lanes_in (system_of l.joint)) l.x l.word (l.i * l.width) l.reason);
+      list_and l.order l.gathered ≡ list_with (sizes_of (system_of l.joint)) l.k seat (list_and l.fn.order l.fn.gathered) (entries_below (lanes_in (system_of l.joint)) l.x l.word (l.i * l.width) l.reason);
+  gathered : IsGathered l.order l.gathered;
   rest : l.order ≡ record l.fn.order { list = l.order.list };
 }

@@ -1,0 +1,63 @@
+-- The answers of a band of rows.
+use Rattle.std.proofs.Common.{◌≡◌, ℕ, ◌+◌, ◌-◌, ◌*◌, ◌/◌, ◌^◌, ◌<◌, ◌≤◌, Bool, true, ◌&&◌, List, ◌++◌, drop, length, get_or, replicate, slice_index, IsTrue, inl, inr, sym, ap, ◌∙◌, subst, arith}
+use Rattle.std.proofs.lemmas.Bool.{cases_lt, both_ways, or_left}
+use Rattle.std.proofs.lemmas.List.{get_or-append_right, get_or-drop, get_or-replicate, get_or_append_left}
+use Rattle.std.proofs.lemmas.Nat.{div-add-mod'}
+use Rattle.std.proofs.Math.Nat.{mul-le-mul_left}
+use Rattle.roman_lanes.specs.Rows.{is_on}
+use Rattle.roman_lanes.proofs.CallerLemmas.{on_full, on_zero}
+use Rattle.roman_model.specs.Arena.{Arena, Entry, is_listed, is_justified}
+use Rattle.roman_model.proofs.CallerLemmas.{justified_more, listed_append}
+use Rattle.roman_repair.specs.AskedBands.{HoldsInBand}
+use Rattle.roman_repair.specs.declared.asked_band.AskedBand.{AskedBand}
+
+-- a word that is full of lanes has each of them
+pub full_lane : (words : List ℕ) (rows n i lane : ℕ) → words ≡ replicate rows ((2 ^ 64 - 1) / 2 ^ (64 - n)) → i < rows → n ≤ 64 → lane < n → is_on (slice_index words i) lane ≡ true
+full_lane words rows n i lane same h few l =
+    ap (λ ws. is_on (slice_index ws i) lane) same ∙ ap (λ w. is_on w lane) (get_or-replicate rows i ((2 ^ 64 - 1) / 2 ^ (64 - n)) 0 h) ∙ on_full n lane few l
+
+-- a pair that is kept of all is one that passes
+pub kept_of_all : (on all passes is : Bool) → on ≡ (all && passes) → all ≡ true → passes ≡ is → on ≡ is
+kept_of_all on all passes is kept every same = kept ∙ ap (λ b. b && passes) every ∙ same
+
+-- a band begins before its rows
+pub band_before : (lanes band x nodes : ℕ) → x * lanes < nodes → x / band * band * lanes < nodes
+band_before lanes band x nodes l =
+    let first : x / band * band ≤ x = omega (arith, div-add-mod' x band) in
+    let pairs : lanes * (x / band * band) ≤ lanes * x = mul-le-mul_left lanes first in
+    omega (arith, pairs, l)
+
+-- the words past a band have no lanes
+held_in_band : (held : List ℕ) (band i lane : ℕ) → length held ≡ band → i < 64 → is_on (slice_index (held ++ drop band (replicate 64 0)) i) lane ≡ true → (i < band) × (is_on (slice_index held i) lane ≡ true)
+held_in_band held band i lane long h on = elim (cases_lt i band) [
+  | inl l ↦ (l, ap (λ w. is_on w lane) (sym (get_or_append_left held (drop band (replicate 64 0)) 0 i (omega (arith, l, long)))) ∙ on)
+  | inr past ↦ absurd (both_ways (is_on 0 lane) (on_zero lane) (ap (λ w. is_on w lane) (sym (blank past)) ∙ on))
+]
+  where
+    blank : band ≤ i → get_or (held ++ drop band (replicate 64 0)) i 0 ≡ 0
+    blank past =
+        let same : band + (i - band) ≡ i = omega arith in
+        get_or-append_right held (drop band (replicate 64 0)) band i 0 long past
+        ∙ get_or-drop band (replicate 64 0) (i - band) 0
+        ∙ ap (λ j. get_or (replicate 64 0) j 0) same
+        ∙ get_or-replicate 64 i 0 0 h
+
+-- a row of the band is read as it was answered
+pub row_held : (held rest : List ℕ) (i lane : ℕ) (is : Bool) → i < length held → is_on (slice_index held i) lane ≡ is → is_on (slice_index (held ++ rest) i) lane ≡ is
+row_held held rest i lane is l same = ap (λ w. is_on w lane) (get_or_append_left held rest 0 i l) ∙ same
+
+-- what was answered of a whole band is known
+pub known_whole : (A : Arena ℕ) (n band first : ℕ) (gone : ℕ → Bool) (asked : AskedBand) (held : List ℕ) → asked.words ≡ held ++ drop band (replicate 64 0) → asked.first ≡ first → length held ≡ band →
+    ((i lane : ℕ) → i < band → lane < n → is_on (slice_index held i) lane ≡ is_justified A gone ((first + i) * n + lane) asked.reason) → HoldsInBand A n gone asked
+known_whole A n band first gone asked held words same long is = record {
+  each = λ i lane h l on.
+      let (m, there) = held_in_band held band i lane long h (ap (λ ws. is_on (slice_index ws i) lane) (sym words) ∙ on) in
+      subst (λ f. IsTrue (is_justified A gone ((f + i) * n + lane) asked.reason)) (sym same) (sym (is i lane m l) ∙ there);
+}
+
+-- known reasons stay known when more entries are listed
+pub known_on : (A : Arena ℕ) (lanes : ℕ) (asked : AskedBand) (kept new M : List (Entry ℕ)) → new ≡ kept ++ M → HoldsInBand A lanes (is_listed A kept) asked → HoldsInBand A lanes (is_listed A new) asked
+known_on A lanes asked kept new M is known = subst (λ L. HoldsInBand A lanes (is_listed A L) asked) (sym is) (record {
+  each = λ i lane h l on. justified_more A (is_listed A kept) (is_listed A (kept ++ M)) ((asked.first + i) * lanes + lane) asked.reason
+      (λ a k q j t. listed_append A kept M q ∙ or_left (is_listed A kept q) (is_listed A M q) t) (known.each i lane h l on);
+})

@@ -1,0 +1,139 @@
+-- Entries that are gathered for the end of a list.
+use Rattle.std.proofs.Common.{◌≡◌, ◌≢◌, ℕ, ◌+◌, ◌-◌, ◌*◌, ◌/◌, ◌^◌, ◌<◌, ◌≤◌, Bool, true, false, not, ◌&&◌, ◌||◌, ◌⊎◌, eqb, List, [], ◌++◌, map, inl, inr, refl, sym, ap, ap₂, ◌∙◌, subst, arith, append-nil, append_assoc, bit_or}
+use Rattle.std.specs.Int.{trailing_zeros, w64}
+use Rattle.std.proofs.lemmas.Bool.{cases_lt, both_ways, ne_eqb}
+use Rattle.std.proofs.lemmas.List.Folds.{list_any-append}
+use Rattle.std.proofs.lemmas.Nat.{same_from_place}
+use Rattle.roman_model.specs.Arena.{Entry}
+use Rattle.roman_model.specs.declared.reason.Reason.{Reason}
+use Rattle.roman_model.specs.declared.reason.Reason.TheVariants.{Final}
+use Rattle.roman_model.proofs.CallerLemmas.{list_any-map, none_from}
+use Rattle.roman_lanes.specs.Rows.{is_on, HasLanes}
+use Rattle.roman_lanes.proofs.CallerLemmas.{on_or, on_zero}
+use Rattle.roman_order.specs.Board.{Board, as_entry, has_entry, set_lanes, entries_in}
+use Rattle.roman_order.specs.Events.{entries_at}
+use Rattle.roman_order.specs.declared.event.Event.{Event}
+use Rattle.roman_order.proofs.CallerLemmas.{has_entry-lane, in_lanes, set_lanes-zero}
+use Rattle.roman_repair.specs.Deaths.{list_and, IsGathered}
+use Rattle.roman_repair.proofs.DeathParts.{on_lowered}
+use Rattle.roman_repair.proofs.Fronts.{entries_cut, first_lane}
+use Rattle.roman_repair.proofs.Growing.{lanes_joined}
+
+-- a word without lanes has no entries
+pub no_entries : (n x word : ℕ) (reason : Reason) (L : List (Entry ℕ)) → word ≡ 0 → L ≡ L ++ entries_in n x word reason
+no_entries n x word reason L none =
+    let nothing : entries_in n x word reason ≡ [] = ap (λ w. entries_in n x w reason) none ∙ ap (map (λ lane. as_entry (x * n + lane, reason))) set_lanes-zero in
+    sym (ap (λ M. L ++ M) nothing ∙ append-nil L)
+
+-- entries of another row aren't of this row's pairs
+other_row : (n row word x lane : ℕ) (reason : Reason) (L : List (Entry ℕ)) → row ≢ x → lane < n → ((l : ℕ) → is_on word l ≡ true → l < n) → has_entry (L ++ entries_in n row word reason) (x * n + lane) ≡ has_entry L (x * n + lane)
+other_row n row word x lane reason L ne l within =
+    list_any-append (λ (y : Entry ℕ). eqb (x * n + lane) y.node) L (entries_in n row word reason)
+    ∙ ap (λ b. has_entry L (x * n + lane) || b) (list_any-map (λ m. as_entry (row * n + m, reason)) (λ (y : Entry ℕ). eqb (x * n + lane) y.node) (set_lanes word)
+    ∙ none_from (λ m. eqb (x * n + lane) (row * n + m)) (set_lanes word) (λ m i. ne_eqb (x * n + lane) (row * n + m) (λ e. ne (sym (same_from_place x lane row m n l (within m (in_lanes word m i).1) e).0))))
+    ∙ or_none (has_entry L (x * n + lane))
+  where
+    or_none : (b : Bool) → (b || false) ≡ b
+    or_none true = refl
+    or_none false = refl
+
+-- the lanes of a row that neither the list nor the gathered entries have
+pub fresh_same : (board : Board) (e : Event) (x word rest : ℕ) → board.lanes ≤ 64 → e.row ≡ x → HasLanes board.lanes x (λ p. not (has_entry board.list p)) word →
+    ((lane : ℕ) → lane < 64 → is_on rest lane ≡ (is_on word lane && not (is_on e.lanes lane))) → ((lane : ℕ) → is_on word lane ≡ false → is_on rest lane ≡ false) →
+    HasLanes board.lanes x (λ p. not (has_entry (list_and board e) p)) rest
+fresh_same board e x word rest few same rows less none = record {
+  each = λ lane l.
+      let low : lane < 64 = omega arith in
+      less lane low
+      ∙ ap (λ b. b && not (is_on e.lanes lane)) (rows.each lane l)
+      ∙ sym (neither (has_entry board.list (x * board.lanes + lane)) (is_on e.lanes lane))
+      ∙ ap not (sym (has_entry-lane board.list (x * board.lanes) e.lanes lane e.reason low))
+      ∙ ap (λ r. not (has_entry (board.list ++ entries_in board.lanes r e.lanes e.reason) (x * board.lanes + lane))) (sym same);
+  rest = λ lane l. none lane (rows.rest lane l);
+}
+  where
+    neither : (a b : Bool) → not (a || b) ≡ (not a && not b)
+    neither true b = refl
+    neither false b = refl
+
+pub fresh_other : (board : Board) (e : Event) (x word : ℕ) → IsGathered board e → e.row ≢ x → HasLanes board.lanes x (λ p. not (has_entry board.list p)) word →
+    HasLanes board.lanes x (λ p. not (has_entry (list_and board e) p)) word
+fresh_other board e x word is ne rows = record {
+  each = λ lane l. rows.each lane l ∙ ap not (sym (other_row board.lanes e.row e.lanes x lane e.reason board.list ne l is.within));
+  rest = rows.rest;
+}
+
+-- nothing is gathered
+pub nothing_gathered : (board : Board) → IsGathered board (record { row = 0; reason = Final; lanes = 0 })
+nothing_gathered board = record {
+  row = λ some. absurd (some refl);
+  within = λ lane on. absurd (both_ways (is_on 0 lane) (on_zero lane) on);
+  alive = λ lane on. absurd (both_ways (is_on 0 lane) (on_zero lane) on);
+}
+
+-- entries stay gathered where only the pending ones change
+pub still_gathered : (old new : Board) (e : Event) → new ≡ record old { waiting = new.waiting } → IsGathered old e → IsGathered new e
+still_gathered old new e rest is = subst (λ (b : Board). IsGathered b e) (sym rest) (record { row = is.row; within = is.within; alive = is.alive })
+
+-- ---- one event more
+
+-- the lanes of a word begin with its first
+from_first : (word : ℕ) → word ≢ 0 → word < 2 ^ 64 → (lane : ℕ) → is_on word lane ≡ true → trailing_zeros w64 word ≤ lane
+from_first word some fits lane on = elim (cases_lt lane (trailing_zeros w64 word)) [ inl under ↦ absurd (both_ways (is_on word lane) ((first_lane word some fits).before lane under) on) | inr past ↦ past ]
+
+-- a word that has nothing from the first lane of another on has lower lanes
+pub all_lower : (word more l m : ℕ) → word / 2 ^ trailing_zeros w64 more ≡ 0 → more ≢ 0 → more < 2 ^ 64 → is_on word l ≡ true → is_on more m ≡ true → l < m
+all_lower word more l m none some fits on there = elim (cases_lt l cut) [
+  | inl under ↦ omega (arith, under, from_first more some fits m there)
+  | inr past ↦
+      let place : cut + (l - cut) ≡ l = omega arith in
+      let off : is_on word l ≡ false = ap (is_on word) (sym place) ∙ sym (on_lowered word cut (l - cut)) ∙ ap (λ w. is_on w (l - cut)) none ∙ on_zero (l - cut) in
+      absurd (both_ways (is_on word l) off on)
+]
+  where
+    cut : ℕ
+    cut = trailing_zeros w64 more
+
+-- the lists are one, and the gathered entries are still of unlisted pairs of one row
+pub record GathersTo (old new : Board) (before now : Event) (x lost : ℕ) (reason : Reason) : Type 0 where
+  pub list : list_and new now ≡ list_and old before ++ entries_in old.lanes x lost reason
+  pub gathered : IsGathered new now
+
+-- where the lanes are higher both are one event
+pub gathers_on : (board : Board) (e : Event) (x lost : ℕ) (reason : Reason) → IsGathered board e → e.row ≡ x → e.reason ≡ reason → ((l m : ℕ) → is_on e.lanes l ≡ true → is_on lost m ≡ true → l < m) → lost ≢ 0 → lost < 2 ^ 64 → x < board.rows →
+    ((lane : ℕ) → is_on lost lane ≡ true → lane < board.lanes) → ((lane : ℕ) → is_on lost lane ≡ true → has_entry (list_and board e) (x * board.lanes + lane) ≡ false) →
+    GathersTo board board e (record e { lanes = bit_or e.lanes lost }) x lost reason
+gathers_on board e x lost reason is row why higher some fits l within alive = record {
+  list =
+      ap (λ M. board.list ++ M) (entries_cut board.lanes e.row (bit_or e.lanes lost) e.lanes lost e.reason (lanes_joined e.lanes lost cut low high))
+      ∙ sym (append_assoc board.list (entries_at board.lanes e) (entries_in board.lanes e.row lost e.reason))
+      ∙ ap₂ (λ r s. list_and board e ++ entries_in board.lanes r lost s) row why;
+  gathered = record {
+    row = λ more. subst (λ r. r < board.rows) (sym row) l;
+    within = λ lane on. elim (either lane on) [ inl old ↦ is.within lane old | inr new ↦ within lane new ];
+    alive = λ lane on. elim (either lane on) [ inl old ↦ is.alive lane old | inr new ↦ ap (λ r. has_entry board.list (r * board.lanes + lane)) row ∙ left_out lane (alive lane new) ];
+  };
+}
+  where
+    cut : ℕ
+    cut = trailing_zeros w64 lost
+
+    low : (bit : ℕ) → is_on e.lanes bit ≡ true → bit < cut
+    low bit on = higher bit cut on (first_lane lost some fits).on
+
+    high : (bit : ℕ) → is_on lost bit ≡ true → cut ≤ bit
+    high = from_first lost some fits
+
+    either : (lane : ℕ) → is_on (bit_or e.lanes lost) lane ≡ true → (is_on e.lanes lane ≡ true) ⊎ (is_on lost lane ≡ true)
+    either lane on = by_answer (is_on e.lanes lane) refl
+      where
+        by_answer : (b : Bool) → is_on e.lanes lane ≡ b → (is_on e.lanes lane ≡ true) ⊎ (is_on lost lane ≡ true)
+        by_answer true t = inl t
+        by_answer false f = inr (sym (ap (λ b. b || is_on lost lane) f) ∙ sym (on_or e.lanes lost lane) ∙ on)
+
+    left_out : (lane : ℕ) → has_entry (list_and board e) (x * board.lanes + lane) ≡ false → has_entry board.list (x * board.lanes + lane) ≡ false
+    left_out lane f = (or_parts (has_entry board.list (x * board.lanes + lane)) _ (sym (list_any-append (λ (y : Entry ℕ). eqb (x * board.lanes + lane) y.node) board.list (entries_at board.lanes e)) ∙ f))
+      where
+        or_parts : (a b : Bool) → (a || b) ≡ false → a ≡ false
+        or_parts true b t = absurd (both_ways true t refl)
+        or_parts false b t = refl

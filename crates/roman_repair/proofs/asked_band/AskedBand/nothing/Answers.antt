@@ -1,0 +1,9 @@
+use Rattle.std.proofs.Common.{sym, ap, ◌∙◌}
+use Rattle.std.proofs.lemmas.Bool.{both_ways}
+use Rattle.std.proofs.lemmas.List.{get_or-replicate}
+use Rattle.roman_lanes.specs.Rows.{is_on}
+use Rattle.roman_lanes.proofs.CallerLemmas.{on_zero}
+use Rattle.roman_repair.proofs.asked_band.AskedBand.nothing.Goals as goal
+
+pub returns-clause-none : goal.returns-clause-none
+returns-clause-none c A lanes gone = record { each = λ i lane h l on. absurd (both_ways (is_on 0 lane) (on_zero lane) (ap (λ w. is_on w lane) (sym (get_or-replicate 64 i 0 0 h)) ∙ on)) }

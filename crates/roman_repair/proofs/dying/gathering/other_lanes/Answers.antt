@@ -1,0 +1,11 @@
+use Rattle.std.proofs.Common.{◌&&◌, ap, ◌∙◌}
+use Rattle.std.specs.Int.{bit_not, w64}
+use Rattle.roman_lanes.specs.Rows.{is_on}
+use Rattle.roman_lanes.proofs.CallerLemmas.{on_and, on_less}
+use Rattle.roman_repair.proofs.dying.gathering.other_lanes.Goals as goal
+
+pub returns-clause-each : goal.returns-clause-each
+returns-clause-each c lane l = on_less c.args.word c.args.other lane c.ranges.other.fits l
+
+pub returns-clause-none : goal.returns-clause-none
+returns-clause-none c lane off = on_and c.args.word (bit_not w64 c.args.other) lane ∙ ap (λ b. b && is_on (bit_not w64 c.args.other) lane) off
