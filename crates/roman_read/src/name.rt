@@ -1,5 +1,5 @@
 //! Names that are kept in place.
-ghost use Rattle.std.specs.Prelude.{◌≡◌, ℕ, ◌-◌, ◌≤◌, ◌++◌, length, replicate, IsTrue};
+ghost use Rattle.std.specs.Prelude.{◌≡◌, ℕ, ◌-◌, ◌≤◌, ◌++◌, length, replicate, take, IsTrue};
 ghost use Rattle.std.specs.List.{list_all};
 ghost use Rattle.std.specs.Option.{SomeIff};
 ghost use Rattle.std.specs.Str.{bytes_eq};
@@ -62,6 +62,15 @@ impl Name {
         ensures rule { IsTrue (is_name self.now) }
     {
         &self.bytes[..self.len as usize]
+    }
+
+    /// Returns the bytes of the name, padded with zeros to 32 bytes. A copy of all of them takes a
+    /// processor a few steps, whatever the length of the name is.
+    #[inline]
+    pub fn padded(&self) -> &[u8; LONGEST]
+        ensures { take (length self.now) result.now ≡ self.now }
+    {
+        &self.bytes
     }
 
     /// Does nothing. Its contract states that the bytes of every name obey the rule of names.

@@ -1,5 +1,5 @@
 //! Gathers output in a buffer of fixed size.
-ghost use Rattle.std.specs.Prelude.{◌≡◌, ◌+◌, ◌≤◌, ◌∷◌, ◌++◌, [], length, take, decimal, OnOk};
+ghost use Rattle.std.specs.Prelude.{◌≡◌, ◌+◌, ◌<◌, ◌≤◌, ◌∷◌, ◌++◌, [], length, take, decimal, OnOk};
 ghost use Rattle.roman_io.specs.Faults.{HasCause};
 ghost use Rattle.roman_io.specs.Sink.{Puts};
 ghost use Rattle.roman_model.specs.declared.limits.TheConstants.{MAX_NAME_BYTES, PIECE_BYTES};
@@ -13,12 +13,15 @@ use crate::piece::LONGEST;
 use crate::report::{ReportLine, report_piece};
 use itoa::{Buffer, write_digits};
 use roman_io::{Failed, Sink};
-use roman_model::PIECE_BYTES;
+use roman_model::{MAX_NAME_BYTES, PIECE_BYTES};
 use roman_read::Name;
 use std::marker::Model;
 
 /// The greatest number of decimal digits of a `u32`.
 const DIGITS: usize = 10;
+
+/// The greatest number of bytes of a name.
+const NAME: usize = MAX_NAME_BYTES as usize;
 
 /// The length in bytes of the array that [`Page::push_short`] takes.
 pub const SHORT: usize = 16;
@@ -142,7 +145,8 @@ impl Page {
         ensures cause { HasCause (O.faults out.old) (O.faults out.new) result }
     {
         self.make_room(out)?;
-        self.add_name(&[before], name, b"");
+        self.add_byte(before);
+        self.add_bare(name);
         Ok(())
     }
 
@@ -213,15 +217,36 @@ impl Page {
         self.len += len;
     }
 
+    /// Adds a byte. Requires room for it.
+    fn add_byte(&mut self, byte: u8)
+        requires { length self.old < PIECE_BYTES }
+        ensures { self.new ≡ self.old ++ byte ∷ [] }
+    {
+        self.bytes[self.len] = byte;
+        self.len += 1;
+    }
+
+    /// Adds a name. Requires room for the longest name, since it copies as many bytes.
+    fn add_bare(&mut self, name: &Name)
+        requires { length self.old + MAX_NAME_BYTES ≤ PIECE_BYTES }
+        ensures text { self.new ≡ self.old ++ name.now }
+        ensures len { length self.new ≤ length self.old + MAX_NAME_BYTES }
+    {
+        let end = self.len + NAME;
+        self.bytes[self.len..end].copy_from_slice(name.padded());
+        self.len += name.bytes().len();
+    }
+
     /// Adds a name, with bytes before it and after it. Requires room for these bytes and the longest
     /// name.
+    #[inline]
     fn add_name(&mut self, before: &[u8], name: &Name, behind: &[u8])
         requires { length self.old + length before.now + length behind.now + MAX_NAME_BYTES ≤ PIECE_BYTES }
         ensures text { self.new ≡ self.old ++ (before.now ++ (name.now ++ behind.now)) }
         ensures len { length self.new ≤ length self.old + length before.now + length behind.now + MAX_NAME_BYTES }
     {
         self.add(before);
-        self.add(name.bytes());
+        self.add_bare(name);
         self.add(behind);
     }
 
