@@ -6,6 +6,4 @@ mod PlacedLemmas
 pub mod TargetLemmas
 pub mod KnownLemmas
 pub mod CombinedLemmas
-mod ReadLemmas
-mod WrittenLemmas
 pub mod CallerLemmas

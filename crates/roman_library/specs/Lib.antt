@@ -4,5 +4,3 @@ pub mod Library
 pub mod Documents
 pub mod Known
 pub mod Targets
-pub mod Reads
-pub mod Written

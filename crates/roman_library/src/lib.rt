@@ -24,9 +24,7 @@ mod targets;
 mod text;
 
 pub use file_name::FileName;
-pub use laws::{
-    document_lists_are_read, libraries_are_known, libraries_are_said, targets_are_combined,
-};
+pub use laws::{libraries_are_known, targets_are_combined};
 pub use library::{Library, Service};
 pub use loading::load;
 pub use names::place_of_behaviour;

@@ -8,9 +8,5 @@ mod GuardLemmas
 pub mod StepLemmas
 mod ChoiceLemmas
 mod SingleLemmas
-mod Rising
-mod NormalForms
 pub mod PartLemmas
-pub mod ReadLemmas
-pub mod WrittenLemmas
 pub mod CallerLemmas

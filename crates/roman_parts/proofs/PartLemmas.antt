@@ -1,19 +1,24 @@
 -- The value of a document that is read as a part is well formed.
 use Rattle.std.proofs.Common.{◌≡◌, ℕ, ◌+◌, ◌<◌, ◌≤◌, ◌&&◌, Bool, true, false, List, [], ◌∷◌, ◌++◌, length, Option, Some, None, is_some, is_none, nat_le, codes, Ok, IsTrue, refl, sym, ap, ◌∙◌, subst, arith, leb-true, length-append}
+use Rattle.std.specs.List.{position_or_len}
 use Rattle.std.specs.Str.{bytes_eq}
 use Rattle.std.proofs.lemmas.Bool.{and_parts}
 use Rattle.std.proofs.lemmas.List.Quantifiers.{position-Some}
+use Rattle.std.proofs.lemmas.Slice.Eq.{bytes_eq-Decides}
 use Rattle.serde_json.specs.Data.{Data, Items, no_items, item}
 use Rattle.serde_json.specs.Find.{as_object}
 use Rattle.serde_json.specs.Events.{items_len}
-use Rattle.roman_model.specs.System.{Beh, Move, IsEnv}
+use Rattle.roman_model.specs.Lists.{IsIn}
+use Rattle.roman_model.specs.Normal.{normal_env}
+use Rattle.roman_model.specs.System.{Beh, Triple, Move, IsEnv}
 use Rattle.roman_model.specs.declared.limits.TheConstants.{MAX_STATES, MAX_ACTIONS}
 use Rattle.roman_read.specs.Items.{each_item}
 use Rattle.roman_read.specs.Json.{member_of, text_of}
 use Rattle.roman_read.specs.Names.{place_of}
 use Rattle.roman_read.specs.declared.rules.Kind.{Kind}
 use Rattle.roman_read.specs.declared.rules.Kind.TheVariants as kind
-use Rattle.roman_read.proofs.CallerLemmas.{same_ok, bind_ok}
+use Rattle.roman_model.proofs.CallerLemmas.{any_from}
+use Rattle.roman_read.proofs.CallerLemmas.{same_ok, bind_ok, place_of-present}
 use Rattle.roman_parts.specs.Choices.{choice_of, refuse_choice, single_of}
 use Rattle.roman_parts.specs.Lists.{name_in, name_step, names_of, place_in, start_of, finals_of}
 use Rattle.roman_parts.specs.Named.{NamedEnv, NamedBeh, NamedTarget, IsBehaviour, IsTarget}
@@ -166,3 +171,19 @@ target_known env d t h =
       known = IsOver-normal env.env.states env.env.actions beh (names_counted list.States (codes "states") MAX_STATES whole states e1) (start_below states whole start e2);
       single = single_moves env.env.states env.env.actions beh (sym (ap choice_of same) ∙ none);
     })
+
+-- Places of names
+
+pub there_some : (names : List (List ℕ)) (text : List ℕ) → IsIn text names → (k : ℕ) × (place_of names text ≡ Some k)
+there_some names text there = (position_or_len (bytes_eq text) names, place_of-present names text (any_from (bytes_eq text) text names there ((bytes_eq-Decides text text).1 refl)))
+
+pub none_absent : (names : List (List ℕ)) (text : List ℕ) → place_of names text ≡ None → IsIn text names → ⊥
+none_absent names text none there = let (k, some) = there_some names text there in cc
+
+-- An environment is read where its parts are.
+
+pub env_read : (d : Data) (states actions : List (List ℕ)) (start : ℕ) (triples : List Triple) → IsTrue (is_some (as_object d)) → names_of list.States (codes "states") MAX_STATES d ≡ Ok states → start_of states d ≡ Ok start →
+    names_of list.Actions (codes "actions") MAX_ACTIONS d ≡ Ok actions → triples_of states actions d ≡ Ok triples →
+    environment_of d ≡ Ok (record { states = states; actions = actions; env = normal_env (record { states = length states; actions = length actions; start = start; triples = triples }) })
+unfolding environment_of
+env_read d states actions start triples object h1 h2 h3 h4 = rw (object, h1, h2, h3, h4) refl

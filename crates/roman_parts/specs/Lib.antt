@@ -9,6 +9,3 @@ pub mod Guards
 pub mod Steps
 pub mod Choices
 pub mod Parts
-pub mod Normals
-pub mod Reads
-pub mod Written

@@ -6,6 +6,3 @@ pub use Rattle.roman_read.proofs.PlaceLemmas.{place_of-absent, place_of-present,
 pub use Rattle.roman_read.proofs.Each.{IsLeft, at_start, each, ends, goes_on, is_done, pushed_ends, pushed_on, pushes}
 -- Readings that succeed, and their values.
 pub use Rattle.roman_read.proofs.Given.{bind_ok, same_ok}
--- Lists whose items are read one by one: their values, or the refused item.
-pub use Rattle.roman_read.proofs.ListLemmas.{IsListing, IsStep, all_given, bind_err, items_count, items_listed, list_given, list_gives, list_refused, list_refuses}
-pub use Rattle.roman_read.proofs.ListLemmas.{listed, same_err}

@@ -3,5 +3,4 @@ mod JsonLemmas
 pub mod PlaceLemmas
 pub mod Each
 pub mod Given
-pub mod ListLemmas
 pub mod CallerLemmas

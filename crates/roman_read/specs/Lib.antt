@@ -3,4 +3,3 @@ pub mod Tables
 pub mod Kinds
 pub mod Json
 pub mod Items
-pub mod Listed

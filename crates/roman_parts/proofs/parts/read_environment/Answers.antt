@@ -7,7 +7,7 @@ use Rattle.roman_model.specs.System.{Env}
 use Rattle.roman_model.specs.Normal.{normal_env}
 use Rattle.roman_parts.specs.Listed.{triple_of, listed_env}
 use Rattle.roman_parts.specs.Named.{NamedEnv}
-use Rattle.roman_parts.proofs.WrittenLemmas.{env_read}
+use Rattle.roman_parts.proofs.PartLemmas.{env_read}
 use Rattle.roman_parts.proofs.parts.read_environment.Goals as goal
 
 -- an environment is made of its names and its record

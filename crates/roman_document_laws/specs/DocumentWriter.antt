@@ -5,7 +5,7 @@ use Rattle.roman_io.specs.Shelf.{Texts}
 use Rattle.roman_model.specs.Lists.{IsIn}
 use Rattle.roman_read.specs.Names.{is_name}
 use Rattle.roman_parts.specs.Named.{NamedBeh}
-use Rattle.roman_parts.specs.Written.{list_value, place_value, environment_value, behaviour_value, target_value, IsSayableEnv, IsSayableBeh, IsSayableTarget}
+use Rattle.roman_document_laws.specs.PartWriter.{list_value, place_value, environment_value, behaviour_value, target_value, IsSayableEnv, IsSayableBeh, IsSayableTarget}
 use Rattle.roman_library.specs.Documents.{library_in}
 use Rattle.roman_library.specs.Library.{PlainLibrary, IsLibrary, behaviour_name}
 use Rattle.roman_library.specs.declared.library.Service.{Service}

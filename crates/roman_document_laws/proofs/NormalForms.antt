@@ -8,9 +8,9 @@ use Rattle.roman_model.specs.Made.{guarded_step}
 use Rattle.roman_model.specs.Normal.{normal_env, normal_beh}
 use Rattle.roman_model.specs.Outcomes.{HasStep}
 use Rattle.roman_model.proofs.CallerLemmas.{from_flat_map, from_map, triple_listed, listed_triple, number_listed, listed_number, step_listed, listed_step}
-use Rattle.roman_parts.proofs.NormalLemmas.{has_triple-normal, has_move-normal, is_final-normal}
-use Rattle.roman_parts.specs.Normals.{Rises, IsLess, AreBefore, IsTripleBefore, IsMoveBefore, IsNormalEnv, IsNormalBeh, SameEnv, SameBeh, NormalFormsAreNormal, NormalFormsAreUnique}
-use Rattle.roman_parts.proofs.Rising.{rises_filter, rises_flat, rises_map, rises_same, rises_below}
+use Rattle.roman_parts.proofs.CallerLemmas.{has_triple-normal, has_move-normal, is_final-normal}
+use Rattle.roman_document_laws.specs.Normals.{Rises, IsLess, AreBefore, IsTripleBefore, IsMoveBefore, IsNormalEnv, IsNormalBeh, SameEnv, SameBeh, NormalFormsAreNormal, NormalFormsAreUnique}
+use Rattle.roman_document_laws.proofs.Rising.{rises_filter, rises_flat, rises_map, rises_same, rises_below}
 
 -- Normal forms rise
 

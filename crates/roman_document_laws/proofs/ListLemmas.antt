@@ -5,11 +5,11 @@ use Rattle.serde_json.specs.Events.{items_len}
 use Rattle.serde_json.specs.View.{items_of}
 use Rattle.roman_read.specs.Items.{◌>>=◌, each_item}
 use Rattle.roman_read.specs.Kinds.{kind_of}
-use Rattle.roman_read.specs.Listed.{IsListAt, MissesList, AreItems, FaultIn, IsListOf, BreaksList}
+use Rattle.roman_document_laws.specs.Listed.{IsListAt, MissesList, AreItems, FaultIn, IsListOf, BreaksList}
 use Rattle.roman_read.specs.declared.rules.Kind.{Kind}
 use Rattle.roman_read.specs.declared.rules.Kind.TheVariants.{Count}
 use Rattle.roman_read.specs.declared.rules.Miss.{Miss}
-use Rattle.roman_read.proofs.Given.{same_ok, bind_ok}
+use Rattle.roman_read.proofs.CallerLemmas.{same_ok, bind_ok}
 
 pub same_err : {X E : Type 0} (d e : E) → ◌≡◌ {A = Result X E} (Err d) (Err e) → d ≡ e
 same_err d e h = cc

@@ -16,22 +16,23 @@ use Rattle.roman_model.proofs.CallerLemmas.{by_test, any_from, any_true, from_pu
 use Rattle.roman_read.specs.Items.{◌>>=◌, each_item, pushing}
 use Rattle.roman_read.specs.Json.{member_of, text_of, list_of}
 use Rattle.roman_read.specs.Kinds.{kind_of}
-use Rattle.roman_read.specs.Listed.{IsListAt, MissesList, AreItems}
+use Rattle.roman_document_laws.specs.Listed.{IsListAt, MissesList, AreItems}
 use Rattle.roman_read.specs.Names.{is_name, place_of}
 use Rattle.roman_read.specs.declared.rules.Kind.{Kind}
 use Rattle.roman_read.specs.declared.rules.Kind.TheVariants as kind
 use Rattle.roman_read.specs.declared.rules.Miss.{Miss}
-use Rattle.roman_read.proofs.CallerLemmas.{same_ok, bind_ok, same_err, bind_err, listed, items_listed, items_count, IsStep, IsListing, list_gives, list_given, list_refuses, list_refused, place_of-present, place_of-absent}
+use Rattle.roman_read.proofs.CallerLemmas.{same_ok, bind_ok, place_of-present, place_of-absent}
+use Rattle.roman_document_laws.proofs.ListLemmas.{same_err, bind_err, listed, items_listed, items_count, IsStep, IsListing, list_gives, list_given, list_refuses, list_refused}
 use Rattle.roman_parts.specs.Guards.{guarded_states}
 use Rattle.roman_parts.specs.Lists.{name_in, name_step, names_of, place_in, finals_of}
 use Rattle.roman_parts.specs.Reading.{looked, found, check, items_at, counted_items}
-use Rattle.roman_parts.specs.Reads.{IsNewName, BreaksName, IsPlace, BreaksPlace, IsNoRow, IsTripleItem, BreaksTriple, IsMoveItem, BreaksMove, ReadsList, AreNames, ListsAreRead}
+use Rattle.roman_document_laws.specs.PartReads.{IsNewName, BreaksName, IsPlace, BreaksPlace, IsNoRow, IsTripleItem, BreaksTriple, IsMoveItem, BreaksMove, ReadsList, AreNames, ListsAreRead}
 use Rattle.roman_parts.specs.Steps.{three_of, four_of, triple_item, triples_of, move_item, moves_of}
 use Rattle.roman_parts.specs.declared.error.List.{List as Place}
 use Rattle.roman_parts.specs.declared.error.List.TheVariants as list
 use Rattle.roman_parts.specs.declared.error.PartError.{PartError}
 use Rattle.roman_parts.specs.declared.error.PartError.TheVariants.{Refused}
-use Rattle.roman_parts.proofs.PartLemmas.{check_is, found_is, none_is}
+use Rattle.roman_parts.proofs.CallerLemmas.{check_is, found_is, none_is, there_some, none_absent}
 
 -- Looks and tests
 
@@ -74,9 +75,6 @@ in_place names text k h =
           both_ways (bytes_eq text (get_or names j [])) (before j earlier) (subst (λ (n : List ℕ). IsTrue (bytes_eq text n)) (sym is) (itself text)),
     )
 
-there_some : (names : List (List ℕ)) (text : List ℕ) → IsIn text names → (k : ℕ) × (place_of names text ≡ Some k)
-there_some names text there = (position_or_len (bytes_eq text) names, place_of-present names text (any_from (bytes_eq text) text names there (itself text)))
-
 -- a name occurs first at only one place
 place_from : (names : List (List ℕ)) (text : List ℕ) (k : ℕ) → slice_get names k ≡ Some text → ((j : ℕ) → j < k → slice_get names j ≡ Some text → ⊥) → place_of names text ≡ Some k
 place_from names text k there first =
@@ -92,9 +90,6 @@ pub absent_none : (names : List (List ℕ)) (text : List ℕ) → (IsIn text nam
 absent_none names text never = by_test (list_any (bytes_eq text) names)
     (λ yes. let (n, i, same) = any_true (bytes_eq text) names yes in absurd (never (subst (λ (n : List ℕ). IsIn n names) (sym ((bytes_eq-Decides text n).0 same)) i)))
     (λ fails. place_of-absent names text fails)
-
-pub none_absent : (names : List (List ℕ)) (text : List ℕ) → place_of names text ≡ None → IsIn text names → ⊥
-none_absent names text none there = let (k, some) = there_some names text there in cc
 
 pub place_ok : (names : List (List ℕ)) (list : Place) (i : ℕ) (d : Data) (k : ℕ) → place_in names list i d ≡ Ok k → IsPlace names d k
 unfolding place_in

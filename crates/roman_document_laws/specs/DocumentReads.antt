@@ -3,7 +3,7 @@ use Rattle.std.specs.Prelude.{◌≡◌, ◌≤◌, ◌↔◌, ℕ, List, length
 use Rattle.roman_io.specs.Shelf.{Texts}
 use Rattle.serde_json.specs.Data.{Data}
 use Rattle.roman_model.specs.declared.limits.TheConstants.{MAX_BEHAVIOURS, MAX_SERVICES}
-use Rattle.roman_read.specs.Listed.{IsListOf, BreaksList}
+use Rattle.roman_document_laws.specs.Listed.{IsListOf, BreaksList}
 use Rattle.roman_read.specs.declared.rules.Kind.{Kind}
 use Rattle.roman_parts.specs.Named.{NamedEnv, NamedBeh}
 use Rattle.roman_parts.specs.declared.error.List.{List as Place}

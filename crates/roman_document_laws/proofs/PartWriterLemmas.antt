@@ -18,25 +18,24 @@ use Rattle.roman_model.proofs.CallerLemmas.{by_test, same_test, get_in, none_fro
 use Rattle.roman_read.specs.Items.{◌>>=◌, each_item, pushing}
 use Rattle.roman_read.specs.Json.{member_of, text_of}
 use Rattle.roman_read.specs.Names.{is_name}
-use Rattle.roman_read.specs.Listed.{IsListAt, AreItems}
-use Rattle.roman_read.proofs.CallerLemmas.{all_given}
+use Rattle.roman_document_laws.specs.Listed.{IsListAt, AreItems}
+use Rattle.roman_document_laws.proofs.ListLemmas.{all_given}
 use Rattle.roman_parts.specs.Choices.{choice_between, choice_at, choice_with, choice_of, refuse_choice, single_of}
 use Rattle.roman_parts.specs.Guards.{state_in, among_of, guard_of, guarded_states}
 use Rattle.roman_parts.specs.Lists.{names_of, start_of, finals_of}
 use Rattle.roman_parts.specs.Named.{NamedEnv, NamedBeh, NamedTarget, IsOver}
-use Rattle.roman_parts.specs.Normals.{Rises, IsLess, IsNormalEnv, IsNormalBeh}
+use Rattle.roman_document_laws.specs.Normals.{Rises, IsLess, IsNormalEnv, IsNormalBeh}
 use Rattle.roman_parts.specs.Parts.{environment_of, name_of, behaviour_of, target_of}
-use Rattle.roman_parts.specs.Reads.{IsPlace, BreaksPlace, IsTripleItem, IsMoveItem}
+use Rattle.roman_document_laws.specs.PartReads.{IsPlace, BreaksPlace, IsTripleItem, IsMoveItem}
 use Rattle.roman_parts.specs.Steps.{triples_of, moves_of}
-use Rattle.roman_parts.specs.Written.{list_value, names_value, place_value, places_value, triple_value, move_value, environment_value, behaviour_value, target_value, CanList, IsSayableEnv, IsSayableBeh, IsSayableTarget, PartsAreSaid}
+use Rattle.roman_document_laws.specs.PartWriter.{list_value, names_value, place_value, places_value, triple_value, move_value, environment_value, behaviour_value, target_value, CanList, IsSayableEnv, IsSayableBeh, IsSayableTarget, PartsAreSaid}
 use Rattle.roman_parts.specs.declared.error.List.{List as Place}
 use Rattle.roman_parts.specs.declared.error.List.TheVariants as list
 use Rattle.roman_parts.specs.declared.error.PartError.{PartError}
-use Rattle.roman_parts.proofs.ChoiceLemmas.{first_below-none}
-use Rattle.roman_parts.proofs.NormalForms.{forms_normal, forms_unique}
-use Rattle.roman_parts.proofs.NormalLemmas.{from_normal_triple, has_triple-normal, from_normal_move, has_move-normal, is_final-normal}
-use Rattle.roman_parts.proofs.ReadLemmas.{ok_place, place_ok, place_err, err_place, pushing_steps, lists_read}
-use Rattle.roman_parts.proofs.Rising.{rises_same, rises_append}
+use Rattle.roman_parts.proofs.CallerLemmas.{first_below-none, from_normal_triple, has_triple-normal, from_normal_move, has_move-normal, is_final-normal, env_read}
+use Rattle.roman_document_laws.proofs.NormalForms.{forms_normal, forms_unique}
+use Rattle.roman_document_laws.proofs.PartReadLemmas.{ok_place, place_ok, place_err, err_place, pushing_steps, lists_read}
+use Rattle.roman_document_laws.proofs.Rising.{rises_same, rises_append}
 
 -- Names and their places
 
@@ -224,12 +223,6 @@ names_said place name most d names at can = (lists_read.names place name most d 
   named = can.named;
   once = can.once;
 })
-
-pub env_read : (d : Data) (states actions : List (List ℕ)) (start : ℕ) (triples : List Triple) → IsTrue (is_some (as_object d)) → names_of list.States (codes "states") MAX_STATES d ≡ Ok states → start_of states d ≡ Ok start →
-    names_of list.Actions (codes "actions") MAX_ACTIONS d ≡ Ok actions → triples_of states actions d ≡ Ok triples →
-    environment_of d ≡ Ok (record { states = states; actions = actions; env = normal_env (record { states = length states; actions = length actions; start = start; triples = triples }) })
-unfolding environment_of
-env_read d states actions start triples object h1 h2 h3 h4 = rw (object, h1, h2, h3, h4) refl
 
 start_said : (d : Data) (states : List (List ℕ)) (k : ℕ) → member_of d (codes "start") ≡ Ok (place_value states k) → HasNoRepeats states → k < length states → start_of states d ≡ Ok k
 unfolding start_of

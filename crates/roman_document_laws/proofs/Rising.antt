@@ -4,7 +4,7 @@ use Rattle.std.specs.List.{filter, flat_map}
 use Rattle.std.proofs.lemmas.Bool.{cond-true, cond-false}
 use Rattle.roman_model.specs.Lists.{IsIn, below}
 use Rattle.roman_model.proofs.CallerLemmas.{by_test, from_append, from_below, from_flat_map, from_map, filter_in}
-use Rattle.roman_parts.specs.Normals.{Rises, IsLess}
+use Rattle.roman_document_laws.specs.Normals.{Rises, IsLess}
 
 module _ {X : Type 0} (Before : X → X → Type 0) where
   pub rises_append : (xs ys : List X) → Rises Before xs → Rises Before ys → ((x y : X) → IsIn x xs → IsIn y ys → Before x y) → Rises Before (xs ++ ys)

@@ -8,7 +8,7 @@ use Rattle.roman_model.specs.System.{Triple, Move}
 use Rattle.roman_model.specs.declared.limits.TheConstants.{MAX_STEPS}
 use Rattle.roman_read.specs.Json.{text_of, list_of}
 use Rattle.roman_read.specs.Kinds.{kind_of}
-use Rattle.roman_read.specs.Listed.{IsListAt, IsListOf, BreaksList}
+use Rattle.roman_document_laws.specs.Listed.{IsListAt, IsListOf, BreaksList}
 use Rattle.roman_read.specs.Names.{is_name}
 use Rattle.roman_read.specs.declared.rules.Kind.TheVariants.{Form, BadName, Repeated, Unknown}
 use Rattle.roman_read.specs.declared.rules.Miss.{Miss}

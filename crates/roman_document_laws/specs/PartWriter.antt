@@ -8,7 +8,7 @@ use Rattle.roman_model.specs.System.{Triple, Move, IsEnv, IsDeterministic}
 use Rattle.roman_model.specs.declared.limits.TheConstants.{MAX_STATES, MAX_ACTIONS, MAX_STEPS}
 use Rattle.roman_read.specs.Names.{is_name}
 use Rattle.roman_parts.specs.Named.{NamedEnv, NamedBeh, NamedTarget, IsOver}
-use Rattle.roman_parts.specs.Normals.{IsNormalEnv, IsNormalBeh}
+use Rattle.roman_document_laws.specs.Normals.{IsNormalEnv, IsNormalBeh}
 use Rattle.roman_parts.specs.Parts.{environment_of, behaviour_of, target_of}
 
 -- ---- the writer

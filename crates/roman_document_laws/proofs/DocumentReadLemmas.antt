@@ -4,21 +4,22 @@ use Rattle.serde_json.specs.Data.{Data}
 use Rattle.roman_io.specs.Shelf.{Texts}
 use Rattle.roman_model.specs.declared.limits.TheConstants.{MAX_BEHAVIOURS, MAX_SERVICES}
 use Rattle.roman_read.specs.Items.{◌>>=◌}
-use Rattle.roman_read.proofs.CallerLemmas.{same_ok, bind_ok, same_err, bind_err, IsStep, IsListing, list_gives, list_given, list_refuses, list_refused}
+use Rattle.roman_read.proofs.CallerLemmas.{same_ok, bind_ok}
+use Rattle.roman_document_laws.proofs.ListLemmas.{same_err, bind_err, IsStep, IsListing, list_gives, list_given, list_refuses, list_refused}
 use Rattle.roman_parts.specs.Named.{NamedEnv, NamedBeh}
 use Rattle.roman_parts.specs.Reading.{counted_items}
 use Rattle.roman_parts.specs.declared.error.List.{List as Place}
 use Rattle.roman_parts.specs.declared.error.List.TheVariants as list
 use Rattle.roman_parts.specs.declared.error.PartError.{PartError}
-use Rattle.roman_parts.proofs.CallerLemmas.{counted_listing}
+use Rattle.roman_document_laws.proofs.PartReadLemmas.{counted_listing}
 use Rattle.roman_library.specs.Documents.{listed_step, behaviour_in, behaviour_step, catalogue_in, service_of, service_step, services_of}
-use Rattle.roman_library.specs.Reads.{refused_list, BreaksService, ReadsServices, ReadsBehaviours, DocumentListsAreRead}
+use Rattle.roman_document_laws.specs.DocumentReads.{refused_list, BreaksService, ReadsServices, ReadsBehaviours, DocumentListsAreRead}
 use Rattle.roman_library.specs.Refusals.{refusal_of, placed}
 use Rattle.roman_library.specs.declared.library.Service.{Service}
 use Rattle.roman_library.specs.declared.refusal.Part.{Part}
 use Rattle.roman_library.specs.declared.refusal.Part.TheVariants as part
 use Rattle.roman_library.specs.declared.refusal.Refusal.{Refusal}
-use Rattle.roman_library.proofs.KnownLemmas.{placed_is}
+use Rattle.roman_library.proofs.CallerLemmas.{placed_is}
 
 placed_err : {X : Type 0} (document : List ℕ) (part : Part) (r : Result X PartError) (e : Refusal) → placed document part r ≡ Err e → (why : PartError) × (r ≡ Err why) × (e ≡ refusal_of document part why)
 placed_err document part (Ok y) e h = absurd (let f : ⊥ = cc in f)

@@ -1,0 +1,7 @@
+mod ListLemmas
+mod Rising
+mod NormalForms
+mod PartReadLemmas
+mod PartWriterLemmas
+mod DocumentReadLemmas
+mod DocumentWriterLemmas

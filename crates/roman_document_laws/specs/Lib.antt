@@ -1,0 +1,6 @@
+pub mod Normals
+pub mod Listed
+pub mod PartReads
+pub mod PartWriter
+pub mod DocumentReads
+pub mod DocumentWriter

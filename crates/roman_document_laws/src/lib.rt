@@ -1,0 +1,50 @@
+//! Laws for readers: what documents and the normal forms of their parts mean, said by properties
+//! alone. The crate depends on the definitions of documents, and no crate depends on it. Each law is
+//! the contract of a function that computes nothing.
+//!
+//! `specs/Normals` has the properties of normal forms. `specs/Listed` has lists whose items are read
+//! one by one, `specs/PartReads` the lists of parts, and `specs/DocumentReads` those of documents.
+//! `specs/PartWriter` and `specs/DocumentWriter` have a writer, which is only a definition.
+#![tactic(auto)]
+
+ghost use Rattle.roman_document_laws.specs.DocumentReads.{DocumentListsAreRead};
+ghost use Rattle.roman_document_laws.specs.DocumentWriter.{LibrariesAreSaid};
+ghost use Rattle.roman_document_laws.specs.Normals.{NormalFormsAreNormal, NormalFormsAreUnique};
+ghost use Rattle.roman_document_laws.specs.PartReads.{ListsAreRead};
+ghost use Rattle.roman_document_laws.specs.PartWriter.{PartsAreSaid};
+
+/// In a normal form triples, steps, final states and guards rise without repeats, and no guard is
+/// empty. Its numbers, steps and final states are those of the original record.
+pub fn normal_forms_are_normal()
+    ensures normal { NormalFormsAreNormal }
+{}
+
+/// Two normal forms with the same numbers, steps and final states are equal.
+pub fn normal_forms_are_unique()
+    ensures unique { NormalFormsAreUnique }
+{}
+
+/// Lists of names, final states and steps are read exactly where each item is valid, in their order.
+/// The refusal is that of the list, or that of the first faulty item by the first rule that it
+/// breaks.
+pub fn lists_are_read()
+    ensures read { ListsAreRead }
+{}
+
+/// Each environment, behaviour and target within the limits of documents is the meaning of some JSON
+/// value: of the value that the writer gives, which is only a definition.
+pub fn parts_are_said()
+    ensures said { PartsAreSaid }
+{}
+
+/// Services and behaviours are read exactly where each item of their list is valid, in their order.
+/// The refusal is that of the list, or that of the first faulty item.
+pub fn document_lists_are_read()
+    ensures read { DocumentListsAreRead }
+{}
+
+/// Each library within the limits of documents is the meaning of some JSON value: of the value that
+/// the writer gives, which is only a definition.
+pub fn libraries_are_said()
+    ensures said { LibrariesAreSaid }
+{}

@@ -1,5 +1,0 @@
-use Rattle.roman_parts.proofs.NormalForms.{forms_normal}
-use Rattle.roman_parts.proofs.laws.normal_forms_are_normal.Goals as goal
-
-pub returns : goal.returns
-returns c = record { normal = forms_normal }
