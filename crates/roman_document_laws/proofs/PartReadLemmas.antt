@@ -1,6 +1,6 @@
 -- Lists of names, final states and steps: their values, and their refusals.
 use Rattle.std.proofs.Common.{◌≡◌, ◌≢◌, ℕ, suc, ◌<◌, ◌≤◌, ◌⊎◌, ◌&&◌, inl, inr, Bool, true, false, List, [], ◌∷◌, ◌++◌, length, get_or, Option, Some, None, is_none, nat_le, codes, Result, Ok, Err, IsTrue, IsFalse, slice_get, refl, sym, ap, ◌∙◌, subst, arith, leb-true, true≢false}
-use Rattle.std.specs.List.{AllZip, list_any, position_or_len}
+use Rattle.std.specs.List.{AllZip, list_any}
 use Rattle.std.specs.Str.{bytes_eq}
 use Rattle.std.proofs.lemmas.Bool.{and_parts, and_from, both_ways, cases_order, le-leb}
 use Rattle.std.proofs.lemmas.List.Quantifiers.{position-Some}
@@ -12,7 +12,7 @@ use Rattle.serde_json.specs.View.{items_of}
 use Rattle.roman_model.specs.Lists.{IsIn, HasNoRepeats}
 use Rattle.roman_model.specs.System.{Triple, Move}
 use Rattle.roman_model.specs.declared.limits.TheConstants.{MAX_STEPS}
-use Rattle.roman_model.proofs.CallerLemmas.{by_test, any_from, any_true, from_push, in_push, in_append_left, get_in}
+use Rattle.roman_model.proofs.CallerLemmas.{by_test, any_true, from_push, in_push, in_append_left, get_in}
 use Rattle.roman_read.specs.Items.{◌>>=◌, each_item, pushing}
 use Rattle.roman_read.specs.Json.{member_of, text_of, list_of}
 use Rattle.roman_read.specs.Kinds.{kind_of}
@@ -21,7 +21,7 @@ use Rattle.roman_read.specs.Names.{is_name, place_of}
 use Rattle.roman_read.specs.declared.rules.Kind.{Kind}
 use Rattle.roman_read.specs.declared.rules.Kind.TheVariants as kind
 use Rattle.roman_read.specs.declared.rules.Miss.{Miss}
-use Rattle.roman_read.proofs.CallerLemmas.{same_ok, bind_ok, place_of-present, place_of-absent}
+use Rattle.roman_read.proofs.CallerLemmas.{same_ok, bind_ok, place_of-absent}
 use Rattle.roman_document_laws.proofs.ListLemmas.{same_err, bind_err, listed, items_listed, items_count, IsStep, IsListing, list_gives, list_given, list_refuses, list_refused}
 use Rattle.roman_parts.specs.Guards.{guarded_states}
 use Rattle.roman_parts.specs.Lists.{name_in, name_step, names_of, place_in, finals_of}
