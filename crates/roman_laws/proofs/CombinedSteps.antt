@@ -1,13 +1,13 @@
 -- The steps of the system that combines several targets are steps of the plain system, on the action of the request.
-use Rattle.std.proofs.Common.{◌≡◌, ℕ, zero, suc, ◌==◌, ◌&&◌, not, List, [], ◌∷◌, map, length, Option, Some, None, IsTrue, IsFalse, filter, slice_get, slice_index, inl, inr, refl, sym, ap, subst}
-use Rattle.std.proofs.lemmas.Bool.{false≢true, and_from, eq-eqb, not_from_false}
+use Rattle.std.proofs.Common.{◌≡◌, ℕ, zero, suc, ◌==◌, ◌&&◌, not, List, [], ◌∷◌, map, length, Option, Some, None, IsTrue, IsFalse, filter, slice_get, slice_index, inl, inr, refl, sym, ap, subst, eqb-true}
+use Rattle.std.proofs.lemmas.Bool.{false≢true, and_from, and_parts, eq-eqb, not_from_false, not-true}
 use Rattle.std.proofs.lemmas.Option.{none-some, same_Some, slice_get_within}
 use Rattle.roman_model.specs.Lists.{IsIn, below, is_empty}
 use Rattle.roman_model.specs.System.{Env, Beh, Seat, has, has_triple, has_move, IsEnv, IsBeh, SStep, is_final}
 use Rattle.roman_model.specs.declared.request.Request.{Request}
 use Rattle.roman_model.specs.Several.{Several, of_one}
 use Rattle.roman_model.specs.Combined.{stands_in, requests_of, has_triple_on, has_move_on, combined_beh, combined_seat, all_requests, combined, IsSeveral}
-use Rattle.roman_model.proofs.CallerLemmas.{get_in, get_map, in_map, in_flat_map, in_filter, any_true, any_from, in_not_empty, in_below, triple_in_range, move_in_range, from_made_triple, made_triple, move_test, from_made_move, made_move}
+use Rattle.roman_model.proofs.CallerLemmas.{get_in, get_map, in_map, in_flat_map, in_filter, from_map, from_flat_map, filter_in, any_true, any_from, in_not_empty, not_empty_in, in_below, triple_in_range, move_in_range, from_made_triple, made_triple, move_test, move_passes, from_made_move, made_move}
 
 -- The requests.
 
@@ -30,6 +30,34 @@ step_requested env targets i target b e a b' at ok t =
     (in_map (λ a. record { target = i; action = a }) a (filter (stands_in (slice_get targets i)) (below env.actions))
     (in_filter (stands_in (slice_get targets i)) a (below env.actions) (in_below env.actions a (move_in_range env target b e a b' ok t).2)
     (subst (λ o. IsTrue (stands_in o a)) (sym at) stands)))
+
+-- a target that has a step on the action, in the place of a target
+stands_target : (o : Option Beh) (a : ℕ) → IsTrue (stands_in o a) → (target : Beh) × (o ≡ Some target) × ((b : ℕ) × (e : ℕ) × (b' : ℕ) × IsTrue (has_move target b e a b'))
+stands_target None a stands = absurd (false≢true stands)
+stands_target (Some target) a stands =
+    let (m, i, passes) = any_true (λ m. m.action == a && not (is_empty m.guard)) target.steps stands in
+    let (action, some) = and_parts (m.action == a) (not (is_empty m.guard)) passes in
+    let (e, j) = not_empty_in m.guard (not-true (is_empty m.guard) some) in (
+      target,
+      refl,
+      (
+        m.from,
+        e,
+        m.to,
+        subst (λ a. IsTrue (has_move target m.from e a m.to)) (eqb-true m.action a action)
+            (any_from (λ n. n.from == m.from && n.action == m.action && has n.guard e && n.to == m.to) m target.steps i (move_passes m.from e m.action m.to m.guard j)),
+      ),
+    )
+
+-- the target of a request has a step by its action
+pub request_at : (w : Several) (n : ℕ) (r : Request) → slice_get (all_requests w) n ≡ Some r →
+    (target : Beh) × (slice_get w.targets r.target ≡ Some target) × ((b : ℕ) × (e : ℕ) × (b' : ℕ) × IsTrue (has_move target b e r.action b'))
+request_at w n r at =
+    let (i, j, there) = from_flat_map (λ i. map (λ a. record { target = i; action = a }) (filter (stands_in (slice_get w.targets i)) (below w.env.actions))) r (below (length w.targets))
+    (get_in (all_requests w) n r at) in
+    let (a, k, same) = from_map (λ a. record { target = i; action = a }) r (filter (stands_in (slice_get w.targets i)) (below w.env.actions)) there in
+    stands_target (slice_get w.targets r.target) r.action (subst (λ (r : Request). IsTrue (stands_in (slice_get w.targets r.target) r.action)) (sym same)
+    (filter_in (stands_in (slice_get w.targets i)) a (below w.env.actions) k).1)
 
 -- The environment.
 
@@ -66,7 +94,7 @@ move_for w beh b e n b' r ok at t =
     hb he (slice_get_within (all_requests w) n r at) hb' (subst (λ o. IsTrue (has_move_on beh o b e b')) (sym at) t)
 
 -- an element of a mapped list comes from an element of the list
-from_mapped : {X Y : Type 0} (f : X → Y) (xs : List X) (k : ℕ) (y : Y) → slice_get (map f xs) k ≡ Some y → (x : X) × (slice_get xs k ≡ Some x) × (y ≡ f x)
+pub from_mapped : {X Y : Type 0} (f : X → Y) (xs : List X) (k : ℕ) (y : Y) → slice_get (map f xs) k ≡ Some y → (x : X) × (slice_get xs k ≡ Some x) × (y ≡ f x)
 from_mapped f [] k y e = absurd (none-some y e)
 from_mapped f (x ∷ xs) zero y e = (x, refl, sym (same_Some (f x) y e))
 from_mapped f (x ∷ xs) (suc k) y e = from_mapped f xs k y e

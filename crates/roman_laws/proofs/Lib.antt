@@ -10,3 +10,4 @@ pub mod CombinedSteps
 pub mod RequestLemmas
 pub mod NewLists
 pub mod RepairLemmas
+pub mod CallerLemmas

@@ -155,5 +155,9 @@ turns_of w ok p pair = record {
     λ allows. from_allowed (combined w) p n (allowed_request w p n i target a ok pair asks allows),
   );
   served = λ n i target a asks k. (combined_serves w p n i target a k ok pair asks, serves_combined w p n i target a k ok pair asks);
+  answered = λ n i target a asks k bs' e'. (
+    λ step. plain_sstep w target p.bs p.e n k bs' e' (record { target = i; action = a }) asks.request (world_of w p.e n e' i a target asks step.world) step,
+    sstep_for w target p.bs p.e n k bs' e' (record { target = i; action = a }) ok asks.request,
+  );
   moved = λ n i target a asks t' e' step. move_of w p n i target a t' e' asks step;
 }

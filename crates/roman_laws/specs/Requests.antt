@@ -1,7 +1,7 @@
 -- The requests of each of several targets in the system that combines them, and the seats that serve them.
-use Rattle.std.specs.Prelude.{◌≡◌, ◌↔◌, ℕ, ◌<◌, Some, IsTrue, length, slice_get, slice_index, slice_set}
+use Rattle.std.specs.Prelude.{◌≡◌, ◌↔◌, ℕ, ◌<◌, List, Some, IsTrue, length, slice_get, slice_index, slice_set}
 use Rattle.roman_model.specs.Lists.{IsIn}
-use Rattle.roman_model.specs.System.{Beh, Pair, IsPair, TStep, Allows}
+use Rattle.roman_model.specs.System.{Beh, Pair, IsPair, TStep, SStep, Allows}
 use Rattle.roman_model.specs.SystemArena.{is_allowed}
 use Rattle.roman_model.specs.Composition.{couple, Serves, GreatCouple}
 use Rattle.roman_model.specs.Offers.{offers}
@@ -38,12 +38,14 @@ pub record IsMoveOf (w : Several) (p : Pair) (i : ℕ) (target : Beh) (a t' e' :
   pub states : (couple_all w (record p { t = t' })).ts ≡ slice_set (couple_all w p).ts i to
 
 -- a turn of the combined system, target by target: the allowed actions are the requests that the targets allow, a seat that serves one
--- serves all targets, and only the requesting target moves
+-- serves all targets, each step of a seat is one on the plain action, and only the requesting target moves
 pub record TurnsAreOf (w : Several) (p : Pair) : Type 0 where
   pub named : (n : ℕ) → Allows (combined w) p.t p.e n → (i : ℕ) × (target : Beh) × (a : ℕ) × IsRequestOf w n i target a
   pub asked : (n i : ℕ) (target : Beh) (a : ℕ) → IsRequestOf w n i target a → Allows (combined w) p.t p.e n ↔ TargetAllows w p i target a
   pub served : (n i : ℕ) (target : Beh) (a : ℕ) → IsRequestOf w n i target a → (k : ℕ) →
       Serves (combined w) (GreatCouple (combined w)) (couple p) n k ↔ ServesAll w (GreatAll w) (couple_all w p) i target a k
+  pub answered : (n i : ℕ) (target : Beh) (a : ℕ) → IsRequestOf w n i target a → (k : ℕ) (bs' : List ℕ) (e' : ℕ) →
+      SStep (combined w) p.bs p.e n k bs' e' ↔ SStep (of_one w target) p.bs p.e a k bs' e'
   pub moved : (n i : ℕ) (target : Beh) (a : ℕ) → IsRequestOf w n i target a → (t' e' : ℕ) → TStep (combined w) p.t p.e n t' e' → IsMoveOf w p i target a t' e'
 
 -- this holds at every pair of the system that combines several targets
