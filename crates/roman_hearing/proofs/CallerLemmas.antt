@@ -7,6 +7,8 @@ pub use Rattle.roman_hearing.proofs.KeepLemmas.{line_keeps}
 -- Each step is a turn, and reports are right by the greatest ND-simulation.
 pub use Rattle.roman_hearing.proofs.TurnLemmas.{steps_turns}
 pub use Rattle.roman_hearing.proofs.WordLemmas.{open_great, reports_great}
+-- The system of a document with several targets combines them.
+pub use Rattle.roman_hearing.proofs.SeveralLemmas.{means_all, parts_are, parts_in}
 -- The lines that are answered.
 pub use Rattle.roman_hearing.proofs.HearingLines.{answered_heard}
 -- How a session that is read from a source ends.

@@ -6,13 +6,13 @@ use Rattle.roman_model.specs.Lists.{IsIn, product_of}
 use Rattle.roman_model.specs.System.{Beh, Sys, Pair, IsBeh, IsPair}
 use Rattle.roman_model.specs.System as model
 use Rattle.roman_model.specs.Composition.{Great}
-use Rattle.roman_model.specs.Several.{Several, GreatAll}
+use Rattle.roman_model.specs.Several.{GreatAll}
 use Rattle.roman_model.specs.Combined.{combined, combined_env, combined_beh, combined_target, combined_seat, couple_all, target_sizes, IsSeveral}
 use Rattle.roman_model.specs.declared.limits.TheConstants.{MAX_STATES}
 use Rattle.roman_model.specs.declared.request.Request.{Request}
 use Rattle.roman_model.proofs.CallerLemmas.{from_map, combined_is_all, there_is}
 use Rattle.roman_parts.specs.Named.{NamedEnv, NamedBeh}
-use Rattle.roman_joint.specs.NamedSys.{NamedSys, beh_at, seat_of}
+use Rattle.roman_joint.specs.NamedSys.{NamedSys, IsNamedSys, beh_at, seat_of, system_of}
 use Rattle.roman_joint.specs.declared.seat.Seat.{Seat}
 use Rattle.roman_joint.proofs.CallerLemmas.{beh_read}
 use Rattle.roman_multi.specs.Combining.{PlainCombined, combined_behaviour, combined_parts, machines, requests_in}
@@ -20,10 +20,10 @@ use Rattle.roman_multi.proofs.CallerLemmas.{good_count, all_in, machines_known, 
 use Rattle.roman_library.specs.Library.{PlainLibrary}
 use Rattle.roman_library.specs.Targets.{PlainTargets, CombinesTargets}
 use Rattle.roman_library.proofs.CallerLemmas.{libraries_known, behaviour_there, targets_combined}
-use Rattle.roman_session.specs.Situations.{Situation, IsSituation, present_system}
+use Rattle.roman_session.specs.Situations.{Situation}
 use Rattle.roman_hearing.specs.Told.{Answers, until_quit}
 use Rattle.roman_hearing.specs.Known.{AreNamed, IsKnownSituation}
-use Rattle.roman_hearing.specs.Several.{several_in, MeansAll, SeveralAreServed}
+use Rattle.roman_hearing.specs.Several.{several_with, MeansAll, SeveralAreServed}
 use Rattle.roman_hearing.proofs.KeepLemmas.{answers_keep}
 use Rattle.roman_hearing.proofs.KnownLemmas.{steps_known}
 
@@ -48,12 +48,8 @@ seats_combined env requests catalogue (seat ∷ seats) all =
 abbrev made_system : PlainCombined → List Seat → Sys
 made_system made seats = record { env = made.environment.env; target = made.target.beh; seats = map (seat_of made.catalogue) seats }
 
--- the targets with these seats
-abbrev with_seats : PlainTargets → List Seat → Several
-with_seats said seats = record { env = said.environment.env; targets = machines said.targets; seats = map (seat_of said.catalogue) seats }
-
 made_combined : (said : PlainTargets) (seats : List Seat) → All (λ seat. seat.behaviour < length said.catalogue) seats →
-    made_system (combined_parts said.environment said.catalogue said.targets) seats ≡ combined (with_seats said seats)
+    made_system (combined_parts said.environment said.catalogue said.targets) seats ≡ combined (several_with said seats)
 unfolding combined_parts
 made_combined said seats all =
     let requests = requests_in said.environment said.targets in
@@ -65,25 +61,25 @@ catalogue_length : (said : PlainTargets) → length (combined_parts said.environ
 unfolding combined_parts
 catalogue_length said = length-map said.catalogue (combined_behaviour said.environment (requests_in said.environment said.targets))
 
--- A situation with a library's parts
+-- Parts of a library
 
--- the parts of a situation, without the services
-abbrev parts_in : Situation → PlainCombined
-parts_in s = record { environment = s.parts.environment; catalogue = s.parts.catalogue; target = s.parts.target }
+-- the parts, without the services
+abbrev pub parts_in : NamedSys → PlainCombined
+parts_in parts = record { environment = parts.environment; catalogue = parts.catalogue; target = parts.target }
 
-module _ (said : PlainTargets) (library : PlainLibrary) (s : Situation) (combines : CombinesTargets said library) (is : IsSituation s)
-    (has : parts_in s ≡ record { environment = library.environment; catalogue = library.catalogue; target = library.target }) where
-  parts_are : parts_in s ≡ combined_parts said.environment said.catalogue said.targets
+module _ (said : PlainTargets) (library : PlainLibrary) (parts : NamedSys) (combines : CombinesTargets said library) (is : IsNamedSys parts)
+    (has : parts_in parts ≡ record { environment = library.environment; catalogue = library.catalogue; target = library.target }) where
+  pub parts_are : parts_in parts ≡ combined_parts said.environment said.catalogue said.targets
   parts_are = has ∙ sym combines.parts
 
   -- the services have behaviours of the document
-  seats_within : All (λ seat. seat.behaviour < length said.catalogue) s.parts.seats
+  seats_within : All (λ seat. seat.behaviour < length said.catalogue) parts.seats
   seats_within k d l =
-      let same : length s.parts.catalogue ≡ length said.catalogue = ap (λ (made : PlainCombined). length made.catalogue) parts_are ∙ catalogue_length said in
-      subst (λ (n : ℕ). (get_or s.parts.seats k d).behaviour < n) same (is.parts.behaviours k d l)
+      let same : length parts.catalogue ≡ length said.catalogue = ap (λ (made : PlainCombined). length made.catalogue) parts_are ∙ catalogue_length said in
+      subst (λ (n : ℕ). (get_or parts.seats k d).behaviour < n) same (is.behaviours k d l)
 
-  system_is : present_system s ≡ combined (several_in said s)
-  system_is = ap (λ (made : PlainCombined). made_system made s.parts.seats) parts_are ∙ made_combined said s.parts.seats seats_within
+  system_is : system_of parts ≡ combined (several_with said parts.seats)
+  system_is = ap (λ (made : PlainCombined). made_system made parts.seats) parts_are ∙ made_combined said parts.seats seats_within
 
   seat_known : (seat : Seat) → seat.behaviour < length said.catalogue → IsBeh said.environment.env (beh_at said.catalogue seat.behaviour)
   seat_known seat l =
@@ -91,31 +87,31 @@ module _ (said : PlainTargets) (library : PlainLibrary) (s : Situation) (combine
       let known = behaviour_there said.environment said.catalogue seat.behaviour b combines.behaviours there in
       subst (IsBeh said.environment.env) (sym (beh_read said.catalogue seat.behaviour b there)) (known.known said.environment.env (sym known.env_states) (sym known.actions))
 
-  seats_known : (x : model.Seat) → IsIn x (several_in said s).seats → IsBeh said.environment.env x.beh
+  seats_known : (x : model.Seat) → IsIn x (several_with said parts.seats).seats → IsBeh said.environment.env x.beh
   seats_known x i =
-      let (seat, j, same) = from_map (seat_of said.catalogue) x s.parts.seats i in
+      let (seat, j, same) = from_map (seat_of said.catalogue) x parts.seats i in
       subst (λ (x : model.Seat). IsBeh said.environment.env x.beh) (sym same)
-      (seat_known seat (all_in (λ (seat : Seat). seat.behaviour < length said.catalogue) s.parts.seats seat seats_within j))
+      (seat_known seat (all_in (λ (seat : Seat). seat.behaviour < length said.catalogue) parts.seats seat seats_within j))
 
-  several_are : IsSeveral (several_in said s)
+  several_are : IsSeveral (several_with said parts.seats)
   several_are =
       let allowed = are_allowed said.environment said.targets combines.allowed in
       record {
         env = combines.known;
         targets = machines_known said.environment said.targets combines.targets;
         seats = seats_known;
-        few = omega (arith, is.parts.system.few, length-map s.parts.seats (seat_of s.parts.catalogue), length-map s.parts.seats (seat_of said.catalogue));
+        few = omega (arith, is.system.few, length-map parts.seats (seat_of parts.catalogue), length-map parts.seats (seat_of said.catalogue));
         states = ltb-false MAX_STATES (product_of (target_sizes (machines said.targets))) allowed.states;
         actions = good_count (requests_in said.environment said.targets) allowed.actions;
       }
 
-  means_all : MeansAll said s
+  pub means_all : MeansAll said parts
   means_all = record {
     known = several_are;
     system = system_is;
     great =
-        subst (λ (sys : Sys). (p : Pair) → IsPair sys p → Great sys p ↔ GreatAll (several_in said s) (couple_all (several_in said s) p)) (sym system_is)
-        (combined_is_all (several_in said s) several_are).great;
+        subst (λ (sys : Sys). (p : Pair) → IsPair sys p → Great sys p ↔ GreatAll (several_with said parts.seats) (couple_all (several_with said parts.seats) p)) (sym system_is)
+        (combined_is_all (several_with said parts.seats) several_are).great;
   }
 
 -- Sessions
@@ -130,5 +126,5 @@ several_served texts document library said start now lines text accepted names b
     let named : AreNamed start.parts = subst AreNamed (sym begins.parts) (record { behaviours = library_is.known.catalogue.known; environment = library_is.states }) in
     let known = answers_known start now (until_quit lines) text (record { situation = is; named = named }) told in
     let keeps = answers_keep start now (until_quit lines) text told ∙ ap (λ (n : NamedSys). record n { seats = now.parts.seats }) begins.parts in
-    means_all said library now (targets_combined texts document library said accepted names) known.situation
+    means_all said library now.parts (targets_combined texts document library said accepted names) known.situation.parts
     (ap (λ (n : NamedSys). record { environment = n.environment; catalogue = n.catalogue; target = n.target }) keeps)

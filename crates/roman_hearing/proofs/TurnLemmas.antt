@@ -35,7 +35,7 @@ use Rattle.roman_session.proofs.CallerLemmas.{name_is_new, seat_is, cells_with}
 use Rattle.roman_hearing.specs.States.{State, IsGreat, MayAsk, ServesHere}
 use Rattle.roman_hearing.specs.Known.{shown, IsKnownSituation}
 use Rattle.roman_hearing.specs.Words.{Replies, Counts, OffersServing, CountsLost, IsReady, Refutes}
-use Rattle.roman_hearing.specs.Turns.{Needs, Unless, Place, ComesTo}
+use Rattle.roman_hearing.specs.Turns.{Needs, Unless, Place, ComesTo, Refuses}
 use Rattle.roman_hearing.specs.Laws.{StepsAreTurns}
 use Rattle.roman_hearing.proofs.RefutationLemmas.{refutes}
 use Rattle.roman_hearing.proofs.WithinLemmas.{seat_within}
@@ -325,7 +325,5 @@ module _ (old new : Situation) (text : List ℕ) (Refused : Reply → Type 0) (L
 -- A step leads from state to state, and its text answers the event.
 pub steps_turns : StepsAreTurns
 unfolding Step
-steps_turns old new line text known step = (
-  comes old new text (λ refusal. shown new ≡ shown old) (λ next Says. shown new ≡ next) known (λ r says same. ap shown same) (λ next Says becomes says. becomes) (shape_of line) step,
-  comes old new text (λ refusal. Replies refusal text) (λ next Says. Says text) known (λ r says same. says) (λ next Says becomes says. says) (shape_of line) step,
-)
+steps_turns old new line text known step =
+    comes old new text (Refuses (shown old) text (shown new)) (λ next Says. Says text × (shown new ≡ next)) known (λ r says same. (says, ap shown same)) (λ next Says becomes says. (says, becomes)) (shape_of line) step

@@ -14,7 +14,7 @@ use Rattle.roman_start.specs.Starts.{parts_of, start_pair_of}
 use Rattle.roman_hearing.specs.Afresh.{afresh}
 use Rattle.roman_hearing.specs.Known.{shown, IsKnownSituation}
 use Rattle.roman_hearing.specs.States.{IsOpenGreat}
-use Rattle.roman_hearing.specs.Turns.{TurnsInto, KeepsWord}
+use Rattle.roman_hearing.specs.Turns.{TurnsInto}
 
 -- some seat is offered for a request that isn't refused
 abbrev pub RequestsAreOffered : Type 0
@@ -38,7 +38,7 @@ ReportsAreAfresh =
 -- each step from a well-formed situation is a turn: its states are those to which the event leads, and its text answers the event
 abbrev pub StepsAreTurns : Type 0
 StepsAreTurns = (old new : Situation) (line text : List ℕ) → IsKnownSituation old → Step old line text new →
-    TurnsInto (shown old) (shape_of line) (shown new) × KeepsWord (shown old) (shape_of line) text
+    TurnsInto (shown old) (shape_of line) text (shown new)
 
 -- in every situation the open request can be served, and its delegate serves it
 abbrev pub OpenIsGreat : Type 0

@@ -103,10 +103,10 @@ ComesTo s (Ok quit) Refused Leads = Leads s (Replies reply.Bye)
 
 -- ---- turns
 
--- the state after an event: the state to which it leads, or the same state where it is refused
-abbrev pub TurnsInto : State → Result LineShape LineError → State → Type 0
-TurnsInto s event new = ComesTo s event (λ refusal. new ≡ s) (λ next Says. new ≡ next)
+-- the event is refused with that reply, and the state stays
+abbrev pub Refuses : State → List ℕ → State → Reply → Type 0
+Refuses s text new refusal = Replies refusal text × (new ≡ s)
 
--- the answer to an event: what its answer says, or the reply of the first condition that fails
-abbrev pub KeepsWord : State → Result LineShape LineError → List ℕ → Type 0
-KeepsWord s event text = ComesTo s event (λ refusal. Replies refusal text) (λ next Says. Says text)
+-- an event turns the state into a new one, and the text is its answer: the reply of the first condition that fails, or what the event says
+abbrev pub TurnsInto : State → Result LineShape LineError → List ℕ → State → Type 0
+TurnsInto s event text new = ComesTo s event (Refuses s text new) (λ next Says. Says text × (new ≡ next))

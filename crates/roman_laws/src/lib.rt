@@ -1,6 +1,6 @@
 //! Laws for readers: the meaning of the greatest ND-simulation, and its consequences. The crate
-//! depends on `roman_model` alone, and no crate of the program depends on it. Each law is the
-//! contract of a function that computes nothing.
+//! depends on `roman_model` alone, and no code of the program depends on it. Each law is the contract
+//! of a function that computes nothing.
 //!
 //! `specs/Controllers` has controllers, and those that realise the target. `specs/Losing` has the
 //! effect of losing services, and `specs/Reduced` has systems without some of their services.

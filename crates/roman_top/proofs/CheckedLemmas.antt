@@ -3,7 +3,7 @@ use Rattle.std.proofs.Common.{◌≡◌, ℕ, ◌<◌, Bool, not, List, [], ◌�
 use Rattle.std.specs.List.{list_any, filter_map}
 use Rattle.std.proofs.lemmas.Bool.{both_ways, and_from, or_cases, or_left, or_right, not-true, not_from_false}
 use Rattle.roman_model.specs.Lines.{lines}
-use Rattle.roman_model.specs.Lists.{IsIn, all_below, is_empty, below}
+use Rattle.roman_model.specs.Lists.{IsIn, all_below, is_empty}
 use Rattle.roman_model.specs.System.{Sys, Pair, IsSys, IsPair, is_final, all_final}
 use Rattle.roman_model.specs.SystemArena.{pairs, outcomes, same_pair, is_allowed, is_fine, arena}
 use Rattle.roman_model.specs.Arena.{Entry, is_among, is_listed, is_beaten, is_justified, IsOrderFrom}

@@ -1,29 +1,32 @@
 -- The text of a session keeps its promise.
-use Rattle.std.proofs.Common.{◌≡◌, ℕ, ◌<◌, Bool, true, false, MatchBool, cond, List, [], ◌∷◌, ◌++◌, length, take, nat_le, if◌then◌else◌, Option, Some, Result, Ok, inl, inr, IsTrue, IsFalse, refl, sym, ap, ap₂, ◌∙◌, subst, arith, ltb-true}
-use Rattle.std.proofs.lemmas.Bool.{false≢true, both_ways, cond-true, cond-false}
-use Rattle.std.specs.List.{flat_map}
+use Rattle.std.proofs.Common.{◌≡◌, ℕ, ◌<◌, Bool, true, false, MatchBool, cond, List, length, take, nat_le, if◌then◌else◌, Option, Some, IsFalse, sym, ap, ◌∙◌, subst, arith, ltb-true}
+use Rattle.std.proofs.lemmas.Bool.{cond-false}
 use Rattle.roman_io.specs.Shelf.{Texts}
 use Rattle.roman_io.specs.Sink.{Wrote}
 use Rattle.roman_model.specs.Certificate.{GreatestIsComplete}
 use Rattle.roman_model.specs.Lines.{lines, ended_lines}
-use Rattle.roman_model.specs.System.{Pair, IsSys}
+use Rattle.roman_model.specs.Lists.{IsIn}
+use Rattle.roman_model.specs.System.{IsSys}
 use Rattle.roman_model.specs.declared.limits.TheConstants.{MAX_SESSION_BYTES}
 use Rattle.roman_model.proofs.CallerLemmas.{by_test}
-use Rattle.roman_joint.specs.NamedSys.{NamedSys, system_of, cells}
+use Rattle.roman_joint.specs.NamedSys.{system_of, cells}
 use Rattle.roman_library.specs.Library.{PlainLibrary}
+use Rattle.roman_library.specs.Targets.{PlainTargets, NamesTargets}
+use Rattle.roman_library.proofs.CallerLemmas.{targets_combined}
 use Rattle.roman_session.specs.Situations.{Situation}
 use Rattle.roman_session.specs.Reports.{report_text}
 use Rattle.roman_start.specs.Starts.{parts_of, start_pair_of}
 use Rattle.roman_hearing.specs.Words.{ReportsGreat}
 use Rattle.roman_hearing.specs.Told.{Answers}
 use Rattle.roman_hearing.specs.Hearing.{prefix_of, is_heard_out}
-use Rattle.roman_hearing.specs.Known.{shown}
 use Rattle.roman_hearing.specs.States.{State, start_state, IsState}
 use Rattle.roman_hearing.specs.Events.{LinesAreRead}
 use Rattle.roman_hearing.proofs.CallerLemmas.{reports_great, answered_heard}
 use Rattle.roman_top.specs.Command.{Synth, Run, Command, On}
 use Rattle.roman_top.specs.Faults.{IsFree}
-use Rattle.roman_top.specs.Headline.{HasAnsweredLines, HasReported, Means, KeepsPromise, HasHeadline}
+use Rattle.roman_top.specs.Headline.{HasReported, KeepsPromise, HasHeadline}
+use Rattle.roman_top.specs.HeadlineTargets.{MeansTargets, IsTurnOfTargets, HasAnsweredTargets, KeepsTargets}
+use Rattle.roman_top.specs.HeadlineTurns.{Turn, Means, HasAnsweredLines}
 use Rattle.roman_top.specs.Opening.{Accepted, Past, document_opening, opening_of, is_past_limit, library_system}
 use Rattle.roman_top.specs.Run.{Talks, Synthesises, HasRun}
 use Rattle.roman_top.specs.Served.{Served}
@@ -34,7 +37,8 @@ use Rattle.roman_top.specs.declared.status.Status.TheVariants as status
 use Rattle.roman_top.proofs.EndingLemmas.{told_more, work_of}
 use Rattle.roman_top.proofs.JobLemmas.{keeps_text}
 use Rattle.roman_top.proofs.StartsKnown.{starts_known, some_start}
-use Rattle.roman_top.proofs.TurnLemmas.{HasTurns, state_known, start_seen, start_from, turns_of}
+use Rattle.roman_top.proofs.TargetLemmas.{means_targets, steps_tell}
+use Rattle.roman_top.proofs.TurnLemmas.{StepsTell, HasTurns, state_known, start_seen, start_from, turns_of}
 
 -- the document is accepted, and its library is within the limit
 means_accepted : (texts : Texts) (system : List ℕ) (library : PlainLibrary) → Means texts system library → document_opening texts system ≡ Accepted library
@@ -52,15 +56,15 @@ heard_tells false library ls ms text P Q tells = tells.0
 abbrev lines_within : List ℕ → List (List ℕ)
 lines_within session = if nat_le (length session) MAX_SESSION_BYTES then lines session else ended_lines (take MAX_SESSION_BYTES session)
 
-talked : (texts : Texts) (system session : List ℕ) (library : PlainLibrary) (text : List ℕ) (result : Status) → LinesAreRead → document_opening texts system ≡ Accepted library → Talks session library text result →
-    (now : Situation) × HasTurns library (start_state library) now (lines_within session) text
-talked texts system session library text result read accepted talks =
+talked : (P : Turn → Type 0) (texts : Texts) (system session : List ℕ) (library : PlainLibrary) (text : List ℕ) (result : Status) → LinesAreRead → StepsTell library P → document_opening texts system ≡ Accepted library → Talks session library text result →
+    (now : Situation) × HasTurns P library (start_state library) now (lines_within session) text
+talked P texts system session library text result read tell accepted talks =
     let tells = heard_tells (is_heard_out session) library (lines session) (ended_lines (prefix_of session)) text (result ≡ status.Done) (result ≡ status.TooLong) talks in
     let known = starts_known texts system library tells.start accepted tells.begins in
     let told = subst (λ (ls : List (List ℕ)). Answers tells.start ls text tells.now) (answered_heard session) tells.told in (
       tells.now,
-      subst (λ (s : State). HasTurns library s tells.now (lines_within session) text) (start_seen library tells.start tells.begins)
-          (turns_of library tells.start tells.now (lines_within session) text read (start_from library tells.start tells.begins) known told),
+      subst (λ (s : State). HasTurns P library s tells.now (lines_within session) text) (start_seen library tells.start tells.begins)
+          (turns_of P library tells.start tells.now (lines_within session) text read tell (start_from library tells.start tells.begins) known told),
     )
 
 -- the report of a synthesis
@@ -73,6 +77,23 @@ reported texts system library text accepted says =
     let well = subst (IsState library) seen (state_known library start (start_from library start begins) known) in
     (well, reports_great (start_state library) text (subst (λ (s : State). IsSys (system_of s.parts)) seen known.situation.parts.system) well.here says)
 
+-- the lines of a session are answered by turns, of each of which P holds
+answered_lines : (P : Turn → Type 0) (texts : Texts) (system : List ℕ) (name : Option (List ℕ)) (library : PlainLibrary) (old new : World) (result : Status) → LinesAreRead → StepsTell library P →
+    Means texts system library → HasRun (Some (On system (Run name))) texts old new result →
+    (answered : HasAnsweredLines (Some (On system (Run name))) library texts old new) × ((x : Turn) → IsIn x answered.turns → P x)
+answered_lines P texts system name library old new result read tell means run =
+    let accepted = means_accepted texts system library means in
+    let (now, all) = talked P texts system run.session library run.text result read tell accepted (work_of (Talks run.session) (document_opening texts system) library run.text result accepted run.run) in (
+      record {
+        session = run.session;
+        given = run.given;
+        turns = all.turns;
+        are = all.are;
+        wrote = subst (λ (text : List ℕ). Wrote old.written new.written text) (sym all.texts) run.wrote;
+      },
+      all.each,
+    )
+
 -- a run keeps the promise
 keeps_promise : (asked : Option Command) (old new : World) (result : Status) → LinesAreRead → Served asked old new result → IsFree result → KeepsPromise asked old new
 keeps_promise (Some (On system Synth)) old new result read served free =
@@ -84,16 +105,25 @@ keeps_promise (Some (On system Synth)) old new result read served free =
 keeps_promise (Some (On system (Run name))) old new result read served free =
     told_more old.texts (λ texts. HasRun (Some (On system (Run name))) texts old new result)
     (λ texts. (library : PlainLibrary) → Means texts system library → HasAnsweredLines (Some (On system (Run name))) library texts old new) (served.run free) (λ texts run library means.
-    let accepted = means_accepted texts system library means in
-    let (now, all) = talked texts system run.session library run.text result read accepted (work_of (Talks run.session) (document_opening texts system) library run.text result accepted run.run) in
-    record {
-      session = run.session;
-      given = run.given;
-      turns = all.turns;
-      are = all.are;
-      wrote = subst (λ (text : List ℕ). Wrote old.written new.written text) (sym all.texts) run.wrote;
-    })
+    (answered_lines (λ x. Unit {0}) texts system name library old new result read (λ s mid line said from known onward next turn. tt) means run).0)
 keeps_promise _ old new result read served free = tt
 
+-- where a document names several targets, a run keeps the promise target by target
+keeps_targets : (asked : Option Command) (old new : World) (result : Status) → LinesAreRead → Served asked old new result → IsFree result → KeepsTargets asked old new
+keeps_targets (Some (On system Synth)) old new result read served free =
+    told_more old.texts (λ texts. HasRun (Some (On system Synth)) texts old new result)
+    (λ texts. (library : PlainLibrary) (said : PlainTargets) → Means texts system library → NamesTargets texts system said → MeansTargets said (start_state library)) (served.run free) (λ texts run library said means names.
+    let accepted = means_accepted texts system library means in
+    let (start, begins) = some_start texts system library accepted in
+    subst (MeansTargets said) (start_seen library start begins)
+    (means_targets said library start (targets_combined texts system library said means.0 names) (start_from library start begins) (starts_known texts system library start accepted begins)))
+keeps_targets (Some (On system (Run name))) old new result read served free =
+    told_more old.texts (λ texts. HasRun (Some (On system (Run name))) texts old new result)
+    (λ texts. (library : PlainLibrary) (said : PlainTargets) → Means texts system library → NamesTargets texts system said → HasAnsweredTargets (Some (On system (Run name))) library said texts old new) (served.run free)
+    (λ texts run library said means names.
+    let (answered, each) = answered_lines (IsTurnOfTargets said) texts system name library old new result read (steps_tell said library (targets_combined texts system library said means.0 names)) means run in
+    record { answered = answered; each = each })
+keeps_targets _ old new result read served free = tt
+
 pub has_headline : (asked : Option Command) (old new : World) (result : Status) → LinesAreRead → GreatestIsComplete → Served asked old new result → HasHeadline asked old new result
-has_headline asked old new result read complete served free = (keeps_promise asked old new result read served free, keeps_text read complete asked old new result served free)
+has_headline asked old new result read complete served free = (keeps_promise asked old new result read served free, keeps_targets asked old new result read served free, keeps_text read complete asked old new result served free)

@@ -20,6 +20,7 @@ pub mod AdvisedLemmas
 pub mod CertifiedLemmas
 pub mod CheckedLemmas
 pub mod TurnLemmas
+pub mod TargetLemmas
 pub mod MadeLemmas
 pub mod JobLemmas
 pub mod HeadlineLemmas

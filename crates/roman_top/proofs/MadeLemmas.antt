@@ -1,22 +1,17 @@
 -- The session of a made system goes from stage to stage by turns.
-use Rattle.std.proofs.Common.{◌≡◌, ℕ, List, [], ◌∷◌, ◌++◌, length, refl, sym, ap, ◌∙◌, subst}
-use Rattle.roman_model.specs.System.{Sys}
-use Rattle.roman_model.specs.SystemArena.{pairs}
+use Rattle.std.proofs.Common.{◌≡◌, ℕ, List, [], ◌∷◌, refl, sym, ap, ◌∙◌, subst}
 use Rattle.roman_model.specs.Offers.{is_related, related_count}
-use Rattle.roman_model.specs.Without.{outlook}
 use Rattle.roman_model.specs.Numbers.{sizes_of, count}
 use Rattle.roman_model.proofs.CallerLemmas.{length-pairs}
-use Rattle.roman_joint.specs.NamedSys.{system_of}
 use Rattle.roman_library.specs.Library.{PlainLibrary}
 use Rattle.roman_session.specs.Situations.{Situation, present_system}
 use Rattle.roman_text.specs.Shapes.{shape_of, words_of}
 use Rattle.roman_hearing.specs.Told.{until_quit, Answers}
 use Rattle.roman_hearing.specs.Known.{shown, IsKnownSituation}
-use Rattle.roman_hearing.specs.States.{State, start_state}
+use Rattle.roman_hearing.specs.States.{State}
 use Rattle.roman_hearing.specs.Events.{LinesAreRead}
 use Rattle.roman_make.specs.Made.{made}
 use Rattle.roman_top.specs.HeadlineMake.{TellsStanding, TellsStages, KeepsMade}
-use Rattle.roman_top.specs.HeadlineTurns.{after_turns}
 use Rattle.roman_top.specs.Made.{standing, stage_line, stages, Passes}
 use Rattle.roman_top.specs.Run.{Makes}
 use Rattle.roman_top.specs.declared.status.Status.{Status}
@@ -49,7 +44,7 @@ stages_told : (library : PlainLibrary) (s : Situation) (more : List (List ℕ ×
     TellsStages library (shown s) more text
 stages_told library s [] text read from known none passes = passes
 stages_told library s (stage ∷ more) text read from known (quitless, others) (replies, rest, next, answers, passes, split) =
-    let all = turns_of library s next stage.1 replies read from known (subst (λ (ls : List (List ℕ)). Answers s ls replies next) (sym quitless) answers) in (
+    let all = turns_of (λ x. Unit {0}) library s next stage.1 replies read (λ s mid line said from known onward next turn. tt) from known (subst (λ (ls : List (List ℕ)). Answers s ls replies next) (sym quitless) answers) in (
       all.turns,
       standing stage.0 next,
       rest,

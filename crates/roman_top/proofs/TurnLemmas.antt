@@ -2,6 +2,7 @@
 use Rattle.std.proofs.Common.{◌≡◌, ℕ, List, [], ◌∷◌, ◌++◌, Result, Ok, inl, inr, IsTrue, refl, sym, ap, ap₂, ◌∙◌, subst}
 use Rattle.std.proofs.lemmas.Bool.{false≢true, both_ways, cond-true, cond-false}
 use Rattle.std.specs.List.{flat_map}
+use Rattle.roman_model.specs.Lists.{IsIn}
 use Rattle.roman_model.specs.System.{Pair}
 use Rattle.roman_model.proofs.CallerLemmas.{by_test}
 use Rattle.roman_joint.specs.NamedSys.{NamedSys}
@@ -17,6 +18,7 @@ use Rattle.roman_hearing.specs.Told.{until_quit, Answers}
 use Rattle.roman_hearing.specs.Known.{shown, IsKnownSituation}
 use Rattle.roman_hearing.specs.States.{State, start_state, IsState, IsOpenGreat}
 use Rattle.roman_hearing.specs.Events.{LinesAreRead}
+use Rattle.roman_hearing.specs.Turns.{TurnsInto}
 use Rattle.roman_hearing.proofs.CallerLemmas.{steps_known, steps_turns, line_keeps, open_great}
 use Rattle.roman_top.specs.HeadlineTurns.{Turn, AreTurns, after_turns}
 
@@ -48,52 +50,64 @@ quit_is : (r : Result LineShape LineError) → IsTrue (is_quit r) → r ≡ Ok q
 quit_is (Ok quit) h = refl
 quit_is _ h = absurd (false≢true h)
 
--- the turns of the answered lines, and the state to which they lead
-pub record HasTurns (library : PlainLibrary) (s : State) (now : Situation) (ls : List (List ℕ)) (text : List ℕ) : Type 0 where
+-- the turn of a step
+abbrev pub turn_of : Situation → List ℕ → List ℕ → Situation → Turn
+turn_of s line text now = record { before = shown s; line = line; event = shape_of line; text = text; after = shown now }
+
+-- each step of a session of the library is a turn of which P holds
+abbrev pub StepsTell : PlainLibrary → (Turn → Type 0) → Type 0
+StepsTell library P = (s mid : Situation) (line said : List ℕ) → IsFrom library s → IsKnownSituation s → IsFrom library mid → IsKnownSituation mid → TurnsInto (shown s) (shape_of line) said (shown mid) →
+    P (turn_of s line said mid)
+
+-- the turns of the answered lines, of each of which P holds, and the state to which they lead
+pub record HasTurns (P : Turn → Type 0) (library : PlainLibrary) (s : State) (now : Situation) (ls : List (List ℕ)) (text : List ℕ) : Type 0 where
   pub turns : List Turn
   pub are : AreTurns library s ls turns
+  pub each : (x : Turn) → IsIn x turns → P x
   pub texts : flat_map (λ x. x.text) turns ≡ text
   pub ends : after_turns s turns ≡ shown now
   pub from : IsFrom library now
   pub known : IsKnownSituation now
 
--- the turn of a step
-abbrev turn_of : Situation → List ℕ → List ℕ → Situation → Turn
-turn_of s line text now = record { before = shown s; line = line; event = shape_of line; text = text; after = shown now }
-
-pub turns_of : (library : PlainLibrary) (s now : Situation) (ls : List (List ℕ)) (text : List ℕ) → LinesAreRead → IsFrom library s → IsKnownSituation s → Answers s (until_quit ls) text now → HasTurns library (shown s) now ls text
-turns_of library s now [] text read from known (none, same) = record {
+pub turns_of : (P : Turn → Type 0) (library : PlainLibrary) (s now : Situation) (ls : List (List ℕ)) (text : List ℕ) → LinesAreRead → StepsTell library P → IsFrom library s → IsKnownSituation s → Answers s (until_quit ls) text now → HasTurns P library (shown s) now ls text
+turns_of P library s now [] text read tell from known (none, same) = record {
   turns = [];
+  each = λ x i. absurd i;
   are = state_known library s from known;
   texts = sym none;
   ends = ap shown (sym same);
   from = subst (IsFrom library) (sym same) from;
   known = subst IsKnownSituation (sym same) known;
 }
-turns_of library s now (line ∷ ls) text read from known told = by_test (is_quit (shape_of line))
+turns_of P library s now (line ∷ ls) text read tell from known told = by_test (is_quit (shape_of line))
     (λ quits.
     let (said, more, mid, split, step, (none, same)) = subst (λ (ls : List (List ℕ)). Answers s ls text now) (cond-true (is_quit (shape_of line)) (line ∷ []) (line ∷ until_quit ls) quits) told in
-    let (leads, keeps) = steps_turns s mid line said known step in
+    let (onward, next) = goes_on s mid line said from known step in
+    let turn = steps_turns s mid line said known step in
     record {
       turns = turn_of s line said mid ∷ [];
-      are = (state_known library s from known, refl, refl, read line, leads, keeps, inl (quit_is (shape_of line) quits, state_known library mid (goes_from s mid line said from step) (steps_known s mid line said known step), refl));
+      are = (state_known library s from known, refl, refl, read line, turn, inl (quit_is (shape_of line) quits, state_known library mid onward next, refl));
+      each = λ x i. elim i [ inl e ↦ subst P (sym e) (tell s mid line said from known onward next turn) | inr none ↦ absurd none ];
       texts = ap (λ (more : List ℕ). said ++ more) (sym none) ∙ sym split;
       ends = ap shown (sym same);
-      from = subst (IsFrom library) (sym same) (goes_from s mid line said from step);
-      known = subst IsKnownSituation (sym same) (steps_known s mid line said known step);
+      from = subst (IsFrom library) (sym same) onward;
+      known = subst IsKnownSituation (sym same) next;
     })
     (λ goes.
     let (said, more, mid, split, step, rest) = subst (λ (ls : List (List ℕ)). Answers s ls text now) (cond-false (is_quit (shape_of line)) (line ∷ []) (line ∷ until_quit ls) goes) told in
-    let (leads, keeps) = steps_turns s mid line said known step in
-    let others = turns_of library mid now ls more read (goes_from s mid line said from step) (steps_known s mid line said known step) rest in
+    let (onward, next) = goes_on s mid line said from known step in
+    let turn = steps_turns s mid line said known step in
+    let others = turns_of P library mid now ls more read tell onward next rest in
     record {
       turns = turn_of s line said mid ∷ others.turns;
-      are = (state_known library s from known, refl, refl, read line, leads, keeps, inr (λ e. both_ways (is_quit (shape_of line)) goes (ap is_quit e), others.are));
+      are = (state_known library s from known, refl, refl, read line, turn, inr (λ e. both_ways (is_quit (shape_of line)) goes (ap is_quit e), others.are));
+      each = λ x i. elim i [ inl e ↦ subst P (sym e) (tell s mid line said from known onward next turn) | inr j ↦ others.each x j ];
       texts = ap (λ (more : List ℕ). said ++ more) others.texts ∙ sym split;
       ends = others.ends;
       from = others.from;
       known = others.known;
     })
   where
-    goes_from : (s mid : Situation) (line said : List ℕ) → IsFrom library s → Step s line said mid → IsFrom library mid
-    goes_from s mid line said from step = line_keeps s mid line said step ∙ ap (λ (n : NamedSys). record n { seats = mid.parts.seats }) from
+    goes_on : (s mid : Situation) (line said : List ℕ) → IsFrom library s → IsKnownSituation s → Step s line said mid → IsFrom library mid × IsKnownSituation mid
+    goes_on s mid line said from known step =
+        (line_keeps s mid line said step ∙ ap (λ (n : NamedSys). record n { seats = mid.parts.seats }) from, steps_known s mid line said known step)

@@ -25,5 +25,6 @@ pub mod HeadlineAdvise
 pub mod HeadlineCertify
 pub mod HeadlineCheck
 pub mod HeadlineJobs
+pub mod HeadlineTargets
 pub mod HeadlineTurns
 pub mod HeadlineMake
