@@ -1,5 +1,5 @@
 -- Lines that are judged by those that were read.
-use Rattle.std.proofs.Common.{◌≡◌, ℕ, ◌+◌, ◌*◌, ◌<◌, ◌≤◌, ◌==◌, Bool, true, false, not, ◌||◌, List, [], ◌∷◌, ◌++◌, length, drop, Option, Some, None, IsTrue, IsFalse, if◌then◌else◌, option_map, find, refl, sym, ap, ◌∙◌, subst, arith, append-nil}
+use Rattle.std.proofs.Common.{◌≡◌, ℕ, ◌+◌, ◌*◌, ◌<◌, ◌==◌, Bool, true, false, not, ◌||◌, List, [], ◌∷◌, ◌++◌, length, Option, Some, None, IsTrue, IsFalse, if◌then◌else◌, option_map, find, refl, sym, ap, ◌∙◌, subst, arith, append-nil}
 use Rattle.std.specs.List.{list_any, cons_option}
 use Rattle.std.proofs.Math.Bool.{or-false}
 use Rattle.std.proofs.lemmas.Bool.{cond-true, cond-false, not-true, not-false}
@@ -24,16 +24,13 @@ use Rattle.roman_check.specs.declared.verdict.Why.{Why}
 use Rattle.roman_check.specs.declared.verdict.Why.TheVariants.{Form}
 use Rattle.roman_check.specs.Verdicts.{fault_of}
 use Rattle.roman_check.specs.Remain.{Remain}
-use Rattle.roman_check.specs.Audits.{due_after, IsInRows, HasListed, HasRead, Judges}
+use Rattle.roman_check.specs.Audits.{due_after, IsInRows, HasListed, Judges}
 use Rattle.roman_check.proofs.ReasonLemmas.{given_action, row_within}
 
 -- Entries
 
 pub few_numbered : (A : Arena ℕ) → IsNumbered A → AreFew (length A.nodes) A.actions
-few_numbered A ok =
-    let nodes : length A.nodes < 4294967296 = ok.few_nodes in
-    let actions : A.actions ≤ 32 = ok.few_actions in
-    record { pairs_fit = omega arith; actions_fit = omega arith }
+few_numbered A ok = grind arith
 
 -- the entry read off a line is in range
 pub entry_given : (pairs actions : ℕ) (line : List ℕ) (x : Entry ℕ) → Some x ≡ entry_of pairs actions line → (x.node < pairs) × IsIn x.reason (reasons actions)
@@ -63,10 +60,7 @@ listed_more A ok L x q = list_any-append (λ y. A.same q y.node) L (x ∷ []) �
 pub entry_listed : (A : Arena ℕ) → IsNumbered A → (L : List (Entry ℕ)) (x : Entry ℕ) (new : Audit) →
     (((q : ℕ) → is_listed A (L ++ x ∷ []) q ≡ (is_listed A L q || q == x.node)) → Remain (length A.nodes) (is_listed A (L ++ x ∷ [])) new.left) →
     HoldsWhereKept A new.left.lanes (is_listed A L) new.asked → HasListed A (L ++ x ∷ []) new
-entry_listed A ok L x new left known = record {
-  left = left (listed_more A ok L x);
-  known = known_more A new.left.lanes (is_listed A L) (is_listed A (L ++ x ∷ [])) new.asked (λ q t. listed_more A ok L x q ∙ ap (λ b. b || q == x.node) t) known;
-}
+entry_listed A ok L x new left known = grind (arith, known_more, listed_more)
 
 -- what an audit holds, by the lanes of the system
 pub listed_rows : (A : Arena ℕ) (L : List (Entry ℕ)) (audit : Audit) (lanes : ℕ) → HasListed A L audit → audit.left.lanes ≡ lanes → (words : List ℕ) → words ≡ audit.left.words.items → AreRows lanes (λ q. not (is_listed A L q)) words
@@ -79,9 +73,7 @@ reason_given A (Act a) i = given_action A.actions a i
 
 -- the row of a pair is one of the table
 pub pair_within : (lanes pairs : ℕ) (audit : Audit) → IsInRows lanes pairs audit → (p row lane : ℕ) → row * audit.left.lanes + lane ≡ p → p < pairs → row < length audit.left.words.items
-pair_within lanes pairs audit shaped p row lane e l =
-    row_within row lane audit.left.lanes (length audit.left.words.items) p e
-    (subst (λ m. p < length audit.left.words.items * m) (sym shaped.in_rows) (subst (λ n. p < n) (sym shaped.room) l))
+pair_within lanes pairs audit shaped p row lane e l = grind (arith, row_within)
 
 -- the last line, where this pair or no pair is missing
 pub end_judged : (A : Arena ℕ) (L : List (Entry ℕ)) (line : List ℕ) (found : Option ℕ) → found ≡ find (could_be_listed A L) A.nodes → IsTrue (same_numbers end_line line) → option_map text.Unlisted found ≡ body_fault A L (Some line)
@@ -143,69 +135,30 @@ after_end (head ∷ size ∷ body) e = (head, size, body, refl, has_ended (list_
 
 -- a change of the line that is due doesn't change the list
 pub same_listed : (A : Arena ℕ) (L : List (Entry ℕ)) (old new : Audit) → new.left ≡ old.left → new.asked ≡ old.asked → HasListed A L old → HasListed A L new
-same_listed A L old new left asked has = record {
-  left = subst (Remain (length A.nodes) (is_listed A L)) (sym left) has.left;
-  known = subst (λ a. HoldsWhereKept A new.left.lanes (is_listed A L) a) (sym asked) (subst (λ t. HoldsWhereKept A t.lanes (is_listed A L) old.asked) (sym left) has.known);
-}
+same_listed A L old new left asked has = grind arith
 
 opening_fault : (b c : Bool) (fault : Option Why) → b ≡ c → fault ≡ (if b then None else Some Form) → option_map fault_of fault ≡ (if c then None else Some text.Form)
-opening_fault b c fault same e = ap (option_map fault_of) e ∙ push b ∙ ap (λ d. if d then None else Some text.Form) same
-  where
-    push : (b : Bool) → option_map fault_of (if b then None else Some Form) ≡ (if b then None else Some text.Form)
-    push true = refl
-    push false = refl
+opening_fault b c fault same e = grind arith
 
 pub judged_head : (A : Arena ℕ) (old new : Audit) (line : List ℕ) (b : Bool) (fault : Option Why) → old.due ≡ Head → b ≡ same_numbers head_line line → fault ≡ (if b then None else Some Form) →
     (fault ≡ None → new.due ≡ Count) → new ≡ record old { due = new.due } → Judges A old new line fault
-judged_head A old new line b fault due is named next same = record {
-  named = λ lines read. subst (λ ls. option_map fault_of fault ≡ line_fault A ls (Some line)) (sym (after_head lines (sym due ∙ read.due))) (opening_fault b (same_numbers head_line line) fault is named);
-  read = λ lines read none.
-      let e : lines ≡ [] = after_head lines (sym due ∙ read.due) in
-      subst (λ ls. HasRead A (ls ++ line ∷ []) new) (sym e) (record {
-        due = next none;
-        list = same_listed A [] old new (ap (λ a. a.left) same) (ap (λ a. a.asked) same) (subst (λ ls. HasListed A (entries_on A (drop 2 ls)) old) e read.list);
-      });
-}
+judged_head A old new line b fault due is named next same = grind (arith, after_head, opening_fault, same_listed)
 
 pub judged_count : (A : Arena ℕ) (old new : Audit) (line : List ℕ) (b : Bool) (fault : Option Why) → old.due ≡ Count → b ≡ same_numbers (count_line (length A.nodes)) line → fault ≡ (if b then None else Some Form) →
     (fault ≡ None → new.due ≡ Body) → new ≡ record old { due = new.due } → Judges A old new line fault
-judged_count A old new line b fault due is named next same = record {
-  named = λ lines read.
-      let (head, e) = after_count lines (sym due ∙ read.due) in
-      subst (λ ls. option_map fault_of fault ≡ line_fault A ls (Some line)) (sym e) (opening_fault b (same_numbers (count_line (length A.nodes)) line) fault is named);
-  read = λ lines read none.
-      let (head, e) = after_count lines (sym due ∙ read.due) in
-      subst (λ ls. HasRead A (ls ++ line ∷ []) new) (sym e) (record {
-        due = next none;
-        list = same_listed A [] old new (ap (λ a. a.left) same) (ap (λ a. a.asked) same) (subst (λ ls. HasListed A (entries_on A (drop 2 ls)) old) e read.list);
-      });
-}
+judged_count A old new line b fault due is named next same = grind (arith, after_count, opening_fault, same_listed)
 
 -- The lines after them
 
 due_more : (body : List (List ℕ)) (line : List ℕ) (due : Due) → IsFalse (list_any (same_numbers end_line) body) → due ≡ Body →
     (if same_numbers end_line line then Nothing else due) ≡ (if list_any (same_numbers end_line) (body ++ line ∷ []) then Nothing else Body)
-due_more body line due none is =
-    ap (λ d. if same_numbers end_line line then Nothing else d) is
-    ∙ ap (λ b. if b then Nothing else Body) (sym (list_any-append (same_numbers end_line) body (line ∷ []) ∙ ap (λ b. b || list_any (same_numbers end_line) (line ∷ [])) none ∙ or-false (same_numbers end_line line)))
+due_more body line due none is = grind (arith, list_any-append, or-false)
 
 pub judged_body : (A : Arena ℕ) (old new : Audit) (line : List ℕ) (fault : Option Why) → old.due ≡ Body →
     ((L : List (Entry ℕ)) → HasListed A L old → option_map fault_of fault ≡ body_fault A L (Some line)) →
     ((L : List (Entry ℕ)) → HasListed A L old → fault ≡ None → HasListed A (L ++ entries_on A (line ∷ [])) new) →
     new.due ≡ (if same_numbers end_line line then Nothing else old.due) → Judges A old new line fault
-judged_body A old new line fault due named list next = record {
-  named = λ lines read.
-      let (head, size, body, e, none) = after_body lines (sym due ∙ read.due) in
-      subst (λ ls. option_map fault_of fault ≡ line_fault A ls (Some line)) (sym e)
-      (named (entries_on A body) (subst (λ ls. HasListed A (entries_on A (drop 2 ls)) old) e read.list) ∙ sym (fault_in_body A head size body (Some line) none));
-  read = λ lines read clean.
-      let (head, size, body, e, none) = after_body lines (sym due ∙ read.due) in
-      subst (λ ls. HasRead A (ls ++ line ∷ []) new) (sym e) (record {
-        due = next ∙ due_more body line old.due none due;
-        list = subst (λ L. HasListed A L new) (sym (filter_map-append (entry_of (length A.nodes) A.actions) body (line ∷ [])))
-            (list (entries_on A body) (subst (λ ls. HasListed A (entries_on A (drop 2 ls)) old) e read.list) clean);
-      });
-}
+judged_body A old new line fault due named list next = grind (arith, after_body, due_more, fault_in_body, filter_map-append)
 
 -- a line whose entry was read
 pub judged_entry : (A : Arena ℕ) → IsNumbered A → (old new : Audit) (line : List ℕ) (x : Entry ℕ) (fault : Option Why) → old.due ≡ Body → entry_of (length A.nodes) A.actions line ≡ Some x →
@@ -214,15 +167,9 @@ pub judged_entry : (A : Arena ℕ) → IsNumbered A → (old new : Audit) (line 
 judged_entry A ok old new line x fault due is named list same =
     let (i, e) = entry_of-is (length A.nodes) A.actions line x is in
     let other : IsFalse (same_numbers end_line line) = subst (λ bs. IsFalse (same_numbers end_line bs)) e (entry_is_no_end x (possible_small (length A.nodes) A.actions x (few_numbered A ok) i)) in
-    judged_body A old new line fault due
-    (λ L has. entry_judged A L line (option_map fault_of fault) (named L has ∙ sym (ap (entry_fault A L) is)) other)
+    judged_body A old new line fault due (λ L has. entry_judged A L line (option_map fault_of fault) (named L has ∙ sym (ap (entry_fault A L) is)) other)
     (λ L has none. subst (λ o. HasListed A (L ++ cons_option o []) new) (sym is) (list L has none))
     (same ∙ sym (cond-false (same_numbers end_line line) Nothing old.due other))
 
 pub judged_after_end : (A : Arena ℕ) (old new : Audit) (line : List ℕ) → old.due ≡ Nothing → Judges A old new line (Some Form)
-judged_after_end A old new line due = record {
-  named = λ lines read.
-      let (head, size, body, e, some) = after_end lines (sym due ∙ read.due) in
-      subst (λ ls. Some text.Form ≡ line_fault A ls (Some line)) (sym e) (sym (fault_after_end A head size body (Some line) some));
-  read = λ lines read none. (let h : ⊥ = cc in absurd h);
-}
+judged_after_end A old new line due = grind (arith, after_end, fault_after_end)

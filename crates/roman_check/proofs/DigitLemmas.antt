@@ -16,11 +16,7 @@ own = numerals_by_value (AllDigits 10) tells_digits
 
 -- a byte that isn't a digit
 pub no_digit : (ds : List ℕ) (i : ℕ) → i < length ds → IsOutOfRange 48 57 (get_or ds i 0) → AllDigits 10 ds → ⊥
-no_digit ds i l out all =
-    let digit = digit_at ds i all l in
-    let low : 48 ≤ get_or ds i 0 = digit.0 in
-    let high : get_or ds i 0 ≤ 57 = digit.1 in
-    elim out [ inl less ↦ omega arith | inr more ↦ omega arith ]
+no_digit ds i l out all = grind (arith, digit_at)
 
 -- one more digit
 pub digits_step : (ds : List ℕ) (i d : ℕ) → i < length ds → IsInRange 48 57 (get_or ds i 0) → d ≡ get_or ds i 0 - 48 → AllDigits 10 (take i ds) →

@@ -1,11 +1,10 @@
 -- The verdict at the end of a text, and at a line at fault.
-use Rattle.std.proofs.Common.{◌≡◌, ◌≢◌, ℕ, ◌+◌, ◌≤◌, Bool, not, List, [], ◌∷◌, ◌++◌, length, drop, Some, None, filter, count_by, codes, decimal, refl, sym, ap, ap₂, ◌∙◌, subst, arith}
-use Rattle.std.specs.List.{list_any, cons_option}
+use Rattle.std.proofs.Common.{◌≡◌, ◌≢◌, ℕ, ◌+◌, ◌≤◌, Bool, not, List, [], ◌∷◌, ◌++◌, length, drop, Some, None, count_by, codes, decimal, refl, sym, ap, ap₂, ◌∙◌, subst, arith}
+use Rattle.std.specs.List.{cons_option}
 use Rattle.std.proofs.lemmas.Bool.{cond-true}
 use Rattle.std.proofs.lemmas.List.Sums.{length-filter}
 use Rattle.roman_model.specs.Lists.{below}
 use Rattle.roman_model.specs.Lines.{lines}
-use Rattle.roman_model.specs.SystemArena.{same_numbers}
 use Rattle.roman_model.specs.Arena.{Arena, Entry, is_listed}
 use Rattle.roman_model.specs.Certificate as text
 use Rattle.roman_model.specs.Certificate.{head_line, count_line, end_line, entry_of, entries_on, line_fault, IsClean, unlisted, cert_verdict}
@@ -13,7 +12,7 @@ use Rattle.roman_model.specs.declared.limits.TheConstants.{MAX_CERTIFICATE_BYTES
 use Rattle.roman_model.proofs.CallerLemmas.{by_test, AreFew, entry_of_other, due_is, fault_in_body, fault_after_end, verdict_at, verdict_ended, verdict_accepted}
 use Rattle.roman_rules.specs.Numbered.{IsNumbered}
 use Rattle.roman_check.specs.declared.audit.Audit.{Audit}
-use Rattle.roman_check.specs.declared.audit.Due.TheVariants.{Nothing, Body}
+use Rattle.roman_check.specs.declared.audit.Due.TheVariants.{Nothing}
 use Rattle.roman_check.specs.declared.reader.Reader.{Reader}
 use Rattle.roman_check.specs.declared.verdict.Why.{Why}
 use Rattle.roman_check.specs.Verdicts.{fault_of}
@@ -26,14 +25,10 @@ use Rattle.roman_check.proofs.AuditLemmas.{few_numbered, after_end}
 may_not_end : (A : Arena ℕ) (ls : List (List ℕ)) (audit : Audit) → HasRead A ls audit → audit.due ≢ Nothing → line_fault A ls None ≡ Some text.Form
 may_not_end A [] audit read other = refl
 may_not_end A (head ∷ []) audit read other = refl
-may_not_end A (head ∷ size ∷ body) audit read other = by_test (list_any (same_numbers end_line) body)
-    (λ t. absurd (other (read.due ∙ cond-true (list_any (same_numbers end_line) body) Nothing Body t)))
-    (λ f. fault_in_body A head size body None f)
+may_not_end A (head ∷ size ∷ body) audit read other = grind (arith, by_test, cond-true, fault_in_body)
 
 may_end : (A : Arena ℕ) (ls : List (List ℕ)) (audit : Audit) → HasRead A ls audit → audit.due ≡ Nothing → line_fault A ls None ≡ None
-may_end A ls audit read ended =
-    let (head, size, body, e, some) = after_end ls (sym ended ∙ read.due) in
-    subst (λ ms. line_fault A ms None ≡ None) (sym e) (fault_after_end A head size body None some)
+may_end A ls audit read ended = grind (arith, after_end, fault_after_end)
 
 pub ended_early : (A : Arena ℕ) (start : ℕ) (bytes : List ℕ) (reader : Reader) → HasLines A (lines bytes) reader → length bytes ≤ MAX_CERTIFICATE_BYTES → reader.audit.due ≢ Nothing →
     cert_verdict A start bytes ≡ text.Rejected (reader.lines + 1) text.Form
@@ -65,10 +60,7 @@ opening_unread A ok ls head size body e clean =
 -- the number of remaining pairs is their count
 counted_unlisted : (A : Arena ℕ) → IsNumbered A → (start : ℕ) (L : List (Entry ℕ)) (related : ℕ) (alive : Bool) → related ≡ count_by (λ p. not (is_listed A L p)) (below (length A.nodes)) → alive ≡ not (is_listed A L start) →
     unlisted A start L ≡ text.Greatest related alive
-counted_unlisted A ok start L related alive count starts =
-    ap₂ text.Greatest
-    (ap (λ ps. length (filter (λ p. not (is_listed A L p)) ps)) ok.nodes ∙ length-filter (λ p. not (is_listed A L p)) (below (length A.nodes)) ∙ sym count)
-    (sym starts)
+counted_unlisted A ok start L related alive count starts = grind (arith, length-filter)
 
 pub ended_greatest : (A : Arena ℕ) → IsNumbered A → (start : ℕ) (bytes : List ℕ) (reader : Reader) (alive : Bool) → HasLines A (lines bytes) reader → length bytes ≤ MAX_CERTIFICATE_BYTES → reader.audit.due ≡ Nothing →
     ((L : List (Entry ℕ)) → HasListed A L reader.audit → alive ≡ not (is_listed A L start)) → cert_verdict A start bytes ≡ text.Greatest reader.audit.left.count alive
@@ -83,5 +75,4 @@ ended_greatest A ok start bytes reader alive has short ended starts =
 
 pub ended_at_fault : (A : Arena ℕ) (start : ℕ) (bytes : List ℕ) (n : ℕ) (why : Why) → EndsAtFault A bytes n why → length bytes ≤ MAX_CERTIFICATE_BYTES → cert_verdict A start bytes ≡ text.Rejected (n + 1) (fault_of why)
 ended_at_fault A start bytes n why at short =
-    verdict_at A start bytes at.text at.line [] (fault_of why) short at.split at.clean at.fault
-    ∙ ap (λ m. text.Rejected (m + 1) (fault_of why)) (sym at.counted)
+    verdict_at A start bytes at.text at.line [] (fault_of why) short at.split at.clean at.fault ∙ ap (λ m. text.Rejected (m + 1) (fault_of why)) (sym at.counted)

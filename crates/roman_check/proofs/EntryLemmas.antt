@@ -1,9 +1,9 @@
 -- Lines that are read as entries.
-use Rattle.std.proofs.Common.{◌≡◌, ◌≢◌, ℕ, suc, ◌+◌, ◌-◌, ◌^◌, ◌<◌, ◌≤◌, Bool, List, ◌∷◌, ◌++◌, length, take, drop, get_or, None, Some, IsTrue, IsFalse, decimal, codes, refl, sym, ap, ap₂, ◌∙◌, subst, inl, inr, arith, length-drop, length-append}
+use Rattle.std.proofs.Common.{◌≡◌, ◌≢◌, ℕ, suc, ◌+◌, ◌-◌, ◌^◌, ◌<◌, ◌≤◌, Bool, List, ◌∷◌, ◌++◌, length, take, drop, get_or, None, Some, IsTrue, IsFalse, decimal, codes, refl, sym, ap, ap₂, ◌∙◌, subst, inl, arith, length-drop, length-append}
 use Rattle.std.specs.Str.Parse.{AllDigits}
 use Rattle.std.proofs.lemmas.Bool.{both_ways, ne_eqb}
 use Rattle.std.proofs.lemmas.List.{drop_more, take_rest, take_all, take_at, get_or_at, get_or-drop}
-use Rattle.roman_model.specs.Lists.{IsIn, below}
+use Rattle.roman_model.specs.Lists.{IsIn}
 use Rattle.roman_model.specs.Lines.{IsLine}
 use Rattle.roman_model.specs.System.{has}
 use Rattle.roman_model.specs.SystemArena.{same_numbers}
@@ -31,15 +31,7 @@ counted line front text n b is whole to from =
 -- Reasons
 
 pub no_reason_text : (actions : ℕ) (text : List ℕ) → IsFalse (same_numbers (reason_text Final) text) → ((n : ℕ) → n < actions → decimal n ≢ text) → ReadsOff (reasons actions) reason_text text None
-no_reason_text actions text other none = record { is = λ r i e. no r i e }
-  where
-    no : (r : Reason) → IsIn r (reasons actions) → reason_text r ≡ text → ⊥
-    no Final i e = both_ways (same_numbers (reason_text Final) text) other (subst (λ bs. IsTrue (same_numbers (reason_text Final) bs)) e (same_numbers_itself (reason_text Final)))
-    no (Act a) (inl wrong) e = (let h : ⊥ = cc in h)
-    no (Act a) (inr i) e =
-        let (b, j, same) = from_map Act (Act a) (below actions) i in
-        let is : a ≡ b = cc in
-        none a (subst (λ n. n < actions) (sym is) (from_below actions b j)) e
+no_reason_text actions text other none = grind (arith, both_ways, from_below, from_map, same_numbers_itself)
 
 pub action_text : (actions a : ℕ) (text : List ℕ) → a < actions → decimal a ≡ text → ReadsOff (reasons actions) reason_text text (Some (Act a))
 action_text actions a text l e = record { is = (act_reason actions a l, e) }

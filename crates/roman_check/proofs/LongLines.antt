@@ -1,6 +1,5 @@
 -- Lines that are longer than any that is due.
-use Rattle.std.proofs.Common.{◌≡◌, ℕ, ◌^◌, ◌<◌, ◌≤◌, List, [], ◌∷◌, length, Some, None, IsFalse, codes, decimal, refl, ap, ◌∙◌, arith, length-append}
-use Rattle.std.specs.List.{list_any}
+use Rattle.std.proofs.Common.{◌≡◌, ℕ, ◌^◌, ◌<◌, ◌≤◌, List, [], ◌∷◌, length, Some, None, IsFalse, decimal, ap, arith, length-append}
 use Rattle.std.proofs.lemmas.Bool.{cond-false}
 use Rattle.std.proofs.lemmas.Fmt.{length-decimal-le}
 use Rattle.roman_model.specs.Lists.{IsIn}
@@ -8,25 +7,20 @@ use Rattle.roman_model.specs.SystemArena.{same_numbers}
 use Rattle.roman_model.specs.Arena.{Arena, Entry}
 use Rattle.roman_model.specs.declared.reason.Reason.{Reason}
 use Rattle.roman_model.specs.declared.reason.Reason.TheVariants.{Final, Act}
-use Rattle.roman_model.specs.Certificate.{head_line, count_line, reason_text, entry_line, end_line, Form, reasons, possible_entries, entry_of, entries_on, unless_is, end_fault, entry_fault, line_fault}
+use Rattle.roman_model.specs.Certificate.{head_line, count_line, reason_text, entry_line, Form, reasons, possible_entries, entry_of, unless_is, line_fault}
 use Rattle.roman_model.proofs.CallerLemmas.{by_test, same_numbers_is, from_possible, entry_of_none, fault_in_body, fault_after_end}
 use Rattle.roman_rules.specs.Numbered.{IsNumbered}
 use Rattle.roman_check.proofs.ReasonLemmas.{given_action}
 
 -- a short line isn't a long one
 differs : (due line : List ℕ) → length due ≤ 32 → 32 < length line → IsFalse (same_numbers due line)
-differs due line short long = by_test (same_numbers due line)
-    (λ t. let same : length due ≡ length line = ap length (same_numbers_is due line t) in absurd (omega arith))
-    (λ f. f)
+differs due line short long = by_test _ (λ t. let same : length due ≡ length line = ap length (same_numbers_is _ _ t) in absurd (omega arith)) (λ f. f)
 
 not_due : (due line : List ℕ) → length due ≤ 32 → 32 < length line → unless_is due (Some line) ≡ Some Form
 not_due due line short long = cond-false (same_numbers due line) None (Some Form) (differs due line short long)
 
 count_length : (pairs : ℕ) → pairs < 2 ^ 32 → length (count_line pairs) ≤ 16
-count_length pairs small =
-    let number : length (decimal pairs) ≤ 10 = length-decimal-le 10 pairs (omega arith) (omega arith) (omega arith) in
-    let word : length (codes "pairs ") ≡ 6 = refl in
-    omega (arith, length-append (codes "pairs ") (decimal pairs))
+count_length pairs small = grind (arith, length-decimal-le, length-append)
 
 reason_length : (actions : ℕ) (r : Reason) → actions ≤ 32 → IsIn r (reasons actions) → length (reason_text r) ≤ 2
 reason_length actions Final few i = omega arith
@@ -43,10 +37,7 @@ entry_length pairs actions x small few i =
     omega (arith, length-append (decimal x.node) (32 ∷ reason_text x.reason))
 
 no_entry : (pairs actions : ℕ) (line : List ℕ) → pairs < 2 ^ 32 → actions ≤ 32 → 32 < length line → entry_of pairs actions line ≡ None
-no_entry pairs actions line small few long = entry_of_none pairs actions line (λ x i e.
-    let short : length (entry_line x) ≤ 13 = entry_length pairs actions x small few i in
-    let same : length (entry_line x) ≡ length line = ap length e in
-    omega arith)
+no_entry pairs actions line small few long = grind (arith, entry_length, entry_of_none)
 
 -- a line that is too long is at fault by its form
 pub long_line : (A : Arena ℕ) → IsNumbered A → (text : List (List ℕ)) (line : List ℕ) → 32 < length line → line_fault A text (Some line) ≡ Some Form
@@ -54,8 +45,4 @@ long_line A ok [] line long = not_due head_line line (omega arith) long
 long_line A ok (head ∷ []) line long =
     let short : length (count_line (length A.nodes)) ≤ 16 = count_length (length A.nodes) ok.few_nodes in
     not_due (count_line (length A.nodes)) line (omega arith) long
-long_line A ok (head ∷ size ∷ body) line long = by_test (list_any (same_numbers end_line) body)
-    (λ some. fault_after_end A head size body (Some line) some)
-    (λ none. fault_in_body A head size body (Some line) none
-    ∙ cond-false (same_numbers end_line line) (end_fault A (entries_on A body)) (entry_fault A (entries_on A body) (entry_of (length A.nodes) A.actions line)) (differs end_line line (omega arith) long)
-    ∙ ap (entry_fault A (entries_on A body)) (no_entry (length A.nodes) A.actions line ok.few_nodes ok.few_actions long))
+long_line A ok (head ∷ size ∷ body) line long = grind (arith, by_test, cond-false, differs, fault_after_end, fault_in_body, no_entry)

@@ -1,5 +1,5 @@
 -- Lines that differ in the last two digits of the pair.
-use Rattle.std.proofs.Common.{◌≡◌, ℕ, ◌+◌, ◌-◌, ◌*◌, ◌/◌, ◌%◌, ◌^◌, ◌<◌, ◌≤◌, List, [], ◌∷◌, ◌++◌, length, take, drop, get_or, set, Some, decimal, sym, ap, ap₂, ◌∙◌, subst, inl, inr, arith, append_assoc, length-append, length-drop, length-take-le}
+use Rattle.std.proofs.Common.{◌≡◌, ℕ, ◌+◌, ◌-◌, ◌*◌, ◌/◌, ◌%◌, ◌^◌, ◌<◌, ◌≤◌, List, [], ◌∷◌, ◌++◌, length, take, drop, get_or, set, Some, decimal, sym, ap, ap₂, ◌∙◌, inl, inr, arith, append_assoc, length-append, length-drop, length-take-le}
 use Rattle.std.proofs.lemmas.Bool.{cases_lt}
 use Rattle.std.proofs.lemmas.Fmt.{decimal_digit, decimal_step}
 use Rattle.std.proofs.lemmas.Grind.{same_number_lists}
@@ -16,20 +16,6 @@ use Rattle.roman_check.proofs.EntryLemmas.{after, cut_to, some_entry}
 
 -- Parts of a line
 
--- digits, a space and a reason's text before a newline
-pub front_parts : (bytes : List ℕ) (space end n : ℕ) (r : Reason) → decimal n ≡ take space bytes → get_or bytes space 0 ≡ 32 → IsEndedAt (after bytes space) end → reason_text r ≡ take end (after bytes space) → HasParts bytes n r space (space + 1 + end)
-front_parts bytes space end n r number stop ended text =
-    let rest : after bytes space ≡ drop (space + 1) bytes = take_rest bytes (space + 1) in
-    let at : IsEndedAt (drop (space + 1) bytes) end = subst (λ bs. IsEndedAt bs end) rest ended in
-    let long : end ≡ space + 1 + end - (space + 1) = omega arith in
-    record {
-      number = number;
-      stop = stop;
-      before = omega arith;
-      text = text ∙ ap₂ (λ k bs. take k bs) long rest;
-      ended = record { within = omega (arith, at.within, length-drop (space + 1) bytes); newline = sym (get_or-drop (space + 1) bytes end 0) ∙ at.newline };
-    }
-
 -- these parts are the line of an entry
 pub parts_entry : (pairs actions : ℕ) (bytes : List ℕ) (n space end : ℕ) (r : Reason) → AreFew pairs actions → pairs < 2 ^ 32 → HasParts bytes n r space end → n < pairs → IsIn r (reasons actions) →
     IsEndedAt bytes end × (entry_of pairs actions (take end bytes) ≡ Some (record { node = n; reason = r }))
@@ -37,14 +23,13 @@ parts_entry pairs actions bytes n space end r few small parts l given =
     let before : space < end = parts.before in
     let within : end < length bytes = parts.ended.within in
     let long : length (take space bytes) ≡ space = length-take-le space bytes (omega arith) in
-    let (all, trim, value) = decimal_shape n (take space bytes) (omega arith) parts.number in
+    let (all, trim, value) = decimal_shape _ _ (omega arith) parts.number in
     let short : length (take space bytes) ≤ 10 = trim.few in
     let m = end - (space + 1) in
     let whole : space + 1 + m ≡ end = omega arith in (
       parts.ended,
-      ap (λ k. entry_of pairs actions (take k bytes)) (sym whole)
-          ∙ some_entry pairs actions (take (space + 1 + m) bytes) (take space bytes) (take m (drop (space + 1) bytes)) n r few
-          (cut_to bytes space m (record { few = omega arith; within = omega arith; digits = all; stops = parts.stop })) l parts.number given parts.text,
+      ap (λ k. entry_of pairs actions (take k bytes)) (sym whole) ∙ some_entry _ _ _ _ _ _ _ few
+          (cut_to _ _ _ (record { few = omega arith; within = omega arith; digits = all; stops = parts.stop })) l parts.number given parts.text,
     )
 
 -- The same bytes
@@ -53,8 +38,7 @@ take_same : (n : ℕ) (xs ys : List ℕ) → n ≤ length xs → n ≤ length ys
 take_same n xs ys l m same =
     let left : length (take n xs) ≡ n = length-take-le n xs l in
     let right : length (take n ys) ≡ n = length-take-le n ys m in
-    same_number_lists (take n xs) (take n ys) (left ∙ sym right)
-    (λ k within. (let low : k < n = omega arith in get_or-take n xs k 0 low ∙ same k low ∙ sym (get_or-take n ys k 0 low)))
+    same_number_lists _ _ (left ∙ sym right) (λ k within. (let low : k < n = omega arith in get_or-take n xs k 0 low ∙ same k low ∙ sym (get_or-take n ys k 0 low)))
 
 -- where the bytes up to the newline are the same, so are the parts
 pub parts_same : (xs ys : List ℕ) (n space end : ℕ) (r : Reason) → end < length ys → ((k : ℕ) → k ≤ end → get_or xs k 0 ≡ get_or ys k 0) → HasParts xs n r space end → HasParts ys n r space end
@@ -158,12 +142,9 @@ with_digits p tens ones n is tens_low tens_high ones_low ones_high value =
     let long_one : length one ≡ length text = length-set text place tens in
     let long_two : length two ≡ length one = length-set one (place + 1) ones in
     record {
-      number =
-          ap decimal own ∙ two_digits q (tens - 48) (ones - 48) (omega arith) (omega arith) (omega arith) (omega arith)
-          ∙ ap₂ (λ c d. decimal q ++ c ∷ d ∷ []) tens_is ones_is
-          ∙ ap (λ ds. ds ++ tens ∷ ones ∷ []) (sym (front_digits text is.pair place large (omega arith) (omega arith) is.parts.number))
-          ∙ sym (append_assoc (take place text) (tens ∷ []) (ones ∷ []))
-          ∙ ap (λ ds. ds ++ ones ∷ []) (sym (take_more_set text place tens (omega arith)))
+      number = ap decimal own ∙ two_digits _ _ _ (omega arith) (omega arith) (omega arith) (omega arith) ∙ ap₂ (λ c d. decimal q ++ c ∷ d ∷ []) tens_is ones_is
+          ∙ ap (λ ds. ds ++ tens ∷ ones ∷ []) (sym (front_digits _ _ _ large (omega arith) (omega arith) is.parts.number))
+          ∙ sym (append_assoc (take place text) (tens ∷ []) (ones ∷ [])) ∙ ap (λ ds. ds ++ ones ∷ []) (sym (take_more_set text place tens (omega arith)))
           ∙ sym (take_more_set one (place + 1) ones (omega arith)) ∙ ap (λ k. take k two) (omega arith);
       stop = get_or-set_other one (place + 1) (place + 2) ones 0 (omega arith) ∙ get_or-set_other text place (place + 2) tens 0 (omega arith) ∙ is.parts.stop;
       before = before;

@@ -26,10 +26,7 @@ use Rattle.roman_check.proofs.LongLines.{long_line}
 
 -- a line that is too long is judged by that alone
 pub judged_long : (A : Arena ℕ) → IsNumbered A → (audit : Audit) (line : List ℕ) → 32 < length line → Judges A audit audit line (Some Form)
-judged_long A ok audit line long = record {
-  named = λ text read. sym (long_line A ok text line long);
-  read = λ text read none. (let h : ⊥ = cc in absurd h);
-}
+judged_long A ok audit line long = grind (arith, long_line)
 
 lines_push : (text : List (List ℕ)) (line : List ℕ) → AreLines text → IsLine line → AreLines (text ++ line ∷ [])
 lines_push text line are is l i = elim (from_push l line text i) [ inl j ↦ are l j | inr e ↦ subst IsLine (sym e) is ]
@@ -80,11 +77,9 @@ read_partial A old new more line same count pushed taken r = record {
 
 ended_split : (partial last : List ℕ) (text : List (List ℕ)) (taken : List ℕ) → taken ≡ text_of_lines text ++ partial → taken ++ (last ++ 10 ∷ []) ≡ text_of_lines (text ++ (partial ++ last) ∷ []) ++ []
 ended_split partial last text taken split =
-    ap (λ bs. bs ++ (last ++ 10 ∷ [])) split
-    ∙ append_assoc (text_of_lines text) partial (last ++ 10 ∷ [])
-    ∙ ap (λ bs. text_of_lines text ++ bs) (sym (append_assoc partial last (10 ∷ [])))
-    ∙ sym (append_assoc (text_of_lines text) (partial ++ last) (10 ∷ []))
-    ∙ sym (text_of_lines-push text (partial ++ last)) ∙ sym (append-nil (text_of_lines (text ++ (partial ++ last) ∷ [])))
+    ap (λ bs. bs ++ (last ++ 10 ∷ [])) split ∙ append_assoc (text_of_lines text) partial (last ++ 10 ∷ [])
+    ∙ ap (λ bs. text_of_lines text ++ bs) (sym (append_assoc partial last (10 ∷ []))) ∙ sym (append_assoc (text_of_lines text) (partial ++ last) (10 ∷ []))
+    ∙ sym (text_of_lines-push _ _) ∙ sym (append-nil (text_of_lines (text ++ (partial ++ last) ∷ [])))
 
 -- the end of a line without a fault
 pub read_line : (A : Arena ℕ) (old new : Reader) (last : List ℕ) (fault : Option Why) → IsLine last → ((bytes : List ℕ) → Holds old.line bytes → Judges A old.audit new.audit (bytes ++ last) fault) → fault ≡ None → new.lines ≡ old.lines + 1 →
@@ -135,8 +130,7 @@ fault_more A bytes more n why at = record {
 line_more : (piece : List ℕ) (start end : ℕ) → start ≤ end → end < length piece → get_or piece end 0 ≡ 10 → take start piece ++ (take (end - start) (drop start piece) ++ 10 ∷ []) ≡ take (end + 1) piece
 line_more piece start end low high newline =
     sym (append_assoc (take start piece) (take (end - start) (drop start piece)) (10 ∷ []))
-    ∙ ap₂ (λ bs b. bs ++ b ∷ []) (taken_more piece start (end - start) ∙ ap (λ n. take n piece) (omega arith)) (sym newline)
-    ∙ sym (take_more piece end 0 high)
+    ∙ ap₂ (λ bs b. bs ++ b ∷ []) (taken_more _ _ _ ∙ ap (λ n. take n piece) (omega arith)) (sym newline) ∙ sym (take_more piece end 0 high)
 
 lines_more : (taken piece : List ℕ) (start end : ℕ) → start ≤ end → end < length piece → get_or piece end 0 ≡ 10 →
     (taken ++ take start piece) ++ (take (end - start) (drop start piece) ++ 10 ∷ []) ≡ taken ++ take (end + 1) piece

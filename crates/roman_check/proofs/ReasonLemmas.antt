@@ -1,5 +1,5 @@
 -- Reasons that hold, and pairs that are missing.
-use Rattle.std.proofs.Common.{◌≡◌, ◌≢◌, ℕ, ◌+◌, ◌-◌, ◌*◌, ◌^◌, ◌/◌, ◌%◌, ◌<◌, ◌≤◌, Bool, true, false, not, ◌&&◌, ◌||◌, ◌⊎◌, [], ◌∷◌, map, length, Some, None, IsTrue, IsFalse, find, refl, sym, ap, ◌∙◌, subst, inl, inr, arith, add-one, eqb}
+use Rattle.std.proofs.Common.{◌≡◌, ◌≢◌, ℕ, ◌+◌, ◌-◌, ◌*◌, ◌^◌, ◌/◌, ◌%◌, ◌<◌, ◌≤◌, Bool, true, false, not, ◌&&◌, ◌||◌, ◌⊎◌, [], ◌∷◌, length, Some, None, IsTrue, IsFalse, find, refl, sym, ap, ◌∙◌, subst, inl, inr, arith, add-one, eqb}
 use Rattle.std.specs.List.{list_any}
 use Rattle.std.specs.Int.{bit_at, trailing_zeros, w64}
 use Rattle.std.proofs.Math.Bool.{or-false}
@@ -10,7 +10,7 @@ use Rattle.std.proofs.lemmas.List.Folds.{list_any-append}
 use Rattle.roman_model.specs.Lists.{IsIn, below}
 use Rattle.roman_model.specs.Arena.{Arena}
 use Rattle.roman_model.specs.declared.reason.Reason.{Reason}
-use Rattle.roman_model.specs.declared.reason.Reason.TheVariants.{Final, Act}
+use Rattle.roman_model.specs.declared.reason.Reason.TheVariants.{Act}
 use Rattle.roman_model.specs.Certificate.{reasons}
 use Rattle.roman_model.proofs.CallerLemmas.{none_from, from_map, from_below, find_first, find_not_found, list_any-map}
 use Rattle.roman_lanes.specs.Rows.{is_on}
@@ -31,13 +31,7 @@ any_below_more test n =
 
 -- one more action may be a reason
 pub reasons_more : (test : Reason → Bool) (a : ℕ) → list_any test (reasons (a + 1)) ≡ (list_any test (reasons a) || test (Act a))
-reasons_more test a =
-    ap (λ b. test Final || b) (list_any-map Act test (below (a + 1)) ∙ any_below_more (λ b. test (Act b)) a ∙ ap (λ b. b || test (Act a)) (sym (list_any-map Act test (below a))))
-    ∙ regroup (test Final) (list_any test (map Act (below a))) (test (Act a))
-  where
-    regroup : (x y z : Bool) → (x || (y || z)) ≡ ((x || y) || z)
-    regroup true y z = refl
-    regroup false y z = refl
+reasons_more test a = grind (arith, any_below_more, list_any-map)
 
 -- where clause 2 is the only reason that was asked about
 pub only_final : (unfine left fine : Bool) → unfine ≡ not fine → (unfine && left) ≡ (left && (not fine || false))
@@ -50,11 +44,7 @@ only_final false false fine e = refl
 
 -- one more action is asked about
 pub one_more : (left : Bool) (test : Reason → Bool) (a : ℕ) → ((left && list_any test (reasons a)) || (left && test (Act a))) ≡ (left && list_any test (reasons (a + 1)))
-one_more left test a = both left (list_any test (reasons a)) (test (Act a)) ∙ ap (λ b. left && b) (sym (reasons_more test a))
-  where
-    both : (l r j : Bool) → ((l && r) || (l && j)) ≡ (l && (r || j))
-    both true r j = refl
-    both false r j = refl
+one_more left test a = grind (arith, reasons_more)
 
 pub and_all : (a b : Bool) → b ≡ true → (a && b) ≡ a
 and_all true b e = e
@@ -85,25 +75,12 @@ none_found A ok t none = sym (ap (find t) ok.nodes ∙ find_not_found t (below (
 
 -- Rows
 
--- a row begins at a pair, and ends at one
-pub row_starts : (x rows lanes n : ℕ) → x < rows → 0 < lanes → rows * lanes ≡ n → x * lanes < n
-row_starts x rows lanes n l some e = omega (arith, row_fits x lanes rows lanes l (le_itself lanes))
-  where
-    le_itself : (k : ℕ) → k ≤ k
-    le_itself k = omega arith
-
 pub row_ends : (x rows lanes n : ℕ) → x < rows → rows * lanes ≡ n → x * lanes + lanes ≤ n
-row_ends x rows lanes n l e = omega (arith, row_fits x lanes rows lanes l (le_itself lanes))
-  where
-    le_itself : (k : ℕ) → k ≤ k
-    le_itself k = omega arith
+row_ends x rows lanes n l e = grind (arith, row_fits)
 
 -- there are as many rows as words
 pub same_rows : (rows words lanes : ℕ) → 0 < lanes → rows * lanes ≡ words * lanes → rows ≡ words
 same_rows rows words lanes some e = (same_from_place rows 0 words 0 lanes some some (ap (λ n. n + 0) e)).0
-
-pub row_among : (x rows words lanes : ℕ) → x < rows → 0 < lanes → rows * lanes ≡ words * lanes → x < words
-row_among x rows words lanes l some e = let same = same_rows rows words lanes some e in omega arith
 
 -- each band ends within the rows
 pub band_ends : (band y bands : ℕ) → y < bands → y * band + band ≤ bands * band
@@ -111,10 +88,7 @@ band_ends band y bands l = row_ends y bands band (bands * band) l refl
 
 -- the row of a pair
 pub row_within : (row lane lanes rows p : ℕ) → row * lanes + lane ≡ p → p < rows * lanes → row < rows
-row_within row lane lanes rows p e l = elim (cases_lt row rows) [ inl less ↦ less | inr more ↦ (let past : rows * lanes ≤ row * lanes = mul-le rows lanes row lanes more (le_itself lanes) in absurd (omega arith)) ]
-  where
-    le_itself : (k : ℕ) → k ≤ k
-    le_itself k = omega arith
+row_within row lane lanes rows p e l = grind (arith, cases_lt, mul-le)
 
 -- what holds at each lane of the rows before one holds at each number before its first
 pub before_row : (lanes x : ℕ) (P : ℕ → Type 0) → 0 < lanes → ((y lane : ℕ) → y < x → lane < lanes → P (y * lanes + lane)) → (q : ℕ) → q < x * lanes → P q

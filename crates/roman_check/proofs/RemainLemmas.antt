@@ -51,21 +51,7 @@ count_less f g (suc n) p l here gone same = elim (cases_eq n p) [
 -- all pairs remain
 pub remain_all : (pairs rows lanes : ℕ) (table : Remaining) → lanes ≤ 64 → table.lanes ≡ lanes → table.words.items ≡ replicate rows ((2 ^ 64 - 1) / 2 ^ (64 - lanes)) → table.count ≡ pairs →
     Remain pairs (λ _. false) table
-remain_all pairs rows lanes table few shaped words count = record {
-  rows = record {
-    each = λ row l. record {
-      each = λ lane m. ap (λ w. is_on w lane) (word row (omega (arith, long))) ∙ on_full lanes lane few (omega arith);
-      rest = λ lane m. ap (λ w. is_on w lane) (word row (omega (arith, long))) ∙ on_full_past lanes lane few (omega arith);
-    };
-  };
-  counted = count ∙ sym (count_all pairs);
-}
-  where
-    long : length table.words.items ≡ rows
-    long = ap length words ∙ length-replicate rows ((2 ^ 64 - 1) / 2 ^ (64 - lanes))
-
-    word : (row : ℕ) → row < rows → get_or table.words.items row 0 ≡ (2 ^ 64 - 1) / 2 ^ (64 - lanes)
-    word row l = ap (λ ws. get_or ws row 0) words ∙ get_or-replicate rows row ((2 ^ 64 - 1) / 2 ^ (64 - lanes)) 0 l
+remain_all pairs rows lanes table few shaped words count = grind (arith, count_all, get_or-replicate, length-replicate, on_full, on_full_past)
 
 -- one pair is taken out
 pub remain_less : (pairs : ℕ) (gone more : ℕ → Bool) (old new : Remaining) (row lane word : ℕ) → Remain pairs gone old → row < length old.words.items → lane < old.lanes → old.lanes ≤ 64 → row * old.lanes + lane < pairs →

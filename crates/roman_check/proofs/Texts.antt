@@ -15,10 +15,7 @@ use Rattle.roman_model.proofs.CallerLemmas.{same_test, same_numbers_is, same_num
 
 -- a test that is true exactly for equal texts is the model's test
 pub same_from : (b : Bool) (xs ys : List ℕ) → (IsTrue b → xs ≡ ys) → (xs ≡ ys → IsTrue b) → b ≡ same_numbers xs ys
-same_from b xs ys to from =
-    same_test b (same_numbers xs ys)
-    (λ t. subst (λ zs. IsTrue (same_numbers xs zs)) (to t) (same_numbers_itself xs))
-    (λ t. from (same_numbers_is xs ys t))
+same_from b xs ys to from = grind (arith, same_numbers_is, same_numbers_itself, same_test)
 
 -- `==` on slices of bytes is the model's test
 pub same_as_eq : (xs ys zs : List ℕ) (r : Bool) → r ≡ pointwise (λ x y. x == y) xs ys → ys ≡ zs → r ≡ same_numbers zs xs

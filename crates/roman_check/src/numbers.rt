@@ -65,6 +65,7 @@ fn is_trim(text: &[u8]) -> bool
 
 /// Returns the number below the bound that has this decimal text, or `None` where there is none.
 /// Requires a text of digits with the value `value`.
+#[tactic(auto, using(crate::proofs::DigitLemmas::decimal_shape, crate::proofs::DigitLemmas::no_small_number, crate::proofs::DigitLemmas::decimal_from_digits))]
 pub(crate) fn trim_below(value: u64, text: &[u8], bound: u32) -> Option<u32>
     requires digits { AllDigits 10 text.now }
     requires value { value ≡ digits_value 10 text.now }

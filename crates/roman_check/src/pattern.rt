@@ -53,6 +53,7 @@ fn begin_alike(a: &[u8], b: &[u8]) -> bool
 
 impl Pattern {
     /// Returns the pattern with the line of pair 10,000 and clause 2.
+    #[tactic(auto, using(crate::proofs::PatternLemmas::first_number))]
     pub(crate) fn new() -> Pattern
         ensures pattern { IsPattern result }
         ensures reason { result.reason ≡ Reason.Final }

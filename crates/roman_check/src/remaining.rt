@@ -7,6 +7,7 @@ use crate::table::Remaining;
 use std::alloc::{AllocError, Global};
 
 /// Returns whether the bit of a lane is set.
+#[tactic(auto, using(std::proofs::lemmas::Nat::Bits::shr_and_one), unfolding(roman_lanes::specs::Rows::is_on))]
 pub(crate) fn has_lane(word: u64, lane: u32) -> bool
     requires { lane < 64 }
     ensures { result ≡ is_on word lane }
@@ -15,6 +16,7 @@ pub(crate) fn has_lane(word: u64, lane: u32) -> bool
 }
 
 /// Returns the word with the bit of a lane cleared.
+#[tactic(auto, using(roman_lanes::proofs::CallerLemmas::on_clear_same, roman_lanes::proofs::CallerLemmas::on_clear_other, crate::proofs::RemainLemmas::without_within))]
 fn without_lane(word: u64, lane: u32) -> u64
     requires { lane < 64 }
     ensures own { is_on result lane ≡ false }

@@ -21,15 +21,13 @@ tripled e a e' = record { from = e; action = a; to = e' }
 env_rises : (env : Env) → Rises IsTripleBefore (normal_env env).triples
 unfolding tripled
 env_rises env =
-    rises_flat IsTripleBefore (λ e. flat_map (λ a. map (tripled e a) (env_next env e a)) (below env.actions)) (below env.states) (rises_below env.states)
-    (λ e i.
+    rises_flat IsTripleBefore (λ e. flat_map (λ a. map (tripled e a) (env_next env e a)) (below env.actions)) (below env.states) (rises_below env.states) (λ e i.
     rises_flat IsTripleBefore (λ a. map (tripled e a) (env_next env e a)) (below env.actions) (rises_below env.actions)
     (λ a j. rises_map IsTripleBefore (tripled e a) (env_next env e a) (rises_filter IsLess (has_triple env e a) (below env.states) (rises_below env.states)) (λ j k less. inr (refl, inr (refl, less))))
     (λ a b x y less ix iy.
     let (p, ip, sx) = from_map (tripled e a) x (env_next env e a) ix in
     let (q, iq, sy) = from_map (tripled e b) y (env_next env e b) iy in
-    subst (λ (x : Triple). IsTripleBefore x y) (sym sx) (subst (IsTripleBefore (tripled e a p)) (sym sy) (inr (refl, inl less)))))
-    (λ d e x y less ix iy.
+    subst (λ (x : Triple). IsTripleBefore x y) (sym sx) (subst (IsTripleBefore (tripled e a p)) (sym sy) (inr (refl, inl less))))) (λ d e x y less ix iy.
     let (a, ia, jx) = from_flat_map (λ a. map (tripled d a) (env_next env d a)) x (below env.actions) ix in
     let (b, ib, jy) = from_flat_map (λ a. map (tripled e a) (env_next env e a)) y (below env.actions) iy in
     let (p, ip, sx) = from_map (tripled d a) x (env_next env d a) jx in
@@ -161,8 +159,8 @@ at_one_place m n f a t (inr (d, inr (g, l))) = omega (arith, t, l)
 one_at_place : (ms : List Move) (m n : Move) → Rises IsMoveBefore ms → IsIn m ms → IsIn n ms → m.from ≡ n.from → m.action ≡ n.action → m.to ≡ n.to → m ≡ n
 one_at_place [] m n h i j f a t = absurd i
 one_at_place (x ∷ xs) m n h (inl e) (inl g) f a t = e ∙ sym g
-one_at_place (x ∷ xs) m n h (inl e) (inr j) f a t = absurd (at_one_place x n
-    (subst (λ (z : Move). z.from ≡ n.from) e f) (subst (λ (z : Move). z.action ≡ n.action) e a) (subst (λ (z : Move). z.to ≡ n.to) e t) (h.0 n j))
+one_at_place (x ∷ xs) m n h (inl e) (inr j) f a t =
+    absurd (at_one_place x n (subst (λ (z : Move). z.from ≡ n.from) e f) (subst (λ (z : Move). z.action ≡ n.action) e a) (subst (λ (z : Move). z.to ≡ n.to) e t) (h.0 n j))
 one_at_place (x ∷ xs) m n h (inr i) (inl g) f a t = absurd (at_one_place x m
     (subst (λ (z : Move). z.from ≡ m.from) g (sym f)) (subst (λ (z : Move). z.action ≡ m.action) g (sym a)) (subst (λ (z : Move). z.to ≡ m.to) g (sym t)) (h.0 m i))
 one_at_place (x ∷ xs) m n h (inr i) (inr j) f a t = one_at_place xs m n h.1 i j f a t
@@ -173,15 +171,11 @@ first_of (n ∷ ns) some = (n, inl refl)
 
 -- the step of the other form with the same states and action
 twin : (x y : Beh) (m : Move) (e : ℕ) → ((b e a b' : ℕ) → has_move x b e a b' ≡ has_move y b e a b') → IsIn m x.steps → IsIn e m.guard → HasStep y m.from e m.action m.to
-twin x y m e same i g =
-    step_listed y m.from e m.action m.to (sym (same m.from e m.action m.to) ∙ listed_step x m.from e m.action m.to (record { step = m; listed = i; from = refl; action = refl; to = refl; guard = g }))
+twin x y m e same i g = grind (arith, listed_step, step_listed)
 
 guard_within : (x y : Beh) (m n : Move) → IsNormalBeh y → ((b e a b' : ℕ) → has_move x b e a b' ≡ has_move y b e a b') → IsIn m x.steps → IsIn n y.steps → m.from ≡ n.from → m.action ≡ n.action → m.to ≡ n.to →
     (e : ℕ) → IsIn e m.guard → IsIn e n.guard
-guard_within x y m n hy same i j f a t e g =
-    let other = twin x y m e same i g in
-    let is : other.step ≡ n = one_at_place y.steps other.step n hy.steps other.listed j (other.from ∙ f) (other.action ∙ a) (other.to ∙ t) in
-    subst (λ (z : Move). IsIn e z.guard) is other.guard
+guard_within x y m n hy same i j f a t e g = grind (arith, one_at_place, (twin x y m e same i g))
 
 moves_within : (x y : Beh) → IsNormalBeh x → IsNormalBeh y → ((b e a b' : ℕ) → has_move x b e a b' ≡ has_move y b e a b') → (m : Move) → IsIn m x.steps → IsIn m y.steps
 moves_within x y hx hy same m i =

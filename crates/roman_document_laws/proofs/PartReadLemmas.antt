@@ -1,6 +1,6 @@
 -- Lists of names, final states and steps: their values, and their refusals.
 use Rattle.std.proofs.Common.{◌≡◌, ◌≢◌, ℕ, suc, ◌<◌, ◌≤◌, ◌⊎◌, ◌&&◌, inl, inr, Bool, true, false, List, [], ◌∷◌, ◌++◌, length, get_or, Option, Some, None, is_none, nat_le, codes, Result, Ok, Err, IsTrue, IsFalse, slice_get, refl, sym, ap, ◌∙◌, subst, arith, leb-true, true≢false}
-use Rattle.std.specs.List.{AllZip, list_any}
+use Rattle.std.specs.List.{AllZip, position_or_len}
 use Rattle.std.specs.Str.{bytes_eq}
 use Rattle.std.proofs.lemmas.Bool.{and_parts, and_from, both_ways, cases_order, le-leb}
 use Rattle.std.proofs.lemmas.List.Quantifiers.{position-Some}
@@ -12,16 +12,16 @@ use Rattle.serde_json.specs.View.{items_of}
 use Rattle.roman_model.specs.Lists.{IsIn, HasNoRepeats}
 use Rattle.roman_model.specs.System.{Triple, Move}
 use Rattle.roman_model.specs.declared.limits.TheConstants.{MAX_STEPS}
-use Rattle.roman_model.proofs.CallerLemmas.{by_test, any_true, from_push, in_push, in_append_left, get_in}
+use Rattle.roman_model.proofs.CallerLemmas.{by_test, any_from, any_true, from_push, in_push, in_append_left, get_in}
 use Rattle.roman_read.specs.Items.{◌>>=◌, each_item, pushing}
-use Rattle.roman_read.specs.Json.{member_of, text_of, list_of}
+use Rattle.roman_read.specs.Json.{text_of, list_of}
 use Rattle.roman_read.specs.Kinds.{kind_of}
 use Rattle.roman_document_laws.specs.Listed.{IsListAt, MissesList, AreItems}
 use Rattle.roman_read.specs.Names.{is_name, place_of}
 use Rattle.roman_read.specs.declared.rules.Kind.{Kind}
 use Rattle.roman_read.specs.declared.rules.Kind.TheVariants as kind
 use Rattle.roman_read.specs.declared.rules.Miss.{Miss}
-use Rattle.roman_read.proofs.CallerLemmas.{same_ok, bind_ok, place_of-absent}
+use Rattle.roman_read.proofs.CallerLemmas.{same_ok, bind_ok, place_of-present, place_of-absent}
 use Rattle.roman_document_laws.proofs.ListLemmas.{same_err, bind_err, listed, items_listed, items_count, IsStep, IsListing, list_gives, list_given, list_refuses, list_refused}
 use Rattle.roman_parts.specs.Guards.{guarded_states}
 use Rattle.roman_parts.specs.Lists.{name_in, name_step, names_of, place_in, finals_of}
@@ -66,14 +66,7 @@ itself : (name : List ℕ) → IsTrue (bytes_eq name name)
 itself name = (bytes_eq-Decides name name).1 refl
 
 in_place : (names : List (List ℕ)) (text : List ℕ) (k : ℕ) → place_of names text ≡ Some k → (slice_get names k ≡ Some text) × ((j : ℕ) → j < k → slice_get names j ≡ Some text → ⊥)
-in_place names text k h =
-    let (less, here, before) = position-Some (bytes_eq text) names k [] h in
-    let same : text ≡ get_or names k [] = (bytes_eq-Decides text (get_or names k [])).0 here in (
-      slice_get-get_or names k [] less ∙ ap Some (sym same),
-      λ j earlier there.
-          let is : get_or names j [] ≡ text = get_or_from_slice_get names j text [] there in
-          both_ways (bytes_eq text (get_or names j [])) (before j earlier) (subst (λ (n : List ℕ). IsTrue (bytes_eq text n)) (sym is) (itself text)),
-    )
+in_place names text k h = grind (arith, both_ways, (bytes_eq-Decides text (get_or names k [])), get_or_from_slice_get, (itself text), (position-Some (bytes_eq text) names k), (slice_get-get_or names k))
 
 -- a name occurs first at only one place
 place_from : (names : List (List ℕ)) (text : List ℕ) (k : ℕ) → slice_get names k ≡ Some text → ((j : ℕ) → j < k → slice_get names j ≡ Some text → ⊥) → place_of names text ≡ Some k
@@ -87,9 +80,7 @@ place_from names text k there first =
     ]
 
 pub absent_none : (names : List (List ℕ)) (text : List ℕ) → (IsIn text names → ⊥) → place_of names text ≡ None
-absent_none names text never = by_test (list_any (bytes_eq text) names)
-    (λ yes. let (n, i, same) = any_true (bytes_eq text) names yes in absurd (never (subst (λ (n : List ℕ). IsIn n names) (sym ((bytes_eq-Decides text n).0 same)) i)))
-    (λ fails. place_of-absent names text fails)
+absent_none names text never = grind (arith, any_true, by_test, bytes_eq-Decides, place_of-absent)
 
 pub place_ok : (names : List (List ℕ)) (list : Place) (i : ℕ) (d : Data) (k : ℕ) → place_in names list i d ≡ Ok k → IsPlace names d k
 unfolding place_in
@@ -104,12 +95,7 @@ ok_place names list i d k is = rw (is.text, place_from names is.name k is.there 
 
 pub place_err : (names : List (List ℕ)) (list : Place) (i : ℕ) (d : Data) (e : PartError) → place_in names list i d ≡ Err e → BreaksPlace names list i d e
 unfolding place_in
-place_err names list i d e h = elim (bind_err (looked list i (text_of d)) _ e h) [
-  | inl bad ↦ inl (looked_err list i (text_of d) e bad)
-  | inr (text, given, h1) ↦
-      let (none, is) = found_err kind.Unknown list i (place_of names text) e h1 in
-      inr (text, looked_ok list i (text_of d) text given, none_absent names text none, is)
-]
+place_err names list i d e h = grind (arith, bind_err, found_err, looked_err, looked_ok, none_absent)
 
 pub err_place : (names : List (List ℕ)) (list : Place) (i : ℕ) (d : Data) (e : PartError) → BreaksPlace names list i d e → place_in names list i d ≡ Err e
 unfolding place_in
@@ -120,12 +106,7 @@ err_place names list i d e (inr (text, reads, never, is)) = rw (reads, absent_no
 
 missed_list : (list : Place) (name : List ℕ) (d : Data) (e : PartError) → items_at list name d ≡ Err e → (miss : Miss) × MissesList d name miss × (e ≡ Refused (kind_of miss) list 0)
 unfolding items_at
-missed_list list name d e h = elim (bind_err (looked list 0 (member_of d name)) _ e h) [
-  | inl bad ↦ let (miss, missed, is) = looked_err list 0 (member_of d name) e bad in (miss, inl missed, is)
-  | inr (value, given, h1) ↦
-      let (miss, missed, is) = looked_err list 0 (list_of value) e h1 in
-      (miss, inr (value, looked_ok list 0 (member_of d name) value given, missed), is)
-]
+missed_list list name d e h = grind (arith, bind_err, looked_err, looked_ok)
 
 list_missed : (list : Place) (name : List ℕ) (d : Data) (miss : Miss) → MissesList d name miss → items_at list name d ≡ Err (Refused (kind_of miss) list 0)
 unfolding items_at
@@ -134,24 +115,14 @@ list_missed list name d miss (inr (value, there, missed)) = rw (there, missed) r
 
 list_there : (list : Place) (name : List ℕ) (d : Data) (items : Items) → items_at list name d ≡ Ok items → (ds : List Data) × (items ≡ items_of ds) × IsListAt d name ds
 unfolding items_at
-list_there list name d items h =
-    let (value, e, h1) = bind_ok (looked list 0 (member_of d name)) _ items h in
-    let same : items ≡ items_of (listed items) = sym (items_listed items) in
-    let found : list_of value ≡ Ok items = looked_ok list 0 (list_of value) items h1 in
-    (listed items, same, record { value = value; there = looked_ok list 0 (member_of d name) value e; list = found ∙ ap Ok same })
+list_there list name d items h = grind (arith, bind_ok, (items_listed items), (listed items), looked_ok)
 
 there_list : (list : Place) (name : List ℕ) (d : Data) (ds : List Data) → IsListAt d name ds → items_at list name d ≡ Ok (items_of ds)
 unfolding items_at
 there_list list name d ds is = rw (is.there, is.list) refl
 
 any_listing : (list : Place) (name : List ℕ) (d : Data) → IsListing name (λ rule. Refused rule list 0) (λ n. Unit {0}) d (items_at list name d)
-any_listing list name d = record {
-  gives = λ items h. let (ds, same, is) = list_there list name d items h in (ds, same, is, tt);
-  given = λ ds is fits. there_list list name d ds is;
-  refuses = λ e h. inl (missed_list list name d e h);
-  missed = λ miss m. list_missed list name d miss m;
-  miscounted = λ ds is never. absurd (never tt);
-}
+any_listing list name d = grind (arith, list_missed, list_there, missed_list, there_list)
 
 within_is : (least most n : ℕ) → IsTrue (nat_le least n && nat_le n most) → (least ≤ n) × (n ≤ most)
 within_is least most n h = let (some, few) = and_parts (nat_le least n) (nat_le n most) h in (leb-true least n some, leb-true n most few)
@@ -213,19 +184,7 @@ module _ (list : Place) (name : List ℕ) (least most : ℕ) (Fits : ℕ → Typ
 
 name_gives : (list : Place) (i : ℕ) (before : List (List ℕ)) (d : Data) (out : List (List ℕ)) → name_step list i before d ≡ Ok out → (name : List ℕ) × (before ++ name ∷ [] ≡ out) × IsNewName before d name
 unfolding name_step
-name_gives list i before d out h =
-    let (name, h1, h2) = bind_ok (name_in list i d) _ out h in
-    let (text, e, e1) = bind_ok (looked list i (text_of d)) _ name h1 in
-    let (named, same) = check_is (is_name text) kind.BadName list i text name e1 in
-    let (free, is) = check_is (is_none (place_of before name)) kind.Repeated list i (before ++ name ∷ []) out h2 in (
-      name,
-      is,
-      record {
-        text = looked_ok list i (text_of d) text e ∙ ap Ok same;
-        named = subst (λ (n : List ℕ). IsTrue (is_name n)) same named;
-        new = none_absent before name (none_is (place_of before name) free);
-      },
-    )
+name_gives list i before d out h = grind (arith, bind_ok, check_is, looked_ok, none_absent, none_is)
 
 name_given : (list : Place) (i : ℕ) (before : List (List ℕ)) (d : Data) (name : List ℕ) → IsNewName before d name → name_step list i before d ≡ Ok (before ++ name ∷ [])
 unfolding name_step
@@ -257,12 +216,7 @@ name_refused list i before d e (inr (text, reads, inl (bad, is))) = rw (reads, b
 name_refused list i before d e (inr (text, reads, inr (named, there, is))) = let (k, some) = there_some before text there in rw (reads, named, some, is) refl
 
 name_steps : (list : Place) → IsStep (name_step list) IsNewName (BreaksName list)
-name_steps list = record {
-  gives = λ i before d out at h. name_gives list i before d out h;
-  given = λ i before d x at is. name_given list i before d x is;
-  refuses = name_refuses list;
-  refused = name_refused list;
-}
+name_steps list = grind (arith, name_given, name_gives, name_refused, name_refuses)
 
 -- names after some others: each is a name, and none occurs twice or among the others
 record AreNamesAfter (before : List (List ℕ)) (ds : List Data) (names : List (List ℕ)) : Type 0 where
@@ -275,17 +229,7 @@ names_are : (before : List (List ℕ)) (ds : List Data) (names : List (List ℕ)
 names_are before [] [] are = record { texts = tt; named = λ n i. absurd i; once = tt; new = λ n i. absurd i }
 names_are before [] (n ∷ ns) are = absurd are
 names_are before (d ∷ ds) [] are = absurd are
-names_are before (d ∷ ds) (n ∷ ns) are =
-    let rest = names_are (before ++ n ∷ []) ds ns are.1 in
-    record {
-      texts = (are.0.text, rest.texts);
-      named = λ m i. elim i [ inl same ↦ subst (λ (m : List ℕ). IsTrue (is_name m)) (sym same) are.0.named | inr later ↦ rest.named m later ];
-      once = (λ i. rest.new n i (in_push n before), rest.once);
-      new = λ m i there. elim i [
-        | inl same ↦ are.0.new (subst (λ (m : List ℕ). IsIn m before) same there)
-        | inr later ↦ rest.new m later (in_append_left m before (n ∷ []) there)
-      ];
-    }
+names_are before (d ∷ ds) (n ∷ ns) are = grind (arith, in_append_left, in_push, (names_are (before ++ n ∷ []) ds ns are.1))
 
 are_names : (before : List (List ℕ)) (ds : List Data) (names : List (List ℕ)) → AreNamesAfter before ds names → AreItems IsNewName before ds names
 are_names before [] [] are = tt
@@ -390,9 +334,7 @@ row_there : (i : ℕ) (d : Data) (items : Items) → looked list.Steps i (list_o
 row_there i d items h = looked_ok list.Steps i (list_of d) items h ∙ ap Ok (sym (items_listed items))
 
 three_is : (items : Items) (a b c : Data) → three_of items ≡ Some (a, b, c) → items ≡ items_of (a ∷ b ∷ c ∷ [])
-three_is (item x (item y (item z no_items))) a b c h =
-    let same = same_Some (x, y, z) (a, b, c) h in
-    rw (ap (λ (p : Data × Data × Data). p.0) same, ap (λ (p : Data × Data × Data). p.1) same, ap (λ (p : Data × Data × Data). p.2) same) refl
+three_is (item x (item y (item z no_items))) a b c h = grind (arith, same_Some)
 three_is _ a b c h = cc
 
 not_three : (items : Items) → three_of items ≡ None → length (listed items) ≢ 3
@@ -404,9 +346,7 @@ no_three (x ∷ y ∷ z ∷ []) h = absurd (h refl)
 no_three _ h = refl
 
 four_is : (items : Items) (a b c d : Data) → four_of items ≡ Some (a, b, c, d) → items ≡ items_of (a ∷ b ∷ c ∷ d ∷ [])
-four_is (item x (item y (item z (item w no_items)))) a b c d h =
-    let same = same_Some (x, y, z, w) (a, b, c, d) h in
-    rw (ap (λ (p : Data × Data × Data × Data). p.0) same, ap (λ (p : Data × Data × Data × Data). p.1) same, ap (λ (p : Data × Data × Data × Data). p.2) same, ap (λ (p : Data × Data × Data × Data). p.3) same) refl
+four_is (item x (item y (item z (item w no_items)))) a b c d h = grind (arith, same_Some)
 four_is _ a b c d h = cc
 
 not_four : (items : Items) → four_of items ≡ None → length (listed items) ≢ 4

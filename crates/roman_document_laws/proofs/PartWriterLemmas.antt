@@ -11,7 +11,7 @@ use Rattle.roman_guard.specs.Meaning.{is_one_of, states_below}
 use Rattle.roman_guard.proofs.CallerLemmas.{in_states_below, states_below_are, states_below-suc, states_below-zero}
 use Rattle.roman_model.specs.Explanation.{name_at}
 use Rattle.roman_model.specs.Lists.{IsIn, HasNoRepeats, below}
-use Rattle.roman_model.specs.System.{Env, Beh, Triple, Move, IsEnv, IsBeh, IsDeterministic, has, has_triple, has_move, is_final}
+use Rattle.roman_model.specs.System.{Env, Beh, Triple, Move, IsEnv, IsBeh, IsDeterministic, has, has_move, is_final}
 use Rattle.roman_model.specs.Normal.{normal_env, normal_beh}
 use Rattle.roman_model.specs.declared.limits.TheConstants.{MAX_STATES, MAX_ACTIONS, MAX_STEPS}
 use Rattle.roman_model.proofs.CallerLemmas.{by_test, same_test, get_in, none_from, find_not_found, in_contains, contains_in, filter_in, triple_listed, number_listed, listed_number, step_listed, listed_step}
@@ -48,18 +48,11 @@ there (n ∷ ns) (suc k) h = there ns k (omega (arith, h))
 once_at : (names : List (List ℕ)) (j k : ℕ) (name : List ℕ) → HasNoRepeats names → j < k → slice_get names j ≡ Some name → slice_get names k ≡ Some name → ⊥
 once_at [] j k name once less at_j at_k = let f : ⊥ = cc in f
 once_at (n ∷ ns) j zero name once less at_j at_k = omega (arith, less)
-once_at (n ∷ ns) zero (suc k) name once less at_j at_k =
-    let same : n ≡ name = same_Some n name at_j in
-    once.0 (subst (λ (x : List ℕ). IsIn x ns) (sym same) (get_in ns k name at_k))
+once_at (n ∷ ns) zero (suc k) name once less at_j at_k = grind (arith, get_in, same_Some)
 once_at (n ∷ ns) (suc j) (suc k) name once less at_j at_k = once_at ns j k name once.1 (omega (arith, less)) at_j at_k
 
 pub is_place : (names : List (List ℕ)) (k : ℕ) → HasNoRepeats names → k < length names → IsPlace names (place_value names k) k
-is_place names k once h = record {
-  name = name_at names k;
-  text = refl;
-  there = there names k h;
-  first = λ j less at. once_at names j k (name_at names k) once less at (there names k h);
-}
+is_place names k once h = grind (arith, once_at, (there names k h))
 
 texts_are : (names : List (List ℕ)) → AllZip (λ item name. text_of item ≡ Ok name) (map string names) names
 texts_are [] = tt
@@ -111,9 +104,9 @@ rises_states test (suc n) = subst (Rises IsLess) (sym (states_below-suc test n))
 
 -- a rising list of states lists exactly its own states
 among_is : (n : ℕ) (G : List ℕ) → Rises IsLess G → ((e : ℕ) → IsIn e G → e < n) → states_below (is_one_of G) n ≡ G
-among_is n G rises within = rises_same IsLess (states_below (is_one_of G) n) G (λ x y h i. omega arith) (rises_states (is_one_of G) n) rises
-    (λ e i. number_listed G e (states_below_are (is_one_of G) n e (in_contains (states_below (is_one_of G) n) e i)).1)
-    (λ e i. contains_in (states_below (is_one_of G) n) e (in_states_below (is_one_of G) n e (within e i) (listed_number G e i)))
+among_is n G rises within =
+    rises_same IsLess (states_below (is_one_of G) n) G (λ x y h i. omega arith) (rises_states _ _) rises
+    (λ e i. number_listed _ _ (states_below_are _ _ _ (in_contains _ _ i)).1) (λ e i. contains_in _ _ (in_states_below _ _ _ (within e i) (listed_number _ _ i)))
 
 guard_said : (states : List (List ℕ)) (i : ℕ) (G : List ℕ) → HasNoRepeats states → Rises IsLess G → ((e : ℕ) → IsIn e G → e < length states) → guarded_states states i (places_value states G) ≡ Ok G
 unfolding guarded_states guard_of among_of state_in
@@ -152,14 +145,14 @@ are_moves env_states actions states before (x ∷ xs) once once' once'' within =
 -- The normal form of a normal record is the record
 
 normal_env_is : (e : Env) → IsEnv e → IsNormalEnv e → normal_env e ≡ e
-normal_env_is e is form = forms_unique.env (normal_env e) e (forms_normal.env e).form form (record {
-  states = refl;
-  actions = refl;
-  start = refl;
-  steps = λ b a c. same_test (has_triple (normal_env e) b a c) (has_triple e b a c)
-      (λ t. (from_normal_triple e b a c t).3)
-      (λ t. let (l, m, n) = is.triples (record { from = b; action = a; to = c }) (triple_listed e b a c t) in has_triple-normal e b a c l m n ∙ t);
-})
+normal_env_is e is form =
+    forms_unique.env (normal_env e) e (forms_normal.env e).form form (record {
+      states = refl;
+      actions = refl;
+      start = refl;
+      steps = λ b a c. same_test _ _ (λ t. (from_normal_triple e b a c t).3)
+          (λ t. let (l, m, n) = is.triples (record { from = b; action = a; to = c }) (triple_listed e b a c t) in has_triple-normal e b a c l m n ∙ t);
+    })
 
 normal_beh_is : (env_states actions : ℕ) (b : Beh) → IsOver env_states actions b → IsNormalBeh b → normal_beh env_states actions b ≡ b
 normal_beh_is env_states actions b over form =
@@ -171,8 +164,7 @@ normal_beh_is env_states actions b over form =
       finals = λ x. same_test (is_final (normal_beh env_states actions b) x) (is_final b x)
           (λ t. (filter_in (is_final b) x (below b.states) (number_listed (normal_beh env_states actions b).finals x t)).1)
           (λ t. is_final-normal env_states actions b x (is.finals x (number_listed b.finals x t)) ∙ t);
-      steps = λ x e a y. same_test (has_move (normal_beh env_states actions b) x e a y) (has_move b x e a y)
-          (λ t. (from_normal_move env_states actions b x e a y t).4)
+      steps = λ x e a y. same_test (has_move (normal_beh env_states actions b) x e a y) (has_move b x e a y) (λ t. (from_normal_move env_states actions b x e a y t).4)
           (λ t.
           let h = step_listed b x e a y t in
           let (from, action, to) = is.steps h.step h.listed in
@@ -187,11 +179,11 @@ between_none : (steps : List Move) (single : (x y : Move) (e : ℕ) → IsIn x s
 unfolding choice_between
 between_none steps single None n in_m in_n = refl
 between_none steps single (Some x) None in_m in_n = refl
-between_none steps single (Some x) (Some y) in_m in_n = by_test (x.from == y.from && x.action == y.action && not (x.to == y.to))
-    (λ yes.
+between_none steps single (Some x) (Some y) in_m in_n =
+    by_test _ (λ yes.
     let (same, apart) = and_parts (x.from == y.from && x.action == y.action) (not (x.to == y.to)) yes in
     let (from, action) = and_parts (x.from == y.from) (x.action == y.action) same in
-    let none : find (has y.guard) x.guard ≡ None = find_not_found (has y.guard) x.guard (none_from (has y.guard) x.guard (λ e i. by_test (has y.guard e)
+    let none : find (has y.guard) x.guard ≡ None = find_not_found _ x.guard (none_from _ x.guard (λ e i. by_test _
     (λ both. absurd (both_ways (x.to == y.to) (not-true (x.to == y.to) apart)
     (eq-eqb x.to y.to (single x y e (in_m x refl) (in_n y refl) (eqb-true x.from y.from from) (eqb-true x.action y.action action) i (number_listed y.guard e both)))))
     (λ fails. fails))) in
@@ -200,16 +192,15 @@ between_none steps single (Some x) (Some y) in_m in_n = by_test (x.from == y.fro
 
 no_choice_in : (b : Beh) → IsDeterministic b → choice_of b.steps ≡ None
 unfolding choice_of choice_with choice_at
-no_choice_in b single = first_below-none (choice_with b.steps) (length b.steps) (length b.steps) (omega arith) (record {
-  none = λ j l. first_below-none (choice_at b.steps j) j j (omega arith) (record {
-    none = λ i less.
-        between_none b.steps
-        (λ x y e in_x in_y from action here there'.
-        single x.from e x.action x.to y.to (listed_step b x.from e x.action x.to (record { step = x; listed = in_x; from = refl; action = refl; to = refl; guard = here }))
-        (listed_step b x.from e x.action y.to (record { step = y; listed = in_y; from = sym from; action = sym action; to = refl; guard = there' })))
-        (slice_get b.steps j) (slice_get b.steps i) (λ x h. get_in b.steps j x h) (λ x h. get_in b.steps i x h);
-  });
-})
+no_choice_in b single =
+    first_below-none (choice_with b.steps) (length b.steps) (length b.steps) (omega arith) (record {
+      none = λ j l. first_below-none (choice_at b.steps j) j j (omega arith) (record {
+        none = λ i less. between_none b.steps (λ x y e in_x in_y from action here there'.
+            single x.from e x.action x.to y.to (listed_step b x.from e x.action x.to (record { step = x; listed = in_x; from = refl; action = refl; to = refl; guard = here }))
+            (listed_step b x.from e x.action y.to (record { step = y; listed = in_y; from = sym from; action = sym action; to = refl; guard = there' })))
+            (slice_get b.steps j) (slice_get b.steps i) (λ x h. get_in b.steps j x h) (λ x h. get_in b.steps i x h);
+      });
+    })
 
 -- Parts
 
@@ -240,15 +231,13 @@ env_said env is =
       items = map (triple_value env.states env.actions) env.env.triples;
       list = record { value = list_value (map (triple_value env.states env.actions) env.env.triples); there = refl; list = refl };
       fits = omega (arith, is.few, length-map env.env.triples (triple_value env.states env.actions));
-      are = are_triples env.states env.actions [] env.env.triples is.states.once is.actions.once (λ x i.
+      are = are_triples _ _ [] env.env.triples is.states.once is.actions.once (λ x i.
           let (from, action, to) = is.known.triples x i in (omega (arith, from, is.state_count), omega (arith, action, is.action_count), omega (arith, to, is.state_count)));
     }) in
-    env_read d env.states env.actions env.env.start env.env.triples refl
-    (names_said list.States (codes "states") MAX_STATES d env.states (record { value = names_value env.states; there = refl; list = refl }) is.states)
-    (start_said d env.states env.env.start refl is.states.once start)
-    (names_said list.Actions (codes "actions") MAX_ACTIONS d env.actions (record { value = names_value env.actions; there = refl; list = refl }) is.actions) triples
+    env_read _ _ _ _ _ refl (names_said _ _ _ _ _ (record { value = names_value env.states; there = refl; list = refl }) is.states)
+    (start_said _ _ _ refl is.states.once start) (names_said _ _ _ _ _ (record { value = names_value env.actions; there = refl; list = refl }) is.actions) triples
     ∙ ap (λ (e : Env). Ok (record { states = env.states; actions = env.actions; env = e }))
-    (ap normal_env (same_env env.states env.actions env.env is.state_count is.action_count) ∙ normal_env_is env.env is.known is.form)
+    (ap normal_env (same_env _ _ _ is.state_count is.action_count) ∙ normal_env_is _ is.known is.form)
 
 moves_within : (env : NamedEnv) (states : List (List ℕ)) (b : Beh) → IsSayableEnv env → length states ≡ b.states → IsOver env.env.states env.env.actions b → IsNormalBeh b → AreMovesIn env.states env.actions states b.steps
 moves_within env states b env_is count over form =
@@ -304,14 +293,13 @@ beh_said env b env_is is =
     let d = behaviour_value env b in
     let known : IsBeh env.env b.beh = is.known env.env refl refl in
     let start : b.beh.start < length b.states = omega (arith, known.start, is.state_count) in
-    beh_read env d b.name b.states b.beh.start b.beh.finals b.beh.steps refl (name_said d b.name refl is.name)
-    (names_said list.States (codes "states") MAX_STATES d b.states (record { value = names_value b.states; there = refl; list = refl }) is.states)
-    (start_said d b.states b.beh.start refl is.states.once start)
-    (finals_said env.env b.states b.beh d is.states.once is.state_count known (record { value = places_value b.states b.beh.finals; there = refl; list = refl }))
-    (moves_said env b.states b.beh d env_is is.states.once is.state_count is.known is.form is.few
+    beh_read _ _ _ _ _ _ _ refl (name_said _ _ refl is.name) (names_said _ _ _ _ _ (record { value = names_value b.states; there = refl; list = refl }) is.states)
+    (start_said _ _ _ refl is.states.once start)
+    (finals_said _ _ _ _ is.states.once is.state_count known (record { value = places_value b.states b.beh.finals; there = refl; list = refl }))
+    (moves_said _ _ _ _ env_is is.states.once is.state_count is.known is.form is.few
     (record { value = list_value (map (move_value env.states env.actions b.states) b.beh.steps); there = refl; list = refl }))
-    ∙ ap Ok (same_named_beh b.name b.states env.env.states b.env_states env.env.actions b.actions _ b.beh (sym is.env_states) (sym is.actions)
-    (ap (normal_beh env.env.states env.env.actions) (same_beh b.states b.beh is.state_count) ∙ normal_beh_is env.env.states env.env.actions b.beh is.known is.form))
+    ∙ ap Ok (same_named_beh _ _ _ _ _ _ _ _ (sym is.env_states) (sym is.actions)
+    (ap (normal_beh env.env.states env.env.actions) (same_beh _ _ is.state_count) ∙ normal_beh_is _ _ _ is.known is.form))
 
 target_read : (env : NamedEnv) (d : Data) (states : List (List ℕ)) (start : ℕ) (finals : List ℕ) (steps : List Move) → IsTrue (is_some (as_object d)) → names_of list.States (codes "states") MAX_STATES d ≡ Ok states →
     start_of states d ≡ Ok start → finals_of states d ≡ Ok finals → moves_of env.states env.actions states d ≡ Ok steps → single_of env.states steps ≡ Ok steps →
@@ -338,12 +326,11 @@ target_said env t env_is is =
     let known : IsBeh env.env t.beh = is.known env.env refl refl in
     let start : t.beh.start < length t.states = omega (arith, known.start, is.state_count) in
     target_read env d t.states t.beh.start t.beh.finals t.beh.steps refl
-    (names_said list.States (codes "states") MAX_STATES d t.states (record { value = names_value t.states; there = refl; list = refl }) is.states)
+    (names_said list.States _ MAX_STATES d t.states (record { value = names_value t.states; there = refl; list = refl }) is.states)
     (start_said d t.states t.beh.start refl is.states.once start)
     (finals_said env.env t.states t.beh d is.states.once is.state_count known (record { value = places_value t.states t.beh.finals; there = refl; list = refl }))
     (moves_said env t.states t.beh d env_is is.states.once is.state_count is.known is.form is.few
-    (record { value = list_value (map (move_value env.states env.actions t.states) t.beh.steps); there = refl; list = refl }))
-    (single_said env.states t.beh is.single)
+    (record { value = list_value (map (move_value env.states env.actions t.states) t.beh.steps); there = refl; list = refl })) (single_said env.states t.beh is.single)
     ∙ ap Ok (same_named_target t.states env.env.states t.env_states env.env.actions t.actions _ t.beh (sym is.env_states) (sym is.actions)
     (ap (normal_beh env.env.states env.env.actions) (same_beh t.states t.beh is.state_count) ∙ normal_beh_is env.env.states env.env.actions t.beh is.known is.form))
 

@@ -50,9 +50,7 @@ common_none a b h = least_below-none (has_both a b) 64 (λ k below. sym (has_sta
 pub common_least : (a b : ℕ) → 0 < bit_and a b → bit_and a b < 2 ^ 64 → least_below (has_both a b) 64 ≡ Some (trailing_zeros w64 (bit_and a b))
 common_least a b some fits =
     let p = bit_at-trailing_zeros w64 (bit_and a b) some fits in
-    least_below-found (has_both a b) 64 (trailing_zeros w64 (bit_and a b)) p.0
-    (sym (has_state-bit_and a b (trailing_zeros w64 (bit_and a b))) ∙ ap (λ m. m == 1) p.1)
-    (λ k below. sym (has_state-bit_and a b k) ∙ ap (λ m. m == 1) (p.2 k below))
+    least_below-found _ _ _ p.0 (sym (has_state-bit_and _ _ _) ∙ ap (λ m. m == 1) p.1) (λ k below. sym (has_state-bit_and _ _ _) ∙ ap (λ m. m == 1) (p.2 k below))
 
 -- the rules for the search for a common state
 pub ruleset commons = (common_none, common_least)

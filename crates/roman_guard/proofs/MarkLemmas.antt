@@ -25,22 +25,19 @@ has_state_past word e fits past = ap (λ n. n == 1) (bit_at_above word 64 e fits
 
 -- a state that fails the test needs no bit
 pub marks_skip : (word n : ℕ) (test : ℕ → Bool) → Marks word n test → test n ≡ false → Marks word (n + 1) test
-marks_skip word n test m fails = record {
-  fits = let wider : 2 ^ n < 2 ^ (n + 1) = pow-lt (omega arith) in omega (arith, m.fits);
-  bits = below_more (λ e. bit_at word e ≡ bit (test e)) n m.bits (bit_at_above word n n m.fits (omega arith) ∙ sym (ap bit fails));
-}
+marks_skip word n test m fails = grind (arith, bit_at_above, pow-lt)
 
 -- a state that passes the test gets its bit
 pub marks_one : (word n : ℕ) (test : ℕ → Bool) → n < 64 → Marks word n test → test n ≡ true → Marks (bit_or word (1 * 2 ^ n % 2 ^ 64)) (n + 1) test
-marks_one word n test within m passes = record {
-  fits =
-      let wider : 2 ^ n < 2 ^ (n + 1) = pow-lt (omega arith) in
-      let cut : 1 * 2 ^ n % 2 ^ 64 ≤ 1 * 2 ^ n = mod-le (1 * 2 ^ n) (2 ^ 64) in
-      or_lt (n + 1) word (1 * 2 ^ n % 2 ^ 64) (omega (arith, m.fits)) (omega arith);
-  bits = below_more (λ e. bit_at (bit_or word (1 * 2 ^ n % 2 ^ 64)) e ≡ bit (test e)) n
-      (λ e h. bit_at_set_other w64 word n within e (λ same. omega arith) ∙ m.bits e h)
-      (bit_at_set_same w64 word n within ∙ sym (ap bit passes));
-}
+marks_one word n test within m passes =
+    record {
+      fits =
+          let wider : 2 ^ n < 2 ^ (n + 1) = pow-lt (omega arith) in
+          let cut : 1 * 2 ^ n % 2 ^ 64 ≤ 1 * 2 ^ n = mod-le (1 * 2 ^ n) (2 ^ 64) in
+          or_lt (n + 1) word (1 * 2 ^ n % 2 ^ 64) (omega (arith, m.fits)) (omega arith);
+      bits = below_more (λ e. bit_at (bit_or word (1 * 2 ^ n % 2 ^ 64)) e ≡ bit (test e)) n (λ e h. bit_at_set_other w64 word n within e (λ same. omega arith) ∙ m.bits e h)
+          (bit_at_set_same w64 word n within ∙ sym (ap bit passes));
+    }
 
 is_bit : (b : Bool) (k : ℕ) → k ≡ bit b → (k == 1) ≡ b
 is_bit true k h = rw h
@@ -58,9 +55,7 @@ marked_past word n test m e h = is_bit false (bit_at word e) (bit_at_above word 
 pub marked_states : (word n : ℕ) (test : ℕ → Bool) → n ≤ 64 → Marks word n test → states_of word ≡ states_below test n
 marked_states word n test h m =
     let whole : 64 ≡ n + (64 - n) = omega arith in
-    ap (states_below (has_state word)) whole
-    ∙ states_below-past (has_state word) n (64 - n) (marked_past word n test m)
-    ∙ states_below-same (has_state word) test n (marked_has word n test m)
+    ap (states_below (has_state word)) whole ∙ states_below-past _ _ _ (marked_past _ _ _ m) ∙ states_below-same _ _ _ (marked_has _ _ _ m)
 
 has_below : (word n : ℕ) (test : ℕ → Bool) → Marks word n test → (e : ℕ) → has_state word e ≡ true → Contains (states_below test n) e
 has_below word n test m e has =

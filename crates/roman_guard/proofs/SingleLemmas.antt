@@ -23,9 +23,8 @@ marks_single e h =
 
 pub single_states : (e : ℕ) → e < 64 → states_of (1 * 2 ^ e % 2 ^ 64) ≡ e ∷ []
 single_states e h =
-    marked_states (1 * 2 ^ e % 2 ^ 64) (e + 1) (λ k. k == e) (omega arith) (marks_single e h)
-    ∙ states_below-passing (λ k. k == e) e (eq-eqb e e refl)
-    ∙ ap (λ xs. xs ++ e ∷ []) (states_below-same (λ k. k == e) (λ _. false) e (λ k l. other k e l) ∙ none_below e)
+    marked_states _ _ _ (omega arith) (marks_single _ h) ∙ states_below-passing _ _ (eq-eqb e e refl)
+    ∙ ap (λ xs. xs ++ e ∷ []) (states_below-same _ _ _ (λ k l. other _ _ l) ∙ none_below _)
 
 pub states_of-single : (e : ℕ) → e < 64 → states_of (2 ^ e) ≡ e ∷ []
 states_of-single e h = ap states_of (sym (one_shl e 64 h)) ∙ single_states e h

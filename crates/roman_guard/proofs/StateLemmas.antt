@@ -7,9 +7,7 @@ use Rattle.roman_guard.specs.Meaning.{states_below}
 
 range_more : (a n : ℕ) → range_with_len a (suc n) ≡ range_with_len a n ++ (a + n) ∷ []
 range_more a zero = let e : a ≡ a + 0 = omega arith in ap (λ x. x ∷ []) e
-range_more a (suc n) =
-    let e : a + 1 + n ≡ a + suc n = omega arith in
-    ap (λ xs. a ∷ xs) (range_more (a + 1) n ∙ ap (λ x. range_with_len (a + 1) n ++ x ∷ []) e)
+range_more a (suc n) = grind (arith, (range_more (a + 1) n))
 
 -- n comes last where it passes
 pub states_below-suc : (test : ℕ → Bool) (n : ℕ) → states_below test (suc n) ≡ states_below test n ++ cond (test n) (n ∷ []) []
@@ -51,8 +49,7 @@ states_below-past test n zero h = let e : n + 0 ≡ n = omega arith in ap (state
 states_below-past test n (suc m) h =
     let e : n + suc m ≡ suc (n + m) = omega arith in
     let past : n ≤ n + m = omega arith in
-    rw (e, states_below-suc test (n + m), h (n + m) past)
-    (append-nil (states_below test (n + m)) ∙ states_below-past test n m h)
+    rw (e, states_below-suc _ _, h (n + m) past) (append-nil (states_below test (n + m)) ∙ states_below-past _ _ _ h)
 
 -- a number below n that passes is one of them
 pub in_states_below : (test : ℕ → Bool) (n e : ℕ) → e < n → test e ≡ true → Contains (states_below test n) e
@@ -72,10 +69,7 @@ last_one false n e (k, h, same) = absurd (omega arith)
 
 -- each of them is below n and passes
 pub states_below_are : (test : ℕ → Bool) (n e : ℕ) → Contains (states_below test n) e → (e < n) × (test e ≡ true)
-states_below_are test zero e c = absurd (no_member e (rw (states_below-zero test) at c))
-  where
-    no_member : (x : ℕ) → Contains [] x → ⊥
-    no_member x (k, h, same) = omega arith
+states_below_are test zero e c = grind (arith, states_below-zero)
 states_below_are test (suc n) e c =
     elim (Contains-append_cases (states_below test n) (cond (test n) (n ∷ []) []) e (rw (states_below-suc test n) at c)) [
       | inl before ↦ let p = states_below_are test n e before in (omega (arith, p.0), p.1)

@@ -24,6 +24,7 @@ impl Model for StateSet {
 
 impl StateSet {
     /// Returns the set with state `e` alone. Requires `e` below 64.
+    #[tactic(auto, using(crate::proofs::SingleLemmas::single_states))]
     pub fn single(e: u8) -> StateSet
         requires { e < 64 }
         ensures states { states_of result ≡ e ∷ [] }
@@ -33,6 +34,7 @@ impl StateSet {
     }
 
     /// Returns whether state `e` is in the set. Accepts any `e`.
+    #[tactic(auto, using(crate::proofs::MarkLemmas::has_state_past))]
     pub fn has(&self, e: u8) -> bool
         ensures has { result ≡ has_state self.now e }
     {
@@ -41,7 +43,7 @@ impl StateSet {
     }
 
     /// Returns the least state that both sets have, or `None` where they have no common state.
-    #[tactic(auto, using(crate::proofs::CommonLemmas::commons))]
+    #[tactic(auto, using(crate::proofs::CommonLemmas::commons, std::proofs::lemmas::Nat::and_le_l, crate::proofs::CommonLemmas::common_least))]
     pub fn first_common(&self, other: &StateSet) -> Option<u8>
         ensures least { result ≡ least_below (has_both self.now other.now) 64 }
         ensures within { IfSome result (λ e. e < 64) }

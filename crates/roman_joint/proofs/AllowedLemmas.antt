@@ -22,9 +22,7 @@ open_here s row x a lane ok l = ap₂ (λ t e. not (is_empty (env_next s.env e a
 
 -- where an action leads somewhere, it is allowed
 pub turn_open : (s : Sys) (row : Row) (a : ℕ) (turn : Turn) → IsTurn s row a turn → is_open s row a ≡ true
-turn_open s row a turn ok =
-    let some : is_empty (env_next s.env row.env a) ≡ false = ap is_empty (sym ok.worlds) ∙ ok.some in
-    ap₂ (λ x ts. not x && not (is_empty ts)) some ok.target
+turn_open s row a turn ok = grind arith
 
 -- where an action isn't allowed, it is no reason
 pub refused : (s : Sys) (row : Row) (x a lane : ℕ) (gone : ℕ → Bool) → IsRow s x row → lane < lanes_in s → is_open s row a ≡ false → false ≡ is_justified (numbered s) gone (x * lanes_in s + lane) (Act a)

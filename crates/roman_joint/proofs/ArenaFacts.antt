@@ -1,7 +1,7 @@
 -- Arenas over numbers keep the laws of arenas.
 use Rattle.std.proofs.Common.{◌≡◌, ℕ, ◌*◌, Bool, true, ◌||◌, length, refl, sym, ap, arith}
 use Rattle.std.specs.List.{list_any}
-use Rattle.roman_model.specs.Lists.{IsIn, is_empty, below}
+use Rattle.roman_model.specs.Lists.{IsIn, below}
 use Rattle.roman_model.specs.Arena.{Arena, is_beaten}
 use Rattle.roman_model.proofs.CallerLemmas.{by_test, not_empty_in, in_below, from_below, length-below, IsArena, numbered_is_arena}
 use Rattle.roman_model.specs.Numbers.{sizes_of, count, numbered}
@@ -32,9 +32,8 @@ joint_numbered n known =
 
 -- a delegation without an outcome is beaten
 pub beaten_where : (A : Arena ℕ) (gone : ℕ → Bool) (p a k : ℕ) → ((q : ℕ) → IsIn q (A.outcomes p a k) → ⊥) → is_beaten A gone p a k ≡ true
-beaten_where A gone p a k none = by_test (is_empty (A.outcomes p a k))
-    (λ empty. ap (λ b. b || list_any gone (A.outcomes p a k)) empty)
-    (λ some. let (q, i) = not_empty_in (A.outcomes p a k) some in absurd (none q i))
+beaten_where A gone p a k none =
+    by_test _ (λ empty. ap (λ b. b || list_any gone (A.outcomes p a k)) empty) (λ some. let (q, i) = not_empty_in _ some in absurd (none q i))
 
 -- the number of nodes is the number of pairs
 pub ruleset pair_count = (length-below)

@@ -37,9 +37,7 @@ in_seat_prev env o seat b' e a b seated ok ready moves =
 
 -- the steps from a predecessor state of a seat, with those of the environment and the target
 state_steps : (s : Sys) (q : Pair) (a e t k b : ℕ) → IsIn e (env_prev s.env q.e a) → IsIn t (beh_prev s.target q.t e a) → IsIn b (seat_prev (slice_get s.seats k) (slice_index q.bs k) e a) → Steps s q a e t k b
-state_steps s q a e t k b in_env in_target in_states =
-    let (seat, seated, ready, moves) = from_seat_prev (slice_get s.seats k) (slice_index q.bs k) e a b in_states in
-    record { seat = seat; seated = seated; ready = ready; world = from_env_prev s.env e a q.e in_env; goal = from_beh_prev s.target t e a q.t in_target; moves = moves }
+state_steps s q a e t k b in_env in_target in_states = grind (arith, from_beh_prev, from_env_prev, from_seat_prev)
 
 -- each delegation that is found has such steps
 pub record Found (s : Sys) (q : Pair) (d : Delegation ℕ) : Type 0 where
@@ -63,14 +61,12 @@ from_all_found s q d i =
 pub in_all : (s : Sys) (q : Pair) (a e t k b : ℕ) → IsSys s → Steps s q a e t k b → IsIn (delegation s q a e t k b) (from_all s q)
 in_all s q a e t k b sys steps =
     let d : Delegation ℕ = delegation s q a e t k b in
-    let ok : IsBeh s.env steps.seat.beh = sys.seats steps.seat (seat_in s.seats k steps.seat steps.seated) in
+    let ok : IsBeh s.env steps.seat.beh = sys.seats steps.seat (seat_in _ _ _ steps.seated) in
     let states : IsIn b (seat_prev (slice_get s.seats k) (slice_index q.bs k) e a) =
-    in_seat_prev s.env (slice_get s.seats k) steps.seat (slice_index q.bs k) e a b steps.seated ok steps.ready steps.moves in
-    in_flat_map (from_action s q) a d (below s.env.actions) (in_below s.env.actions a (triple_in_range s.env e a q.e sys.env steps.world).1)
-    (in_flat_map (from_env s q a) e d (env_prev s.env q.e a) (in_env_prev s.env e a q.e sys.env steps.world)
-    (in_flat_map (from_target s q a e) t d (beh_prev s.target q.t e a) (in_beh_prev s.env s.target t e a q.t sys.target steps.goal)
-    (in_flat_map (from_seat s q a e t) k d (below (length s.seats)) (in_below (length s.seats) k (slice_get_within s.seats k steps.seat steps.seated))
-    (in_map (delegation s q a e t k) b (seat_prev (slice_get s.seats k) (slice_index q.bs k) e a) states))))
+    in_seat_prev _ _ _ _ _ _ _ steps.seated ok steps.ready steps.moves in
+    in_flat_map _ _ _ _ (in_below _ _ (triple_in_range _ _ _ _ sys.env steps.world).1) (in_flat_map _ _ _ _ (in_env_prev _ _ _ _ sys.env steps.world)
+    (in_flat_map _ _ _ _ (in_beh_prev _ _ _ _ _ _ sys.target steps.goal) (in_flat_map _ _ _ _ (in_below _ _ (slice_get_within s.seats k steps.seat steps.seated))
+    (in_map _ _ _ states))))
 
 -- one state for each seat
 length_of_pair : (s : Sys) (p : Pair) → IsPair s p → length p.bs ≡ length s.seats
@@ -81,19 +77,18 @@ abbrev pub origin : Pair → ℕ → ℕ → ℕ → ℕ → Pair
 origin q e t k b = record { t = t; e = e; bs = slice_set q.bs k b }
 
 origin_pair : (s : Sys) (q : Pair) (a e t k b : ℕ) → IsSys s → IsPair s q → Steps s q a e t k b → IsPair s (origin q e t k b)
-origin_pair s q a e t k b sys ok steps = record {
-  t = (move_in_range s.env s.target t e a q.t sys.target steps.goal).0;
-  e = (triple_in_range s.env e a q.e sys.env steps.world).0;
-  bs = states_set s.seats q.bs k b steps.seat ok.bs steps.seated
-      (move_in_range s.env steps.seat.beh b e a (slice_index q.bs k) (sys.seats steps.seat (seat_in s.seats k steps.seat steps.seated)) steps.moves).0;
-}
+origin_pair s q a e t k b sys ok steps =
+    record {
+      t = (move_in_range _ _ _ _ _ _ sys.target steps.goal).0;
+      e = (triple_in_range _ _ _ _ sys.env steps.world).0;
+      bs = states_set _ _ _ _ _ ok.bs steps.seated (move_in_range _ _ _ _ _ _ (sys.seats steps.seat (seat_in _ _ _ steps.seated)) steps.moves).0;
+    }
 
 steps_lead : (s : Sys) (q : Pair) (a e t k b : ℕ) → IsSys s → IsPair s q → Steps s q a e t k b → IsIn q (outcomes s (origin q e t k b) a k)
 steps_lead s q a e t k b sys ok steps =
-    let within : k < length q.bs = omega (arith, length_of_pair s q ok, slice_get_within s.seats k steps.seat steps.seated) in
+    let within : k < length q.bs = omega (arith, length_of_pair _ _ ok, slice_get_within s.seats k steps.seat steps.seated) in
     let here : slice_index (slice_set q.bs k b) k ≡ b = get_or-set_same q.bs k b 0 within in
-    outcome_in s (origin q e t k b) a k q.t q.e q.bs sys (steps.world, steps.goal)
-    (record {
+    outcome_in _ _ _ _ _ _ _ sys (steps.world, steps.goal) (record {
       seat = steps.seat;
       seated = steps.seated;
       ready = steps.ready;
@@ -109,22 +104,7 @@ pub record Comes (s : Sys) (q p : Pair) (a k : ℕ) : Type 0 where
   pub from : origin q p.e p.t k (slice_index p.bs k) ≡ p
 
 outcome_steps : (s : Sys) (q p : Pair) (a k : ℕ) → IsPair s p → IsIn q (outcomes s p a k) → Comes s q p a k
-outcome_steps s q p a k ok i =
-    let (step, r) = from_outcome s p a k q i in
-    let within : k < length p.bs = omega (arith, length_of_pair s p ok, slice_get_within s.seats k r.seat r.seated) in
-    let there : slice_index q.bs k ≡ r.to = ap (λ bs. slice_index bs k) r.is ∙ get_or-set_same p.bs k r.to 0 within in
-    let back : slice_set q.bs k (slice_index p.bs k) ≡ p.bs = ap (λ bs. slice_set bs k (slice_index p.bs k)) r.is ∙ (set-set p.bs k r.to (slice_index p.bs k) ∙ set-get_or p.bs k 0) in
-    record {
-      steps = record {
-        seat = r.seat;
-        seated = r.seated;
-        ready = r.ready;
-        world = step.0;
-        goal = step.1;
-        moves = subst (λ b'. IsTrue (has_move r.seat.beh (slice_index p.bs k) p.e a b')) (sym there) r.moves;
-      };
-      from = rw back;
-    }
+outcome_steps s q p a k ok i = grind (arith, from_outcome, get_or-set_same, length_of_pair, set-get_or, set-set, slice_get_within)
 
 -- each delegation that is found leads to q
 pub found_leads : (s : Sys) (p : ℕ) (d : Delegation ℕ) → IsSys s → p < count (sizes_of s) → IsIn d (from_all s (pair_at (sizes_of s) p)) → IsIn d (back (numbered s) p)
@@ -138,8 +118,7 @@ found_leads s p d sys below_p i =
     let numbers : IsIn p (map (number (sizes_of s)) (outcomes s r d.action d.seat)) = rw ((numbers_are_pairs s).there p below_p) at (in_map (number (sizes_of s)) q (outcomes s r d.action d.seat) lead) in
     let there : IsIn p ((numbered s).outcomes (number (sizes_of s) r) d.action d.seat) =
     subst (λ x. IsIn p (map (number (sizes_of s)) (outcomes s x d.action d.seat))) (sym ((numbers_are_pairs s).back r ok_r)) numbers in
-    subst (λ x. IsIn x (back (numbered s) p)) (sym found.is)
-    (in_back (numbered s) (numbered_is_arena s sys) p (number (sizes_of s) r) d.action d.seat
+    subst (λ x. IsIn x (back (numbered s) p)) (sym found.is) (in_back (numbered s) (numbered_is_arena s sys) p (number (sizes_of s) r) d.action d.seat
     (in_below (count (sizes_of s)) (number (sizes_of s) r) ((numbers_are_pairs s).below r ok_r)) there)
 
 -- each delegation that leads to q is found
@@ -164,11 +143,7 @@ pub record FoundAt (s : Sys) (q : Pair) (e t k : ℕ) (d : Delegation ℕ) : Typ
 
 seat_prev_once : (o : Option Seat) (b' e a : ℕ) → HasNoRepeats (seat_prev o b' e a)
 seat_prev_once None b' e a = tt
-seat_prev_once (Some seat) b' e a = of_frozen seat.frozen
-  where
-    of_frozen : (frozen : Bool) → HasNoRepeats (cond frozen [] (beh_prev seat.beh b' e a))
-    of_frozen true = tt
-    of_frozen false = HasNoRepeats-filter (λ b. has_move seat.beh b e a b') (below seat.beh.states) (HasNoRepeats-below seat.beh.states)
+seat_prev_once (Some seat) b' e a = grind (arith, HasNoRepeats-below, HasNoRepeats-filter)
 
 module _ (s : Sys) (q : Pair) (sys : IsSys s) (ok : IsPair s q) where
   back_at : (a e t k b : ℕ) → Steps s q a e t k b → pair_at (sizes_of s) (number (sizes_of s) (origin q e t k b)) ≡ origin q e t k b

@@ -1,5 +1,5 @@
 -- Rows of a band.
-use Rattle.std.proofs.Common.{◌≡◌, ℕ, suc, ◌+◌, ◌-◌, ◌*◌, ◌/◌, ◌%◌, ◌<◌, ◌≤◌, ◌^◌, Bool, true, false, not, ◌&&◌, List, [], length, slice_get, slice_index, IsFalse, inl, inr, refl, sym, ap, ap₂, ◌∙◌, subst, arith}
+use Rattle.std.proofs.Common.{◌≡◌, ℕ, ◌+◌, ◌-◌, ◌*◌, ◌/◌, ◌%◌, ◌<◌, ◌≤◌, ◌^◌, Bool, true, false, not, ◌&&◌, List, [], length, slice_get, slice_index, IsFalse, inl, inr, refl, sym, ap, ap₂, ◌∙◌, subst, arith}
 use Rattle.std.specs.List.{list_any}
 use Rattle.std.proofs.Math.ListN.{set}
 use Rattle.std.proofs.lemmas.Bool.{cases_eq, cases_lt}
@@ -66,8 +66,7 @@ in_band s y i first sizes ok l =
     let inside : x + i < count m = omega (arith, mul-add-lt y v i (count m / v) top l, bands) in
     let first_at : x ≡ x + 0 = omega arith in
     let front : (j p : ℕ) → j < v → p ≡ (x + j) * w + 0 → p / product_of n.seats ≡ y / g = λ j p less is.
-    ap₂ (λ a b. a / b) is (sym (env_rows_are n)) ∙ (row_div (x + j) w 0 (env_rows_of n) pos
-    ∙ (ap (λ b. (x + j) / b) (sym whole) ∙ row_div y v j g less)) in
+    ap₂ (λ a b. a / b) is (sym (env_rows_are n)) ∙ (row_div (x + j) w 0 (env_rows_of n) pos ∙ (ap (λ b. (x + j) / b) (sym whole) ∙ row_div y v j g less)) in
     let same : (x + i) * w / product_of n.seats ≡ (x * w + 0) / product_of n.seats = front i ((x + i) * w) l (omega arith) ∙ sym (front 0 (x * w + 0) vpos (omega arith)) in
     let part_here : (x + i) % env_rows_of n ≡ y % g * v + i = ap (λ b. (x + i) % b) (sym whole) ∙ row_mod y v i g l in
     let part_first : x % env_rows_of n ≡ y % g * v + 0 = ap₂ (λ a b. a % b) first_at (sym whole) ∙ row_mod y v 0 g vpos in
@@ -77,8 +76,7 @@ in_band s y i first sizes ok l =
     record {
       inside = inside;
       looked = row_made s (x + i) (row_in s (x + i) first) sizes (omega (arith, mul-add-lt (x + i) w 0 (count m) inside pos, rows)) (count m) rows refl
-          (sym (ap (λ b. b / n.env) same ∙ ok.targets 0 pos))
-          (sym (ap (λ b. b % n.env) same ∙ ok.envs 0 pos))
+          (sym (ap (λ b. b / n.env) same ∙ ok.targets 0 pos)) (sym (ap (λ b. b % n.env) same ∙ ok.envs 0 pos))
           (λ k less. state k less ∙ ap (λ b. (x + i) / b % slice_index n.seats k) (sym (quotient (stride_of n k) (stride_of m k) w pos (row_stride_of n k less))))
           ok.allowed ok.leading;
       part = omega (arith, part_here, part_first, ok.part);
@@ -157,20 +155,7 @@ module _ (s : Sys) (r : Rows) (y a : ℕ) (first : Row) (turn : Turn) (h : Known
 pub keeps_more : (s : Sys) (x i good word : ℕ) (test : ℕ → Bool) (old now : List ℕ) → i < length now → Keeps (lanes_in s) x i test old now →
     ((lane : ℕ) → lane < lanes_in s → is_on good lane ≡ not (test ((x + i) * lanes_in s + lane))) →
     ((lane : ℕ) → is_on word lane ≡ (is_on (slice_index now i) lane && not (is_on good lane))) → Keeps (lanes_in s) x (i + 1) test old (set now i word)
-keeps_more s x i good word test old now room before served told = record {
-  each = λ j lane l m. elim (cases_eq j i) [
-    | inl e ↦ subst (λ z. is_on (slice_index (set now i word) z) lane ≡ (is_on (slice_index old z) lane && test ((x + z) * lanes_in s + lane))) (sym e)
-        (ap (λ z. is_on z lane) (get_or-set_same now i word 0 room) ∙ (told lane
-        ∙ ap₂ (λ p q. p && q) (ap (λ z. is_on z lane) (before.others i (omega arith))) (ap not (served lane m) ∙ sym (not_not (test ((x + i) * lanes_in s + lane))))))
-    | inr other ↦ ap (λ z. is_on z lane) (get_or-set_other now i j word 0 other) ∙ before.each j lane (omega (arith, l, other)) m
-  ];
-  others = λ j l. get_or-set_other now i j word 0 (omega (arith, l)) ∙ before.others j (omega (arith, l));
-  none = λ j lane off. elim (cases_eq j i) [
-    | inl e ↦ subst (λ z. is_on (slice_index (set now i word) z) lane ≡ false) (sym e)
-        (ap (λ z. is_on z lane) (get_or-set_same now i word 0 room) ∙ (told lane ∙ ap (λ b. b && not (is_on good lane)) (before.none i lane (subst (λ z. is_on (slice_index old z) lane ≡ false) e off))))
-    | inr other ↦ ap (λ z. is_on z lane) (get_or-set_other now i j word 0 other) ∙ before.none j lane off
-  ];
-}
+keeps_more s x i good word test old now room before served told = grind (arith, cases_eq, get_or-set_other, get_or-set_same, not_not, set)
 
 -- a seat that serves at no pair clears nothing
 pub keeps_all : (s : Sys) (x many : ℕ) (test : ℕ → Bool) (now : List ℕ) → ((i : ℕ) → i < many → HasLanes (lanes_in s) (x + i) (λ p. not (test p)) 0) → Keeps (lanes_in s) x many test now now
@@ -308,71 +293,30 @@ module _ (s : Sys) (r : Rows) (y a : ℕ) (first : Row) (turn : Turn) (h : Known
 
 -- two tests, one after another, are both tests at once
 pub keeps_then : (s : Sys) (x many : ℕ) (p q : ℕ → Bool) (old now new : List ℕ) → Keeps (lanes_in s) x many p old now → Keeps (lanes_in s) x many q now new → Keeps (lanes_in s) x many (λ i. p i && q i) old new
-keeps_then s x many p q old now new first then = record {
-  each = λ i lane l m.
-      let at = (x + i) * lanes_in s + lane in
-      then.each i lane l m ∙ (ap (λ b. b && q at) (first.each i lane l m) ∙ and_assoc (is_on (slice_index old i) lane) (p at) (q at));
-  others = λ i l. then.others i l ∙ first.others i l;
-  none = λ i lane off. then.none i lane (first.none i lane off);
-}
+keeps_then s x many p q old now new first then = grind (arith, and_assoc)
 
 -- a test can be replaced by one that agrees at the pairs
 pub keeps_same : (s : Sys) (x many : ℕ) (p q : ℕ → Bool) (old new : List ℕ) → ((i lane : ℕ) → i < many → lane < lanes_in s → p ((x + i) * lanes_in s + lane) ≡ q ((x + i) * lanes_in s + lane)) → Keeps (lanes_in s) x many p old new → Keeps (lanes_in s) x many q old new
-keeps_same s x many p q old new same h = record {
-  each = λ i lane l m. h.each i lane l m ∙ ap (λ b. is_on (slice_index old i) lane && b) (same i lane l m);
-  others = h.others;
-  none = h.none;
-}
+keeps_same s x many p q old new same h = grind arith
 
 -- where nothing is left, further tests change nothing
 pub keeps_cut : (s : Sys) (x many k n : ℕ) (p : ℕ → ℕ → Bool) (old now : List ℕ) → k ≤ n → ((i : ℕ) → i < many → slice_index now i ≡ 0) → Keeps (lanes_in s) x many (λ q. all_below (p q) k) old now → Keeps (lanes_in s) x many (λ q. all_below (p q) n) old now
-keeps_cut s x many k n p old now l clear h = record {
-  each = λ i lane m v.
-      let at = (x + i) * lanes_in s + lane in
-      let off : is_on (slice_index now i) lane ≡ false = ap (λ z. is_on z lane) (clear i m) ∙ on_zero lane in
-      off ∙ sym (cut_off (p at) k n (is_on (slice_index old i) lane) l (sym (h.each i lane m v) ∙ off));
-  others = h.others;
-  none = h.none;
-}
+keeps_cut s x many k n p old now l clear h = grind (arith, cut_off, on_zero)
 
 -- a band of one row
 pub keeps_one : (s : Sys) (x word : ℕ) (test : ℕ → Bool) (old : List ℕ) → length old ≡ 1 →
     ((lane : ℕ) → lane < lanes_in s → is_on word lane ≡ (is_on (slice_index old 0) lane && test (x * lanes_in s + lane))) →
     ((lane : ℕ) → is_on (slice_index old 0) lane ≡ false → is_on word lane ≡ false) → Keeps (lanes_in s) x 1 test old (set old 0 word)
-keeps_one s x word test old one told off = record {
-  each = λ i lane l m.
-      let first : 0 ≡ i = omega (arith, l) in
-      let same : x ≡ x + 0 = omega arith in
-      subst (λ j. is_on (slice_index (set old 0 word) j) lane ≡ (is_on (slice_index old j) lane && test ((x + j) * lanes_in s + lane))) first
-      (ap (λ z. is_on z lane) (get_or-set_same old 0 word 0 (omega (arith, one))) ∙ (told lane m ∙ ap (λ z. is_on (slice_index old 0) lane && test (z * lanes_in s + lane)) same));
-  others = λ i l. get_or-set_other old 0 i word 0 (omega (arith, l));
-  none = λ i lane o. elim (cases_eq i 0) [
-    | inl e ↦ subst (λ j. is_on (slice_index (set old 0 word) j) lane ≡ false) (sym e)
-        (ap (λ z. is_on z lane) (get_or-set_same old 0 word 0 (omega (arith, one))) ∙ off lane (subst (λ j. is_on (slice_index old j) lane ≡ false) e o))
-    | inr other ↦ ap (λ z. is_on z lane) (get_or-set_other old 0 i word 0 other) ∙ o
-  ];
-}
+keeps_one s x word test old one told off = grind (arith, cases_eq, get_or-set_other, get_or-set_same, set)
 
 -- where no pair passes, all words are 0
 pub keeps_nothing : (s : Sys) (x many : ℕ) (p : ℕ → Bool) (old now : List ℕ) → length old ≤ many → length now ≡ length old → ((i : ℕ) → i < length old → slice_index now i ≡ 0) →
     ((i lane : ℕ) → i < many → lane < lanes_in s → false ≡ p ((x + i) * lanes_in s + lane)) → Keeps (lanes_in s) x many p old now
-keeps_nothing s x many p old now few long clear off = record {
-  each = λ i lane l m. ap (λ z. is_on z lane) (all i) ∙ (on_zero lane ∙ and_nothing (is_on (slice_index old i) lane) (p ((x + i) * lanes_in s + lane)) (off i lane l m));
-  others = λ i l. all i ∙ sym (get_or_past old i 0 (omega arith));
-  none = λ i lane o. ap (λ z. is_on z lane) (all i) ∙ on_zero lane;
-}
-  where
-    all : (i : ℕ) → slice_index now i ≡ 0
-    all i = elim (cases_lt i (length old)) [
-      | inl less ↦ clear i less
-      | inr past ↦ get_or_past now i 0 (omega (arith, long, past))
-    ]
+keeps_nothing s x many p old now few long clear off = grind (arith, and_nothing, cases_lt, get_or_past, on_zero)
 
 -- one more seat is judged
 pub keeps_seat : (s : Sys) (x many k : ℕ) (p : ℕ → ℕ → Bool) (old now new : List ℕ) → Keeps (lanes_in s) x many (λ q. all_below (p q) k) old now → Keeps (lanes_in s) x many (λ q. p q k) now new → Keeps (lanes_in s) x many (λ q. all_below (p q) (k + 1)) old new
-keeps_seat s x many k p old now new before here =
-    let next : suc k ≡ k + 1 = omega arith in
-    subst (λ m. Keeps (lanes_in s) x many (λ q. all_below (p q) m) old new) next (keeps_then s x many (λ q. all_below (p q) k) (λ q. p q k) old now new before here)
+keeps_seat s x many k p old now new before here = grind (arith, keeps_then)
 
 -- the seats before a band's own are among the seats
 pub mid_few : (s : Sys) → mid_in s ≤ length s.seats
@@ -394,19 +338,8 @@ keeps_clear s x many test old new few long served = record {
 
 -- the rows of one more state
 pub where_more : (s : Sys) (x b : ℕ) (digit : ℕ → ℕ) (test : ℕ → Bool) (old now new : List ℕ) → KeepsWhere s x (λ i. digit i < b) test old now → KeepsWhere s x (λ i. digit i ≡ b) test now new → KeepsWhere s x (λ i. digit i < b + 1) test old new
-where_more s x b digit test old now new before here = record {
-  each = λ i lane l m less. elim (cases_lt (digit i) b) [
-    | inl low ↦ ap (λ z. is_on z lane) (here.others i (λ e. let none : ⊥ = omega (arith, low, e) in none)) ∙ before.each i lane l m low
-    | inr past ↦ here.each i lane l m (omega (arith, less, past)) ∙ ap (λ z. is_on z lane && test ((x + i) * lanes_in s + lane)) (before.others i (λ low. let none : ⊥ = omega (arith, low, past) in none))
-  ];
-  others = λ i other. here.others i (λ e. other (omega (arith, e))) ∙ before.others i (λ low. other (omega (arith, low)));
-  none = λ i lane off. here.none i lane (before.none i lane off);
-}
+where_more s x b digit test old now new before here = grind (arith, cases_lt)
 
 -- the rows of all states
 pub where_all : (s : Sys) (x : ℕ) (meant : ℕ → Type 0) (test : ℕ → Bool) (old new : List ℕ) → length old ≡ band_in s → length new ≡ length old → ((i : ℕ) → i < band_in s → meant i) → KeepsWhere s x meant test old new → Keeps (lanes_in s) x (band_in s) test old new
-where_all s x meant test old new few long all h = record {
-  each = λ i lane l m. h.each i lane l m (all i l);
-  others = λ i l. get_or_past new i 0 (omega (arith, l, few, long)) ∙ sym (get_or_past old i 0 (omega (arith, l, few)));
-  none = h.none;
-}
+where_all s x meant test old new few long all h = grind (arith, get_or_past)

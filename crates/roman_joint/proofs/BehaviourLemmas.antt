@@ -43,9 +43,7 @@ behaves n k beh known of =
 
 -- the seats of a system are those of its services
 pub seat_within : (n : NamedSys) (k : ℕ) (seat : model.Seat) → slice_get (system_of n).seats k ≡ Some seat → k < length n.seats
-seat_within n k seat h =
-    let l = slice_get_within (system_of n).seats k seat h in
-    omega (arith, l, length-map n.seats (seat_of n.catalogue))
+seat_within n k seat h = grind (arith, length-map, slice_get_within)
 
 -- the behaviour that is read at a place of the catalogue stands there
 pub beh_placed : (n : NamedSys) (k : ℕ) (seat : Seat) (catalogue : List NamedBeh) (beh : NamedBeh) → IsNamedSys n → slice_get n.seats k ≡ Some seat → catalogue ≡ n.catalogue →

@@ -1,5 +1,5 @@
 -- Searches for the first element that passes, step by step.
-use Rattle.std.proofs.Common.{◌≡◌, ℕ, zero, suc, ◌+◌, ◌<◌, ◌≤◌, ◌==◌, Bool, true, false, cond, List, [], ◌∷◌, ◌++◌, map, length, drop, get_or, Option, Some, None, IsFalse, refl, sym, ap, ap₂, ◌∙◌, subst, inl, inr, arith}
+use Rattle.std.proofs.Common.{◌≡◌, ℕ, zero, suc, ◌+◌, ◌<◌, ◌≤◌, ◌==◌, Bool, true, false, cond, List, [], ◌∷◌, map, length, drop, get_or, Option, Some, None, IsFalse, refl, sym, ap, ◌∙◌, subst, inl, inr, arith}
 use Rattle.std.specs.List.{find, flat_map}
 use Rattle.std.specs.Option.{option_map, option_or}
 use Rattle.roman_model.specs.Lists.{IsIn, is_empty}
@@ -20,11 +20,7 @@ find_end p xs i l = ap (find p) (drop_all i xs l)
 
 pub find-map : {X Y : Type 0} (f : X → Y) (p : Y → Bool) (xs : List X) → find p (map f xs) ≡ option_map f (find (λ x. p (f x)) xs)
 find-map f p [] = refl
-find-map f p (x ∷ xs) = ap (cond (p (f x)) (Some (f x))) (find-map f p xs) ∙ of_test (p (f x))
-  where
-    of_test : (b : Bool) → cond b (Some (f x)) (option_map f (find (λ y. p (f y)) xs)) ≡ option_map f (cond b (Some x) (find (λ y. p (f y)) xs))
-    of_test true = refl
-    of_test false = refl
+find-map f p (x ∷ xs) = grind (arith, (find-map f p xs))
 
 -- the search finds an element in the first of some lists
 pub find_in_first : {X Y : Type 0} (f : X → List Y) (p : Y → Bool) (xs : List X) (i : ℕ) (d : X) (y : Y) → i < length xs → find p (f (get_or xs i d)) ≡ Some y →
@@ -56,9 +52,7 @@ numbers_of_pairs g e (b ∷ states) = ap (λ ns. g e b ∷ ns) (numbers_of_pairs
 
 numbers_of_all : (g : ℕ → ℕ → ℕ) (envs states : List ℕ) → map (λ (x : ℕ × ℕ). g x.0 x.1) (flat_map (λ e. map (λ b. (e, b)) states) envs) ≡ flat_map (λ e. map (g e) states) envs
 numbers_of_all g [] states = refl
-numbers_of_all g (e ∷ envs) states =
-    map-append (λ (x : ℕ × ℕ). g x.0 x.1) (map (λ b. (e, b)) states) (flat_map (λ e. map (λ b. (e, b)) states) envs)
-    ∙ ap₂ (λ xs ys. xs ++ ys) (numbers_of_pairs g e states) (numbers_of_all g envs states)
+numbers_of_all g (e ∷ envs) states = grind (arith, map-append, numbers_of_pairs, (numbers_of_all g envs states))
 
 -- a search among numbers that are made of two states
 pub find_numbers : (g : ℕ → ℕ → ℕ) (gone : ℕ → Bool) (envs states : List ℕ) (o : Option (ℕ × ℕ)) →

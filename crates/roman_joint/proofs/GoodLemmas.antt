@@ -57,21 +57,13 @@ rows_all s long sizes room = factor long (s.target.states * s.env.states * env_r
 
 -- a row at other states of the target and the environment is in range
 pub row_there : (target env r to e part : ℕ) → to < target → e < env → part < r → to * (env * r) + part + e * r < target * env * r
-row_there target env r to e part a b c =
-    let front : to * env + e < env * target = mul-add-lt to env e target a b in
-    let whole : (to * env + e) * r + part < r * (env * target) = mul-add-lt (to * env + e) r part (env * target) front c in
-    let left : (to * env + e) * r + part ≡ to * (env * r) + part + e * r = omega arith in
-    let right : r * (env * target) ≡ target * env * r = omega arith in
-    omega arith
+row_there target env r to e part a b c = grind (arith, mul-add-lt)
 
 pub part_below : (s : Sys) (x : ℕ) (row : Row) → IsSizes (sizes_of s) → IsRow s x row → row.part < env_rows_of (sizes_of s)
 part_below s x row sizes ok = subst (λ m. m < env_rows_of (sizes_of s)) (sym ok.part) (mod_below x (env_rows_of (sizes_of s)) (env_rows_positive s sizes))
 
 pub rows_few : (s : Sys) (long : ℕ) → IsSizes (sizes_of s) → long * lanes_in s ≡ count (sizes_of s) → long < 2 ^ 32
-rows_few s long sizes room =
-    let pos = width_positive s sizes in
-    let less : long * 1 ≤ long * lanes_in s = mul-le long 1 long (lanes_in s) (omega arith) (omega arith) in
-    omega (arith, less, room, sizes.counted)
+rows_few s long sizes room = grind (arith, mul-le, width_positive)
 
 -- the first row of a turn has a number of 32 bits
 pub turn_fits : (n : NamedSys) (r : Rows) (x : ℕ) (row : Row) (to : ℕ) → IsNamedSys n → AreRowsOf (sizes_of (system_of n)) r → IsRow (system_of n) x row → to < (system_of n).target.states →
@@ -175,13 +167,12 @@ serves_before s r x a k part word row turn states words gone h laid ok before ro
 
 pub beaten_before : (s : Sys) (r : Rows) (x a k : ℕ) (row : Row) (turn : Turn) (states : List ℕ) (gone : ℕ → Bool) → Known s x row → AreRowsOf (sizes_of s) r → IsTurn s row a turn → k < low_in s →
     states ≡ seat_next (slice_get s.seats k) (slice_index row.states k) row.env a → states ≡ [] → HasLanes (lanes_in s) x (λ p. not (is_beaten (numbered s) gone p a k)) 0
-beaten_before s r x a k row turn states gone h laid ok before is_states none = record {
-  each = λ lane l. on_zero lane ∙ sym (ap not (leads_nothing (numbered s) gone (x * lanes_in s + lane) a k turn.envs.now states
-      (λ e b. (ok.to * target_rows_of (sizes_of s) + row.part - slice_index row.states k * slice_index r.strides k + e * env_rows_of (sizes_of s) + b * slice_index r.strides k) * lanes_in s + lane)
-      (leads_before s row x lane a k ok.to (ok.to * target_rows_of (sizes_of s) + row.part - slice_index row.states k * slice_index r.strides k) (slice_index r.strides k) turn.envs.now states h.sys h.looked l before (laid.before k before) ok.target ok.worlds is_states refl)
-      none));
-  rest = λ lane l. on_zero lane;
-}
+beaten_before s r x a k row turn states gone h laid ok before is_states none =
+    record {
+      each = λ lane l. on_zero _ ∙ sym (ap not (leads_nothing _ _ _ _ _ _ _ _
+          (leads_before _ _ _ _ _ _ _ _ _ _ _ h.sys h.looked l before (laid.before k before) ok.target ok.worlds is_states refl) none));
+      rest = λ lane l. on_zero _;
+    }
 
 -- the alive lanes of a turn
 pub alive_there : (s : Sys) (r : Rows) (x a alive : ℕ) (row : Row) (turn : Turn) (words : List ℕ) (gone : ℕ → Bool) → Known s x row → AreRowsOf (sizes_of s) r → IsTurn s row a turn → length words * lanes_in s ≡ count (sizes_of s) →
@@ -262,9 +253,7 @@ beaten_dead s x a k lane row turn gone h ok within seat living in_lanes =
     let seats : k < length n.seats = omega (arith, seat, length-map s.seats (λ (y : Seat). y.beh.states)) in
     let leads : Leads (numbered s) (x * lanes_in s + lane) a k turn.envs.now states to =
     leads_lanes s row x lane a k ok.to turn.base digit turn.envs.now states h.sys h.sizes h.looked in_lanes within seat refl ok.target ok.worlds refl ok.base in
-    by_test (is_empty states)
-    (λ none. leads_nothing (numbered s) gone (x * lanes_in s + lane) a k turn.envs.now states to leads (empty_is states none))
-    (λ some.
+    by_test (is_empty states) (λ none. leads_nothing (numbered s) gone (x * lanes_in s + lane) a k turn.envs.now states to leads (empty_is states none)) (λ some.
     let (b, i) = not_empty_in states some in
     let (y, seated, ready, moves) = from_seat_next (slice_get s.seats k) digit row.env a b i in
     let state : b < slice_index n.seats k = subst (λ m. b < m) (sym (size_of_seat s.seats k y seated)) (move_in_range s.env y.beh digit row.env a b (h.sys.seats y (seat_in s.seats k y seated)) moves).3 in
@@ -287,11 +276,7 @@ state_is st size b lane = refl
 
 -- a seat before the lanes is one of the seats
 pub low_few : (n : NamedSys) (k : ℕ) → IsNamedSys n → k < low_in (system_of n) → (k < 32) × (k < length n.seats)
-low_few n k ok l =
-    let few = low_of-le (sizes_of (system_of n)).seats in
-    let long = length-map (system_of n).seats (λ (y : Seat). y.beh.states) in
-    let same = length-map n.seats (seat_of n.catalogue) in
-    (omega (arith, few, long, ok.system.few), omega (arith, few, long, same))
+low_few n k ok l = grind (arith, length-map, low_of-le)
 
 -- facts about a seat within the lanes
 pub record Within (n : NamedSys) (r : Rows) (k : ℕ) : Type 0 where

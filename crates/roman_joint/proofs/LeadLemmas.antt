@@ -1,5 +1,5 @@
 -- The outcomes of a delegation, by rows and lanes.
-use Rattle.std.proofs.Common.{◌≡◌, ℕ, ◌+◌, ◌-◌, ◌*◌, ◌/◌, ◌%◌, ◌<◌, ◌≤◌, Bool, true, false, not, ◌||◌, List, [], ◌∷◌, length, drop, map, slice_get, slice_index, IsTrue, IsFalse, refl, sym, ap, ap₂, ◌∙◌, subst, arith}
+use Rattle.std.proofs.Common.{◌≡◌, ℕ, ◌+◌, ◌-◌, ◌*◌, ◌/◌, ◌%◌, ◌<◌, ◌≤◌, Bool, true, not, List, [], ◌∷◌, length, drop, map, slice_get, slice_index, IsTrue, IsFalse, refl, sym, ap, ap₂, ◌∙◌, subst, arith}
 use Rattle.std.specs.List.{list_any, flat_map}
 use Rattle.std.proofs.Math.Nat.{mul-add-mod_self_right}
 use Rattle.std.proofs.lemmas.Nat.{div-mul-add, div-add-mod', mul-add-lt, mod_below, div_below}
@@ -32,25 +32,14 @@ leads_within A p a k e b envs states to ok l leads in_envs in_states =
 pub leads_served : (A : Arena ℕ) (gone : ℕ → Bool) (p a k : ℕ) (envs states : List ℕ) (to : ℕ → ℕ → ℕ) (test : ℕ → ℕ → Bool) → Leads A p a k envs states to →
     IsFalse (is_empty envs) → IsFalse (is_empty states) → ((e b : ℕ) → IsIn e envs → IsIn b states → test e b ≡ gone (to e b)) →
     not (list_any (λ e. list_any (test e) states) envs) ≡ not (is_beaten A gone p a k)
-leads_served A gone p a k envs states to test leads some_env some_state same =
-    let (b, i) = not_empty_in states some_state in
-    let some : is_empty (A.outcomes p a k) ≡ false = ap is_empty leads.outcomes ∙ some_numbers to envs states b some_env i in
-    let any : list_any gone (A.outcomes p a k) ≡ list_any (λ e. list_any (test e) states) envs =
-    ap (list_any gone) leads.outcomes ∙ (list_any-flat_map (λ e. map (to e) states) gone envs
-    ∙ any_same (λ e. list_any gone (map (to e) states)) (λ e. list_any (test e) states) envs (λ e j. list_any-map (to e) gone states ∙ any_same (λ x. gone (to e x)) (test e) states (λ x m. sym (same e x j m)))) in
-    ap not (sym (ap₂ (λ x y. x || y) some any))
+leads_served A gone p a k envs states to test leads some_env some_state same = grind (arith, any_same, list_any-flat_map, list_any-map, not_empty_in, some_numbers)
 
 pub leads_nothing : (A : Arena ℕ) (gone : ℕ → Bool) (p a k : ℕ) (envs states : List ℕ) (to : ℕ → ℕ → ℕ) → Leads A p a k envs states to → states ≡ [] → is_beaten A gone p a k ≡ true
-leads_nothing A gone p a k envs states to leads none =
-    let no : A.outcomes p a k ≡ [] = leads.outcomes ∙ no_numbers to envs states none in
-    ap (λ qs. is_empty qs || list_any gone qs) no
+leads_nothing A gone p a k envs states to leads none = grind (arith, no_numbers)
 
 -- the order of two searches doesn't matter
 any_turn : (test : ℕ → ℕ → Bool) (xs ys : List ℕ) → IsTrue (list_any (λ x. list_any (test x) ys) xs) → IsTrue (list_any (λ y. list_any (λ x. test x y) xs) ys)
-any_turn test xs ys t =
-    let (x, i, u) = any_true (λ x. list_any (test x) ys) xs t in
-    let (y, j, v) = any_true (test x) ys u in
-    any_from (λ y. list_any (λ x. test x y) xs) y ys j (any_from (λ x. test x y) x xs i v)
+any_turn test xs ys t = grind (arith, any_from, any_true)
 
 pub any_turned : (test : ℕ → ℕ → Bool) (xs ys : List ℕ) → list_any (λ x. list_any (test x) ys) xs ≡ list_any (λ y. list_any (λ x. test x y) xs) ys
 any_turned test xs ys = same_test _ _ (any_turn test xs ys) (any_turn (λ y x. test x y) ys xs)
@@ -104,8 +93,7 @@ leads_before s row x lane a k to base u envs states sys ok in_lanes before strid
       outcomes = numbers_are s q a k to (λ e b. (base + e * R + b * u) * w + lane) envs states
           (ap₂ (λ t e. beh_next s.target t e a) (ok.targets lane in_lanes) (ok.envs lane in_lanes) ∙ target)
           (is_envs ∙ ap (λ e. env_next s.env e a) (sym (ok.envs lane in_lanes)))
-          (is_states ∙ ap₂ (λ b e. seat_next (slice_get s.seats k) b e a) (sym (ok.states k lane before in_lanes)) (sym (ok.envs lane in_lanes)))
-          (λ e b.
+          (is_states ∙ ap₂ (λ b e. seat_next (slice_get s.seats k) b e a) (sym (ok.states k lane before in_lanes)) (sym (ok.envs lane in_lanes))) (λ e b.
           let here = row_moves (to * target_rows_of n) row.part u w lane R part e b in_lanes start.taken in
           ap (λ m. (m + e * R + b * u) * w + lane) is_base ∙ (sym here ∙ start.number e b));
     }
@@ -192,8 +180,7 @@ leads_lanes s row x lane a k to base part envs states sys sizes ok in_lanes with
       outcomes = numbers_are s q a k to (λ e b. (base + e * R) * w + (lane + b * st - part * st)) envs states
           (ap₂ (λ t e. beh_next s.target t e a) (ok.targets lane in_lanes) (ok.envs lane in_lanes) ∙ target)
           (is_envs ∙ ap (λ e. env_next s.env e a) (sym (ok.envs lane in_lanes)))
-          (is_states ∙ ap₂ (λ b e. seat_next (slice_get s.seats k) b e a) at_part (sym (ok.envs lane in_lanes)))
-          (λ e b.
+          (is_states ∙ ap₂ (λ b e. seat_next (slice_get s.seats k) b e a) at_part (sym (ok.envs lane in_lanes))) (λ e b.
           let spread : (base + e * R) * w ≡ to * (target_rows_of n * w) + row.part * w + e * (R * w) = ap (λ m. (m + e * R) * w) is_base ∙ omega arith in
           let here = start.number e b in
           omega (arith, taken, within_env, spread, here) ∙ here);

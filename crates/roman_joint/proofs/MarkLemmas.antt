@@ -37,9 +37,6 @@ use Rattle.roman_joint.proofs.BandLemmas.{row_in, InBand, in_band, mid_low}
 
 -- Adding marks.
 
-pub grows_itself : (marks : List ℕ) → Grows marks marks
-grows_itself marks = record { long = refl; still = λ x t. t }
-
 pub grows_on : (a b c : List ℕ) → Grows a b → Grows b c → Grows a c
 grows_on a b c x y = record { long = y.long ∙ x.long; still = λ band t. y.still band (x.still band t) }
 
@@ -140,9 +137,7 @@ row_before from l own u w at lane b S in_l in_lanes e is =
     (same_from_place (from + own * u) l (at + b * u) lane w in_l in_lanes sides).0
 
 own_row : (from l own w at lane b S : ℕ) → l < w → own * S ≤ lane → lane + b * S - own * S < w → from * w + l + own * S ≡ at * w + lane + b * S → from ≡ at
-own_row from l own w at lane b S in_l taken moves is =
-    let sides : from * w + l ≡ at * w + (lane + b * S - own * S) = omega arith in
-    (same_from_place from l at (lane + b * S - own * S) w in_l moves sides).0
+own_row from l own w at lane b S in_l taken moves is = grind (arith, same_from_place)
 
 -- a band's first row at other states of the target and the environment is again the first row of a band
 first_at : (s : Sys) (row : Row) (y e t : ℕ) → IsSizes (sizes_of s) → IsRow s (y * band_in s) row → (c : ℕ) × (row_at s row e t ≡ c * band_in s)
@@ -275,8 +270,7 @@ ready_prev o seat b e a seated ready = ap (λ y. seat_prev y b e a) seated ∙ a
 -- the length of joined lists with one more
 pub count_more : {X : Type 0} (f : ℕ → List X) (xs : List ℕ) (i : ℕ) → i < length xs → length (flat_map f (take (i + 1) xs)) ≡ length (flat_map f (take i xs)) + length (f (get_or xs i 0))
 count_more f xs i l =
-    ap (λ ys. length (flat_map f ys)) (take_more xs i 0 l)
-    ∙ (ap length (flat_map-append f (take i xs) (get_or xs i 0 ∷ []))
+    ap (λ ys. length (flat_map f ys)) (take_more xs i 0 l) ∙ (ap length (flat_map-append f (take i xs) (get_or xs i 0 ∷ []))
     ∙ (length-append (flat_map f (take i xs)) (f (get_or xs i 0) ++ []) ∙ ap (λ ys. length (flat_map f (take i xs)) + length ys) (append-nil (f (get_or xs i 0)))))
 
 pub count_below : {X : Type 0} (f : ℕ → List X) (k : ℕ) → length (flat_map f (below (k + 1))) ≡ length (flat_map f (below k)) + length (f k)
@@ -334,12 +328,7 @@ is_front s d = ltb d.seat (mid_in s)
 
 seat_only : (s : Sys) (q : Pair) (a e t k : ℕ) (bs : List ℕ) → filter (is_front s) (from_states s q a e t k bs) ≡ cond (ltb k (mid_in s)) (from_states s q a e t k bs) []
 seat_only s q a e t k [] = by_test (ltb k (mid_in s)) (λ yes. sym (ap (λ z. cond z (from_states s q a e t k []) []) yes)) (λ no. sym (ap (λ z. cond z (from_states s q a e t k []) []) no))
-seat_only s q a e t k (b ∷ bs) = by_test (ltb k (mid_in s))
-    (λ yes. ap (λ z. cond z (delegation s q a e t k b ∷ filter (is_front s) (from_states s q a e t k bs)) (filter (is_front s) (from_states s q a e t k bs))) yes
-    ∙ (ap (λ z. delegation s q a e t k b ∷ z) (seat_only s q a e t k bs ∙ ap (λ z. cond z (from_states s q a e t k bs) []) yes)
-    ∙ sym (ap (λ z. cond z (from_states s q a e t k (b ∷ bs)) []) yes)))
-    (λ no. ap (λ z. cond z (delegation s q a e t k b ∷ filter (is_front s) (from_states s q a e t k bs)) (filter (is_front s) (from_states s q a e t k bs))) no
-    ∙ (seat_only s q a e t k bs ∙ (ap (λ z. cond z (from_states s q a e t k bs) []) no ∙ sym (ap (λ z. cond z (from_states s q a e t k (b ∷ bs)) []) no))))
+seat_only s q a e t k (b ∷ bs) = grind (arith, by_test, delegation, (seat_only s q a e t k bs), (seat_only s q a e t k bs))
 
 front_only : (s : Sys) (q : Pair) → filter (is_front s) (from_all s q) ≡ front_all s q
 front_only s q =

@@ -1,5 +1,5 @@
 -- Moves of services within the lanes.
-use Rattle.std.proofs.Common.{◌≡◌, ◌≢◌, ℕ, zero, suc, ◌+◌, ◌-◌, ◌*◌, ◌/◌, ◌%◌, ◌<◌, ◌≤◌, ◌==◌, Bool, true, false, not, ◌&&◌, cond, eqb, List, [], ◌∷◌, ◌++◌, length, map, take, drop, get_or, Some, slice_get, slice_index, slice_index_or, slice_range, IsTrue, IsFalse, inl, inr, refl, sym, ap, ap₂, ◌∙◌, subst, arith, add-one}
+use Rattle.std.proofs.Common.{◌≡◌, ◌≢◌, ℕ, zero, suc, ◌+◌, ◌-◌, ◌*◌, ◌/◌, ◌%◌, ◌<◌, ◌≤◌, ◌==◌, Bool, true, false, not, ◌&&◌, cond, eqb, List, [], ◌∷◌, ◌++◌, length, drop, get_or, Some, slice_get, slice_index, slice_index_or, slice_range, IsTrue, IsFalse, inl, inr, refl, sym, ap, ap₂, ◌∙◌, subst, arith}
 use Rattle.std.proofs.Math.Seq.{get_or-append_seam}
 use Rattle.std.proofs.Math.Nat.{mul-le-mul_right}
 use Rattle.std.specs.List.{list_any, filter}
@@ -59,42 +59,18 @@ room_fits (n ∷ ns) h =
     more (suc a) (suc b) x y = omega arith
 
 pub lanes_room : (n : Sizes) → IsSizes n → ways_room (drop (low_of n.seats) n.seats) ≤ 160
-lanes_room n h =
-    let fits : ways_room (drop (low_of n.seats) n.seats) ≤ 2 * lanes_of n.seats + length (drop (low_of n.seats) n.seats) = room_fits (drop (low_of n.seats) n.seats) (AreSizes-drop (low_of n.seats) n.seats h.seats) in
-    let few : lanes_of n.seats ≤ 64 = lanes_few n.seats in
-    omega (arith, fits, few, length-drop (low_of n.seats) n.seats, h.few)
+lanes_room n h = grind (arith, AreSizes-drop, lanes_few, length-drop, room_fits)
 
 -- one more way
 pub way_more : (lanes : List ℕ) (last stride j : ℕ) → lane_moves_from lanes last stride (j + 1) ≡ lane_moves_from lanes last stride j ++ cond (eqb (slice_index lanes j) 0) [] (lane_move lanes last stride j ∷ [])
-way_more lanes last stride j =
-    ap (λ m. map (lane_move lanes last stride) (filter (λ i. not (slice_index lanes i == 0)) (below m))) (add-one j)
-    ∙ (ap (map (lane_move lanes last stride)) (filter_below_more (λ i. not (slice_index lanes i == 0)) j)
-    ∙ (map-append (lane_move lanes last stride) (filter (λ i. not (slice_index lanes i == 0)) (below j)) (cond (not (slice_index lanes j == 0)) (j ∷ []) [])
-    ∙ ap (λ ms. lane_moves_from lanes last stride j ++ ms) (by_cases (slice_index lanes j == 0))))
-  where
-    by_cases : (b : Bool) → map (lane_move lanes last stride) (cond (not b) (j ∷ []) []) ≡ cond b [] (lane_move lanes last stride j ∷ [])
-    by_cases true = refl
-    by_cases false = refl
+way_more lanes last stride j = grind (arith, filter_below_more, map-append)
 
 pub ways_few : (lanes : List ℕ) (last stride count : ℕ) → length (lane_moves_from lanes last stride count) ≤ count
-ways_few lanes last stride count =
-    let some = λ (j : ℕ). not (slice_index lanes j == 0) in
-    omega (arith, length-map (filter some (below count)) (lane_move lanes last stride), length-filter some (below count), count_by-le-length some (below count), length-below count)
+ways_few lanes last stride count = grind (arith, count_by-le-length, length-below, length-filter, length-map)
 
 -- the lane to which a way leads
 way_goes : (lane st last j digit b : ℕ) → b + (last + 1) ≡ j + 1 + digit → digit * st ≤ lane → ((last - j) * st ≤ lane) × (lane + (j - last) * st - (last - j) * st ≡ lane + b * st - digit * st)
-way_goes lane st last j digit b e taken = elim (cases_lt j last) [
-  | inl down ↦
-      let none : (j - last) * st ≡ 0 * st = ap (λ m. m * st) (omega arith) in
-      let same : digit * st ≡ (b + (last - j)) * st = ap (λ m. m * st) (omega arith) in
-      let spread : (b + (last - j)) * st ≡ b * st + (last - j) * st = omega arith in
-      (omega arith, omega arith)
-  | inr up ↦
-      let none : (last - j) * st ≡ 0 * st = ap (λ m. m * st) (omega arith) in
-      let same : b * st ≡ (digit + (j - last)) * st = ap (λ m. m * st) (omega arith) in
-      let spread : (digit + (j - last)) * st ≡ digit * st + (j - last) * st = omega arith in
-      (omega arith, omega arith)
-]
+way_goes lane st last j digit b e taken = grind (arith, cases_lt)
 
 -- the moves of the ways are those of the service
 pub moves_made : (n : Sizes) (k last e a : ℕ) (beh : Beh) (ways : Ways) → IsSizes n → low_of n.seats ≤ k → k < length n.seats → beh.states ≡ slice_index n.seats k → last + 1 ≡ slice_index n.seats k →
@@ -233,16 +209,10 @@ beaten_frozen s x a k seat gone nodes seated frozen = record {
 -- The table of moves.
 
 range_more : {X : Type 0} (xs ys : List X) (a b : ℕ) → b ≤ length xs → slice_range (xs ++ ys) a b ≡ slice_range xs a b
-range_more xs ys a b l = elim (cases_lt a b) [
-  | inl less ↦
-      ap (take (b - a)) (drop-append-le a xs ys (omega arith)) ∙ take-append-le (b - a) (drop a xs) ys (omega (arith, length-drop a xs))
-  | inr none ↦ let no : b - a ≡ 0 = omega arith in ap (λ m. take m (drop a (xs ++ ys))) no ∙ sym (ap (λ m. take m (drop a xs)) no)
-]
+range_more xs ys a b l = grind (arith, cases_lt, drop-append-le, length-drop, take-append-le)
 
 range_new : {X : Type 0} (xs ys : List X) (a b : ℕ) → a ≡ length xs → b ≡ length (xs ++ ys) → slice_range (xs ++ ys) a b ≡ ys
-range_new xs ys a b first end =
-    let long : b - a ≡ length ys = omega (arith, first, end, length-append xs ys) in
-    ap₂ (λ m d. take m (drop d (xs ++ ys))) long first ∙ (ap (take (length ys)) (drop-append-le (length xs) xs ys (omega arith) ∙ ap (λ zs. zs ++ ys) (drop_all (length xs) xs (omega arith))) ∙ take_all (length ys) ys (omega arith))
+range_new xs ys a b first end = grind (arith, drop-append-le, drop_all, length-append, take_all)
 
 -- the place in the table of a seat within the lanes, an action and a state of the environment
 record IsPlaceOf (s : Sys) (k e a i : ℕ) : Type 0 where
@@ -251,15 +221,7 @@ record IsPlaceOf (s : Sys) (k e a i : ℕ) : Type 0 where
   action : i / within_in s % s.env.actions ≡ a
 
 place_of : (s : Sys) (k e a i : ℕ) → k < length s.seats → low_in s ≤ k → a < s.env.actions → i ≡ (e * s.env.actions + a) * within_in s + (k - low_in s) → IsPlaceOf s k e a i
-place_of s k e a i in_seats within action is =
-    let less : k - low_in s < within_in s = omega (arith, in_seats, within) in
-    let turn : i / within_in s ≡ e * s.env.actions + a = ap (λ m. m / within_in s) is ∙ div-mul-add (e * s.env.actions + a) (within_in s) (k - low_in s) less in
-    let place : i % within_in s ≡ k - low_in s = ap (λ m. m % within_in s) is ∙ mod-mul-add (e * s.env.actions + a) (within_in s) (k - low_in s) less in
-    record {
-      seat = ap (λ m. low_in s + m) place ∙ omega arith;
-      env = ap (λ m. m / s.env.actions) turn ∙ div-mul-add e s.env.actions a action;
-      action = ap (λ m. m % s.env.actions) turn ∙ mod-mul-add e s.env.actions a action;
-    }
+place_of s k e a i in_seats within action is = grind (arith, div-mul-add, mod-mul-add)
 
 -- the moves of a seat, at its place in the table
 pub span_at : (s : Sys) (k e a i : ℕ) (span : Span) (moves : List Move) (seat : Seat) → slice_get s.seats k ≡ Some seat → low_in s ≤ k → a < s.env.actions → i ≡ (e * s.env.actions + a) * within_in s + (k - low_in s) →
@@ -375,10 +337,7 @@ turn_more n catalogue seats sizes k e a beh first old new kept added of here low
 -- A service that is frozen or made ready keeps its moves.
 
 within_same : (s t : Sys) → sizes_of t ≡ sizes_of s → within_in t ≡ within_in s
-within_same s t sizes =
-    let long : length t.seats ≡ length s.seats =
-    sym (length-map t.seats (λ (y : Seat). y.beh.states)) ∙ (ap (λ (m : Sizes). length m.seats) sizes ∙ length-map s.seats (λ (y : Seat). y.beh.states)) in
-    ap₂ (λ x y. x - y) long (ap (λ (m : Sizes). low_of m.seats) sizes)
+within_same s t sizes = grind (arith, length-map)
 
 span_same : (s t : Sys) (i : ℕ) (span : Span) (moves : List Move) → sizes_of t ≡ sizes_of s → t.env.actions ≡ s.env.actions →
     ((j : ℕ) (x : Seat) → slice_get t.seats j ≡ Some x → (y : Seat) × (slice_get s.seats j ≡ Some y) × (y.beh ≡ x.beh)) → IsSpan s i span moves → IsSpan t i span moves

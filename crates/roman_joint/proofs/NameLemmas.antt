@@ -21,8 +21,7 @@ state_within n k b beh known of states below =
 -- the names of a service's states are those of its behaviour's states
 pub states_are : (n : NamedSys) (k : ℕ) (beh : NamedBeh) → IsSeatBehaviour n k beh → (seat_names (names_in n) k).states ≡ beh.states
 states_are n k beh of =
-    ap (λ (x : SeatNames). x.states)
-    (get_or_from_slice_get (names_in n).seats k (names_of_seat n.catalogue of.seat) (record { service = []; states = [] })
+    ap (λ (x : SeatNames). x.states) (get_or_from_slice_get (names_in n).seats k (names_of_seat n.catalogue of.seat) (record { service = []; states = [] })
     (slice_get-map (names_of_seat n.catalogue) n.seats k ∙ ap (option_map (names_of_seat n.catalogue)) of.seated))
     ∙ get_or_from_slice_get (map beh_states n.catalogue) of.seat.behaviour beh.states [] (slice_get-map beh_states n.catalogue of.seat.behaviour ∙ ap (option_map beh_states) of.placed)
 

@@ -1,5 +1,5 @@
 -- The numbers of the pairs to which a delegation can lead.
-use Rattle.std.proofs.Common.{◌≡◌, ℕ, ◌+◌, ◌-◌, ◌*◌, ◌%◌, ◌<◌, ◌≤◌, cond, List, [], ◌∷◌, ◌++◌, Option, Some, IsTrue, IsFalse, map, length, slice_get, slice_index, slice_set, refl, sym, ap, ap₂, ◌∙◌, subst, inl, arith}
+use Rattle.std.proofs.Common.{◌≡◌, ℕ, ◌+◌, ◌-◌, ◌*◌, ◌%◌, ◌<◌, ◌≤◌, cond, List, [], ◌∷◌, Option, Some, IsTrue, IsFalse, map, length, slice_get, slice_index, slice_set, refl, sym, ap, ap₂, ◌∙◌, subst, inl, arith}
 use Rattle.std.specs.List.{flat_map}
 use Rattle.std.proofs.lemmas.List.{append-nil, map-append, length-map, get_or-set_same}
 use Rattle.std.proofs.lemmas.Option.{slice_get_within}
@@ -51,9 +51,7 @@ numbers_of_states n f g (b ∷ bs) h = ap₂ (λ x xs. x ∷ xs) (sym (h b)) (nu
 numbers_of_envs : (n : Sizes) (f : ℕ → ℕ → ℕ → Pair) (g : ℕ → ℕ → ℕ) (to : ℕ) (envs states : List ℕ) → ((e b : ℕ) → g e b ≡ number n (f e to b)) →
     map (number n) (flat_map (λ e. flat_map (λ t. map (f e t) states) (to ∷ [])) envs) ≡ flat_map (λ e. map (g e) states) envs
 numbers_of_envs n f g to [] states h = refl
-numbers_of_envs n f g to (e ∷ envs) states h =
-    map-append (number n) (map (f e to) states ++ []) (flat_map (λ e. flat_map (λ t. map (f e t) states) (to ∷ [])) envs)
-    ∙ ap₂ (λ xs ys. xs ++ ys) (ap (map (number n)) (append-nil (map (f e to) states)) ∙ numbers_of_states n (f e to) (g e) states (h e)) (numbers_of_envs n f g to envs states h)
+numbers_of_envs n f g to (e ∷ envs) states h = grind (arith, append-nil, map-append, numbers_of_states, (numbers_of_envs n f g to envs states h))
 
 -- the numbers of all outcomes
 pub numbers_are : (s : Sys) (q : Pair) (a k to : ℕ) (g : ℕ → ℕ → ℕ) (envs states : List ℕ) → beh_next s.target q.t q.e a ≡ to ∷ [] → envs ≡ env_next s.env q.e a →

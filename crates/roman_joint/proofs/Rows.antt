@@ -15,10 +15,7 @@ use Rattle.roman_joint.specs.Walks.{goal_of, IsWalk}
 
 -- a joint has few enough pairs
 pub count_fits : (n : NamedSys) → IsNamedSys n → count (sizes_of (system_of n)) ≤ MAX_CELLS
-count_fits n known =
-    let s = system_of n in
-    let more : count (sizes_of s) * 1 ≤ count (sizes_of s) * s.env.actions = mul-le-mul_left (count (sizes_of s)) known.system.env.actions.0 in
-    omega (arith, known.fits, known.limit.1)
+count_fits n known = grind (arith, mul-le-mul_left)
 
 -- a pair with other states of the target and the environment is in range
 pub row_pair : (s : Sys) (w : Walk) (t e : ℕ) → IsWalk s w → t < s.target.states → e < s.env.states → IsPair s (record { t = t; e = e; bs = (goal_of s w).bs })

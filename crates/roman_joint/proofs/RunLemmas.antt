@@ -29,9 +29,4 @@ place_of i block b size stride pos some is low high =
 
 -- the words of a state of a block are among all words
 pub in_block : (block blocks size stride c : ℕ) → block < blocks → c < size → (c * stride + stride ≤ size * stride) × (block * (size * stride) + (c * stride + stride) ≤ blocks * (size * stride))
-in_block block blocks size stride c l m =
-    let next : (c + 1) * stride ≤ size * stride = mul-le (c + 1) stride size stride (omega arith) (omega arith) in
-    let split : (c + 1) * stride ≡ c * stride + stride = omega arith in
-    let more : (block + 1) * (size * stride) ≤ blocks * (size * stride) = mul-le (block + 1) (size * stride) blocks (size * stride) (omega arith) (omega arith) in
-    let apart : (block + 1) * (size * stride) ≡ block * (size * stride) + size * stride = omega arith in
-    (omega (arith, next, split), omega (arith, next, split, more, apart))
+in_block block blocks size stride c l m = grind (arith, mul-le)

@@ -26,11 +26,7 @@ none_more xs i f l here before e j = elim (from_push e (get_or xs i 0) (take i x
 pub scenes_more : (env : Env) (target : Beh) (old new : List Scene) (i : ℕ) (scene : Scene) → length old ≡ i → new ≡ old ++ scene ∷ [] →
     ((j : ℕ) (x : Scene) → j < i → x ≡ slice_index_or old j x → IsScene env target (j / env.states) (j % env.states) x) → IsScene env target (i / env.states) (i % env.states) scene →
     (j : ℕ) (x : Scene) → j < i + 1 → x ≡ slice_index_or new j x → IsScene env target (j / env.states) (j % env.states) x
-scenes_more env target old new i scene long is before here j x l at = elim (cases_eq j i) [
-  | inl e ↦ subst (λ k. IsScene env target (k / env.states) (k % env.states) x) (sym e)
-      (subst (IsScene env target (i / env.states) (i % env.states)) (sym (at ∙ ap (λ xs. get_or xs j x) is ∙ ap (λ k. get_or (old ++ scene ∷ []) k x) (e ∙ sym long) ∙ get_or-append_seam old scene [] x)) here)
-  | inr other ↦ before j x (omega (arith, l, other)) (at ∙ ap (λ xs. get_or xs j x) is ∙ get_or_append_left old (scene ∷ []) x j (omega (arith, l, other, long)))
-]
+scenes_more env target old new i scene long is before here j x l at = grind (arith, cases_eq, get_or-append_seam, get_or_append_left)
 
 -- the actions that a scene allows are those that are allowed at a pair
 pub permitted_at : (s : Sys) (p bits : ℕ) → IsSys s → ArePermitted s.env s.target (pair_at (sizes_of s) p).t (pair_at (sizes_of s) p).e bits → HasBits bits ((numbered s).allows p)

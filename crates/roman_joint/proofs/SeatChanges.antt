@@ -32,9 +32,6 @@ with_seats n seats = record { environment = n.environment; catalogue = n.catalog
 abbrev with_model_seats : Sys → List model.Seat → Sys
 with_model_seats s seats = record { env = s.env; target = s.target; seats = seats }
 
-abbrev with_sizes : Sizes → List ℕ → Sizes
-with_sizes m sizes = record { target = m.target; env = m.env; seats = sizes }
-
 -- a system with the seats of another that differs only in them is that other system
 pub with_the_seats : (m n : NamedSys) (seats : List Seat) → HasSameParts m n → seats ≡ n.seats → with_seats m seats ≡ n
 with_the_seats m n seats parts same =
@@ -76,9 +73,7 @@ pub frozen_system : (n : NamedSys) (k : ℕ) (frozen : Bool) → system_of (with
 frozen_system n k frozen = ap (with_model_seats (system_of n)) (frozen_seats n.catalogue n.seats k frozen) ∙ after_frozen (system_of n) k frozen
 
 pub frozen_sizes : (n : NamedSys) (k : ℕ) (frozen : Bool) → sizes_of (system_of (with_seats n (with_frozen n.seats k frozen))) ≡ sizes_of (system_of n)
-frozen_sizes n k frozen =
-    ap (with_sizes (sizes_of (system_of n)))
-    (ap (map (λ (seat : model.Seat). seat.beh.states)) (frozen_seats n.catalogue n.seats k frozen) ∙ states_frozen (system_of n).seats k frozen)
+frozen_sizes n k frozen = grind (arith, frozen_seats, states_frozen)
 
 pub frozen_known : (n : NamedSys) (k : ℕ) (frozen : Bool) → IsNamedSys n → k < length n.seats → IsNamedSys (with_seats n (with_frozen n.seats k frozen))
 frozen_known n k frozen known within = record {
@@ -114,9 +109,7 @@ pub gone_system : (n : NamedSys) (k : ℕ) (seat : model.Seat) → system_of (wi
 gone_system n k seat = ap (with_model_seats (system_of n)) (map-remove (seat_of n.catalogue) n.seats k)
 
 pub gone_sizes : (n : NamedSys) (k : ℕ) → sizes_without k (sizes_of (system_of n)) ≡ sizes_of (system_of (with_seats n (remove n.seats k)))
-gone_sizes n k =
-    ap (with_sizes (sizes_of (system_of n)))
-    (sym (map-remove (λ (seat : model.Seat). seat.beh.states) (system_of n).seats k) ∙ ap (map (λ (seat : model.Seat). seat.beh.states)) (sym (map-remove (seat_of n.catalogue) n.seats k)))
+gone_sizes n k = grind (arith, map-remove)
 
 pub gone_known : (n : NamedSys) (k : ℕ) (x : Seat) → IsNamedSys n → k < length n.seats → x ≡ get_or n.seats k x → IsNamedSys (with_seats n (remove n.seats k))
 gone_known n k x known within is =
@@ -147,22 +140,13 @@ pub joined_system : (n : NamedSys) (seat : Seat) → system_of (with_seats n (n.
 joined_system n seat = ap (with_model_seats (system_of n)) (map_push (seat_of n.catalogue) n.seats seat)
 
 pub joined_sizes : (n : NamedSys) (seat : Seat) → grown_sizes (sizes_of (system_of n)) (beh_at n.catalogue seat.behaviour).states ≡ sizes_of (system_of (with_seats n (n.seats ++ seat ∷ [])))
-joined_sizes n seat =
-    ap (with_sizes (sizes_of (system_of n)))
-    (sym (map_push (λ (y : model.Seat). y.beh.states) (system_of n).seats (seat_of n.catalogue seat))
-    ∙ ap (map (λ (y : model.Seat). y.beh.states)) (sym (map_push (seat_of n.catalogue) n.seats seat)))
+joined_sizes n seat = grind (arith, map_push)
 
 -- the grown pairs fit exactly if the grown cells are within the limit
 pub joined_fit : (n : NamedSys) (seat : Seat) → IsNamedSys n →
     (count (grown_sizes (sizes_of (system_of n)) (beh_at n.catalogue seat.behaviour).states) ≤ n.limit / n.environment.env.actions)
     ↔ (cells (after (Join (seat_of n.catalogue seat)) (system_of n)) ≤ n.limit)
-joined_fit n seat known =
-    let m = n.environment.env.actions in
-    let same : count (grown_sizes (sizes_of (system_of n)) (beh_at n.catalogue seat.behaviour).states) * m ≡ cells (after (Join (seat_of n.catalogue seat)) (system_of n)) =
-    ap (λ k. count k * m) (joined_sizes n seat) ∙ ap cells (joined_system n seat) in
-    let fit : (count (grown_sizes (sizes_of (system_of n)) (beh_at n.catalogue seat.behaviour).states) ≤ n.limit / m)
-    ↔ (count (grown_sizes (sizes_of (system_of n)) (beh_at n.catalogue seat.behaviour).states) * m ≤ n.limit) = le-div_iff_mul-le known.system.env.actions.0 in
-    (λ h. subst (λ x. x ≤ n.limit) same (fit.0 h), λ h. fit.1 (subst (λ x. x ≤ n.limit) (sym same) h))
+joined_fit n seat known = grind (arith, joined_sizes, joined_system, le-div_iff_mul-le)
 
 pub joined_known : (n : NamedSys) (seat : Seat) → IsNamedSys n → length n.seats < MAX_SERVICES → seat.behaviour < length n.catalogue →
     IsBeh n.environment.env (beh_at n.catalogue seat.behaviour) → (IsIn seat.name (map (λ (y : Seat). y.name) n.seats) → ⊥) →

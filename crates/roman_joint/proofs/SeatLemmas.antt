@@ -1,5 +1,5 @@
 -- Services and their behaviours, read one after another.
-use Rattle.std.proofs.Common.{◌≡◌, ℕ, zero, suc, ◌+◌, ◌*◌, ◌/◌, ◌%◌, ◌^◌, ◌<◌, ◌≤◌, List, [], ◌∷◌, ◌++◌, Some, All, slice_get, get_or, map, length, take, drop, refl, sym, ap, ap₂, ◌∙◌, subst, inl, inr, arith, ◌==◌, slice_index}
+use Rattle.std.proofs.Common.{◌≡◌, ℕ, zero, suc, ◌+◌, ◌/◌, ◌%◌, ◌^◌, ◌<◌, ◌≤◌, List, [], ◌∷◌, ◌++◌, Some, All, slice_get, get_or, map, length, take, drop, refl, sym, ap, ap₂, ◌∙◌, subst, inl, inr, arith, ◌==◌, slice_index}
 use Rattle.std.specs.List.{AllByRecursion}
 use Rattle.std.specs.Option.{option_map}
 use Rattle.std.proofs.lemmas.Option.{slice_get-map, slice_get-get_or, slice_get_within, get_or_from_slice_get}
@@ -51,19 +51,17 @@ pub one_read : (catalogue : List NamedBeh) (seats : List Seat) (sizes : List ℕ
     AreRead catalogue seats sizes k → AreRead catalogue seats (set sizes k size) (k + 1)
 one_read catalogue seats sizes k size x y within room at_seat at_beh place is over so_far =
     let f = λ (seat : Seat). (beh_at catalogue seat.behaviour).states in
-    let read : y.beh ≡ beh_at catalogue x.behaviour = seat_beh_read catalogue x.behaviour y place at_beh in
+    let read : y.beh ≡ beh_at catalogue x.behaviour = seat_beh_read _ _ _ place at_beh in
     let more : take (k + 1) seats ≡ take k seats ++ x ∷ [] = take_more seats k x within ∙ ap (λ z. take k seats ++ z ∷ []) (sym at_seat) in
     let here : size ≡ f x = is ∙ ap (λ b. b.states) read in
     record {
-      sizes =
-          take_more_set sizes k size (omega (arith, so_far.long))
+      sizes = take_more_set sizes k size (omega (arith, so_far.long))
           ∙ (ap₂ (λ ns n. ns ++ n ∷ []) so_far.sizes here ∙ (sym (map_push f (take k seats) x) ∙ ap (map f) (sym more)));
       long = length-set sizes k size ∙ so_far.long;
       known = λ environment are.
           let over_env : IsOverEnv environment y = subst (IsOverEnv environment) (sym at_beh) (are x.behaviour y place) in
           let beh : IsBeh environment.env (beh_at catalogue x.behaviour) = subst (IsBeh environment.env) read (over environment.env (sym over_env.0) (sym over_env.1)) in
-          subst (AllByRecursion (λ seat. IsBeh environment.env (beh_at catalogue seat.behaviour))) (sym more)
-          (recursion-push (λ seat. IsBeh environment.env (beh_at catalogue seat.behaviour)) (take k seats) x (so_far.known environment are) beh);
+          subst (AllByRecursion (λ seat. IsBeh environment.env (beh_at catalogue seat.behaviour))) (sym more) (recursion-push _ _ _ (so_far.known environment are) beh);
     }
 
 -- the seats' sizes are those of the system
@@ -86,17 +84,12 @@ pub record Splits (sizes : List ℕ) (k rest stride : ℕ) : Type 0 where
   pub byte : get_or sizes k 0 < 2 ^ 8
 
 pub splits : (sizes : List ℕ) (k rest stride : ℕ) → AreSizes sizes → k < length sizes → rest < product_of (drop k sizes) → stride ≡ product_of (drop (k + 1) sizes) → Splits sizes k rest stride
-splits sizes k rest stride ok within below is =
-    let positive : 0 < stride = subst (λ m. 0 < m) (sym is) (product_positive (drop (k + 1) sizes) (AreSizes-drop (k + 1) sizes ok)) in
-    let product : stride * get_or sizes k 0 ≡ product_of (drop k sizes) = product_more sizes k (k + 1) stride (get_or sizes k 0) refl within refl is in
-    record { positive = positive; state = div_below rest stride (get_or sizes k 0) positive (omega arith); below = omega (arith, is, mod_below rest stride positive); byte = (AreSizes-index sizes k ok within).1 }
+splits sizes k rest stride ok within below is = grind (arith, AreSizes-drop, AreSizes-index, div_below, mod_below, product_more, product_positive)
 
 -- the size at a place is the number of states of the service's behaviour
 pub size_read : (catalogue : List NamedBeh) (seats : List Seat) (sizes : List ℕ) (k : ℕ) (x : Seat) (y : NamedBeh) → sizes ≡ map (λ seat. (beh_at catalogue seat.behaviour).states) seats →
     k < length seats → x ≡ get_or seats k x → y.beh ≡ beh_at catalogue x.behaviour → get_or sizes k 0 ≡ y.beh.states
-size_read catalogue seats sizes k x y is within at_seat read =
-    ap (λ ns. get_or ns k 0) is ∙ (get_or-map (λ seat. (beh_at catalogue seat.behaviour).states) seats k x 0 within
-    ∙ (ap (λ seat. (beh_at catalogue seat.behaviour).states) (sym at_seat) ∙ ap (λ b. b.states) (sym read)))
+size_read catalogue seats sizes k x y is within at_seat read = grind (arith, get_or-map)
 
 -- each service has states
 pub positive_sizes : (catalogue : List NamedBeh) (seats : List Seat) (env : Env) → AllByRecursion (λ seat. IsBeh env (beh_at catalogue seat.behaviour)) seats →

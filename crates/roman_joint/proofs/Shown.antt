@@ -1,5 +1,5 @@
 -- A joint's fields in terms of the system that it holds.
-use Rattle.std.proofs.Common.{◌≡◌, ℕ, ◌≤◌, ◌*◌, not, ◌&&◌, length, vec_len, vec_capacity, refl, sym, ap, ap₂, ◌∙◌, subst, arith}
+use Rattle.std.proofs.Common.{◌≡◌, ℕ, ◌≤◌, not, ◌&&◌, length, vec_len, vec_capacity, refl, sym, ap, ◌∙◌, subst, arith}
 use Rattle.std.proofs.lemmas.List.{length-map}
 use Rattle.roman_model.specs.Numbers.{sizes_of, pair_at}
 use Rattle.roman_model.specs.declared.limits.TheConstants.{MAX_SERVICES}
@@ -28,9 +28,7 @@ pub record Shows (a : Inside) (n : NamedSys) : Type 0 where
   pub room : MAX_SERVICES ≤ vec_capacity a.seats
 
 pub shown : (a : Inside) (n : NamedSys) → IsJoint a → named_sys_in a ≡ n → Shows a n
-shown a n h e =
-    subst (λ m. Shows a m) e
-    (record { known = h.known; environment = refl; catalogue = refl; target = refl; seats = refl; limit = refl; shape = h.shape; rows = h.rows; moves = h.moves; scenes = h.scenes; room = h.room })
+shown a n h e = grind arith
 
 -- the fields of a joint fit the system that they hold
 pub record Fits (a : Inside) (n : NamedSys) : Type 0 where
@@ -47,12 +45,7 @@ is_joint a n same ok = let own : Fits a (named_sys_in a) = subst (Fits a) (sym s
 
 -- a table that is kept has the same room
 pub room_kept : (old new : Moves) → IsKept old new → HasRoom old → HasRoom new
-room_kept old new kept room = record {
-  few_envs = omega (arith, kept.same_envs, room.few_envs);
-  few_actions = omega (arith, kept.same_actions, room.few_actions);
-  for_spans = kept.spans_room ∙ (room.for_spans ∙ ap₂ (λ e a. e * a * 32) (sym kept.same_envs) (sym kept.same_actions));
-  for_moves = kept.moves_room ∙ (room.for_moves ∙ ap₂ (λ e a. e * a * 160) (sym kept.same_envs) (sym kept.same_actions));
-}
+room_kept old new kept room = grind arith
 
 -- the length of the seats' Vec is their number in the system
 pub seats_shown : (a : Inside) (n : NamedSys) → Shows a n → vec_len a.seats ≡ length (system_of n).seats

@@ -1,5 +1,5 @@
 -- How rows are made and looked up.
-use Rattle.std.proofs.Common.{◌≡◌, ℕ, zero, suc, ◌+◌, ◌*◌, ◌/◌, ◌%◌, ◌^◌, ◌<◌, ◌≤◌, cond, List, [], ◌∷◌, length, map, drop, slice_index, inl, inr, refl, sym, ap, ap₂, ◌∙◌, subst, arith, ltb}
+use Rattle.std.proofs.Common.{◌≡◌, ℕ, zero, suc, ◌+◌, ◌*◌, ◌/◌, ◌%◌, ◌^◌, ◌<◌, cond, List, [], ◌∷◌, length, map, drop, slice_index, inl, inr, refl, sym, ap, ap₂, ◌∙◌, subst, arith, ltb}
 use Rattle.std.proofs.lemmas.Bool.{cases_eq, lt-ltb, le-ltb}
 use Rattle.std.proofs.lemmas.Nat.{mul-add-lt, mod_below, div-mul-add, mod-mul-add, div-add-mod'}
 use Rattle.std.proofs.lemmas.List.{get_or-set_same, get_or-set_other, length-map}
@@ -42,10 +42,7 @@ positive_of (suc a) w p e pos = omega arith
 
 -- a factor can be cancelled
 pub factor : (x y w : ℕ) → 0 < w → x * w ≡ y * w → x ≡ y
-factor x y w pos e =
-    let less : x ≤ y = row_least x y w 0 pos (omega arith) in
-    let more : y ≤ x = row_least y x w 0 pos (omega arith) in
-    omega arith
+factor x y w pos e = grind (arith, row_least)
 
 -- a stride in rows
 pub stride_rows : (n : Sizes) (k : ℕ) → IsSizes n → k < low_of n.seats → stride_of n k / lanes_of n.seats * lanes_of n.seats ≡ stride_of n k
@@ -55,10 +52,7 @@ stride_rows n k h l =
 
 -- the rows of the target
 pub target_rows_are : (n : Sizes) → target_rows_of n * lanes_of n.seats ≡ target_stride_of n
-target_rows_are n = by n.env (env_rows_of n) (lanes_of n.seats) (env_stride_of n) (env_rows_are n)
-  where
-    by : (e r w p : ℕ) → r * w ≡ p → e * r * w ≡ e * p
-    by e r w p is = let same : e * (r * w) ≡ e * p = ap (λ x. e * x) is in omega arith
+target_rows_are n = grind (arith, env_rows_are)
 
 -- a product divided by a factor
 pub quotient : (a m w : ℕ) → 0 < w → m * w ≡ a → a / w ≡ m
@@ -159,10 +153,7 @@ left_first n r x h rows = ap (λ m. x % m) (rows.env ∙ sym (quotient (product_
 pub row_states_more : (n : Sizes) (states : List ℕ) (x k state : ℕ) → k < length states → state ≡ x / (stride_of n k / lanes_of n.seats) % slice_index n.seats k →
     ((j : ℕ) → j < k → slice_index states j ≡ x / (stride_of n j / lanes_of n.seats) % slice_index n.seats j) →
     (j : ℕ) → j < k + 1 → slice_index (set states k state) j ≡ x / (stride_of n j / lanes_of n.seats) % slice_index n.seats j
-row_states_more n states x k state room is before j l = elim (cases_eq j k) [
-  | inl e ↦ subst (λ i. slice_index (set states k state) i ≡ x / (stride_of n i / lanes_of n.seats) % slice_index n.seats i) (sym e) (get_or-set_same states k state 0 room ∙ is)
-  | inr other ↦ get_or-set_other states k j state 0 other ∙ before j (omega arith)
-]
+row_states_more n states x k state room is before j l = grind (arith, before, cases_eq, get_or-set_other, get_or-set_same, set)
 
 -- the pairs of a row are in range
 pub row_inside : (n : Sizes) (x lane rows : ℕ) → rows * lanes_of n.seats ≡ count n → x < rows → lane < lanes_of n.seats → x * lanes_of n.seats + lane < count n
@@ -202,10 +193,8 @@ row_made s x row sizes start rows is_rows part at_target at_env at_states allowe
       states = λ k lane l h.
           let r : ℕ = stride_of n k / w in
           let is : r * w ≡ stride_of n k = stride_rows n k sizes l in
-          part_at n (x * w + lane) k (inside lane h) (omega (arith, low_of-le n.seats))
-          ∙ (ap (λ y. (x * w + lane) / y % slice_index n.seats k) (sym is)
-          ∙ (ap (λ y. y % slice_index n.seats k) (row_div x w lane r h
-          ∙ sym (ap₂ (λ y z. y / z) first (sym is) ∙ row_div x w 0 r pos))
+          part_at n (x * w + lane) k (inside lane h) (omega (arith, low_of-le n.seats)) ∙ (ap (λ y. (x * w + lane) / y % slice_index n.seats k) (sym is)
+          ∙ (ap (λ y. y % slice_index n.seats k) (row_div x w lane r h ∙ sym (ap₂ (λ y z. y / z) first (sym is) ∙ row_div x w 0 r pos))
           ∙ (sym (part_at n (x * w) k start (omega (arith, low_of-le n.seats))) ∙ sym (state k l))));
       allowed = allowed;
       leading = leading;

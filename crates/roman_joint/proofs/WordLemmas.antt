@@ -15,10 +15,7 @@ pub use Rattle.roman_lanes.proofs.CallerLemmas.{on_set_same, on_set_other}
 -- the first lanes
 pub on_first : (k i : ℕ) → is_on (2 ^ k - 1) i ≡ ltb i k
 unfolding is_on
-on_first k i = elim (cases_lt i k) [
-  | inl less ↦ ap (λ n. eqb n 1) (bit_at_ones k i less) ∙ sym (lt-ltb i k less)
-  | inr more ↦ ap (λ n. eqb n 1) (bit_at_ones_above k i more) ∙ sym (le-ltb i k more)
-]
+on_first k i = grind (arith, bit_at_ones, bit_at_ones_above, cases_lt, le-ltb, lt-ltb)
 
 pub on_shr : (a d i j : ℕ) → j ≡ d + i → is_on (a / 2 ^ d) i ≡ is_on a j
 unfolding is_on

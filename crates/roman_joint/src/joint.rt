@@ -148,6 +148,7 @@ impl Joint {
     }
 
     /// Returns the behaviour of the service at place `k`, from the catalogue.
+    #[tactic(auto, using(crate::proofs::BehaviourLemmas::beh_placed))]
     pub fn behaviour(&self, k: u8) -> &Behaviour
         requires { k < length self.now.seats }
         ensures { IsSeatBehaviour self.now k result.now }

@@ -99,6 +99,7 @@ fn first_lanes(stride: u32, size: u8) -> u64
 }
 
 /// Returns the word with the given lane set if `is_in` is true.
+#[tactic(auto, using(crate::proofs::WordLemmas::on_set_same, crate::proofs::WordLemmas::on_set_other))]
 fn with_lane(word: u64, lane: u32, is_in: bool) -> u64
     requires { lane < 64 }
     ensures own { is_on result lane ≡ (if is_in then true else is_on word lane) }

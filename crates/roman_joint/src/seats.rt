@@ -103,6 +103,7 @@ fn split(shape: &Shape, k: u8, rest: u32) -> (u8, u32)
 }
 
 /// Returns whether a service may rest in a state: the state is final, or the service needn't rest.
+#[tactic(auto, using(crate::proofs::SeatLemmas::seat_beh_read))]
 fn may_rest(catalogue: &[Behaviour], seat: &Seat, state: u8) -> bool
     requires behaviour { seat.now.behaviour < length catalogue.now }
     requires state { state < (beh_at catalogue.now seat.now.behaviour).states }

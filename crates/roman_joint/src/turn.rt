@@ -18,6 +18,7 @@ pub(crate) struct Turn<'a> {
 
 /// Returns the turn of the action `a` from a row, or `None` exactly where the action isn't allowed
 /// there.
+#[tactic(auto, using(roman_rules::proofs::CallerLemmas::bit_off, std::proofs::lemmas::Nat::Bits::shr_and_one, crate::proofs::GoodLemmas::turn_fits))]
 pub(crate) fn turn_of<'a>(joint: &'a Joint, row: &Row, a: u8) -> Option<Turn<'a>>
     requires row { (x : ℕ) × IsRow (system_of joint.now) x row.now }
     requires action { a < (system_of joint.now).env.actions }

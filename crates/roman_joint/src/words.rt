@@ -154,6 +154,7 @@ pub(crate) fn moves_alive(alive: u64, moves: &[Move], good: u64) -> u64
 }
 
 /// Returns the lanes of a word, with those of another added if `is_in` is true.
+#[tactic(auto, using(roman_lanes::proofs::CallerLemmas::on_or))]
 pub(crate) fn with_lanes(word: u64, lanes: u64, is_in: bool) -> u64
     ensures { (lane : ℕ) → is_on result lane ≡ (is_on word lane || (is_on lanes lane && is_in)) }
 {
@@ -161,6 +162,7 @@ pub(crate) fn with_lanes(word: u64, lanes: u64, is_in: bool) -> u64
 }
 
 /// Returns the lanes of a word that aren't lanes of another.
+#[tactic(auto, using(roman_lanes::proofs::CallerLemmas::on_without))]
 pub(crate) fn less(word: u64, other: u64) -> u64
     ensures { (lane : ℕ) → is_on result lane ≡ (is_on word lane && not (is_on other lane)) }
 {

@@ -1,9 +1,9 @@
 -- The steps of the system that combines several targets are steps of the plain system, on the action of the request.
-use Rattle.std.proofs.Common.{◌≡◌, ℕ, zero, suc, ◌==◌, ◌&&◌, not, List, [], ◌∷◌, map, length, Option, Some, None, IsTrue, IsFalse, filter, slice_get, slice_index, inl, inr, refl, sym, ap, subst, eqb-true}
-use Rattle.std.proofs.lemmas.Bool.{false≢true, and_from, and_parts, eq-eqb, not_from_false, not-true}
+use Rattle.std.proofs.Common.{◌≡◌, ℕ, zero, suc, ◌==◌, ◌&&◌, not, List, [], ◌∷◌, map, length, Option, Some, None, IsTrue, filter, slice_get, slice_index, inl, inr, refl, sym, ap, subst, arith, IsFalse, eqb-true}
+use Rattle.std.proofs.lemmas.Bool.{false≢true, and_from, eq-eqb, not_from_false, and_parts, not-true}
 use Rattle.std.proofs.lemmas.Option.{none-some, same_Some, slice_get_within}
 use Rattle.roman_model.specs.Lists.{IsIn, below, is_empty}
-use Rattle.roman_model.specs.System.{Env, Beh, Seat, has, has_triple, has_move, IsEnv, IsBeh, SStep, is_final}
+use Rattle.roman_model.specs.System.{Env, Beh, has, has_triple, has_move, IsEnv, IsBeh, SStep, is_final}
 use Rattle.roman_model.specs.declared.request.Request.{Request}
 use Rattle.roman_model.specs.Several.{Several, of_one}
 use Rattle.roman_model.specs.Combined.{stands_in, requests_of, has_triple_on, has_move_on, combined_beh, combined_seat, all_requests, combined, IsSeveral}
@@ -101,17 +101,7 @@ from_mapped f (x ∷ xs) (suc k) y e = from_mapped f xs k y e
 
 pub plain_sstep : (w : Several) (target : Beh) (bs : List ℕ) (e n k : ℕ) (bs' : List ℕ) (e' : ℕ) (r : Request) → slice_get (all_requests w) n ≡ Some r →
     IsTrue (has_triple w.env e r.action e') → SStep (combined w) bs e n k bs' e' → SStep (of_one w target) bs e r.action k bs' e'
-plain_sstep w target bs e n k bs' e' r at world step =
-    let (seat, seated, is) = from_mapped (combined_seat w.env.states (all_requests w)) w.seats k step.seat step.seated in
-    record {
-      seat = seat;
-      seated = seated;
-      ready = subst (λ (x : Seat). IsFalse x.frozen) is step.ready;
-      world = world;
-      to = step.to;
-      moves = plain_move w seat.beh (slice_index bs k) e n step.to r at (subst (λ (x : Seat). IsTrue (has_move x.beh (slice_index bs k) e n step.to)) is step.moves);
-      is = step.is;
-    }
+plain_sstep w target bs e n k bs' e' r at world step = grind (arith, from_mapped, plain_move)
 
 pub sstep_for : (w : Several) (target : Beh) (bs : List ℕ) (e n k : ℕ) (bs' : List ℕ) (e' : ℕ) (r : Request) → IsSeveral w → slice_get (all_requests w) n ≡ Some r →
     SStep (of_one w target) bs e r.action k bs' e' → SStep (combined w) bs e n k bs' e'

@@ -103,9 +103,7 @@ takes_all : (s : Sys) (P : Controller) (p : Pair) → IsSys s → IsPair s p →
 takes_all s P p ok pair great takes h i a allowed = takes h i (stays_great s P p ok pair great takes h i) a allowed
 
 pub first_takes : (s : Sys) (p : Pair) → IsSys s → IsPair s p → Great s p → TakesOffers s (first_offer s p) p
-first_takes s p ok pair great =
-    takes_all s (first_offer s p) p ok pair great
-    (λ h i now a allowed. first_in (offers s (now_at p h) a) (related_offers s (now_at p h) a ok now allowed))
+first_takes s p ok pair great = takes_all _ _ _ ok pair great (λ h i now a allowed. first_in _ (related_offers _ _ _ ok now allowed))
 
 -- the controller that fulfils a wish where it is offered, and otherwise takes the first offer
 abbrev pub wishing : Sys → Pair → Controller → Controller
@@ -174,11 +172,7 @@ blinded s p P xs a = P (shown s p xs) a
 
 from_blinded : (s : Sys) (P : Controller) (p : Pair) → IsSys s → (h : List Choice) → IsHistory s (by_seen (blinded s p P)) p h → IsHistory s P p h
 from_blinded s P p ok [] i = tt
-from_blinded s P p ok (m ∷ h) i = (
-  from_blinded s P p ok h i.0,
-  i.1 ∙ ap (λ g. P g m.action) (shown_back s (by_seen (blinded s p P)) p ok h i.0),
-  i.2,
-)
+from_blinded s P p ok (m ∷ h) i = grind (arith, shown_back, (from_blinded s P p ok h i.0))
 
 blinded_realises : (s : Sys) (P : Controller) (p : Pair) → IsSys s → Realises s P p → Realises s (by_seen (blinded s p P)) p
 blinded_realises s P p ok realises h i =

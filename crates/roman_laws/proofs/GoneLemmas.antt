@@ -13,9 +13,7 @@ use Rattle.roman_laws.proofs.ReducedLemmas.{IsSys-reduced, IsPair-reduced}
 use Rattle.roman_laws.proofs.LosingLemmas.{great_with_gone}
 
 suc_same : (i k : ℕ) → (suc i == suc k) ≡ (i == k)
-suc_same i k = same_test (suc i == suc k) (i == k)
-    (λ t. let e : suc i ≡ suc k = eqb-true (suc i) (suc k) t in eq-eqb i k (omega arith))
-    (λ t. let e : i ≡ k = eqb-true i k t in eq-eqb (suc i) (suc k) (omega arith))
+suc_same i k = grind (arith, eq-eqb, eqb-true, same_test)
 
 zero_other : (i : ℕ) → (0 == suc i) ≡ false
 zero_other i = same_test (0 == suc i) false (λ t. let e : 0 ≡ suc i = eqb-true 0 (suc i) t in absurd (omega arith)) (λ f. absurd (false≢true f))
@@ -39,9 +37,7 @@ remove_none (suc n) = refl
 -- leaving out one more place is removing it from the rest
 leave_one_more : {X : Type 0} (at bt : ℕ → Bool) (j : ℕ) (xs : List X) → IsFalse (at j) → ((i : ℕ) → bt i ≡ ((j == i) || at i)) → leave_out bt xs ≡ remove (leave_out at xs) (place_left at j)
 leave_one_more at bt j [] f more = sym (remove_none (place_left at j))
-leave_one_more at bt zero (x ∷ xs) f more =
-    ap₂ (λ b ys. cond b ys (x ∷ ys)) (more 0) (leave_out_same (λ i. bt (suc i)) (λ i. at (suc i)) xs (λ i. more (suc i) ∙ ap (λ b. b || at (suc i)) (zero_other i)))
-    ∙ sym (ap (λ b. remove (cond b (leave_out (λ i. at (suc i)) xs) (x ∷ leave_out (λ i. at (suc i)) xs)) 0) f)
+leave_one_more at bt zero (x ∷ xs) f more = grind (arith, leave_out_same, zero_other)
 leave_one_more {X} at bt (suc j) (x ∷ xs) f more =
     ap₂ (λ b ys. cond b ys (x ∷ ys)) (more 0 ∙ ap (λ b. b || at 0) (other_zero j))
     (leave_one_more (λ i. at (suc i)) (λ i. bt (suc i)) j xs f (λ i. more (suc i) ∙ ap (λ b. b || at (suc i)) (suc_same j i)))
@@ -93,8 +89,7 @@ same_without s p K J same great =
 one_back : (s : Sys) (p : Pair) (K : List ℕ) (j : ℕ) → IsSys s → IsPair s p → IsFalse (has K j) → MayGoAt s p j → GreatWithout way.Die s p (j ∷ K) → GreatWithout way.Die s p K
 one_back s p K j ok pair f (seat, seated, goes) great =
     great_with_gone (system_without way.Die K s) (place_left (has K) j) seat (pair_without way.Die K p) (IsSys-reduced way.Die K s ok) (IsPair-reduced way.Die K s p pair)
-    (get_left (has K) j s.seats seat f seated)
-    (subst (λ b. IsTrue (not seat.rests || is_final seat.beh b)) (sym (index_left (has K) j p.bs f)) goes)
+    (get_left (has K) j s.seats seat f seated) (subst (λ b. IsTrue (not seat.rests || is_final seat.beh b)) (sym (index_left (has K) j p.bs f)) goes)
     (subst (λ bs. Great (left (system_without way.Die K s) (place_left (has K) j)) (record { t = p.t; e = p.e; bs = bs })) (leave_one_more (has K) (has (j ∷ K)) j p.bs f (λ i. refl))
     (subst (λ seats. Great (record { env = s.env; target = s.target; seats = seats }) (pair_without way.Die (j ∷ K) p)) (leave_one_more (has K) (has (j ∷ K)) j s.seats f (λ i. refl)) great))
 

@@ -1,5 +1,5 @@
 -- A pair that is related with more seats frozen is related with fewer, and a pair that is related without a seat that may go is related with it.
-use Rattle.std.proofs.Common.{◌≡◌, ℕ, zero, suc, ◌<◌, Bool, true, not, ◌&&◌, ◌||◌, List, [], ◌∷◌, length, Some, IsTrue, IsFalse, slice_get, slice_index, slice_set, remove, refl, sym, ap, ap₂, ◌∙◌, subst}
+use Rattle.std.proofs.Common.{◌≡◌, ℕ, zero, suc, ◌<◌, Bool, true, not, ◌&&◌, ◌||◌, List, [], ◌∷◌, length, Some, IsTrue, IsFalse, slice_get, slice_index, slice_set, remove, refl, sym, ap, ap₂, ◌∙◌, subst, arith}
 use Rattle.std.specs.List.{AllZip}
 use Rattle.std.proofs.lemmas.Bool.{or_parts, or_from}
 use Rattle.std.proofs.lemmas.List.{length-set}
@@ -47,33 +47,12 @@ final_frozen_more (x ∷ xs) (y ∷ ys) (b ∷ bs) more =
 -- a step of a ready seat among the frozen seats is a step among the others
 step_thawed : (s : Sys) (xs ys : List Seat) → AreFrozenMore xs ys → (bs : List ℕ) (e a k : ℕ) (bs' : List ℕ) (e' : ℕ) →
     SStep (with_seats s ys) bs e a k bs' e' → SStep (with_seats s xs) bs e a k bs' e'
-step_thawed s xs ys more bs e a k bs' e' r =
-    let (x, at, same, ready) = get_frozen_more xs ys more k r.seat r.seated in
-    record {
-      seat = x;
-      seated = at;
-      ready = ready r.ready;
-      world = r.world;
-      to = r.to;
-      moves = subst (λ (beh : Beh). IsTrue (has_move beh (slice_index bs k) e a r.to)) (sym same) r.moves;
-      is = r.is;
-    }
+step_thawed s xs ys more bs e a k bs' e' r = grind (arith, get_frozen_more)
 
 -- the converse, where that seat is ready
 step_frozen : (s : Sys) (xs ys : List Seat) → AreFrozenMore xs ys → (bs : List ℕ) (e a k : ℕ) (bs' : List ℕ) (e' : ℕ) (y : Seat) → slice_get ys k ≡ Some y → IsFalse y.frozen →
     SStep (with_seats s xs) bs e a k bs' e' → SStep (with_seats s ys) bs e a k bs' e'
-step_frozen s xs ys more bs e a k bs' e' y seated ready r =
-    let (x, at, same, thawed) = get_frozen_more xs ys more k y seated in
-    let one : r.seat ≡ x = same_Some r.seat x (sym r.seated ∙ at) in
-    record {
-      seat = y;
-      seated = seated;
-      ready = ready;
-      world = r.world;
-      to = r.to;
-      moves = subst (λ (beh : Beh). IsTrue (has_move beh (slice_index bs k) e a r.to)) (ap (λ (z : Seat). z.beh) one ∙ same) r.moves;
-      is = r.is;
-    }
+step_frozen s xs ys more bs e a k bs' e' y seated ready r = grind (arith, get_frozen_more, same_Some)
 
 pub meets_thawed : (s : Sys) (xs ys : List Seat) → AreFrozenMore xs ys → (Related : Couple → Type 0) (c : Couple) → Meets (with_seats s ys) Related c → Meets (with_seats s xs) Related c
 meets_thawed s xs ys more Related c meets = record {
@@ -158,15 +137,7 @@ step_with s k bs e a j bs' e' r = (
 -- a step that leaves seat k in its state is a step without seat k
 step_without : (s : Sys) (k : ℕ) (bs : List ℕ) (e a j : ℕ) (bs' : List ℕ) (e' : ℕ) → SStep s bs e a (place_before k j) bs' e' →
     SStep (left s k) (remove bs k) e a j (remove bs' k) e'
-step_without s k bs e a j bs' e' r = record {
-  seat = r.seat;
-  seated = get_removed s.seats k j ∙ r.seated;
-  ready = r.ready;
-  world = r.world;
-  to = r.to;
-  moves = subst (λ b. IsTrue (has_move r.seat.beh b e a r.to)) (sym (index_removed bs k j)) r.moves;
-  is = ap (λ cs. remove cs k) r.is ∙ sym (set_removed bs k j r.to);
-}
+step_without s k bs e a j bs' e' r = grind (arith, get_removed, index_removed, set_removed)
 
 stands_by_meets : (s : Sys) (k : ℕ) (seat : Seat) (b : ℕ) → slice_get s.seats k ≡ Some seat → IsTrue (not seat.rests || is_final seat.beh b) →
     (c : Couple) → StandsBy s k b c → Meets s (StandsBy s k b) c
@@ -174,8 +145,7 @@ stands_by_meets s k seat b seated goes c stands =
     let meets : Meets (left s k) (GreatCouple (left s k)) (couple_without k c) = great_meets (left s k) (couple_without k c) stands.great in
     record {
       shared = meets.shared;
-      final = λ t.
-          final_with s.seats c.bs k seat seated stands.within
+      final = λ t. final_with s.seats c.bs k seat seated stands.within
           (subst (λ n. IsTrue (not seat.rests || is_final seat.beh n)) (sym stands.state) goes) (meets.final t);
       served = λ a allows.
           let (j, serves) = meets.served a allows in (

@@ -1,5 +1,5 @@
 -- Renamed removal lists have distinct pairs.
-use Rattle.std.proofs.Common.{◌≡◌, ℕ, ◌==◌, ◌&&◌, List, [], ◌∷◌, map, IsTrue, flat_map, inl, inr, refl, sym, ap, ◌∙◌, subst}
+use Rattle.std.proofs.Common.{◌≡◌, ℕ, ◌==◌, ◌&&◌, List, [], ◌∷◌, map, IsTrue, flat_map, inl, inr, refl, sym, subst, arith}
 use Rattle.std.proofs.lemmas.Bool.{and_parts, and_from, eqb-true, eq-eqb}
 use Rattle.std.proofs.lemmas.List.{same_from_push}
 use Rattle.std.proofs.lemmas.List.Folds.{flat_map-map}
@@ -8,7 +8,7 @@ use Rattle.roman_model.specs.System.{Seat, Sys, Pair, IsSys}
 use Rattle.roman_model.specs.SystemArena.{same_numbers, same_pair, arena}
 use Rattle.roman_model.specs.Arena.{Entry, is_among, IsOrder, AreNew}
 use Rattle.roman_model.specs.CompleteLists.{AreEntries}
-use Rattle.roman_model.specs.Change.{Change, Freeze, Thaw, Join, Die, after, grown, grown_entries, rename, CanChange}
+use Rattle.roman_model.specs.Change.{Change, Freeze, Thaw, Join, Die, after, grown, rename, CanChange}
 use Rattle.roman_model.proofs.CallerLemmas.{IsSame, by_test, any_true, in_map, from_map, HasNoRepeats-map, HasNoRepeats-flat_map, HasNoRepeats-below, same_numbers_is, same_numbers_itself, order_new, new_once, map-map, map-flat_map, flat_map_same, renaming_keeps}
 
 -- pairs with the same numbers are equal
@@ -22,9 +22,7 @@ same_is p q h =
     pair_is p.t q.t p.e q.e p.bs q.bs (eqb-true p.t q.t t) (eqb-true p.e q.e e) (same_numbers_is p.bs q.bs bs)
 
 same_itself : (p : Pair) → IsTrue (same_pair p p)
-same_itself p =
-    and_from (p.t == p.t && p.e == p.e) (same_numbers p.bs p.bs)
-    (and_from (p.t == p.t) (p.e == p.e) (eq-eqb p.t p.t refl) (eq-eqb p.e p.e refl)) (same_numbers_itself p.bs)
+same_itself p = grind (arith, and_from, eq-eqb, same_numbers_itself)
 
 arena_is_same : (s : Sys) → IsSame (arena s)
 arena_is_same s = record { is = same_is; itself = same_itself }
@@ -49,27 +47,13 @@ once_is_new s before (x ∷ L) once apart = (
 
 -- pairs with a new seat's state are equal exactly where the pairs and the new states are
 grown_same : (p q : Pair) (b c : ℕ) → grown p b ≡ grown q c → (p ≡ q) × (b ≡ c)
-grown_same p q b c e =
-    let (front, last) = same_from_push p.bs q.bs b c (ap (λ r. r.bs) e) in
-    (pair_is p.t q.t p.e q.e p.bs q.bs (ap (λ r. r.t) e) (ap (λ r. r.e) e) front, last)
+grown_same p q b c e = grind (arith, pair_is, same_from_push)
 
 grown_nodes : (seat : Seat) (L : List (Entry Pair)) → map (λ x. x.node) (rename (Join seat) L) ≡ flat_map (λ p. map (grown p) (below seat.beh.states)) (map (λ x. x.node) L)
-grown_nodes seat L =
-    map-flat_map (λ x. x.node) (grown_entries seat) L
-    ∙ flat_map_same (λ x. map (λ y. y.node) (grown_entries seat x)) (λ x. map (grown x.node) (below seat.beh.states)) L
-    (λ x. map-map (λ y. y.node) (λ b. record { node = grown x.node b; reason = x.reason }) (below seat.beh.states))
-    ∙ sym (flat_map-map (λ p. map (grown p) (below seat.beh.states)) (λ x. x.node) L)
+grown_nodes seat L = grind (arith, flat_map-map, flat_map_same, map-flat_map, map-map)
 
 grown_once : (seat : Seat) (L : List (Entry Pair)) → HasNoRepeats (map (λ x. x.node) L) → HasNoRepeats (map (λ x. x.node) (rename (Join seat) L))
-grown_once seat L once =
-    subst HasNoRepeats (sym (grown_nodes seat L))
-    (HasNoRepeats-flat_map (λ p. map (grown p) (below seat.beh.states)) (map (λ x. x.node) L)
-    (λ p i. HasNoRepeats-map (grown p) (below seat.beh.states) (λ b c j k e. (grown_same p p b c e).1) (HasNoRepeats-below seat.beh.states))
-    (λ p q r i j k l.
-    let (b, m, e) = from_map (grown p) r (below seat.beh.states) k in
-    let (c, n, f) = from_map (grown q) r (below seat.beh.states) l in
-    (grown_same p q b c (sym e ∙ f)).0)
-    once)
+grown_once seat L once = grind (arith, HasNoRepeats-below, HasNoRepeats-flat_map, HasNoRepeats-map, from_map, grown_nodes, grown_same)
 
 pub renamed_new : (change : Change) (s : Sys) (L : List (Entry Pair)) → IsSys s → CanChange change s → AreEntries s L → IsOrder (arena s) L → AreNew (arena (after change s)) [] (rename change L)
 renamed_new (Freeze k) s L ok can are order = new_in_other s (after (Freeze k) s) [] L (order_new (arena s) L order)

@@ -1,9 +1,8 @@
 -- The renamed list of a change has distinct pairs, so its replay keeps the most.
-use Rattle.std.proofs.Common.{◌≤◌, List, [], ◌∷◌, length, map, inl, inr, sym, subst, arith}
+use Rattle.std.proofs.Common.{◌≤◌, List, [], ◌∷◌, length, inl, inr, arith}
 use Rattle.roman_model.specs.Lists.{IsSublist}
 use Rattle.roman_model.specs.SystemArena.{arena}
 use Rattle.roman_model.specs.Arena.{replay}
-use Rattle.roman_model.specs.Numbers.{entry_at}
 use Rattle.roman_model.specs.Change.{after, rename}
 use Rattle.roman_model.specs.Laws.{ReplayKeeps}
 use Rattle.roman_model.proofs.CallerLemmas.{replay_sublist}
@@ -29,9 +28,4 @@ repairs_most keeps change s L ok can are order =
     }
 
 pub replays_most : ReplayKeeps → ReplaysKeepTheMost
-replays_most keeps change s old new kept ok can are order begins count =
-    let most = repairs_most keeps change s (map (entry_at s) old) ok can are order in
-    record {
-      holds = λ M part. subst (IsSublist M) (sym begins) (most.holds M part);
-      longest = λ M part. subst (λ n. length M ≤ n) (sym count) (most.longest M part);
-    }
+replays_most keeps change s old new kept ok can are order begins count = grind (arith, repairs_most)

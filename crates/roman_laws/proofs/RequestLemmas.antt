@@ -96,14 +96,13 @@ serves_combined : (w : Several) (p : Pair) (n i : ℕ) (target : Beh) (a k : ℕ
     ServesAll w (GreatAll w) (couple_all w p) i target a k → Serves (combined w) (GreatCouple (combined w)) (couple p) n k
 serves_combined w p n i target a k ok pair asks serves t' e' tstep =
     let r : Request = record { target = i; action = a } in
-    let own : IsOwnStep w p.t p.e t' i a target = own_step w p.t p.e n t' i a target asks tstep.1 in
-    let world : IsTrue (has_triple w.env p.e a e') = world_of w p.e n e' i a target asks tstep.0 in
+    let own : IsOwnStep w p.t p.e t' i a target = own_step _ _ _ _ _ _ _ _ asks tstep.1 in
+    let world : IsTrue (has_triple w.env p.e a e') = world_of _ _ _ _ _ _ _ asks tstep.0 in
     let (some, all) = serves (slice_index (targets_at w t') i) e' (world, own.goes) in (
-      (some.0, sstep_for w target p.bs p.e n k some.0 e' r ok asks.request some.1),
-      λ bs' sstep.
-          ((combined_is_all w ok).great (record { t = t'; e = e'; bs = bs' }) (next_pair w p n k t' bs' e' ok pair tstep sstep)).1
+      (some.0, sstep_for _ _ _ _ _ _ _ _ _ ok asks.request some.1),
+      λ bs' sstep. ((combined_is_all w ok).great (record { t = t'; e = e'; bs = bs' }) (next_pair _ _ _ _ _ _ _ ok pair tstep sstep)).1
           (subst (λ (ts : List ℕ). GreatAll w (record { ts = ts; e = e'; bs = bs'; e2 = e' })) own.others
-          (all bs' (plain_sstep w target p.bs p.e n k bs' e' r asks.request world sstep))),
+          (all bs' (plain_sstep _ _ _ _ _ _ _ _ _ asks.request world sstep))),
     )
 
 combined_serves : (w : Several) (p : Pair) (n i : ℕ) (target : Beh) (a k : ℕ) → IsSeveral w → IsPair (combined w) p → IsRequestOf w n i target a →

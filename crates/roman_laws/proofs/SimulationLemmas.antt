@@ -1,5 +1,5 @@
 -- Each relation that meets the three clauses of an ND-simulation is part of the greatest one, even if it can't be listed.
-use Rattle.std.proofs.Common.{ℕ, zero, suc, not, Bool, length, IsTrue, inl, inr}
+use Rattle.std.proofs.Common.{ℕ, zero, suc, Bool, length, IsTrue, inl, inr, arith}
 use Rattle.std.specs.List.{list_any}
 use Rattle.std.proofs.lemmas.Bool.{both_ways, or_cases, or_left, or_right, not-true, not_from_false}
 use Rattle.std.proofs.lemmas.Option.{slice_get_within}
@@ -13,9 +13,7 @@ use Rattle.roman_model.proofs.CallerLemmas.{by_test, any_true, in_not_empty, fro
 
 -- clause 2, from its test
 pub fine_from : (s : Sys) (p : Pair) → (IsTrue (is_final s.target p.t) → IsTrue (all_final s.seats p.bs)) → IsTrue (is_fine s p)
-fine_from s p h = by_test (is_final s.target p.t)
-    (λ t. or_right (not (is_final s.target p.t)) (all_final s.seats p.bs) (h t))
-    (λ f. or_left (not (is_final s.target p.t)) (all_final s.seats p.bs) (not_from_false (is_final s.target p.t) f))
+fine_from s p h = grind (arith, by_test, not_from_false, or_left, or_right)
 
 -- a seat that serves isn't beaten, where no related pair is gone
 serves_unbeaten : (s : Sys) (Related : Couple → Type 0) (gone : Pair → Bool) (p : Pair) (a k : ℕ) → IsSys s → IsTrue (is_allowed s p a) →
@@ -25,8 +23,7 @@ serves_unbeaten s Related gone p a k ok allowed apart serves beaten =
       | inl none ↦
           let (t', e', step) = from_allowed s p a allowed in
           let (bs', r) = (serves t' e' step).0 in
-          both_ways (is_empty (outcomes s p a k))
-          (in_not_empty (record { t = t'; e = e'; bs = bs' }) (outcomes s p a k) (outcome_in s p a k t' e' bs' ok step r)) none
+          both_ways (is_empty (outcomes s p a k)) (in_not_empty (record { t = t'; e = e'; bs = bs' }) (outcomes s p a k) (outcome_in s p a k t' e' bs' ok step r)) none
       | inr found ↦
           let (q, i, t) = any_true gone (outcomes s p a k) found in
           let (target, system) = from_outcome s p a k q i in
@@ -53,9 +50,8 @@ closed_apart s Related ok closed (suc n) p t r =
 -- each pair of a relation that meets the clauses is related
 pub closed_great : (s : Sys) (Related : Couple → Type 0) → IsSys s → ((c : Couple) → Related c → Meets s Related c) →
     (p : Pair) → IsPair s p → Related (couple p) → Great s p
-closed_great s Related ok closed p pair r = related_great s p ok pair
-    (by_test (loses (arena s) (length (pairs s)) p)
-    (λ t. absurd (closed_apart s Related ok closed (length (pairs s)) p t r))
+closed_great s Related ok closed p pair r =
+    related_great s p ok pair (by_test (loses (arena s) (length (pairs s)) p) (λ t. absurd (closed_apart s Related ok closed (length (pairs s)) p t r))
     (λ f. not_from_false (loses (arena s) (length (pairs s)) p) f))
 
 -- the clauses still hold in a larger relation

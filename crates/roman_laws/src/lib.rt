@@ -19,6 +19,7 @@ use roman_model::replay_keeps;
 /// Some controller realises the target from a pair exactly where the pair is related. The controllers
 /// that realise it are exactly those that take offers. Each wish that is offered is fulfilled by one
 /// of them, and none needs to see the target's state.
+#[tactic(auto, using(crate::proofs::ControllerLemmas::generator_all))]
 pub fn controllers_take_offers()
     ensures controllers { ControllersTakeOffers }
 {}
@@ -26,6 +27,7 @@ pub fn controllers_take_offers()
 /// A pair that is related with more services frozen is related with fewer. A pair that is related
 /// after a death was related before it, where the service that died was loose or in a final state. A
 /// set of services whose loss leaves the pair unrelated contains a least such set.
+#[tactic(auto, using(crate::proofs::LosingLaws::losing_never, crate::proofs::LosingLaws::least_suffice))]
 pub fn losing_never_helps()
     ensures never { LosingNeverHelps }
     ensures least { LeastFailingSuffice }
@@ -40,6 +42,7 @@ pub fn reduced_are_systems()
 /// The system that combines several targets allows exactly the requests of each target, and offers
 /// exactly the services that serve all targets. Each of its turns is a turn of the requesting target:
 /// the services that serve it are those that serve all targets, and no other target moves.
+#[tactic(auto, using(crate::proofs::RequestLemmas::requests_of, crate::proofs::RequestLemmas::turns_of))]
 pub fn requests_of_targets()
     ensures requests { RequestsOfTargets }
     ensures turns { TurnsOfTargets }
@@ -47,6 +50,7 @@ pub fn requests_of_targets()
 
 /// Each change keeps the longest part of the renamed removal list that is a removal list of the
 /// changed system.
+#[tactic(auto, using(crate::proofs::RepairLemmas::repairs_most, crate::proofs::RepairLemmas::replays_most))]
 pub fn repairs_keep_the_most()
     ensures kept { RepairsKeepTheMost }
     ensures replayed { ReplaysKeepTheMost }

@@ -1,5 +1,5 @@
 -- Least worst-case costs, computed one action, one seat and one outcome at a time.
-use Rattle.std.proofs.Common.{◌≡◌, ℕ, zero, suc, ◌+◌, ◌*◌, ◌<◌, ◌≤◌, Bool, true, false, cond, List, [], ◌∷◌, ◌++◌, map, filter, nat_le, refl, ap, ◌∙◌, arith, add-one, append-nil}
+use Rattle.std.proofs.Common.{◌≡◌, ℕ, zero, suc, ◌+◌, ◌*◌, ◌<◌, ◌≤◌, Bool, cond, List, [], ◌∷◌, ◌++◌, map, filter, nat_le, refl, ap, ◌∙◌, arith, rules}
 use Rattle.std.specs.Prelude.{max}
 use Rattle.std.proofs.lemmas.List.Elements.{filter-append}
 use Rattle.roman_model.specs.Lists.{below}
@@ -14,20 +14,11 @@ use Rattle.roman_model.proofs.PlanLemmas.{max_over_le, max_over_same}
 -- The greatest value of a list that grows at its end.
 
 pub max_over-append : {X : Type 0} (f : X → ℕ) (xs ys : List X) → max_over f (xs ++ ys) ≡ max (max_over f xs) (max_over f ys)
-max_over-append f [] ys = zero_first (max_over f ys)
-  where
-    zero_first : (n : ℕ) → n ≡ max 0 n
-    zero_first n = omega arith
-max_over-append f (x ∷ xs) ys = ap (max (f x)) (max_over-append f xs ys) ∙ three (f x) (max_over f xs) (max_over f ys)
-  where
-    three : (a b c : ℕ) → max a (max b c) ≡ max (max a b) c
-    three a b c = omega arith
+max_over-append f [] ys = grind arith
+max_over-append f (x ∷ xs) ys = grind (arith, (max_over-append f xs ys))
 
 pub max_over_push : {X : Type 0} (f : X → ℕ) (xs : List X) (x : X) → max_over f (xs ++ x ∷ []) ≡ max (max_over f xs) (f x)
-max_over_push f xs x = max_over-append f xs (x ∷ []) ∙ ap (max (max_over f xs)) (last (f x))
-  where
-    last : (n : ℕ) → max n 0 ≡ n
-    last n = omega arith
+max_over_push f xs x = grind (arith, max_over-append)
 
 pub max_over-map : {X Y : Type 0} (f : Y → ℕ) (g : X → Y) (xs : List X) → max_over f (map g xs) ≡ max_over (λ x. f (g x)) xs
 max_over-map f g [] = refl
@@ -35,25 +26,13 @@ max_over-map f g (x ∷ xs) = ap (max (f (g x))) (max_over-map f g xs)
 
 -- the greatest value over the passing numbers up to n
 pub max_over_below : (f : ℕ → ℕ) (p : ℕ → Bool) (n : ℕ) → max_over f (filter p (below (n + 1))) ≡ cond (p n) (max (max_over f (filter p (below n))) (f n)) (max_over f (filter p (below n)))
-max_over_below f p n =
-    ap (λ m. max_over f (filter p (below m))) (add-one n) ∙ ap (max_over f) (filter-append p (below n) (n ∷ [])) ∙ by (p n)
-  where
-    by : (b : Bool) → max_over f (filter p (below n) ++ cond b (n ∷ []) []) ≡ cond b (max (max_over f (filter p (below n))) (f n)) (max_over f (filter p (below n)))
-    by true = max_over_push f (filter p (below n)) n
-    by false = ap (max_over f) (append-nil (filter p (below n)))
+max_over_below f p n = search (rules, filter-append, max_over_push)
 
 -- The first least element of a list that grows at its end.
 
 pub least_from_push : (f : ℕ → ℕ) (x : ℕ) (xs : List ℕ) (y : ℕ) → least_from f x (xs ++ y ∷ []) ≡ cond (nat_le (f (least_from f x xs)) (f y)) (least_from f x xs) y
 least_from_push f x [] y = refl
-least_from_push f x (z ∷ xs) y = by (nat_le (f x) (f z)) (least_from_push f x xs y) (least_from_push f z xs y)
-  where
-    by : (b : Bool) → least_from f x (xs ++ y ∷ []) ≡ cond (nat_le (f (least_from f x xs)) (f y)) (least_from f x xs) y →
-        least_from f z (xs ++ y ∷ []) ≡ cond (nat_le (f (least_from f z xs)) (f y)) (least_from f z xs) y →
-        cond b (least_from f x (xs ++ y ∷ [])) (least_from f z (xs ++ y ∷ []))
-        ≡ cond (nat_le (f (cond b (least_from f x xs) (least_from f z xs))) (f y)) (cond b (least_from f x xs) (least_from f z xs)) y
-    by true here there = here
-    by false here there = there
+least_from_push f x (z ∷ xs) y = grind (arith, (least_from_push f x xs y), (least_from_push f z xs y))
 
 -- Over the numbers of pairs.
 

@@ -1,5 +1,5 @@
 -- Lemmas on any arena: listed nodes, beaten seats, reasons, masks, and nodes that survive.
-use Rattle.std.proofs.Common.{◌≡◌, ◌≢◌, ℕ, ◌<◌, ◌≤◌, ◌==◌, Bool, cond, not, ◌&&◌, ◌||◌, ◌⊎◌, List, [], ◌∷◌, ◌++◌, map, IsTrue, IsFalse, filter, flat_map, inl, inr, refl, sym, ap, ◌∙◌, subst, arith}
+use Rattle.std.proofs.Common.{◌≡◌, ◌≢◌, ℕ, ◌<◌, ◌≤◌, Bool, not, ◌&&◌, ◌||◌, ◌⊎◌, List, [], ◌∷◌, ◌++◌, map, IsTrue, IsFalse, filter, flat_map, inl, refl, sym, ap, ◌∙◌, subst, arith, rules}
 use Rattle.std.specs.List.{list_any}
 use Rattle.std.proofs.Math.Bool.{or-false}
 use Rattle.std.proofs.lemmas.Bool.{both_ways, or_cases, or_parts, or_left, or_right, or_from, and_parts, and_from, and_cases, and_left, not-true, not_from_false, eqb-true, eq-eqb, cond-true, cond-false}
@@ -62,10 +62,7 @@ listed_push A L x p = listed_append A L (x ∷ []) p ∙ ap (λ b. is_listed A L
 -- a beaten seat stays beaten where more nodes are gone
 pub beaten_more : {N : Type 0} (A : Arena N) (gone more : N → Bool) (p : N) (a k : ℕ) →
     ((q : N) → IsIn q (A.outcomes p a k) → IsTrue (gone q) → IsTrue (more q)) → IsTrue (is_beaten A gone p a k) → IsTrue (is_beaten A more p a k)
-beaten_more A gone more p a k h b = elim (or_cases (is_empty (A.outcomes p a k)) (list_any gone (A.outcomes p a k)) b) [
-  | inl none ↦ or_left (is_empty (A.outcomes p a k)) (list_any more (A.outcomes p a k)) none
-  | inr some ↦ or_right (is_empty (A.outcomes p a k)) (list_any more (A.outcomes p a k)) (any_more gone more (A.outcomes p a k) h some)
-]
+beaten_more A gone more p a k h b = grind (arith, any_more, or_cases, or_left, or_right)
 
 pub beaten_same : {N : Type 0} (A : Arena N) (gone more : N → Bool) (p : N) (a k : ℕ) →
     ((q : N) → IsIn q (A.outcomes p a k) → gone q ≡ more q) → is_beaten A gone p a k ≡ is_beaten A more p a k
@@ -73,8 +70,7 @@ beaten_same A gone more p a k h = ap (λ b. is_empty (A.outcomes p a k) || b) (a
 
 pub beaten_is : {N : Type 0} (A : Arena N) (gone : N → Bool) (p : N) (a k : ℕ) → IsTrue (is_beaten A gone p a k) →
     (A.outcomes p a k ≡ []) ⊎ ((q : N) × IsIn q (A.outcomes p a k) × IsTrue (gone q))
-beaten_is A gone p a k b = elim (or_cases (is_empty (A.outcomes p a k)) (list_any gone (A.outcomes p a k)) b)
-    [ inl none ↦ inl (empty_is (A.outcomes p a k) none) | inr some ↦ inr (any_true gone (A.outcomes p a k) some) ]
+beaten_is A gone p a k b = grind (arith, any_true, empty_is, or_cases)
 
 pub beaten_none : {N : Type 0} (A : Arena N) (gone : N → Bool) (p : N) (a k : ℕ) → A.outcomes p a k ≡ [] → IsTrue (is_beaten A gone p a k)
 beaten_none A gone p a k e = or_left (is_empty (A.outcomes p a k)) (list_any gone (A.outcomes p a k)) (ap is_empty e)
@@ -84,14 +80,11 @@ beaten_by A gone p a k q i g = or_right (is_empty (A.outcomes p a k)) (list_any 
 
 pub unbeaten_is : {N : Type 0} (A : Arena N) (gone : N → Bool) (p : N) (a k : ℕ) → IsFalse (is_beaten A gone p a k) →
     (A.outcomes p a k ≢ []) × ((q : N) → IsIn q (A.outcomes p a k) → IsFalse (gone q))
-unbeaten_is A gone p a k b =
-    let (some, all) = or_parts (is_empty (A.outcomes p a k)) (list_any gone (A.outcomes p a k)) b in
-    (not_empty_ne (A.outcomes p a k) some, λ q i. any_false gone q (A.outcomes p a k) all i)
+unbeaten_is A gone p a k b = grind (arith, any_false, not_empty_ne, or_parts)
 
 pub unbeaten_from : {N : Type 0} (A : Arena N) (gone : N → Bool) (p : N) (a k : ℕ) → A.outcomes p a k ≢ [] →
     ((q : N) → IsIn q (A.outcomes p a k) → IsFalse (gone q)) → IsFalse (is_beaten A gone p a k)
-unbeaten_from A gone p a k some all =
-    or_from (is_empty (A.outcomes p a k)) (list_any gone (A.outcomes p a k)) (ne_not_empty (A.outcomes p a k) some) (none_from gone (A.outcomes p a k) all)
+unbeaten_from A gone p a k some all = grind (arith, ne_not_empty, none_from, or_from)
 
 -- Reasons.
 
@@ -99,21 +92,16 @@ unbeaten_from A gone p a k some all =
 pub justified_more : {N : Type 0} (A : Arena N) (gone more : N → Bool) (p : N) (r : Reason) →
     ((a k : ℕ) (q : N) → IsIn q (A.outcomes p a k) → IsTrue (gone q) → IsTrue (more q)) → IsTrue (is_justified A gone p r) → IsTrue (is_justified A more p r)
 justified_more A gone more p Final h j = j
-justified_more A gone more p (Act a) h j =
-    let (allowed, each) = and_parts (A.allows p a) (all_below (is_beaten A gone p a) A.seats) j in
-    and_from (A.allows p a) (all_below (is_beaten A more p a) A.seats) allowed
-    (all_below_more (is_beaten A gone p a) (is_beaten A more p a) A.seats (λ k l. beaten_more A gone more p a k (h a k)) each)
+justified_more A gone more p (Act a) h j = grind (arith, all_below_more, and_from, and_parts, beaten_more)
 
 pub justified_same : {N : Type 0} (A : Arena N) (gone more : N → Bool) (p : N) (r : Reason) →
     ((a k : ℕ) (q : N) → IsIn q (A.outcomes p a k) → gone q ≡ more q) → is_justified A gone p r ≡ is_justified A more p r
 justified_same A gone more p Final h = refl
-justified_same A gone more p (Act a) h =
-    ap (λ b. A.allows p a && b) (all_below_same (is_beaten A gone p a) (is_beaten A more p a) A.seats (λ k l. beaten_same A gone more p a k (h a k)))
+justified_same A gone more p (Act a) h = grind (arith, all_below_same, beaten_same)
 
 pub justified_by : {N : Type 0} (A : Arena N) (gone : N → Bool) (p : N) (a : ℕ) → IsTrue (A.allows p a) →
     ((k : ℕ) → k < A.seats → IsTrue (is_beaten A gone p a k)) → IsTrue (is_justified A gone p (Act a))
-justified_by A gone p a allowed each =
-    and_from (A.allows p a) (all_below (is_beaten A gone p a) A.seats) allowed (all_below_from (is_beaten A gone p a) A.seats each)
+justified_by A gone p a allowed each = grind (arith, all_below_from, and_from)
 
 pub justified_is : {N : Type 0} (A : Arena N) (gone : N → Bool) (p : N) (a : ℕ) → IsTrue (is_justified A gone p (Act a)) →
     IsTrue (A.allows p a) × ((k : ℕ) → k < A.seats → IsTrue (is_beaten A gone p a k))
@@ -127,30 +115,20 @@ unallowed_unjustified A gone p a f = and_left (A.allows p a) (all_below (is_beat
 -- where the action isn't a reason though it is allowed, some seat isn't beaten
 pub unjustified_act : {N : Type 0} (A : Arena N) (gone : N → Bool) (p : N) (a : ℕ) → IsTrue (A.allows p a) → IsFalse (is_justified A gone p (Act a)) →
     (k : ℕ) × (k < A.seats) × IsFalse (is_beaten A gone p a k)
-unjustified_act A gone p a allowed j = elim (and_cases (A.allows p a) (all_below (is_beaten A gone p a) A.seats) j)
-    [ inl fails ↦ absurd (both_ways (A.allows p a) fails allowed) | inr some ↦ all_below_false (is_beaten A gone p a) A.seats some ]
+unjustified_act A gone p a allowed j = grind (arith, all_below_false, and_cases, both_ways)
 
 -- Masks.
 
 pub in_mask : {N : Type 0} (A : Arena N) (gone : N → Bool) (p : N) (a k : ℕ) → IsTrue (A.allows p a) → k < A.seats → IsFalse (is_beaten A gone p a k) → IsIn k (mask A gone p a)
-in_mask A gone p a k allowed l b =
-    subst (λ ks. IsIn k ks) (sym (cond-true (A.allows p a) (filter (λ j. not (is_beaten A gone p a j)) (below A.seats)) [] allowed))
-    (in_filter (λ j. not (is_beaten A gone p a j)) k (below A.seats) (in_below A.seats k l) (not_from_false (is_beaten A gone p a k) b))
+in_mask A gone p a k allowed l b = search (rules, cond-true, in_below, in_filter, not_from_false)
 
 pub from_mask : {N : Type 0} (A : Arena N) (gone : N → Bool) (p : N) (a k : ℕ) → IsIn k (mask A gone p a) →
     IsTrue (A.allows p a) × (k < A.seats) × IsFalse (is_beaten A gone p a k)
-from_mask A gone p a k i = by_test (A.allows p a)
-    (λ t.
-    let (j, b) = filter_in (λ j. not (is_beaten A gone p a j)) k (below A.seats)
-    (subst (λ ks. IsIn k ks) (cond-true (A.allows p a) (filter (λ j. not (is_beaten A gone p a j)) (below A.seats)) [] t) i) in
-    (t, from_below A.seats k j, not-true (is_beaten A gone p a k) b))
-    (λ f. absurd (subst (λ ks. IsIn k ks) (cond-false (A.allows p a) (filter (λ j. not (is_beaten A gone p a j)) (below A.seats)) [] f) i))
+from_mask A gone p a k i = grind (arith, by_test, cond-false, cond-true, filter_in, from_below, not-true)
 
 pub mask_same : {N : Type 0} (A : Arena N) (gone more : N → Bool) (p : N) (a : ℕ) →
     ((k : ℕ) (q : N) → IsIn q (A.outcomes p a k) → gone q ≡ more q) → mask A gone p a ≡ mask A more p a
-mask_same A gone more p a h =
-    ap (λ ks. cond (A.allows p a) ks [])
-    (filter_same (λ k. not (is_beaten A gone p a k)) (λ k. not (is_beaten A more p a k)) (below A.seats) (λ k i. ap not (beaten_same A gone more p a k (h k))))
+mask_same A gone more p a h = grind (arith, beaten_same, filter_same)
 
 -- the mask is empty where the action isn't allowed
 pub mask_none : {N : Type 0} (A : Arena N) (gone : N → Bool) (p : N) (a : ℕ) → IsFalse (A.allows p a) → mask A gone p a ≡ []
@@ -158,25 +136,14 @@ mask_none A gone p a f = cond-false (A.allows p a) (filter (λ k. not (is_beaten
 
 -- a seat is in the mask exactly where its test passes: a bit of the mask
 pub mask_has : {N : Type 0} (A : Arena N) (gone : N → Bool) (p : N) (a k : ℕ) → k < A.seats → has (mask A gone p a) k ≡ (A.allows p a && not (is_beaten A gone p a k))
-mask_has A gone p a k l = same_test (has (mask A gone p a) k) (A.allows p a && not (is_beaten A gone p a k))
-    (λ t.
-    let (j, i, e) = any_true (λ m. m == k) (mask A gone p a) t in
-    let (allowed, m, b) = from_mask A gone p a k (subst (λ m. IsIn m (mask A gone p a)) (eqb-true j k e) i) in
-    and_from (A.allows p a) (not (is_beaten A gone p a k)) allowed (not_from_false (is_beaten A gone p a k) b))
-    (λ t.
-    let (allowed, b) = and_parts (A.allows p a) (not (is_beaten A gone p a k)) t in
-    any_from (λ m. m == k) k (mask A gone p a) (in_mask A gone p a k allowed l (not-true (is_beaten A gone p a k) b)) (eq-eqb k k refl))
+mask_has A gone p a k l = grind (arith, and_from, and_parts, any_from, any_true, eq-eqb, eqb-true, from_mask, in_mask, not-true, not_from_false, same_test)
 
 pub mask_has_past : {N : Type 0} (A : Arena N) (gone : N → Bool) (p : N) (a k : ℕ) → A.seats ≤ k → IsFalse (has (mask A gone p a) k)
-mask_has_past A gone p a k l = none_from (λ m. m == k) (mask A gone p a)
-    (λ m i. by_test (m == k)
-    (λ t. let below_seats : m < A.seats = (from_mask A gone p a m i).1 in let same : m ≡ k = eqb-true m k t in let none : ⊥ = omega arith in absurd none)
-    (λ f. f))
+mask_has_past A gone p a k l = grind (arith, by_test, eqb-true, from_mask, none_from)
 
 -- the mask is empty exactly where the action is a reason, or isn't allowed
 pub mask_empty : {N : Type 0} (A : Arena N) (gone : N → Bool) (p : N) (a : ℕ) → IsTrue (A.allows p a) → mask A gone p a ≡ [] → IsTrue (is_justified A gone p (Act a))
-mask_empty A gone p a allowed e = by_test (is_justified A gone p (Act a)) (λ t. t)
-    (λ f. let (k, l, b) = unjustified_act A gone p a allowed f in absurd (subst (λ ks. IsIn k ks) e (in_mask A gone p a k allowed l b)))
+mask_empty A gone p a allowed e = grind (arith, by_test, in_mask, unjustified_act)
 
 pub mask_not_empty : {N : Type 0} (A : Arena N) (gone : N → Bool) (p : N) (a : ℕ) → mask A gone p a ≢ [] → IsFalse (is_justified A gone p (Act a))
 mask_not_empty A gone p a ne = by_test (is_justified A gone p (Act a))
@@ -192,30 +159,18 @@ mask_not_empty A gone p a ne = by_test (is_justified A gone p (Act a))
 
 pub survives_more : {N : Type 0} (A : Arena N) (Lives More : N → Type 0) (p : N) →
     ((a k : ℕ) (q : N) → IsIn q (A.outcomes p a k) → Lives q → More q) → Survives A Lives p → Survives A More p
-survives_more A Lives More p h s = record {
-  final = s.final;
-  served = λ a allowed. let (k, l, some, all) = s.served a allowed in (k, l, some, λ q i. h a k q i (all q i));
-}
+survives_more A Lives More p h s = grind arith
 
 -- no reason holds at a node that survives, where no living node is gone
 pub unjustified : {N : Type 0} (A : Arena N) (Lives : N → Type 0) (gone : N → Bool) (p : N) (r : Reason) → Survives A Lives p →
     ((q : N) → IsTrue (gone q) → Lives q → ⊥) → IsTrue (is_justified A gone p r) → ⊥
 unjustified A Lives gone p Final s dead j = both_ways (A.fine p) (not-true (A.fine p) j) s.final
-unjustified A Lives gone p (Act a) s dead j =
-    let (allowed, each) = justified_is A gone p a j in
-    let (k, l, some, all) = s.served a allowed in
-    elim (beaten_is A gone p a k (each k l)) [ inl none ↦ some none | inr found ↦ let (q, i, g) = found in dead q g (all q i) ]
+unjustified A Lives gone p (Act a) s dead j = grind (arith, beaten_is, justified_is)
 
 -- a node at which no reason holds survives among the nodes that aren't gone
 pub survivor : {N : Type 0} (A : Arena N) (gone : N → Bool) (p : N) → IsTrue (A.fine p) →
     ((a : ℕ) → IsTrue (A.allows p a) → IsFalse (is_justified A gone p (Act a))) → Survives A (λ q. IsFalse (gone q)) p
-survivor A gone p fine h = record {
-  final = fine;
-  served = λ a allowed.
-      let (k, l, b) = unjustified_act A gone p a allowed (h a allowed) in
-      let (some, all) = unbeaten_is A gone p a k b in
-      (k, l, some, all);
-}
+survivor A gone p fine h = grind (arith, unbeaten_is, unjustified_act)
 
 -- the same, where only nodes of the arena count
 pub survivor_within : {N : Type 0} (A : Arena N) → IsArena A → (gone : N → Bool) (p : N) → IsIn p A.nodes → IsTrue (A.fine p) →
@@ -234,14 +189,7 @@ in_delegations A p a k i l m =
     (in_below A.actions a l) (in_map (λ k. record { node = p; action = a; seat = k }) k (below A.seats) (in_below A.seats k m)))
 
 pub from_delegations : {N : Type 0} (A : Arena N) (d : Delegation N) → IsIn d (delegations A) → IsIn d.node A.nodes × (d.action < A.actions) × (d.seat < A.seats)
-from_delegations A d i =
-    let (p, j, l) = from_flat_map (λ p. flat_map (λ a. map (λ k. record { node = p; action = a; seat = k }) (below A.seats)) (below A.actions)) d A.nodes i in
-    let (a, m, n) = from_flat_map (λ a. map (λ k. record { node = p; action = a; seat = k }) (below A.seats)) d (below A.actions) l in
-    let (k, o, e) = from_map (λ k. record { node = p; action = a; seat = k }) d (below A.seats) n in (
-      subst (λ q. IsIn q A.nodes) (sym (ap (λ d. d.node) e)) j,
-      subst (λ b. b < A.actions) (sym (ap (λ d. d.action) e)) (from_below A.actions a m),
-      subst (λ j. j < A.seats) (sym (ap (λ d. d.seat) e)) (from_below A.seats k o),
-    )
+from_delegations A d i = grind (arith, from_below, from_flat_map, from_map)
 
 pub in_back : {N : Type 0} (A : Arena N) → IsArena A → (q p : N) (a k : ℕ) → IsIn p A.nodes → IsIn q (A.outcomes p a k) →
     IsIn (record { node = p; action = a; seat = k }) (back A q)
@@ -252,7 +200,4 @@ in_back A ok q p a k i j =
 
 pub from_back : {N : Type 0} (A : Arena N) → IsSame A → (q : N) (d : Delegation N) → IsIn d (back A q) →
     IsIn d.node A.nodes × (d.action < A.actions) × (d.seat < A.seats) × IsIn q (A.outcomes d.node d.action d.seat)
-from_back A E q d i =
-    let (j, t) = filter_in (λ d. is_among A (A.outcomes d.node d.action d.seat) q) d (delegations A) i in
-    let (node, action, seat) = from_delegations A d j in
-    (node, action, seat, among_in A E (A.outcomes d.node d.action d.seat) q t)
+from_back A E q d i = grind (arith, among_in, filter_in, from_delegations)

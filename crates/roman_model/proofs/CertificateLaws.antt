@@ -60,19 +60,10 @@ number_possible : (s : Sys) (x : Entry ℕ) → x.node < count (sizes_of s) → 
 number_possible s x l i = in_possible (node_count s) s.env.actions x (subst (λ n. x.node < n) (sym (node_count_is s)) l) i
 
 possible_number : (s : Sys) (x : Entry ℕ) → IsIn x (possible_entries (node_count s) s.env.actions) → (x.node < count (sizes_of s)) × IsIn x.reason (reasons s.env.actions)
-possible_number s x i =
-    let (l, j) = from_possible (node_count s) s.env.actions x i in
-    (subst (λ n. x.node < n) (node_count_is s) l, j)
+possible_number s x i = grind (arith, from_possible, node_count_is)
 
 pub cells_small : (s : Sys) → IsSys s → IsWithinCells s → (count (sizes_of s) ≤ MAX_CELLS) × IsFew s
-cells_small s sys cells =
-    let some : 0 < s.env.actions = sys.env.actions.0 in
-    let not_many : s.env.actions ≤ MAX_ACTIONS = sys.env.actions.1 in
-    let wide : count (sizes_of s) * 1 ≤ count (sizes_of s) * s.env.actions = mul-le (count (sizes_of s)) 1 (count (sizes_of s)) s.env.actions (omega arith) some in
-    let limit : count (sizes_of s) * s.env.actions ≤ MAX_CELLS = cells in
-    let few : count (sizes_of s) ≤ MAX_CELLS = omega arith in
-    let same : node_count s ≡ count (sizes_of s) = node_count_is s in
-    (few, record { pairs_fit = omega arith; actions_fit = omega arith })
+cells_small s sys cells = grind (arith, mul-le, node_count_is)
 
 -- a text within the limit is judged by all its lines
 pub judged_short : (A : Arena ℕ) (start : ℕ) (bytes : List ℕ) → length bytes ≤ MAX_CERTIFICATE_BYTES →
@@ -85,10 +76,7 @@ judged_short A start bytes h =
 -- a longer text is judged by the lines that end within the limit
 pub judged_long : (A : Arena ℕ) (start : ℕ) (bytes : List ℕ) → MAX_CERTIFICATE_BYTES < length bytes →
     cert_verdict A start bytes ≡ slice_index_or (faults A (ended_lines (take MAX_CERTIFICATE_BYTES bytes)) (length (ended_lines (take MAX_CERTIFICATE_BYTES bytes)))) 0 TooLong
-judged_long A start bytes h =
-    cond-false (nat_le (length bytes) MAX_CERTIFICATE_BYTES) (slice_index_or (faults A (lines bytes) (length (lines bytes) + 1)) 0 (unlisted A start (entries_on A (lines bytes))))
-    (slice_index_or (faults A (ended_lines (take MAX_CERTIFICATE_BYTES bytes)) (length (ended_lines (take MAX_CERTIFICATE_BYTES bytes)))) 0 TooLong)
-    (lt-leb (length bytes) MAX_CERTIFICATE_BYTES h)
+judged_long A start bytes h = grind (arith, cond-false, lt-leb)
 
 -- Properties of a complete list
 
@@ -170,9 +158,7 @@ end_clean s L small are none =
     ∙ none
 
 over_clean : (s : Sys) (L : List (Entry ℕ)) → line_fault (numbered s) (cert_lines (node_count s) L) None ≡ None
-over_clean s L =
-    ap (λ b. if b then None else body_fault (numbered s) (entries_on (numbered s) (map entry_line L ++ end_line ∷ [])) None)
-    (any_from (same_numbers end_line) end_line (map entry_line L ++ end_line ∷ []) (in_push end_line (map entry_line L)) (same_numbers_itself end_line))
+over_clean s L = grind (arith, any_from, in_push, same_numbers_itself)
 
 -- the lines of a complete list's certificate have no fault, and neither has its end
 pub cert_clean : (s : Sys) (L : List (Entry ℕ)) → IsFew s → ArePossible s L → IsOrder (numbered s) L → end_fault (numbered s) L ≡ None →
@@ -319,15 +305,7 @@ due_is due line e = by_test (same_numbers due line)
 -- an entry without a fault is new, and its reason holds
 entry_holds : (s : Sys) (L : List (Entry ℕ)) (x : Entry ℕ) → entry_fault (numbered s) L (Some x) ≡ None →
     IsFalse (is_listed (numbered s) L x.node) × IsTrue (is_justified (numbered s) (is_listed (numbered s) L) x.node x.reason)
-entry_holds s L x e = by_test (is_listed (numbered s) L x.node)
-    (λ t. absurd (no_fault Repeated (sym (cond-true (is_listed (numbered s) L x.node) (Some Repeated) rest t) ∙ e)))
-    (λ f. by_test (is_justified (numbered s) (is_listed (numbered s) L) x.node x.reason)
-    (λ t. (f, t))
-    (λ g. absurd (no_fault Unjustified (sym (cond-false (is_justified (numbered s) (is_listed (numbered s) L) x.node x.reason) None (Some Unjustified) g)
-    ∙ sym (cond-false (is_listed (numbered s) L x.node) (Some Repeated) rest f) ∙ e))))
-  where
-    rest : Option Why
-    rest = if is_justified (numbered s) (is_listed (numbered s) L) x.node x.reason then None else Some Unjustified
+entry_holds s L x e = grind (arith, by_test, cond-false, cond-true, no_fault)
 
 -- the entries on the lines are a removal list, and no pair is missing
 record HoldsAll (s : Sys) (L : List (Entry ℕ)) : Type 0 where

@@ -31,10 +31,7 @@ decimal_digits n h = decimal_by_steps (λ m ds. (b : ℕ) → IsIn b ds → (48 
 
 -- a decimal text has no byte that isn't a digit
 pub decimal_without : (n c : ℕ) → n < 2 ^ 64 → (c < 48) ⊎ (57 < c) → IsFalse (has (decimal n) c)
-decimal_without n c h other = none_from (λ m. m == c) (decimal n) (λ b i. ne_eqb b c (λ e. elim other [
-  | inl low ↦ (let digit = decimal_digits n h b i in let l : 48 ≤ b = digit.0 in omega arith)
-  | inr high ↦ (let digit = decimal_digits n h b i in let l : b ≤ 57 = digit.1 in omega arith)
-]))
+decimal_without n c h other = grind (arith, decimal_digits, ne_eqb, none_from)
 
 pub decimal_starts : (n : ℕ) → n < 2 ^ 64 → (b : ℕ) × (bs : List ℕ) × (decimal n ≡ b ∷ bs) × (b ≤ 57)
 decimal_starts n h = first (decimal n) (decimal_nonempty n h) (λ b i. (decimal_digits n h b i).1)
@@ -71,9 +68,7 @@ reason_without Final c h other = or_from (102 == c) false (ne_eqb 102 c (λ e. e
 reason_without (Act a) c h other = decimal_without a c h (elim other [ inl low ↦ inl low | inr high ↦ inr high.0 ])
 
 pub entry_is_line : (x : Entry ℕ) → IsSmall x → IsLine (entry_line x)
-entry_is_line x h =
-    append_line (decimal x.node) (32 ∷ reason_text x.reason) (decimal_without x.node 10 h.0 (inl (omega arith)))
-    (or_from (32 == 10) (has (reason_text x.reason) 10) refl (reason_without x.reason 10 h.1 (inl (omega arith))))
+entry_is_line x h = grind (arith, append_line, decimal_without, or_from, reason_without)
 
 -- two equal texts, cut at their first byte c, are equal before and after it
 pub cut_at : (c : ℕ) (xs ys ts us : List ℕ) → IsFalse (has xs c) → IsFalse (has ys c) → xs ++ c ∷ ts ≡ ys ++ c ∷ us → (xs ≡ ys) × (ts ≡ us)
@@ -118,9 +113,7 @@ entry_starts x h b bs e =
     omega arith
 
 pub entry_is_no_end : (x : Entry ℕ) → IsSmall x → IsFalse (same_numbers end_line (entry_line x))
-entry_is_no_end x h = by_test (same_numbers end_line (entry_line x))
-    (λ t. let l : 101 ≤ 57 = entry_starts x h 101 (110 ∷ 100 ∷ []) (sym (same_numbers_is end_line (entry_line x) t)) in absurd (omega arith))
-    (λ f. f)
+entry_is_no_end x h = grind (arith, by_test, entry_starts, same_numbers_is)
 
 -- Entries that can stand in a certificate
 
@@ -146,10 +139,7 @@ in_possible pairs actions x l i =
     (in_below pairs x.node l) (in_map (λ r. record { node = x.node; reason = r }) x.reason (reasons actions) i)
 
 pub from_possible : (pairs actions : ℕ) (x : Entry ℕ) → IsIn x (possible_entries pairs actions) → (x.node < pairs) × IsIn x.reason (reasons actions)
-from_possible pairs actions x i =
-    let (p, j, k) = from_flat_map (λ p. map (λ r. record { node = p; reason = r }) (reasons actions)) x (below pairs) i in
-    let (r, l, e) = from_map (λ r. record { node = p; reason = r }) x (reasons actions) k in
-    (subst (λ (y : Entry ℕ). y.node < pairs) (sym e) (from_below pairs p j), subst (λ (y : Entry ℕ). IsIn y.reason (reasons actions)) (sym e) l)
+from_possible pairs actions x i = grind (arith, from_below, from_flat_map, from_map)
 
 -- the numbers of pairs and actions are small enough for decimal texts
 pub record AreFew (pairs actions : ℕ) : Type 0 where
@@ -178,10 +168,7 @@ entry_of-is pairs actions line x e =
 
 -- a line that isn't the line of any entry is read as none
 pub entry_of_none : (pairs actions : ℕ) (line : List ℕ) → ((x : Entry ℕ) → IsIn x (possible_entries pairs actions) → entry_line x ≡ line → ⊥) → entry_of pairs actions line ≡ None
-entry_of_none pairs actions line none =
-    find_not_found (λ x. same_numbers (entry_line x) line) (possible_entries pairs actions)
-    (none_from (λ x. same_numbers (entry_line x) line) (possible_entries pairs actions)
-    (λ x i. by_test (same_numbers (entry_line x) line) (λ t. absurd (none x i (same_numbers_is (entry_line x) line t))) (λ f. f)))
+entry_of_none pairs actions line none = grind (arith, by_test, find_not_found, none_from, same_numbers_is)
 
 -- a line that doesn't start with a digit is read as none
 pub entry_of_other : (pairs actions : ℕ) (b : ℕ) (bs : List ℕ) → AreFew pairs actions → 57 < b → entry_of pairs actions (b ∷ bs) ≡ None
@@ -250,13 +237,7 @@ clean_front A text more clean i l = ap₂ (line_fault A) (take_front text more i
 
 -- the first lines with one more line without a fault
 pub clean_push : (A : Arena ℕ) (text : List (List ℕ)) (line : List ℕ) → IsClean A text (length text) → line_fault A text (Some line) ≡ None → IsClean A (text ++ line ∷ []) (length (text ++ line ∷ []))
-clean_push A text line clean none i l = elim (cases_lt i (length text)) [
-  | inl less ↦ clean_front A text (line ∷ []) clean i less
-  | inr more ↦
-      let here : i ≡ length text = omega (arith, length-append text (line ∷ [])) in
-      ap (λ k. line_fault A (take k (text ++ line ∷ [])) (slice_get (text ++ line ∷ []) k)) here
-      ∙ ap₂ (line_fault A) (take_at text (line ∷ []) (length text) refl) (get_after text line []) ∙ none
-]
+clean_push A text line clean none i l = grind (arith, cases_lt, clean_front, get_after, take_at, length-append)
 
 -- the fault of the line that follows, or of there being none
 pub fault_next : (A : Arena ℕ) (text more : List (List ℕ)) (line : List ℕ) → line_fault A (take (length text) (text ++ line ∷ more)) (slice_get (text ++ line ∷ more) (length text)) ≡ line_fault A text (Some line)

@@ -1,5 +1,5 @@
 -- The replay of a renamed list is a removal list after each change.
-use Rattle.std.proofs.Common.{true, false, List, [], sym, subst}
+use Rattle.std.proofs.Common.{false, List, [], sym, subst, rules}
 use Rattle.roman_model.specs.System.{Sys, Pair}
 use Rattle.roman_model.specs.SystemArena.{arena}
 use Rattle.roman_model.specs.Arena.{Entry, IsOrder, replay}
@@ -13,14 +13,7 @@ whole_order : (s : Sys) (L : List (Entry Pair)) → IsOrder (arena s) L → IsOr
 whole_order s L order = subst (IsOrder (arena s)) (sym (replay_whole (arena s) L order)) order
 
 pub renaming_keeps : RenamingKeeps
-renaming_keeps (Freeze k) s L ok can are order =
-    let new : IsOrder (arena (turned s k true)) L = freeze_order s k [] L order in
-    record {
-      system = IsSys-turned s k true ok;
-      pairs = λ x i. IsPair-turned s k true x.node (are x i);
-      order = whole_order (turned s k true) L new;
-      whole = λ all. replay_whole (arena (turned s k true)) L new;
-    }
+renaming_keeps (Freeze k) s L ok can are order = search (rules, IsPair-turned, IsSys-turned, freeze_order, replay_whole, turned, whole_order)
 renaming_keeps (Thaw k) s L ok can are order = record {
   system = IsSys-turned s k false ok;
   pairs = λ x i. IsPair-turned s k false x.node (are x i);

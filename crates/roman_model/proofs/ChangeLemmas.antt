@@ -1,16 +1,16 @@
 -- The effect of a change of the seats on systems, pairs, outcomes and removal lists.
-use Rattle.std.proofs.Common.{◌≡◌, ℕ, zero, suc, ◌<◌, ◌≤◌, Bool, true, not, ◌&&◌, ◌||◌, List, [], ◌∷◌, ◌++◌, map, length, Some, IsTrue, IsFalse, filter, flat_map, slice_get, slice_index, slice_set, remove, refl, sym, ap, ap₂, ◌∙◌, subst, inl, inr, arith}
+use Rattle.std.proofs.Common.{◌≡◌, ℕ, zero, suc, ◌<◌, ◌≤◌, Bool, true, not, ◌&&◌, ◌||◌, List, [], ◌∷◌, ◌++◌, map, length, Some, IsTrue, IsFalse, filter, flat_map, slice_get, slice_index, slice_set, remove, refl, sym, ap, ap₂, ◌∙◌, subst, inl, inr, arith, rules}
 use Rattle.std.specs.List.{list_any, AllZip}
 use Rattle.std.proofs.lemmas.Bool.{cases_eq, both_ways, or_cases, or_left, or_right, and_parts, and_from, cond-true, cond-false}
 use Rattle.std.proofs.lemmas.List.{map-append, length_push, same_from_push}
 use Rattle.std.proofs.lemmas.List.Folds.{flat_map-map}
 use Rattle.std.proofs.lemmas.Option.{none-some, same_Some, slice_get_within}
-use Rattle.roman_model.specs.Lists.{IsIn, HasNoRepeats, below, all_below, is_empty}
+use Rattle.roman_model.specs.Lists.{IsIn, HasNoRepeats, below, all_below}
 use Rattle.roman_model.specs.System.{Seat, Sys, Pair, IsBeh, IsSys, IsPair, is_final, all_final}
 use Rattle.roman_model.specs.SystemArena.{env_next, beh_next, seat_next, outcomes_by, outcomes, is_allowed, is_fine, same_pair, arena}
 use Rattle.roman_model.specs.Arena.{Entry, is_among, is_beaten, is_justified, IsOrderFrom, AreNew}
 use Rattle.roman_model.specs.CompleteLists.{AreEntries}
-use Rattle.roman_model.specs.Change.{Join, Die, set_frozen, grown, without, may_go, firsts, grown_entries, entry_without, rename}
+use Rattle.roman_model.specs.Change.{Join, Die, set_frozen, grown, without, may_go, firsts, entry_without, rename}
 use Rattle.roman_model.specs.declared.limits.TheConstants.{MAX_SERVICES}
 use Rattle.roman_model.specs.declared.reason.Reason.{Reason}
 use Rattle.roman_model.specs.declared.reason.Reason.TheVariants.{Final, Act}
@@ -51,8 +51,7 @@ flat_map_none f (x ∷ xs) none = ap₂ (λ ys zs. ys ++ zs) (none x) (flat_map_
 
 -- a seat without a next state has no outcome
 pub moved_none : (s : Sys) (p : Pair) (a k : ℕ) → outcomes_by s p a k [] ≡ []
-moved_none s p a k = flat_map_none (λ e'. flat_map (λ t'. map (λ b'. record { t = t'; e = e'; bs = slice_set p.bs k b' }) []) (beh_next s.target p.t p.e a)) (env_next s.env p.e a)
-    (λ e'. flat_map_none (λ t'. map (λ b'. record { t = t'; e = e'; bs = slice_set p.bs k b' }) []) (beh_next s.target p.t p.e a) (λ t'. refl))
+moved_none s p a k = grind (arith, flat_map_none)
 
 -- where f keeps the states of the target and the environment, and maps the states of seat j to those of seat k
 pub moved_named : (s : Sys) (seats : List Seat) (p : Pair) (a j k : ℕ) (states : List ℕ) (g : List ℕ → List ℕ) (bs : List ℕ) →
@@ -195,15 +194,11 @@ pub outcomes-turned : (s : Sys) (k : ℕ) (frozen : Bool) (p : Pair) (a j : ℕ)
 outcomes-turned s k frozen p a j ne = ap (λ o. outcomes_by s p a j (seat_next o (slice_index p.bs j) p.e a)) (get-set_frozen s.seats k j frozen ne)
 
 pub outcomes-frozen : (s : Sys) (k : ℕ) (p : Pair) (a : ℕ) → outcomes (turned s k true) p a k ≡ []
-outcomes-frozen s k p a =
-    ap (λ states. outcomes_by s p a k states) (seat_next-frozen s.seats k (slice_index p.bs k) p.e a) ∙ moved_none s p a k
+outcomes-frozen s k p a = search (rules, moved_none, seat_next-frozen)
 
 -- a beaten seat stays beaten where a seat is frozen
 pub freeze_beaten : (s : Sys) (k : ℕ) (gone : Pair → Bool) (p : Pair) (a j : ℕ) → IsTrue (is_beaten (arena s) gone p a j) → IsTrue (is_beaten (arena (turned s k true)) gone p a j)
-freeze_beaten s k gone p a j h = elim (cases_eq j k) [
-  | inl e ↦ subst (λ i. IsTrue (is_beaten (arena (turned s k true)) gone p a i)) (sym e) (ap (λ qs. is_empty qs || list_any gone qs) (outcomes-frozen s k p a))
-  | inr ne ↦ ap (λ qs. is_empty qs || list_any gone qs) (outcomes-turned s k true p a j ne) ∙ h
-]
+freeze_beaten s k gone p a j h = grind (arith, cases_eq, outcomes-frozen, outcomes-turned)
 
 pub freeze_justified : (s : Sys) (k : ℕ) (gone : Pair → Bool) (p : Pair) (reason : Reason) → IsTrue (is_justified (arena s) gone p reason) → IsTrue (is_justified (arena (turned s k true)) gone p reason)
 freeze_justified s k gone p Final h = ap not (is_fine-turned s k true p) ∙ h
@@ -262,37 +257,17 @@ pub IsPair-grown : (s : Sys) (seat : Seat) (p : Pair) (b : ℕ) → IsPair s p �
 IsPair-grown s seat p b ok l = record { t = ok.t; e = ok.e; bs = push_below s.seats seat p.bs b ok.bs l }
 
 pub join_entries : (s : Sys) (seat : Seat) (L : List (Entry Pair)) → AreEntries s L → AreEntries (joined s seat) (rename (Join seat) L)
-join_entries s seat L are x i =
-    let (y, j, k) = from_flat_map (grown_entries seat) x L i in
-    let (b, l, e) = from_map (λ b. record { node = grown y.node b; reason = y.reason }) x (below seat.beh.states) k in
-    subst (λ z. IsPair (joined s seat) z.node) (sym e) (IsPair-grown s seat y.node b (are y j) (from_below seat.beh.states b l))
+join_entries s seat L are x i = grind (arith, IsPair-grown, from_below, from_flat_map, from_map)
 
 pub grown_apart : (p q : Pair) (b c : ℕ) → grown p b ≡ grown q c → (p ≡ q) × (b ≡ c)
-grown_apart p q b c e =
-    let (front, last) = same_from_push p.bs q.bs b c (ap (λ r. r.bs) e) in
-    (pair_path (ap (λ r. r.t) e) (ap (λ r. r.e) e) front, last)
-  where
-    pair_path : p.t ≡ q.t → p.e ≡ q.e → p.bs ≡ q.bs → p ≡ q
-    pair_path t e bs = λ i. record { t = t i; e = e i; bs = bs i }
+grown_apart p q b c e = grind (arith, same_from_push)
 
 -- the nodes of the renamed entries
 pub join_nodes : (seat : Seat) (L : List (Entry Pair)) → map (λ x. x.node) (rename (Join seat) L) ≡ flat_map (λ p. map (grown p) (below seat.beh.states)) (map (λ x. x.node) L)
-join_nodes seat L =
-    map-flat_map (λ x. x.node) (grown_entries seat) L
-    ∙ flat_map_same (λ x. map (λ y. y.node) (grown_entries seat x)) (λ x. map (grown x.node) (below seat.beh.states)) L
-    (λ x. map-map (λ y. y.node) (λ b. record { node = grown x.node b; reason = x.reason }) (below seat.beh.states))
-    ∙ sym (flat_map-map (λ p. map (grown p) (below seat.beh.states)) (λ x. x.node) L)
+join_nodes seat L = grind (arith, flat_map-map, flat_map_same, map-flat_map, map-map)
 
 pub join_once : (seat : Seat) (L : List (Entry Pair)) → HasNoRepeats (map (λ x. x.node) L) → HasNoRepeats (map (λ x. x.node) (rename (Join seat) L))
-join_once seat L once =
-    subst HasNoRepeats (sym (join_nodes seat L))
-    (HasNoRepeats-flat_map (λ p. map (grown p) (below seat.beh.states)) (map (λ x. x.node) L)
-    (λ p i. HasNoRepeats-map (grown p) (below seat.beh.states) (λ b c j k e. (grown_apart p p b c e).1) (HasNoRepeats-below seat.beh.states))
-    (λ p q r i j k l.
-    let (b, m, e) = from_map (grown p) r (below seat.beh.states) k in
-    let (c, n, f) = from_map (grown q) r (below seat.beh.states) l in
-    (grown_apart p q b c (sym e ∙ f)).0)
-    once)
+join_once seat L once = grind (arith, HasNoRepeats-below, HasNoRepeats-flat_map, HasNoRepeats-map, from_map, grown_apart, join_nodes)
 
 -- Deaths
 
@@ -341,9 +316,7 @@ outcomes-without s k p a j =
 
 -- an outcome of another seat keeps the state of seat k
 pub outcome_keeps : (s : Sys) (k : ℕ) (p : Pair) (a j : ℕ) (q : Pair) → IsIn q (outcomes s p a (place k j)) → slice_index q.bs k ≡ slice_index p.bs k
-outcome_keeps s k p a j q i =
-    let (step, (b', m, e)) = from_moved s p a (place k j) (seat_next (slice_get s.seats (place k j)) (slice_index p.bs (place k j)) p.e a) q i in
-    ap (λ bs. slice_index bs k) e ∙ index_set_place p.bs k j b'
+outcome_keeps s k p a j q i = grind (arith, from_moved, index_set_place)
 
 pub all_final-remove : (seats : List Seat) (bs : List ℕ) (k : ℕ) (seat : Seat) → slice_get seats k ≡ Some seat → k < length bs → IsTrue (not seat.rests || is_final seat.beh (slice_index bs k)) →
     all_final seats bs ≡ all_final (remove seats k) (remove bs k)
@@ -353,29 +326,16 @@ all_final-remove (x ∷ seats) (b ∷ bs) zero seat e l h = ap (λ y. y && all_f
 all_final-remove (x ∷ seats) (b ∷ bs) (suc k) seat e l h = ap (λ y. (not x.rests || is_final x.beh b) && y) (all_final-remove seats bs k seat e (omega arith) h)
 
 pub is_fine-without : (s : Sys) (k : ℕ) (seat : Seat) (p : Pair) → slice_get s.seats k ≡ Some seat → IsPair s p → IsTrue (may_go k seat p) → is_fine s p ≡ is_fine (left s k) (without k p)
-is_fine-without s k seat p seated ok goes =
-    let within : k < length s.seats = slice_get_within s.seats k seat seated in
-    let long : length p.bs ≡ length s.seats = states_length s.seats p.bs ok.bs in
-    ap (λ x. not (is_final s.target p.t) || x) (all_final-remove s.seats p.bs k seat seated (omega arith) goes)
+is_fine-without s k seat p seated ok goes = grind (arith, all_final-remove, slice_get_within, states_length)
 
 -- a seat is beaten without seat k exactly where it was beaten at its old place
 pub beaten-without : (s : Sys) (k : ℕ) (gone : Pair → Bool) (p : Pair) (a j : ℕ) →
     is_beaten (arena (left s k)) gone (without k p) a j ≡ is_beaten (arena s) (λ q. gone (without k q)) p a (place k j)
-beaten-without s k gone p a j =
-    ap (λ qs. is_empty qs || list_any gone qs) (outcomes-without s k p a j)
-    ∙ ap₂ (λ x y. x || y) (is_empty-map (without k) (outcomes s p a (place k j))) (list_any-map (without k) gone (outcomes s p a (place k j)))
+beaten-without s k gone p a j = grind (arith, is_empty-map, list_any-map, outcomes-without)
 
 pub die_beaten : (s : Sys) (k : ℕ) (seat : Seat) (gone lost : Pair → Bool) → ((q : Pair) → IsTrue (gone q) → IsTrue (may_go k seat q) → IsTrue (lost (without k q))) →
     (p : Pair) (a j : ℕ) → IsTrue (may_go k seat p) → IsTrue (is_beaten (arena s) gone p a (place k j)) → IsTrue (is_beaten (arena (left s k)) lost (without k p) a j)
-die_beaten s k seat gone lost carries p a j goes h =
-    beaten-without s k lost p a j ∙ elim (or_cases (is_empty (outcomes s p a (place k j))) (list_any gone (outcomes s p a (place k j))) h) [
-      | inl none ↦ or_left (is_empty (outcomes s p a (place k j))) (list_any (λ q. lost (without k q)) (outcomes s p a (place k j))) none
-      | inr some ↦
-          let (q, i, t) = any_true gone (outcomes s p a (place k j)) some in
-          or_right (is_empty (outcomes s p a (place k j))) (list_any (λ q. lost (without k q)) (outcomes s p a (place k j)))
-          (any_from (λ q. lost (without k q)) q (outcomes s p a (place k j)) i
-          (carries q t (subst (λ b. IsTrue (not seat.rests || is_final seat.beh b)) (sym (outcome_keeps s k p a j q i)) goes)))
-    ]
+die_beaten s k seat gone lost carries p a j goes h = grind (arith, any_from, any_true, beaten-without, or_cases, or_left, or_right, outcome_keeps)
 
 pub die_justified : (s : Sys) (k : ℕ) (seat : Seat) (gone lost : Pair → Bool) → slice_get s.seats k ≡ Some seat →
     ((q : Pair) → IsTrue (gone q) → IsTrue (may_go k seat q) → IsTrue (lost (without k q))) →
@@ -448,12 +408,7 @@ firsts_in seen (y ∷ L) x i = by_test (list_any (same_pair y.node) seen)
 
 -- each renamed entry comes from a listed entry whose pair may go
 pub die_from : (k : ℕ) (seat : Seat) (L : List (Entry Pair)) (x : Entry Pair) → IsIn x (rename (Die k seat) L) → (y : Entry Pair) × IsIn y L × IsTrue (may_go k seat y.node) × (x ≡ entry_without k y)
-die_from k seat L x i =
-    let (y, j, e) = from_map (entry_without k) x (filter (λ z. may_go k seat z.node) L) (firsts_in [] (map (entry_without k) (filter (λ z. may_go k seat z.node) L)) x i) in
-    let (l, t) = filter_in (λ z. may_go k seat z.node) y L j in
-    (y, l, t, e)
+die_from k seat L x i = grind (arith, filter_in, firsts_in, from_map)
 
 pub die_entries : (s : Sys) (k : ℕ) (seat : Seat) (L : List (Entry Pair)) → AreEntries s L → AreEntries (left s k) (rename (Die k seat) L)
-die_entries s k seat L are x i =
-    let (y, j, t, e) = die_from k seat L x i in
-    subst (λ z. IsPair (left s k) z.node) (sym e) (IsPair-without s k y.node (are y j))
+die_entries s k seat L are x i = grind (arith, IsPair-without, die_from)

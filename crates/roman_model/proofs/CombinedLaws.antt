@@ -133,9 +133,7 @@ decoded_back : (w : Several) (c : Couple) → c.t < total w → encoded w (decod
 decoded_back w c l = ap (λ t. record { t = t; e = c.e; bs = c.bs; e2 = c.e2 }) (states_number-at (target_sizes w.targets) c.t l)
 
 is_encoded_from : (w : Several) (c : Couple) → c.t < total w → IsTrue (is_encoded w (decoded w c))
-is_encoded_from w c l =
-    subst (λ t. IsTrue (nat_lt t (total w) && same_numbers (states_of w t) (states_of w c.t))) (sym (states_number-at (target_sizes w.targets) c.t l))
-    (and_from (nat_lt c.t (total w)) (same_numbers (states_of w c.t) (states_of w c.t)) (lt-ltb c.t (total w) l) (same_numbers_itself (states_of w c.t)))
+is_encoded_from w c l = grind (arith, and_from, lt-ltb, same_numbers_itself, states_number-at, states_of, total)
 
 pub great_from_all : (w : Several) (c : Couple) → IsSeveral w → c.t < total w → GreatAll w (decoded w c) → GreatCouple (combined w) c
 great_from_all w c ok l (R, sim, i) = (

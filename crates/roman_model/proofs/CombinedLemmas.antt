@@ -1,5 +1,5 @@
 -- The combined actions, and the steps and final states of the combined parts, which are those of the members.
-use Rattle.std.proofs.Common.{◌≡◌, ℕ, zero, suc, ◌<◌, ◌==◌, not, ◌&&◌, ◌||◌, List, [], ◌∷◌, map, length, Option, Some, None, IsTrue, IsFalse, filter, slice_get, slice_index, slice_set, inl, inr, refl, sym, ap, ◌∙◌, subst}
+use Rattle.std.proofs.Common.{◌≡◌, ℕ, zero, suc, ◌<◌, ◌==◌, not, ◌&&◌, ◌||◌, List, [], ◌∷◌, map, length, Option, Some, None, IsTrue, filter, slice_get, slice_index, slice_set, inl, inr, refl, sym, ap, ◌∙◌, subst, arith}
 use Rattle.std.specs.List.{list_any}
 use Rattle.std.proofs.lemmas.Bool.{false≢true, and_parts, and_from, or_cases, or_left, or_right, eqb-true, eq-eqb, not_from_false, not-true}
 use Rattle.std.proofs.lemmas.List.{length-map}
@@ -92,17 +92,7 @@ combined_move w beh b e n b' r ok at t =
 
 pub from_combined_sstep : (w : Several) (target : Beh) (bs : List ℕ) (e n k : ℕ) (bs' : List ℕ) (e' : ℕ) (r : Request) → slice_get (all_requests w) n ≡ Some r →
     IsTrue (has_triple w.env e r.action e') → SStep (combined w) bs e n k bs' e' → SStep (of_one w target) bs e r.action k bs' e'
-from_combined_sstep w target bs e n k bs' e' r at world step =
-    let (seat, seated, is) = from_get_map (combined_seat w.env.states (all_requests w)) w.seats k step.seat step.seated in
-    record {
-      seat = seat;
-      seated = seated;
-      ready = subst (λ (x : Seat). IsFalse x.frozen) is step.ready;
-      world = world;
-      to = step.to;
-      moves = from_combined_move w seat.beh (slice_index bs k) e n step.to r at (subst (λ (x : Seat). IsTrue (has_move x.beh (slice_index bs k) e n step.to)) is step.moves);
-      is = step.is;
-    }
+from_combined_sstep w target bs e n k bs' e' r at world step = grind (arith, from_combined_move, from_get_map)
 
 pub combined_sstep : (w : Several) (target : Beh) (bs : List ℕ) (e n k : ℕ) (bs' : List ℕ) (e' : ℕ) (r : Request) → IsSeveral w → slice_get (all_requests w) n ≡ Some r →
     SStep (of_one w target) bs e r.action k bs' e' → SStep (combined w) bs e n k bs' e'
@@ -133,16 +123,12 @@ pub record IsMemberStep (w : Several) (n : ℕ) (ts : List ℕ) (e : ℕ) (ts' :
 from_member : (targets : List Beh) (o : Option Beh) (i a : ℕ) (ts : List ℕ) (e : ℕ) (ts' : List ℕ) → IsTrue (member_goes o i a ts e ts') →
     (target : Beh) × (o ≡ Some target) × IsTrue (has_move target (slice_index ts i) e a (slice_index ts' i)) × (slice_set ts i (slice_index ts' i) ≡ ts')
 from_member targets None i a ts e ts' t = absurd (false≢true t)
-from_member targets (Some target) i a ts e ts' t =
-    let (goes, same) = and_parts (has_move target (slice_index ts i) e a (slice_index ts' i)) (same_numbers (slice_set ts i (slice_index ts' i)) ts') t in
-    (target, refl, goes, same_numbers_is (slice_set ts i (slice_index ts' i)) ts' same)
+from_member targets (Some target) i a ts e ts' t = grind (arith, and_parts, same_numbers_is)
 
 from_targets_go : (w : Several) (n : ℕ) (ts : List ℕ) (e : ℕ) (ts' : List ℕ) (o : Option Request) → slice_get (all_requests w) n ≡ o →
     IsTrue (targets_go w.targets o ts e ts') → (r : Request) × (target : Beh) × IsMemberStep w n ts e ts' r target
 from_targets_go w n ts e ts' None at t = absurd (false≢true t)
-from_targets_go w n ts e ts' (Some r) at t =
-    let (target, member, goes, others) = from_member w.targets (slice_get w.targets r.target) r.target r.action ts e ts' t in
-    (r, target, record { request = at; member = member; goes = goes; others = others })
+from_targets_go w n ts e ts' (Some r) at t = grind (arith, from_member)
 
 -- the states of the targets in a combined state
 abbrev pub states_of : Several → ℕ → List ℕ
@@ -167,8 +153,7 @@ from_combined_target w t e n t' h =
 -- the list of states after a member's step is in range again
 pub member_below : (w : Several) (t : ℕ) (i : ℕ) (target : Beh) (t' : ℕ) → t < total w → slice_get w.targets i ≡ Some target → t' < target.states →
     AreBelow (target_sizes w.targets) (slice_set (states_of w t) i t')
-member_below w t i target t' l at h =
-    AreBelow-set (target_sizes w.targets) (states_of w t) i t' (AreBelow-at (target_sizes w.targets) t l) (subst (λ n. t' < n) (sym (target_size_at w.targets i target at)) h)
+member_below w t i target t' l at h = grind (arith, AreBelow-at, AreBelow-set, target_size_at)
 
 pub combined_target_goes : (w : Several) (t e n t' : ℕ) (r : Request) (target : Beh) → IsSeveral w → t < total w → slice_get (all_requests w) n ≡ Some r →
     slice_get w.targets r.target ≡ Some target → IsTrue (has_move target (slice_index (states_of w t) r.target) e r.action t') →

@@ -33,10 +33,7 @@ in_possible : (s : Sys) (p : Pair) (r : Reason) → IsPair s p → IsIn r (reaso
 in_possible s p r pair i = in_flat_map (with_reasons s) p (record { node = p; reason = r }) (pairs s) (in_pairs s p pair) (in_map (λ r. record { node = p; reason = r }) r (reasons s) i)
 
 possible_pair : (s : Sys) (x : Entry Pair) → IsIn x (possible s) → IsPair s x.node
-possible_pair s x i =
-    let (p, j, k) = from_flat_map (with_reasons s) x (pairs s) i in
-    let (r, l, e) = from_map (λ (r : Reason). record { node = p; reason = r }) x (reasons s) k in
-    subst (λ (x : Entry Pair). IsPair s x.node) (sym e) (from_pairs s p j)
+possible_pair s x i = grind (arith, from_flat_map, from_map, from_pairs)
 
 -- a reason that holds is one of them
 reason_in : (s : Sys) (L : List (Entry Pair)) (p : Pair) (r : Reason) → IsSys s → IsTrue (is_justified (arena s) (is_listed (arena s) L) p r) → IsIn r (reasons s)
@@ -63,14 +60,7 @@ record Longer (s : Sys) (L : List (Entry Pair)) : Type 0 where
   order : IsOrder (arena s) (L ++ entry ∷ [])
 
 one_more : (s : Sys) (L : List (Entry Pair)) → AreEntries s L → IsOrder (arena s) L → IsTrue (list_any (can_follow s L) (possible s)) → Longer s L
-one_more s L entries order some =
-    let (x, i, t) = any_true (can_follow s L) (possible s) some in
-    let (unlisted, justified) = and_parts (not (is_listed (arena s) L x.node)) (is_justified (arena s) (is_listed (arena s) L) x.node x.reason) t in
-    record {
-      entry = x;
-      pairs = λ y j. elim (from_push y x L j) [ inl k ↦ entries y k | inr e ↦ subst (λ (y : Entry Pair). IsPair s y.node) (sym e) (possible_pair s x i) ];
-      order = order_push (arena s) L x order (not-true (is_listed (arena s) L x.node) unlisted) justified;
-    }
+one_more s L entries order some = grind (arith, and_parts, any_true, from_push, not-true, order_push, possible_pair)
 
 -- entries can be added until no entry can follow
 complete_within : (s : Sys) (n : ℕ) (L : List (Entry Pair)) → IsSys s → AreEntries s L → IsOrder (arena s) L → length (pairs s) ≤ length L + n → (M : List (Entry Pair)) × IsComplete s (L ++ M)

@@ -1,5 +1,5 @@
 -- A system as an arena, the greatest ND-simulation, and complete removal lists.
-use Rattle.std.proofs.Common.{◌≡◌, ◌≢◌, ℕ, ◌<◌, Bool, not, List, [], map, length, IsTrue, IsFalse, filter, slice_set, inl, inr, refl, sym, subst, arith}
+use Rattle.std.proofs.Common.{◌≡◌, ◌≢◌, ℕ, ◌<◌, Bool, not, List, [], map, length, IsTrue, IsFalse, filter, slice_set, refl, sym, subst, arith, rules}
 use Rattle.std.proofs.lemmas.Bool.{both_ways, or_cases, or_left, or_right, not-true, not-false, not_from_true, not_from_false}
 use Rattle.std.proofs.lemmas.Option.{slice_get_within}
 use Rattle.roman_model.specs.Lists.{IsIn}
@@ -37,13 +37,10 @@ system_is_arena s ok = record {
 -- Clause 2.
 
 pub fine_is : (s : Sys) (p : Pair) → IsTrue (is_fine s p) → IsTrue (is_final s.target p.t) → IsTrue (all_final s.seats p.bs)
-fine_is s p fine final = elim (or_cases (not (is_final s.target p.t)) (all_final s.seats p.bs) fine)
-    [ inl f ↦ absurd (both_ways (is_final s.target p.t) (not-true (is_final s.target p.t) f) final) | inr all ↦ all ]
+fine_is s p fine final = grind (arith, both_ways, not-true, or_cases)
 
 pub fine_from : (s : Sys) (p : Pair) → (IsTrue (is_final s.target p.t) → IsTrue (all_final s.seats p.bs)) → IsTrue (is_fine s p)
-fine_from s p h = by_test (is_final s.target p.t)
-    (λ t. or_right (not (is_final s.target p.t)) (all_final s.seats p.bs) (h t))
-    (λ f. or_left (not (is_final s.target p.t)) (all_final s.seats p.bs) (not_from_false (is_final s.target p.t) f))
+fine_from s p h = grind (arith, by_test, not_from_false, or_left, or_right)
 
 -- Clause 3: a seat serves where it has an outcome, and each outcome is related. The guards read the environment's present state, so a seat
 -- that has an outcome has one for each target step.
@@ -131,8 +128,7 @@ great_in s gone p sim ok f = (
 
 -- the pairs that aren't lost within as many requests as there are pairs are an ND-simulation
 pub last_is_sim : (s : Sys) → IsSys s → IsNdSim s (map couple (filter (λ p. not (loses (arena s) (length (pairs s)) p)) (pairs s)))
-last_is_sim s ok = great_from s (loses (arena s) (length (pairs s))) ok
-    (λ p pair f. unlost_survives (arena s) (system_is_arena s ok) p (in_pairs s p pair) f)
+last_is_sim s ok = search (rules, great_from, in_pairs, system_is_arena, unlost_survives)
 
 pub lost_unrelated : (s : Sys) (n : ℕ) (p : Pair) → IsSys s → IsTrue (loses (arena s) n p) → Great s p → ⊥
 lost_unrelated s n p ok t great = lost_dead (arena s) (Great s) (λ q. great_survives s q ok) n p t great
@@ -141,9 +137,7 @@ pub related_great : (s : Sys) (p : Pair) → IsSys s → IsPair s p → IsTrue (
 related_great s p ok pair t = great_in s (loses (arena s) (length (pairs s))) p (last_is_sim s ok) pair (not-true (loses (arena s) (length (pairs s)) p) t)
 
 pub great_related : (s : Sys) (p : Pair) → IsSys s → Great s p → IsTrue (is_related s p)
-great_related s p ok great = by_test (loses (arena s) (length (pairs s)) p)
-    (λ t. absurd (lost_unrelated s (length (pairs s)) p ok t great))
-    (λ f. not_from_false (loses (arena s) (length (pairs s)) p) f)
+great_related s p ok great = grind (arith, by_test, lost_unrelated, not_from_false)
 
 -- The related pairs are the greatest ND-simulation.
 pub greatest_is : GreatestIsGreatest
@@ -212,12 +206,7 @@ complete_listed s L p ok complete pair = same_test (is_listed (arena s) L p) (no
 
 -- Depth is bounded.
 pub unrelated_lost : UnrelatedLoses
-unrelated_lost s ok p pair = (
-  λ unrelated. by_test (loses (arena s) (length (pairs s)) p)
-      (λ t. (length (pairs s), omega arith, t))
-      (λ f. absurd (unrelated (related_great s p ok pair (not_from_false (loses (arena s) (length (pairs s)) p) f)))),
-  λ (n, l, t) great. lost_unrelated s n p ok t great,
-)
+unrelated_lost s ok p pair = grind (arith, by_test, lost_unrelated, not_from_false, related_great)
 
 -- The replay keeps the most entries.
 pub replay_kept : ReplayKeeps

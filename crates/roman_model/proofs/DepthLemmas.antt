@@ -55,9 +55,7 @@ unlost_count A n = length (filter (λ p. not (loses A n p)) A.nodes)
 
 -- some round up to n is steady, or each of them loses a node
 pub rounds : {N : Type 0} (A : Arena N) (n : ℕ) → ((m : ℕ) × (m < n) × IsSteady A m) ⊎ (unlost_count A n + n ≤ length A.nodes)
-rounds A zero =
-    let l : unlost_count A zero ≤ length A.nodes = sublist_length (filter (λ p. not (loses A zero p)) A.nodes) A.nodes (filter_sublist (λ p. not (loses A zero p)) A.nodes) in
-    inr (omega arith)
+rounds A zero = grind (arith, filter_sublist, sublist_length)
 rounds {N} A (suc n) = elim (rounds A n) [
   | inl before ↦ let (m, l, steady) = before in inl (m, omega arith, steady)
   | inr few ↦ elim (filter_shrinks (λ p. not (loses A n p)) (λ p. not (loses A (suc n) p)) A.nodes
@@ -108,9 +106,7 @@ unlost_survives A ok p i f =
 
 -- a node is lost within its depth, and not within fewer requests
 pub depth_is : {N : Type 0} (A : Arena N) (p : N) (d : ℕ) → depth A p ≡ Some d → (d ≤ length A.nodes) × IsTrue (loses A d p) × ((n : ℕ) → n < d → IsFalse (loses A n p))
-depth_is A p d e =
-    let (l, t, least) = find_least (λ n. loses A n p) (length A.nodes + 1) d e in
-    (omega arith, t, least)
+depth_is A p d e = grind (arith, find_least)
 
 -- a node without a depth is never lost
 pub depth_none : {N : Type 0} (A : Arena N) → IsArena A → (p : N) → IsIn p A.nodes → depth A p ≡ None → (n : ℕ) → IsFalse (loses A n p)

@@ -1,5 +1,5 @@
 -- The depths of a system's pairs, and the opponent's game by depth.
-use Rattle.std.proofs.Common.{◌≡◌, ℕ, zero, suc, ◌<◌, ◌≤◌, not, if◌then◌else◌, List, [], ◌∷◌, length, Option, Some, None, IsTrue, IsFalse, find, inl, inr, refl, sym, ap, ◌∙◌, subst, arith}
+use Rattle.std.proofs.Common.{◌≡◌, ℕ, zero, suc, ◌<◌, ◌≤◌, not, if◌then◌else◌, List, [], ◌∷◌, length, Option, Some, None, IsTrue, IsFalse, find, inl, inr, refl, sym, ap, ◌∙◌, subst, arith, rules}
 use Rattle.std.specs.List.{list_any}
 use Rattle.std.proofs.lemmas.Bool.{both_ways, or_cases, not_from_false, cond-true, cond-false, cases_order}
 use Rattle.roman_model.specs.Lists.{IsIn, below, is_empty}
@@ -60,8 +60,7 @@ depth_request_wins s d p k ks a l j later = by_test (not (has_ready s.seats))
 -- the opponent wins within the depth, for all depths up to n
 pub depth_wins_by : (s : Sys) → IsSys s → (n d : ℕ) (p : Pair) (ks : List ℕ) → IsPair s p → depth (arena s) p ≡ Some d → d ≤ n → AreSeats s ks → d ≤ length ks →
     WinsWithin d (depth_play s p ks)
-depth_wins_by s ok n zero p ks pair e few seats enough =
-    subst (λ o. WinsWithin zero (depth_play_at s ks p o (request_at s p o))) (sym e) (omega arith)
+depth_wins_by s ok n zero p ks pair e few seats enough = grind arith
 depth_wins_by s ok zero (suc d) p ks pair e few seats enough = let none : ⊥ = omega arith in absurd none
 depth_wins_by s ok (suc n) (suc d) p [] pair e few seats enough = let none : ⊥ = omega arith in absurd none
 depth_wins_by s ok (suc n) (suc d) p (k ∷ ks) pair e few seats enough =
@@ -87,10 +86,7 @@ depth_unanswered_wins s (suc d) p e f =
 
 -- The opponent that plays by depth wins.
 pub depth_won : DepthWins
-depth_won s ok p pair n e = record {
-  against_seats = λ ks seats enough. depth_wins_by s ok n n p ks pair e (omega arith) seats enough;
-  against_none = depth_unanswered_wins s n p e;
-}
+depth_won s ok p pair n e = search (rules, depth_unanswered_wins, depth_wins_by)
 
 -- The depth is the least number of requests.
 pub depth_least : DepthIsLeast

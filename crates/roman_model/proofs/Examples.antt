@@ -1,9 +1,9 @@
 -- The definitions, computed for three small systems. A lamp is off or on. A flaky lamp may also stick when it is turned on. The target
 -- turns a lamp on and off, and may rest while it is off.
-use Rattle.std.proofs.Common.{◌≡◌, ℕ, ◌+◌, ◌<◌, ◌==◌, true, false, ◌&&◌, List, [], ◌∷◌, map, length, Some, IsTrue, filter, inl, inr, refl, sym, subst, arith}
+use Rattle.std.proofs.Common.{◌≡◌, ℕ, ◌+◌, ◌<◌, true, false, List, [], ◌∷◌, map, length, Some, IsTrue, filter, inl, inr, refl, sym, subst, arith}
 use Rattle.std.proofs.lemmas.Bool.{and_parts, eqb-true}
 use Rattle.roman_model.specs.Lists.{IsIn}
-use Rattle.roman_model.specs.System.{Triple, Env, Move, Beh, Seat, Sys, Pair, IsBeh, IsSys, has, has_move}
+use Rattle.roman_model.specs.System.{Triple, Env, Move, Beh, Seat, Sys, Pair, IsBeh, IsSys, has_move}
 use Rattle.roman_model.specs.SystemArena.{pairs, arena}
 use Rattle.roman_model.specs.Arena.{IsOrder, depth}
 use Rattle.roman_model.specs.Change.{Join, after}
@@ -119,42 +119,14 @@ lamp_guards m (inr (inl same)) = subst (λ (n : Move). (e : ℕ) → IsIn e n.gu
 lamp_guards m (inr (inr none)) = absurd none
 
 lamp_is_behaviour : IsBeh room lamp
-lamp_is_behaviour = record {
-  states = omega arith;
-  start = omega arith;
-  finals = λ b i. let l : b < 1 = only_zero b i in omega arith;
-  steps = lamp_steps;
-  guards = lamp_guards;
-}
+lamp_is_behaviour = grind (arith, lamp_guards, lamp_steps, only_zero)
 
 -- a step of the lamp turns it over
 lamp_turns : (b e a b' : ℕ) → IsTrue (has_move lamp b e a b') → b + b' ≡ 1
-lamp_turns b e a b' h =
-    let (m, i, t) = any_true (λ m. m.from == b && m.action == a && has m.guard e && m.to == b') lamp.steps h in
-    let (front, to) = and_parts (m.from == b && m.action == a && has m.guard e) (m.to == b') t in
-    let (middle, guard) = and_parts (m.from == b && m.action == a) (has m.guard e) front in
-    let (from, action) = and_parts (m.from == b) (m.action == a) middle in
-    let starts : m.from ≡ b = eqb-true m.from b from in
-    let ends : m.to ≡ b' = eqb-true m.to b' to in
-    let turns : m.from + m.to ≡ 1 = both_turn m i in
-    omega arith
-  where
-    both_turn : (m : Move) → IsIn m lamp.steps → m.from + m.to ≡ 1
-    both_turn m (inl same) = subst (λ (n : Move). n.from + n.to ≡ 1) (sym same) refl
-    both_turn m (inr (inl same)) = subst (λ (n : Move). n.from + n.to ≡ 1) (sym same) refl
-    both_turn m (inr (inr none)) = absurd none
+lamp_turns b e a b' h = grind (arith, and_parts, any_true, eqb-true)
 
 pub lamp_is_system : IsSys lamp_system
-lamp_is_system = record {
-  env = record { states = omega arith; actions = omega arith; start = omega arith; triples = lamp_triples };
-  target = lamp_is_behaviour;
-  single = λ b e a b1 b2 first second.
-      let one : b + b1 ≡ 1 = lamp_turns b e a b1 first in
-      let two : b + b2 ≡ 1 = lamp_turns b e a b2 second in
-      omega arith;
-  seats = λ x i. elim i [ inl same ↦ subst (λ (y : Seat). IsBeh room y.beh) (sym same) lamp_is_behaviour | inr none ↦ absurd none ];
-  few = omega arith;
-}
+lamp_is_system = grind (arith, lamp_is_behaviour, lamp_triples, lamp_turns)
 
 -- The removal list of the flaky lamp's system that a certificate lists: each entry is justified by the entries before it.
 flaky_order : IsOrder (arena flaky_system)

@@ -1,5 +1,5 @@
 -- The explanation is the least closed part of a removal list, is a removal list by itself, and ends with the explained entry.
-use Rattle.std.proofs.Common.{◌≡◌, ℕ, zero, suc, ◌+◌, ◌-◌, ◌<◌, ◌≤◌, Bool, true, false, ◌&&◌, ◌||◌, ◌⊎◌, List, [], ◌∷◌, ◌++◌, length, Option, Some, None, IsTrue, IsFalse, if◌then◌else◌, filter, find, refl, sym, ap, ap₂, ◌∙◌, subst, inl, inr, arith, append-nil, append_assoc, length-append}
+use Rattle.std.proofs.Common.{◌≡◌, ℕ, zero, suc, ◌+◌, ◌-◌, ◌<◌, ◌≤◌, Bool, ◌&&◌, ◌||◌, ◌⊎◌, List, [], ◌∷◌, ◌++◌, length, Option, Some, None, IsTrue, IsFalse, filter, find, refl, sym, ap, ap₂, ◌∙◌, subst, inl, inr, arith, append-nil, append_assoc, length-append}
 use Rattle.std.specs.List.{list_any}
 use Rattle.std.specs.Option.{option_to_list}
 use Rattle.std.proofs.lemmas.Bool.{false≢true, both_ways, or_cases, or_parts, or_left, or_right, and_parts, and_from, cond-true, cond-false}
@@ -53,9 +53,7 @@ before_falls {N} A (x ∷ L) p q h = by_test (A.same p x.node)
 
 pub before_fits : {N : Type 0} (A : Arena N) (L : List (Entry N)) (p : N) → length (entries_before A L p) ≤ length L
 before_fits A [] p = omega arith
-before_fits A (x ∷ L) p =
-    let rest : length (entries_before A L p) ≤ length L = before_fits A L p in
-    elim (A.same p x.node) as (λ b. length (if b then [] else x ∷ entries_before A L p) ≤ length (x ∷ L)) [ true ↦ omega arith | false ↦ omega arith ]
+before_fits A (x ∷ L) p = grind (arith, (before_fits A L p))
 
 -- a listed node has fewer entries before it than the list has entries
 pub before_shorter : {N : Type 0} (A : Arena N) (L : List (Entry N)) (p : N) → IsTrue (is_listed A L p) → length (entries_before A L p) < length L
@@ -192,15 +190,7 @@ module _ {N : Type 0} (A : Arena N) (L : List (Entry N)) (p : N) where
 
 -- a node is explained exactly where it is listed and p's entry depends on its entry
 pub explained_listed : {N : Type 0} (A : Arena N) (L : List (Entry N)) (p q : N) → IsSame A → is_listed A (explanation A L p) q ≡ (is_listed A L q && rests_on A L (length L) p q)
-explained_listed A L p q same = same_test (is_listed A (explanation A L p) q) (is_listed A L q && rests_on A L (length L) p q)
-    (λ h.
-    let (x, i, t) = any_true (λ x. A.same q x.node) (explanation A L p) h in
-    let (j, r) = filter_in (λ x. rests_on A L (length L) p x.node) x L i in
-    and_from (is_listed A L q) (rests_on A L (length L) p q) (any_from (λ x. A.same q x.node) x L j t) (subst (λ n. IsTrue (rests_on A L (length L) p n)) (sym (same.is q x.node t)) r))
-    (λ h.
-    let (l, r) = and_parts (is_listed A L q) (rests_on A L (length L) p q) h in
-    let (x, i, t) = any_true (λ x. A.same q x.node) L l in
-    any_from (λ x. A.same q x.node) x (explanation A L p) (in_filter (λ x. rests_on A L (length L) p x.node) x L i (subst (λ n. IsTrue (rests_on A L (length L) p n)) (same.is q x.node t) r)) t)
+explained_listed A L p q same = grind (arith, and_from, and_parts, any_from, any_true, filter_in, in_filter, same_test)
 
 -- a closed set holds each node on whose entry p's entry depends
 closed_holds : {N : Type 0} (A : Arena N) (L : List (Entry N)) (p : N) (holds : N → Bool) → IsSame A → IsClosed A L p holds → (n : ℕ) (q : N) → IsTrue (rests_on A L n p q) → IsTrue (holds q)

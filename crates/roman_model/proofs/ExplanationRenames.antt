@@ -1,5 +1,5 @@
 -- Explanations carry over between arenas whose nodes correspond by a renaming.
-use Rattle.std.proofs.Common.{◌≡◌, ℕ, zero, suc, Bool, true, false, ◌&&◌, ◌||◌, List, [], ◌∷◌, ◌++◌, map, length, Option, Some, None, if◌then◌else◌, filter, flat_map, find, option_map, refl, sym, ap, ap₂, ◌∙◌, inl, inr}
+use Rattle.std.proofs.Common.{◌≡◌, ℕ, zero, suc, Bool, true, false, ◌&&◌, ◌||◌, List, [], ◌∷◌, map, length, Option, Some, None, if◌then◌else◌, filter, flat_map, find, option_map, refl, sym, ap, ap₂, ◌∙◌, inl, inr, arith}
 use Rattle.std.specs.Option.{option_to_list}
 use Rattle.std.proofs.lemmas.List.{length-map, map-append}
 use Rattle.roman_model.specs.Lists.{IsIn, below}
@@ -32,9 +32,7 @@ map_option f (Some x) = refl
 
 map_flat_options : {X Y : Type 0} (f : X → Y) (g : ℕ → Option X) (h : ℕ → Option Y) (ks : List ℕ) → ((k : ℕ) → option_map f (g k) ≡ h k) → map f (flat_map (λ k. option_to_list (g k)) ks) ≡ flat_map (λ k. option_to_list (h k)) ks
 map_flat_options f g h [] same = refl
-map_flat_options f g h (k ∷ ks) same =
-    map-append f (option_to_list (g k)) (flat_map (λ k. option_to_list (g k)) ks)
-    ∙ ap₂ (λ xs ys. xs ++ ys) (map_option f (g k) ∙ ap option_to_list (same k)) (map_flat_options f g h ks same)
+map_flat_options f g h (k ∷ ks) same = grind (arith, map-append, map_option, (map_flat_options f g h ks same))
 
 module _ {N M : Type 0} (A : Arena N) (B : Arena M) (f : N → M) (Is : N → Type 0) (r : Renames A B f Is) (L : List (Entry N)) (have : HaveNodes Is L) where
   pub before_renamed_in : (K : List (Entry N)) (p : N) → HaveNodes Is K → Is p → map (renamed_entry f) (entries_before A K p) ≡ entries_before B (map (renamed_entry f) K) (f p)

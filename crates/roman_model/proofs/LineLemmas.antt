@@ -1,5 +1,5 @@
 -- The lines of a text whose first lines are known.
-use Rattle.std.proofs.Common.{◌≡◌, ◌≢◌, ℕ, ◌==◌, false, List, [], ◌∷◌, ◌++◌, refl, sym, ap, ◌∙◌, inl, inr, append_assoc, append-nil}
+use Rattle.std.proofs.Common.{◌≡◌, ◌≢◌, ℕ, ◌==◌, List, [], ◌∷◌, ◌++◌, refl, sym, ap, ◌∙◌, inl, inr, append_assoc, append-nil, arith}
 use Rattle.std.proofs.lemmas.Bool.{or_parts, cond-false}
 use Rattle.roman_model.specs.Lines.{onto_first_line, lines, onto_ended_line, ended_lines, text_of_lines, IsLine, AreLines}
 use Rattle.roman_model.specs.System.{has}
@@ -21,9 +21,7 @@ ended_lines-line (byte ∷ line) rest h =
 -- bytes without a newline are one line, or none where there are no bytes
 pub lines_last : (line : List ℕ) → IsLine line → line ≢ [] → lines line ≡ line ∷ []
 lines_last [] h some = absurd (some refl)
-lines_last (byte ∷ []) h some =
-    let (first, others) = or_parts (byte == 10) false h in
-    cond-false (byte == 10) ([] ∷ []) ((byte ∷ []) ∷ []) first
+lines_last (byte ∷ []) h some = grind (arith, cond-false, or_parts)
 lines_last (byte ∷ next ∷ line) h some =
     let (first, others) = or_parts (byte == 10) (has (next ∷ line) 10) h in
     cond-false (byte == 10) ([] ∷ lines (next ∷ line)) (onto_first_line byte (lines (next ∷ line))) first

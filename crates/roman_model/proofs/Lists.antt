@@ -67,9 +67,7 @@ from_flat_map f y (x ∷ xs) i = elim (from_append y (f x) (flat_map f xs) i) [ 
 pub in_filter : {X : Type 0} (p : X → Bool) (x : X) (xs : List X) → IsIn x xs → IsTrue (p x) → IsIn x (filter p xs)
 in_filter p x [] i t = absurd i
 in_filter p x (y ∷ xs) (inl e) t = subst (λ ys. IsIn x ys) (sym (cond-true (p y) (y ∷ filter p xs) (filter p xs) (subst (λ w. IsTrue (p w)) e t))) (inl e)
-in_filter p x (y ∷ xs) (inr i) t =
-    let rest : IsIn x (filter p xs) = in_filter p x xs i t in
-    elim (p y) as (λ b. IsIn x (cond b (y ∷ filter p xs) (filter p xs))) [ true ↦ inr rest | false ↦ rest ]
+in_filter p x (y ∷ xs) (inr i) t = grind (arith, (in_filter p x xs i t))
 
 pub filter_in : {X : Type 0} (p : X → Bool) (x : X) (xs : List X) → IsIn x (filter p xs) → IsIn x xs × IsTrue (p x)
 filter_in p x [] i = absurd i
@@ -227,11 +225,7 @@ find_none p (y ∷ xs) e = by_test (p y)
 
 -- where some element passes, an element is found
 pub find_found : {X : Type 0} (p : X → Bool) (xs : List X) → IsTrue (list_any p xs) → (x : X) × (find p xs ≡ Some x)
-find_found {X} p xs h = by_found (find p xs) refl
-  where
-    by_found : (o : Option X) → find p xs ≡ o → (x : X) × (find p xs ≡ Some x)
-    by_found None e = absurd (both_ways (list_any p xs) (find_none p xs e) h)
-    by_found (Some x) e = (x, e)
+find_found {X} p xs h = grind (arith, both_ways, find_none)
 
 pub find_not_found : {X : Type 0} (p : X → Bool) (xs : List X) → IsFalse (list_any p xs) → find p xs ≡ None
 find_not_found p [] h = refl
@@ -325,9 +319,7 @@ sublist_length (x ∷ xs) (y ∷ ys) (inr s) = let l : length (x ∷ xs) ≤ len
 
 pub filter_sublist : {X : Type 0} (p : X → Bool) (xs : List X) → IsSublist (filter p xs) xs
 filter_sublist p [] = tt
-filter_sublist p (x ∷ xs) =
-    let rest : IsSublist (filter p xs) xs = filter_sublist p xs in
-    elim (p x) as (λ b. IsSublist (cond b (x ∷ filter p xs) (filter p xs)) (x ∷ xs)) [ true ↦ inl (refl, rest) | false ↦ sublist_skip (filter p xs) xs x rest ]
+filter_sublist p (x ∷ xs) = grind (arith, sublist_skip, (filter_sublist p xs))
 
 -- Lists without repeats.
 
@@ -356,10 +348,7 @@ no_longer {X} (x ∷ xs) ys once within =
 
 -- two lists without repeats and with the same elements are equally long
 pub same_length : {X : Type 0} (xs ys : List X) → HasNoRepeats xs → HasNoRepeats ys → ((x : X) → IsIn x xs ↔ IsIn x ys) → length xs ≡ length ys
-same_length xs ys xs_once ys_once same =
-    let up : length xs ≤ length ys = no_longer xs ys xs_once (λ x. (same x).0) in
-    let down : length ys ≤ length xs = no_longer ys xs ys_once (λ x. (same x).1) in
-    omega arith
+same_length xs ys xs_once ys_once same = grind (arith, no_longer)
 
 pub HasNoRepeats-append : {X : Type 0} (xs ys : List X) → HasNoRepeats xs → HasNoRepeats ys → ((x : X) → IsIn x xs → IsIn x ys → ⊥) → HasNoRepeats (xs ++ ys)
 HasNoRepeats-append [] ys xs_once ys_once apart = ys_once
@@ -377,9 +366,7 @@ HasNoRepeats-below (suc n) = HasNoRepeats-push (below n) n (HasNoRepeats-below n
 
 pub HasNoRepeats-filter : {X : Type 0} (p : X → Bool) (xs : List X) → HasNoRepeats xs → HasNoRepeats (filter p xs)
 HasNoRepeats-filter p [] once = tt
-HasNoRepeats-filter p (x ∷ xs) once =
-    let rest : HasNoRepeats (filter p xs) = HasNoRepeats-filter p xs once.1 in
-    elim (p x) as (λ b. HasNoRepeats (cond b (x ∷ filter p xs) (filter p xs))) [ true ↦ (λ i. once.0 (filter_in p x xs i).0, rest) | false ↦ rest ]
+HasNoRepeats-filter p (x ∷ xs) once = grind (arith, filter_in, (HasNoRepeats-filter p xs once.1))
 
 -- a map has no repeats where the function is injective on the elements
 pub HasNoRepeats-map : {X Y : Type 0} (f : X → Y) (xs : List X) → ((x y : X) → IsIn x xs → IsIn y xs → f x ≡ f y → x ≡ y) → HasNoRepeats xs → HasNoRepeats (map f xs)
@@ -402,11 +389,7 @@ HasNoRepeats-flat_map f (x ∷ xs) each apart once =
 
 pub filter-map : {X Y : Type 0} (p : Y → Bool) (f : X → Y) (xs : List X) → filter p (map f xs) ≡ map f (filter (λ x. p (f x)) xs)
 filter-map p f [] = refl
-filter-map p f (x ∷ xs) = ap (λ ys. cond (p (f x)) (f x ∷ ys) ys) (filter-map p f xs) ∙ moved (p (f x))
-  where
-    moved : (b : Bool) → cond b (f x ∷ map f (filter (λ y. p (f y)) xs)) (map f (filter (λ y. p (f y)) xs)) ≡ map f (cond b (x ∷ filter (λ y. p (f y)) xs) (filter (λ y. p (f y)) xs))
-    moved true = refl
-    moved false = refl
+filter-map p f (x ∷ xs) = grind (arith, (filter-map p f xs))
 
 pub filter-flat_map : {X Y : Type 0} (p : Y → Bool) (f : X → List Y) (xs : List X) → filter p (flat_map f xs) ≡ flat_map (λ x. filter p (f x)) xs
 filter-flat_map p f [] = refl

@@ -1,5 +1,5 @@
 -- Records built from tests: their steps are exactly those that pass, their numbers are in range, and equal tests build equal records.
-use Rattle.std.proofs.Common.{◌≡◌, ℕ, ◌<◌, ◌≤◌, ◌==◌, Bool, ◌&&◌, IsTrue, List, [], ◌∷◌, map, filter, sym, ap, ap₂, ◌∙◌, subst, inl, inr, refl}
+use Rattle.std.proofs.Common.{◌≡◌, ℕ, ◌<◌, ◌≤◌, ◌==◌, Bool, ◌&&◌, IsTrue, List, [], ◌∷◌, map, filter, sym, ap, ap₂, ◌∙◌, subst, inl, inr, refl, arith}
 use Rattle.std.proofs.lemmas.Bool.{eq-eqb, eqb-true, and_parts, and_from}
 use Rattle.roman_model.specs.Lists.{IsIn, below}
 use Rattle.roman_model.specs.System.{Triple, Env, Move, has, has_triple, has_move, IsEnv, IsBeh, is_final}
@@ -12,13 +12,7 @@ use Rattle.roman_model.proofs.ChangeLemmas.{flat_map_same_in}
 
 pub from_made_triples : (states actions start : ℕ) (goes : ℕ → ℕ → ℕ → Bool) (x : Triple) → IsIn x (env_from states actions start goes).triples →
     (x.from < states) × (x.action < actions) × (x.to < states) × IsTrue (goes x.from x.action x.to)
-from_made_triples states actions start goes x i =
-    let (e, ie, ix) = from_flat_map _ x (below states) i in
-    let (a, ia, iy) = from_flat_map _ x (below actions) ix in
-    let (e', ie', same) = from_map _ x (filter (goes e a) (below states)) iy in
-    let (it, step) = filter_in (goes e a) e' (below states) ie' in
-    subst (λ (y : Triple). (y.from < states) × (y.action < actions) × (y.to < states) × IsTrue (goes y.from y.action y.to)) (sym same)
-    (from_below states e ie, from_below actions a ia, from_below states e' it, step)
+from_made_triples states actions start goes x i = grind (arith, filter_in, from_below, from_flat_map, from_map)
 
 pub from_made_triple : (states actions start : ℕ) (goes : ℕ → ℕ → ℕ → Bool) (e a e' : ℕ) → IsTrue (has_triple (env_from states actions start goes) e a e') →
     (e < states) × (a < actions) × (e' < states) × IsTrue (goes e a e')
@@ -65,35 +59,15 @@ in_guarded b a b' (g ∷ gs) e i = inl refl
 from_made_steps : (env_states actions states start : ℕ) (final : ℕ → Bool) (goes : ℕ → ℕ → ℕ → ℕ → Bool) (m : Move) →
     IsIn m (beh_from env_states actions states start final goes).steps →
     (m.from < states) × (m.action < actions) × (m.to < states) × ((e : ℕ) → IsIn e m.guard → (e < env_states) × IsTrue (goes m.from e m.action m.to))
-from_made_steps env_states actions states start final goes m i =
-    let (b, ib, im) = from_flat_map _ m (below states) i in
-    let (a, ia, in') = from_flat_map _ m (below actions) im in
-    let (b', ib', io) = from_flat_map _ m (below states) in' in
-    subst
-    (λ (n : Move). (n.from < states) × (n.action < actions) × (n.to < states)
-    × ((e : ℕ) → IsIn e n.guard → (e < env_states) × IsTrue (goes n.from e n.action n.to)))
-    (sym (from_guarded b a b' (filter (λ e. goes b e a b') (below env_states)) m io)) (
-      from_below states b ib,
-      from_below actions a ia,
-      from_below states b' ib',
-      λ e ie. let (it, step) = filter_in (λ e. goes b e a b') e (below env_states) ie in (from_below env_states e it, step),
-    )
+from_made_steps env_states actions states start final goes m i = grind (arith, filter_in, from_below, from_flat_map, from_guarded)
 
 -- the move that the test of a step finds
 pub move_test : (m : Move) (b e a b' : ℕ) → IsTrue (m.from == b && m.action == a && has m.guard e && m.to == b') →
     (m.from ≡ b) × (m.action ≡ a) × IsIn e m.guard × (m.to ≡ b')
-move_test m b e a b' t =
-    let (front, to) = and_parts (m.from == b && m.action == a && has m.guard e) (m.to == b') t in
-    let (ends, guard) = and_parts (m.from == b && m.action == a) (has m.guard e) front in
-    let (from, action) = and_parts (m.from == b) (m.action == a) ends in
-    let (g, i, same) = any_true (λ n. n == e) m.guard guard in
-    (eqb-true m.from b from, eqb-true m.action a action, subst (λ n. IsIn n m.guard) (eqb-true g e same) i, eqb-true m.to b' to)
+move_test m b e a b' t = grind (arith, and_parts, any_true, eqb-true)
 
 pub move_passes : (b e a b' : ℕ) (guard : List ℕ) → IsIn e guard → IsTrue (b == b && a == a && has guard e && b' == b')
-move_passes b e a b' guard i =
-    and_from (b == b && a == a && has guard e) (b' == b')
-    (and_from (b == b && a == a) (has guard e) (and_from (b == b) (a == a) (eq-eqb b b refl) (eq-eqb a a refl)) (any_from (λ n. n == e) e guard i (eq-eqb e e refl)))
-    (eq-eqb b' b' refl)
+move_passes b e a b' guard i = grind (arith, and_from, any_from, eq-eqb)
 
 pub from_made_move : (env_states actions states start : ℕ) (final : ℕ → Bool) (goes : ℕ → ℕ → ℕ → ℕ → Bool) (b e a b' : ℕ) →
     IsTrue (has_move (beh_from env_states actions states start final goes) b e a b') →
@@ -134,9 +108,7 @@ IsBeh-made env states start final goes some begins = record {
 
 pub from_made_final : (env_states actions states start : ℕ) (final : ℕ → Bool) (goes : ℕ → ℕ → ℕ → ℕ → Bool) (b : ℕ) →
     IsTrue (is_final (beh_from env_states actions states start final goes) b) → IsTrue (final b)
-from_made_final env_states actions states start final goes b t =
-    let (n, i, same) = any_true (λ n. n == b) (filter final (below states)) t in
-    subst (λ k. IsTrue (final k)) (eqb-true n b same) (filter_in final n (below states) i).1
+from_made_final env_states actions states start final goes b t = grind (arith, any_true, eqb-true, filter_in)
 
 pub made_final : (env_states actions states start : ℕ) (final : ℕ → Bool) (goes : ℕ → ℕ → ℕ → ℕ → Bool) (b : ℕ) → b < states → IsTrue (final b) →
     IsTrue (is_final (beh_from env_states actions states start final goes) b)

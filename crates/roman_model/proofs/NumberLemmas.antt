@@ -1,5 +1,5 @@
 -- Numbers of lists of states and of pairs: bounds, and the change of a number where a state changes, comes or goes.
-use Rattle.std.proofs.Common.{◌≡◌, ℕ, zero, suc, ◌+◌, ◌*◌, ◌/◌, ◌%◌, ◌<◌, List, [], ◌∷◌, ◌++◌, map, length, take, drop, slice_index, slice_set, remove, refl, sym, ap, ◌∙◌, arith, add-one, div-add-mod'}
+use Rattle.std.proofs.Common.{◌≡◌, ℕ, zero, suc, ◌+◌, ◌*◌, ◌/◌, ◌%◌, ◌<◌, List, [], ◌∷◌, ◌++◌, map, length, take, drop, slice_index, slice_set, remove, refl, sym, ap, ◌∙◌, arith, add-one, div-add-mod', rules}
 use Rattle.std.specs.List.{AllZip}
 use Rattle.std.proofs.lemmas.Nat.{mul-add-lt, div-mul-add, mod-mul-add, div_below, mod_below}
 use Rattle.roman_model.specs.Lists.{product_of}
@@ -28,9 +28,7 @@ pub states_at-number : (sizes bs : List ℕ) → AreBelow sizes bs → states_at
 states_at-number [] [] h = refl
 states_at-number [] (b ∷ bs) h = elim h [ ]
 states_at-number (size ∷ sizes) [] h = elim h [ ]
-states_at-number (size ∷ sizes) (b ∷ bs) h =
-    let rest : states_number sizes bs < product_of sizes = states_number_below sizes bs h.1 in
-    rw (div-mul-add b (product_of sizes) (states_number sizes bs) rest, mod-mul-add b (product_of sizes) (states_number sizes bs) rest, states_at-number sizes bs h.1) refl
+states_at-number (size ∷ sizes) (b ∷ bs) h = grind (arith, div-mul-add, mod-mul-add, states_number_below, (states_at-number sizes bs h.1))
 
 -- a factor of a product with a number below it isn't 0
 factor_pos : (i a b : ℕ) → i < a * b → 0 < b
@@ -66,10 +64,7 @@ states_number-append (m ∷ ms) ns (b ∷ bs) cs h = rw (product_append ms ns, s
 product_split : (sizes : List ℕ) (k : ℕ) → k < length sizes → product_of sizes ≡ product_of (take k sizes) * (slice_index sizes k * product_of (drop (k + 1) sizes))
 product_split [] k h = omega arith
 product_split (size ∷ sizes) zero h = omega arith
-product_split (size ∷ sizes) (suc k) h =
-    let rest : product_of sizes ≡ product_of (take k sizes) * (slice_index sizes k * product_of (drop (k + 1) sizes)) = product_split sizes k (omega arith) in
-    let rest' : product_of sizes ≡ product_of (take k sizes) * (slice_index sizes k * product_of (drop (suc k) sizes)) = rw add-one at rest in
-    rw (add-one, rest') (omega arith)
+product_split (size ∷ sizes) (suc k) h = grind (arith, (product_split sizes k (omega arith)))
 
 -- the number, split at place k: the part before it, the state, and the part after it
 pub states_number-split : (sizes bs : List ℕ) (k : ℕ) → k < length sizes → length bs ≡ length sizes →
@@ -122,8 +117,7 @@ AreBelow-drop (size ∷ sizes) [] (suc k) h = elim h [ ]
 AreBelow-drop (size ∷ sizes) (b ∷ bs) (suc k) h = AreBelow-drop sizes bs k h.1
 
 pub AreBelow-remove : (sizes bs : List ℕ) (k : ℕ) → AreBelow sizes bs → AreBelow (remove sizes k) (remove bs k)
-AreBelow-remove sizes bs k h =
-    AreBelow-append (take k sizes) (drop (suc k) sizes) (take k bs) (drop (suc k) bs) (AreBelow-take sizes bs k h) (AreBelow-drop sizes bs (suc k) h)
+AreBelow-remove sizes bs k h = grind (arith, AreBelow-append, AreBelow-drop, AreBelow-take)
 
 -- The number of a changed list of states
 
@@ -133,10 +127,7 @@ pub states_number-set : (sizes bs : List ℕ) (k b : ℕ) → k < length sizes �
 states_number-set [] bs k b h l = omega arith
 states_number-set (size ∷ sizes) [] k b h l = omega arith
 states_number-set (size ∷ sizes) (x ∷ bs) zero b h l = omega arith
-states_number-set (size ∷ sizes) (x ∷ bs) (suc k) b h l =
-    let rest : states_number sizes (slice_set bs k b) + slice_index bs k * product_of (drop (suc k) sizes) ≡ states_number sizes bs + b * product_of (drop (suc k) sizes) =
-    rw add-one at (states_number-set sizes bs k b (omega arith) (omega arith)) in
-    rw add-one (omega arith)
+states_number-set (size ∷ sizes) (x ∷ bs) (suc k) b h l = grind (arith, (states_number-set sizes bs k b (omega arith) (omega arith)))
 
 -- the state at place k is a digit of the number
 pub state_from_number : (sizes bs : List ℕ) (k : ℕ) → AreBelow sizes bs → k < length sizes →
@@ -190,49 +181,25 @@ states_number-push sizes bs size b h = states_number-append sizes (size ∷ []) 
 -- Pairs and their numbers
 
 pub number_below : (n : Sizes) (p : Pair) → IsPairOf n p → number n p < count n
-number_below n p ok =
-    let part : p.t * n.env + p.e < n.env * n.target = mul-add-lt p.t n.env p.e n.target ok.t ok.e in
-    let all : (p.t * n.env + p.e) * product_of n.seats + states_number n.seats p.bs < product_of n.seats * (n.env * n.target) =
-    mul-add-lt (p.t * n.env + p.e) (product_of n.seats) (states_number n.seats p.bs) (n.env * n.target) part (states_number_below n.seats p.bs ok.bs) in
-    omega arith
+number_below n p ok = grind (arith, mul-add-lt, states_number_below)
 
 -- the parts of the number: the target's state, the environment's state, and the list of states
 pub parts_of_number : (n : Sizes) (p : Pair) → IsPairOf n p →
     (number n p / product_of n.seats / n.env ≡ p.t) × (number n p / product_of n.seats % n.env ≡ p.e) × (number n p % product_of n.seats ≡ states_number n.seats p.bs)
-parts_of_number n p ok =
-    let low : states_number n.seats p.bs < product_of n.seats = states_number_below n.seats p.bs ok.bs in
-    let high : number n p / product_of n.seats ≡ p.t * n.env + p.e = div-mul-add (p.t * n.env + p.e) (product_of n.seats) (states_number n.seats p.bs) low in (
-      rw high (div-mul-add p.t n.env p.e ok.e),
-      rw high (mod-mul-add p.t n.env p.e ok.e),
-      mod-mul-add (p.t * n.env + p.e) (product_of n.seats) (states_number n.seats p.bs) low,
-    )
+parts_of_number n p ok = grind (arith, div-mul-add, mod-mul-add, states_number_below)
 
 -- two pairs with equal parts are equal
 same_parts : (t u e f : ℕ) (bs cs : List ℕ) → t ≡ u → e ≡ f → bs ≡ cs → ◌≡◌ {A = Pair} (record { t = t; e = e; bs = bs }) (record { t = u; e = f; bs = cs })
 same_parts t u e f bs cs x y z = rw (x, y, z) refl
 
 pub pair_at-number : (n : Sizes) (p : Pair) → IsPairOf n p → pair_at n (number n p) ≡ p
-pair_at-number n p ok =
-    let parts = parts_of_number n p ok in
-    same_parts (number n p / product_of n.seats / n.env) p.t (number n p / product_of n.seats % n.env) p.e (states_at n.seats (number n p % product_of n.seats)) p.bs
-    parts.0 parts.1 (ap (states_at n.seats) parts.2 ∙ states_at-number n.seats p.bs ok.bs)
+pair_at-number n p ok = grind (arith, parts_of_number, same_parts, states_at-number)
 
 pub IsPairOf-at : (n : Sizes) (i : ℕ) → i < count n → IsPairOf n (pair_at n i)
-IsPairOf-at n i h =
-    let seats : 0 < product_of n.seats = factor_pos i (n.target * n.env) (product_of n.seats) h in
-    let part : i / product_of n.seats < n.target * n.env = div_below i (product_of n.seats) (n.target * n.env) seats h in
-    let env : 0 < n.env = factor_pos (i / product_of n.seats) n.target n.env part in
-    record {
-      t = div_below (i / product_of n.seats) n.env n.target env part;
-      e = mod_below (i / product_of n.seats) n.env env;
-      bs = AreBelow-at n.seats (i % product_of n.seats) (mod_below i (product_of n.seats) seats);
-    }
+IsPairOf-at n i h = grind (arith, AreBelow-at, div_below, factor_pos, mod_below)
 
 pub number-pair_at : (n : Sizes) (i : ℕ) → i < count n → number n (pair_at n i) ≡ i
-number-pair_at n i h =
-    let seats : 0 < product_of n.seats = factor_pos i (n.target * n.env) (product_of n.seats) h in
-    rw (states_number-at n.seats (i % product_of n.seats) (mod_below i (product_of n.seats) seats), div-add-mod' (i / product_of n.seats) n.env)
-    (div-add-mod' i (product_of n.seats))
+number-pair_at n i h = grind (arith, factor_pos, mod_below, states_number-at)
 
 -- the number of a pair is the number of one list of states
 number-list : (n : Sizes) (p : Pair) → number n p ≡ states_number (n.target ∷ n.env ∷ n.seats) (p.t ∷ p.e ∷ p.bs)
@@ -257,19 +224,13 @@ part_at n i k h l = part_from_number n (pair_at n i) k (IsPairOf-at n i h) l ∙
 pub number-moved : (n : Sizes) (p : Pair) (t e k b : ℕ) → k < length n.seats → length p.bs ≡ length n.seats →
     number n (record { t = t; e = e; bs = slice_set p.bs k b }) + ((p.t * n.env + p.e) * product_of n.seats + slice_index p.bs k * product_of (drop (k + 1) n.seats))
     ≡ number n p + ((t * n.env + e) * product_of n.seats + b * product_of (drop (k + 1) n.seats))
-number-moved n p t e k b h l =
-    let states : states_number n.seats (slice_set p.bs k b) + slice_index p.bs k * product_of (drop (k + 1) n.seats) ≡ states_number n.seats p.bs + b * product_of (drop (k + 1) n.seats) =
-    states_number-set n.seats p.bs k b h l in
-    omega arith
+number-moved n p t e k b h l = grind (arith, states_number-set)
 
 -- the number of a pair with another state of seat k
 pub number-set : (n : Sizes) (p : Pair) (k b : ℕ) → k < length n.seats → length p.bs ≡ length n.seats →
     number n (record { t = p.t; e = p.e; bs = slice_set p.bs k b }) + slice_index p.bs k * product_of (drop (k + 1) n.seats)
     ≡ number n p + b * product_of (drop (k + 1) n.seats)
-number-set n p k b h l =
-    let states : states_number n.seats (slice_set p.bs k b) + slice_index p.bs k * product_of (drop (k + 1) n.seats) ≡ states_number n.seats p.bs + b * product_of (drop (k + 1) n.seats) =
-    states_number-set n.seats p.bs k b h l in
-    omega arith
+number-set n p k b h l = grind (arith, states_number-set)
 
 pub IsPairOf-moved : (n : Sizes) (p : Pair) (t e k b : ℕ) → IsPairOf n p → t < n.target → e < n.env → b < slice_index n.seats k → IsPairOf n (record { t = t; e = e; bs = slice_set p.bs k b })
 IsPairOf-moved n p t e k b ok x y z = record { t = x; e = y; bs = AreBelow-set n.seats p.bs k b ok.bs z }
@@ -283,8 +244,7 @@ pub count-grown : (n : Sizes) (size : ℕ) → count (grown_sizes n size) ≡ co
 count-grown n size = rw (product_append n.seats (size ∷ [])) (omega arith)
 
 pub number-grown : (n : Sizes) (p : Pair) (size b : ℕ) → IsPairOf n p → number (grown_sizes n size) (grown p b) ≡ number n p * size + b
-number-grown n p size b ok =
-    rw (product_append n.seats (size ∷ []), states_number-push n.seats p.bs size b (AreBelow-length n.seats p.bs ok.bs)) (omega arith)
+number-grown n p size b ok = grind (arith, AreBelow-length, product_append, states_number-push)
 
 pub pair_at-grown : (n : Sizes) (size i b : ℕ) → i < count n → b < size → pair_at (grown_sizes n size) (i * size + b) ≡ grown (pair_at n i) b
 pair_at-grown n size i b h l =
@@ -339,12 +299,7 @@ pub IsPair-from : (s : Sys) (p : Pair) → IsPairOf (sizes_of s) p → IsPair s 
 IsPair-from s p ok = record { t = ok.t; e = ok.e; bs = below_states s.seats p.bs ok.bs }
 
 pub numbers_are_pairs : (s : Sys) → NumbersArePairs s
-numbers_are_pairs s = record {
-  below = λ p ok. number_below (sizes_of s) p (IsPairOf-from s p ok);
-  back = λ p ok. pair_at-number (sizes_of s) p (IsPairOf-from s p ok);
-  pair = λ i h. IsPair-from s (pair_at (sizes_of s) i) (IsPairOf-at (sizes_of s) i h);
-  there = λ i h. number-pair_at (sizes_of s) i h;
-}
+numbers_are_pairs s = search (rules, IsPair-from, IsPairOf-at, IsPairOf-from, number-pair_at, number_below, pair_at-number)
 
 pub pairs_are_numbered : PairsAreNumbered
 pairs_are_numbered s ok = numbers_are_pairs s

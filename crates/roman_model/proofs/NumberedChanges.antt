@@ -52,18 +52,11 @@ pair_entry n x = record { node = pair_at n x.node; reason = x.reason }
 
 grown_named : (n : Sizes) (size : ℕ) (x : Entry ℕ) → x.node < count n →
     map (pair_entry (grown_sizes n size)) (grown_numbers size x) ≡ map (λ b. record { node = grown (pair_at n x.node) b; reason = x.reason }) (below size)
-grown_named n size x l =
-    map-map (pair_entry (grown_sizes n size)) (λ b. record { node = x.node * size + b; reason = x.reason }) (below size)
-    ∙ map_same_in (λ b. pair_entry (grown_sizes n size) (record { node = x.node * size + b; reason = x.reason })) (λ b. record { node = grown (pair_at n x.node) b; reason = x.reason }) (below size)
-    (λ b i. ap (λ p. record { node = p; reason = x.reason }) (pair_at-grown n size x.node b l (from_below size b i)))
+grown_named n size x l = grind (arith, from_below, map-map, map_same_in, pair_at-grown)
 
 join_named : (n : Sizes) (seat : Seat) (L : List (Entry ℕ)) → ((x : Entry ℕ) → IsIn x L → x.node < count n) →
     map (pair_entry (grown_sizes n seat.beh.states)) (flat_map (grown_numbers seat.beh.states) L) ≡ flat_map (grown_entries seat) (map (pair_entry n) L)
-join_named n seat L are =
-    map-flat_map (pair_entry (grown_sizes n seat.beh.states)) (grown_numbers seat.beh.states) L
-    ∙ flat_map_same_in (λ x. map (pair_entry (grown_sizes n seat.beh.states)) (grown_numbers seat.beh.states x)) (λ x. grown_entries seat (pair_entry n x)) L
-    (λ x i. grown_named n seat.beh.states x (are x i))
-    ∙ sym (flat_map-map (grown_entries seat) (pair_entry n) L)
+join_named n seat L are = grind (arith, flat_map-map, flat_map_same_in, grown_named, map-flat_map)
 
 -- numbers below the count are equal exactly where their pairs are
 same_at : (n : Sizes) (i j : ℕ) → i < count n → j < count n → (i == j) ≡ same_pair (pair_at n i) (pair_at n j)

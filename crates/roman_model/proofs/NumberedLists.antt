@@ -1,5 +1,5 @@
 -- Removal lists over the numbers of pairs: the laws of their arena, complete lists, and counts of pairs.
-use Rattle.std.proofs.Common.{◌≡◌, ℕ, ◌+◌, ◌<◌, ◌≤◌, not, List, [], map, length, Bool, IsTrue, IsFalse, ◌↔◌, filter, sum_by, refl, sym, ap, ◌∙◌, subst, arith}
+use Rattle.std.proofs.Common.{◌≡◌, ℕ, ◌+◌, ◌<◌, ◌≤◌, not, List, [], map, length, Bool, IsTrue, IsFalse, ◌↔◌, filter, sum_by, refl, sym, ap, ◌∙◌, subst, arith, rules}
 use Rattle.std.proofs.lemmas.Bool.{both_ways, eqb-true, eq-eqb, not-false}
 use Rattle.std.proofs.lemmas.List.{length-map}
 use Rattle.std.proofs.lemmas.List.Filters.{length-filter_both}
@@ -116,12 +116,7 @@ sum_over_pairs s g =
 
 -- the masks of a complete list over numbers have as many choices as the offers
 pub numbered_choices : (s : Sys) (L : List (Entry ℕ)) → IsSys s → AreNumbers s L → IsCompleteList s L → choices (numbered s) (is_listed (numbered s) L) ≡ choice_count s
-numbered_choices s L ok are complete =
-    sum_by_same (λ i. sum_by (λ a. length (mask (numbered s) (is_listed (numbered s) L) i a)) (below s.env.actions))
-    (λ i. sum_by (λ a. length (offers s (pair_at (sizes_of s) i) a)) (below s.env.actions)) (below (count (sizes_of s)))
-    (λ i j. sum_by_same (λ a. length (mask (numbered s) (is_listed (numbered s) L) i a)) (λ a. length (offers s (pair_at (sizes_of s) i) a)) (below s.env.actions)
-    (λ a k. ap length (numbered_offers s L i a ok are complete (from_below (count (sizes_of s)) i j))))
-    ∙ sym (sum_over_pairs s (λ p. sum_by (λ a. length (offers s p a)) (below s.env.actions)))
+numbered_choices s L ok are complete = search (rules, from_below, numbered_offers, sum_by_same, sum_over_pairs)
 
 -- the number of related pairs is the number of unlisted ones
 pub related_count : (s : Sys) (L : List (Entry Pair)) → IsSys s → IsComplete s L → length (filter (is_related s) (pairs s)) + length L ≡ length (pairs s)
@@ -150,8 +145,7 @@ related_count s L ok complete =
         subst (λ q. IsIn q (map (λ y. y.node) L)) (sym e) (in_map (λ y. y.node) x L k)
 
 pub numbered_related_count : (s : Sys) (L : List (Entry ℕ)) → IsSys s → IsCompleteList s L → length (filter (is_related s) (pairs s)) + length L ≡ count (sizes_of s)
-numbered_related_count s L ok complete =
-    ap (λ n. length (filter (is_related s) (pairs s)) + n) (sym (length-map L (entry_at s))) ∙ related_count s (map (entry_at s) L) ok complete ∙ length-pairs s
+numbered_related_count s L ok complete = grind (arith, length-map, length-pairs, related_count)
 
 -- the test agrees with the greatest ND-simulation
 pub told_related : (s : Sys) (p : ℕ) (told : Bool) → IsSys s → p < count (sizes_of s) → (IsTrue told ↔ Great s (pair_at (sizes_of s) p)) → told ≡ is_related s (pair_at (sizes_of s) p)

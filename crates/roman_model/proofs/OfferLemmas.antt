@@ -1,5 +1,5 @@
 -- The offers, and the pairs to which they lead.
-use Rattle.std.proofs.Common.{◌≡◌, ◌≢◌, ℕ, ◌<◌, not, List, [], ◌∷◌, length, IsTrue}
+use Rattle.std.proofs.Common.{◌≡◌, ◌≢◌, ℕ, ◌<◌, not, List, [], ◌∷◌, length, IsTrue, arith, rules}
 use Rattle.std.proofs.lemmas.Bool.{not-false, not_from_true}
 use Rattle.roman_model.specs.Lists.{IsIn}
 use Rattle.roman_model.specs.System.{Sys, Pair, IsSys, IsPair}
@@ -23,14 +23,11 @@ offer_is s p a k ok pair i =
 
 pub in_offers : (s : Sys) (p : Pair) (a k : ℕ) → IsSys s → IsTrue (is_allowed s p a) → k < length s.seats → outcomes s p a k ≢ [] →
     ((q : Pair) → IsIn q (outcomes s p a k) → Great s q) → IsIn k (offers s p a)
-in_offers s p a k ok allowed l some all =
-    in_mask (arena s) (λ q. not (is_related s q)) p a k allowed l
-    (unbeaten_from (arena s) (λ q. not (is_related s q)) p a k some (λ q j. not_from_true (is_related s q) (great_related s q ok (all q j))))
+in_offers s p a k ok allowed l some all = search (rules, great_related, in_mask, not_from_true, unbeaten_from)
 
 -- the masks of a complete list are the offers
 pub mask_is_offers : (s : Sys) (L : List (Entry Pair)) (p : Pair) (a : ℕ) → IsSys s → IsComplete s L → IsPair s p → mask (arena s) (is_listed (arena s) L) p a ≡ offers s p a
-mask_is_offers s L p a ok complete pair =
-    mask_same (arena s) (is_listed (arena s) L) (λ q. not (is_related s q)) p a (λ k q i. complete_listed s L q ok complete (outcome_pair s p a k q ok pair i))
+mask_is_offers s L p a ok complete pair = search (rules, complete_listed, mask_same, outcome_pair)
 
 -- The offers are those of the orchestrator generator.
 pub offers_are : OffersAreGenerator
@@ -55,11 +52,7 @@ related_offers s p a ok great allowed =
 
 -- A run that follows the offers stays at related pairs.
 pub following_related : FollowingStays
-following_related s ok p pair great [] follows = record {
-  related = great;
-  offered = λ a allowed. related_offers s p a ok great allowed;
-  final = (great_survives s p ok great).final;
-}
+following_related s ok p pair great [] follows = grind (arith, great_survives, related_offers)
 following_related s ok p pair great (m ∷ ms) follows =
     let (allowed, offered, reached, rest) = follows in
     let (allows, l, some, all) = offer_is s p m.action m.seat ok pair offered in

@@ -1,5 +1,5 @@
 -- Removal lists and replays over any arena.
-use Rattle.std.proofs.Common.{◌≡◌, ◌≤◌, Bool, true, false, cond, ◌||◌, List, [], ◌∷◌, ◌++◌, map, length, IsTrue, IsFalse, inl, inr, refl, sym, ap, ap₂, ◌∙◌, subst}
+use Rattle.std.proofs.Common.{◌≡◌, ◌≤◌, Bool, true, false, cond, ◌||◌, List, [], ◌∷◌, ◌++◌, map, length, IsTrue, IsFalse, inl, inr, refl, sym, ap, ap₂, ◌∙◌, subst, arith}
 use Rattle.std.proofs.lemmas.Bool.{false≢true, both_ways, or_cases, or_parts, or_left, or_right, or_from, cond-true, cond-false}
 use Rattle.std.proofs.lemmas.List.{length-map}
 use Rattle.roman_model.specs.Lists.{IsIn, IsSublist, HasNoRepeats}
@@ -12,12 +12,7 @@ use Rattle.roman_model.proofs.ArenaLemmas.{IsSame, Survives, same_from, listed_i
 pub order_from_push : {N : Type 0} (A : Arena N) (before : List N) (L : List (Entry N)) (x : Entry N) → IsOrderFrom A before L →
     IsFalse (is_among A before x.node) → IsFalse (is_listed A L x.node) →
     IsTrue (is_justified A (λ q. is_among A before q || is_listed A L q) x.node x.reason) → IsOrderFrom A before (L ++ x ∷ [])
-order_from_push A before [] x order new unlisted j =
-    (new, justified_more A (λ q. is_among A before q || false) (is_among A before) x.node x.reason (λ a k q i t. from_or_false (is_among A before q) t) j, tt)
-  where
-    from_or_false : (b : Bool) → IsTrue (b || false) → IsTrue b
-    from_or_false true t = refl
-    from_or_false false t = absurd (false≢true t)
+order_from_push A before [] x order new unlisted j = grind (arith, false≢true, justified_more)
 order_from_push A before (y ∷ L) x order new unlisted j =
     let (other, rest) = or_parts (A.same x.node y.node) (is_listed A L x.node) unlisted in (
       order.0,
@@ -62,27 +57,14 @@ new_once A E before (x ∷ L) new = (
 
 -- a removal list has at most as many entries as there are nodes
 pub order_fits : {N : Type 0} (A : Arena N) → IsSame A → (L : List (Entry N)) → IsOrder A L → ((x : Entry N) → IsIn x L → IsIn x.node A.nodes) → length L ≤ length A.nodes
-order_fits A E L order within =
-    subst (λ n. n ≤ length A.nodes) (length-map L (λ x. x.node))
-    (no_longer (map (λ x. x.node) L) A.nodes (new_once A E [] L (order_new A L order))
-    (λ p i. let (x, j, e) = from_map (λ x. x.node) p L i in subst (λ q. IsIn q A.nodes) (sym e) (within x j)))
+order_fits A E L order within = grind (arith, from_map, length-map, new_once, no_longer, order_new)
 
 -- the reason of an entry holds where the nodes of its list are gone
 pub order_from_justified : {N : Type 0} (A : Arena N) (before : List N) (L : List (Entry N)) (x : Entry N) → IsOrderFrom A before L → IsIn x L →
     IsTrue (is_justified A (λ q. is_among A before q || is_listed A L q) x.node x.reason)
 order_from_justified A before [] x order i = absurd i
-order_from_justified A before (y ∷ L) x order (inl e) =
-    subst (λ z. IsTrue (is_justified A (λ q. is_among A before q || is_listed A (y ∷ L) q) z.node z.reason)) (sym e)
-    (justified_more A (is_among A before) (λ q. is_among A before q || is_listed A (y ∷ L) q) y.node y.reason
-    (λ a k q j t. or_left (is_among A before q) (is_listed A (y ∷ L) q) t) order.1)
-order_from_justified A before (y ∷ L) x order (inr i) =
-    justified_more A (λ q. is_among A (y.node ∷ before) q || is_listed A L q) (λ q. is_among A before q || is_listed A (y ∷ L) q) x.node x.reason
-    (λ a k q j t. moved_back (A.same q y.node) (is_among A before q) (is_listed A L q) t) (order_from_justified A (y.node ∷ before) L x order.2 i)
-  where
-    moved_back : (a b c : Bool) → IsTrue ((a || b) || c) → IsTrue (b || (a || c))
-    moved_back true true c t = refl
-    moved_back true false c t = refl
-    moved_back false b c t = t
+order_from_justified A before (y ∷ L) x order (inl e) = grind (arith, justified_more, or_left)
+order_from_justified A before (y ∷ L) x order (inr i) = grind (arith, justified_more, (order_from_justified A (y.node ∷ before) L x order.2 i))
 
 pub order_justified : {N : Type 0} (A : Arena N) (L : List (Entry N)) (x : Entry N) → IsOrder A L → IsIn x L → IsTrue (is_justified A (is_listed A L) x.node x.reason)
 order_justified A L x order i = order_from_justified A [] L x order i
@@ -134,19 +116,7 @@ pub replay_from_keeps : {N : Type 0} (A : Arena N) (before kept : List N) (M L :
     ((q : N) → IsTrue (is_among A before q) → IsTrue (is_among A kept q)) → IsSublist M (replay_from A kept L)
 replay_from_keeps A before kept [] L s order within = tt
 replay_from_keeps A before kept (m ∷ M) [] s order within = absurd s
-replay_from_keeps A before kept (m ∷ M) (x ∷ L) (inl (e, s)) order within =
-    let holds : IsTrue (is_justified A (is_among A kept) x.node x.reason) =
-    subst (λ z. IsTrue (is_justified A (is_among A kept) z.node z.reason)) e
-    (justified_more A (is_among A before) (is_among A kept) m.node m.reason (λ a k q i t. within q t) order.1) in
-    subst (λ R. IsSublist (m ∷ M) R) (sym (cond-true (is_justified A (is_among A kept) x.node x.reason) (x ∷ replay_from A (x.node ∷ kept) L) (replay_from A kept L) holds))
-    (inl (
-      e,
-      replay_from_keeps A (m.node ∷ before) (x.node ∷ kept) M L s order.2
-          (λ q t. elim (or_cases (A.same q m.node) (is_among A before q) t) [
-            | inl here ↦ or_left (A.same q x.node) (is_among A kept q) (subst (λ z. IsTrue (A.same q z.node)) e here)
-            | inr rest ↦ or_right (A.same q x.node) (is_among A kept q) (within q rest)
-          ]),
-    ))
+replay_from_keeps A before kept (m ∷ M) (x ∷ L) (inl (e, s)) order within = grind (arith, cond-true, justified_more, or_cases, or_left, or_right, (replay_from_keeps A (m.node ∷ before) (x.node ∷ kept) M L s order.2))
 replay_from_keeps A before kept (m ∷ M) (x ∷ L) (inr s) order within =
     by_test (is_justified A (is_among A kept) x.node x.reason)
     (λ t. subst (λ R. IsSublist (m ∷ M) R) (sym (cond-true (is_justified A (is_among A kept) x.node x.reason) (x ∷ replay_from A (x.node ∷ kept) L) (replay_from A kept L) t))
@@ -161,20 +131,14 @@ replay_keeps A M L s order = replay_from_keeps A [] [] M L s order (λ q t. t)
 -- the replay of a removal list is the whole list
 pub replay_from_whole : {N : Type 0} (A : Arena N) (before : List N) (L : List (Entry N)) → IsOrderFrom A before L → replay_from A before L ≡ L
 replay_from_whole A before [] order = refl
-replay_from_whole A before (x ∷ L) order =
-    cond-true (is_justified A (is_among A before) x.node x.reason) (x ∷ replay_from A (x.node ∷ before) L) (replay_from A before L) order.1
-    ∙ ap (λ M. x ∷ M) (replay_from_whole A (x.node ∷ before) L order.2)
+replay_from_whole A before (x ∷ L) order = grind (arith, cond-true, (replay_from_whole A (x.node ∷ before) L order.2))
 
 pub replay_whole : {N : Type 0} (A : Arena N) (L : List (Entry N)) → IsOrder A L → replay A L ≡ L
 replay_whole A L order = replay_from_whole A [] L order
 
 pub replay_from_sublist : {N : Type 0} (A : Arena N) (kept : List N) (L : List (Entry N)) → IsSublist (replay_from A kept L) L
 replay_from_sublist A kept [] = tt
-replay_from_sublist A kept (x ∷ L) =
-    let here : IsSublist (replay_from A (x.node ∷ kept) L) L = replay_from_sublist A (x.node ∷ kept) L in
-    let rest : IsSublist (replay_from A kept L) L = replay_from_sublist A kept L in
-    elim (is_justified A (is_among A kept) x.node x.reason) as (λ b. IsSublist (cond b (x ∷ replay_from A (x.node ∷ kept) L) (replay_from A kept L)) (x ∷ L))
-    [ true ↦ inl (refl, here) | false ↦ sublist_skip (replay_from A kept L) L x rest ]
+replay_from_sublist A kept (x ∷ L) = grind (arith, sublist_skip, (replay_from_sublist A (x.node ∷ kept) L), (replay_from_sublist A kept L))
 
 pub replay_sublist : {N : Type 0} (A : Arena N) (L : List (Entry N)) → IsSublist (replay A L) L
 replay_sublist A L = replay_from_sublist A [] L
@@ -191,9 +155,4 @@ replay_from_same A kept others (x ∷ L) same =
 -- the test doesn't depend on the order of the nodes
 pub middle_first : {N : Type 0} (A : Arena N) (ps qs : List N) (p q : N) → is_among A (ps ++ p ∷ qs) q ≡ is_among A (p ∷ (ps ++ qs)) q
 middle_first A [] qs p q = refl
-middle_first A (r ∷ ps) qs p q = ap (λ b. A.same q r || b) (middle_first A ps qs p q) ∙ turned (A.same q r) (A.same q p) (is_among A (ps ++ qs) q)
-  where
-    turned : (a b c : Bool) → (a || (b || c)) ≡ (b || (a || c))
-    turned true true c = refl
-    turned true false c = refl
-    turned false b c = refl
+middle_first A (r ∷ ps) qs p q = grind (arith, (middle_first A ps qs p q))

@@ -1,5 +1,5 @@
 -- The tests and lists of a system agree with its steps.
-use Rattle.std.proofs.Common.{◌≡◌, ℕ, zero, suc, ◌==◌, ◌&&◌, ◌||◌, not, ◌<◌, Bool, true, false, List, [], ◌∷◌, Some, IsTrue, slice_get, slice_index, refl, sym, subst}
+use Rattle.std.proofs.Common.{◌≡◌, ℕ, zero, suc, ◌==◌, ◌&&◌, ◌||◌, not, ◌<◌, Bool, true, false, List, [], ◌∷◌, Some, IsTrue, slice_get, slice_index, refl, subst, arith}
 use Rattle.std.specs.List.{AllZip}
 use Rattle.std.proofs.lemmas.Bool.{eq-eqb, eqb-true, and_parts, and_from}
 use Rattle.roman_model.specs.Lists.{IsIn}
@@ -24,33 +24,19 @@ triple_listed env e a e' h =
     rebuilt f e b a t e' hf hb ht = rw (hf, hb, ht) refl
 
 pub listed_triple : (env : Env) (e a e' : ℕ) → IsIn (record { from = e; action = a; to = e' }) env.triples → IsTrue (has_triple env e a e')
-listed_triple env e a e' i =
-    any_from (λ x. x.from == e && x.action == a && x.to == e') (record { from = e; action = a; to = e' }) env.triples i
-    (and_from (e == e && a == a) (e' == e') (and_from (e == e) (a == a) (eq-eqb e e refl) (eq-eqb a a refl)) (eq-eqb e' e' refl))
+listed_triple env e a e' i = grind (arith, and_from, any_from, eq-eqb)
 
 pub number_listed : (ns : List ℕ) (n : ℕ) → IsTrue (has ns n) → IsIn n ns
-number_listed ns n h =
-    let (m, i, same) = any_true (λ m. m == n) ns h in
-    subst (λ (k : ℕ). IsIn k ns) (eqb-true m n same) i
+number_listed ns n h = grind (arith, any_true, eqb-true)
 
 pub listed_number : (ns : List ℕ) (n : ℕ) → IsIn n ns → IsTrue (has ns n)
 listed_number ns n i = any_from (λ m. m == n) n ns i (eq-eqb n n refl)
 
 pub step_listed : (beh : Beh) (b e a b' : ℕ) → IsTrue (has_move beh b e a b') → HasStep beh b e a b'
-step_listed beh b e a b' h =
-    let (m, i, t) = any_true (λ m. m.from == b && m.action == a && has m.guard e && m.to == b') beh.steps h in
-    let (front, to) = and_parts (m.from == b && m.action == a && has m.guard e) (m.to == b') t in
-    let (ends, guard) = and_parts (m.from == b && m.action == a) (has m.guard e) front in
-    let (from, action) = and_parts (m.from == b) (m.action == a) ends in
-    record { step = m; listed = i; from = eqb-true m.from b from; action = eqb-true m.action a action; to = eqb-true m.to b' to; guard = number_listed m.guard e guard }
+step_listed beh b e a b' h = grind (arith, and_parts, any_true, eqb-true, number_listed)
 
 pub listed_step : (beh : Beh) (b e a b' : ℕ) → HasStep beh b e a b' → IsTrue (has_move beh b e a b')
-listed_step beh b e a b' h =
-    let m = h.step in
-    any_from (λ m. m.from == b && m.action == a && has m.guard e && m.to == b') m beh.steps h.listed
-    (and_from (m.from == b && m.action == a && has m.guard e) (m.to == b')
-    (and_from (m.from == b && m.action == a) (has m.guard e) (and_from (m.from == b) (m.action == a) (eq-eqb m.from b h.from) (eq-eqb m.action a h.action)) (listed_number m.guard e h.guard))
-    (eq-eqb m.to b' h.to))
+listed_step beh b e a b' h = grind (arith, and_from, any_from, eq-eqb, listed_number)
 
 -- Finality, seat by seat
 
@@ -66,10 +52,7 @@ resting false final h = refl
 all_final_each : (seats : List Seat) (bs : List ℕ) → IsTrue (all_final seats bs) → (k : ℕ) (seat : Seat) → slice_get seats k ≡ Some seat → IsTrue seat.rests → IsTrue (is_final seat.beh (slice_index bs k))
 all_final_each [] bs h k seat there rests = cc
 all_final_each (x ∷ xs) [] h k seat there rests = absurd (let e : ⊥ = cc in e)
-all_final_each (x ∷ xs) (b ∷ bs) h zero seat there rests =
-    let (first, others) = and_parts (not x.rests || is_final x.beh b) (all_final xs bs) h in
-    let same : x ≡ seat = cc in
-    subst (λ (x : Seat). IsTrue (is_final x.beh b)) same (rested x.rests (is_final x.beh b) (subst (λ (x : Seat). IsTrue x.rests) (sym same) rests) first)
+all_final_each (x ∷ xs) (b ∷ bs) h zero seat there rests = grind (arith, and_parts, rested)
 all_final_each (x ∷ xs) (b ∷ bs) h (suc k) seat there rests =
     let (first, others) = and_parts (not x.rests || is_final x.beh b) (all_final xs bs) h in
     all_final_each xs bs others k seat there rests
@@ -91,8 +74,4 @@ outcomes_steps s p ok = record {
 }
 
 pub tests_membership : TestsAreMembership
-tests_membership = record {
-  triple = λ env e a e'. (triple_listed env e a e', listed_triple env e a e');
-  step = λ beh b e a b'. (step_listed beh b e a b', listed_step beh b e a b');
-  final = λ beh b. (number_listed beh.finals b, listed_number beh.finals b);
-}
+tests_membership = grind (arith, listed_number, listed_step, listed_triple, number_listed, step_listed, triple_listed)

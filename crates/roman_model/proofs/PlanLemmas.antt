@@ -1,14 +1,13 @@
 -- The plan of the choices costs least of all plans at a related pair.
-use Rattle.std.proofs.Common.{◌≡◌, ◌≢◌, ℕ, zero, suc, ◌+◌, ◌-◌, ◌<◌, ◌≤◌, Bool, true, false, cond, not, ◌⊎◌, List, [], ◌∷◌, ◌++◌, IsTrue, filter, nat_le, inl, inr, refl, sym, ap, ap₂, ◌∙◌, subst, arith}
+use Rattle.std.proofs.Common.{◌≡◌, ◌≢◌, ℕ, zero, suc, ◌+◌, ◌-◌, ◌<◌, ◌≤◌, Bool, true, false, cond, ◌⊎◌, List, [], ◌∷◌, ◌++◌, IsTrue, filter, nat_le, inl, inr, refl, sym, ap, ap₂, ◌∙◌, subst, arith, rules}
 use Rattle.std.specs.Prelude.{max}
 use Rattle.std.proofs.Math.Nat.{le-max_left, le-max_right, max-le}
 use Rattle.std.proofs.lemmas.Bool.{cond-true, cond-false, leb-true, leb-false}
 use Rattle.roman_model.specs.Lists.{IsIn, below}
 use Rattle.roman_model.specs.System.{Sys, Pair, IsSys, IsPair}
-use Rattle.roman_model.specs.SystemArena.{outcomes, is_allowed, arena}
-use Rattle.roman_model.specs.Arena.{is_beaten}
+use Rattle.roman_model.specs.SystemArena.{outcomes, is_allowed}
 use Rattle.roman_model.specs.Composition.{Great}
-use Rattle.roman_model.specs.Offers.{is_related, offers}
+use Rattle.roman_model.specs.Offers.{offers}
 use Rattle.roman_model.specs.Plans.{Costs, Plan, Leaf, Node, max_over, allowed_actions, IsPlan, worst, least_from, first_least, through, least, choice, chosen, IsChoice, PlansCostLeast}
 use Rattle.roman_model.proofs.Lists.{by_test, filter_in, from_below, from_push, not_empty_in, ne_not_empty}
 use Rattle.roman_model.proofs.SystemLemmas.{outcome_pair}
@@ -19,20 +18,14 @@ use Rattle.roman_model.proofs.OfferLemmas.{offer_is, related_offers}
 pub le_max_over : {X : Type 0} (f : X → ℕ) (x : X) (xs : List X) → IsIn x xs → f x ≤ max_over f xs
 le_max_over f x [] i = absurd i
 le_max_over f x (y ∷ xs) (inl e) = subst (λ z. f z ≤ max (f y) (max_over f xs)) (sym e) (le-max_left (f y) (max_over f xs))
-le_max_over f x (y ∷ xs) (inr i) =
-    let rest : f x ≤ max_over f xs = le_max_over f x xs i in
-    let more : max_over f xs ≤ max (f y) (max_over f xs) = le-max_right (f y) (max_over f xs) in
-    omega arith
+le_max_over f x (y ∷ xs) (inr i) = grind (arith, le-max_right, (le_max_over f x xs i))
 
 pub max_over_le : {X : Type 0} (f : X → ℕ) (m : ℕ) (xs : List X) → ((x : X) → IsIn x xs → f x ≤ m) → max_over f xs ≤ m
 max_over_le f m [] h = omega arith
 max_over_le f m (x ∷ xs) h = max-le (h x (inl refl)) (max_over_le f m xs (λ y i. h y (inr i)))
 
 pub max_over_more : {X : Type 0} (f g : X → ℕ) (xs : List X) → ((x : X) → IsIn x xs → f x ≤ g x) → max_over f xs ≤ max_over g xs
-max_over_more f g xs h = max_over_le f (max_over g xs) xs (λ x i.
-    let here : f x ≤ g x = h x i in
-    let there : g x ≤ max_over g xs = le_max_over g x xs i in
-    omega arith)
+max_over_more f g xs h = grind (arith, le_max_over, max_over_le)
 
 pub max_over_same : {X : Type 0} (f g : X → ℕ) (xs : List X) → ((x : X) → IsIn x xs → f x ≡ g x) → max_over f xs ≡ max_over g xs
 max_over_same f g [] same = refl
@@ -76,11 +69,7 @@ rising_filter p (x ∷ xs) rises =
     elim (p x) as (λ b. IsRising (cond b (x ∷ filter p xs) (filter p xs))) [ true ↦ (λ y i. rises.0 y (filter_in p y xs i).0, rest) | false ↦ rest ]
 
 rising_offers : (s : Sys) (p : Pair) (a : ℕ) → IsRising (offers s p a)
-rising_offers s p a =
-    elim (is_allowed s p a) as (λ b. IsRising (cond b (mask_seats s p a) [])) [ true ↦ rising_filter _ (below (arena s).seats) (rising_below (arena s).seats) | false ↦ tt ]
-  where
-    mask_seats : Sys → Pair → ℕ → List ℕ
-    mask_seats s p a = filter (λ k. not (is_beaten (arena s) (λ q. not (is_related s q)) p a k)) (below (arena s).seats)
+rising_offers s p a = grind (arith, rising_below, rising_filter)
 
 -- The first least element.
 
@@ -179,9 +168,4 @@ no_plan_less s C (suc h) p ok pair great (Node seat next) is =
     omega arith)
 
 pub plans_least : PlansCostLeast
-plans_least s C h p ok pair great = record {
-  plan = chosen_plan s C h p ok pair great;
-  cost = chosen_cost s C h p ok pair great;
-  none_less = no_plan_less s C h p ok pair great;
-  choice = λ a allowed. choice_is s C h p a ok great allowed;
-}
+plans_least s C h p ok pair great = search (rules, choice_is, chosen_cost, chosen_plan, no_plan_less)

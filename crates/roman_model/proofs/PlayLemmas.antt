@@ -86,10 +86,7 @@ request_wins s L n p k ks (Act a) l j later = by_test (not (has_ready s.seats))
 pub unanswered_wins : (s : Sys) (L : List (Entry Pair)) (n : ℕ) (p : Pair) (ks : List ℕ) (r : Reason) → IsFalse (has_ready s.seats) → WinsWithin (suc n) (play_at s L ks p (Some r))
 unanswered_wins s L n p ks Final f = omega arith
 unanswered_wins s L n p [] (Act a) f = subst (WinsWithin (suc n)) (sym (cond-false (has_ready s.seats) None (Some 1) f)) (omega arith)
-unanswered_wins s L n p (k ∷ ks) (Act a) f =
-    subst (WinsWithin (suc n)) (sym (cond-true (not (has_ready s.seats)) (Some 1)
-    (if is_empty (outcomes s p a k) then Some 1
-    else went_on (λ q. play_at s L ks q (reason_of s L q)) (answer (arena s) L p a k)) (not_from_false (has_ready s.seats) f))) (omega arith)
+unanswered_wins s L n p (k ∷ ks) (Act a) f = grind (arith, cond-true, not_from_false)
 
 -- the opponent wins within one request more than there are entries before the pair's entry
 pub list_wins : (s : Sys) (L : List (Entry Pair)) → IsOrder (arena s) L → (n : ℕ) (p : Pair) (ks : List ℕ) → AreSeats s ks → n < length ks →

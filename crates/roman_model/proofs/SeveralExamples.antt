@@ -1,33 +1,16 @@
 -- The definitions of several targets, computed for two lamps and two targets that each turn a lamp on and off.
-use Rattle.std.proofs.Common.{◌≡◌, [], ◌∷◌, length, inl, inr, refl, sym, subst, arith}
-use Rattle.roman_model.specs.System.{Seat, IsBeh, IsDeterministic}
+use Rattle.std.proofs.Common.{◌≡◌, [], ◌∷◌, length, refl, arith}
 use Rattle.roman_model.specs.SystemArena.{pairs}
 use Rattle.roman_model.specs.Offers.{offers}
 use Rattle.roman_model.specs.Several.{Several}
 use Rattle.roman_model.specs.Combined.{IsSeveral, all_requests, combined}
-use Rattle.roman_model.proofs.Examples.{room, lamp, seat_of, pair_of, related_pairs, lamp_is_system}
+use Rattle.roman_model.proofs.Examples.{room, lamp, seat_of, pair_of, related_pairs}
 
 abbrev two : Several
 two = record { env = room; targets = lamp ∷ lamp ∷ []; seats = seat_of lamp ∷ seat_of lamp ∷ [] }
 
 two_is : IsSeveral two
-two_is = record {
-  env = lamp_is_system.env;
-  targets = λ target i. elim i [
-    | inl e ↦ subst (λ b. IsBeh room b × IsDeterministic b) (sym e) (lamp_is_system.target, lamp_is_system.single)
-    | inr j ↦ elim j [
-      | inl e ↦ subst (λ b. IsBeh room b × IsDeterministic b) (sym e) (lamp_is_system.target, lamp_is_system.single)
-      | inr none ↦ absurd none
-    ]
-  ];
-  seats = λ x i. elim i [
-    | inl e ↦ subst (λ (y : Seat). IsBeh room y.beh) (sym e) lamp_is_system.target
-    | inr j ↦ elim j [ inl e ↦ subst (λ (y : Seat). IsBeh room y.beh) (sym e) lamp_is_system.target | inr none ↦ absurd none ]
-  ];
-  few = omega arith;
-  states = omega arith;
-  actions = (omega arith, omega arith);
-}
+two_is = grind (arith, room)
 
 two_requests : all_requests two ≡
     record { target = 0; action = 0 } ∷ record { target = 0; action = 1 } ∷ record { target = 1; action = 0 } ∷ record { target = 1; action = 1 } ∷ []

@@ -1,5 +1,5 @@
 -- Lemmas on the pairs of a system, its steps and outcomes.
-use Rattle.std.proofs.Common.{◌≡◌, ℕ, zero, suc, ◌<◌, ◌==◌, not, ◌&&◌, List, [], ◌∷◌, map, length, Option, Some, None, IsTrue, IsFalse, flat_map, slice_get, slice_index, slice_set, inl, inr, refl, sym, ap, ap₂, ◌∙◌, subst}
+use Rattle.std.proofs.Common.{◌≡◌, ℕ, zero, suc, ◌<◌, ◌==◌, not, ◌&&◌, List, [], ◌∷◌, map, length, Option, Some, None, IsTrue, IsFalse, flat_map, slice_get, slice_index, slice_set, inl, inr, refl, sym, ap, ap₂, ◌∙◌, subst, arith, rules}
 use Rattle.std.specs.List.{AllZip}
 use Rattle.std.proofs.lemmas.Bool.{false≢true, and_parts, and_from, not-true, not_from_false, eqb-true, eq-eqb, cond-true, cond-false}
 use Rattle.std.proofs.lemmas.Option.{none-some, same_Some, slice_get_within}
@@ -32,10 +32,7 @@ same_pair_is p q h =
     pair_path t e bs = λ i. record { t = t i; e = e i; bs = bs i }
 
 pub same_pair_itself : (p : Pair) → IsTrue (same_pair p p)
-same_pair_itself p =
-    and_from (p.t == p.t && p.e == p.e) (same_numbers p.bs p.bs)
-    (and_from (p.t == p.t) (p.e == p.e) (eq-eqb p.t p.t refl) (eq-eqb p.e p.e refl))
-    (same_numbers_itself p.bs)
+same_pair_itself p = grind (arith, and_from, eq-eqb, same_numbers_itself)
 
 pub same_pair_from : (p q : Pair) → p ≡ q → IsTrue (same_pair p q)
 same_pair_from p q e = subst (λ r. IsTrue (same_pair p r)) e (same_pair_itself p)
@@ -66,11 +63,7 @@ in_pairs s p ok =
     (in_map (λ bs. record { t = p.t; e = p.e; bs = bs }) p.bs (combinations s.seats) (in_combinations s.seats p.bs ok.bs)))
 
 pub from_pairs : (s : Sys) (p : Pair) → IsIn p (pairs s) → IsPair s p
-from_pairs s p i =
-    let (t, j, k) = from_flat_map (λ t. flat_map (λ e. map (λ bs. record { t = t; e = e; bs = bs }) (combinations s.seats)) (below s.env.states)) p (below s.target.states) i in
-    let (e, l, m) = from_flat_map (λ e. map (λ bs. record { t = t; e = e; bs = bs }) (combinations s.seats)) p (below s.env.states) k in
-    let (bs, n, same) = from_map (λ bs. record { t = t; e = e; bs = bs }) p (combinations s.seats) m in
-    subst (IsPair s) (sym same) (record { t = from_below s.target.states t j; e = from_below s.env.states e l; bs = from_combinations s.seats bs n })
+from_pairs s p i = grind (arith, from_below, from_combinations, from_flat_map, from_map)
 
 pub combinations_once : (seats : List Seat) → HasNoRepeats (combinations seats)
 combinations_once [] = (λ none. absurd none, tt)
@@ -159,15 +152,12 @@ from_beh_next beh b e a b' i = (filter_in (has_move beh b e a) b' (below beh.sta
 
 pub in_seat_next : (env : Env) (seat : Seat) (b e a b' : ℕ) → IsBeh env seat.beh → IsFalse seat.frozen → IsTrue (has_move seat.beh b e a b') →
     IsIn b' (seat_next (Some seat) b e a)
-in_seat_next env seat b e a b' ok ready h =
-    subst (λ ns. IsIn b' ns) (sym (cond-false seat.frozen [] (beh_next seat.beh b e a) ready)) (in_beh_next env seat.beh b e a b' ok h)
+in_seat_next env seat b e a b' ok ready h = search (rules, cond-false, in_beh_next)
 
 pub from_seat_next : (o : Option Seat) (b e a b' : ℕ) → IsIn b' (seat_next o b e a) →
     (seat : Seat) × (o ≡ Some seat) × IsFalse seat.frozen × IsTrue (has_move seat.beh b e a b')
 from_seat_next None b e a b' i = absurd i
-from_seat_next (Some seat) b e a b' i = by_test seat.frozen
-    (λ frozen. absurd (subst (λ ns. IsIn b' ns) (cond-true seat.frozen [] (beh_next seat.beh b e a) frozen) i))
-    (λ ready. (seat, refl, ready, from_beh_next seat.beh b e a b' (subst (λ ns. IsIn b' ns) (cond-false seat.frozen [] (beh_next seat.beh b e a) ready) i)))
+from_seat_next (Some seat) b e a b' i = grind (arith, by_test, cond-false, cond-true, from_beh_next)
 
 -- Previous states.
 
@@ -204,16 +194,7 @@ in_moved s p a k states t' e' b' ok step i =
 
 pub from_moved : (s : Sys) (p : Pair) (a k : ℕ) (states : List ℕ) (q : Pair) → IsIn q (outcomes_by s p a k states) →
     TStep s p.t p.e a q.t q.e × ((b' : ℕ) × IsIn b' states × (q.bs ≡ slice_set p.bs k b'))
-from_moved s p a k states q i =
-    let (e', j, l) = from_flat_map (λ e'. flat_map (λ t'. map (λ b'. record { t = t'; e = e'; bs = slice_set p.bs k b' }) states) (beh_next s.target p.t p.e a)) q (env_next s.env p.e a) i in
-    let (t', m, n) = from_flat_map (λ t'. map (λ b'. record { t = t'; e = e'; bs = slice_set p.bs k b' }) states) q (beh_next s.target p.t p.e a) l in
-    let (b', o, same) = from_map (λ b'. record { t = t'; e = e'; bs = slice_set p.bs k b' }) q states n in (
-      (
-        subst (λ e. IsTrue (has_triple s.env p.e a e)) (sym (ap (λ r. r.e) same)) (from_env_next s.env p.e a e' j),
-        subst (λ t. IsTrue (has_move s.target p.t p.e a t)) (sym (ap (λ r. r.t) same)) (from_beh_next s.target p.t p.e a t' m),
-      ),
-      (b', o, ap (λ r. r.bs) same),
-    )
+from_moved s p a k states q i = grind (arith, from_beh_next, from_env_next, from_flat_map, from_map)
 
 pub outcome_in : (s : Sys) (p : Pair) (a k t' e' : ℕ) (bs' : List ℕ) → IsSys s → TStep s p.t p.e a t' e' → SStep s p.bs p.e a k bs' e' →
     IsIn (record { t = t'; e = e'; bs = bs' }) (outcomes s p a k)
@@ -225,16 +206,11 @@ outcome_in s p a k t' e' bs' ok step r =
     (in_moved s p a k (seat_next (slice_get s.seats k) (slice_index p.bs k) p.e a) t' e' r.to ok step next)
 
 pub from_outcome : (s : Sys) (p : Pair) (a k : ℕ) (q : Pair) → IsIn q (outcomes s p a k) → TStep s p.t p.e a q.t q.e × SStep s p.bs p.e a k q.bs q.e
-from_outcome s p a k q i =
-    let (step, (b', j, e)) = from_moved s p a k (seat_next (slice_get s.seats k) (slice_index p.bs k) p.e a) q i in
-    let (seat, seated, ready, moves) = from_seat_next (slice_get s.seats k) (slice_index p.bs k) p.e a b' j in
-    (step, record { seat = seat; seated = seated; ready = ready; world = step.0; to = b'; moves = moves; is = e })
+from_outcome s p a k q i = grind (arith, from_moved, from_seat_next)
 
 -- An outcome belongs to a seat that exists and is ready.
 pub outcome_seat : (s : Sys) (p : Pair) (a k : ℕ) (q : Pair) → IsIn q (outcomes s p a k) → (k < length s.seats) × IsTrue (is_ready (slice_get s.seats k))
-outcome_seat s p a k q i =
-    let r : SStep s p.bs p.e a k q.bs q.e = (from_outcome s p a k q i).1 in
-    (slice_get_within s.seats k r.seat r.seated, subst (λ o. IsTrue (is_ready o)) (sym r.seated) (not_from_false r.seat.frozen r.ready))
+outcome_seat s p a k q i = grind (arith, from_outcome, not_from_false, slice_get_within)
 
 -- A list of one state for each seat stays in range where one state is replaced.
 pub states_set : (seats : List Seat) (bs : List ℕ) (k b : ℕ) (seat : Seat) → AllZip (λ seat b. b < seat.beh.states) seats bs →
@@ -265,13 +241,7 @@ allowed_in s p a ok (t', e', step) =
     (not_from_false (is_empty (beh_next s.target p.t p.e a)) (in_not_empty t' (beh_next s.target p.t p.e a) (in_beh_next s.env s.target p.t p.e a t' ok.target step.1)))
 
 pub from_allowed : (s : Sys) (p : Pair) (a : ℕ) → IsTrue (is_allowed s p a) → Allows s p.t p.e a
-from_allowed s p a h =
-    let (envs, targets) = and_parts (not (is_empty (env_next s.env p.e a))) (not (is_empty (beh_next s.target p.t p.e a))) h in
-    let (e', i) = not_empty_in (env_next s.env p.e a) (not-true (is_empty (env_next s.env p.e a)) envs) in
-    let (t', j) = not_empty_in (beh_next s.target p.t p.e a) (not-true (is_empty (beh_next s.target p.t p.e a)) targets) in
-    (t', e', (from_env_next s.env p.e a e' i, from_beh_next s.target p.t p.e a t' j))
+from_allowed s p a h = grind (arith, and_parts, from_beh_next, from_env_next, not-true, not_empty_in)
 
 pub allowed_in_range : (s : Sys) (p : Pair) (a : ℕ) → IsSys s → IsTrue (is_allowed s p a) → a < s.env.actions
-allowed_in_range s p a ok h =
-    let (t', e', step) = from_allowed s p a h in
-    (triple_in_range s.env p.e a e' ok.env step.0).1
+allowed_in_range s p a ok h = grind (arith, from_allowed, triple_in_range)

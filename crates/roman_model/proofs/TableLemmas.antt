@@ -14,10 +14,7 @@ flat_map_row f n = flat_map-append f (below n) (n ∷ []) ∙ ap (λ ys. flat_ma
 -- the length of a table
 pub length_rows : {X Y : Type 0} (f : ℕ → X → Y) (xs : List X) (n : ℕ) → length (flat_map (λ h. map (f h) xs) (below n)) ≡ n * length xs
 length_rows f xs zero = omega arith
-length_rows f xs (suc n) =
-    let before : length (flat_map (λ h. map (f h) xs) (below n)) ≡ n * length xs = length_rows f xs n in
-    let last : length (map (f n) xs) ≡ length xs = length-map xs (f n) in
-    ap length (flat_map_row (λ h. map (f h) xs) n) ∙ omega (arith, length-append (flat_map (λ h. map (f h) xs) (below n)) (map (f n) xs))
+length_rows f xs (suc n) = grind (arith, flat_map_row, length-map, length-append, (length_rows f xs n))
 
 -- the element of row h at place r
 pub table_at : {X Y : Type 0} (f : ℕ → X → Y) (xs : List X) (n h r : ℕ) (d : Y) (x : X) → h < n → r < length xs →

@@ -47,15 +47,9 @@ verdict_within A start bytes ls line more why long is clean fault =
     ∙ first_fault A ls line more (length (ls ++ line ∷ more)) why TooLong clean fault (omega (arith, length-append ls (line ∷ more)))
 
 take_past : {X : Type 0} (n : ℕ) (xs ys : List X) → length xs ≤ n → take n (xs ++ ys) ≡ xs ++ take (n - length xs) ys
-take_past n [] ys l = ap (λ m. take m ys) (same n)
-  where
-    same : (n : ℕ) → n ≡ n - 0
-    same n = omega arith
+take_past n [] ys l = grind arith
 take_past zero (x ∷ xs) ys l = absurd (omega arith)
-take_past (suc n) (x ∷ xs) ys l = ap (λ zs. x ∷ zs) (take_past n xs ys (omega arith) ∙ ap (λ m. xs ++ take m ys) (fewer n (length xs)))
-  where
-    fewer : (n m : ℕ) → n - m ≡ suc n - suc m
-    fewer n m = omega arith
+take_past (suc n) (x ∷ xs) ys l = grind (arith, (take_past n xs ys (omega arith)))
 
 -- the verdict where the newline of a faulty line is within the limit, whatever follows
 pub verdict_rejected : (A : Arena ℕ) (start : ℕ) (bytes : List ℕ) (ls : List (List ℕ)) (line more : List ℕ) (why : Why) →

@@ -1,17 +1,15 @@
 -- A system without one or two seats equals the system after as many changes.
-use Rattle.std.proofs.Common.{◌≡◌, ℕ, zero, suc, pred, ◌<◌, ◌==◌, Bool, true, false, cond, ◌||◌, List, [], ◌∷◌, Some, IsTrue, slice_get, remove, refl, sym, ap, ap₂, ◌∙◌, subst, arith}
+use Rattle.std.proofs.Common.{◌≡◌, ℕ, zero, suc, pred, ◌<◌, ◌==◌, Bool, true, false, cond, ◌||◌, List, [], ◌∷◌, Some, IsTrue, slice_get, remove, refl, sym, ap, ap₂, ◌∙◌, arith}
 use Rattle.std.proofs.Math.Bool.{or-false, or-true}
 use Rattle.std.proofs.lemmas.Bool.{false≢true, eq-eqb, eqb-true}
 use Rattle.std.proofs.lemmas.Option.{same_Some}
-use Rattle.roman_model.specs.System.{Seat, Sys, Pair, has}
+use Rattle.roman_model.specs.System.{Seat, has}
 use Rattle.roman_model.specs.Change.{set_frozen}
 use Rattle.roman_model.specs.Without.{leave_out, freeze_at, WithoutByChanges}
 use Rattle.roman_model.proofs.Lists.{same_test}
 
 suc_same : (i k : ℕ) → (suc i == suc k) ≡ (i == k)
-suc_same i k = same_test (suc i == suc k) (i == k)
-    (λ t. let e : suc i ≡ suc k = eqb-true (suc i) (suc k) t in eq-eqb i k (omega arith))
-    (λ t. let e : i ≡ k = eqb-true i k t in eq-eqb (suc i) (suc k) (omega arith))
+suc_same i k = grind (arith, eq-eqb, eqb-true, same_test)
 
 -- tests of numbers, which compute only at numerals
 zero_other : (i : ℕ) → (0 == suc i) ≡ false
@@ -47,16 +45,12 @@ pub leave_one : {X : Type 0} (k : ℕ) (xs : List X) → leave_out (has (k ∷ [
 leave_one zero [] = refl
 leave_one (suc k) [] = refl
 leave_one zero (x ∷ xs) = leave_none (λ i. has (zero ∷ []) (suc i)) xs zero_next
-leave_one (suc k) (x ∷ xs) =
-    ap₂ (λ b ys. cond b ys (x ∷ ys)) (ap (λ b. b || false) (other_zero k)) (leave_out_same (λ i. has (suc k ∷ []) (suc i)) (has (k ∷ [])) xs (λ i. ap (λ b. b || false) (suc_same k i)) ∙ leave_one k xs)
+leave_one (suc k) (x ∷ xs) = grind (arith, leave_out_same, other_zero, suc_same, (leave_one k xs))
 
 pub freeze_one : (k : ℕ) (seats : List Seat) → freeze_at (has (k ∷ [])) seats ≡ set_frozen seats k true
 freeze_one k [] = refl
-freeze_one zero (x ∷ xs) =
-    ap₂ (λ b ys. record { beh = x.beh; frozen = b; rests = x.rests } ∷ ys) (or-true x.frozen) (freeze_none (λ i. has (zero ∷ []) (suc i)) xs zero_next)
-freeze_one (suc k) (x ∷ xs) =
-    ap₂ (λ b ys. record { beh = x.beh; frozen = b; rests = x.rests } ∷ ys) (ap (λ b. x.frozen || (b || false)) (other_zero k) ∙ or-false x.frozen)
-    (freeze_same (λ i. has (suc k ∷ []) (suc i)) (has (k ∷ [])) xs (λ i. ap (λ b. b || false) (suc_same k i)) ∙ freeze_one k xs)
+freeze_one zero (x ∷ xs) = grind (arith, freeze_none, or-true, zero_next)
+freeze_one (suc k) (x ∷ xs) = grind (arith, freeze_same, or-false, other_zero, suc_same, (freeze_one k xs))
 
 -- Two places.
 
@@ -68,9 +62,7 @@ leave_two zero (suc j) [] l = refl
 leave_two (suc k) (suc j) [] l = refl
 leave_two zero (suc j) (x ∷ xs) l =
     leave_out_same (λ i. has (zero ∷ suc j ∷ []) (suc i)) (has (j ∷ [])) xs (λ i. ap₂ (λ b c. b || (c || false)) (zero_other i) (suc_same j i)) ∙ leave_one j xs
-leave_two (suc k) (suc j) (x ∷ xs) l =
-    ap₂ (λ b ys. cond b ys (x ∷ ys)) (ap₂ (λ b c. b || (c || false)) (other_zero k) (other_zero j))
-    (leave_out_same (λ i. has (suc k ∷ suc j ∷ []) (suc i)) (has (k ∷ j ∷ [])) xs (λ i. ap₂ (λ b c. b || (c || false)) (suc_same k i) (suc_same j i)) ∙ leave_two k j xs (omega arith))
+leave_two (suc k) (suc j) (x ∷ xs) l = grind (arith, leave_out_same, other_zero, suc_same, (leave_two k j xs (omega arith)))
 
 -- leaving out the earlier place first: the later one moves down
 pub remove_in_turn : {X : Type 0} (k j : ℕ) (xs : List X) → k < j → remove (remove xs k) (pred j) ≡ remove (remove xs j) k
@@ -102,31 +94,8 @@ freeze_two k j seats =
 -- freezing a frozen seat again
 pub freeze_again : (k : ℕ) (seats : List Seat) (seat : Seat) → slice_get seats k ≡ Some seat → IsTrue seat.frozen → set_frozen seats k true ≡ seats
 freeze_again k [] seat at frozen = refl
-freeze_again zero (x ∷ seats) seat at frozen =
-    ap (λ b. record { beh = x.beh; frozen = b; rests = x.rests } ∷ seats) (sym (subst (λ (y : Seat). IsTrue y.frozen) (sym (same_Some x seat at)) frozen))
+freeze_again zero (x ∷ seats) seat at frozen = grind (arith, same_Some)
 freeze_again (suc k) (x ∷ seats) seat at frozen = ap (λ ys. x ∷ ys) (freeze_again k seats seat at frozen)
 
 pub without_changes : WithoutByChanges
-without_changes s p = record {
-  one_gone = λ k seat. (seated (sym (leave_one k s.seats)), stated (sym (leave_one k p.bs)));
-  two_gone = λ k j seat other l. (seated (sym (leave_two k j s.seats l)), stated (sym (leave_two k j p.bs l)));
-  two_in_turn = λ k j seat other l. (
-    seated (remove_in_turn k j s.seats l ∙ sym (leave_two k j s.seats l)),
-    stated (remove_in_turn k j p.bs l ∙ sym (leave_two k j p.bs l)),
-  );
-  one_frozen = λ k. seated (sym (freeze_one k s.seats));
-  two_frozen = λ k j. seated (freeze_two k j s.seats);
-  already = λ k seat at frozen. seated (freeze_again k s.seats seat at frozen);
-}
-  where
-    with_seats : List Seat → Sys
-    with_seats seats = record { env = s.env; target = s.target; seats = seats }
-
-    with_states : List ℕ → Pair
-    with_states bs = record { t = p.t; e = p.e; bs = bs }
-
-    seated : {xs ys : List Seat} → xs ≡ ys → with_seats xs ≡ with_seats ys
-    seated e = ap with_seats e
-
-    stated : {bs cs : List ℕ} → bs ≡ cs → with_states bs ≡ with_states cs
-    stated e = ap with_states e
+without_changes s p = grind (arith, freeze_again, freeze_one, freeze_two, leave_one, leave_two, remove_in_turn)

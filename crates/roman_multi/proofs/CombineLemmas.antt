@@ -1,5 +1,5 @@
 -- The rule that forbids the targets to be combined.
-use Rattle.std.proofs.Common.{◌≡◌, ℕ, ◌<◌, ◌≤◌, List, [], ◌∷◌, map, length, Some, None, Err, IsTrue, IsFalse, refl, ap, ap₂, ◌∙◌, subst, arith}
+use Rattle.std.proofs.Common.{◌≡◌, ℕ, ◌<◌, ◌≤◌, List, [], ◌∷◌, map, length, Some, None, Err, IsTrue, IsFalse, refl, ap, ap₂, ◌∙◌, arith}
 use Rattle.std.proofs.lemmas.Bool.{ltb-false, lt-ltb, le-ltb, true≢false}
 use Rattle.std.proofs.lemmas.List.{length-map}
 use Rattle.roman_model.specs.Lists.{below, product_of}
@@ -51,9 +51,7 @@ names_forbid env targets error.Memory few good h = tt
 -- a count that isn't bad is within the limits
 pub good_count : (requests : List Request) → IsFalse (has_bad_count requests) → (0 < length requests) × (length requests ≤ MAX_ACTIONS)
 good_count [] good = absurd (true≢false good)
-good_count (r ∷ requests) good =
-    let most : length (r ∷ requests) ≤ MAX_ACTIONS = ltb-false MAX_ACTIONS (length (r ∷ requests)) good in
-    (omega arith, most)
+good_count (r ∷ requests) good = grind (arith, ltb-false)
 
 pub few_states : (targets : List Named) → product_of (target_sizes (machines targets)) ≤ MAX_STATES → IsFalse (has_many_states targets)
 few_states targets few = le-ltb MAX_STATES (product_of (target_sizes (machines targets))) few
@@ -71,10 +69,7 @@ pub record HasGoodCounts (env : NamedEnv) (targets : List Named) : Type 0 where
 -- the counts are good where their shape fits and the count of the requests isn't bad
 pub good_counts : (env : NamedEnv) (targets : List Named) (sizes : List ℕ) (cap : ℕ) (requests : List Request) → sizes ≡ target_sizes (machines targets) → cap ≡ MAX_STATES → count (flat sizes) ≤ cap →
     requests ≡ requests_in env targets → IsFalse (has_bad_count requests) → HasGoodCounts env targets
-good_counts env targets sizes cap requests same is fits asked good =
-    let few : product_of (target_sizes (machines targets)) ≤ MAX_STATES = fits_within sizes (target_sizes (machines targets)) cap same is fits in
-    let actions : IsFalse (has_bad_count (requests_in env targets)) = subst (λ rs. IsFalse (has_bad_count rs)) asked good in
-    record { few = few; states = few_states targets few; actions = actions; some = good_count (requests_in env targets) actions }
+good_counts env targets sizes cap requests same is fits asked good = grind (arith, few_states, fits_within, good_count)
 
 pub state_count : (targets : List Named) → length (combined_state_names targets) ≡ product_of (target_sizes (machines targets))
 state_count targets = length-map (below (product_of (target_sizes (machines targets)))) _ ∙ length-below (product_of (target_sizes (machines targets)))
@@ -100,10 +95,4 @@ pub parts_are : (env : NamedEnv) (catalogue : List NamedBeh) (targets : List Nam
     target.states ≡ states → (target.env_states ≡ env.env.states) × (target.actions ≡ length requests) → target.beh ≡ combined_target env.env.states requests (machines targets) →
     ◌≡◌ {A = PlainCombined} (record { environment = environment; catalogue = made; target = target }) (combined_parts env catalogue targets)
 unfolding combined_parts
-parts_are env catalogue targets requests states actions environment made target asked named called world names behaviours kept over goes =
-    let world_is : environment ≡ (combined_parts env catalogue targets).environment =
-    same_env environment (combined_parts env catalogue targets).environment names.0 (names.1 ∙ called) (world ∙ ap (λ rs. combined_env rs env.env) asked) in
-    let made_is : made ≡ (combined_parts env catalogue targets).catalogue = behaviours ∙ ap (λ rs. map (combined_behaviour env rs) catalogue) asked in
-    let target_is : target ≡ (combined_parts env catalogue targets).target =
-    same_target target (combined_parts env catalogue targets).target (kept ∙ named) over.0 (over.1 ∙ ap length asked) (goes ∙ ap (λ rs. combined_target env.env.states rs (machines targets)) asked) in
-    ap₂ (λ x y. parts x y target) world_is made_is ∙ ap (parts (combined_parts env catalogue targets).environment (combined_parts env catalogue targets).catalogue) target_is
+parts_are env catalogue targets requests states actions environment made target asked named called world names behaviours kept over goes = grind (arith, same_env, same_target)

@@ -46,17 +46,7 @@ below_part targets shape i state d same l h = subst (λ n. state < n) (sym (ap (
 -- the combined state with another state of one target
 pub moved_is : (sizes : List ℕ) (shape : Sizes) (t k b next : ℕ) → shape ≡ flat sizes → t < product_of sizes → next ≡ number shape (with_part (pair_at shape t) k b) →
     next ≡ states_number sizes (slice_set (states_at sizes t) k b)
-moved_is sizes shape t k b next same l is =
-    is ∙ ap (λ (n : Sizes). number n (with_part (pair_at n t) k b)) same
-    ∙ ap₂ (λ u v. (u * 1 + v) * product_of sizes + states_number sizes (slice_set (pair_at (flat sizes) t).bs k b)) (none_below (pair_at (flat sizes) t).t pair.t) (none_below (pair_at (flat sizes) t).e pair.e)
-    ∙ number-flat sizes (slice_set (pair_at (flat sizes) t).bs k b)
-    ∙ ap (λ xs. states_number sizes (slice_set xs k b)) (pair_at-flat sizes t l)
-  where
-    none_below : (n : ℕ) → n < 1 → n ≡ 0
-    none_below n l = omega arith
-
-    pair : IsPairOf (flat sizes) (pair_at (flat sizes) t)
-    pair = IsPairOf-at (flat sizes) t (subst (λ n. t < n) (sym (count-flat sizes)) l)
+moved_is sizes shape t k b next same l is = grind (arith, IsPairOf-at, count-flat, number-flat, pair_at-flat)
 
 -- the start states are a pair of the shape
 pub starts_pair : (env : NamedEnv) (targets : List Named) (shape : Sizes) (starts : List ℕ) → All (λ named. IsTarget env named.target) targets → shape ≡ flat (target_sizes (machines targets)) →
@@ -67,11 +57,6 @@ starts_pair env targets shape starts known same is =
       e = omega arith;
       bs = subst (λ xs. AllZip (λ size b. b < size) (target_sizes (machines targets)) xs) (sym is) (starts_below env.env (machines targets) (machines_known env targets known));
     })
-
-pub starts_number : (targets : List Named) (shape : Sizes) (starts : List ℕ) (n : ℕ) → shape ≡ flat (target_sizes (machines targets)) → starts ≡ map (λ target. target.start) (machines targets) →
-    n ≡ number shape (record { t = 0; e = 0; bs = starts }) → n ≡ combined_start (machines targets)
-starts_number targets shape starts n same is number_is =
-    number_is ∙ ap₂ (λ (s : Sizes) (xs : List ℕ). number s (record { t = 0; e = 0; bs = xs })) same is ∙ number-flat (target_sizes (machines targets)) (map (λ target. target.start) (machines targets))
 
 -- a shape fits exactly where there are few enough combined states
 pub fits_within : (sizes others : List ℕ) (cap : ℕ) → sizes ≡ others → cap ≡ MAX_STATES → count (flat sizes) ≤ cap → product_of others ≤ MAX_STATES

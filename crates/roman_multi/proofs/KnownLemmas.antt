@@ -55,14 +55,6 @@ sizes_more targets i d l =
     ∙ ap target_sizes (map-append (λ (named : Named). named.target.beh) (take i targets) (get_or targets i d ∷ []))
     ∙ map-append (λ (b : Beh). b.states) (machines (take i targets)) ((get_or targets i d).target.beh ∷ [])
 
--- the start states with one more
-pub starts_more : (targets : List Named) (i : ℕ) (d : Named) → i < length targets →
-    map (λ (b : Beh). b.start) (machines (take (i + 1) targets)) ≡ map (λ (b : Beh). b.start) (machines (take i targets)) ++ (get_or targets i d).target.beh.start ∷ []
-starts_more targets i d l =
-    ap (λ xs. map (λ (b : Beh). b.start) (machines xs)) (take_more targets i d l)
-    ∙ ap (map (λ (b : Beh). b.start)) (map-append (λ (named : Named). named.target.beh) (take i targets) (get_or targets i d ∷ []))
-    ∙ map-append (λ (b : Beh). b.start) (machines (take i targets)) ((get_or targets i d).target.beh ∷ [])
-
 -- the start states are states
 pub starts_below : (env : Env) (targets : List Beh) → ((target : Beh) → IsIn target targets → IsBeh env target × IsDeterministic target) →
     AllZip (λ size b. b < size) (target_sizes targets) (map (λ (b : Beh). b.start) targets)

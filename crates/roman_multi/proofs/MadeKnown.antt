@@ -1,7 +1,7 @@
 -- Combined parts that no rule forbids are in range.
-use Rattle.std.proofs.Common.{◌≡◌, ℕ, ◌<◌, ◌≤◌, Bool, true, false, cond, List, length, All, Some, None, IsFalse, refl, subst}
+use Rattle.std.proofs.Common.{◌≡◌, ℕ, ◌<◌, ◌≤◌, Bool, true, false, cond, List, length, All, Some, None, IsFalse, refl, subst, arith}
 use Rattle.roman_model.specs.Lists.{product_of}
-use Rattle.roman_model.specs.System.{IsEnv, IsBeh, IsSys, is_final}
+use Rattle.roman_model.specs.System.{IsEnv, IsBeh, IsSys}
 use Rattle.roman_model.specs.Made.{beh_from}
 use Rattle.roman_model.specs.Combined.{combined, combined_beh, combined_target, target_sizes}
 use Rattle.roman_model.specs.declared.limits.TheConstants.{MAX_STATES}
@@ -33,9 +33,7 @@ none_chosen false false false false h = (refl, refl, refl, refl)
 
 pub are_allowed : (env : NamedEnv) (targets : List Named) → forbidding env targets ≡ None → AreAllowed env targets
 unfolding forbidding
-are_allowed env targets h =
-    let (states, actions, short, apart) = none_chosen (has_many_states targets) (has_bad_count (requests_in env targets)) (has_long_name env targets) (has_one_name env targets) h in
-    record { states = states; actions = actions; short = short; apart = apart }
+are_allowed env targets h = grind (arith, none_chosen)
 
 -- a record built from tests is in range over each environment with these numbers
 pub IsOver-made : (env_states actions states start : ℕ) (final : ℕ → Bool) (goes : ℕ → ℕ → ℕ → ℕ → Bool) → (0 < states) × (states ≤ MAX_STATES) → start < states →
@@ -47,9 +45,7 @@ IsOver-made env_states actions states start final goes some begins env es ns =
 -- a behaviour over the combined actions is in range
 pub combined_behaviour_over : (env : NamedEnv) (requests : List Request) (behaviour : NamedBeh) → IsOver behaviour.env_states behaviour.actions behaviour.beh →
     IsOver env.env.states (length requests) (combined_beh env.env.states requests behaviour.beh)
-combined_behaviour_over env requests behaviour known =
-    IsOver-made env.env.states (length requests) behaviour.beh.states behaviour.beh.start (is_final behaviour.beh) _
-    (IsOver-states behaviour.env_states behaviour.actions behaviour.beh known) (IsOver-start behaviour.env_states behaviour.actions behaviour.beh known)
+combined_behaviour_over env requests behaviour known = IsOver-made _ _ _ _ _ _ (IsOver-states _ _ _ known) (IsOver-start _ _ _ known)
 
 module _ (env : NamedEnv) (targets : List Named) (world : IsEnv env.env) (known : All (λ named. IsTarget env named.target) targets) (allowed : forbidding env targets ≡ None) where
   pub combined_is_system : IsSys (combined (several env targets))

@@ -9,7 +9,7 @@ use Rattle.roman_model.specs.Made.{beh_from}
 use Rattle.roman_model.specs.Combined.{has_move_on, combined_beh, stands_in, uses, requests_of}
 use Rattle.roman_model.specs.declared.request.Request.{Request}
 use Rattle.roman_parts.specs.Listed.{move_of, listed_beh, AreMoves}
-use Rattle.roman_multi.specs.Lists.{moves_in, moves_by, moves_from, listed_moves, moves_on, used_at}
+use Rattle.roman_multi.specs.Lists.{listed_moves, moves_on, used_at}
 use Rattle.roman_model.proofs.CallerLemmas.{same_test, any_true, any_from, in_map, from_map, in_flat_map, from_flat_map, in_below, from_below, filter_in, filter_same, in_beh_next, from_beh_next, flat_map_same_in, beh_from_same, listed_number, move_test, move_passes, number_listed, get_in, stands_uses}
 use Rattle.std.proofs.Common.{All}
 use Rattle.std.proofs.lemmas.List.{length-map}
@@ -23,21 +23,12 @@ use Rattle.roman_parts.proofs.CallerLemmas.{has_filter}
 
 from_moves : (env_states actions states : ℕ) (next : ℕ → ℕ → ℕ → List ℕ) (x : ℕ × ℕ × ℕ × ℕ) → IsIn x (listed_moves env_states actions states next) →
     (e : ℕ) × (e < env_states) × (x.0 < states) × (x.2 < actions) × (x.1 ≡ 2 ^ e) × IsIn x.3 (next x.0 x.2 e)
-from_moves env_states actions states next x i =
-    let (b, ib, ix) = from_flat_map (λ b. moves_from env_states actions (next b) b) x (below states) i in
-    let (n, in', iy) = from_flat_map (λ n. moves_by env_states (next b n) b n) x (below actions) ix in
-    let (e, ie, iz) = from_flat_map (λ e. moves_in b n e (next b n e)) x (below env_states) iy in
-    let (to, it, same) = from_map (λ to. (b, 2 ^ e, n, to)) x (next b n e) iz in
-    subst (λ (y : ℕ × ℕ × ℕ × ℕ). (e : ℕ) × (e < env_states) × (y.0 < states) × (y.2 < actions) × (y.1 ≡ 2 ^ e) × IsIn y.3 (next y.0 y.2 e)) (sym same)
-    (e, from_below env_states e ie, from_below states b ib, from_below actions n in', refl, it)
+from_moves env_states actions states next x i = grind (arith, from_below, from_flat_map, from_map)
 
 in_moves : (env_states actions states : ℕ) (next : ℕ → ℕ → ℕ → List ℕ) (b e n to : ℕ) → b < states → e < env_states → n < actions → IsIn to (next b n e) →
     IsIn (b, 2 ^ e, n, to) (listed_moves env_states actions states next)
 in_moves env_states actions states next b e n to hb he hn i =
-    in_flat_map (λ b. moves_from env_states actions (next b) b) b (b, 2 ^ e, n, to) (below states) (in_below states b hb)
-    (in_flat_map (λ n. moves_by env_states (next b n) b n) n (b, 2 ^ e, n, to) (below actions) (in_below actions n hn)
-    (in_flat_map (λ e. moves_in b n e (next b n e)) e (b, 2 ^ e, n, to) (below env_states) (in_below env_states e he)
-    (in_map (λ to. (b, 2 ^ e, n, to)) to (next b n e) i)))
+    in_flat_map _ _ _ _ (in_below _ _ hb) (in_flat_map _ _ _ _ (in_below _ _ hn) (in_flat_map _ _ _ _ (in_below _ _ he) (in_map _ _ _ i)))
 
 -- the listed steps are in range, where the next states are
 pub moves_in_range : (env_states actions states : ℕ) (next : ℕ → ℕ → ℕ → List ℕ) →
@@ -127,8 +118,7 @@ pub all_requests_are : (env : NamedEnv) (targets : List Named) (env_states actio
     items ≡ flat_map (λ i. used_at env_states actions (slice_get (machines targets) i) i) (below i) → items ≡ requests_in env targets
 all_requests_are env targets env_states actions i items known es ns done is =
     is ∙ ap (λ n. flat_map (λ i. used_at env_states actions (slice_get (machines targets) i) i) (below n)) (done ∙ sym (length-map targets (λ (named : Named). named.target.beh)))
-    ∙ ap₂ (λ n m. used_requests n m (machines targets)) es ns
-    ∙ requests_are env.env (machines targets) (λ target j. (machines_known env targets known target j).0)
+    ∙ ap₂ (λ n m. used_requests n m (machines targets)) es ns ∙ requests_are _ _ (λ target j. (machines_known _ _ known _ j).0)
 
 -- the combined actions are actions of the environment, and each belongs to one of the targets
 pub requests_in_range : (env : NamedEnv) (targets : List Named) (requests : List Request) → requests ≡ requests_in env targets →

@@ -1,5 +1,5 @@
 -- The behaviour built from the lists is the combined behaviour.
-use Rattle.std.proofs.Common.{◌≡◌, ℕ, ◌+◌, ◌<◌, ◌++◌, ◌∷◌, [], List, map, length, filter, slice_get, get_or, take, Result, Ok, Err, IfOk, All, sym, ap, ap₂, ◌∙◌, subst}
+use Rattle.std.proofs.Common.{◌≡◌, ℕ, ◌+◌, ◌<◌, ◌++◌, ◌∷◌, [], List, map, length, filter, slice_get, get_or, take, Result, Ok, Err, IfOk, All, sym, ap, ap₂, ◌∙◌, arith}
 use Rattle.std.proofs.lemmas.List.{take_more, map-append}
 use Rattle.roman_model.specs.Lists.{below}
 use Rattle.roman_model.specs.System.{IsEnv, is_final}
@@ -17,10 +17,7 @@ if_ok_three P Q R S (Ok x) more p q s = more x p q s
 if_ok_three P Q R S (Err e) more p q s = p
 
 same_behaviour : (a b : NamedBeh) → a.name ≡ b.name → a.states ≡ b.states → a.env_states ≡ b.env_states → a.actions ≡ b.actions → a.beh ≡ b.beh → a ≡ b
-same_behaviour a b n s e k m =
-    ap₂ (λ x y. record { name = x; states = y; env_states = a.env_states; actions = a.actions; beh = a.beh }) n s
-    ∙ ap₂ (λ x y. record { name = b.name; states = b.states; env_states = x; actions = y; beh = a.beh }) e k
-    ∙ ap (λ x. record { name = b.name; states = b.states; env_states = b.env_states; actions = b.actions; beh = x }) m
+same_behaviour a b n s e k m = grind arith
 
 -- the lists from which a behaviour over the combined actions is built
 pub record AreListsOf (env : NamedEnv) (requests : List Request) (behaviour : NamedBeh) (size begin : ℕ) (ends : List ℕ) (moves : List (ℕ × ℕ × ℕ × ℕ)) : Type 0 where
@@ -43,27 +40,17 @@ made_beh_is env requests behaviour count start finals steps env_states actions l
 
 pub made_steps_in_range : (env : NamedEnv) (requests : List Request) (behaviour : NamedBeh) (count start : ℕ) (finals : List ℕ) (steps : List (ℕ × ℕ × ℕ × ℕ)) (actions : ℕ) →
     AreListsOf env requests behaviour count start finals steps → actions ≡ length requests → AreMoves count actions steps
-made_steps_in_range env requests behaviour count start finals steps actions lists ns =
-    subst (λ xs. AreMoves count actions xs) (sym lists.steps) (subst (λ n. AreMoves n actions moves) (sym lists.count) (subst (λ n. AreMoves behaviour.beh.states n moves) (sym ns)
-    (moves_in_range env.env.states (length requests) behaviour.beh.states (λ b n e. moves_on behaviour.beh b e (slice_get requests n))
-    (λ b n e to hb hn he i. moves_on_below behaviour.beh b e (slice_get requests n) to i))))
-  where
-    moves : List (ℕ × ℕ × ℕ × ℕ)
-    moves = listed_moves env.env.states (length requests) behaviour.beh.states (λ b n e. moves_on behaviour.beh b e (slice_get requests n))
+made_steps_in_range env requests behaviour count start finals steps actions lists ns = grind (arith, moves_in_range, moves_on_below)
 
 pub made_finals_below : (env : NamedEnv) (requests : List Request) (behaviour : NamedBeh) (count start : ℕ) (finals : List ℕ) (steps : List (ℕ × ℕ × ℕ × ℕ)) →
     AreListsOf env requests behaviour count start finals steps → All (λ b. b < count) finals
-made_finals_below env requests behaviour count start finals steps lists =
-    subst (λ xs. All (λ b. b < count) xs) (sym lists.finals) (subst (λ n. All (λ b. b < n) (filter (is_final behaviour.beh) (below behaviour.beh.states))) (sym lists.count)
-    (passing_below (is_final behaviour.beh) behaviour.beh.states))
+made_finals_below env requests behaviour count start finals steps lists = grind (arith, passing_below)
 
 pub made_behaviour_is : (env : NamedEnv) (requests : List Request) (behaviour made : NamedBeh) (name : List ℕ) (states : List (List ℕ)) (start : ℕ) (finals : List ℕ) (steps : List (ℕ × ℕ × ℕ × ℕ)) (env_states actions : ℕ) →
     AreListsOf env requests behaviour (length states) start finals steps → env_states ≡ env.env.states → actions ≡ length requests → name ≡ behaviour.name → states ≡ behaviour.states →
     (made.name ≡ name) × (made.states ≡ states) → (made.env_states ≡ env_states) × (made.actions ≡ actions) →
     made.beh ≡ normal_beh env_states actions (listed_beh (length states) start finals steps) → made ≡ combined_behaviour env requests behaviour
-made_behaviour_is env requests behaviour made name states start finals steps env_states actions lists es ns named kept names over normal =
-    same_behaviour made (combined_behaviour env requests behaviour) (names.0 ∙ named) (names.1 ∙ kept) (over.0 ∙ es) (over.1 ∙ ns)
-    (normal ∙ made_beh_is env requests behaviour (length states) start finals steps env_states actions lists es ns)
+made_behaviour_is env requests behaviour made name states start finals steps env_states actions lists es ns named kept names over normal = grind (arith, made_beh_is, same_behaviour)
 
 -- the list with one more behaviour
 pub map_more : {X Y : Type 0} (f : X → Y) (xs : List X) (i : ℕ) (x : X) (now new : List Y) (y : Y) → now ≡ map f (take i xs) → i < length xs → x ≡ get_or xs i x → new ≡ now ++ y ∷ [] → y ≡ f x →

@@ -1,5 +1,5 @@
 -- Lists of words, and the tables of words that are names.
-use Rattle.std.proofs.Common.{◌≡◌, ℕ, ◌+◌, ◌<◌, List, [], ◌∷◌, ◌++◌, map, length, take, get_or, All, Option, Some, None, IsSome, IsTrue, IsFalse, is_some, refl, sym, ap, ap₂, ◌∙◌, subst, add-one}
+use Rattle.std.proofs.Common.{◌≡◌, ℕ, ◌+◌, ◌<◌, List, [], ◌∷◌, ◌++◌, map, length, take, get_or, All, Option, Some, None, IsSome, IsTrue, IsFalse, is_some, refl, sym, ap, ap₂, ◌∙◌, subst, add-one, arith}
 use Rattle.std.specs.List.{list_any}
 use Rattle.std.specs.Option.{SomeIff}
 use Rattle.std.proofs.lemmas.List.{take_more, map-append, length-map, get_or-map}
@@ -14,20 +14,11 @@ use Rattle.roman_multi.proofs.ListLemmas.{none_more, any_at}
 use Rattle.roman_multi.proofs.TripleLemmas.{get_or_in}
 use Rattle.roman_multi.proofs.WordLemmas.{word_is_name}
 
--- the words with one more, for the next number
-pub counted_more : {W : Type 0} (items : W → List ℕ) (f : ℕ → List ℕ) (now new : List W) (n : ℕ) (w : W) → map items now ≡ map f (below n) → new ≡ now ++ w ∷ [] → items w ≡ f n →
-    map items new ≡ map f (below (n + 1))
-counted_more items f now new n w before step is =
-    ap (map items) step ∙ map-append items now (w ∷ []) ∙ ap₂ (λ us v. us ++ v ∷ []) before is ∙ sym (ap (λ m. map f (below m)) (add-one n) ∙ map-append f (below n) (n ∷ []))
-
 -- the words with one more, for the next element of a list
 pub taken_more : {W X : Type 0} (items : W → List ℕ) (f : X → List ℕ) (now new : List W) (xs : List X) (i : ℕ) (d : X) (w : W) → map items now ≡ map f (take i xs) → i < length xs → new ≡ now ++ w ∷ [] →
     items w ≡ f (get_or xs i d) → map items new ≡ map f (take (i + 1) xs)
 taken_more items f now new xs i d w before l step is =
     ap (map items) step ∙ map-append items now (w ∷ []) ∙ ap₂ (λ us v. us ++ v ∷ []) before is ∙ sym (ap (map f) (take_more xs i d l) ∙ map-append f (take i xs) (get_or xs i d ∷ []))
-
-pub all_more : {W : Type 0} (P : W → Type 0) (now new : List W) (w : W) → All P now → new ≡ now ++ w ∷ [] → P w → All P new
-all_more P now new w all step here = subst (All P) (sym step) (All-push P now w all here)
 
 -- a word that isn't too long is a name
 pub read_is_name : {W : Type 0} (items : W → List ℕ) (words : List W) (i : ℕ) (w : W) → All (λ w. IsTrue (is_word (items w))) words → IsFalse (list_any is_long (map items words)) → i < length words →
@@ -54,9 +45,7 @@ word_at items words i w l is = get_or-map items words i w [] l ∙ ap items (sym
 -- the next name is new
 pub new_more : (names table : List (List ℕ)) (i : ℕ) (name : List ℕ) → table ≡ take i names → get_or names i [] ≡ name → place_of table name ≡ None → IsFalse (list_any (stands_before names) (below i)) →
     IsFalse (list_any (stands_before names) (below (i + 1)))
-new_more names table i name front there new before =
-    subst (λ n. IsFalse (list_any (stands_before names) (below n))) (sym (add-one i))
-    (none_more (stands_before names) i before (ap is_some (ap₂ place_of (sym front) there ∙ new)))
+new_more names table i name front there new before = grind (arith, none_more)
 
 -- or the next name occurs before
 pub found_before : (names table : List (List ℕ)) (i place : ℕ) (name : List ℕ) → i < length names → table ≡ take i names → get_or names i [] ≡ name → place_of table name ≡ Some place →

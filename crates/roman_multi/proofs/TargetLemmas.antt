@@ -1,5 +1,5 @@
 -- The steps that the loops list are the steps of the combined target.
-use Rattle.std.proofs.Common.{◌≡◌, ℕ, zero, suc, ◌^◌, ◌&&◌, ◌++◌, ◌<◌, ◌≤◌, Bool, drop, filter, All, List, [], ◌∷◌, map, length, Option, Some, None, IsTrue, slice_get, slice_index, slice_set, refl, sym, ap, ap₂, ◌∙◌, subst, arith}
+use Rattle.std.proofs.Common.{◌≡◌, ℕ, zero, suc, ◌^◌, ◌&&◌, ◌++◌, ◌<◌, ◌≤◌, Bool, drop, filter, All, List, [], ◌∷◌, length, Option, Some, None, IsTrue, slice_get, slice_index, slice_set, refl, sym, ap, ap₂, ◌∙◌, subst, arith}
 use Rattle.std.proofs.lemmas.Option.{none-some, same_Some}
 use Rattle.std.proofs.lemmas.List.{append-nil}
 use Rattle.roman_model.specs.Lists.{IsIn, below, product_of}
@@ -90,19 +90,13 @@ combined_target_is w fins ok few ends =
 -- there is no step where the target has no next state
 pub no_step : (targets : List Beh) (ts : List ℕ) (t n e : ℕ) (r : Request) (target : Beh) (state : ℕ) (old : List (ℕ × ℕ × ℕ × ℕ)) → slice_get targets r.target ≡ Some target →
     state ≡ slice_index ts r.target → beh_next target state e r.action ≡ [] → old ≡ old ++ moves_in t n e (next_of_all targets ts e (Some r))
-no_step targets ts t n e r target state old at is none =
-    sym (append-nil old)
-    ∙ ap (λ xs. old ++ moves_in t n e (map (λ t'. states_number (target_sizes targets) (slice_set ts r.target t')) xs))
-    (sym (ap (λ o. member_next o (slice_index ts r.target) e r.action) at ∙ ap (λ b. beh_next target b e r.action) (sym is) ∙ none))
+no_step targets ts t n e r target state old at is none = grind (arith, append-nil)
 
 -- there is one step where the target has a next state
 pub one_step : (targets : List Beh) (ts : List ℕ) (t n e : ℕ) (r : Request) (target : Beh) (state to next word : ℕ) (old new : List (ℕ × ℕ × ℕ × ℕ)) → slice_get targets r.target ≡ Some target →
     state ≡ slice_index ts r.target → beh_next target state e r.action ≡ to ∷ [] → next ≡ states_number (target_sizes targets) (slice_set ts r.target to) → word ≡ 2 ^ e →
     new ≡ old ++ (t, word, n, next) ∷ [] → new ≡ old ++ moves_in t n e (next_of_all targets ts e (Some r))
-one_step targets ts t n e r target state to next word old new at is one there bits step =
-    step ∙ ap₂ (λ w x. old ++ (t, w, n, x) ∷ []) bits there
-    ∙ ap (λ xs. old ++ moves_in t n e (map (λ t'. states_number (target_sizes targets) (slice_set ts r.target t')) xs))
-    (sym (ap (λ o. member_next o (slice_index ts r.target) e r.action) at ∙ ap (λ b. beh_next target b e r.action) (sym is) ∙ one))
+one_step targets ts t n e r target state to next word old new at is one there bits step = grind arith
 
 -- the states from a place on are final
 pub final_drop : (targets : List Beh) (ts : List ℕ) (i : ℕ) (target : Beh) (t : ℕ) → slice_get targets i ≡ Some target → i < length ts → t ≡ slice_index ts i →
@@ -127,8 +121,7 @@ made_target_is w count start finals steps env_states actions lists es ns =
     ap₂ (λ n m. normal_beh n m (listed_beh count start finals steps)) es ns
     ∙ ap₂ (λ n m. normal_beh w.env.states (length (all_requests w)) (listed_beh n m finals steps)) lists.count lists.start
     ∙ ap₂ (λ xs ys. normal_beh w.env.states (length (all_requests w)) (listed_beh (product_of (target_sizes w.targets)) (combined_start w.targets) xs ys)) lists.finals lists.steps
-    ∙ combined_target_is w (filter (λ t. are_final w.targets (states_at (target_sizes w.targets) t)) (below (product_of (target_sizes w.targets)))) lists.several lists.several.env.states.1
-    (λ t l. has_filter (λ t. are_final w.targets (states_at (target_sizes w.targets) t)) (product_of (target_sizes w.targets)) t l)
+    ∙ combined_target_is _ _ lists.several lists.several.env.states.1 (λ t l. has_filter _ _ _ l)
 
 pub made_steps_in_range : (w : Several) (count start : ℕ) (finals : List ℕ) (steps : List (ℕ × ℕ × ℕ × ℕ)) (actions : ℕ) → AreListsOf w count start finals steps → actions ≡ length (all_requests w) →
     AreMoves count actions steps
@@ -141,7 +134,4 @@ made_steps_in_range w count start finals steps actions lists ns =
     moves = listed_moves w.env.states (length (all_requests w)) (product_of (target_sizes w.targets)) (λ t n e. next_of_all w.targets (states_at (target_sizes w.targets) t) e (slice_get (all_requests w) n))
 
 pub made_finals_below : (w : Several) (count start : ℕ) (finals : List ℕ) (steps : List (ℕ × ℕ × ℕ × ℕ)) → AreListsOf w count start finals steps → All (λ t. t < count) finals
-made_finals_below w count start finals steps lists =
-    subst (λ xs. All (λ b. b < count) xs) (sym lists.finals)
-    (subst (λ n. All (λ b. b < n) (filter (λ t. are_final w.targets (states_at (target_sizes w.targets) t)) (below (product_of (target_sizes w.targets))))) (sym lists.count)
-    (passing_below (λ t. are_final w.targets (states_at (target_sizes w.targets) t)) (product_of (target_sizes w.targets))))
+made_finals_below w count start finals steps lists = grind (arith, passing_below)

@@ -1,13 +1,13 @@
 -- The triples that the loops list are the triples of the combined environment.
 use Rattle.std.proofs.Common.{◌≡◌, ℕ, zero, suc, ◌<◌, ◌==◌, ◌&&◌, List, [], ◌∷◌, map, length, get_or, Option, Some, None, IsTrue, slice_get, inl, inr, refl, sym, ap, ap₂, ◌∙◌, subst, arith}
 use Rattle.std.proofs.lemmas.Bool.{false≢true, eq-eqb, eqb-true, and_parts, and_from}
-use Rattle.roman_model.specs.Lists.{IsIn, below}
+use Rattle.roman_model.specs.Lists.{IsIn}
 use Rattle.roman_model.specs.System.{Triple, Env, has_triple, IsEnv}
 use Rattle.roman_model.specs.Normal.{normal_env}
 use Rattle.roman_model.specs.Combined.{has_triple_on, combined_env}
 use Rattle.roman_model.specs.declared.request.Request.{Request}
 use Rattle.roman_parts.specs.Listed.{triple_of, listed_env, AreTriples}
-use Rattle.roman_multi.specs.Lists.{next_on, triples_by, listed_triples}
+use Rattle.roman_multi.specs.Lists.{next_on, listed_triples}
 use Rattle.roman_model.proofs.CallerLemmas.{same_test, any_true, any_from, in_map, from_map, in_flat_map, from_flat_map, in_below, from_below, triple_in_range, in_env_next, from_env_next, env_from_same}
 
 from_next_on : (env : Env) (e : ℕ) (o : Option Request) (to : ℕ) → IsIn to (next_on env e o) → IsTrue (has_triple_on env o e to)
@@ -20,19 +20,11 @@ in_next_on env e (Some r) to ok t = in_env_next env e r.action to ok t
 
 from_listed : (env : Env) (requests : List Request) (x : ℕ × ℕ × ℕ) → IsIn x (listed_triples env requests) →
     (x.0 < env.states) × (x.1 < length requests) × IsTrue (has_triple_on env (slice_get requests x.1) x.0 x.2)
-from_listed env requests x i =
-    let (e, ie, ix) = from_flat_map (triples_by env requests) x (below env.states) i in
-    let (n, in', iy) = from_flat_map (λ n. map (λ to. (e, n, to)) (next_on env e (slice_get requests n))) x (below (length requests)) ix in
-    let (to, it, same) = from_map (λ to. (e, n, to)) x (next_on env e (slice_get requests n)) iy in
-    subst (λ (y : ℕ × ℕ × ℕ). (y.0 < env.states) × (y.1 < length requests) × IsTrue (has_triple_on env (slice_get requests y.1) y.0 y.2)) (sym same)
-    (from_below env.states e ie, from_below (length requests) n in', from_next_on env e (slice_get requests n) to it)
+from_listed env requests x i = grind (arith, from_below, from_flat_map, from_map, from_next_on)
 
 in_listed : (env : Env) (requests : List Request) (e n to : ℕ) → IsEnv env → e < env.states → n < length requests → IsTrue (has_triple_on env (slice_get requests n) e to) →
     IsIn (e, n, to) (listed_triples env requests)
-in_listed env requests e n to ok he hn t =
-    in_flat_map (triples_by env requests) e (e, n, to) (below env.states) (in_below env.states e he)
-    (in_flat_map (λ n. map (λ to. (e, n, to)) (next_on env e (slice_get requests n))) n (e, n, to) (below (length requests)) (in_below (length requests) n hn)
-    (in_map (λ to. (e, n, to)) to (next_on env e (slice_get requests n)) (in_next_on env e (slice_get requests n) to ok t)))
+in_listed env requests e n to ok he hn t = in_flat_map _ _ _ _ (in_below _ _ he) (in_flat_map _ _ _ _ (in_below _ _ hn) (in_map _ _ _ (in_next_on _ _ _ _ ok t)))
 
 pub combined_env_is : (env : Env) (requests : List Request) → IsEnv env →
     normal_env (listed_env env.states (length requests) env.start (listed_triples env requests)) ≡ combined_env requests env

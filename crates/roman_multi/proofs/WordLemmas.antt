@@ -1,6 +1,6 @@
 -- Joined names, and tables of them.
-use Rattle.std.proofs.Common.{◌≡◌, ℕ, zero, suc, ◌+◌, ◌<◌, ◌≤◌, ◌==◌, ◌&&◌, false, not, List, [], ◌∷◌, ◌++◌, length, take, get_or, slice_index, IsTrue, IsFalse, refl, sym, ap, ◌∙◌, append_assoc, arith}
-use Rattle.std.specs.Prelude.{slice_index_or, if◌then◌else◌, nat_le}
+use Rattle.std.proofs.Common.{◌≡◌, ℕ, zero, suc, ◌+◌, ◌<◌, ◌==◌, List, [], ◌∷◌, ◌++◌, length, take, get_or, slice_index, IsTrue, IsFalse, refl, sym, ap, ◌∙◌, append_assoc, arith}
+use Rattle.std.specs.Prelude.{slice_index_or, if◌then◌else◌}
 use Rattle.std.specs.List.{list_all}
 use Rattle.std.proofs.lemmas.Bool.{and_parts, and_from, false≢true, ltb-false, le-leb, ne_eqb}
 use Rattle.std.proofs.lemmas.List.{take_more}
@@ -41,15 +41,7 @@ names_at_get (named ∷ targets) (t ∷ ts) zero d l m = refl
 names_at_get (named ∷ targets) (t ∷ ts) (suc i) d l m = names_at_get targets ts i d (omega arith) (omega arith)
 
 pub word_is_name : (bytes : List ℕ) → IsTrue (is_word bytes) → IsFalse (is_long bytes) → IsTrue (is_name bytes)
-word_is_name bytes t short =
-    let (some, all) = and_parts (not (is_empty bytes)) (list_all is_name_byte bytes) t in
-    let few : length bytes ≤ 32 = ltb-false 32 (length bytes) short in
-    and_from (nat_le 1 (length bytes) && nat_le (length bytes) 32) (list_all is_name_byte bytes)
-    (and_from (nat_le 1 (length bytes)) (nat_le (length bytes) 32) (le-leb 1 (length bytes) (not_none bytes some)) (le-leb (length bytes) 32 few)) all
-  where
-    not_none : (bytes : List ℕ) → IsTrue (not (is_empty bytes)) → 1 ≤ length bytes
-    not_none [] t = absurd (false≢true t)
-    not_none (b ∷ bytes) t = omega arith
+word_is_name bytes t short = grind (arith, and_from, and_parts, false≢true, le-leb, ltb-false)
 
 pub is_word_from : (bytes : List ℕ) → IsTrue (list_all is_name_byte bytes) → 0 < length bytes → IsTrue (is_word bytes)
 is_word_from [] t l = absurd (omega arith)

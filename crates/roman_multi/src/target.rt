@@ -55,6 +55,7 @@ fn push_move(
 }
 
 /// Appends the steps from `t` by combined action `n`, which is the given request.
+#[tactic(auto, using(crate::proofs::ListLemmas::flat_map_pushed))]
 fn push_request(
     steps: &mut Vec<Move>,
     env: &Environment,

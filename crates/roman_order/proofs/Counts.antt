@@ -13,8 +13,7 @@ use Rattle.roman_order.proofs.Places.{has_entry-nodes}
 
 -- the count of the numbers below n when one of them no longer passes
 count_by-but_past : (g : ℕ → Bool) (m n : ℕ) → n ≤ m → count_by (λ q. not (eqb q m || g q)) (below n) ≡ count_by (λ q. not (g q)) (below n)
-count_by-but_past g m n h =
-    sum_by_same (λ q. cond (not (eqb q m || g q)) 1 0) (λ q. cond (not (g q)) 1 0) (below n) (λ q i. rw (ne_eqb q m (omega (arith, from_below n q i))) refl)
+count_by-but_past g m n h = grind (arith, from_below, ne_eqb, sum_by_same)
 
 count_by-but : (g : ℕ → Bool) (m n : ℕ) → m < n → g m ≡ false → count_by (λ q. not (eqb q m || g q)) (below n) + 1 ≡ count_by (λ q. not (g q)) (below n)
 count_by-but g m zero h out = absurd (omega arith)

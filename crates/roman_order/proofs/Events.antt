@@ -1,5 +1,5 @@
 -- Lists of events.
-use Rattle.std.proofs.Common.{◌≡◌, ℕ, suc, ◌+◌, ◌*◌, ◌^◌, ◌<◌, ◌≤◌, true, List, [], ◌∷◌, ◌++◌, map, length, refl, sym, ap, ◌∙◌, arith, eqb, append-nil, length-append}
+use Rattle.std.proofs.Common.{◌≡◌, ℕ, suc, ◌+◌, ◌*◌, ◌^◌, ◌<◌, ◌≤◌, true, List, [], ◌∷◌, ◌++◌, map, length, refl, ap, ◌∙◌, arith, eqb, append-nil, length-append}
 use Rattle.std.proofs.lemmas.List.Folds.{list_any-append}
 use Rattle.std.specs.List.{AllByRecursion}
 use Rattle.std.proofs.lemmas.Bool.{or_right, or_left, eq-eqb}
@@ -43,11 +43,7 @@ firsts_of-push lanes n (x ∷ es) e =
 
 pub AreCounted-push : (lanes count : ℕ) (firsts : List ℕ) (es : List Event) (e : Event) → AreCounted lanes count firsts es → IsEvent lanes e →
     AreCounted lanes (count + length (set_lanes e.lanes)) (firsts ++ count ∷ []) (es ++ e ∷ [])
-AreCounted-push lanes count firsts es e are some = record {
-  each = all_push (IsEvent lanes) es e are.each some;
-  count = omega (arith, are.count, ap length (entries_of-push lanes es e), length-append (entries_of lanes es) (entries_at lanes e), length-entries_at lanes e);
-  firsts = ap (λ ms. ms ++ count ∷ []) are.firsts ∙ (ap (λ m. firsts_of 0 es ++ m ∷ []) are.count ∙ (let zero_more : length (entries_of lanes es) ≡ 0 + length (entries_of lanes es) = omega arith in ap (λ m. firsts_of 0 es ++ m ∷ []) zero_more ∙ sym (firsts_of-push lanes 0 es e)));
-}
+AreCounted-push lanes count firsts es e are some = grind (arith, (all_push (IsEvent lanes) es e are.each some), (entries_of-push lanes es e), (firsts_of-push lanes 0 es e), (length-entries_at lanes e), length-append)
 
 pub AreCounted-nil : (lanes : ℕ) → AreCounted lanes 0 [] []
 AreCounted-nil lanes = record { each = tt; count = refl; firsts = refl }

@@ -55,13 +55,7 @@ abbrev pub without_lane : ℕ → ℕ → ℕ
 without_lane n t = bit_and n (bit_not w64 (1 * 2 ^ t % 2 ^ 64))
 
 pub without_first : (n t : ℕ) → t < 64 → is_on n t ≡ true → ((i : ℕ) → i < t → is_on n i ≡ false) → IsFirstOf n (without_lane n t) t
-without_first n t low on before = record {
-  low = low;
-  on = on;
-  before = before;
-  off = on_clear_same n t low;
-  same = λ i l ne. on_clear_other n t i low l ne;
-}
+without_first n t low on before = grind (arith, on_clear_other, on_clear_same)
 
 pub without_first-less : (n m t : ℕ) → IsFirstOf n m t → m ≤ n → m < n
 without_first-less n m t is h = elim (cases_eq m n) [ inl e ↦ absurd (both_ways (is_on n t) (sym (ap (λ w. is_on w t) e) ∙ is.off) is.on) | inr ne ↦ omega arith ]
@@ -89,15 +83,13 @@ one_pow k l = let below : 2 ^ k < 2 ^ 64 = pow-lt l in omega arith
 
 pub set_lanes-one : (k : ℕ) → k < 64 → set_lanes (1 * 2 ^ k % 2 ^ 64) ≡ k ∷ []
 set_lanes-one k l =
-    ap set_lanes (one_pow k l)
-    ∙ set_lanes-first (2 ^ k) 0 k (record {
+    ap set_lanes (one_pow _ l) ∙ set_lanes-first _ _ _ (record {
       low = l;
-      on = on_pow_same k;
-      before = λ i h. on_pow_other k i (λ e. omega arith);
-      off = on_zero k;
-      same = λ i h ne. on_zero i ∙ sym (on_pow_other k i ne);
-    })
-    ∙ ap (λ xs. k ∷ xs) set_lanes-zero
+      on = on_pow_same _;
+      before = λ i h. on_pow_other _ _ (λ e. omega arith);
+      off = on_zero _;
+      same = λ i h ne. on_zero _ ∙ sym (on_pow_other _ _ ne);
+    }) ∙ ap (λ xs. k ∷ xs) set_lanes-zero
 
 pub one_lane : (k lane : ℕ) → k < 64 → is_on (1 * 2 ^ k % 2 ^ 64) lane ≡ true → lane ≡ k
 one_lane k lane l t = elim (cases_eq lane k) [ inl e ↦ e | inr ne ↦ absurd (both_ways (is_on (2 ^ k) lane) (on_pow_other k lane ne) (rw one_pow at t)) ]
@@ -115,9 +107,7 @@ lanes_once word = HasNoRepeats-filter (is_on word) (below 64) (HasNoRepeats-belo
 -- a pair is listed if it was before, or if it is one of the added pairs
 has_entry-lanes : (L : List (Entry ℕ)) (first lost p : ℕ) (reason : Reason) →
     has_entry (L ++ map (λ l. as_entry (first + l, reason)) (set_lanes lost)) p ≡ (has_entry L p || list_any (λ l. eqb p (first + l)) (set_lanes lost))
-has_entry-lanes L first lost p reason =
-    list_any-append (λ (x : Entry ℕ). eqb p x.node) L _
-    ∙ ap (λ b. has_entry L p || b) (list_any-map (λ l. as_entry (first + l, reason)) (λ (x : Entry ℕ). eqb p x.node) (set_lanes lost))
+has_entry-lanes L first lost p reason = grind (arith, list_any-append, list_any-map)
 
 -- the pair at a lane of the row is listed if it was before, or if its lane was added
 pub has_entry-lane : (L : List (Entry ℕ)) (first lost lane : ℕ) (reason : Reason) → lane < 64 →
@@ -125,8 +115,7 @@ pub has_entry-lane : (L : List (Entry ℕ)) (first lost lane : ℕ) (reason : Re
 unfolding set_lanes
 has_entry-lane L first lost lane reason low =
     has_entry-lanes L first lost (first + lane) reason
-    ∙ ap (λ b. has_entry L (first + lane) || b) (same_test (list_any (λ l. eqb (first + lane) (first + l)) (set_lanes lost)) (is_on lost lane)
-    (λ t.
+    ∙ ap (λ b. has_entry L (first + lane) || b) (same_test (list_any (λ l. eqb (first + lane) (first + l)) (set_lanes lost)) (is_on lost lane) (λ t.
     let (l, i, e) = any_true (λ l. eqb (first + lane) (first + l)) (set_lanes lost) t in
     let equal = eqb-true (first + lane) (first + l) e in
     let same : l ≡ lane = omega arith in
@@ -136,18 +125,14 @@ has_entry-lane L first lost lane reason low =
 -- another pair is listed if it was before
 pub has_entry-elsewhere : (L : List (Entry ℕ)) (first lost p : ℕ) (reason : Reason) → ((lane : ℕ) → lane < 64 → is_on lost lane ≡ true → p ≢ first + lane) →
     has_entry (L ++ map (λ l. as_entry (first + l, reason)) (set_lanes lost)) p ≡ has_entry L p
-has_entry-elsewhere L first lost p reason apart =
-    has_entry-lanes L first lost p reason
-    ∙ (ap (λ b. has_entry L p || b) (none_from (λ l. eqb p (first + l)) (set_lanes lost)
-    (λ l i. let (low, t) = in_lanes lost l i in ne_eqb p (first + l) (apart l low t))) ∙ or-false (has_entry L p))
+has_entry-elsewhere L first lost p reason apart = grind (arith, has_entry-lanes, in_lanes, ne_eqb, none_from, or-false)
 
 -- ---- entries of neighbouring rows
 
 -- one more row
 pub entries_in_rows-row : (lanes x rows : ℕ) (words : List ℕ) (reason : Reason) (L : List (Entry ℕ)) →
     L ++ entries_in_rows lanes x (suc rows) words reason ≡ (L ++ entries_in_rows lanes x rows words reason) ++ entries_in lanes (x + rows) (get_or words rows 0) reason
-entries_in_rows-row lanes x rows words reason L =
-    ap (λ M. L ++ M) (flat_map_row (λ i. entries_in lanes (x + i) (get_or words i 0) reason) rows) ∙ sym (append_assoc L _ _)
+entries_in_rows-row lanes x rows words reason L = ap (λ M. L ++ M) (flat_map_row _ rows) ∙ sym (append_assoc L _ _)
 
 -- the pairs of a later row are listed if they were before
 pub has_entry-later : (L : List (Entry ℕ)) (lanes x : ℕ) (words : List ℕ) (reason : Reason) → ((i lane : ℕ) → is_on (get_or words i 0) lane ≡ true → lane < lanes) →
@@ -199,6 +184,4 @@ AreRows-pushed lanes x lost L reason words few room fits within rows = record {
 
 -- for an empty list all words are full
 pub AreRows-full : (lanes : ℕ) (words : List ℕ) → ((y : ℕ) → y < length words → get_or words y 0 ≡ 2 ^ lanes - 1) → AreRows lanes (λ p. not (has_entry [] p)) words
-AreRows-full lanes words full = record {
-  each = λ y h. subst (HasLanes lanes y (λ p. true)) (sym (full y h)) (record { each = λ lane l. on_ones lanes lane l; rest = λ lane l. on_ones_above lanes lane l });
-}
+AreRows-full lanes words full = grind (arith, on_ones, on_ones_above)

@@ -1,5 +1,5 @@
 -- The number of lanes of a word.
-use Rattle.std.proofs.Common.{◌≡◌, ℕ, zero, suc, ◌+◌, ◌*◌, ◌%◌, ◌^◌, ◌<◌, cond, filter, length, sum_by, count_ones, inl, inr, sym, ap, ap₂, ◌∙◌, arith, eqb}
+use Rattle.std.proofs.Common.{◌≡◌, ℕ, zero, suc, ◌%◌, ◌^◌, ◌<◌, cond, filter, length, sum_by, count_ones, inl, inr, sym, ap, ◌∙◌, arith}
 use Rattle.std.specs.Int.{bit_at}
 use Rattle.std.proofs.Math.Pow.{pow_pos}
 use Rattle.std.proofs.lemmas.Bool.{cases_eq, cond-true, cond-false, eq-eqb, ne_eqb}
@@ -17,24 +17,11 @@ bit_ones b l = elim (cases_eq (count_ones b) 0) [ inl e ↦ e ∙ sym (zero_from
 -- the number of ones among the lowest digits is the sum of these bits
 pub low_ones : (n k : ℕ) → count_ones (n % 2 ^ k) ≡ sum_by (bit_at n) (below k)
 low_ones n zero = let none : n % 1 ≡ 0 = omega arith in ap count_ones none ∙ bit_ones 0 (omega arith)
-low_ones n (suc k) =
-    let split : n % 2 ^ suc k ≡ bit_at n k * 2 ^ k + n % 2 ^ k = (let same : suc k ≡ 1 + k = omega arith in ap (λ j. n % 2 ^ j) same) ∙ mod-pow-add n 1 k in
-    let small : n % 2 ^ k < 2 ^ k = omega (arith, pow_pos k) in
-    ap count_ones split ∙ ones_cat k (bit_at n k) (n % 2 ^ k) small
-    ∙ ap₂ (λ x y. x + y) (bit_ones (bit_at n k) (bit_at-lt n k)) (low_ones n k)
-    ∙ turned (bit_at n k) (sum_by (bit_at n) (below k)) ∙ sym (sum_by_push (bit_at n) (below k) k)
-  where
-    turned : (x y : ℕ) → x + y ≡ y + x
-    turned x y = omega arith
+low_ones n (suc k) = grind (arith, (bit_at-lt n k), (bit_ones (bit_at n k) (bit_at-lt n k)), (mod-pow-add n 1 k), ones_cat, (pow_pos k), (sum_by_push (bit_at n) (below k) k), (low_ones n k))
 
 bit_is : (word lane : ℕ) → bit_at word lane ≡ cond (is_on word lane) 1 0
 unfolding is_on
-bit_is word lane = elim (cases_eq (bit_at word lane) 1) [
-  | inl e ↦ e ∙ sym (cond-true (eqb (bit_at word lane) 1) 1 0 (eq-eqb (bit_at word lane) 1 e))
-  | inr ne ↦
-      let none : bit_at word lane ≡ 0 = omega (arith, bit_at-lt word lane) in
-      none ∙ sym (cond-false (eqb (bit_at word lane) 1) 1 0 (ne_eqb (bit_at word lane) 1 ne))
-]
+bit_is word lane = grind (arith, bit_at-lt, cases_eq, cond-false, cond-true, eq-eqb, ne_eqb)
 
 -- a word has as many ones as lanes
 pub ones_of : (word : ℕ) → word < 2 ^ 64 → count_ones word ≡ length (set_lanes word)

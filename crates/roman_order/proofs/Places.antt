@@ -1,5 +1,5 @@
 -- Lists with one more entry.
-use Rattle.std.proofs.Common.{◌≡◌, ◌≢◌, ℕ, ◌+◌, ◌-◌, ◌^◌, ◌<◌, ◌≤◌, Bool, true, false, List, [], ◌∷◌, ◌++◌, length, Option, Some, None, refl, ap, sym, ◌∙◌, subst, inl, inr, arith, eqb, ◌||◌, is_some, unwrap_or}
+use Rattle.std.proofs.Common.{◌≡◌, ◌≢◌, ℕ, ◌+◌, ◌-◌, ◌^◌, ◌<◌, ◌≤◌, Bool, true, false, List, [], ◌∷◌, ◌++◌, length, Some, None, refl, ap, sym, ◌∙◌, inl, inr, arith, eqb, ◌||◌, is_some}
 use Rattle.std.specs.List.{list_any, position_from, IsDistinct}
 use Rattle.std.proofs.Math.Bool.{or-false}
 use Rattle.std.proofs.lemmas.Bool.{cases_eq, cases_Bool, ne_eqb, false≢true}
@@ -49,11 +49,7 @@ unfolding IsDistinct
 IsPlaced-nil n = record { apart = tt; in_range = λ p h. absurd (false≢true h) }
 
 pub IsPlaced-push : (n : ℕ) (L : List (Entry ℕ)) (x : Entry ℕ) → IsPlaced n L → x.node < n → has_entry L x.node ≡ false → IsPlaced n (L ++ x ∷ [])
-IsPlaced-push n L x placed here new = record {
-  apart = subst (IsDistinct eqb) (sym (map_push (λ (y : Entry ℕ). y.node) L x))
-      (IsDistinct-push nat_eq_equiv (nodes_of L) x.node placed.apart (has_entry-nodes L x.node ∙ new));
-  in_range = λ p h. elim (cases_eq p x.node) [ inl e ↦ omega arith | inr ne ↦ placed.in_range p (sym (has_entry-push_other L x p ne) ∙ h) ];
-}
+IsPlaced-push n L x placed here new = grind (arith, IsDistinct-push, cases_eq, has_entry-nodes, has_entry-push_other, map_push, nat_eq_equiv)
 
 -- a list of distinct pairs in range has at most as many entries as there are pairs
 pub length-le_from_apart : (n : ℕ) (L : List (Entry ℕ)) → IsDistinct eqb (nodes_of L) → ((p : ℕ) → has_entry L p ≡ true → p < n) → length L ≤ n
@@ -65,11 +61,7 @@ length-le_from_apart n L apart below =
 
 -- a pair with the greatest stamp isn't listed
 pub place_in_list-from_greatest : (L : List (Entry ℕ)) (p : ℕ) → length L < 2 ^ 32 → stamp_of L p ≡ 2 ^ 32 - 1 → None ≡ place_in_list L p
-place_in_list-from_greatest L p few e = none (place_in_list L p) (λ j is. omega (arith, position_from-bound (λ (x : Entry ℕ). eqb p x.node) 0 L j is)) e
-  where
-    none : (place : Option ℕ) → ((j : ℕ) → place ≡ Some j → j < length L) → unwrap_or place (2 ^ 32 - 1) ≡ 2 ^ 32 - 1 → None ≡ place
-    none None within stamp = refl
-    none (Some j) within stamp = absurd (omega (arith, within j refl))
+place_in_list-from_greatest L p few e = grind (arith, position_from-bound)
 
 -- ---- places and listed pairs
 

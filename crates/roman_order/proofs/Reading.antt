@@ -42,14 +42,11 @@ all_at P (x ∷ xs) (suc i) d all h = all_at P xs i d all.1 (omega arith)
 firsts_at : (lanes n : ℕ) (es : List Event) (j : ℕ) → j < length es → get_or (firsts_of n es) j 0 ≡ n + length (entries_of lanes (take j es))
 firsts_at lanes n [] j h = absurd (omega arith)
 firsts_at lanes n (e ∷ es) zero h = omega arith
-firsts_at lanes n (e ∷ es) (suc j) h =
-    omega (arith, firsts_at lanes (n + length (set_lanes e.lanes)) es j (omega arith), length-append (entries_at lanes e) (entries_of lanes (take j es)), length-entries_at lanes e)
+firsts_at lanes n (e ∷ es) (suc j) h = grind (arith, length-entries_at, length-append, (firsts_at lanes (n + length (set_lanes e.lanes)) es j (omega arith)))
 
 pub event_parts : (lanes : ℕ) (es : List Event) (j : ℕ) (e : Event) → j < length es → e ≡ get_or es j e →
     entries_of lanes es ≡ entries_of lanes (take j es) ++ (entries_at lanes e ++ entries_of lanes (drop (suc j) es))
-event_parts lanes es j e h read =
-    let parts : es ≡ take j es ++ (e ∷ drop (suc j) es) = sym (take-append-drop j es) ∙ ap (λ ys. take j es ++ ys) (drop-cons es j e h ∙ ap (λ x. x ∷ drop (suc j) es) (sym read)) in
-    ap (entries_of lanes) parts ∙ flat_map-append (entries_at lanes) (take j es) (e ∷ drop (suc j) es)
+event_parts lanes es j e h read = grind (arith, (drop-cons es j e h), (flat_map-append (entries_at lanes) (take j es) (e ∷ drop (suc j) es)), (take-append-drop j es))
 
 pub event_more : (lanes : ℕ) (es : List Event) (j : ℕ) (e : Event) → j < length es → e ≡ get_or es j e → entries_of lanes (take (j + 1) es) ≡ entries_of lanes (take j es) ++ entries_at lanes e
 event_more lanes es j e h read = ap (entries_of lanes) (take_more es j e h ∙ ap (λ x. take j es ++ x ∷ []) (sym read)) ∙ entries_of-push lanes (take j es) e
@@ -131,16 +128,13 @@ event_rest lanes es i first e left is rest =
     let g = λ (lane : ℕ). as_entry (e.row * lanes + lane, e.reason) in
     let S = entries_at lanes e in
     let k : ℕ = i - first in
-    let long : length S ≡ length (set_lanes e.lanes) = length-entries_at lanes e in
+    let long : length S ≡ length (set_lanes e.lanes) = length-entries_at _ _ in
     let here : i ≡ length is.before + k = omega (arith, is.start, is.from) in
     let ends : i + length (set_lanes left) ≡ length is.before + length S = omega (arith, ap length rest, length-drop k (set_lanes e.lanes), long, is.start, is.from, is.within) in
     let past : is.after ≡ drop (i + length (set_lanes left)) (entries_of lanes es) =
     sym (ap₂ (λ n xs. drop n xs) ends is.parts ∙ (drop-append-add is.before (S ++ is.after) (length S) ∙ drop-append_seam S is.after)) in
-    ap₂ (λ n xs. drop n xs) here is.parts
-    ∙ (drop-append-add is.before (S ++ is.after) k
-    ∙ (drop-append-le k S is.after (omega (arith, is.within, long))
-    ∙ (ap (λ xs. xs ++ is.after) (drop-map g k (set_lanes e.lanes) ∙ ap (λ ls. map g ls) (sym rest))
-    ∙ ap (λ xs. entries_at lanes (later e left) ++ xs) past)))
+    ap₂ (λ n xs. drop n xs) here is.parts ∙ (drop-append-add is.before (S ++ is.after) k ∙ (drop-append-le k S is.after (omega (arith, is.within, long))
+    ∙ (ap (λ xs. xs ++ is.after) (drop-map g k (set_lanes e.lanes) ∙ ap (λ ls. map g ls) (sym rest)) ∙ ap (λ xs. entries_at lanes (later e left) ++ xs) past)))
 
 -- some lane of the event is left
 pub some_left : (lanes : ℕ) (es : List Event) (i first : ℕ) (e : Event) (left : ℕ) → IsEventOf lanes es i first e → set_lanes left ≡ drop (i - first) (set_lanes e.lanes) → 0 < length (set_lanes left)
@@ -148,18 +142,7 @@ some_left lanes es i first e left is rest = omega (arith, ap length rest, length
 
 -- the list has at least as many entries from place i on as the event has lanes left
 pub rest_within : (lanes : ℕ) (es : List Event) (i first : ℕ) (e : Event) (left : ℕ) → IsEventOf lanes es i first e → set_lanes left ≡ drop (i - first) (set_lanes e.lanes) → i + length (set_lanes left) ≤ length (entries_of lanes es)
-rest_within lanes es i first e left is rest = omega (
-  arith,
-  ap length rest,
-  length-drop (i - first) (set_lanes e.lanes),
-  is.start,
-  is.from,
-  is.within,
-  ap length is.parts,
-  length-append is.before (entries_at lanes e ++ is.after),
-  length-append (entries_at lanes e) is.after,
-  length-entries_at lanes e,
-)
+rest_within lanes es i first e left is rest = grind (arith, length-drop, length-entries_at, length-append)
 
 -- some pair of the event is listed
 pub listed_first : (lanes : ℕ) (es : List Event) (i first : ℕ) (e : Event) → IsEventOf lanes es i first e → (lane : ℕ) × (has_entry (entries_of lanes es) (e.row * lanes + lane) ≡ true)
@@ -167,10 +150,7 @@ listed_first lanes es i first e is = let (lane, listed) = some_listed lanes is.b
 
 -- the row of the event is in range
 pub row_within : (rows lanes : ℕ) (es : List Event) (i first : ℕ) (e : Event) → ((p : ℕ) → has_entry (entries_of lanes es) p ≡ true → p < rows * lanes) → IsEventOf lanes es i first e → e.row < rows
-row_within rows lanes es i first e in_range is =
-    let (lane, listed) = listed_first lanes es i first e is in
-    let below : e.row * lanes < rows * lanes = omega (arith, in_range _ listed) in
-    lt_of_mul-lt-mul_right lanes below
+row_within rows lanes es i first e in_range is = grind (arith, (listed_first lanes es i first e is), lt_of_mul-lt-mul_right)
 
 -- ---- the tables of an order
 
@@ -180,9 +160,7 @@ first_begins lanes [] some = absurd (omega arith)
 first_begins lanes (e ∷ es) some = (omega arith, refl)
 
 pub begins : (a : Inside) (b : Board) (i : ℕ) → board_of a ≡ b → IsSound a → i < length b.list → (0 < length a.firsts.items) × (get_or a.firsts.items 0 0 ≡ 0)
-begins a b i is sound low =
-    subst (λ ms. (0 < length ms) × (get_or ms 0 0 ≡ 0)) (sym sound.counted.firsts)
-    (first_begins a.lanes a.events.items (omega (arith, low, ap (λ (z : Board). length z.list) is)))
+begins a b i is sound low = grind (arith, first_begins)
 
 pub found : (a : Inside) (b : Board) (j i : ℕ) (e : Event) → board_of a ≡ b → IsSound a → i < length b.list → j < length a.firsts.items → e ≡ get_or a.events.items j e →
     get_or a.firsts.items j 0 ≤ i → (j + 1 < length a.firsts.items → i < get_or a.firsts.items (j + 1) 0) → IsEventOf a.lanes a.events.items i (get_or a.firsts.items j 0) e

@@ -1,5 +1,5 @@
 -- Places and stamps.
-use Rattle.std.proofs.Common.{◌≡◌, ℕ, zero, suc, ◌+◌, ◌-◌, ◌*◌, ◌^◌, ◌<◌, ◌≤◌, Bool, true, false, cond, ◌&&◌, filter, take, drop, List, [], ◌∷◌, ◌++◌, map, length, get_or, Some, None, slice_get, refl, sym, ap, ◌∙◌, subst, inl, inr, arith, eqb, unwrap_or, append_assoc, append-nil, length-append}
+use Rattle.std.proofs.Common.{◌≡◌, ℕ, zero, suc, ◌+◌, ◌*◌, ◌<◌, ◌≤◌, Bool, true, false, cond, ◌&&◌, filter, take, drop, List, [], ◌∷◌, ◌++◌, map, length, get_or, Some, None, slice_get, refl, sym, ap, ◌∙◌, subst, inl, inr, arith, eqb, append_assoc, append-nil, length-append}
 use Rattle.std.specs.List.{list_any, position_from, IsDistinct, AllByRecursion}
 use Rattle.std.proofs.Math.ListN.{set}
 use Rattle.std.proofs.lemmas.Nat.{same_from_place}
@@ -54,18 +54,7 @@ apart_before (d ∷ D) x R apart =
 -- the stamps with one more entry
 pub stamp_step : (D : List (Entry ℕ)) (x : Entry ℕ) (R : List (Entry ℕ)) (stamps : List ℕ) → IsDistinct eqb (nodes_of (D ++ x ∷ R)) → AreStamps D stamps → x.node < length stamps →
     AreStamps (D ++ x ∷ []) (set stamps x.node (length D))
-stamp_step D x R stamps apart are here q h = elim (cases_eq q x.node) [
-  | inl e ↦
-      let here_too = eq-eqb q x.node e in
-      let none : has_entry D q ≡ false = ap (has_entry D) e ∙ apart_before D x R apart in
-      ap (λ i. get_or (set stamps x.node (length D)) i 0) e
-      ∙ (get_or-set_same stamps x.node (length D) 0 here
-      ∙ ap (λ o. unwrap_or o (2 ^ 32 - 1)) (sym (position_from-past (λ (y : Entry ℕ). eqb q y.node) 0 D (x ∷ []) none ∙ ap (λ b. cond b (Some (0 + length D)) None) here_too ∙ (let same : 0 + length D ≡ length D = omega arith in ap Some same))))
-  | inr ne ↦
-      get_or-set_other stamps x.node q (length D) 0 ne
-      ∙ (are q (omega (arith, h, length-set stamps x.node (length D)))
-      ∙ ap (λ o. unwrap_or o (2 ^ 32 - 1)) (sym (position_from-push_other (λ (y : Entry ℕ). eqb q y.node) 0 D x (ne_eqb q x.node ne))))
-]
+stamp_step D x R stamps apart are here q h = grind (arith, apart_before, cases_eq, eq-eqb, get_or-set_other, get_or-set_same, length-set, ne_eqb, position_from-past, position_from-push_other, set)
 
 -- the first lanes lo of the word have their stamps, and the rest has none yet
 pub record IsStamped (first word rest start place : ℕ) (old new : List ℕ) : Type 0 where
@@ -78,26 +67,25 @@ pub record IsStamped (first word rest start place : ℕ) (old new : List ℕ) : 
 
 pub stamped_more : (first word rest left lane start place : ℕ) (old new : List ℕ) → IsStamped first word rest start place old new → set_lanes rest ≡ lane ∷ set_lanes left →
     first + lane < length new → IsStamped first word left start (place + 1) old (set new (first + lane) place)
-stamped_more first word rest left lane start place old new is next here = record {
-  lo = is.lo ++ lane ∷ [];
-  parts = append_assoc is.lo (lane ∷ []) (set_lanes left) ∙ (ap (λ ls. is.lo ++ ls) (sym next) ∙ is.parts);
-  count = omega (arith, is.count, length-append is.lo (lane ∷ []));
-  long = length-set new (first + lane) place ∙ is.long;
-  stamped = λ D R reason apart e are.
-      let f = λ (l : ℕ). as_entry (first + l, reason) in
-      let E : List (Entry ℕ) = D ++ map f is.lo in
-      let x : Entry ℕ = f lane in
-      let now : AreStamps E new = is.stamped D R reason apart e are in
-      let whole : D ++ (map f (set_lanes word) ++ R) ≡ E ++ x ∷ (map f (set_lanes left) ++ R) =
-      ap (λ ls. D ++ (map f ls ++ R)) (sym is.parts ∙ ap (λ ls. is.lo ++ ls) next)
-      ∙ (ap (λ L. D ++ (L ++ R)) (map-append f is.lo (lane ∷ set_lanes left))
-      ∙ (ap (λ L. D ++ L) (append_assoc (map f is.lo) (x ∷ map f (set_lanes left)) R)
-      ∙ sym (append_assoc D (map f is.lo) (x ∷ (map f (set_lanes left) ++ R))))) in
-      let long : length E ≡ place = omega (arith, length-append D (map f is.lo), length-map is.lo f, is.count, e) in
-      let stepped = stamp_step E x (map f (set_lanes left) ++ R) new (subst (λ L. IsDistinct eqb (nodes_of L)) whole apart) now here in
-      let joined : E ++ x ∷ [] ≡ D ++ map f (is.lo ++ lane ∷ []) = append_assoc D (map f is.lo) (x ∷ []) ∙ ap (λ L. D ++ L) (sym (map_push f is.lo lane)) in
-      subst (λ L. AreStamps L (set new (first + lane) place)) joined (subst (λ n. AreStamps (E ++ x ∷ []) (set new (first + lane) n)) long stepped);
-}
+stamped_more first word rest left lane start place old new is next here =
+    record {
+      lo = is.lo ++ lane ∷ [];
+      parts = append_assoc is.lo (lane ∷ []) (set_lanes left) ∙ (ap (λ ls. is.lo ++ ls) (sym next) ∙ is.parts);
+      count = omega (arith, is.count, length-append is.lo (lane ∷ []));
+      long = length-set new (first + lane) place ∙ is.long;
+      stamped = λ D R reason apart e are.
+          let f = λ (l : ℕ). as_entry (first + l, reason) in
+          let E : List (Entry ℕ) = D ++ map f is.lo in
+          let x : Entry ℕ = f lane in
+          let now : AreStamps E new = is.stamped D R reason apart e are in
+          let whole : D ++ (map f (set_lanes word) ++ R) ≡ E ++ x ∷ (map f (set_lanes left) ++ R) =
+          ap (λ ls. D ++ (map f ls ++ R)) (sym is.parts ∙ ap (λ ls. is.lo ++ ls) next) ∙ (ap (λ L. D ++ (L ++ R)) (map-append f is.lo (lane ∷ set_lanes left))
+          ∙ (ap (λ L. D ++ L) (append_assoc (map f is.lo) (x ∷ map f (set_lanes left)) R) ∙ sym (append_assoc D (map f is.lo) (x ∷ (map f (set_lanes left) ++ R))))) in
+          let long : length E ≡ place = omega (arith, length-append D (map f is.lo), length-map is.lo f, is.count, e) in
+          let stepped = stamp_step _ _ _ _ (subst (λ L. IsDistinct eqb (nodes_of L)) whole apart) now here in
+          let joined : E ++ x ∷ [] ≡ D ++ map f (is.lo ++ lane ∷ []) = append_assoc D (map f is.lo) (x ∷ []) ∙ ap (λ L. D ++ L) (sym (map_push f is.lo lane)) in
+          subst (λ L. AreStamps L (set new (first + lane) place)) joined (subst (λ n. AreStamps (E ++ x ∷ []) (set new (first + lane) n)) long stepped);
+    }
 
 -- ---- the place of a pair, by its event
 
@@ -167,11 +155,9 @@ place_found lanes es j e x lane h read low here none =
     let B = entries_of lanes (drop (suc j) es) in
     let n = length (filter (is_on e.lanes) (below lane)) in
     let inside : position_from test (0 + length A) (entries_at lanes e) ≡ Some (0 + length A + n) =
-    subst (λ r. position_from (λ (y : Entry ℕ). eqb (r * lanes + lane) y.node) (0 + length A) (entries_at lanes e) ≡ Some (0 + length A + n)) row (place_in_event lanes e lane (0 + length A) low on) in
+    subst (λ r. position_from (λ (y : Entry ℕ). eqb (r * lanes + lane) y.node) (0 + length A) (entries_at lanes e) ≡ Some (0 + length A + n)) row (place_in_event lanes e lane _ low on) in
     let sum : 0 + length A + n ≡ length A + n = omega arith in
-    ap (λ L. position_from test 0 L) (event_parts lanes es j e h read)
-    ∙ (position_from-past test 0 A (entries_at lanes e ++ B) none
-    ∙ (position_from-front test (0 + length A) (entries_at lanes e) B (0 + length A + n) inside ∙ ap Some sum))
+    ap (λ L. position_from test 0 L) (event_parts lanes es j e h read) ∙ (position_from-past test 0 A _ none ∙ (position_from-front test _ _ B _ inside ∙ ap Some sum))
 
 -- a pair that no event lists has no place
 pub place_none : (L : List (Entry ℕ)) (p : ℕ) → has_entry L p ≡ false → place_in_list L p ≡ None
@@ -184,14 +170,7 @@ found_below L p r e = omega (arith, position_from-bound (λ (y : Entry ℕ). eqb
 -- the pair of an event's lane is listed
 pub listed_lane : (lanes : ℕ) (es : List Event) (j : ℕ) (e : Event) (lane : ℕ) → lanes ≤ 64 → IsEvent lanes e → j < length es → e ≡ get_or es j e → is_on e.lanes lane ≡ true →
     has_entry (entries_of lanes es) (e.row * lanes + lane) ≡ true
-listed_lane lanes es j e lane few is h read on =
-    let p : ℕ = e.row * lanes + lane in
-    let A = entries_of lanes (take j es) in
-    let B = entries_of lanes (drop (suc j) es) in
-    let inside : has_entry (entries_at lanes e) p ≡ true = has_entry-event lanes e e.row lane few (is.within lane on) is ∙ (ap (λ b. b && is_on e.lanes lane) (eq-eqb e.row e.row refl) ∙ on) in
-    ap (λ L. has_entry L p) (event_parts lanes es j e h read)
-    ∙ (list_any-append (λ (x : Entry ℕ). eqb p x.node) A (entries_at lanes e ++ B)
-    ∙ or_right (has_entry A p) _ (list_any-append (λ (x : Entry ℕ). eqb p x.node) (entries_at lanes e) B ∙ or_left (has_entry (entries_at lanes e) p) _ inside))
+listed_lane lanes es j e lane few is h read on = grind (arith, (eq-eqb e.row e.row refl), (event_parts lanes es j e h read), (has_entry-event lanes e e.row lane few (is.within lane on) is), list_any-append, or_left, or_right)
 
 -- e is the event at place j: its entries follow those of the events before, within the list
 pub record IsPart (lanes : ℕ) (es : List Event) (j : ℕ) (e : Event) : Type 0 where

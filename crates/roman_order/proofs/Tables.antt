@@ -1,5 +1,5 @@
 -- The contents of an order's tables, and the room in them.
-use Rattle.std.proofs.Common.{◌≡◌, ℕ, ◌+◌, ◌-◌, ◌*◌, ◌/◌, ◌%◌, ◌^◌, ◌<◌, ◌≤◌, true, false, not, [], ◌∷◌, ◌++◌, map, length, drop, get_or, replicate, vec_capacity, ap, ap₂, count_ones, sym, ◌∙◌, subst, arith, bit_and, length-append}
+use Rattle.std.proofs.Common.{◌≡◌, ℕ, ◌+◌, ◌-◌, ◌*◌, ◌/◌, ◌^◌, ◌<◌, ◌≤◌, true, false, not, [], ◌∷◌, ◌++◌, map, length, drop, get_or, replicate, vec_capacity, ap₂, count_ones, sym, ◌∙◌, subst, arith, bit_and, length-append}
 use Rattle.std.specs.Int.{w64, bit_not}
 use Rattle.std.proofs.Math.ListN.{set}
 use Rattle.std.proofs.Math.Nat.{mul-le-mul_left}
@@ -12,7 +12,7 @@ use Rattle.roman_order.specs.Events.{entries_of}
 use Rattle.roman_order.specs.Sound.{board_of, removal_list, IsPlaced, CanWait, IsSized, IsSound}
 use Rattle.roman_order.specs.declared.event.Event.{Event}
 use Rattle.roman_order.specs.declared.order.Order.TheInside.{Inside}
-use Rattle.roman_order.proofs.Lanes.{AreRows-full, AreRows-pushed, one_lane, in_lanes, lanes_once}
+use Rattle.roman_order.proofs.Lanes.{AreRows-full, AreRows-pushed, in_lanes, lanes_once}
 use Rattle.roman_order.proofs.Places.{IsPlaced-nil, length-le_from_apart}
 use Rattle.roman_order.proofs.Events.{few_events, length-firsts_of, entries_of-push, AreCounted-push, AreCounted-nil}
 use Rattle.roman_order.proofs.Ones.{ones_of}
@@ -31,20 +31,11 @@ pub record IsFew (a : Inside) : Type 0 where
   pub firsts : length a.firsts.items ≡ length a.events.items
 
 pub few : (a : Inside) → IsSound a → IsFew a
-few a sound = record {
-  count = sym sound.counted.count;
-  count_fits = omega (arith, few_listed a sound, sound.counted.count, sound.sized.room, sound.sized.few);
-  listed = omega (arith, few_listed a sound, sound.counted.count);
-  events = omega (arith, sound.counted.count, few_events a.lanes a.events.items sound.counted.each);
-  firsts = ap length sound.counted.firsts ∙ length-firsts_of 0 a.events.items;
-}
+few a sound = grind (arith, few_events, few_listed, length-firsts_of)
 
 -- the entries of the list can wait
 pub list_waits : (a : Inside) → IsSound a → CanWait a.lanes a.events.items
-list_waits a sound = record {
-  each = sound.counted.each;
-  in_range = λ p h. omega (arith, sound.placed.in_range p h, sound.sized.room, sound.sized.few);
-}
+list_waits a sound = grind arith
 
 -- an order without entries and with full words is sound
 pub blank_sound : (a : Inside) → IsSized a → CanWait a.waiting_lanes (drop a.next a.waiting.items) → a.events.items ≡ [] → a.firsts.items ≡ [] → a.count ≡ 0 → a.stamps.items ≡ [] →
@@ -72,18 +63,7 @@ pub record IsRoomFor (a b : Inside) : Type 0 where
   pub levels : length b.levels.items ≤ vec_capacity a.levels
 
 pub room_for : (a b : Inside) (x y : Board) → board_of a ≡ x → board_of b ≡ y → x.cap_pairs ≡ y.cap_pairs → IsSound a → IsSound b → IsRoomFor a b
-room_for a b x y is_x is_y same sound_a sound_b =
-    let room : a.room ≡ b.room = ap (λ (z : Board). z.cap_pairs) is_x ∙ (same ∙ sym (ap (λ (z : Board). z.cap_pairs) is_y)) in
-    let rows = mul-le-mul_left b.rows sound_b.sized.few_lanes.0 in
-    record {
-      room = room;
-      events = omega (arith, (few b sound_b).events, (few b sound_b).listed, sound_b.sized.room, sound_a.sized.events_room);
-      firsts = omega (arith, (few b sound_b).firsts, (few b sound_b).events, (few b sound_b).listed, sound_b.sized.room, sound_a.sized.firsts_room);
-      words = omega (arith, rows, sound_b.sized.words_long, sound_b.sized.room, sound_a.sized.words_room);
-      before = omega (arith, rows, sound_b.sized.before_long, sound_b.sized.room, sound_a.sized.before_room);
-      marks = omega (arith, sound_b.sized.marks_long, sound_b.sized.room, sound_a.sized.marks_room);
-      levels = omega (arith, sound_b.sized.few_levels, sound_a.sized.levels_room);
-    }
+room_for a b x y is_x is_y same sound_a sound_b = grind (arith, few, mul-le-mul_left)
 
 -- ---- entries for the lanes of a row
 
@@ -131,17 +111,15 @@ pub pushed_sound : (a b : Inside) (x lost : ℕ) (reason : Reason) → IsSound a
     b.words.items ≡ set a.words.items x (bit_and (get_or a.words.items x 0) (bit_not w64 lost)) → b.stamps.items ≡ [] → IsSized b → IsSound b
 pushed_sound a b x lost reason sound free fits some rows lanes waits count firsts events words stamps sized =
     let e : Event = record { row = x; reason = reason; lanes = lost } in
-    let list : removal_list b ≡ removal_list a ++ entries_in a.lanes x lost reason = ap₂ (λ n es. entries_of n es) lanes events ∙ entries_of-push a.lanes a.events.items e in
+    let list : removal_list b ≡ removal_list a ++ entries_in a.lanes x lost reason = ap₂ (λ n es. entries_of n es) lanes events ∙ entries_of-push _ _ _ in
     record {
       placed = subst (λ n. IsPlaced n (removal_list b)) (sym (ap₂ (λ m n. m * n) rows lanes))
-          (subst (IsPlaced (a.rows * a.lanes)) (sym list) (pushed_placed a x lost reason sound free));
-      counted =
-          rw (lanes, firsts, events, count, ones_of lost fits) (AreCounted-push a.lanes a.count a.firsts.items a.events.items e sound.counted (record { some = some; within = free.within }));
+          (subst (IsPlaced (a.rows * a.lanes)) (sym list) (pushed_placed _ _ _ _ sound free));
+      counted = rw (lanes, firsts, events, count, ones_of _ fits) (AreCounted-push _ _ _ _ _ sound.counted (record { some = some; within = free.within }));
       waits = waits;
       stamped = rw stamps (λ p h. absurd (omega arith));
       alive = subst (λ n. AreRows n (λ p. not (has_entry (removal_list b) p)) b.words.items) (sym lanes)
-          (subst (λ L. AreRows a.lanes (λ p. not (has_entry L p)) b.words.items) (sym list)
-          (rw words (AreRows-pushed a.lanes x lost (removal_list a) reason a.words.items sound.sized.few_lanes.1
+          (subst (λ L. AreRows a.lanes (λ p. not (has_entry L p)) b.words.items) (sym list) (rw words (AreRows-pushed _ _ _ _ _ _ sound.sized.few_lanes.1
           (omega (arith, free.row, sound.sized.words_long)) fits free.within sound.alive)));
       sized = sized;
     }

@@ -1,5 +1,5 @@
 -- The waiting events in the tables of an order.
-use Rattle.std.proofs.Common.{◌≡◌, ℕ, suc, ◌+◌, ◌*◌, ◌<◌, ◌≤◌, true, false, ◌∷◌, length, get_or, drop, sym, ap, ap₂, ◌∙◌, subst, arith}
+use Rattle.std.proofs.Common.{◌≡◌, ℕ, ◌+◌, ◌*◌, ◌<◌, ◌≤◌, true, false, ◌∷◌, length, get_or, drop, arith}
 use Rattle.std.proofs.Math.ListN.{set}
 use Rattle.std.proofs.Math.Seq.{drop-cons}
 use Rattle.std.proofs.lemmas.List.{drop-set, get_or_read}
@@ -20,12 +20,7 @@ pub record IsNext (a : Inside) (e : Event) : Type 0 where
   pub can : CanWait a.waiting_lanes (e ∷ drop (a.next + 1) a.waiting.items)
 
 pub next_event : (a : Inside) (e : Event) → IsSound a → (a.next ≡ length a.waiting.items → ⊥) → e ≡ get_or a.waiting.items a.next e → IsNext a e
-next_event a e sound left read =
-    let within : a.next < length a.waiting.items = omega (arith, sound.sized.next_in, left) in
-    let one : suc a.next ≡ a.next + 1 = omega arith in
-    let split : drop a.next a.waiting.items ≡ e ∷ drop (a.next + 1) a.waiting.items =
-    drop-cons a.waiting.items a.next e within ∙ ap₂ (λ x i. x ∷ drop i a.waiting.items) (sym read) one in
-    record { within = omega arith; read = read; split = split; can = subst (CanWait a.waiting_lanes) split sound.waits }
+next_event a e sound left read = grind (arith, drop-cons)
 
 -- e is the first waiting event, and lane is the first of its lanes
 pub record IsTaken (a : Inside) (e : Event) (lane : ℕ) : Type 0 where
@@ -34,33 +29,19 @@ pub record IsTaken (a : Inside) (e : Event) (lane : ℕ) : Type 0 where
 
 pub taken : (a : Inside) (e : Event) (lane : ℕ) → IsSound a → (a.next ≡ length a.waiting.items → ⊥) → e ≡ get_or a.waiting.items a.next e →
     lane < 64 → is_on e.lanes lane ≡ true → ((bit : ℕ) → bit < lane → is_on e.lanes bit ≡ false) → IsTaken a e lane
-taken a e lane sound left read low on before = record {
-  next = next_event a e sound left read;
-  first = set_lanes-first e.lanes (without_lane e.lanes lane) lane (without_first e.lanes lane low on before);
-}
+taken a e lane sound left read low on before = grind (arith, next_event, set_lanes-first, without_first, without_lane)
 
 -- the waiting events after the lanes of the first one changed
 pub later_event : (a : Inside) (e f : Event) (left : ℕ) → IsNext a e → f ≡ get_or a.waiting.items a.next f →
     drop a.next (set a.waiting.items a.next (record { row = f.row; reason = f.reason; lanes = left })) ≡ later e left ∷ drop (a.next + 1) a.waiting.items
-later_event a e f left is read =
-    let within : a.next < length a.waiting.items = omega (arith, is.within) in
-    let same : f ≡ e = get_or_read a.waiting.items a.next f within read e ∙ sym is.read in
-    drop-set a.waiting.items a.next (later f left) within ∙ ap (λ g. later g left ∷ drop (a.next + 1) a.waiting.items) same
+later_event a e f left is read = grind (arith, drop-set, get_or_read, later)
 
 -- the waiting entries begin with that of the first lane
 pub waiting_first : (a : Inside) (b : Board) (e : Event) (lane left : ℕ) → board_of a ≡ b → IsNext a e → set_lanes e.lanes ≡ lane ∷ set_lanes left →
     b.waiting ≡ as_entry (e.row * a.waiting_lanes + lane, e.reason) ∷ entries_of a.waiting_lanes (later e left ∷ drop (a.next + 1) a.waiting.items)
-waiting_first a b e lane left is next first =
-    sym (ap (λ (z : Board). z.waiting) is) ∙ (ap (entries_of a.waiting_lanes) next.split ∙ first_waiting a.waiting_lanes e (drop (a.next + 1) a.waiting.items) lane left first)
+waiting_first a b e lane left is next first = grind (arith, first_waiting)
 
 -- an order stays sound with other waiting events
 pub waits_sound : (a b : Inside) → IsSound a → b.rows ≡ a.rows → b.lanes ≡ a.lanes → b.count ≡ a.count → b.firsts.items ≡ a.firsts.items → b.events.items ≡ a.events.items →
     b.words.items ≡ a.words.items → b.stamps.items ≡ a.stamps.items → CanWait b.waiting_lanes (drop b.next b.waiting.items) → IsSized b → IsSound b
-waits_sound a b sound rows lanes count firsts events words stamps waits sized = record {
-  placed = rw (rows, lanes, events) sound.placed;
-  counted = rw (lanes, count, firsts, events) sound.counted;
-  waits = waits;
-  stamped = rw (lanes, events, stamps) sound.stamped;
-  alive = rw (lanes, events, words) sound.alive;
-  sized = sized;
-}
+waits_sound a b sound rows lanes count firsts events words stamps waits sized = grind arith

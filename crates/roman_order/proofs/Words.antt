@@ -1,5 +1,5 @@
 -- Flags, 64 to a word.
-use Rattle.std.proofs.Common.{◌≡◌, ◌≢◌, ℕ, zero, ◌+◌, ◌-◌, ◌*◌, ◌/◌, ◌%◌, ◌^◌, ◌<◌, ◌≤◌, false, List, ◌++◌, length, take, get_or, drop, replicate, ap, ap₂, sym, ◌∙◌, inl, inr, arith, ltb, subst}
+use Rattle.std.proofs.Common.{◌≡◌, ◌≢◌, ℕ, zero, ◌+◌, ◌-◌, ◌*◌, ◌/◌, ◌%◌, ◌^◌, ◌<◌, ◌≤◌, false, List, ◌++◌, length, take, get_or, drop, replicate, ap, sym, ◌∙◌, inl, inr, arith, ltb}
 use Rattle.std.proofs.Math.ListN.{set}
 use Rattle.std.proofs.lemmas.Bool.{cases_eq, cases_lt, lt-ltb, le-ltb}
 use Rattle.std.proofs.lemmas.List.{get_or-set_same, get_or-set_other, get_or_append_left, get_or-replicate, length-replicate, length-take-le, get_or-append_right, get_or-drop, get_or_past}
@@ -11,16 +11,11 @@ use Rattle.roman_lanes.proofs.CallerLemmas.{on_zero, on_ones, on_ones_above}
 
 -- past an overwritten front, the table is unchanged
 get_or-overwritten : {X : Type 0} (xs ys : List X) (n i : ℕ) (d : X) → length xs ≡ n → n ≤ i → get_or (xs ++ drop n ys) i d ≡ get_or ys i d
-get_or-overwritten xs ys n i d e h =
-    get_or-append_right xs (drop n ys) n i d e h ∙ (get_or-drop n ys (i - n) d ∙ (let same : n + (i - n) ≡ i = omega arith in ap (λ j. get_or ys j d) same))
+get_or-overwritten xs ys n i d e h = grind (arith, get_or-append_right, get_or-drop)
 
 -- a blank table reads as blank at each place, also past its end
 get_or-all_blank : {X : Type 0} (n i : ℕ) (d : X) → get_or (replicate n d) i d ≡ d
-get_or-all_blank n i d =
-    elim (cases_lt i n) [
-      | inl h ↦ get_or-replicate n i d d h
-      | inr h ↦ get_or_past (replicate n d) i d (subst (λ (m : ℕ). m ≤ i) (sym (length-replicate n d)) h)
-    ]
+get_or-all_blank n i d = grind (arith, cases_lt, get_or-replicate, get_or_past, length-replicate)
 
 -- ---- a word that is written
 
@@ -33,17 +28,11 @@ pub has_flag-others : (words : List ℕ) (i w p q : ℕ) → i < length words �
     ((k : ℕ) → k < 64 → k ≢ p % 64 → is_on w k ≡ is_on (get_or words i 0) k) → q ≢ p →
     has_flag (set words i w) q ≡ has_flag words q
 unfolding has_flag is_on
-has_flag-others words i w p q h e same ne = elim (cases_eq (q / 64) i) [
-  | inl f ↦ has_flag-written words i w q h f ∙ (same (q % 64) (omega arith) (λ s. ne (omega arith)) ∙ ap (λ j. is_on (get_or words j 0) (q % 64)) (sym f))
-  | inr n ↦ ap (λ v. is_on v (q % 64)) (get_or-set_other words i (q / 64) w 0 n)
-]
+has_flag-others words i w p q h e same ne = grind (arith, cases_eq, get_or-set_other, has_flag-written)
 
 pub has_flag-at : (words : List ℕ) (i t : ℕ) → t < 64 → has_flag words (i * 64 + t) ≡ is_on (get_or words i 0) t
 unfolding has_flag is_on
-has_flag-at words i t within =
-    let place : (i * 64 + t) / 64 ≡ i = omega arith in
-    let bit : (i * 64 + t) % 64 ≡ t = omega arith in
-    ap₂ (λ j k. is_on (get_or words j 0) k) place bit
+has_flag-at words i t within = grind arith
 
 -- ---- words without a bit have no flag
 
@@ -77,13 +66,10 @@ front_table whole n = replicate whole (2 ^ 64 - 1) ++ drop whole (replicate n ze
 
 pub front_filled : (whole n : ℕ) (zeros full : List ℕ) → whole ≤ n → zeros ≡ replicate n zero →
     full ≡ replicate (length (take whole zeros)) (2 ^ 64 - 1) → full ++ drop whole zeros ≡ front_table whole n
-front_filled whole n zeros full h z f =
-    let cut : length (take whole (replicate n zero)) ≡ whole = length-take-le whole (replicate n zero) (omega (arith, length-replicate n zero)) in
-    ap₂ (λ xs ys. xs ++ drop whole ys) (f ∙ ap (λ ys. replicate (length (take whole ys)) (2 ^ 64 - 1)) z ∙ ap (λ m. replicate m (2 ^ 64 - 1)) cut) z
+front_filled whole n zeros full h z f = grind (arith, length-replicate, length-take-le)
 
 pub front_full : (whole n i : ℕ) → i < whole → get_or (front_table whole n) i 0 ≡ 2 ^ 64 - 1
-front_full whole n i h =
-    get_or_append_left (replicate whole (2 ^ 64 - 1)) (drop whole (replicate n zero)) 0 i (omega (arith, length-replicate whole (2 ^ 64 - 1))) ∙ get_or-replicate whole i (2 ^ 64 - 1) 0 h
+front_full whole n i h = grind (arith, get_or-replicate, get_or_append_left, length-replicate)
 
 pub front_rest : (whole n i : ℕ) → whole ≤ i → get_or (front_table whole n) i 0 ≡ 0
 front_rest whole n i h = get_or-overwritten (replicate whole (2 ^ 64 - 1)) (replicate n zero) whole i 0 (length-replicate whole (2 ^ 64 - 1)) h ∙ get_or-all_blank n i zero

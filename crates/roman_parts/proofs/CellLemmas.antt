@@ -36,23 +36,7 @@ has_set mask n m small = elim (cases_eq m n) [
 -- mask k after the bit of n is set
 pub marks_set : (masks : List ℕ) (k n : ℕ) → k < length masks → n < 64 → PutsIntoCell masks (set masks k (bit_or (get_or masks k 0) (1 * 2 ^ n % 2 ^ 64))) k n
 unfolding cell_has
-marks_set masks k n within small = record { has = has }
-  where
-    here : (m : ℕ) → has_state (get_or (set masks k (bit_or (get_or masks k 0) (1 * 2 ^ n % 2 ^ 64))) k 0) m ≡ (has_state (get_or masks k 0) m || m == n)
-    here m =
-        ap (λ mask. has_state mask m) (get_or-set_same masks k (bit_or (get_or masks k 0) (1 * 2 ^ n % 2 ^ 64)) 0 within)
-        ∙ has_set (get_or masks k 0) n m small
-
-    has : (j m : ℕ) → has_state (get_or (set masks k (bit_or (get_or masks k 0) (1 * 2 ^ n % 2 ^ 64))) j 0) m ≡ (has_state (get_or masks j 0) m || (j == k && m == n))
-    has j m = elim (cases_eq j k) [
-      | inl e ↦
-          subst (λ i. has_state (get_or (set masks k (bit_or (get_or masks k 0) (1 * 2 ^ n % 2 ^ 64))) i 0) m ≡ (has_state (get_or masks i 0) m || (i == k && m == n))) (sym e)
-          (here m ∙ ap (λ b. has_state (get_or masks k 0) m || (b && m == n)) (sym (eq-eqb k k refl)))
-      | inr ne ↦
-          ap (λ mask. has_state mask m) (get_or-set_other masks k j (bit_or (get_or masks k 0) (1 * 2 ^ n % 2 ^ 64)) 0 ne)
-          ∙ or_false (has_state (get_or masks j 0) m)
-          ∙ ap (λ b. has_state (get_or masks j 0) m || (b && m == n)) (sym (ne_eqb j k ne))
-    ]
+marks_set masks k n within small = grind (arith, cases_eq, eq-eqb, get_or-set_other, get_or-set_same, has_set, ne_eqb, or_false)
 
 pub ruleset marking = (marks_set)
 
@@ -61,10 +45,7 @@ pub ruleset marking = (marks_set)
 -- empty masks
 pub empty_has : (size j m : ℕ) → cell_has (replicate size 0) j m ≡ false
 unfolding cell_has
-empty_has size j m = ap (λ mask. has_state mask m) zero_at ∙ ap (λ b. b == 1) (bit_at-zero m)
-  where
-    zero_at : get_or {A = ℕ} (replicate size 0) j 0 ≡ 0
-    zero_at = elim (cases_lt j size) [ inl less ↦ get_or-replicate size j 0 0 less | inr past ↦ get_or_past (replicate size 0) j 0 (omega (arith, length-replicate {A = ℕ})) ]
+empty_has size j m = grind (arith, bit_at-zero, cases_lt, get_or-replicate, get_or_past, length-replicate)
 
 -- two places in a table are equal where their rows and columns are equal
 same_place : (e a e1 a1 w : ℕ) → a < w → a1 < w → (e * w + a == e1 * w + a1) ≡ (e == e1 && a == a1)
@@ -79,12 +60,7 @@ same_eqb a b = same_test (a == b) (b == a) (λ t. eq-eqb b a (sym (eqb-true a b 
 -- the cells after n is added to one of them, where the test grows accordingly
 has_cells_more : (actions : ℕ) (test more : ℕ → ℕ → ℕ → Bool) (old new : List ℕ) (e a n : ℕ) → a < actions → HasCells actions test old → PutsIntoCell old new (e * actions + a) n →
     ((e1 a1 n1 : ℕ) → more e1 a1 n1 ≡ (test e1 a1 n1 || ((e1 == e && a1 == a) && n1 == n))) → HasCells actions more new
-has_cells_more actions test more old new e a n within cells marks grows = record {
-  has = λ e1 a1 n1 less.
-      marks.has (e1 * actions + a1) n1
-      ∙ ap₂ (λ p q. p || (q && n1 == n)) (cells.has e1 a1 n1 less) (same_place e1 a1 e a actions less within)
-      ∙ sym (grows e1 a1 n1);
-}
+has_cells_more actions test more old new e a n within cells marks grows = grind (arith, same_place)
 
 pub leads_none : (actions size : ℕ) → HasCells actions (leads []) (replicate size 0)
 unfolding leads
@@ -112,10 +88,7 @@ leads-more steps i e a n less = list_any_more (λ x. is_triple x e a n) steps i 
 
 pub leads_more : (actions : ℕ) (steps : List (ℕ × ℕ × ℕ)) (i : ℕ) (old new : List ℕ) → i < length steps → HasCells actions (leads (take i steps)) old →
     let t = get_or steps i (0, 0, 0) in t.1 < actions → PutsIntoCell old new (t.0 * actions + t.1) t.2 → HasCells actions (leads (take (i + 1) steps)) new
-leads_more actions steps i old new less cells within marks =
-    let t : ℕ × ℕ × ℕ = get_or steps i (0, 0, 0) in
-    has_cells_more actions (leads (take i steps)) (leads (take (i + 1) steps)) old new t.0 t.1 t.2 within cells marks
-    (λ e a n. leads-more steps i e a n less ∙ ap (λ b. leads (take i steps) e a n || b) (is_triple-turned t e a n))
+leads_more actions steps i old new less cells within marks = grind (arith, has_cells_more, is_triple-turned, leads-more)
 
 pub leads_back_none : (actions size : ℕ) → HasCells actions (leads_back []) (replicate size 0)
 unfolding leads leads_back
@@ -124,18 +97,13 @@ leads_back_none actions size = record { has = λ e a n less. empty_has size (e *
 pub leads_back_more : (actions : ℕ) (steps : List (ℕ × ℕ × ℕ)) (i : ℕ) (old new : List ℕ) → i < length steps → HasCells actions (leads_back (take i steps)) old →
     let t = get_or steps i (0, 0, 0) in t.1 < actions → PutsIntoCell old new (t.2 * actions + t.1) t.0 → HasCells actions (leads_back (take (i + 1) steps)) new
 unfolding leads_back
-leads_back_more actions steps i old new less cells within marks =
-    let t : ℕ × ℕ × ℕ = get_or steps i (0, 0, 0) in
-    has_cells_more actions (leads_back (take i steps)) (leads_back (take (i + 1) steps)) old new t.2 t.1 t.0 within cells marks
-    (λ e' a e. leads-more steps i e a e' less
-    ∙ ap (λ b. leads (take i steps) e a e' || b) (is_triple-turned t e a e' ∙ and_turned (e == t.0) (a == t.1) (e' == t.2)))
+leads_back_more actions steps i old new less cells within marks = grind (arith, and_turned, has_cells_more, is_triple-turned, leads-more)
 
 -- The table of a behaviour.
 
 same_place3 : (b e a b1 e1 a1 env_states actions : ℕ) → e < env_states → e1 < env_states → a < actions → a1 < actions →
     ((b * env_states + e) * actions + a == (b1 * env_states + e1) * actions + a1) ≡ ((b == b1 && e == e1) && a == a1)
-same_place3 b e a b1 e1 a1 env_states actions he he1 ha ha1 =
-    same_place (b * env_states + e) a (b1 * env_states + e1) a1 actions ha ha1 ∙ ap (λ p. p && a == a1) (same_place b e b1 e1 env_states he he1)
+same_place3 b e a b1 e1 a1 env_states actions he he1 ha ha1 = grind (arith, same_place)
 
 -- the step was added to the cells of the environment states below the bound
 pub record MarksBelow (env_states actions bound : ℕ) (old new : List ℕ) (move : ℕ × ℕ × ℕ × ℕ) : Type 0 where
@@ -143,11 +111,7 @@ pub record MarksBelow (env_states actions bound : ℕ) (old new : List ℕ) (mov
       cell_has new ((b * env_states + e) * actions + a) n ≡ (cell_has old ((b * env_states + e) * actions + a) n || (is_move move b e a n && nat_lt e bound))
 
 below_next : (e bound : ℕ) → nat_lt e (bound + 1) ≡ (nat_lt e bound || e == bound)
-below_next e bound = elim (cases_order e bound) [
-  | inl same ↦ lt-ltb e (bound + 1) (omega arith) ∙ or_true (nat_lt e bound) ∙ ap (λ p. nat_lt e bound || p) (sym (eq-eqb e bound same))
-  | inr (inl less) ↦ lt-ltb e (bound + 1) (omega arith) ∙ ap (λ p. p || e == bound) (sym (lt-ltb e bound less))
-  | inr (inr more) ↦ le-ltb e (bound + 1) (omega arith) ∙ sym (ne_eqb e bound (λ same. omega arith)) ∙ ap (λ p. p || e == bound) (sym (le-ltb e bound (omega arith)))
-]
+below_next e bound = grind (arith, cases_order, eq-eqb, le-ltb, lt-ltb, ne_eqb, or_true)
 
 one_more : (p q r s t u v : Bool) → (v ≡ true → s ≡ true) →
     ((p || ((((q && r) && s) && t) && u)) || (((q && v) && r) && t)) ≡ (p || ((((q && r) && s) && t) && (u || v)))
@@ -191,25 +155,10 @@ one_less true true true false u false h = refl
 pub marks_same : (env_states actions bound : ℕ) (old new : List ℕ) (move : ℕ × ℕ × ℕ × ℕ) → has_state move.1 bound ≡ false →
     MarksBelow env_states actions bound old new move → MarksBelow env_states actions (bound + 1) old new move
 unfolding is_move
-marks_same env_states actions bound old new move lacks below = record {
-  has = λ b e a n he ha.
-      let place : ℕ = (b * env_states + e) * actions + a in
-      below.has b e a n he ha
-      ∙ ap (λ p. cell_has old place n || p)
-      (one_less (move.0 == b) (move.2 == a) (has_state move.1 e) (move.3 == n) (nat_lt e bound) (e == bound)
-      (λ t. subst (λ i. has_state move.1 i ≡ false) (sym (eqb-true e bound t)) lacks)
-      ∙ ap (λ p. is_move move b e a n && p) (sym (below_next e bound)));
-}
+marks_same env_states actions bound old new move lacks below = grind (arith, below_next, eqb-true, one_less)
 
 pub marks_all : (env_states actions : ℕ) (old new : List ℕ) (move : ℕ × ℕ × ℕ × ℕ) → MarksBelow env_states actions env_states old new move → MarksMove env_states actions old new move
-marks_all env_states actions old new move below = record {
-  has = λ b e a n he ha. below.has b e a n he ha
-      ∙ ap (λ p. cell_has old ((b * env_states + e) * actions + a) n || p) (ap (λ p. is_move move b e a n && p) (lt-ltb e env_states he) ∙ and_true (is_move move b e a n));
-}
-  where
-    and_true : (x : Bool) → (x && true) ≡ x
-    and_true true = refl
-    and_true false = refl
+marks_all env_states actions old new move below = grind (arith, lt-ltb)
 
 -- the cells after one more step
 goes-more : (steps : List (ℕ × ℕ × ℕ × ℕ)) (i : ℕ) (m : ℕ × ℕ × ℕ × ℕ) (b e a n : ℕ) → i < length steps → m ≡ get_or steps i m →
@@ -225,12 +174,7 @@ goes_none env_states actions size = record { has = λ b e a n he ha. empty_has s
 pub goes_more : (env_states actions : ℕ) (steps : List (ℕ × ℕ × ℕ × ℕ)) (i : ℕ) (m : ℕ × ℕ × ℕ × ℕ) (old new : List ℕ) → i < length steps → m ≡ get_or steps i m →
     HasGuardedCells env_states actions (goes (take i steps)) old → MarksMove env_states actions old new m →
     HasGuardedCells env_states actions (goes (take (i + 1) steps)) new
-goes_more env_states actions steps i m old new less at cells marks = record {
-  has = λ b e a n he ha.
-      marks.has b e a n he ha
-      ∙ ap (λ p. p || is_move m b e a n) (cells.has b e a n he ha)
-      ∙ sym (goes-more steps i m b e a n less at);
-}
+goes_more env_states actions steps i m old new less at cells marks = grind (arith, goes-more)
 
 pub goes_back_none : (env_states actions size : ℕ) → HasGuardedCells env_states actions (goes_back []) (replicate size 0)
 unfolding goes goes_back
@@ -254,9 +198,4 @@ pub goes_back_more : (env_states actions : ℕ) (steps : List (ℕ × ℕ × ℕ
     HasGuardedCells env_states actions (goes_back (take i steps)) old → MarksMove env_states actions old new (m.3, m.1, m.2, m.0) →
     HasGuardedCells env_states actions (goes_back (take (i + 1) steps)) new
 unfolding goes_back
-goes_back_more env_states actions steps i m old new less at cells marks = record {
-  has = λ n e a b he ha.
-      marks.has n e a b he ha
-      ∙ ap₂ (λ p q. p || q) (cells.has n e a b he ha) (is_move-turned m b e a n)
-      ∙ sym (goes-more steps i m b e a n less at);
-}
+goes_back_more env_states actions steps i m old new less at cells marks = grind (arith, goes-more, is_move-turned)

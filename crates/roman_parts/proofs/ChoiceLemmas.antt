@@ -1,5 +1,5 @@
 -- Choices between steps, searched pair by pair.
-use Rattle.std.proofs.Common.{◌≡◌, ℕ, zero, suc, ◌+◌, ◌<◌, ◌≤◌, ◌==◌, ◌&&◌, not, List, [], ◌∷◌, length, get_or, take, map, filter, find, cond, Bool, true, false, Option, Some, None, is_some, option_map, refl, ap, ◌∙◌, arith, slice_get, below_more}
+use Rattle.std.proofs.Common.{◌≡◌, ℕ, zero, suc, ◌+◌, ◌<◌, ◌≤◌, ◌==◌, ◌&&◌, not, List, [], ◌∷◌, length, get_or, take, map, filter, find, cond, Bool, Option, Some, None, is_some, option_map, refl, ap, ◌∙◌, arith, slice_get, below_more}
 use Rattle.std.specs.List.{range_with_len}
 use Rattle.std.proofs.lemmas.Bool.{and_from, cond-true, eq-eqb, ne_eqb}
 use Rattle.std.proofs.lemmas.List.{get_or-map, get_or-take, length-map, length-take}
@@ -43,11 +43,7 @@ pub ruleset searching = (none_below_zero, none_below_more, first_below-found, fi
 
 find-filter : {X : Type 0} (p q : X → Bool) (xs : List X) → find q (filter p xs) ≡ find (λ x. p x && q x) xs
 find-filter p q [] = refl
-find-filter p q (x ∷ xs) = step (p x) (find-filter p q xs)
-  where
-    step : (b : Bool) → find q (filter p xs) ≡ find (λ y. p y && q y) xs → find q (cond b (x ∷ filter p xs) (filter p xs)) ≡ cond (b && q x) (Some x) (find (λ y. p y && q y) xs)
-    step true e = ap (λ r. cond (q x) (Some x) r) e
-    step false e = e
+find-filter p q (x ∷ xs) = grind (arith, (find-filter p q xs))
 
 find_same : (p q : ℕ → Bool) (a m : ℕ) → ((e : ℕ) → a ≤ e → e < a + m → p e ≡ q e) → find p (range_with_len a m) ≡ find q (range_with_len a m)
 find_same p q a zero same = refl
@@ -57,9 +53,7 @@ find_same p q a (suc m) same =
 -- the first state of one guard that is in the other is the least state of both
 common_first : (a b : ℕ) → find (has (states_of b)) (states_of a) ≡ least_below (has_both a b) 64
 unfolding states_below least_below
-common_first a b =
-    find-filter (has_state a) (has (states_of b)) (range_with_len 0 64)
-    ∙ find_same (λ e. has_state a e && has (states_of b) e) (has_both a b) 0 64 (λ e low high. ap (λ t. has_state a e && t) (has_states_of b e high))
+common_first a b = grind (arith, (find-filter (has_state a) (has (states_of b)) (range_with_len 0 64)), find_same, has_states_of)
 
 module _ (m n : ℕ × ℕ × ℕ × ℕ) where
   pub between_steps : m.0 ≡ n.0 → m.2 ≡ n.2 → (m.3 ≡ n.3 → ⊥) → choice_between (Some (move_of m)) (Some (move_of n)) ≡ least_below (has_both m.1 n.1) 64
@@ -86,15 +80,12 @@ pub ruleset pairs = (between_steps, other_from, other_action, same_to)
 -- ---- steps of a list
 
 move_at : (steps : List (ℕ × ℕ × ℕ × ℕ)) (k : ℕ) (d : ℕ × ℕ × ℕ × ℕ) → k < length steps → slice_get (map move_of steps) k ≡ Some (move_of (get_or steps k d))
-move_at steps k d h =
-    slice_get-get_or (map move_of steps) k (move_of d) (rw (length-map steps move_of) h) ∙ ap Some (get_or-map move_of steps k d (move_of d) h)
+move_at steps k d h = grind (arith, (get_or-map move_of steps k d (move_of d) h), (length-map steps move_of), (slice_get-get_or (map move_of steps) k (move_of d) (rw (length-map steps move_of) h)))
 
 pub choice_at-read : (steps : List (ℕ × ℕ × ℕ × ℕ)) (j i : ℕ) (m n : ℕ × ℕ × ℕ × ℕ) → j < length steps → i < length (take j steps) → m ≡ get_or steps j m
     → n ≡ get_or (take j steps) i n → choice_at (map move_of steps) j i ≡ choice_between (Some (move_of m)) (Some (move_of n))
 unfolding choice_at
-choice_at-read steps j i m n h less is has =
-    let under : i < j = omega (arith, length-take j steps) in
-    rw (move_at steps j m h, move_at steps i n (omega arith), ← is, ← get_or-take j steps i n under, ← has)
+choice_at-read steps j i m n h less is has = grind (arith, get_or-take, length-take, move_at)
 
 pub front_length : (steps : List (ℕ × ℕ × ℕ × ℕ)) (j : ℕ) → j < length steps → length (take j steps) ≡ j
 front_length steps j h = omega (arith, length-take j steps)

@@ -80,10 +80,7 @@ module _ (states : List (List ℕ)) (i : ℕ) where
 
 -- the only member of an object is nested less deeply
 pub sole-depth : (d : Data) (name : List ℕ) (e : Data) → Some (name, e) ≡ sole_of d → depth e < depth d
-sole-depth (object (member k d no_members)) name e h =
-    let same : ◌≡◌ {A = List ℕ × Data} (k, d) (name, e) = cc in
-    let less : depth d ≡ depth e = ap (λ (m : List ℕ × Data). depth m.1) same in
-    omega arith
+sole-depth (object (member k d no_members)) name e h = grind arith
 sole-depth _ name e h = cc
 
 item-depth : (items : List Value) (k : ℕ) (x : Value) → k < length items → depth (view (get_or items k x)) ≤ items_depth (items_view items)
@@ -98,11 +95,7 @@ list-depth list i _ ds h = cc
 -- each item of a list is nested less deeply
 pub listed-depth : (list : Place) (i : ℕ) (d : Data) (items : List Value) (k : ℕ) (x : Value) → looked list i (list_of d) ≡ Ok (items_view items)
     → k < length items → x ≡ get_or items k x → depth (view x) < depth d
-listed-depth list i d items k x h lt is =
-    let same : depth (view x) ≡ depth (view (get_or items k x)) = ap (λ v. depth (view v)) is in
-    let item : depth (view (get_or items k x)) ≤ items_depth (items_view items) = item-depth items k x lt in
-    let list : items_depth (items_view items) < depth d = list-depth list i d (items_view items) h in
-    omega arith
+listed-depth list i d items k x h lt is = grind (arith, item-depth, list-depth)
 
 -- ---- a list of guards
 

@@ -1,5 +1,5 @@
 -- The normal form has the same steps, and its numbers are in range.
-use Rattle.std.proofs.Common.{◌≡◌, ℕ, ◌<◌, ◌≤◌, IsTrue, List, [], ◌∷◌, refl, subst, inl, inr, MatchOption, slice_get}
+use Rattle.std.proofs.Common.{◌≡◌, ℕ, ◌<◌, ◌≤◌, IsTrue, List, [], ◌∷◌, refl, subst, inl, inr, MatchOption, slice_get, rules}
 use Rattle.roman_model.specs.Lists.{IsIn, HasNoRepeats, below}
 use Rattle.roman_model.specs.System.{Env, Beh, has_triple, has_move, IsEnv, IsBeh, IsDeterministic, is_final}
 use Rattle.roman_model.specs.SystemArena.{env_next, env_prev, beh_next, beh_prev}
@@ -15,9 +15,7 @@ pub from_normal_triple : (env : Env) (e a e' : ℕ) → IsTrue (has_triple (norm
 from_normal_triple env e a e' t = from_made_triple env.states env.actions env.start (has_triple env) e a e' t
 
 pub has_triple-normal : (env : Env) (e a e' : ℕ) → e < env.states → a < env.actions → e' < env.states → has_triple (normal_env env) e a e' ≡ has_triple env e a e'
-has_triple-normal env e a e' he ha he' = same_test (has_triple (normal_env env) e a e') (has_triple env e a e')
-    (λ t. (from_normal_triple env e a e' t).3)
-    (λ t. made_triple env.states env.actions env.start (has_triple env) e a e' he ha he' t)
+has_triple-normal env e a e' he ha he' = same_test _ _ (λ t. (from_normal_triple env e a e' t).3) (λ t. made_triple env.states env.actions env.start _ e a e' he ha he' t)
 
 pub env_next-normal : (env : Env) (e a : ℕ) → e < env.states → a < env.actions → env_next (normal_env env) e a ≡ env_next env e a
 env_next-normal env e a he ha = filter_same _ _ (below env.states) (λ e' i. has_triple-normal env e a e' he ha (from_below env.states e' i))
@@ -36,19 +34,17 @@ from_normal_move env_states actions beh b e a b' t = from_made_move env_states a
 
 pub has_move-normal : (env_states actions : ℕ) (beh : Beh) (b e a b' : ℕ) → b < beh.states → e < env_states → a < actions → b' < beh.states →
     has_move (normal_beh env_states actions beh) b e a b' ≡ has_move beh b e a b'
-has_move-normal env_states actions beh b e a b' hb he ha hb' = same_test (has_move (normal_beh env_states actions beh) b e a b') (has_move beh b e a b')
-    (λ t. (from_normal_move env_states actions beh b e a b' t).4)
+has_move-normal env_states actions beh b e a b' hb he ha hb' =
+    same_test (has_move (normal_beh env_states actions beh) b e a b') (has_move beh b e a b') (λ t. (from_normal_move env_states actions beh b e a b' t).4)
     (λ t. made_move env_states actions beh.states beh.start (is_final beh) (has_move beh) b e a b' hb he ha hb' t)
 
 pub beh_next-normal : (env_states actions : ℕ) (beh : Beh) (b e a : ℕ) → b < beh.states → e < env_states → a < actions →
     beh_next (normal_beh env_states actions beh) b e a ≡ beh_next beh b e a
-beh_next-normal env_states actions beh b e a hb he ha =
-    filter_same _ _ (below beh.states) (λ b' i. has_move-normal env_states actions beh b e a b' hb he ha (from_below beh.states b' i))
+beh_next-normal env_states actions beh b e a hb he ha = search (rules, filter_same, from_below, has_move-normal)
 
 pub beh_prev-normal : (env_states actions : ℕ) (beh : Beh) (b' e a : ℕ) → b' < beh.states → e < env_states → a < actions →
     beh_prev (normal_beh env_states actions beh) b' e a ≡ beh_prev beh b' e a
-beh_prev-normal env_states actions beh b' e a hb' he ha =
-    filter_same _ _ (below beh.states) (λ b i. has_move-normal env_states actions beh b e a b' (from_below beh.states b i) he ha hb')
+beh_prev-normal env_states actions beh b' e a hb' he ha = search (rules, filter_same, from_below, has_move-normal)
 
 -- the numbers of the normal form of a behaviour are in range, whatever its steps
 pub IsBeh-normal : (env : Env) (beh : Beh) → (0 < beh.states) × (beh.states ≤ MAX_STATES) → beh.start < beh.states → IsBeh env (normal_beh env.states env.actions beh)
@@ -60,8 +56,8 @@ is_final-normal env_states actions beh b hb = same_test (is_final (normal_beh en
     (λ t. made_final env_states actions beh.states beh.start (is_final beh) (has_move beh) b hb t)
 
 pub IsOver-normal : (env_states actions : ℕ) (beh : Beh) → (0 < beh.states) × (beh.states ≤ MAX_STATES) → beh.start < beh.states → IsOver env_states actions (normal_beh env_states actions beh)
-IsOver-normal env_states actions beh states start = λ env hs ha.
-    subst (λ n. IsBeh env (normal_beh n actions beh)) hs (subst (λ n. IsBeh env (normal_beh env.states n beh)) ha (IsBeh-normal env beh states start))
+IsOver-normal env_states actions beh states start =
+    λ env hs ha. subst (λ n. IsBeh env (normal_beh n actions beh)) hs (subst (λ n. IsBeh env (normal_beh env.states n beh)) ha (IsBeh-normal _ _ states start))
 
 -- the bounds on the numbers of a behaviour in range
 pub IsOver-states : (env_states actions : ℕ) (beh : Beh) → IsOver env_states actions beh → (0 < beh.states) × (beh.states ≤ MAX_STATES)

@@ -13,8 +13,6 @@ use Rattle.roman_model.specs.Normal.{normal_env}
 use Rattle.roman_model.specs.System.{Beh, Triple, Move, IsEnv}
 use Rattle.roman_model.specs.declared.limits.TheConstants.{MAX_STATES, MAX_ACTIONS}
 use Rattle.roman_read.specs.Items.{each_item}
-use Rattle.roman_read.specs.Json.{member_of, text_of}
-use Rattle.roman_read.specs.Names.{place_of}
 use Rattle.roman_read.specs.declared.rules.Kind.{Kind}
 use Rattle.roman_read.specs.declared.rules.Kind.TheVariants as kind
 use Rattle.roman_model.proofs.CallerLemmas.{any_from}
@@ -23,7 +21,7 @@ use Rattle.roman_parts.specs.Choices.{choice_of, refuse_choice, single_of}
 use Rattle.roman_parts.specs.Lists.{name_in, name_step, names_of, place_in, start_of, finals_of}
 use Rattle.roman_parts.specs.Named.{NamedEnv, NamedBeh, NamedTarget, IsBehaviour, IsTarget}
 use Rattle.roman_parts.specs.Parts.{environment_of, name_of, behaviour_of, target_of}
-use Rattle.roman_parts.specs.Reading.{looked, found, check, items_at, counted_items}
+use Rattle.roman_parts.specs.Reading.{found, check, items_at, counted_items}
 use Rattle.roman_parts.specs.Steps.{triples_of, moves_of}
 use Rattle.roman_parts.specs.declared.error.List.{List as Place}
 use Rattle.roman_parts.specs.declared.error.List.TheVariants as list
@@ -54,18 +52,11 @@ pub record AreCounted (list : Place) (member : List ℕ) (least most : ℕ) (d :
 
 pub counted_are : (list : Place) (member : List ℕ) (least most : ℕ) (d : Data) (items : Items) → counted_items list member least most d ≡ Ok items → AreCounted list member least most d items
 unfolding counted_items
-counted_are list member least most d items h =
-    let (all, e, h1) = bind_ok (items_at list member d) _ items h in
-    let (within, same) = check_is (nat_le least (items_len all) && nat_le (items_len all) most) kind.Count list 0 all items h1 in
-    let (some, few) = and_parts (nat_le least (items_len all)) (nat_le (items_len all) most) within in
-    subst (AreCounted list member least most d) same (record { are = e; some = leb-true least (items_len all) some; few = leb-true (items_len all) most few })
+counted_are list member least most d items h = grind (arith, and_parts, bind_ok, check_is)
 
 name_grows : (list : Place) (i : ℕ) (names : List (List ℕ)) (d : Data) (out : List (List ℕ)) → name_step list i names d ≡ Ok out → length out ≡ length names + 1
 unfolding name_step
-name_grows list i names d out h =
-    let (name, e, h2) = bind_ok (name_in list i d) _ out h in
-    let (new, same) = check_is (is_none (place_of names name)) kind.Repeated list i (names ++ name ∷ []) out h2 in
-    sym (ap length same) ∙ length-append names (name ∷ [])
+name_grows list i names d out h = grind (arith, bind_ok, check_is, length-append)
 
 names_grow : (list : Place) (i : ℕ) (names : List (List ℕ)) (items : Items) (out : List (List ℕ)) → each_item (name_step list) i names items ≡ Ok out → length out ≡ length names + items_len items
 unfolding each_item
@@ -86,15 +77,11 @@ names_counted list member most d names h =
 
 pub place_below : (names : List (List ℕ)) (list : Place) (i : ℕ) (d : Data) (k : ℕ) → place_in names list i d ≡ Ok k → k < length names
 unfolding place_in
-place_below names list i d k h =
-    let (text, e, h1) = bind_ok (looked list i (text_of d)) _ k h in
-    (position-Some (bytes_eq text) names k [] (found_is kind.Unknown list i (place_of names text) k h1)).0
+place_below names list i d k h = grind (arith, bind_ok, found_is, position-Some)
 
 pub start_below : (states : List (List ℕ)) (d : Data) (k : ℕ) → start_of states d ≡ Ok k → k < length states
 unfolding start_of
-start_below states d k h =
-    let (member, e, h1) = bind_ok (looked list.Start 0 (member_of d (codes "start"))) _ k h in
-    place_below states list.Start 0 member k h1
+start_below states d k h = grind (arith, bind_ok, place_below)
 
 -- Parts
 
@@ -147,11 +134,7 @@ behaviour_known env d b h =
 
 choice_free : (env_states : List (List ℕ)) (moves steps : List Move) → single_of env_states moves ≡ Ok steps → (choice_of moves ≡ None) × (moves ≡ steps)
 unfolding single_of
-choice_free env_states moves steps h = by (choice_of moves) refl h
-  where
-    by : (o : Option (ℕ × (ℕ × ℕ))) → choice_of moves ≡ o → refuse_choice env_states moves o ≡ Ok steps → (choice_of moves ≡ None) × (moves ≡ steps)
-    by None e g = (e, same_ok moves steps g)
-    by (Some (j, (i, x))) e g = absurd (let f : ⊥ = cc in f)
+choice_free env_states moves steps h = grind (arith, same_ok)
 
 pub target_known : (env : NamedEnv) (d : Data) (t : NamedTarget) → target_of env d ≡ Ok t → IsTarget env t
 unfolding target_of

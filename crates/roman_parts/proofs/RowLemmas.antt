@@ -1,5 +1,5 @@
 -- Pieces between bounds: their number, their places, and the effect of one more bound.
-use Rattle.std.proofs.Common.{◌≡◌, ℕ, zero, suc, ◌+◌, ◌<◌, ◌≤◌, List, [], ◌∷◌, ◌++◌, length, get_or, drop, Some, slice_get, slice_range, refl, sym, ap, ap₂, ◌∙◌, inl, inr, arith, add-one, length-append}
+use Rattle.std.proofs.Common.{◌≡◌, ℕ, zero, suc, ◌+◌, ◌<◌, ◌≤◌, List, [], ◌∷◌, ◌++◌, length, get_or, Some, slice_get, slice_range, refl, sym, ap₂, arith, add-one, length-append}
 use Rattle.std.proofs.lemmas.List.{take-append-le, drop_at, take_all, get_or_append_left, get_or_push, length_push}
 use Rattle.std.proofs.lemmas.Slice.{between_is}
 use Rattle.std.proofs.lemmas.Bool.{cases_eq}
@@ -8,9 +8,7 @@ use Rattle.roman_parts.specs.Rows.{pieces, IsCut}
 pub length-pieces : (bounds items : List ℕ) → 0 < length bounds → length (pieces bounds items) + 1 ≡ length bounds
 length-pieces [] items some = omega arith
 length-pieces (b ∷ []) items some = refl
-length-pieces (b ∷ c ∷ bounds) items some =
-    let rest : length (pieces (c ∷ bounds) items) + 1 ≡ length {A = ℕ} (c ∷ bounds) = length-pieces (c ∷ bounds) items (omega arith) in
-    omega arith
+length-pieces (b ∷ c ∷ bounds) items some = grind (arith, (length-pieces (c ∷ bounds) items (omega arith)))
 
 piece_at : (bounds items : List ℕ) (k : ℕ) → suc k < length bounds →
     slice_get (pieces bounds items) k ≡ Some (slice_range items (get_or bounds k 0) (get_or bounds (suc k) 0))
@@ -28,18 +26,14 @@ pub ruleset row_steps = (length-pieces, slice_get-pieces)
 
 -- a piece within the items stays the same where more items follow
 slice_range-append : (items more : List ℕ) (from to : ℕ) → to ≤ length items → slice_range (items ++ more) from to ≡ slice_range items from to
-slice_range-append items more from to within =
-    between_is (items ++ more) from to ∙ ap (drop from) (take-append-le to items more within) ∙ sym (between_is items from to)
+slice_range-append items more from to within = grind (arith, between_is, take-append-le)
 
 -- one more bound after the new items adds them as a piece
 pieces-push : (bounds items more : List ℕ) (n : ℕ) → 0 < length bounds → ((k : ℕ) → k < length bounds → get_or bounds k 0 ≤ length items) →
     ((k : ℕ) → k + 1 ≡ length bounds → get_or bounds k 0 ≡ length items) → n ≡ length items + length more →
     pieces (bounds ++ n ∷ []) (items ++ more) ≡ pieces bounds items ++ more ∷ []
 pieces-push [] items more n some within last end = let none : ⊥ = omega arith in absurd none
-pieces-push (b ∷ []) items more n some within last end =
-    ap (λ xs. xs ∷ [])
-    (between_is (items ++ more) b n ∙ ap (drop b) (take_all n (items ++ more) (omega (arith, length-append items more)))
-    ∙ drop_at items more b (sym (last 0 refl)))
+pieces-push (b ∷ []) items more n some within last end = grind (arith, (between_is (items ++ more) b n), (drop_at items more b (sym (last 0 refl))), (take_all n (items ++ more) (omega (arith, length-append items more))), length-append)
 pieces-push (b ∷ c ∷ bounds) items more n some within last end =
     ap₂ (λ p ps. p ∷ ps) (slice_range-append items more b c (within 1 (omega arith)))
     (pieces-push (c ∷ bounds) items more n (omega arith) (λ k less. within (suc k) (omega arith)) (λ k e. last (suc k) (omega arith)) end)
@@ -53,29 +47,4 @@ pub record IsLaid (bounds items : List ℕ) (laid : List (List ℕ)) : Type 0 wh
 -- the rows with one more row
 pub laid_more : (bounds items more : List ℕ) (rows : List (List ℕ)) (n : ℕ) → IsLaid bounds items rows → n ≡ length (items ++ more) →
     IsLaid (bounds ++ n ∷ []) (items ++ more) (rows ++ more ∷ [])
-laid_more bounds items more rows n laid end = record {
-  cut = record { some = omega (arith, length_push bounds n); rising = rising; within = within };
-  last = λ k e. get_or_push bounds n 0 k (omega (arith, length_push bounds n)) ∙ end;
-  rows = pieces-push bounds items more n laid.cut.some laid.cut.within laid.last (omega (arith, length-append items more)) ∙ ap (λ ps. ps ++ more ∷ []) laid.rows;
-}
-  where
-    longer : length items ≤ length (items ++ more)
-    longer = omega (arith, length-append items more)
-
-    old : (k : ℕ) → k < length bounds → get_or (bounds ++ n ∷ []) k 0 ≡ get_or bounds k 0
-    old k less = get_or_append_left bounds (n ∷ []) 0 k less
-
-    new : (k : ℕ) → k ≡ length bounds → get_or (bounds ++ n ∷ []) k 0 ≡ n
-    new k e = get_or_push bounds n 0 k (sym e)
-
-    within : (k : ℕ) → k < length (bounds ++ n ∷ []) → get_or (bounds ++ n ∷ []) k 0 ≤ length (items ++ more)
-    within k less = elim (cases_eq k (length bounds)) [
-      | inl e ↦ omega (arith, new k e)
-      | inr ne ↦ let here : k < length bounds = omega (arith, length_push bounds n) in omega (arith, old k here, laid.cut.within k here, longer)
-    ]
-
-    rising : (k : ℕ) → k + 1 < length (bounds ++ n ∷ []) → get_or (bounds ++ n ∷ []) k 0 ≤ get_or (bounds ++ n ∷ []) (k + 1) 0
-    rising k less = elim (cases_eq (k + 1) (length bounds)) [
-      | inl e ↦ let here : k < length bounds = omega arith in omega (arith, old k here, new (k + 1) e, laid.cut.within k here, longer)
-      | inr ne ↦ let here : k + 1 < length bounds = omega (arith, length_push bounds n) in omega (arith, old k (omega arith), old (k + 1) here, laid.cut.rising k here)
-    ]
+laid_more bounds items more rows n laid end = grind (arith, cases_eq, get_or_append_left, get_or_push, length_push, pieces-push, length-append)

@@ -39,20 +39,15 @@ states_below-first p q first before at gone (suc n) others within = elim (cases_
 
 length-states_below : (p : ℕ → Bool) (bound : ℕ) → length (states_below p bound) ≤ bound
 length-states_below p zero = rw (states_below-zero p) (omega arith)
-length-states_below p (suc n) =
-    rw (states_below-suc p n, length-append (states_below p n) (cond (p n) (n ∷ []) []))
-    (let rest : length (states_below p n) ≤ n = length-states_below p n in
-    let one : length (cond (p n) (n ∷ []) []) ≤ 1 = cond_both (p n) (n ∷ []) [] (λ xs. length xs ≤ 1) (λ _. omega arith) (λ _. omega arith) in
-    omega arith)
+length-states_below p (suc n) = grind (arith, cond_both, states_below-suc, length-append, (length-states_below p n))
 
 -- the lowest state, followed by the states of the word without it
 pub states_of-next : (n : ℕ) → 0 < n → n < 2 ^ 64 →
     states_of n ≡ trailing_zeros w64 n ∷ states_of (bit_and n (bit_not w64 (1 * 2 ^ trailing_zeros w64 n % 2 ^ bits w64)))
 states_of-next n some fits =
     let (within, at, before) = bit_at-trailing_zeros w64 n some fits in
-    states_below-first (has_state n) (has_state (bit_and n (bit_not w64 (1 * 2 ^ trailing_zeros w64 n % 2 ^ bits w64)))) (trailing_zeros w64 n)
-    (λ i less. ap (λ b. b == 1) (before i less)) (ap (λ b. b == 1) at)
-    (ap (λ b. b == 1) (bit_at_clear_same w64 n (trailing_zeros w64 n) within)) 64
+    states_below-first _ _ _ (λ i less. ap (λ b. b == 1) (before i less)) (ap (λ b. b == 1) at)
+    (ap (λ b. b == 1) (bit_at_clear_same w64 n (trailing_zeros w64 n) within)) _
     (λ i less ne. ap (λ b. b == 1) (bit_at_clear_other w64 n (trailing_zeros w64 n) within i less ne)) within
 
 pub states_of-zero : states_of 0 ≡ []

@@ -1,5 +1,5 @@
 -- Steps without a choice go to at most one state, and a choice has a state of both guards.
-use Rattle.std.proofs.Common.{◌≡◌, ℕ, ◌<◌, ◌==◌, ◌&&◌, ◌^◌, not, List, length, get_or, map, cond, find, All, Bool, true, false, Option, Some, None, is_some, option_map, IsTrue, refl, sym, ap, ◌∙◌, arith, slice_get, inl, inr, subst}
+use Rattle.std.proofs.Common.{◌≡◌, ℕ, ◌<◌, ◌==◌, ◌&&◌, ◌^◌, not, List, length, get_or, map, All, true, Option, Some, None, is_some, option_map, IsTrue, refl, sym, ap, ◌∙◌, arith, slice_get, inl, inr}
 use Rattle.std.specs.Option.{option_and_then}
 use Rattle.std.proofs.lemmas.Bool.{and_from, cases_lt, cases_order, eq-eqb, eqb-true, true≢false}
 use Rattle.std.proofs.lemmas.List.{get_or-map, length-map}
@@ -20,20 +20,7 @@ use Rattle.roman_parts.proofs.NormalLemmas.{from_normal_move}
 -- where it finds a number, f has the value there
 found_at : {X : Type 0} (f : ℕ → Option X) (n k : ℕ) (x : X) → first_below f n ≡ Some (k, x) → (k < n) × (f k ≡ Some x)
 unfolding first_below
-found_at {X} f n k x h = by_place (find (λ j. is_some (f j)) (below n)) refl h
-  where
-    by_given : (j : ℕ) (o : Option X) → f j ≡ o → option_map {U = ℕ × X} (λ y. (j, y)) o ≡ Some (k, x) → (j ≡ k) × (f j ≡ Some x)
-    by_given j None e g = absurd (none-some (k, x) g)
-    by_given j (Some y) e g =
-        let same : ◌≡◌ {A = ℕ × X} (j, y) (k, x) = same_Some (j, y) (k, x) g in
-        (ap (λ (p : ℕ × X). p.0) same, e ∙ ap Some (ap (λ (p : ℕ × X). p.1) same))
-
-    by_place : (o : Option ℕ) → find (λ j. is_some (f j)) (below n) ≡ o → option_and_then (λ j. option_map {U = ℕ × X} (λ y. (j, y)) (f j)) o ≡ Some (k, x) → (k < n) × (f k ≡ Some x)
-    by_place None e g = absurd (none-some (k, x) g)
-    by_place (Some j) e g =
-        let (less, t, least) = find_least (λ i. is_some (f i)) n j e in
-        let (same, given) = by_given j (f j) refl g in
-        (subst (λ i. i < n) same less, subst (λ i. f i ≡ Some x) same given)
+found_at {X} f n k x h = grind (arith, find_least, none-some, same_Some)
 
 -- where it finds none, f has no value
 nothing_at : {X : Type 0} (f : ℕ → Option X) (n j : ℕ) → first_below f n ≡ None → j < n → f j ≡ None
@@ -56,14 +43,7 @@ nothing_at {X} f n j h less = by_given (f j) refl
 -- two steps from one state by one action to different states, with a state in both guards, form a choice
 no_choice : (m n : Move) (e : ℕ) → choice_between (Some m) (Some n) ≡ None → m.from ≡ n.from → m.action ≡ n.action → IsIn e m.guard → IsTrue (has n.guard e) → m.to ≡ n.to
 unfolding choice_between
-no_choice m n e none from action here there =
-    by_test (m.to == n.to) (λ t. eqb-true m.to n.to t)
-    (λ f.
-    let (x, found) = find_found (has n.guard) m.guard (any_from (has n.guard) e m.guard here there) in
-    let open' : IsTrue (m.from == n.from && m.action == n.action && not (m.to == n.to)) =
-    and_from (m.from == n.from && m.action == n.action) (not (m.to == n.to))
-    (and_from (m.from == n.from) (m.action == n.action) (eq-eqb m.from n.from from) (eq-eqb m.action n.action action)) (ap not f) in
-    absurd (none-some x (sym none ∙ ap (λ b. cond b (find (has n.guard) m.guard) None) open' ∙ found)))
+no_choice m n e none from action here there = grind (arith, (and_from (m.from == n.from && m.action == n.action) (not (m.to == n.to))), (and_from (m.from == n.from) (m.action == n.action) (eq-eqb m.from n.from from) (eq-eqb m.action n.action action)), (any_from (has n.guard) e m.guard here there), by_test, (eq-eqb m.from n.from from), (eq-eqb m.action n.action action), eqb-true, (find_found (has n.guard) m.guard (any_from (has n.guard) e m.guard here there)), none-some)
 
 module _ (steps : List Move) (none : choice_of steps ≡ None) where
   apart : (i j : ℕ) (m n : Move) → i < j → j < length steps → slice_get steps i ≡ Some m → slice_get steps j ≡ Some n → choice_between (Some n) (Some m) ≡ None
@@ -108,11 +88,7 @@ single_steps env_states actions states start finals steps none = single_moves en
 guard_has : (m : Move) (o : Option Move) (e : ℕ) → choice_between (Some m) o ≡ Some e → IsIn e m.guard
 unfolding choice_between
 guard_has m None e h = absurd (none-some e h)
-guard_has m (Some n) e h = by_open (m.from == n.from && m.action == n.action && not (m.to == n.to)) h
-  where
-    by_open : (b : Bool) → cond b (find (has n.guard) m.guard) None ≡ Some e → IsIn e m.guard
-    by_open true g = (find_some (has n.guard) m.guard e g).0
-    by_open false g = absurd (none-some e g)
+guard_has m (Some n) e h = grind (arith, find_some, none-some)
 
 state_below : (word n e : ℕ) → word < 2 ^ n → IsIn e (states_of word) → e < n
 state_below word n e fits i =

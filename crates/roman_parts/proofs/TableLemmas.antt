@@ -1,5 +1,5 @@
 -- Rows made from the masks of a list of steps hold the steps of the record in normal form.
-use Rattle.std.proofs.Common.{◌≡◌, ℕ, zero, suc, ◌+◌, ◌-◌, ◌*◌, ◌<◌, ◌≤◌, ◌==◌, ◌&&◌, Bool, false, IsTrue, List, [], ◌∷◌, ◌++◌, map, length, get_or, All, Some, slice_get, filter, refl, sym, ap, ◌∙◌, subst, arith}
+use Rattle.std.proofs.Common.{◌≡◌, ℕ, zero, suc, ◌+◌, ◌-◌, ◌*◌, ◌<◌, ◌≤◌, ◌==◌, Bool, false, IsTrue, List, [], ◌∷◌, ◌++◌, map, length, All, Some, slice_get, filter, refl, sym, ap, ◌∙◌, subst, arith}
 use Rattle.std.proofs.lemmas.Bool.{false_from_ne_true, and_parts, eqb-true, eq-eqb}
 use Rattle.std.proofs.lemmas.List.{get_or-map, length-map}
 use Rattle.std.proofs.lemmas.List.Elements.{filter-append, All-filter, All-contains, All-same}
@@ -14,7 +14,7 @@ use Rattle.roman_model.specs.declared.limits.TheConstants.{MAX_STATES, MAX_ACTIO
 use Rattle.roman_model.proofs.CallerLemmas.{same_test, any_true, any_from, any_same, in_contains, in_below, from_below, in_filter, filter_in, filter_same, list_any-map, length-below, get_or-below, flat_map_same_in}
 use Rattle.roman_guard.specs.Meaning.{has_state, states_below, states_of}
 use Rattle.roman_guard.proofs.CallerLemmas.{states_below-zero, states_below-suc, states_below-same, states_below-past}
-use Rattle.roman_parts.specs.Listed.{triple_of, listed_env, move_of, listed_beh, AreTriples, AreMoves}
+use Rattle.roman_parts.specs.Listed.{triple_of, listed_env, listed_beh, AreTriples, AreMoves}
 use Rattle.roman_parts.specs.Cells.{cell_has, is_triple, leads, leads_back, HasCells, is_move, goes, goes_back, HasGuardedCells}
 use Rattle.roman_parts.specs.Tables.{row_triples, HasRows, GuardedBeh, row_moves, HasGuardedRows}
 use Rattle.roman_parts.proofs.NormalLemmas.{env_next-normal, env_prev-normal, IsEnv-normal, beh_next-normal, beh_prev-normal, IsOver-normal, is_final-normal}
@@ -26,17 +26,14 @@ states_below-filter p (suc n) = states_below-suc p n ∙ ap (λ xs. xs ++ filter
 
 -- the states of a mask are the numbers below the bound that pass, where no number from there on passes
 mask_filter : (mask n : ℕ) (p : ℕ → Bool) → n ≤ 64 → ((i : ℕ) → has_state mask i ≡ p i) → ((i : ℕ) → n ≤ i → p i ≡ false) → states_of mask ≡ filter p (below n)
-mask_filter mask n p small same past =
-    let whole : 64 ≡ n + (64 - n) = omega arith in
-    states_below-same (has_state mask) p 64 (λ i less. same i) ∙ ap (states_below p) whole ∙ states_below-past p n (64 - n) past ∙ states_below-filter p n
+mask_filter mask n p small same past = grind (arith, (states_below-filter p n), (states_below-past p n (64 - n) past), states_below-same)
 
 -- the row of a cell
 row_of_cell : (masks : List ℕ) (k n : ℕ) (p : ℕ → Bool) → k < length masks → n ≤ 64 → ((i : ℕ) → cell_has masks k i ≡ p i) → ((i : ℕ) → n ≤ i → p i ≡ false) →
     slice_get (map states_of masks) k ≡ Some (filter p (below n))
 unfolding cell_has
 row_of_cell masks k n p within small same past =
-    slice_get-get_or (map states_of masks) k [] (omega (arith, length-map masks states_of))
-    ∙ ap Some (get_or-map states_of masks k 0 [] within ∙ mask_filter (get_or masks k 0) n p small same past)
+    slice_get-get_or _ k [] (omega (arith, length-map masks states_of)) ∙ ap Some (get_or-map states_of masks k 0 [] within ∙ mask_filter _ n p small same past)
 
 -- the steps of the list are the steps of the record
 leads_is : (states actions start : ℕ) (steps : List (ℕ × ℕ × ℕ)) (e a e' : ℕ) → leads steps e a e' ≡ has_triple (listed_env states actions start steps) e a e'
@@ -46,22 +43,14 @@ leads_is states actions start steps e a e' = sym (list_any-map triple_of _ steps
 -- a listed step is in range
 leads_in_range : (states actions : ℕ) (steps : List (ℕ × ℕ × ℕ)) (e a e' : ℕ) → AreTriples states actions steps → IsTrue (leads steps e a e') → (e < states) × (a < actions) × (e' < states)
 unfolding leads is_triple
-leads_in_range states actions steps e a e' range t =
-    let (x, i, passes) = any_true _ steps t in
-    let (front, to) = and_parts (x.0 == e && x.1 == a) (x.2 == e') passes in
-    let (from, action) = and_parts (x.0 == e) (x.1 == a) front in
-    let (l, m, n) = All-contains (λ y. (y.0 < states) × (y.1 < actions) × (y.2 < states)) steps x range (in_contains steps x i) in
-    (subst (λ k. k < states) (eqb-true x.0 e from) l, subst (λ k. k < actions) (eqb-true x.1 a action) m, subst (λ k. k < states) (eqb-true x.2 e' to) n)
+leads_in_range states actions steps e a e' range t = grind (arith, All-contains, and_parts, any_true, eqb-true, in_contains)
 
 -- rows with the next states have the triples of the normal form
 row_triples-normal : (env : Env) (rows : List (List ℕ)) →
     ((e a : ℕ) → e < env.states → a < env.actions → slice_get rows (e * env.actions + a) ≡ Some (env_next env e a)) →
     row_triples env.states env.actions rows ≡ (normal_env env).triples
 unfolding row_triples
-row_triples-normal env rows next =
-    flat_map_same_in _ _ (below env.states) (λ e ie. flat_map_same_in _ _ (below env.actions) (λ a ia.
-    ap (map (λ e'. record { from = e; action = a; to = e' }))
-    (get_or_from_slice_get rows (e * env.actions + a) (env_next env e a) [] (next e a (from_below env.states e ie) (from_below env.actions a ia)))))
+row_triples-normal env rows next = grind (arith, flat_map_same_in, from_below, get_or_from_slice_get)
 
 all_below_bound : (n : ℕ) → All (λ x. x < n) (below n)
 all_below_bound n = λ k d less. subst (λ x. x < n) (sym (get_or-below n k d (omega (arith, length-below n)))) (omega (arith, length-below n))
@@ -120,9 +109,7 @@ prev_below env to from e' a k xs rows he' ha place row =
 
 -- a number below the bound is in the filtered list exactly where it passes
 pub has_filter : (p : ℕ → Bool) (n i : ℕ) → i < n → has (filter p (below n)) i ≡ p i
-has_filter p n i less = same_test (has (filter p (below n)) i) (p i)
-    (λ t. let (k, ik, same) = any_true (λ m. m == i) (filter p (below n)) t in subst (λ m. IsTrue (p m)) (eqb-true k i same) (filter_in p k (below n) ik).1)
-    (λ t. any_from (λ m. m == i) i (filter p (below n)) (in_filter p i (below n) (in_below n i less) t) (eq-eqb i i refl))
+has_filter p n i less = grind (arith, any_from, any_true, (eq-eqb i i refl), eqb-true, filter_in, (in_below n i less), in_filter, (same_test (has (filter p (below n)) i) (p i)))
 
 has_states_below : (p : ℕ → Bool) (n i : ℕ) → i < n → has (states_below p n) i ≡ p i
 has_states_below p n i less = ap (λ xs. has xs i) (states_below-filter p n) ∙ has_filter p n i less
@@ -133,18 +120,11 @@ has_states_of mask i less = has_states_below (has_state mask) 64 i less
 -- the steps of the list are the steps of the record
 goes_is : (states start : ℕ) (finals : List ℕ) (steps : List (ℕ × ℕ × ℕ × ℕ)) (b e a b' : ℕ) → e < 64 → goes steps b e a b' ≡ has_move (listed_beh states start finals steps) b e a b'
 unfolding goes is_move
-goes_is states start finals steps b e a b' small =
-    any_same _ _ steps (λ m i. ap (λ p. m.0 == b && m.2 == a && p && m.3 == b') (sym (has_states_of m.1 e small))) ∙ sym (list_any-map move_of _ steps)
+goes_is states start finals steps b e a b' small = grind (arith, any_same, has_states_of, list_any-map)
 
 goes_in_range : (states actions : ℕ) (steps : List (ℕ × ℕ × ℕ × ℕ)) (b e a b' : ℕ) → AreMoves states actions steps → IsTrue (goes steps b e a b') → (b < states) × (a < actions) × (b' < states)
 unfolding goes is_move
-goes_in_range states actions steps b e a b' range t =
-    let (x, i, passes) = any_true _ steps t in
-    let (front, to) = and_parts (x.0 == b && x.2 == a && has_state x.1 e) (x.3 == b') passes in
-    let (ends, guard) = and_parts (x.0 == b && x.2 == a) (has_state x.1 e) front in
-    let (from, action) = and_parts (x.0 == b) (x.2 == a) ends in
-    let (l, m, n) = All-contains (λ y. (y.0 < states) × (y.2 < actions) × (y.3 < states)) steps x range (in_contains steps x i) in
-    (subst (λ k. k < states) (eqb-true x.0 b from) l, subst (λ k. k < actions) (eqb-true x.2 a action) m, subst (λ k. k < states) (eqb-true x.3 b' to) n)
+goes_in_range states actions steps b e a b' range t = grind (arith, All-contains, and_parts, any_true, eqb-true, in_contains)
 
 -- rows with the next states have the steps of the normal form
 row_moves-normal : (env_states actions : ℕ) (beh : Beh) (rows : List (List ℕ)) →
@@ -152,12 +132,9 @@ row_moves-normal : (env_states actions : ℕ) (beh : Beh) (rows : List (List ℕ
     row_moves beh.states env_states actions rows ≡ (normal_beh env_states actions beh).steps
 unfolding row_moves
 row_moves-normal env_states actions beh rows next =
-    flat_map_same_in _ _ (below beh.states) (λ b ib. flat_map_same_in _ _ (below actions) (λ a ia. flat_map_same_in _ _ (below beh.states) (λ b' ib'.
-    ap (guarded_step b a b') (filter_same _ _ (below env_states) (λ e ie.
-    ap (λ xs. has xs b')
-    (get_or_from_slice_get rows ((b * env_states + e) * actions + a) (beh_next beh b e a) []
-    (next b e a (from_below beh.states b ib) (from_below env_states e ie) (from_below actions a ia)))
-    ∙ has_filter (has_move beh b e a) beh.states b' (from_below beh.states b' ib'))))))
+    flat_map_same_in _ _ _ (λ b ib. flat_map_same_in _ _ _ (λ a ia. flat_map_same_in _ _ _ (λ b' ib'. ap (guarded_step b a b') (filter_same _ _ _ (λ e ie.
+    ap (λ xs. has xs b') (get_or_from_slice_get rows _ _ [] (next b e a (from_below beh.states b ib) (from_below env_states e ie) (from_below actions a ia)))
+    ∙ has_filter _ beh.states b' (from_below beh.states b' ib'))))))
 
 -- the rows have the steps of the normal form, with its final states, and give its look-ups
 pub record AreLaidMoves (states env_states actions start : ℕ) (finals : List ℕ) (steps : List (ℕ × ℕ × ℕ × ℕ)) (mask : ℕ) (to from : List ℕ) : Type 0 where

@@ -34,8 +34,7 @@ replaced_by n p k b in_range component state =
 
 pub replaced : (n : Sizes) (p k b part state stride : ℕ) → p < count n → k < length n.seats → b < slice_index n.seats k →
     part ≡ slice_index (pair_at n p).bs k → state ≡ b → stride ≡ stride_of n k → Replaced n p k b part state stride
-replaced n p k b part state stride in_range component within is_part is_state is_stride =
-    rw (is_part, is_state, is_stride) (replaced_by n p k b in_range component within)
+replaced n p k b part state stride in_range component within is_part is_state is_stride = grind (arith, (replaced_by n p k b in_range component within))
 
 -- the target, the environment and component k get other states
 pub record Moved (n : Sizes) (p t e k b row state env env_stride w : ℕ) : Type 0 where
@@ -57,8 +56,7 @@ moves_by n p t e k b in_range target env component state =
 
 pub moves_to : (n : Sizes) (p t e k b row state env env_stride w : ℕ) → p < count n → t < n.target → e < n.env → k < length n.seats → b < slice_index n.seats k →
     row ≡ t → state ≡ e → env ≡ n.env → env_stride ≡ product_of n.seats → w ≡ number n (with_part (pair_at n p) k b) → Moved n p t e k b row state env env_stride w
-moves_to n p t e k b row state env env_stride w in_range target within component below is_row is_state is_env is_stride is =
-    rw (is_row, is_state, is_env, is_stride, is) (moves_by n p t e k b in_range target within component below)
+moves_to n p t e k b row state env env_stride w in_range target within component below is_row is_state is_env is_stride is = grind (arith, moves_by)
 
 -- a component is added at the end
 pub record Grown (n : Sizes) (p size b factor state : ℕ) : Type 0 where
@@ -100,17 +98,11 @@ front_and_states n t e row state target_stride env_stride bs is_row is_state is_
 -- the number so far with one more state
 pub states_more : (sizes bs : List ℕ) (k b stride number whole : ℕ) → k < length sizes → k < length bs → b ≡ slice_index bs k → stride ≡ product_of (drop (k + 1) sizes) →
     number + states_number (drop k sizes) (drop k bs) ≡ whole → number + b * stride + states_number (drop (k + 1) sizes) (drop (k + 1) bs) ≡ whole
-states_more sizes bs k b stride number whole size state is is_stride so_far =
-    let next : states_number (drop k sizes) (drop k bs) ≡ slice_index bs k * product_of (drop (k + 1) sizes) + states_number (drop (k + 1) sizes) (drop (k + 1) bs) =
-    rw (drop_more sizes k 0 size, drop_more bs k 0 state) refl in
-    let here : b * stride ≡ slice_index bs k * product_of (drop (k + 1) sizes) = rw (is, is_stride) refl in
-    omega arith
+states_more sizes bs k b stride number whole size state is is_stride so_far = grind (arith, (drop_more sizes k 0 size), (drop_more bs k 0 state))
 
 -- where no state is left, the number so far is the whole number
 pub states_end : (sizes bs : List ℕ) (k number whole : ℕ) → length sizes ≤ k → number + states_number (drop k sizes) (drop k bs) ≡ whole → number ≡ whole
-states_end sizes bs k number whole past so_far =
-    let none : states_number (drop k sizes) (drop k bs) ≡ 0 = ap (λ ns. states_number ns (drop k bs)) (drop_all k sizes past) in
-    omega arith
+states_end sizes bs k number whole past so_far = grind (arith, drop_all)
 
 -- one more digit of a number, from the last one on
 pub record DigitTaken (n : Sizes) (parts : List ℕ) (p j whole state : ℕ) : Type 0 where

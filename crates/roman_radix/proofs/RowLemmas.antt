@@ -1,5 +1,5 @@
 -- Rows and lanes.
-use Rattle.std.proofs.Common.{◌≡◌, ℕ, zero, suc, ◌+◌, ◌*◌, ◌/◌, ◌%◌, ◌<◌, ◌≤◌, cond, List, [], ◌∷◌, length, take, drop, inl, inr, slice_index, sym, ap, ◌∙◌, subst, arith}
+use Rattle.std.proofs.Common.{◌≡◌, ℕ, zero, suc, ◌+◌, ◌*◌, ◌/◌, ◌%◌, ◌<◌, ◌≤◌, cond, List, [], ◌∷◌, length, take, drop, slice_index, sym, ap, ◌∙◌, arith}
 use native.Mathlib.Nat.{div-div-eq-div-mul}
 use Rattle.std.proofs.lemmas.List.{get_or-take, length-take-le}
 use Rattle.std.proofs.lemmas.Nat.{div-mul-add, div-add-mod', mul-le}
@@ -12,17 +12,11 @@ use Rattle.roman_radix.proofs.Strides.{product_positive, product_drop-le, AreSiz
 
 pub low_of-le : (ns : List ℕ) → low_of ns ≤ length ns
 low_of-le [] = omega arith
-low_of-le (n ∷ ns) = elim (cases_lt 64 (product_of (n ∷ ns))) [
-  | inl more ↦ let rest : low_of ns ≤ length ns = low_of-le ns in subst (λ b. cond b (suc (low_of ns)) 0 ≤ suc (length ns)) (sym (lt-ltb 64 (product_of (n ∷ ns)) more)) (omega arith)
-  | inr few ↦ subst (λ b. cond b (suc (low_of ns)) 0 ≤ suc (length ns)) (sym (le-ltb 64 (product_of (n ∷ ns)) few)) (omega arith)
-]
+low_of-le (n ∷ ns) = grind (arith, cases_lt, le-ltb, lt-ltb, (low_of-le ns))
 
 pub lanes_few : (ns : List ℕ) → lanes_of ns ≤ 64
 lanes_few [] = omega arith
-lanes_few (n ∷ ns) = elim (cases_lt 64 (product_of (n ∷ ns))) [
-  | inl more ↦ subst (λ b. product_of (drop (cond b (suc (low_of ns)) 0) (n ∷ ns)) ≤ 64) (sym (lt-ltb 64 (product_of (n ∷ ns)) more)) (lanes_few ns)
-  | inr few ↦ subst (λ b. product_of (drop (cond b (suc (low_of ns)) 0) (n ∷ ns)) ≤ 64) (sym (le-ltb 64 (product_of (n ∷ ns)) few)) few
-]
+lanes_few (n ∷ ns) = grind (arith, cases_lt, le-ltb, lt-ltb, (lanes_few ns))
 
 pub lanes_positive : (ns : List ℕ) → AreSizes ns → 0 < lanes_of ns
 lanes_positive ns h = product_positive (drop (low_of ns) ns) (AreSizes-drop (low_of ns) ns h)
@@ -62,9 +56,7 @@ tails_from (n ∷ ns) (suc i) (suc j) l = tails_from ns i j (omega arith)
 pub product_split : (ns : List ℕ) (j : ℕ) → product_of (take j ns) * product_of (drop j ns) ≡ product_of ns
 product_split ns zero = omega arith
 product_split [] (suc j) = omega arith
-product_split (n ∷ ns) (suc j) =
-    let rest : n * (product_of (take j ns) * product_of (drop j ns)) ≡ n * product_of ns = ap (λ x. n * x) (product_split ns j) in
-    omega arith
+product_split (n ∷ ns) (suc j) = grind (arith, (product_split ns j))
 
 -- the rows for a state of the environment, times the lanes, are the environment's stride
 pub env_rows_are : (n : Sizes) → env_rows_of n * lanes_of n.seats ≡ env_stride_of n
@@ -72,12 +64,7 @@ env_rows_are n = product_split n.seats (low_of n.seats)
 
 -- division by a factor leaves no remainder
 pub exact : (a m w : ℕ) → 0 < w → a ≡ m * w → a / w * w ≡ a
-exact a m w pos is = ap (λ x. x / w * w) is ∙ (ap (λ x. x * w) (omega_div m w pos) ∙ sym is)
-  where
-    omega_div : (m w : ℕ) → 0 < w → m * w / w ≡ m
-    omega_div m w pos =
-        let same : m * w ≡ m * w + 0 = omega arith in
-        ap (λ x. x / w) same ∙ div-mul-add m w 0 pos
+exact a m w pos is = grind (arith, div-mul-add)
 
 -- a pair divided by a number of rows is its row divided by that number
 pub row_div : (row w lane r : ℕ) → lane < w → (row * w + lane) / (r * w) ≡ row / r
@@ -95,21 +82,10 @@ row_mod row w lane r h =
 
 -- where a pair isn't before a row, neither is its own row
 pub row_least : (x y w lane : ℕ) → lane < w → x * w ≤ y * w + lane → x ≤ y
-row_least x y w lane h l = elim (cases_lt y x) [
-  | inl more ↦
-      let next : (y + 1) * w ≤ x * w = mul-le (y + 1) w x w (omega arith) (omega arith) in
-      let split : (y + 1) * w ≡ y * w + w = omega arith in
-      absurd (omega arith)
-  | inr fits ↦ fits
-]
+row_least x y w lane h l = grind (arith, cases_lt, mul-le)
 
 pub row_below : (row w lane rows : ℕ) → row * w + lane < rows * w → row < rows
-row_below row w lane rows l = elim (cases_lt row rows) [
-  | inl less ↦ less
-  | inr more ↦
-      let most : rows * w ≤ row * w = mul-le rows w row w more (omega arith) in
-      absurd (omega arith)
-]
+row_below row w lane rows l = grind (arith, cases_lt, mul-le)
 
 -- the number of pairs is a multiple of the lanes
 pub rows_are : (n : Sizes) → IsSizes n → count n / lanes_of n.seats * lanes_of n.seats ≡ count n
@@ -135,9 +111,7 @@ product_middle (n ∷ ns) (suc j) (suc k) l = product_middle ns j k (omega arith
 
 -- the number of pairs of the sizes before the lanes is the number of rows
 pub count_rows : (n : Sizes) → count (row_sizes n) * lanes_of n.seats ≡ count n
-count_rows n =
-    let whole : n.target * n.env * (product_of (take (low_of n.seats) n.seats) * lanes_of n.seats) ≡ count n = ap (λ m. n.target * n.env * m) (product_split n.seats (low_of n.seats)) in
-    omega arith ∙ whole
+count_rows n = grind (arith, product_split)
 
 pub length_rows : (n : Sizes) → length (row_sizes n).seats ≡ low_of n.seats
 length_rows n = length-take-le (low_of n.seats) n.seats (low_of-le n.seats)

@@ -1,5 +1,5 @@
 -- A shape's fields in terms of the sizes that it holds.
-use Rattle.std.proofs.Common.{◌≡◌, ℕ, ◌+◌, ◌^◌, ◌<◌, length, get_or, slice_index, refl, sym, subst}
+use Rattle.std.proofs.Common.{◌≡◌, ℕ, ◌+◌, ◌^◌, ◌<◌, length, get_or, slice_index, arith}
 use Rattle.roman_model.specs.Numbers.{Sizes, count}
 use Rattle.roman_radix.specs.declared.shape.Shape.TheInside.{Inside}
 use Rattle.roman_radix.specs.Radix.{IsSizes, stride_of, env_stride_of, target_stride_of}
@@ -22,30 +22,14 @@ pub record Shows (a : Inside) (n : Sizes) : Type 0 where
   pub lanes : a.lanes ≡ lanes_of n.seats
 
 pub shown : (a : Inside) (n : Sizes) → IsLaidOut a → sizes_in a ≡ n → Shows a n
-shown a n h e =
-    subst (λ m. Shows a m) e
-    (record {
-      sizes = h.sizes;
-      target = refl;
-      env = refl;
-      components = h.components;
-      places = h.places;
-      strides = h.strides;
-      env_stride = h.env_stride;
-      target_stride = h.target_stride;
-      pairs = h.pairs;
-      low = h.low;
-      lanes = h.lanes;
-    })
+shown a n h e = grind arith
 
 pub record StrideIs (n : Sizes) (k stride : ℕ) : Type 0 where
   pub is : stride ≡ stride_of n k
   pub positive : 0 < stride
 
 pub stride_is : (a : Inside) (n : Sizes) (k : ℕ) → Shows a n → k < length n.seats → StrideIs n k (get_or a.strides k 0)
-stride_is a n k h l =
-    let is : get_or a.strides k 0 ≡ stride_of n k = stride_at n.seats a.strides k h.strides l in
-    record { is = is; positive = subst (λ x. 0 < x) (sym is) (product_positive _ (AreSizes-drop (k + 1) n.seats h.sizes.seats)) }
+stride_is a n k h l = grind (arith, (AreSizes-drop (k + 1) n.seats h.sizes.seats), product_positive, (stride_at n.seats a.strides k h.strides l))
 
 pub record SizeIs (n : Sizes) (k size : ℕ) : Type 0 where
   pub is : size ≡ slice_index n.seats k
@@ -53,7 +37,4 @@ pub record SizeIs (n : Sizes) (k size : ℕ) : Type 0 where
   pub narrow : size < 2 ^ 8
 
 pub size_is : (a : Inside) (n : Sizes) (k : ℕ) → Shows a n → k < length n.seats → SizeIs n k (get_or a.sizes k 0)
-size_is a n k h l =
-    let is : get_or a.sizes k 0 ≡ get_or n.seats k 0 = size_at n.seats a.sizes k h.places l in
-    let range = AreSizes-index n.seats k h.sizes.seats l in
-    record { is = is; positive = subst (λ x. 0 < x) (sym is) range.0; narrow = subst (λ x. x < 2 ^ 8) (sym is) range.1 }
+size_is a n k h l = grind (arith, (AreSizes-index n.seats k h.sizes.seats l), (size_at n.seats a.sizes k h.places l))

@@ -1,5 +1,5 @@
 -- Products of sizes, and the table of strides.
-use Rattle.std.proofs.Common.{◌≡◌, ℕ, zero, suc, ◌+◌, ◌-◌, ◌*◌, ◌^◌, ◌<◌, ◌≤◌, min, List, [], ◌∷◌, ◌++◌, length, take, drop, get_or, replicate, refl, sym, ap, ◌∙◌, arith, add-one, mul-le-mul}
+use Rattle.std.proofs.Common.{◌≡◌, ℕ, zero, suc, ◌+◌, ◌-◌, ◌*◌, ◌^◌, ◌<◌, ◌≤◌, List, [], ◌∷◌, ◌++◌, length, take, drop, get_or, replicate, refl, sym, ap, ◌∙◌, arith, add-one, mul-le-mul}
 use Rattle.std.proofs.Math.ListN.{set}
 use Rattle.std.proofs.lemmas.List.{get_or_append_left, set_at, replicate_more, replicate-append-replicate, append_assoc, length-replicate, length-append, length-take, drop_all, drop_more}
 use Rattle.std.specs.List.{All, AllByRecursion}
@@ -51,8 +51,7 @@ pub padded-index : (ns : List ℕ) (k : ℕ) → k < length ns → get_or (padde
 padded-index ns k h = get_or_append_left ns (replicate (MAX_SERVICES - length ns) 0) 0 k h
 
 pub stride_at : (ns strides : List ℕ) (k : ℕ) → strides ≡ padded (strides_of ns) → k < length ns → get_or strides k 0 ≡ product_of (drop (k + 1) ns)
-stride_at ns strides k e h =
-    ap (λ xs. get_or xs k 0) e ∙ padded-index (strides_of ns) k (omega (arith, length-strides_of ns)) ∙ strides_of-index ns k h
+stride_at ns strides k e h = grind (arith, length-strides_of, padded-index, strides_of-index)
 
 pub size_at : (ns sizes : List ℕ) (k : ℕ) → sizes ≡ padded ns → k < length ns → get_or sizes k 0 ≡ get_or ns k 0
 size_at ns sizes k e h = ap (λ xs. get_or xs k 0) e ∙ padded-index ns k h
@@ -62,31 +61,17 @@ length-padded ns h = length-append ns (replicate (MAX_SERVICES - length ns) zero
 
 -- a padded table has c first numbers
 pub length_first : (c : ℕ) (table : List ℕ) → table ≡ padded (take c table) → c ≤ MAX_SERVICES → length (take c table) ≡ c
-length_first c table e h =
-    let first : length (take c table) ≡ min c (length table) = length-take c table in
-    let whole : length table ≡ MAX_SERVICES = ap length e ∙ length-padded (take c table) (omega arith) in
-    omega arith
+length_first c table e h = grind (arith, length-padded, length-take)
 
 -- a table of strides before the first one is written
 pub strides_none : (c : ℕ) (table zeros : List ℕ) → zeros ≡ replicate MAX_SERVICES zero → c ≤ MAX_SERVICES →
     zeros ≡ replicate c zero ++ (strides_of (drop c (take c table)) ++ replicate (MAX_SERVICES - c) zero)
-strides_none c table zeros e h =
-    let gone : drop c (take c table) ≡ [] = drop_all c (take c table) (omega (arith, length-take c table)) in
-    let fits : c + (MAX_SERVICES - c) ≡ MAX_SERVICES = omega arith in
-    rw gone (e ∙ (ap (λ n. replicate n zero) (sym fits) ∙ sym (replicate-append-replicate c (MAX_SERVICES - c) zero)))
+strides_none c table zeros e h = grind (arith, drop_all, length-take, replicate-append-replicate)
 
 -- one more stride in the table
 pub strides_more : (ns strides rest : List ℕ) (j k stride : ℕ) → k ≡ j + 1 → j < length ns → stride ≡ product_of (drop k ns) →
     strides ≡ replicate k zero ++ (strides_of (drop k ns) ++ rest) → set strides j stride ≡ replicate j zero ++ (strides_of (drop j ns) ++ rest)
-strides_more ns strides rest j k stride here in_range product table =
-    let more : strides ≡ replicate j zero ++ zero ∷ (strides_of (drop k ns) ++ rest) =
-    table ∙ (ap (λ n. replicate n zero ++ (strides_of (drop k ns) ++ rest)) here
-    ∙ (ap (λ zs. zs ++ (strides_of (drop k ns) ++ rest)) (sym (replicate_more j zero)) ∙ append_assoc (replicate j zero) (zero ∷ []) (strides_of (drop k ns) ++ rest))) in
-    let written : set strides j stride ≡ replicate j zero ++ stride ∷ (strides_of (drop k ns) ++ rest) =
-    ap (λ xs. set xs j stride) more ∙ set_at (replicate j zero) zero (strides_of (drop k ns) ++ rest) stride j (length-replicate j zero) in
-    let next : strides_of (drop j ns) ≡ stride ∷ strides_of (drop k ns) =
-    ap strides_of (drop_more ns j 0 in_range ∙ ap (λ n. get_or ns j 0 ∷ drop n ns) (sym here)) ∙ ap (λ n. n ∷ strides_of (drop k ns)) (sym product) in
-    written ∙ ap (λ xs. replicate j zero ++ (xs ++ rest)) (sym next)
+strides_more ns strides rest j k stride here in_range product table = grind (arith, (append_assoc (replicate j zero) (zero ∷ []) (strides_of (drop k ns) ++ rest)), (drop_more ns j 0 in_range), (length-replicate j zero), (replicate_more j zero), (set strides j stride), (set_at (replicate j zero) zero (strides_of (drop k ns) ++ rest) stride j (length-replicate j zero)))
 
 -- one more factor in the product
 pub product_more : (ns : List ℕ) (j k stride size : ℕ) → k ≡ j + 1 → j < length ns → size ≡ get_or ns j 0 → stride ≡ product_of (drop k ns) → stride * size ≡ product_of (drop j ns)
@@ -97,9 +82,7 @@ product_more ns j k stride size here in_range is product =
 -- the finished table
 pub strides_all : (ns strides : List ℕ) (c k : ℕ) → length ns ≡ c → k ≡ 0 → strides ≡ replicate k zero ++ (strides_of (drop k ns) ++ replicate (MAX_SERVICES - c) zero) →
     strides ≡ padded (strides_of ns)
-strides_all ns strides c k long here table =
-    table ∙ (ap (λ n. replicate n zero ++ (strides_of (drop n ns) ++ replicate (MAX_SERVICES - c) zero)) here
-    ∙ ap (λ n. strides_of ns ++ replicate (MAX_SERVICES - n) zero) (sym long ∙ sym (length-strides_of ns)))
+strides_all ns strides c k long here table = grind (arith, length-strides_of)
 
 pub product_none : (c : ℕ) (table : List ℕ) → 1 ≡ product_of (drop c (take c table))
 product_none c table = sym (ap product_of (drop_all c (take c table) (omega (arith, length-take c table))))
@@ -116,6 +99,4 @@ positive_rest k ns h = positive_by_recursion (drop k ns) (recursion_from_All (λ
 
 -- where the product so far exceeds the cap, the whole product does
 pub too_many : (pairs rest whole cap : ℕ) → 0 < rest → pairs * rest ≡ whole → cap < pairs → whole ≤ cap → ⊥
-too_many pairs rest whole cap positive product more fits =
-    let least : pairs * 1 ≤ pairs * rest = mul-le-mul_left pairs positive in
-    omega arith
+too_many pairs rest whole cap positive product more fits = grind (arith, mul-le-mul_left)

@@ -18,13 +18,10 @@ pub record Has (table ns : List ℕ) (c : ℕ) : Type 0 where
   pub padded : table ≡ padded (take c table)
 
 pub has : (table ns : List ℕ) (c : ℕ) → table ≡ padded ns → length ns ≡ c → Has table ns c
-has table ns c e long =
-    let first : take c table ≡ ns = ap (take c) e ∙ take_at ns (replicate (MAX_SERVICES - length ns) zero) c long in
-    record { first = first; padded = e ∙ ap padded (sym first) }
+has table ns c e long = grind (arith, take_at)
 
 pub has_copied : (copied ns zeros : List ℕ) → copied ≡ ns → zeros ≡ replicate MAX_SERVICES zero → Has (copied ++ drop (length ns) zeros) ns (length ns)
-has_copied copied ns zeros is e =
-    has (copied ++ drop (length ns) zeros) ns (length ns) (rw (is, e) (ap (λ xs. ns ++ xs) (drop-replicate (length ns) MAX_SERVICES zero))) refl
+has_copied copied ns zeros is e = grind (arith, (drop-replicate (length ns) MAX_SERVICES zero), has)
 
 pub has_pushed : (table ns : List ℕ) (c size : ℕ) → table ≡ padded ns → c ≡ length ns → length ns < MAX_SERVICES → Has (set table c size) (ns ++ size ∷ []) (c + 1)
 has_pushed table ns c size e here room =
@@ -33,14 +30,13 @@ has_pushed table ns c size e here room =
     let written : set table c size ≡ ns ++ size ∷ replicate rest zero =
     ap (λ xs. set xs c size) (e ∙ ap (λ zs. ns ++ zs) zeros) ∙ set_at ns zero (replicate rest zero) size c (sym here) in
     let long : length (ns ++ size ∷ []) ≡ length ns + 1 = length-append ns (size ∷ []) in
-    has (set table c size) (ns ++ size ∷ []) (c + 1)
-    (written ∙ (sym (append_assoc ns (size ∷ []) (replicate rest zero)) ∙ ap (λ n. (ns ++ size ∷ []) ++ replicate (MAX_SERVICES - n) zero) (sym long)))
+    has _ _ _ (written ∙ (sym (append_assoc ns (size ∷ []) (replicate rest zero)) ∙ ap (λ n. (ns ++ size ∷ []) ++ replicate (MAX_SERVICES - n) zero) (sym long)))
     (long ∙ ap (λ n. n + 1) (sym here))
 
 pub has_shrunk : (table ns moved : List ℕ) (c k : ℕ) → table ≡ padded ns → c ≡ length ns → length ns ≤ MAX_SERVICES → k < length ns →
     moved ≡ copy_within table (k + 1) (length table) k → Has (set moved (MAX_SERVICES - 1) zero) (remove ns k) (c - 1)
 has_shrunk table ns moved c k e here room component is =
-    let whole : length table ≡ MAX_SERVICES = ap length e ∙ length-padded ns room in
+    let whole : length table ≡ MAX_SERVICES = ap length e ∙ length-padded _ room in
     let last : ℕ = MAX_SERVICES - 1 in
     let tail : k + (length table - (k + 1)) ≡ last = omega arith in
     let final : drop last table ≡ get_or table last 0 ∷ [] =
@@ -56,10 +52,8 @@ has_shrunk table ns moved c k e here room component is =
     let more : MAX_SERVICES - length ns + 1 ≡ MAX_SERVICES - length (remove ns k) = omega arith in
     let written : set moved last zero ≡ remove table k ++ zero ∷ [] =
     ap (λ xs. set xs last zero) split ∙ set_at (remove table k) (get_or table last 0) [] zero last long in
-    has (set moved last zero) (remove ns k) (c - 1)
-    (written ∙ (ap (λ xs. xs ++ zero ∷ []) kept ∙ (append_assoc (remove ns k) zeros (zero ∷ [])
-    ∙ (ap (λ xs. remove ns k ++ xs) (replicate_more (MAX_SERVICES - length ns) zero) ∙ ap (λ n. remove ns k ++ replicate n zero) more))))
-    (omega arith)
+    has _ _ _ (written ∙ (ap (λ xs. xs ++ zero ∷ []) kept ∙ (append_assoc (remove ns k) zeros (zero ∷ [])
+    ∙ (ap (λ xs. remove ns k ++ xs) (replicate_more (MAX_SERVICES - length ns) zero) ∙ ap (λ n. remove ns k ++ replicate n zero) more)))) (omega arith)
 
 AreSizes-append : (ms ns : List ℕ) → AreSizes ms → AreSizes ns → AreSizes (ms ++ ns)
 AreSizes-append [] ns h g = g
@@ -80,13 +74,7 @@ pub IsSizes-new : (target env : ℕ) (ns : List ℕ) → 0 < target → target <
 IsSizes-new target env ns a b x y sizes few fits = record { target = (a, b); env = (x, y); seats = sizes; few = few; counted = fits }
 
 pub IsSizes-grown : (n : Sizes) (size : ℕ) → IsSizes n → 0 < size → size < 2 ^ 8 → length n.seats < MAX_SERVICES → count (grown_sizes n size) < 2 ^ 32 → IsSizes (grown_sizes n size)
-IsSizes-grown n size h positive narrow room fits = record {
-  target = h.target;
-  env = h.env;
-  seats = AreSizes-append n.seats (size ∷ []) h.seats (positive, narrow, tt);
-  few = omega (arith, length-append n.seats (size ∷ []));
-  counted = fits;
-}
+IsSizes-grown n size h positive narrow room fits = grind (arith, AreSizes-append, length-append)
 
 pub IsSizes-without : (n : Sizes) (k : ℕ) → IsSizes n → k < length n.seats → IsSizes (sizes_without k n)
 IsSizes-without n k h component =

@@ -1,5 +1,5 @@
 -- The place of a name in a list of names.
-use Rattle.std.proofs.Common.{◌≡◌, ℕ, zero, suc, ◌+◌, ◌<◌, ◌≤◌, List, [], ◌∷◌, ◌++◌, length, take, Bool, true, false, not, cond, ◌&&◌, ◌||◌, Some, None, IsTrue, slice_get, true≢false, refl, sym, ap, ◌∙◌, subst, arith}
+use Rattle.std.proofs.Common.{◌≡◌, ℕ, zero, suc, ◌+◌, ◌<◌, List, [], ◌∷◌, ◌++◌, length, take, Bool, true, false, not, cond, ◌&&◌, ◌||◌, Some, None, IsTrue, slice_get, true≢false, refl, sym, ap, ◌∙◌, arith}
 use Rattle.std.specs.List.{list_all, list_any, position, position_or_len, AllByRecursion, IsDistinct}
 use Rattle.std.specs.Str.{bytes_eq}
 use Rattle.std.proofs.lemmas.Bool.{le-ltb, lt-ltb, or_from}
@@ -30,9 +30,7 @@ position_or_len-some p [] h = absurd (true≢false (sym h))
 position_or_len-some p (x ∷ xs) h = within_step (p x) (list_any p xs) (position_or_len p xs) (length xs) h (position_or_len-some p xs)
 
 pub position-none : {X : Type 0} (p : X → Bool) (xs : List X) → list_any p xs ≡ false → position p xs ≡ None
-position-none p xs h =
-    let end : length xs ≤ position_or_len p xs = let e = position_or_len-none p xs h in omega arith in
-    rw (le-ltb (position_or_len p xs) (length xs) end)
+position-none p xs h = grind (arith, le-ltb, position_or_len-none)
 
 pub position-some : {X : Type 0} (p : X → Bool) (xs : List X) → list_any p xs ≡ true → position p xs ≡ Some (position_or_len p xs)
 position-some p xs h = rw (lt-ltb (position_or_len p xs) (length xs) (position_or_len-some p xs h))
@@ -53,11 +51,7 @@ place_is_length names bytes h = position_or_len-none (bytes_eq bytes) names h
 
 other_step : (q : List ℕ → Bool) (bytes name : List ℕ) (b c : Bool) → b ≡ bytes_eq bytes name → (q name && c) ≡ true → q bytes ≡ false → b ≡ false
 other_step q bytes name false c e h k = refl
-other_step q bytes name true c e h k =
-    let same : bytes ≡ name = (bytes_eq-Decides bytes name).0 (sym e) in
-    let P : List ℕ → Type 0 = λ n. (q n && c) ≡ true in
-    let there : (q bytes && c) ≡ true = subst P (sym same) h in
-    absurd (true≢false (sym (rw k at there)))
+other_step q bytes name true c e h k = grind (arith, bytes_eq-Decides)
 
 rest_step : (a c : Bool) → (a && c) ≡ true → c ≡ true
 rest_step true c h = h
@@ -66,9 +60,7 @@ rest_step false c h = absurd (true≢false (sym h))
 -- bytes that fail a test which all names of a list pass aren't one of the names
 pub list_any-failing : (q : List ℕ → Bool) (names : List (List ℕ)) (bytes : List ℕ) → list_all q names ≡ true → q bytes ≡ false → list_any (bytes_eq bytes) names ≡ false
 list_any-failing q [] bytes h k = refl
-list_any-failing q (name ∷ names) bytes h k =
-    rw (other_step q bytes name (bytes_eq bytes name) (list_all q names) refl h k)
-    (list_any-failing q names bytes (rest_step (q name) (list_all q names) h) k)
+list_any-failing q (name ∷ names) bytes h k = grind (arith, other_step, rest_step, (list_any-failing q names bytes (rest_step (q name) (list_all q names) h) k))
 
 no_name_step : (names : List (List ℕ)) (bytes : List ℕ) (b : Bool) → is_name bytes ≡ b → IsTrue (list_all is_name names) → (IsTrue (is_name bytes) → ⊥) → place_of names bytes ≡ None
 no_name_step names bytes true e h k = absurd (k e)
@@ -80,14 +72,7 @@ place_of-no_name names bytes h k = no_name_step names bytes (is_name bytes) refl
 
 later_differs : (x : List ℕ) (names : List (List ℕ)) (i : ℕ) (name : List ℕ) → AllByRecursion (λ y. bytes_eq x y ≡ false) names → slice_get names i ≡ Some name → bytes_eq name x ≡ false
 later_differs x [] i name apart at = absurd (none-some name at)
-later_differs x (y ∷ names) zero name apart at = flipped (bytes_eq name x) refl
-  where
-    flipped : (b : Bool) → bytes_eq name x ≡ b → b ≡ false
-    flipped false e = refl
-    flipped true e =
-        let same : name ≡ x = (bytes_eq-Decides name x).0 e in
-        let here : bytes_eq x name ≡ false = subst (λ n. bytes_eq x n ≡ false) (same_Some y name at) apart.0 in
-        absurd (true≢false (sym ((bytes_eq-Decides x name).1 (sym same)) ∙ here))
+later_differs x (y ∷ names) zero name apart at = grind (arith, bytes_eq-Decides, same_Some)
 later_differs x (y ∷ names) (suc i) name apart at = later_differs x names i name apart.1 at
 
 -- in a list of distinct names no name occurs before its place
@@ -95,8 +80,7 @@ pub none_before : (names : List (List ℕ)) (i : ℕ) (name : List ℕ) → IsDi
 none_before [] i name apart at = absurd (none-some name at)
 none_before (x ∷ names) zero name apart at = refl
 none_before (x ∷ names) (suc i) name apart at =
-    or_from (bytes_eq name x) (list_any (bytes_eq name) (take i names)) (later_differs x names i name (IsDistinct-head bytes_eq x names apart) at)
-    (none_before names i name (IsDistinct-tail bytes_eq x names apart) at)
+    or_from _ _ (later_differs _ _ _ _ (IsDistinct-head bytes_eq x names apart) at) (none_before _ _ _ (IsDistinct-tail bytes_eq x names apart) at)
 
 -- the first names with one more name, in order
 pub take_name : (names : List (List ℕ)) (i : ℕ) (name : List ℕ) → slice_get names i ≡ Some name → take (i + 1) names ≡ take i names ++ name ∷ []

@@ -128,6 +128,7 @@ impl NameTable {
     }
 
     /// Returns the place of the name with these bytes. Searches the names one by one.
+    #[tactic(auto, using(std::proofs::lemmas::Iterator::Search::position_from_yields_List))]
     fn sought(&self, bytes: &[u8]) -> Option<usize>
         ensures place { result ≡ place_of self.now bytes.now }
         ensures within { IfSome result (λ i. i < length self.now) }

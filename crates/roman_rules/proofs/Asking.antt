@@ -1,5 +1,5 @@
 -- Known answers of a row stay right, and counts of the numbers below a bound.
-use Rattle.std.proofs.Common.{◌≡◌, ℕ, ◌+◌, ◌*◌, ◌<◌, Bool, true, false, cond, [], ◌∷◌, length, filter, count_by, IsTrue, IsFalse, refl, sym, ap, ap₂, ◌∙◌, add-one, length-append, arith}
+use Rattle.std.proofs.Common.{◌≡◌, ℕ, ◌+◌, ◌<◌, Bool, true, false, cond, [], ◌∷◌, length, filter, count_by, IsTrue, IsFalse, refl, sym, ap, ap₂, ◌∙◌, add-one, length-append, arith}
 use Rattle.std.proofs.lemmas.Bool.{cond-true, cond-false}
 use Rattle.std.proofs.lemmas.List.Sums.{length-filter}
 use Rattle.roman_model.specs.Lists.{below}
@@ -11,9 +11,7 @@ use Rattle.roman_rules.specs.declared.asked.Asked.{Asked}
 
 -- known answers stay right after more pairs are gone
 pub known_more : (A : Arena ℕ) (lanes : ℕ) (gone more : ℕ → Bool) (asked : Asked) → ((q : ℕ) → IsTrue (gone q) → IsTrue (more q)) → HoldsWhereKept A lanes gone asked → HoldsWhereKept A lanes more asked
-known_more A lanes gone more asked h known = record {
-  each = λ lane l on. justified_more A gone more (asked.row * lanes + lane) asked.reason (λ a k q i t. h q t) (known.each lane l on);
-}
+known_more A lanes gone more asked h known = grind (arith, justified_more)
 
 -- Bits of a set.
 

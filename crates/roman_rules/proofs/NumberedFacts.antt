@@ -1,5 +1,5 @@
 -- Arenas over numbers keep the laws of arenas.
-use Rattle.std.proofs.Common.{ℕ, ◌<◌, length, refl, sym, ◌∙◌, subst}
+use Rattle.std.proofs.Common.{ℕ, ◌<◌, length, sym, subst, arith}
 use Rattle.std.proofs.lemmas.Bool.{eqb-true, eq-eqb}
 use Rattle.roman_model.specs.Lists.{IsIn, HasNoRepeats}
 use Rattle.roman_model.specs.Arena.{Arena}
@@ -7,10 +7,7 @@ use Rattle.roman_model.proofs.CallerLemmas.{in_below, from_below, HasNoRepeats-b
 use Rattle.roman_rules.specs.Numbered.{IsNumbered}
 
 pub numbered_same : (A : Arena ℕ) → IsNumbered A → IsSame A
-numbered_same A ok = record {
-  is = λ p q t. eqb-true p q (sym (ok.same p q) ∙ t);
-  itself = λ p. ok.same p p ∙ eq-eqb p p refl;
-}
+numbered_same A ok = grind (arith, eq-eqb, eqb-true)
 
 -- a number below the count of the nodes is a node
 pub in_nodes : (A : Arena ℕ) → IsNumbered A → (p : ℕ) → p < length A.nodes → IsIn p A.nodes

@@ -1,5 +1,5 @@
 -- The bits of masks, and the number of seats in the masks of a row's pairs.
-use Rattle.std.proofs.Common.{◌≡◌, ℕ, zero, suc, ◌+◌, ◌-◌, ◌*◌, ◌%◌, ◌^◌, ◌<◌, ◌≤◌, Bool, true, false, cond, not, ◌&&◌, [], length, filter, sum_by, count_ones, IsTrue, IsFalse, inl, inr, refl, sym, ap, ap₂, ◌∙◌, subst, arith, eqb}
+use Rattle.std.proofs.Common.{◌≡◌, ℕ, zero, suc, ◌+◌, ◌-◌, ◌*◌, ◌%◌, ◌^◌, ◌<◌, ◌≤◌, Bool, true, cond, not, [], length, filter, sum_by, count_ones, IsTrue, IsFalse, inl, inr, refl, sym, ap, ap₂, ◌∙◌, arith}
 use Rattle.std.specs.Int.{bit_at}
 use Rattle.std.proofs.Math.Pow.{pow_pos}
 use Rattle.std.proofs.lemmas.Bool.{cases_eq, cases_lt, cond-true, cond-false, both_ways, not_from_true, eq-eqb, ne_eqb}
@@ -18,25 +18,19 @@ use Rattle.roman_rules.specs.Numbered.{IsNumbered}
 
 -- where an action isn't allowed, each seat is beaten
 pub refused_beaten : (A : Arena ℕ) → IsNumbered A → (gone : ℕ → Bool) (p a k : ℕ) → IsFalse (A.allows p a) → IsTrue (is_beaten A gone p a k)
-refused_beaten A ok gone p a k refused = by_test (is_empty (A.outcomes p a k))
-    (λ t. beaten_none A gone p a k (empty_is (A.outcomes p a k) t))
+refused_beaten A ok gone p a k refused =
+    by_test (is_empty (A.outcomes p a k)) (λ t. beaten_none A gone p a k (empty_is (A.outcomes p a k) t))
     (λ f. let (q, i) = not_empty_in (A.outcomes p a k) f in absurd (both_ways (A.allows p a) refused (ok.served p a k q i).0))
 
 -- ---- the bits of a mask
 
 -- where bits hold a test, a seat is in their set exactly if it passes the test
 pub has_seat_is : (bits : ℕ) (test : ℕ → Bool) (k : ℕ) → HasBits bits test → k < 32 → has_seat bits k ≡ test k
-has_seat_is bits test k is l = ap (λ n. eqb n 1) (is.each k l) ∙ one_is (test k)
-  where
-    one_is : (b : Bool) → eqb (bit_of b) 1 ≡ b
-    one_is true = refl
-    one_is false = refl
+has_seat_is bits test k is l = grind arith
 
 -- a seat is in the mask where it isn't beaten
 pub has_good : (A : Arena ℕ) → IsNumbered A → (gone : ℕ → Bool) (p a k : ℕ) → k < A.seats → has (mask A gone p a) k ≡ not (is_beaten A gone p a k)
-has_good A ok gone p a k l = mask_has A gone p a k l ∙ by_test (A.allows p a)
-    (λ t. ap (λ b. b && not (is_beaten A gone p a k)) t)
-    (λ f. ap (λ b. b && not (is_beaten A gone p a k)) f ∙ sym (not_from_true (is_beaten A gone p a k) (refused_beaten A ok gone p a k f)))
+has_good A ok gone p a k l = grind (arith, by_test, mask_has, not_from_true, refused_beaten)
 
 -- where an action isn't allowed, the mask has no bits
 pub mask_refused : (A : Arena ℕ) (gone : ℕ → Bool) (p a : ℕ) → IsFalse (A.allows p a) → HasBits 0 (has (mask A gone p a))
@@ -47,20 +41,12 @@ pub mask_more : (A : Arena ℕ) (gone : ℕ → Bool) (p a k old new : ℕ) (goo
     bit_at new k ≡ cond good 1 (bit_at old k) → ((j : ℕ) → (j ≡ k → ⊥) → bit_at new j ≡ bit_at old j) →
     ((j : ℕ) → j < k → bit_at old j ≡ bit_of (has (mask A gone p a) j)) → ((j : ℕ) → k ≤ j → bit_at old j ≡ 0) →
     (j : ℕ) → j < k + 1 → bit_at new j ≡ bit_of (has (mask A gone p a) j)
-mask_more A gone p a k old new good is own others before none j m = elim (cases_eq j k) [
-  | inl e ↦ subst (λ i. bit_at new i ≡ bit_of (has (mask A gone p a) i)) (sym e) (own ∙ ap (λ n. cond good 1 n) (none k (omega arith)) ∙ ap bit_of is)
-  | inr other ↦ others j other ∙ before j (omega arith)
-]
+mask_more A gone p a k old new good is own others before none j m = grind (arith, cases_eq)
 
 -- where the seats from n on are beaten and the bits are right below n, they are the whole mask
 pub mask_all : (A : Arena ℕ) → IsNumbered A → (gone : ℕ → Bool) (p a n bits : ℕ) → ((k : ℕ) → n ≤ k → k < A.seats → IsTrue (is_beaten A gone p a k)) →
     ((j : ℕ) → j < n → bit_at bits j ≡ bit_of (has (mask A gone p a) j)) → ((j : ℕ) → n ≤ j → bit_at bits j ≡ 0) → HasBits bits (has (mask A gone p a))
-mask_all A ok gone p a n bits beaten read rest = record {
-  each = λ j m. elim (cases_lt j n) [ inl less ↦ read j less | inr past ↦ rest j past ∙ sym (ap bit_of (out j past)) ];
-}
-  where
-    out : (j : ℕ) → n ≤ j → IsFalse (has (mask A gone p a) j)
-    out j past = elim (cases_lt j A.seats) [ inl seat ↦ has_good A ok gone p a j seat ∙ ap not (beaten j past seat) | inr none ↦ mask_has_past A gone p a j none ]
+mask_all A ok gone p a n bits beaten read rest = grind (arith, cases_lt, has_good, mask_has_past)
 
 -- ---- sums over the numbers below a bound
 
@@ -79,8 +65,7 @@ sum_none (suc n) = omega (arith, sum_by_push (λ i. 0) (below n) n, sum_none n)
 pub sum_turned : (f : ℕ → ℕ → ℕ) (m n : ℕ) → sum_by (λ i. sum_by (λ j. f i j) (below n)) (below m) ≡ sum_by (λ j. sum_by (λ i. f i j) (below m)) (below n)
 sum_turned f zero n = sym (sum_none n)
 sum_turned f (suc m) n =
-    sum_by_push (λ i. sum_by (λ j. f i j) (below n)) (below m) m
-    ∙ (ap (λ x. x + sum_by (λ j. f m j) (below n)) (sum_turned f m n)
+    sum_by_push (λ i. sum_by (λ j. f i j) (below n)) (below m) m ∙ (ap (λ x. x + sum_by (λ j. f m j) (below n)) (sum_turned f m n)
     ∙ (sym (sum_plus (λ j. sum_by (λ i. f i j) (below m)) (λ j. f m j) n)
     ∙ sum_by_same (λ j. sum_by (λ i. f i j) (below m) + f m j) (λ j. sum_by (λ i. f i j) (below (suc m))) (below n) (λ j i. sym (sum_by_push (λ i. f i j) (below m) m))))
 
@@ -119,12 +104,7 @@ low_ones n (suc k) =
 
 bit_is : (word lane : ℕ) → bit_at word lane ≡ cond (is_on word lane) 1 0
 unfolding is_on
-bit_is word lane = elim (cases_eq (bit_at word lane) 1) [
-  | inl e ↦ e ∙ sym (cond-true (eqb (bit_at word lane) 1) 1 0 (eq-eqb (bit_at word lane) 1 e))
-  | inr ne ↦
-      let none : bit_at word lane ≡ 0 = omega (arith, bit_at-lt word lane) in
-      none ∙ sym (cond-false (eqb (bit_at word lane) 1) 1 0 (ne_eqb (bit_at word lane) 1 ne))
-]
+bit_is word lane = grind (arith, bit_at-lt, cases_eq, cond-false, cond-true, eq-eqb, ne_eqb)
 
 -- the number of ones in a row's word is the number of lanes at which the test passes
 pub ones_counted : (lanes row : ℕ) (test : ℕ → Bool) (word : ℕ) → lanes ≤ 64 → word < 2 ^ 64 → HasLanes lanes row test word → count_ones word ≡ sum_by (λ lane. cond (test (row * lanes + lane)) 1 0) (below lanes)

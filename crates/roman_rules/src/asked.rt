@@ -27,6 +27,7 @@ pub struct Asked {
 }
 
 /// Returns whether the bit of a lane is set.
+#[tactic(auto, using(std::proofs::lemmas::Nat::Bits::shr_and_one), unfolding(roman_lanes::specs::Rows::is_on))]
 fn has_lane(word: u64, lane: u32) -> bool
     requires { lane < 64 }
     ensures { result ≡ is_on word lane }
@@ -101,6 +102,7 @@ fn ask_row<J: Rules, L: Ledger>(
 
 impl Asked {
     /// Returns an `Asked` for which nothing is known.
+    #[tactic(auto, using(std::proofs::lemmas::Bool::both_ways, roman_lanes::proofs::CallerLemmas::on_zero))]
     pub fn nothing() -> Asked
         ensures { (A : Arena ℕ) (lanes : ℕ) (gone : ℕ → Bool) → HoldsWhereKept A lanes gone result }
     {
@@ -125,6 +127,7 @@ impl Asked {
 
     /// Returns the lanes of the row `x` at which the reason is known to hold. Returns no lane where
     /// another row was asked last, or about another reason.
+    #[tactic(auto, using(std::proofs::lemmas::Bool::both_ways, roman_lanes::proofs::CallerLemmas::on_zero))]
     pub fn known_at(&self, x: u32, reason: Reason) -> u64
         ensures { (A : Arena ℕ) (lanes : ℕ) (gone : ℕ → Bool) → HoldsWhereKept A lanes gone self.now →
             (lane : ℕ) → lane < lanes → is_on result lane ≡ true → IsTrue (is_justified A gone (x * lanes + lane) reason) }

@@ -36,8 +36,7 @@ fill_more old mid new held after piece rest all f g = record {
 -- writing a piece failed: a prefix of the whole text was written
 pub fill_failed : (old mid new : Option (List ℕ)) (held piece rest all : List ℕ) → IsFilling old mid held (piece ++ rest) all → WrotePrefix mid new (held ++ piece) → WrotePrefix old new all
 fill_failed old mid new held piece rest all f w =
-    subst (WrotePrefix old new) (append_assoc f.text piece rest ∙ f.left)
-    (WrotePrefix-append old new (f.text ++ piece) rest (WrotePrefix-gathered old mid new held f.text piece f.gathered w))
+    subst (WrotePrefix old new) (append_assoc f.text piece rest ∙ f.left) (WrotePrefix-append _ _ _ _ (WrotePrefix-gathered _ _ _ _ _ _ f.gathered w))
 
 -- the rest may be replaced by an equal text
 pub fill_same : (old now : Option (List ℕ)) (held rest other all : List ℕ) → rest ≡ other → IsFilling old now held rest all → IsFilling old now held other all

@@ -1,6 +1,6 @@
 -- The lines of a text that grows.
-use Rattle.std.proofs.Common.{◌≡◌, ◌≢◌, ℕ, zero, suc, ◌+◌, ◌<◌, ◌≤◌, ◌==◌, List, [], ◌∷◌, ◌++◌, length, take, min, Bool, true, false, cond, ◌||◌, refl, sym, ap, ap₂, ◌∙◌, subst, inl, inr, append_assoc, length-append, add-one, arith}
-use borrow.Author.Tests.{eqb-true, ltb-true, ltb-false}
+use Rattle.std.proofs.Common.{◌≡◌, ◌≢◌, ℕ, zero, suc, ◌+◌, ◌<◌, ◌≤◌, ◌==◌, List, [], ◌∷◌, ◌++◌, length, take, min, Bool, true, false, cond, ◌||◌, refl, sym, ap, ap₂, ◌∙◌, subst, inl, inr, append_assoc, length-append, arith}
+use borrow.Author.Tests.{eqb-true, ltb-true}
 use Rattle.std.proofs.Math.Dec.{ltb}
 use Rattle.std.proofs.Math.ListN.{set}
 use Rattle.std.proofs.Math.Seq.{take-suc-set}
@@ -8,7 +8,7 @@ use Rattle.std.proofs.lemmas.Bool.{both_ways, or_from}
 use Rattle.std.proofs.lemmas.List.{append-nil, append_cancel_left, take_all, take-append-le, length-take}
 use Rattle.std.proofs.lemmas.List.Folds.{list_any-append}
 use Rattle.roman_model.specs.System.{has}
-use Rattle.roman_model.specs.Lines.{lines, ended_lines, onto_ended_line, text_of_lines, IsLine, AreLines}
+use Rattle.roman_model.specs.Lines.{lines, ended_lines, onto_ended_line, text_of_lines, IsLine}
 use Rattle.roman_model.proofs.CallerLemmas.{from_push, ended_lines-text, ended_lines_last, lines-text, lines_last, text_of_lines-push}
 use Rattle.roman_text.specs.Lines.{is_newline, unfinished, IsSplit, kept}
 
@@ -17,31 +17,10 @@ use Rattle.roman_text.specs.Lines.{is_newline, unfinished, IsSplit, kept}
 -- one more byte at the beginning: a line of its own, a part of the first line, or a part of the rest where no newline follows
 one_more : (b c : Bool) (byte : ℕ) (bytes rest : List ℕ) (ls : List (List ℕ)) → (byte == 10) ≡ b → has bytes 10 ≡ c → IsSplit bytes ls rest → (c ≡ false → ls ≡ []) →
     IsSplit (byte ∷ bytes) (cond b ([] ∷ ls) (onto_ended_line byte ls)) (cond (b || c) rest (byte ∷ bytes))
-one_more true c byte bytes rest ls e some split none = record {
-  whole = ap (λ first. first ∷ bytes) (eqb-true byte 10 e) ∙ ap (λ (more : List ℕ). 10 ∷ more) split.whole;
-  each = are_lines [] ls refl split.each;
-  last = split.last;
-}
-  where
-    are_lines : (line : List ℕ) (ls : List (List ℕ)) → IsLine line → AreLines ls → AreLines (line ∷ ls)
-    are_lines line ls is are l (inl same) = subst IsLine (sym same) is
-    are_lines line ls is are l (inr i) = are l i
+one_more true c byte bytes rest ls e some split none = grind arith
 one_more false true byte bytes rest [] e some split none = absurd (both_ways (has bytes 10) (ap (λ (bs : List ℕ). has bs 10) split.whole ∙ split.last) some)
-one_more false true byte bytes rest (line ∷ ls) e some split none = record {
-  whole = ap (λ (more : List ℕ). byte ∷ more) split.whole;
-  each = longer split.each;
-  last = split.last;
-}
-  where
-    longer : AreLines (line ∷ ls) → AreLines ((byte ∷ line) ∷ ls)
-    longer are l (inl same) = subst IsLine (sym same) (or_from (byte == 10) (has line 10) e (are line (inl refl)))
-    longer are l (inr i) = are l (inr i)
-one_more false false byte bytes rest ls e free split none =
-    subst (λ (ls : List (List ℕ)). IsSplit (byte ∷ bytes) (onto_ended_line byte ls) (byte ∷ bytes)) (sym (none refl)) (record {
-      whole = refl;
-      each = λ line i. absurd i;
-      last = or_from (byte == 10) (has bytes 10) e free;
-    })
+one_more false true byte bytes rest (line ∷ ls) e some split none = grind (arith, or_from)
+one_more false false byte bytes rest ls e free split none = grind (arith, or_from)
 
 -- the bytes are their whole lines and the unfinished line
 pub lines_are : (bytes : List ℕ) → IsSplit bytes (ended_lines bytes) (unfinished bytes)
@@ -67,8 +46,7 @@ lines_only bytes ls rest split = (same, append_cancel_left (text_of_lines ls) re
 pub ended_lines-append : (xs ys : List ℕ) → ended_lines (xs ++ ys) ≡ ended_lines xs ++ ended_lines (unfinished xs ++ ys)
 ended_lines-append xs ys =
     let split = lines_are xs in
-    ap (λ (bytes : List ℕ). ended_lines (bytes ++ ys)) split.whole
-    ∙ ap ended_lines (append_assoc (text_of_lines (ended_lines xs)) (unfinished xs) ys)
+    ap (λ (bytes : List ℕ). ended_lines (bytes ++ ys)) split.whole ∙ ap ended_lines (append_assoc (text_of_lines (ended_lines xs)) (unfinished xs) ys)
     ∙ ended_lines-text (ended_lines xs) (unfinished xs ++ ys) split.each
 
 -- one more byte that is a newline: the unfinished line has ended
@@ -152,17 +130,11 @@ kept-empty (x ∷ xs) h = absurd (omega (arith, length-take 257 (x ∷ xs)))
 
 -- a byte that has room is kept
 pub push_room : (bytes held : List ℕ) (len byte : ℕ) → take len bytes ≡ held → length bytes ≡ 257 → len < 257 → take (len + 1) (set bytes len byte) ≡ kept (held ++ byte ∷ [])
-push_room bytes held len byte same size room =
-    let in_bytes : len < length bytes = omega arith in
-    let prefix : length (take len bytes) ≤ len = omega (arith, length-take len bytes) in
-    let short : length (held ++ byte ∷ []) ≤ 257 = omega (arith, length-append held (byte ∷ []), ap length same) in
-    rw add-one (take-suc-set bytes len byte in_bytes ∙ (ap (λ (xs : List ℕ). xs ++ byte ∷ []) same ∙ sym (kept-short (held ++ byte ∷ []) short)))
+push_room bytes held len byte same size room = grind (arith, kept-short, length-take, take-suc-set, length-append)
 
 -- a byte that has no room isn't kept
 pub push_full : (bytes held : List ℕ) (len byte : ℕ) → take len bytes ≡ held → length bytes ≡ 257 → len ≤ 257 → 257 ≤ len → held ≡ kept (held ++ byte ∷ [])
-push_full bytes held len byte same size low high =
-    let full : length held ≡ 257 = omega (arith, length-take len bytes, ap length same) in
-    sym (kept-full held byte full)
+push_full bytes held len byte same size low high = grind (arith, kept-full, length-take)
 
 -- ---- the end of a stream
 
@@ -182,8 +154,4 @@ lines_rest bytes h =
 
 -- where no bytes are held, there is no other line
 pub lines_none : (bytes : List ℕ) → ltb 0 (length (kept (unfinished bytes))) ≡ false → lines bytes ≡ ended_lines bytes
-lines_none bytes h =
-    let low = ltb-false 0 (length (kept (unfinished bytes))) h in
-    lines_are_ended bytes
-    ∙ ap (λ (line : List ℕ). ended_lines bytes ++ lines line) (kept-empty (unfinished bytes) (omega arith))
-    ∙ append-nil (ended_lines bytes)
+lines_none bytes h = grind (arith, append-nil, kept-empty, lines_are_ended)

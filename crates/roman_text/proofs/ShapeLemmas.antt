@@ -1,6 +1,6 @@
 -- The shape of a line, from its words.
 use Rattle.std.proofs.Common.{◌≡◌, ℕ, ◌<◌, ◌≤◌, List, [], ◌∷◌, length, Bool, true, false, cond, ◌&&◌, codes, Result, Ok, Err, refl, sym, ap, ◌∙◌, arith}
-use borrow.Author.Tests.{lt-ltb, le-ltb, ltb-true, ltb-false}
+use borrow.Author.Tests.{lt-ltb, le-ltb}
 use Rattle.std.specs.Str.Lines.{strip_carriage_return}
 use Rattle.std.proofs.Math.Dec.{ltb}
 use Rattle.roman_text.specs.declared.errors.LineError.{LineError}
@@ -22,12 +22,8 @@ unfolding shape_of
 shape_by_words line h = rw (le-ltb 256 (length line) h)
 
 kept_step : (b : Bool) (line : List ℕ) → ltb 256 (length line) ≡ b → shape_of (kept line) ≡ shape_of line
-kept_step true line e =
-    let long : 256 < length line = ltb-true 256 (length line) e in
-    too_long (kept line) (omega (arith, length-kept line)) ∙ sym (too_long line long)
-kept_step false line e =
-    let short : length line ≤ 256 = ltb-false 256 (length line) e in
-    ap shape_of (kept-short line (omega arith))
+kept_step true line e = grind (arith, length-kept, too_long)
+kept_step false line e = grind (arith, kept-short)
 
 -- the kept part of a line has the shape of the line
 pub shape_of-kept : (line : List ℕ) → shape_of (kept line) ≡ shape_of line
@@ -57,24 +53,6 @@ shape_of_event_line line text word more h t e is =
 
 -- ---- the spelling of events
 
--- the words of an event have its shape
-pub shape_of-spelling : (e : LineShape) → shape_of_words (spelling e) ≡ Ok e
-shape_of-spelling nothing = refl
-shape_of-spelling (ask action) = refl
-shape_of-spelling (hand service) = refl
-shape_of-spelling (saw state env) = refl
-shape_of-spelling abort = refl
-shape_of-spelling (freeze service) = refl
-shape_of-spelling (thaw service) = refl
-shape_of-spelling (die service) = refl
-shape_of-spelling (join service behaviour state false) = refl
-shape_of-spelling (join service behaviour state true) = refl
-shape_of-spelling (jump service state) = refl
-shape_of-spelling (jump_env env) = refl
-shape_of-spelling report = refl
-shape_of-spelling explain = refl
-shape_of-spelling quit = refl
-
 key_step : {P : Type 0} (b : Bool) (word key : List ℕ) (f e : LineShape) (other : Result LineShape LineError) → bytes_eq word key ≡ b
     → (word ≡ key → f ≡ e → P) → (other ≡ Ok e → P) → cond b (Ok f) other ≡ Ok e → P
 key_step true word key f e other is here there h = here ((bytes_eq-Decides word key).0 is) (cc)
@@ -91,26 +69,20 @@ no_event e h = absurd (cc)
 spelled_alone : (w : List ℕ) (e : LineShape) → alone w ≡ Ok e → w ∷ [] ≡ spelling e
 spelled_alone w e h =
     let here = λ (f : LineShape) (k : List ℕ) (g : k ∷ [] ≡ spelling f) (s : w ≡ k) (t : f ≡ e). ap (λ (x : List ℕ). x ∷ []) s ∙ (g ∙ ap spelling t) in
-    key_or w (codes "abort") abort e _ (here abort (codes "abort") refl)
-    (λ h. key_or w (codes "report") report e _ (here report (codes "report") refl)
-    (λ h. key_or w (codes "explain") explain e _ (here explain (codes "explain") refl)
-    (λ h. key_or w (codes "quit") quit e _ (here quit (codes "quit") refl) (no_event e) h) h) h) h
+    key_or _ _ _ _ _ (here abort (codes "abort") refl) (λ h. key_or _ _ _ _ _ (here report (codes "report") refl)
+    (λ h. key_or _ _ _ _ _ (here explain (codes "explain") refl) (λ h. key_or _ _ _ _ _ (here quit (codes "quit") refl) (no_event _) h) h) h) h
 
 spelled_one : (w a : List ℕ) (e : LineShape) → with_one w a ≡ Ok e → w ∷ a ∷ [] ≡ spelling e
 spelled_one w a e h =
     let here = λ (f : LineShape) (k : List ℕ) (g : k ∷ a ∷ [] ≡ spelling f) (s : w ≡ k) (t : f ≡ e). ap (λ (x : List ℕ). x ∷ a ∷ []) s ∙ (g ∙ ap spelling t) in
-    key_or w (codes "do") (ask a) e _ (here (ask a) (codes "do") refl)
-    (λ h. key_or w (codes "use") (hand a) e _ (here (hand a) (codes "use") refl)
-    (λ h. key_or w (codes "freeze") (freeze a) e _ (here (freeze a) (codes "freeze") refl)
-    (λ h. key_or w (codes "thaw") (thaw a) e _ (here (thaw a) (codes "thaw") refl)
-    (λ h. key_or w (codes "die") (die a) e _ (here (die a) (codes "die") refl)
-    (λ h. key_or w (codes "jumpenv") (jump_env a) e _ (here (jump_env a) (codes "jumpenv") refl) (no_event e) h) h) h) h) h) h
+    key_or _ _ _ _ _ (here (ask a) (codes "do") refl) (λ h. key_or _ _ _ _ _ (here (hand a) (codes "use") refl)
+    (λ h. key_or _ _ _ _ _ (here (freeze a) (codes "freeze") refl) (λ h. key_or _ _ _ _ _ (here (thaw a) (codes "thaw") refl)
+    (λ h. key_or _ _ _ _ _ (here (die a) (codes "die") refl) (λ h. key_or _ _ _ _ _ (here (jump_env a) (codes "jumpenv") refl) (no_event _) h) h) h) h) h) h
 
 spelled_two : (w a b : List ℕ) (e : LineShape) → with_two w a b ≡ Ok e → w ∷ a ∷ b ∷ [] ≡ spelling e
 spelled_two w a b e h =
     let here = λ (f : LineShape) (k : List ℕ) (g : k ∷ a ∷ b ∷ [] ≡ spelling f) (s : w ≡ k) (t : f ≡ e). ap (λ (x : List ℕ). x ∷ a ∷ b ∷ []) s ∙ (g ∙ ap spelling t) in
-    key_or w (codes "saw") (saw a b) e _ (here (saw a b) (codes "saw") refl)
-    (λ h. key_or w (codes "jump") (jump a b) e _ (here (jump a b) (codes "jump") refl) (no_event e) h) h
+    key_or _ _ _ _ _ (here (saw a b) (codes "saw") refl) (λ h. key_or _ _ _ _ _ (here (jump a b) (codes "jump") refl) (no_event _) h) h
 
 spelled_three : (w a b c : List ℕ) (e : LineShape) → with_three w a b c ≡ Ok e → w ∷ a ∷ b ∷ c ∷ [] ≡ spelling e
 spelled_three w a b c e h =
@@ -122,11 +94,7 @@ four_step true false f e h = no_event e h
 four_step false d f e h = no_event e h
 
 spelled_four : (w a b c d : List ℕ) (e : LineShape) → with_four w a b c d ≡ Ok e → w ∷ a ∷ b ∷ c ∷ d ∷ [] ≡ spelling e
-spelled_four w a b c d e h =
-    let both = four_step (bytes_eq w (codes "join")) (bytes_eq d (codes "loose")) (join a b c true) e h in
-    let first = (bytes_eq-Decides w (codes "join")).0 both.0 in
-    let last = (bytes_eq-Decides d (codes "loose")).0 both.1 in
-    ap (λ (x : List ℕ). x ∷ a ∷ b ∷ c ∷ d ∷ []) first ∙ (ap (λ (x : List ℕ). codes "join" ∷ a ∷ b ∷ c ∷ x ∷ []) last ∙ ap spelling both.2)
+spelled_four w a b c d e h = grind (arith, bytes_eq-Decides, four_step)
 
 spelled_words : (w : List ℕ) (more : List (List ℕ)) (e : LineShape) → by_words w more ≡ Ok e → w ∷ more ≡ spelling e
 spelled_words w [] e h = spelled_alone w e h
@@ -144,7 +112,3 @@ word_step false w more e h some = spelled_words w more e h
 pub spelling_only : (words : List (List ℕ)) (e : LineShape) → shape_of_words words ≡ Ok e → (e ≡ nothing → ⊥) → words ≡ spelling e
 spelling_only [] e h some = absurd (some (cc))
 spelling_only (w ∷ more) e h some = word_step (is_comment w) w more e h some
-
--- words that have no shape aren't the words of an event
-pub spelling_none : (words : List (List ℕ)) (e : LineShape) → shape_of_words words ≡ Err Form → words ≡ spelling e → ⊥
-spelling_none words e h s = no_event e (sym h ∙ (ap shape_of_words s ∙ shape_of-spelling e))

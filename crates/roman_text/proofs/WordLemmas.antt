@@ -5,7 +5,7 @@ use Rattle.std.proofs.lemmas.List.{drop_all}
 use Rattle.std.proofs.lemmas.List.Splits.{slice_split-cons_yes, slice_split-cons_no}
 use Rattle.std.proofs.lemmas.List.Sums.{passes_at_first}
 use Rattle.std.proofs.Math.Dec.{ltb}
-use Rattle.std.specs.List.{slice_split, onto_first, position, position_or_len}
+use Rattle.std.specs.List.{slice_split, position, position_or_len}
 use Rattle.roman_text.specs.Shapes.{is_blank, is_part, has_bytes, words_of}
 
 -- ---- places in a list
@@ -75,13 +75,7 @@ prefix_step true x xs n e f = record {
   parts = slice_split-cons_yes is_blank x xs e;
   words = sym (words_of-blank x xs e);
 }
-prefix_step false x xs n e f =
-    let next : 1 + n ≡ suc n = omega arith in
-    record {
-      more = f.more;
-      parts = rw next (slice_split-cons_no is_blank x xs e ∙ ap (onto_first x) f.parts);
-      words = rw next f.words;
-    }
+prefix_step false x xs n e f = grind (arith, slice_split-cons_no)
 
 prefix_of : (line : List ℕ) → IsPrefix line (position_or_len is_blank line)
 prefix_of [] = record { more = []; parts = refl; words = sym words_of-nil }

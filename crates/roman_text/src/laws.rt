@@ -16,6 +16,7 @@ pub fn split_lines()
 /// The spelling of an event parses as that event. An event has no other words, except for the event
 /// that gets no reply, which comments are too. Words that fail to parse aren't the spelling of any
 /// event.
+#[tactic(auto, using(crate::proofs::ShapeLemmas::spelling_only))]
 pub fn spell_events()
     ensures read { (event : LineShape) → shape_of_words (spelling event) ≡ Ok event }
     ensures only { (words : List (List ℕ)) (event : LineShape) → shape_of_words words ≡ Ok event → event ≢ nothing → words ≡ spelling event }

@@ -41,6 +41,7 @@ impl Splitter {
     /// Takes the next byte of the stream, and returns whether it ended a line: whether it is byte 10.
     /// The ended line is held, without that byte, until [`Splitter::clear`]. Call that before the next
     /// byte.
+    #[tactic(auto, using(crate::proofs::LineLemmas::push_room, crate::proofs::LineLemmas::push_full))]
     pub fn push(&mut self, byte: u8) -> bool
         ensures ends { result ≡ is_newline byte }
         ensures whole { OnTrue result (self.new ≡ self.old) }

@@ -33,6 +33,7 @@ impl Joint {
     }
 
     // Returns the scene of a pair: its states of the target and the environment, and their actions.
+    #[tactic(auto, using(crate::proofs::Shown::Shows, std::proofs::lemmas::Nat::div_below, crate::proofs::SplitLemmas::positive_of, crate::proofs::Shown::shown))]
     pub(super) fn scene_at(&self, p: u32) -> Scene
         requires { p < count (sizes_of (system_of self.now)) }
         ensures { let s = system_of self.now in

@@ -187,6 +187,7 @@ impl Joint {
 
     // Returns the environment's predecessor states, in rising order: those from which it goes to its
     // state at the pair.
+    #[tactic(auto, using(crate::proofs::WalkLemmas::few_prev))]
     fn envs_before(&self, walk: &Walk) -> &[u8]
         requires { IsWalk (system_of self.now) walk.now }
         ensures prev { result.now ≡ env_prev (system_of self.now).env (goal_of (system_of self.now) walk.now).e walk.now.action }

@@ -1,4 +1,4 @@
-use Rattle.std.proofs.Common.{◌++◌, take, drop, refl, ◌∙◌, subst, arith, length-append, length-drop, length-take-le}
+use Rattle.std.proofs.Common.{◌++◌, take, refl, ◌∙◌, subst, arith, length-append, length-drop, length-take-le}
 use Rattle.std.proofs.lemmas.List.{length-take}
 use Rattle.std.proofs.lemmas.Result.{err_from_is_err_and}
 use Rattle.roman_io.proofs.CallerLemmas.{Gave-then, gave_at_most, had_all}
@@ -10,11 +10,9 @@ use Rattle.roman_check.proofs.certificate.read.Goals as goal
 pub returns-in_err-count-clause-comes : goal.returns-in_err-count-clause-comes
 returns-in_err-count-clause-comes g c =
     let p = err_from_is_err_and c.from_residual.result c.from_residual.ensures.1 in
-    rw (p.1, p.2)
-    (record {
+    rw (p.1, p.2) (record {
       is = (
-        failed_clean (g.J.Rules.arena c.args.joint.now) (g.S.Source.rest c.args.source.now) (g.S.Source.rest c.takes.source) (g.S.Source.rest c.take.new.self) c.takes.invariant.taken c.takes.reader
-            c.takes.invariant.reading c.takes.invariant.gave c.in_err-count.ensures.moves,
+        failed_clean _ _ _ _ _ _ c.takes.invariant.reading c.takes.invariant.gave c.in_err-count.ensures.moves,
         subst (λ n. Rose n (g.S.Source.faults c.take.new.self)) c.takes.invariant.faults c.in_err-count.ensures.cause.failed,
       );
     })
@@ -41,16 +39,15 @@ returns-then-count-eq0-clause-whole g c says =
     at_end (g.S.Source.rest c.takes.source) (g.S.Source.rest c.take.new.self) c.take.new.into c.in_ok-count.count c.in_ok-count.ensures.moves (c.in_ok-count.ensures.ends (omega (arith, c.takes.invariant.piece, c.take.auto.into))) c.if-count-eq0.true
 
 pub returns-in-Some-clause-comes : goal.returns-in-Some-clause-comes
-returns-in-Some-clause-comes g c = record {
-  is = (
-    rejected_at (g.J.Rules.arena c.args.joint.now) c.args.start (g.S.Source.rest c.args.source.now) (g.S.Source.rest c.takes.source) (g.S.Source.rest c.take.new.self) c.takes.invariant.taken
-        (take c.in_ok-count.count c.take.new.into) (take c.min-due.result c.take.new.into) (drop c.min-due.result (take c.in_ok-count.count c.take.new.into)) c.feed.new.self.lines c.in-Some.why
-        c.takes.invariant.gave c.in_ok-count.ensures.moves (cut_piece c.take.new.into c.min-due.result c.in_ok-count.count (omega (arith, c.min-due.ensures)))
-        (omega (arith, c.takes.invariant.room, c.min-due.ensures, length-take c.min-due.result c.take.new.into))
-        (c.in-Some.ensures.fed.stops c.takes.invariant.taken c.in-Some.why c.takes.invariant.reading refl),
-    c.in_ok-count.ensures.cause.stays ∙ c.takes.invariant.faults,
-  );
-}
+returns-in-Some-clause-comes g c =
+    record {
+      is = (
+        rejected_at _ _ _ _ _ _ _ _ _ _ _ c.takes.invariant.gave c.in_ok-count.ensures.moves (cut_piece _ _ _ (omega (arith, c.min-due.ensures)))
+            (omega (arith, c.takes.invariant.room, c.min-due.ensures, length-take c.min-due.result c.take.new.into))
+            (c.in-Some.ensures.fed.stops c.takes.invariant.taken c.in-Some.why c.takes.invariant.reading refl),
+        c.in_ok-count.ensures.cause.stays ∙ c.takes.invariant.faults,
+      );
+    }
 
 pub returns-in-Some-clause-taken : goal.returns-in-Some-clause-taken
 returns-in-Some-clause-taken g c =
@@ -58,17 +55,16 @@ returns-in-Some-clause-taken g c =
     c.takes.invariant.gave c.in_ok-count.ensures.moves (omega (arith, c.takes.invariant.room, c.takes.invariant.piece, c.take.auto.into, c.in_ok-count.ensures.bound, length-take-le c.in_ok-count.count c.take.new.into c.in_ok-count.ensures.bound))
 
 pub returns-then-due-count-clause-comes : goal.returns-then-due-count-clause-comes
-returns-then-due-count-clause-comes g c = record {
-  is = (
-    passed_limit (g.J.Rules.arena c.args.joint.now) c.args.start (g.S.Source.rest c.args.source.now) (g.S.Source.rest c.takes.source) (g.S.Source.rest c.take.new.self) c.takes.invariant.taken
-        (take c.in_ok-count.count c.take.new.into) (take c.min-due.result c.take.new.into) (drop c.min-due.result (take c.in_ok-count.count c.take.new.into)) c.feed.new.self
-        c.takes.invariant.gave c.in_ok-count.ensures.moves (cut_piece c.take.new.into c.min-due.result c.in_ok-count.count (omega (arith, c.min-due.ensures)))
-        (omega (arith, c.takes.invariant.room, c.min-due.ensures, c.if-due-count.true, c.in_ok-count.ensures.bound, length-take c.min-due.result c.take.new.into))
-        (omega (arith, c.if-due-count.true, c.in_ok-count.ensures.bound, length-drop c.min-due.result (take c.in_ok-count.count c.take.new.into), length-take c.in_ok-count.count c.take.new.into))
-        (c.feed.ensures.fed.reads c.takes.invariant.taken c.takes.invariant.reading c.in_default.is),
-    c.in_ok-count.ensures.cause.stays ∙ c.takes.invariant.faults,
-  );
-}
+returns-then-due-count-clause-comes g c =
+    record {
+      is = (
+        passed_limit _ _ _ _ _ _ _ _ _ _ c.takes.invariant.gave c.in_ok-count.ensures.moves (cut_piece _ _ _ (omega (arith, c.min-due.ensures)))
+            (omega (arith, c.takes.invariant.room, c.min-due.ensures, c.if-due-count.true, c.in_ok-count.ensures.bound, length-take c.min-due.result c.take.new.into))
+            (omega (arith, c.if-due-count.true, c.in_ok-count.ensures.bound, length-drop c.min-due.result (take c.in_ok-count.count c.take.new.into), length-take c.in_ok-count.count c.take.new.into))
+            (c.feed.ensures.fed.reads c.takes.invariant.taken c.takes.invariant.reading c.in_default.is),
+        c.in_ok-count.ensures.cause.stays ∙ c.takes.invariant.faults,
+      );
+    }
 
 pub returns-then-due-count-clause-taken : goal.returns-then-due-count-clause-taken
 returns-then-due-count-clause-taken g c =

@@ -1,5 +1,5 @@
-use Rattle.std.proofs.Common.{sym, take}
-use Rattle.roman_check.proofs.EntryLemmas.{few_of, after, cut_from, no_number, no_pair, no_reason, some_entry}
+use Rattle.std.proofs.Common.{sym}
+use Rattle.roman_check.proofs.EntryLemmas.{few_of, cut_from, no_number, no_pair, no_reason, some_entry}
 use Rattle.roman_check.proofs.entries.entry.Goals as goal
 
 pub returns-in_err-value : goal.returns-in_err-value
@@ -8,21 +8,18 @@ returns-in_err-value c = rw c.from_residual.ensures (sym (no_number c.args.pairs
 pub returns-in_err-pair : goal.returns-in_err-pair
 returns-in_err-pair c =
     let space = c.in_ok-value.space in
-    rw c.from_residual-in_err-pair.ensures
-    (sym (no_pair c.args.pairs c.args.actions c.args.line.now (take space c.args.line.now) (after c.args.line.now space)
-    (few_of c.args.pairs c.args.actions c.ranges.pairs.fits c.ranges.actions.fits) (cut_from c.args.line.now space c.in_ok-value.ensures.0) c.in_err-pair.ensures))
+    rw c.from_residual-in_err-pair.ensures (sym (no_pair _ _ _ _ _
+    (few_of _ _ c.ranges.pairs.fits c.ranges.actions.fits) (cut_from _ _ c.in_ok-value.ensures.0) c.in_err-pair.ensures))
 
 pub returns-in_err-reason : goal.returns-in_err-reason
 returns-in_err-reason c =
     let space = c.in_ok-value.space in
-    rw c.from_residual-in_err-reason.ensures
-    (sym (no_reason c.args.pairs c.args.actions c.args.line.now (take space c.args.line.now) (after c.args.line.now space)
-    (few_of c.args.pairs c.args.actions c.ranges.pairs.fits c.ranges.actions.fits) (cut_from c.args.line.now space c.in_ok-value.ensures.0) c.in_err-reason.ensures.is))
+    rw c.from_residual-in_err-reason.ensures (sym (no_reason _ _ _ _ _
+    (few_of _ _ c.ranges.pairs.fits c.ranges.actions.fits) (cut_from _ _ c.in_ok-value.ensures.0) c.in_err-reason.ensures.is))
 
 pub returns : goal.returns
 returns c =
     let space = c.in_ok-value.space in
     let (small, number) = c.in_ok-pair.ensures in
     let (given, text) = c.in_ok-reason.ensures.is in
-    sym (some_entry c.args.pairs c.args.actions c.args.line.now (take space c.args.line.now) (after c.args.line.now space) c.in_ok-pair.pair c.in_ok-reason.reason
-    (few_of c.args.pairs c.args.actions c.ranges.pairs.fits c.ranges.actions.fits) (cut_from c.args.line.now space c.in_ok-value.ensures.0) small number given text)
+    sym (some_entry _ _ _ _ _ _ _ (few_of _ _ c.ranges.pairs.fits c.ranges.actions.fits) (cut_from _ _ c.in_ok-value.ensures.0) small number given text)

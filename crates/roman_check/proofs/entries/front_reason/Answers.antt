@@ -1,12 +1,6 @@
-use Rattle.std.proofs.Common.{arith, sym, ◌∙◌}
-use Rattle.std.proofs.lemmas.List.{take_more}
+use Rattle.std.proofs.Common.{arith}
 use Rattle.roman_model.proofs.CallerLemmas.{act_reason}
 use Rattle.roman_check.proofs.entries.front_reason.Goals as goal
-
-pub returns-then-bytes-eq10 : goal.returns-then-bytes-eq10
-returns-then-bytes-eq10 c =
-    let (given, text) = c.in_ok-reason.ensures in
-    (given, record { within = c.if-bytes-gt1.true; newline = c.if-bytes-eq10.true }, text ∙ sym (take_more c.args.bytes.now 0 0 (omega arith)))
 
 pub returns : goal.returns
 returns c =

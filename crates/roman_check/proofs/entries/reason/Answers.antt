@@ -7,6 +7,4 @@ returns-in_err-action c =
     rw c.from_residual.ensures (no_reason_text c.args.actions c.args.text.now (sym c.is_final.ensures ∙ c.if-is_final.false) (λ n l. c.in_err-action.ensures n (omega (arith, c.from.ensures))))
 
 pub returns : goal.returns
-returns c =
-    let (small, is) = c.in_ok-action.ensures in
-    action_text c.args.actions c.in_ok-action.action c.args.text.now (omega (arith, c.from.ensures, small)) is
+returns c = grind (arith, action_text)

@@ -4,22 +4,8 @@ use Rattle.std.proofs.lemmas.Bool.{cases_eq}
 use Rattle.roman_model.specs.Certificate.{could_be_listed}
 use Rattle.roman_lanes.specs.Rows.{is_on}
 use Rattle.roman_lanes.proofs.CallerLemmas.{on_zero}
-use Rattle.roman_check.proofs.ReasonLemmas.{least_found, none_found, before_row, before_lane, row_ends, row_among, IsLowest, lowest, lowest_within, same_rows}
+use Rattle.roman_check.proofs.ReasonLemmas.{least_found, none_found, before_row, before_lane, row_ends, IsLowest, lowest, lowest_within, same_rows}
 use Rattle.roman_check.proofs.missing.first_missing.Goals as goal
-
-pub loop-x-init : goal.loop-x-init
-loop-x-init g c L rows y lane l m = c.rows_before-x.ensures.none L rows y lane l m
-
-pub missing_in-missing-requires-clause-row : goal.missing_in-missing-requires-clause-row
-missing_in-missing-requires-clause-row g c =
-    row_among c.loop-x.x c.rows-x-end.result (length c.args.words.now) (g.J.Rules.lanes c.args.joint.now) c.loop-x-test.true c.known.ensures.lanes.0 (c.rows-x-end.ensures ∙ sym c.requires)
-
-pub overflow_mul-result : goal.overflow_mul-result
-overflow_mul-result g c =
-    let ends : c.loop-x.x * g.J.Rules.lanes c.args.joint.now + g.J.Rules.lanes c.args.joint.now ≤ length (g.J.Rules.arena c.args.joint.now).nodes = row_ends c.loop-x.x c.rows-x-end.result (g.J.Rules.lanes c.args.joint.now) _ c.loop-x-test.true c.rows-x-end.ensures in
-    let few : length (g.J.Rules.arena c.args.joint.now).nodes < 2 ^ 32 = c.known.ensures.numbered.few_nodes in
-    let fits : c.loop-x.x * c.lanes-lanes.result < 2 ^ 32 = subst (λ m. c.loop-x.x * m < 2 ^ 32) (sym c.lanes-lanes.ensures.value) (omega arith) in
-    omega (arith, fits)
 
 pub overflow_add-result : goal.overflow_add-result
 overflow_add-result g c =

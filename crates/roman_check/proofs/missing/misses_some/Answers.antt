@@ -1,24 +1,12 @@
 use Rattle.std.proofs.Common.{◌≡◌, ℕ, ◌+◌, ◌*◌, ◌≤◌, ◌&&◌, ◌||◌, Bool, false, not, length, slice_index, sym, ap, ap₂, ◌∙◌, arith}
-use Rattle.std.specs.List.{list_any}
 use Rattle.std.proofs.Math.Bool.{or-false}
 use Rattle.std.proofs.lemmas.Nat.{mul-le}
 use Rattle.roman_model.specs.Arena.{is_listed, is_justified}
-use Rattle.roman_model.specs.Certificate.{reasons}
 use Rattle.roman_model.specs.declared.reason.Reason.TheVariants.{Act}
 use Rattle.roman_lanes.specs.Rows.{is_on}
 use Rattle.roman_lanes.proofs.CallerLemmas.{on_zero}
 use Rattle.roman_check.proofs.ReasonLemmas.{one_more}
 use Rattle.roman_check.proofs.missing.misses_some.Goals as goal
-
-pub overflow_mul-x : goal.overflow_mul-x
-overflow_mul-x g c =
-    let n = g.J.Rules.lanes c.args.joint.now in
-    let many = length c.args.words.now in
-    let rows = mul-le many 1 many n (omega arith) c.known.ensures.lanes.0 in
-    omega (arith, rows, c.requires.room, c.known.ensures.numbered.few_nodes, c.requires.band, ap (λ m. c.args.y * m) c.band.ensures.value)
-
-pub copy_rows-requires : goal.copy_rows-requires
-copy_rows-requires g c = omega (arith, c.requires.band, c.requires.left, ap (λ m. c.args.y * m) c.band.ensures.value)
 
 pub first_row-row-requires : goal.first_row-row-requires
 first_row-row-requires g c =
@@ -35,20 +23,7 @@ is_off : (word lane : ℕ) (left test : Bool) → word ≡ 0 → is_on word lane
 is_off word lane left test none is = sym is ∙ (ap (λ w. is_on w lane) none ∙ on_zero lane)
 
 pub loop-a-init : goal.loop-a-init
-loop-a-init g c = record {
-  long = c.unfine_band.ensures.long ∙ c.copy_rows.ensures.long;
-  none = λ L rows i lane h l.
-      let A = g.J.Rules.arena c.args.joint.now in
-      let n = g.J.Rules.lanes c.args.joint.now in
-      let w = g.J.Rules.band c.args.joint.now in
-      let p : ℕ = (c.args.y * w + i) * n + lane in
-      let same : c.args.y * c.band.result ≡ c.args.y * w = ap (λ m. c.args.y * m) c.band.ensures.value in
-      let copied = c.copy_rows.ensures.each i (omega (arith, h, c.requires.left)) ∙ ap (λ x. slice_index c.args.words.now (x + i)) same in
-      let left = ap (λ v. is_on v lane) copied ∙ (rows.each (c.args.y * w + i) (omega (arith, h, c.requires.band))).each lane l in
-      let empty = c.are_clear.ensures c.if-not-are_clear.false i (omega (arith, h, c.requires.left, c.unfine_band.ensures.long, c.copy_rows.ensures.long)) in
-      let is = (c.unfine_band.ensures.unfine c.args.y c.first_row-row.ensures).each i lane h l ∙ ap (λ b. b && not (A.fine p)) left in
-      ap (λ b. not (is_listed A L p) && b) (or-false (not (A.fine p))) ∙ is_off (slice_index c.unfine_band.new.left i) lane (not (is_listed A L p)) (not (A.fine p)) empty is;
-}
+loop-a-init g c = grind (arith, is_off, or-false)
 
 pub loop-a-preserved : goal.loop-a-preserved
 loop-a-preserved g c = record {
@@ -69,12 +44,3 @@ loop-a-preserved g c = record {
       let is = (c.unserved_band.ensures.lost c.args.y (is_listed A L) c.first_row-row.ensures rows).each i lane h l ∙ ap (λ b. b && test (Act a)) left in
       sym (one_more u test a) ∙ ap₂ (λ b d. b || d) (c.loop-a.invariant.none L rows i lane h l) (is_off (slice_index c.unserved_band.new.left i) lane u (test (Act a)) empty is);
 }
-
-pub returns-clause-none : goal.returns-clause-none
-returns-clause-none g c e L rows i lane h l =
-    let A = g.J.Rules.arena c.args.joint.now in
-    let n = g.J.Rules.lanes c.args.joint.now in
-    let w = g.J.Rules.band c.args.joint.now in
-    let p : ℕ = (c.args.y * w + i) * n + lane in
-    let all : c.loop-a.a ≡ A.actions = omega (arith, c.loop-a-test.false, c.actions-a-end.ensures) in
-    ap (λ k. not (is_listed A L p) && list_any (is_justified A (is_listed A L) p) (reasons k)) (sym all) ∙ c.loop-a.invariant.none L rows i lane h l

@@ -1,19 +1,11 @@
-use Rattle.std.proofs.Common.{◌≡◌, ◌+◌, ◌-◌, ◌*◌, false, length, sym, ap, ◌∙◌, subst, inl, inr, arith, rules}
+use Rattle.std.proofs.Common.{◌≡◌, ◌+◌, ◌-◌, ◌*◌, false, length, sym, ap, ◌∙◌, subst, inl, inr, arith}
 use Rattle.std.proofs.lemmas.Bool.{cases_lt}
 use Rattle.roman_model.specs.Certificate.{could_be_listed}
 use Rattle.roman_check.proofs.ReasonLemmas.{same_rows, band_ends}
 use Rattle.roman_check.proofs.missing.rows_before.Goals as goal
 
-pub loop-y-init : goal.loop-y-init
-loop-y-init g c = record { long = search rules; none = λ L rows x lane h l. absurd (omega arith) }
-
 pub misses_some-requires-clause-band : goal.misses_some-requires-clause-band
-misses_some-requires-clause-band g c =
-    let n = g.J.Rules.lanes c.args.joint.now in
-    let w = g.J.Rules.band c.args.joint.now in
-    let m = c.bands-y-end.result in
-    let all = same_rows (m * w) (length c.args.words.now) n c.known.ensures.lanes.0 (c.bands-y-end.ensures ∙ sym c.requires) in
-    omega (arith, all, band_ends w c.loop-y.y m c.loop-y-test.true)
+misses_some-requires-clause-band g c = grind (arith, band_ends, same_rows)
 
 pub loop-y-preserved : goal.loop-y-preserved
 loop-y-preserved g c = record {

@@ -18,11 +18,4 @@ returns-clause-has c e =
     rw (← done) (marked_has_exactly c.loop-e.bits c.loop-e.e (holds c.args.guard.now) c.loop-e.invariant e)
 
 pub returns-clause-states : goal.returns-clause-states
-returns-clause-states c =
-    let done : c.loop-e.e ≡ c.args.states = omega arith in
-    rw (← done) (marked_states c.loop-e.bits c.loop-e.e (holds c.args.guard.now) (omega arith) c.loop-e.invariant)
-
-pub returns-clause-fits : goal.returns-clause-fits
-returns-clause-fits c =
-    let done : c.loop-e.e ≡ c.args.states = omega arith in
-    rw (← done) c.loop-e.invariant.fits
+returns-clause-states c = grind (arith, marked_states)

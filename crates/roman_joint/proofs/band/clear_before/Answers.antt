@@ -24,9 +24,6 @@ next_states-states-requires-clause-seat c = (low_few c.args.joint.now c.args.k c
 pub next_states-states-requires-clause-state : goal.next_states-states-requires-clause-state
 next_states-states-requires-clause-state c = c.requires.row.1.state_range c.args.k (mid_low (system_of c.args.joint.now) c.args.k c.requires.seat)
 
-pub next_states-states-requires-clause-env : goal.next_states-states-requires-clause-env
-next_states-states-requires-clause-env c = c.requires.row.1.env_range
-
 pub bounds-rows-k : goal.bounds-rows-k
 bounds-rows-k c = (low_few c.args.joint.now c.args.k c.layout-rows.ensures.known (mid_low (system_of c.args.joint.now) c.args.k c.requires.seat)).0
 
@@ -96,8 +93,7 @@ returns-clause-left c y gone ok rows =
     let many : i < length c.args.left.now = omega (arith, l, c.requires.long) in (
       slice_index c.all_alive_each.new.all i,
       serves_band s r y c.args.a c.args.row.now c.args.turn.now h c.layout-rows.ensures.rows c.requires.turn i c.args.k c.from.result (c.args.turn.now.base - c.from.result * u + i) (slice_index c.all_alive_each.new.all i)
-          states c.args.words.now gone l c.requires.seat c.requires.room c.next_states-states.ensures.next c.from.ensures some rows refl
-          (λ lane.
+          states c.args.words.now gone l c.requires.seat c.requires.room c.next_states-states.ensures.next c.from.ensures some rows refl (λ lane.
           c.all_alive_each.ensures.each i lane many
           ∙ ap (λ z. is_on z lane && not (list_any (λ e. list_any (λ b. not (is_on (slice_index c.args.words.now (c.args.turn.now.base - c.from.result * u + i + e * r.env_rows + b * u)) lane)) states) c.args.turn.now.envs.now))
           (c.set_first.ensures.each i many)),

@@ -7,19 +7,14 @@ use Rattle.roman_lanes.proofs.CallerLemmas.{on_zero, on_and}
 use Rattle.roman_joint.specs.NamedSys.{system_of, seat_of}
 use Rattle.roman_joint.specs.Rows.{lanes_in, may_rest}
 use Rattle.roman_joint.specs.Bands.{band_in}
-use Rattle.roman_joint.proofs.GoodLemmas.{full_on}
 use Rattle.roman_joint.proofs.AllowedLemmas.{cut_off}
 use Rattle.roman_joint.proofs.fine.all_rest_in.Goals as goal
-
-pub loop-k-init : goal.loop-k-init
-loop-k-init c y lane ok l = full_on (sizes_of (system_of c.args.joint.now)) c.layout.result.now lane c.layout.ensures.rows l
 
 pub loop-k-preserved : goal.loop-k-preserved
 loop-k-preserved c y lane ok l =
     let s = system_of c.args.joint.now in
     let p = λ (k : ℕ). may_rest (slice_get s.seats k) (slice_index (pair_at (sizes_of s) ((y * band_in s + c.args.i) * lanes_in s + lane)).bs k) in
-    on_and c.loop-k.rests c.rests_in-rests.result lane
-    ∙ (ap₂ (λ a b. a && b) (c.loop-k.invariant y lane ok l) (c.rests_in-rests.ensures y lane ok l) ∙ ap (all_below p) (sym (add-one c.loop-k.k)))
+    on_and _ _ _ ∙ (ap₂ (λ a b. a && b) (c.loop-k.invariant y lane ok l) (c.rests_in-rests.ensures y lane ok l) ∙ ap (all_below p) (sym (add-one c.loop-k.k)))
 
 pub returns-then-rests-eq0 : goal.returns-then-rests-eq0
 returns-then-rests-eq0 c y lane ok l =

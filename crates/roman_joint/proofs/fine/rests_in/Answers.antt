@@ -7,7 +7,7 @@ use Rattle.roman_joint.specs.Rows.{lanes_in, low_in, may_rest}
 use Rattle.roman_joint.specs.Bands.{mid_in, band_in}
 use Rattle.roman_joint.proofs.SplitLemmas.{joint_sizes}
 use Rattle.roman_joint.proofs.LeadLemmas.{lane_part}
-use Rattle.roman_joint.proofs.GoodLemmas.{within, full_on, low_few}
+use Rattle.roman_joint.proofs.GoodLemmas.{within, full_on}
 use Rattle.roman_joint.proofs.BandLemmas.{in_band, own_seat, own_row, mid_low}
 use Rattle.roman_joint.proofs.fine.rests_in.Goals as goal
 use Rattle.roman_joint.proofs.fine.rests_in.Goals.{then-k-rows-via-then-k-rows, then-k-rows-via-else-k-rows+then-rows-k}
@@ -36,9 +36,6 @@ returns-then-k-rows c y lane ok l =
           then (lane_part m x lane k sizes (ok.below lane l) past inside.seats ∙ sym (lane_part m (x + c.args.i) lane k sizes (here.looked.below lane l) past inside.seats))
     ]
 
-pub bounds-rows-k : goal.bounds-rows-k
-bounds-rows-k c = (low_few c.args.joint.now c.args.k c.layout-rows.ensures.known (subst (λ m. c.args.k < m) c.layout-rows.ensures.rows.low c.if-rows-k.false)).0
-
 pub nonzero_div-b : goal.nonzero_div-b
 nonzero_div-b c =
     let n = c.args.joint.now in
@@ -55,6 +52,5 @@ returns c y lane ok l =
     let past : mid_in s ≤ k = subst (λ m. m ≤ k) c.layout-rows.ensures.rows.mid c.if-k-rows.false in
     let low : k < low_in s = subst (λ m. k < m) c.layout-rows.ensures.rows.low c.if-rows-k.false in
     let own = own_row s r k c.args.i (c.args.i / slice_index r.strides k % c.from.result) sizes c.layout-rows.ensures.rows past low c.requires.within (ap (λ z. c.args.i / slice_index r.strides k % z) c.from.ensures) in
-    c.with_lanes.ensures lane
-    ∙ (ap₂ (λ a z. a || (z && c.may_rest-rests.result)) (on_zero lane) (full_on (sizes_of s) r lane c.layout-rows.ensures.rows l)
+    c.with_lanes.ensures lane ∙ (ap₂ (λ a z. a || (z && c.may_rest-rests.result)) (on_zero lane) (full_on (sizes_of s) r lane c.layout-rows.ensures.rows l)
     ∙ (c.may_rest-rests.ensures ∙ ap (may_rest (slice_get s.seats k)) (own.is ∙ sym (here.looked.states k lane low l ∙ here.within k past low))))

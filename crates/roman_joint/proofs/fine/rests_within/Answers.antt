@@ -1,28 +1,16 @@
-use Rattle.std.proofs.Common.{◌≡◌, ◌/◌, ◌&&◌, ◌||◌, slice_get, slice_index, sym, ap, ap₂, ◌∙◌, arith}
+use Rattle.std.proofs.Common.{◌/◌, ◌&&◌, slice_get, slice_index, ap, ◌∙◌, arith}
 use Rattle.std.proofs.lemmas.Bool.{le-ltb, lt-ltb}
 use Rattle.std.proofs.lemmas.Nat.{mod_below}
 use Rattle.roman_model.specs.Numbers.{sizes_of}
 use Rattle.roman_radix.specs.Radix.{stride_of}
 use Rattle.roman_radix.proofs.CallerLemmas.{AreSizes-index}
-use Rattle.roman_lanes.specs.Rows.{is_on}
 use Rattle.roman_joint.specs.NamedSys.{system_of}
-use Rattle.roman_joint.specs.Rows.{lane_has_state, lane_state_of, may_rest}
+use Rattle.roman_joint.specs.Rows.{lane_state_of, may_rest}
 use Rattle.roman_lanes.proofs.CallerLemmas.{on_zero}
 use Rattle.roman_joint.proofs.SplitLemmas.{joint_sizes}
 use Rattle.roman_joint.proofs.GoodLemmas.{within, below_more, state_is}
 use Rattle.roman_joint.proofs.AllowedLemmas.{same_state}
 use Rattle.roman_joint.proofs.fine.rests_within.Goals as goal
-
-pub state_lanes-in_state-requires-clause-rows : goal.state_lanes-in_state-requires-clause-rows
-state_lanes-in_state-requires-clause-rows c = rw c.shape-shape.ensures c.layout-rows.ensures.rows
-
-pub state_lanes-in_state-requires-clause-within : goal.state_lanes-in_state-requires-clause-within
-state_lanes-in_state-requires-clause-within c = rw c.shape-shape.ensures c.requires.within
-
-pub state_lanes-in_state-requires-clause-seat : goal.state_lanes-in_state-requires-clause-seat
-state_lanes-in_state-requires-clause-seat c =
-    let w = within c.args.joint.now c.layout-rows.result.now c.args.k c.layout-rows.ensures.known c.layout-rows.ensures.rows c.requires.within c.requires.seat in
-    rw c.shape-shape.ensures w.seats
 
 pub state_lanes-in_state-requires-clause-state : goal.state_lanes-in_state-requires-clause-state
 state_lanes-in_state-requires-clause-state c =
@@ -35,25 +23,10 @@ may_rest-rests-requires-clause-state c =
     omega (arith, c.layout-rows.ensures.rows.sizes c.args.k w.seats)
 
 pub loop-b-init : goal.loop-b-init
-loop-b-init c lane l =
-    let s = system_of c.args.joint.now in
-    let m = lane_state_of (sizes_of s) c.args.k lane in
-    on_zero lane ∙ sym (ap (λ t. t && may_rest (slice_get s.seats c.args.k) m) (le-ltb m 0 (omega arith)))
+loop-b-init c lane l = grind (arith, le-ltb, on_zero)
 
 pub loop-b-preserved : goal.loop-b-preserved
-loop-b-preserved c lane l =
-    let s = system_of c.args.joint.now in
-    let st = stride_of (sizes_of s) c.args.k in
-    let size = slice_index (sizes_of s).seats c.args.k in
-    let m = lane_state_of (sizes_of s) c.args.k lane in
-    let b = c.loop-b.b in
-    let f = may_rest (slice_get s.seats c.args.k) in
-    let in_state : is_on c.state_lanes-in_state.result lane ≡ lane_has_state st size b lane =
-    rw c.shape-shape.ensures at (c.state_lanes-in_state.ensures.each lane (rw c.shape-shape.ensures l)) in
-    c.with_lanes-lanes.ensures lane
-    ∙ (ap₂ (λ y z. y || z) (c.loop-b.invariant lane l)
-    (ap₂ (λ y z. y && z) (in_state ∙ state_is st size b lane) c.may_rest-rests.ensures ∙ same_state m b f)
-    ∙ below_more m b (f m))
+loop-b-preserved c lane l = grind (arith, below_more, same_state, state_is)
 
 pub returns : goal.returns
 returns c lane l =

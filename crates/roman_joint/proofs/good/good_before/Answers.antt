@@ -14,12 +14,6 @@ bounds-row-k c = (low_few c.args.joint.now c.args.k c.layout-rows.ensures.known 
 pub next_states-states-requires-clause-seat : goal.next_states-states-requires-clause-seat
 next_states-states-requires-clause-seat c = (low_few c.args.joint.now c.args.k c.layout-rows.ensures.known c.requires.seat).1
 
-pub next_states-states-requires-clause-state : goal.next_states-states-requires-clause-state
-next_states-states-requires-clause-state c = c.requires.row.1.state_range c.args.k c.requires.seat
-
-pub next_states-states-requires-clause-env : goal.next_states-states-requires-clause-env
-next_states-states-requires-clause-env c = c.requires.row.1.env_range
-
 pub returns-then-is_empty : goal.returns-then-is_empty
 returns-then-is_empty c x gone ok rows =
     let n = c.args.joint.now in

@@ -10,9 +10,6 @@ returns-then-seat c x gone turn ok turned living =
     let n = c.args.joint.now in
     beaten_frozen (system_of n) x c.args.a c.args.k (seat_of n.catalogue c.seat.result.now) gone (joint_numbered n c.known.ensures) (seat_placed n c.args.k c.seat.result.now c.seat.ensures) c.if-seat.true
 
-pub lane_moves-some-requires-clause-env : goal.lane_moves-some-requires-clause-env
-lane_moves-some-requires-clause-env c = c.requires.row.1.env_range
-
 pub moves_alive-requires : goal.moves_alive-requires
 moves_alive-requires c =
     let n = c.args.joint.now in

@@ -1,29 +1,16 @@
-use Rattle.std.proofs.Common.{◌≡◌, ℕ, get_or, sym, ◌∙◌, subst, arith}
+use Rattle.std.proofs.Common.{ℕ, get_or, sym, ◌∙◌, arith}
 use Rattle.std.proofs.lemmas.List.{take_all}
 use Rattle.std.proofs.lemmas.Nat.Bits.{shr_and_one}
-use Rattle.std.specs.Int.{bit_at}
-use Rattle.roman_model.specs.Lists.{IsIn}
 use Rattle.roman_joint.specs.NamedSys.{system_of}
 use Rattle.roman_joint.specs.Marks.{front_env}
 use Rattle.roman_joint.specs.Marks.{MarksEnv}
-use Rattle.roman_joint.proofs.MarkLemmas.{grows_itself, grows_on, env_on, more_below, each_in, count_more, none_leads}
+use Rattle.roman_joint.proofs.MarkLemmas.{grows_on, env_on, more_below, each_in, count_more, none_leads}
 use Rattle.roman_joint.proofs.marks.mark_action.Goals as goal
-
-pub returns-then-row-a-eq0-clause-marks : goal.returns-then-row-a-eq0-clause-marks
-returns-then-row-a-eq0-clause-marks g c =
-    let row = c.args.row.now in
-    let off : bit_at row.leading c.args.a ≡ 0 = sym (shr_and_one row.leading c.args.a) ∙ c.if-row-a-eq0.true in
-    record {
-      envs = λ e i. record { turns = λ t j. absurd (subst (λ ts. IsIn t ts) (c.requires.row.1.leading.others c.args.a c.requires.action off e i) j) };
-    }
 
 pub returns-then-row-a-eq0-clause-steps : goal.returns-then-row-a-eq0-clause-steps
 returns-then-row-a-eq0-clause-steps g c q at =
     let row = c.args.row.now in
     omega (arith, none_leads (system_of c.args.joint.now) q row c.args.a at c.requires.row.1.leading c.requires.action (sym (shr_and_one row.leading c.args.a) ∙ c.if-row-a-eq0.true))
-
-pub loop-e-init : goal.loop-e-init
-loop-e-init g c = record { grows = grows_itself c.args.marks.now; envs = λ j l. absurd (omega arith); steps = λ q at. omega arith }
 
 pub loop-e-preserved : goal.loop-e-preserved
 loop-e-preserved g c =
@@ -36,8 +23,7 @@ loop-e-preserved g c =
     let more = c.mark_env.ensures.grows in
     record {
       grows = grows_on c.args.marks.now old new i.grows more;
-      envs = more_below c.loop-e.e-index (λ (j : ℕ). MarksEnv s row new c.args.a (get_or es j 0))
-          (λ j l. env_on s row old new c.args.a (get_or es j 0) more (i.envs j l))
+      envs = more_below c.loop-e.e-index (λ (j : ℕ). MarksEnv s row new c.args.a (get_or es j 0)) (λ j l. env_on s row old new c.args.a (get_or es j 0) more (i.envs j l))
           c.mark_env.ensures.marks;
       steps = λ q at. omega (arith, i.steps q at, c.mark_env.ensures.steps q at, count_more (front_env s q c.args.a) es c.loop-e.e-index (omega arith));
     }

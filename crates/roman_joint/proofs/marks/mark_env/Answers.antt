@@ -3,20 +3,8 @@ use Rattle.std.proofs.lemmas.List.{take_all}
 use Rattle.roman_joint.specs.NamedSys.{system_of}
 use Rattle.roman_joint.specs.Marks.{front_target}
 use Rattle.roman_joint.specs.Marks.{MarksTurn}
-use Rattle.roman_joint.proofs.MarkLemmas.{grows_itself, grows_on, turn_on, more_below, each_in, count_more}
+use Rattle.roman_joint.proofs.MarkLemmas.{grows_on, turn_on, more_below, each_in, count_more}
 use Rattle.roman_joint.proofs.marks.mark_env.Goals as goal
-
-pub into-targets-requires-clause-state : goal.into-targets-requires-clause-state
-into-targets-requires-clause-state g c = rw c.target.ensures c.requires.row.1.target_range
-
-pub into-targets-requires-clause-env_state : goal.into-targets-requires-clause-env_state
-into-targets-requires-clause-env_state g c = rw (c.target.ensures, c.known.ensures.target.0) c.requires.env
-
-pub into-targets-requires-clause-action : goal.into-targets-requires-clause-action
-into-targets-requires-clause-action g c = rw (c.target.ensures, c.known.ensures.target.1) c.requires.action
-
-pub loop-t-init : goal.loop-t-init
-loop-t-init g c = record { grows = grows_itself c.args.marks.now; turns = λ j l. absurd (omega arith); steps = λ q at. omega arith }
 
 pub loop-t-preserved : goal.loop-t-preserved
 loop-t-preserved g c =
@@ -30,8 +18,7 @@ loop-t-preserved g c =
     record {
       grows = grows_on c.args.marks.now old new i.grows more;
       turns = more_below c.loop-t.t-index (λ (j : ℕ). MarksTurn s row new c.args.a c.args.e (get_or ts j 0))
-          (λ j l. turn_on s row old new c.args.a c.args.e (get_or ts j 0) more (i.turns j l))
-          c.mark_turn.ensures.marks;
+          (λ j l. turn_on s row old new c.args.a c.args.e (get_or ts j 0) more (i.turns j l)) c.mark_turn.ensures.marks;
       steps = λ q at. omega (arith, i.steps q at, c.mark_turn.ensures.steps q at, count_more (front_target s q c.args.a c.args.e) ts c.loop-t.t-index (omega arith));
     }
 

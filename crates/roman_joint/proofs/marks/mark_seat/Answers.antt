@@ -6,7 +6,7 @@ use Rattle.roman_joint.specs.Marks.{IsMarked}
 use Rattle.roman_joint.proofs.SplitLemmas.{joint_sizes, factor}
 use Rattle.roman_joint.proofs.GoodLemmas.{low_few, width_positive}
 use Rattle.roman_joint.proofs.BandLemmas.{mid_low, first_in}
-use Rattle.roman_joint.proofs.MarkLemmas.{each_in, grows_itself, grows_on, marked_on, count_seat}
+use Rattle.roman_joint.proofs.MarkLemmas.{each_in, grows_on, marked_on, count_seat}
 use Rattle.roman_joint.proofs.marks.mark_seat.Goals as goal
 
 pub bounds-row-k : goal.bounds-row-k
@@ -20,9 +20,6 @@ prev_states-states-requires-clause-seat g c = (low_few c.args.joint.now c.args.k
 
 pub prev_states-states-requires-clause-state : goal.prev_states-states-requires-clause-state
 prev_states-states-requires-clause-state g c = c.requires.row.1.state_range c.args.k (mid_low (system_of c.args.joint.now) c.args.k c.requires.seat)
-
-pub loop-b-init : goal.loop-b-init
-loop-b-init g c = record { grows = grows_itself c.args.marks.now; moved = λ j x l. absurd (omega arith); steps = omega arith }
 
 pub loop-b-preserved : goal.loop-b-preserved
 loop-b-preserved g c =

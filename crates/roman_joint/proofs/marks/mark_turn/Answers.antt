@@ -1,8 +1,8 @@
-use Rattle.std.proofs.Common.{◌≡◌, ℕ, ◌+◌, ◌*◌, ◌/◌, ap, ap₂, ◌∙◌, subst, arith}
+use Rattle.std.proofs.Common.{◌≡◌, ℕ, ◌+◌, ◌*◌, ◌/◌, ap, arith}
 use Rattle.roman_joint.specs.NamedSys.{system_of}
 use Rattle.roman_joint.specs.Bands.{mid_in, band_in}
 use Rattle.roman_joint.specs.Backward.{from_seat}
-use Rattle.roman_joint.specs.Marks.{IsMarked, MarksSeat, row_at}
+use Rattle.roman_joint.specs.Marks.{MarksSeat, row_at}
 use Rattle.roman_joint.proofs.SplitLemmas.{joint_sizes}
 use Rattle.roman_joint.proofs.BandLemmas.{first_in}
 use Rattle.roman_joint.proofs.GoodLemmas.{turn_fits}
@@ -11,23 +11,6 @@ use Rattle.roman_joint.proofs.marks.mark_turn.Goals as goal
 
 pub nonzero_div-base : goal.nonzero_div-base
 nonzero_div-base g c = omega (arith, c.from-2.ensures, c.layout-rows.ensures.rows.band, first_in (system_of c.args.joint.now) (joint_sizes c.args.joint.now c.layout-rows.ensures.known))
-
-pub loop-k-init : goal.loop-k-init
-loop-k-init g c =
-    let s = system_of c.args.joint.now in
-    let row = c.args.row.now in
-    let e = c.args.e in
-    let t = c.args.t in
-    let laid = c.layout-rows.ensures.rows in
-    let base : c.times.result + c.times-2.result + c.from.result ≡ row_at s row e t =
-    omega (arith, c.times.ensures.value, c.times-2.ensures.value, c.from.ensures, ap (λ m. t * m) laid.target, ap (λ m. e * m) laid.env) in
-    let at : (c.times.result + c.times-2.result + c.from.result) / c.from-2.result ≡ row_at s row e t / band_in s = ap₂ (λ m v. m / v) base (c.from-2.ensures ∙ laid.band) in
-    record {
-      grows = c.mark.ensures.grows;
-      own = subst (λ y. IsMarked c.mark.new.marks y) at c.mark.ensures.marked;
-      seats = λ k l. absurd (omega arith);
-      steps = λ q at. omega arith;
-    }
 
 pub loop-k-preserved : goal.loop-k-preserved
 loop-k-preserved g c =
@@ -46,19 +29,9 @@ loop-k-preserved g c =
       grows = grows_on c.args.marks.now old new i.grows more;
       own = marked_on old new (row_at s row e t / band_in s) more i.own;
       seats = more_below c.loop-k.k (λ (k : ℕ). MarksSeat s row new c.args.a e (row_at s row e t) k)
-          (λ k l. seat_on s row old new c.args.a e (row_at s row e t) k more (i.seats k l))
-          (rw base at c.mark_seat.ensures.marks);
+          (λ k l. seat_on s row old new c.args.a e (row_at s row e t) k more (i.seats k l)) (rw base at c.mark_seat.ensures.marks);
       steps = λ q at. omega (arith, i.steps q at, c.mark_seat.ensures.steps q t at, count_below (from_seat s q c.args.a e t) c.loop-k.k);
     }
-
-pub mark_seat-requires-clause-seat : goal.mark_seat-requires-clause-seat
-mark_seat-requires-clause-seat g c = rw c.layout-rows.ensures.rows.mid at c.loop-k-test.true
-
-pub returns-clause-marks : goal.returns-clause-marks
-returns-clause-marks g c = record {
-  own = c.loop-k.invariant.own;
-  seats = λ k l. c.loop-k.invariant.seats k (omega (arith, c.loop-k-test.false, c.layout-rows.ensures.rows.mid));
-}
 
 pub returns-clause-steps : goal.returns-clause-steps
 returns-clause-steps g c q at =
@@ -67,7 +40,4 @@ returns-clause-steps g c q at =
     rw end at (c.loop-k.invariant.steps q at)
 
 pub mark_seat-requires-clause-base : goal.mark_seat-requires-clause-base
-mark_seat-requires-clause-base g c =
-    let n = c.args.joint.now in
-    let part = (turn_fits n c.layout-rows.result.now c.requires.row.0 c.args.row.now 0 c.layout-rows.ensures.known c.layout-rows.ensures.rows c.requires.row.1 c.layout-rows.ensures.known.system.target.states.0).1 in
-    omega (arith, c.times.ensures.small, c.times-2.ensures.small, c.from.ensures, part)
+mark_seat-requires-clause-base g c = grind (arith, turn_fits)

@@ -6,14 +6,6 @@ use Rattle.roman_lanes.specs.Rows.{is_on}
 use Rattle.roman_joint.proofs.RunLemmas.{state_at, place_of, in_block}
 use Rattle.roman_joint.proofs.runs.clear_state.Goals as goal
 
-pub overflow_mul-step : goal.overflow_mul-step
-overflow_mul-step c = let same : c.from.result * c.args.stride ≡ c.args.size * c.args.stride = ap (λ z. z * c.args.stride) c.from.ensures in omega (arith, same, c.requires.step)
-
-pub overflow_mul-own : goal.overflow_mul-own
-overflow_mul-own c =
-    let same : c.from-2.result * c.args.stride ≡ c.args.b * c.args.stride = ap (λ z. z * c.args.stride) c.from-2.ensures in
-    omega (arith, same, c.requires.step, (in_block 0 1 c.args.size c.args.stride c.args.b (omega arith) c.requires.state).0)
-
 pub loop-block-preserved : goal.loop-block-preserved
 loop-block-preserved c =
     let block = c.loop-block.block in
@@ -36,8 +28,7 @@ loop-block-preserved c =
             let m : i % stride < stride = mod_below i stride c.requires.stride in
             let at : to + i % stride ≡ i = omega (arith, place, step, own) in
             let base : block * (c.from.result * stride) + i % stride ≡ i - b * stride = omega (arith, place, step) in
-            ap (λ z. is_on (slice_index c.clear_run.new.left z) lane) (sym at)
-            ∙ (c.clear_run.ensures.each (i % stride) lane m
+            ap (λ z. is_on (slice_index c.clear_run.new.left z) lane) (sym at) ∙ (c.clear_run.ensures.each (i % stride) lane m
             ∙ ap₂ (λ p q. p && not (is_on c.args.full lane && not q)) (ap (λ z. is_on (slice_index now z) lane) at ∙ ap (λ z. is_on z lane) (before.above i past))
             (ap (λ z. list_any (λ d. not (is_on (slice_index c.args.alive.now (z + d * stride)) lane)) c.args.states.now) base))
       ];

@@ -1,16 +1,10 @@
-use Rattle.std.proofs.Common.{◌≡◌, ◌<◌, length, refl, sym, ap, ◌∙◌, subst, arith}
-use Rattle.std.proofs.lemmas.List.{take_all}
+use Rattle.std.proofs.Common.{◌<◌, length, sym, ap, ◌∙◌, subst, arith}
 use Rattle.roman_joint.specs.declared.seat.Seat.{Seat}
 use Rattle.roman_joint.proofs.SeatLemmas.{one_read, states_range}
 use Rattle.roman_joint.proofs.seats.sizes_of_seats.Goals as goal
 
-pub loop-k-init : goal.loop-k-init
-loop-k-init c = record { sizes = refl; long = refl; known = λ environment are. tt }
-
 pub overflow_cast-sizes : goal.overflow_cast-sizes
-overflow_cast-sizes c =
-    let few = (states_range c.index-catalogue-seat.result c.states.ensures.known).1 in
-    omega (arith, c.len.ensures.len, ap length c.states.ensures.names, c.states.ensures.count)
+overflow_cast-sizes c = grind (arith, states_range)
 
 pub loop-k-preserved : goal.loop-k-preserved
 loop-k-preserved c =
@@ -20,9 +14,3 @@ loop-k-preserved c =
     let place : x.behaviour < length c.args.catalogue.now = subst (λ (z : Seat). z.behaviour < length c.args.catalogue.now) (sym c.index-seats-k.is) (c.requires.behaviours k x c.loop-k-test.true) in
     one_read c.args.catalogue.now c.args.seats.now c.loop-k.sizes k c.len.result x y c.loop-k-test.true (omega (arith, c.requires.few)) c.index-seats-k.is c.index-catalogue-seat.is place
     (c.len.ensures.len ∙ (ap length c.states.ensures.names ∙ c.states.ensures.count)) c.states.ensures.known c.loop-k.invariant
-
-pub returns : goal.returns
-returns c =
-    let whole = take_all c.loop-k.k c.args.seats.now (omega arith) in
-    let end : c.loop-k.k ≡ length c.args.seats.now = omega arith in
-    record { sizes = rw (whole, end) at c.loop-k.invariant.sizes; known = λ environment are. rw whole at (c.loop-k.invariant.known environment are) }

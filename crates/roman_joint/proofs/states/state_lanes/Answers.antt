@@ -38,7 +38,4 @@ returns-clause-each c lane l =
     ∙ and-true (lane_has_state st size c.args.b lane))
 
 pub returns-clause-rest : goal.returns-clause-rest
-returns-clause-rest c lane l =
-    let r = c.args.rows.now in
-    let word = slice_index r.firsts c.args.k * 2 ^ (c.from.result * slice_index r.strides c.args.k) % 2 ^ 64 in
-    on_and word r.full lane ∙ (ap (λ b. is_on word lane && b) (full_off c.args.shape.now r lane c.requires.rows l) ∙ and-false (is_on word lane))
+returns-clause-rest c lane l = grind (arith, and-false, full_off, on_and)

@@ -1,4 +1,4 @@
-use Rattle.std.proofs.Common.{◌≡◌, ℕ, ◌+◌, ◌<◌, ◌==◌, ◌&&◌, ◌||◌, eqb, List, length, get_or, slice_index, inl, inr, ap, ◌∙◌, arith}
+use Rattle.std.proofs.Common.{◌≡◌, ℕ, ◌+◌, ◌<◌, ◌==◌, ◌&&◌, ◌||◌, eqb, List, length, get_or, slice_index, ap, ◌∙◌, arith}
 use Rattle.std.proofs.Math.ListN.{set}
 use Rattle.std.specs.Prelude.{bit_or}
 use Rattle.std.proofs.lemmas.Bool.{cases_eq}
@@ -11,12 +11,7 @@ use Rattle.roman_joint.proofs.ways.add_ways.Goals as goal
 
 -- the lanes are added to one more way
 put : (lanes : List ℕ) (p here j lane : ℕ) → p < length lanes → is_on (slice_index (set lanes p (bit_or (get_or lanes p 0) here)) j) lane ≡ (is_on (slice_index lanes j) lane || (is_on here lane && eqb p j))
-put lanes p here j lane room = elim (cases_eq j p) [
-  | inl same ↦
-      let on = on_or (get_or lanes p 0) here lane in
-      rw same (rw (get_or-set_same lanes p (bit_or (get_or lanes p 0) here) 0 room) (grind (arith, nat_tests, on)))
-  | inr other ↦ rw (get_or-set_other lanes p j (bit_or (get_or lanes p 0) here) 0 other) (grind (arith, nat_tests))
-]
+put lanes p here j lane room = grind (arith, cases_eq, get_or-set_other, get_or-set_same, nat_tests, on_or)
 
 pub loop-b-preserved : goal.loop-b-preserved
 loop-b-preserved c =
@@ -28,7 +23,6 @@ loop-b-preserved c =
       long = length-set c.loop-b.lanes p (bit_or (get_or c.loop-b.lanes p 0) c.args.here) ∙ c.loop-b.invariant.long;
       ways = λ j lane.
           let test = λ (b : ℕ). b + c.args.up == j in
-          put c.loop-b.lanes p c.args.here j lane room
-          ∙ (ap (λ t. t || (is_on c.args.here lane && eqb p j)) (c.loop-b.invariant.ways j lane)
+          put c.loop-b.lanes p c.args.here j lane room ∙ (ap (λ t. t || (is_on c.args.here lane && eqb p j)) (c.loop-b.invariant.ways j lane)
           ∙ grind (arith, some_more test states i 0 (omega arith)));
     }

@@ -59,8 +59,7 @@ loop-d-preserved c =
       long = c.add_ways.ensures.long ∙ c.loop-d.invariant.long;
       each = λ lane l.
           let here = c.state_lanes-here.ensures.each lane l ∙ state_is (stride_of n k) size d lane in
-          c.with_lanes-some.ensures lane
-          ∙ (ap₂ (λ y z. y || z) (c.loop-d.invariant.each lane l) (ap₂ (λ y z. y && z) here asked ∙ same_state (digit lane) d some)
+          c.with_lanes-some.ensures lane ∙ (ap₂ (λ y z. y || z) (c.loop-d.invariant.each lane l) (ap₂ (λ y z. y && z) here asked ∙ same_state (digit lane) d some)
           ∙ below_more (digit lane) d (some (digit lane)));
       rest = λ lane l.
           c.with_lanes-some.ensures lane ∙ ap₂ (λ y z. y || (z && not c.is_empty.result)) (c.loop-d.invariant.rest lane l) (c.state_lanes-here.ensures.rest lane l);
@@ -70,8 +69,7 @@ loop-d-preserved c =
           let turned : list_any (λ b. b + (slice_index c.args.rows.now.sizes k - 1 - d) == j) states ≡ goes d =
           ap (list_any (λ b. b + (slice_index c.args.rows.now.sizes k - 1 - d) == j)) c.out-states.ensures.next
           ∙ any_same (λ b. b + (slice_index c.args.rows.now.sizes k - 1 - d) == j) (λ b. b + size == j + 1 + d) (next d) (λ b i. ap (λ m. eqb (b + (m - 1 - d)) j) own ∙ same_way b size d j in_size) in
-          c.add_ways.ensures.ways j lane
-          ∙ (ap₂ (λ y z. y || z) (c.loop-d.invariant.goes j lane l) (ap₂ (λ y z. y && z) here turned ∙ same_state (digit lane) d goes)
+          c.add_ways.ensures.ways j lane ∙ (ap₂ (λ y z. y || z) (c.loop-d.invariant.goes j lane l) (ap₂ (λ y z. y && z) here turned ∙ same_state (digit lane) d goes)
           ∙ below_more (digit lane) d (goes (digit lane)));
     }
 

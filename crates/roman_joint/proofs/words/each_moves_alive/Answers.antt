@@ -1,10 +1,10 @@
 use Rattle.std.proofs.Common.{◌≡◌, ℕ, ◌+◌, ◌-◌, ◌<◌, Bool, true, false, not, ◌&&◌, get_or, bit_and, refl, sym, ap, ◌∙◌, arith, rules}
-use Rattle.std.proofs.lemmas.Simd.{length-zip2, length-replicate, get_or-zip2, get_or-replicate}
+use Rattle.std.proofs.lemmas.Simd.{length-zip2, get_or-zip2}
 use Rattle.roman_lanes.specs.Rows.{is_on}
 use Rattle.roman_joint.specs.declared.moves.Move.{Move}
 use Rattle.roman_joint.proofs.Finds.{in_at}
 use Rattle.roman_lanes.proofs.CallerLemmas.{on_and}
-use Rattle.roman_joint.proofs.WordLemmas.{alive_more, all_pass}
+use Rattle.roman_joint.proofs.WordLemmas.{alive_more}
 use Rattle.roman_joint.proofs.words.each_moves_alive.Goals as goal
 
 abbrev nowhere : Move
@@ -13,14 +13,6 @@ nowhere = record { lanes = 0; from = 0; to = 0 }
 pub shifted-requires : goal.shifted-requires
 shifted-requires g c =
     (search rules, c.requires (get_or c.args.moves.now c.loop-way.way-index nowhere) (in_at c.args.moves.now c.loop-way.way-index nowhere (omega arith)))
-
-pub loop-way-init : goal.loop-way-init
-loop-way-init g c =
-    let word = λ (i lane : ℕ) (within : i < g.row.N). ap (λ z. is_on z lane) (get_or-replicate g.row.N i c.args.good 0 within) in record {
-      long = length-replicate g.row.N c.args.good;
-      alive = λ i lane within l h. word i lane within ∙ all_pass (is_on c.args.good lane);
-      within = λ i lane within off. word i lane within ∙ off;
-    }
 
 -- tests that agree where it matters give the same result
 where_on : (on a b : Bool) → (on ≡ true → a ≡ b) → not (on && not a) ≡ not (on && not b)

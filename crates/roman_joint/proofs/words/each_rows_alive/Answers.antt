@@ -1,14 +1,8 @@
 use Rattle.std.proofs.Common.{◌≡◌, ℕ, ◌+◌, ◌*◌, not, get_or, bit_and, sym, ap, ◌∙◌, arith}
-use Rattle.std.proofs.lemmas.Simd.{length-zip2, length-replicate, get_or-zip2, get_or-replicate}
+use Rattle.std.proofs.lemmas.Simd.{length-zip2, get_or-zip2}
 use Rattle.roman_lanes.specs.Rows.{is_on}
-use Rattle.roman_joint.proofs.WordLemmas.{alive_more, all_pass, not_not}
+use Rattle.roman_joint.proofs.WordLemmas.{alive_more, not_not}
 use Rattle.roman_joint.proofs.words.each_rows_alive.Goals as goal
-
-pub loop-b-init : goal.loop-b-init
-loop-b-init g c = record {
-  long = length-replicate g.row.N c.args.good;
-  each = λ i lane within. ap (λ z. is_on z lane) (get_or-replicate g.row.N i c.args.good 0 within) ∙ all_pass (is_on c.args.good lane);
-}
 
 pub loop-b-preserved : goal.loop-b-preserved
 loop-b-preserved g c =

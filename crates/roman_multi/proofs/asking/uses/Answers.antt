@@ -1,17 +1,13 @@
-use Rattle.std.proofs.Common.{◌≡◌, ◌≤◌, ◌<◌, length, ap, not, sym, ◌∙◌, arith}
+use Rattle.std.proofs.Common.{◌≡◌, ◌<◌, length, ap, not, sym, ◌∙◌, arith}
 use Rattle.std.specs.List.{list_any}
 use Rattle.roman_model.specs.Lists.{below, is_empty}
 use Rattle.roman_model.specs.SystemArena.{beh_next}
-use Rattle.roman_model.specs.declared.limits.TheConstants.{MAX_STATES}
 use Rattle.roman_parts.proofs.CallerLemmas.{IsOver-states}
 use Rattle.roman_multi.proofs.ListLemmas.{any_at}
 use Rattle.roman_multi.proofs.asking.uses.Goals as goal
 
 pub overflow_cast-t-end : goal.overflow_cast-t-end
-overflow_cast-t-end c =
-    let few : c.args.target.now.beh.states ≤ MAX_STATES = (IsOver-states c.args.target.now.env_states c.args.target.now.actions c.args.target.now.beh c.states.ensures.known).1 in
-    let count : c.len-t-end.result ≡ c.args.target.now.beh.states = c.len-t-end.ensures.len ∙ ap length c.states.ensures.names ∙ c.states.ensures.count in
-    omega arith
+overflow_cast-t-end c = grind (arith, IsOver-states)
 
 pub returns-then-uses_at : goal.returns-then-uses_at
 returns-then-uses_at c =

@@ -1,19 +1,9 @@
-use Rattle.std.proofs.Common.{◌≡◌, ◌<◌, ◌≤◌, ap, sym, ◌∙◌, length, slice_get, slice_index_or, subst}
+use Rattle.std.proofs.Common.{◌≡◌, ◌<◌, ◌≤◌, ap, sym, ◌∙◌, length, slice_get, subst}
 use Rattle.roman_model.specs.declared.limits.TheConstants.{MAX_STATES}
 use Rattle.roman_parts.proofs.CallerLemmas.{IsOver-states}
 use Rattle.roman_multi.specs.Lists.{listed_moves, moves_on}
 use Rattle.roman_multi.proofs.PartLemmas.{AreListsOf, made_behaviour_is, made_finals_below, made_steps_in_range, if_ok_three}
 use Rattle.roman_multi.proofs.behaviours.combine_behaviour.Goals as goal
-
-pub moves_of-requires : goal.moves_of-requires
-moves_of-requires c =
-    let count : c.len-env_states.result ≡ c.args.env.now.env.states = c.len-env_states.ensures.len ∙ ap length c.states.ensures.names ∙ c.states.ensures.count in
-    record {
-      few = subst (λ n. n ≤ MAX_STATES) (sym count) c.states.ensures.known.states.1;
-      states = count ∙ sym c.requires.of.env_states;
-      some = c.requires.few;
-      actions = λ k d l. subst (λ n. (slice_index_or c.args.requests.now k d).action < n) (sym c.requires.of.actions) (c.requires.actions k d l);
-    }
 
 pub from_lists-requires : goal.from_lists-requires
 from_lists-requires c =
@@ -26,16 +16,14 @@ from_lists-requires c =
       count = count;
       start = c.start.ensures.start;
       finals = c.deref.ensures.value ∙ c.in_ok-finals.ensures;
-      steps =
-          c.deref-2.ensures.value ∙ c.in_ok-steps.ensures
+      steps = c.deref-2.ensures.value ∙ c.in_ok-steps.ensures
           ∙ ap (λ n. listed_moves n (length c.args.requests.now) c.args.behaviour.now.beh.states (λ b n e. moves_on c.args.behaviour.now.beh b e (slice_get c.args.requests.now n))) es;
     } in
     record {
-      states = subst (λ n. (0 < n) × (n ≤ MAX_STATES)) (sym count) (IsOver-states c.args.behaviour.now.env_states c.args.behaviour.now.actions c.args.behaviour.now.beh c.states-2.ensures.known);
+      states = subst (λ n. (0 < n) × (n ≤ MAX_STATES)) (sym count) (IsOver-states _ _ _ c.states-2.ensures.known);
       start = subst (λ n. c.start.result < n) (sym count) c.start.ensures.within;
-      finals = made_finals_below c.args.env.now c.args.requests.now c.args.behaviour.now (length c.in_ok-states.states) c.start.result c.deref.result.now c.deref-2.result.now lists;
-      steps = made_steps_in_range c.args.env.now c.args.requests.now c.args.behaviour.now (length c.in_ok-states.states) c.start.result c.deref.result.now c.deref-2.result.now
-          c.args.over.now.env.actions lists c.requires.over.1;
+      finals = made_finals_below _ _ _ _ _ _ _ lists;
+      steps = made_steps_in_range _ _ _ _ _ _ _ _ lists c.requires.over.1;
     }
 
 pub returns : goal.returns
@@ -49,8 +37,7 @@ returns c =
       count = ap length kept ∙ c.states-2.ensures.count;
       start = c.start.ensures.start;
       finals = c.deref.ensures.value ∙ c.in_ok-finals.ensures;
-      steps =
-          c.deref-2.ensures.value ∙ c.in_ok-steps.ensures
+      steps = c.deref-2.ensures.value ∙ c.in_ok-steps.ensures
           ∙ ap (λ n. listed_moves n (length c.args.requests.now) c.args.behaviour.now.beh.states (λ b n e. moves_on c.args.behaviour.now.beh b e (slice_get c.args.requests.now n))) es;
     } in
     if_ok_three _ _ _ _ c.from_lists.result

@@ -1,14 +1,10 @@
-use Rattle.std.proofs.Common.{ap, sym, ◌∙◌, length}
+use Rattle.std.proofs.Common.{ap, ◌∙◌, length, arith}
 use Rattle.roman_multi.proofs.CombineLemmas.{parts_are, state_count, request_count}
 use Rattle.roman_multi.proofs.MoveLemmas.{requests_in_range}
 use Rattle.roman_multi.proofs.combining.combine_parts.Goals as goal
 
 pub combine_environment-requires : goal.combine_environment-requires
-combine_environment-requires c = record {
-  few = c.requires.some;
-  names = ap length c.requires.actions ∙ request_count c.args.env.now c.args.targets.now ∙ ap length (sym c.requires.requests);
-  actions = λ k d l. (requests_in_range c.args.env.now c.args.targets.now c.args.requests.now c.requires.requests k d l).1;
-}
+combine_environment-requires c = grind (arith, request_count, requests_in_range)
 
 pub combine_catalogue-requires-clause-actions : goal.combine_catalogue-requires-clause-actions
 combine_catalogue-requires-clause-actions c = λ k d l. (requests_in_range c.args.env.now c.args.targets.now c.args.requests.now c.requires.requests k d l).1

@@ -7,7 +7,6 @@ use Rattle.roman_multi.proofs.environment.push_row.Goals as goal
 pub loop-n-preserved : goal.loop-n-preserved
 loop-n-preserved c =
     flat_map_pushed (λ n. map (λ to. (c.args.e, n, to)) (next_on c.args.env.now.env c.args.e (slice_get c.args.requests.now n))) c.loop-n.n
-    c.args.steps.now.items c.loop-n.steps.items c.push_request.new.steps.items _
-    c.loop-n.invariant c.in_ok-push_request.ensures
+    c.args.steps.now.items c.loop-n.steps.items c.push_request.new.steps.items _ c.loop-n.invariant c.in_ok-push_request.ensures
     (ap (map (λ to. (c.args.e, c.loop-n.n, to)))
     (read_get (next_on c.args.env.now.env c.args.e) (λ r. env_next c.args.env.now.env c.args.e r.action) c.args.requests.now c.loop-n.n _ (λ y. refl) c.loop-n-test.true))

@@ -1,6 +1,5 @@
-use Rattle.std.proofs.Common.{◌≡◌, ◌≤◌, ◌++◌, ◌∷◌, [], ap, ◌∙◌, sym, length, get_or, take, arith}
+use Rattle.std.proofs.Common.{◌≡◌, ◌++◌, ◌∷◌, [], ap, ◌∙◌, sym, length, get_or, take, arith}
 use Rattle.roman_model.specs.Combined.{target_sizes}
-use Rattle.roman_model.specs.declared.limits.TheConstants.{MAX_STATES}
 use Rattle.roman_parts.proofs.CallerLemmas.{IsOver-states}
 use Rattle.roman_parts.specs.Named.{IsTarget}
 use Rattle.roman_multi.specs.Combining.{machines}
@@ -9,19 +8,14 @@ use Rattle.roman_multi.proofs.KnownLemmas.{known_more, sizes_more}
 use Rattle.roman_multi.proofs.sizes.sizes_of.Goals as goal
 
 pub overflow_cast-len : goal.overflow_cast-len
-overflow_cast-len c =
-    let named = get_or c.args.targets.now c.loop-i.i c.index-targets-i.result in
-    let few : named.target.beh.states ≤ MAX_STATES = (IsOver-states named.target.env_states named.target.actions named.target.beh c.states.ensures.known).1 in
-    let count : c.len.result ≡ named.target.beh.states = c.len.ensures.len ∙ ap length c.states.ensures.names ∙ c.states.ensures.count in
-    omega arith
+overflow_cast-len c = grind (arith, IsOver-states)
 
 pub loop-i-preserved : goal.loop-i-preserved
 loop-i-preserved c =
     let named = get_or c.args.targets.now c.loop-i.i c.index-targets-i.result in
     let count : c.len.result ≡ named.target.beh.states = c.len.ensures.len ∙ ap length c.states.ensures.names ∙ c.states.ensures.count in
     record {
-      sizes =
-          c.in_ok-push.ensures.items ∙ ap (λ xs. xs ++ c.len.result ∷ []) c.loop-i.invariant.sizes
+      sizes = c.in_ok-push.ensures.items ∙ ap (λ xs. xs ++ c.len.result ∷ []) c.loop-i.invariant.sizes
           ∙ ap (λ n. target_sizes (machines (take c.loop-i.i c.args.targets.now)) ++ n ∷ []) count
           ∙ sym (sizes_more c.args.targets.now c.loop-i.i c.index-targets-i.result c.loop-i-test.true);
       known = known_more (λ (x : Named). IsTarget c.args.env.now x.target) c.args.targets.now c.loop-i.i c.index-targets-i.result c.loop-i.invariant.known c.loop-i-test.true (record {

@@ -17,8 +17,7 @@ returns-then-not-is_final c =
     let sizes = target_sizes (machines c.args.targets.now) in
     let named = get_or c.args.targets.now c.loop-i.i c.index-targets-i.result in
     let count : length (states_at sizes c.args.t) ≡ length c.args.targets.now = length-states_at sizes c.args.t ∙ sizes_length c.args.targets.now in
-    sym (sym c.loop-i.invariant
-    ∙ final_drop (machines c.args.targets.now) (states_at sizes c.args.t) c.loop-i.i named.target.beh c.part_of-state.result
+    sym (sym c.loop-i.invariant ∙ final_drop (machines c.args.targets.now) (states_at sizes c.args.t) c.loop-i.i named.target.beh c.part_of-state.result
     (machine_at c.args.targets.now c.loop-i.i c.index-targets-i.result c.loop-i-test.true) (omega arith)
     (part_is sizes c.args.shape.now c.args.t c.loop-i.i c.part_of-state.result c.requires.shape c.requires.state (c.part_of-state.ensures.value ∙ ap (λ p. slice_index (pair_at c.args.shape.now p).bs c.loop-i.i) c.from.ensures))
     ∙ ap (λ b. b && are_final (drop (suc c.loop-i.i) (machines c.args.targets.now)) (drop (suc c.loop-i.i) (states_at sizes c.args.t))) (sym c.is_final.ensures ∙ c.if-not-is_final.true))

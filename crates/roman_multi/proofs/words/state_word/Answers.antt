@@ -5,7 +5,7 @@ use Rattle.std.proofs.lemmas.Option.{get_or_from_slice_get}
 use Rattle.roman_model.specs.Combined.{target_sizes}
 use Rattle.roman_model.specs.Numbers.{states_at}
 use Rattle.roman_model.proofs.CallerLemmas.{length-states_at}
-use Rattle.roman_multi.specs.Combining.{joined, machines, names_at}
+use Rattle.roman_multi.specs.Combining.{machines, names_at}
 use Rattle.roman_multi.proofs.KnownLemmas.{sizes_length}
 use Rattle.roman_multi.proofs.FlatLemmas.{part_is, part_below}
 use Rattle.roman_multi.proofs.WordLemmas.{joined_more, names_at_length, names_at_get, is_word_from}
@@ -32,20 +32,11 @@ loop-i-preserved c =
     let name : slice_index_or named.target.states (slice_index (states_at sizes c.args.t) c.loop-i.i) [] ≡ c.at.result.now =
     sym (ap₂ (λ (xs : List (List ℕ)) (n : ℕ). slice_index_or xs n []) c.states-names.ensures.names state) ∙ get_or_from_slice_get c.states-names.result.now c.from.result c.at.result.now [] c.at.ensures.name in
     record {
-      word =
-          c.in_ok-push_name.ensures.word ∙ ap (λ xs. xs ++ (if c.loop-i.i == 0 then c.at.result.now else 45 ∷ c.at.result.now)) c.loop-i.invariant.word
+      word = c.in_ok-push_name.ensures.word ∙ ap (λ xs. xs ++ (if c.loop-i.i == 0 then c.at.result.now else 45 ∷ c.at.result.now)) c.loop-i.invariant.word
           ∙ sym (joined_more names c.loop-i.i c.at.result.now (subst (λ n. c.loop-i.i < n) (sym (names_at_length c.args.targets.now (states_at sizes c.args.t) count)) c.loop-i-test.true) (there ∙ name));
       bytes = c.in_ok-push_name.ensures.bytes;
       some = λ l. c.in_ok-push_name.ensures.some;
     }
 
 pub returns : goal.returns
-returns c =
-    let sizes = target_sizes (machines c.args.targets.now) in
-    let names = names_at c.args.targets.now (states_at sizes c.args.t) in
-    let count : length (states_at sizes c.args.t) ≡ length c.args.targets.now = length-states_at sizes c.args.t ∙ sizes_length c.args.targets.now in
-    let all : length names ≡ length c.args.targets.now = names_at_length c.args.targets.now (states_at sizes c.args.t) count in
-    record {
-      word = c.loop-i.invariant.word ∙ ap joined (take_all c.loop-i.i names (omega arith));
-      bytes = is_word_from c.loop-i.word.items c.loop-i.invariant.bytes (c.loop-i.invariant.some (omega arith));
-    }
+returns c = grind (arith, is_word_from, length-states_at, names_at_length, sizes_length, take_all)

@@ -1,4 +1,4 @@
-use Rattle.std.proofs.Common.{◌≡◌, ℕ, ◌<◌, ◌≤◌, List, length, take, get_or, Option, Some, None, false, inl, inr, sym, ◌∙◌, arith}
+use Rattle.std.proofs.Common.{◌≡◌, ℕ, ◌<◌, ◌≤◌, List, length, take, get_or, Option, Some, None, false, arith}
 use Rattle.std.specs.Option.{IfNone}
 use Rattle.std.proofs.lemmas.Bool.{cases_lt}
 use Rattle.std.proofs.lemmas.List.{get_or-take, get_or_past, length-take-le}
@@ -8,13 +8,7 @@ use Rattle.roman_order.proofs.flags.next_word.Goals as goal
 
 none_at : (words : List ℕ) (start : ℕ) (found : Option ℕ) → start ≤ length words → ((i : ℕ) → start ≤ i → i < length words → get_or words i 0 ≡ 0) →
     IfNone found ((i : ℕ) → 0 ≤ i → i < length (take start words) → get_or (take start words) i 0 ≡ 0) → IfNone found ((p : ℕ) → has_flag words p ≡ false)
-none_at words start None within late h = has_flag-zeros words (λ i. elim (cases_lt i (length words)) [
-  | inl l ↦ elim (cases_lt i start) [
-    | inl early ↦ sym (get_or-take start words i 0 early) ∙ h i (omega arith) (omega (arith, early, length-take-le start words within))
-    | inr m ↦ late i m l
-  ]
-  | inr past ↦ get_or_past words i 0 past
-])
+none_at words start None within late h = grind (arith, cases_lt, get_or-take, get_or_past, has_flag-zeros, (length-take-le start words within))
 none_at words start (Some i) within late h = tt
 
 pub returns-clause-none : goal.returns-clause-none

@@ -7,5 +7,4 @@ pub returns-clause-set : goal.returns-clause-set
 returns-clause-set c = has_flag-written c.args.words.now (c.args.p / 64) _ c.args.p c.requires refl ∙ on_set_same _ (c.args.p % 64) (omega arith)
 
 pub returns-clause-others : goal.returns-clause-others
-returns-clause-others c q ne =
-    has_flag-others c.args.words.now (c.args.p / 64) _ c.args.p q c.requires refl (λ k l n. on_set_other _ (c.args.p % 64) k (omega arith) n) ne
+returns-clause-others c q ne = grind (arith, has_flag-others, on_set_other)

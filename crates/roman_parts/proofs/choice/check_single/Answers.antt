@@ -1,26 +1,19 @@
 -- A choice is between two steps of the list, in a state of both guards.
-use Rattle.std.proofs.Common.{◌≡◌, [], length, get_or, sym, arith}
+use Rattle.std.proofs.Common.{length, sym, arith}
 use Rattle.std.proofs.lemmas.Option.{get_or_from_slice_get}
 use Rattle.roman_parts.specs.Choices.{single_of}
 use Rattle.roman_parts.proofs.SingleLemmas.{choice_within}
 use Rattle.roman_parts.proofs.choice.check_single.Goals as goal
 
 pub overflow_cast-kind : goal.overflow_cast-kind
-overflow_cast-kind c =
-    let p = choice_within c.args.steps.now (length c.args.env_states.now) c.in-Some.j c.in-Some.i c.in-Some.state c.requires.guards (sym c.in-Some.ensures) in
-    omega (arith, p.0, p.1, c.requires.few)
+overflow_cast-kind c = grind (arith, (choice_within c.args.steps.now (length c.args.env_states.now) c.in-Some.j c.in-Some.i c.in-Some.state c.requires.guards (sym c.in-Some.ensures)))
 
 pub at-requires : goal.at-requires
-at-requires c =
-    (choice_within c.args.steps.now (length c.args.env_states.now) c.in-Some.j c.in-Some.i c.in-Some.state c.requires.guards (sym c.in-Some.ensures)).2
+at-requires c = grind (arith, (choice_within c.args.steps.now (length c.args.env_states.now) c.in-Some.j c.in-Some.i c.in-Some.state c.requires.guards (sym c.in-Some.ensures)))
 
 pub overflow_cast-j : goal.overflow_cast-j
-overflow_cast-j c =
-    let p = choice_within c.args.steps.now (length c.args.env_states.now) c.in-Some.j c.in-Some.i c.in-Some.state c.requires.guards (sym c.in-Some.ensures) in
-    omega (arith, p.0, c.requires.few)
+overflow_cast-j c = grind (arith, (choice_within c.args.steps.now (length c.args.env_states.now) c.in-Some.j c.in-Some.i c.in-Some.state c.requires.guards (sym c.in-Some.ensures)))
 
 pub returns-in-Some-clause-single : goal.returns-in-Some-clause-single
 unfolding single_of
-returns-in-Some-clause-single c =
-    let named : get_or c.args.env_states.now c.in-Some.state [] ≡ c.at.result.now = get_or_from_slice_get c.args.env_states.now c.in-Some.state c.at.result.now [] c.at.ensures.name in
-    rw (c.refused.ensures, ← c.in-Some.ensures, named)
+returns-in-Some-clause-single c = grind (arith, get_or_from_slice_get)

@@ -1,12 +1,9 @@
-use Rattle.std.proofs.Common.{◌<◌, ◌^◌, ap, length, append_assoc, append-nil, arith}
+use Rattle.std.proofs.Common.{◌<◌, ◌^◌, append_assoc, append-nil, arith}
 use Rattle.roman_parts.proofs.SetLemmas.{states_of-next, states_of-zero}
 use Rattle.roman_parts.proofs.rows.push_states.Goals as goal
 
 pub loop-rest-smaller : goal.loop-rest-smaller
-loop-rest-smaller c =
-    let fits : c.loop-rest.rest < 2 ^ 64 = omega arith in
-    let next = ap length (states_of-next c.loop-rest.rest (omega arith) fits) in
-    omega arith
+loop-rest-smaller c = grind (arith, states_of-next)
 
 pub loop-rest-preserved : goal.loop-rest-preserved
 loop-rest-preserved c =

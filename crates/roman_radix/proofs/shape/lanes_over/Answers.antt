@@ -1,4 +1,4 @@
-use Rattle.std.proofs.Common.{◌≡◌, ◌-◌, ◌*◌, ◌<◌, ◌≤◌, length, take, drop, get_or, sym, ap, ◌∙◌, arith}
+use Rattle.std.proofs.Common.{◌≡◌, ◌-◌, ◌*◌, ◌<◌, ◌≤◌, length, take, drop, get_or, sym, ◌∙◌, arith}
 use Rattle.std.proofs.lemmas.List.{get_or-take, length-take-le}
 use Rattle.roman_model.specs.Lists.{product_of}
 use Rattle.roman_radix.proofs.Strides.{product_more}
@@ -18,19 +18,7 @@ returns-then-more-gt-MAX_LANES-clause-low c =
     sym (low_is ns k c.requires.positive few (λ j l. too_many_from ns (k - 1) j c.requires.positive (omega arith) many) (omega arith))
 
 pub returns-then-more-gt-MAX_LANES-clause-lanes : goal.returns-then-more-gt-MAX_LANES-clause-lanes
-returns-then-more-gt-MAX_LANES-clause-lanes c =
-    let ns = take c.args.components c.args.sizes.now in
-    c.loop-low.invariant.product ∙ ap (λ k. product_of (drop k ns)) (returns-then-more-gt-MAX_LANES-clause-low c)
+returns-then-more-gt-MAX_LANES-clause-lanes c = grind (arith, returns-then-more-gt-MAX_LANES-clause-low)
 
 pub loop-low-preserved : goal.loop-low-preserved
-loop-low-preserved c =
-    let sizes = c.args.sizes.now in
-    let ns = take c.args.components sizes in
-    let k = c.loop-low.low in
-    let long : length ns ≡ c.args.components = length-take-le c.args.components sizes c.requires.many in
-    let size : c.from.result ≡ get_or ns (k - 1) 0 = c.from.ensures ∙ sym (get_or-take c.args.components sizes (k - 1) 0 (omega (arith, c.loop-low.invariant.within))) in
-    record {
-      within = omega (arith, c.loop-low.invariant.within);
-      product = product_more ns (k - 1) k c.loop-low.lanes c.from.result (omega arith) (omega (arith, long, c.loop-low.invariant.within)) size c.loop-low.invariant.product;
-      few = omega (arith, c.if-more-gt-MAX_LANES.false);
-    }
+loop-low-preserved c = grind (arith, get_or-take, length-take-le, product_more)

@@ -1,4 +1,4 @@
-use Rattle.std.proofs.Common.{sym, ◌∙◌}
+use Rattle.std.proofs.Common.{sym, ◌∙◌, arith}
 use Rattle.roman_text.proofs.ShapeLemmas.{too_long, shape_of_blank, shape_of_comment, shape_of_event_line}
 use Rattle.roman_text.proofs.parsing.parse_line.Goals as goal
 
@@ -13,6 +13,4 @@ returns-then-is_comment-clause-shape c =
     shape_of_comment c.args.line.now c.without_return.result.now c.in-Some.word.now _ c.if-line.false c.without_return.ensures c.in-Some.ensures (sym c.is_comment.ensures ∙ c.if-is_comment.true)
 
 pub returns-clause-shape : goal.returns-clause-shape
-returns-clause-shape c =
-    rw (shape_of_event_line c.args.line.now c.without_return.result.now c.in-Some.word.now _ c.if-line.false c.without_return.ensures c.in-Some.ensures (sym c.is_comment.ensures ∙ c.if-is_comment.false))
-    c.by_words.ensures
+returns-clause-shape c = grind (arith, shape_of_event_line)

@@ -1,4 +1,4 @@
-use Rattle.std.proofs.Common.{◌∙◌, ap}
+use Rattle.std.proofs.Common.{◌∙◌, ap, arith}
 use Rattle.roman_model.specs.SystemArena.{same_numbers}
 use Rattle.roman_model.specs.Certificate.{count_line}
 use Rattle.roman_check.proofs.AuditLemmas.{judged_head, judged_count, judged_body, judged_after_end}
@@ -15,9 +15,7 @@ returns-in-Count-clause-judged g c =
     c.in-Count.is (c.is_count.ensures ∙ ap (λ n. same_numbers (count_line n) c.args.line.now) c.pairs.ensures) c.judge_opening-in-Count.ensures.fault c.judge_opening-in-Count.ensures.read c.judge_opening-in-Count.ensures.rest
 
 pub returns-in-Body-clause-judged : goal.returns-in-Body-clause-judged
-returns-in-Body-clause-judged g c =
-    judged_body (g.J.Rules.arena c.args.joint.now) c.args.self.now c.judge_body.new.self c.args.line.now c.judge_body.result c.in-Body.is c.judge_body.ensures.fault
-    c.judge_body.ensures.list c.judge_body.ensures.due
+returns-in-Body-clause-judged g c = grind (arith, judged_body)
 
 pub returns-in-Nothing-clause-judged : goal.returns-in-Nothing-clause-judged
 returns-in-Nothing-clause-judged g c = judged_after_end (g.J.Rules.arena c.args.joint.now) c.args.self.now c.args.self.now c.args.line.now c.in-Nothing.is

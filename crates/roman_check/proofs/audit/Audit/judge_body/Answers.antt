@@ -1,4 +1,4 @@
-use Rattle.std.proofs.Common.{◌*◌, List, ℕ, Some, None, length, ap, ◌∙◌, sym, subst}
+use Rattle.std.proofs.Common.{◌*◌, List, ℕ, length, ap, ◌∙◌, sym, subst, arith}
 use Rattle.std.specs.Option.{option_map}
 use Rattle.roman_check.specs.declared.audit.Due.TheVariants.{Nothing}
 use Rattle.roman_check.specs.Audits.{HasListed}
@@ -14,16 +14,10 @@ pub first_missing-requires : goal.first_missing-requires
 first_missing-requires g c = ap (λ (ws : List ℕ). length ws * g.J.Rules.lanes c.args.joint.now) c.words.ensures ∙ c.requires.shaped.room
 
 pub returns-in-Some-clause-fault : goal.returns-in-Some-clause-fault
-returns-in-Some-clause-fault g c L has =
-    let A = g.J.Rules.arena c.args.joint.now in
-    let rows = listed_rows A L c.args.self.now (g.J.Rules.lanes c.args.joint.now) has c.requires.shaped.in_rows c.words.result.now c.words.ensures in
-    end_judged A L c.args.line.now (Some c.in-Some.pair) (c.in-Some.ensures L rows) (sym c.is_end.ensures ∙ c.if-not-is_end.false)
+returns-in-Some-clause-fault g c L has = grind (arith, end_judged, listed_rows)
 
 pub returns-in-None-clause-fault : goal.returns-in-None-clause-fault
-returns-in-None-clause-fault g c L has =
-    let A = g.J.Rules.arena c.args.joint.now in
-    let rows = listed_rows A L c.args.self.now (g.J.Rules.lanes c.args.joint.now) has c.requires.shaped.in_rows c.words.result.now c.words.ensures in
-    end_judged A L c.args.line.now None (c.in-None.ensures L rows) (sym c.is_end.ensures ∙ c.if-not-is_end.false)
+returns-in-None-clause-fault g c L has = grind (arith, end_judged, listed_rows)
 
 pub returns-in-None-clause-list : goal.returns-in-None-clause-list
 returns-in-None-clause-list g c L has none =

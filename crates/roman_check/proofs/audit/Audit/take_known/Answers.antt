@@ -21,7 +21,6 @@ returns-clause-list g c t L has =
     let (place, low) = c.in-Some.ensures in
     let x = entry_with (c.args.pair, old.asked.reason) in
     let absent = not-true (is_listed A L (old.asked.row * old.left.lanes + c.in-Some.lane)) (sym (c.has.ensures (length A.nodes) (is_listed A L) has.left) ∙ c.if-not-has.false) in
-    entry_listed A c.known.ensures.numbered L x (record { due = old.due; left = c.remove.new.self; asked = old.asked })
+    entry_listed _ c.known.ensures.numbered _ _ _
     (λ more. c.remove.ensures.removed (length A.nodes) (is_listed A L) (is_listed A (L ++ x ∷ [])) has.left (subst (λ p. p < length A.nodes) (sym place) c.requires.pair) absent
-    (λ q. more q ∙ ap (λ p. is_listed A L q || q == p) (sym place)))
-    (subst (λ m. HoldsWhereKept A m (is_listed A L) old.asked) (sym c.remove.ensures.lanes) has.known)
+    (λ q. more q ∙ ap (λ p. is_listed A L q || q == p) (sym place))) (subst (λ m. HoldsWhereKept A m (is_listed A L) old.asked) (sym c.remove.ensures.lanes) has.known)

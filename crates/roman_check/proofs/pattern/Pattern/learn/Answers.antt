@@ -5,9 +5,7 @@ use Rattle.roman_check.proofs.PatternLemmas.{parts_same, large_number}
 use Rattle.roman_check.proofs.pattern.Pattern.learn.Goals as goal
 
 pub overflow_sub-self : goal.overflow_sub-self
-overflow_sub-self c =
-    let parts = c.requires.parts in
-    large_number c.args.bytes.now c.args.pair c.args.space c.if-pair-lt100.false c.ranges.pair.fits (omega (arith, parts.before, parts.ended.within)) parts.number
+overflow_sub-self c = grind (arith, large_number)
 
 pub returns-clause-pattern : goal.returns-clause-pattern
 returns-clause-pattern c =
@@ -16,16 +14,15 @@ returns-clause-pattern c =
     let room : 16 ≤ length bytes = c.requires.room in
     let short : c.args.len < 16 = c.if-len-ge-WIDTH.false in
     let long : length (take 16 bytes) ≡ 16 = length-take-le 16 bytes room in
-    let low : 2 ≤ c.args.space = large_number bytes c.args.pair c.args.space c.if-pair-lt100.false c.ranges.pair.fits (omega (arith, parts.before, parts.ended.within)) parts.number in
+    let low : 2 ≤ c.args.space = large_number _ _ _ c.if-pair-lt100.false c.ranges.pair.fits (omega (arith, parts.before, parts.ended.within)) parts.number in
     record {
       pair = c.args.pair;
       large = c.if-pair-lt100.false;
       base = omega (arith, c.from-self.ensures);
       small = omega (arith, c.from-self.ensures, c.ranges.pair.fits);
-      parts =
-          subst (λ text. HasParts text c.args.pair c.args.reason (c.args.space - 2 + 2) c.args.len) (sym c.copy_from_slice.ensures.after)
+      parts = subst (λ text. HasParts text c.args.pair c.args.reason (c.args.space - 2 + 2) c.args.len) (sym c.copy_from_slice.ensures.after)
           (subst (λ s. HasParts (take 16 bytes) c.args.pair c.args.reason s c.args.len) (omega arith)
-          (parts_same bytes (take 16 bytes) c.args.pair c.args.space c.args.len c.args.reason (omega arith) (λ k l. sym (get_or-take 16 bytes k 0 (omega arith))) parts));
+          (parts_same _ _ _ _ _ _ (omega arith) (λ k l. sym (get_or-take 16 bytes k 0 (omega arith))) parts));
       long = c.if-len-lt7.false;
       short = short;
     }

@@ -1,4 +1,4 @@
-use Rattle.std.proofs.Common.{◌+◌, ap}
+use Rattle.std.proofs.Common.{◌+◌, ap, arith}
 use Rattle.std.proofs.lemmas.Bool.{both_ways}
 use Rattle.roman_check.proofs.ReaderLemmas.{closed_empty, closed_line, closed_at_fault}
 use Rattle.roman_check.proofs.reader.Reader.close.Goals as goal
@@ -8,9 +8,7 @@ returns-then-is_empty-clause-closed g c =
     closed_empty (g.J.Rules.arena c.args.joint.now) c.args.self.now (λ bytes held. (c.is_empty.ensures.told bytes held).0 c.if-is_empty.true)
 
 pub returns-in-Some-clause-closed : goal.returns-in-Some-clause-closed
-returns-in-Some-clause-closed g c =
-    closed_at_fault (g.J.Rules.arena c.args.joint.now) c.args.self.now c.judge.new.self c.judge.result c.in-Some.why
-    (λ bytes held none. both_ways c.is_empty.result c.if-is_empty.false ((c.is_empty.ensures.told bytes held).1 none)) c.judge.ensures.judged c.in-Some.is (ap (λ r. r.lines) c.judge.ensures.rest)
+returns-in-Some-clause-closed g c = grind (arith, both_ways, closed_at_fault)
 
 pub returns-clause-closed : goal.returns-clause-closed
 returns-clause-closed g c =

@@ -7,6 +7,4 @@ returns-in-Some-clause-fed g c =
     stop_line (g.J.Rules.arena c.args.joint.now) c.args.self.now c.judge_end.new.self c.args.last.now c.judge_end.result c.in-Some.why c.requires.line c.judge_end.ensures.judged c.in-Some.is c.judge_end.ensures.lines
 
 pub returns-clause-fed : goal.returns-clause-fed
-returns-clause-fed g c =
-    read_line (g.J.Rules.arena c.args.joint.now) c.args.self.now (record { audit = c.judge_end.new.self.audit; line = c.clear.new.self; lines = c.judge_end.new.self.lines + 1 }) c.args.last.now c.judge_end.result c.requires.line
-    c.judge_end.ensures.judged c.in_default.is (ap (λ n. n + 1) c.judge_end.ensures.lines) c.clear.ensures
+returns-clause-fed g c = read_line _ _ _ _ _ c.requires.line c.judge_end.ensures.judged c.in_default.is (ap (λ n. n + 1) c.judge_end.ensures.lines) c.clear.ensures

@@ -1,4 +1,4 @@
-use Rattle.std.proofs.Common.{◌-◌, length, take, drop, refl, arith}
+use Rattle.std.proofs.Common.{refl, arith}
 use Rattle.std.proofs.lemmas.List.{take_rest}
 use Rattle.roman_check.proofs.ReaderLemmas.{read_more, stop_in_piece, read_rest}
 use Rattle.roman_check.proofs.reader.Reader.feed.Goals as goal
@@ -10,14 +10,12 @@ pub returns-in_default-clause-fed : goal.returns-in_default-clause-fed
 returns-in_default-clause-fed g c =
     let piece = c.args.piece.now in
     let start = c.in-Ok.start in
-    read_rest (g.J.Rules.arena c.args.joint.now) c.args.self.now c.read_entries.new.self (record c.read_entries.new.self { line = c.extend.new.self }) piece (take (length piece - start) (drop start piece)) start
-    (take_rest piece start) c.in_default.ensures (c.in-Ok.ensures.read c.args.self.now c.lines.invariant.reads) refl refl c.extend.ensures
+    read_rest _ _ _ _ _ _ _ (take_rest piece start) c.in_default.ensures (c.in-Ok.ensures.read c.args.self.now c.lines.invariant.reads) refl refl c.extend.ensures
 
 pub returns-in-Some-end_line-clause-fed : goal.returns-in-Some-end_line-clause-fed
 returns-in-Some-end_line-clause-fed g c =
     let (low, below, line, newline) = c.in-Some.ensures in
-    stop_in_piece (g.J.Rules.arena c.args.joint.now) c.args.self.now c.read_entries.new.self c.end_line.new.self c.args.piece.now c.in-Ok.start c.in-Some.end c.in-Some-end_line.why low below newline
-    (c.in-Ok.ensures.read c.args.self.now c.lines.invariant.reads) c.in-Some-end_line.ensures.fed
+    stop_in_piece _ _ _ _ _ _ _ _ low below newline (c.in-Ok.ensures.read c.args.self.now c.lines.invariant.reads) c.in-Some-end_line.ensures.fed
 
 pub lines-preserved : goal.lines-preserved
 lines-preserved g c =
@@ -25,8 +23,7 @@ lines-preserved g c =
     let (after, within, counted) = c.in-Ok.ensures.place in
     record {
       place = omega (arith, below);
-      reads = read_more (g.J.Rules.arena c.args.joint.now) c.args.self.now c.read_entries.new.self c.end_line.new.self c.args.piece.now c.in-Ok.start c.in-Some.end c.end_line.result low below newline
-          (c.in-Ok.ensures.read c.args.self.now c.lines.invariant.reads) c.end_line.ensures.fed c.in_default-end_line.is;
+      reads = read_more _ _ _ _ _ _ _ _ low below newline (c.in-Ok.ensures.read c.args.self.now c.lines.invariant.reads) c.end_line.ensures.fed c.in_default-end_line.is;
       shaped = c.end_line.ensures.shaped;
       lines = omega (arith, low, after, counted, c.end_line.ensures.lines, c.lines.invariant.lines);
     }

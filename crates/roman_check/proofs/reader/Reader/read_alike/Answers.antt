@@ -11,9 +11,7 @@ use Rattle.roman_check.proofs.ReaderLemmas.{entry_in_piece, read_line, read_more
 use Rattle.roman_check.proofs.reader.Reader.read_alike.Goals as goal
 
 pub returns-then-not-take_known-clause-read : goal.returns-then-not-take_known-clause-read
-returns-then-not-take_known-clause-read g c before so_far =
-    subst (λ audit. IsReadTo (g.J.Rules.arena c.args.joint.now) before (record c.loop-start.self { audit = audit }) c.args.piece.now c.loop-start.start) (sym (c.take_known.ensures.untaken c.if-not-take_known.true))
-    (c.loop-start.invariant.reads before so_far)
+returns-then-not-take_known-clause-read g c before so_far = grind arith
 
 pub loop-start-preserved : goal.loop-start-preserved
 loop-start-preserved g c =
@@ -44,8 +42,7 @@ loop-start-preserved g c =
       asked = c.take_known.ensures.asked ∙ c.loop-start.invariant.asked;
       low = omega (arith, c.loop-start.invariant.low);
       high = omega (arith, below);
-      reads = λ before so_far.
-          subst (λ n. IsReadTo A before new piece n) end
+      reads = λ before so_far. subst (λ n. IsReadTo A before new piece n) end
           (read_more A before mid new piece start (start + old.len) None low below newline (c.loop-start.invariant.reads before so_far)
           (read_line A mid new (take (start + old.len - start) (drop start piece)) None line judged refl refl (subst (λ line. Holds line []) (sym c.loop-start.invariant.line) c.requires.none)) refl);
       due = c.take_known.ensures.due ∙ c.loop-start.invariant.due;

@@ -9,6 +9,5 @@ returns-clause-removed c pairs gone more table within absent is =
     let old = c.args.self.now in
     let word = c.without_lane.ensures in
     let read : c.index-word.result.now ≡ get_or old.words.items c.args.row 0 = get_or_read old.words.items _ _ c.requires.row c.index-word.ensures 0 in
-    remain_less pairs gone more old _ c.args.row c.args.lane c.without_lane.result table c.requires.row c.requires.lane old.few within absent is
-    refl (search rules) (search rules) (search rules) word.own
+    remain_less _ _ _ _ _ _ _ _ table c.requires.row c.requires.lane old.few within absent is refl (search rules) (search rules) (search rules) word.own
     (λ j l other. word.others j l other ∙ ap (λ w. is_on w j) read) (λ j off. word.within j (ap (λ w. is_on w j) read ∙ off))

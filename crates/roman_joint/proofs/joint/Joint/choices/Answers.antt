@@ -21,8 +21,7 @@ pub returns-in_default-clause-counted : goal.returns-in_default-clause-counted
 returns-in_default-clause-counted c y gone ok rows =
     let s = system_of c.args.self.now in
     let x = y * band_in s in
-    sum_cut (λ i. sum_by (λ lane. length (mask (numbered s) gone ((x + i) * lanes_in s + lane) c.args.a)) (below (lanes_in s))) 0 (band_in s) (omega arith)
-    (λ i past l.
+    sum_cut (λ i. sum_by (λ lane. length (mask (numbered s) gone ((x + i) * lanes_in s + lane) c.args.a)) (below (lanes_in s))) 0 (band_in s) (omega arith) (λ i past l.
     let here = in_band s y i c.args.row.now (joint_sizes c.args.self.now c.known.ensures) ok l in
     sym (none_chosen (numbered s) gone (lanes_in s) (x + i) c.args.a (λ lane m. open_here s (row_in s (x + i) c.args.row.now) (x + i) c.args.a lane here.looked m ∙ c.in_default.ensures)))
 
@@ -54,8 +53,6 @@ returns-clause-counted c y gone ok rows =
     let v = band_in s in
     let f = λ (k i : ℕ). served_by (numbered s) gone w (y * v + i) c.args.a k in
     let end : c.loop-k.k ≡ length s.seats = omega (arith, length-map n.seats (seat_of n.catalogue)) in
-    c.loop-k.invariant.counted y gone ok rows
-    ∙ (ap (λ m. sum_by (λ k. sum_by (f k) (below v)) (below m)) end
-    ∙ (sum_turned f (length s.seats) v
+    c.loop-k.invariant.counted y gone ok rows ∙ (ap (λ m. sum_by (λ k. sum_by (f k) (below v)) (below m)) end ∙ (sum_turned f (length s.seats) v
     ∙ sum_by_same (λ i. sum_by (λ k. f k i) (below (length s.seats))) (λ i. sum_by (λ lane. length (mask (numbered s) gone ((y * v + i) * w + lane) c.args.a)) (below w)) (below v)
     (λ i j. action_counted (numbered s) (joint_numbered n c.known.ensures) gone w (y * v + i) c.args.a)))

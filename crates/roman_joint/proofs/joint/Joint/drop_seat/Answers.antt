@@ -1,7 +1,6 @@
-use Rattle.std.proofs.Common.{◌<◌, length, ap, ◌∙◌, arith}
+use Rattle.std.proofs.Common.{ap, ◌∙◌, arith}
 use Rattle.std.specs.List.{remove}
 use Rattle.roman_model.specs.Change.{Die, after}
-use Rattle.roman_model.specs.Numbers.{sizes_without}
 use Rattle.roman_joint.specs.NamedSys.{system_of}
 use Rattle.roman_joint.specs.Layout.{named_sys_in}
 use Rattle.roman_joint.specs.Moves.{AreSeatsOf}
@@ -13,17 +12,7 @@ use Rattle.roman_joint.proofs.joint.Joint.drop_seat.Goals.{After-deref-2}
 -- the services that are left
 left : (c : After-deref-2) → AreSeatsOf (with_seats (named_sys_in c.self.inside) (remove (named_sys_in c.self.inside).seats c.args.k))
     c.deref.result.now c.deref-2.result.now c.shrink-self-inside.result c.self.inside.moves.envs c.self.inside.moves.actions
-left c =
-    let n = named_sys_in c.self.inside in
-    let within : c.args.k < length n.seats = rw (← c.self.view_is) at c.requires in
-    record {
-      known = gone_known n c.args.k c.remove-seat.result c.self.invariant.known within c.remove-seat.ensures.value;
-      catalogue_of = c.deref.ensures.value;
-      seats_of = c.deref-2.ensures.value ∙ c.remove-seat.ensures.items;
-      sizes_are = c.shrink-self-inside.ensures ∙ (ap (sizes_without c.args.k) c.self.invariant.shape ∙ gone_sizes n c.args.k);
-      envs_are = c.self.invariant.moves.envs;
-      actions_are = c.self.invariant.moves.actions;
-    }
+left c = grind (arith, gone_known, gone_sizes)
 
 pub invariant_of-self : goal.invariant_of-self
 invariant_of-self c =

@@ -17,9 +17,3 @@ overflow_mul-y c =
     let sizes = joint_sizes n c.layout.ensures.known in
     let same = ap (λ m. c.args.y * m) c.layout.ensures.rows.band in
     omega (arith, same, few (c.args.y * band_in s) (lanes_in s) _ (width_positive s sizes) c.requires, sizes.counted)
-
-pub row-requires : goal.row-requires
-row-requires c = rw c.layout.ensures.rows.band c.requires
-
-pub returns : goal.returns
-returns c = rw c.layout.ensures.rows.band at c.row.ensures

@@ -13,8 +13,5 @@ returns-in_default c x gone ok rows =
       rest = λ lane l. on_zero lane;
     }
 
-pub alive_on-alive-requires-clause-turn : goal.alive_on-alive-requires-clause-turn
-alive_on-alive-requires-clause-turn c = (c.requires.row.0, c.args.row.now, c.args.a, c.requires.row.1, c.in-Some.ensures)
-
 pub returns : goal.returns
 returns c x gone ok rows = c.good_on.ensures x gone ok rows (c.alive_on-alive.ensures gone rows)

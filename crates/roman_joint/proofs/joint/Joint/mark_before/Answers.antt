@@ -6,11 +6,8 @@ use Rattle.roman_joint.specs.Bands.{band_in}
 use Rattle.roman_joint.specs.Marks.{MarksAction, front_action}
 use Rattle.roman_joint.proofs.SplitLemmas.{joint_sizes}
 use Rattle.roman_joint.proofs.BandLemmas.{in_band}
-use Rattle.roman_joint.proofs.MarkLemmas.{grows_itself, grows_on, action_on, more_below, marks_all, count_below, count_front, pair_there}
+use Rattle.roman_joint.proofs.MarkLemmas.{grows_on, action_on, more_below, marks_all, count_below, count_front, pair_there}
 use Rattle.roman_joint.proofs.joint.Joint.mark_before.Goals as goal
-
-pub loop-a-init : goal.loop-a-init
-loop-a-init g c = record { grows = grows_itself c.args.marks.now; actions = λ b l. absurd (omega arith); steps = λ q at. omega arith }
 
 pub loop-a-preserved : goal.loop-a-preserved
 loop-a-preserved g c =
@@ -22,9 +19,7 @@ loop-a-preserved g c =
     let more = c.mark_action.ensures.grows in
     record {
       grows = grows_on c.args.marks.now old new i.grows more;
-      actions = more_below c.loop-a.a (λ (b : ℕ). MarksAction s row new b)
-          (λ b l. action_on s row old new b more (i.actions b l))
-          c.mark_action.ensures.marks;
+      actions = more_below c.loop-a.a (λ (b : ℕ). MarksAction s row new b) (λ b l. action_on s row old new b more (i.actions b l)) c.mark_action.ensures.marks;
       steps = λ q at. omega (arith, i.steps q at, c.mark_action.ensures.steps q at, count_below (front_action s q) c.loop-a.a);
     }
 
@@ -32,8 +27,7 @@ pub returns-clause-marked : goal.returns-clause-marked
 returns-clause-marked g c y i lane p a k ok in_rows in_lanes below_p led =
     let n = c.args.self.now in
     let s = system_of n in
-    marks_all s c.args.row.now y i lane p a k c.loop-a.marks c.known.ensures.system (joint_sizes n c.known.ensures) ok in_rows in_lanes
-    (rw c.loop-a.invariant.grows.long c.requires.room)
+    marks_all _ _ _ _ _ _ _ _ _ c.known.ensures.system (joint_sizes _ c.known.ensures) ok in_rows in_lanes (rw c.loop-a.invariant.grows.long c.requires.room)
     (λ b m. c.loop-a.invariant.actions b (omega (arith, m, c.loop-a-test.false, c.len-a-end.ensures.len, rw c.environment.ensures at (ap length c.actions.ensures.names ∙ c.actions.ensures.count))))
     below_p led
 

@@ -17,12 +17,7 @@ use Rattle.roman_joint.proofs.joint.Joint.mask.Goals as goal
 
 -- an action that isn't allowed at the row's pairs
 pub returns-in_default : goal.returns-in_default
-returns-in_default c x gone ok rows =
-    let s = system_of c.args.self.now in
-    mask_refused (numbered s) gone (x * lanes_in s + c.args.lane) c.args.a (open_here s c.args.row.now x c.args.a c.args.lane ok c.requires.lane ∙ c.in_default.ensures)
-
-pub alive_on-alive-requires-clause-turn : goal.alive_on-alive-requires-clause-turn
-alive_on-alive-requires-clause-turn c = (c.requires.row.0, c.args.row.now, c.args.a, c.requires.row.1, c.in-Some.ensures)
+returns-in_default c x gone ok rows = grind (arith, mask_refused, open_here)
 
 pub overflow_shr-good : goal.overflow_shr-good
 overflow_shr-good c = omega (arith, c.requires.lane, lanes_few (sizes_of (system_of c.args.self.now)).seats)
@@ -48,12 +43,10 @@ returns c x gone ok rows =
     let n = c.args.self.now in
     let s = system_of n in
     let seats = length-map n.seats (seat_of n.catalogue) in
-    let h = known n x c.args.row.now c.known.ensures ok in
+    let h = known _ _ _ c.known.ensures ok in
     let living = c.alive_on-alive.ensures gone rows in
     let p = x * lanes_in s + c.args.lane in
-    subst (λ bits. HasBits bits (has (mask (numbered s) gone p c.args.a))) (sym c.mask.view_is)
-    (mask_all (numbered s) (joint_numbered n c.known.ensures) gone p c.args.a c.loop-k.k c.loop-k.mask
-    (λ k past l.
+    subst (λ bits. HasBits bits (has (mask (numbered s) gone p c.args.a))) (sym c.mask.view_is) (mask_all _ (joint_numbered _ c.known.ensures) _ _ _ _ _ (λ k past l.
     let (within, dead) = c.serving-k-end.ensures.rest k (omega arith) (omega (arith, seats)) in
-    beaten_dead s x c.args.a k c.args.lane c.args.row.now c.in-Some.turn gone h c.in-Some.ensures within l (subst (AreAlive s gone c.in-Some.turn) dead living) c.requires.lane)
+    beaten_dead _ _ _ _ _ _ _ _ h c.in-Some.ensures within l (subst (AreAlive s gone c.in-Some.turn) dead living) c.requires.lane)
     (c.loop-k.invariant.bits x gone ok rows) c.loop-k.invariant.rest)

@@ -1,4 +1,4 @@
-use Rattle.std.proofs.Common.{◌≡◌, ◌+◌, length, refl, sym, ap, ◌∙◌, arith}
+use Rattle.std.proofs.Common.{◌≡◌, length, sym, ap, ◌∙◌, arith}
 use Rattle.std.proofs.lemmas.List.{length-map}
 use Rattle.roman_joint.specs.NamedSys.{system_of, seat_of}
 use Rattle.roman_joint.proofs.WalkLemmas.{goes_action, below-past}
@@ -12,7 +12,4 @@ returns c =
     (omega (arith, c.from.ensures)) c.first_env-walk.ensures (c.seats-walk.ensures.count ∙ sym (length-map n.seats (seat_of n.catalogue)))
 
 pub returns-then-from-len : goal.returns-then-from-len
-returns-then-from-len c =
-    let s = system_of c.args.self.now in
-    let actions : c.len.result ≡ s.env.actions = rw c.environment.ensures at (c.len.ensures.len ∙ (ap length c.actions.ensures.names ∙ c.actions.ensures.count)) in
-    (refl, below-past _ s.env.actions (c.args.walk.now.action + 1) (omega (arith, c.from.ensures)))
+returns-then-from-len c = grind (arith, below-past)

@@ -1,4 +1,4 @@
-use Rattle.std.proofs.Common.{length, get_or, refl, sym, ap, ◌∙◌, arith}
+use Rattle.std.proofs.Common.{length, get_or, sym, ap, ◌∙◌, arith}
 use Rattle.std.proofs.lemmas.List.{length-map}
 use Rattle.roman_model.specs.SystemArena.{env_prev}
 use Rattle.roman_radix.specs.Radix.{env_stride_of}
@@ -29,7 +29,4 @@ returns c =
     (c.seats-walk.ensures.count ∙ sym (length-map n.seats (seat_of n.catalogue)))
 
 pub returns-then-walk-ge-MAX_STATES : goal.returns-then-walk-ge-MAX_STATES
-returns-then-walk-ge-MAX_STATES c =
-    let s = system_of c.args.self.now in
-    let w = c.args.walk.now in
-    (refl, flat_map-past _ (env_prev s.env (goal_of s w).e w.action) w.envs_taken (omega (arith, few_prev s.env (goal_of s w).e w.action c.known.ensures.system.env)))
+returns-then-walk-ge-MAX_STATES c = grind (arith, few_prev, flat_map-past)

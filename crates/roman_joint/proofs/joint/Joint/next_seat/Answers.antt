@@ -1,4 +1,4 @@
-use Rattle.std.proofs.Common.{◌+◌, length, refl, arith}
+use Rattle.std.proofs.Common.{arith}
 use Rattle.std.proofs.lemmas.List.{length-map}
 use Rattle.roman_joint.specs.NamedSys.{system_of, seat_of}
 use Rattle.roman_joint.proofs.WalkLemmas.{goes_seat, below-past}
@@ -10,6 +10,4 @@ returns c =
     goes_seat (system_of n) c.known.ensures.system c.args.walk.now c.requires.walk c.requires.seat (omega (arith, length-map n.seats (seat_of n.catalogue)))
 
 pub returns-then-walk-seats : goal.returns-then-walk-seats
-returns-then-walk-seats c =
-    let n = c.args.self.now in
-    (refl, below-past _ (length (system_of n).seats) (c.args.walk.now.seat + 1) (omega (arith, length-map n.seats (seat_of n.catalogue))))
+returns-then-walk-seats c = grind (arith, below-past, length-map)

@@ -7,12 +7,7 @@ use Rattle.roman_joint.proofs.GoodLemmas.{env_rows_positive}
 use Rattle.roman_joint.proofs.joint.Joint.row.Goals as goal
 
 pub overflow_mul-p : goal.overflow_mul-p
-overflow_mul-p c =
-    let n = c.args.self.now in
-    omega (arith, ap (λ m. c.args.x * m) c.layout-rows.ensures.rows.lanes, c.requires, (joint_sizes n c.layout-rows.ensures.known).counted)
-
-pub scene_at-scene-requires : goal.scene_at-scene-requires
-scene_at-scene-requires c = rw c.layout-rows.ensures.rows.lanes c.requires
+overflow_mul-p c = grind (arith, joint_sizes)
 
 pub nonzero_rem-result : goal.nonzero_rem-result
 nonzero_rem-result c = rw c.layout-rows.ensures.rows.env (env_rows_positive (system_of c.args.self.now) (joint_sizes c.args.self.now c.layout-rows.ensures.known))

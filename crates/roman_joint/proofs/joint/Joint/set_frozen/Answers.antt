@@ -1,6 +1,4 @@
-use Rattle.std.proofs.Common.{◌<◌, if◌then◌else◌, length, sym, ap, ◌∙◌}
-use Rattle.roman_model.specs.Change.{Freeze, Thaw, after}
-use Rattle.roman_joint.specs.NamedSys.{system_of}
+use Rattle.std.proofs.Common.{◌<◌, length, sym, ap, ◌∙◌, arith}
 use Rattle.roman_joint.specs.Layout.{named_sys_in}
 use Rattle.roman_joint.proofs.Shown.{is_joint}
 use Rattle.roman_joint.proofs.MoveLemmas.{moves_frozen}
@@ -25,13 +23,7 @@ invariant_of-self c =
     })
 
 pub returns-clause-seats : goal.returns-clause-seats
-returns-clause-seats c =
-    let n = named_sys_in c.self.inside in
-    ap (with_seats n) (frozen_set n.seats c.args.k c.index_mut.result.now c.args.frozen c.index_mut.ensures.value)
-    ∙ ap (λ m. with_seats m (with_frozen m.seats c.args.k c.args.frozen)) c.self.view_is
+returns-clause-seats c = grind (arith, frozen_set, with_seats)
 
 pub returns-clause-system : goal.returns-clause-system
-returns-clause-system c =
-    let n = named_sys_in c.self.inside in
-    ap (λ xs. system_of (with_seats n xs)) (frozen_set n.seats c.args.k c.index_mut.result.now c.args.frozen c.index_mut.ensures.value)
-    ∙ (frozen_system n c.args.k c.args.frozen ∙ ap (λ m. after (if c.args.frozen then Freeze c.args.k else Thaw c.args.k) (system_of m)) c.self.view_is)
+returns-clause-system c = grind (arith, frozen_set, frozen_system, with_seats)

@@ -1,9 +1,8 @@
-use Rattle.std.proofs.Common.{◌≡◌, ◌+◌, ◌*◌, ◌<◌, true, false, not, ◌||◌, length, refl, slice_get, slice_index, sym, ap, ◌∙◌, subst, arith}
+use Rattle.std.proofs.Common.{◌≡◌, ◌+◌, ◌*◌, ◌<◌, true, false, not, ◌||◌, length, slice_get, slice_index, sym, ap, ◌∙◌, arith}
 use Rattle.std.proofs.lemmas.List.{length-set}
 use Rattle.roman_model.specs.Lists.{all_below}
 use Rattle.roman_model.specs.System.{is_final}
 use Rattle.roman_model.specs.Numbers.{sizes_of, pair_at, numbered}
-use Rattle.roman_lanes.specs.Rows.{Keeps}
 use Rattle.roman_joint.specs.NamedSys.{system_of}
 use Rattle.roman_joint.specs.Rows.{lanes_in, may_rest}
 use Rattle.roman_joint.specs.Bands.{band_in}
@@ -12,9 +11,6 @@ use Rattle.roman_joint.proofs.AllowedLemmas.{fine_there}
 use Rattle.roman_joint.proofs.WordLemmas.{not_not}
 use Rattle.roman_joint.proofs.BandLemmas.{row_in, in_band, keeps_more, keeps_nothing}
 use Rattle.roman_joint.proofs.joint.Joint.unfine_band.Goals as goal
-
-pub is_final-requires : goal.is_final-requires
-is_final-requires c = rw c.target.ensures c.requires.row.1.target_range
 
 pub returns-then-not-is_final-clause-unfine : goal.returns-then-not-is_final-clause-unfine
 returns-then-not-is_final-clause-unfine c y ok =
@@ -26,9 +22,6 @@ returns-then-not-is_final-clause-unfine c y ok =
     let x = y * band_in s + i in
     sym (ap not (fine_there s (row_in s x c.args.row.now) x lane here.looked m
     ∙ ap (λ b. not b || all_below (λ k. may_rest (slice_get s.seats k) (slice_index (pair_at (sizes_of s) (x * lanes_in s + lane)).bs k)) (length s.seats)) off)))
-
-pub loop-i-init : goal.loop-i-init
-loop-i-init c = record { long = refl; unfine = λ y ok. record { each = λ i lane l m. absurd (omega (arith, l)); others = λ i l. refl; none = λ i lane off. off } }
 
 pub loop-i-preserved : goal.loop-i-preserved
 loop-i-preserved c =
@@ -42,16 +35,11 @@ loop-i-preserved c =
           let here = in_band s y i c.args.row.now (joint_sizes c.args.self.now c.known.ensures) ok within in
           let x = y * band_in s + i in
           keeps_more s (y * band_in s) i c.all_rest_in-rests.result c.less.result (λ p. not ((numbered s).fine p)) c.args.left.now c.loop-i.left
-          (omega (arith, within, c.loop-i.invariant.long, c.requires.long)) (c.loop-i.invariant.unfine y ok)
-          (λ lane m. c.all_rest_in-rests.ensures y lane ok m
+          (omega (arith, within, c.loop-i.invariant.long, c.requires.long)) (c.loop-i.invariant.unfine y ok) (λ lane m. c.all_rest_in-rests.ensures y lane ok m
           ∙ (sym (fine_there s (row_in s x c.args.row.now) x lane here.looked m
           ∙ ap (λ b. not b || all_below (λ k. may_rest (slice_get s.seats k) (slice_index (pair_at (sizes_of s) (x * lanes_in s + lane)).bs k)) (length s.seats)) on)
-          ∙ not_not ((numbered s).fine (x * lanes_in s + lane))))
-          c.less.ensures;
+          ∙ not_not ((numbered s).fine (x * lanes_in s + lane)))) c.less.ensures;
     }
 
 pub returns-clause-unfine : goal.returns-clause-unfine
-returns-clause-unfine c y ok =
-    let s = system_of c.args.self.now in
-    let end : c.loop-i.i ≡ band_in s = omega (arith, c.loop-i-test.false, c.layout.ensures.rows.band) in
-    subst (λ m. Keeps (lanes_in s) (y * band_in s) m (λ p. not ((numbered s).fine p)) c.args.left.now c.loop-i.left) end (c.loop-i.invariant.unfine y ok)
+returns-clause-unfine c y ok = grind arith

@@ -1,8 +1,7 @@
 use Rattle.std.proofs.Common.{◌≡◌, ℕ, ◌+◌, ◌*◌, Bool, false, not, ◌&&◌, ◌∙◌, sym, ap, ap₂, subst, add-one, arith, length}
 use Rattle.std.proofs.lemmas.List.{length-map}
 use Rattle.roman_model.specs.Lists.{all_below}
-use Rattle.roman_model.specs.Arena.{is_beaten, is_justified}
-use Rattle.roman_model.specs.declared.reason.Reason.TheVariants.{Act}
+use Rattle.roman_model.specs.Arena.{is_beaten}
 use Rattle.roman_model.specs.Numbers.{numbered}
 use Rattle.roman_lanes.specs.Rows.{is_on}
 use Rattle.roman_joint.specs.NamedSys.{system_of, seat_of}
@@ -17,9 +16,7 @@ one_more : (p : ℕ → Bool) (k : ℕ) (wanted : Bool) → ((wanted && all_belo
 one_more p k wanted = rw add-one (grind arith)
 
 pub returns-in_default-clause-lost : goal.returns-in_default-clause-lost
-returns-in_default-clause-lost c x gone ok rows lane l =
-    let s = system_of c.args.self.now in
-    on_zero lane ∙ and_nothing (is_on c.args.wanted lane) (is_justified (numbered s) gone (x * lanes_in s + lane) (Act c.args.a)) (refused s c.args.row.now x c.args.a lane gone ok l c.in_default.ensures)
+returns-in_default-clause-lost c x gone ok rows lane l = grind (arith, and_nothing, on_zero, refused)
 
 pub alive_on-alive-requires-clause-turn : goal.alive_on-alive-requires-clause-turn
 alive_on-alive-requires-clause-turn c = (c.requires.row.0, c.args.row.now, c.args.a, c.requires.row.1, c.in-Some.ensures)
@@ -53,8 +50,7 @@ returns-clause-lost c x gone ok rows lane l =
     let h = known n x c.args.row.now c.known.ensures ok in
     let living = c.alive_on-alive.ensures gone rows in
     let all : all_below beaten c.loop-k.k ≡ all_below beaten (length s.seats) =
-    all_further beaten c.loop-k.k (length s.seats) (omega (arith, seats, c.serving-k-end.ensures.few))
-    (λ k past m.
+    all_further beaten c.loop-k.k (length s.seats) (omega (arith, seats, c.serving-k-end.ensures.few)) (λ k past m.
     let (within, dead) = c.serving-k-end.ensures.rest k (omega arith) (omega (arith, seats)) in
     beaten_dead s x c.args.a k lane c.args.row.now c.in-Some.turn gone h c.in-Some.ensures within m (subst (AreAlive s gone c.in-Some.turn) dead living) l) in
     c.loop-k.invariant.lost x gone ok rows lane l

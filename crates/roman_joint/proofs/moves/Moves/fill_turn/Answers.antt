@@ -18,12 +18,7 @@ add-requires-clause-few c =
     (c.index-catalogue-seats.is ∙ ap (λ (x : declared.Seat). get_or c.args.catalogue.now x.behaviour c.index-catalogue-seats.result) (sym c.index-seats-k.is))).few
 
 pub add-requires-clause-room : goal.add-requires-clause-room
-add-requires-clause-room c =
-    let n = c.requires.seats.0 in
-    let sizes = c.args.shape.now in
-    let long = sizes_long n c.args.catalogue.now c.args.seats.now sizes c.args.self.now.envs c.args.self.now.actions c.requires.seats.1 in
-    let more = room_more sizes.seats c.loop-k.k (omega (arith, long)) in
-    omega (arith, more, lanes_room sizes c.known.ensures, c.loop-k.invariant.few, c.loop-k.invariant.kept.moves_room, c.requires.few, c.loop-k.self.moves.ok.0)
+add-requires-clause-room c = grind (arith, lanes_room, room_more, sizes_long)
 
 pub loop-k-preserved : goal.loop-k-preserved
 loop-k-preserved c =
@@ -47,11 +42,7 @@ loop-k-preserved c =
     }
 
 pub returns-clause-long : goal.returns-clause-long
-returns-clause-long c =
-    let n = c.requires.seats.0 in
-    let sizes = c.args.shape.now in
-    let long = sizes_long n c.args.catalogue.now c.args.seats.now sizes c.args.self.now.envs c.args.self.now.actions c.requires.seats.1 in
-    omega (arith, long, low_of-le sizes.seats, c.loop-k.invariant.long, c.requires.rows.low)
+returns-clause-long c = grind (arith, low_of-le, sizes_long)
 
 pub returns-clause-few : goal.returns-clause-few
 returns-clause-few c = omega (arith, c.loop-k.invariant.few, lanes_room c.args.shape.now c.known.ensures)

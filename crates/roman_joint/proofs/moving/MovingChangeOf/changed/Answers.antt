@@ -1,13 +1,7 @@
-use Rattle.std.proofs.Common.{◌≡◌, ◌+◌, ◌-◌, not, ◌&&◌, get_or, subst, arith}
+use Rattle.std.proofs.Common.{◌≡◌, ◌+◌, ◌-◌, not, ◌&&◌, get_or, subst}
 use Rattle.std.specs.List.{list_any}
 use Rattle.roman_lanes.specs.Rows.{is_on}
 use Rattle.roman_joint.proofs.moving.MovingChangeOf.changed.Goals as goal
-
-pub load-alive-requires : goal.load-alive-requires
-load-alive-requires g c = omega (arith, c.requires.1, c.requires.2.long)
-
-pub each_moves_alive-requires : goal.each_moves_alive-requires
-each_moves_alive-requires g c = (omega arith, c.requires.2.small)
 
 pub returns : goal.returns
 returns g c = record {

@@ -10,20 +10,13 @@ pub place_of-place-requires-clause-some : goal.place_of-place-requires-clause-so
 place_of-place-requires-clause-some c = rw c.deref.ensures.value (begins c.self.inside c.args.self.now c.args.i c.self.view_is c.self.invariant c.requires).0
 
 pub place_of-place-requires-clause-start : goal.place_of-place-requires-clause-start
-place_of-place-requires-clause-start c =
-    let h = (begins c.self.inside c.args.self.now c.args.i c.self.view_is c.self.invariant c.requires).1 in
-    rw c.deref.ensures.value (omega (arith, h))
+place_of-place-requires-clause-start c = grind (arith, (begins c.self.inside c.args.self.now c.args.i c.self.view_is c.self.invariant c.requires))
 
 pub index-event-requires : goal.index-event-requires
-index-event-requires c =
-    let within = rw c.deref.ensures.value at c.place_of-place.ensures.within in
-    omega (arith, within, (few c.self.inside c.self.invariant).firsts, c.self.inside.events.ok.0)
+index-event-requires c = grind (arith, few)
 
 pub without_lowest-lanes-requires : goal.without_lowest-lanes-requires
-without_lowest-lanes-requires c =
-    let is = found c.self.inside c.args.self.now c.place_of-place.result c.args.i c.index-event.result.now c.self.view_is c.self.invariant c.requires (rw c.deref.ensures.value at c.place_of-place.ensures.within) c.index-event.ensures (rw c.deref.ensures.value at c.place_of-place.ensures.from) (rw c.deref.ensures.value at c.place_of-place.ensures.to) in
-    let read = get_or_read c.self.inside.firsts.items c.place_of-place.result c.index.result.now (rw c.deref.ensures.value at c.place_of-place.ensures.within) c.index.ensures 0 in
-    omega (arith, is.within, is.from, read)
+without_lowest-lanes-requires c = grind (arith, (found c.self.inside c.args.self.now c.place_of-place.result c.args.i c.index-event.result.now c.self.view_is c.self.invariant c.requires (rw c.deref.ensures.value at c.place_of-place.ensures.within) c.index-event.ensures (rw c.deref.ensures.value at c.place_of-place.ensures.from) (rw c.deref.ensures.value at c.place_of-place.ensures.to)), (get_or_read c.self.inside.firsts.items c.place_of-place.result c.index.result.now (rw c.deref.ensures.value at c.place_of-place.ensures.within) c.index.ensures 0))
 
 pub returns-clause-entries : goal.returns-clause-entries
 returns-clause-entries c =
@@ -44,11 +37,10 @@ returns-clause-within c =
 pub returns-clause-event : goal.returns-clause-event
 returns-clause-event c =
     let e = c.index-event.result.now in
-    let is = found c.self.inside c.args.self.now c.place_of-place.result c.args.i c.index-event.result.now c.self.view_is c.self.invariant c.requires (rw c.deref.ensures.value at c.place_of-place.ensures.within) c.index-event.ensures (rw c.deref.ensures.value at c.place_of-place.ensures.from) (rw c.deref.ensures.value at c.place_of-place.ensures.to) in
+    let is = found _ _ _ _ _ c.self.view_is c.self.invariant c.requires (rw c.deref.ensures.value at c.place_of-place.ensures.within) c.index-event.ensures (rw c.deref.ensures.value at c.place_of-place.ensures.from) (rw c.deref.ensures.value at c.place_of-place.ensures.to) in
     let read = get_or_read c.self.inside.firsts.items c.place_of-place.result c.index.result.now (rw c.deref.ensures.value at c.place_of-place.ensures.within) c.index.ensures 0 in
     let rest = c.without_lowest-lanes.ensures.rest ∙ ap (λ n. drop (c.args.i - n) (set_lanes e.lanes)) read in
-    rw (← c.self.view_is) (fewer c.self.inside.lanes e c.without_lowest-lanes.result is.event
-    (some_left c.self.inside.lanes c.self.inside.events.items c.args.i _ e c.without_lowest-lanes.result is rest) c.without_lowest-lanes.ensures.fewer)
+    rw (← c.self.view_is) (fewer _ _ _ is.event (some_left _ _ _ _ _ _ is rest) c.without_lowest-lanes.ensures.fewer)
 
 pub returns-clause-row : goal.returns-clause-row
 returns-clause-row c =

@@ -1,7 +1,6 @@
-use Rattle.std.proofs.Common.{ℕ, ◌+◌, ◌*◌, List, ◌∷◌, drop, ap, sym, refl, subst, ◌∙◌, arith, rules}
+use Rattle.std.proofs.Common.{◌+◌, ◌*◌, ◌∷◌, ap, sym, refl, subst, ◌∙◌, arith, rules}
 use Rattle.std.proofs.lemmas.List.{length-set}
-use Rattle.roman_model.specs.Arena.{Entry}
-use Rattle.roman_order.specs.Board.{as_entry, set_lanes}
+use Rattle.roman_order.specs.Board.{as_entry}
 use Rattle.roman_order.specs.Events.{entries_of}
 use Rattle.roman_order.specs.Sound.{CanWait}
 use Rattle.roman_order.proofs.Lanes.{without_lane, without_lane-on, without_lane-fits, set_lanes-zero, some_lane, no_lane}
@@ -40,23 +39,14 @@ invariant_of-self-else-left-eq0 c =
     (left_waiting c.self.inside.waiting_lanes e _ c.lowest-lane.result left n.can t.first (fewer c.self.inside.waiting_lanes e left n.can.each.0 some (without_lane-on e.lanes c.lowest-lane.result)))) (search (rules, length-set))
 
 pub returns-then-left-eq0-clause-first : goal.returns-then-left-eq0-clause-first
-returns-then-left-eq0-clause-first c =
-    let t = taken c.self.inside c.index-event.result.now c.lowest-lane.result c.self.invariant (λ e. c.if-self-len.false (omega (arith, e, c.len.ensures, c.self.inside.waiting.ok.0))) c.index-event.ensures c.lowest-lane.ensures.within c.lowest-lane.ensures.on c.lowest-lane.ensures.first in
-    let n = t.next in
-    let e = c.index-event.result.now in
-    let left = without_lane e.lanes c.lowest-lane.result in
-    let wl = c.self.inside.waiting_lanes in
-    waiting_first c.self.inside c.args.self.now e c.lowest-lane.result left c.self.view_is n t.first
-    ∙ ap (λ (L : List (Entry ℕ)). as_entry (e.row * wl + c.lowest-lane.result, e.reason) ∷ L)
-    (done_waiting wl e (drop (c.self.inside.next + 1) c.self.inside.waiting.items) left (ap set_lanes c.if-left-eq0.true ∙ set_lanes-zero))
+returns-then-left-eq0-clause-first c = grind (arith, done_waiting, set_lanes-zero, taken, waiting_first, without_lane)
 
 pub returns-else-left-eq0-clause-first : goal.returns-else-left-eq0-clause-first
 returns-else-left-eq0-clause-first c =
-    let t = taken c.self.inside c.index-event.result.now c.lowest-lane.result c.self.invariant (λ e. c.if-self-len.false (omega (arith, e, c.len.ensures, c.self.inside.waiting.ok.0))) c.index-event.ensures c.lowest-lane.ensures.within c.lowest-lane.ensures.on c.lowest-lane.ensures.first in
+    let t = taken _ _ _ c.self.invariant (λ e. c.if-self-len.false (omega (arith, e, c.len.ensures, c.self.inside.waiting.ok.0))) c.index-event.ensures c.lowest-lane.ensures.within c.lowest-lane.ensures.on c.lowest-lane.ensures.first in
     let n = t.next in
     let e = c.index-event.result.now in
     let left = without_lane e.lanes c.lowest-lane.result in
     let wl = c.self.inside.waiting_lanes in
-    waiting_first c.self.inside c.args.self.now e c.lowest-lane.result left c.self.view_is n t.first
-    ∙ ap (λ es. as_entry (e.row * wl + c.lowest-lane.result, e.reason) ∷ entries_of wl es)
-    (sym (later_event c.self.inside e c.index_mut.result.now left n c.index_mut.ensures.value))
+    waiting_first _ _ _ _ _ c.self.view_is n t.first ∙ ap (λ es. as_entry (e.row * wl + c.lowest-lane.result, e.reason) ∷ entries_of wl es)
+    (sym (later_event _ _ _ _ n c.index_mut.ensures.value))

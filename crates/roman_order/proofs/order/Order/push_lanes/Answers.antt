@@ -1,18 +1,14 @@
-use Rattle.std.proofs.Common.{ℕ, ◌+◌, ◌*◌, ◌++◌, map, List, ap, sym, refl, subst, ◌∙◌, append-nil, arith, rules, bit_and}
+use Rattle.std.proofs.Common.{ap, sym, refl, subst, arith, rules, bit_and}
 use Rattle.std.specs.Int.{w64, bit_not}
 use Rattle.std.proofs.Math.ListN.{set}
 use Rattle.std.proofs.lemmas.List.{length-set, get_or_read}
-use Rattle.roman_model.specs.Arena.{Entry}
-use Rattle.roman_order.specs.Board.{Board, as_entry, set_lanes}
+use Rattle.roman_order.specs.Board.{Board}
 use Rattle.roman_order.proofs.Lanes.{set_lanes-zero, some_lane}
 use Rattle.roman_order.proofs.Tables.{IsFree, HasRoom, room-row, pushed_sound}
 use Rattle.roman_order.proofs.order.Order.push_lanes.Goals as goal
 
 pub returns-then-lost-eq0 : goal.returns-then-lost-eq0
-returns-then-lost-eq0 c =
-    let b = c.args.self.now in
-    let none = ap (λ ls. b.list ++ map (λ lane. as_entry (c.args.x * b.lanes + lane, c.args.reason)) ls) (ap set_lanes c.if-lost-eq0.true ∙ set_lanes-zero) ∙ append-nil b.list in
-    ap (λ (L : List (Entry ℕ)). record b { list = L }) (sym none)
+returns-then-lost-eq0 c = search (rules, set_lanes-zero)
 
 -- there is room for the event
 room : (c : goal.After-push_reserved-arg-1) → HasRoom c.self.inside c.args.lost
@@ -24,16 +20,10 @@ pub push_reserved-requires : goal.push_reserved-requires
 push_reserved-requires c = omega (arith, (room c).firsts, c.self.invariant.sized.firsts_room, c.self.inside.firsts.ok.0)
 
 pub push_reserved-requires-2 : goal.push_reserved-requires-2
-push_reserved-requires-2 c =
-    let free = subst (λ (b : Board). IsFree b c.args.x c.args.lost) (sym c.self.view_is) (record { row = c.requires.row; within = c.requires.within; alive = c.requires.alive }) in
-    let room = room-row c.self.inside c.args.x c.args.lost c.args.reason c.self.invariant free c.ranges.lost.fits (some_lane c.args.lost c.if-lost-eq0.false c.ranges.lost.fits) in
-    omega (arith, room.events, c.self.invariant.sized.events_room, c.self.inside.events.ok.0)
+push_reserved-requires-2 c = grind (arith, IsFree, room, room-row, some_lane)
 
 pub overflow_add-self : goal.overflow_add-self
-overflow_add-self c =
-    let free = subst (λ (b : Board). IsFree b c.args.x c.args.lost) (sym c.self.view_is) (record { row = c.requires.row; within = c.requires.within; alive = c.requires.alive }) in
-    let room = room-row c.self.inside c.args.x c.args.lost c.args.reason c.self.invariant free c.ranges.lost.fits (some_lane c.args.lost c.if-lost-eq0.false c.ranges.lost.fits) in
-    omega (arith, room.count)
+overflow_add-self c = grind (arith, IsFree, room, room-row, some_lane)
 
 pub invariant_of-self : goal.invariant_of-self
 invariant_of-self c =

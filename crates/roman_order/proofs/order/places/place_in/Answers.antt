@@ -35,9 +35,7 @@ pub returns-then-has_lane : goal.returns-then-has_lane
 returns-then-has_lane c = ap (λ n. Some (c.loop-j.place + n)) c.lanes_before.ensures ∙ sym (place_at c)
 
 pub overflow_add-place : goal.overflow_add-place
-overflow_add-place c =
-    let is = part c.args.lanes c.args.events.now c.loop-j.j c.event_in-event.result c.requires.each c.loop-j-test.true c.event_in-event.ensures in
-    omega (arith, is.within, c.loop-j.invariant.place, c.lanes_in-place.ensures, c.requires.few)
+overflow_add-place c = grind (arith, (part c.args.lanes c.args.events.now c.loop-j.j c.event_in-event.result c.requires.each c.loop-j-test.true c.event_in-event.ensures))
 
 pub loop-j-preserved : goal.loop-j-preserved
 loop-j-preserved c =

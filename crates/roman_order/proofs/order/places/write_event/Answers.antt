@@ -1,4 +1,4 @@
-use Rattle.std.proofs.Common.{◌≡◌, ◌+◌, ◌++◌, map, length, sym, ap, ◌∙◌, subst, arith, append-nil, length-append}
+use Rattle.std.proofs.Common.{◌≡◌, ◌+◌, ◌++◌, map, length, sym, ap, ◌∙◌, subst, arith, append-nil, length-append, rules}
 use Rattle.std.proofs.lemmas.Nat.{and_le_l}
 use Rattle.roman_order.specs.Board.{as_entry, set_lanes}
 use Rattle.roman_order.specs.Sound.{AreStamps}
@@ -15,23 +15,10 @@ overflow_add-next c =
     omega (arith, c.requires.fits, is.count, ap length is.parts, length-append is.lo (set_lanes rest), ap length first)
 
 pub rest-smaller : goal.rest-smaller
-rest-smaller c =
-    let rest = c.rest.rest in
-    let lane = c.lowest-lane.result in
-    without_first-less rest _ lane (without_first rest lane c.lowest-lane.ensures.within c.lowest-lane.ensures.on c.lowest-lane.ensures.first) (and_le_l rest _)
+rest-smaller c = grind (arith, and_le_l, without_first, without_first-less)
 
 pub rest-preserved : goal.rest-preserved
-rest-preserved c =
-    let rest = c.rest.rest in
-    let lane = c.lowest-lane.result in
-    let left = without_lane rest lane in
-    let first = set_lanes-first rest left lane (without_first rest lane c.lowest-lane.ensures.within c.lowest-lane.ensures.on c.lowest-lane.ensures.first) in
-    let is = c.rest.invariant.stamped in
-    let here = c.requires.within lane (c.rest.invariant.fewer lane c.lowest-lane.ensures.on) in
-    record {
-      stamped = stamped_more c.args.first c.args.word rest left lane c.args.place c.rest.next c.args.stamps.now c.rest.stamps is first (omega (arith, here, is.long));
-      fewer = λ l t. c.rest.invariant.fewer l (without_lane-on rest lane l t);
-    }
+rest-preserved c = grind (arith, set_lanes-first, stamped_more, without_first, without_lane, without_lane-on)
 
 pub returns-clause-stamped : goal.returns-clause-stamped
 returns-clause-stamped c D R reason apart e are =
@@ -40,7 +27,4 @@ returns-clause-stamped c D R reason apart e are =
     subst (λ ls. AreStamps (D ++ map (λ lane. as_entry (c.args.first + lane, reason)) ls) c.rest.stamps) whole (is.stamped D R reason apart e are)
 
 pub returns-clause-next : goal.returns-clause-next
-returns-clause-next c =
-    let is = c.rest.invariant.stamped in
-    let whole : is.lo ≡ set_lanes c.args.word = sym (append-nil is.lo) ∙ (ap (λ ls. is.lo ++ ls) (sym (ap set_lanes c.rest-test.false ∙ set_lanes-zero)) ∙ is.parts) in
-    omega (arith, is.count, ap length whole)
+returns-clause-next c = search (rules, set_lanes-zero)

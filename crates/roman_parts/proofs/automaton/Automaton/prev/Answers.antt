@@ -15,5 +15,4 @@ returns-clause-below c =
     let state : c.args.b < c.self.inside.cells.states = omega (arith, ap (λ v. v.beh.states) c.self.view_is) in
     let env_state : c.args.e < c.self.inside.cells.env_states = omega (arith, ap (λ v. v.env_states) c.self.view_is) in
     let action : c.args.a < c.self.inside.cells.actions = omega (arith, ap (λ v. v.actions) c.self.view_is) in
-    rw (← c.self.view_is)
-    (into_below _ _ _ _ c.args.b c.args.e c.args.a _ c.row.result.now c.self.invariant state env_state action c.at.ensures.place c.row.ensures.row)
+    rw (← c.self.view_is) (into_below _ _ _ _ _ _ _ _ _ c.self.invariant state env_state action c.at.ensures.place c.row.ensures.row)

@@ -13,5 +13,4 @@ pub returns-clause-below : goal.returns-clause-below
 returns-clause-below c =
     let state : c.args.e < length c.self.inside.states = omega (arith, ap (λ v. v.env.states) c.self.view_is) in
     let action : c.args.a < length c.self.inside.actions = omega (arith, ap (λ v. v.env.actions) c.self.view_is) in
-    rw (← c.self.view_is)
-    (next_below _ _ _ c.args.e c.args.a _ c.row.result.now c.self.invariant state action (ap (λ width. c.args.e * width + c.args.a) c.len-width.ensures.len) c.row.ensures.row)
+    rw (← c.self.view_is) (next_below _ _ _ _ _ _ _ c.self.invariant state action (ap (λ width. c.args.e * width + c.args.a) c.len-width.ensures.len) c.row.ensures.row)

@@ -1,4 +1,4 @@
-use Rattle.std.proofs.Common.{get_or, take, map, ap, length, arith, length-append}
+use Rattle.std.proofs.Common.{get_or, ap, length, arith, length-append}
 use Rattle.std.proofs.lemmas.List.{map_more}
 use Rattle.roman_guard.specs.Meaning.{states_of}
 use Rattle.roman_parts.proofs.SetLemmas.{length-states_of}
@@ -6,10 +6,7 @@ use Rattle.roman_parts.proofs.RowLemmas.{laid_more}
 use Rattle.roman_parts.proofs.rows.Rows.of_masks.Goals as goal
 
 pub overflow_cast-len : goal.overflow_cast-len
-overflow_cast-len c =
-    let few = length-states_of (get_or c.args.masks.now c.loop-mask.mask-index 0) in
-    let more = ap length c.in_ok-push_states.ensures in
-    omega (arith, length-append c.loop-mask.items.items (states_of (get_or c.args.masks.now c.loop-mask.mask-index 0)))
+overflow_cast-len c = grind (arith, length-states_of, length-append)
 
 pub loop-mask-preserved : goal.loop-mask-preserved
 loop-mask-preserved c =
@@ -17,9 +14,7 @@ loop-mask-preserved c =
     let few = length-states_of mask in
     let more = ap length c.in_ok-push_states.ensures in
     record {
-      laid =
-          rw (c.in_ok-push-2.ensures.items, c.in_ok-push_states.ensures, map_more states_of c.args.masks.now c.loop-mask.mask-index 0 (omega arith))
-          (laid_more c.loop-mask.bounds.items c.loop-mask.items.items (states_of mask) (map states_of (take c.loop-mask.mask-index c.args.masks.now)) c.len.result
-          c.loop-mask.invariant.laid (omega arith));
+      laid = rw (c.in_ok-push-2.ensures.items, c.in_ok-push_states.ensures, map_more states_of c.args.masks.now c.loop-mask.mask-index 0 (omega arith))
+          (laid_more c.loop-mask.bounds.items c.loop-mask.items.items _ _ c.len.result c.loop-mask.invariant.laid (omega arith));
       small = omega (arith, length-append c.loop-mask.items.items (states_of mask));
     }

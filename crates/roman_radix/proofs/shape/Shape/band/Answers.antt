@@ -1,11 +1,10 @@
-use Rattle.std.proofs.Common.{◌≡◌, ◌-◌, ◌≤◌, length, replicate, take, sym, ap, ap₂, ◌∙◌, subst, arith}
+use Rattle.std.proofs.Common.{◌≡◌, ◌-◌, length, replicate, take, sym, ap₂, ◌∙◌, subst, arith}
 use Rattle.std.proofs.lemmas.List.{take-append-le}
 use Rattle.roman_model.specs.declared.limits.TheConstants.{MAX_SERVICES}
 use Rattle.roman_model.specs.Numbers.{Sizes}
 use Rattle.roman_radix.specs.declared.shape.Shape.TheInside.{Inside}
 use Rattle.roman_radix.specs.Radix.{AreSizes}
-use Rattle.roman_radix.specs.Rows.{low_of, lanes_of, row_sizes}
-use Rattle.roman_radix.specs.Layout.{sizes_in, IsLaidOut}
+use Rattle.roman_radix.specs.Rows.{low_of, row_sizes}
 use Rattle.roman_radix.proofs.Strides.{length-padded}
 use Rattle.roman_radix.proofs.Shown.{Shows, shown}
 use Rattle.roman_radix.proofs.RowLemmas.{low_of-le, AreSizes-take}
@@ -16,10 +15,7 @@ first_sizes : (a : Inside) (n : Sizes) → Shows a n → take a.low a.sizes ≡ 
 first_sizes a n h = ap₂ take h.low h.places ∙ take-append-le (low_of n.seats) n.seats (replicate (MAX_SERVICES - length n.seats) 0) (low_of-le n.seats)
 
 pub lanes_over-requires-clause-many : goal.lanes_over-requires-clause-many
-lanes_over-requires-clause-many c =
-    let n = c.args.self.now in
-    let fields : Shows c.self.inside n = shown c.self.inside n c.self.invariant c.self.view_is in
-    omega (arith, fields.low, low_of-le n.seats, fields.sizes.few, ap length fields.places, length-padded n.seats fields.sizes.few)
+lanes_over-requires-clause-many c = grind (arith, Shows, length-padded, low_of-le, shown)
 
 pub lanes_over-requires-clause-positive : goal.lanes_over-requires-clause-positive
 lanes_over-requires-clause-positive c =
@@ -28,11 +24,7 @@ lanes_over-requires-clause-positive c =
     subst AreSizes (sym (first_sizes c.self.inside n fields)) (AreSizes-take (low_of n.seats) n.seats fields.sizes.seats)
 
 pub returns-clause-first : goal.returns-clause-first
-returns-clause-first c =
-    let n = c.args.self.now in
-    c.lanes_over.ensures.low ∙ ap low_of (first_sizes c.self.inside n (shown c.self.inside n c.self.invariant c.self.view_is))
+returns-clause-first c = grind (arith, first_sizes, shown)
 
 pub returns-clause-width : goal.returns-clause-width
-returns-clause-width c =
-    let n = c.args.self.now in
-    c.lanes_over.ensures.lanes ∙ ap lanes_of (first_sizes c.self.inside n (shown c.self.inside n c.self.invariant c.self.view_is))
+returns-clause-width c = grind (arith, first_sizes, shown)

@@ -9,13 +9,7 @@ use Rattle.roman_radix.proofs.Shown.{Shows, shown}
 use Rattle.roman_radix.proofs.shape.Shape.grow.Goals as goal
 
 pub returns-then-from-clause-fits : goal.returns-then-from-clause-fits
-returns-then-from-clause-fits c =
-    let a = c.self.inside in
-    let n = c.args.self.now in
-    let fields : Shows a n = shown a n c.self.invariant c.self.view_is in
-    let many : count (grown_sizes n c.args.size) ≡ count n * c.args.size = count-grown n c.args.size in
-    let product : c.from.result * c.from-2.result ≡ count n * c.args.size = rw (c.from.ensures, c.from-2.ensures, fields.pairs) refl in
-    (λ h. absurd (false≢true h), λ h. absurd (omega (arith, c.from-3.ensures, c.if-from.true)))
+returns-then-from-clause-fits c = grind (arith, Shows, count-grown, false≢true, shown)
 
 pub lay_out-requires-clause-padded : goal.lay_out-requires-clause-padded
 lay_out-requires-clause-padded c =
@@ -37,13 +31,7 @@ lay_out-requires-clause-sizes c =
     (IsSizes-grown n c.args.size fields.sizes c.requires.size (omega arith) c.requires.few (omega (arith, c.from-3.ensures, c.if-from.false)))
 
 pub returns-clause-fits : goal.returns-clause-fits
-returns-clause-fits c =
-    let a = c.self.inside in
-    let n = c.args.self.now in
-    let fields : Shows a n = shown a n c.self.invariant c.self.view_is in
-    let many : count (grown_sizes n c.args.size) ≡ count n * c.args.size = count-grown n c.args.size in
-    let product : c.from.result * c.from-2.result ≡ count n * c.args.size = rw (c.from.ensures, c.from-2.ensures, fields.pairs) refl in
-    (λ h. omega (arith, c.from-3.ensures, c.if-from.false), λ h. refl)
+returns-clause-fits c = grind (arith, Shows, count-grown, shown)
 
 pub returns-clause-shape : goal.returns-clause-shape
 returns-clause-shape c =

@@ -15,10 +15,7 @@ overflow_add-result c =
     omega (arith, to.below, c.requires.fits)
 
 pub returns-clause-number : goal.returns-clause-number
-returns-clause-number c =
-    let n = c.args.self.now in
-    let to : Grown n c.args.p c.args.size c.args.b c.from.result c.from-2.result = grows_to n c.args.p c.args.size c.args.b c.from.result c.from-2.result c.requires.pair c.requires.state c.from.ensures c.from-2.ensures in
-    to.number
+returns-clause-number c = grind (arith, Grown, grows_to)
 
 pub returns-clause-below : goal.returns-clause-below
 returns-clause-below c =

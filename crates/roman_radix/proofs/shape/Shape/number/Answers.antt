@@ -15,14 +15,10 @@ overflow_add-number c =
     omega (arith, front, whole.fits)
 
 pub offset_bounds-self-inside-k : goal.offset_bounds-self-inside-k
-offset_bounds-self-inside-k c =
-    let whole = number_of c.self.inside c.args.self.now c.self.invariant c.self.view_is (record { t = c.args.t; e = c.args.e; bs = c.args.states.now }) c.requires in
-    omega (arith, whole.long, whole.few)
+offset_bounds-self-inside-k c = grind (arith, (number_of c.self.inside c.args.self.now c.self.invariant c.self.view_is (record { t = c.args.t; e = c.args.e; bs = c.args.states.now }) c.requires))
 
 pub bounds-self-inside-k : goal.bounds-self-inside-k
-bounds-self-inside-k c =
-    let whole = number_of c.self.inside c.args.self.now c.self.invariant c.self.view_is (record { t = c.args.t; e = c.args.e; bs = c.args.states.now }) c.requires in
-    omega (arith, whole.long, whole.few)
+bounds-self-inside-k c = grind (arith, (number_of c.self.inside c.args.self.now c.self.invariant c.self.view_is (record { t = c.args.t; e = c.args.e; bs = c.args.states.now }) c.requires))
 
 pub overflow_mul-number-in-loop-k : goal.overflow_mul-number-in-loop-k
 overflow_mul-number-in-loop-k c =

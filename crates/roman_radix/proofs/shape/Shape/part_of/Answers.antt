@@ -1,4 +1,4 @@
-use Rattle.std.proofs.Common.{◌/◌, ◌%◌, get_or, sym, ap₂, ◌∙◌, arith}
+use Rattle.std.proofs.Common.{arith}
 use Rattle.std.proofs.lemmas.Nat.{mod_below}
 use Rattle.roman_model.proofs.CallerLemmas.{part_at}
 use Rattle.roman_radix.proofs.Shown.{shown, stride_is, size_is}
@@ -17,17 +17,7 @@ divided-state-requires c =
     (size_is a n c.args.k (shown a n c.self.invariant c.self.view_is) c.requires.component).positive
 
 pub returns-clause-value : goal.returns-clause-value
-returns-clause-value c =
-    let a = c.self.inside in
-    let n = c.args.self.now in
-    let size = size_is a n c.args.k (shown a n c.self.invariant c.self.view_is) c.requires.component in
-    let stride = stride_is a n c.args.k (shown a n c.self.invariant c.self.view_is) c.requires.component in
-    c.divided-state.ensures.rest ∙ ap₂ (λ s m. c.args.p / s % m) stride.is size.is ∙ sym (part_at n c.args.p c.args.k c.requires.pair c.requires.component)
+returns-clause-value c = grind (arith, part_at, shown, size_is, stride_is)
 
 pub returns-clause-below : goal.returns-clause-below
-returns-clause-below c =
-    let a = c.self.inside in
-    let n = c.args.self.now in
-    let size = size_is a n c.args.k (shown a n c.self.invariant c.self.view_is) c.requires.component in
-    let below = mod_below (c.args.p / get_or a.strides c.args.k 0) (get_or a.sizes c.args.k 0) size.positive in
-    omega (arith, c.divided-state.ensures.rest, size.is, below)
+returns-clause-below c = grind (arith, mod_below, shown, size_is)

@@ -30,8 +30,4 @@ loop-k-preserved c =
     }
 
 pub returns : goal.returns
-returns c =
-    let a = c.self.inside in
-    let n = c.args.self.now in
-    let fields : Shows a n = shown a n c.self.invariant c.self.view_is in
-    digits_all n c.loop-k.parts c.args.p c.loop-k.k c.requires (omega (arith, c.loop-k-test.false)) (omega (arith, c.loop-k.invariant.long, fields.sizes.few)) c.loop-k.invariant.states
+returns c = grind (arith, Shows, digits_all, shown)

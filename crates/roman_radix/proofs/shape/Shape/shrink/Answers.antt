@@ -1,4 +1,4 @@
-use Rattle.std.proofs.Common.{◌-◌, sym, ◌∙◌, subst}
+use Rattle.std.proofs.Common.{◌-◌, subst, arith}
 use Rattle.std.specs.List.{remove}
 use Rattle.std.proofs.Math.ListN.{set}
 use Rattle.roman_model.specs.declared.limits.TheConstants.{MAX_SERVICES}
@@ -26,10 +26,4 @@ lay_out-requires-clause-sizes c =
     subst IsSizes (same_sizes n.target a.target n.env a.env _ _ fields.target fields.env table.first) (IsSizes-without n c.args.k fields.sizes c.requires)
 
 pub returns : goal.returns
-returns c =
-    let a = c.self.inside in
-    let n = c.args.self.now in
-    let fields : Shows a n = shown a n c.self.invariant c.self.view_is in
-    let table : Has (set c.copy_within.new.self (MAX_SERVICES - 1) 0) (remove n.seats c.args.k) (a.components - 1) =
-    has_shrunk a.sizes n.seats c.copy_within.new.self a.components c.args.k fields.places fields.components fields.sizes.few c.requires c.copy_within.ensures.after in
-    c.lay_out.ensures ∙ sym (same_sizes n.target a.target n.env a.env _ _ fields.target fields.env table.first)
+returns c = grind (arith, Has, Shows, has_shrunk, same_sizes, set, shown)

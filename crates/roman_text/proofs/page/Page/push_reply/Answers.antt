@@ -1,10 +1,7 @@
+use Rattle.std.proofs.Common.{arith}
 use Rattle.std.proofs.lemmas.Result.{err_from_is_err_and}
-use Rattle.roman_text.specs.Replies.{reply_text}
 use Rattle.roman_text.proofs.PageLemmas.{Gathers-failed}
 use Rattle.roman_text.proofs.page.Page.push_reply.Goals as goal
 
 pub returns-in_err-make_room-clause-gathers : goal.returns-in_err-make_room-clause-gathers
-returns-in_err-make_room-clause-gathers g c =
-    let p = err_from_is_err_and c.from_residual.result c.from_residual.ensures.1 in
-    let failed = c.in_err-make_room.ensures.gathers in
-    rw p.1 (Gathers-failed _ _ c.args.self.now _ (reply_text c.args.reply.now) failed.0 failed.1)
+returns-in_err-make_room-clause-gathers g c = grind (arith, Gathers-failed, err_from_is_err_and)
