@@ -12,8 +12,8 @@ use Rattle.roman_text.proofs.CallerLemmas.{lines_are, lines_only, lines_none, ke
 use Rattle.roman_session.specs.Situations.{Situation}
 use Rattle.roman_hearing.specs.Told.{Told}
 use Rattle.roman_hearing.specs.Known.{AreBehaviours}
-use Rattle.roman_hearing.specs.Hearing.{has_quit, prefix_of, is_heard_out, heard_lines, GaveQuit, spot, hall, Tells, TellsPrefix, IsHeardOut, IsCutOff, StopsShort, TellsPrefixOfAll}
-use Rattle.roman_hearing.specs.HearingBytes.{ear, IsHearing, StopsAtQuit, FallsShort, FailsIn, HearsPiece, HearsRest}
+use Rattle.roman_hearing.specs.Hearing.{has_quit, prefix_of, is_heard_out, heard_lines, GaveQuit, cursor, stream_state, Tells, TellsPrefix, IsHeardOut, IsCutOff, StopsShort, TellsPrefixOfAll}
+use Rattle.roman_hearing.specs.HearingBytes.{reader_state, IsHearing, StopsAtQuit, FallsShort, FailsIn, HearsPiece, HearsRest}
 use Rattle.roman_hearing.specs.declared.hearing.HearError.{HearError}
 use Rattle.roman_hearing.specs.declared.hearing.HearError.TheVariants.{ReadFault, WriteFault, TooLong}
 use Rattle.roman_hearing.proofs.HearingLines.{ended_more, lines_more, quit_left, told_stops}
@@ -61,7 +61,7 @@ heard_more heard rest few = by_test (is_heard_out (heard ++ rest))
 module _ (old new : Situation) (start mid : Option (List ℕ)) (taken : List ℕ) (n : ℕ) (before now : Option (List ℕ)) (gave : Gave start mid taken) (ends : EndsAt mid n) (none : n ≡ 0)
     (few : length taken ≤ MAX_SESSION_BYTES) where
   -- all lines are answered
-  pub out_at_end : Tells (spot old before) (lines taken) (spot new now) → IsHeardOut (hall old start before) (spot new now)
+  pub out_at_end : Tells (cursor old before) (lines taken) (cursor new now) → IsHeardOut (stream_state old start before) (cursor new now)
   out_at_end tells = record {
     session = taken;
     had = had_all start mid taken n gave ends none;
@@ -70,20 +70,20 @@ module _ (old new : Situation) (start mid : Option (List ℕ)) (taken : List ℕ
   }
 
   -- the reply to the last line wasn't written whole
-  prefixes_rest : FallsShort (spot old before) (lines taken) (spot new now) → TellsPrefixOfAll (hall old start before) now
+  prefixes_rest : FallsShort (cursor old before) (lines taken) (cursor new now) → TellsPrefixOfAll (stream_state old start before) now
   prefixes_rest fails = record {
     session = taken;
     had = had_all start mid taken n gave ends none;
     last = new;
-    tells = subst (λ (ls : List (List ℕ)). TellsPrefix (spot old before) ls (spot new now)) (sym (cond-true (is_heard_out taken) (lines taken) (ended_lines (prefix_of taken)) (short_out taken few))) fails.tells;
+    tells = subst (λ (ls : List (List ℕ)). TellsPrefix (cursor old before) ls (cursor new now)) (sym (cond-true (is_heard_out taken) (lines taken) (ended_lines (prefix_of taken)) (short_out taken few))) fails.tells;
   }
 
   -- both cases, by the result of the call
-  pub rest_out : (r : Result (Unit {0}) HearError) → HearsRest (spot old before) taken (spot new now) r → OnOk r (IsHeardOut (hall old start before) (spot new now))
+  pub rest_out : (r : Result (Unit {0}) HearError) → HearsRest (cursor old before) taken (cursor new now) r → OnOk r (IsHeardOut (stream_state old start before) (cursor new now))
   rest_out (Ok x) tells = out_at_end tells
   rest_out (Err error) h = tt
 
-  pub rest_prefixes : (r : Result (Unit {0}) HearError) → HearsRest (spot old before) taken (spot new now) r → IsErrOf r WriteFault → TellsPrefixOfAll (hall old start before) now
+  pub rest_prefixes : (r : Result (Unit {0}) HearError) → HearsRest (cursor old before) taken (cursor new now) r → IsErrOf r WriteFault → TellsPrefixOfAll (stream_state old start before) now
   rest_prefixes (Ok x) h is = absurd (let e : ⊥ = cc in e)
   rest_prefixes (Err ReadFault) h is = absurd h
   rest_prefixes (Err WriteFault) h is = prefixes_rest h
@@ -91,7 +91,7 @@ module _ (old new : Situation) (start mid : Option (List ℕ)) (taken : List ℕ
 
 -- the last reply wasn't written whole
 pub rest_stops_short : (old new : Situation) (start mid has : Option (List ℕ)) (taken into : List ℕ) (n : ℕ) (before now : Option (List ℕ)) (r : Result (Unit {0}) HearError) → Gave start mid taken →
-    Gave mid has (take n into) → EndsAt mid n → n ≡ 0 → length taken ≤ MAX_SESSION_BYTES → HearsRest (spot old before) taken (spot new now) r → IsErrOf r WriteFault → StopsShort (hall old start before) (hall new has now)
+    Gave mid has (take n into) → EndsAt mid n → n ≡ 0 → length taken ≤ MAX_SESSION_BYTES → HearsRest (cursor old before) taken (cursor new now) r → IsErrOf r WriteFault → StopsShort (stream_state old start before) (stream_state new has now)
 rest_stops_short old new start mid has taken into n before now (Ok x) first second ends none few h is = absurd (let e : ⊥ = cc in e)
 rest_stops_short old new start mid has taken into n before now (Err ReadFault) first second ends none few h is = absurd h
 rest_stops_short old new start mid has taken into n before now (Err TooLong) first second ends none few h is = absurd h
@@ -107,13 +107,13 @@ rest_stops_short old new start mid has taken into n before now (Err WriteFault) 
     }
 
 -- no other error is returned
-pub rest_not_read : (old new : Situation) (taken : List ℕ) (before now : Option (List ℕ)) (r : Result (Unit {0}) HearError) → HearsRest (spot old before) taken (spot new now) r → IsErrOf r ReadFault → ⊥
+pub rest_not_read : (old new : Situation) (taken : List ℕ) (before now : Option (List ℕ)) (r : Result (Unit {0}) HearError) → HearsRest (cursor old before) taken (cursor new now) r → IsErrOf r ReadFault → ⊥
 rest_not_read old new taken before now (Ok x) h is = cc
 rest_not_read old new taken before now (Err ReadFault) h is = h
 rest_not_read old new taken before now (Err WriteFault) h is = cc
 rest_not_read old new taken before now (Err TooLong) h is = h
 
-pub rest_not_long : (old new : Situation) (taken : List ℕ) (before now : Option (List ℕ)) (r : Result (Unit {0}) HearError) → HearsRest (spot old before) taken (spot new now) r → IsErrOf r TooLong → ⊥
+pub rest_not_long : (old new : Situation) (taken : List ℕ) (before now : Option (List ℕ)) (r : Result (Unit {0}) HearError) → HearsRest (cursor old before) taken (cursor new now) r → IsErrOf r TooLong → ⊥
 rest_not_long old new taken before now (Ok x) h is = cc
 rest_not_long old new taken before now (Err ReadFault) h is = h
 rest_not_long old new taken before now (Err WriteFault) h is = cc
@@ -162,7 +162,7 @@ module _ (old new : Situation) (start mid has : Option (List ℕ)) (taken got : 
   had_after = had_more start has (taken ++ got) (Gave-then start mid has taken got first second)
 
   -- a line `quit` ends in the piece
-  pub out_at_quit : StopsAtQuit (spot old before) taken (take room got) (spot new now) [] → IsHeardOut (hall old start before) (spot new now)
+  pub out_at_quit : StopsAtQuit (cursor old before) taken (take room got) (cursor new now) [] → IsHeardOut (stream_state old start before) (cursor new now)
   out_at_quit stops =
       let (after, had) = had_after in
       let heard : List ℕ = taken ++ stops.heard ++ 10 ∷ [] in
@@ -170,7 +170,7 @@ module _ (old new : Situation) (start mid has : Option (List ℕ)) (taken got : 
       let split : taken ++ take room got ≡ heard ++ stops.past = quit_split taken (take room got) stops.heard stops.past stops.split in
       let session : (taken ++ got) ++ after ≡ heard ++ rest = part_split after heard stops.past split in
       let few : length heard ≤ MAX_SESSION_BYTES = omega (arith, part_fits, ap length split, length-append heard stops.past) in
-      let whole = whole_told (spot old before) (spot new now) (ended_lines heard) stops.tells in
+      let whole = whole_told (cursor old before) (cursor new now) (ended_lines heard) stops.tells in
       record {
         session = (taken ++ got) ++ after;
         had = had;
@@ -183,7 +183,7 @@ module _ (old new : Situation) (start mid has : Option (List ℕ)) (taken got : 
       }
 
   -- less than a piece follows its newline
-  pub gave_quit : (most : ℕ) → length got ≤ most + 1 → StopsAtQuit (spot old before) taken (take room got) (spot new now) [] → GaveQuit most start has
+  pub gave_quit : (most : ℕ) → length got ≤ most + 1 → StopsAtQuit (cursor old before) taken (take room got) (cursor new now) [] → GaveQuit most start has
   gave_quit most l stops =
       let whole : taken ++ got ≡ (taken ++ stops.heard) ++ 10 ∷ (stops.past ++ drop room got) =
       ap (λ (piece : List ℕ). taken ++ piece) (sym (take-append-drop room got) ∙ ap (λ (part : List ℕ). part ++ drop room got) stops.split ∙ append_assoc stops.heard (10 ∷ stops.past) (drop room got))
@@ -198,7 +198,7 @@ module _ (old new : Situation) (start mid has : Option (List ℕ)) (taken got : 
       }
 
   -- the piece has more bytes than `room`
-  pub cut_off : (held : List ℕ) → IsHearing (spot old before) (taken ++ take room got) (ear new now [] held) → room < length got → IsCutOff (hall old start before) (spot new now)
+  pub cut_off : (held : List ℕ) → IsHearing (cursor old before) (taken ++ take room got) (reader_state new now [] held) → room < length got → IsCutOff (stream_state old start before) (cursor new now)
   cut_off held hearing more =
       let (after, had) = had_after in
       let full : length (taken ++ take room got) ≡ MAX_SESSION_BYTES = omega (arith, length-append taken (take room got), length-take room got) in
@@ -210,11 +210,11 @@ module _ (old new : Situation) (start mid has : Option (List ℕ)) (taken got : 
         long = or_from (nat_le (length ((taken ++ got) ++ after)) MAX_SESSION_BYTES) (has_quit (ended_lines (prefix_of ((taken ++ got) ++ after))))
             (lt-leb (length ((taken ++ got) ++ after)) MAX_SESSION_BYTES (omega (arith, length-append (taken ++ got) after, length-append taken got)))
             (ap (λ (bytes : List ℕ). has_quit (ended_lines bytes)) prefix ∙ hearing.quitless);
-        tells = subst (λ (bytes : List ℕ). Tells (spot old before) (ended_lines bytes) (spot new now)) (sym prefix) (whole_told (spot old before) (spot new now) (ended_lines (taken ++ take room got)) hearing.tells);
+        tells = subst (λ (bytes : List ℕ). Tells (cursor old before) (ended_lines bytes) (cursor new now)) (sym prefix) (whole_told (cursor old before) (cursor new now) (ended_lines (taken ++ take room got)) hearing.tells);
       }
 
   -- the reply to a line wasn't written whole
-  stops_short : FailsIn (spot old before) (taken ++ take room got) (spot new now) → StopsShort (hall old start before) (hall new has now)
+  stops_short : FailsIn (cursor old before) (taken ++ take room got) (cursor new now) → StopsShort (stream_state old start before) (stream_state new has now)
   stops_short fails =
       let rest : List ℕ = fails.past ++ (drop room got ++ []) in
       let given : taken ++ got ≡ fails.heard ++ rest = sym (append-nil (taken ++ got)) ∙ part_split [] fails.heard fails.past fails.split in
@@ -229,10 +229,10 @@ module _ (old new : Situation) (start mid has : Option (List ℕ)) (taken got : 
         gave = subst (Gave start has) parts (Gave-then start mid has taken got first second);
         few = omega (arith, part_fits, ap length fails.split, length-append fails.heard fails.past, ap length split, length-append whole (unfinished fails.heard));
         ends = inl (ap text_of_lines (sym ended));
-        tells = subst (λ (ls : List (List ℕ)). TellsPrefix (spot old before) ls (spot new now)) (sym all) fails.fails.tells;
+        tells = subst (λ (ls : List (List ℕ)). TellsPrefix (cursor old before) ls (cursor new now)) (sym all) fails.fails.tells;
       }
 
-  prefixes_all : AreBehaviours old.parts → FailsIn (spot old before) (taken ++ take room got) (spot new now) → TellsPrefixOfAll (hall old start before) now
+  prefixes_all : AreBehaviours old.parts → FailsIn (cursor old before) (taken ++ take room got) (cursor new now) → TellsPrefixOfAll (stream_state old start before) now
   prefixes_all behaviours fails =
       let (after, had) = had_after in
       let rest : List ℕ = fails.past ++ (drop room got ++ after) in
@@ -252,22 +252,22 @@ module _ (old new : Situation) (start mid has : Option (List ℕ)) (taken got : 
       }
 
   -- all errors of a piece
-  pub piece_cut_off : (held : List ℕ) (error : HearError) → HearsPiece room (spot old before) taken got (ear new now [] held) (Err error) → error ≡ TooLong → IsCutOff (hall old start before) (spot new now)
+  pub piece_cut_off : (held : List ℕ) (error : HearError) → HearsPiece room (cursor old before) taken got (reader_state new now [] held) (Err error) → error ≡ TooLong → IsCutOff (stream_state old start before) (cursor new now)
   piece_cut_off held ReadFault h is = absurd h
   piece_cut_off held WriteFault h is = absurd (let e : ⊥ = cc in e)
   piece_cut_off held TooLong (hearing, more) is = cut_off held hearing more
 
-  pub piece_stops_short : (held : List ℕ) (error : HearError) → HearsPiece room (spot old before) taken got (ear new now [] held) (Err error) → error ≡ WriteFault → StopsShort (hall old start before) (hall new has now)
+  pub piece_stops_short : (held : List ℕ) (error : HearError) → HearsPiece room (cursor old before) taken got (reader_state new now [] held) (Err error) → error ≡ WriteFault → StopsShort (stream_state old start before) (stream_state new has now)
   piece_stops_short held ReadFault h is = absurd h
   piece_stops_short held WriteFault fails is = stops_short fails
   piece_stops_short held TooLong h is = absurd (let e : ⊥ = cc in e)
 
-  pub piece_prefixes : (held : List ℕ) (error : HearError) → HearsPiece room (spot old before) taken got (ear new now [] held) (Err error) → error ≡ WriteFault → AreBehaviours old.parts → TellsPrefixOfAll (hall old start before) now
+  pub piece_prefixes : (held : List ℕ) (error : HearError) → HearsPiece room (cursor old before) taken got (reader_state new now [] held) (Err error) → error ≡ WriteFault → AreBehaviours old.parts → TellsPrefixOfAll (stream_state old start before) now
   piece_prefixes held ReadFault h is behaviours = absurd h
   piece_prefixes held WriteFault fails is behaviours = prefixes_all behaviours fails
   piece_prefixes held TooLong h is behaviours = absurd (let e : ⊥ = cc in e)
 
-  pub piece_not_read : (held : List ℕ) (error : HearError) → HearsPiece room (spot old before) taken got (ear new now [] held) (Err error) → error ≡ ReadFault → ⊥
+  pub piece_not_read : (held : List ℕ) (error : HearError) → HearsPiece room (cursor old before) taken got (reader_state new now [] held) (Err error) → error ≡ ReadFault → ⊥
   piece_not_read held ReadFault h is = h
   piece_not_read held WriteFault h is = cc
   piece_not_read held TooLong h is = cc

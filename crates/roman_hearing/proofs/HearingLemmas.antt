@@ -16,8 +16,8 @@ use Rattle.roman_session.specs.Steps.{Step}
 use Rattle.roman_session.specs.Answering.{AnsweredOn, next_of}
 use Rattle.roman_session.specs.declared.next.Next.{Next}
 use Rattle.roman_session.specs.declared.next.Next.TheVariants.{More, Quit}
-use Rattle.roman_hearing.specs.Hearing.{ends_session, has_quit, Spot, spot, Tells, TellsPrefix}
-use Rattle.roman_hearing.specs.HearingBytes.{ear, TellsOnPage, IsHearing, StopsAtQuit, FallsShort, FailsIn, HearsBytes}
+use Rattle.roman_hearing.specs.Hearing.{ends_session, has_quit, Cursor, cursor, Tells, TellsPrefix}
+use Rattle.roman_hearing.specs.HearingBytes.{reader_state, TellsOnPage, IsHearing, StopsAtQuit, FallsShort, FailsIn, HearsBytes}
 use Rattle.roman_hearing.proofs.HearingLines.{quit_last, quitless_last, told_push}
 
 -- ---- one line
@@ -51,7 +51,7 @@ next_quit line e = by_test (ends_session line)
 
 -- the reply is pushed on the page
 takes_more : (old mid new : Situation) (ls : List (List ℕ)) (line more : List ℕ) (before wrote now : Option (List ℕ)) (page holds : List ℕ) → IsFalse (has_quit ls) →
-    TellsOnPage (spot old before) ls (spot mid wrote) page → Step mid line more new → Gathered wrote now holds (page ++ more) → TellsOnPage (spot old before) (ls ++ line ∷ []) (spot new now) holds
+    TellsOnPage (cursor old before) ls (cursor mid wrote) page → Step mid line more new → Gathered wrote now holds (page ++ more) → TellsOnPage (cursor old before) (ls ++ line ∷ []) (cursor new now) holds
 takes_more old mid new ls line more before wrote now page holds quitless takes step gathered = record {
   text = takes.text ++ more;
   told = told_push old mid new ls line takes.text more quitless takes.told step;
@@ -60,7 +60,7 @@ takes_more old mid new ls line more before wrote now page holds quitless takes s
 
 -- the reply isn't pushed whole
 takes_failed : (old mid new : Situation) (ls : List (List ℕ)) (line more : List ℕ) (before wrote now : Option (List ℕ)) (page : List ℕ) → IsFalse (has_quit ls) →
-    TellsOnPage (spot old before) ls (spot mid wrote) page → Step mid line more new → WrotePrefix wrote now (page ++ more) → IsSituation new → FallsShort (spot old before) (ls ++ line ∷ []) (spot new now)
+    TellsOnPage (cursor old before) ls (cursor mid wrote) page → Step mid line more new → WrotePrefix wrote now (page ++ more) → IsSituation new → FallsShort (cursor old before) (ls ++ line ∷ []) (cursor new now)
 takes_failed old mid new ls line more before wrote now page quitless takes step prefix known = record {
   tells = record {
     text = takes.text ++ more;
@@ -71,7 +71,7 @@ takes_failed old mid new ls line more before wrote now page quitless takes step 
 }
 
 -- all was written where a page holds nothing
-pub whole_told : (old new : Spot) (ls : List (List ℕ)) → TellsOnPage old ls new [] → Tells old ls new
+pub whole_told : (old new : Cursor) (ls : List (List ℕ)) → TellsOnPage old ls new [] → Tells old ls new
 whole_told old new ls takes = record {
   text = takes.text;
   told = takes.told;
@@ -79,7 +79,7 @@ whole_told old new ls takes = record {
 }
 
 -- the page is flushed
-put_whole : (old : Spot) (mid : Situation) (wrote now : Option (List ℕ)) (ls : List (List ℕ)) (page : List ℕ) → TellsOnPage old ls (spot mid wrote) page → Wrote wrote now page → TellsOnPage old ls (spot mid now) []
+put_whole : (old : Cursor) (mid : Situation) (wrote now : Option (List ℕ)) (ls : List (List ℕ)) (page : List ℕ) → TellsOnPage old ls (cursor mid wrote) page → Wrote wrote now page → TellsOnPage old ls (cursor mid now) []
 put_whole old mid wrote now ls page takes put = record {
   text = takes.text;
   told = takes.told;
@@ -87,7 +87,7 @@ put_whole old mid wrote now ls page takes put = record {
       (subst (Wrote old.written now) (sym takes.gathered.rest) (Wrote-then old.written wrote now takes.gathered.prefix page takes.gathered.wrote put));
 }
 
-put_prefix : (old : Spot) (mid : Situation) (wrote now : Option (List ℕ)) (ls : List (List ℕ)) (page : List ℕ) → TellsOnPage old ls (spot mid wrote) page → WrotePrefix wrote now page → TellsPrefix old ls (spot mid now)
+put_prefix : (old : Cursor) (mid : Situation) (wrote now : Option (List ℕ)) (ls : List (List ℕ)) (page : List ℕ) → TellsOnPage old ls (cursor mid wrote) page → WrotePrefix wrote now page → TellsPrefix old ls (cursor mid now)
 put_prefix old mid wrote now ls page takes prefix = record {
   text = takes.text;
   told = takes.told;
@@ -97,16 +97,16 @@ put_prefix old mid wrote now ls page takes prefix = record {
 -- ---- one byte
 
 -- before the first byte
-pub hearing_starts : (s : Situation) (told : Option (List ℕ)) (held : List ℕ) → held ≡ [] → IsHearing (spot s told) [] (ear s told [] held)
+pub hearing_starts : (s : Situation) (told : Option (List ℕ)) (held : List ℕ) → held ≡ [] → IsHearing (cursor s told) [] (reader_state s told [] held)
 hearing_starts s told held empty = record {
   quitless = refl;
   tells = record { text = []; told = (refl, refl); gathered = Gathered-empty told [] refl };
   rest = empty ∙ sym (ap kept unfinished-nil ∙ kept-nil);
 }
 
-module _ (old : Situation) (before : Option (List ℕ)) (taken : List ℕ) (mid : Situation) (wrote : Option (List ℕ)) (page held : List ℕ) (byte : ℕ) (is : IsHearing (spot old before) taken (ear mid wrote page held)) where
+module _ (old : Situation) (before : Option (List ℕ)) (taken : List ℕ) (mid : Situation) (wrote : Option (List ℕ)) (page held : List ℕ) (byte : ℕ) (is : IsHearing (cursor old before) taken (reader_state mid wrote page held)) where
   -- a byte within a line
-  pub hears_other : (after : List ℕ) → is_newline byte ≡ false → after ≡ kept (held ++ byte ∷ []) → IsHearing (spot old before) (taken ++ byte ∷ []) (ear mid wrote page after)
+  pub hears_other : (after : List ℕ) → is_newline byte ≡ false → after ≡ kept (held ++ byte ∷ []) → IsHearing (cursor old before) (taken ++ byte ∷ []) (reader_state mid wrote page after)
   hears_other after other e = record {
     quitless = rw (ended_lines-other taken byte other) is.quitless;
     tells = rw (ended_lines-other taken byte other) is.tells;
@@ -115,7 +115,7 @@ module _ (old : Situation) (before : Option (List ℕ)) (taken : List ℕ) (mid 
 
   -- a newline
   pub hears_line : (new : Situation) (now : Option (List ℕ)) (holds after : List ℕ) (next : Next) → is_newline byte ≡ true → after ≡ [] → AnsweredOn {E = Failed} mid (unfinished taken) new wrote now page holds (Ok next) →
-      next ≡ next_of (unfinished taken) → HearsBytes (spot old before) taken (byte ∷ []) (ear new now holds after) (Ok next)
+      next ≡ next_of (unfinished taken) → HearsBytes (cursor old before) taken (byte ∷ []) (reader_state new now holds after) (Ok next)
   hears_line new now holds after More newline empty answered next = record {
     quitless = rw (ended_lines-newline taken byte newline) (quitless_last (ended_lines taken) (unfinished taken) is.quitless (next_more (unfinished taken) next));
     tells = rw (ended_lines-newline taken byte newline) (takes_more old mid new (ended_lines taken) (unfinished taken) answered.text before wrote now page holds is.quitless is.tells answered.step answered.gathers);
@@ -135,7 +135,7 @@ module _ (old : Situation) (before : Option (List ℕ)) (taken : List ℕ) (mid 
 
   -- a newline, where the reply to its line isn't written whole
   pub hears_failed : (new : Situation) (now : Option (List ℕ)) (holds : List ℕ) (failed : Failed) → is_newline byte ≡ true → AnsweredOn {T = Next} mid (unfinished taken) new wrote now page holds (Err failed) → IsSituation new →
-      FailsIn (spot old before) (taken ++ byte ∷ []) (spot new now)
+      FailsIn (cursor old before) (taken ++ byte ∷ []) (cursor new now)
   hears_failed new now holds failed newline answered known = record {
     heard = taken ++ byte ∷ [];
     past = [];
@@ -147,7 +147,7 @@ module _ (old : Situation) (before : Option (List ℕ)) (taken : List ℕ) (mid 
 
 -- a line `quit` in a part of a piece
 pub stops_within : (old : Situation) (before : Option (List ℕ)) (taken prefix part back piece : List ℕ) (new : Situation) (now : Option (List ℕ)) (page : List ℕ) → piece ≡ prefix ++ (part ++ back) →
-    StopsAtQuit (spot old before) (taken ++ prefix) part (spot new now) page → StopsAtQuit (spot old before) taken piece (spot new now) page
+    StopsAtQuit (cursor old before) (taken ++ prefix) part (cursor new now) page → StopsAtQuit (cursor old before) taken piece (cursor new now) page
 stops_within old before taken prefix part back piece new now page split stops = record {
   heard = prefix ++ stops.heard;
   past = stops.past ++ back;
@@ -155,12 +155,12 @@ stops_within old before taken prefix part back piece new now page split stops = 
       ∙ sym (append_assoc prefix stops.heard (10 ∷ (stops.past ++ back)));
   first = subst (λ (bytes : List ℕ). IsFalse (has_quit (ended_lines bytes))) (append_assoc taken prefix stops.heard) stops.first;
   quit = subst (λ (bytes : List ℕ). IsTrue (has_quit (ended_lines (bytes ++ 10 ∷ [])))) (append_assoc taken prefix stops.heard) stops.quit;
-  tells = subst (λ (bytes : List ℕ). TellsOnPage (spot old before) (ended_lines (bytes ++ 10 ∷ [])) (spot new now) page) (append_assoc taken prefix stops.heard) stops.tells;
+  tells = subst (λ (bytes : List ℕ). TellsOnPage (cursor old before) (ended_lines (bytes ++ 10 ∷ [])) (cursor new now) page) (append_assoc taken prefix stops.heard) stops.tells;
 }
 
 -- a fault in a part of them
 pub fails_within : (old : Situation) (before : Option (List ℕ)) (prefix back bytes : List ℕ) (new : Situation) (now : Option (List ℕ)) → bytes ≡ prefix ++ back →
-    FailsIn (spot old before) prefix (spot new now) → FailsIn (spot old before) bytes (spot new now)
+    FailsIn (cursor old before) prefix (cursor new now) → FailsIn (cursor old before) bytes (cursor new now)
 fails_within old before prefix back bytes new now split fails = record {
   heard = fails.heard;
   past = fails.past ++ back;
@@ -176,17 +176,17 @@ at_place bytes i l =
 
 module _ (old : Situation) (before : Option (List ℕ)) (taken bytes : List ℕ) (i : ℕ) (new : Situation) (now : Option (List ℕ)) (l : i < length bytes) where
   -- the byte at place i was read after the bytes before it
-  pub hears_at : (page held : List ℕ) → IsHearing (spot old before) (taken ++ take i bytes ++ get_or bytes i 0 ∷ []) (ear new now page held) → IsHearing (spot old before) (taken ++ take (i + 1) bytes) (ear new now page held)
+  pub hears_at : (page held : List ℕ) → IsHearing (cursor old before) (taken ++ take i bytes ++ get_or bytes i 0 ∷ []) (reader_state new now page held) → IsHearing (cursor old before) (taken ++ take (i + 1) bytes) (reader_state new now page held)
   hears_at page held hearing =
-      subst (λ (xs : List ℕ). IsHearing (spot old before) xs (ear new now page held))
+      subst (λ (xs : List ℕ). IsHearing (cursor old before) xs (reader_state new now page held))
       (append_assoc taken (take i bytes) (get_or bytes i 0 ∷ []) ∙ ap (λ (xs : List ℕ). taken ++ xs) (sym (take_more bytes i 0 l))) hearing
 
   -- the byte at place i ends a line `quit`
-  pub stops_at : (page : List ℕ) → StopsAtQuit (spot old before) (taken ++ take i bytes) (get_or bytes i 0 ∷ []) (spot new now) page → StopsAtQuit (spot old before) taken bytes (spot new now) page
+  pub stops_at : (page : List ℕ) → StopsAtQuit (cursor old before) (taken ++ take i bytes) (get_or bytes i 0 ∷ []) (cursor new now) page → StopsAtQuit (cursor old before) taken bytes (cursor new now) page
   stops_at page stops = stops_within old before taken (take i bytes) (get_or bytes i 0 ∷ []) (drop (i + 1) bytes) bytes new now page (at_place bytes i l) stops
 
   -- the byte at place i ends a line whose reply isn't written whole
-  pub fails_at : FailsIn (spot old before) (taken ++ take i bytes ++ get_or bytes i 0 ∷ []) (spot new now) → FailsIn (spot old before) (taken ++ bytes) (spot new now)
+  pub fails_at : FailsIn (cursor old before) (taken ++ take i bytes ++ get_or bytes i 0 ∷ []) (cursor new now) → FailsIn (cursor old before) (taken ++ bytes) (cursor new now)
   fails_at fails = fails_within old before (taken ++ take i bytes ++ get_or bytes i 0 ∷ []) (drop (i + 1) bytes) (taken ++ bytes) new now
       (ap (λ (xs : List ℕ). taken ++ xs) (at_place bytes i l) ∙ sym (append_assoc taken (take i bytes) (get_or bytes i 0 ∷ [] ++ drop (i + 1) bytes))
       ∙ sym (append_assoc (taken ++ take i bytes) (get_or bytes i 0 ∷ []) (drop (i + 1) bytes)))
@@ -195,66 +195,66 @@ module _ (old : Situation) (before : Option (List ℕ)) (taken bytes : List ℕ)
 -- ---- the last line
 
 -- no bytes of the last line are held
-pub hears_no_rest : (old : Situation) (before : Option (List ℕ)) (taken : List ℕ) (mid : Situation) (wrote : Option (List ℕ)) (held : List ℕ) → IsHearing (spot old before) taken (ear mid wrote [] held) →
-    nat_lt 0 (length held) ≡ false → Tells (spot old before) (lines taken) (spot mid wrote)
+pub hears_no_rest : (old : Situation) (before : Option (List ℕ)) (taken : List ℕ) (mid : Situation) (wrote : Option (List ℕ)) (held : List ℕ) → IsHearing (cursor old before) taken (reader_state mid wrote [] held) →
+    nat_lt 0 (length held) ≡ false → Tells (cursor old before) (lines taken) (cursor mid wrote)
 hears_no_rest old before taken mid wrote held is none =
-    rw (lines_none taken (subst (λ (held : List ℕ). nat_lt 0 (length held) ≡ false) is.rest none)) (whole_told (spot old before) (spot mid wrote) (ended_lines taken) is.tells)
+    rw (lines_none taken (subst (λ (held : List ℕ). nat_lt 0 (length held) ≡ false) is.rest none)) (whole_told (cursor old before) (cursor mid wrote) (ended_lines taken) is.tells)
 
-module _ (old : Situation) (before : Option (List ℕ)) (taken : List ℕ) (mid : Situation) (wrote : Option (List ℕ)) (page held : List ℕ) (is : IsHearing (spot old before) taken (ear mid wrote page held))
+module _ (old : Situation) (before : Option (List ℕ)) (taken : List ℕ) (mid : Situation) (wrote : Option (List ℕ)) (page held : List ℕ) (is : IsHearing (cursor old before) taken (reader_state mid wrote page held))
     (some : nat_lt 0 (length held) ≡ true) (new : Situation) (now : Option (List ℕ)) (holds : List ℕ) where
   -- the held bytes are the last line
   rest_line : ended_lines taken ++ unfinished taken ∷ [] ≡ lines taken
   rest_line = sym (lines_rest taken (subst (λ (held : List ℕ). nat_lt 0 (length held) ≡ true) is.rest some))
 
-  takes_rest : (next : Next) → AnsweredOn {E = Failed} mid (unfinished taken) new wrote now page holds (Ok next) → TellsOnPage (spot old before) (lines taken) (spot new now) holds
+  takes_rest : (next : Next) → AnsweredOn {E = Failed} mid (unfinished taken) new wrote now page holds (Ok next) → TellsOnPage (cursor old before) (lines taken) (cursor new now) holds
   takes_rest next answered =
-      subst (λ (ls : List (List ℕ)). TellsOnPage (spot old before) ls (spot new now) holds) rest_line
+      subst (λ (ls : List (List ℕ)). TellsOnPage (cursor old before) ls (cursor new now) holds) rest_line
       (takes_more old mid new (ended_lines taken) (unfinished taken) answered.text before wrote now page holds is.quitless is.tells answered.step answered.gathers)
 
   pub hears_rest : (next : Next) (after : Option (List ℕ)) → AnsweredOn {E = Failed} mid (unfinished taken) new wrote now page holds (Ok next) → Wrote now after holds →
-      Tells (spot old before) (lines taken) (spot new after)
+      Tells (cursor old before) (lines taken) (cursor new after)
   hears_rest next after answered put =
-      whole_told (spot old before) (spot new after) (lines taken) (put_whole (spot old before) new now after (lines taken) holds (takes_rest next answered) put)
+      whole_told (cursor old before) (cursor new after) (lines taken) (put_whole (cursor old before) new now after (lines taken) holds (takes_rest next answered) put)
 
   pub fails_put : (next : Next) (after : Option (List ℕ)) → AnsweredOn {E = Failed} mid (unfinished taken) new wrote now page holds (Ok next) → WrotePrefix now after holds → IsSituation new →
-      FallsShort (spot old before) (lines taken) (spot new after)
-  fails_put next after answered prefix known = record { tells = put_prefix (spot old before) new now after (lines taken) holds (takes_rest next answered) prefix; known = known }
+      FallsShort (cursor old before) (lines taken) (cursor new after)
+  fails_put next after answered prefix known = record { tells = put_prefix (cursor old before) new now after (lines taken) holds (takes_rest next answered) prefix; known = known }
 
-  pub fails_rest : (failed : Failed) → AnsweredOn {T = Next} mid (unfinished taken) new wrote now page holds (Err failed) → IsSituation new → FallsShort (spot old before) (lines taken) (spot new now)
+  pub fails_rest : (failed : Failed) → AnsweredOn {T = Next} mid (unfinished taken) new wrote now page holds (Err failed) → IsSituation new → FallsShort (cursor old before) (lines taken) (cursor new now)
   fails_rest failed answered known =
-      subst (λ (ls : List (List ℕ)). FallsShort (spot old before) ls (spot new now)) rest_line
+      subst (λ (ls : List (List ℕ)). FallsShort (cursor old before) ls (cursor new now)) rest_line
       (takes_failed old mid new (ended_lines taken) (unfinished taken) answered.text before wrote now page is.quitless is.tells answered.step answered.gathers.0 known)
 
 -- ---- the page at the end of a piece
 
 module _ (old : Situation) (before : Option (List ℕ)) (taken bytes : List ℕ) (new : Situation) (wrote now : Option (List ℕ)) (page held : List ℕ) where
   -- the page was flushed
-  pub put_hearing : IsHearing (spot old before) (taken ++ bytes) (ear new wrote page held) → Wrote wrote now page → IsHearing (spot old before) (taken ++ bytes) (ear new now [] held)
-  put_hearing is put = record { quitless = is.quitless; tells = put_whole (spot old before) new wrote now (ended_lines (taken ++ bytes)) page is.tells put; rest = is.rest }
+  pub put_hearing : IsHearing (cursor old before) (taken ++ bytes) (reader_state new wrote page held) → Wrote wrote now page → IsHearing (cursor old before) (taken ++ bytes) (reader_state new now [] held)
+  put_hearing is put = record { quitless = is.quitless; tells = put_whole (cursor old before) new wrote now (ended_lines (taken ++ bytes)) page is.tells put; rest = is.rest }
 
-  pub put_quit : StopsAtQuit (spot old before) taken bytes (spot new wrote) page → Wrote wrote now page → StopsAtQuit (spot old before) taken bytes (spot new now) []
+  pub put_quit : StopsAtQuit (cursor old before) taken bytes (cursor new wrote) page → Wrote wrote now page → StopsAtQuit (cursor old before) taken bytes (cursor new now) []
   put_quit stops put = record {
     heard = stops.heard;
     past = stops.past;
     split = stops.split;
     first = stops.first;
     quit = stops.quit;
-    tells = put_whole (spot old before) new wrote now (ended_lines (taken ++ stops.heard ++ 10 ∷ [])) page stops.tells put;
+    tells = put_whole (cursor old before) new wrote now (ended_lines (taken ++ stops.heard ++ 10 ∷ [])) page stops.tells put;
   }
 
   -- the flush failed
-  pub put_failed : (next : Next) → HearsBytes (spot old before) taken bytes (ear new wrote page held) (Ok next) → WrotePrefix wrote now page → IsSituation new → FailsIn (spot old before) (taken ++ bytes) (spot new now)
+  pub put_failed : (next : Next) → HearsBytes (cursor old before) taken bytes (reader_state new wrote page held) (Ok next) → WrotePrefix wrote now page → IsSituation new → FailsIn (cursor old before) (taken ++ bytes) (cursor new now)
   put_failed More is prefix known = record {
     heard = taken ++ bytes;
     past = [];
     split = sym (append-nil (taken ++ bytes));
-    fails = record { tells = put_prefix (spot old before) new wrote now (ended_lines (taken ++ bytes)) page is.tells prefix; known = known };
+    fails = record { tells = put_prefix (cursor old before) new wrote now (ended_lines (taken ++ bytes)) page is.tells prefix; known = known };
   }
   put_failed Quit stops prefix known = record {
     heard = taken ++ stops.heard ++ 10 ∷ [];
     past = stops.past;
     split = ap (λ (part : List ℕ). taken ++ part) stops.split ∙ sym (append_assoc taken stops.heard (10 ∷ stops.past)) ∙ sym (append_assoc (taken ++ stops.heard) (10 ∷ []) stops.past);
-    fails = record { tells = put_prefix (spot old before) new wrote now (ended_lines (taken ++ stops.heard ++ 10 ∷ [])) page stops.tells prefix; known = known };
+    fails = record { tells = put_prefix (cursor old before) new wrote now (ended_lines (taken ++ stops.heard ++ 10 ∷ [])) page stops.tells prefix; known = known };
   }
 
 -- ---- the first `room` bytes of a piece

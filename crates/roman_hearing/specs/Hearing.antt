@@ -46,31 +46,31 @@ pub record GaveQuit (most : ℕ) (before now : Option (List ℕ)) : Type 0 where
 -- ---- a session, its source and its sink
 
 -- the situation of a session, and what was written by then, where that is known
-pub record Spot : Type 0 where
+pub record Cursor : Type 0 where
   pub situation : Situation
   pub written : Option (List ℕ)
 
--- a spot from its parts
-abbrev pub spot : Situation → Option (List ℕ) → Spot
-spot situation written = record { situation = situation; written = written }
+-- a cursor from its parts
+abbrev pub cursor : Situation → Option (List ℕ) → Cursor
+cursor situation written = record { situation = situation; written = written }
 
 -- the situation of a session, what was written by then, and what its source has left, where these are known
-pub record Hall : Type 0 where
-  pub spot : Spot
+pub record StreamState : Type 0 where
+  pub cursor : Cursor
   pub rest : Option (List ℕ)
 
--- a hall from its parts
-abbrev pub hall : Situation → Option (List ℕ) → Option (List ℕ) → Hall
-hall situation rest written = record { spot = spot situation written; rest = rest }
+-- a stream state from its parts
+abbrev pub stream_state : Situation → Option (List ℕ) → Option (List ℕ) → StreamState
+stream_state situation rest written = record { cursor = cursor situation written; rest = rest }
 
 -- the replies to these lines were written, and they lead to the new situation
-pub record Tells (old : Spot) (lines : List (List ℕ)) (new : Spot) : Type 0 where
+pub record Tells (old : Cursor) (lines : List (List ℕ)) (new : Cursor) : Type 0 where
   pub text : List ℕ
   pub told : Told old.situation lines text new.situation
   pub wrote : Wrote old.written new.written text
 
 -- a prefix of the replies to these lines was written, and the replies lead to the new situation
-pub record TellsPrefix (old : Spot) (lines : List (List ℕ)) (new : Spot) : Type 0 where
+pub record TellsPrefix (old : Cursor) (lines : List (List ℕ)) (new : Cursor) : Type 0 where
   pub text : List ℕ
   pub told : Told old.situation lines text new.situation
   pub wrote : WrotePrefix old.written new.written text
@@ -78,26 +78,26 @@ pub record TellsPrefix (old : Spot) (lines : List (List ℕ)) (new : Spot) : Typ
 -- ---- how a session ends
 
 -- the session was read to its end or to `quit`, and all replies were written
-pub record IsHeardOut (old : Hall) (new : Spot) : Type 0 where
+pub record IsHeardOut (old : StreamState) (new : Cursor) : Type 0 where
   pub session : List ℕ
   pub had : Had old.rest session
   pub out : IsTrue (is_heard_out session)
-  pub tells : Tells old.spot (lines session) new
+  pub tells : Tells old.cursor (lines session) new
 
 -- the session is too long, and the replies to the lines that end within the limit were written
-pub record IsCutOff (old : Hall) (new : Spot) : Type 0 where
+pub record IsCutOff (old : StreamState) (new : Cursor) : Type 0 where
   pub session : List ℕ
   pub had : Had old.rest session
   pub long : IsFalse (is_heard_out session)
-  pub tells : Tells old.spot (ended_lines (prefix_of session)) new
+  pub tells : Tells old.cursor (ended_lines (prefix_of session)) new
 
 -- the session would go on: the source gave bytes within the limit, and their whole lines, none of which is `quit`, are answered
-pub record GoesOn (old new : Hall) : Type 0 where
+pub record GoesOn (old new : StreamState) : Type 0 where
   pub taken : List ℕ
   pub gave : Gave old.rest new.rest taken
   pub few : length taken ≤ MAX_SESSION_BYTES
   pub quitless : IsFalse (has_quit (ended_lines taken))
-  pub tells : Tells old.spot (ended_lines taken) new.spot
+  pub tells : Tells old.cursor (ended_lines taken) new.cursor
 
 -- the bytes are whole lines: each line has its newline
 abbrev pub AreWhole : List ℕ → Type 0
@@ -105,20 +105,20 @@ AreWhole bytes = bytes ≡ text_of_lines (ended_lines bytes)
 
 -- a prefix of the replies to the lines of the first bytes that the source gave was written; these bytes are whole lines, or
 -- all that the source had
-pub record StopsShort (old new : Hall) : Type 0 where
+pub record StopsShort (old new : StreamState) : Type 0 where
   pub heard : List ℕ
   pub past : List ℕ
   pub gave : Gave old.rest new.rest (heard ++ past)
   pub few : length heard ≤ MAX_SESSION_BYTES
   pub ends : AreWhole heard ⊎ Had old.rest heard
-  pub tells : TellsPrefix old.spot (lines heard) new.spot
+  pub tells : TellsPrefix old.cursor (lines heard) new.cursor
 
 -- a prefix of possible replies to the whole session was written
-pub record TellsPrefixOfAll (old : Hall) (now : Option (List ℕ)) : Type 0 where
+pub record TellsPrefixOfAll (old : StreamState) (now : Option (List ℕ)) : Type 0 where
   pub session : List ℕ
   pub had : Had old.rest session
   pub last : Situation
-  pub tells : TellsPrefix old.spot (heard_lines session) (spot last now)
+  pub tells : TellsPrefix old.cursor (heard_lines session) (cursor last now)
 
 -- a count of faults rose where this error is returned, and stayed the same otherwise
 pub record CausedBy {T : Type 0} (fault : HearError) (old new : ℕ) (result : Result T HearError) : Type 0 where

@@ -8,35 +8,35 @@ use Rattle.roman_session.specs.Situations.{Situation, IsSituation}
 use Rattle.roman_session.specs.declared.next.Next.{Next}
 use Rattle.roman_session.specs.declared.next.Next.TheVariants.{More, Quit}
 use Rattle.roman_hearing.specs.Told.{Told}
-use Rattle.roman_hearing.specs.Hearing.{has_quit, Spot, spot, Tells, TellsPrefix}
+use Rattle.roman_hearing.specs.Hearing.{has_quit, Cursor, cursor, Tells, TellsPrefix}
 use Rattle.roman_hearing.specs.declared.hearing.HearError.{HearError}
 use Rattle.roman_hearing.specs.declared.hearing.HearError.TheVariants.{ReadFault, WriteFault, TooLong}
 
 -- reader state within a line: the page holds the replies that aren't written yet, and the bytes of the line are held, truncated
 -- once they can't parse
-pub record Ear : Type 0 where
-  pub spot : Spot
+pub record ReaderState : Type 0 where
+  pub cursor : Cursor
   pub page : List ℕ
   pub held : List ℕ
 
 -- reader state from its parts
-abbrev pub ear : Situation → Option (List ℕ) → List ℕ → List ℕ → Ear
-ear situation written page held = record { spot = spot situation written; page = page; held = held }
+abbrev pub reader_state : Situation → Option (List ℕ) → List ℕ → List ℕ → ReaderState
+reader_state situation written page held = record { cursor = cursor situation written; page = page; held = held }
 
 -- a prefix of the replies to these lines was written, and the page holds the rest
-pub record TellsOnPage (old : Spot) (lines : List (List ℕ)) (new : Spot) (page : List ℕ) : Type 0 where
+pub record TellsOnPage (old : Cursor) (lines : List (List ℕ)) (new : Cursor) (page : List ℕ) : Type 0 where
   pub text : List ℕ
   pub told : Told old.situation lines text new.situation
   pub gathered : Gathered old.written new.written page text
 
 -- the whole lines of these bytes, none of which is `quit`, are answered, and the next line is held, truncated once it can't parse
-pub record IsHearing (old : Spot) (taken : List ℕ) (new : Ear) : Type 0 where
+pub record IsHearing (old : Cursor) (taken : List ℕ) (new : ReaderState) : Type 0 where
   pub quitless : IsFalse (has_quit (ended_lines taken))
-  pub tells : TellsOnPage old (ended_lines taken) new.spot new.page
+  pub tells : TellsOnPage old (ended_lines taken) new.cursor new.page
   pub rest : new.held ≡ kept (unfinished taken)
 
 -- a first line `quit` ends in the piece after these bytes, and it is answered
-pub record StopsAtQuit (old : Spot) (taken piece : List ℕ) (new : Spot) (page : List ℕ) : Type 0 where
+pub record StopsAtQuit (old : Cursor) (taken piece : List ℕ) (new : Cursor) (page : List ℕ) : Type 0 where
   pub heard : List ℕ
   pub past : List ℕ
   pub split : piece ≡ heard ++ 10 ∷ past
@@ -45,33 +45,33 @@ pub record StopsAtQuit (old : Spot) (taken piece : List ℕ) (new : Spot) (page 
   pub tells : TellsOnPage old (ended_lines (taken ++ heard ++ 10 ∷ [])) new page
 
 -- a prefix of the replies to these lines was written, and the session's situation is well formed
-pub record FallsShort (old : Spot) (lines : List (List ℕ)) (new : Spot) : Type 0 where
+pub record FallsShort (old : Cursor) (lines : List (List ℕ)) (new : Cursor) : Type 0 where
   pub tells : TellsPrefix old lines new
   pub known : IsSituation new.situation
 
 -- a prefix of the replies to the whole lines of some first bytes was written, and the session's situation is well formed
-pub record FailsIn (old : Spot) (bytes : List ℕ) (new : Spot) : Type 0 where
+pub record FailsIn (old : Cursor) (bytes : List ℕ) (new : Cursor) : Type 0 where
   pub heard : List ℕ
   pub past : List ℕ
   pub split : bytes ≡ heard ++ past
   pub fails : FallsShort old (ended_lines heard) new
 
 -- the bytes were read after the bytes taken before, to their end, to a `quit` or to a fault of the sink
-abbrev pub HearsBytes : Spot → List ℕ → List ℕ → Ear → Result Next Failed → Type 0
+abbrev pub HearsBytes : Cursor → List ℕ → List ℕ → ReaderState → Result Next Failed → Type 0
 HearsBytes old taken bytes new (Ok More) = IsHearing old (taken ++ bytes) new
-HearsBytes old taken bytes new (Ok Quit) = StopsAtQuit old taken bytes new.spot new.page
-HearsBytes old taken bytes new (Err failed) = FailsIn old (taken ++ bytes) new.spot
+HearsBytes old taken bytes new (Ok Quit) = StopsAtQuit old taken bytes new.cursor new.page
+HearsBytes old taken bytes new (Err failed) = FailsIn old (taken ++ bytes) new.cursor
 
 -- the first `room` bytes of a piece were read; where it has more bytes, the session is too long
-abbrev pub HearsPiece : ℕ → Spot → List ℕ → List ℕ → Ear → Result Next HearError → Type 0
+abbrev pub HearsPiece : ℕ → Cursor → List ℕ → List ℕ → ReaderState → Result Next HearError → Type 0
 HearsPiece room old taken piece new (Ok More) = IsHearing old (taken ++ piece) new × (length piece ≤ room)
-HearsPiece room old taken piece new (Ok Quit) = StopsAtQuit old taken (take room piece) new.spot new.page
+HearsPiece room old taken piece new (Ok Quit) = StopsAtQuit old taken (take room piece) new.cursor new.page
 HearsPiece room old taken piece new (Err ReadFault) = ⊥
-HearsPiece room old taken piece new (Err WriteFault) = FailsIn old (taken ++ take room piece) new.spot
+HearsPiece room old taken piece new (Err WriteFault) = FailsIn old (taken ++ take room piece) new.cursor
 HearsPiece room old taken piece new (Err TooLong) = IsHearing old (taken ++ take room piece) new × (room < length piece)
 
 -- a last line without a newline was answered too
-abbrev pub HearsRest : Spot → List ℕ → Spot → Result (Unit {0}) HearError → Type 0
+abbrev pub HearsRest : Cursor → List ℕ → Cursor → Result (Unit {0}) HearError → Type 0
 HearsRest old taken new (Ok x) = Tells old (lines taken) new
 HearsRest old taken new (Err ReadFault) = ⊥
 HearsRest old taken new (Err WriteFault) = FallsShort old (lines taken) new

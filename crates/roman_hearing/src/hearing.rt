@@ -6,8 +6,8 @@ ghost use Rattle.roman_text.specs.Lines.{kept};
 ghost use Rattle.roman_session.specs.Situations.{Situation, IsSituation};
 ghost use Rattle.roman_session.specs.Answering.{AnsweredOn, next_of};
 ghost use Rattle.roman_hearing.specs.Known.{AreBehaviours};
-ghost use Rattle.roman_hearing.specs.Hearing.{GaveQuit, spot, hall, IsHeardOut, IsCutOff, GoesOn, StopsShort, TellsPrefixOfAll, CausedBy};
-ghost use Rattle.roman_hearing.specs.HearingBytes.{ear, IsHearing, HearsBytes, HearsPiece, HearsRest};
+ghost use Rattle.roman_hearing.specs.Hearing.{GaveQuit, cursor, stream_state, IsHeardOut, IsCutOff, GoesOn, StopsShort, TellsPrefixOfAll, CausedBy};
+ghost use Rattle.roman_hearing.specs.HearingBytes.{reader_state, IsHearing, HearsBytes, HearsPiece, HearsRest};
 
 use roman_io::{Failed, Sink, Source, Steps};
 use roman_model::{MAX_SESSION_BYTES, PIECE_BYTES};
@@ -47,15 +47,15 @@ pub fn hear<S: Source, O: Sink, L: Ledger>(
 ) -> Result<(), HearError>
     // The replies to the whole session were written. For a session that is too long, the replies to
     // the lines that end within the limit were written.
-    ensures ok { OnOk result (IsHeardOut (hall session.old (S.rest source.old) (O.written out.old)) (spot session.new (O.written out.new))) }
-    ensures too_long { IsErrOf result HearError.TooLong → IsCutOff (hall session.old (S.rest source.old) (O.written out.old)) (spot session.new (O.written out.new)) }
+    ensures ok { OnOk result (IsHeardOut (stream_state session.old (S.rest source.old) (O.written out.old)) (cursor session.new (O.written out.new))) }
+    ensures too_long { IsErrOf result HearError.TooLong → IsCutOff (stream_state session.old (S.rest source.old) (O.written out.old)) (cursor session.new (O.written out.new)) }
 
     // Each error has its cause. After a fault of the source each whole line that was taken is
     // answered. After a fault of the sink a prefix of the replies to the first taken lines was
     // written. It is also a prefix of possible replies to the whole session.
-    ensures read_fault { IsErrOf result HearError.ReadFault → GoesOn (hall session.old (S.rest source.old) (O.written out.old)) (hall session.new (S.rest source.new) (O.written out.new)) }
-    ensures write_fault { IsErrOf result HearError.WriteFault → StopsShort (hall session.old (S.rest source.old) (O.written out.old)) (hall session.new (S.rest source.new) (O.written out.new)) }
-    ensures prefix { IsErrOf result HearError.WriteFault → AreBehaviours session.old.parts → TellsPrefixOfAll (hall session.old (S.rest source.old) (O.written out.old)) (O.written out.new) }
+    ensures read_fault { IsErrOf result HearError.ReadFault → GoesOn (stream_state session.old (S.rest source.old) (O.written out.old)) (stream_state session.new (S.rest source.new) (O.written out.new)) }
+    ensures write_fault { IsErrOf result HearError.WriteFault → StopsShort (stream_state session.old (S.rest source.old) (O.written out.old)) (stream_state session.new (S.rest source.new) (O.written out.new)) }
+    ensures prefix { IsErrOf result HearError.WriteFault → AreBehaviours session.old.parts → TellsPrefixOfAll (stream_state session.old (S.rest source.old) (O.written out.old)) (O.written out.new) }
     ensures reads { CausedBy HearError.ReadFault (S.faults source.old) (S.faults source.new) result }
     ensures writes { CausedBy HearError.WriteFault (O.faults out.old) (O.faults out.new) result }
 
@@ -107,8 +107,8 @@ fn hear_piece<O: Sink, L: Ledger>(
     steps: &mut Steps<L>,
 ) -> Result<Next, HearError>
     requires { page.old ≡ [] }
-    ensures hears { (old : Situation) (before : Option (List ℕ)) (taken : List ℕ) → IsHearing (spot old before) taken (ear session.old (O.written out.old) [] splitter.old) →
-        HearsPiece room (spot old before) taken piece.now (ear session.new (O.written out.new) [] splitter.new) result }
+    ensures hears { (old : Situation) (before : Option (List ℕ)) (taken : List ℕ) → IsHearing (cursor old before) taken (reader_state session.old (O.written out.old) [] splitter.old) →
+        HearsPiece room (cursor old before) taken piece.now (reader_state session.new (O.written out.new) [] splitter.new) result }
     ensures empty { IfOk result (λ _. page.new ≡ []) }
     ensures cause { CausedBy HearError.WriteFault (O.faults out.old) (O.faults out.new) result }
 {
@@ -135,8 +135,8 @@ fn hear_bytes<O: Sink, L: Ledger>(
     out: &mut O,
     steps: &mut Steps<L>,
 ) -> Result<Next, Failed>
-    ensures hears { (old : Situation) (before : Option (List ℕ)) (taken : List ℕ) → IsHearing (spot old before) taken (ear session.old (O.written out.old) page.old splitter.old) →
-        HearsBytes (spot old before) taken bytes.now (ear session.new (O.written out.new) page.new splitter.new) result }
+    ensures hears { (old : Situation) (before : Option (List ℕ)) (taken : List ℕ) → IsHearing (cursor old before) taken (reader_state session.old (O.written out.old) page.old splitter.old) →
+        HearsBytes (cursor old before) taken bytes.now (reader_state session.new (O.written out.new) page.new splitter.new) result }
     ensures cause { HasCause (O.faults out.old) (O.faults out.new) result }
 {
     for byte in bytes {
@@ -156,8 +156,8 @@ fn hear_byte<O: Sink, L: Ledger>(
     out: &mut O,
     steps: &mut Steps<L>,
 ) -> Result<Next, Failed>
-    ensures hears { (old : Situation) (before : Option (List ℕ)) (taken : List ℕ) → IsHearing (spot old before) taken (ear session.old (O.written out.old) page.old splitter.old) →
-        HearsBytes (spot old before) taken (byte ∷ []) (ear session.new (O.written out.new) page.new splitter.new) result }
+    ensures hears { (old : Situation) (before : Option (List ℕ)) (taken : List ℕ) → IsHearing (cursor old before) taken (reader_state session.old (O.written out.old) page.old splitter.old) →
+        HearsBytes (cursor old before) taken (byte ∷ []) (reader_state session.new (O.written out.new) page.new splitter.new) result }
     ensures cause { HasCause (O.faults out.old) (O.faults out.new) result }
 {
     if !splitter.push(byte) {
@@ -178,8 +178,8 @@ fn hear_rest<O: Sink, L: Ledger>(
     steps: &mut Steps<L>,
 ) -> Result<(), HearError>
     requires { page.old ≡ [] }
-    ensures hears { (old : Situation) (before : Option (List ℕ)) (taken : List ℕ) → IsHearing (spot old before) taken (ear session.old (O.written out.old) [] splitter.now) →
-        HearsRest (spot old before) taken (spot session.new (O.written out.new)) result }
+    ensures hears { (old : Situation) (before : Option (List ℕ)) (taken : List ℕ) → IsHearing (cursor old before) taken (reader_state session.old (O.written out.old) [] splitter.now) →
+        HearsRest (cursor old before) taken (cursor session.new (O.written out.new)) result }
     ensures cause { CausedBy HearError.WriteFault (O.faults out.old) (O.faults out.new) result }
 {
     if !splitter.rest() {

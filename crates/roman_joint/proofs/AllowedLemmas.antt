@@ -10,9 +10,9 @@ use Rattle.roman_model.specs.declared.reason.Reason.TheVariants.{Act}
 use Rattle.roman_model.specs.Numbers.{sizes_of, pair_at, numbered}
 use Rattle.roman_rules.specs.Numbered.{IsNumbered}
 use Rattle.roman_joint.proofs.ArenaFacts.{beaten_where}
-use Rattle.roman_joint.specs.Rows.{lanes_in, IsRow, IsTurn, is_open, may_rest}
+use Rattle.roman_joint.specs.Rows.{lanes_in, IsRow, IsTargetMove, is_open, may_rest}
 use Rattle.roman_joint.specs.declared.row.Row.{Row}
-use Rattle.roman_joint.specs.declared.turn.Turn.{Turn}
+use Rattle.roman_joint.specs.declared.turn.TargetMove.{TargetMove}
 use Rattle.std.proofs.Math.Bool.{and-true, and_assoc}
 use Rattle.std.proofs.lemmas.Bool.Decides.{nat_tests}
 use Rattle.std.proofs.lemmas.List.{length-map}
@@ -21,7 +21,7 @@ pub open_here : (s : Sys) (row : Row) (x a lane : ℕ) → IsRow s x row → lan
 open_here s row x a lane ok l = ap₂ (λ t e. not (is_empty (env_next s.env e a)) && not (is_empty (beh_next s.target t e a))) (ok.targets lane l) (ok.envs lane l)
 
 -- where an action leads somewhere, it is allowed
-pub turn_open : (s : Sys) (row : Row) (a : ℕ) (turn : Turn) → IsTurn s row a turn → is_open s row a ≡ true
+pub turn_open : (s : Sys) (row : Row) (a : ℕ) (turn : TargetMove) → IsTargetMove s row a turn → is_open s row a ≡ true
 turn_open s row a turn ok = grind arith
 
 -- where an action isn't allowed, it is no reason

@@ -15,11 +15,11 @@ use Rattle.roman_radix.specs.Radix.{IsSizes, stride_of}
 use Rattle.roman_radix.specs.Rows.{low_of, row_sizes, env_rows_of}
 use Rattle.roman_radix.proofs.CallerLemmas.{exact, lanes_few, AreSizes-index, low_of-le, lanes_positive, row_div, row_mod, row_below, env_rows_are, count_rows, length_rows, row_size, row_stride_of, IsSizes-rows, rows_are}
 use Rattle.roman_lanes.specs.Rows.{is_on, HasLanes, AreRows, Keeps}
-use Rattle.roman_joint.specs.Rows.{lanes_in, low_in, lane_state_of, AreRowsOf, IsRow, IsTurn}
+use Rattle.roman_joint.specs.Rows.{lanes_in, low_in, lane_state_of, AreRowsOf, IsRow, IsTargetMove}
 use Rattle.roman_joint.specs.Bands.{mid_in, band_in, turn_at, AllAlive, KeepsWhere}
 use Rattle.roman_joint.specs.declared.layout.Rows.{Rows}
 use Rattle.roman_joint.specs.declared.row.Row.{Row}
-use Rattle.roman_joint.specs.declared.turn.Turn.{Turn}
+use Rattle.roman_joint.specs.declared.turn.TargetMove.{TargetMove}
 use Rattle.roman_joint.proofs.Rows.{size_of_seat}
 use Rattle.std.proofs.Math.Bool.{and_assoc}
 use Rattle.roman_lanes.proofs.CallerLemmas.{on_zero}
@@ -100,20 +100,20 @@ pub first_in : (s : Sys) → IsSizes (sizes_of s) → 0 < band_in s
 first_in s h = lanes_positive (row_sizes (sizes_of s)).seats (IsSizes-rows (sizes_of s) h).seats
 
 -- the rows to which row i of a band goes
-pub record BandBefore (s : Sys) (r : Rows) (turn : Turn) (k part i long : ℕ) (states : List ℕ) : Type 0 where
+pub record BandBefore (s : Sys) (r : Rows) (turn : TargetMove) (k part i long : ℕ) (states : List ℕ) : Type 0 where
   pub taken : part * slice_index r.strides k ≤ turn.base
   pub few : long < 2 ^ 32
   pub inside : turn.base < long
   pub there : (e b : ℕ) → IsIn e turn.envs.now → IsIn b states → turn.base - part * slice_index r.strides k + i + e * r.env_rows + b * slice_index r.strides k < long
 
-module _ (s : Sys) (r : Rows) (y a : ℕ) (first : Row) (turn : Turn) (h : Known s (y * band_in s) first) (laid : AreRowsOf (sizes_of s) r) (ok : IsTurn s first a turn) where
+module _ (s : Sys) (r : Rows) (y a : ℕ) (first : Row) (turn : TargetMove) (h : Known s (y * band_in s) first) (laid : AreRowsOf (sizes_of s) r) (ok : IsTargetMove s first a turn) where
   here : (i : ℕ) → i < band_in s → InBand s y i first
   here i l = in_band s y i first h.sizes h.looked l
 
   pub known_at : (i : ℕ) → i < band_in s → Known s (y * band_in s + i) (row_in s (y * band_in s + i) first)
   known_at i l = record { nodes = h.nodes; sys = h.sys; sizes = h.sizes; looked = (here i l).looked }
 
-  pub turned : (i : ℕ) → i < band_in s → IsTurn s (row_in s (y * band_in s + i) first) a (turn_at turn i)
+  pub turned : (i : ℕ) → i < band_in s → IsTargetMove s (row_in s (y * band_in s + i) first) a (turn_at turn i)
   turned i l = record { to = ok.to; target = ok.target; base = omega (arith, ok.base, (here i l).part); worlds = ok.worlds; some = ok.some }
 
   pub before_at : (i k part long : ℕ) (states : List ℕ) → i < band_in s → k < mid_in s → long * lanes_in s ≡ count (sizes_of s) →
@@ -253,7 +253,7 @@ next_few s k b e a c sys i =
     let (y, seated, ready, moves) = from_seat_next (slice_get s.seats k) b e a c i in
     subst (λ m. c < m) (sym (size_of_seat s.seats k y seated)) (move_in_range s.env y.beh b e a c (sys.seats y (seat_in s.seats k y seated)) moves).3
 
-module _ (s : Sys) (r : Rows) (y a : ℕ) (first : Row) (turn : Turn) (h : Known s (y * band_in s) first) (laid : AreRowsOf (sizes_of s) r) (ok : IsTurn s first a turn) where
+module _ (s : Sys) (r : Rows) (y a : ℕ) (first : Row) (turn : TargetMove) (h : Known s (y * band_in s) first) (laid : AreRowsOf (sizes_of s) r) (ok : IsTargetMove s first a turn) where
   -- one of a band's own seats
   pub beaten_own : (i k part : ℕ) (states : List ℕ) (gone : ℕ → Bool) → i < band_in s → mid_in s ≤ k → k < low_in s → OwnRow s r k i part →
       states ≡ seat_next (slice_get s.seats k) part first.env a → states ≡ [] → HasLanes (lanes_in s) (y * band_in s + i) (λ p. not (is_beaten (numbered s) gone p a k)) 0

@@ -18,10 +18,10 @@ use Rattle.roman_radix.proofs.CallerLemmas.{product_positive, low_of-le, lanes_f
 use Rattle.roman_lanes.specs.Rows.{is_on, HasLanes, AreRows}
 use Rattle.roman_rules.specs.Numbered.{IsNumbered}
 use Rattle.roman_joint.specs.NamedSys.{NamedSys, system_of, seat_of, IsNamedSys}
-use Rattle.roman_joint.specs.Rows.{lanes_in, low_in, lane_has_state, lane_state_of, AreRowsOf, IsRow, IsTurn, AreAlive}
+use Rattle.roman_joint.specs.Rows.{lanes_in, low_in, lane_has_state, lane_state_of, AreRowsOf, IsRow, IsTargetMove, AreAlive}
 use Rattle.roman_joint.specs.declared.layout.Rows.{Rows}
 use Rattle.roman_joint.specs.declared.row.Row.{Row}
-use Rattle.roman_joint.specs.declared.turn.Turn.{Turn}
+use Rattle.roman_joint.specs.declared.turn.TargetMove.{TargetMove}
 use Rattle.roman_joint.proofs.ArenaFacts.{joint_numbered}
 use Rattle.roman_joint.proofs.OutcomeLemmas.{target_in_range}
 use Rattle.roman_joint.proofs.Rows.{size_of_seat}
@@ -77,12 +77,12 @@ turn_fits n r x row to ok laid looked in_target =
     (omega (arith, there, few, base), omega (arith, there, few, base))
 
 -- the rows of a turn
-pub record RowsThere (r : Rows) (turn : Turn) (long : ℕ) : Type 0 where
+pub record RowsThere (r : Rows) (turn : TargetMove) (long : ℕ) : Type 0 where
   pub inside : turn.base < long
   pub there : (e : ℕ) → IsIn e turn.envs.now → turn.base + e * r.env_rows < long
   pub few : long < 2 ^ 32
 
-pub rows_there : (s : Sys) (r : Rows) (x a long : ℕ) (row : Row) (turn : Turn) → Known s x row → AreRowsOf (sizes_of s) r → IsTurn s row a turn → long * lanes_in s ≡ count (sizes_of s) → RowsThere r turn long
+pub rows_there : (s : Sys) (r : Rows) (x a long : ℕ) (row : Row) (turn : TargetMove) → Known s x row → AreRowsOf (sizes_of s) r → IsTargetMove s row a turn → long * lanes_in s ≡ count (sizes_of s) → RowsThere r turn long
 rows_there s r x a long row turn h laid ok room =
     let n = sizes_of s in
     let in_target : ok.to < s.target.states = target_in_range s row.target row.env a ok.to h.sys ok.target in
@@ -102,12 +102,12 @@ rows_there s r x a long row turn h laid ok room =
     }
 
 -- the rows to which a seat before the lanes goes
-pub record RowsBefore (r : Rows) (turn : Turn) (k part long : ℕ) (states : List ℕ) : Type 0 where
+pub record RowsBefore (r : Rows) (turn : TargetMove) (k part long : ℕ) (states : List ℕ) : Type 0 where
   pub turn_rows : RowsThere r turn long
   pub taken : part * slice_index r.strides k ≤ turn.base
   pub there : (e b : ℕ) → IsIn e turn.envs.now → IsIn b states → turn.base - part * slice_index r.strides k + e * r.env_rows + b * slice_index r.strides k < long
 
-pub rows_before : (s : Sys) (r : Rows) (x a k part long : ℕ) (row : Row) (turn : Turn) (states : List ℕ) → Known s x row → AreRowsOf (sizes_of s) r → IsTurn s row a turn → k < low_in s → long * lanes_in s ≡ count (sizes_of s) →
+pub rows_before : (s : Sys) (r : Rows) (x a k part long : ℕ) (row : Row) (turn : TargetMove) (states : List ℕ) → Known s x row → AreRowsOf (sizes_of s) r → IsTargetMove s row a turn → k < low_in s → long * lanes_in s ≡ count (sizes_of s) →
     states ≡ seat_next (slice_get s.seats k) (slice_index row.states k) row.env a → part ≡ slice_index row.states k → RowsBefore r turn k part long states
 rows_before s r x a k part long row turn states h laid ok before room is_states is_part =
     let n = sizes_of s in
@@ -142,7 +142,7 @@ pub full_off : (n : Sizes) (r : Rows) (lane : ℕ) → AreRowsOf n r → lanes_o
 full_off n r lane laid l = laid.full lane ∙ le-ltb lane (lanes_of n.seats) l
 
 -- the pairs at which a seat before the lanes serves
-pub serves_before : (s : Sys) (r : Rows) (x a k part word : ℕ) (row : Row) (turn : Turn) (states words : List ℕ) (gone : ℕ → Bool) → Known s x row → AreRowsOf (sizes_of s) r → IsTurn s row a turn → k < low_in s →
+pub serves_before : (s : Sys) (r : Rows) (x a k part word : ℕ) (row : Row) (turn : TargetMove) (states words : List ℕ) (gone : ℕ → Bool) → Known s x row → AreRowsOf (sizes_of s) r → IsTargetMove s row a turn → k < low_in s →
     length words * lanes_in s ≡ count (sizes_of s) → states ≡ seat_next (slice_get s.seats k) (slice_index row.states k) row.env a → part ≡ slice_index row.states k → IsFalse (is_empty states) →
     AreRows (lanes_in s) (λ q. not (gone q)) words →
     ((lane : ℕ) → is_on word lane ≡ (is_on r.full lane && not (list_any (λ e. list_any (λ b. not (is_on (slice_index words (turn.base - part * slice_index r.strides k + e * r.env_rows + b * slice_index r.strides k)) lane)) states) turn.envs.now))) →
@@ -165,7 +165,7 @@ serves_before s r x a k part word row turn states words gone h laid ok before ro
       rest = λ lane l. told lane ∙ ap (λ b. b && not (list_any (λ e. list_any (test lane e) states) turn.envs.now)) (full_off n r lane laid l);
     }
 
-pub beaten_before : (s : Sys) (r : Rows) (x a k : ℕ) (row : Row) (turn : Turn) (states : List ℕ) (gone : ℕ → Bool) → Known s x row → AreRowsOf (sizes_of s) r → IsTurn s row a turn → k < low_in s →
+pub beaten_before : (s : Sys) (r : Rows) (x a k : ℕ) (row : Row) (turn : TargetMove) (states : List ℕ) (gone : ℕ → Bool) → Known s x row → AreRowsOf (sizes_of s) r → IsTargetMove s row a turn → k < low_in s →
     states ≡ seat_next (slice_get s.seats k) (slice_index row.states k) row.env a → states ≡ [] → HasLanes (lanes_in s) x (λ p. not (is_beaten (numbered s) gone p a k)) 0
 beaten_before s r x a k row turn states gone h laid ok before is_states none =
     record {
@@ -175,7 +175,7 @@ beaten_before s r x a k row turn states gone h laid ok before is_states none =
     }
 
 -- the alive lanes of a turn
-pub alive_there : (s : Sys) (r : Rows) (x a alive : ℕ) (row : Row) (turn : Turn) (words : List ℕ) (gone : ℕ → Bool) → Known s x row → AreRowsOf (sizes_of s) r → IsTurn s row a turn → length words * lanes_in s ≡ count (sizes_of s) →
+pub alive_there : (s : Sys) (r : Rows) (x a alive : ℕ) (row : Row) (turn : TargetMove) (words : List ℕ) (gone : ℕ → Bool) → Known s x row → AreRowsOf (sizes_of s) r → IsTargetMove s row a turn → length words * lanes_in s ≡ count (sizes_of s) →
     AreRows (lanes_in s) (λ q. not (gone q)) words →
     ((lane : ℕ) → is_on alive lane ≡ (is_on r.full lane && not (list_any (λ e. not (is_on (slice_index words (turn.base + e * r.env_rows)) lane)) turn.envs.now))) → AreAlive s gone turn alive
 alive_there s r x a alive row turn words gone h laid ok room rows told = record {
@@ -242,7 +242,7 @@ state_shift first b st size lane is pos l low = elim (cases_lt lane (b * st)) [
         turned m r b size k l (inr e) = grind (arith, nat_tests)
 
 -- without an alive lane, a seat within the lanes serves at no pair
-pub beaten_dead : (s : Sys) (x a k lane : ℕ) (row : Row) (turn : Turn) (gone : ℕ → Bool) → Known s x row → IsTurn s row a turn → low_in s ≤ k → k < length s.seats → AreAlive s gone turn 0 → lane < lanes_in s →
+pub beaten_dead : (s : Sys) (x a k lane : ℕ) (row : Row) (turn : TargetMove) (gone : ℕ → Bool) → Known s x row → IsTargetMove s row a turn → low_in s ≤ k → k < length s.seats → AreAlive s gone turn 0 → lane < lanes_in s →
     is_beaten (numbered s) gone (x * lanes_in s + lane) a k ≡ true
 beaten_dead s x a k lane row turn gone h ok within seat living in_lanes =
     let n = sizes_of s in

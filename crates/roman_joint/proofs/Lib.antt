@@ -8,7 +8,7 @@ pub mod WalkLemmas
 pub mod Rows
 pub mod ArenaFacts
 pub mod BehaviourLemmas
-pub mod SceneLemmas
+pub mod TargetViewLemmas
 pub mod WordLemmas
 pub mod SplitLemmas
 pub mod LeadLemmas

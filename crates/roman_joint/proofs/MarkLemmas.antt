@@ -25,7 +25,7 @@ use Rattle.roman_lanes.specs.Flags.{has_flag}
 use Rattle.roman_joint.specs.Backward.{seat_prev, from_states, from_seat, from_target, from_env, from_action, from_all}
 use Rattle.roman_joint.specs.Rows.{lanes_in, low_in, lane_state_of, IsRow}
 use Rattle.roman_joint.specs.Bands.{mid_in, band_in}
-use Rattle.roman_joint.specs.Scenes.{AreLeading}
+use Rattle.roman_joint.specs.TargetViews.{AreLeading}
 use Rattle.roman_joint.specs.Marks.{IsMarked, Grows, row_at, MarksSeat, MarksTurn, MarksEnv, MarksAction, IsAt, front_target, front_env, front_action, front_all}
 use Rattle.roman_joint.specs.declared.row.Row.{Row}
 use Rattle.roman_joint.proofs.BackwardLemmas.{Steps, Found, delegation, origin, in_seat_prev, leads_found, from_all_found, found_backwards}

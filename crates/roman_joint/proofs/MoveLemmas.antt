@@ -21,10 +21,10 @@ use Rattle.roman_lanes.specs.Rows.{is_on, HasLanes}
 use Rattle.roman_parts.specs.Named.{NamedBeh}
 use Rattle.roman_joint.specs.NamedSys.{NamedSys, system_of, seat_of}
 use Rattle.roman_joint.specs.declared.seat.Seat as declared
-use Rattle.roman_joint.specs.Rows.{lanes_in, low_in, lane_state_of, IsTurn, AreAlive}
+use Rattle.roman_joint.specs.Rows.{lanes_in, low_in, lane_state_of, IsTargetMove, AreAlive}
 use Rattle.roman_joint.specs.Moves.{GoesTo, AreMovesOf, AreWays, lane_move, lane_moves_from, ways_room, within_in, IsSpan, HoldsSpans, HoldsMoves, IsAdded, IsKept, AreSeatsOf}
 use Rattle.roman_joint.specs.declared.row.Row.{Row}
-use Rattle.roman_joint.specs.declared.turn.Turn.{Turn}
+use Rattle.roman_joint.specs.declared.turn.TargetMove.{TargetMove}
 use Rattle.roman_joint.specs.declared.moves.Move.{Move}
 use Rattle.roman_joint.specs.declared.moves.Span.{Span}
 use Rattle.roman_joint.specs.declared.moves.Moves.{Moves}
@@ -127,7 +127,7 @@ moves_made n k last e a beh ways h within seat states size ok = assumption (ok, 
         )
 
 -- the pairs at which a service within the lanes serves, by its moves
-pub serves_within : (s : Sys) (x a k some good alive : ℕ) (row : Row) (turn : Turn) (seat : Seat) (moves : List Move) (gone : ℕ → Bool) → Known s x row → IsTurn s row a turn → low_in s ≤ k →
+pub serves_within : (s : Sys) (x a k some good alive : ℕ) (row : Row) (turn : TargetMove) (seat : Seat) (moves : List Move) (gone : ℕ → Bool) → Known s x row → IsTargetMove s row a turn → low_in s ≤ k →
     slice_get s.seats k ≡ Some seat → IsFalse seat.frozen → AreMovesOf (sizes_of s) k seat.beh row.env a some moves → AreAlive s gone turn alive →
     ((lane : ℕ) → lane < 64 → ((move : Move) → IsIn move moves → is_on move.lanes lane ≡ true → (move.from ≤ lane) × (lane + move.to - move.from < 64)) →
     is_on good lane ≡ (is_on some lane && not (list_any (λ move. is_on move.lanes lane && not (is_on alive (lane + move.to - move.from))) moves))) →

@@ -6,7 +6,7 @@ use Rattle.roman_model.specs.declared.limits.TheConstants.{MAX_SERVICES}
 use Rattle.roman_joint.specs.declared.joint.Joint.TheInside.{Inside}
 use Rattle.roman_joint.specs.NamedSys.{NamedSys, system_of, seat_of, IsNamedSys}
 use Rattle.roman_joint.specs.Layout.{named_sys_in, IsJoint}
-use Rattle.roman_joint.specs.Scenes.{AreScenes}
+use Rattle.roman_joint.specs.TargetViews.{AreTargetViews}
 use Rattle.roman_joint.specs.Rows.{AreRowsOf}
 use Rattle.roman_joint.specs.Moves.{HoldsMoves, HasRoom, IsKept}
 use Rattle.roman_joint.specs.declared.moves.Moves.{Moves}
@@ -24,7 +24,7 @@ pub record Shows (a : Inside) (n : NamedSys) : Type 0 where
   pub shape : a.shape ≡ sizes_of (system_of n)
   pub rows : AreRowsOf (sizes_of (system_of n)) a.rows
   pub moves : HoldsMoves (system_of n) a.moves
-  pub scenes : AreScenes (system_of n).env (system_of n).target a.scenes.items
+  pub target_views : AreTargetViews (system_of n).env (system_of n).target a.target_views.items
   pub room : MAX_SERVICES ≤ vec_capacity a.seats
 
 pub shown : (a : Inside) (n : NamedSys) → IsJoint a → named_sys_in a ≡ n → Shows a n
@@ -37,7 +37,7 @@ pub record Fits (a : Inside) (n : NamedSys) : Type 0 where
   pub rows : AreRowsOf (sizes_of (system_of n)) a.rows
   pub moves : HoldsMoves (system_of n) a.moves
   pub moves_room : HasRoom a.moves
-  pub scenes : AreScenes a.environment.env a.target.beh a.scenes.items
+  pub target_views : AreTargetViews a.environment.env a.target.beh a.target_views.items
   pub room : MAX_SERVICES ≤ vec_capacity a.seats
 
 pub is_joint : (a : Inside) (n : NamedSys) → named_sys_in a ≡ n → Fits a n → IsJoint a

@@ -14,7 +14,7 @@ use Rattle.roman_radix.proofs.CallerLemmas.{product_positive, product_more, AreS
 use Rattle.roman_lanes.specs.Rows.{is_on}
 use Rattle.roman_joint.specs.NamedSys.{NamedSys, system_of, IsNamedSys}
 use Rattle.roman_joint.specs.Rows.{lanes_in, low_in, lane_has_state, AreRowsOf, IsRow}
-use Rattle.roman_joint.specs.Scenes.{ArePermitted, AreLeading}
+use Rattle.roman_joint.specs.TargetViews.{ArePermitted, AreLeading}
 use Rattle.roman_joint.specs.declared.layout.Rows.{Rows}
 use Rattle.roman_joint.specs.declared.row.Row.{Row}
 use Rattle.roman_joint.proofs.Rows.{count_fits}

@@ -5,7 +5,7 @@ use Rattle.roman_model.specs.Numbers.{sizes_of}
 use Rattle.roman_radix.specs.Rows.{low_of, lanes_of, row_sizes}
 use Rattle.roman_lanes.specs.Rows.{is_on}
 use Rattle.roman_joint.specs.Rows.{lanes_in, AreAlive}
-use Rattle.roman_joint.specs.declared.turn.Turn.{Turn}
+use Rattle.roman_joint.specs.declared.turn.TargetMove.{TargetMove}
 
 -- the number of seats before a band's own
 abbrev pub mid_in : Sys → ℕ
@@ -16,11 +16,11 @@ abbrev pub band_in : Sys → ℕ
 band_in s = lanes_of (row_sizes (sizes_of s)).seats
 
 -- the turn of row i of a band, from that of its first row
-abbrev pub turn_at : Turn → ℕ → Turn
+abbrev pub turn_at : TargetMove → ℕ → TargetMove
 turn_at turn i = record { base = turn.base + i; envs = turn.envs }
 
 -- each word has the alive lanes of its row's turn: those at which the turn leads to no pair that is gone
-pub record AllAlive (s : Sys) (gone : ℕ → Bool) (turn : Turn) (alive : List ℕ) : Type 0 where
+pub record AllAlive (s : Sys) (gone : ℕ → Bool) (turn : TargetMove) (alive : List ℕ) : Type 0 where
   pub each : (i : ℕ) → i < band_in s → AreAlive s gone (turn_at turn i) (slice_index alive i)
 
 -- `alive` has, for each of the states, the words of `many` neighbouring rows; the words of state 0 begin at place `from`

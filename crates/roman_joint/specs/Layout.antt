@@ -4,7 +4,7 @@ use Rattle.roman_model.specs.Numbers.{sizes_of}
 use Rattle.roman_model.specs.declared.limits.TheConstants.{MAX_SERVICES}
 use Rattle.roman_joint.specs.declared.joint.Joint.TheInside.{Inside}
 use Rattle.roman_joint.specs.NamedSys.{NamedSys, system_of, IsNamedSys}
-use Rattle.roman_joint.specs.Scenes.{AreScenes}
+use Rattle.roman_joint.specs.TargetViews.{AreTargetViews}
 use Rattle.roman_joint.specs.Rows.{AreRowsOf}
 use Rattle.roman_joint.specs.Moves.{HoldsMoves, HasRoom}
 
@@ -25,5 +25,5 @@ pub record IsJoint (a : Inside) : Type 0 where
   pub rows : AreRowsOf (sizes_of (system_of (named_sys_in a))) a.rows
   pub moves : HoldsMoves (system_of (named_sys_in a)) a.moves
   pub moves_room : HasRoom a.moves
-  pub scenes : AreScenes a.environment.env a.target.beh a.scenes.items
+  pub target_views : AreTargetViews a.environment.env a.target.beh a.target_views.items
   pub room : MAX_SERVICES ≤ vec_capacity a.seats

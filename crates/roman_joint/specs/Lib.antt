@@ -8,7 +8,7 @@ pub mod Outcomes
 pub mod Backward
 pub mod Walks
 pub mod Changes
-pub mod Scenes
+pub mod TargetViews
 pub mod Rows
 pub mod Marks
 pub mod Moves

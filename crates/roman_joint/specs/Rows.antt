@@ -8,10 +8,10 @@ use Rattle.roman_model.specs.Numbers.{Sizes, sizes_of, count, pair_at}
 use Rattle.roman_radix.specs.Radix.{stride_of}
 use Rattle.roman_radix.specs.Rows.{low_of, lanes_of, row_sizes, env_rows_of, target_rows_of}
 use Rattle.roman_lanes.specs.Rows.{is_on}
-use Rattle.roman_joint.specs.Scenes.{ArePermitted, AreLeading}
+use Rattle.roman_joint.specs.TargetViews.{ArePermitted, AreLeading}
 use Rattle.roman_joint.specs.declared.layout.Rows.{Rows}
 use Rattle.roman_joint.specs.declared.row.Row.{Row}
-use Rattle.roman_joint.specs.declared.turn.Turn.{Turn}
+use Rattle.roman_joint.specs.declared.turn.TargetMove.{TargetMove}
 
 -- the number of pairs in a row of the system
 abbrev pub lanes_in : Sys → ℕ
@@ -62,7 +62,7 @@ abbrev pub is_open : Sys → Row → ℕ → Bool
 is_open s row a = not (is_empty (env_next s.env row.env a)) && not (is_empty (beh_next s.target row.target row.env a))
 
 -- the action leads from the row to one state of the target and these of the environment; `base` is the row at that state of the target and state 0 of the environment
-pub record IsTurn (s : Sys) (row : Row) (a : ℕ) (turn : Turn) : Type 0 where
+pub record IsTargetMove (s : Sys) (row : Row) (a : ℕ) (turn : TargetMove) : Type 0 where
   pub to : ℕ
   pub target : beh_next s.target row.target row.env a ≡ to ∷ []
   pub base : turn.base ≡ to * target_rows_of (sizes_of s) + row.part
@@ -70,7 +70,7 @@ pub record IsTurn (s : Sys) (row : Row) (a : ℕ) (turn : Turn) : Type 0 where
   pub some : IsFalse (is_empty turn.envs.now)
 
 -- these are the alive lanes of the turn: those at which it leads to no pair that is gone, in any state of the environment
-pub record AreAlive (s : Sys) (gone : ℕ → Bool) (turn : Turn) (alive : ℕ) : Type 0 where
+pub record AreAlive (s : Sys) (gone : ℕ → Bool) (turn : TargetMove) (alive : ℕ) : Type 0 where
   pub each : (lane : ℕ) → lane < lanes_in s → is_on alive lane ≡ not (list_any (λ e. gone ((turn.base + e * env_rows_of (sizes_of s)) * lanes_in s + lane)) turn.envs.now)
 
 -- the seat may rest in state b: the state is final, or the seat needn't rest

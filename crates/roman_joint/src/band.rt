@@ -7,17 +7,17 @@ ghost use Rattle.roman_model.specs.declared.reason.Reason.TheVariants.{Act};
 ghost use Rattle.roman_radix.specs.Rows.{row_sizes};
 ghost use Rattle.roman_lanes.specs.Rows.{AreRows, Keeps};
 ghost use Rattle.roman_joint.specs.NamedSys.{system_of};
-ghost use Rattle.roman_joint.specs.Rows.{lanes_in, low_in, lane_state_of, IsRow, IsTurn};
+ghost use Rattle.roman_joint.specs.Rows.{lanes_in, low_in, lane_state_of, IsRow, IsTargetMove};
 ghost use Rattle.roman_joint.specs.Bands.{mid_in, band_in, AllAlive, KeepsWhere};
 ghost use Rattle.roman_joint.specs.declared.row.Row.{Row};
-ghost use Rattle.roman_joint.specs.declared.turn.Turn.{Turn};
+ghost use Rattle.roman_joint.specs.declared.turn.TargetMove.{TargetMove};
 
 use crate::joint::Joint;
 use crate::moving::clear_moving;
 use crate::row::Row;
 use crate::runs::{all_alive_each, clear, clear_state, is_clear, rows_alive_each, set_first};
 use crate::states::next_states;
-use crate::turn::{Turn, turn_of};
+use crate::turn::{TargetMove, target_move_of};
 use crate::words::less;
 
 /// The greatest number of rows in a band.
@@ -29,14 +29,14 @@ pub(crate) fn clear_before(
     joint: &Joint,
     words: &[u64],
     row: &Row,
-    turn: &Turn<'_>,
+    turn: &TargetMove<'_>,
     a: u8,
     k: u8,
     all: &mut [u64],
     left: &mut [u64],
 )
     requires row { (y : ℕ) × IsRow (system_of joint.now) (y * band_in (system_of joint.now)) row.now }
-    requires turn { IsTurn (system_of joint.now) row.now a turn.now }
+    requires turn { IsTargetMove (system_of joint.now) row.now a turn.now }
     requires action { a < (system_of joint.now).env.actions }
     requires room { length words.now * lanes_in (system_of joint.now) ≡ count (sizes_of (system_of joint.now)) }
     requires seat { k < mid_in (system_of joint.now) }
@@ -74,8 +74,8 @@ pub(crate) fn clear_before(
 
 /// Writes, for each row of a band, the alive lanes of its turn: those at which it leads to no pair
 /// that is gone, in any state of the environment.
-fn alive_each(joint: &Joint, words: &[u64], turn: &Turn<'_>, alive: &mut [u64])
-    requires turn { (y : ℕ) × (row : Row) × (a : ℕ) × IsRow (system_of joint.now) (y * band_in (system_of joint.now)) row × IsTurn (system_of joint.now) row a turn.now }
+fn alive_each(joint: &Joint, words: &[u64], turn: &TargetMove<'_>, alive: &mut [u64])
+    requires turn { (y : ℕ) × (row : Row) × (a : ℕ) × IsRow (system_of joint.now) (y * band_in (system_of joint.now)) row × IsTargetMove (system_of joint.now) row a turn.now }
     requires room { length words.now * lanes_in (system_of joint.now) ≡ count (sizes_of (system_of joint.now)) }
     requires long { band_in (system_of joint.now) ≤ length alive.old }
     ensures long { length alive.new ≡ length alive.old }
@@ -100,8 +100,8 @@ fn clear_own_state(joint: &Joint, row: &Row, alive: &[u64], a: u8, k: u8, b: u8,
     requires long { length left.old ≡ band_in (system_of joint.now) }
     ensures long { length left.new ≡ length left.old }
     ensures left { let s = system_of joint.now in
-        (y : ℕ) (gone : ℕ → Bool) (turn : Turn) → IsRow s (y * band_in s) row.now →
-        IsTurn s row.now a turn → AllAlive s gone turn alive.now →
+        (y : ℕ) (gone : ℕ → Bool) (turn : TargetMove) → IsRow s (y * band_in s) row.now →
+        IsTargetMove s row.now a turn → AllAlive s gone turn alive.now →
         KeepsWhere s (y * band_in s) (λ i. lane_state_of (row_sizes (sizes_of s)) k i ≡ b) (λ p. is_beaten (numbered s) gone p a k) left.old left.new }
 {
     let rows = joint.layout();
@@ -126,8 +126,8 @@ fn clear_own(joint: &Joint, row: &Row, alive: &[u64], a: u8, k: u8, left: &mut [
     requires long { length left.old ≡ band_in (system_of joint.now) }
     ensures long { length left.new ≡ length left.old }
     ensures left { let s = system_of joint.now in
-        (y : ℕ) (gone : ℕ → Bool) (turn : Turn) → IsRow s (y * band_in s) row.now →
-        IsTurn s row.now a turn → AllAlive s gone turn alive.now →
+        (y : ℕ) (gone : ℕ → Bool) (turn : TargetMove) → IsRow s (y * band_in s) row.now →
+        IsTargetMove s row.now a turn → AllAlive s gone turn alive.now →
         Keeps (lanes_in s) (y * band_in s) (band_in s) (λ p. is_beaten (numbered s) gone p a k) left.old left.new }
 {
     let rows = joint.layout();
@@ -147,8 +147,8 @@ fn clear_within(joint: &Joint, row: &Row, alive: &[u64], a: u8, k: u8, left: &mu
     requires long { length left.old ≡ band_in (system_of joint.now) }
     ensures long { length left.new ≡ length left.old }
     ensures left { let s = system_of joint.now in
-        (y : ℕ) (gone : ℕ → Bool) (turn : Turn) → IsRow s (y * band_in s) row.now →
-        IsTurn s row.now a turn → AllAlive s gone turn alive.now →
+        (y : ℕ) (gone : ℕ → Bool) (turn : TargetMove) → IsRow s (y * band_in s) row.now →
+        IsTargetMove s row.now a turn → AllAlive s gone turn alive.now →
         Keeps (lanes_in s) (y * band_in s) (band_in s) (λ p. is_beaten (numbered s) gone p a k) left.old left.new }
 {
     joint.layout();
@@ -170,8 +170,8 @@ fn clear_behind(joint: &Joint, row: &Row, alive: &[u64], a: u8, k: u8, left: &mu
     requires long { length left.old ≡ band_in (system_of joint.now) }
     ensures long { length left.new ≡ length left.old }
     ensures left { let s = system_of joint.now in
-        (y : ℕ) (gone : ℕ → Bool) (turn : Turn) → IsRow s (y * band_in s) row.now →
-        IsTurn s row.now a turn → AllAlive s gone turn alive.now →
+        (y : ℕ) (gone : ℕ → Bool) (turn : TargetMove) → IsRow s (y * band_in s) row.now →
+        IsTargetMove s row.now a turn → AllAlive s gone turn alive.now →
         Keeps (lanes_in s) (y * band_in s) (band_in s) (λ p. is_beaten (numbered s) gone p a k) left.old left.new }
 {
     if k < joint.layout().low {
@@ -182,9 +182,16 @@ fn clear_behind(joint: &Joint, row: &Row, alive: &[u64], a: u8, k: u8, left: &mu
 }
 
 /// Clears, in `left`, the pairs of a band at which some seat serves the action.
-fn clear_served(joint: &Joint, words: &[u64], row: &Row, turn: &Turn<'_>, a: u8, left: &mut [u64])
+fn clear_served(
+    joint: &Joint,
+    words: &[u64],
+    row: &Row,
+    turn: &TargetMove<'_>,
+    a: u8,
+    left: &mut [u64],
+)
     requires row { (y : ℕ) × IsRow (system_of joint.now) (y * band_in (system_of joint.now)) row.now }
-    requires turn { IsTurn (system_of joint.now) row.now a turn.now }
+    requires turn { IsTargetMove (system_of joint.now) row.now a turn.now }
     requires action { a < (system_of joint.now).env.actions }
     requires room { length words.now * lanes_in (system_of joint.now) ≡ count (sizes_of (system_of joint.now)) }
     requires long { length left.old ≡ band_in (system_of joint.now) }
@@ -217,7 +224,7 @@ fn clear_seat(
     joint: &Joint,
     words: &[u64],
     row: &Row,
-    turn: &Turn<'_>,
+    turn: &TargetMove<'_>,
     alive: &[u64],
     a: u8,
     k: u8,
@@ -225,7 +232,7 @@ fn clear_seat(
     left: &mut [u64],
 )
     requires row { (y : ℕ) × IsRow (system_of joint.now) (y * band_in (system_of joint.now)) row.now }
-    requires turn { IsTurn (system_of joint.now) row.now a turn.now }
+    requires turn { IsTargetMove (system_of joint.now) row.now a turn.now }
     requires action { a < (system_of joint.now).env.actions }
     requires room { length words.now * lanes_in (system_of joint.now) ≡ count (sizes_of (system_of joint.now)) }
     requires seat { k < length joint.now.seats }
@@ -252,7 +259,7 @@ fn served_by(
     joint: &Joint,
     words: &[u64],
     row: &Row,
-    turn: &Turn<'_>,
+    turn: &TargetMove<'_>,
     alive: &[u64],
     a: u8,
     k: u8,
@@ -260,7 +267,7 @@ fn served_by(
     left: &mut [u64],
 ) -> u32
     requires row { (y : ℕ) × IsRow (system_of joint.now) (y * band_in (system_of joint.now)) row.now }
-    requires turn { IsTurn (system_of joint.now) row.now a turn.now }
+    requires turn { IsTargetMove (system_of joint.now) row.now a turn.now }
     requires action { a < (system_of joint.now).env.actions }
     requires room { length words.now * lanes_in (system_of joint.now) ≡ count (sizes_of (system_of joint.now)) }
     requires seat { k < length joint.now.seats }
@@ -306,7 +313,7 @@ impl Joint {
             left[0] = self.unserved(row, words, a, left[0]);
             return;
         }
-        let Some(turn) = turn_of(self, row, a) else {
+        let Some(turn) = target_move_of(self, row, a) else {
             clear(left);
             return;
         };
@@ -328,7 +335,7 @@ impl Joint {
         ensures few { result ≤ 131072 }
     {
         self.known();
-        let Some(turn) = turn_of(self, row, a) else {
+        let Some(turn) = target_move_of(self, row, a) else {
             return 0;
         };
         let mut alive = [0; BAND];

@@ -8,21 +8,21 @@ ghost use Rattle.roman_model.specs.declared.reason.Reason.TheVariants.{Act};
 ghost use Rattle.roman_lanes.specs.Rows.{is_on, HasLanes, AreRows};
 ghost use Rattle.roman_rules.specs.Bits.{HasBits};
 ghost use Rattle.roman_joint.specs.NamedSys.{system_of};
-ghost use Rattle.roman_joint.specs.Rows.{lanes_in, low_in, IsRow, IsTurn, AreAlive};
+ghost use Rattle.roman_joint.specs.Rows.{lanes_in, low_in, IsRow, IsTargetMove, AreAlive};
 ghost use Rattle.roman_joint.specs.declared.row.Row.{Row};
-ghost use Rattle.roman_joint.specs.declared.turn.Turn.{Turn};
+ghost use Rattle.roman_joint.specs.declared.turn.TargetMove.{TargetMove};
 
 use crate::joint::Joint;
 use crate::row::Row;
 use crate::states::next_states;
-use crate::turn::{Turn, turn_of};
+use crate::turn::{TargetMove, target_move_of};
 use crate::words::{all_alive, less, moves_alive, rows_alive};
 use roman_rules::SeatSet;
 
 /// Returns the lanes at which a seat before the lanes serves the action.
-fn good_before(joint: &Joint, words: &[u64], row: &Row, turn: &Turn<'_>, a: u8, k: u8) -> u64
+fn good_before(joint: &Joint, words: &[u64], row: &Row, turn: &TargetMove<'_>, a: u8, k: u8) -> u64
     requires row { (x : ℕ) × IsRow (system_of joint.now) x row.now }
-    requires turn { IsTurn (system_of joint.now) row.now a turn.now }
+    requires turn { IsTargetMove (system_of joint.now) row.now a turn.now }
     requires action { a < (system_of joint.now).env.actions }
     requires room { length words.now * lanes_in (system_of joint.now) ≡ count (sizes_of (system_of joint.now)) }
     requires seat { k < low_in (system_of joint.now) }
@@ -52,8 +52,8 @@ fn good_before(joint: &Joint, words: &[u64], row: &Row, turn: &Turn<'_>, a: u8, 
 
 /// Returns the alive lanes of a turn: those at which it leads to no pair that is gone, in any state of
 /// the environment.
-fn alive_on(joint: &Joint, words: &[u64], turn: &Turn<'_>) -> u64
-    requires turn { (x : ℕ) × (row : Row) × (a : ℕ) × IsRow (system_of joint.now) x row × IsTurn (system_of joint.now) row a turn.now }
+fn alive_on(joint: &Joint, words: &[u64], turn: &TargetMove<'_>) -> u64
+    requires turn { (x : ℕ) × (row : Row) × (a : ℕ) × IsRow (system_of joint.now) x row × IsTargetMove (system_of joint.now) row a turn.now }
     requires room { length words.now * lanes_in (system_of joint.now) ≡ count (sizes_of (system_of joint.now)) }
     ensures { (gone : ℕ → Bool) → AreRows (lanes_in (system_of joint.now)) (λ q. not (gone q)) words.now →
         AreAlive (system_of joint.now) gone turn.now result }
@@ -70,8 +70,8 @@ fn good_within(joint: &Joint, row: &Row, alive: u64, a: u8, k: u8) -> u64
     requires within { low_in (system_of joint.now) ≤ k }
     requires seat { k < length joint.now.seats }
     ensures { let s = system_of joint.now in
-        (x : ℕ) (gone : ℕ → Bool) (turn : Turn) → IsRow s x row.now →
-        IsTurn s row.now a turn → AreAlive s gone turn alive →
+        (x : ℕ) (gone : ℕ → Bool) (turn : TargetMove) → IsRow s x row.now →
+        IsTargetMove s row.now a turn → AreAlive s gone turn alive →
         HasLanes (lanes_in s) x (λ p. not (is_beaten (numbered s) gone p a k)) result }
 {
     joint.known();
@@ -87,13 +87,13 @@ fn good_on(
     joint: &Joint,
     words: &[u64],
     row: &Row,
-    turn: &Turn<'_>,
+    turn: &TargetMove<'_>,
     alive: u64,
     a: u8,
     k: u8,
 ) -> u64
     requires row { (x : ℕ) × IsRow (system_of joint.now) x row.now }
-    requires turn { IsTurn (system_of joint.now) row.now a turn.now }
+    requires turn { IsTargetMove (system_of joint.now) row.now a turn.now }
     requires action { a < (system_of joint.now).env.actions }
     requires room { length words.now * lanes_in (system_of joint.now) ≡ count (sizes_of (system_of joint.now)) }
     requires seat { k < length joint.now.seats }
@@ -137,7 +137,7 @@ impl Joint {
             HasLanes (lanes_in s) x (λ p. not (is_beaten (numbered s) gone p a k)) result }
     {
         self.known();
-        let Some(turn) = turn_of(self, row, a) else {
+        let Some(turn) = target_move_of(self, row, a) else {
             return 0;
         };
         let alive = alive_on(self, words, &turn);
@@ -158,7 +158,7 @@ impl Joint {
             HasBits result (has (mask_of (numbered s) gone (x * lanes_in s + lane) a)) }
     {
         self.known();
-        let Some(turn) = turn_of(self, row, a) else {
+        let Some(turn) = target_move_of(self, row, a) else {
             return SeatSet::EMPTY;
         };
         let alive = alive_on(self, words, &turn);
@@ -185,7 +185,7 @@ impl Joint {
         ensures within { (lane : ℕ) → is_on wanted lane ≡ false → is_on result lane ≡ false }
     {
         self.known();
-        let Some(turn) = turn_of(self, row, a) else {
+        let Some(turn) = target_move_of(self, row, a) else {
             return 0;
         };
         let alive = alive_on(self, words, &turn);

@@ -19,10 +19,10 @@ mod walks;
 use crate::error::JointError;
 use crate::layout::Rows;
 use crate::moves::{Move, Moves, part};
-use crate::scene::Scene;
 use crate::seat::Seat;
 use crate::seats::shape_of;
 use crate::tables::tables_of;
+use crate::target_view::TargetView;
 use roman_model::MAX_SERVICES;
 use roman_parts::{Behaviour, Environment, Target};
 use roman_radix::Shape;
@@ -47,7 +47,7 @@ pub struct Joint {
     rows: Rows,
     moves: Moves,
     // Ordered by the target's state, and then by the environment's.
-    scenes: Vec<Scene>,
+    target_views: Vec<TargetView>,
     limit: u32,
 }
 
@@ -105,7 +105,7 @@ impl Joint {
             shape,
             rows: tables.rows,
             moves: tables.moves,
-            scenes: tables.scenes,
+            target_views: tables.target_views,
             limit,
         })
     }

@@ -2,15 +2,15 @@
 ghost use Rattle.std.specs.Prelude.{◌≡◌, ◌≤◌, vec_capacity, IfOk};
 ghost use Rattle.roman_model.specs.declared.limits.TheConstants.{MAX_SERVICES};
 ghost use Rattle.roman_joint.specs.NamedSys.{NamedSys, system_of, TargetIsOverEnv};
-ghost use Rattle.roman_joint.specs.Scenes.{AreScenes};
+ghost use Rattle.roman_joint.specs.TargetViews.{AreTargetViews};
 ghost use Rattle.roman_joint.specs.Rows.{AreRowsOf};
 ghost use Rattle.roman_joint.specs.Moves.{AreSeatsOf, HoldsMoves, HasRoom};
 
 use crate::layout::{Rows, rows_of};
 use crate::moves::{Moves, moves_of};
-use crate::scene::{Scene, all_scenes};
 use crate::seat::Seat;
 use crate::seats::copy_seats;
+use crate::target_view::{TargetView, all_target_views};
 use roman_parts::{Behaviour, Environment, Target};
 use roman_radix::Shape;
 use std::alloc::{AllocError, Global};
@@ -20,7 +20,7 @@ use std::alloc::{AllocError, Global};
 pub(crate) struct Tables {
     /// The services, with room for the greatest number of them.
     pub(crate) places: Vec<Seat>,
-    pub(crate) scenes: Vec<Scene>,
+    pub(crate) target_views: Vec<TargetView>,
     pub(crate) rows: Rows,
     pub(crate) moves: Moves,
 }
@@ -38,18 +38,18 @@ pub(crate) fn tables_of(
     requires seats { (n : NamedSys) × AreSeatsOf n catalogue.now seats.now shape.now environment.now.env.states environment.now.env.actions }
     ensures places { IfOk result (λ tables. tables.places.items ≡ seats.now) }
     ensures room { IfOk result (λ tables. MAX_SERVICES ≤ vec_capacity tables.places) }
-    ensures scenes { IfOk result (λ tables. AreScenes environment.now.env target.now.beh tables.scenes.items) }
+    ensures target_views { IfOk result (λ tables. AreTargetViews environment.now.env target.now.beh tables.target_views.items) }
     ensures rows { IfOk result (λ tables. AreRowsOf shape.now tables.rows) }
     ensures moves { IfOk result (λ tables. (n : NamedSys) → AreSeatsOf n catalogue.now seats.now shape.now environment.now.env.states environment.now.env.actions → HoldsMoves (system_of n) tables.moves) }
     ensures moves_room { IfOk result (λ tables. HasRoom tables.moves) }
 {
     let rows = rows_of(shape);
-    let scenes = all_scenes(alloc, environment, target)?;
+    let target_views = all_target_views(alloc, environment, target)?;
     let moves = moves_of(alloc, environment, catalogue, seats, shape, &rows)?;
     let places = copy_seats(alloc, seats)?;
     Ok(Tables {
         places,
-        scenes,
+        target_views,
         rows,
         moves,
     })

@@ -1,7 +1,7 @@
 //! The states to which an action leads from a row, whichever service serves it.
 ghost use Rattle.std.specs.Prelude.{ℕ, ◌<◌, IsFalse, MatchOption};
 ghost use Rattle.roman_joint.specs.NamedSys.{system_of};
-ghost use Rattle.roman_joint.specs.Rows.{IsRow, IsTurn, is_open};
+ghost use Rattle.roman_joint.specs.Rows.{IsRow, IsTargetMove, is_open};
 
 use crate::joint::Joint;
 use crate::row::Row;
@@ -9,7 +9,7 @@ use crate::row::Row;
 /// The states to which an action leads from a row: one state of the target, and some of the
 /// environment.
 #[derive(Clone, Copy)]
-pub(crate) struct Turn<'a> {
+pub(crate) struct TargetMove<'a> {
     /// The row at that state of the target and the environment's state 0, with unchanged services.
     pub(crate) base: u32,
     /// The environment's next states.
@@ -19,10 +19,10 @@ pub(crate) struct Turn<'a> {
 /// Returns the turn of the action `a` from a row, or `None` exactly where the action isn't allowed
 /// there.
 #[tactic(auto, using(roman_rules::proofs::CallerLemmas::bit_off, std::proofs::lemmas::Nat::Bits::shr_and_one, crate::proofs::GoodLemmas::turn_fits))]
-pub(crate) fn turn_of<'a>(joint: &'a Joint, row: &Row, a: u8) -> Option<Turn<'a>>
+pub(crate) fn target_move_of<'a>(joint: &'a Joint, row: &Row, a: u8) -> Option<TargetMove<'a>>
     requires row { (x : ℕ) × IsRow (system_of joint.now) x row.now }
     requires action { a < (system_of joint.now).env.actions }
-    ensures { MatchOption result (IsFalse (is_open (system_of joint.now) row.now a)) (IsTurn (system_of joint.now) row.now a) }
+    ensures { MatchOption result (IsFalse (is_open (system_of joint.now) row.now a)) (IsTargetMove (system_of joint.now) row.now a) }
 {
     let rows = joint.layout();
     if (row.allowed >> a) & 1 == 0 {
@@ -36,5 +36,5 @@ pub(crate) fn turn_of<'a>(joint: &'a Joint, row: &Row, a: u8) -> Option<Turn<'a>
         return None;
     }
     let base = u32::from(to) * rows.target_rows + row.part;
-    Some(Turn { base, envs })
+    Some(TargetMove { base, envs })
 }

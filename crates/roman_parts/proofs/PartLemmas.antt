@@ -13,6 +13,7 @@ use Rattle.roman_model.specs.Normal.{normal_env}
 use Rattle.roman_model.specs.System.{Beh, Triple, Move, IsEnv}
 use Rattle.roman_model.specs.declared.limits.TheConstants.{MAX_STATES, MAX_ACTIONS}
 use Rattle.roman_read.specs.Items.{each_item}
+use Rattle.roman_read.specs.Names.{place_of}
 use Rattle.roman_read.specs.declared.rules.Kind.{Kind}
 use Rattle.roman_read.specs.declared.rules.Kind.TheVariants as kind
 use Rattle.roman_model.proofs.CallerLemmas.{any_from}

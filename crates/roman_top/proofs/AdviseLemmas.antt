@@ -31,7 +31,7 @@ use Rattle.roman_top.specs.Complete.{IsAnswered}
 use Rattle.roman_top.specs.Endings.{Accepts, Opens, Finishes, EndsBare, IsSpoken, Writes, WritesText}
 use Rattle.roman_top.specs.Opening.{document_opening, OnOpening}
 use Rattle.roman_top.specs.Served.{ServedBeside}
-use Rattle.roman_top.specs.World.{desk}
+use Rattle.roman_top.specs.World.{outputs}
 use Rattle.roman_top.specs.declared.status.Status.{Status}
 use Rattle.roman_top.proofs.EndingLemmas.{told_both, on_accepted, writes_put, writes_weaker, spoken_shelf}
 use Rattle.roman_top.proofs.ServedLemmas.{job_served}
@@ -121,16 +121,16 @@ advised_is_run texts system name requests seated read old new result accepts rea
 
 -- advice on an opened document does its job
 pub advise_served : (system name : List ℕ) (requests : ℕ) (seated : Seated) (told told_mid told_now : Option Texts) (shelf shelf_mid shelf_now : ℕ) (old mid new : Option (List ℕ)) (out out_mid out_now : ℕ) (read : Result CostTable CostError) (result : Status) →
-    Opens IsSeated system (desk told shelf old out) (desk told_mid shelf_mid mid out_mid) (Ok seated) → IfSome told_mid (λ texts. ReadsAs (λ costs. costs.listed) read (costs_of texts name seated.joint)) →
+    Opens IsSeated system (outputs told shelf old out) (outputs told_mid shelf_mid mid out_mid) (Ok seated) → IfSome told_mid (λ texts. ReadsAs (λ costs. costs.listed) read (costs_of texts name seated.joint)) →
     told_now ≡ told_mid → HasCostCause shelf_mid shelf_now read → Writes (TellsRead name seated.joint requests (pair_at (sizes_of (system_of seated.joint)) seated.start) read) mid new result →
     EndsBare mid new result → CausedByRead read result → SinkCause out_mid out_now result →
-    ServedBeside (Some (On system (Advise name requests))) (desk told shelf old out) (desk told_now shelf_now new out_now) result
+    ServedBeside (Some (On system (Advise name requests))) (outputs told shelf old out) (outputs told_now shelf_now new out_now) result
 advise_served system name requests seated told told_mid told_now shelf shelf_mid shelf_now old mid new out out_mid out_now read result opens reads texts cause writes stops caused wrote =
     let p = pair_at (sizes_of (system_of seated.joint)) seated.start in
     let found : IfSome told (λ texts. ReadsAs (λ costs. costs.listed) read (costs_of texts name seated.joint)) =
     subst (λ (t : Option Texts). IfSome t (λ texts. ReadsAs (λ costs. costs.listed) read (costs_of texts name seated.joint))) opens.leaves.texts reads in
     let mine : Writes (TellsRead name seated.joint requests p read) old new result = subst (λ (o : Option (List ℕ)). Writes (TellsRead name seated.joint requests p read) o new result) opens.leaves.stops writes in
-    job_served system (Advise name requests) (desk told shelf old out) (desk told_now shelf_now new out_now) result tt (record {
+    job_served system (Advise name requests) (outputs told shelf old out) (outputs told_now shelf_now new out_now) result tt (record {
       writes = told_both told (λ texts. Accepts (document_opening texts system) (λ library. IsSeated library seated)) (λ texts. ReadsAs (λ costs. costs.listed) read (costs_of texts name seated.joint))
           (λ texts. Writes (OnOpening (GivesAdvice name requests texts) (document_opening texts system)) old new result) opens.opens found
           (λ texts accepts reads. advised_is_run texts system name requests seated read old new result accepts reads mine);

@@ -22,7 +22,7 @@ use Rattle.roman_top.specs.Endings.{FindsVerdict, CheckCause, JudgesCheck, Cause
 use Rattle.roman_top.specs.Opening.{document_opening, OnOpening, library_system}
 use Rattle.roman_top.specs.Run.{SaysVerdict, Checks}
 use Rattle.roman_top.specs.Served.{ServedBeside}
-use Rattle.roman_top.specs.World.{desk}
+use Rattle.roman_top.specs.World.{outputs}
 use Rattle.roman_top.specs.Verdicts.{greatest_text, rejected_text}
 use Rattle.roman_top.specs.declared.status.Status.{Status}
 use Rattle.roman_top.specs.declared.status.Status.TheVariants as status
@@ -73,15 +73,15 @@ checked_is_run texts system certificate seated checked old new result accepts fi
 
 -- a check of an opened document does its job
 pub check_served : (system certificate : List ℕ) (seated : Seated) (told told_mid told_now : Option Texts) (shelf shelf_mid shelf_now : ℕ) (old mid new : Option (List ℕ)) (out out_mid out_now : ℕ) (checked : Result Verdict CheckError) (result : Status) →
-    Opens IsSeated system (desk told shelf old out) (desk told_mid shelf_mid mid out_mid) (Ok seated) → IfSome told_mid (λ texts. FindsVerdict (numbered (system_of seated.joint)) seated.start (shelf_text texts certificate) checked) →
+    Opens IsSeated system (outputs told shelf old out) (outputs told_mid shelf_mid mid out_mid) (Ok seated) → IfSome told_mid (λ texts. FindsVerdict (numbered (system_of seated.joint)) seated.start (shelf_text texts certificate) checked) →
     told_now ≡ told_mid → CheckCause shelf_mid shelf_now checked → Writes (JudgesCheck checked) mid new result → EndsBare mid new result → CausedByCheck checked result → SinkCause out_mid out_now result →
-    ServedBeside (Some (On system (Check certificate))) (desk told shelf old out) (desk told_now shelf_now new out_now) result
+    ServedBeside (Some (On system (Check certificate))) (outputs told shelf old out) (outputs told_now shelf_now new out_now) result
 check_served system certificate seated told told_mid told_now shelf shelf_mid shelf_now old mid new out out_mid out_now checked result opens finds texts cause writes stops caused wrote =
     let S = system_of seated.joint in
     let found : IfSome told (λ texts. FindsVerdict (numbered S) seated.start (shelf_text texts certificate) checked) =
     subst (λ (t : Option Texts). IfSome t (λ texts. FindsVerdict (numbered S) seated.start (shelf_text texts certificate) checked)) opens.leaves.texts finds in
     let mine : Writes (JudgesCheck checked) old new result = subst (λ (o : Option (List ℕ)). Writes (JudgesCheck checked) o new result) opens.leaves.stops writes in
-    job_served system (Check certificate) (desk told shelf old out) (desk told_now shelf_now new out_now) result tt (record {
+    job_served system (Check certificate) (outputs told shelf old out) (outputs told_now shelf_now new out_now) result tt (record {
       writes = told_both told (λ texts. Accepts (document_opening texts system) (λ library. IsSeated library seated)) (λ texts. FindsVerdict (numbered S) seated.start (shelf_text texts certificate) checked)
           (λ texts. Writes (OnOpening (Checks (shelf_text texts certificate)) (document_opening texts system)) old new result) opens.opens found
           (λ texts accepts finds. checked_is_run texts system certificate seated checked old new result accepts finds mine);

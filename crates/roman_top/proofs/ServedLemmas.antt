@@ -13,7 +13,7 @@ use Rattle.roman_top.specs.Faults.{IsFree, AtShelfFault, HasRunPrefix, IsOfTaken
 use Rattle.roman_top.specs.Opening.{document_opening, OnOpening}
 use Rattle.roman_top.specs.Run.{JobDoes, Makes, IsSessionText, HasRun}
 use Rattle.roman_top.specs.Served.{Served, ServedBeside}
-use Rattle.roman_top.specs.World.{World, Desk, world, desk, beside, IsUnwritten}
+use Rattle.roman_top.specs.World.{World, Outputs, world, outputs, beside, IsUnwritten}
 use Rattle.roman_top.specs.declared.status.Status.{Status}
 use Rattle.roman_top.specs.declared.status.Status.TheVariants as status
 use Rattle.roman_top.proofs.EndingLemmas.{told_more, writes_weaker, spoken_stops, spoken_shelf, away_is_run, on_accepted}
@@ -86,7 +86,7 @@ away_prefix texts system job rest old new result writes is =
     let w = prefix_text (TurnsAway (document_opening texts system)) old.written new.written result is writes in
     record { session = session; given = given; text = w.text; ends = w.ends; run = away_is_run (JobDoes job texts session) (document_opening texts system) w.text w.ends w.run; wrote = w.wrote }
 
-pub away_served : {X : Type 0} (Holds : PlainLibrary → X → Type 0) (system : List ℕ) (job : Job) (old new : Desk) (result : Status) → Opens {X = X} Holds system old new (Err result) → ServedBeside (Some (On system job)) old new result
+pub away_served : {X : Type 0} (Holds : PlainLibrary → X → Type 0) (system : List ℕ) (job : Job) (old new : Outputs) (result : Status) → Opens {X = X} Holds system old new (Err result) → ServedBeside (Some (On system job)) old new result
 away_served {X} Holds system job old new result opens rest faults =
     let before = beside old rest faults in
     let after = beside new rest faults in
@@ -126,7 +126,7 @@ silent : (job : Job) → IsPlain job → IsSilent job
 silent (Run name) plain = absurd plain
 silent _ plain = record { given = λ texts system rest. tt; taken = λ texts system old new. tt; ends = λ system old new result. tt }
 
-pub job_served : (system : List ℕ) (job : Job) (old new : Desk) (result : Status) → IsPlain job → DoesJob system job old new result → ServedBeside (Some (On system job)) old new result
+pub job_served : (system : List ℕ) (job : Job) (old new : Outputs) (result : Status) → IsPlain job → DoesJob system job old new result → ServedBeside (Some (On system job)) old new result
 job_served system job old new result plain does rest faults =
     let before = beside old rest faults in
     let after = beside new rest faults in
@@ -154,12 +154,12 @@ job_served system job old new result plain does rest faults =
 -- what was done with an opened document is a run
 pub opened_served : {X : Type 0} (Holds : PlainLibrary → X → Type 0) (x : X) (Work : List ℕ → Status → Type 0) (system : List ℕ) (job : Job) (told told_now : Option Texts) (shelf shelf_now : ℕ) (old mid new : Option (List ℕ))
     (out out_mid out_now : ℕ) (result : Status) → IsPlain job → ((texts : Texts) (library : PlainLibrary) → Holds library x → (text : List ℕ) (ends : Status) → Work text ends → JobDoes job texts [] library text ends) →
-    Opens Holds system (desk told shelf old out) (desk told_now shelf_now mid out_mid) (Ok x) → Writes Work mid new result → IsSpoken mid new result → SinkCause out_mid out_now result →
-    ServedBeside (Some (On system job)) (desk told shelf old out) (desk told_now shelf_now new out_now) result
+    Opens Holds system (outputs told shelf old out) (outputs told_now shelf_now mid out_mid) (Ok x) → Writes Work mid new result → IsSpoken mid new result → SinkCause out_mid out_now result →
+    ServedBeside (Some (On system job)) (outputs told shelf old out) (outputs told_now shelf_now new out_now) result
 opened_served Holds x Work system job told told_now shelf shelf_now old mid new out out_mid out_now result plain is_run opens writes spoken cause =
     let mine : Writes Work old new result = subst (λ (o : Option (List ℕ)). Writes Work o new result) opens.leaves.stops writes in
     let said : IsSpoken old new result = subst (λ (o : Option (List ℕ)). IsSpoken o new result) opens.leaves.stops spoken in
-    job_served system job (desk told shelf old out) (desk told_now shelf_now new out_now) result plain (record {
+    job_served system job (outputs told shelf old out) (outputs told_now shelf_now new out_now) result plain (record {
       writes = told_more told (λ texts. Accepts (document_opening texts system) (λ library. Holds library x)) (λ texts. Writes (OnOpening (JobDoes job texts []) (document_opening texts system)) old new result) opens.opens
           (λ texts accepts. writes_weaker Work (OnOpening (JobDoes job texts []) (document_opening texts system)) old new result
           (λ (text : List ℕ) (ends : Status) (work : Work text ends).

@@ -11,7 +11,7 @@ use Rattle.roman_model.proofs.CallerLemmas.{by_test}
 use Rattle.roman_session.specs.Situations.{Situation}
 use Rattle.roman_session.specs.Starts.{IsStart}
 use Rattle.roman_hearing.specs.Told.{Told}
-use Rattle.roman_hearing.specs.Hearing.{prefix_of, is_heard_out, GaveQuit, Hall, hall, spot, IsHeardOut, IsCutOff, GoesOn, StopsShort, TellsPrefixOfAll, CausedBy}
+use Rattle.roman_hearing.specs.Hearing.{prefix_of, is_heard_out, GaveQuit, StreamState, stream_state, cursor, IsHeardOut, IsCutOff, GoesOn, StopsShort, TellsPrefixOfAll, CausedBy}
 use Rattle.roman_hearing.specs.Known.{AreBehaviours}
 use Rattle.roman_hearing.specs.declared.hearing.HearError.{HearError}
 use Rattle.roman_hearing.specs.declared.hearing.HearError.TheVariants as hear
@@ -23,7 +23,7 @@ use Rattle.roman_top.specs.Faults.{IsFree, HasAnswered, HasAnsweredPrefix, HasAn
 use Rattle.roman_top.specs.Opening.{document_opening}
 use Rattle.roman_top.specs.Run.{Talks, Runs, IsSessionText, HasRun}
 use Rattle.roman_top.specs.Served.{Served, ServedBeside}
-use Rattle.roman_top.specs.World.{World, world, desk}
+use Rattle.roman_top.specs.World.{World, world, outputs}
 use Rattle.roman_top.specs.declared.status.Status.{Status}
 use Rattle.roman_top.specs.declared.status.Status.TheVariants as status
 use Rattle.roman_top.proofs.EndingLemmas.{told_more, match_true, match_false, on_accepted}
@@ -33,12 +33,12 @@ pub text_source : (told given : Option Texts) (name given_name : List ℕ) (at :
 text_source told given name given_name at same_texts same_name at_start = rw (same_texts, same_name, at_start) refl
 
 -- what a session from the input did
-pub record Heard (old new : Hall) (result : Result (Unit {0}) HearError) : Type 0 where
-  pub ok : OnOk result (IsHeardOut old new.spot)
-  pub too_long : IsErrOf result hear.TooLong → IsCutOff old new.spot
+pub record Heard (old new : StreamState) (result : Result (Unit {0}) HearError) : Type 0 where
+  pub ok : OnOk result (IsHeardOut old new.cursor)
+  pub too_long : IsErrOf result hear.TooLong → IsCutOff old new.cursor
   pub read_fault : IsErrOf result hear.ReadFault → GoesOn old new
   pub write_fault : IsErrOf result hear.WriteFault → StopsShort old new
-  pub prefix : IsErrOf result hear.WriteFault → AreBehaviours old.spot.situation.parts → TellsPrefixOfAll old new.spot.written
+  pub prefix : IsErrOf result hear.WriteFault → AreBehaviours old.cursor.situation.parts → TellsPrefixOfAll old new.cursor.written
   pub taken : GaveAtMost (MAX_SESSION_BYTES + PIECE_BYTES) old.rest new.rest
   pub past : OnOk result (IsAtEnd new.rest ⊎ GaveQuit (PIECE_BYTES - 1) old.rest new.rest)
 
@@ -57,7 +57,7 @@ module _ (texts : Texts) (system : List ℕ) (start : Situation) (accepts : Acce
 
   module _ (name : Option (List ℕ)) (old new : World) (from : Option (List ℕ)) (now : Situation) (given : (session : List ℕ) → Had from session → IsSessionText (Some (On system (Run name))) texts old.rest session) where
     -- the session was read to its end, or to `quit`
-    runs_out : IsHeardOut (hall start from old.written) (spot now new.written) → HasRun (Some (On system (Run name))) texts old new status.Done
+    runs_out : IsHeardOut (stream_state start from old.written) (cursor now new.written) → HasRun (Some (On system (Run name))) texts old new status.Done
     runs_out h = record {
       session = h.session;
       given = given h.session h.had;
@@ -67,7 +67,7 @@ module _ (texts : Texts) (system : List ℕ) (start : Situation) (accepts : Acce
     }
 
     -- the session is too long
-    runs_long : IsCutOff (hall start from old.written) (spot now new.written) → HasRun (Some (On system (Run name))) texts old new status.TooLong
+    runs_long : IsCutOff (stream_state start from old.written) (cursor now new.written) → HasRun (Some (On system (Run name))) texts old new status.TooLong
     runs_long h = record {
       session = h.session;
       given = given h.session h.had;
@@ -77,7 +77,7 @@ module _ (texts : Texts) (system : List ℕ) (start : Situation) (accepts : Acce
     }
 
     -- a prefix of possible replies was written
-    runs_prefix : TellsPrefixOfAll (hall start from old.written) new.written → HasRunPrefix (Some (On system (Run name))) texts old.rest old new
+    runs_prefix : TellsPrefixOfAll (stream_state start from old.written) new.written → HasRunPrefix (Some (On system (Run name))) texts old.rest old new
     runs_prefix h = by_test (is_heard_out h.session)
         (λ out. record {
           session = h.session;
@@ -101,15 +101,15 @@ module _ (texts : Texts) (system : List ℕ) (start : Situation) (accepts : Acce
         })
 
     -- it is a run, where no fault ended it
-    heard_runs : (fault : Status) (heard : Result (Unit {0}) HearError) → (IsFree fault → ⊥) → OnOk heard (IsHeardOut (hall start from old.written) (spot now new.written)) →
-        (IsErrOf heard hear.TooLong → IsCutOff (hall start from old.written) (spot now new.written)) → IsFree (heard_status fault heard) → HasRun (Some (On system (Run name))) texts old new (heard_status fault heard)
+    heard_runs : (fault : Status) (heard : Result (Unit {0}) HearError) → (IsFree fault → ⊥) → OnOk heard (IsHeardOut (stream_state start from old.written) (cursor now new.written)) →
+        (IsErrOf heard hear.TooLong → IsCutOff (stream_state start from old.written) (cursor now new.written)) → IsFree (heard_status fault heard) → HasRun (Some (On system (Run name))) texts old new (heard_status fault heard)
     heard_runs fault (Ok x) is_fault out long free = runs_out out
     heard_runs fault (Err hear.ReadFault) is_fault out long free = absurd (is_fault free)
     heard_runs fault (Err hear.WriteFault) is_fault out long free = absurd free
     heard_runs fault (Err hear.TooLong) is_fault out long free = runs_long (long refl)
 
   -- a prefix of the replies to the lines that were taken was written
-  taken_prefix : (old new : World) (now : Situation) → StopsShort (hall start old.rest old.written) (hall now new.rest new.written) → HasPrefixOfTaken texts system old new
+  taken_prefix : (old new : World) (now : Situation) → StopsShort (stream_state start old.rest old.written) (stream_state now new.rest new.written) → HasPrefixOfTaken texts system old new
   taken_prefix old new now h = record {
     taken = h.heard;
     more = h.past;
@@ -126,7 +126,7 @@ module _ (texts : Texts) (system : List ℕ) (start : Situation) (accepts : Acce
   }
 
   -- the session would go on
-  answered : (old new : World) (now : Situation) (from has : Option (List ℕ)) (h : GoesOn (hall start from old.written) (hall now has new.written)) → HasAnswered texts system h.taken old new
+  answered : (old new : World) (now : Situation) (from has : Option (List ℕ)) (h : GoesOn (stream_state start from old.written) (stream_state now has new.written)) → HasAnswered texts system h.taken old new
   answered old new now from has h = record {
     library = accepts.library;
     accepted = accepts.accepted;
@@ -222,7 +222,7 @@ ends_input system old new (Err hear.TooLong) past = tt
 
 heard_input : (system : List ℕ) (start now : Situation) (told told_mid : Option Texts) (shelf shelf_mid : ℕ) (rest rest_now : Option (List ℕ)) (input input_now : ℕ) (old new : Option (List ℕ)) (out out_mid out_now : ℕ)
     (heard : Result (Unit {0}) HearError) → IfSome told (λ texts. Accepts (document_opening texts system) (λ library. IsStart library start)) → AreBehaviours start.parts → told_mid ≡ told → shelf_mid ≡ shelf → out_mid ≡ out →
-    Heard (hall start rest old) (hall now rest_now new) heard → CausedBy hear.ReadFault input input_now heard → CausedBy hear.WriteFault out_mid out_now heard →
+    Heard (stream_state start rest old) (stream_state now rest_now new) heard → CausedBy hear.ReadFault input input_now heard → CausedBy hear.WriteFault out_mid out_now heard →
     Served (Some (On system (Run None))) (world told shelf rest input old out) (world told_mid shelf_mid rest_now input_now new out_now) (heard_status status.ReadFault heard)
 heard_input system start now told told_mid shelf shelf_mid rest rest_now input input_now old new out out_mid out_now heard opens behaviours texts shelves outs h reads writes =
     let before = world told shelf rest input old out in
@@ -249,12 +249,12 @@ heard_input system start now told told_mid shelf shelf_mid rest rest_now input i
     }
 
 module _ (system : List ℕ) (start now : Situation) (told told_mid : Option Texts) (shelf shelf_mid : ℕ) (rest rest_now : Option (List ℕ)) (input input_now : ℕ) (old mid new : Option (List ℕ)) (out out_mid out_now : ℕ)
-    (heard : Result (Unit {0}) HearError) (result : Status) (opens : Opens IsStart system (desk told shelf old out) (desk told_mid shelf_mid mid out_mid) (Ok start)) (behaviours : AreBehaviours start.parts)
-    (h : Heard (hall start rest mid) (hall now rest_now new) heard) (reads : CausedBy hear.ReadFault input input_now heard) (writes : CausedBy hear.WriteFault out_mid out_now heard)
+    (heard : Result (Unit {0}) HearError) (result : Status) (opens : Opens IsStart system (outputs told shelf old out) (outputs told_mid shelf_mid mid out_mid) (Ok start)) (behaviours : AreBehaviours start.parts)
+    (h : Heard (stream_state start rest mid) (stream_state now rest_now new) heard) (reads : CausedBy hear.ReadFault input input_now heard) (writes : CausedBy hear.WriteFault out_mid out_now heard)
     (is : result ≡ heard_status status.ReadFault heard) where
   input_served : Served (Some (On system (Run None))) (world told shelf rest input old out) (world told_mid shelf_mid rest_now input_now new out_now) result
   input_served =
-      let all : Heard (hall start rest old) (hall now rest_now new) heard = subst (λ (o : Option (List ℕ)). Heard (hall start rest o) (hall now rest_now new) heard) opens.leaves.stops h in
+      let all : Heard (stream_state start rest old) (stream_state now rest_now new) heard = subst (λ (o : Option (List ℕ)). Heard (stream_state start rest o) (stream_state now rest_now new) heard) opens.leaves.stops h in
       subst (λ (result : Status). Served (Some (On system (Run None))) (world told shelf rest input old out) (world told_mid shelf_mid rest_now input_now new out_now) result) (sym is)
       (heard_input system start now told told_mid shelf shelf_mid rest rest_now input input_now old new out out_mid out_now heard opens.opens behaviours opens.leaves.texts opens.leaves.shelf opens.leaves.out all reads writes)
 
@@ -274,7 +274,7 @@ shelf_given : (texts : Texts) (system name : List ℕ) (rest : Option (List ℕ)
 shelf_given texts system name rest session had = sym had
 
 broken_shelf : (texts : Texts) (system name : List ℕ) (start now : Situation) (accepts : Accepts (document_opening texts system) (λ library. IsStart library start)) (old new : World) → old.texts ≡ Some texts →
-    GoesOnFrom (hall start (rest_from (Some texts) name 0) old.written) (spot now new.written) → AtShelfFault (Some (On system (Run (Some name)))) old new
+    GoesOnFrom (stream_state start (rest_from (Some texts) name 0) old.written) (cursor now new.written) → AtShelfFault (Some (On system (Run (Some name)))) old new
 broken_shelf texts system name start now accepts old new told (has, goes) =
     let (left, e, split) = Gave-told (shelf_text texts name) has goes.taken goes.gave in
     inr (subst (λ (o : Option Texts). IfSome o (λ texts. HasAnsweredPrefix texts system name old new)) (sym told)
@@ -282,8 +282,8 @@ broken_shelf texts system name start now accepts old new told (has, goes) =
 
 heard_shelf : (system name : List ℕ) (start now : Situation) (told told_now : Option Texts) (shelf shelf_mid shelf_now : ℕ) (old new : Option (List ℕ)) (out out_mid out_now : ℕ) (heard : Result (Unit {0}) HearError) →
     IfSome told (λ texts. Accepts (document_opening texts system) (λ library. IsStart library start)) → AreBehaviours start.parts → told_now ≡ told → shelf_mid ≡ shelf → out_mid ≡ out →
-    HearsText (hall start (rest_from told name 0) old) (spot now new) heard → CausedBy hear.ReadFault shelf_mid shelf_now heard → CausedBy hear.WriteFault out_mid out_now heard →
-    ServedBeside (Some (On system (Run (Some name)))) (desk told shelf old out) (desk told_now shelf_now new out_now) (heard_status status.ShelfFault heard)
+    HearsText (stream_state start (rest_from told name 0) old) (cursor now new) heard → CausedBy hear.ReadFault shelf_mid shelf_now heard → CausedBy hear.WriteFault out_mid out_now heard →
+    ServedBeside (Some (On system (Run (Some name)))) (outputs told shelf old out) (outputs told_now shelf_now new out_now) (heard_status status.ShelfFault heard)
 heard_shelf system name start now None told_now shelf shelf_mid shelf_now old new out out_mid out_now heard opens behaviours texts shelves outs h reads writes rest input = record {
   run = λ free. tt;
   shelf_fault = λ is. inr tt;
@@ -313,18 +313,18 @@ heard_shelf system name start now (Some held) told_now shelf shelf_mid shelf_now
     }
 
 pub shelf_served : (system name : List ℕ) (start now : Situation) (told told_mid told_now : Option Texts) (shelf shelf_mid shelf_now : ℕ) (old mid new : Option (List ℕ)) (out out_mid out_now : ℕ) (heard : Result (Unit {0}) HearError) (result : Status) →
-    Opens IsStart system (desk told shelf old out) (desk told_mid shelf_mid mid out_mid) (Ok start) → AreBehaviours start.parts → HearsText (hall start (rest_from told_mid name 0) mid) (spot now new) heard →
+    Opens IsStart system (outputs told shelf old out) (outputs told_mid shelf_mid mid out_mid) (Ok start) → AreBehaviours start.parts → HearsText (stream_state start (rest_from told_mid name 0) mid) (cursor now new) heard →
     CausedBy hear.ReadFault shelf_mid shelf_now heard → CausedBy hear.WriteFault out_mid out_now heard → told_now ≡ told_mid → result ≡ heard_status status.ShelfFault heard →
-    ServedBeside (Some (On system (Run (Some name)))) (desk told shelf old out) (desk told_now shelf_now new out_now) result
+    ServedBeside (Some (On system (Run (Some name)))) (outputs told shelf old out) (outputs told_now shelf_now new out_now) result
 shelf_served system name start now told told_mid told_now shelf shelf_mid shelf_now old mid new out out_mid out_now heard result opens behaviours h reads writes texts is =
-    let one : HearsText (hall start (rest_from told name 0) mid) (spot now new) heard = subst (λ (t : Option Texts). HearsText (hall start (rest_from t name 0) mid) (spot now new) heard) opens.leaves.texts h in
-    let all : HearsText (hall start (rest_from told name 0) old) (spot now new) heard = subst (λ (o : Option (List ℕ)). HearsText (hall start (rest_from told name 0) o) (spot now new) heard) opens.leaves.stops one in
-    subst (λ (result : Status). ServedBeside (Some (On system (Run (Some name)))) (desk told shelf old out) (desk told_now shelf_now new out_now) result) (sym is)
+    let one : HearsText (stream_state start (rest_from told name 0) mid) (cursor now new) heard = subst (λ (t : Option Texts). HearsText (stream_state start (rest_from t name 0) mid) (cursor now new) heard) opens.leaves.texts h in
+    let all : HearsText (stream_state start (rest_from told name 0) old) (cursor now new) heard = subst (λ (o : Option (List ℕ)). HearsText (stream_state start (rest_from told name 0) o) (cursor now new) heard) opens.leaves.stops one in
+    subst (λ (result : Status). ServedBeside (Some (On system (Run (Some name)))) (outputs told shelf old out) (outputs told_now shelf_now new out_now) result) (sym is)
     (heard_shelf system name start now told told_now shelf shelf_mid shelf_now old new out out_mid out_now heard opens.opens behaviours (texts ∙ opens.leaves.texts) opens.leaves.shelf opens.leaves.out all reads writes)
 
 -- a session from a source over a whole text
-pub text_heard : (start now : Situation) (from given has : Option (List ℕ)) (old new : Option (List ℕ)) (heard : Result (Unit {0}) HearError) → given ≡ from → OnOk heard (IsHeardOut (hall start given old) (spot now new)) →
-    (IsErrOf heard hear.TooLong → IsCutOff (hall start given old) (spot now new)) → (IsErrOf heard hear.ReadFault → GoesOn (hall start given old) (hall now has new)) →
-    (IsErrOf heard hear.WriteFault → AreBehaviours start.parts → TellsPrefixOfAll (hall start given old) new) → HearsText (hall start from old) (spot now new) heard
+pub text_heard : (start now : Situation) (from given has : Option (List ℕ)) (old new : Option (List ℕ)) (heard : Result (Unit {0}) HearError) → given ≡ from → OnOk heard (IsHeardOut (stream_state start given old) (cursor now new)) →
+    (IsErrOf heard hear.TooLong → IsCutOff (stream_state start given old) (cursor now new)) → (IsErrOf heard hear.ReadFault → GoesOn (stream_state start given old) (stream_state now has new)) →
+    (IsErrOf heard hear.WriteFault → AreBehaviours start.parts → TellsPrefixOfAll (stream_state start given old) new) → HearsText (stream_state start from old) (cursor now new) heard
 text_heard start now from given has old new heard same out long fault prefix =
-    subst (λ (rest : Option (List ℕ)). HearsText (hall start rest old) (spot now new) heard) same (record { ok = out; too_long = long; read_fault = λ is. (has, fault is); prefix = prefix })
+    subst (λ (rest : Option (List ℕ)). HearsText (stream_state start rest old) (cursor now new) heard) same (record { ok = out; too_long = long; read_fault = λ is. (has, fault is); prefix = prefix })

@@ -13,7 +13,7 @@ use Rattle.roman_library.specs.Documents.{library_of}
 use Rattle.roman_library.specs.Library.{PlainLibrary}
 use Rattle.roman_session.specs.Situations.{Situation, present_system}
 use Rattle.roman_session.specs.Reports.{report_text}
-use Rattle.roman_hearing.specs.Hearing.{Spot, Hall, IsHeardOut, IsCutOff, GoesOn, TellsPrefixOfAll}
+use Rattle.roman_hearing.specs.Hearing.{Cursor, StreamState, IsHeardOut, IsCutOff, GoesOn, TellsPrefixOfAll}
 use Rattle.roman_hearing.specs.Known.{AreBehaviours}
 use Rattle.roman_hearing.specs.declared.hearing.HearError.{HearError}
 use Rattle.roman_hearing.specs.declared.hearing.HearError.TheVariants as hear
@@ -21,7 +21,7 @@ use Rattle.roman_top.specs.Causes.{ShelfCause, SinkCause, CauseIn}
 use Rattle.roman_top.specs.Command.{Job}
 use Rattle.roman_top.specs.Opening.{Accepted, Opening, document_opening, OnOpening}
 use Rattle.roman_top.specs.Run.{EndsBy, SaysVerdict, JobDoes}
-use Rattle.roman_top.specs.World.{Desk}
+use Rattle.roman_top.specs.World.{Outputs}
 use Rattle.roman_top.specs.declared.status.Status.{Status}
 use Rattle.roman_top.specs.declared.status.Status.TheVariants as status
 
@@ -55,7 +55,7 @@ EndsBare old new status.Memory = Wrote old new []
 EndsBare old new _ = Unit {0}
 
 -- what a job on the document of that name does, with a shelf and a sink alone
-pub record DoesJob (name : List ℕ) (job : Job) (old new : Desk) (result : Status) : Type 0 where
+pub record DoesJob (name : List ℕ) (job : Job) (old new : Outputs) (result : Status) : Type 0 where
   pub writes : IfSome old.texts (λ texts. Writes (OnOpening (JobDoes job texts []) (document_opening texts name)) old.written new.written result)
   pub stops : EndsBare old.written new.written result
   pub texts : new.texts ≡ old.texts
@@ -99,7 +99,7 @@ IsAway status.Memory = Unit {0}
 IsAway _ = ⊥
 
 -- what opening a document leaves behind, for any result
-pub record Leaves {X : Type 0} (old new : Desk) (result : Result X Status) : Type 0 where
+pub record Leaves {X : Type 0} (old new : Outputs) (result : Result X Status) : Type 0 where
   pub away : IfErr result IsAway
   pub stops : StopsIn old.written new.written result
   pub texts : new.texts ≡ old.texts
@@ -107,12 +107,12 @@ pub record Leaves {X : Type 0} (old new : Desk) (result : Result X Status) : Typ
   pub out : CauseIn SinkCause old.out_faults new.out_faults result
 
 -- the document of that name is accepted within its limit, or turned away
-pub record Opens {X : Type 0} (Holds : PlainLibrary → X → Type 0) (name : List ℕ) (old new : Desk) (result : Result X Status) : Type 0 where
+pub record Opens {X : Type 0} (Holds : PlainLibrary → X → Type 0) (name : List ℕ) (old new : Outputs) (result : Result X Status) : Type 0 where
   pub opens : IfSome old.texts (λ texts. OpensTo Holds (document_opening texts name) old.written new.written result)
   pub leaves : Leaves old new result
 
 -- the document of that name is read or turned away
-pub record OpensLibrary {X : Type 0} (view : X → PlainLibrary) (name : List ℕ) (old new : Desk) (result : Result X Status) : Type 0 where
+pub record OpensLibrary {X : Type 0} (view : X → PlainLibrary) (name : List ℕ) (old new : Outputs) (result : Result X Status) : Type 0 where
   pub reads : IfSome old.texts (λ texts. ReadsTo view texts name old.written new.written result)
   pub leaves : Leaves old new result
 
@@ -152,15 +152,15 @@ IsSpoken old new _ = ⊥
 -- ---- sessions
 
 -- a session would go on after a prefix of its bytes
-abbrev pub GoesOnFrom : Hall → Spot → Type 0
-GoesOnFrom old new = (has : Option (List ℕ)) × GoesOn old (record { spot = new; rest = has })
+abbrev pub GoesOnFrom : StreamState → Cursor → Type 0
+GoesOnFrom old new = (has : Option (List ℕ)) × GoesOn old (record { cursor = new; rest = has })
 
 -- what was written of a session that was read from a text of the shelf, by its result
-pub record HearsText (old : Hall) (new : Spot) (result : Result (Unit {0}) HearError) : Type 0 where
+pub record HearsText (old : StreamState) (new : Cursor) (result : Result (Unit {0}) HearError) : Type 0 where
   pub ok : OnOk result (IsHeardOut old new)
   pub too_long : IsErrOf result hear.TooLong → IsCutOff old new
   pub read_fault : IsErrOf result hear.ReadFault → GoesOnFrom old new
-  pub prefix : IsErrOf result hear.WriteFault → AreBehaviours old.spot.situation.parts → TellsPrefixOfAll old new.written
+  pub prefix : IsErrOf result hear.WriteFault → AreBehaviours old.cursor.situation.parts → TellsPrefixOfAll old new.written
 
 -- the status after a session, with `fault` for a failed read
 abbrev pub heard_status : Status → Result (Unit {0}) HearError → Status

@@ -4,7 +4,7 @@ use Rattle.roman_top.specs.Command.{Command}
 use Rattle.roman_top.specs.Run.{WithTexts, HasRun}
 use Rattle.roman_top.specs.Causes.{ShelfCause, InputCause, SinkCause}
 use Rattle.roman_top.specs.Faults.{IsFree, AtShelfFault, AtReadFault, AtWriteFault, AtMemory, EndsInput}
-use Rattle.roman_top.specs.World.{World, Desk, beside}
+use Rattle.roman_top.specs.World.{World, Outputs, beside}
 use Rattle.roman_top.specs.declared.status.Status.{Status}
 use Rattle.roman_top.specs.declared.status.Status.TheVariants as status
 
@@ -23,5 +23,5 @@ pub record Served (asked : Option Command) (old new : World) (result : Status) :
   pub texts : new.texts ≡ old.texts
 
 -- what a call does that leaves the input unchanged, for any input
-abbrev pub ServedBeside : Option Command → Desk → Desk → Status → Type 0
+abbrev pub ServedBeside : Option Command → Outputs → Outputs → Status → Type 0
 ServedBeside asked old new result = (rest : Option (List ℕ)) (faults : ℕ) → Served asked (beside old rest faults) (beside new rest faults) result

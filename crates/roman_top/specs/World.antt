@@ -24,18 +24,18 @@ world texts shelf_faults rest input_faults written out_faults = record {
 }
 
 -- the shelf and the sink alone
-pub record Desk : Type 0 where
+pub record Outputs : Type 0 where
   pub texts : Option Texts
   pub written : Option (List ℕ)
   pub shelf_faults : ℕ
   pub out_faults : ℕ
 
 -- the shelf and the sink from their parts
-abbrev pub desk : Option Texts → ℕ → Option (List ℕ) → ℕ → Desk
-desk texts shelf_faults written out_faults = record { texts = texts; written = written; shelf_faults = shelf_faults; out_faults = out_faults }
+abbrev pub outputs : Option Texts → ℕ → Option (List ℕ) → ℕ → Outputs
+outputs texts shelf_faults written out_faults = record { texts = texts; written = written; shelf_faults = shelf_faults; out_faults = out_faults }
 
 -- the outside with this shelf, this sink and an input from its parts
-abbrev pub beside : Desk → Option (List ℕ) → ℕ → World
+abbrev pub beside : Outputs → Option (List ℕ) → ℕ → World
 beside d rest faults = world d.texts d.shelf_faults rest faults d.written d.out_faults
 
 -- nothing was written

@@ -20,7 +20,7 @@ ghost use Rattle.roman_top.specs.Endings.{EndsBare, IsSpoken, Writes};
 ghost use Rattle.roman_top.specs.Opening.{EndsSaying};
 ghost use Rattle.roman_top.specs.RefusalLine.{refusal_line};
 ghost use Rattle.roman_top.specs.Served.{ServedBeside};
-ghost use Rattle.roman_top.specs.World.{desk};
+ghost use Rattle.roman_top.specs.World.{outputs};
 ghost use Rattle.roman_top.specs.declared.status.Status.TheVariants as status;
 
 use crate::limits::put_limit;
@@ -52,8 +52,8 @@ pub(crate) fn advise<F: Shelf, O: Sink, L: Ledger>(
     steps: &mut Steps<L>,
 ) -> Status
     ensures served { ServedBeside (Some (On system.now (Advise costs.now requests.count)))
-        (desk (F.texts shelf.old) (F.faults shelf.old) (O.written out.old) (O.faults out.old))
-        (desk (F.texts shelf.new) (F.faults shelf.new) (O.written out.new) (O.faults out.new)) result }
+        (outputs (F.texts shelf.old) (F.faults shelf.old) (O.written out.old) (O.faults out.old))
+        (outputs (F.texts shelf.new) (F.faults shelf.new) (O.written out.new) (O.faults out.new)) result }
 {
     let seated = match open_system(alloc, system, shelf, out) {
         Ok(seated) => seated,

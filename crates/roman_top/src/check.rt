@@ -9,7 +9,7 @@ ghost use Rattle.roman_top.specs.Command.{Check, On};
 ghost use Rattle.roman_top.specs.Endings.{FindsVerdict, CheckCause, JudgesCheck, CausedByCheck, IsTold, EndsBare, Writes};
 ghost use Rattle.roman_top.specs.Run.{SaysVerdict};
 ghost use Rattle.roman_top.specs.Served.{ServedBeside};
-ghost use Rattle.roman_top.specs.World.{desk};
+ghost use Rattle.roman_top.specs.World.{outputs};
 
 use crate::opening::open_system;
 use crate::status::{Status, finish};
@@ -30,8 +30,8 @@ pub(crate) fn check_certificate<F: Shelf, O: Sink, L: Ledger>(
     steps: &mut Steps<L>,
 ) -> Status
     ensures served { ServedBeside (Some (On system.now (Check certificate.now)))
-        (desk (F.texts shelf.old) (F.faults shelf.old) (O.written out.old) (O.faults out.old))
-        (desk (F.texts shelf.new) (F.faults shelf.new) (O.written out.new) (O.faults out.new)) result }
+        (outputs (F.texts shelf.old) (F.faults shelf.old) (O.written out.old) (O.faults out.old))
+        (outputs (F.texts shelf.new) (F.faults shelf.new) (O.written out.new) (O.faults out.new)) result }
 {
     let seated = match open_system(alloc, system, shelf, out) {
         Ok(seated) => seated,

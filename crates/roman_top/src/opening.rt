@@ -6,7 +6,7 @@ ghost use Rattle.roman_start.specs.Seating.{IsSeated};
 ghost use Rattle.roman_session.specs.Starts.{IsStart};
 ghost use Rattle.roman_hearing.specs.Known.{AreBehaviours};
 ghost use Rattle.roman_top.specs.Endings.{Opens, OpensLibrary};
-ghost use Rattle.roman_top.specs.World.{desk};
+ghost use Rattle.roman_top.specs.World.{outputs};
 
 use crate::limits::put_limit;
 use crate::refusals::put_refusal;
@@ -28,8 +28,8 @@ pub(crate) fn open_system<F: Shelf, O: Sink>(
     out: &mut O,
 ) -> Result<Seated, Status>
     ensures opens { Opens IsSeated name.now
-        (desk (F.texts shelf.old) (F.faults shelf.old) (O.written out.old) (O.faults out.old))
-        (desk (F.texts shelf.new) (F.faults shelf.new) (O.written out.new) (O.faults out.new)) result }
+        (outputs (F.texts shelf.old) (F.faults shelf.old) (O.written out.old) (O.faults out.old))
+        (outputs (F.texts shelf.new) (F.faults shelf.new) (O.written out.new) (O.faults out.new)) result }
     ensures seated { IfOk result (λ seated. (library : PlainLibrary) × IsSeated library seated) }
     ensures few { IfOk result (λ seated. length seated.joint.catalogue ≤ MAX_BEHAVIOURS) }
 {
@@ -55,8 +55,8 @@ pub(crate) fn open_session<F: Shelf, O: Sink, L: Ledger>(
     steps: &mut Steps<L>,
 ) -> Result<Session, Status>
     ensures opens { Opens IsStart name.now
-        (desk (F.texts shelf.old) (F.faults shelf.old) (O.written out.old) (O.faults out.old))
-        (desk (F.texts shelf.new) (F.faults shelf.new) (O.written out.new) (O.faults out.new)) result }
+        (outputs (F.texts shelf.old) (F.faults shelf.old) (O.written out.old) (O.faults out.old))
+        (outputs (F.texts shelf.new) (F.faults shelf.new) (O.written out.new) (O.faults out.new)) result }
     ensures behaviours { IfOk result (λ session. AreBehaviours session.parts) }
 {
     let library = match read_library(alloc, name, shelf, out) {
@@ -80,8 +80,8 @@ fn read_library<F: Shelf, O: Sink>(
     out: &mut O,
 ) -> Result<Library, Status>
     ensures reads { OpensLibrary plain name.now
-        (desk (F.texts shelf.old) (F.faults shelf.old) (O.written out.old) (O.faults out.old))
-        (desk (F.texts shelf.new) (F.faults shelf.new) (O.written out.new) (O.faults out.new)) result }
+        (outputs (F.texts shelf.old) (F.faults shelf.old) (O.written out.old) (O.faults out.old))
+        (outputs (F.texts shelf.new) (F.faults shelf.new) (O.written out.new) (O.faults out.new)) result }
     ensures library { IfOk result (λ library. IsLibrary (plain library)) }
 {
     match load(alloc, shelf, name) {

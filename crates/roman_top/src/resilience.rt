@@ -8,7 +8,7 @@ ghost use Rattle.roman_top.specs.Endings.{IsSpoken, Writes};
 ghost use Rattle.roman_top.specs.Opening.{EndsSaying};
 ghost use Rattle.roman_top.specs.Outlooks.{outlook_text};
 ghost use Rattle.roman_top.specs.Served.{ServedBeside};
-ghost use Rattle.roman_top.specs.World.{desk};
+ghost use Rattle.roman_top.specs.World.{outputs};
 ghost use Rattle.roman_top.specs.declared.status.Status.TheVariants as status;
 
 use crate::opening::open_system;
@@ -32,8 +32,8 @@ pub(crate) fn foresee<F: Shelf, O: Sink, L: Ledger>(
     steps: &mut Steps<L>,
 ) -> Status
     ensures served { ServedBeside (Some (On system.now Resilience))
-        (desk (F.texts shelf.old) (F.faults shelf.old) (O.written out.old) (O.faults out.old))
-        (desk (F.texts shelf.new) (F.faults shelf.new) (O.written out.new) (O.faults out.new)) result }
+        (outputs (F.texts shelf.old) (F.faults shelf.old) (O.written out.old) (O.faults out.old))
+        (outputs (F.texts shelf.new) (F.faults shelf.new) (O.written out.new) (O.faults out.new)) result }
 {
     match open_system(alloc, system, shelf, out) {
         Ok(Seated { joint, start, .. }) => foresee_from(alloc, joint, start, out, steps),

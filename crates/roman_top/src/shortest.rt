@@ -7,7 +7,7 @@ ghost use Rattle.roman_top.specs.Command.{Shortest, On};
 ghost use Rattle.roman_top.specs.Endings.{IsSpoken, Writes};
 ghost use Rattle.roman_top.specs.Run.{TellsShortestOf};
 ghost use Rattle.roman_top.specs.Served.{ServedBeside};
-ghost use Rattle.roman_top.specs.World.{desk};
+ghost use Rattle.roman_top.specs.World.{outputs};
 
 use crate::opening::open_system;
 use crate::status::{Status, finish};
@@ -29,8 +29,8 @@ pub(crate) fn shortest<F: Shelf, O: Sink, L: Ledger>(
     steps: &mut Steps<L>,
 ) -> Status
     ensures served { ServedBeside (Some (On system.now Shortest))
-        (desk (F.texts shelf.old) (F.faults shelf.old) (O.written out.old) (O.faults out.old))
-        (desk (F.texts shelf.new) (F.faults shelf.new) (O.written out.new) (O.faults out.new)) result }
+        (outputs (F.texts shelf.old) (F.faults shelf.old) (O.written out.old) (O.faults out.old))
+        (outputs (F.texts shelf.new) (F.faults shelf.new) (O.written out.new) (O.faults out.new)) result }
 {
     match open_system(alloc, system, shelf, out) {
         Ok(Seated { joint, start, .. }) => tell_depths(alloc, joint, start, out, steps),

@@ -4,7 +4,7 @@ ghost use Rattle.roman_top.specs.Causes.{SinkCause};
 ghost use Rattle.roman_top.specs.Command.{Synth, On};
 ghost use Rattle.roman_top.specs.Endings.{IsTold, Reports, Writes, status_of};
 ghost use Rattle.roman_top.specs.Served.{ServedBeside};
-ghost use Rattle.roman_top.specs.World.{desk};
+ghost use Rattle.roman_top.specs.World.{outputs};
 
 use crate::opening::open_session;
 use crate::status::{Status, finish};
@@ -22,8 +22,8 @@ pub(crate) fn synthesise<F: Shelf, O: Sink, L: Ledger>(
     steps: &mut Steps<L>,
 ) -> Status
     ensures served { ServedBeside (Some (On system.now Synth))
-        (desk (F.texts shelf.old) (F.faults shelf.old) (O.written out.old) (O.faults out.old))
-        (desk (F.texts shelf.new) (F.faults shelf.new) (O.written out.new) (O.faults out.new)) result }
+        (outputs (F.texts shelf.old) (F.faults shelf.old) (O.written out.old) (O.faults out.old))
+        (outputs (F.texts shelf.new) (F.faults shelf.new) (O.written out.new) (O.faults out.new)) result }
 {
     match open_session(alloc, system, shelf, out, steps) {
         Ok(session) => report(&session, out),

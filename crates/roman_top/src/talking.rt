@@ -1,12 +1,12 @@
 //! The commands `run SYSTEM` and `run SYSTEM SESSION`.
 ghost use Rattle.std.specs.Prelude.{◌≡◌, ◌⊎◌, None, Some};
 ghost use Rattle.roman_io.specs.Shelf.{rest_from};
-ghost use Rattle.roman_hearing.specs.Hearing.{hall, spot, CausedBy};
+ghost use Rattle.roman_hearing.specs.Hearing.{stream_state, cursor, CausedBy};
 ghost use Rattle.roman_top.specs.Command.{Run, On};
 ghost use Rattle.roman_top.specs.Endings.{HearsText, heard_status};
 ghost use Rattle.roman_top.specs.Faults.{TakesInput};
 ghost use Rattle.roman_top.specs.Served.{Served, ServedBeside};
-ghost use Rattle.roman_top.specs.World.{world, desk};
+ghost use Rattle.roman_top.specs.World.{world, outputs};
 
 use crate::opening::open_session;
 use crate::status::Status;
@@ -49,8 +49,8 @@ pub(crate) fn talk_shelf<F: Shelf, O: Sink, L: Ledger>(
     steps: &mut Steps<L>,
 ) -> Status
     ensures served { ServedBeside (Some (On system.now (Run (Some name.now))))
-        (desk (F.texts shelf.old) (F.faults shelf.old) (O.written out.old) (O.faults out.old))
-        (desk (F.texts shelf.new) (F.faults shelf.new) (O.written out.new) (O.faults out.new)) result }
+        (outputs (F.texts shelf.old) (F.faults shelf.old) (O.written out.old) (O.faults out.old))
+        (outputs (F.texts shelf.new) (F.faults shelf.new) (O.written out.new) (O.faults out.new)) result }
 {
     let mut session = match open_session(alloc, system, shelf, out, steps) {
         Ok(session) => session,
@@ -82,7 +82,7 @@ fn hear_text<F: Shelf, O: Sink, L: Ledger>(
     out: &mut O,
     steps: &mut Steps<L>,
 ) -> Result<(), HearError>
-    ensures hears { HearsText (hall session.old (rest_from (F.texts shelf.old) name.now 0) (O.written out.old)) (spot session.new (O.written out.new)) result }
+    ensures hears { HearsText (stream_state session.old (rest_from (F.texts shelf.old) name.now 0) (O.written out.old)) (cursor session.new (O.written out.new)) result }
     ensures reads { CausedBy HearError.ReadFault (F.faults shelf.old) (F.faults shelf.new) result }
     ensures writes { CausedBy HearError.WriteFault (O.faults out.old) (O.faults out.new) result }
     ensures texts { F.texts shelf.new ≡ F.texts shelf.old }

@@ -26,7 +26,7 @@ impl Joint {
                 &self.shape,
                 &self.rows,
             )?,
-            scenes: Vec::from_slice(alloc, &self.scenes)?,
+            target_views: Vec::from_slice(alloc, &self.target_views)?,
             seats: copy_seats(alloc, &self.seats)?,
             target: self.target.copy(alloc)?,
             environment: self.environment.copy(alloc)?,

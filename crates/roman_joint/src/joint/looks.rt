@@ -6,14 +6,14 @@ ghost use Rattle.roman_model.specs.Numbers.{sizes_of, count, number, pair_at, nu
 ghost use Rattle.roman_model.specs.declared.limits.TheConstants.{MAX_CELLS};
 ghost use Rattle.roman_radix.specs.Radix.{stride_of, env_stride_of, moved};
 ghost use Rattle.roman_joint.specs.NamedSys.{system_of};
-ghost use Rattle.roman_joint.specs.Scenes.{IsScene};
+ghost use Rattle.roman_joint.specs.TargetViews.{IsTargetView};
 ghost use Rattle.roman_rules.specs.Finding.{HasFinding};
 ghost use Rattle.roman_joint.specs.Outcomes.{outcome_number, outcome_numbers, IsPairWith};
 
 use super::Joint;
 use crate::outcomes::{Outcomes, outcome_gone};
-use crate::scene::Scene;
 use crate::seats::are_final;
+use crate::target_view::TargetView;
 use roman_io::Steps;
 use roman_radix::Shape;
 use roman_rules::Finding;
@@ -32,14 +32,14 @@ impl Joint {
         self.target.allows(&self.environment, t, e, a)
     }
 
-    // Returns the scene of a pair: its states of the target and the environment, and their actions.
+    // Returns the target view of a pair: its states of the target and the environment, and their actions.
     #[tactic(auto, using(crate::proofs::Shown::Shows, std::proofs::lemmas::Nat::div_below, crate::proofs::SplitLemmas::positive_of, crate::proofs::Shown::shown))]
-    pub(super) fn scene_at(&self, p: u32) -> Scene
+    pub(super) fn target_view_at(&self, p: u32) -> TargetView
         requires { p < count (sizes_of (system_of self.now)) }
         ensures { let s = system_of self.now in
-            IsScene s.env s.target (pair_at (sizes_of s) p).t (pair_at (sizes_of s) p).e result }
+            IsTargetView s.env s.target (pair_at (sizes_of s) p).t (pair_at (sizes_of s) p).e result }
     {
-        self.scenes[(p / self.shape.env_stride()) as usize]
+        self.target_views[(p / self.shape.env_stride()) as usize]
     }
 
     /// Returns whether the pair `p` meets clause 2 of an ND-simulation: where the target's state is

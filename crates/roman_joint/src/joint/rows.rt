@@ -35,13 +35,13 @@ impl Joint {
     {
         let rows = self.layout();
         let p = x * rows.lanes;
-        let scene = self.scene_at(p);
+        let target_view = self.target_view_at(p);
         Row {
             part: x % rows.env_rows,
-            allowed: scene.allowed,
-            leading: scene.leading,
-            target: scene.target,
-            env: scene.env,
+            allowed: target_view.allowed,
+            leading: target_view.leading,
+            target: target_view.target,
+            env: target_view.env,
             states: row_states(self, x),
         }
     }

@@ -22,18 +22,18 @@ impl Joint {
         ensures walk { IsWalk (system_of self.now) result }
         ensures left { HoldsEachOnce (left (system_of self.now) result) (back (numbered (system_of self.now)) p2) }
     {
-        let scene = self.scene_at(p2);
+        let target_view = self.target_view_at(p2);
         Walk {
             pair: p2,
-            to_target: scene.target,
-            to_env: scene.env,
+            to_target: target_view.target,
+            to_env: target_view.env,
             to_states: self.shape.parts_of(p2),
-            leading: scene.leading,
+            leading: target_view.leading,
             action: 0,
             envs_taken: 0,
-            env: scene.env,
+            env: target_view.env,
             targets_taken: MAX_STATES,
-            target: scene.target,
+            target: target_view.target,
             row: p2,
             seat: self.seats.len() as u8,
             states_taken: 0,

@@ -1,15 +1,15 @@
 use Rattle.std.proofs.Common.{◌≡◌, ◌+◌, List, [], ℕ, length}
 use Rattle.roman_io.specs.Source.{Gave}
 use Rattle.roman_model.specs.declared.limits.TheConstants.{MAX_SESSION_BYTES}
-use Rattle.roman_hearing.specs.Hearing.{spot}
-use Rattle.roman_hearing.specs.HearingBytes.{ear, IsHearing}
+use Rattle.roman_hearing.specs.Hearing.{cursor}
+use Rattle.roman_hearing.specs.HearingBytes.{reader_state, IsHearing}
 use Rattle.roman_hearing.proofs.hearing.hear.Given as goal
 
 abbrev pub invariant-takes : goal.invariant-takes
 invariant-takes g l = record {
   taken : List ℕ;
   gave : Gave (g.S.Source.rest l.initial.source) (g.S.Source.rest l.source) taken;
-  hearing : IsHearing (spot l.initial.session (g.O.Sink.written l.initial.out)) taken (ear l.session (g.O.Sink.written l.out) [] l.splitter);
+  hearing : IsHearing (cursor l.initial.session (g.O.Sink.written l.initial.out)) taken (reader_state l.session (g.O.Sink.written l.out) [] l.splitter);
   page : l.page ≡ [];
   room : l.room + length taken ≡ MAX_SESSION_BYTES;
   piece : length l.piece ≡ 4096;

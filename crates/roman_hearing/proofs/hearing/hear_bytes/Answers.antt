@@ -1,7 +1,7 @@
 use Rattle.std.proofs.Common.{◌++◌, take, take_all, subst, ◌∙◌, List, ℕ}
 use Rattle.std.proofs.lemmas.Result.{err_from_is_err_and}
-use Rattle.roman_hearing.specs.Hearing.{spot}
-use Rattle.roman_hearing.specs.HearingBytes.{ear, IsHearing}
+use Rattle.roman_hearing.specs.Hearing.{cursor}
+use Rattle.roman_hearing.specs.HearingBytes.{reader_state, IsHearing}
 use Rattle.roman_hearing.proofs.HearingLemmas.{hears_at, stops_at, fails_at}
 use Rattle.roman_hearing.proofs.hearing.hear_bytes.Goals as goal
 
@@ -27,5 +27,5 @@ loop-byte-preserved g c = record {
 
 pub returns-clause-hears : goal.returns-clause-hears
 returns-clause-hears g c old before taken is =
-    subst (λ (bytes : List ℕ). IsHearing (spot old before) (taken ++ bytes) (ear c.loop-byte.session (g.O.Sink.written c.loop-byte.out) c.loop-byte.page c.loop-byte.splitter))
+    subst (λ (bytes : List ℕ). IsHearing (cursor old before) (taken ++ bytes) (reader_state c.loop-byte.session (g.O.Sink.written c.loop-byte.out) c.loop-byte.page c.loop-byte.splitter))
     (take_all c.loop-byte.byte-index c.args.bytes.now c.loop-byte-test.false) (c.loop-byte.invariant.hears old before taken is)

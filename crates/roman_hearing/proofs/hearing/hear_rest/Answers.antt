@@ -1,7 +1,7 @@
 use Rattle.std.proofs.Common.{List, ℕ, sym, ◌∙◌, subst}
 use Rattle.roman_text.specs.Lines.{unfinished}
-use Rattle.roman_hearing.specs.Hearing.{spot}
-use Rattle.roman_hearing.specs.HearingBytes.{ear, IsHearing}
+use Rattle.roman_hearing.specs.Hearing.{cursor}
+use Rattle.roman_hearing.specs.HearingBytes.{reader_state, IsHearing}
 use Rattle.roman_hearing.proofs.HearingLemmas.{hears_no_rest, hears_rest, fails_put, fails_rest}
 use Rattle.roman_hearing.proofs.hearing.hear_rest.Goals as goal
 
@@ -11,18 +11,18 @@ returns-then-not-rest-clause-hears g c old before taken is =
 
 pub returns-in_default-clause-hears : goal.returns-in_default-clause-hears
 returns-in_default-clause-hears g c old before taken is =
-    let begun = subst (λ (page : List ℕ). IsHearing (spot old before) taken (ear c.args.session.now (g.O.Sink.written c.args.out.now) page c.args.splitter.now)) (sym c.requires) is in
+    let begun = subst (λ (page : List ℕ). IsHearing (cursor old before) taken (reader_state c.args.session.now (g.O.Sink.written c.args.out.now) page c.args.splitter.now)) (sym c.requires) is in
     fails_rest old before taken c.args.session.now (g.O.Sink.written c.args.out.now) c.args.page.now c.args.splitter.now begun (sym c.rest.ensures.rest ∙ c.if-not-rest.false) c.hear_line.new.session
     (g.O.Sink.written c.hear_line.new.out) c.hear_line.new.page _ (c.in_default.ensures.step (unfinished taken) is.rest) c.in_default.ensures.known
 
 pub returns-in-Err-clause-hears : goal.returns-in-Err-clause-hears
 returns-in-Err-clause-hears g c old before taken is =
-    let begun = subst (λ (page : List ℕ). IsHearing (spot old before) taken (ear c.args.session.now (g.O.Sink.written c.args.out.now) page c.args.splitter.now)) (sym c.requires) is in
+    let begun = subst (λ (page : List ℕ). IsHearing (cursor old before) taken (reader_state c.args.session.now (g.O.Sink.written c.args.out.now) page c.args.splitter.now)) (sym c.requires) is in
     fails_put old before taken c.args.session.now (g.O.Sink.written c.args.out.now) c.args.page.now c.args.splitter.now begun (sym c.rest.ensures.rest ∙ c.if-not-rest.false) c.hear_line.new.session
     (g.O.Sink.written c.hear_line.new.out) c.hear_line.new.page c.in-Ok.field-0 (g.O.Sink.written c.flush.new.out) (c.in-Ok.ensures.step (unfinished taken) is.rest) c.in-Err.ensures.puts c.in-Ok.ensures.known
 
 pub returns-clause-hears : goal.returns-clause-hears
 returns-clause-hears g c old before taken is =
-    let begun = subst (λ (page : List ℕ). IsHearing (spot old before) taken (ear c.args.session.now (g.O.Sink.written c.args.out.now) page c.args.splitter.now)) (sym c.requires) is in
+    let begun = subst (λ (page : List ℕ). IsHearing (cursor old before) taken (reader_state c.args.session.now (g.O.Sink.written c.args.out.now) page c.args.splitter.now)) (sym c.requires) is in
     hears_rest old before taken c.args.session.now (g.O.Sink.written c.args.out.now) c.args.page.now c.args.splitter.now begun (sym c.rest.ensures.rest ∙ c.if-not-rest.false) c.hear_line.new.session
     (g.O.Sink.written c.hear_line.new.out) c.hear_line.new.page c.in-Ok.field-0 (g.O.Sink.written c.flush.new.out) (c.in-Ok.ensures.step (unfinished taken) is.rest) c.in_default-flush.ensures.puts

@@ -37,7 +37,7 @@ invariant_of-result c =
       rows = rw of.sizes_are at c.in-Ok.ensures.rows;
       moves = c.in-Ok.ensures.moves (n c.args.seats.items) of;
       moves_room = c.in-Ok.ensures.moves_room;
-      scenes = c.in-Ok.ensures.scenes;
+      target_views = c.in-Ok.ensures.target_views;
       room = c.in-Ok.ensures.room;
     })
 

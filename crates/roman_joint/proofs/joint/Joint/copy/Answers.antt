@@ -1,11 +1,11 @@
 use Rattle.std.proofs.Common.{◌≡◌, List, refl, sym, ap, ◌∙◌, subst}
 use Rattle.roman_model.specs.Numbers.{sizes_of}
-use Rattle.roman_joint.specs.declared.scene.Scene.{Scene}
+use Rattle.roman_joint.specs.declared.target_view.TargetView.{TargetView}
 use Rattle.roman_joint.specs.NamedSys.{NamedSys, system_of, IsNamedSys}
 use Rattle.roman_joint.specs.Layout.{named_sys_in}
 use Rattle.roman_joint.specs.Parts.{HasSameParts}
 use Rattle.roman_joint.specs.Rows.{AreRowsOf}
-use Rattle.roman_joint.specs.Scenes.{AreScenes}
+use Rattle.roman_joint.specs.TargetViews.{AreTargetViews}
 use Rattle.roman_joint.specs.Moves.{HoldsMoves}
 use Rattle.roman_joint.proofs.SeatChanges.{with_the_seats}
 use Rattle.roman_joint.proofs.joint.Joint.copy.Goals as goal
@@ -29,13 +29,13 @@ invariant_of-result c =
       limit = refl;
     } in
     let same : made ≡ n = with_the_seats made n seats parts (c.in_ok-copy_seats.ensures.items ∙ c.deref-4.ensures.value) in
-    let scenes : c.in_ok-from_slice.field-0.items ≡ c.self.inside.scenes.items = c.in_ok-from_slice.ensures.items ∙ c.deref-3.ensures.value in
+    let target_views : c.in_ok-from_slice.field-0.items ≡ c.self.inside.target_views.items = c.in_ok-from_slice.ensures.items ∙ c.deref-3.ensures.value in
     record {
       known = subst IsNamedSys (sym same) old.known;
       shape = old.shape ∙ ap (λ (m : NamedSys). sizes_of (system_of m)) (sym same);
       rows = subst (λ (m : NamedSys). AreRowsOf (sizes_of (system_of m)) c.self.inside.rows) (sym same) old.rows;
-      scenes = subst (λ (m : NamedSys). AreScenes m.environment.env m.target.beh c.in_ok-from_slice.field-0.items) (sym same)
-          (subst (λ (xs : List Scene). AreScenes n.environment.env n.target.beh xs) (sym scenes) old.scenes);
+      target_views = subst (λ (m : NamedSys). AreTargetViews m.environment.env m.target.beh c.in_ok-from_slice.field-0.items) (sym same)
+          (subst (λ (xs : List TargetView). AreTargetViews n.environment.env n.target.beh xs) (sym target_views) old.target_views);
       moves = subst (λ (m : NamedSys). HoldsMoves (system_of m) c.in_ok-moves_of.field-0) (sym same) (c.in_ok-moves_of.ensures.moves n (record {
         known = old.known;
         catalogue_of = c.deref.ensures.value;

@@ -24,7 +24,7 @@ invariant_of-self c =
       rows = rw of.sizes_are at c.rows_of-self-inside.ensures;
       moves = c.fill.ensures.moves (with_seats n (remove n.seats c.args.k)) of;
       moves_room = room_kept c.self.inside.moves c.fill.new.self c.fill.ensures.kept c.self.invariant.moves_room;
-      scenes = c.self.invariant.scenes;
+      target_views = c.self.invariant.target_views;
       room = omega (arith, c.remove-seat.ensures.capacity, c.self.invariant.room);
     })
 

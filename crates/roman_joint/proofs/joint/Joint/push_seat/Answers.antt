@@ -26,6 +26,6 @@ invariant_of-self c =
         actions_are = c.self.invariant.moves.actions;
       });
       moves_room = room_kept a.moves c.fill.new.self c.fill.ensures.kept c.self.invariant.moves_room;
-      scenes = c.self.invariant.scenes;
+      target_views = c.self.invariant.target_views;
       room = omega (arith, c.push_reserved.ensures.capacity, c.self.invariant.room);
     })

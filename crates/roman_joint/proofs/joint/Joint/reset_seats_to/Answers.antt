@@ -31,7 +31,7 @@ invariant_of-self c =
         actions_are = c.self.invariant.moves.actions ∙ ap (λ (e : NamedEnv). e.env.actions) parts.environment;
       });
       moves_room = room_kept c.self.inside.moves c.fill.new.self c.fill.ensures.kept c.self.invariant.moves_room;
-      scenes = c.self.invariant.scenes;
+      target_views = c.self.invariant.target_views;
       room = omega (arith, c.put_seats.ensures.room, c.self.invariant.room);
     })
 

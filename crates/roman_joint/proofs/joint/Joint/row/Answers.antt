@@ -19,8 +19,8 @@ returns c =
     let x = c.args.x in
     let r = c.layout-rows.result.now in
     let here : x * r.lanes ≡ x * lanes_in s = ap (λ m. x * m) c.layout-rows.ensures.rows.lanes in
-    let target = c.scene_at-scene.ensures.is_target ∙ ap (λ q. (pair_at (sizes_of s) q).t) here in
-    let env = c.scene_at-scene.ensures.is_env ∙ ap (λ q. (pair_at (sizes_of s) q).e) here in
+    let target = c.target_view_at-target_view.ensures.is_target ∙ ap (λ q. (pair_at (sizes_of s) q).t) here in
+    let env = c.target_view_at-target_view.ensures.is_env ∙ ap (λ q. (pair_at (sizes_of s) q).e) here in
     row_made s x _ (joint_sizes n c.layout-rows.ensures.known) c.requires r.rows c.layout-rows.ensures.rows.rows
     (ap (λ m. x % m) c.layout-rows.ensures.rows.env) target env c.row_states.ensures
-    (rw (target, env, ← here) c.scene_at-scene.ensures.allowed) (rw (target, env, ← here) c.scene_at-scene.ensures.leading)
+    (rw (target, env, ← here) c.target_view_at-target_view.ensures.allowed) (rw (target, env, ← here) c.target_view_at-target_view.ensures.leading)

@@ -1,7 +1,7 @@
 use Rattle.std.proofs.Common.{arith}
 use Rattle.roman_joint.specs.NamedSys.{system_of}
 use Rattle.roman_joint.proofs.SplitLemmas.{joint_sizes}
-use Rattle.roman_joint.proofs.SceneLemmas.{permitted_at}
+use Rattle.roman_joint.proofs.TargetViewLemmas.{permitted_at}
 use Rattle.roman_joint.proofs.BandLemmas.{in_band}
 use Rattle.roman_joint.proofs.joint.Joint.row_actions.Goals as goal
 

@@ -18,7 +18,7 @@ invariant_of-self c =
       rows = rw (sym (frozen_sizes n k frozen)) at c.self.invariant.rows;
       moves = moves_frozen n k frozen c.self.inside.moves c.self.invariant.moves;
       moves_room = c.self.invariant.moves_room;
-      scenes = c.self.invariant.scenes;
+      target_views = c.self.invariant.target_views;
       room = c.self.invariant.room;
     })
 

@@ -1,10 +1,10 @@
 use Rattle.std.proofs.Common.{◌≡◌, ◌*◌, ◌/◌, ◌%◌, ◌<◌, ◌≤◌, ◌++◌, ◌∷◌, [], length, ap, sym, ◌∙◌, subst, arith, mul-le-mul}
 use Rattle.std.proofs.lemmas.Nat.{div_below}
 use Rattle.std.proofs.lemmas.List.{length-append}
-use Rattle.roman_joint.specs.Scenes.{IsScene}
-use Rattle.roman_joint.proofs.SceneLemmas.{scenes_more}
-use Rattle.roman_joint.proofs.scene.all_scenes.Goals as goal
-use Rattle.roman_joint.proofs.scene.all_scenes.Goals.{After-len}
+use Rattle.roman_joint.specs.TargetViews.{IsTargetView}
+use Rattle.roman_joint.proofs.TargetViewLemmas.{target_views_more}
+use Rattle.roman_joint.proofs.target_view.all_target_views.Goals as goal
+use Rattle.roman_joint.proofs.target_view.all_target_views.Goals.{After-len}
 
 -- the numbers of states
 counts : (c : After-len) → (c.len-envs.result ≡ c.args.environment.now.env.states) × (c.len.result ≡ c.args.target.now.beh.states) × (c.len.result ≤ 64)
@@ -31,11 +31,11 @@ pub loop-i-preserved : goal.loop-i-preserved
 loop-i-preserved c =
     let env = c.args.environment.now.env in
     let target = c.args.target.now.beh in
-    let here : IsScene env target (c.loop-i.i / env.states) (c.loop-i.i % env.states) c.scene_of-scene.result =
-    subst (λ m. IsScene env target (c.loop-i.i / m) (c.loop-i.i % m) c.scene_of-scene.result) (counts (goal.at.loop-i-preserved c).After-len).0
-    (record { is_target = c.scene_of-scene.ensures.is_target; is_env = c.scene_of-scene.ensures.is_env; allowed = c.scene_of-scene.ensures.allowed; leading = c.scene_of-scene.ensures.leading }) in
-    let is : c.push.new.self.items ≡ c.loop-i.scenes.items ++ c.scene_of-scene.result ∷ [] = c.in_ok-push.ensures.items in
+    let here : IsTargetView env target (c.loop-i.i / env.states) (c.loop-i.i % env.states) c.target_view_of-target_view.result =
+    subst (λ m. IsTargetView env target (c.loop-i.i / m) (c.loop-i.i % m) c.target_view_of-target_view.result) (counts (goal.at.loop-i-preserved c).After-len).0
+    (record { is_target = c.target_view_of-target_view.ensures.is_target; is_env = c.target_view_of-target_view.ensures.is_env; allowed = c.target_view_of-target_view.ensures.allowed; leading = c.target_view_of-target_view.ensures.leading }) in
+    let is : c.push.new.self.items ≡ c.loop-i.target_views.items ++ c.target_view_of-target_view.result ∷ [] = c.in_ok-push.ensures.items in
     record {
-      long = ap length is ∙ (length-append c.loop-i.scenes.items (c.scene_of-scene.result ∷ []) ∙ omega (arith, c.loop-i.invariant.long));
-      each = scenes_more env target c.loop-i.scenes.items c.push.new.self.items c.loop-i.i c.scene_of-scene.result c.loop-i.invariant.long is c.loop-i.invariant.each here;
+      long = ap length is ∙ (length-append c.loop-i.target_views.items (c.target_view_of-target_view.result ∷ []) ∙ omega (arith, c.loop-i.invariant.long));
+      each = target_views_more env target c.loop-i.target_views.items c.push.new.self.items c.loop-i.i c.target_view_of-target_view.result c.loop-i.invariant.long is c.loop-i.invariant.each here;
     }

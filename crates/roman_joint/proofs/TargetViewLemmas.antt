@@ -1,4 +1,4 @@
--- Scenes and the system's actions.
+-- Target views and the system's actions.
 use Rattle.std.proofs.Common.{◌≡◌, ℕ, ◌+◌, ◌/◌, ◌%◌, ◌<◌, ◌≤◌, IsFalse, List, [], ◌∷◌, ◌++◌, length, take, get_or, slice_index_or, inl, inr, refl, sym, ap, ◌∙◌, subst, arith}
 use Rattle.std.specs.Int.{bit_at}
 use Rattle.std.specs.List.{flat_map}
@@ -10,10 +10,10 @@ use Rattle.roman_model.specs.System.{Env, Beh, Sys, Pair, IsSys}
 use Rattle.roman_model.specs.SystemArena.{env_prev}
 use Rattle.roman_model.specs.Numbers.{sizes_of, pair_at, numbered}
 use Rattle.roman_model.proofs.CallerLemmas.{by_test, from_push, numbered_is_arena}
-use Rattle.roman_joint.specs.declared.scene.Scene.{Scene}
+use Rattle.roman_joint.specs.declared.target_view.TargetView.{TargetView}
 use Rattle.roman_joint.specs.Backward.{from_target, from_env, from_action}
 use Rattle.roman_rules.specs.Bits.{bit_of, HasBits}
-use Rattle.roman_joint.specs.Scenes.{ArePermitted, AreLeading, IsScene}
+use Rattle.roman_joint.specs.TargetViews.{ArePermitted, AreLeading, IsTargetView}
 
 -- one more number at which the list is empty
 pub none_more : (xs : List ℕ) (i : ℕ) (f : ℕ → List ℕ) → i < length xs → f (get_or xs i 0) ≡ [] → ((e : ℕ) → IsIn e (take i xs) → f e ≡ []) → (e : ℕ) → IsIn e (take (i + 1) xs) → f e ≡ []
@@ -22,13 +22,13 @@ none_more xs i f l here before e j = elim (from_push e (get_or xs i 0) (take i x
   | inr same ↦ ap f same ∙ here
 ]
 
--- one more scene
-pub scenes_more : (env : Env) (target : Beh) (old new : List Scene) (i : ℕ) (scene : Scene) → length old ≡ i → new ≡ old ++ scene ∷ [] →
-    ((j : ℕ) (x : Scene) → j < i → x ≡ slice_index_or old j x → IsScene env target (j / env.states) (j % env.states) x) → IsScene env target (i / env.states) (i % env.states) scene →
-    (j : ℕ) (x : Scene) → j < i + 1 → x ≡ slice_index_or new j x → IsScene env target (j / env.states) (j % env.states) x
-scenes_more env target old new i scene long is before here j x l at = grind (arith, cases_eq, get_or-append_seam, get_or_append_left)
+-- one more target view
+pub target_views_more : (env : Env) (target : Beh) (old new : List TargetView) (i : ℕ) (target_view : TargetView) → length old ≡ i → new ≡ old ++ target_view ∷ [] →
+    ((j : ℕ) (x : TargetView) → j < i → x ≡ slice_index_or old j x → IsTargetView env target (j / env.states) (j % env.states) x) → IsTargetView env target (i / env.states) (i % env.states) target_view →
+    (j : ℕ) (x : TargetView) → j < i + 1 → x ≡ slice_index_or new j x → IsTargetView env target (j / env.states) (j % env.states) x
+target_views_more env target old new i target_view long is before here j x l at = grind (arith, cases_eq, get_or-append_seam, get_or_append_left)
 
--- the actions that a scene allows are those that are allowed at a pair
+-- the actions that a target view allows are those that are allowed at a pair
 pub permitted_at : (s : Sys) (p bits : ℕ) → IsSys s → ArePermitted s.env s.target (pair_at (sizes_of s) p).t (pair_at (sizes_of s) p).e bits → HasBits bits ((numbered s).allows p)
 permitted_at s p bits sys ok =
     let past : (a : ℕ) → s.env.actions ≤ a → IsFalse ((numbered s).allows p a) = λ a l.
@@ -40,6 +40,6 @@ pub flat_map-none : {X Y : Type 0} (f : X → List Y) (xs : List X) → ((x : X)
 flat_map-none f [] none = refl
 flat_map-none f (x ∷ xs) none = ap (λ ys. ys ++ flat_map f xs) (none x (inl refl)) ∙ flat_map-none f xs (λ y i. none y (inr i))
 
--- an action that doesn't lead to a scene leads to no pair there
+-- an action that doesn't lead to a target view leads to no pair there
 pub leads_nowhere : (s : Sys) (q : Pair) (bits : ℕ) → AreLeading s.env s.target q.t q.e bits → (a : ℕ) → a < s.env.actions → bit_at bits a ≡ 0 → from_action s q a ≡ []
 leads_nowhere s q bits ok a l none = flat_map-none (from_env s q a) (env_prev s.env q.e a) (λ e i. ap (flat_map (from_target s q a e)) (ok.others a l none e i))

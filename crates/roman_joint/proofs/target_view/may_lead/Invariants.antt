@@ -1,7 +1,7 @@
 use Rattle.std.proofs.Common.{◌≡◌, ℕ, [], take}
 use Rattle.roman_model.specs.Lists.{IsIn}
 use Rattle.roman_model.specs.SystemArena.{env_prev, beh_prev}
-use Rattle.roman_joint.proofs.scene.may_lead.Given as goal
+use Rattle.roman_joint.proofs.target_view.may_lead.Given as goal
 
 -- the action doesn't lead there from the environment's states so far
 abbrev pub invariant-loop-e : goal.invariant-loop-e

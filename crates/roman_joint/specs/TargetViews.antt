@@ -1,11 +1,11 @@
--- Scenes: the actions that the target and the environment allow.
+-- Target views: the actions that the target and the environment allow.
 use Rattle.std.specs.Prelude.{◌≡◌, ℕ, ◌*◌, ◌/◌, ◌%◌, ◌<◌, ◌≤◌, ◌&&◌, not, List, [], length, slice_index_or}
 use Rattle.std.specs.Int.{bit_at}
 use Rattle.roman_model.specs.Lists.{IsIn, is_empty}
 use Rattle.roman_model.specs.System.{Env, Beh}
 use Rattle.roman_model.specs.SystemArena.{env_next, env_prev, beh_next, beh_prev}
 use Rattle.roman_rules.specs.Bits.{bit_of}
-use Rattle.roman_joint.specs.declared.scene.Scene.{Scene}
+use Rattle.roman_joint.specs.declared.target_view.TargetView.{TargetView}
 
 -- the bits are those of the actions that are allowed in t and e
 pub record ArePermitted (env : Env) (target : Beh) (t e bits : ℕ) : Type 0 where
@@ -16,14 +16,14 @@ pub record ArePermitted (env : Env) (target : Beh) (t e bits : ℕ) : Type 0 whe
 pub record AreLeading (env : Env) (target : Beh) (t e bits : ℕ) : Type 0 where
   pub others : (a : ℕ) → a < env.actions → bit_at bits a ≡ 0 → (e' : ℕ) → IsIn e' (env_prev env e a) → beh_prev target t e' a ≡ []
 
--- the scene is that of t and e
-pub record IsScene (env : Env) (target : Beh) (t e : ℕ) (scene : Scene) : Type 0 where
-  pub is_target : scene.target ≡ t
-  pub is_env : scene.env ≡ e
-  pub allowed : ArePermitted env target t e scene.allowed
-  pub leading : AreLeading env target t e scene.leading
+-- the target view is that of t and e
+pub record IsTargetView (env : Env) (target : Beh) (t e : ℕ) (target_view : TargetView) : Type 0 where
+  pub is_target : target_view.target ≡ t
+  pub is_env : target_view.env ≡ e
+  pub allowed : ArePermitted env target t e target_view.allowed
+  pub leading : AreLeading env target t e target_view.leading
 
--- there is a scene for each state of the target and of the environment, where the environment's changes fastest
-pub record AreScenes (env : Env) (target : Beh) (scenes : List Scene) : Type 0 where
-  pub long : length scenes ≡ target.states * env.states
-  pub each : (i : ℕ) (scene : Scene) → i < length scenes → scene ≡ slice_index_or scenes i scene → IsScene env target (i / env.states) (i % env.states) scene
+-- there is a target view for each state of the target and of the environment, where the environment's changes fastest
+pub record AreTargetViews (env : Env) (target : Beh) (target_views : List TargetView) : Type 0 where
+  pub long : length target_views ≡ target.states * env.states
+  pub each : (i : ℕ) (target_view : TargetView) → i < length target_views → target_view ≡ slice_index_or target_views i target_view → IsTargetView env target (i / env.states) (i % env.states) target_view

@@ -1,9 +1,9 @@
-//! Scenes: the actions that the target and the environment allow, whatever the services do.
+//! Target views: the actions that the target and the environment allow, whatever the services do.
 ghost use Rattle.std.specs.Prelude.{◌≡◌, ℕ, ◌<◌, [], IsFalse, IfOk};
 ghost use Rattle.roman_model.specs.Lists.{IsIn};
 ghost use Rattle.roman_model.specs.SystemArena.{env_prev, beh_prev};
 ghost use Rattle.roman_joint.specs.NamedSys.{TargetIsOverEnv};
-ghost use Rattle.roman_joint.specs.Scenes.{ArePermitted, AreLeading, IsScene, AreScenes};
+ghost use Rattle.roman_joint.specs.TargetViews.{ArePermitted, AreLeading, IsTargetView, AreTargetViews};
 
 use roman_parts::{Environment, Target};
 use roman_rules::with_bit;
@@ -12,7 +12,7 @@ use std::alloc::{AllocError, Global};
 /// A state of the target and a state of the environment, with the actions that are allowed there and
 /// those that can lead there.
 #[derive(Clone, Copy, Debug)]
-pub(crate) struct Scene {
+pub(crate) struct TargetView {
     pub(crate) target: u8,
     pub(crate) env: u8,
     /// The actions that are allowed there.
@@ -21,34 +21,34 @@ pub(crate) struct Scene {
     pub(crate) leading: u32,
 }
 
-/// Makes all scenes, ordered by the target's state and then by the environment's. Fails only when out
+/// Makes all target views, ordered by the target's state and then by the environment's. Fails only when out
 /// of memory.
-pub(crate) fn all_scenes(
+pub(crate) fn all_target_views(
     alloc: Global,
     environment: &Environment,
     target: &Target,
-) -> Result<Vec<Scene>, AllocError>
+) -> Result<Vec<TargetView>, AllocError>
     requires { TargetIsOverEnv environment.now target.now }
-    ensures { IfOk result (λ scenes. AreScenes environment.now.env target.now.beh scenes.items) }
+    ensures { IfOk result (λ target_views. AreTargetViews environment.now.env target.now.beh target_views.items) }
 {
     let envs = environment.states().len();
     let count = target.states().len() * envs;
-    let mut scenes = Vec::with_capacity(alloc, count as usize)?;
+    let mut target_views = Vec::with_capacity(alloc, count as usize)?;
     for i in 0..count {
-        let scene = scene_of(environment, target, (i / envs) as u8, (i % envs) as u8);
-        scenes.push(scene)?;
+        let target_view = target_view_of(environment, target, (i / envs) as u8, (i % envs) as u8);
+        target_views.push(target_view)?;
     }
-    Ok(scenes)
+    Ok(target_views)
 }
 
-/// Returns the scene of these states.
-fn scene_of(environment: &Environment, target: &Target, t: u8, e: u8) -> Scene
+/// Returns the target view of these states.
+fn target_view_of(environment: &Environment, target: &Target, t: u8, e: u8) -> TargetView
     requires over { TargetIsOverEnv environment.now target.now }
     requires target { t < target.now.beh.states }
     requires env { e < environment.now.env.states }
-    ensures { IsScene environment.now.env target.now.beh t e result }
+    ensures { IsTargetView environment.now.env target.now.beh t e result }
 {
-    Scene {
+    TargetView {
         target: t,
         env: e,
         allowed: allowed_in(environment, target, t, e),

@@ -2,8 +2,8 @@ use Rattle.std.proofs.Common.{◌≡◌, ℕ, ◌<◌, List, [], length, get_or,
 use Rattle.roman_model.specs.SystemArena.{env_prev, beh_prev}
 use Rattle.roman_model.proofs.CallerLemmas.{empty_is}
 use Rattle.roman_joint.proofs.SeatLemmas.{len_empty}
-use Rattle.roman_joint.proofs.SceneLemmas.{none_more}
-use Rattle.roman_joint.proofs.scene.may_lead.Goals as goal
+use Rattle.roman_joint.proofs.TargetViewLemmas.{none_more}
+use Rattle.roman_joint.proofs.target_view.may_lead.Goals as goal
 
 pub loop-e-preserved : goal.loop-e-preserved
 loop-e-preserved c =
