@@ -1,3 +1,5 @@
 pub mod Lasting
 pub mod LaterFirst
+pub mod Swaps
+pub mod Repeats
 pub mod Telling

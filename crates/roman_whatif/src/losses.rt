@@ -1,13 +1,14 @@
 //! Tries the failures of each service and of each two services.
-ghost use Rattle.std.specs.Prelude.{◌≡◌, ℕ, ◌+◌, ◌*◌, ◌<◌, length, IfOk};
+ghost use Rattle.std.specs.Prelude.{◌≡◌, ℕ, ◌+◌, ◌*◌, ◌<◌, ◌≤◌, [], ◌∷◌, length, IfOk};
 ghost use Rattle.roman_model.specs.Numbers.{sizes_of, count};
 ghost use Rattle.roman_joint.specs.NamedSys.{NamedSys, system_of};
 ghost use Rattle.roman_relation.specs.Greatest.{IsRelation};
-ghost use Rattle.roman_whatif.specs.Left.{places};
+ghost use Rattle.roman_whatif.specs.Left.{places, IsIdleScratchOf, IsLeft};
 ghost use Rattle.roman_whatif.specs.Told.{told};
 ghost use Rattle.roman_whatif.specs.Losses.{told_at, left_of, MayFail, IsToldOf, AreTold, AreLosses};
 ghost use Rattle.roman_whatif.specs.Trials.{AreTrialsOf};
 
+use crate::alike::{is_repeated, is_third};
 use crate::failing::fail_on;
 use crate::outlook::{Outlook, now};
 use roman_io::Steps;
@@ -41,8 +42,9 @@ pub struct Losses {
 
 impl Losses {
     /// Tries the failures of each service and of each two services on two copies of `base`, and
-    /// keeps the outlook of its pair `p` after each. Requires a complete list of `base`. Fails only
-    /// when out of memory.
+    /// keeps the outlook of its pair `p` after each. Of neighbouring services that are equal but for
+    /// their names, it tries one failure, and copies the outlook. Requires a complete list of `base`.
+    /// Fails only when out of memory.
     pub fn build<L: Ledger>(
         alloc: Global,
         base: &Relation,
@@ -150,9 +152,57 @@ fn try_all<L: Ledger>(
     let seats = base.joint.seats();
     let mut table = vec![in alloc; NOTHING; PLACES * seats as usize]?;
     for j in 0..seats {
-        try_with(base, p, j, way, trials, &mut table, steps);
+        fill_row(base, p, j, way, trials, &mut table, steps);
     }
     Ok(table)
+}
+
+/// Fills the row of the service at place `j` of the table, whose earlier rows are filled. Copies the
+/// row before where the service and the two before are alike, since then the same failures are told.
+fn fill_row<L: Ledger>(
+    base: &Relation,
+    p: u32,
+    j: u8,
+    way: Way,
+    trials: &mut Trials,
+    table: &mut [Outlook],
+    steps: &mut Steps<L>,
+)
+    requires base { IsRelation base.now.joint base.now.order }
+    requires pair { p < count (sizes_of (system_of base.now.joint)) }
+    requires place { (j < length base.now.joint.seats) × (j < 32) }
+    requires trials { AreTrialsOf base.now.joint trials.old }
+    requires room { length table.old ≡ 32 * length base.now.joint.seats }
+    requires rows { (i : ℕ) → i < j → IsToldOf base.now.joint p way i table.old }
+    ensures told { IsToldOf base.now.joint p way j table.new }
+    ensures before { (i : ℕ) → i < 32 * j → told_at table.new i ≡ told_at table.old i }
+    ensures room { length table.new ≡ length table.old }
+    ensures trials { AreTrialsOf base.now.joint trials.new }
+{
+    if is_third(base, p, j) {
+        repeat_row(table, j - 1);
+        return;
+    }
+    try_with(base, p, j, way, trials, table, steps);
+}
+
+/// Copies the row of the service at place `before` to the row after it. The outlook for the service
+/// itself, alone, goes one place on, and that for it with the service before stands twice.
+fn repeat_row(table: &mut [Outlook], before: u8)
+    requires some { (0 < before) × (before < 31) }
+    requires room { 32 * before + 64 ≤ length table.old }
+    ensures two { (k : ℕ) → k < before → told_at table.new (32 * before + 32 + k) ≡ told_at table.old (32 * before + k) }
+    ensures last { (k : ℕ) → k + 1 ≡ before → told_at table.new (32 * before + 32 + before) ≡ told_at table.old (32 * before + k) }
+    ensures alone { told_at table.new (32 * before + 33 + before) ≡ told_at table.old (32 * before + before) }
+    ensures before { (i : ℕ) → i < 32 * before + 32 → told_at table.new i ≡ told_at table.old i }
+    ensures room { length table.new ≡ length table.old }
+{
+    let count = before as usize;
+    let from = PLACES * count;
+    let to = from + PLACES;
+    table.copy_within(from..from + count, to);
+    table[to + count] = table[from + count - 1];
+    table[to + count + 1] = table[from + count];
 }
 
 /// Tries the failure of the service at place `j`, and then the failure of each earlier service on
@@ -180,7 +230,39 @@ fn try_with<L: Ledger>(
     let row = PLACES * j as usize;
     table[row + j as usize] = now(&trials.middle, left);
     for k in 0..j {
-        let last = fail_on(&mut trials.scratch, &trials.middle, left, k, way, steps);
-        table[row + k as usize] = now(&trials.scratch, last);
+        let outlook = try_second(base, p, j, k, left, way, trials, table, steps);
+        table[row + k as usize] = outlook;
     }
+}
+
+/// Returns the outlook after the services at the places `k` and `j` fail. The middle is without the
+/// service at place `j`, and `left` remains of the pair `p` there. Where the service at place `k` is
+/// like the one before, the row of `j` in the table has the outlook already.
+fn try_second<L: Ledger>(
+    base: &Relation,
+    p: u32,
+    j: u8,
+    k: u8,
+    left: u32,
+    way: Way,
+    trials: &mut Trials,
+    table: &[Outlook],
+    steps: &mut Steps<L>,
+) -> Outlook
+    requires base { IsRelation base.now.joint base.now.order }
+    requires pair { p < count (sizes_of (system_of base.now.joint)) }
+    requires places { (k < j) × (j < length base.now.joint.seats) × (j < 32) }
+    requires middle { IsLeft way (j ∷ []) base.now.joint p trials.old.middle.joint trials.old.middle.order left }
+    requires scratch { IsIdleScratchOf base.now.joint trials.old.scratch.joint trials.old.scratch.order }
+    requires room { length table.now ≡ 32 * length base.now.joint.seats }
+    requires two { (i : ℕ) → i < k → told_at table.now (32 * j + i) ≡ left_of base.now.joint p way (i ∷ j ∷ []) }
+    ensures told { told result ≡ left_of base.now.joint p way (k ∷ j ∷ []) }
+    ensures middle { trials.new.middle ≡ trials.old.middle }
+    ensures scratch { IsIdleScratchOf base.now.joint trials.new.scratch.joint trials.new.scratch.order }
+{
+    if is_repeated(base, p, k) {
+        return table[PLACES * j as usize + k as usize - 1];
+    }
+    let last = fail_on(&mut trials.scratch, &trials.middle, left, k, way, steps);
+    now(&trials.scratch, last)
 }

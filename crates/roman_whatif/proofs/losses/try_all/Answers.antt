@@ -7,14 +7,19 @@ pub loop-j-preserved : goal.loop-j-preserved
 loop-j-preserved g c =
     let n = c.args.base.now.joint in
     let old = c.loop-j.table in
-    let new = c.try_with.new.table in
+    let new = c.fill_row.new.table in
     let lent = c.deref_mut.ensures.value in
-    let room : length new ≡ length old.items = c.try_with.ensures.room ∙ ap length lent in
+    let room : length new ≡ length old.items = c.fill_row.ensures.room ∙ ap length lent in
     let back = lent_back old.len old.items new old.ok.0 room in
     let few : c.loop-j.j < 32 = omega (arith, c.loop-j-test.true, c.seats-seats.ensures.few) in
-    let before = subst (λ xs. (x : ℕ) → x < 32 * c.loop-j.j → told_at new x ≡ told_at xs x) lent c.try_with.ensures.before in
+    let before = subst (λ xs. (x : ℕ) → x < 32 * c.loop-j.j → told_at new x ≡ told_at xs x) lent c.fill_row.ensures.before in
     record {
-      trials = c.try_with.ensures.trials;
+      trials = c.fill_row.ensures.trials;
       room = ap length back ∙ room ∙ c.loop-j.invariant.room;
-      rows = λ i l. subst (IsToldOf n c.args.p c.args.way i) (sym back) (rows_more n c.args.p c.args.way c.loop-j.j old.items new few before c.loop-j.invariant.rows c.try_with.ensures.told i l);
+      rows = λ i l. subst (IsToldOf n c.args.p c.args.way i) (sym back) (rows_more n c.args.p c.args.way c.loop-j.j old.items new few before c.loop-j.invariant.rows c.fill_row.ensures.told i l);
     }
+
+pub fill_row-requires-clause-rows : goal.fill_row-requires-clause-rows
+fill_row-requires-clause-rows g c =
+    let n = c.args.base.now.joint in
+    λ i l. subst (IsToldOf n c.args.p c.args.way i) (sym c.deref_mut.ensures.value) (c.loop-j.invariant.rows i l)

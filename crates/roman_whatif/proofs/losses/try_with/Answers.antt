@@ -1,8 +1,10 @@
-use Rattle.std.proofs.Common.{ℕ, ◌+◌, ◌*◌, ◌<◌, [], ◌∷◌, length, refl, ◌∙◌, arith}
+use Rattle.std.proofs.Common.{ℕ, ◌+◌, ◌*◌, ◌<◌, [], ◌∷◌, length, refl, sym, ◌∙◌, subst, arith}
 use Rattle.std.proofs.lemmas.List.{length-set}
+use Rattle.roman_relation.specs.declared.relation.Relation.{Relation}
+use Rattle.roman_whatif.specs.Left.{IsLeft}
 use Rattle.roman_whatif.specs.Told.{told}
 use Rattle.roman_whatif.specs.Losses.{left_of}
-use Rattle.roman_whatif.proofs.Lasting.{still_there, left_again, told_left, left_idle, idle_on_left}
+use Rattle.roman_whatif.proofs.Lasting.{told_left, left_idle}
 use Rattle.roman_whatif.proofs.Telling.{told_there, told_elsewhere, told_one_more}
 use Rattle.roman_whatif.proofs.losses.try_with.Goals as goal
 
@@ -26,21 +28,10 @@ loop-k-init g c =
       room = length-set table at c.now.result;
     }
 
-pub fail_on-last-requires-clause-scratch : goal.fail_on-last-requires-clause-scratch
-fail_on-last-requires-clause-scratch g c =
-    let trials = c.loop-k.trials in
-    idle_on_left c.args.base.now.joint trials.middle.joint trials.scratch.joint trials.scratch.order c.loop-k.invariant.middle.parts c.loop-k.invariant.scratch
-
-pub fail_on-last-requires-clause-place : goal.fail_on-last-requires-clause-place
-fail_on-last-requires-clause-place g c =
-    let mid = c.loop-k.trials.middle in
-    still_there c.args.way c.loop-k.k c.args.j c.args.base.now.joint mid.joint mid.order c.args.p c.fail_on-left.result c.loop-k-test.true c.requires.place.0 c.loop-k.invariant.middle
-
 pub loop-k-preserved : goal.loop-k-preserved
 loop-k-preserved g c =
     let base = c.args.base.now.joint in
-    let mid = c.loop-k.trials.middle in
-    let new = c.fail_on-last.new.scratch in
+    let second = c.try_second-outlook in
     let table = c.loop-k.table in
     let before = c.loop-k.invariant in
     let j = c.args.j in
@@ -49,15 +40,13 @@ loop-k-preserved g c =
     let few = c.requires.place in
     let at = 32 * j + k in
     let room : at < length table = omega (arith, few.0, few.1, less, c.requires.room, before.room) in
-    let both = left_again c.args.way k j base mid.joint new.joint mid.order new.order c.args.p c.fail_on-left.result c.fail_on-last.result less before.middle c.fail_on-last.ensures in
-    let is = told_left c.args.way (k ∷ j ∷ []) (k ∷ j ∷ []) base base new.joint new.order c.args.p c.fail_on-last.result (told c.now-in-loop-k.result) refl refl both c.now-in-loop-k.ensures.outlook in
     record {
-      middle = before.middle;
-      scratch = left_idle c.args.way (k ∷ j ∷ []) base new.joint new.order c.args.p c.fail_on-last.result both;
-      alone = told_elsewhere table at (32 * j + j) c.now-in-loop-k.result (omega (arith, less)) ∙ before.alone;
-      two = told_one_more table (32 * j) k c.now-in-loop-k.result (λ (i : ℕ). left_of base c.args.p c.args.way (i ∷ j ∷ [])) room is before.two;
-      before = λ i l. told_elsewhere table at i c.now-in-loop-k.result (omega (arith, l)) ∙ before.before i l;
-      room = length-set table at c.now-in-loop-k.result ∙ before.room;
+      middle = subst (λ (r : Relation). IsLeft c.args.way (j ∷ []) base c.args.p r.joint r.order c.fail_on-left.result) (sym second.ensures.middle) before.middle;
+      scratch = second.ensures.scratch;
+      alone = told_elsewhere table at (32 * j + j) second.result (omega (arith, less)) ∙ before.alone;
+      two = told_one_more table (32 * j) k second.result (λ (i : ℕ). left_of base c.args.p c.args.way (i ∷ j ∷ [])) room second.ensures.told before.two;
+      before = λ i l. told_elsewhere table at i second.result (omega (arith, l)) ∙ before.before i l;
+      room = length-set table at second.result ∙ before.room;
     }
 
 pub returns-clause-trials : goal.returns-clause-trials

@@ -1,0 +1,53 @@
+//! Services that are equal but for their names, whose failures have the same outlooks.
+ghost use Rattle.std.specs.Prelude.{◌-◌, ◌<◌, length, IsTrue};
+ghost use Rattle.roman_model.specs.Numbers.{sizes_of, count};
+ghost use Rattle.roman_joint.specs.NamedSys.{system_of};
+ghost use Rattle.roman_whatif.specs.Alike.{IsRepeated};
+
+use roman_relation::Relation;
+
+/// Returns whether the service at place `k` is like the one before: the two have the same behaviour,
+/// are in the same state at the pair `p`, and both are frozen or neither is, and both rest or neither
+/// does. Only their names differ.
+pub(crate) fn is_repeated(base: &Relation, p: u32, k: u8) -> bool
+    requires pair { p < count (sizes_of (system_of base.now.joint)) }
+    requires place { k < length base.now.joint.seats }
+    ensures { IsTrue result → IsRepeated base.now.joint p k }
+{
+    base.joint.known();
+    if k == 0 {
+        return false;
+    }
+    let shape = base.joint.shape();
+    let before = base.joint.seat(k - 1);
+    let own = base.joint.seat(k);
+    let state_before = shape.part_of(p, k - 1);
+    let own_state = shape.part_of(p, k);
+    if own.behaviour != before.behaviour {
+        return false;
+    }
+    if own.frozen != before.frozen {
+        return false;
+    }
+    if own.rests != before.rests {
+        return false;
+    }
+    own_state == state_before
+}
+
+/// Returns whether the service at place `j` and the two before it are alike.
+pub(crate) fn is_third(base: &Relation, p: u32, j: u8) -> bool
+    requires pair { p < count (sizes_of (system_of base.now.joint)) }
+    requires place { j < length base.now.joint.seats }
+    ensures some { IsTrue result → 1 < j }
+    ensures own { IsTrue result → IsRepeated base.now.joint p j }
+    ensures before { IsTrue result → IsRepeated base.now.joint p (j - 1) }
+{
+    if j < 2 {
+        return false;
+    }
+    if !is_repeated(base, p, j) {
+        return false;
+    }
+    is_repeated(base, p, j - 1)
+}
