@@ -20,6 +20,7 @@ use crate::words::{all_alive, less, moves_alive, rows_alive};
 use roman_rules::SeatSet;
 
 /// Returns the lanes at which a seat before the lanes serves the action.
+#[inline(always)]
 fn good_before(joint: &Joint, words: &[u64], row: &Row, turn: &TargetMove<'_>, a: u8, k: u8) -> u64
     requires row { (x : ℕ) × IsRow (system_of joint.now) x row.now }
     requires turn { IsTargetMove (system_of joint.now) row.now a turn.now }
@@ -64,6 +65,7 @@ fn alive_on(joint: &Joint, words: &[u64], turn: &TargetMove<'_>) -> u64
 
 /// Returns the lanes at which a seat within the lanes serves the action. `alive` holds the alive lanes
 /// of the turn.
+#[inline(always)]
 fn good_within(joint: &Joint, row: &Row, alive: u64, a: u8, k: u8) -> u64
     requires row { (x : ℕ) × IsRow (system_of joint.now) x row.now }
     requires action { a < (system_of joint.now).env.actions }
@@ -83,6 +85,7 @@ fn good_within(joint: &Joint, row: &Row, alive: u64, a: u8, k: u8) -> u64
 }
 
 /// Returns the lanes at which a seat serves the action. `alive` holds the alive lanes of the turn.
+#[inline(always)]
 fn good_on(
     joint: &Joint,
     words: &[u64],

@@ -32,6 +32,7 @@ pub(crate) fn row_states(joint: &Joint, x: u32) -> [u8; PLACES]
 }
 
 /// Returns the states to which a service goes from state `b`. Returns none if it is frozen.
+#[inline(always)]
 pub(crate) fn next_states<'a>(joint: &'a Joint, k: u8, b: u8, e: u8, a: u8) -> &'a [u8]
     requires seat { k < length joint.now.seats }
     requires state { b < slice_index (sizes_of (system_of joint.now)).seats k }

@@ -47,6 +47,7 @@ pub(crate) fn each_rows_alive<const N: usize>(
 
 /// Returns the lanes of `good` that are set in all rows `base + e * env_stride + b * stride`, for each
 /// state e of the environment and each state b.
+#[inline(always)]
 pub(crate) fn all_alive(
     words: &[u64],
     base: u32,
