@@ -11,7 +11,8 @@ use Rattle.roman_model.specs.Composition.{couple, Serves, GreatCouple, Great}
 use Rattle.roman_model.specs.Offers.{offers}
 use Rattle.roman_model.specs.Plans.{Costs, Plan, Leaf, Node, max_over, allowed_actions, IsPlan, worst, least, chosen, through, choice}
 use Rattle.roman_model.proofs.CallerLemmas.{by_test, in_filter, in_below, not_empty_in, ne_not_empty, allowed_in, allowed_in_range, from_allowed, outcome_in, from_outcome, outcome_pair, offers_are, offer_is, plans_least, choice_is}
-use Rattle.roman_cost.specs.ServingPlans.{MovesTo, IsServingPlan, Event, MayCome, cost_of_events, IsWorstCost, IsLeastCost, CostsBy, IsCheapest}
+use Rattle.roman_model.specs.Outcomes.{LeadsTo}
+use Rattle.roman_cost.specs.ServingPlans.{IsServingPlan, Event, MayCome, cost_of_events, IsWorstCost, IsLeastCost, CostsBy, IsCheapest}
 
 -- Plans.
 
@@ -24,7 +25,7 @@ served s p a k ok pair allowed serves =
 serving : (s : Sys) (p : Pair) (a k : ℕ) → IsSys s → IsPair s p → IsTrue (is_allowed s p a) → IsIn k (offers s p a) → Serves s (GreatCouple s) (couple p) a k
 serving s p a k ok pair allowed i = (((offers_are s ok).offered p pair a allowed k).0 i).1
 
-moves_in : (s : Sys) (p : Pair) (a k : ℕ) (q : Pair) → IsSys s → MovesTo s p a k q → IsIn q (outcomes s p a k)
+moves_in : (s : Sys) (p : Pair) (a k : ℕ) (q : Pair) → IsSys s → LeadsTo s p a k q → IsIn q (outcomes s p a k)
 moves_in s p a k q ok (target, system) = outcome_in s p a k q.t q.e q.bs ok target system
 
 pub serving_plan : (s : Sys) (h : ℕ) (p : Pair) (plan : Plan) → IsSys s → IsPair s p → IsPlan s h p plan → IsServingPlan s h p plan

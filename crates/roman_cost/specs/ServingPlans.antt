@@ -1,12 +1,9 @@
 -- Plans by seats that serve, and their worst-case costs, in terms of steps.
 use Rattle.std.specs.Prelude.{◌≡◌, ◌⊎◌, ℕ, zero, suc, ◌+◌, ◌<◌, ◌≤◌, List, [], ◌∷◌}
-use Rattle.roman_model.specs.System.{Sys, Pair, TStep, SStep, Allows}
+use Rattle.roman_model.specs.System.{Sys, Pair, Allows}
 use Rattle.roman_model.specs.Composition.{couple, Serves, GreatCouple}
+use Rattle.roman_model.specs.Outcomes.{LeadsTo}
 use Rattle.roman_model.specs.Plans.{Costs, Plan, Leaf, Node}
-
--- the target moves by a from p to q, and so does the system when a is delegated to seat k
-abbrev pub MovesTo : Sys → Pair → ℕ → ℕ → Pair → Type 0
-MovesTo s p a k q = TStep s p.t p.e a q.t q.e × SStep s p.bs p.e a k q.bs q.e
 
 -- a plan for h requests: for each action that the target allows, a seat that serves it, and a plan for the remaining requests at
 -- each pair to which that can lead
@@ -14,7 +11,7 @@ abbrev pub IsServingPlan : Sys → ℕ → Pair → Plan → Type 0
 IsServingPlan s zero p plan = plan ≡ Leaf
 IsServingPlan s (suc h) p Leaf = ⊥
 IsServingPlan s (suc h) p (Node seat next) =
-    (a : ℕ) → Allows s p.t p.e a → Serves s (GreatCouple s) (couple p) a (seat a) × ((q : Pair) → MovesTo s p a (seat a) q → IsServingPlan s h q (next a q))
+    (a : ℕ) → Allows s p.t p.e a → Serves s (GreatCouple s) (couple p) a (seat a) × ((q : Pair) → LeadsTo s p a (seat a) q → IsServingPlan s h q (next a q))
 
 -- a request, and the pair to which it led
 pub record Event : Type 0 where
@@ -25,7 +22,7 @@ pub record Event : Type 0 where
 abbrev pub MayCome : Sys → Pair → Plan → List Event → Type 0
 MayCome s p plan [] = Unit {0}
 MayCome s p Leaf (m ∷ ms) = ⊥
-MayCome s p (Node seat next) (m ∷ ms) = MovesTo s p m.action (seat m.action) m.to × MayCome s m.to (next m.action m.to) ms
+MayCome s p (Node seat next) (m ∷ ms) = LeadsTo s p m.action (seat m.action) m.to × MayCome s m.to (next m.action m.to) ms
 
 -- the cost of the events by the plan
 abbrev pub cost_of_events : Costs → Plan → List Event → ℕ
@@ -47,8 +44,8 @@ pub record IsLeastCost (s : Sys) (C : Costs) (h : ℕ) (p : Pair) (value : ℕ) 
 
 -- the worst-case cost of a by seat k, where `rest` is the cost of each pair that follows
 pub record CostsBy (s : Sys) (C : Costs) (rest : Pair → ℕ) (p : Pair) (a k cost : ℕ) : Type 0 where
-  pub within : (q : Pair) → MovesTo s p a k q → C k a + rest q ≤ cost
-  pub some : (q : Pair) × MovesTo s p a k q × (C k a + rest q ≡ cost)
+  pub within : (q : Pair) → LeadsTo s p a k q → C k a + rest q ≤ cost
+  pub some : (q : Pair) × LeadsTo s p a k q × (C k a + rest q ≡ cost)
 
 -- the seat serves a at that cost, and each other seat that serves it costs more, or costs as much and comes later
 pub record IsCheapest (s : Sys) (C : Costs) (rest : Pair → ℕ) (p : Pair) (a k cost : ℕ) : Type 0 where

@@ -1,19 +1,16 @@
 -- Why a pair isn't related, in terms of steps: removal lists, and the opponent who plays by them.
 use Rattle.std.specs.Prelude.{◌≡◌, ℕ, zero, suc, ◌<◌, List, [], ◌∷◌, length, Option, None, Some, IsTrue, IsFalse}
 use Rattle.roman_model.specs.Lists.{IsIn}
-use Rattle.roman_model.specs.System.{Sys, Pair, TStep, SStep, Allows, is_final, all_final}
+use Rattle.roman_model.specs.System.{Sys, Pair, Allows, is_final, all_final}
 use Rattle.roman_model.specs.Arena.{Entry}
+use Rattle.roman_model.specs.Outcomes.{LeadsTo}
 use Rattle.roman_model.specs.declared.reason.Reason.{Reason}
 use Rattle.roman_model.specs.declared.reason.Reason.TheVariants.{Final, Act}
 
--- a target step and a step of seat k on the action lead from p to q
-abbrev pub Goes : Sys → Pair → ℕ → ℕ → Pair → Type 0
-Goes s p a k q = TStep s p.t p.e a q.t q.e × SStep s p.bs p.e a k q.bs q.e
-
 -- seat k has no outcome on the action, or the given pair is one of its outcomes and is gone
 abbrev pub MayAnswer : Sys → (Pair → Type 0) → Pair → ℕ → ℕ → Option Pair → Type 0
-MayAnswer s Gone p a k None = (q : Pair) → Goes s p a k q → ⊥
-MayAnswer s Gone p a k (Some q) = Goes s p a k q × Gone q
+MayAnswer s Gone p a k None = (q : Pair) → LeadsTo s p a k q → ⊥
+MayAnswer s Gone p a k (Some q) = LeadsTo s p a k q × Gone q
 
 -- the pair is lost for the reason: the target is final and the system isn't; or the target allows the request, and each seat has
 -- no outcome on it or one that is gone

@@ -9,9 +9,9 @@ use Rattle.roman_model.specs.Numbers.{states_number, states_at}
 use Rattle.roman_model.specs.Several.{Several, ServesAll, GreatAll}
 use Rattle.roman_model.specs.Combined.{target_sizes, combined_seat, all_requests, combined, IsSeveral, couple_all}
 use Rattle.roman_model.specs.declared.request.Request.{Request}
-use Rattle.roman_model.proofs.CallerLemmas.{get_in, allowed_in, from_allowed, outcome_in, outcome_pair, offers_are, from_combined_target, combined_target_goes, combined_is_all, combined_system}
+use Rattle.roman_model.proofs.CallerLemmas.{get_in, allowed_in, from_allowed, outcome_in, outcome_pair, offers_are, from_combined_target, combined_target_goes, combined_is_all, combined_system, in_requests, from_combined_triple, combined_triple, from_combined_sstep, combined_sstep}
 use Rattle.roman_laws.specs.Requests.{TargetAllows, IsRequestOf, RequestsOfTargets, IsMoveOf, TurnsOfTargets}
-use Rattle.roman_laws.proofs.CombinedSteps.{place_in, step_requested, plain_triple, triple_for, plain_sstep, sstep_for}
+use Rattle.roman_laws.proofs.CombinedSteps.{place_in}
 
 -- the states of the targets in a combined state
 abbrev pub targets_at : Several → ℕ → List ℕ
@@ -20,7 +20,7 @@ targets_at w t = states_at (target_sizes w.targets) t
 -- A triple of the combined environment is a triple of the plain environment, on the action of the request.
 world_of : (w : Several) (e n e' i a : ℕ) (target : Beh) → IsRequestOf w n i target a → IsTrue (has_triple (combined w).env e n e') → IsTrue (has_triple w.env e a e')
 world_of w e n e' i a target asks t =
-    let (r, at, world) = plain_triple w e n e' t in
+    let (r, at, world) = from_combined_triple w e n e' t in
     subst (λ (x : Request). IsTrue (has_triple w.env e x.action e')) (same_Some r (record { target = i; action = a }) (sym at ∙ asks.request)) world
 
 -- A step of the combined target is a step of the requesting target, and no other target moves.
@@ -70,7 +70,7 @@ request_numbered : (w : Several) (p : Pair) (i : ℕ) (target : Beh) (a : ℕ) �
 request_numbered w p i target a ok member allows =
     let (t1, e1, step) = allows in
     let (n, at) = place_in (all_requests w) (record { target = i; action = a })
-    (step_requested w.env w.targets i target (slice_index (targets_at w p.t) i) p.e a t1 member (ok.targets target (get_in w.targets i target member)).0 step.1) in
+    (in_requests w.env w.targets i target (slice_index (targets_at w p.t) i) p.e a t1 member (ok.targets target (get_in w.targets i target member)).0 step.1) in
     (n, record { request = at; member = member })
 
 request_allowed : (w : Several) (p : Pair) (n i : ℕ) (target : Beh) (a : ℕ) → IsRequestOf w n i target a → IsTrue (is_allowed (combined w) p n) → TargetAllows w p i target a
@@ -82,7 +82,7 @@ allowed_request : (w : Several) (p : Pair) (n i : ℕ) (target : Beh) (a : ℕ) 
 allowed_request w p n i target a ok pair asks allows =
     let (t1, e1, step) = allows in
     allowed_in (combined w) p n (combined_system w ok)
-    (target_after w p i t1, e1, (triple_for w p.e n e1 (record { target = i; action = a }) ok.env asks.request step.0, combined_goes w p n i a t1 target ok pair asks step.1))
+    (target_after w p i t1, e1, (combined_triple w p.e n e1 (record { target = i; action = a }) ok.env asks.request step.0, combined_goes w p n i a t1 target ok pair asks step.1))
 
 -- The seats that serve them.
 
@@ -99,21 +99,22 @@ serves_combined w p n i target a k ok pair asks serves t' e' tstep =
     let own : IsOwnStep w p.t p.e t' i a target = own_step _ _ _ _ _ _ _ _ asks tstep.1 in
     let world : IsTrue (has_triple w.env p.e a e') = world_of _ _ _ _ _ _ _ asks tstep.0 in
     let (some, all) = serves (slice_index (targets_at w t') i) e' (world, own.goes) in (
-      (some.0, sstep_for _ _ _ _ _ _ _ _ _ ok asks.request some.1),
-      λ bs' sstep. ((combined_is_all w ok).great (record { t = t'; e = e'; bs = bs' }) (next_pair _ _ _ _ _ _ _ ok pair tstep sstep)).1
+      (some.0, combined_sstep w target p.bs p.e n k some.0 e' r ok asks.request some.1),
+      λ bs' sstep.
+          ((combined_is_all w ok).great (record { t = t'; e = e'; bs = bs' }) (next_pair w p n k t' bs' e' ok pair tstep sstep)).1
           (subst (λ (ts : List ℕ). GreatAll w (record { ts = ts; e = e'; bs = bs'; e2 = e' })) own.others
-          (all bs' (plain_sstep _ _ _ _ _ _ _ _ _ asks.request world sstep))),
+          (all bs' (from_combined_sstep w target p.bs p.e n k bs' e' r asks.request world sstep))),
     )
 
 combined_serves : (w : Several) (p : Pair) (n i : ℕ) (target : Beh) (a k : ℕ) → IsSeveral w → IsPair (combined w) p → IsRequestOf w n i target a →
     Serves (combined w) (GreatCouple (combined w)) (couple p) n k → ServesAll w (GreatAll w) (couple_all w p) i target a k
 combined_serves w p n i target a k ok pair asks serves t' e' tstep =
     let r : Request = record { target = i; action = a } in
-    let whole : TStep (combined w) p.t p.e n (target_after w p i t') e' = (triple_for w p.e n e' r ok.env asks.request tstep.0, combined_goes w p n i a t' target ok pair asks tstep.1) in
+    let whole : TStep (combined w) p.t p.e n (target_after w p i t') e' = (combined_triple w p.e n e' r ok.env asks.request tstep.0, combined_goes w p n i a t' target ok pair asks tstep.1) in
     let (some, all) = serves (target_after w p i t') e' whole in (
-      (some.0, plain_sstep w target p.bs p.e n k some.0 e' r asks.request tstep.0 some.1),
+      (some.0, from_combined_sstep w target p.bs p.e n k some.0 e' r asks.request tstep.0 some.1),
       λ bs' sstep.
-          let step : SStep (combined w) p.bs p.e n k bs' e' = sstep_for w target p.bs p.e n k bs' e' r ok asks.request sstep in
+          let step : SStep (combined w) p.bs p.e n k bs' e' = combined_sstep w target p.bs p.e n k bs' e' r ok asks.request sstep in
           subst (λ (ts : List ℕ). GreatAll w (record { ts = ts; e = e'; bs = bs'; e2 = e' })) (after_is w p n i a t' target ok pair asks tstep.1)
           (((combined_is_all w ok).great (record { t = target_after w p i t'; e = e'; bs = bs' }) (next_pair w p n k (target_after w p i t') bs' e' ok pair whole step)).0
           (all bs' step)),
@@ -155,8 +156,8 @@ turns_of w ok p pair = record {
   );
   served = λ n i target a asks k. (combined_serves w p n i target a k ok pair asks, serves_combined w p n i target a k ok pair asks);
   answered = λ n i target a asks k bs' e'. (
-    λ step. plain_sstep w target p.bs p.e n k bs' e' (record { target = i; action = a }) asks.request (world_of w p.e n e' i a target asks step.world) step,
-    sstep_for w target p.bs p.e n k bs' e' (record { target = i; action = a }) ok asks.request,
+    λ step. from_combined_sstep w target p.bs p.e n k bs' e' (record { target = i; action = a }) asks.request (world_of w p.e n e' i a target asks step.world) step,
+    combined_sstep w target p.bs p.e n k bs' e' (record { target = i; action = a }) ok asks.request,
   );
   moved = λ n i target a asks t' e' step. move_of w p n i target a t' e' asks step;
 }

@@ -5,6 +5,7 @@ use Rattle.roman_model.specs.System.{Sys, Pair, IsSys, IsPair, TStep, SStep, All
 use Rattle.roman_model.specs.SystemArena.{is_allowed}
 use Rattle.roman_model.specs.Composition.{couple, Serves, GreatCouple, Great}
 use Rattle.roman_model.specs.Offers.{Choice, offers, Follows, end_of}
+use Rattle.roman_model.specs.Outcomes.{LeadsTo}
 
 -- a controller: a function from the history, the latest choice first, and the requested action to the seat that is to serve it
 abbrev pub Controller : Type 0
@@ -14,10 +15,6 @@ Controller = List Choice → ℕ → ℕ
 abbrev pub now_at : Pair → List Choice → Pair
 now_at p [] = p
 now_at p (m ∷ h) = m.to
-
--- the target and the system, delegated to seat k, have a step by a from p to q
-abbrev pub LeadsTo : Sys → Pair → ℕ → ℕ → Pair → Type 0
-LeadsTo s p a k q = TStep s p.t p.e a q.t q.e × SStep s p.bs p.e a k q.bs q.e
 
 -- the history is possible from p on, where the controller chose each seat
 abbrev pub IsHistory : Sys → Controller → Pair → List Choice → Type 0

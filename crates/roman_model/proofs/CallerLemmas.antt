@@ -76,11 +76,12 @@ pub use Rattle.roman_model.proofs.TableLemmas.{flat_map_row, length_rows, rank, 
 -- A system without one or two seats equals the system after as many changes.
 pub use Rattle.roman_model.proofs.WithoutLemmas.{freeze_one, freeze_two, leave_one, leave_two, without_changes}
 -- The items of a list at their places.
-pub use Rattle.roman_model.proofs.Places.{from_end, from_place, get_in, get_map, there_is}
+pub use Rattle.roman_model.proofs.Places.{from_end, from_get_map, from_place, get_in, get_map, there_is}
 -- Records built from tests: their steps are exactly those that pass, their numbers are in range, and equal tests build equal records.
 pub use Rattle.roman_model.proofs.MadeLemmas.{IsBeh-made, IsEnv-made, beh_from_same, env_from_same, from_guarded, from_made_final, from_made_move, from_made_triple}
 pub use Rattle.roman_model.proofs.MadeLemmas.{from_made_triples, in_guarded, made_final, made_move, made_triple, move_passes, move_test}
 -- The combined actions, and the steps and final states of the combined parts, which are those of the members.
-pub use Rattle.roman_model.proofs.CombinedLemmas.{IsMemberStep, combined_target_goes, from_combined_target, stands_uses, target_size_at}
+pub use Rattle.roman_model.proofs.CombinedLemmas.{IsMemberStep, combined_sstep, combined_target_goes, combined_triple, from_combined_sstep, from_combined_target}
+pub use Rattle.roman_model.proofs.CombinedLemmas.{from_combined_triple, in_requests, stands_uses, target_size_at}
 -- The combined target stands for several targets: the ND-simulations of the combined system are those of the members.
 pub use Rattle.roman_model.proofs.CombinedLaws.{combined_is_all, combined_system}

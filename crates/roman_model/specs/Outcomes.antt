@@ -4,6 +4,10 @@ use Rattle.roman_model.specs.Lists.{IsIn}
 use Rattle.roman_model.specs.System.{Env, Move, Beh, Seat, Sys, Pair, IsSys, IsPair, has_triple, has_move, TStep, SStep, Allows, is_final, all_final}
 use Rattle.roman_model.specs.SystemArena.{outcomes, is_allowed, is_fine}
 
+-- the target and the system, delegated to seat k, have a step by a from p to q
+abbrev pub LeadsTo : Sys → Pair → ℕ → ℕ → Pair → Type 0
+LeadsTo s p a k q = TStep s p.t p.e a q.t q.e × SStep s p.bs p.e a k q.bs q.e
+
 -- the behaviour has a step from b by a to b' with e in its guard
 pub record HasStep (beh : Beh) (b e a b' : ℕ) : Type 0 where
   pub step : Move
@@ -20,7 +24,7 @@ AllRest s p = (k : ℕ) (seat : Seat) → slice_get s.seats k ≡ Some seat → 
 -- the pair's allowed actions, outcomes and clause 2, in terms of steps
 pub record OutcomesAre (s : Sys) (p : Pair) : Type 0 where
   pub allowed : (a : ℕ) → IsTrue (is_allowed s p a) ↔ Allows s p.t p.e a
-  pub reached : (a k : ℕ) (q : Pair) → IsIn q (outcomes s p a k) ↔ (TStep s p.t p.e a q.t q.e × SStep s p.bs p.e a k q.bs q.e)
+  pub reached : (a k : ℕ) (q : Pair) → IsIn q (outcomes s p a k) ↔ LeadsTo s p a k q
   pub fine : IsTrue (is_fine s p) ↔ (IsTrue (is_final s.target p.t) → IsTrue (all_final s.seats p.bs))
   pub rests : IsPair s p → IsTrue (all_final s.seats p.bs) ↔ AllRest s p
 

@@ -10,9 +10,9 @@ use Rattle.roman_model.specs.Numbers.{states_at}
 use Rattle.roman_model.specs.Several.{Several, of_one, ServesAll, GreatAll}
 use Rattle.roman_model.specs.Combined.{all_requests, couple_all, target_sizes}
 use Rattle.roman_model.specs.declared.request.Request.{Request}
-use Rattle.roman_model.proofs.CallerLemmas.{get_map, get_or-below, length-below, move_in_range, there_is}
+use Rattle.roman_model.proofs.CallerLemmas.{from_get_map, get_map, get_or-below, length-below, move_in_range, there_is}
 use Rattle.roman_laws.specs.Requests.{TargetAllows, IsRequestOf, IsMoveOf, TurnsAreOf}
-use Rattle.roman_laws.proofs.CallerLemmas.{from_mapped, request_at, turns_of}
+use Rattle.roman_laws.proofs.CallerLemmas.{request_at, turns_of}
 use Rattle.roman_text.specs.Replies.{reply_text}
 use Rattle.roman_text.specs.Shapes.{LineShape, ask, hand, saw}
 use Rattle.roman_text.specs.declared.errors.LineError.{LineError}
@@ -89,7 +89,7 @@ module _ (said : PlainTargets) (library : PlainLibrary) (s : Situation) (combine
   request_is : (n : ℕ) (r : Request) → slice_get (all_requests w) n ≡ Some r → HasRequest n
   request_is n r at =
       let (target, member, used) = request_at w n r at in
-      let (named, there, same) = from_mapped (λ named. named.target.beh) said.targets r.target target member in
+      let (named, there, same) = from_get_map (λ named. named.target.beh) said.targets r.target target member in
       record {
         asks = record {
           place = r.target;

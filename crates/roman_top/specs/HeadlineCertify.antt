@@ -10,7 +10,7 @@ use Rattle.roman_model.specs.Numbers.{sizes_of, number}
 use Rattle.roman_model.specs.declared.reason.Reason.{Reason}
 use Rattle.roman_model.specs.declared.reason.Reason.TheVariants.{Final, Act}
 use Rattle.roman_library.specs.Library.{PlainLibrary}
-use Rattle.roman_cost.specs.ServingPlans.{MovesTo}
+use Rattle.roman_model.specs.Outcomes.{LeadsTo}
 use Rattle.roman_top.specs.Opening.{library_system}
 use Rattle.roman_top.specs.declared.status.Status.{Status}
 use Rattle.roman_top.specs.declared.status.Status.TheVariants as status
@@ -20,7 +20,7 @@ use Rattle.roman_top.specs.declared.status.Status.TheVariants as status
 abbrev pub HoldsReason : Sys → (Pair → Type 0) → Pair → Reason → Type 0
 HoldsReason s Gone p Final = IsTrue (is_final s.target p.t) × (IsTrue (all_final s.seats p.bs) → ⊥)
 HoldsReason s Gone p (Act a) =
-    Allows s p.t p.e a × ((k : ℕ) → k < length s.seats → ((q : Pair) → MovesTo s p a k q → ⊥) ⊎ ((q : Pair) × MovesTo s p a k q × Gone q))
+    Allows s p.t p.e a × ((k : ℕ) → k < length s.seats → ((q : Pair) → LeadsTo s p a k q → ⊥) ⊎ ((q : Pair) × LeadsTo s p a k q × Gone q))
 
 -- no pair repeats, and each reason holds where the pairs before it are gone
 abbrev pub AreValid : Sys → List Pair → List (Entry Pair) → Type 0
