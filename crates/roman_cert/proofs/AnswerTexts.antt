@@ -1,23 +1,9 @@
 -- The lines of the services that may answer an entry, one after the other.
 use Rattle.std.proofs.Common.{◌≡◌, ℕ, ◌+◌, ◌<◌, ◌≤◌, true, List, [], ◌∷◌, ◌++◌, map, length, drop, filter, Option, Some, slice_get, IsTrue, IsFalse, refl, sym, ap, ap₂, ◌∙◌, arith, add-one, drop-cons}
-use Rattle.std.specs.Option.{option_map}
-use Rattle.std.proofs.lemmas.List.{drop_all, length-map}
-use Rattle.std.proofs.lemmas.Bool.{cond-true, cond-false}
-use Rattle.roman_model.specs.Lines.{text_of_lines}
-use Rattle.roman_model.specs.Lists.{below}
-use Rattle.roman_model.specs.System.{Pair, IsSys}
-use Rattle.roman_model.specs.SystemArena.{is_ready, arena}
-use Rattle.roman_model.specs.Arena.{Entry}
-use Rattle.roman_model.specs.Numbers.{sizes_of, count, pair_at, numbered, entry_at}
-use Rattle.roman_model.specs.declared.reason.Reason.TheVariants.{Final, Act}
-use Rattle.roman_model.specs.Explanation.{answer, answer_line}
-use Rattle.roman_model.proofs.CallerLemmas.{get_or-below, length-below, AreNumbers, get_in, answer_at}
-use Rattle.roman_joint.specs.NamedSys.{NamedSys, system_of, seat_of, IsNamedSys}
-use Rattle.roman_joint.specs.Names.{names_in}
-use Rattle.roman_order.specs.Board.{Board, pairs_of, as_entry, has_entry}
-use Rattle.roman_relation.specs.Greatest.{arena_of}
-use Rattle.roman_relation.proofs.CallerLemmas.{listed_numbers}
-use Rattle.roman_cert.specs.Slices.{answers_text}
+use Rattle.roman_cert.proofs.Common.{option_map, drop_all, length-map, cond-true, cond-false, text_of_lines, below, Pair, IsSys, arena, Entry, sizes_of, count, pair_at, entry_at, Final, Act, answer, answer_line, length-below, AreNumbers, get_in, NamedSys, system_of, seat_of, IsNamedSys, names_in, Board, pairs_of, as_entry, has_entry, arena_of, listed_numbers, answers_text}
+use Rattle.roman_model.specs.SystemArena.{is_ready}
+use Rattle.roman_model.specs.Numbers.{numbered}
+use Rattle.roman_model.proofs.CallerLemmas.{get_or-below, answer_at}
 use Rattle.roman_cert.proofs.Texts.{text_of_lines-append}
 
 numbers_from : (n k : ℕ) → k < n → drop k (below n) ≡ k ∷ drop (k + 1) (below n)

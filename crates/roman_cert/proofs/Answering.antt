@@ -1,21 +1,17 @@
 -- The entries before a place of a removal list, and the defeating answers among them.
 use Rattle.std.proofs.Common.{◌≡◌, ℕ, zero, suc, ◌+◌, ◌<◌, ◌≤◌, Bool, true, false, cond, eqb, ◌||◌, ◌⊎◌, List, [], ◌∷◌, ◌++◌, length, take, drop, Option, Some, None, IsTrue, IsFalse, find, refl, sym, ap, ap₂, ◌∙◌, subst, inl, inr, arith, take-append-drop}
 use Rattle.std.proofs.Math.Dec.{ltb}
-use Rattle.std.specs.List.{list_any, position_from, slice_get}
+use Rattle.roman_cert.proofs.Common.{list_any, slice_get, list_any-append, Arena, Entry, is_listed, IsOrder, entries_before, answer, Act, by_test, any_from, get_in, IsSame, order_middle, before_is, IsNumbered, Leaves, numbered_same, Board, pairs_of, has_entry}
+use Rattle.std.specs.List.{position_from}
 use Rattle.std.proofs.lemmas.Bool.{cases_Bool, or_parts, both_ways, le-ltb, lt-ltb, eq-eqb}
-use Rattle.std.proofs.lemmas.List.Folds.{list_any-append}
 use Rattle.roman_model.specs.Lists.{is_empty}
-use Rattle.roman_model.specs.Arena.{Arena, Entry, is_listed, is_justified, IsOrder}
-use Rattle.roman_model.specs.Explanation.{entries_before, answer}
+use Rattle.roman_model.specs.Arena.{is_justified}
 use Rattle.roman_model.specs.Numbers.{Sizes}
-use Rattle.roman_model.specs.declared.reason.Reason.TheVariants.{Act}
-use Rattle.roman_model.proofs.CallerLemmas.{by_test, empty_is, not_empty_in, find_some, any_from, get_in, IsSame, justified_is, order_middle, before_is}
-use Rattle.roman_rules.specs.Numbered.{IsNumbered}
+use Rattle.roman_model.proofs.CallerLemmas.{empty_is, not_empty_in, find_some, justified_is}
 use Rattle.roman_rules.specs.Finding.{IsFinding, HasFinding}
 use Rattle.roman_rules.specs.declared.finding.Finding.{Finding}
-use Rattle.roman_rules.specs.declared.finding.Finding.TheVariants.{Good, NoOutcome, Leaves}
-use Rattle.roman_rules.proofs.CallerLemmas.{numbered_same}
-use Rattle.roman_order.specs.Board.{Board, pairs_of, has_entry, place_in_list}
+use Rattle.roman_rules.specs.declared.finding.Finding.TheVariants.{Good, NoOutcome}
+use Rattle.roman_order.specs.Board.{place_in_list}
 use Rattle.roman_order.proofs.CallerLemmas.{is_some-place_in_list}
 use Rattle.roman_relation.proofs.CallerLemmas.{listed_is}
 use Rattle.roman_cert.proofs.Texts.{drop_at}

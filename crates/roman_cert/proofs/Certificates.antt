@@ -1,17 +1,10 @@
 -- The parts of a certificate, and its verdict.
 use Rattle.std.proofs.Common.{◌≡◌, ℕ, ◌+◌, ◌*◌, ◌/◌, ◌<◌, ◌≤◌, List, [], ◌∷◌, ◌++◌, map, length, drop, codes, Option, Some, Result, Ok, Err, OnOk, decimal, append_assoc, append-nil, refl, sym, ap, ◌∙◌, inl, inr, arith, mul-le-mul}
-use Rattle.std.specs.List.{slice_get}
-use Rattle.std.proofs.lemmas.List.{drop_all}
+use Rattle.roman_cert.proofs.Common.{slice_get, drop_all, Puts, IsIn, product_of, text_of_lines, IsSys, Entry, sizes_of, count, pair_at, entry_at, IsCompleteList, reason_text, entry_line, cert_text, AreNumbers, NamedSys, system_of, IsNamedSys}
 use Rattle.std.proofs.Math.Nat.{div-lt_iff_lt-mul}
-use Rattle.roman_io.specs.Sink.{Puts}
-use Rattle.roman_model.specs.Lists.{IsIn, product_of}
-use Rattle.roman_model.specs.Lines.{text_of_lines}
-use Rattle.roman_model.specs.System.{Sys, Seat, IsSys, IsPair}
-use Rattle.roman_model.specs.Arena.{Entry}
-use Rattle.roman_model.specs.Numbers.{sizes_of, count, pair_at, entry_at, IsCompleteList}
-use Rattle.roman_model.specs.Certificate.{head_line, count_line, end_line, reason_text, entry_line, cert_text, IsWithinCells}
-use Rattle.roman_model.proofs.CallerLemmas.{in_map, AreNumbers, written_is_greatest}
-use Rattle.roman_joint.specs.NamedSys.{NamedSys, system_of, IsNamedSys}
+use Rattle.roman_model.specs.System.{Sys, Seat, IsPair}
+use Rattle.roman_model.specs.Certificate.{head_line, count_line, end_line, IsWithinCells}
+use Rattle.roman_model.proofs.CallerLemmas.{in_map, written_is_greatest}
 use Rattle.roman_cert.specs.Certified.{WroteGreatest}
 use Rattle.roman_cert.proofs.Texts.{text_of_lines-append, drop_at}
 

@@ -1,18 +1,10 @@
 -- The lines of an explanation, in the parts in which they are pushed.
 use Rattle.std.proofs.Common.{◌≡◌, ℕ, ◌+◌, ◌<◌, ◌≤◌, ◌%◌, List, [], ◌∷◌, ◌++◌, length, drop, codes, Option, Some, slice_index, slice_index_or, sym, ap, ap₂, ◌∙◌, arith, append-nil, append_assoc, add-one, drop-cons}
 use Rattle.std.specs.List.{flat_map, join_with_byte}
-use Rattle.std.proofs.lemmas.List.{drop_all, length-map}
-use Rattle.roman_model.specs.Lines.{text_of_lines}
-use Rattle.roman_model.specs.Lists.{product_of}
-use Rattle.roman_model.specs.System.{Pair}
-use Rattle.roman_model.specs.Numbers.{sizes_of, pair_at}
-use Rattle.roman_model.specs.Arena.{Entry}
-use Rattle.roman_model.specs.declared.reason.Reason.{Reason}
-use Rattle.roman_model.specs.Explanation.{Names, SeatNames, name_at, seat_names, state_names, reason_name, lost_line, answer_line}
+use Rattle.roman_cert.proofs.Common.{drop_all, length-map, text_of_lines, product_of, Pair, sizes_of, pair_at, Entry, Reason, lost_line, answer_line, NamedSys, system_of, seat_of, names_in, lost_text}
+use Rattle.roman_model.specs.Explanation.{Names, SeatNames, name_at, seat_names, state_names, reason_name}
 use Rattle.roman_model.proofs.CallerLemmas.{length-states_at}
-use Rattle.roman_joint.specs.NamedSys.{NamedSys, system_of, seat_of}
-use Rattle.roman_joint.specs.Names.{names_in, names_of_seat}
-use Rattle.roman_cert.specs.Slices.{lost_text}
+use Rattle.roman_joint.specs.Names.{names_of_seat}
 
 -- The line of a seat
 

@@ -1,18 +1,11 @@
 -- Marks that are set from the end of a removal list: each entry on which p's entry rests is marked before it is reached.
 use Rattle.std.proofs.Common.{◌≡◌, ◌≢◌, ℕ, ◌+◌, ◌<◌, ◌≤◌, Bool, true, false, ◌-◌, ◌&&◌, ◌||◌, ◌⊎◌, List, [], ◌∷◌, ◌++◌, length, take, drop, Option, Some, IsTrue, IsFalse, filter, refl, sym, ap, ap₂, ◌∙◌, subst, inl, inr, arith, add-one, append_assoc, length-append, length-take, take-append-drop}
-use Rattle.std.specs.List.{list_any, slice_get}
+use Rattle.roman_cert.proofs.Common.{list_any, slice_get, or-false, cond-true, cond-false, list_any-append, slice_get_within, IsIn, below, Arena, Entry, is_listed, IsOrder, entries_before, answer, rests_on, Act, any_from, by_test, IsSame, order_middle, before_is, IsNumbered, Board, is_marked}
 use Rattle.std.specs.Option.{option_to_list}
-use Rattle.std.proofs.Math.Bool.{or-false}
-use Rattle.std.proofs.lemmas.Bool.{or_cases, or_left, or_right, and_parts, cond-true, cond-false, false≢true}
-use Rattle.std.proofs.lemmas.List.Folds.{list_any-append}
-use Rattle.std.proofs.lemmas.Option.{slice_get_within}
-use Rattle.roman_model.specs.Lists.{IsIn, below}
-use Rattle.roman_model.specs.Arena.{Arena, Entry, is_among, is_listed, IsOrder}
-use Rattle.roman_model.specs.Explanation.{entries_before, answer, ready_seats, answers, rests_on}
-use Rattle.roman_model.specs.declared.reason.Reason.TheVariants.{Act}
-use Rattle.roman_model.proofs.CallerLemmas.{same_test, any_true, any_from, any_within, in_append_right, from_append, split_at, by_test, list_any-flat_map, IsSame, among_in, order_middle, before_falls, before_is, answer_before, rests_is}
-use Rattle.roman_rules.specs.Numbered.{IsNumbered}
-use Rattle.roman_order.specs.Board.{Board, is_marked}
+use Rattle.std.proofs.lemmas.Bool.{or_cases, or_left, or_right, and_parts, false≢true}
+use Rattle.roman_model.specs.Arena.{is_among}
+use Rattle.roman_model.specs.Explanation.{ready_seats, answers}
+use Rattle.roman_model.proofs.CallerLemmas.{same_test, any_true, any_within, in_append_right, from_append, split_at, list_any-flat_map, among_in, before_falls, answer_before, rests_is}
 use Rattle.roman_cert.proofs.Texts.{drop_at, some_at}
 use Rattle.roman_cert.proofs.Answering.{entries_at, unready_answer}
 

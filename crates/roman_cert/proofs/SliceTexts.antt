@@ -1,18 +1,8 @@
 -- The entries of an explanation, one after the other.
 use Rattle.std.proofs.Common.{◌≡◌, ℕ, ◌+◌, ◌<◌, ◌≤◌, true, List, [], ◌∷◌, ◌++◌, length, drop, filter, Some, slice_get, IsTrue, IsFalse, refl, ap, ◌∙◌, codes, flat_map, append_assoc}
-use Rattle.std.proofs.lemmas.List.{drop_all}
-use Rattle.std.proofs.lemmas.Bool.{cond-true, cond-false}
-use Rattle.roman_model.specs.Arena.{Entry, IsOrder}
-use Rattle.roman_model.specs.Numbers.{sizes_of, count}
-use Rattle.roman_model.specs.declared.reason.Reason.{Reason}
-use Rattle.roman_model.specs.declared.reason.Reason.TheVariants.{Final, Act}
-use Rattle.roman_model.proofs.CallerLemmas.{get_in, numbered_is_arena}
-use Rattle.roman_joint.specs.NamedSys.{NamedSys, system_of, IsNamedSys}
-use Rattle.roman_order.specs.Board.{Board, pairs_of, has_entry, is_marked}
-use Rattle.roman_relation.specs.Greatest.{arena_of}
-use Rattle.roman_relation.proofs.CallerLemmas.{listed_numbers}
+use Rattle.roman_cert.proofs.Common.{drop_all, cond-true, cond-false, Entry, IsOrder, sizes_of, count, Reason, Final, Act, get_in, NamedSys, system_of, IsNamedSys, Board, pairs_of, has_entry, is_marked, arena_of, listed_numbers, lost_text, answers_text, entry_text, marked_entries, slice_text}
+use Rattle.roman_model.proofs.CallerLemmas.{numbered_is_arena}
 use Rattle.roman_cert.specs.Reasons.{NamesAction}
-use Rattle.roman_cert.specs.Slices.{lost_text, answers_text, entry_text, marked_entries, slice_text}
 use Rattle.roman_cert.proofs.Texts.{drop_at}
 use Rattle.roman_cert.proofs.Answering.{entry_allowed}
 

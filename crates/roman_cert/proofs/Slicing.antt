@@ -1,19 +1,10 @@
 -- The explanation of a pair, as it is printed and as a refutation.
 use Rattle.std.proofs.Common.{◌≡◌, ℕ, ◌<◌, List, [], ◌∷◌, ◌++◌, map, filter, flat_map, length, codes, Option, Result, IsTrue, refl, sym, ap, ap₂, ◌∙◌, subst}
-use Rattle.roman_io.specs.Sink.{Puts}
-use Rattle.roman_model.specs.Lines.{text_of_lines}
-use Rattle.roman_model.specs.Arena.{Entry, is_listed}
-use Rattle.roman_model.specs.SystemArena.{arena}
+use Rattle.roman_cert.proofs.Common.{Puts, text_of_lines, Entry, is_listed, arena, sizes_of, count, pair_at, entry_at, IsCompleteList, rests_on, lost_line, AreNumbers, NamedSys, system_of, IsNamedSys, names_in, Board, is_marked, arena_of, IsRelation, lost_text, answers_text, entry_text, marked_entries, slice_text}
 use Rattle.roman_model.specs.Composition.{Great}
-use Rattle.roman_model.specs.Numbers.{sizes_of, count, pair_at, entry_at, IsCompleteList}
-use Rattle.roman_model.specs.Explanation.{rests_on, explanation, lost_line, answer_lines, entry_lines, explain_text, ExplainedOrder}
+use Rattle.roman_model.specs.Explanation.{explanation, answer_lines, entry_lines, explain_text, ExplainedOrder}
 use Rattle.roman_model.specs.Play.{OpponentWins}
-use Rattle.roman_model.proofs.CallerLemmas.{filter_same, numbers_are_pairs, AreNumbers, explanation_is_least, explanation_is_order, explanation_at, order_won}
-use Rattle.roman_joint.specs.NamedSys.{NamedSys, system_of, IsNamedSys}
-use Rattle.roman_joint.specs.Names.{names_in}
-use Rattle.roman_order.specs.Board.{Board, is_marked}
-use Rattle.roman_relation.specs.Greatest.{arena_of, IsRelation}
-use Rattle.roman_cert.specs.Slices.{lost_text, answers_text, entry_text, marked_entries, slice_text}
+use Rattle.roman_model.proofs.CallerLemmas.{filter_same, numbers_are_pairs, explanation_is_least, explanation_is_order, explanation_at, order_won}
 use Rattle.roman_cert.proofs.Texts.{text_of_lines-append}
 
 -- What is printed

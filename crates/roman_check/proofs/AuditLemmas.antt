@@ -1,30 +1,16 @@
 -- Lines that are judged by those that were read.
 use Rattle.std.proofs.Common.{◌≡◌, ℕ, ◌+◌, ◌*◌, ◌<◌, ◌==◌, Bool, true, false, not, ◌||◌, List, [], ◌∷◌, ◌++◌, length, Option, Some, None, IsTrue, IsFalse, if◌then◌else◌, option_map, find, refl, sym, ap, ◌∙◌, subst, arith, append-nil}
-use Rattle.std.specs.List.{list_any, cons_option}
-use Rattle.std.proofs.Math.Bool.{or-false}
-use Rattle.std.proofs.lemmas.Bool.{cond-true, cond-false, not-true, not-false}
-use Rattle.std.proofs.lemmas.List.Folds.{list_any-append}
+use Rattle.roman_check.proofs.Common.{list_any, cons_option, or-false, cond-true, cond-false, not-true, list_any-append, IsIn, same_numbers, Arena, Entry, is_listed, is_justified, head_line, count_line, end_line, reasons, entry_of, entries_on, could_be_listed, entry_fault, line_fault, same_numbers_is, AreFew, from_possible, possible_small, entry_of-is, entry_of_other, fault_in_body, fault_after_end, Reason, Final, Act, AreRows, HoldsWhereKept, IsNumbered, Audit, Body, Nothing, Why, Form, fault_of, Remain, IsInRows, HasListed, Judges}
+use Rattle.std.proofs.lemmas.Bool.{not-false}
 use Rattle.std.proofs.lemmas.List.Elements.{filter_map-append}
-use Rattle.roman_model.specs.Lists.{IsIn}
-use Rattle.roman_model.specs.SystemArena.{same_numbers}
-use Rattle.roman_model.specs.Arena.{Arena, Entry, is_listed, is_justified}
 use Rattle.roman_model.specs.Certificate as text
-use Rattle.roman_model.specs.Certificate.{head_line, count_line, end_line, reasons, entry_of, entries_on, could_be_listed, end_fault, entry_fault, body_fault, line_fault}
-use Rattle.roman_model.proofs.CallerLemmas.{same_numbers_is, AreFew, from_possible, possible_small, entry_is_no_end, entry_of-is, entry_of_other, fault_in_body, fault_after_end}
-use Rattle.roman_model.specs.declared.reason.Reason.{Reason}
-use Rattle.roman_model.specs.declared.reason.Reason.TheVariants.{Final, Act}
-use Rattle.roman_lanes.specs.Rows.{AreRows}
-use Rattle.roman_rules.specs.Asked.{HoldsWhereKept, IsReasonOf}
+use Rattle.roman_model.specs.Certificate.{end_fault, body_fault}
+use Rattle.roman_model.proofs.CallerLemmas.{entry_is_no_end}
+use Rattle.roman_rules.specs.Asked.{IsReasonOf}
 use Rattle.roman_rules.proofs.CallerLemmas.{known_more}
-use Rattle.roman_rules.specs.Numbered.{IsNumbered}
-use Rattle.roman_check.specs.declared.audit.Audit.{Audit}
 use Rattle.roman_check.specs.declared.audit.Due.{Due}
-use Rattle.roman_check.specs.declared.audit.Due.TheVariants.{Head, Count, Body, Nothing}
-use Rattle.roman_check.specs.declared.verdict.Why.{Why}
-use Rattle.roman_check.specs.declared.verdict.Why.TheVariants.{Form}
-use Rattle.roman_check.specs.Verdicts.{fault_of}
-use Rattle.roman_check.specs.Remain.{Remain}
-use Rattle.roman_check.specs.Audits.{due_after, IsInRows, HasListed, Judges}
+use Rattle.roman_check.specs.declared.audit.Due.TheVariants.{Head, Count}
+use Rattle.roman_check.specs.Audits.{due_after}
 use Rattle.roman_check.proofs.ReasonLemmas.{given_action, row_within}
 
 -- Entries

@@ -1,23 +1,11 @@
 -- The verdict at the end of a text, and at a line at fault.
 use Rattle.std.proofs.Common.{◌≡◌, ◌≢◌, ℕ, ◌+◌, ◌≤◌, Bool, not, List, [], ◌∷◌, ◌++◌, length, drop, Some, None, count_by, codes, decimal, refl, sym, ap, ap₂, ◌∙◌, subst, arith}
-use Rattle.std.specs.List.{cons_option}
-use Rattle.std.proofs.lemmas.Bool.{cond-true}
+use Rattle.roman_check.proofs.Common.{cons_option, cond-true, below, lines, Arena, Entry, is_listed, head_line, count_line, end_line, entry_of, entries_on, line_fault, MAX_CERTIFICATE_BYTES, by_test, AreFew, entry_of_other, fault_in_body, fault_after_end, IsNumbered, Audit, Nothing, Reader, Why, fault_of, HasListed, HasRead, HasLines}
 use Rattle.std.proofs.lemmas.List.Sums.{length-filter}
-use Rattle.roman_model.specs.Lists.{below}
-use Rattle.roman_model.specs.Lines.{lines}
-use Rattle.roman_model.specs.Arena.{Arena, Entry, is_listed}
 use Rattle.roman_model.specs.Certificate as text
-use Rattle.roman_model.specs.Certificate.{head_line, count_line, end_line, entry_of, entries_on, line_fault, IsClean, unlisted, cert_verdict}
-use Rattle.roman_model.specs.declared.limits.TheConstants.{MAX_CERTIFICATE_BYTES}
-use Rattle.roman_model.proofs.CallerLemmas.{by_test, AreFew, entry_of_other, due_is, fault_in_body, fault_after_end, verdict_at, verdict_ended, verdict_accepted}
-use Rattle.roman_rules.specs.Numbered.{IsNumbered}
-use Rattle.roman_check.specs.declared.audit.Audit.{Audit}
-use Rattle.roman_check.specs.declared.audit.Due.TheVariants.{Nothing}
-use Rattle.roman_check.specs.declared.reader.Reader.{Reader}
-use Rattle.roman_check.specs.declared.verdict.Why.{Why}
-use Rattle.roman_check.specs.Verdicts.{fault_of}
-use Rattle.roman_check.specs.Audits.{HasListed, HasRead}
-use Rattle.roman_check.specs.Readers.{HasLines, EndsAtFault}
+use Rattle.roman_model.specs.Certificate.{IsClean, unlisted, cert_verdict}
+use Rattle.roman_model.proofs.CallerLemmas.{due_is, verdict_at, verdict_ended, verdict_accepted}
+use Rattle.roman_check.specs.Readers.{EndsAtFault}
 use Rattle.roman_check.proofs.AuditLemmas.{few_numbered, after_end}
 
 -- Whether the text may end

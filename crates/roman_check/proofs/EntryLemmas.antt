@@ -1,19 +1,9 @@
 -- Lines that are read as entries.
 use Rattle.std.proofs.Common.{◌≡◌, ◌≢◌, ℕ, suc, ◌+◌, ◌-◌, ◌^◌, ◌<◌, ◌≤◌, Bool, List, ◌∷◌, ◌++◌, length, take, drop, get_or, None, Some, IsTrue, IsFalse, decimal, codes, refl, sym, ap, ap₂, ◌∙◌, subst, inl, arith, length-drop, length-append}
-use Rattle.std.specs.Str.Parse.{AllDigits}
-use Rattle.std.proofs.lemmas.Bool.{both_ways, ne_eqb}
-use Rattle.std.proofs.lemmas.List.{drop_more, take_rest, take_all, take_at, get_or_at, get_or-drop}
-use Rattle.roman_model.specs.Lists.{IsIn}
-use Rattle.roman_model.specs.Lines.{IsLine}
-use Rattle.roman_model.specs.System.{has}
-use Rattle.roman_model.specs.SystemArena.{same_numbers}
-use Rattle.roman_model.specs.Arena.{Entry}
-use Rattle.roman_model.specs.declared.reason.Reason.{Reason}
-use Rattle.roman_model.specs.declared.reason.Reason.TheVariants.{Final, Act}
-use Rattle.roman_model.specs.Certificate.{count_line, reason_text, entry_line, reasons, entry_of}
-use Rattle.roman_model.proofs.CallerLemmas.{from_map, from_below, same_numbers_itself, IsSmall, AreFew, cut_at, decimal_without, act_reason, in_possible, from_possible, possible_small, entry_is_line, entry_of-line, entry_of-is, entry_of_none}
-use Rattle.roman_check.specs.Readings.{IsEndedAt, ReadsOff}
-use Rattle.roman_check.specs.Decimals.{IsNumberTo}
+use Rattle.roman_check.proofs.Common.{AllDigits, both_ways, ne_eqb, take_rest, take_all, take_at, get_or-drop, IsIn, IsLine, has, same_numbers, Entry, Reason, Final, Act, count_line, reason_text, entry_line, reasons, entry_of, from_map, from_below, same_numbers_itself, AreFew, act_reason, from_possible, possible_small, entry_of-is, entry_of_none, IsEndedAt, IsNumberTo}
+use Rattle.std.proofs.lemmas.List.{drop_more, get_or_at}
+use Rattle.roman_model.proofs.CallerLemmas.{IsSmall, cut_at, decimal_without, in_possible, entry_is_line, entry_of-line}
+use Rattle.roman_check.specs.Readings.{ReadsOff}
 use Rattle.roman_check.proofs.DigitLemmas.{decimal_shape, no_stop_digit}
 use Rattle.roman_check.proofs.Texts.{same_from, clear_before, taken_more}
 

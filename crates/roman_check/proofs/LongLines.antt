@@ -1,15 +1,7 @@
 -- Lines that are longer than any that is due.
 use Rattle.std.proofs.Common.{◌≡◌, ℕ, ◌^◌, ◌<◌, ◌≤◌, List, [], ◌∷◌, length, Some, None, IsFalse, decimal, ap, arith, length-append}
-use Rattle.std.proofs.lemmas.Bool.{cond-false}
-use Rattle.std.proofs.lemmas.Fmt.{length-decimal-le}
-use Rattle.roman_model.specs.Lists.{IsIn}
-use Rattle.roman_model.specs.SystemArena.{same_numbers}
-use Rattle.roman_model.specs.Arena.{Arena, Entry}
-use Rattle.roman_model.specs.declared.reason.Reason.{Reason}
-use Rattle.roman_model.specs.declared.reason.Reason.TheVariants.{Final, Act}
-use Rattle.roman_model.specs.Certificate.{head_line, count_line, reason_text, entry_line, Form, reasons, possible_entries, entry_of, unless_is, line_fault}
-use Rattle.roman_model.proofs.CallerLemmas.{by_test, same_numbers_is, from_possible, entry_of_none, fault_in_body, fault_after_end}
-use Rattle.roman_rules.specs.Numbered.{IsNumbered}
+use Rattle.roman_check.proofs.Common.{cond-false, length-decimal-le, IsIn, same_numbers, Arena, Entry, Reason, Final, Act, head_line, count_line, reason_text, entry_line, reasons, entry_of, line_fault, by_test, same_numbers_is, from_possible, entry_of_none, fault_in_body, fault_after_end, IsNumbered}
+use Rattle.roman_model.specs.Certificate.{Form, possible_entries, unless_is}
 use Rattle.roman_check.proofs.ReasonLemmas.{given_action}
 
 -- a short line isn't a long one

@@ -1,15 +1,9 @@
 -- Lines that differ in the last two digits of the pair.
 use Rattle.std.proofs.Common.{◌≡◌, ℕ, ◌+◌, ◌-◌, ◌*◌, ◌/◌, ◌%◌, ◌^◌, ◌<◌, ◌≤◌, List, [], ◌∷◌, ◌++◌, length, take, drop, get_or, set, Some, decimal, sym, ap, ap₂, ◌∙◌, inl, inr, arith, append_assoc, length-append, length-drop, length-take-le}
-use Rattle.std.proofs.lemmas.Bool.{cases_lt}
-use Rattle.std.proofs.lemmas.Fmt.{decimal_digit, decimal_step}
+use Rattle.roman_check.proofs.Common.{cases_lt, decimal_digit, take_at, take_rest, take-take, drop-take, get_or-take, get_or-drop, get_or-set_other, IsIn, reason_text, reasons, entry_of, Reason, AreFew, IsEndedAt, HasParts, IsPattern}
+use Rattle.std.proofs.lemmas.Fmt.{decimal_step}
 use Rattle.std.proofs.lemmas.Grind.{same_number_lists}
-use Rattle.std.proofs.lemmas.List.{take_at, take_rest, take-take, take_more_set, drop-take, drop-set-lt, get_or-take, get_or-drop, get_or-set_other, length-set}
-use Rattle.roman_model.specs.Lists.{IsIn}
-use Rattle.roman_model.specs.Certificate.{reason_text, reasons, entry_of}
-use Rattle.roman_model.specs.declared.reason.Reason.{Reason}
-use Rattle.roman_model.proofs.CallerLemmas.{AreFew}
-use Rattle.roman_check.specs.Readings.{IsEndedAt, HasParts}
-use Rattle.roman_check.specs.Patterns.{IsPattern}
+use Rattle.std.proofs.lemmas.List.{take_more_set, drop-set-lt, length-set}
 use Rattle.roman_check.specs.declared.pattern.Pattern.{Pattern}
 use Rattle.roman_check.proofs.DigitLemmas.{decimal_shape}
 use Rattle.roman_check.proofs.EntryLemmas.{after, cut_to, some_entry}

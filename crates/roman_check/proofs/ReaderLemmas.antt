@@ -1,22 +1,10 @@
 -- Texts that are read byte by byte.
 use Rattle.std.proofs.Common.{◌≡◌, ◌≢◌, ℕ, ◌+◌, ◌-◌, ◌<◌, ◌≤◌, ◌==◌, List, [], ◌∷◌, ◌++◌, length, take, drop, get_or, Option, Some, None, option_map, refl, sym, ap, ap₂, ◌∙◌, subst, inl, inr, arith, append_assoc, append-nil, length-append, length-drop}
-use Rattle.std.specs.List.{position}
-use Rattle.std.proofs.lemmas.List.{take-append-drop, take_more, take_rest, get_or-drop}
-use Rattle.roman_model.specs.Lines.{lines, text_of_lines, IsLine, AreLines}
-use Rattle.roman_model.specs.Arena.{Arena, Entry}
-use Rattle.roman_model.specs.Certificate.{entry_of, entry_fault}
+use Rattle.roman_check.proofs.Common.{position, take-append-drop, take_rest, get_or-drop, lines, text_of_lines, IsLine, Arena, Entry, entry_of, entry_fault, Reader, Audit, Body, Why, Form, fault_of, Holds, IsEndedAt, HasListed, HasRead, Judges, HasLines, IsReading, IsAtFault, IsNumbered}
+use Rattle.std.proofs.lemmas.List.{take_more}
+use Rattle.roman_model.specs.Lines.{AreLines}
 use Rattle.roman_model.proofs.CallerLemmas.{from_push, text_of_lines-push, lines-text, lines_last, append_line, clean_push}
-use Rattle.roman_check.specs.declared.reader.Reader.{Reader}
-use Rattle.roman_check.specs.declared.audit.Audit.{Audit}
-use Rattle.roman_check.specs.declared.audit.Due.TheVariants.{Body}
-use Rattle.roman_check.specs.declared.verdict.Why.{Why}
-use Rattle.roman_check.specs.declared.verdict.Why.TheVariants.{Form}
-use Rattle.roman_check.specs.Verdicts.{fault_of}
-use Rattle.roman_check.specs.Lines.{Holds}
-use Rattle.roman_check.specs.Readings.{IsEndedAt}
-use Rattle.roman_check.specs.Audits.{HasListed, HasRead, Judges}
-use Rattle.roman_check.specs.Readers.{HasLines, IsReading, IsAtFault, Feeds, Closes}
-use Rattle.roman_rules.specs.Numbered.{IsNumbered}
+use Rattle.roman_check.specs.Readers.{Feeds, Closes}
 use Rattle.roman_check.proofs.Texts.{taken_more, found_before, found_nowhere}
 use Rattle.roman_check.proofs.EntryLemmas.{entry_at}
 use Rattle.roman_check.proofs.AuditLemmas.{few_numbered, judged_entry}

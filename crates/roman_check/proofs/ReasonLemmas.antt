@@ -1,20 +1,10 @@
 -- Reasons that hold, and pairs that are missing.
 use Rattle.std.proofs.Common.{◌≡◌, ◌≢◌, ℕ, ◌+◌, ◌-◌, ◌*◌, ◌^◌, ◌/◌, ◌%◌, ◌<◌, ◌≤◌, Bool, true, false, not, ◌&&◌, ◌||◌, ◌⊎◌, [], ◌∷◌, length, Some, None, IsTrue, IsFalse, find, refl, sym, ap, ◌∙◌, subst, inl, inr, arith, add-one, eqb}
-use Rattle.std.specs.List.{list_any}
-use Rattle.std.specs.Int.{bit_at, trailing_zeros, w64}
-use Rattle.std.proofs.Math.Bool.{or-false}
-use Rattle.std.proofs.lemmas.Bool.{cases_lt, eq-eqb, false≢true}
-use Rattle.std.proofs.lemmas.Nat.{div-add-mod', div_below, row_fits, mul-le, same_from_place}
+use Rattle.roman_check.proofs.Common.{list_any, trailing_zeros, w64, or-false, cases_lt, eq-eqb, false≢true, mul-le, same_from_place, list_any-append, IsIn, below, Arena, Reason, Act, reasons, from_map, from_below, is_on, IsNumbered}
+use Rattle.std.specs.Int.{bit_at}
+use Rattle.std.proofs.lemmas.Nat.{div-add-mod', div_below, row_fits}
 use Rattle.std.proofs.lemmas.Nat.Bits.{bit_at-trailing_zeros}
-use Rattle.std.proofs.lemmas.List.Folds.{list_any-append}
-use Rattle.roman_model.specs.Lists.{IsIn, below}
-use Rattle.roman_model.specs.Arena.{Arena}
-use Rattle.roman_model.specs.declared.reason.Reason.{Reason}
-use Rattle.roman_model.specs.declared.reason.Reason.TheVariants.{Act}
-use Rattle.roman_model.specs.Certificate.{reasons}
-use Rattle.roman_model.proofs.CallerLemmas.{none_from, from_map, from_below, find_first, find_not_found, list_any-map}
-use Rattle.roman_lanes.specs.Rows.{is_on}
-use Rattle.roman_rules.specs.Numbered.{IsNumbered}
+use Rattle.roman_model.proofs.CallerLemmas.{none_from, find_first, find_not_found, list_any-map}
 
 -- Reasons
 

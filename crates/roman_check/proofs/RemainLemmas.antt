@@ -1,15 +1,11 @@
 -- Tables of the pairs that remain.
 use Rattle.std.proofs.Common.{◌≡◌, ◌≢◌, ℕ, zero, suc, ◌+◌, ◌-◌, ◌*◌, ◌/◌, ◌^◌, ◌<◌, ◌≤◌, ◌==◌, Bool, true, false, cond, not, ◌&&◌, ◌||◌, length, get_or, replicate, set, count_by, bit_and, IsFalse, refl, sym, ap, ap₂, ◌∙◌, subst, inl, inr, arith, add-one}
-use Rattle.std.proofs.Math.Bool.{or-false}
-use Rattle.std.proofs.lemmas.Bool.{cases_eq, ne_eqb, eq-eqb, or_right}
-use Rattle.std.proofs.lemmas.List.{length-replicate, get_or-replicate, get_or-set_same, get_or-set_other}
-use Rattle.std.proofs.lemmas.Nat.{same_from_place}
-use Rattle.roman_model.specs.Lists.{below}
-use Rattle.roman_lanes.specs.Rows.{is_on, HasLanes}
-use Rattle.roman_lanes.proofs.CallerLemmas.{on_and, on_full, on_full_past}
+use Rattle.roman_check.proofs.Common.{or-false, cases_eq, ne_eqb, eq-eqb, get_or-set_other, same_from_place, below, is_on, on_and, on_full, on_full_past, Remain}
+use Rattle.std.proofs.lemmas.Bool.{or_right}
+use Rattle.std.proofs.lemmas.List.{length-replicate, get_or-replicate, get_or-set_same}
+use Rattle.roman_lanes.specs.Rows.{HasLanes}
 use Rattle.roman_rules.proofs.CallerLemmas.{count_below_more}
 use Rattle.roman_check.specs.declared.table.Remaining.{Remaining}
-use Rattle.roman_check.specs.Remain.{Remain}
 
 -- Words
 

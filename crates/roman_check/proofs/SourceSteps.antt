@@ -1,18 +1,12 @@
 -- Certificates that are taken from a source piece by piece.
 use Rattle.std.proofs.Common.{◌≡◌, ℕ, ◌+◌, ◌<◌, ◌≤◌, List, [], ◌∷◌, ◌++◌, length, take, drop, Option, Some, None, sym, ap, ◌∙◌, subst, arith, append_assoc, append-nil, length-append}
-use Rattle.std.proofs.lemmas.List.{take-append-drop, take-take, take_at}
-use Rattle.roman_io.specs.Source.{Gave, EndsAt, IsAtEnd}
-use Rattle.roman_io.proofs.CallerLemmas.{Gave-then, had_more}
-use Rattle.roman_model.specs.Lines.{text_of_lines, ended_lines}
-use Rattle.roman_model.specs.Arena.{Arena}
+use Rattle.roman_check.proofs.Common.{take-append-drop, take-take, take_at, Gave, Gave-then, text_of_lines, Arena, MAX_CERTIFICATE_BYTES, Reader, Why, fault_of, IsReading, IsAtFault}
+use Rattle.roman_io.specs.Source.{EndsAt, IsAtEnd}
+use Rattle.roman_io.proofs.CallerLemmas.{had_more}
+use Rattle.roman_model.specs.Lines.{ended_lines}
 use Rattle.roman_model.specs.Certificate as text
 use Rattle.roman_model.specs.Certificate.{faults}
-use Rattle.roman_model.specs.declared.limits.TheConstants.{MAX_CERTIFICATE_BYTES}
 use Rattle.roman_model.proofs.CallerLemmas.{ended_lines-text, ended_lines_last, faults_none, verdict_rejected, verdict_too_long}
-use Rattle.roman_check.specs.declared.reader.Reader.{Reader}
-use Rattle.roman_check.specs.declared.verdict.Why.{Why}
-use Rattle.roman_check.specs.Verdicts.{fault_of}
-use Rattle.roman_check.specs.Readers.{IsReading, IsAtFault}
 use Rattle.roman_check.specs.Checks.{HaveVerdict, NoneAtFault}
 
 -- a source that gives nothing is at its end

@@ -1,18 +1,8 @@
 -- The text of advice names least costs.
 use Rattle.std.proofs.Common.{◌≡◌, ℕ, ◌-◌, List, ◌++◌, codes, sym, ap}
-use Rattle.std.specs.List.{flat_map}
-use Rattle.roman_model.specs.Lists.{below}
-use Rattle.roman_model.specs.Numbers.{sizes_of, count, number, pair_at}
-use Rattle.roman_model.specs.Plans.{least, least_at, choice, through, allowed_actions}
-use Rattle.roman_model.specs.System.{Pair, IsPair}
-use Rattle.roman_model.specs.SystemArena.{is_allowed}
-use Rattle.roman_model.proofs.CallerLemmas.{related_great, great_related, numbers_are_pairs, filter_in, filter_sublist, from_allowed}
-use Rattle.roman_joint.specs.NamedSys.{NamedSys, system_of}
-use Rattle.roman_cost.specs.AdviceText.{worst_line, choice_line, certificate_text, advice_text}
-use Rattle.roman_cost.specs.Advised.{related_pairs}
+use Rattle.roman_cost.proofs.Common.{flat_map, below, sizes_of, count, number, pair_at, least, least_at, choice, through, allowed_actions, Pair, IsPair, is_allowed, related_great, great_related, numbers_are_pairs, filter_in, from_allowed, NamedSys, system_of, worst_line, choice_line, certificate_text, advice_text, related_pairs, seat_costs, Listed}
+use Rattle.roman_model.proofs.CallerLemmas.{filter_sublist}
 use Rattle.roman_cost.specs.Laws.{AdviceIsLeast}
-use Rattle.roman_cost.specs.Tables.{seat_costs}
-use Rattle.roman_cost.specs.declared.costs.Listed.{Listed}
 use Rattle.roman_cost.proofs.PlanningLemmas.{in_allowed, least_cost, choice_cheapest, cheapest_same}
 use Rattle.roman_cost.proofs.Ranks.{related_at, in_related, from_related}
 

@@ -9,4 +9,5 @@ mod TermLemmas
 mod Lines
 mod PlanningLemmas
 mod LawLemmas
+pub mod Common
 pub mod CallerLemmas

@@ -1,19 +1,10 @@
 -- The offered seats of a related pair: each has outcomes, all of them are related, and its cost is the one that the definition gives.
 use Rattle.std.proofs.Common.{◌≡◌, ◌≢◌, ℕ, suc, ◌+◌, ◌*◌, ◌<◌, ◌≤◌, Bool, not, List, [], ◌∷◌, map, flat_map, length, filter, slice_index, inl, inr, IsTrue, All, refl, sym, ap, ◌∙◌, subst, arith}
-use Rattle.roman_model.specs.Lists.{IsIn, below}
-use Rattle.roman_model.specs.System.{Sys, Pair, IsSys, IsPair, has}
-use Rattle.roman_model.specs.SystemArena.{outcomes, is_allowed, arena}
+use Rattle.roman_cost.proofs.Common.{IsIn, below, Sys, Pair, IsSys, IsPair, has, outcomes, is_allowed, sizes_of, count, pair_at, number, numbered, is_related, offers, Costs, max_over, first_least, least, least_at, choice, through, from_map, in_map, not_empty_in, ne_not_empty, outcome_pair, great_related, offer_is, numbers_are_pairs, max_over_le, number_listed, cond-true, has_seat_is, related_pairs, HavePlaces, ranked, IsRanked, AreSmall, MAX_COST, MAX_REQUESTS}
+use Rattle.roman_model.specs.SystemArena.{arena}
 use Rattle.roman_model.specs.Arena.{is_beaten}
-use Rattle.roman_model.specs.Numbers.{sizes_of, count, pair_at, number, numbered}
-use Rattle.roman_model.specs.Offers.{is_related, offers}
-use Rattle.roman_model.specs.Plans.{Costs, max_over, first_least, least, least_at, choice, through}
-use Rattle.roman_model.proofs.CallerLemmas.{from_map, in_map, not_empty_in, ne_not_empty, not_empty_ne, in_not_empty, outcome_pair, outcome_seat, great_related, offer_is, numbers_are_pairs, through_numbered, max_over_same, max_over_le, number_listed}
-use Rattle.std.proofs.lemmas.Bool.{cond-true}
+use Rattle.roman_model.proofs.CallerLemmas.{not_empty_ne, in_not_empty, outcome_seat, through_numbered, max_over_same}
 use Rattle.roman_rules.specs.Bits.{HasBits, has_seat}
-use Rattle.roman_rules.proofs.CallerLemmas.{has_seat_is}
-use Rattle.roman_cost.specs.Advised.{related_pairs, HavePlaces}
-use Rattle.roman_cost.specs.Filling.{ranked, IsRanked, AreSmall}
-use Rattle.roman_cost.specs.declared.limits.TheConstants.{MAX_COST, MAX_REQUESTS}
 use Rattle.roman_cost.proofs.Best.{filter_has, first_least_same}
 use Rattle.roman_cost.proofs.Rows.{all_from}
 use Rattle.roman_cost.proofs.Ranks.{in_related, ranked_value}

@@ -1,16 +1,13 @@
 -- The plans by offers are those by seats that serve, and their worst-case costs are the greatest that can occur.
 use Rattle.std.proofs.Common.{◌≡◌, ◌⊎◌, ℕ, zero, suc, ◌+◌, ◌<◌, ◌≤◌, List, [], ◌∷◌, IsTrue, nat_le, inl, inr, refl, sym, ap, ◌∙◌, subst, arith}
-use Rattle.std.specs.Prelude.{max}
+use Rattle.roman_cost.proofs.Common.{max, IsIn, below, Sys, Pair, IsSys, IsPair, outcomes, is_allowed, Great, offers, Costs, max_over, allowed_actions, least, through, choice, by_test, in_filter, in_below, not_empty_in, ne_not_empty, allowed_in_range, from_allowed, outcome_pair, offer_is, choice_is}
 use Rattle.std.proofs.Math.Nat.{le-max_left, le-max_right, max-le}
 use Rattle.std.proofs.lemmas.Bool.{leb-true, leb-false}
 use Rattle.std.proofs.lemmas.Option.{slice_get_within}
-use Rattle.roman_model.specs.Lists.{IsIn, below}
-use Rattle.roman_model.specs.System.{Sys, Pair, IsSys, IsPair, Allows}
-use Rattle.roman_model.specs.SystemArena.{outcomes, is_allowed}
-use Rattle.roman_model.specs.Composition.{couple, Serves, GreatCouple, Great}
-use Rattle.roman_model.specs.Offers.{offers}
-use Rattle.roman_model.specs.Plans.{Costs, Plan, Leaf, Node, max_over, allowed_actions, IsPlan, worst, least, chosen, through, choice}
-use Rattle.roman_model.proofs.CallerLemmas.{by_test, in_filter, in_below, not_empty_in, ne_not_empty, allowed_in, allowed_in_range, from_allowed, outcome_in, from_outcome, outcome_pair, offers_are, offer_is, plans_least, choice_is}
+use Rattle.roman_model.specs.System.{Allows}
+use Rattle.roman_model.specs.Composition.{couple, Serves, GreatCouple}
+use Rattle.roman_model.specs.Plans.{Plan, Leaf, Node, IsPlan, worst, chosen}
+use Rattle.roman_model.proofs.CallerLemmas.{allowed_in, outcome_in, from_outcome, offers_are, plans_least}
 use Rattle.roman_model.specs.Outcomes.{LeadsTo}
 use Rattle.roman_cost.specs.ServingPlans.{IsServingPlan, Event, MayCome, cost_of_events, IsWorstCost, IsLeastCost, CostsBy, IsCheapest}
 

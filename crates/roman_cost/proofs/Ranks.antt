@@ -1,16 +1,7 @@
 -- The related pairs, and their ranks.
 use Rattle.std.proofs.Common.{◌≡◌, ◌↔◌, ℕ, zero, suc, ◌+◌, ◌*◌, ◌<◌, ◌≤◌, Bool, true, false, cond, List, [], ◌∷◌, ◌++◌, map, length, get_or, filter, slice_index, IsTrue, sym, ap, ◌∙◌, subst, arith, add-one, append-nil, length-append}
-use Rattle.std.proofs.lemmas.List.{length-map, get_or-map, map_push}
-use Rattle.roman_model.specs.Lists.{IsIn, below}
-use Rattle.roman_model.specs.System.{Sys}
-use Rattle.roman_model.specs.Numbers.{sizes_of, count, pair_at}
-use Rattle.roman_model.specs.Offers.{is_related}
-use Rattle.roman_model.specs.Plans.{Costs, least_at}
-use Rattle.roman_model.specs.System.{IsSys, IsPair}
-use Rattle.roman_model.specs.Composition.{Great}
-use Rattle.roman_model.proofs.CallerLemmas.{numbers_are_pairs, great_related, related_great, same_test, filter_in, in_filter, in_below, from_below, length-below, get_or-below, filter_below_more, rank, rank_at, table_at}
-use Rattle.roman_cost.specs.Advised.{related_pairs, HavePlaces, AdviceTable, Advises}
-use Rattle.roman_cost.specs.Filling.{ranked}
+use Rattle.roman_cost.proofs.Common.{length-map, get_or-map, map_push, IsIn, below, Sys, sizes_of, count, pair_at, is_related, Costs, least_at, IsSys, IsPair, Great, numbers_are_pairs, great_related, related_great, same_test, filter_in, in_filter, in_below, from_below, length-below, get_or-below, filter_below_more, rank, related_pairs, HavePlaces, AdviceTable, Advises, ranked}
+use Rattle.roman_model.proofs.CallerLemmas.{rank_at, table_at}
 
 -- whether the pair with that number is related
 abbrev pub related_at : Sys → ℕ → Bool

@@ -3,15 +3,9 @@ use Rattle.std.proofs.Common.{◌≡◌, ℕ, zero, suc, ◌+◌, ◌-◌, ◌*�
 use Rattle.std.proofs.Math.Nat.{mul-le-mul_left}
 use Rattle.std.proofs.Math.Seq.{take-nil, take-length, drop-append_seam}
 use Rattle.std.proofs.lemmas.Bool.{cases_eq}
-use Rattle.std.proofs.lemmas.List.{take-append-le, drop-append-le, length-drop, length-map, take_more, map_push}
-use Rattle.roman_model.specs.Lists.{IsIn, below}
-use Rattle.roman_model.specs.System.{Sys}
-use Rattle.roman_model.specs.Numbers.{sizes_of, pair_at}
-use Rattle.roman_model.specs.Plans.{Costs, least_at}
-use Rattle.roman_model.proofs.CallerLemmas.{from_map, from_flat_map, from_below, least_bound, flat_map_row, length_rows}
-use Rattle.roman_cost.specs.Advised.{related_pairs, value_rows, AdviceTable, Advises}
-use Rattle.roman_cost.specs.Filling.{AreSmall}
-use Rattle.roman_cost.specs.declared.limits.TheConstants.{MAX_COST, MAX_REQUESTS}
+use Rattle.roman_cost.proofs.Common.{length-drop, length-map, take_more, map_push, IsIn, below, Sys, sizes_of, pair_at, Costs, least_at, from_map, from_below, flat_map_row, length_rows, related_pairs, value_rows, AdviceTable, Advises, AreSmall, MAX_COST, MAX_REQUESTS}
+use Rattle.std.proofs.lemmas.List.{take-append-le, drop-append-le}
+use Rattle.roman_model.proofs.CallerLemmas.{from_flat_map, least_bound}
 
 -- the element at a place is in the list
 pub in_at : {X : Type 0} (xs : List X) (i : ℕ) (d : X) → i < length xs → IsIn (get_or xs i d) xs

@@ -1,21 +1,14 @@
 -- The lists of a document: their values, and their refusals.
 use Rattle.std.proofs.Common.{◌≡◌, ℕ, ◌≤◌, inl, inr, List, [], ◌∷◌, ◌++◌, length, codes, Result, Ok, Err, refl, sym, ap, ◌∙◌, subst, arith}
-use Rattle.serde_json.specs.Data.{Data}
-use Rattle.roman_io.specs.Shelf.{Texts}
+use Rattle.roman_document_laws.proofs.Common.{Data, Texts, ◌>>=◌, same_ok, bind_ok, NamedEnv, NamedBeh, counted_items, PartError, behaviour_in, catalogue_in, service_of, services_of, placed, Service}
 use Rattle.roman_model.specs.declared.limits.TheConstants.{MAX_BEHAVIOURS, MAX_SERVICES}
-use Rattle.roman_read.specs.Items.{◌>>=◌}
-use Rattle.roman_read.proofs.CallerLemmas.{same_ok, bind_ok}
 use Rattle.roman_document_laws.proofs.ListLemmas.{same_err, bind_err, IsStep, IsListing, list_gives, list_given, list_refuses, list_refused}
-use Rattle.roman_parts.specs.Named.{NamedEnv, NamedBeh}
-use Rattle.roman_parts.specs.Reading.{counted_items}
 use Rattle.roman_parts.specs.declared.error.List.{List as Place}
 use Rattle.roman_parts.specs.declared.error.List.TheVariants as list
-use Rattle.roman_parts.specs.declared.error.PartError.{PartError}
 use Rattle.roman_document_laws.proofs.PartReadLemmas.{counted_listing}
-use Rattle.roman_library.specs.Documents.{listed_step, behaviour_in, behaviour_step, catalogue_in, service_of, service_step, services_of}
+use Rattle.roman_library.specs.Documents.{listed_step, behaviour_step, service_step}
 use Rattle.roman_document_laws.specs.DocumentReads.{refused_list, BreaksService, ReadsServices, ReadsBehaviours, DocumentListsAreRead}
-use Rattle.roman_library.specs.Refusals.{refusal_of, placed}
-use Rattle.roman_library.specs.declared.library.Service.{Service}
+use Rattle.roman_library.specs.Refusals.{refusal_of}
 use Rattle.roman_library.specs.declared.refusal.Part.{Part}
 use Rattle.roman_library.specs.declared.refusal.Part.TheVariants as part
 use Rattle.roman_library.specs.declared.refusal.Refusal.{Refusal}

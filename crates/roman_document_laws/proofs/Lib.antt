@@ -4,4 +4,5 @@ mod NormalForms
 mod PartReadLemmas
 mod PartWriterLemmas
 mod DocumentReadLemmas
-mod DocumentWriterLemmas
+mod DocumentWriterLemmaspub mod Common
+

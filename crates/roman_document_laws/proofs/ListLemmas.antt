@@ -1,15 +1,8 @@
 -- Lists whose items are read one by one: their values, or the refused item.
 use Rattle.std.proofs.Common.{◌≡◌, ℕ, suc, ◌+◌, ◌⊎◌, inl, inr, List, [], ◌∷◌, ◌++◌, length, Result, Ok, Err, refl, sym, ap, ◌∙◌, subst, arith, append_assoc, append-nil, length-append}
-use Rattle.serde_json.specs.Data.{Data, Items, no_items, item}
-use Rattle.serde_json.specs.Events.{items_len}
-use Rattle.serde_json.specs.View.{items_of}
-use Rattle.roman_read.specs.Items.{◌>>=◌, each_item}
-use Rattle.roman_read.specs.Kinds.{kind_of}
-use Rattle.roman_document_laws.specs.Listed.{IsListAt, MissesList, AreItems, FaultIn, IsListOf, BreaksList}
-use Rattle.roman_read.specs.declared.rules.Kind.{Kind}
+use Rattle.roman_document_laws.proofs.Common.{Data, Items, no_items, item, items_len, items_of, ◌>>=◌, each_item, kind_of, IsListAt, MissesList, AreItems, Kind, Miss, same_ok, bind_ok}
+use Rattle.roman_document_laws.specs.Listed.{FaultIn, IsListOf, BreaksList}
 use Rattle.roman_read.specs.declared.rules.Kind.TheVariants.{Count}
-use Rattle.roman_read.specs.declared.rules.Miss.{Miss}
-use Rattle.roman_read.proofs.CallerLemmas.{same_ok, bind_ok}
 
 pub same_err : {X E : Type 0} (d e : E) → ◌≡◌ {A = Result X E} (Err d) (Err e) → d ≡ e
 same_err d e h = cc

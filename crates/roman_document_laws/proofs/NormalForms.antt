@@ -1,15 +1,12 @@
 -- Normal forms rise, have the same steps, and are determined by them.
 use Rattle.std.proofs.Common.{◌≡◌, ◌≢◌, ℕ, inl, inr, List, [], ◌∷◌, map, refl, sym, ◌∙◌, subst, arith}
-use Rattle.std.specs.List.{filter, flat_map}
-use Rattle.roman_model.specs.Lists.{IsIn, below}
-use Rattle.roman_model.specs.System.{Triple, Env, Move, Beh, has_triple, has_move, is_final}
+use Rattle.roman_document_laws.proofs.Common.{filter, flat_map, IsIn, below, Triple, Env, Move, Beh, has_move, is_final, normal_env, normal_beh, from_flat_map, from_map, triple_listed, number_listed, listed_number, step_listed, listed_step, has_triple-normal, has_move-normal, is_final-normal, Rises, IsLess, IsNormalEnv, IsNormalBeh}
+use Rattle.roman_model.specs.System.{has_triple}
 use Rattle.roman_model.specs.SystemArena.{env_next}
 use Rattle.roman_model.specs.Made.{guarded_step}
-use Rattle.roman_model.specs.Normal.{normal_env, normal_beh}
 use Rattle.roman_model.specs.Outcomes.{HasStep}
-use Rattle.roman_model.proofs.CallerLemmas.{from_flat_map, from_map, triple_listed, listed_triple, number_listed, listed_number, step_listed, listed_step}
-use Rattle.roman_parts.proofs.CallerLemmas.{has_triple-normal, has_move-normal, is_final-normal}
-use Rattle.roman_document_laws.specs.Normals.{Rises, IsLess, AreBefore, IsTripleBefore, IsMoveBefore, IsNormalEnv, IsNormalBeh, SameEnv, SameBeh, NormalFormsAreNormal, NormalFormsAreUnique}
+use Rattle.roman_model.proofs.CallerLemmas.{listed_triple}
+use Rattle.roman_document_laws.specs.Normals.{AreBefore, IsTripleBefore, IsMoveBefore, SameEnv, SameBeh, NormalFormsAreNormal, NormalFormsAreUnique}
 use Rattle.roman_document_laws.proofs.Rising.{rises_filter, rises_flat, rises_map, rises_same, rises_below}
 
 -- Normal forms rise

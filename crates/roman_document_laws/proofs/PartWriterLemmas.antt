@@ -1,38 +1,26 @@
 -- The written value of a part means that part.
 use Rattle.std.proofs.Common.{◌≡◌, ℕ, zero, suc, ◌<◌, ◌≤◌, ◌==◌, ◌&&◌, not, cond, Bool, true, false, List, [], ◌∷◌, ◌++◌, map, length, Option, None, Some, is_some, find, codes, Result, Ok, IsTrue, slice_get, inl, inr, refl, sym, ap, ◌∙◌, subst, arith, eqb-true}
-use Rattle.std.specs.List.{AllZip}
-use Rattle.std.proofs.lemmas.Bool.{and_parts, not-true, both_ways, cond-true, cond-false, eq-eqb}
-use Rattle.std.proofs.lemmas.List.{length-map}
-use Rattle.std.proofs.lemmas.Option.{same_Some}
-use Rattle.serde_json.specs.Data.{Data, string}
+use Rattle.roman_document_laws.proofs.Common.{AllZip, and_parts, both_ways, cond-true, cond-false, length-map, same_Some, Data, items_of, IsIn, HasNoRepeats, below, Env, Beh, Triple, Move, has_move, is_final, normal_env, normal_beh, MAX_STEPS, by_test, get_in, in_contains, filter_in, triple_listed, number_listed, listed_number, step_listed, listed_step, ◌>>=◌, each_item, pushing, text_of, is_name, IsListAt, AreItems, guarded_states, names_of, finals_of, NamedEnv, NamedBeh, Rises, IsLess, IsNormalEnv, IsNormalBeh, IsPlace, BreaksPlace, IsTripleItem, IsMoveItem, triples_of, moves_of, list_value, place_value, behaviour_value, IsSayableEnv, IsSayableBeh, IsSayableTarget, PartError, has_triple-normal, has_move-normal, is_final-normal}
+use Rattle.std.proofs.lemmas.Bool.{not-true, eq-eqb}
+use Rattle.serde_json.specs.Data.{string}
 use Rattle.serde_json.specs.Find.{as_object}
-use Rattle.serde_json.specs.View.{items_of}
 use Rattle.roman_guard.specs.Meaning.{is_one_of, states_below}
 use Rattle.roman_guard.proofs.CallerLemmas.{in_states_below, states_below_are, states_below-suc, states_below-zero}
 use Rattle.roman_model.specs.Explanation.{name_at}
-use Rattle.roman_model.specs.Lists.{IsIn, HasNoRepeats, below}
-use Rattle.roman_model.specs.System.{Env, Beh, Triple, Move, IsEnv, IsBeh, IsDeterministic, has, has_move, is_final}
-use Rattle.roman_model.specs.Normal.{normal_env, normal_beh}
-use Rattle.roman_model.specs.declared.limits.TheConstants.{MAX_STATES, MAX_ACTIONS, MAX_STEPS}
-use Rattle.roman_model.proofs.CallerLemmas.{by_test, same_test, get_in, none_from, find_not_found, in_contains, contains_in, filter_in, triple_listed, number_listed, listed_number, step_listed, listed_step}
-use Rattle.roman_read.specs.Items.{◌>>=◌, each_item, pushing}
-use Rattle.roman_read.specs.Json.{member_of, text_of}
-use Rattle.roman_read.specs.Names.{is_name}
-use Rattle.roman_document_laws.specs.Listed.{IsListAt, AreItems}
+use Rattle.roman_model.specs.System.{IsEnv, IsBeh, IsDeterministic, has}
+use Rattle.roman_model.specs.declared.limits.TheConstants.{MAX_STATES, MAX_ACTIONS}
+use Rattle.roman_model.proofs.CallerLemmas.{same_test, none_from, find_not_found, contains_in}
+use Rattle.roman_read.specs.Json.{member_of}
 use Rattle.roman_document_laws.proofs.ListLemmas.{all_given}
 use Rattle.roman_parts.specs.Choices.{choice_between, choice_at, choice_with, choice_of, refuse_choice, single_of}
-use Rattle.roman_parts.specs.Guards.{state_in, among_of, guard_of, guarded_states}
-use Rattle.roman_parts.specs.Lists.{names_of, start_of, finals_of}
-use Rattle.roman_parts.specs.Named.{NamedEnv, NamedBeh, NamedTarget, IsOver}
-use Rattle.roman_document_laws.specs.Normals.{Rises, IsLess, IsNormalEnv, IsNormalBeh}
+use Rattle.roman_parts.specs.Guards.{state_in, among_of, guard_of}
+use Rattle.roman_parts.specs.Lists.{start_of}
+use Rattle.roman_parts.specs.Named.{NamedTarget, IsOver}
 use Rattle.roman_parts.specs.Parts.{environment_of, name_of, behaviour_of, target_of}
-use Rattle.roman_document_laws.specs.PartReads.{IsPlace, BreaksPlace, IsTripleItem, IsMoveItem}
-use Rattle.roman_parts.specs.Steps.{triples_of, moves_of}
-use Rattle.roman_document_laws.specs.PartWriter.{list_value, names_value, place_value, places_value, triple_value, move_value, environment_value, behaviour_value, target_value, CanList, IsSayableEnv, IsSayableBeh, IsSayableTarget, PartsAreSaid}
+use Rattle.roman_document_laws.specs.PartWriter.{names_value, places_value, triple_value, move_value, environment_value, target_value, CanList, PartsAreSaid}
 use Rattle.roman_parts.specs.declared.error.List.{List as Place}
 use Rattle.roman_parts.specs.declared.error.List.TheVariants as list
-use Rattle.roman_parts.specs.declared.error.PartError.{PartError}
-use Rattle.roman_parts.proofs.CallerLemmas.{first_below-none, from_normal_triple, has_triple-normal, from_normal_move, has_move-normal, is_final-normal, env_read}
+use Rattle.roman_parts.proofs.CallerLemmas.{first_below-none, from_normal_triple, from_normal_move, env_read}
 use Rattle.roman_document_laws.proofs.NormalForms.{forms_normal, forms_unique}
 use Rattle.roman_document_laws.proofs.PartReadLemmas.{ok_place, place_ok, place_err, err_place, pushing_steps, lists_read}
 use Rattle.roman_document_laws.proofs.Rising.{rises_same, rises_append}

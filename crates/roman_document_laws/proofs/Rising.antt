@@ -1,10 +1,7 @@
 -- Rising lists.
 use Rattle.std.proofs.Common.{◌≡◌, ℕ, zero, suc, ◌<◌, Bool, inl, inr, List, [], ◌∷◌, ◌++◌, map, refl, sym, ap₂, ◌∙◌, subst, arith}
-use Rattle.std.specs.List.{filter, flat_map}
-use Rattle.std.proofs.lemmas.Bool.{cond-true, cond-false}
-use Rattle.roman_model.specs.Lists.{IsIn, below}
-use Rattle.roman_model.proofs.CallerLemmas.{by_test, from_append, from_below, from_flat_map, from_map, filter_in}
-use Rattle.roman_document_laws.specs.Normals.{Rises, IsLess}
+use Rattle.roman_document_laws.proofs.Common.{filter, flat_map, cond-true, cond-false, IsIn, below, by_test, from_flat_map, from_map, filter_in, Rises, IsLess}
+use Rattle.roman_model.proofs.CallerLemmas.{from_append, from_below}
 
 module _ {X : Type 0} (Before : X → X → Type 0) where
   pub rises_append : (xs ys : List X) → Rises Before xs → Rises Before ys → ((x y : X) → IsIn x xs → IsIn y ys → Before x y) → Rises Before (xs ++ ys)

@@ -1,19 +1,13 @@
 -- How a session that is read from a source ends.
 use Rattle.std.proofs.Common.{◌≡◌, ℕ, ◌+◌, ◌-◌, ◌<◌, ◌≤◌, false, List, [], ◌∷◌, ◌++◌, length, take, drop, nat_le, ltb, Option, Result, Ok, Err, OnOk, IsErrOf, IsTrue, inl, inr, refl, sym, ap, ◌∙◌, subst, arith, append_assoc, append-nil, length-append, length-take, take-append-drop, take_at, le-leb}
 use Rattle.std.proofs.Math.Seq.{take-append-add}
-use Rattle.std.proofs.lemmas.Bool.{cond-true, cond-false, or_from, or_left, or_right, lt-leb}
-use Rattle.roman_io.specs.Source.{Gave, EndsAt, Had}
-use Rattle.roman_io.proofs.CallerLemmas.{Gave-then, WrotePrefix-append, had_more, had_all}
-use Rattle.roman_model.specs.Lines.{lines, ended_lines, text_of_lines}
-use Rattle.roman_model.specs.declared.limits.TheConstants.{MAX_SESSION_BYTES}
-use Rattle.roman_model.proofs.CallerLemmas.{by_test}
-use Rattle.roman_text.specs.Lines.{unfinished, kept}
-use Rattle.roman_text.proofs.CallerLemmas.{lines_are, lines_only, lines_none, kept-nil}
-use Rattle.roman_session.specs.Situations.{Situation}
-use Rattle.roman_hearing.specs.Told.{Told}
-use Rattle.roman_hearing.specs.Known.{AreBehaviours}
-use Rattle.roman_hearing.specs.Hearing.{has_quit, prefix_of, is_heard_out, heard_lines, GaveQuit, cursor, stream_state, Tells, TellsPrefix, IsHeardOut, IsCutOff, StopsShort, TellsPrefixOfAll}
-use Rattle.roman_hearing.specs.HearingBytes.{reader_state, IsHearing, StopsAtQuit, FallsShort, FailsIn, HearsPiece, HearsRest}
+use Rattle.roman_hearing.proofs.Common.{cond-true, cond-false, or_from, or_left, or_right, Gave, Gave-then, lines, ended_lines, text_of_lines, MAX_SESSION_BYTES, by_test, unfinished, kept, lines_none, kept-nil, Situation, Told, AreBehaviours, has_quit, is_heard_out, heard_lines, cursor, Tells, TellsPrefix, reader_state, IsHearing, StopsAtQuit, FallsShort, FailsIn, HearsPiece}
+use Rattle.std.proofs.lemmas.Bool.{lt-leb}
+use Rattle.roman_io.specs.Source.{EndsAt, Had}
+use Rattle.roman_io.proofs.CallerLemmas.{WrotePrefix-append, had_more, had_all}
+use Rattle.roman_text.proofs.CallerLemmas.{lines_are, lines_only}
+use Rattle.roman_hearing.specs.Hearing.{prefix_of, GaveQuit, stream_state, IsHeardOut, IsCutOff, StopsShort, TellsPrefixOfAll}
+use Rattle.roman_hearing.specs.HearingBytes.{HearsRest}
 use Rattle.roman_hearing.specs.declared.hearing.HearError.{HearError}
 use Rattle.roman_hearing.specs.declared.hearing.HearError.TheVariants.{ReadFault, WriteFault, TooLong}
 use Rattle.roman_hearing.proofs.HearingLines.{ended_more, lines_more, quit_left, told_stops}

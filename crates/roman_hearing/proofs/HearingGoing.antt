@@ -1,40 +1,14 @@
 -- Every line has a step.
 use Rattle.std.proofs.Common.{◌≡◌, ℕ, ◌<◌, Bool, true, ◌==◌, ◌&&◌, List, [], ◌++◌, length, false, Result, Ok, Err, IsTrue, IsFalse, inl, inr, nat_lt, nat_le, slice_set, refl, sym, ap, subst, arith, ltb-true, leb-true, eqb-true, eq-eqb}
-use Rattle.std.specs.List.{list_any}
-use Rattle.std.proofs.lemmas.Bool.{both_ways, and_parts, and_from}
-use Rattle.std.proofs.lemmas.List.{length-map}
-use Rattle.std.proofs.lemmas.Option.{get_or_from_slice_get}
-use Rattle.roman_model.specs.Lists.{IsIn}
-use Rattle.roman_model.specs.System.{Sys, Pair, TStep, SStep}
-use Rattle.roman_model.specs.SystemArena.{is_allowed, outcomes, same_numbers, arena}
-use Rattle.roman_model.specs.Arena.{Entry, replay}
-use Rattle.roman_model.specs.CompleteLists.{IsComplete}
+use Rattle.roman_hearing.proofs.Common.{list_any, both_ways, and_parts, and_from, length-map, get_or_from_slice_get, IsIn, Sys, Pair, is_allowed, outcomes, same_numbers, arena, Entry, IsComplete, name_at, explain_text, MAX_SERVICES, by_test, any_true, same_numbers_is, same_numbers_itself, from_allowed, outcome_in, from_outcome, there_is, bind_ok, LineShape, nothing, ask, hand, saw, abort, freeze, thaw, die, join, jump, jump_env, report, explain, quit, shape_of, reply_text, LineError, Reply, IsNamedSys, seat_of, names_in, frozen_system, frozen_known, gone_system, gone_known, joined_system, joined_known, Situation, present_system, IsPhase, IsSituation, seat_at, asked, handed, seen, aborted, jumped, env_jumped, frozen, thawed, died, joining, join_of, unexplained, report_text, Asks, Hands, Sees, Aborts, Jumps, EnvJumps, Changing, Changes, Freezes, Thaws, Dies, Joins, freezing, thawing, dying, growing, Explains, Does, StepOn, StepBy, Step, offer_text, parts_after, Handing, Joining, Jump, Sight, Phase, Idle, Offered, Delegated, seat_is, checked, asked_is, handed_is, jumped_is, env_jumped_is, frozen_is, thawed_is, died_is, joining_idle, cells_with, AreBehaviours}
+use Rattle.roman_model.specs.System.{TStep, SStep}
+use Rattle.roman_model.specs.Arena.{replay}
 use Rattle.roman_model.specs.Change.{CanChange, rename, after}
-use Rattle.roman_model.specs.Explanation.{name_at, explain_text}
-use Rattle.roman_model.specs.declared.limits.TheConstants.{MAX_SERVICES}
-use Rattle.roman_model.proofs.CallerLemmas.{by_test, any_true, any_false, sublist_in, same_numbers_is, same_numbers_itself, from_allowed, outcome_in, from_outcome, replay_sublist, renaming_keeps, order_goes_on, there_is}
-use Rattle.roman_read.proofs.CallerLemmas.{bind_ok}
-use Rattle.roman_text.specs.Shapes.{LineShape, nothing, ask, hand, saw, abort, freeze, thaw, die, join, jump, jump_env, report, explain, quit, shape_of}
-use Rattle.roman_text.specs.Replies.{reply_text}
-use Rattle.roman_text.specs.declared.errors.LineError.{LineError}
-use Rattle.roman_text.specs.declared.replies.Reply.{Reply}
+use Rattle.roman_model.proofs.CallerLemmas.{any_false, sublist_in, replay_sublist, renaming_keeps, order_goes_on}
 use Rattle.roman_text.specs.declared.replies.Reply.TheVariants as reply
-use Rattle.roman_joint.specs.NamedSys.{IsNamedSys, seat_of}
 use Rattle.roman_joint.specs.NamedSys as joint
-use Rattle.roman_joint.specs.Names.{names_in}
-use Rattle.roman_joint.proofs.CallerLemmas.{frozen_system, frozen_known, gone_system, gone_known, joined_system, joined_known}
-use Rattle.roman_session.specs.Situations.{Situation, present_system, IsPhase, IsSituation}
-use Rattle.roman_session.specs.Rulings.{seat_at, asked, handed, seen, aborted, jumped, env_jumped, frozen, thawed, died, joining, join_of, unexplained}
-use Rattle.roman_session.specs.Reports.{report_text}
-use Rattle.roman_session.specs.Steps.{Asks, Hands, Sees, Aborts, Jumps, EnvJumps, Changing, Changes, Freezes, Thaws, Dies, Joins, freezing, thawing, dying, growing, Explains, Says, Does, StepOn, StepBy, Step, CanBe, pair_after, offer_text, service_at, parts_after}
-use Rattle.roman_session.specs.declared.events.Handing.{Handing}
-use Rattle.roman_session.specs.declared.events.Joining.{Joining}
-use Rattle.roman_session.specs.declared.events.Jump.{Jump}
-use Rattle.roman_generator.specs.declared.sight.Sight.{Sight}
-use Rattle.roman_session.specs.declared.phase.Phase.{Phase}
-use Rattle.roman_session.specs.declared.phase.Phase.TheVariants.{Idle, Offered, Delegated}
-use Rattle.roman_session.proofs.CallerLemmas.{seat_is, checked, asked_is, handed_is, seen_is, jumped_is, env_jumped_is, frozen_is, thawed_is, died_is, joining_idle, cells_with}
-use Rattle.roman_hearing.specs.Known.{AreBehaviours}
+use Rattle.roman_session.specs.Steps.{Says, CanBe, pair_after, service_at}
+use Rattle.roman_session.proofs.CallerLemmas.{seen_is}
 use Rattle.roman_hearing.proofs.WithinLemmas.{seat_within, joining_new, joining_beh}
 
 -- ---- situations from which a session can go on

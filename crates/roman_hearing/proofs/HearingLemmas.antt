@@ -1,23 +1,17 @@
 -- Bytes that are read one after another.
 use Rattle.std.proofs.Common.{◌≡◌, ℕ, ◌+◌, ◌<◌, ◌≤◌, true, false, List, [], ◌∷◌, ◌++◌, length, take, drop, get_or, min, nat_lt, Option, Result, Ok, Err, IsTrue, IsFalse, refl, sym, ap, ◌∙◌, subst, arith, append_assoc, append-nil, eqb-true}
-use Rattle.std.proofs.lemmas.Bool.{cond-true, cond-false}
+use Rattle.roman_hearing.proofs.Common.{cond-true, cond-false, kept-nil, lines_rest, lines_none, lines, ended_lines, by_test, unfinished, kept, shape_of, Situation, IsSituation, Step, Next, ends_session, has_quit, cursor, Tells, TellsPrefix, reader_state, IsHearing, StopsAtQuit, FallsShort, FailsIn}
 use Rattle.std.proofs.lemmas.List.{take_all, take_min, take_more, take-append-drop}
 use Rattle.roman_io.specs.Sink.{Wrote, WrotePrefix}
 use Rattle.roman_io.specs.declared.failed.Failed.{Failed}
 use Rattle.roman_io.proofs.CallerLemmas.{Wrote-then, WrotePrefix-after}
 use Rattle.roman_text.specs.Pages.{Gathered}
-use Rattle.roman_text.proofs.CallerLemmas.{Gathered-empty, Gathered-then, Gathered-put, WrotePrefix-gathered, ended_lines-newline, ended_lines-other, unfinished-newline, unfinished-nil, unfinished-other, kept-nil, kept-push, lines_rest, lines_none}
-use Rattle.roman_model.specs.Lines.{lines, ended_lines}
-use Rattle.roman_model.proofs.CallerLemmas.{by_test}
-use Rattle.roman_text.specs.Lines.{is_newline, unfinished, kept}
-use Rattle.roman_text.specs.Shapes.{shape_of}
-use Rattle.roman_session.specs.Situations.{Situation, IsSituation}
-use Rattle.roman_session.specs.Steps.{Step}
+use Rattle.roman_text.proofs.CallerLemmas.{Gathered-empty, Gathered-then, Gathered-put, WrotePrefix-gathered, ended_lines-newline, ended_lines-other, unfinished-newline, unfinished-nil, unfinished-other, kept-push}
+use Rattle.roman_text.specs.Lines.{is_newline}
 use Rattle.roman_session.specs.Answering.{AnsweredOn, next_of}
-use Rattle.roman_session.specs.declared.next.Next.{Next}
 use Rattle.roman_session.specs.declared.next.Next.TheVariants.{More, Quit}
-use Rattle.roman_hearing.specs.Hearing.{ends_session, has_quit, Cursor, cursor, Tells, TellsPrefix}
-use Rattle.roman_hearing.specs.HearingBytes.{reader_state, TellsOnPage, IsHearing, StopsAtQuit, FallsShort, FailsIn, HearsBytes}
+use Rattle.roman_hearing.specs.Hearing.{Cursor}
+use Rattle.roman_hearing.specs.HearingBytes.{TellsOnPage, HearsBytes}
 use Rattle.roman_hearing.proofs.HearingLines.{quit_last, quitless_last, told_push}
 
 -- ---- one line

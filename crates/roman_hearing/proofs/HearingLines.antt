@@ -1,17 +1,9 @@
 -- The replies to consecutive lines, up to the first line that ends the session.
 use Rattle.std.proofs.Common.{◌≡◌, ℕ, false, List, [], ◌∷◌, ◌++◌, length, take, drop, nat_lt, nat_le, IsTrue, IsFalse, refl, sym, ap, ◌∙◌, subst, append_assoc, append-nil, take-append-drop, if◌then◌else◌}
-use Rattle.std.proofs.lemmas.Bool.{cond-true, cond-false, or_parts, or_from, or_left, or_right}
+use Rattle.roman_hearing.proofs.Common.{cond-true, cond-false, or_parts, or_from, or_left, or_right, lines, ended_lines, by_test, unfinished, kept, shape_of, lines_rest, lines_none, Situation, Step, until_quit, Answers, Told, MAX_SESSION_BYTES, ends_session, has_quit, is_heard_out, heard_lines}
 use Rattle.std.proofs.lemmas.List.Folds.{list_any-append}
-use Rattle.roman_model.specs.Lines.{lines, ended_lines}
-use Rattle.roman_model.proofs.CallerLemmas.{by_test}
-use Rattle.roman_text.specs.Lines.{unfinished, kept}
-use Rattle.roman_text.specs.Shapes.{shape_of}
-use Rattle.roman_text.proofs.CallerLemmas.{ended_lines-append, lines_rest, lines_none}
-use Rattle.roman_session.specs.Situations.{Situation}
-use Rattle.roman_session.specs.Steps.{is_quit, Step}
-use Rattle.roman_hearing.specs.Told.{until_quit, Answers, Told}
-use Rattle.roman_model.specs.declared.limits.TheConstants.{MAX_SESSION_BYTES}
-use Rattle.roman_hearing.specs.Hearing.{ends_session, has_quit, is_heard_out, heard_lines}
+use Rattle.roman_text.proofs.CallerLemmas.{ended_lines-append}
+use Rattle.roman_session.specs.Steps.{is_quit}
 
 -- ---- lines of bytes with more bytes after them
 

@@ -1,14 +1,6 @@
 -- Steps of a session change no parts but the services.
 use Rattle.std.proofs.Common.{◌≡◌, ℕ, List, [], ◌∷◌, Result, Ok, Err, inl, inr, refl, sym, ap, ◌∙◌, subst}
-use Rattle.roman_text.specs.Shapes.{LineShape, nothing, ask, hand, saw, abort, freeze, thaw, die, join, jump, jump_env, report, explain, quit, shape_of}
-use Rattle.roman_text.specs.declared.errors.LineError.{LineError}
-use Rattle.roman_text.specs.declared.replies.Reply.{Reply}
-use Rattle.roman_joint.specs.NamedSys.{NamedSys}
-use Rattle.roman_session.specs.Situations.{Situation}
-use Rattle.roman_session.specs.Rulings.{asked, handed, seen, aborted, jumped, env_jumped, frozen, thawed, died, join_of, unexplained}
-use Rattle.roman_session.specs.Steps.{Asks, Hands, Sees, Aborts, Jumps, EnvJumps, Freezes, Thaws, Dies, Joins, Explains, Does, StepOn, StepBy, Step}
-use Rattle.roman_hearing.specs.Told.{Answers}
-use Rattle.roman_hearing.specs.Known.{AreBehaviours}
+use Rattle.roman_hearing.proofs.Common.{LineShape, nothing, ask, hand, saw, abort, freeze, thaw, die, join, jump, jump_env, report, explain, quit, shape_of, LineError, Reply, NamedSys, Situation, asked, handed, seen, aborted, jumped, env_jumped, frozen, thawed, died, join_of, unexplained, Asks, Hands, Sees, Aborts, Jumps, EnvJumps, Freezes, Thaws, Dies, Joins, Explains, Does, StepOn, StepBy, Step, Answers, AreBehaviours}
 
 -- all parts but the services stay the same
 abbrev pub Keeps : Situation → Situation → Type 0

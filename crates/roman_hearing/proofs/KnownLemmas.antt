@@ -1,29 +1,12 @@
 -- Steps lead from well-formed situations to well-formed ones.
 use Rattle.std.proofs.Common.{◌≡◌, ℕ, ◌<◌, Bool, true, false, List, ◌++◌, length, Result, Ok, Err, inl, inr, slice_set, nat_lt, nat_le, refl, sym, subst, arith, ltb-true, leb-true}
-use Rattle.std.proofs.lemmas.Option.{get_or_from_slice_get}
-use Rattle.roman_model.specs.System.{Sys, IsPair}
-use Rattle.roman_model.specs.CompleteLists.{IsComplete}
-use Rattle.roman_model.specs.Offers.{offers}
-use Rattle.roman_model.specs.declared.limits.TheConstants.{MAX_SERVICES}
-use Rattle.roman_model.proofs.CallerLemmas.{IsPair-turned, IsPair-grown, IsPair-without, number_listed, there_is}
-use Rattle.roman_read.proofs.CallerLemmas.{same_ok, bind_ok}
-use Rattle.roman_text.specs.Shapes.{LineShape, nothing, ask, hand, saw, abort, freeze, thaw, die, join, jump, jump_env, report, explain, quit, shape_of}
-use Rattle.roman_text.specs.declared.errors.LineError.{LineError}
-use Rattle.roman_text.specs.declared.replies.Reply.{Reply}
+use Rattle.roman_hearing.proofs.Common.{get_or_from_slice_get, Sys, IsPair, IsComplete, offers, MAX_SERVICES, number_listed, there_is, same_ok, bind_ok, LineShape, nothing, ask, hand, saw, abort, freeze, thaw, die, join, jump, jump_env, report, explain, quit, shape_of, LineError, Reply, IsNamedSys, seat_of, frozen_system, frozen_known, gone_system, gone_known, joined_system, joined_known, Situation, present_system, IsPhase, IsSituation, seat_at, asked, handed, seen, aborted, jumped, env_jumped, frozen, thawed, died, joining, join_of, unexplained, Asks, Hands, Sees, Aborts, Jumps, EnvJumps, Changing, Changes, Freezes, Thaws, Dies, Joins, freezing, thawing, dying, growing, Explains, Does, StepOn, StepBy, Step, parts_after, Handing, Joining, Jump, Sight, Idle, checked, asked_is, handed_is, jumped_is, env_jumped_is, frozen_is, thawed_is, died_is, joining_idle, cells_with, AreBehaviours, AreNamed}
+use Rattle.roman_model.proofs.CallerLemmas.{IsPair-turned, IsPair-grown, IsPair-without}
 use Rattle.roman_text.specs.declared.replies.Reply.TheVariants as reply
-use Rattle.roman_joint.specs.NamedSys.{IsNamedSys, seat_of}
 use Rattle.roman_joint.specs.NamedSys as joint
-use Rattle.roman_joint.proofs.CallerLemmas.{frozen_system, frozen_known, gone_system, gone_known, joined_system, joined_known}
-use Rattle.roman_session.specs.Situations.{Situation, present_system, IsOpen, IsPhase, IsSituation}
-use Rattle.roman_session.specs.Rulings.{seat_at, asked, handed, seen, aborted, jumped, env_jumped, frozen, thawed, died, joining, join_of, unexplained}
-use Rattle.roman_session.specs.Steps.{Asks, Hands, Sees, Aborts, Jumps, EnvJumps, Changing, Changes, Freezes, Thaws, Dies, Joins, freezing, thawing, dying, growing, Explains, Does, StepOn, StepBy, Step, parts_after}
-use Rattle.roman_session.specs.declared.events.Handing.{Handing}
-use Rattle.roman_session.specs.declared.events.Joining.{Joining}
-use Rattle.roman_session.specs.declared.events.Jump.{Jump}
-use Rattle.roman_generator.specs.declared.sight.Sight.{Sight}
-use Rattle.roman_session.specs.declared.phase.Phase.TheVariants.{Idle}
-use Rattle.roman_session.proofs.CallerLemmas.{checked, asked_is, handed_is, jumped_is, env_jumped_is, frozen_is, thawed_is, died_is, joining_idle, cells_with, jumped_pair, moved_pair}
-use Rattle.roman_hearing.specs.Known.{AreBehaviours, AreNamed, StepsStayKnown}
+use Rattle.roman_session.specs.Situations.{IsOpen}
+use Rattle.roman_session.proofs.CallerLemmas.{jumped_pair, moved_pair}
+use Rattle.roman_hearing.specs.Known.{StepsStayKnown}
 use Rattle.roman_hearing.proofs.KeepLemmas.{line_keeps}
 use Rattle.roman_hearing.proofs.WithinLemmas.{named_within, seat_within, state_within, joining_new, joining_beh}
 

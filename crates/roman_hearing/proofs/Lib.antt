@@ -1,3 +1,4 @@
+pub mod Common
 pub mod OfferLemmas
 pub mod ReportLemmas
 pub mod HearingLines

@@ -1,13 +1,7 @@
 -- A service that isn't offered would fail.
 use Rattle.std.proofs.Common.{◌≡◌, ℕ, not, ◌⊎◌, inl, inr, [], IsTrue, IsFalse}
-use Rattle.std.specs.List.{list_any}
-use Rattle.std.proofs.lemmas.Bool.{or_cases, not-true}
-use Rattle.roman_model.specs.Lists.{IsIn, is_empty}
-use Rattle.roman_model.specs.System.{Sys, Pair}
-use Rattle.roman_model.specs.SystemArena.{outcomes, arena}
-use Rattle.roman_model.specs.Arena.{is_beaten}
-use Rattle.roman_model.specs.Offers.{is_related}
-use Rattle.roman_model.proofs.CallerLemmas.{by_test, empty_is, any_true, in_mask}
+use Rattle.roman_hearing.proofs.Common.{list_any, or_cases, not-true, IsIn, is_empty, Sys, Pair, outcomes, arena, is_beaten, is_related, by_test, empty_is, any_true}
+use Rattle.roman_model.proofs.CallerLemmas.{in_mask}
 use Rattle.roman_hearing.specs.Laws.{NotOfferedFails}
 
 -- a seat that is beaten has no outcome, or an outcome whose pair isn't related

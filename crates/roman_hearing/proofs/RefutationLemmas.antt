@@ -1,24 +1,17 @@
 -- The explanation of a pair that isn't related is a removal list in terms of steps, and the opponent who plays by it wins.
 use Rattle.std.proofs.Common.{◌≡◌, ℕ, zero, suc, ◌+◌, ◌<◌, ◌==◌, Bool, true, false, not, ◌&&◌, ◌||◌, List, [], ◌∷◌, ◌++◌, length, codes, Option, None, Some, IsTrue, IsFalse, inl, inr, filter, find, slice_get, refl, sym, ap, ◌∙◌, subst, arith, append_assoc, eqb-true, eq-eqb}
-use Rattle.std.specs.List.{list_any}
+use Rattle.roman_hearing.proofs.Common.{list_any, false≢true, both_ways, and_parts, and_from, or_cases, or_parts, not-true, cond-true, cond-false, IsIn, below, is_empty, text_of_lines, Seat, Sys, Pair, IsSys, is_final, arena, outcomes, same_numbers, Entry, is_beaten, Great, explain_text, by_test, empty_is, filter_in, in_filter, filter_sublist, in_below, listed_in, in_listed, from_allowed, from_outcome, outcome_in, same_numbers_is, same_numbers_itself, names_in, Situation, present_system, IsSituation, shown, IsReady, Refutes}
 use Rattle.std.specs.Option.{option_to_list}
-use Rattle.std.proofs.lemmas.Bool.{false≢true, both_ways, and_parts, and_from, or_cases, or_parts, not-true, cond-true, cond-false}
 use Rattle.std.proofs.lemmas.Option.{none-some, slice_get_within}
-use Rattle.roman_model.specs.Lists.{IsIn, below, is_empty}
-use Rattle.roman_model.specs.Lines.{text_of_lines}
-use Rattle.roman_model.specs.System.{Seat, Sys, Pair, IsSys, is_final, all_final}
-use Rattle.roman_model.specs.SystemArena.{arena, outcomes, is_ready, same_numbers}
-use Rattle.roman_model.specs.Arena.{Entry, is_listed, is_beaten, is_justified, IsOrder}
-use Rattle.roman_model.specs.Composition.{Great}
-use Rattle.roman_model.specs.Explanation.{Names, entries_before, answer, ready_seats, answers, rests_on, explanation, lost_line, answer_lines, entry_lines, explain_text}
+use Rattle.roman_model.specs.System.{all_final}
+use Rattle.roman_model.specs.SystemArena.{is_ready}
+use Rattle.roman_model.specs.Arena.{is_listed, is_justified, IsOrder}
+use Rattle.roman_model.specs.Explanation.{Names, entries_before, answer, ready_seats, answers, rests_on, explanation, lost_line, answer_lines, entry_lines}
 use Rattle.roman_model.specs.declared.reason.Reason.{Reason}
 use Rattle.roman_model.specs.declared.reason.Reason.TheVariants.{Final, Act}
-use Rattle.roman_model.proofs.CallerLemmas.{IsSame, by_test, empty_is, filter_in, in_filter, filter_sublist, find_some, find_found, in_append_right, in_append_left, from_push, in_below, in_flat_map, flat_map_same, justified_is, listed_in, in_listed, order_middle, before_is, explanation_is_order, explanation_is_least, from_allowed, from_outcome, outcome_in, same_numbers_is, same_numbers_itself}
-use Rattle.roman_joint.specs.Names.{names_in}
-use Rattle.roman_session.specs.Situations.{Situation, present_system, IsSituation}
-use Rattle.roman_hearing.specs.Known.{shown}
+use Rattle.roman_model.proofs.CallerLemmas.{IsSame, find_some, find_found, in_append_right, in_append_left, from_push, in_flat_map, flat_map_same, justified_is, order_middle, before_is, explanation_is_order, explanation_is_least}
 use Rattle.roman_hearing.specs.Refutations.{MayAnswer, IsLost, AreLost, WinsBy}
-use Rattle.roman_hearing.specs.Words.{IsReady, lines_of_answers, Refutes}
+use Rattle.roman_hearing.specs.Words.{lines_of_answers}
 
 -- pairs of an arena with the same number are equal
 pub pairs_same : (s : Sys) → IsSame (arena s)

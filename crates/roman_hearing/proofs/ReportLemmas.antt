@@ -1,15 +1,11 @@
 -- The report of a session equals the report of the library that begins where the session stands.
 use Rattle.std.proofs.Common.{◌≡◌, ℕ, ◌<◌, List, [], ◌∷◌, map, refl, ap, sym, ◌∙◌, subst}
 use Rattle.std.specs.List.{AllZip}
-use Rattle.roman_parts.specs.Named.{NamedBeh}
-use Rattle.roman_joint.specs.NamedSys.{NamedSys, seat_of, system_of}
+use Rattle.roman_hearing.proofs.Common.{NamedBeh, NamedSys, seat_of, system_of, Beh, IsBeh, IsSys, IsPair, Situation, IsSituation, lines_text, report_text, afresh, shown}
 use Rattle.roman_joint.specs.declared.seat.Seat.{Seat}
-use Rattle.roman_model.specs.System.{Beh, Env, IsBeh, IsSys, IsPair}
-use Rattle.roman_session.specs.Situations.{Situation, IsSituation}
-use Rattle.roman_session.specs.Reports.{lines_text, report_text}
+use Rattle.roman_model.specs.System.{Env}
 use Rattle.roman_start.specs.Starts.{seat_of_service, parts_of, start_pair_of}
-use Rattle.roman_hearing.specs.Afresh.{services_in, afresh}
-use Rattle.roman_hearing.specs.Known.{shown}
+use Rattle.roman_hearing.specs.Afresh.{services_in}
 use Rattle.roman_hearing.specs.Laws.{ReportsAreAfresh}
 
 -- the present services give the same seats again

@@ -1,40 +1,17 @@
 -- Each step of a session is a turn.
 use Rattle.std.proofs.Common.{◌≡◌, ℕ, ◌+◌, ◌<◌, ◌≤◌, Bool, true, false, not, List, [], map, length, get_or, Option, None, Some, ok_or, is_none, is_ok, Result, Ok, Err, IsTrue, IsFalse, inl, inr, slice_get, nat_lt, nat_le, refl, sym, ap, ◌∙◌, subst, arith, ltb-true, leb-true}
-use Rattle.std.specs.Str.{bytes_eq}
-use Rattle.std.proofs.lemmas.Bool.{false≢true, both_ways, not-true, lt-ltb, le-leb}
-use Rattle.std.proofs.lemmas.List.{length-map}
-use Rattle.std.proofs.lemmas.List.Quantifiers.{position-Some}
-use Rattle.std.proofs.lemmas.Option.{get_or_from_slice_get, slice_get-get_or, same_Some}
+use Rattle.roman_hearing.proofs.Common.{bytes_eq, false≢true, both_ways, not-true, length-map, position-Some, get_or_from_slice_get, IsIn, Seat, Sys, is_allowed, Great, name_at, seat_names, is_related, offers, MAX_SERVICES, allowed_in, from_allowed, related_great, great_related, number_listed, is_name, place_of, reply_text, LineShape, nothing, ask, hand, saw, abort, freeze, thaw, die, join, jump, jump_env, report, explain, quit, shape_of, LineError, Reply, seat_of, system_of, seat_name, beh_name, states_of_behaviour, names_in, joined_system, Situation, present_system, is_idle, IsPhase, named, seat_at, asked, handed, seen, aborted, jumped, env_jumped, frozen, thawed, died, joining, join_of, unexplained, Asks, Hands, Sees, Aborts, Jumps, EnvJumps, Changing, Changes, Freezes, Thaws, Dies, Joins, freezing, thawing, dying, growing, Explains, Does, StepBy, Step, offer_text, parts_after, Handing, Joining, Phase, Idle, Offered, Delegated, name_is_new, seat_is, cells_with, State, IsGreat, MayAsk, shown, IsKnownSituation, Counts, IsReady, Refutes}
+use Rattle.std.proofs.lemmas.Bool.{lt-ltb, le-leb}
+use Rattle.std.proofs.lemmas.Option.{slice_get-get_or, same_Some}
 use Rattle.std.proofs.lemmas.Slice.Eq.{bytes_eq-Decides}
-use Rattle.roman_model.specs.Lists.{IsIn}
-use Rattle.roman_model.specs.System.{Seat, Sys, has}
-use Rattle.roman_model.specs.SystemArena.{is_allowed}
-use Rattle.roman_model.specs.Composition.{Great}
-use Rattle.roman_model.specs.Explanation.{name_at, seat_names}
-use Rattle.roman_model.specs.Offers.{is_related, offers}
-use Rattle.roman_model.specs.declared.limits.TheConstants.{MAX_SERVICES}
-use Rattle.roman_model.proofs.CallerLemmas.{allowed_in, from_allowed, related_great, great_related, get_in, listed_number, number_listed}
+use Rattle.roman_model.specs.System.{has}
+use Rattle.roman_model.proofs.CallerLemmas.{get_in, listed_number}
 use Rattle.roman_read.specs.Items.{◌>>=◌}
-use Rattle.roman_read.specs.Names.{is_name, place_of}
-use Rattle.roman_text.specs.Replies.{reply_text}
-use Rattle.roman_text.specs.Shapes.{LineShape, nothing, ask, hand, saw, abort, freeze, thaw, die, join, jump, jump_env, report, explain, quit, shape_of}
-use Rattle.roman_text.specs.declared.errors.LineError.{LineError}
-use Rattle.roman_text.specs.declared.replies.Reply.{Reply}
 use Rattle.roman_text.specs.declared.replies.Reply.TheVariants as reply
-use Rattle.roman_joint.specs.NamedSys.{seat_of, system_of, cells}
-use Rattle.roman_joint.specs.Names.{seat_name, beh_name, states_of_behaviour, names_in}
-use Rattle.roman_joint.proofs.CallerLemmas.{joined_system}
-use Rattle.roman_session.specs.Situations.{Situation, present_system, is_idle, IsPhase}
-use Rattle.roman_session.specs.Rulings.{named, demand, check_idle, offered_action, delegation, seat_at, asked, handed, seen, aborted, jumped, env_jumped, frozen, thawed, died, joining, join_of, with_room, unexplained}
-use Rattle.roman_session.specs.Steps.{Asks, Hands, Sees, Aborts, Jumps, EnvJumps, Changing, Changes, Freezes, Thaws, Dies, Joins, freezing, thawing, dying, growing, Explains, Does, StepBy, Step, offer_text, parts_after}
-use Rattle.roman_session.specs.declared.events.Handing.{Handing}
-use Rattle.roman_session.specs.declared.events.Joining.{Joining}
-use Rattle.roman_session.specs.declared.phase.Phase.{Phase}
-use Rattle.roman_session.specs.declared.phase.Phase.TheVariants.{Idle, Offered, Delegated}
-use Rattle.roman_session.proofs.CallerLemmas.{name_is_new, seat_is, cells_with}
-use Rattle.roman_hearing.specs.States.{State, IsGreat, MayAsk, ServesHere}
-use Rattle.roman_hearing.specs.Known.{shown, IsKnownSituation}
-use Rattle.roman_hearing.specs.Words.{Replies, Counts, OffersServing, CountsLost, IsReady, Refutes}
+use Rattle.roman_joint.specs.NamedSys.{cells}
+use Rattle.roman_session.specs.Rulings.{demand, check_idle, offered_action, delegation, with_room}
+use Rattle.roman_hearing.specs.States.{ServesHere}
+use Rattle.roman_hearing.specs.Words.{Replies, OffersServing, CountsLost}
 use Rattle.roman_hearing.specs.Turns.{Needs, Unless, Place, ComesTo, Refuses}
 use Rattle.roman_hearing.specs.Laws.{StepsAreTurns}
 use Rattle.roman_hearing.proofs.RefutationLemmas.{refutes}

@@ -1,28 +1,16 @@
 -- What an event names is in range: the place of a service, a state or a behaviour.
 use Rattle.std.proofs.Common.{◌≡◌, ℕ, ◌<◌, Bool, List, [], map, length, Option, None, Some, ok_or, is_none, is_ok, IfSome, false, Ok, IsTrue, slice_get, refl, sym, ap, ◌∙◌, subst, arith}
 use Rattle.std.specs.List.{position}
-use Rattle.std.specs.Str.{bytes_eq}
-use Rattle.std.proofs.lemmas.List.{length-map}
-use Rattle.std.proofs.lemmas.List.Quantifiers.{position-Some}
+use Rattle.roman_hearing.proofs.Common.{bytes_eq, length-map, position-Some, get_or_from_slice_get, Seat, IsBeh, Beh, seat_names, there_is, is_name, place_of, same_ok, bind_ok, NamedBeh, beh_at, seat_name, beh_name, states_of_behaviour, names_in, beh_read, Situation, present_system, is_idle, IsSituation, named, joining, Joining, name_is_new, checked, AreBehaviours}
 use Rattle.std.proofs.lemmas.List.Elements.{All-get_or}
-use Rattle.std.proofs.lemmas.Option.{get_or_from_slice_get}
-use Rattle.roman_model.specs.System.{Seat, IsBeh, Beh}
-use Rattle.roman_model.specs.Explanation.{seat_names}
-use Rattle.roman_model.proofs.CallerLemmas.{there_is}
-use Rattle.roman_read.specs.Names.{is_name, place_of}
-use Rattle.roman_read.proofs.CallerLemmas.{same_ok, bind_ok}
 use Rattle.roman_text.specs.declared.replies.Reply.TheVariants as reply
-use Rattle.roman_parts.specs.Named.{NamedBeh, IsBehaviour}
-use Rattle.roman_joint.specs.NamedSys.{beh_at}
-use Rattle.roman_joint.specs.Names.{seat_name, beh_name, beh_states, states_of_behaviour, names_in}
-use Rattle.roman_joint.proofs.CallerLemmas.{beh_read, seat_read}
+use Rattle.roman_parts.specs.Named.{IsBehaviour}
+use Rattle.roman_joint.specs.Names.{beh_states}
+use Rattle.roman_joint.proofs.CallerLemmas.{seat_read}
 use Rattle.roman_joint.specs.declared.seat.Seat.{Seat as Place}
-use Rattle.roman_session.specs.Situations.{Situation, present_system, is_idle, IsSituation}
 use Rattle.roman_session.specs.Joins.{CanJoin}
-use Rattle.roman_session.specs.Rulings.{named, service_named, state_named, joining}
-use Rattle.roman_session.specs.declared.events.Joining.{Joining}
-use Rattle.roman_session.proofs.CallerLemmas.{name_is_new, checked, mapped_at, states_named}
-use Rattle.roman_hearing.specs.Known.{AreBehaviours}
+use Rattle.roman_session.specs.Rulings.{service_named, state_named}
+use Rattle.roman_session.proofs.CallerLemmas.{mapped_at, states_named}
 
 -- the number of a name is below the number of names
 pub named_within : (names : List (List ℕ)) (name : List ℕ) (i : ℕ) → named names name ≡ Ok i → i < length names

@@ -1,31 +1,18 @@
 -- Offers, counts and reports are right by the greatest ND-simulation.
 use Rattle.std.proofs.Common.{◌≡◌, ℕ, ◌+◌, Bool, List, [], ◌∷◌, ◌++◌, map, length, cond, true, false, IsTrue, ◌↔◌, refl, sym, ap₂, ◌∙◌, subst, length-append}
 use Rattle.std.specs.List.{flat_map, filter}
-use Rattle.std.proofs.lemmas.Bool.{both_ways}
-use Rattle.std.proofs.lemmas.List.{length-map}
-use Rattle.roman_model.specs.Lists.{IsIn, IsSublist, below}
-use Rattle.roman_model.specs.System.{Sys, Pair, IsSys, IsPair, is_final}
-use Rattle.roman_model.specs.SystemArena.{arena, is_allowed, pairs}
-use Rattle.roman_model.specs.Arena.{Entry}
-use Rattle.roman_model.specs.CompleteLists.{IsComplete}
-use Rattle.roman_model.specs.Composition.{Great}
-use Rattle.roman_model.specs.Explanation.{name_at}
+use Rattle.roman_hearing.proofs.Common.{both_ways, length-map, IsIn, below, Sys, Pair, IsSys, IsPair, is_final, arena, is_allowed, Entry, IsComplete, Great, name_at, is_related, offers, filter_sublist, filter_in, in_filter, in_below, allowed_in, from_allowed, related_great, great_related, in_listed, listed_in, from_map, system_of, seat_name, Situation, present_system, IsPhase, IsSituation, lines_text, report_text, Phase, Idle, Offered, Delegated, shown, State, IsGreat, MayAsk, afresh, Counts}
+use Rattle.roman_model.specs.Lists.{IsSublist}
+use Rattle.roman_model.specs.SystemArena.{pairs}
 use Rattle.roman_model.specs.Numbers.{sizes_of, count}
-use Rattle.roman_model.specs.Offers.{is_related, offers, related_count}
-use Rattle.roman_model.proofs.CallerLemmas.{filter_sublist, sublist_none, filter_in, in_filter, HasNoRepeats-filter, in_below, allowed_in, from_allowed, allowed_in_range, from_pairs, in_pairs, pairs_once, length-pairs, related_great, great_related, offers_are, order_new, new_once, in_listed, listed_in, from_map, in_map}
+use Rattle.roman_model.specs.Offers.{related_count}
+use Rattle.roman_model.proofs.CallerLemmas.{sublist_none, HasNoRepeats-filter, allowed_in_range, from_pairs, in_pairs, pairs_once, length-pairs, offers_are, order_new, new_once, in_map}
 use Rattle.roman_text.specs.declared.report.ReportLine.{ReportLine}
 use Rattle.roman_text.specs.declared.report.ReportLine.TheVariants as line
-use Rattle.roman_joint.specs.NamedSys.{system_of}
-use Rattle.roman_joint.specs.Names.{seat_name}
-use Rattle.roman_session.specs.Situations.{Situation, present_system, IsPhase, IsSituation}
-use Rattle.roman_session.specs.Reports.{lines_text, report_text, service_lines, offer_line}
-use Rattle.roman_session.specs.declared.phase.Phase.{Phase}
-use Rattle.roman_session.specs.declared.phase.Phase.TheVariants.{Idle, Offered, Delegated}
-use Rattle.roman_hearing.specs.Known.{shown}
+use Rattle.roman_session.specs.Reports.{service_lines, offer_line}
 use Rattle.roman_hearing.specs.Laws.{OpenIsGreat}
-use Rattle.roman_hearing.specs.States.{State, start_state, IsGreat, MayAsk, IsOpenGreat}
-use Rattle.roman_hearing.specs.Afresh.{afresh}
-use Rattle.roman_hearing.specs.Words.{AreServing, Counts, ReportsGreat}
+use Rattle.roman_hearing.specs.States.{start_state, IsOpenGreat}
+use Rattle.roman_hearing.specs.Words.{AreServing, ReportsGreat}
 use Rattle.roman_hearing.proofs.RefutationLemmas.{pairs_same}
 use Rattle.roman_hearing.proofs.ReportLemmas.{reports_afresh, afresh_known}
 

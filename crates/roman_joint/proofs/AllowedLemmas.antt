@@ -1,21 +1,9 @@
 -- Allowed actions and clause 2 at the pairs of a row.
 use Rattle.std.proofs.Common.{◌≡◌, ℕ, ◌+◌, ◌*◌, ◌<◌, ◌≤◌, Bool, true, false, not, ◌&&◌, ◌||◌, length, refl, sym, ap, ap₂, ◌∙◌, arith, zero, suc, eqb, List, [], ◌∷◌, inl, inr, slice_get, slice_index}
-use Rattle.std.proofs.lemmas.Bool.{both_ways, cases_eq}
-use Rattle.roman_model.specs.Lists.{is_empty, all_below}
-use Rattle.roman_model.proofs.CallerLemmas.{by_test, all_below_at, all_below_from, AreBelow-length, IsPairOf-at}
-use Rattle.roman_model.specs.System.{Sys, Seat, is_final, all_final}
-use Rattle.roman_model.specs.SystemArena.{is_allowed, env_next, beh_next}
-use Rattle.roman_model.specs.Arena.{is_beaten, is_justified}
-use Rattle.roman_model.specs.declared.reason.Reason.TheVariants.{Act}
-use Rattle.roman_model.specs.Numbers.{sizes_of, pair_at, numbered}
-use Rattle.roman_rules.specs.Numbered.{IsNumbered}
+use Rattle.roman_joint.proofs.Common.{both_ways, cases_eq, is_empty, all_below, by_test, AreBelow-length, IsPairOf-at, Sys, Seat, is_final, all_final, is_allowed, env_next, beh_next, is_beaten, is_justified, Act, sizes_of, pair_at, numbered, IsNumbered, lanes_in, IsRow, IsTargetMove, may_rest, Row, TargetMove, and-true, and_assoc, nat_tests, length-map}
+use Rattle.roman_model.proofs.CallerLemmas.{all_below_at, all_below_from}
 use Rattle.roman_joint.proofs.ArenaFacts.{beaten_where}
-use Rattle.roman_joint.specs.Rows.{lanes_in, IsRow, IsTargetMove, is_open, may_rest}
-use Rattle.roman_joint.specs.declared.row.Row.{Row}
-use Rattle.roman_joint.specs.declared.turn.TargetMove.{TargetMove}
-use Rattle.std.proofs.Math.Bool.{and-true, and_assoc}
-use Rattle.std.proofs.lemmas.Bool.Decides.{nat_tests}
-use Rattle.std.proofs.lemmas.List.{length-map}
+use Rattle.roman_joint.specs.Rows.{is_open}
 
 pub open_here : (s : Sys) (row : Row) (x a lane : ℕ) → IsRow s x row → lane < lanes_in s → is_allowed s (pair_at (sizes_of s) (x * lanes_in s + lane)) a ≡ is_open s row a
 open_here s row x a lane ok l = ap₂ (λ t e. not (is_empty (env_next s.env e a)) && not (is_empty (beh_next s.target t e a))) (ok.targets lane l) (ok.envs lane l)

@@ -1,12 +1,7 @@
 -- Arenas over numbers keep the laws of arenas.
 use Rattle.std.proofs.Common.{◌≡◌, ℕ, ◌*◌, Bool, true, ◌||◌, length, refl, sym, ap, arith}
-use Rattle.std.specs.List.{list_any}
-use Rattle.roman_model.specs.Lists.{IsIn, below}
-use Rattle.roman_model.specs.Arena.{Arena, is_beaten}
-use Rattle.roman_model.proofs.CallerLemmas.{by_test, not_empty_in, in_below, from_below, length-below, IsArena, numbered_is_arena}
-use Rattle.roman_model.specs.Numbers.{sizes_of, count, numbered}
-use Rattle.roman_joint.specs.NamedSys.{NamedSys, system_of, IsNamedSys}
-use Rattle.roman_rules.specs.Numbered.{IsNumbered}
+use Rattle.roman_joint.proofs.Common.{list_any, IsIn, below, Arena, is_beaten, by_test, not_empty_in, in_below, from_below, length-below, numbered_is_arena, sizes_of, count, numbered, NamedSys, system_of, IsNamedSys, IsNumbered}
+use Rattle.roman_model.proofs.CallerLemmas.{IsArena}
 use Rattle.roman_joint.proofs.Rows.{count_fits}
 
 -- a joint's system is an arena over numbers

@@ -1,14 +1,8 @@
 -- The delegations that are found backwards are those that lead to the pair.
 use Rattle.std.proofs.Common.{◌≡◌, ℕ, ◌<◌, Bool, true, false, cond, [], map, length, Option, Some, None, IsTrue, IsFalse, slice_get, slice_index, slice_set, refl, sym, ap, ◌∙◌, subst, arith}
-use Rattle.roman_model.specs.Lists.{IsIn, HasNoRepeats, HoldsEachOnce, below}
-use Rattle.roman_model.specs.System.{Env, Sys, Seat, Pair, IsSys, IsPair, IsBeh, has_triple, has_move}
-use Rattle.roman_model.specs.SystemArena.{env_prev, beh_prev, outcomes}
-use Rattle.roman_model.specs.Arena.{Delegation, back}
-use Rattle.roman_model.specs.Numbers.{sizes_of, count, number, pair_at, numbered}
-use Rattle.roman_model.proofs.CallerLemmas.{in_map, from_map, in_flat_map, from_flat_map, in_below, from_below, HasNoRepeats-below, HasNoRepeats-filter, HasNoRepeats-map, HasNoRepeats-flat_map, triple_in_range, move_in_range, in_env_prev, from_env_prev, in_beh_prev, from_beh_prev, seat_in, outcome_in, from_outcome, states_set, outcome_pair, numbers_are_pairs, IsPairOf-from, AreBelow-length, numbered_is_same, numbered_is_arena, in_back, from_back}
-use Rattle.std.proofs.lemmas.Option.{slice_get_within}
-use Rattle.std.proofs.lemmas.List.{get_or-set_same, set-set, set-get_or, length-map}
-use Rattle.roman_joint.specs.Backward.{seat_prev, from_seat, from_target, from_env, from_action, from_all}
+use Rattle.roman_joint.proofs.Common.{IsIn, HasNoRepeats, HoldsEachOnce, below, Env, Sys, Seat, Pair, IsSys, IsPair, IsBeh, has_triple, has_move, env_prev, beh_prev, outcomes, Delegation, back, sizes_of, count, number, pair_at, numbered, in_map, from_map, in_flat_map, from_flat_map, in_below, from_below, HasNoRepeats-below, HasNoRepeats-filter, HasNoRepeats-map, HasNoRepeats-flat_map, triple_in_range, move_in_range, in_env_prev, in_beh_prev, seat_in, states_set, numbers_are_pairs, IsPairOf-from, AreBelow-length, numbered_is_arena, in_back, slice_get_within, get_or-set_same, length-map, seat_prev, from_seat, from_target, from_env, from_action, from_all}
+use Rattle.roman_model.proofs.CallerLemmas.{from_env_prev, from_beh_prev, outcome_in, from_outcome, outcome_pair, numbered_is_same, from_back}
+use Rattle.std.proofs.lemmas.List.{set-set, set-get_or}
 
 -- the delegation of a to the seat at k, from t, e and the seat's state b
 abbrev pub delegation : Sys → Pair → ℕ → ℕ → ℕ → ℕ → ℕ → Delegation ℕ

@@ -1,28 +1,8 @@
 -- Rows of a band.
 use Rattle.std.proofs.Common.{◌≡◌, ℕ, ◌+◌, ◌-◌, ◌*◌, ◌/◌, ◌%◌, ◌<◌, ◌≤◌, ◌^◌, Bool, true, false, not, ◌&&◌, List, [], length, slice_get, slice_index, IsFalse, inl, inr, refl, sym, ap, ap₂, ◌∙◌, subst, arith}
-use Rattle.std.specs.List.{list_any}
-use Rattle.std.proofs.Math.ListN.{set}
-use Rattle.std.proofs.lemmas.Bool.{cases_eq, cases_lt}
-use Rattle.std.proofs.lemmas.Nat.{mul-add-lt, mul-le, mod_below}
-use Rattle.std.proofs.lemmas.List.{length-map, get_or-set_same, get_or-set_other, get_or_past}
-use Rattle.roman_model.specs.Lists.{IsIn, is_empty, product_of, all_below}
-use Rattle.roman_model.proofs.CallerLemmas.{any_same, from_seat_next, move_in_range, seat_in, part_at}
-use Rattle.roman_model.specs.System.{Sys, Seat, IsSys}
-use Rattle.roman_model.specs.SystemArena.{seat_next}
-use Rattle.roman_model.specs.Arena.{is_beaten}
-use Rattle.roman_model.specs.Numbers.{sizes_of, count, pair_at, numbered}
-use Rattle.roman_radix.specs.Radix.{IsSizes, stride_of}
-use Rattle.roman_radix.specs.Rows.{low_of, row_sizes, env_rows_of}
-use Rattle.roman_radix.proofs.CallerLemmas.{exact, lanes_few, AreSizes-index, low_of-le, lanes_positive, row_div, row_mod, row_below, env_rows_are, count_rows, length_rows, row_size, row_stride_of, IsSizes-rows, rows_are}
-use Rattle.roman_lanes.specs.Rows.{is_on, HasLanes, AreRows, Keeps}
-use Rattle.roman_joint.specs.Rows.{lanes_in, low_in, lane_state_of, AreRowsOf, IsRow, IsTargetMove}
-use Rattle.roman_joint.specs.Bands.{mid_in, band_in, turn_at, AllAlive, KeepsWhere}
-use Rattle.roman_joint.specs.declared.layout.Rows.{Rows}
-use Rattle.roman_joint.specs.declared.row.Row.{Row}
-use Rattle.roman_joint.specs.declared.turn.TargetMove.{TargetMove}
+use Rattle.roman_joint.proofs.Common.{list_any, set, cases_eq, cases_lt, mul-add-lt, mul-le, mod_below, length-map, get_or-set_same, get_or-set_other, IsIn, is_empty, product_of, all_below, any_same, from_seat_next, move_in_range, seat_in, part_at, Sys, Seat, IsSys, seat_next, is_beaten, sizes_of, count, pair_at, numbered, IsSizes, stride_of, low_of, row_sizes, env_rows_of, exact, lanes_few, AreSizes-index, low_of-le, lanes_positive, row_div, row_mod, row_below, env_rows_are, count_rows, length_rows, row_size, row_stride_of, IsSizes-rows, rows_are, is_on, HasLanes, AreRows, Keeps, lanes_in, low_in, lane_state_of, AreRowsOf, IsRow, IsTargetMove, mid_in, band_in, turn_at, AllAlive, KeepsWhere, Rows, Row, TargetMove, and_assoc, on_zero}
+use Rattle.std.proofs.lemmas.List.{get_or_past}
 use Rattle.roman_joint.proofs.Rows.{size_of_seat}
-use Rattle.std.proofs.Math.Bool.{and_assoc}
-use Rattle.roman_lanes.proofs.CallerLemmas.{on_zero}
 use Rattle.roman_joint.proofs.AllowedLemmas.{cut_off, and_nothing}
 use Rattle.roman_joint.proofs.WordLemmas.{not_not, all_pass}
 use Rattle.roman_joint.proofs.SplitLemmas.{factor, positive_of, quotient, stride_rows, row_number, row_made}

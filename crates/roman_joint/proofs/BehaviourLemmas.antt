@@ -1,14 +1,9 @@
 -- Facts about the behaviour of a service.
 use Rattle.std.proofs.Common.{◌≡◌, ℕ, zero, suc, ◌<◌, List, [], ◌∷◌, Some, length, slice_get, get_or, sym, ap, ◌∙◌, subst, arith}
-use Rattle.std.specs.Option.{option_map}
-use Rattle.std.proofs.lemmas.Option.{slice_get-map, slice_get_within, get_or_from_slice_get, slice_get-get_or}
-use Rattle.std.proofs.lemmas.List.{length-map}
+use Rattle.roman_joint.proofs.Common.{option_map, slice_get-map, slice_get_within, get_or_from_slice_get, slice_get-get_or, length-map, NamedBeh, NamedSys, IsNamedSys, IsOverEnv, system_of, seat_of, beh_at, IsSeatBehaviour}
 use Rattle.std.proofs.lemmas.List.Elements.{All-get_or}
 use Rattle.roman_model.specs.System as model
-use Rattle.roman_parts.specs.Named.{NamedBeh}
-use Rattle.roman_joint.specs.NamedSys.{NamedSys, IsNamedSys, IsOverEnv, system_of, seat_of, beh_at}
 use Rattle.roman_joint.specs.declared.seat.Seat.{Seat}
-use Rattle.roman_joint.specs.Behaviours.{IsSeatBehaviour}
 
 -- the behaviour that is read at a place of the catalogue
 pub beh_read : (catalogue : List NamedBeh) (i : ℕ) (beh : NamedBeh) → slice_get catalogue i ≡ Some beh → beh_at catalogue i ≡ beh.beh

@@ -1,12 +1,10 @@
 -- Searches for the first element that passes, step by step.
 use Rattle.std.proofs.Common.{◌≡◌, ℕ, zero, suc, ◌+◌, ◌<◌, ◌≤◌, ◌==◌, Bool, true, false, cond, List, [], ◌∷◌, map, length, drop, get_or, Option, Some, None, IsFalse, refl, sym, ap, ◌∙◌, subst, inl, inr, arith}
-use Rattle.std.specs.List.{find, flat_map}
-use Rattle.std.specs.Option.{option_map, option_or}
-use Rattle.roman_model.specs.Lists.{IsIn, is_empty}
-use Rattle.roman_model.proofs.CallerLemmas.{in_map, in_flat_map, in_not_empty}
+use Rattle.roman_joint.proofs.Common.{find, flat_map, option_map, IsIn, is_empty, in_map, in_flat_map, drop_more, drop_all, map-append, false≢true, eqb-true}
+use Rattle.std.specs.Option.{option_or}
+use Rattle.roman_model.proofs.CallerLemmas.{in_not_empty}
 use Rattle.std.specs.Option.{IfSome}
-use Rattle.std.proofs.lemmas.List.{drop_more, drop_all, map-append, nil_from_length}
-use Rattle.std.proofs.lemmas.Bool.{false≢true, eqb-true}
+use Rattle.std.proofs.lemmas.List.{nil_from_length}
 use Rattle.std.proofs.lemmas.List.Folds.{find-append}
 
 pub find_here : {X : Type 0} (p : X → Bool) (xs : List X) (i : ℕ) (d : X) → i < length xs → p (get_or xs i d) ≡ true → find p (drop i xs) ≡ Some (get_or xs i d)

@@ -1,31 +1,10 @@
 -- The pairs of a row at which a seat serves an action.
 use Rattle.std.proofs.Common.{◌≡◌, ◌⊎◌, ℕ, zero, suc, ◌+◌, ◌-◌, ◌*◌, ◌/◌, ◌%◌, ◌<◌, ◌≤◌, ◌^◌, Bool, true, false, not, ◌&&◌, ◌||◌, eqb, ltb, inl, inr, List, [], length, slice_get, slice_index, IsFalse, refl, sym, ap, ap₂, ◌∙◌, subst, arith}
-use Rattle.std.specs.List.{list_any}
+use Rattle.roman_joint.proofs.Common.{list_any, length-map, mul-add-lt, mul-le, mod_below, div_below, div-mul-add, mod-mul-add, div-add-mod', cases_lt, ne_eqb, lt-ltb, le-ltb, nat_tests, IsIn, is_empty, length-below, by_test, any_same, any_true, any_from, empty_is, not_empty_in, triple_in_range, from_env_next, move_in_range, from_seat_next, seat_in, Sys, Seat, IsSys, seat_next, is_beaten, Sizes, sizes_of, count, numbered, IsSizes, stride_of, env_stride_of, low_of, lanes_of, env_rows_of, target_rows_of, product_positive, low_of-le, lanes_few, lanes_positive, row_least, row_below, env_rows_are, is_on, HasLanes, AreRows, IsNumbered, NamedSys, system_of, seat_of, IsNamedSys, lanes_in, low_in, lane_has_state, lane_state_of, AreRowsOf, IsRow, IsTargetMove, AreAlive, Rows, Row, TargetMove, on_zero}
 use Rattle.std.proofs.Math.Nat.{add-mod-mod}
-use Rattle.std.proofs.lemmas.List.{length-map}
-use Rattle.std.proofs.lemmas.Nat.{mul-add-lt, mul-le, mod_below, div_below, div-mul-add, mod-mul-add, div-add-mod'}
-use Rattle.std.proofs.lemmas.Bool.{cases_lt, ne_eqb, lt-ltb, le-ltb}
-use Rattle.std.proofs.lemmas.Bool.Decides.{nat_tests}
-use Rattle.roman_model.specs.Lists.{IsIn, is_empty}
-use Rattle.roman_model.proofs.CallerLemmas.{length-below, by_test, any_same, any_true, any_from, empty_is, not_empty_in, triple_in_range, from_env_next, move_in_range, from_seat_next, seat_in}
-use Rattle.roman_model.specs.System.{Sys, Seat, IsSys}
-use Rattle.roman_model.specs.SystemArena.{seat_next}
-use Rattle.roman_model.specs.Arena.{is_beaten}
-use Rattle.roman_model.specs.Numbers.{Sizes, sizes_of, count, numbered}
-use Rattle.roman_radix.specs.Radix.{IsSizes, stride_of, env_stride_of}
-use Rattle.roman_radix.specs.Rows.{low_of, lanes_of, env_rows_of, target_rows_of}
-use Rattle.roman_radix.proofs.CallerLemmas.{product_positive, low_of-le, lanes_few, lanes_positive, row_least, row_below, env_rows_are}
-use Rattle.roman_lanes.specs.Rows.{is_on, HasLanes, AreRows}
-use Rattle.roman_rules.specs.Numbered.{IsNumbered}
-use Rattle.roman_joint.specs.NamedSys.{NamedSys, system_of, seat_of, IsNamedSys}
-use Rattle.roman_joint.specs.Rows.{lanes_in, low_in, lane_has_state, lane_state_of, AreRowsOf, IsRow, IsTargetMove, AreAlive}
-use Rattle.roman_joint.specs.declared.layout.Rows.{Rows}
-use Rattle.roman_joint.specs.declared.row.Row.{Row}
-use Rattle.roman_joint.specs.declared.turn.TargetMove.{TargetMove}
 use Rattle.roman_joint.proofs.ArenaFacts.{joint_numbered}
 use Rattle.roman_joint.proofs.OutcomeLemmas.{target_in_range}
 use Rattle.roman_joint.proofs.Rows.{size_of_seat}
-use Rattle.roman_lanes.proofs.CallerLemmas.{on_zero}
 use Rattle.roman_joint.proofs.WordLemmas.{on_shl, on_below, not_not}
 use Rattle.roman_joint.proofs.SplitLemmas.{joint_sizes, positive_of, factor}
 use Rattle.roman_joint.proofs.LeadLemmas.{Leads, leads_within, leads_served, leads_nothing, start_before, leads_before, lanes_parts, stride_positive, lane_state, leads_lanes}

@@ -1,24 +1,11 @@
 -- The outcomes of a delegation, by rows and lanes.
 use Rattle.std.proofs.Common.{◌≡◌, ℕ, ◌+◌, ◌-◌, ◌*◌, ◌/◌, ◌%◌, ◌<◌, ◌≤◌, Bool, true, not, List, [], ◌∷◌, length, drop, map, slice_get, slice_index, IsTrue, IsFalse, refl, sym, ap, ap₂, ◌∙◌, subst, arith}
-use Rattle.std.specs.List.{list_any, flat_map}
+use Rattle.roman_joint.proofs.Common.{list_any, flat_map, div-mul-add, div-add-mod', mul-add-lt, mod_below, div_below, length-map, IsIn, is_empty, product_of, in_map, in_flat_map, any_same, not_empty_in, any_true, any_from, same_test, part_at, Sys, Seat, IsSys, env_next, beh_next, seat_next, Arena, is_beaten, Sizes, sizes_of, count, pair_at, numbered, IsSizes, stride_of, low_of, lanes_of, env_rows_of, target_rows_of, product_positive, AreSizes-drop, AreSizes-index, product_more, low_of-le, tails_from, row_mod, row_least, env_rows_are, IsNumbered, lanes_in, low_in, lane_state_of, IsRow, Row}
 use Rattle.std.proofs.Math.Nat.{mul-add-mod_self_right}
-use Rattle.std.proofs.lemmas.Nat.{div-mul-add, div-add-mod', mul-add-lt, mod_below, div_below}
-use Rattle.std.proofs.lemmas.List.{length-map}
-use Rattle.roman_model.specs.Lists.{IsIn, is_empty, product_of}
-use Rattle.roman_model.proofs.CallerLemmas.{in_map, in_flat_map, any_same, list_any-map, list_any-flat_map, not_empty_in, any_true, any_from, same_test, part_at}
-use Rattle.roman_model.specs.System.{Sys, Seat, IsSys}
-use Rattle.roman_model.specs.SystemArena.{env_next, beh_next, seat_next}
-use Rattle.roman_model.specs.Arena.{Arena, is_beaten}
-use Rattle.roman_model.specs.Numbers.{Sizes, sizes_of, count, pair_at, numbered}
-use Rattle.roman_radix.specs.Radix.{IsSizes, stride_of}
-use Rattle.roman_radix.specs.Rows.{low_of, lanes_of, env_rows_of, target_rows_of}
-use Rattle.roman_radix.proofs.CallerLemmas.{product_positive, AreSizes-drop, AreSizes-index, product_more, low_of-le, tails_from, row_mod, row_least, env_rows_are}
-use Rattle.roman_rules.specs.Numbered.{IsNumbered}
+use Rattle.roman_model.proofs.CallerLemmas.{list_any-map, list_any-flat_map}
 use Rattle.roman_joint.proofs.OutcomeLemmas.{StartsAt, starts_at, numbers_are, target_in_range}
 use Rattle.roman_joint.proofs.Finds.{some_numbers, no_numbers}
 use Rattle.roman_joint.proofs.SplitLemmas.{target_rows_are}
-use Rattle.roman_joint.specs.Rows.{lanes_in, low_in, lane_state_of, IsRow}
-use Rattle.roman_joint.specs.declared.row.Row.{Row}
 
 -- the outcomes have these numbers
 pub record Leads (A : Arena ℕ) (p a k : ℕ) (envs states : List ℕ) (to : ℕ → ℕ → ℕ) : Type 0 where

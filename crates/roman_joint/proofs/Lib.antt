@@ -1,3 +1,4 @@
+pub mod Common
 pub mod Finds
 pub mod BackwardLemmas
 pub mod SeatLemmas

@@ -1,33 +1,14 @@
 -- Marks on the bands from which a band can be reached.
 use Rattle.std.proofs.Common.{◌≡◌, ℕ, zero, suc, ◌+◌, ◌-◌, ◌*◌, ◌/◌, ◌%◌, ◌^◌, ◌<◌, ◌≤◌, Bool, true, cond, count_by, map, List, [], ◌∷◌, ◌++◌, length, take, get_or, Option, Some, slice_get, slice_index, IsTrue, IsFalse, inl, inr, refl, sym, ap, ap₂, ◌∙◌, subst, arith, add-one}
-use Rattle.std.proofs.Math.ListN.{set}
-use Rattle.std.specs.Prelude.{bit_or, ltb}
-use Rattle.std.specs.Int.{bit_at}
-use Rattle.std.specs.List.{flat_map, filter}
-use Rattle.std.proofs.lemmas.Bool.{cases_eq, cases_lt, lt-ltb, le-ltb}
-use Rattle.std.proofs.lemmas.Option.{slice_get_within}
-use Rattle.std.proofs.lemmas.List.{get_or-set_same, get_or-set_other, length-set, length-map, length-append, take_more, append-nil}
+use Rattle.roman_joint.proofs.Common.{set, bit_or, bit_at, flat_map, filter, cases_eq, cases_lt, lt-ltb, le-ltb, slice_get_within, get_or-set_same, get_or-set_other, length-set, length-map, length-append, take_more, append-nil, length-filter, div-add-mod', mod_below, div_below, IsIn, HasNoRepeats, below, product_of, by_test, in_below, from_below, from_map, from_flat_map, filter_in, in_filter, HasNoRepeats-below, HasNoRepeats-filter, HasNoRepeats-map, HasNoRepeats-flat_map, triple_in_range, move_in_range, in_env_prev, in_beh_prev, seat_in, in_back, AreBelow-length, IsPairOf-at, number-pair_at, numbered_is_arena, Seat, Sys, Pair, IsSys, IsBeh, env_prev, beh_prev, Arena, Delegation, back, sizes_of, count, number, pair_at, numbered, IsSizes, stride_of, row_sizes, env_rows_of, target_rows_of, row_mod, env_rows_are, low_of-le, lanes_positive, length_rows, row_size, row_stride_of, IsSizes-rows, is_on, seat_prev, from_states, from_seat, from_target, from_env, from_action, from_all, lanes_in, low_in, lane_state_of, IsRow, mid_in, band_in, AreLeading, IsMarked, Grows, row_at, MarksSeat, MarksTurn, MarksEnv, MarksAction, IsAt, front_target, front_env, front_action, Row}
+use Rattle.std.specs.Prelude.{ltb}
 use Rattle.std.proofs.lemmas.List.Concat.{flat_map-append}
 use Rattle.std.proofs.lemmas.List.Elements.{filter-append}
-use Rattle.std.proofs.lemmas.List.Sums.{length-filter}
-use Rattle.std.proofs.lemmas.Nat.{same_from_place, div-add-mod', mod_below, div_below}
-use Rattle.roman_model.specs.Lists.{IsIn, HasNoRepeats, below, product_of}
-use Rattle.roman_model.proofs.CallerLemmas.{by_test, in_below, from_below, from_map, from_flat_map, filter_in, in_filter, flat_map_same, flat_map_same_in, HasNoRepeats-below, HasNoRepeats-filter, HasNoRepeats-map, HasNoRepeats-flat_map, no_longer, triple_in_range, move_in_range, in_env_prev, in_beh_prev, seat_in, in_back, AreBelow-length, IsPairOf-at, number-moved, number-pair_at, numbered_is_arena}
-use Rattle.roman_model.specs.System.{Seat, Sys, Pair, IsSys, IsBeh}
-use Rattle.roman_model.specs.SystemArena.{env_prev, beh_prev}
-use Rattle.roman_model.specs.Arena.{Arena, is_among, Delegation, delegations, back}
-use Rattle.roman_model.specs.Numbers.{sizes_of, count, number, pair_at, numbered}
-use Rattle.roman_radix.specs.Radix.{IsSizes, stride_of}
-use Rattle.roman_radix.specs.Rows.{row_sizes, env_rows_of, target_rows_of}
-use Rattle.roman_radix.proofs.CallerLemmas.{row_mod, env_rows_are, low_of-le, lanes_positive, length_rows, row_size, row_stride_of, IsSizes-rows}
-use Rattle.roman_lanes.specs.Rows.{is_on}
+use Rattle.std.proofs.lemmas.Nat.{same_from_place}
+use Rattle.roman_model.proofs.CallerLemmas.{flat_map_same, flat_map_same_in, no_longer, number-moved}
+use Rattle.roman_model.specs.Arena.{is_among, delegations}
 use Rattle.roman_lanes.specs.Flags.{has_flag}
-use Rattle.roman_joint.specs.Backward.{seat_prev, from_states, from_seat, from_target, from_env, from_action, from_all}
-use Rattle.roman_joint.specs.Rows.{lanes_in, low_in, lane_state_of, IsRow}
-use Rattle.roman_joint.specs.Bands.{mid_in, band_in}
-use Rattle.roman_joint.specs.TargetViews.{AreLeading}
-use Rattle.roman_joint.specs.Marks.{IsMarked, Grows, row_at, MarksSeat, MarksTurn, MarksEnv, MarksAction, IsAt, front_target, front_env, front_action, front_all}
-use Rattle.roman_joint.specs.declared.row.Row.{Row}
+use Rattle.roman_joint.specs.Marks.{front_all}
 use Rattle.roman_joint.proofs.BackwardLemmas.{Steps, Found, delegation, origin, in_seat_prev, leads_found, from_all_found, found_backwards}
 use Rattle.roman_joint.proofs.Rows.{size_of_seat}
 use Rattle.roman_joint.proofs.WordLemmas.{on_set_same, on_set_other}

@@ -1,42 +1,18 @@
 -- Moves of services within the lanes.
 use Rattle.std.proofs.Common.{◌≡◌, ◌≢◌, ℕ, zero, suc, ◌+◌, ◌-◌, ◌*◌, ◌/◌, ◌%◌, ◌<◌, ◌≤◌, ◌==◌, Bool, true, false, not, ◌&&◌, cond, eqb, List, [], ◌∷◌, ◌++◌, length, drop, get_or, Some, slice_get, slice_index, slice_index_or, slice_range, IsTrue, IsFalse, inl, inr, refl, sym, ap, ap₂, ◌∙◌, subst, arith}
-use Rattle.std.proofs.Math.Seq.{get_or-append_seam}
-use Rattle.std.proofs.Math.Nat.{mul-le-mul_right}
-use Rattle.std.specs.List.{list_any, filter}
-use Rattle.std.proofs.lemmas.Bool.{both_ways, cases_eq, cases_lt, eq-eqb, ne_eqb, eqb-true, false≢true, and_parts, not_from_false}
-use Rattle.std.proofs.lemmas.Nat.{div-mul-add, mod-mul-add, mod_below, mul-add-lt}
-use Rattle.std.proofs.lemmas.List.{length-map, length-append, length-drop, map-append, take-append-le, drop-append-le, get_or_append_left, drop_more, drop_all, take_all}
-use Rattle.std.proofs.lemmas.List.Sums.{length-filter, count_by-le-length}
-use Rattle.std.proofs.lemmas.Option.{slice_get_within, slice_get-get_or}
-use Rattle.roman_model.specs.Lists.{IsIn, is_empty, below, product_of}
-use Rattle.roman_model.proofs.CallerLemmas.{in_map, from_map, in_filter, filter_in, in_below, from_below, any_true, any_from, any_same, same_test, filter_below_more, by_test, empty_is, length-below, seat_in}
-use Rattle.roman_model.specs.System.{Sys, Seat, Beh}
-use Rattle.roman_model.specs.SystemArena.{beh_next, is_ready}
-use Rattle.roman_model.specs.Arena.{is_beaten}
-use Rattle.roman_model.specs.Numbers.{Sizes, sizes_of, numbered}
-use Rattle.roman_radix.specs.Radix.{AreSizes, IsSizes, stride_of}
-use Rattle.roman_radix.specs.Rows.{low_of, lanes_of, env_rows_of}
-use Rattle.roman_radix.proofs.CallerLemmas.{AreSizes-index, AreSizes-drop, product_positive, lanes_few}
-use Rattle.roman_lanes.specs.Rows.{is_on, HasLanes}
-use Rattle.roman_parts.specs.Named.{NamedBeh}
-use Rattle.roman_joint.specs.NamedSys.{NamedSys, system_of, seat_of}
+use Rattle.roman_joint.proofs.Common.{get_or-append_seam, mul-le-mul_right, list_any, filter, both_ways, cases_eq, cases_lt, ne_eqb, eqb-true, false≢true, div-mul-add, mod-mul-add, mod_below, mul-add-lt, length-map, length-append, map-append, get_or_append_left, drop_more, drop_all, take_all, length-filter, count_by-le-length, slice_get_within, slice_get-get_or, IsIn, is_empty, below, product_of, in_map, from_map, in_filter, filter_in, in_below, from_below, any_true, any_from, any_same, same_test, by_test, empty_is, length-below, seat_in, Sys, Seat, Beh, beh_next, is_ready, is_beaten, Sizes, sizes_of, numbered, AreSizes, IsSizes, stride_of, low_of, lanes_of, env_rows_of, AreSizes-index, AreSizes-drop, product_positive, lanes_few, is_on, HasLanes, NamedBeh, NamedSys, system_of, seat_of, lanes_in, low_in, lane_state_of, IsTargetMove, AreAlive, lane_moves_from, ways_room, HoldsSpans, HoldsMoves, IsKept, AreSeatsOf, Row, TargetMove, Move, Moves, IsNumbered, with_frozen, on_zero}
+use Rattle.std.proofs.lemmas.Bool.{eq-eqb, and_parts, not_from_false}
+use Rattle.std.proofs.lemmas.List.{length-drop, take-append-le, drop-append-le}
+use Rattle.roman_model.proofs.CallerLemmas.{filter_below_more}
 use Rattle.roman_joint.specs.declared.seat.Seat as declared
-use Rattle.roman_joint.specs.Rows.{lanes_in, low_in, lane_state_of, IsTargetMove, AreAlive}
-use Rattle.roman_joint.specs.Moves.{GoesTo, AreMovesOf, AreWays, lane_move, lane_moves_from, ways_room, within_in, IsSpan, HoldsSpans, HoldsMoves, IsAdded, IsKept, AreSeatsOf}
-use Rattle.roman_joint.specs.declared.row.Row.{Row}
-use Rattle.roman_joint.specs.declared.turn.TargetMove.{TargetMove}
-use Rattle.roman_joint.specs.declared.moves.Move.{Move}
+use Rattle.roman_joint.specs.Moves.{GoesTo, AreMovesOf, AreWays, lane_move, within_in, IsSpan, IsAdded}
 use Rattle.roman_joint.specs.declared.moves.Span.{Span}
-use Rattle.roman_joint.specs.declared.moves.Moves.{Moves}
 use Rattle.roman_joint.specs.declared.ways.Ways.{Ways}
-use Rattle.roman_rules.specs.Numbered.{IsNumbered}
 use Rattle.roman_joint.proofs.ArenaFacts.{beaten_where}
 use Rattle.roman_joint.proofs.Rows.{size_of_seat}
-use Rattle.roman_joint.specs.Changes.{with_frozen}
 use Rattle.roman_joint.proofs.SeatChanges.{with_seats, frozen_sizes, frozen_at}
 use Rattle.roman_joint.proofs.SeatLemmas.{SeatRead, seat_read}
 use Rattle.roman_joint.proofs.OutcomeLemmas.{ready_next}
-use Rattle.roman_lanes.proofs.CallerLemmas.{on_zero}
 use Rattle.roman_joint.proofs.WordLemmas.{not_not}
 use Rattle.roman_joint.proofs.LeadLemmas.{Leads, leads_served, leads_nothing, any_turned, lane_state, leads_lanes}
 use Rattle.roman_joint.proofs.GoodLemmas.{Known, state_below}

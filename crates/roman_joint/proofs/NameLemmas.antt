@@ -1,13 +1,8 @@
 -- The names of the states of services.
 use Rattle.std.proofs.Common.{◌≡◌, ℕ, ◌<◌, List, [], map, length, Some, slice_get, slice_index, sym, ap, ◌∙◌, subst}
-use Rattle.std.specs.Option.{option_map}
-use Rattle.std.proofs.lemmas.Option.{slice_get-map, get_or_from_slice_get}
-use Rattle.roman_model.specs.Explanation.{SeatNames, name_at, seat_names}
-use Rattle.roman_model.specs.Numbers.{sizes_of}
-use Rattle.roman_parts.specs.Named.{NamedBeh}
-use Rattle.roman_joint.specs.NamedSys.{NamedSys, IsNamedSys, system_of}
+use Rattle.roman_joint.proofs.Common.{option_map, slice_get-map, get_or_from_slice_get, name_at, sizes_of, NamedBeh, NamedSys, IsNamedSys, system_of, IsSeatBehaviour}
+use Rattle.roman_model.specs.Explanation.{SeatNames, seat_names}
 use Rattle.roman_joint.specs.Names.{beh_states, names_in, names_of_seat}
-use Rattle.roman_joint.specs.Behaviours.{IsSeatBehaviour}
 use Rattle.roman_joint.proofs.BehaviourLemmas.{behaves}
 
 -- a service has as many states as its behaviour

@@ -1,17 +1,9 @@
 -- The current number of a walk, and how it changes with a state.
 use Rattle.std.proofs.Common.{◌≡◌, ℕ, zero, suc, ◌+◌, ◌-◌, ◌*◌, ◌<◌, ◌≤◌, List, [], ◌∷◌, Some, map, length, slice_get, slice_index, slice_set, refl, sym, ap, ◌∙◌, subst, arith}
-use Rattle.std.proofs.Math.Nat.{mul-le-mul_left}
-use Rattle.roman_model.specs.Lists.{product_of}
-use Rattle.roman_model.specs.System.{Sys, Seat, Pair, IsPair}
-use Rattle.roman_model.specs.Numbers.{sizes_of, count, number, pair_at, states_number}
+use Rattle.roman_joint.proofs.Common.{mul-le-mul_left, product_of, Sys, Seat, Pair, IsPair, sizes_of, count, number, pair_at, states_number, numbers_are_pairs, IsPairOf-from, number_below, length-map, stride_of, env_stride_of, target_stride_of, Walk, NamedSys, system_of, IsNamedSys, goal_of, IsWalk}
 use Rattle.roman_model.specs.declared.limits.TheConstants.{MAX_CELLS}
-use Rattle.roman_model.proofs.CallerLemmas.{numbers_are_pairs, IsPairOf-from, number_below}
-use Rattle.std.proofs.lemmas.List.{length-map}
 use Rattle.roman_radix.proofs.CallerLemmas.{Replaced, replaced}
-use Rattle.roman_radix.specs.Radix.{stride_of, env_stride_of, target_stride_of, with_part}
-use Rattle.roman_joint.specs.declared.walk.Walk.{Walk}
-use Rattle.roman_joint.specs.NamedSys.{NamedSys, system_of, IsNamedSys}
-use Rattle.roman_joint.specs.Walks.{goal_of, IsWalk}
+use Rattle.roman_radix.specs.Radix.{with_part}
 
 -- a joint has few enough pairs
 pub count_fits : (n : NamedSys) → IsNamedSys n → count (sizes_of (system_of n)) ≤ MAX_CELLS

@@ -1,22 +1,13 @@
 -- The system after a service is frozen, dropped or added.
 use Rattle.std.proofs.Common.{◌≡◌, ℕ, zero, suc, ◌*◌, ◌/◌, ◌<◌, ◌≤◌, ◌↔◌, Bool, true, false, if◌then◌else◌, List, [], ◌∷◌, ◌++◌, Some, slice_get, slice_index, get_or, map, length, take, drop, refl, sym, ap, ap₂, ◌∙◌, subst, arith}
-use Rattle.std.specs.List.{AllByRecursion, remove}
-use Rattle.std.proofs.Math.ListN.{set}
-use Rattle.std.proofs.Math.Nat.{mul-le-mul_left, mul-le-mul_right, le-div_iff_mul-le}
-use Rattle.std.proofs.lemmas.List.{map_push, map-append, take-map, drop-map, length-map}
-use Rattle.std.proofs.lemmas.List.Elements.{All-from_recursion, recursion_from_All}
-use Rattle.roman_model.specs.Lists.{IsIn, HasNoRepeats}
+use Rattle.roman_joint.proofs.Common.{AllByRecursion, remove, set, mul-le-mul_left, mul-le-mul_right, le-div_iff_mul-le, map_push, map-append, length-map, All-from_recursion, IsIn, HasNoRepeats, Sys, IsSys, IsBeh, Join, Die, after, Sizes, sizes_of, count, MAX_SERVICES, seat_in, NamedBeh, NamedSys, beh_at, seat_of, system_of, cells, IsNamedSys, with_frozen, HasSameParts}
+use Rattle.std.proofs.lemmas.List.{take-map, drop-map}
+use Rattle.std.proofs.lemmas.List.Elements.{recursion_from_All}
 use Rattle.roman_model.specs.System as model
-use Rattle.roman_model.specs.System.{Sys, IsSys, IsBeh}
-use Rattle.roman_model.specs.Change.{Change, Freeze, Thaw, Join, Die, set_frozen, after, CanChange}
-use Rattle.roman_model.specs.Numbers.{Sizes, sizes_of, count, grown_sizes, sizes_without}
-use Rattle.roman_model.specs.declared.limits.TheConstants.{MAX_SERVICES}
-use Rattle.roman_model.proofs.CallerLemmas.{HasNoRepeats-push, states_frozen, remove_in, renaming_keeps, count-without, seat_in}
-use Rattle.roman_parts.specs.Named.{NamedBeh}
+use Rattle.roman_model.specs.Change.{Change, Freeze, Thaw, set_frozen, CanChange}
+use Rattle.roman_model.specs.Numbers.{grown_sizes, sizes_without}
+use Rattle.roman_model.proofs.CallerLemmas.{HasNoRepeats-push, states_frozen, remove_in, renaming_keeps, count-without}
 use Rattle.roman_joint.specs.declared.seat.Seat.{Seat}
-use Rattle.roman_joint.specs.NamedSys.{NamedSys, beh_at, seat_of, system_of, cells, IsNamedSys}
-use Rattle.roman_joint.specs.Changes.{with_frozen}
-use Rattle.roman_joint.specs.Parts.{HasSameParts}
 use Rattle.roman_joint.proofs.Rows.{size_of_seat}
 use Rattle.roman_joint.proofs.SeatLemmas.{seat_there, recursion-push}
 

@@ -1,23 +1,11 @@
 -- Services and their behaviours, read one after another.
 use Rattle.std.proofs.Common.{◌≡◌, ℕ, zero, suc, ◌+◌, ◌/◌, ◌%◌, ◌^◌, ◌<◌, ◌≤◌, List, [], ◌∷◌, ◌++◌, Some, All, slice_get, get_or, map, length, take, drop, refl, sym, ap, ap₂, ◌∙◌, subst, inl, inr, arith, ◌==◌, slice_index}
-use Rattle.std.specs.List.{AllByRecursion}
-use Rattle.std.specs.Option.{option_map}
-use Rattle.std.proofs.lemmas.Option.{slice_get-map, slice_get-get_or, slice_get_within, get_or_from_slice_get}
-use Rattle.std.proofs.Math.ListN.{set}
-use Rattle.std.proofs.lemmas.List.{take_more, take_more_set, map_push, length-set, get_or-map, length-map}
-use Rattle.std.proofs.lemmas.Nat.{div_below, mod_below}
-use Rattle.std.proofs.lemmas.List.Elements.{All-from_recursion}
-use Rattle.roman_model.specs.Lists.{IsIn, product_of, is_empty}
+use Rattle.roman_joint.proofs.Common.{AllByRecursion, option_map, slice_get-map, slice_get-get_or, slice_get_within, get_or_from_slice_get, set, take_more, map_push, length-set, length-map, div_below, mod_below, All-from_recursion, IsIn, product_of, is_empty, Env, IsBeh, IsEnv, IsSys, sizes_of, Sizes, NamedEnv, NamedBeh, AreSizes, product_positive, product_more, AreSizes-drop, AreSizes-index, beh_at, seat_of, IsOverEnv, NamedSys, system_of, IsNamedSys, ne_eqb, MAX_SERVICES}
+use Rattle.std.proofs.lemmas.List.{take_more_set, get_or-map}
 use Rattle.roman_model.specs.System as model
-use Rattle.roman_model.specs.System.{Env, IsBeh, IsEnv, IsDeterministic, IsSys}
-use Rattle.roman_model.specs.Numbers.{sizes_of, Sizes}
-use Rattle.roman_parts.specs.Named.{NamedEnv, NamedBeh, IsOver}
-use Rattle.roman_radix.specs.Radix.{AreSizes}
-use Rattle.roman_radix.proofs.CallerLemmas.{product_positive, product_more, AreSizes-drop, AreSizes-index}
+use Rattle.roman_model.specs.System.{IsDeterministic}
+use Rattle.roman_parts.specs.Named.{IsOver}
 use Rattle.roman_joint.specs.declared.seat.Seat.{Seat}
-use Rattle.roman_joint.specs.NamedSys.{beh_at, seat_of, IsOverEnv, NamedSys, system_of, IsNamedSys}
-use Rattle.std.proofs.lemmas.Bool.{ne_eqb}
-use Rattle.roman_model.specs.declared.limits.TheConstants.{MAX_SERVICES}
 
 -- the behaviour that is read at a place of the catalogue
 pub seat_beh_read : (behs : List NamedBeh) (i : ℕ) (y : NamedBeh) → i < length behs → y ≡ get_or behs i y → y.beh ≡ beh_at behs i

@@ -1,18 +1,9 @@
 -- A joint's fields in terms of the system that it holds.
 use Rattle.std.proofs.Common.{◌≡◌, ℕ, ◌≤◌, not, ◌&&◌, length, vec_len, vec_capacity, refl, sym, ap, ◌∙◌, subst, arith}
-use Rattle.std.proofs.lemmas.List.{length-map}
-use Rattle.roman_model.specs.Numbers.{sizes_of, pair_at}
-use Rattle.roman_model.specs.declared.limits.TheConstants.{MAX_SERVICES}
+use Rattle.roman_joint.proofs.Common.{length-map, sizes_of, pair_at, MAX_SERVICES, NamedSys, system_of, seat_of, IsNamedSys, named_sys_in, AreTargetViews, AreRowsOf, HoldsMoves, IsKept, Moves, Env, Beh, Sys, env_next, beh_next, is_allowed, is_empty}
 use Rattle.roman_joint.specs.declared.joint.Joint.TheInside.{Inside}
-use Rattle.roman_joint.specs.NamedSys.{NamedSys, system_of, seat_of, IsNamedSys}
-use Rattle.roman_joint.specs.Layout.{named_sys_in, IsJoint}
-use Rattle.roman_joint.specs.TargetViews.{AreTargetViews}
-use Rattle.roman_joint.specs.Rows.{AreRowsOf}
-use Rattle.roman_joint.specs.Moves.{HoldsMoves, HasRoom, IsKept}
-use Rattle.roman_joint.specs.declared.moves.Moves.{Moves}
-use Rattle.roman_model.specs.System.{Env, Beh, Sys}
-use Rattle.roman_model.specs.SystemArena.{env_next, beh_next, is_allowed}
-use Rattle.roman_model.specs.Lists.{is_empty}
+use Rattle.roman_joint.specs.Layout.{IsJoint}
+use Rattle.roman_joint.specs.Moves.{HasRoom}
 
 pub record Shows (a : Inside) (n : NamedSys) : Type 0 where
   pub known : IsNamedSys n

@@ -1,22 +1,6 @@
 -- How rows are made and looked up.
 use Rattle.std.proofs.Common.{◌≡◌, ℕ, zero, suc, ◌+◌, ◌*◌, ◌/◌, ◌%◌, ◌^◌, ◌<◌, cond, List, [], ◌∷◌, length, map, drop, slice_index, inl, inr, refl, sym, ap, ap₂, ◌∙◌, subst, arith, ltb}
-use Rattle.std.proofs.lemmas.Bool.{cases_eq, lt-ltb, le-ltb}
-use Rattle.std.proofs.lemmas.Nat.{mul-add-lt, mod_below, div-mul-add, mod-mul-add, div-add-mod'}
-use Rattle.std.proofs.lemmas.List.{get_or-set_same, get_or-set_other, length-map}
-use Rattle.std.proofs.Math.ListN.{set}
-use Rattle.roman_model.specs.Lists.{IsIn, product_of}
-use Rattle.roman_model.specs.System.{Sys, Seat, IsBeh}
-use Rattle.roman_model.specs.Numbers.{Sizes, IsPairOf, sizes_of, count, pair_at}
-use Rattle.roman_model.proofs.CallerLemmas.{part_at, IsPairOf-at, AreBelow-index}
-use Rattle.roman_radix.specs.Radix.{AreSizes, IsSizes, stride_of, env_stride_of, target_stride_of}
-use Rattle.roman_radix.specs.Rows.{low_of, lanes_of, row_sizes, env_rows_of, target_rows_of}
-use Rattle.roman_radix.proofs.CallerLemmas.{product_positive, product_more, AreSizes-drop, AreSizes-index, low_of-le, lanes_positive, tails_from, exact, row_div, row_least, row_below, env_rows_are}
-use Rattle.roman_lanes.specs.Rows.{is_on}
-use Rattle.roman_joint.specs.NamedSys.{NamedSys, system_of, IsNamedSys}
-use Rattle.roman_joint.specs.Rows.{lanes_in, low_in, lane_has_state, AreRowsOf, IsRow}
-use Rattle.roman_joint.specs.TargetViews.{ArePermitted, AreLeading}
-use Rattle.roman_joint.specs.declared.layout.Rows.{Rows}
-use Rattle.roman_joint.specs.declared.row.Row.{Row}
+use Rattle.roman_joint.proofs.Common.{cases_eq, lt-ltb, le-ltb, mul-add-lt, mod_below, div-mul-add, mod-mul-add, div-add-mod', get_or-set_same, get_or-set_other, length-map, set, IsIn, product_of, Sys, Seat, IsBeh, Sizes, IsPairOf, sizes_of, count, pair_at, part_at, IsPairOf-at, AreBelow-index, AreSizes, IsSizes, stride_of, env_stride_of, target_stride_of, low_of, lanes_of, row_sizes, env_rows_of, target_rows_of, product_positive, product_more, AreSizes-drop, AreSizes-index, low_of-le, lanes_positive, tails_from, exact, row_div, row_least, row_below, env_rows_are, is_on, NamedSys, system_of, IsNamedSys, lanes_in, low_in, lane_has_state, AreRowsOf, IsRow, ArePermitted, AreLeading, Rows, Row}
 use Rattle.roman_joint.proofs.Rows.{count_fits}
 
 -- the pairs of a joint have numbers of 32 bits

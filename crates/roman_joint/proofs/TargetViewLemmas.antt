@@ -1,19 +1,7 @@
 -- Target views and the system's actions.
 use Rattle.std.proofs.Common.{◌≡◌, ℕ, ◌+◌, ◌/◌, ◌%◌, ◌<◌, ◌≤◌, IsFalse, List, [], ◌∷◌, ◌++◌, length, take, get_or, slice_index_or, inl, inr, refl, sym, ap, ◌∙◌, subst, arith}
-use Rattle.std.specs.Int.{bit_at}
-use Rattle.std.specs.List.{flat_map}
-use Rattle.std.proofs.Math.Seq.{get_or-append_seam}
-use Rattle.std.proofs.lemmas.Bool.{cases_eq, cases_lt}
-use Rattle.std.proofs.lemmas.List.{take_more, get_or_append_left}
-use Rattle.roman_model.specs.Lists.{IsIn}
-use Rattle.roman_model.specs.System.{Env, Beh, Sys, Pair, IsSys}
-use Rattle.roman_model.specs.SystemArena.{env_prev}
-use Rattle.roman_model.specs.Numbers.{sizes_of, pair_at, numbered}
-use Rattle.roman_model.proofs.CallerLemmas.{by_test, from_push, numbered_is_arena}
-use Rattle.roman_joint.specs.declared.target_view.TargetView.{TargetView}
-use Rattle.roman_joint.specs.Backward.{from_target, from_env, from_action}
-use Rattle.roman_rules.specs.Bits.{bit_of, HasBits}
-use Rattle.roman_joint.specs.TargetViews.{ArePermitted, AreLeading, IsTargetView}
+use Rattle.roman_joint.proofs.Common.{bit_at, flat_map, get_or-append_seam, cases_eq, cases_lt, take_more, get_or_append_left, IsIn, Env, Beh, Sys, Pair, IsSys, env_prev, sizes_of, pair_at, numbered, by_test, numbered_is_arena, TargetView, from_target, from_env, from_action, bit_of, HasBits, ArePermitted, AreLeading, IsTargetView}
+use Rattle.roman_model.proofs.CallerLemmas.{from_push}
 
 -- one more number at which the list is empty
 pub none_more : (xs : List ℕ) (i : ℕ) (f : ℕ → List ℕ) → i < length xs → f (get_or xs i 0) ≡ [] → ((e : ℕ) → IsIn e (take i xs) → f e ≡ []) → (e : ℕ) → IsIn e (take (i + 1) xs) → f e ≡ []

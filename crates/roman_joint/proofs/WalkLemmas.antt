@@ -1,20 +1,10 @@
 -- One step of a walk backwards: the delegations that are left, and the new position.
 use Rattle.std.proofs.Common.{◌≡◌, ◌⊎◌, ℕ, zero, suc, ◌+◌, ◌<◌, ◌≤◌, Bool, true, false, cond, List, [], ◌∷◌, ◌++◌, length, take, drop, get_or, Option, None, Some, slice_get, slice_index, slice_set, inl, inr, refl, sym, ap, ap₂, ◌∙◌, subst, arith}
-use Rattle.std.specs.Int.{bit_at}
-use Rattle.std.specs.List.{flat_map}
-use Rattle.std.proofs.lemmas.Bool.{cases_lt}
-use Rattle.std.proofs.lemmas.List.{drop_more, drop_all, append_assoc, length-map, get_or-take}
-use Rattle.std.proofs.lemmas.List.Sums.{length-filter, count_by-le-length}
-use Rattle.roman_model.specs.Lists.{HoldsEachOnce, below}
-use Rattle.roman_model.specs.System.{Env, Beh, Sys, Seat, Pair, IsSys, IsPair, IsEnv, IsBeh, has_triple, has_move}
-use Rattle.roman_model.specs.SystemArena.{env_prev, beh_prev}
-use Rattle.roman_model.specs.Arena.{Delegation, back}
-use Rattle.roman_model.specs.Numbers.{sizes_of, count, number, pair_at, numbered}
-use Rattle.roman_model.proofs.CallerLemmas.{length-below, get_or-below, numbers_are_pairs, seat_in}
-use Rattle.roman_joint.specs.declared.walk.Walk.{Walk}
+use Rattle.roman_joint.proofs.Common.{bit_at, flat_map, cases_lt, drop_more, drop_all, append_assoc, length-map, length-filter, count_by-le-length, HoldsEachOnce, below, Env, Beh, Sys, Seat, Pair, IsSys, IsPair, IsEnv, IsBeh, has_triple, has_move, env_prev, beh_prev, Delegation, back, sizes_of, count, number, pair_at, numbered, length-below, numbers_are_pairs, seat_in, Walk, seat_prev, from_states, from_seat, from_target, from_env, from_action, from_all, goal_of, IsWalk, states_before, left}
+use Rattle.std.proofs.lemmas.List.{get_or-take}
+use Rattle.roman_model.proofs.CallerLemmas.{get_or-below}
 use Rattle.roman_joint.proofs.BackwardLemmas.{found_backwards}
-use Rattle.roman_joint.specs.Backward.{seat_prev, from_states, from_seat, from_target, from_env, from_action, from_all}
-use Rattle.roman_joint.specs.Walks.{goal_of, IsWalk, states_before, left_of_seat, left_of_target, left_of_env, left_of_action, left_of_all, left, WalkGoesOn}
+use Rattle.roman_joint.specs.Walks.{left_of_seat, left_of_target, left_of_env, left_of_action, left_of_all, WalkGoesOn}
 
 -- joined lists are the first one and the rest
 flat_map-drop : {X Y : Type 0} (f : X → List Y) (xs : List X) (i : ℕ) (d : X) → i < length xs → flat_map f (drop i xs) ≡ f (get_or xs i d) ++ flat_map f (drop (i + 1) xs)

@@ -1,14 +1,9 @@
 -- Seats that leave one after the other.
 use Rattle.std.proofs.Common.{◌≡◌, ℕ, zero, suc, ◌==◌, Bool, true, false, cond, not, ◌||◌, List, [], ◌∷◌, ◌++◌, Some, IsTrue, IsFalse, slice_get, slice_index, remove, refl, sym, ap, ap₂, ◌∙◌, subst, inl, inr, arith}
-use Rattle.std.proofs.lemmas.Bool.{false≢true, both_ways, eq-eqb, eqb-true, or_right, or_cases}
-use Rattle.std.proofs.lemmas.Option.{none-some}
-use Rattle.roman_model.specs.Lists.{IsIn}
-use Rattle.roman_model.specs.System.{Sys, Pair, has, IsSys, IsPair, is_final}
-use Rattle.roman_model.specs.Composition.{Great}
-use Rattle.roman_model.specs.Without.{leave_out, system_without, pair_without}
+use Rattle.roman_laws.proofs.Common.{false≢true, both_ways, eq-eqb, eqb-true, or_right, or_cases, none-some, IsIn, Sys, Pair, has, IsSys, IsPair, is_final, Great, leave_out, system_without, pair_without, by_test, in_append_left, in_append_right, from_append, number_listed, listed_number, left, GreatWithout, ArePart}
 use Rattle.roman_model.specs.declared.way.Way.TheVariants as way
-use Rattle.roman_model.proofs.CallerLemmas.{by_test, same_test, in_append_left, in_append_right, from_append, number_listed, listed_number, left}
-use Rattle.roman_laws.specs.Losing.{GreatWithout, ArePart, MayGoAt}
+use Rattle.roman_model.proofs.CallerLemmas.{same_test}
+use Rattle.roman_laws.specs.Losing.{MayGoAt}
 use Rattle.roman_laws.proofs.ReducedLemmas.{IsSys-reduced, IsPair-reduced}
 use Rattle.roman_laws.proofs.LosingLemmas.{great_with_gone}
 

@@ -1,3 +1,4 @@
+pub mod Common
 pub mod SimulationLemmas
 pub mod ControllerLemmas
 pub mod ReducedLemmas

@@ -1,8 +1,7 @@
 -- An example in which the loss of a seat that rests outside a final state helps: a lamp with another seat that is never final.
 use Rattle.std.proofs.Common.{◌≡◌, true, false, [], ◌∷◌, refl}
-use Rattle.roman_model.specs.System.{Env, Beh, Seat, Sys, Pair}
-use Rattle.roman_model.specs.Offers.{is_related}
-use Rattle.roman_model.specs.Without.{system_without, pair_without}
+use Rattle.roman_laws.proofs.Common.{Beh, Seat, Sys, Pair, is_related, system_without, pair_without}
+use Rattle.roman_model.specs.System.{Env}
 use Rattle.roman_model.specs.declared.way.Way.TheVariants as way
 
 -- the environment: one state, and two actions that are always possible

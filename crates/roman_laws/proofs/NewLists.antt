@@ -1,15 +1,14 @@
 -- Renamed removal lists have distinct pairs.
 use Rattle.std.proofs.Common.{◌≡◌, ℕ, ◌==◌, ◌&&◌, List, [], ◌∷◌, map, IsTrue, flat_map, inl, inr, refl, sym, subst, arith}
-use Rattle.std.proofs.lemmas.Bool.{and_parts, and_from, eqb-true, eq-eqb}
+use Rattle.roman_laws.proofs.Common.{and_parts, and_from, eqb-true, eq-eqb, IsIn, below, Seat, Sys, Pair, IsSys, arena, after, rename, by_test, any_true, from_map}
 use Rattle.std.proofs.lemmas.List.{same_from_push}
 use Rattle.std.proofs.lemmas.List.Folds.{flat_map-map}
-use Rattle.roman_model.specs.Lists.{IsIn, HasNoRepeats, below}
-use Rattle.roman_model.specs.System.{Seat, Sys, Pair, IsSys}
-use Rattle.roman_model.specs.SystemArena.{same_numbers, same_pair, arena}
+use Rattle.roman_model.specs.Lists.{HasNoRepeats}
+use Rattle.roman_model.specs.SystemArena.{same_numbers, same_pair}
 use Rattle.roman_model.specs.Arena.{Entry, is_among, IsOrder, AreNew}
 use Rattle.roman_model.specs.CompleteLists.{AreEntries}
-use Rattle.roman_model.specs.Change.{Change, Freeze, Thaw, Join, Die, after, grown, rename, CanChange}
-use Rattle.roman_model.proofs.CallerLemmas.{IsSame, by_test, any_true, in_map, from_map, HasNoRepeats-map, HasNoRepeats-flat_map, HasNoRepeats-below, same_numbers_is, same_numbers_itself, order_new, new_once, map-map, map-flat_map, flat_map_same, renaming_keeps}
+use Rattle.roman_model.specs.Change.{Change, Freeze, Thaw, Join, Die, grown, CanChange}
+use Rattle.roman_model.proofs.CallerLemmas.{IsSame, in_map, HasNoRepeats-map, HasNoRepeats-flat_map, HasNoRepeats-below, same_numbers_is, same_numbers_itself, order_new, new_once, map-map, map-flat_map, flat_map_same, renaming_keeps}
 
 -- pairs with the same numbers are equal
 pair_is : (t u e f : ℕ) (bs cs : List ℕ) → t ≡ u → e ≡ f → bs ≡ cs → ◌≡◌ {A = Pair} (record { t = t; e = e; bs = bs }) (record { t = u; e = f; bs = cs })

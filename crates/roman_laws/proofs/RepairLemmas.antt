@@ -1,9 +1,8 @@
 -- The renamed list of a change has distinct pairs, so its replay keeps the most.
 use Rattle.std.proofs.Common.{◌≤◌, List, [], ◌∷◌, length, inl, inr, arith}
 use Rattle.roman_model.specs.Lists.{IsSublist}
-use Rattle.roman_model.specs.SystemArena.{arena}
+use Rattle.roman_laws.proofs.Common.{arena, after, rename}
 use Rattle.roman_model.specs.Arena.{replay}
-use Rattle.roman_model.specs.Change.{after, rename}
 use Rattle.roman_model.specs.Laws.{ReplayKeeps}
 use Rattle.roman_model.proofs.CallerLemmas.{replay_sublist}
 use Rattle.roman_laws.specs.Repairs.{RepairsKeepTheMost, ReplaysKeepTheMost}

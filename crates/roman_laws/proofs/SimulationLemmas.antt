@@ -1,15 +1,12 @@
 -- Each relation that meets the three clauses of an ND-simulation is part of the greatest one, even if it can't be listed.
 use Rattle.std.proofs.Common.{ℕ, zero, suc, Bool, length, IsTrue, inl, inr, arith}
 use Rattle.std.specs.List.{list_any}
-use Rattle.std.proofs.lemmas.Bool.{both_ways, or_cases, or_left, or_right, not-true, not_from_false}
-use Rattle.std.proofs.lemmas.Option.{slice_get_within}
-use Rattle.roman_model.specs.Lists.{IsIn, below, is_empty}
-use Rattle.roman_model.specs.System.{Sys, Pair, IsSys, IsPair, is_final, all_final}
-use Rattle.roman_model.specs.SystemArena.{pairs, outcomes, is_allowed, is_fine, arena}
+use Rattle.roman_laws.proofs.Common.{both_ways, or_cases, or_right, not-true, slice_get_within, IsIn, below, is_empty, Sys, Pair, IsSys, IsPair, is_final, all_final, is_allowed, arena, Couple, couple, Serves, Meets, GreatCouple, Great, by_test, any_true, in_not_empty, from_allowed, outcome_in, from_outcome, related_great}
+use Rattle.std.proofs.lemmas.Bool.{or_left, not_from_false}
+use Rattle.roman_model.specs.SystemArena.{pairs, outcomes, is_fine}
 use Rattle.roman_model.specs.Arena.{is_justified, is_beaten, loses}
-use Rattle.roman_model.specs.Composition.{Couple, couple, Serves, Meets, GreatCouple, Great}
 use Rattle.roman_model.specs.declared.reason.Reason.TheVariants.{Act}
-use Rattle.roman_model.proofs.CallerLemmas.{by_test, any_true, in_not_empty, from_allowed, outcome_in, from_outcome, justified_is, related_great}
+use Rattle.roman_model.proofs.CallerLemmas.{justified_is}
 
 -- clause 2, from its test
 pub fine_from : (s : Sys) (p : Pair) → (IsTrue (is_final s.target p.t) → IsTrue (all_final s.seats p.bs)) → IsTrue (is_fine s p)

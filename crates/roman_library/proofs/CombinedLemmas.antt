@@ -1,16 +1,6 @@
 -- The library of a document with several targets combines them.
 use Rattle.std.proofs.Common.{◌≡◌, ℕ, List, Option, Some, None, Ok, refl, sym, ap, ◌∙◌, subst}
-use Rattle.serde_json.specs.Data.{Data}
-use Rattle.roman_io.specs.Shelf.{Texts}
-use Rattle.roman_read.specs.Items.{◌>>=◌}
-use Rattle.roman_read.proofs.CallerLemmas.{same_ok, bind_ok}
-use Rattle.roman_parts.specs.Named.{NamedEnv, NamedBeh}
-use Rattle.roman_multi.specs.Combining.{PlainCombined, forbidding, combined_parts}
-use Rattle.roman_multi.specs.declared.parts.Named.{Named}
-use Rattle.roman_multi.specs.declared.error.CombineError.{CombineError}
-use Rattle.roman_library.specs.Documents.{value_at, version_of, limit_of, environment_in, catalogue_in, targets_in, unless_broken, combined_of, parts_in, services_of, library_in, library_of}
-use Rattle.roman_library.specs.Library.{PlainLibrary}
-use Rattle.roman_library.specs.Refusals.{placed}
+use Rattle.roman_library.proofs.Common.{Data, Texts, ◌>>=◌, same_ok, bind_ok, NamedEnv, NamedBeh, PlainCombined, forbidding, combined_parts, Named, CombineError, value_at, version_of, limit_of, environment_in, catalogue_in, targets_in, unless_broken, combined_of, parts_in, services_of, library_in, library_of, PlainLibrary, placed}
 use Rattle.roman_library.specs.Targets.{CombinesTargets, TargetsAreCombined, AcceptedNameTargets}
 use Rattle.roman_library.specs.declared.refusal.Part.TheVariants as part
 use Rattle.roman_library.proofs.KnownLemmas.{placed_is, environment_in_known, catalogue_known, services_known, targets_in_known}

@@ -1,37 +1,25 @@
 -- Each accepted document means a well-formed library.
 use Rattle.std.proofs.Common.{◌≡◌, ◌==◌, Bool, true, false, cond, All, ℕ, ◌+◌, ◌<◌, ◌≤◌, ◌&&◌, List, [], ◌∷◌, ◌++◌, map, length, Option, Some, None, is_some, is_none, IfSome, slice_get, nat_le, codes, Result, Ok, Err, refl, sym, ap, ◌∙◌, subst, arith, leb-true, length-append}
 use Rattle.std.proofs.lemmas.Bool.{and_parts}
-use Rattle.std.proofs.lemmas.List.Elements.{All-get_or, All-push}
+use Rattle.roman_library.proofs.Common.{All-push, Data, Texts, MAX_BEHAVIOURS, MAX_CELLS, ◌>>=◌, each_item, place_of, same_ok, bind_ok, NamedEnv, NamedBeh, NamedTarget, IsBehaviour, IsTarget, name_of, target_of, PartError, behaviour_known, target_known, PartAt, ReadAfter, value_at, limit_of, version_of, listed_in, listed_step, environment_in, catalogue_in, targets_in, unless_broken, combined_of, parts_in, service_of, service_step, services_of, library_in, library_of, PlainCombined, target_name, forbidding, combined_parts, Named, CombineError, PlainLibrary, ArePartsOf, IsService, IsCatalogue, AreServices, behaviour_name, service_name, placed, Service, Part}
+use Rattle.std.proofs.lemmas.List.Elements.{All-get_or}
 use Rattle.std.proofs.lemmas.Option.{get_or_from_slice_get, slice_get_within}
-use Rattle.serde_json.specs.Data.{Data, Items, no_items, item}
+use Rattle.serde_json.specs.Data.{Items, no_items, item}
 use Rattle.serde_json.specs.Find.{as_object}
 use Rattle.serde_json.specs.Events.{items_len}
-use Rattle.roman_io.specs.Shelf.{Texts}
-use Rattle.roman_model.specs.declared.limits.TheConstants.{MAX_BEHAVIOURS, MAX_SERVICES, MAX_CELLS, DEFAULT_CELLS}
-use Rattle.roman_read.specs.Items.{◌>>=◌, each_item}
+use Rattle.roman_model.specs.declared.limits.TheConstants.{MAX_SERVICES, DEFAULT_CELLS}
 use Rattle.roman_read.specs.Json.{member_of, number_of}
-use Rattle.roman_read.specs.Names.{place_of}
 use Rattle.roman_read.specs.declared.rules.Miss.{Miss}
 use Rattle.roman_read.specs.declared.rules.Kind.TheVariants as kind
-use Rattle.roman_read.proofs.CallerLemmas.{same_ok, bind_ok}
 use Rattle.roman_parts.specs.Lists.{place_in}
-use Rattle.roman_parts.specs.Named.{NamedEnv, NamedBeh, NamedTarget, IsBehaviour, IsTarget}
-use Rattle.roman_parts.specs.Parts.{environment_of, name_of, target_of}
+use Rattle.roman_parts.specs.Parts.{environment_of}
 use Rattle.roman_parts.specs.Reading.{looked, found, check, counted_items}
 use Rattle.roman_parts.specs.declared.error.List.TheVariants as list
-use Rattle.roman_parts.specs.declared.error.PartError.{PartError}
-use Rattle.roman_parts.proofs.CallerLemmas.{IsOver-start, check_is, found_is, none_is, counted_are, place_below, IsEnvironment, environment_known, behaviour_known, target_known}
-use Rattle.roman_library.specs.Documents.{PartAt, ReadAfter, value_at, part_of, limit_in, limit_of, version_of, optional, new_name_of, listed_in, listed_step, environment_in, new_behaviour_of, catalogue_in, target_in, named_target_of, targets_in, unless_broken, combined_of, parts_in, behaviour_place, state_of, frozen_of, rests_of, service_of, service_step, services_of, library_in, library_of}
+use Rattle.roman_parts.proofs.CallerLemmas.{IsOver-start, check_is, found_is, none_is, counted_are, place_below, IsEnvironment, environment_known}
+use Rattle.roman_library.specs.Documents.{part_of, limit_in, optional, new_name_of, new_behaviour_of, target_in, named_target_of, behaviour_place, state_of, frozen_of, rests_of}
 use Rattle.roman_library.specs.Known.{IsKnownLibrary, LibrariesAreKnown}
-use Rattle.roman_multi.specs.Combining.{PlainCombined, target_name, forbidding, combined_parts}
-use Rattle.roman_multi.specs.declared.parts.Named.{Named}
-use Rattle.roman_multi.specs.declared.error.CombineError.{CombineError}
 use Rattle.roman_multi.proofs.CallerLemmas.{request_count}
 use Rattle.roman_library.proofs.TargetLemmas.{combined_parts_known}
-use Rattle.roman_library.specs.Library.{PlainLibrary, ArePartsOf, IsService, IsCatalogue, AreServices, behaviour_name, service_name}
-use Rattle.roman_library.specs.Refusals.{placed}
-use Rattle.roman_library.specs.declared.library.Service.{Service}
-use Rattle.roman_library.specs.declared.refusal.Part.{Part}
 use Rattle.roman_library.specs.declared.refusal.Part.TheVariants as part
 use Rattle.roman_library.proofs.LibraryLemmas.{no_behaviours, IsCatalogue-push, AreServices-push}
 

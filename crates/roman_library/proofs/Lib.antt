@@ -1,4 +1,5 @@
 mod PrefixLemmas
+pub mod Common
 pub mod PlaceLemmas
 mod LibraryLemmas
 mod StepLemmas

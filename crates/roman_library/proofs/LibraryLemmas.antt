@@ -1,17 +1,10 @@
 -- Properties of the parts of a library.
 use Rattle.std.proofs.Common.{◌≡◌, ℕ, List, [], ◌∷◌, ◌++◌, map, None, Ok, sym, ◌∙◌, arith}
 use Rattle.std.proofs.lemmas.List.{map_push}
-use Rattle.std.proofs.lemmas.List.Elements.{All-push}
-use Rattle.serde_json.specs.Data.{Data}
-use Rattle.roman_model.specs.Lists.{HasNoRepeats}
+use Rattle.roman_library.proofs.Common.{All-push, Data, HasNoRepeats, place_of, NamedEnv, NamedBeh, NamedTarget, IsBehaviour, same_ok, behaviour_known, target_known, name_of, target_of, IsCatalogue, IsService, AreServices, behaviour_name, service_name, Service}
 use Rattle.roman_model.proofs.CallerLemmas.{HasNoRepeats-push}
-use Rattle.roman_read.specs.Names.{place_of}
-use Rattle.roman_parts.specs.Named.{NamedEnv, NamedBeh, NamedTarget, IsBehaviour}
-use Rattle.roman_read.proofs.CallerLemmas.{same_ok}
-use Rattle.roman_parts.proofs.CallerLemmas.{behaviour_known, none_absent, target_known}
-use Rattle.roman_parts.specs.Parts.{name_of, behaviour_of, target_of}
-use Rattle.roman_library.specs.Library.{IsCatalogue, IsService, AreServices, behaviour_name, service_name}
-use Rattle.roman_library.specs.declared.library.Service.{Service}
+use Rattle.roman_parts.proofs.CallerLemmas.{none_absent}
+use Rattle.roman_parts.specs.Parts.{behaviour_of}
 
 -- a behaviour that was read is over the environment over which it was read
 pub behaviour_is_over : (env : NamedEnv) (d : Data) (b : NamedBeh) → behaviour_of env d ≡ Ok b → (b.env_states ≡ env.env.states) × (b.actions ≡ env.env.actions)

@@ -1,9 +1,7 @@
 -- Places of names in lists of named items.
 use Rattle.std.proofs.Common.{◌≡◌, ◌+◌, ℕ, List, [], ◌∷◌, map, Bool, not, cond, ap, refl}
-use Rattle.std.proofs.lemmas.List.{length-map}
+use Rattle.roman_library.proofs.Common.{length-map, bytes_eq, place_of}
 use Rattle.std.specs.List.{position, prefix_len}
-use Rattle.std.specs.Str.{bytes_eq}
-use Rattle.roman_read.specs.Names.{place_of}
 
 prefix_len-map : {X Y : Type 0} (f : X → Y) (p : Y → Bool) (xs : List X) → prefix_len p (map f xs) ≡ prefix_len (λ x. p (f x)) xs
 prefix_len-map f p [] = refl

@@ -1,23 +1,11 @@
 -- Parts with their documents, and the refusals that stop the reading of a document.
 use Rattle.std.proofs.Common.{◌≡◌, ℕ, List, Option, Some, None, IfSome, IfOk, Result, Ok, Err, ap, sym, subst}
-use Rattle.serde_json.specs.Data.{Data}
-use Rattle.roman_io.specs.Shelf.{Texts}
-use Rattle.roman_read.specs.Items.{◌>>=◌}
-use Rattle.roman_parts.specs.Named.{NamedEnv, NamedBeh}
-use Rattle.roman_parts.specs.Reading.{Gives}
-use Rattle.roman_parts.specs.declared.error.PartError.{PartError}
+use Rattle.roman_library.proofs.Common.{Data, Texts, ◌>>=◌, NamedEnv, NamedBeh, Gives, PartError, Named, Combined, version_of, limit_of, environment_in, catalogue_in, services_of, targets_in, combined_of, parts_in, library_in, Stops, placed, Service, LoadError, Part, Refusal}
 use Rattle.roman_parts.specs.declared.error.PartError.TheVariants as part_error
 use Rattle.roman_multi.specs.Combining as combining
-use Rattle.roman_multi.specs.declared.parts.Named.{Named}
-use Rattle.roman_multi.specs.declared.parts.Combined.{Combined}
-use Rattle.roman_library.specs.Documents.{version_of, limit_of, environment_in, catalogue_in, services_of, targets_in, combined_of, parts_in, library_in}
-use Rattle.roman_library.specs.Refusals.{Places, Stops, Loads, placed}
-use Rattle.roman_library.specs.declared.library.Service.{Service}
-use Rattle.roman_library.specs.declared.refusal.LoadError.{LoadError}
+use Rattle.roman_library.specs.Refusals.{Places, Loads}
 use Rattle.roman_library.specs.declared.refusal.LoadError.TheVariants as error
-use Rattle.roman_library.specs.declared.refusal.Part.{Part}
 use Rattle.roman_library.specs.declared.refusal.Part.TheVariants as part
-use Rattle.roman_library.specs.declared.refusal.Refusal.{Refusal}
 
 -- the value that was read of a part is the one that its definition gives
 pub placed_ok : {X Y : Type 0} (view : X → Y) (document : List ℕ) (part : Part) (read : Result X PartError) (reading : Result Y PartError) (x : X)

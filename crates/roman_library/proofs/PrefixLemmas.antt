@@ -2,7 +2,7 @@
 use Rattle.std.proofs.Common.{◌≡◌, ℕ, ◌+◌, ◌≤◌, List, ◌++◌, length, take, drop, sym, ◌∙◌, ap, subst, length-append, Option, None, Some, IfSome}
 use Rattle.std.proofs.lemmas.List.{take-append-drop, length-take-le}
 use Rattle.std.proofs.Math.Seq.{take-append-add}
-use Rattle.roman_io.specs.Shelf.{Texts, Fetches, shelf_text}
+use Rattle.roman_library.proofs.Common.{Texts, Fetches, shelf_text}
 
 -- the bytes are a prefix of the text
 pub record IsPrefix (bytes text : List ℕ) : Type 0 where

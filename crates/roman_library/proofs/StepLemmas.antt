@@ -1,18 +1,10 @@
 -- Loops over the parts and the services of a document.
 use Rattle.std.proofs.Common.{◌≡◌, ℕ, ◌+◌, ◌<◌, ◌≤◌, List, [], ◌∷◌, ◌++◌, length, get_or, Option, Some, None, IfSome, Result, Ok}
-use Rattle.serde_json.specs.Data.{Data}
-use Rattle.serde_json.specs.View.{view, items_view}
+use Rattle.roman_library.proofs.Common.{Data, view, Texts, each_item, NamedEnv, NamedBeh, PartAt, ReadAfter, listed_in, listed_step, service_of, service_step, Stops, placed, Service, LoadError, Refusal}
+use Rattle.serde_json.specs.View.{items_view}
 use Rattle.serde_json.specs.declared.value.Value.{Value}
-use Rattle.roman_io.specs.Shelf.{Texts}
-use Rattle.roman_read.specs.Items.{each_item}
 use Rattle.roman_read.proofs.CallerLemmas.{IsLeft, goes_on, ends, is_done}
-use Rattle.roman_parts.specs.Named.{NamedEnv, NamedBeh}
-use Rattle.roman_library.specs.Documents.{PartAt, ReadAfter, listed_in, listed_step, service_of, service_step}
-use Rattle.roman_library.specs.Refusals.{Stops, placed}
-use Rattle.roman_library.specs.declared.library.Service.{Service}
-use Rattle.roman_library.specs.declared.refusal.LoadError.{LoadError}
 use Rattle.roman_library.specs.declared.refusal.LoadError.TheVariants as error
-use Rattle.roman_library.specs.declared.refusal.Refusal.{Refusal}
 use Rattle.roman_library.specs.declared.refusal.Part.TheVariants as part
 
 -- the remaining parts of a list give the result of all parts, if the shelf exposes its texts

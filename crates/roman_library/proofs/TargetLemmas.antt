@@ -1,23 +1,16 @@
 -- Several targets of a document, and the parts made from them.
 use Rattle.std.proofs.Common.{◌≡◌, ◌<◌, List, [], ◌∷◌, map, length, get_or, All, IfSome, Option, Some, None, Ok, Err, slice_get, refl, sym, ap, subst}
-use Rattle.std.proofs.lemmas.List.{length-map, get_or-map}
+use Rattle.roman_library.proofs.Common.{length-map, HasNoRepeats, NamedEnv, NamedBeh, IsBehaviour, IsTarget, Gives, combined_parts, forbidding, Named, Combined, CombineError, combined_of, ArePartsOf, IsCatalogue, IsService, AreServices, behaviour_name, Service}
+use Rattle.std.proofs.lemmas.List.{get_or-map}
 use Rattle.std.proofs.lemmas.Option.{slice_get-map}
 use Rattle.std.specs.Option.{option_map}
-use Rattle.roman_model.specs.Lists.{HasNoRepeats}
 use Rattle.roman_model.specs.System.{IsEnv}
 use Rattle.roman_model.specs.declared.request.Request.{Request}
-use Rattle.roman_parts.specs.Named.{NamedEnv, NamedBeh, IsBehaviour, IsTarget}
-use Rattle.roman_parts.specs.Reading.{Gives}
 use Rattle.roman_multi.specs.Combining as combining
-use Rattle.roman_multi.specs.Combining.{KeepsRules, combined_behaviour, combined_parts, forbidding, requests_in}
-use Rattle.roman_multi.specs.declared.parts.Named.{Named}
-use Rattle.roman_multi.specs.declared.parts.Combined.{Combined}
-use Rattle.roman_multi.specs.declared.error.CombineError.{CombineError}
+use Rattle.roman_multi.specs.Combining.{KeepsRules, combined_behaviour, requests_in}
 use Rattle.roman_multi.specs.declared.error.CombineError.TheVariants as error
 use Rattle.roman_multi.proofs.CallerLemmas.{state_count, combined_behaviour_over, combined_is_system, combined_target_over}
-use Rattle.roman_library.specs.Documents.{combined_of, broken_rule}
-use Rattle.roman_library.specs.Library.{ArePartsOf, IsCatalogue, IsService, AreServices, behaviour_name}
-use Rattle.roman_library.specs.declared.library.Service.{Service}
+use Rattle.roman_library.specs.Documents.{broken_rule}
 
 -- the combined parts, or the refusal of the combination
 pub made_gives : (env : NamedEnv) (catalogue : List NamedBeh) (targets : List Named) (made : Combined) → combining.plain_combined made ≡ combined_parts env catalogue targets → forbidding env targets ≡ None →

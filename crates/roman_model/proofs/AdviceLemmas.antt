@@ -1,12 +1,7 @@
 -- Least worst-case costs, computed one action, one seat and one outcome at a time.
 use Rattle.std.proofs.Common.{◌≡◌, ℕ, zero, suc, ◌+◌, ◌*◌, ◌<◌, ◌≤◌, Bool, cond, List, [], ◌∷◌, ◌++◌, map, filter, nat_le, refl, ap, ◌∙◌, arith, rules}
-use Rattle.std.specs.Prelude.{max}
-use Rattle.std.proofs.lemmas.List.Elements.{filter-append}
-use Rattle.roman_model.specs.Lists.{below}
-use Rattle.roman_model.specs.System.{Sys, Pair, IsSys}
-use Rattle.roman_model.specs.SystemArena.{outcomes}
-use Rattle.roman_model.specs.Numbers.{sizes_of, pair_at, number, count, numbered}
-use Rattle.roman_model.specs.Plans.{Costs, max_over, allowed_actions, least_from, through, least, choice, least_at}
+use Rattle.roman_model.proofs.Common.{max, filter-append, below, Sys, Pair, IsSys, outcomes, sizes_of, pair_at, number, count, numbered, Costs, max_over, allowed_actions, least_from, through, least, choice}
+use Rattle.roman_model.specs.Plans.{least_at}
 use Rattle.roman_model.proofs.SystemLemmas.{outcome_pair}
 use Rattle.roman_model.proofs.NumberLemmas.{numbers_are_pairs}
 use Rattle.roman_model.proofs.PlanLemmas.{max_over_le, max_over_same}

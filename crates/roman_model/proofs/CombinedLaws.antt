@@ -1,17 +1,10 @@
 -- The combined target stands for several targets: the ND-simulations of the combined system are those of the members.
 use Rattle.std.proofs.Common.{◌≡◌, ℕ, ◌<◌, ◌≤◌, Bool, ◌&&◌, List, [], ◌∷◌, map, length, Some, IsTrue, filter, slice_get, slice_index, slice_set, nat_lt, inl, inr, refl, sym, ap, ◌∙◌, subst, arith}
-use Rattle.std.proofs.lemmas.Bool.{and_parts, and_from, ltb-true, lt-ltb}
-use Rattle.std.proofs.lemmas.List.{length-map}
-use Rattle.std.proofs.lemmas.Option.{same_Some}
-use Rattle.roman_model.specs.Lists.{IsIn}
-use Rattle.roman_model.specs.System.{Env, Beh, Seat, has_triple, has_move, IsBeh, IsDeterministic, IsSys, SStep, is_final}
-use Rattle.roman_model.specs.SystemArena.{same_numbers}
-use Rattle.roman_model.specs.declared.limits.TheConstants.{MAX_SERVICES}
-use Rattle.roman_model.specs.Composition.{Couple, couple, Serves, Meets, GreatCouple}
-use Rattle.roman_model.specs.declared.request.Request.{Request}
-use Rattle.roman_model.specs.Several.{Several, of_one, CoupleAll, are_final, ServesAll, MeetsAll, GreatAll}
-use Rattle.roman_model.specs.Numbers.{AreBelow}
-use Rattle.roman_model.specs.Combined.{has_triple_on, has_move_on, targets_go, target_sizes, combined_start, combined_seat, all_requests, combined, IsSeveral, CombinedIsAll}
+use Rattle.roman_model.proofs.Common.{and_parts, and_from, length-map, same_Some, IsIn, Env, Beh, Seat, has_triple, has_move, IsBeh, IsSys, SStep, is_final, same_numbers, MAX_SERVICES, Couple, couple, Serves, Meets, GreatCouple, Request, Several, of_one, are_final, AreBelow, has_triple_on, has_move_on, targets_go, target_sizes, combined_start, combined_seat, all_requests, combined, IsSeveral}
+use Rattle.std.proofs.lemmas.Bool.{ltb-true, lt-ltb}
+use Rattle.roman_model.specs.System.{IsDeterministic}
+use Rattle.roman_model.specs.Several.{CoupleAll, ServesAll, MeetsAll, GreatAll}
+use Rattle.roman_model.specs.Combined.{CombinedIsAll}
 use Rattle.roman_model.proofs.Places.{get_in, in_get}
 use Rattle.roman_model.proofs.Lists.{in_map, from_map, in_filter, filter_in}
 use Rattle.roman_model.proofs.SystemLemmas.{same_numbers_is, same_numbers_itself, move_in_range}

@@ -1,14 +1,7 @@
 -- The depths of a system's pairs, and the opponent's game by depth.
 use Rattle.std.proofs.Common.{◌≡◌, ℕ, zero, suc, ◌<◌, ◌≤◌, not, if◌then◌else◌, List, [], ◌∷◌, length, Option, Some, None, IsTrue, IsFalse, find, inl, inr, refl, sym, ap, ◌∙◌, subst, arith, rules}
-use Rattle.std.specs.List.{list_any}
-use Rattle.std.proofs.lemmas.Bool.{both_ways, or_cases, not_from_false, cond-true, cond-false, cases_order}
-use Rattle.roman_model.specs.Lists.{IsIn, below, is_empty}
-use Rattle.roman_model.specs.System.{Sys, Pair, IsSys, IsPair}
-use Rattle.roman_model.specs.SystemArena.{pairs, outcomes, arena}
-use Rattle.roman_model.specs.Arena.{is_justified, loses, depth}
-use Rattle.roman_model.specs.Composition.{Great}
-use Rattle.roman_model.specs.Play.{has_ready, went_on, WinsWithin, AreSeats, refuting, request_at, depth_play_at, depth_play, DepthWins, DepthIsLeast}
-use Rattle.roman_model.specs.declared.reason.Reason.TheVariants.{Act}
+use Rattle.roman_model.proofs.Common.{list_any, both_ways, or_cases, not_from_false, cond-true, cond-false, cases_order, IsIn, below, is_empty, Sys, Pair, IsSys, IsPair, pairs, outcomes, arena, is_justified, loses, depth, Great, has_ready, went_on, WinsWithin, AreSeats, Act}
+use Rattle.roman_model.specs.Play.{refuting, request_at, depth_play_at, depth_play, DepthWins, DepthIsLeast}
 use Rattle.roman_model.proofs.Lists.{by_test, any_from, find_some, find_found}
 use Rattle.roman_model.proofs.SystemLemmas.{in_pairs, outcome_pair}
 use Rattle.roman_model.proofs.ArenaLemmas.{justified_is, beaten_is, unjustified_act, unbeaten_is}

@@ -1,12 +1,8 @@
 -- Numbers of lists of states and of pairs: bounds, and the change of a number where a state changes, comes or goes.
 use Rattle.std.proofs.Common.{◌≡◌, ℕ, zero, suc, ◌+◌, ◌*◌, ◌/◌, ◌%◌, ◌<◌, List, [], ◌∷◌, ◌++◌, map, length, take, drop, slice_index, slice_set, remove, refl, sym, ap, ◌∙◌, arith, add-one, div-add-mod', rules}
-use Rattle.std.specs.List.{AllZip}
-use Rattle.std.proofs.lemmas.Nat.{mul-add-lt, div-mul-add, mod-mul-add, div_below, mod_below}
-use Rattle.roman_model.specs.Lists.{product_of}
-use Rattle.roman_model.specs.System.{Seat, Sys, Pair, IsPair}
-use Rattle.roman_model.specs.Numbers.{Sizes, sizes_of, AreBelow, IsPairOf, grown_sizes, sizes_without, count, states_number, states_at, number, pair_at, NumbersArePairs}
-use Rattle.roman_model.specs.Change.{grown, without}
-use Rattle.roman_model.specs.NumberedChange.{number_without}
+use Rattle.roman_model.proofs.Common.{AllZip, mul-add-lt, product_of, Seat, Sys, Pair, IsPair, Sizes, sizes_of, AreBelow, grown_sizes, sizes_without, count, states_number, states_at, number, pair_at, grown, without, number_without}
+use Rattle.std.proofs.lemmas.Nat.{div-mul-add, mod-mul-add, div_below, mod_below}
+use Rattle.roman_model.specs.Numbers.{IsPairOf, NumbersArePairs}
 use Rattle.roman_model.specs.Laws.{PairsAreNumbered}
 
 pub AreBelow-length : (sizes bs : List ℕ) → AreBelow sizes bs → length bs ≡ length sizes

@@ -1,14 +1,7 @@
 -- The arenas over numbers of pairs and over pairs carry over to each other.
 use Rattle.std.proofs.Common.{◌≡◌, ℕ, ◌<◌, ◌==◌, List, [], ◌∷◌, map, IsTrue, refl, sym, ap, ap₂, ◌∙◌, subst, inl, inr}
-use Rattle.std.proofs.lemmas.Bool.{eqb-true, eq-eqb}
-use Rattle.roman_model.specs.Lists.{IsIn}
-use Rattle.roman_model.specs.System.{Sys, Pair, IsSys, IsPair}
-use Rattle.roman_model.specs.SystemArena.{outcomes, is_allowed, is_fine, same_pair, arena}
-use Rattle.roman_model.specs.Arena.{Entry, is_listed, mask, IsOrder, is_justified}
-use Rattle.roman_model.specs.declared.reason.Reason.{Reason}
-use Rattle.roman_model.specs.CompleteLists.{AreEntries}
-use Rattle.roman_model.specs.Numbers.{sizes_of, count, number, pair_at, numbered, entry_at}
-use Rattle.roman_model.specs.Laws.{OrderCompletes, NumberedCompletes}
+use Rattle.roman_model.proofs.Common.{eqb-true, eq-eqb, IsIn, Sys, Pair, IsSys, IsPair, outcomes, is_allowed, is_fine, same_pair, arena, Entry, is_listed, mask, IsOrder, is_justified, Reason, AreEntries, sizes_of, count, number, pair_at, numbered, entry_at, OrderCompletes}
+use Rattle.roman_model.specs.Laws.{NumberedCompletes}
 use Rattle.roman_model.proofs.Lists.{same_test, from_map}
 use Rattle.roman_model.proofs.SystemLemmas.{same_pair_is, same_pair_from, outcome_pair}
 use Rattle.roman_model.proofs.NumberLemmas.{numbers_are_pairs}

@@ -1,18 +1,9 @@
 -- Changes over the numbers of pairs: renaming and replay agree with those over pairs.
 use Rattle.std.proofs.Common.{◌≡◌, ℕ, zero, suc, ◌+◌, ◌*◌, ◌<◌, ◌==◌, Bool, true, false, List, [], ◌∷◌, ◌++◌, map, length, take, drop, filter, flat_map, Some, if◌then◌else◌, slice_get, slice_index, remove, refl, sym, ap, ap₂, ◌∙◌, subst, inl, inr, arith}
-use Rattle.std.specs.List.{list_any}
-use Rattle.std.proofs.lemmas.Bool.{eqb-true, eq-eqb, cond-true, cond-false}
-use Rattle.std.proofs.lemmas.List.{map-append, take-map, drop-map, length-map}
-use Rattle.std.proofs.lemmas.List.Folds.{flat_map-map}
-use Rattle.std.proofs.lemmas.Nat.{mul-add-lt}
-use Rattle.std.proofs.lemmas.Option.{none-some, same_Some, slice_get_within}
-use Rattle.roman_model.specs.Lists.{IsIn, below}
-use Rattle.roman_model.specs.System.{Seat, Sys, Pair, IsSys}
-use Rattle.roman_model.specs.SystemArena.{is_allowed, same_pair, arena}
-use Rattle.roman_model.specs.Arena.{Entry, IsOrder, replay}
-use Rattle.roman_model.specs.Change.{Change, Freeze, Thaw, Join, Die, after, grown, without, may_go, firsts, grown_entries, entry_without, rename, CanChange, KeepsAll, RenamedReplays}
-use Rattle.roman_model.specs.Numbers.{Sizes, sizes_of, grown_sizes, sizes_without, count, number, pair_at, numbered, entry_at}
-use Rattle.roman_model.specs.NumberedChange.{grown_numbers, number_without, number_entry_without, first_numbers, rename_numbers}
+use Rattle.roman_model.proofs.Common.{list_any, eqb-true, eq-eqb, cond-true, cond-false, map-append, length-map, flat_map-map, mul-add-lt, none-some, same_Some, slice_get_within, IsIn, below, Seat, Sys, Pair, IsSys, is_allowed, same_pair, arena, Entry, IsOrder, replay, Freeze, Thaw, Join, Die, after, grown, without, may_go, firsts, entry_without, rename, Sizes, sizes_of, grown_sizes, sizes_without, count, number, pair_at, numbered, entry_at, number_without}
+use Rattle.std.proofs.lemmas.List.{take-map, drop-map}
+use Rattle.roman_model.specs.Change.{Change, grown_entries, CanChange, KeepsAll, RenamedReplays}
+use Rattle.roman_model.specs.NumberedChange.{grown_numbers, number_entry_without, first_numbers, rename_numbers}
 use Rattle.roman_model.proofs.Lists.{by_test, same_test, any_same, list_any-map, from_map, from_flat_map, filter_in, from_below, sublist_in, filter-map}
 use Rattle.roman_model.proofs.SystemLemmas.{same_pair_is, same_pair_from}
 use Rattle.roman_model.proofs.OrderLemmas.{replay_whole, replay_sublist}

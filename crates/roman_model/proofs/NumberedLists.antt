@@ -1,18 +1,8 @@
 -- Removal lists over the numbers of pairs: the laws of their arena, complete lists, and counts of pairs.
 use Rattle.std.proofs.Common.{◌≡◌, ℕ, ◌+◌, ◌<◌, ◌≤◌, not, List, [], map, length, Bool, IsTrue, IsFalse, ◌↔◌, filter, sum_by, refl, sym, ap, ◌∙◌, subst, arith, rules}
-use Rattle.std.proofs.lemmas.Bool.{both_ways, eqb-true, eq-eqb, not-false}
-use Rattle.std.proofs.lemmas.List.{length-map}
+use Rattle.roman_model.proofs.Common.{both_ways, eqb-true, eq-eqb, not-false, length-map, IsIn, HasNoRepeats, below, Sys, Pair, IsSys, IsPair, pairs, outcomes, arena, Entry, is_listed, is_justified, mask, IsOrder, loses, Great, IsComplete, sizes_of, count, number, pair_at, numbered, entry_at, IsCompleteList, is_related, offers, choice_count, Reason, Final, Act}
 use Rattle.std.proofs.lemmas.List.Filters.{length-filter_both}
-use Rattle.roman_model.specs.Lists.{IsIn, HasNoRepeats, below}
-use Rattle.roman_model.specs.System.{Sys, Pair, IsSys, IsPair}
-use Rattle.roman_model.specs.SystemArena.{pairs, outcomes, arena}
-use Rattle.roman_model.specs.Arena.{Entry, is_listed, is_justified, mask, IsOrder, loses, choices}
-use Rattle.roman_model.specs.Composition.{Great}
-use Rattle.roman_model.specs.CompleteLists.{IsComplete}
-use Rattle.roman_model.specs.Numbers.{sizes_of, count, number, pair_at, numbered, entry_at, IsCompleteList}
-use Rattle.roman_model.specs.Offers.{is_related, offers, choice_count}
-use Rattle.roman_model.specs.declared.reason.Reason.{Reason}
-use Rattle.roman_model.specs.declared.reason.Reason.TheVariants.{Final, Act}
+use Rattle.roman_model.specs.Arena.{choices}
 use Rattle.roman_model.proofs.Lists.{same_test, in_map, from_map, in_filter, filter_in, in_below, from_below, length-below, same_length, sum_by-map, sum_by_same, sum_by_within, HasNoRepeats-map, HasNoRepeats-filter, HasNoRepeats-below}
 use Rattle.roman_model.proofs.SystemLemmas.{in_pairs, from_pairs, pairs_once, outcome_pair}
 use Rattle.roman_model.proofs.ArenaLemmas.{IsSame, IsArena, in_listed, listed_in, mask_empty, mask_same}

@@ -1,13 +1,7 @@
 -- The offers, and the pairs to which they lead.
 use Rattle.std.proofs.Common.{◌≡◌, ◌≢◌, ℕ, ◌<◌, not, List, [], ◌∷◌, length, IsTrue, arith, rules}
-use Rattle.std.proofs.lemmas.Bool.{not-false, not_from_true}
-use Rattle.roman_model.specs.Lists.{IsIn}
-use Rattle.roman_model.specs.System.{Sys, Pair, IsSys, IsPair}
-use Rattle.roman_model.specs.SystemArena.{outcomes, is_allowed, arena}
-use Rattle.roman_model.specs.Arena.{Entry, is_listed, mask}
-use Rattle.roman_model.specs.Composition.{GreatCouple, Great}
-use Rattle.roman_model.specs.CompleteLists.{IsComplete}
-use Rattle.roman_model.specs.Offers.{is_related, offers, OffersAreGenerator, FollowingStays}
+use Rattle.roman_model.proofs.Common.{not-false, not_from_true, IsIn, Sys, Pair, IsSys, IsPair, outcomes, is_allowed, arena, Entry, is_listed, mask, GreatCouple, Great, IsComplete, is_related, offers}
+use Rattle.roman_model.specs.Offers.{OffersAreGenerator, FollowingStays}
 use Rattle.roman_model.proofs.Lists.{in_not_empty, not_empty_ne}
 use Rattle.roman_model.proofs.SystemLemmas.{outcome_pair}
 use Rattle.roman_model.proofs.ArenaLemmas.{unbeaten_is, unbeaten_from, in_mask, from_mask, mask_same}

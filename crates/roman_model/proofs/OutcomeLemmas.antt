@@ -1,9 +1,6 @@
 -- The tests and lists of a system agree with its steps.
 use Rattle.std.proofs.Common.{◌≡◌, ℕ, zero, suc, ◌==◌, ◌&&◌, ◌||◌, not, ◌<◌, Bool, true, false, List, [], ◌∷◌, Some, IsTrue, slice_get, slice_index, refl, subst, arith}
-use Rattle.std.specs.List.{AllZip}
-use Rattle.std.proofs.lemmas.Bool.{eq-eqb, eqb-true, and_parts, and_from}
-use Rattle.roman_model.specs.Lists.{IsIn}
-use Rattle.roman_model.specs.System.{Triple, Env, Beh, Seat, has, has_triple, has_move, is_final, all_final}
+use Rattle.roman_model.proofs.Common.{AllZip, eq-eqb, eqb-true, and_parts, and_from, IsIn, Triple, Env, Beh, Seat, has, has_triple, has_move, is_final, all_final}
 use Rattle.roman_model.proofs.Lists.{any_true, any_from}
 use Rattle.roman_model.proofs.SystemLemmas.{outcome_in, from_outcome, allowed_in, from_allowed}
 use Rattle.roman_model.proofs.CompositionLemmas.{fine_is, fine_from}

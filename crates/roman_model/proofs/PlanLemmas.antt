@@ -1,14 +1,9 @@
 -- The plan of the choices costs least of all plans at a related pair.
 use Rattle.std.proofs.Common.{◌≡◌, ◌≢◌, ℕ, zero, suc, ◌+◌, ◌-◌, ◌<◌, ◌≤◌, Bool, true, false, cond, ◌⊎◌, List, [], ◌∷◌, ◌++◌, IsTrue, filter, nat_le, inl, inr, refl, sym, ap, ap₂, ◌∙◌, subst, arith, rules}
-use Rattle.std.specs.Prelude.{max}
+use Rattle.roman_model.proofs.Common.{max, cond-true, cond-false, IsIn, below, Sys, Pair, IsSys, IsPair, outcomes, is_allowed, Great, offers, Costs, max_over, allowed_actions, least_from, through, least, choice}
 use Rattle.std.proofs.Math.Nat.{le-max_left, le-max_right, max-le}
-use Rattle.std.proofs.lemmas.Bool.{cond-true, cond-false, leb-true, leb-false}
-use Rattle.roman_model.specs.Lists.{IsIn, below}
-use Rattle.roman_model.specs.System.{Sys, Pair, IsSys, IsPair}
-use Rattle.roman_model.specs.SystemArena.{outcomes, is_allowed}
-use Rattle.roman_model.specs.Composition.{Great}
-use Rattle.roman_model.specs.Offers.{offers}
-use Rattle.roman_model.specs.Plans.{Costs, Plan, Leaf, Node, max_over, allowed_actions, IsPlan, worst, least_from, first_least, through, least, choice, chosen, IsChoice, PlansCostLeast}
+use Rattle.std.proofs.lemmas.Bool.{leb-true, leb-false}
+use Rattle.roman_model.specs.Plans.{Plan, Leaf, Node, IsPlan, worst, first_least, chosen, IsChoice, PlansCostLeast}
 use Rattle.roman_model.proofs.Lists.{by_test, filter_in, from_below, from_push, not_empty_in, ne_not_empty}
 use Rattle.roman_model.proofs.SystemLemmas.{outcome_pair}
 use Rattle.roman_model.proofs.OfferLemmas.{offer_is, related_offers}

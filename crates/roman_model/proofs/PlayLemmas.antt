@@ -1,16 +1,8 @@
 -- The opponent's game, by a removal list and by depth.
 use Rattle.std.proofs.Common.{◌≡◌, ℕ, zero, suc, ◌<◌, ◌≤◌, not, if◌then◌else◌, List, [], ◌∷◌, ◌++◌, length, Option, Some, None, IsTrue, IsFalse, inl, inr, sym, ap, ap₂, ◌∙◌, subst, arith}
-use Rattle.std.specs.List.{list_any}
+use Rattle.roman_model.proofs.Common.{list_any, both_ways, or_parts, not_from_false, cond-true, cond-false, is_empty, Sys, Pair, outcomes, arena, Entry, is_listed, is_justified, IsOrder, entries_before, answer, has_ready, went_on, WinsWithin, AreSeats, Reason, Final, Act}
 use Rattle.std.specs.Option.{option_map}
-use Rattle.std.proofs.lemmas.Bool.{both_ways, or_parts, not_from_false, cond-true, cond-false}
-use Rattle.roman_model.specs.Lists.{is_empty}
-use Rattle.roman_model.specs.System.{Sys, Pair}
-use Rattle.roman_model.specs.SystemArena.{outcomes, arena}
-use Rattle.roman_model.specs.Arena.{Entry, is_listed, is_justified, IsOrder}
-use Rattle.roman_model.specs.Explanation.{entries_before, answer}
-use Rattle.roman_model.specs.Play.{reason_of, has_ready, went_on, play_at, play, WinsWithin, AreSeats, OrderWins}
-use Rattle.roman_model.specs.declared.reason.Reason.{Reason}
-use Rattle.roman_model.specs.declared.reason.Reason.TheVariants.{Final, Act}
+use Rattle.roman_model.specs.Play.{reason_of, play_at, play, OrderWins}
 use Rattle.roman_model.proofs.Lists.{by_test, find_some, find_found, any_from, split_at}
 use Rattle.roman_model.proofs.ArenaLemmas.{listed_in, justified_is, beaten_is}
 use Rattle.roman_model.proofs.WorkLemmas.{order_middle}

@@ -1,9 +1,6 @@
 -- The definitions of several targets, computed for two lamps and two targets that each turn a lamp on and off.
 use Rattle.std.proofs.Common.{◌≡◌, [], ◌∷◌, length, refl, arith}
-use Rattle.roman_model.specs.SystemArena.{pairs}
-use Rattle.roman_model.specs.Offers.{offers}
-use Rattle.roman_model.specs.Several.{Several}
-use Rattle.roman_model.specs.Combined.{IsSeveral, all_requests, combined}
+use Rattle.roman_model.proofs.Common.{pairs, offers, Several, IsSeveral, all_requests, combined}
 use Rattle.roman_model.proofs.Examples.{room, lamp, seat_of, pair_of, related_pairs}
 
 abbrev two : Several

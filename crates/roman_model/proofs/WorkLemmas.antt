@@ -1,10 +1,10 @@
 -- Lemmas for working through a removal list: entries by their place, the delegations that lead to a node, and sums.
 use Rattle.std.proofs.Common.{◌≡◌, ℕ, ◌+◌, ◌<◌, ◌≤◌, ◌&&◌, ◌||◌, List, [], ◌∷◌, ◌++◌, length, get_or, take, drop, IsTrue, IsFalse, sum_by, count_by, sym, ap, ◌∙◌, subst, take-append-drop, arith}
-use Rattle.std.proofs.lemmas.List.{drop_more, length-map}
-use Rattle.std.proofs.lemmas.List.Sums.{sum_by_push, sum_by-append, length-filter}
+use Rattle.roman_model.proofs.Common.{length-map, sum_by-append, IsIn, HasNoRepeats, below, Arena, Entry, is_among, is_listed, is_justified, IsOrderFrom, IsOrder, back}
+use Rattle.std.proofs.lemmas.List.{drop_more}
+use Rattle.std.proofs.lemmas.List.Sums.{sum_by_push, length-filter}
 use Rattle.std.proofs.lemmas.List.Concat.{length-flat_map}
-use Rattle.roman_model.specs.Lists.{IsIn, HasNoRepeats, below}
-use Rattle.roman_model.specs.Arena.{Arena, Entry, is_among, is_listed, is_justified, IsOrderFrom, IsOrder, back, fall, readings}
+use Rattle.roman_model.specs.Arena.{fall, readings}
 use Rattle.roman_model.proofs.Lists.{filter-map, filter-flat_map, sum_by_same, sum_by_within}
 use Rattle.roman_model.proofs.ArenaLemmas.{justified_same}
 

@@ -1,17 +1,10 @@
 -- The rule that forbids the targets to be combined.
 use Rattle.std.proofs.Common.{◌≡◌, ℕ, ◌<◌, ◌≤◌, List, [], ◌∷◌, map, length, Some, None, Err, IsTrue, IsFalse, refl, ap, ap₂, ◌∙◌, arith}
-use Rattle.std.proofs.lemmas.Bool.{ltb-false, lt-ltb, le-ltb, true≢false}
-use Rattle.std.proofs.lemmas.List.{length-map}
-use Rattle.roman_model.specs.Lists.{below, product_of}
-use Rattle.roman_model.specs.Combined.{target_sizes, combined_env, combined_target}
-use Rattle.roman_model.specs.Numbers.{count}
-use Rattle.roman_model.specs.declared.limits.TheConstants.{MAX_STATES, MAX_ACTIONS}
-use Rattle.roman_model.specs.declared.request.Request.{Request}
-use Rattle.roman_model.proofs.CallerLemmas.{length-below}
-use Rattle.roman_parts.specs.Named.{NamedEnv, NamedBeh, NamedTarget}
-use Rattle.roman_multi.specs.Combining.{PlainCombined, machines, combined_state_names, request_names, requests_in, has_many_states, has_bad_count, has_long_name, has_one_name, forbidding, KeepsRules, combined_parts, combined_behaviour}
-use Rattle.roman_multi.specs.Lists.{AreCombinedNames, flat}
-use Rattle.roman_multi.specs.declared.parts.Named.{Named}
+use Rattle.roman_multi.proofs.Common.{ltb-false, length-map, below, product_of, target_sizes, combined_env, combined_target, count, MAX_STATES, MAX_ACTIONS, Request, length-below, NamedEnv, NamedBeh, machines, requests_in, has_many_states, has_bad_count, has_long_name, has_one_name, forbidding, combined_behaviour, flat, Named}
+use Rattle.std.proofs.lemmas.Bool.{lt-ltb, le-ltb, true≢false}
+use Rattle.roman_parts.specs.Named.{NamedTarget}
+use Rattle.roman_multi.specs.Combining.{PlainCombined, combined_state_names, request_names, KeepsRules, combined_parts}
+use Rattle.roman_multi.specs.Lists.{AreCombinedNames}
 use Rattle.roman_multi.specs.declared.error.CombineError.{CombineError}
 use Rattle.roman_multi.specs.declared.error.CombineError.TheVariants as error
 use Rattle.roman_multi.proofs.FlatLemmas.{fits_within}

@@ -1,17 +1,10 @@
 -- A list of one state for each target is a pair with one target state and one environment state, so a shape numbers these lists.
 use Rattle.std.proofs.Common.{◌≡◌, ℕ, ◌+◌, ◌*◌, ◌%◌, ◌<◌, ◌≤◌, List, map, length, get_or, slice_index, slice_set, All, sym, ap, ap₂, ◌∙◌, subst, arith}
-use Rattle.std.specs.List.{AllZip}
+use Rattle.roman_multi.proofs.Common.{AllZip, product_of, flat, count, states_number, states_at, pair_at, target_sizes, combined_start, MAX_STATES, NamedEnv, IsTarget, machines, Named}
 use Rattle.std.proofs.lemmas.Nat.{mod-mul-add}
-use Rattle.roman_model.specs.Lists.{product_of}
-use Rattle.roman_multi.specs.Lists.{flat}
-use Rattle.roman_model.specs.Numbers.{Sizes, IsPairOf, count, states_number, states_at, number, pair_at}
-use Rattle.roman_model.specs.Combined.{target_sizes, combined_start}
+use Rattle.roman_model.specs.Numbers.{Sizes, IsPairOf, number}
 use Rattle.roman_model.proofs.CallerLemmas.{IsPairOf-at}
-use Rattle.roman_model.specs.declared.limits.TheConstants.{MAX_STATES}
 use Rattle.roman_radix.specs.Radix.{with_part}
-use Rattle.roman_parts.specs.Named.{NamedEnv, IsTarget}
-use Rattle.roman_multi.specs.Combining.{machines}
-use Rattle.roman_multi.specs.declared.parts.Named.{Named}
 use Rattle.roman_multi.proofs.KnownLemmas.{machines_known, size_is, starts_below}
 
 pub count-flat : (sizes : List ℕ) → count (flat sizes) ≡ product_of sizes

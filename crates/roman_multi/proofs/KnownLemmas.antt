@@ -1,20 +1,9 @@
 -- Known targets: their machines are in range and deterministic, and their sizes are those of a shape.
 use Rattle.std.proofs.Common.{◌≡◌, ℕ, zero, suc, ◌+◌, ◌<◌, ◌≤◌, List, [], ◌∷◌, ◌++◌, map, length, take, get_or, All, Some, slice_get, slice_index, inl, inr, refl, sym, ap, ◌∙◌, subst, arith}
-use Rattle.std.specs.List.{AllZip}
-use Rattle.std.proofs.lemmas.List.{take_more, map-append, length-map}
-use Rattle.std.proofs.lemmas.Option.{slice_get-map, slice_get-get_or}
-use Rattle.std.proofs.lemmas.List.Elements.{All-push}
+use Rattle.roman_multi.proofs.Common.{AllZip, take_more, map-append, length-map, slice_get-get_or, All-push, IsIn, product_of, Env, Beh, IsEnv, IsBeh, IsDeterministic, Several, target_sizes, IsSeveral, MAX_STATES, MAX_ACTIONS, from_map, NamedEnv, IsTarget, IsOver-states, machines, requests_in, Named}
+use Rattle.std.proofs.lemmas.Option.{slice_get-map}
 use Rattle.std.specs.Option.{option_map}
-use Rattle.roman_model.specs.Lists.{IsIn, product_of}
-use Rattle.roman_model.specs.System.{Env, Beh, IsEnv, IsBeh, IsDeterministic}
-use Rattle.roman_model.specs.Several.{Several}
-use Rattle.roman_model.specs.Combined.{target_sizes, IsSeveral}
-use Rattle.roman_model.specs.declared.limits.TheConstants.{MAX_STATES, MAX_ACTIONS}
-use Rattle.roman_model.proofs.CallerLemmas.{from_map, target_size_at}
-use Rattle.roman_parts.specs.Named.{NamedEnv, IsTarget}
-use Rattle.roman_parts.proofs.CallerLemmas.{IsOver-states}
-use Rattle.roman_multi.specs.Combining.{machines, requests_in}
-use Rattle.roman_multi.specs.declared.parts.Named.{Named}
+use Rattle.roman_model.proofs.CallerLemmas.{target_size_at}
 
 -- a property of all elements holds of the element at a place
 pub known_at : {X : Type 0} (P : X → Type 0) (xs : List X) (i : ℕ) (x : X) → All P xs → i < length xs → x ≡ get_or xs i x → P x

@@ -1,17 +1,9 @@
 -- Combined parts that no rule forbids are in range.
 use Rattle.std.proofs.Common.{◌≡◌, ℕ, ◌<◌, ◌≤◌, Bool, true, false, cond, List, length, All, Some, None, IsFalse, refl, subst, arith}
-use Rattle.roman_model.specs.Lists.{product_of}
-use Rattle.roman_model.specs.System.{IsEnv, IsBeh, IsSys}
-use Rattle.roman_model.specs.Made.{beh_from}
-use Rattle.roman_model.specs.Combined.{combined, combined_beh, combined_target, target_sizes}
-use Rattle.roman_model.specs.declared.limits.TheConstants.{MAX_STATES}
-use Rattle.roman_model.specs.declared.request.Request.{Request}
-use Rattle.roman_model.proofs.CallerLemmas.{IsBeh-made, combined_system}
-use Rattle.std.proofs.lemmas.Bool.{ltb-false}
-use Rattle.roman_parts.specs.Named.{NamedEnv, NamedBeh, IsOver, IsTarget}
-use Rattle.roman_parts.proofs.CallerLemmas.{IsOver-states, IsOver-start}
-use Rattle.roman_multi.specs.Combining.{machines, requests_in, has_many_states, has_bad_count, has_long_name, has_one_name, forbidding}
-use Rattle.roman_multi.specs.declared.parts.Named.{Named}
+use Rattle.roman_multi.proofs.Common.{product_of, IsEnv, IsBeh, beh_from, combined, combined_beh, combined_target, target_sizes, MAX_STATES, Request, combined_system, ltb-false, NamedEnv, NamedBeh, IsOver, IsTarget, IsOver-states, machines, requests_in, has_many_states, has_bad_count, has_long_name, has_one_name, forbidding, Named}
+use Rattle.roman_model.specs.System.{IsSys}
+use Rattle.roman_model.proofs.CallerLemmas.{IsBeh-made}
+use Rattle.roman_parts.proofs.CallerLemmas.{IsOver-start}
 use Rattle.roman_multi.specs.declared.error.CombineError.TheVariants as error
 use Rattle.roman_multi.proofs.KnownLemmas.{several, several_is}
 use Rattle.roman_multi.proofs.CombineLemmas.{good_count}

@@ -1,15 +1,7 @@
 -- The behaviour built from the lists is the combined behaviour.
 use Rattle.std.proofs.Common.{◌≡◌, ℕ, ◌+◌, ◌<◌, ◌++◌, ◌∷◌, [], List, map, length, filter, slice_get, get_or, take, Result, Ok, Err, IfOk, All, sym, ap, ap₂, ◌∙◌, arith}
-use Rattle.std.proofs.lemmas.List.{take_more, map-append}
-use Rattle.roman_model.specs.Lists.{below}
-use Rattle.roman_model.specs.System.{IsEnv, is_final}
-use Rattle.roman_model.specs.Normal.{normal_beh}
-use Rattle.roman_model.specs.Combined.{combined_beh}
-use Rattle.roman_model.specs.declared.request.Request.{Request}
-use Rattle.roman_parts.specs.Listed.{listed_beh, AreMoves}
-use Rattle.roman_parts.specs.Named.{NamedEnv, NamedBeh, IsOver}
-use Rattle.roman_multi.specs.Combining.{IsBehaviourOf, combined_behaviour}
-use Rattle.roman_multi.specs.Lists.{listed_moves, moves_on}
+use Rattle.roman_multi.proofs.Common.{take_more, map-append, below, IsEnv, is_final, normal_beh, combined_beh, Request, listed_beh, AreMoves, NamedEnv, NamedBeh, IsOver, combined_behaviour, listed_moves, moves_on}
+use Rattle.roman_multi.specs.Combining.{IsBehaviourOf}
 use Rattle.roman_multi.proofs.MoveLemmas.{combined_beh_is, moves_in_range, moves_on_below, passing_below}
 
 pub if_ok_three : {X E : Type 0} (P Q R S : X → Type 0) (r : Result X E) → ((x : X) → P x → Q x → R x → S x) → IfOk r P → IfOk r Q → IfOk r R → IfOk r S

@@ -1,15 +1,11 @@
 -- Lists of words, and the tables of words that are names.
 use Rattle.std.proofs.Common.{◌≡◌, ℕ, ◌+◌, ◌<◌, List, [], ◌∷◌, ◌++◌, map, length, take, get_or, All, Option, Some, None, IsSome, IsTrue, IsFalse, is_some, refl, sym, ap, ap₂, ◌∙◌, subst, add-one, arith}
-use Rattle.std.specs.List.{list_any}
+use Rattle.roman_multi.proofs.Common.{list_any, take_more, map-append, length-map, All-push, below, none-some, same_Some, is_name, is_long, stands_before, is_word}
 use Rattle.std.specs.Option.{SomeIff}
-use Rattle.std.proofs.lemmas.List.{take_more, map-append, length-map, get_or-map}
-use Rattle.std.proofs.lemmas.List.Elements.{All-push}
-use Rattle.roman_model.specs.Lists.{below}
-use Rattle.std.proofs.lemmas.Option.{none-some, same_Some}
+use Rattle.std.proofs.lemmas.List.{get_or-map}
 use Rattle.roman_model.proofs.CallerLemmas.{any_false}
-use Rattle.roman_read.specs.Names.{is_name, place_of}
-use Rattle.roman_multi.specs.Combining.{is_long, stands_before, has_repeats}
-use Rattle.roman_multi.specs.Lists.{is_word}
+use Rattle.roman_read.specs.Names.{place_of}
+use Rattle.roman_multi.specs.Combining.{has_repeats}
 use Rattle.roman_multi.proofs.ListLemmas.{none_more, any_at}
 use Rattle.roman_multi.proofs.TripleLemmas.{get_or_in}
 use Rattle.roman_multi.proofs.WordLemmas.{word_is_name}

@@ -1,19 +1,10 @@
 -- The steps that the loops list are the steps of the combined target.
 use Rattle.std.proofs.Common.{◌≡◌, ℕ, zero, suc, ◌^◌, ◌&&◌, ◌++◌, ◌<◌, ◌≤◌, Bool, drop, filter, All, List, [], ◌∷◌, length, Option, Some, None, IsTrue, slice_get, slice_index, slice_set, refl, sym, ap, ap₂, ◌∙◌, subst, arith}
-use Rattle.std.proofs.lemmas.Option.{none-some, same_Some}
+use Rattle.roman_multi.proofs.Common.{none-some, same_Some, IsIn, below, product_of, Beh, has, has_move, is_final, beh_next, normal_beh, states_number, states_at, Several, are_final, target_sizes, combined_start, combined_target, combined, IsSeveral, Request, listed_beh, AreMoves, moves_in, listed_moves, next_of_all, same_test, in_map, from_map, in_beh_next, from_beh_next, beh_from_same, get_in, listed_number, number_listed, has_filter}
 use Rattle.std.proofs.lemmas.List.{append-nil}
-use Rattle.roman_model.specs.Lists.{IsIn, below, product_of}
-use Rattle.roman_model.specs.System.{Beh, has, has_move, is_final}
-use Rattle.roman_model.specs.SystemArena.{beh_next}
-use Rattle.roman_model.specs.Normal.{normal_beh}
-use Rattle.roman_model.specs.Numbers.{states_number, states_at}
-use Rattle.roman_model.specs.Several.{Several, are_final}
-use Rattle.roman_model.specs.Combined.{targets_go, target_sizes, combined_start, combined_target, all_requests, combined, IsSeveral}
-use Rattle.roman_model.specs.declared.request.Request.{Request}
-use Rattle.roman_parts.specs.Listed.{listed_beh, AreMoves}
-use Rattle.roman_multi.specs.Lists.{moves_in, listed_moves, member_next, next_of_all}
-use Rattle.roman_model.proofs.CallerLemmas.{same_test, in_map, from_map, in_beh_next, from_beh_next, states_number-at, beh_from_same, from_made_move, made_move, get_in, listed_number, number_listed, IsMemberStep, from_combined_target, combined_target_goes}
-use Rattle.roman_parts.proofs.CallerLemmas.{has_filter}
+use Rattle.roman_model.specs.Combined.{targets_go, all_requests}
+use Rattle.roman_multi.specs.Lists.{member_next}
+use Rattle.roman_model.proofs.CallerLemmas.{states_number-at, from_made_move, made_move, IsMemberStep, from_combined_target, combined_target_goes}
 use Rattle.roman_multi.proofs.MoveLemmas.{listed_moves_made, moves_in_range, passing_below}
 
 from_next_of_all : (targets : List Beh) (ts : List ℕ) (e : ℕ) (o : Option Request) (t' : ℕ) → IsIn t' (next_of_all targets ts e o) →

@@ -1,14 +1,7 @@
 -- Joined names, and tables of them.
 use Rattle.std.proofs.Common.{◌≡◌, ℕ, zero, suc, ◌+◌, ◌<◌, ◌==◌, List, [], ◌∷◌, ◌++◌, length, take, get_or, slice_index, IsTrue, IsFalse, refl, sym, ap, ◌∙◌, append_assoc, arith}
-use Rattle.std.specs.Prelude.{slice_index_or, if◌then◌else◌}
-use Rattle.std.specs.List.{list_all}
-use Rattle.std.proofs.lemmas.Bool.{and_parts, and_from, false≢true, ltb-false, le-leb, ne_eqb}
-use Rattle.std.proofs.lemmas.List.{take_more}
-use Rattle.roman_model.specs.Lists.{is_empty}
-use Rattle.roman_read.specs.Names.{is_name, is_name_byte}
-use Rattle.roman_multi.specs.Combining.{joined, names_at, is_long}
-use Rattle.roman_multi.specs.Lists.{is_word}
-use Rattle.roman_multi.specs.declared.parts.Named.{Named}
+use Rattle.roman_multi.proofs.Common.{slice_index_or, if◌then◌else◌, list_all, and_parts, and_from, false≢true, ltb-false, take_more, is_empty, is_name, is_name_byte, joined, names_at, is_long, is_word, Named}
+use Rattle.std.proofs.lemmas.Bool.{le-leb, ne_eqb}
 
 -- one more name is appended after a dash, unless it is the first
 joined_push : (names : List (List ℕ)) (name : List ℕ) → joined (names ++ name ∷ []) ≡ joined names ++ (if is_empty names then name else 45 ∷ name)

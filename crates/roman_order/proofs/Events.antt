@@ -1,16 +1,6 @@
 -- Lists of events.
 use Rattle.std.proofs.Common.{◌≡◌, ℕ, suc, ◌+◌, ◌*◌, ◌^◌, ◌<◌, ◌≤◌, true, List, [], ◌∷◌, ◌++◌, map, length, refl, ap, ◌∙◌, arith, eqb, append-nil, length-append}
-use Rattle.std.proofs.lemmas.List.Folds.{list_any-append}
-use Rattle.std.specs.List.{AllByRecursion}
-use Rattle.std.proofs.lemmas.Bool.{or_right, or_left, eq-eqb}
-use Rattle.std.proofs.lemmas.List.{length-map}
-use Rattle.std.proofs.lemmas.Grind.{flat_map-append}
-use Rattle.roman_model.specs.Arena.{Entry}
-use Rattle.roman_lanes.specs.Rows.{is_on}
-use Rattle.roman_order.specs.Board.{as_entry, set_lanes, has_entry}
-use Rattle.roman_order.specs.Events.{IsEvent, entries_at, entries_of}
-use Rattle.roman_order.specs.Sound.{firsts_of, AreCounted, CanWait}
-use Rattle.roman_order.specs.declared.event.Event.{Event}
+use Rattle.roman_order.proofs.Common.{list_any-append, AllByRecursion, or_right, or_left, eq-eqb, length-map, flat_map-append, Entry, is_on, as_entry, set_lanes, has_entry, IsEvent, entries_at, entries_of, firsts_of, AreCounted, CanWait, Event}
 
 -- ---- one more event
 

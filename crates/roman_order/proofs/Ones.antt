@@ -1,15 +1,11 @@
 -- The number of lanes of a word.
 use Rattle.std.proofs.Common.{◌≡◌, ℕ, zero, suc, ◌%◌, ◌^◌, ◌<◌, cond, filter, length, sum_by, count_ones, inl, inr, sym, ap, ◌∙◌, arith}
-use Rattle.std.specs.Int.{bit_at}
+use Rattle.roman_order.proofs.Common.{bit_at, cases_eq, eq-eqb, ne_eqb, sum_by_push, below, sum_by_same, is_on, set_lanes}
 use Rattle.std.proofs.Math.Pow.{pow_pos}
-use Rattle.std.proofs.lemmas.Bool.{cases_eq, cond-true, cond-false, eq-eqb, ne_eqb}
-use Rattle.std.proofs.lemmas.List.Sums.{sum_by_push, length-filter}
+use Rattle.std.proofs.lemmas.Bool.{cond-true, cond-false}
+use Rattle.std.proofs.lemmas.List.Sums.{length-filter}
 use Rattle.std.proofs.lemmas.Nat.{ones_cat, ones_le_self, zero_from_ones, mod-pow-add}
 use Rattle.std.proofs.lemmas.Nat.Bits.{bit_at-lt}
-use Rattle.roman_model.specs.Lists.{below}
-use Rattle.roman_model.proofs.CallerLemmas.{sum_by_same}
-use Rattle.roman_lanes.specs.Rows.{is_on}
-use Rattle.roman_order.specs.Board.{set_lanes}
 
 bit_ones : (b : ℕ) → b < 2 → count_ones b ≡ b
 bit_ones b l = elim (cases_eq (count_ones b) 0) [ inl e ↦ e ∙ sym (zero_from_ones b e) | inr some ↦ omega (arith, ones_le_self b) ]

@@ -1,17 +1,11 @@
 -- Lists with one more entry.
 use Rattle.std.proofs.Common.{◌≡◌, ◌≢◌, ℕ, ◌+◌, ◌-◌, ◌^◌, ◌<◌, ◌≤◌, Bool, true, false, List, [], ◌∷◌, ◌++◌, length, Some, None, refl, ap, sym, ◌∙◌, inl, inr, arith, eqb, ◌||◌, is_some}
-use Rattle.std.specs.List.{list_any, position_from, IsDistinct}
-use Rattle.std.proofs.Math.Bool.{or-false}
-use Rattle.std.proofs.lemmas.Bool.{cases_eq, cases_Bool, ne_eqb, false≢true}
+use Rattle.roman_order.proofs.Common.{list_any, position_from, IsDistinct, or-false, cases_eq, cases_Bool, ne_eqb, map_push, length-map, list_any-append, Entry, list_any-map, nodes_of, has_entry, place_in_list, IsPlaced}
+use Rattle.std.proofs.lemmas.Bool.{false≢true}
 use Rattle.std.proofs.lemmas.Cmp.{nat_eq_equiv}
-use Rattle.std.proofs.lemmas.List.{map_push, length-map}
 use Rattle.std.proofs.lemmas.Map.Keys.{IsDistinct-push}
 use Rattle.std.proofs.lemmas.Map.Steps.{length-le_from_distinct_below}
-use Rattle.std.proofs.lemmas.List.Folds.{list_any-append}
-use Rattle.roman_model.specs.Arena.{Entry}
-use Rattle.roman_model.proofs.CallerLemmas.{list_any-map}
-use Rattle.roman_order.specs.Board.{nodes_of, has_entry, place_in_list}
-use Rattle.roman_order.specs.Sound.{IsPlaced, stamp_of}
+use Rattle.roman_order.specs.Sound.{stamp_of}
 
 -- ---- places
 

@@ -1,19 +1,10 @@
 -- The entries from a place of the list on.
 use Rattle.std.proofs.Common.{◌≡◌, ℕ, zero, suc, ◌+◌, ◌-◌, ◌*◌, ◌<◌, ◌≤◌, true, List, [], ◌∷◌, ◌++◌, map, length, get_or, take, drop, Some, slice_get, inl, inr, refl, sym, ap, ap₂, ◌∙◌, subst, arith, eqb, length-append}
-use Rattle.std.specs.List.{AllByRecursion}
+use Rattle.roman_order.proofs.Common.{AllByRecursion, drop-cons, cases_lt, eq-eqb, or_left, or_right, length-drop, list_any-append, flat_map-append, Entry, Board, as_entry, set_lanes, has_entry, IsEvent, entries_at, entries_of, board_of, firsts_of, AreCounted, IsSound, Event, Inside}
 use Rattle.std.proofs.Math.ListN.{drop_of_length-le}
 use Rattle.std.proofs.Math.Nat.{lt_of_mul-lt-mul_right}
-use Rattle.std.proofs.Math.Seq.{drop-cons, drop-append_seam, drop-append-add}
-use Rattle.std.proofs.lemmas.Bool.{cases_lt, eq-eqb, or_left, or_right}
-use Rattle.std.proofs.lemmas.List.{take-append-drop, take_more, drop-append-le, drop-map, length-drop}
-use Rattle.std.proofs.lemmas.List.Folds.{list_any-append}
-use Rattle.std.proofs.lemmas.Grind.{flat_map-append}
-use Rattle.roman_model.specs.Arena.{Entry}
-use Rattle.roman_order.specs.Board.{Board, as_entry, set_lanes, has_entry}
-use Rattle.roman_order.specs.Events.{IsEvent, entries_at, entries_of}
-use Rattle.roman_order.specs.Sound.{board_of, firsts_of, AreCounted, IsSound}
-use Rattle.roman_order.specs.declared.event.Event.{Event}
-use Rattle.roman_order.specs.declared.order.Order.TheInside.{Inside}
+use Rattle.std.proofs.Math.Seq.{drop-append_seam, drop-append-add}
+use Rattle.std.proofs.lemmas.List.{take-append-drop, take_more, drop-append-le, drop-map}
 use Rattle.roman_order.proofs.Tables.{few}
 use Rattle.roman_order.proofs.Events.{later, length-entries_at, entries_of-push}
 

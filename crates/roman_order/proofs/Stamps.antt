@@ -1,22 +1,9 @@
 -- Places and stamps.
 use Rattle.std.proofs.Common.{◌≡◌, ℕ, zero, suc, ◌+◌, ◌*◌, ◌<◌, ◌≤◌, Bool, true, false, cond, ◌&&◌, filter, take, drop, List, [], ◌∷◌, ◌++◌, map, length, get_or, Some, None, slice_get, refl, sym, ap, ◌∙◌, subst, inl, inr, arith, eqb, append_assoc, append-nil, length-append}
-use Rattle.std.specs.List.{list_any, position_from, IsDistinct, AllByRecursion}
-use Rattle.std.proofs.Math.ListN.{set}
-use Rattle.std.proofs.lemmas.Nat.{same_from_place}
-use Rattle.std.proofs.lemmas.Bool.{and_parts, eqb-true, cases_eq, cases_Bool, eq-eqb, ne_eqb, both_ways, or_from, or_parts, or_left, or_right}
-use Rattle.std.proofs.lemmas.List.Folds.{list_any-append}
+use Rattle.roman_order.proofs.Common.{list_any, position_from, IsDistinct, AllByRecursion, set, same_from_place, and_parts, eqb-true, cases_eq, cases_Bool, eq-eqb, ne_eqb, both_ways, or_from, or_left, or_right, list_any-append, map_push, length-map, length-set, get_or-set_same, get_or-set_other, IsDistinct-head, IsDistinct-tail, Entry, Reason, as_entry, set_lanes, nodes_of, has_entry, place_in_list, below, filter_below_more, list_any-map, none_from, filter_in, from_below, is_on, IsEvent, entries_at, entries_of, AreStamps, Event}
+use Rattle.std.proofs.lemmas.Bool.{or_parts}
 use Rattle.std.proofs.lemmas.Option.{get_or_from_slice_get}
-use Rattle.std.proofs.lemmas.List.{map_push, map-append, length-map, length-set, get_or-set_same, get_or-set_other}
-use Rattle.std.proofs.lemmas.Map.Keys.{IsDistinct-head, IsDistinct-tail}
-use Rattle.roman_model.specs.Arena.{Entry}
-use Rattle.roman_model.specs.declared.reason.Reason.{Reason}
-use Rattle.roman_order.specs.Board.{as_entry, set_lanes, nodes_of, has_entry, place_in_list}
-use Rattle.roman_model.specs.Lists.{below}
-use Rattle.roman_model.proofs.CallerLemmas.{filter_below_more, list_any-map, none_from, filter_in, from_below}
-use Rattle.roman_lanes.specs.Rows.{is_on}
-use Rattle.roman_order.specs.Events.{IsEvent, entries_at, entries_of}
-use Rattle.roman_order.specs.Sound.{AreStamps}
-use Rattle.roman_order.specs.declared.event.Event.{Event}
+use Rattle.std.proofs.lemmas.List.{map-append}
 use Rattle.roman_order.proofs.Lanes.{has_entry-lane, has_entry-elsewhere}
 use Rattle.roman_order.proofs.Reading.{all_at, event_parts, event_more}
 use Rattle.roman_order.proofs.Events.{length-entries_at}

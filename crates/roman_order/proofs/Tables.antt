@@ -1,17 +1,8 @@
 -- The contents of an order's tables, and the room in them.
 use Rattle.std.proofs.Common.{◌≡◌, ℕ, ◌+◌, ◌-◌, ◌*◌, ◌/◌, ◌^◌, ◌<◌, ◌≤◌, true, false, not, [], ◌∷◌, ◌++◌, map, length, drop, get_or, replicate, vec_capacity, ap₂, count_ones, sym, ◌∙◌, subst, arith, bit_and, length-append}
-use Rattle.std.specs.Int.{w64, bit_not}
-use Rattle.std.proofs.Math.ListN.{set}
+use Rattle.roman_order.proofs.Common.{w64, bit_not, set, length-map, length-replicate, get_or-replicate, Reason, is_on, AreRows, full_word, Board, as_entry, set_lanes, entries_in, has_entry, entries_of, board_of, IsPlaced, CanWait, IsSized, IsSound, Event, Inside}
 use Rattle.std.proofs.Math.Nat.{mul-le-mul_left}
-use Rattle.std.proofs.lemmas.List.{length-map, length-replicate, get_or-replicate}
-use Rattle.roman_model.specs.declared.reason.Reason.{Reason}
-use Rattle.roman_lanes.specs.Rows.{is_on, AreRows}
-use Rattle.roman_lanes.proofs.CallerLemmas.{full_word}
-use Rattle.roman_order.specs.Board.{Board, as_entry, set_lanes, entries_in, has_entry}
-use Rattle.roman_order.specs.Events.{entries_of}
-use Rattle.roman_order.specs.Sound.{board_of, removal_list, IsPlaced, CanWait, IsSized, IsSound}
-use Rattle.roman_order.specs.declared.event.Event.{Event}
-use Rattle.roman_order.specs.declared.order.Order.TheInside.{Inside}
+use Rattle.roman_order.specs.Sound.{removal_list}
 use Rattle.roman_order.proofs.Lanes.{AreRows-full, AreRows-pushed, in_lanes, lanes_once}
 use Rattle.roman_order.proofs.Places.{IsPlaced-nil, length-le_from_apart}
 use Rattle.roman_order.proofs.Events.{few_events, length-firsts_of, entries_of-push, AreCounted-push, AreCounted-nil}

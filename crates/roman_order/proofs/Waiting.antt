@@ -1,14 +1,7 @@
 -- The waiting events in the tables of an order.
 use Rattle.std.proofs.Common.{◌≡◌, ℕ, ◌+◌, ◌*◌, ◌<◌, ◌≤◌, true, false, ◌∷◌, length, get_or, drop, arith}
-use Rattle.std.proofs.Math.ListN.{set}
-use Rattle.std.proofs.Math.Seq.{drop-cons}
-use Rattle.std.proofs.lemmas.List.{drop-set, get_or_read}
-use Rattle.roman_order.specs.Board.{Board, as_entry, set_lanes}
-use Rattle.roman_order.specs.Events.{entries_of}
-use Rattle.roman_order.specs.Sound.{board_of, CanWait, IsSized, IsSound}
-use Rattle.roman_order.specs.declared.event.Event.{Event}
-use Rattle.roman_order.specs.declared.order.Order.TheInside.{Inside}
-use Rattle.roman_lanes.specs.Rows.{is_on}
+use Rattle.roman_order.proofs.Common.{set, drop-cons, get_or_read, Board, as_entry, set_lanes, entries_of, board_of, CanWait, IsSized, IsSound, Event, Inside, is_on}
+use Rattle.std.proofs.lemmas.List.{drop-set}
 use Rattle.roman_order.proofs.Lanes.{without_lane, without_first, set_lanes-first}
 use Rattle.roman_order.proofs.Events.{later, first_waiting}
 

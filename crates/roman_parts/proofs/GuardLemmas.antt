@@ -1,10 +1,10 @@
 -- The meaning of a guard, by the form of its value.
 use Rattle.std.proofs.Common.{◌≡◌, ℕ, zero, suc, ◌+◌, ◌<◌, ◌≤◌, List, [], ◌∷◌, ◌++◌, length, get_or, drop, map, Bool, Some, None, Result, Ok, Err, refl, sym, ap, ◌∙◌, arith, add-one, drop-cons, append_assoc, slice_get, string_bytes}
-use Rattle.std.proofs.lemmas.List.{drop_all, append-nil, map_push}
-use Rattle.serde_json.specs.Data.{Data, null, boolean, number, string, array, object, Items, no_members, member, depth, items_depth}
-use Rattle.serde_json.specs.Find.{as_bool, as_array, as_object}
-use Rattle.serde_json.specs.View.{view, items_view, members_view}
-use Rattle.serde_json.specs.declared.value.Value.{Value}
+use Rattle.roman_parts.proofs.Common.{map_push, Data, Items, depth, as_object, view, items_view, Value}
+use Rattle.std.proofs.lemmas.List.{drop_all, append-nil}
+use Rattle.serde_json.specs.Data.{null, boolean, number, string, array, object, no_members, member, items_depth}
+use Rattle.serde_json.specs.Find.{as_bool, as_array}
+use Rattle.serde_json.specs.View.{members_view}
 use Rattle.serde_json.proofs.Views.{Entry}
 use Rattle.roman_read.specs.Items.{◌>>=◌}
 use Rattle.roman_read.specs.Json.{list_of}

@@ -1,6 +1,7 @@
 mod RowLemmas
 mod SetLemmas
 mod CellLemmas
+pub mod Common
 pub mod NormalLemmas
 mod TableLemmas
 mod ReadingLemmas

@@ -1,12 +1,10 @@
 -- The normal form has the same steps, and its numbers are in range.
 use Rattle.std.proofs.Common.{◌≡◌, ℕ, ◌<◌, ◌≤◌, IsTrue, List, [], ◌∷◌, refl, subst, inl, inr, MatchOption, slice_get, rules}
-use Rattle.roman_model.specs.Lists.{IsIn, HasNoRepeats, below}
-use Rattle.roman_model.specs.System.{Env, Beh, has_triple, has_move, IsEnv, IsBeh, IsDeterministic, is_final}
-use Rattle.roman_model.specs.SystemArena.{env_next, env_prev, beh_next, beh_prev}
-use Rattle.roman_model.specs.declared.limits.TheConstants.{MAX_STATES, MAX_ACTIONS}
-use Rattle.roman_model.specs.Normal.{normal_env, normal_beh}
+use Rattle.roman_parts.proofs.Common.{IsIn, below, Env, Beh, has_triple, has_move, IsEnv, IsDeterministic, env_next, env_prev, beh_next, beh_prev, MAX_STATES, MAX_ACTIONS, normal_env, normal_beh, same_test, filter_in, from_below, filter_same}
+use Rattle.roman_model.specs.Lists.{HasNoRepeats}
+use Rattle.roman_model.specs.System.{IsBeh, is_final}
 use Rattle.roman_parts.specs.Named.{IsOver}
-use Rattle.roman_model.proofs.CallerLemmas.{same_test, filter_in, from_below, filter_same, HasNoRepeats-below, HasNoRepeats-filter}
+use Rattle.roman_model.proofs.CallerLemmas.{HasNoRepeats-below, HasNoRepeats-filter}
 use Rattle.roman_model.proofs.CallerLemmas.{IsEnv-made, IsBeh-made, from_made_triple, made_triple, from_made_move, made_move, from_made_final, made_final}
 
 -- a triple of the normal form is a triple of the environment, in range

@@ -2,25 +2,19 @@
 use Rattle.std.proofs.Common.{◌≡◌, ℕ, ◌+◌, ◌<◌, ◌≤◌, ◌&&◌, Bool, true, false, List, [], ◌∷◌, ◌++◌, length, Option, Some, None, is_some, is_none, nat_le, codes, Ok, IsTrue, refl, sym, ap, ◌∙◌, subst, arith, leb-true, length-append}
 use Rattle.std.specs.List.{position_or_len}
 use Rattle.std.specs.Str.{bytes_eq}
-use Rattle.std.proofs.lemmas.Bool.{and_parts}
+use Rattle.roman_parts.proofs.Common.{and_parts, Data, Items, as_object, IsIn, normal_env, Beh, Move, IsEnv, MAX_STATES, MAX_ACTIONS, each_item, any_from, choice_of, single_of, name_step, place_in, NamedEnv}
 use Rattle.std.proofs.lemmas.List.Quantifiers.{position-Some}
 use Rattle.std.proofs.lemmas.Slice.Eq.{bytes_eq-Decides}
-use Rattle.serde_json.specs.Data.{Data, Items, no_items, item}
-use Rattle.serde_json.specs.Find.{as_object}
+use Rattle.serde_json.specs.Data.{no_items, item}
 use Rattle.serde_json.specs.Events.{items_len}
-use Rattle.roman_model.specs.Lists.{IsIn}
-use Rattle.roman_model.specs.Normal.{normal_env}
-use Rattle.roman_model.specs.System.{Beh, Triple, Move, IsEnv}
-use Rattle.roman_model.specs.declared.limits.TheConstants.{MAX_STATES, MAX_ACTIONS}
-use Rattle.roman_read.specs.Items.{each_item}
+use Rattle.roman_model.specs.System.{Triple}
 use Rattle.roman_read.specs.Names.{place_of}
 use Rattle.roman_read.specs.declared.rules.Kind.{Kind}
 use Rattle.roman_read.specs.declared.rules.Kind.TheVariants as kind
-use Rattle.roman_model.proofs.CallerLemmas.{any_from}
 use Rattle.roman_read.proofs.CallerLemmas.{same_ok, bind_ok, place_of-present}
-use Rattle.roman_parts.specs.Choices.{choice_of, refuse_choice, single_of}
-use Rattle.roman_parts.specs.Lists.{name_in, name_step, names_of, place_in, start_of, finals_of}
-use Rattle.roman_parts.specs.Named.{NamedEnv, NamedBeh, NamedTarget, IsBehaviour, IsTarget}
+use Rattle.roman_parts.specs.Choices.{refuse_choice}
+use Rattle.roman_parts.specs.Lists.{name_in, names_of, start_of, finals_of}
+use Rattle.roman_parts.specs.Named.{NamedBeh, NamedTarget, IsBehaviour, IsTarget}
 use Rattle.roman_parts.specs.Parts.{environment_of, name_of, behaviour_of, target_of}
 use Rattle.roman_parts.specs.Reading.{found, check, items_at, counted_items}
 use Rattle.roman_parts.specs.Steps.{triples_of, moves_of}

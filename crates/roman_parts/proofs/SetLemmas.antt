@@ -1,12 +1,11 @@
 -- The states of a word, one by one.
 use Rattle.std.proofs.Common.{◌≡◌, ◌≢◌, ℕ, zero, suc, ◌*◌, ◌%◌, ◌^◌, ◌<◌, ◌≤◌, ◌==◌, Bool, true, false, cond, [], ◌∷◌, ◌++◌, length, sym, ap, ap₂, ◌∙◌, subst, inl, inr, arith, length-append}
-use Rattle.std.specs.Int.{bit_not, trailing_zeros, w64}
+use Rattle.roman_parts.proofs.Common.{w64, cases_order, cond-true, bit_at-zero, has_state, states_below, states_of, states_below-zero, states_below-suc}
+use Rattle.std.specs.Int.{bit_not, trailing_zeros}
 use Rattle.std.specs.Int.RustNames.{bit_and}
 use mir.Val.{bits}
-use Rattle.std.proofs.lemmas.Bool.{cases_order, cond-true, cond-false, cond_both}
-use Rattle.std.proofs.lemmas.Nat.Bits.{bit_at-zero, bit_at-trailing_zeros, bit_at_clear_same, bit_at_clear_other}
-use Rattle.roman_guard.specs.Meaning.{has_state, states_below, states_of}
-use Rattle.roman_guard.proofs.CallerLemmas.{states_below-zero, states_below-suc}
+use Rattle.std.proofs.lemmas.Bool.{cond-false, cond_both}
+use Rattle.std.proofs.lemmas.Nat.Bits.{bit_at-trailing_zeros, bit_at_clear_same, bit_at_clear_other}
 
 -- a test that no number below the bound passes keeps no number
 states_below-none : (p : ℕ → Bool) (bound : ℕ) → ((i : ℕ) → i < bound → p i ≡ false) → states_below p bound ≡ []

@@ -1,18 +1,11 @@
 -- Steps without a choice go to at most one state, and a choice has a state of both guards.
 use Rattle.std.proofs.Common.{◌≡◌, ℕ, ◌<◌, ◌==◌, ◌&&◌, ◌^◌, not, List, length, get_or, map, All, true, Option, Some, None, is_some, option_map, IsTrue, refl, sym, ap, ◌∙◌, arith, slice_get, inl, inr}
 use Rattle.std.specs.Option.{option_and_then}
-use Rattle.std.proofs.lemmas.Bool.{and_from, cases_lt, cases_order, eq-eqb, eqb-true, true≢false}
-use Rattle.std.proofs.lemmas.List.{get_or-map, length-map}
+use Rattle.roman_parts.proofs.Common.{and_from, cases_lt, cases_order, eq-eqb, eqb-true, true≢false, get_or-map, length-map, same_Some, slice_get-get_or, IsIn, below, normal_beh, Beh, Move, has, IsDeterministic, any_from, any_true, in_below, in_contains, has_state, states_of, move_of, listed_beh, first_below, choice_between, choice_at, choice_with, choice_of}
 use Rattle.std.proofs.lemmas.Nat.Bits.{bit_at_above}
-use Rattle.std.proofs.lemmas.Option.{none-some, same_Some, slice_get-get_or}
-use Rattle.roman_model.specs.Lists.{IsIn, below}
-use Rattle.roman_model.specs.Normal.{normal_beh}
-use Rattle.roman_model.specs.System.{Beh, Move, has, IsDeterministic}
-use Rattle.roman_model.proofs.CallerLemmas.{any_from, any_true, by_test, find_found, find_least, find_some, in_below, in_contains, move_test}
-use Rattle.roman_guard.specs.Meaning.{has_state, states_of}
+use Rattle.std.proofs.lemmas.Option.{none-some}
+use Rattle.roman_model.proofs.CallerLemmas.{by_test, find_found, find_least, find_some, move_test}
 use Rattle.roman_guard.proofs.CallerLemmas.{states_below_are}
-use Rattle.roman_parts.specs.Listed.{move_of, listed_beh}
-use Rattle.roman_parts.specs.Choices.{first_below, choice_between, choice_at, choice_with, choice_of}
 use Rattle.roman_parts.proofs.NormalLemmas.{from_normal_move}
 
 -- ---- results of the search for the first value

@@ -1,8 +1,6 @@
 -- Lists of three and four items, and lists of steps that are read item by item.
 use Rattle.std.proofs.Common.{◌≡◌, List, [], ◌∷◌, length, get_or, Some, None, refl, arith}
-use Rattle.std.proofs.lemmas.List.{map_push}
-use Rattle.serde_json.specs.View.{view, items_view}
-use Rattle.serde_json.specs.declared.value.Value.{Value}
+use Rattle.roman_parts.proofs.Common.{map_push, view, items_view, Value}
 use Rattle.roman_read.proofs.CallerLemmas.{at_start, pushed_on, pushed_ends, is_done}
 use Rattle.roman_parts.specs.Steps.{three_of, four_of}
 

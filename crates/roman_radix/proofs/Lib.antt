@@ -1,3 +1,4 @@
+pub mod Common
 pub mod Strides
 pub mod Tables
 pub mod Moves

@@ -1,16 +1,12 @@
 -- How a pair's number changes with its states.
 use Rattle.std.proofs.Common.{◌≡◌, ℕ, ◌+◌, ◌-◌, ◌*◌, ◌/◌, ◌%◌, ◌<◌, ◌≤◌, List, length, take, drop, slice_index, get_or, inl, inr, refl, sym, ap, ap₂, ◌∙◌, subst, arith}
-use Rattle.std.proofs.Math.ListN.{set}
+use Rattle.roman_radix.proofs.Common.{set, div-div-eq-div-mul, drop_more, drop_all, get_or-take, length-take-le, product_of, Pair, Sizes, IsPairOf, grown_sizes, sizes_without, count, states_number, number, pair_at, AreBelow-length, number_below, part_at, stride_of, env_stride_of, target_stride_of, with_part}
 use Rattle.std.proofs.lemmas.Bool.{cases_eq}
-use native.Mathlib.Nat.{div-div-eq-div-mul}
-use Rattle.std.proofs.lemmas.List.{drop_more, drop_all, get_or-take, get_or-set_same, get_or-set_other, length-take-le, ext_get_or}
-use Rattle.roman_model.specs.Lists.{product_of}
-use Rattle.roman_model.specs.System.{Pair}
+use Rattle.std.proofs.lemmas.List.{get_or-set_same, get_or-set_other, ext_get_or}
 use Rattle.roman_model.specs.Change.{grown, without}
-use Rattle.roman_model.specs.Numbers.{Sizes, IsPairOf, grown_sizes, sizes_without, count, states_number, number, pair_at}
 use Rattle.roman_model.specs.NumberedChange.{number_without}
-use Rattle.roman_model.proofs.CallerLemmas.{AreBelow-length, number_below, parts_of_number, number-pair_at, IsPairOf-at, number-set, IsPairOf-moved, IsPairOf-grown, number-grown, IsPairOf-without, number_without-is, part_at}
-use Rattle.roman_radix.specs.Radix.{stride_of, env_stride_of, target_stride_of, with_part, moved}
+use Rattle.roman_model.proofs.CallerLemmas.{parts_of_number, number-pair_at, IsPairOf-at, number-set, IsPairOf-moved, IsPairOf-grown, number-grown, IsPairOf-without, number_without-is}
+use Rattle.roman_radix.specs.Radix.{moved}
 use Rattle.roman_radix.proofs.Strides.{product_more}
 
 -- component k gets another state; the numbers in the code are equal to those of the sizes

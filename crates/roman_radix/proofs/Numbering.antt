@@ -1,12 +1,6 @@
 -- How a pair's number is computed from a shape's fields, and changed.
 use Rattle.std.proofs.Common.{◌≡◌, ℕ, ◌+◌, ◌-◌, ◌*◌, ◌%◌, ◌^◌, ◌<◌, ◌≤◌, length, drop, slice_index, get_or, ◌∙◌, arith}
-use Rattle.roman_model.specs.declared.limits.TheConstants.{MAX_SERVICES}
-use Rattle.roman_model.specs.System.{Pair}
-use Rattle.roman_model.specs.Numbers.{Sizes, IsPairOf, count, states_number, number, pair_at}
-use Rattle.roman_model.proofs.CallerLemmas.{AreBelow-length, number_below}
-use Rattle.roman_radix.specs.Radix.{with_part}
-use Rattle.roman_radix.specs.Layout.{sizes_in, IsLaidOut}
-use Rattle.roman_radix.specs.declared.shape.Shape.TheInside.{Inside}
+use Rattle.roman_radix.proofs.Common.{MAX_SERVICES, Pair, Sizes, IsPairOf, count, states_number, number, pair_at, AreBelow-length, number_below, with_part, sizes_in, IsLaidOut, Inside}
 use Rattle.roman_radix.proofs.Moves.{Replaced, replaced, Moved, moves_to, Shrunk, shrinks_to, states_more}
 use Rattle.roman_radix.proofs.Shown.{shown, stride_is, size_is}
 

@@ -1,13 +1,9 @@
 -- Rows and lanes.
 use Rattle.std.proofs.Common.{◌≡◌, ℕ, zero, suc, ◌+◌, ◌*◌, ◌/◌, ◌%◌, ◌<◌, ◌≤◌, cond, List, [], ◌∷◌, length, take, drop, slice_index, sym, ap, ◌∙◌, arith}
-use native.Mathlib.Nat.{div-div-eq-div-mul}
-use Rattle.std.proofs.lemmas.List.{get_or-take, length-take-le}
+use Rattle.roman_radix.proofs.Common.{div-div-eq-div-mul, get_or-take, length-take-le, product_of, Sizes, count, AreSizes, IsSizes, env_stride_of, stride_of, low_of, lanes_of, row_sizes}
 use Rattle.std.proofs.lemmas.Nat.{div-mul-add, div-add-mod', mul-le}
 use Rattle.std.proofs.lemmas.Bool.{cases_lt, lt-ltb, le-ltb}
-use Rattle.roman_model.specs.Lists.{product_of}
-use Rattle.roman_model.specs.Numbers.{Sizes, count}
-use Rattle.roman_radix.specs.Radix.{AreSizes, IsSizes, env_stride_of, stride_of}
-use Rattle.roman_radix.specs.Rows.{low_of, lanes_of, env_rows_of, row_sizes}
+use Rattle.roman_radix.specs.Rows.{env_rows_of}
 use Rattle.roman_radix.proofs.Strides.{product_positive, product_drop-le, AreSizes-drop}
 
 pub low_of-le : (ns : List ℕ) → low_of ns ≤ length ns

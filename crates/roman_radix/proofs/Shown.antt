@@ -1,11 +1,6 @@
 -- A shape's fields in terms of the sizes that it holds.
 use Rattle.std.proofs.Common.{◌≡◌, ℕ, ◌+◌, ◌^◌, ◌<◌, length, get_or, slice_index, arith}
-use Rattle.roman_model.specs.Numbers.{Sizes, count}
-use Rattle.roman_radix.specs.declared.shape.Shape.TheInside.{Inside}
-use Rattle.roman_radix.specs.Radix.{IsSizes, stride_of, env_stride_of, target_stride_of}
-use Rattle.roman_radix.specs.Places.{padded, strides_of}
-use Rattle.roman_radix.specs.Rows.{low_of, lanes_of}
-use Rattle.roman_radix.specs.Layout.{sizes_in, IsLaidOut}
+use Rattle.roman_radix.proofs.Common.{Sizes, count, Inside, IsSizes, stride_of, env_stride_of, target_stride_of, padded, strides_of, low_of, lanes_of, sizes_in, IsLaidOut}
 use Rattle.roman_radix.proofs.Strides.{product_positive, AreSizes-drop, AreSizes-index, stride_at, size_at}
 
 pub record Shows (a : Inside) (n : Sizes) : Type 0 where

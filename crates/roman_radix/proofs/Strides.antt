@@ -1,14 +1,9 @@
 -- Products of sizes, and the table of strides.
 use Rattle.std.proofs.Common.{◌≡◌, ℕ, zero, suc, ◌+◌, ◌-◌, ◌*◌, ◌^◌, ◌<◌, ◌≤◌, List, [], ◌∷◌, ◌++◌, length, take, drop, get_or, replicate, refl, sym, ap, ◌∙◌, arith, add-one, mul-le-mul}
-use Rattle.std.proofs.Math.ListN.{set}
-use Rattle.std.proofs.lemmas.List.{get_or_append_left, set_at, replicate_more, replicate-append-replicate, append_assoc, length-replicate, length-append, length-take, drop_all, drop_more}
+use Rattle.roman_radix.proofs.Common.{set, set_at, replicate_more, append_assoc, length-append, drop_all, drop_more, mul-le-mul_left, product_of, MAX_SERVICES, AreSizes, padded, strides_of}
+use Rattle.std.proofs.lemmas.List.{get_or_append_left, replicate-append-replicate, length-replicate, length-take}
 use Rattle.std.specs.List.{All, AllByRecursion}
 use Rattle.std.proofs.lemmas.List.Elements.{recursion_from_All, All-drop}
-use Rattle.std.proofs.Math.Nat.{mul-le-mul_left}
-use Rattle.roman_model.specs.Lists.{product_of}
-use Rattle.roman_model.specs.declared.limits.TheConstants.{MAX_SERVICES}
-use Rattle.roman_radix.specs.Radix.{AreSizes}
-use Rattle.roman_radix.specs.Places.{padded, strides_of}
 
 -- a product of positive numbers is positive
 pub product_positive : (ns : List ℕ) → AreSizes ns → 0 < product_of ns

@@ -1,15 +1,10 @@
 -- Tables of sizes after a size is added or dropped, and the sizes themselves.
 use Rattle.std.proofs.Common.{◌≡◌, ℕ, zero, suc, ◌+◌, ◌-◌, ◌*◌, ◌^◌, ◌<◌, ◌≤◌, List, [], ◌∷◌, ◌++◌, length, take, drop, get_or, replicate, refl, sym, ap, ◌∙◌, arith, add-one}
-use Rattle.std.proofs.Math.ListN.{set}
-use Rattle.std.proofs.Math.Nat.{mul-le-mul_left}
-use Rattle.std.specs.List.{remove, copy_within}
-use Rattle.std.proofs.lemmas.List.{append_assoc, set_at, take_at, drop-replicate, length-append, replicate_more, drop_more, drop_all, take_rest}
+use Rattle.roman_radix.proofs.Common.{set, mul-le-mul_left, remove, append_assoc, set_at, length-append, replicate_more, drop_more, drop_all, Sizes, grown_sizes, sizes_without, count, MAX_SERVICES, AreSizes, IsSizes, padded}
+use Rattle.std.specs.List.{copy_within}
+use Rattle.std.proofs.lemmas.List.{take_at, drop-replicate, take_rest}
 use Rattle.std.proofs.lemmas.List.Edits.{length-remove, remove-append_left}
-use Rattle.roman_model.specs.Numbers.{Sizes, grown_sizes, sizes_without, count}
-use Rattle.roman_model.specs.declared.limits.TheConstants.{MAX_SERVICES}
 use Rattle.roman_model.proofs.CallerLemmas.{count-without}
-use Rattle.roman_radix.specs.Radix.{AreSizes, IsSizes}
-use Rattle.roman_radix.specs.Places.{padded}
 use Rattle.roman_radix.proofs.Strides.{length-padded, AreSizes-drop, AreSizes-index}
 
 -- a table that holds these numbers, followed by zeros

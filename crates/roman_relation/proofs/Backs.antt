@@ -1,21 +1,11 @@
 -- The bands that were noted in a round.
 use Rattle.std.proofs.Common.{◌≡◌, ℕ, zero, suc, ◌+◌, ◌*◌, ◌/◌, ◌<◌, ◌≤◌, Bool, true, false, cond, ◌||◌, ◌==◌, List, [], ◌∷◌, ◌++◌, length, take, drop, slice_index, IsTrue, IsFalse, inl, inr, refl, sym, ap, ap₂, ◌∙◌, subst, arith, take-append-drop, append_assoc, sum_by}
 use Rattle.std.proofs.Math.Bool.{or-false}
-use Rattle.std.proofs.Math.Seq.{take-append_seam, take-append-add, take-length, drop-append_seam}
-use Rattle.std.proofs.lemmas.Bool.{cases_eq, both_ways, or_left, or_right, or_parts, false_from_ne_true, not_from_true, eq-eqb, ne_eqb}
-use Rattle.std.proofs.lemmas.List.{length-take-le, take-take}
-use Rattle.std.proofs.lemmas.List.Folds.{list_any-append}
-use Rattle.std.proofs.lemmas.List.Sums.{sum_by_push}
-use Rattle.roman_model.specs.Lists.{IsIn, below}
-use Rattle.roman_model.specs.Arena.{Arena, Entry, is_listed, IsOrder}
-use Rattle.roman_model.proofs.CallerLemmas.{by_test, sum_by_same, from_below, any_from, none_from, from_map, in_map, split_at, listed_append, order_middle}
-use Rattle.roman_lanes.specs.Rows.{is_on}
-use Rattle.roman_rules.specs.Numbered.{IsNumbered}
-use Rattle.roman_order.specs.Board.{Board, as_entry, set_lanes}
-use Rattle.roman_order.specs.Events.{IsEvent, entries_at}
-use Rattle.roman_order.specs.declared.event.Event.{Event}
-use Rattle.roman_order.proofs.CallerLemmas.{in_lanes}
-use Rattle.roman_relation.specs.Rounds.{AreGoneBack, has_band, moves_to, moves_to_all, on_at}
+use Rattle.roman_relation.proofs.Common.{take-append_seam, take-length, cases_eq, both_ways, or_left, or_right, or_parts, false_from_ne_true, not_from_true, eq-eqb, ne_eqb, take-take, list_any-append, sum_by_push, IsIn, below, Arena, Entry, is_listed, IsOrder, by_test, sum_by_same, from_below, any_from, from_map, in_map, listed_append, is_on, IsNumbered, Board, as_entry, set_lanes, IsEvent, entries_at, Event, in_lanes, AreGoneBack, moves_to_all, on_at}
+use Rattle.std.proofs.Math.Seq.{take-append-add, drop-append_seam}
+use Rattle.std.proofs.lemmas.List.{length-take-le}
+use Rattle.roman_model.proofs.CallerLemmas.{none_from, split_at, order_middle}
+use Rattle.roman_relation.specs.Rounds.{has_band, moves_to}
 use Rattle.roman_relation.proofs.Beginnings.{take_listed}
 use Rattle.roman_relation.proofs.Lanes.{lane_place}
 use Rattle.roman_relation.proofs.Losses.{lane_in}

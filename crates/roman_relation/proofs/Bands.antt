@@ -1,11 +1,7 @@
 -- Rows as parts of bands.
 use Rattle.std.proofs.Common.{◌≡◌, ℕ, suc, ◌+◌, ◌*◌, ◌/◌, ◌%◌, ◌<◌, ◌≤◌, ◌-◌, ◌⊎◌, length, inl, inr, sym, ap, ◌∙◌, arith}
-use Rattle.std.proofs.lemmas.Bool.{cases_lt}
-use Rattle.std.proofs.lemmas.Nat.{mul-le, mul-add-lt, div_below, div-add-mod', mod_below}
+use Rattle.roman_relation.proofs.Common.{cases_lt, mul-le, mul-add-lt, div_below, div-add-mod', mod_below, Arena, Board, IsShaped}
 use Rattle.std.proofs.Math.Nat.{div-le_self}
-use Rattle.roman_model.specs.Arena.{Arena}
-use Rattle.roman_order.specs.Board.{Board}
-use Rattle.roman_relation.specs.Shaped.{IsShaped}
 use Rattle.roman_relation.proofs.Lanes.{lane_place, shaped_pairs, shaped_rows}
 
 -- a pair from its band, its row within the band, and its lane

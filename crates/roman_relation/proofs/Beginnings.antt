@@ -1,13 +1,7 @@
 -- Lists of entries that begin with other lists.
 use Rattle.std.proofs.Common.{◌≡◌, ℕ, ◌<◌, ◌≤◌, ◌==◌, List, length, take, drop, get_or, IsTrue, IsFalse, sym, ap, ◌∙◌, subst, arith, take-append-drop}
-use Rattle.std.proofs.Math.Seq.{take-length}
-use Rattle.std.proofs.lemmas.Bool.{both_ways, or_left, false_from_ne_true}
-use Rattle.std.proofs.lemmas.List.{take-take, length-take, get_or-take}
-use Rattle.roman_model.specs.Arena.{Arena, Entry, is_listed}
-use Rattle.roman_model.proofs.CallerLemmas.{any_same, listed_append}
-use Rattle.roman_rules.specs.Numbered.{IsNumbered}
-use Rattle.roman_order.specs.Board.{has_entry}
-use Rattle.roman_relation.specs.Settled.{Begins}
+use Rattle.roman_relation.proofs.Common.{take-length, both_ways, or_left, false_from_ne_true, take-take, Arena, Entry, is_listed, any_same, listed_append, IsNumbered, has_entry, Begins}
+use Rattle.std.proofs.lemmas.List.{length-take, get_or-take}
 
 -- a node is listed where the order has an entry for it
 pub listed_is : (A : Arena ℕ) → IsNumbered A → (L : List (Entry ℕ)) (p : ℕ) → is_listed A L p ≡ has_entry L p

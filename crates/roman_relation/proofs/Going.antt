@@ -1,11 +1,6 @@
 -- Orders that extend others.
 use Rattle.std.proofs.Common.{◌≡◌, ℕ, ◌+◌, ◌*◌, List, ◌++◌, length, take, drop, refl, sym, ap, ap₂, ◌∙◌, subst, take-append-drop}
-use Rattle.std.proofs.Math.Seq.{take-append_seam, take-length}
-use Rattle.roman_model.specs.Arena.{Arena, Entry, IsOrder, fall}
-use Rattle.roman_model.proofs.CallerLemmas.{fall_append}
-use Rattle.roman_order.specs.Board.{Board}
-use Rattle.roman_relation.specs.Shaped.{IsShaped}
-use Rattle.roman_relation.specs.Settled.{Begins, SettlesOn}
+use Rattle.roman_relation.proofs.Common.{take-append_seam, take-length, Arena, Entry, IsOrder, fall, fall_append, Board, IsShaped, Begins, SettlesOn}
 use Rattle.roman_relation.proofs.Beginnings.{begins_itself, begins_on}
 
 pub begins_append : (L M : List (Entry ℕ)) → Begins L (L ++ M)

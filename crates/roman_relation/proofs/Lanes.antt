@@ -1,14 +1,8 @@
 -- Pairs as lanes of rows.
 use Rattle.std.proofs.Common.{◌≡◌, ℕ, ◌+◌, ◌*◌, ◌/◌, ◌%◌, ◌<◌, Bool, false, not, List, length, slice_index, IsFalse, sym, ap, ap₂, ◌∙◌, subst, arith}
-use Rattle.std.proofs.lemmas.Bool.{both_ways, not_from_false}
-use Rattle.std.proofs.lemmas.Nat.{same_from_place, div-add-mod', div_below, mod_below}
-use Rattle.roman_model.specs.Arena.{Arena, Entry, is_listed}
-use Rattle.roman_lanes.specs.Rows.{is_on, HasLanes, AreRows}
-use Rattle.roman_lanes.proofs.CallerLemmas.{on_zero}
-use Rattle.roman_rules.specs.Numbered.{IsNumbered}
-use Rattle.roman_order.specs.Board.{Board, has_entry}
-use Rattle.roman_relation.specs.Shaped.{IsShaped}
-use Rattle.roman_relation.specs.Rounds.{AreUnlisted, on_at}
+use Rattle.roman_relation.proofs.Common.{both_ways, not_from_false, div-add-mod', div_below, mod_below, Arena, Entry, is_listed, is_on, HasLanes, on_zero, IsNumbered, Board, has_entry, IsShaped, AreUnlisted, on_at}
+use Rattle.std.proofs.lemmas.Nat.{same_from_place}
+use Rattle.roman_lanes.specs.Rows.{AreRows}
 use Rattle.roman_relation.proofs.Beginnings.{listed_is}
 
 -- a word of the pairs without an entry is a word of the pairs that aren't listed

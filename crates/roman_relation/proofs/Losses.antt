@@ -1,20 +1,11 @@
 -- Noting the entries of an event together.
 use Rattle.std.proofs.Common.{◌≡◌, ◌≢◌, ℕ, zero, suc, ◌+◌, ◌*◌, ◌^◌, ◌<◌, ◌≤◌, true, false, ◌&&◌, List, [], ◌∷◌, ◌++◌, length, take, drop, slice_index, IsTrue, inl, inr, refl, sym, ap, ap₂, ◌∙◌, subst, arith, bit_and, take-append-drop, ◌==◌}
-use Rattle.std.proofs.lemmas.Bool.{both_ways, false_from_ne_true, and_from, and_parts, or_left, or_right, eq-eqb}
+use Rattle.roman_relation.proofs.Common.{both_ways, false_from_ne_true, and_from, and_parts, or_left, or_right, eq-eqb, list_any-append, IsIn, below, Arena, Entry, is_listed, back, fall, in_map, from_map, in_below, is_on, on_zero, IsNumbered, Board, as_entry, set_lanes, has_entry, IsEvent, entries_at, Event, in_lanes, IsMarking, on_at}
 use Rattle.std.proofs.lemmas.Nat.{and_le_l}
 use Rattle.std.proofs.lemmas.List.Sums.{sum_by-cons}
-use Rattle.std.proofs.lemmas.List.Folds.{list_any-append}
-use Rattle.roman_model.specs.Lists.{IsIn, below}
-use Rattle.roman_model.specs.Arena.{Arena, Entry, is_listed, back, fall}
-use Rattle.roman_model.proofs.CallerLemmas.{sum_by_within, in_map, from_map, in_filter, in_below}
-use Rattle.roman_lanes.specs.Rows.{is_on}
-use Rattle.roman_lanes.proofs.CallerLemmas.{on_and, on_zero}
-use Rattle.roman_rules.specs.Numbered.{IsNumbered}
-use Rattle.roman_order.specs.Board.{Board, as_entry, set_lanes, has_entry}
-use Rattle.roman_order.specs.Events.{IsEvent, entries_at}
-use Rattle.roman_order.specs.declared.event.Event.{Event}
-use Rattle.roman_order.proofs.CallerLemmas.{in_lanes, some_lane, get_first, has_entry-event}
-use Rattle.roman_relation.specs.Rounds.{IsMarking, on_at}
+use Rattle.roman_model.proofs.CallerLemmas.{sum_by_within, in_filter}
+use Rattle.roman_lanes.proofs.CallerLemmas.{on_and}
+use Rattle.roman_order.proofs.CallerLemmas.{some_lane, get_first, has_entry-event}
 use Rattle.roman_relation.proofs.Beginnings.{listed_is}
 use Rattle.roman_relation.proofs.Lanes.{lane_place}
 use Rattle.roman_relation.proofs.Marks.{noted_more, fall_more}

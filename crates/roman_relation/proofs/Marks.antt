@@ -1,23 +1,9 @@
 -- Clearing marks one by one, and noting bands.
 use Rattle.std.proofs.Common.{◌≡◌, ◌≢◌, ℕ, zero, suc, ◌+◌, ◌*◌, ◌/◌, ◌%◌, ◌<◌, ◌==◌, Bool, true, false, cond, not, List, [], ◌∷◌, ◌++◌, length, take, Some, slice_get, slice_index, IsTrue, inl, inr, refl, sym, ap, ◌∙◌, subst, arith}
-use Rattle.std.specs.Prelude.{count_by}
-use Rattle.std.proofs.lemmas.Bool.{cases_eq, cases_lt, both_ways, not_from_true, not_from_false, not-true, false_from_ne_true, or_cases, eqb-true}
-use Rattle.std.proofs.lemmas.List.Sums.{sum_by_push}
-use Rattle.std.proofs.lemmas.List.{get_or_past, take_more}
-use Rattle.std.proofs.lemmas.Option.{get_or_from_slice_get, slice_get_within}
-use Rattle.std.proofs.lemmas.Nat.{mod_below, div-add-mod'}
+use Rattle.roman_relation.proofs.Common.{count_by, cases_eq, cases_lt, both_ways, not_from_true, not_from_false, not-true, false_from_ne_true, or_cases, eqb-true, sum_by_push, get_or_past, get_or_from_slice_get, slice_get_within, mod_below, div-add-mod', bit_at, IsIn, below, Arena, Entry, is_listed, back, fall, by_test, from_below, sum_by_same, in_listed, listed_push, is_on, HasLanes, has_flag, IsNumbered, numbered_same, Board, pairs_of, has_entry, is_marked, IsShaped, IsMarking, on_at}
+use Rattle.std.proofs.lemmas.List.{take_more}
 use Rattle.std.proofs.lemmas.Nat.Bits.{bit_at-zero}
-use Rattle.std.specs.Int.{bit_at}
-use Rattle.roman_model.specs.Lists.{IsIn, below}
-use Rattle.roman_model.specs.Arena.{Arena, Entry, is_listed, back, fall}
-use Rattle.roman_model.proofs.CallerLemmas.{by_test, contains_in, from_below, sum_by_same, in_listed, listed_push, fall_push}
-use Rattle.roman_lanes.specs.Rows.{is_on, HasLanes}
-use Rattle.roman_lanes.specs.Flags.{has_flag}
-use Rattle.roman_rules.specs.Numbered.{IsNumbered}
-use Rattle.roman_rules.proofs.CallerLemmas.{numbered_same}
-use Rattle.roman_order.specs.Board.{Board, pairs_of, has_entry, is_marked}
-use Rattle.roman_relation.specs.Shaped.{IsShaped}
-use Rattle.roman_relation.specs.Rounds.{IsMarking, on_at}
+use Rattle.roman_model.proofs.CallerLemmas.{contains_in, fall_push}
 use Rattle.roman_relation.proofs.Beginnings.{listed_is, take_listed}
 
 -- ---- fewer marks

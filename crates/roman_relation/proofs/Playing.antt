@@ -1,19 +1,9 @@
 -- A whole round.
 use Rattle.std.proofs.Common.{◌≡◌, ℕ, suc, ◌+◌, ◌*◌, ◌/◌, ◌<◌, ◌≤◌, true, false, not, List, length, take, IsTrue, IsFalse, inl, inr, sym, ap, ◌∙◌, subst, arith}
 use Rattle.std.specs.List.{list_any}
-use Rattle.std.proofs.Math.Seq.{take-length}
-use Rattle.std.proofs.lemmas.Bool.{both_ways, or_cases, or_left, or_right, not_from_true, not_from_false, not-true, false_from_ne_true}
-use Rattle.std.proofs.lemmas.Nat.{mul-add-lt}
-use Rattle.roman_model.specs.Lists.{IsIn, below}
-use Rattle.roman_model.specs.Arena.{Arena, is_listed, is_justified, loses, IsOrder}
-use Rattle.roman_model.specs.declared.reason.Reason.{Reason}
-use Rattle.roman_model.specs.declared.reason.Reason.TheVariants.{Final, Act}
-use Rattle.roman_model.proofs.CallerLemmas.{by_test, same_test, any_true, any_same, in_listed, justified_same, unallowed_unjustified}
-use Rattle.roman_rules.specs.Numbered.{IsNumbered}
-use Rattle.roman_rules.proofs.CallerLemmas.{numbered_same}
-use Rattle.roman_order.specs.Board.{Board, has_entry, is_marked}
-use Rattle.roman_relation.specs.Settled.{Begins, IsSettled, HoldsLost}
-use Rattle.roman_relation.specs.Rounds.{AreUnlisted, AwaitsRound, InRound, IsJudged, IsPairJudged, IsMarking, on_at}
+use Rattle.roman_relation.proofs.Common.{take-length, both_ways, or_cases, or_left, or_right, not_from_true, not_from_false, not-true, false_from_ne_true, mul-add-lt, IsIn, below, Arena, is_listed, is_justified, IsOrder, Reason, Final, Act, by_test, any_same, in_listed, unallowed_unjustified, IsNumbered, numbered_same, Board, has_entry, is_marked, Begins, IsSettled, HoldsLost, AreUnlisted, AwaitsRound, InRound, IsJudged, IsPairJudged, IsMarking, on_at}
+use Rattle.roman_model.specs.Arena.{loses}
+use Rattle.roman_model.proofs.CallerLemmas.{same_test, any_true, justified_same}
 use Rattle.roman_relation.proofs.Beginnings.{listed_is, begins_listed, begins_unlisted, take_listed}
 use Rattle.roman_relation.proofs.Lanes.{at_pair, on_lane}
 

@@ -1,20 +1,13 @@
 -- Lists with entries for the lanes of a row.
 use Rattle.std.proofs.Common.{◌≡◌, ℕ, zero, suc, ◌+◌, ◌*◌, ◌/◌, ◌<◌, ◌≤◌, ◌⊎◌, Bool, true, false, not, ◌&&◌, ◌||◌, List, [], ◌∷◌, ◌++◌, map, length, take, slice_index, IsTrue, IsFalse, inl, inr, refl, sym, ap, ◌∙◌, subst, arith, append_assoc, length-append}
-use Rattle.std.proofs.lemmas.Bool.{both_ways, cases_lt, cases_eq, false_from_ne_true, or_cases, or_parts, or_left, or_from, and_parts, and_from, not_from_false, not-true, ne_eqb}
-use Rattle.std.proofs.lemmas.List.{append-nil, take-append-le, get_or_past}
-use Rattle.roman_model.specs.Lists.{IsIn, HasNoRepeats, below}
-use Rattle.roman_model.specs.Arena.{Arena, Entry, is_listed, is_justified, IsOrder}
-use Rattle.roman_model.specs.declared.reason.Reason.{Reason}
-use Rattle.roman_model.specs.declared.reason.Reason.TheVariants.{Final, Act}
-use Rattle.roman_model.proofs.CallerLemmas.{from_map, any_from, in_below, listed_append, listed_push, listed_in, justified_more, order_push}
-use Rattle.roman_lanes.specs.Rows.{is_on, Keeps}
-use Rattle.roman_lanes.proofs.CallerLemmas.{on_zero}
-use Rattle.roman_rules.specs.Numbered.{IsNumbered}
-use Rattle.roman_rules.proofs.CallerLemmas.{numbered_same}
-use Rattle.roman_order.specs.Board.{Board, as_entry, set_lanes, entries_in, entries_in_rows, has_entry}
-use Rattle.roman_order.proofs.CallerLemmas.{in_lanes, lanes_once, has_entry-lane, has_entry-later, entries_in_rows-row}
-use Rattle.roman_relation.specs.Settled.{Begins}
-use Rattle.roman_relation.specs.Rounds.{AreUnlisted, InRound, IsJudged, falls}
+use Rattle.roman_relation.proofs.Common.{both_ways, cases_lt, cases_eq, false_from_ne_true, or_cases, or_parts, or_left, and_parts, and_from, not_from_false, not-true, ne_eqb, get_or_past, IsIn, below, Arena, Entry, is_listed, is_justified, IsOrder, Reason, Final, Act, from_map, any_from, in_below, listed_append, listed_push, is_on, Keeps, on_zero, IsNumbered, numbered_same, Board, as_entry, set_lanes, entries_in_rows, has_entry, in_lanes, Begins, AreUnlisted, InRound, IsJudged}
+use Rattle.std.proofs.lemmas.Bool.{or_from}
+use Rattle.std.proofs.lemmas.List.{append-nil, take-append-le}
+use Rattle.roman_model.specs.Lists.{HasNoRepeats}
+use Rattle.roman_model.proofs.CallerLemmas.{listed_in, justified_more, order_push}
+use Rattle.roman_order.specs.Board.{entries_in}
+use Rattle.roman_order.proofs.CallerLemmas.{lanes_once, has_entry-lane, has_entry-later, entries_in_rows-row}
+use Rattle.roman_relation.specs.Rounds.{falls}
 use Rattle.roman_relation.proofs.Beginnings.{listed_is, begins_same, begins_unlisted, take_listed}
 use Rattle.roman_relation.proofs.Lanes.{lane_place}
 

@@ -1,14 +1,9 @@
 -- Lists whose entries rise by depth.
 use Rattle.std.proofs.Common.{◌≡◌, ℕ, suc, ◌+◌, ◌-◌, ◌<◌, ◌≤◌, true, List, [], ◌∷◌, ◌++◌, length, take, slice_get, get_or, Some, IsFalse, inl, inr, refl, sym, ap, ◌∙◌, subst, arith}
-use Rattle.std.proofs.lemmas.Bool.{cases_lt, both_ways, false_from_ne_true}
-use Rattle.std.proofs.lemmas.List.{take-take, get_or_append_left, get_or-append_right, length_push}
-use Rattle.std.proofs.Math.Seq.{take-length}
-use Rattle.std.proofs.lemmas.Option.{get_or_from_slice_get, slice_get_within, slice_get-get_or}
-use Rattle.roman_model.specs.Arena.{Arena, Entry, is_listed, IsOrder}
+use Rattle.roman_relation.proofs.Common.{cases_lt, both_ways, false_from_ne_true, take-take, length_push, take-length, get_or_from_slice_get, slice_get_within, Arena, Entry, is_listed, IsOrder, IsNumbered, has_entry, Begins, HoldsLost, RisesByDepth, AreLevels}
+use Rattle.std.proofs.lemmas.List.{get_or_append_left, get_or-append_right}
+use Rattle.std.proofs.lemmas.Option.{slice_get-get_or}
 use Rattle.roman_model.proofs.CallerLemmas.{loses_up, order_entry}
-use Rattle.roman_rules.specs.Numbered.{IsNumbered}
-use Rattle.roman_order.specs.Board.{has_entry}
-use Rattle.roman_relation.specs.Settled.{Begins, HoldsLost, RisesByDepth, AreLevels}
 use Rattle.roman_relation.proofs.Beginnings.{listed_is, begins_get, begins_length, begins_same, begins_listed}
 use Rattle.roman_relation.proofs.Marks.{entry_listed}
 

@@ -1,14 +1,7 @@
 -- The answers of a band of rows.
 use Rattle.std.proofs.Common.{◌≡◌, ℕ, ◌+◌, ◌-◌, ◌*◌, ◌/◌, ◌^◌, ◌<◌, ◌≤◌, Bool, true, ◌&&◌, List, ◌++◌, drop, length, get_or, replicate, slice_index, IsTrue, inl, inr, sym, ap, ◌∙◌, subst, arith}
-use Rattle.std.proofs.lemmas.Bool.{cases_lt, both_ways, or_left}
-use Rattle.std.proofs.lemmas.List.{get_or-append_right, get_or-drop, get_or-replicate, get_or_append_left}
-use Rattle.std.proofs.lemmas.Nat.{div-add-mod'}
-use Rattle.std.proofs.Math.Nat.{mul-le-mul_left}
-use Rattle.roman_lanes.specs.Rows.{is_on}
-use Rattle.roman_lanes.proofs.CallerLemmas.{on_full, on_zero}
-use Rattle.roman_model.specs.Arena.{Arena, Entry, is_listed, is_justified}
-use Rattle.roman_model.proofs.CallerLemmas.{justified_more, listed_append}
-use Rattle.roman_repair.specs.AskedBands.{HoldsInBand}
+use Rattle.roman_repair.proofs.Common.{cases_lt, both_ways, or_left, get_or-replicate, div-add-mod', mul-le-mul_left, is_on, on_full, on_zero, Arena, Entry, is_listed, is_justified, justified_more, listed_append, HoldsInBand}
+use Rattle.std.proofs.lemmas.List.{get_or-append_right, get_or-drop, get_or_append_left}
 use Rattle.roman_repair.specs.declared.asked_band.AskedBand.{AskedBand}
 
 -- a word that is full of lanes has each of them

@@ -1,33 +1,15 @@
 -- The entries of a removal list after a death.
 use Rattle.std.proofs.Common.{◌≡◌, ℕ, ◌+◌, ◌-◌, ◌*◌, ◌/◌, ◌%◌, ◌^◌, ◌<◌, ◌≤◌, ◌==◌, Bool, true, false, not, ◌||◌, if◌then◌else◌, cond, List, [], ◌∷◌, ◌++◌, map, length, filter, remove, slice_index, IsFalse, inl, inr, refl, sym, ap, ap₂, ◌∙◌, subst, arith, append-nil, append_assoc, bit_and}
 use Rattle.std.specs.List.{list_any}
-use Rattle.std.proofs.lemmas.Bool.{cases_lt, both_ways, and_parts, eqb-true, false_from_ne_true}
-use Rattle.std.proofs.lemmas.Nat.{div-add-mod', mod_below}
-use Rattle.std.proofs.lemmas.List.{map-append}
+use Rattle.roman_repair.proofs.Common.{cases_lt, both_ways, and_parts, eqb-true, false_from_ne_true, div-add-mod', mod_below, map-append, list_any-append, mul-le-mul_left, IsIn, HasNoRepeats, below, Seat, Sys, is_final, Entry, Sizes, sizes_of, sizes_without, count, pair_at, numbered, number_without, Reason, in_map, in_append_left, in_append_right, map-map, list_any-map, length-below, is_on, HasLanes, on_and, IsSizes, lanes_of, NamedSys, system_of, lanes_in, Board, as_entry, pairs_of, has_entry, nodes_of, set_lanes, entries_in, entries_at, Event, in_lanes, set_lanes-zero, IsShaped, list_with, entries_from, IsPart}
 use Rattle.std.proofs.lemmas.List.Elements.{filter-append}
-use Rattle.std.proofs.lemmas.List.Folds.{list_any-append}
-use Rattle.std.proofs.Math.Nat.{mul-le-mul_left}
-use Rattle.roman_model.specs.Lists.{IsIn, HasNoRepeats, below}
-use Rattle.roman_model.specs.System.{Seat, Sys, is_final}
-use Rattle.roman_model.specs.Arena.{Entry}
 use Rattle.roman_model.specs.Change.{may_go}
-use Rattle.roman_model.specs.Numbers.{Sizes, sizes_of, sizes_without, count, pair_at, numbered}
-use Rattle.roman_model.specs.NumberedChange.{number_without, number_entry_without, first_numbers}
-use Rattle.roman_model.specs.declared.reason.Reason.{Reason}
-use Rattle.roman_model.proofs.CallerLemmas.{in_map, in_append_left, in_append_right, filter_same, map-map, list_any-map, length-below, left, count-without, sizes-left}
-use Rattle.roman_lanes.specs.Rows.{is_on, HasLanes}
-use Rattle.roman_lanes.proofs.CallerLemmas.{on_and}
-use Rattle.roman_radix.specs.Radix.{IsSizes}
-use Rattle.roman_radix.specs.Rows.{lanes_of}
+use Rattle.roman_model.specs.NumberedChange.{number_entry_without, first_numbers}
+use Rattle.roman_model.proofs.CallerLemmas.{filter_same, left, count-without, sizes-left}
 use Rattle.roman_radix.proofs.CallerLemmas.{AreSizes-index}
-use Rattle.roman_joint.specs.NamedSys.{NamedSys, system_of}
-use Rattle.roman_joint.specs.Rows.{lanes_in}
-use Rattle.roman_order.specs.Board.{Board, as_entry, pairs_of, has_entry, nodes_of, set_lanes, entries_in}
-use Rattle.roman_order.specs.Events.{IsEvent, entries_at}
-use Rattle.roman_order.specs.declared.event.Event.{Event}
-use Rattle.roman_order.proofs.CallerLemmas.{in_lanes, lanes_once, set_lanes-zero}
-use Rattle.roman_relation.specs.Shaped.{IsShaped}
-use Rattle.roman_repair.specs.Deaths.{entries_left, list_with, entries_from, IsPart}
+use Rattle.roman_order.specs.Events.{IsEvent}
+use Rattle.roman_order.proofs.CallerLemmas.{lanes_once}
+use Rattle.roman_repair.specs.Deaths.{entries_left}
 use Rattle.roman_repair.proofs.Fronts.{false_else, none_so_far}
 use Rattle.roman_repair.proofs.DeathStates.{seat_in_sizes}
 use Rattle.roman_repair.proofs.DeathParts.{part_number, part_state, part_place, row_of_left, part_word, part_lanes, moved_lanes}

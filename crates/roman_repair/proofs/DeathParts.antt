@@ -1,21 +1,10 @@
 -- The parts of rows that stay together when a service dies.
 use Rattle.std.proofs.Common.{◌≡◌, ℕ, zero, suc, ◌+◌, ◌-◌, ◌*◌, ◌/◌, ◌%◌, ◌^◌, ◌<◌, ◌≤◌, Bool, true, false, ◌&&◌, List, [], ◌∷◌, map, length, drop, filter, cond, eqb, remove, slice_index, inl, inr, refl, sym, ap, ap₂, ◌∙◌, subst, arith, bit_and}
-use Rattle.std.specs.Int.{bit_at}
-use Rattle.std.proofs.Math.Nat.{mul-le-mul_left}
-use Rattle.std.proofs.lemmas.Bool.{cases_lt, both_ways}
-use Rattle.std.proofs.lemmas.Nat.{shr-shr, pow_pos, mul-le, div-add-mod'}
-use Rattle.std.proofs.lemmas.Nat.Bits.{bit_at-zero, bit_at_cat_low, bit_at_cat_high, shr_and_one}
-use Rattle.roman_model.specs.Lists.{below, product_of}
-use Rattle.roman_model.specs.Numbers.{Sizes, count, pair_at}
-use Rattle.roman_model.specs.NumberedChange.{number_without}
+use Rattle.roman_repair.proofs.Common.{bit_at, mul-le-mul_left, cases_lt, both_ways, div-add-mod', bit_at_cat_high, below, product_of, Sizes, count, pair_at, number_without, is_on, on_and, on_full, on_full_past, AreSizes, IsSizes, low_of, lanes_of, row_mod, lanes_few, set_lanes, IsPart}
+use Rattle.std.proofs.lemmas.Nat.{shr-shr, pow_pos, mul-le}
+use Rattle.std.proofs.lemmas.Nat.Bits.{bit_at-zero, bit_at_cat_low, shr_and_one}
 use Rattle.roman_model.proofs.CallerLemmas.{by_test, part_at}
-use Rattle.roman_lanes.specs.Rows.{is_on}
-use Rattle.roman_lanes.proofs.CallerLemmas.{on_and, on_full, on_full_past}
-use Rattle.roman_radix.specs.Radix.{AreSizes, IsSizes}
-use Rattle.roman_radix.specs.Rows.{low_of, lanes_of}
-use Rattle.roman_radix.proofs.CallerLemmas.{tails_from, row_div, row_mod, row_below, rows_are, lanes_few, lanes_positive}
-use Rattle.roman_order.specs.Board.{set_lanes}
-use Rattle.roman_repair.specs.Deaths.{IsPart}
+use Rattle.roman_radix.proofs.CallerLemmas.{tails_from, row_div, row_below, rows_are, lanes_positive}
 use Rattle.roman_repair.proofs.Joined.{positive, grown_within, whole_row, shorter_row, few_behind, part_of_more}
 use Rattle.roman_repair.proofs.Fronts.{moved_so_far, same_so_far, only_so_far}
 

@@ -1,14 +1,10 @@
 -- The service that dies, and the states that it may leave behind.
 use Rattle.std.proofs.Common.{◌≡◌, ℕ, ◌<◌, Bool, not, ◌||◌, List, [], ◌∷◌, length, Some, IsTrue, IsFalse, slice_get, slice_index, suc, zero, refl, sym, ap, ◌∙◌, arith}
-use Rattle.std.proofs.lemmas.List.{length-map}
+use Rattle.roman_repair.proofs.Common.{length-map, Seat, is_final, Die, CanChange, sizes_of, NamedSys, IsNamedSys, system_of, seat_of}
 use Rattle.std.proofs.lemmas.Option.{same_Some}
-use Rattle.roman_model.specs.System.{Seat, is_final}
-use Rattle.roman_model.specs.Change.{Die, CanChange}
-use Rattle.roman_model.specs.Numbers.{sizes_of}
 use Rattle.roman_model.proofs.CallerLemmas.{size_at}
 use Rattle.roman_parts.specs.Named.{NamedBeh}
 use Rattle.roman_joint.specs.Behaviours.{IsSeatBehaviour}
-use Rattle.roman_joint.specs.NamedSys.{NamedSys, IsNamedSys, system_of, seat_of}
 use Rattle.roman_joint.specs.declared.seat.Seat as joint
 use Rattle.roman_joint.proofs.CallerLemmas.{Behaves, behaves, seat_read}
 

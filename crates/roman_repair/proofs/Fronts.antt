@@ -1,25 +1,12 @@
 -- The front of a word's lanes, and the front of a replay.
 use Rattle.std.proofs.Common.{◌≡◌, ◌≢◌, ℕ, zero, suc, ◌+◌, ◌-◌, ◌*◌, ◌/◌, ◌%◌, ◌^◌, ◌<◌, ◌≤◌, Bool, true, false, not, ◌&&◌, ◌⊎◌, List, [], ◌∷◌, ◌++◌, map, length, filter, cond, IsTrue, IsFalse, inl, inr, refl, sym, ap, ap₂, ◌∙◌, subst, arith, append-nil, append_assoc, bit_and, eqb, length-append}
-use Rattle.std.specs.Int.{bit_at, bit_not, leading_zeros, trailing_zeros, w64}
+use Rattle.roman_repair.proofs.Common.{bit_at, bit_not, leading_zeros, trailing_zeros, w64, cases_lt, both_ways, and_parts, or_left, map-append, sum_by-cons, sum_by-append, bit_at_cat_high, mul-le-mul_left, IsIn, below, Arena, Entry, is_listed, is_justified, Reason, filter_below_more, from_map, in_map, in_below, justified_more, listed_append, is_on, on_and, on_full, on_full_past, on_less, IsNumbered, IsReasonOf, readings_of_reason, Board, as_entry, set_lanes, entries_in, has_entry, in_lanes, IsShaped, is_possible, AreCandidates, with_replay, readings_of_entries}
 use Rattle.std.proofs.Math.Pow.{pow-lt}
-use Rattle.std.proofs.lemmas.Bool.{cases_eq, cases_lt, both_ways, and_parts, or_left, eq-eqb}
-use Rattle.std.proofs.lemmas.List.{map-append}
-use Rattle.std.proofs.lemmas.List.Sums.{sum_by-cons, sum_by-append}
+use Rattle.std.proofs.lemmas.Bool.{cases_eq, eq-eqb}
 use Rattle.std.proofs.lemmas.Nat.{and_le_l, and_le_r, leading_top}
-use Rattle.std.proofs.lemmas.Nat.Bits.{bit_at_above, bit_at_cat_high, bit_at-trailing_zeros}
-use Rattle.std.proofs.Math.Nat.{mul-le-mul_left}
-use Rattle.roman_model.specs.Lists.{IsIn, below}
-use Rattle.roman_model.specs.Arena.{Arena, Entry, is_listed, is_justified}
-use Rattle.roman_model.specs.declared.reason.Reason.{Reason}
-use Rattle.roman_model.proofs.CallerLemmas.{filter_below_more, from_map, in_map, in_filter, in_below, justified_more, listed_append}
-use Rattle.roman_lanes.specs.Rows.{is_on}
-use Rattle.roman_lanes.proofs.CallerLemmas.{on_and, on_full, on_full_past, on_less, on_ones, on_ones_above, on_not}
-use Rattle.roman_rules.specs.Numbered.{IsNumbered}
-use Rattle.roman_rules.specs.Asked.{IsReasonOf, readings_of_reason}
-use Rattle.roman_order.specs.Board.{Board, as_entry, set_lanes, entries_in, has_entry}
-use Rattle.roman_order.proofs.CallerLemmas.{in_lanes}
-use Rattle.roman_relation.specs.Shaped.{IsShaped}
-use Rattle.roman_repair.specs.Replays.{is_possible, AreCandidates, with_replay, readings_of_entries}
+use Rattle.std.proofs.lemmas.Nat.Bits.{bit_at_above, bit_at-trailing_zeros}
+use Rattle.roman_model.proofs.CallerLemmas.{in_filter}
+use Rattle.roman_lanes.proofs.CallerLemmas.{on_ones, on_ones_above, on_not}
 use Rattle.roman_repair.proofs.Keeping.{with_replay_step, with_replay_append, candidates_replayed, possible_reason, IsReplaying, replaying_still, replaying_part}
 
 -- ---- the lanes of a word, split in two

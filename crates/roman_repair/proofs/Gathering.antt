@@ -1,20 +1,9 @@
 -- Entries that are gathered for the end of a list.
 use Rattle.std.proofs.Common.{◌≡◌, ◌≢◌, ℕ, ◌+◌, ◌-◌, ◌*◌, ◌/◌, ◌^◌, ◌<◌, ◌≤◌, Bool, true, false, not, ◌&&◌, ◌||◌, ◌⊎◌, eqb, List, [], ◌++◌, map, inl, inr, refl, sym, ap, ap₂, ◌∙◌, subst, arith, append-nil, append_assoc, bit_or}
-use Rattle.std.specs.Int.{trailing_zeros, w64}
-use Rattle.std.proofs.lemmas.Bool.{cases_lt, both_ways, ne_eqb}
-use Rattle.std.proofs.lemmas.List.Folds.{list_any-append}
-use Rattle.std.proofs.lemmas.Nat.{same_from_place}
-use Rattle.roman_model.specs.Arena.{Entry}
-use Rattle.roman_model.specs.declared.reason.Reason.{Reason}
-use Rattle.roman_model.specs.declared.reason.Reason.TheVariants.{Final}
-use Rattle.roman_model.proofs.CallerLemmas.{list_any-map, none_from}
-use Rattle.roman_lanes.specs.Rows.{is_on, HasLanes}
-use Rattle.roman_lanes.proofs.CallerLemmas.{on_or, on_zero}
-use Rattle.roman_order.specs.Board.{Board, as_entry, has_entry, set_lanes, entries_in}
-use Rattle.roman_order.specs.Events.{entries_at}
-use Rattle.roman_order.specs.declared.event.Event.{Event}
-use Rattle.roman_order.proofs.CallerLemmas.{has_entry-lane, in_lanes, set_lanes-zero}
-use Rattle.roman_repair.specs.Deaths.{list_and, IsGathered}
+use Rattle.roman_repair.proofs.Common.{trailing_zeros, w64, cases_lt, both_ways, list_any-append, same_from_place, Entry, Reason, Final, list_any-map, is_on, HasLanes, on_or, on_zero, Board, as_entry, has_entry, set_lanes, entries_in, entries_at, Event, in_lanes, set_lanes-zero, list_and, IsGathered}
+use Rattle.std.proofs.lemmas.Bool.{ne_eqb}
+use Rattle.roman_model.proofs.CallerLemmas.{none_from}
+use Rattle.roman_order.proofs.CallerLemmas.{has_entry-lane}
 use Rattle.roman_repair.proofs.DeathParts.{on_lowered}
 use Rattle.roman_repair.proofs.Fronts.{entries_cut, first_lane}
 use Rattle.roman_repair.proofs.Growing.{lanes_joined}

@@ -1,21 +1,7 @@
 -- The replay of a row's entries that stand for several pairs each, part by part.
 use Rattle.std.proofs.Common.{◌≡◌, ℕ, suc, ◌+◌, ◌-◌, ◌*◌, ◌/◌, ◌<◌, ◌≤◌, Bool, true, false, ◌||◌, append-nil, List, [], ◌∷◌, ◌++◌, map, flat_map, filter, cond, refl, sym, ap, ap₂, ◌∙◌, subst, arith, bit_or}
-use Rattle.std.proofs.Math.Nat.{mul-le-mul_left}
+use Rattle.roman_repair.proofs.Common.{mul-le-mul_left, map-append, flat_map-append, sum_by-append, below, Arena, Entry, grown_numbers, Reason, filter_below_more, is_on, on_or, readings_of_reason, as_entry, set_lanes, entries_in, entries_from, AreCandidates, AreSlices, with_replay, readings_of_entries}
 use Rattle.std.proofs.lemmas.Nat.{div-mul-add}
-use Rattle.std.proofs.lemmas.List.{map-append}
-use Rattle.std.proofs.lemmas.List.Concat.{flat_map-append}
-use Rattle.std.proofs.lemmas.List.Sums.{sum_by-append}
-use Rattle.roman_model.specs.Lists.{below}
-use Rattle.roman_model.specs.Arena.{Arena, Entry}
-use Rattle.roman_model.specs.NumberedChange.{grown_numbers}
-use Rattle.roman_model.specs.declared.reason.Reason.{Reason}
-use Rattle.roman_model.proofs.CallerLemmas.{filter_below_more}
-use Rattle.roman_lanes.specs.Rows.{is_on}
-use Rattle.roman_lanes.proofs.CallerLemmas.{on_or}
-use Rattle.roman_rules.specs.Asked.{readings_of_reason}
-use Rattle.roman_order.specs.Board.{as_entry, set_lanes, entries_in}
-use Rattle.roman_repair.specs.Deaths.{entries_from}
-use Rattle.roman_repair.specs.Replays.{AreCandidates, AreSlices, with_replay, readings_of_entries}
 use Rattle.roman_repair.proofs.Keeping.{candidates_left, candidates_replayed}
 use Rattle.roman_repair.proofs.Joined.{positive, grown_part}
 use Rattle.roman_repair.proofs.DeathParts.{part_word, part_in}

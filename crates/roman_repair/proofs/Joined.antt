@@ -1,27 +1,11 @@
 -- The candidates for a system that a service has joined.
 use Rattle.std.proofs.Common.{◌≡◌, ℕ, ◌+◌, ◌*◌, ◌%◌, ◌<◌, ◌≤◌, List, [], ◌∷◌, ◌++◌, map, flat_map, drop, cond, zero, suc, IsTrue, inl, inr, refl, sym, ap, ap₂, ◌∙◌, subst, arith}
-use Rattle.std.proofs.Math.Nat.{mul-le-mul_left}
-use Rattle.std.proofs.lemmas.Bool.{cases_lt, lt-ltb, le-ltb}
-use Rattle.std.proofs.lemmas.Nat.{same_from_place, mod_below}
+use Rattle.roman_repair.proofs.Common.{mul-le-mul_left, cases_lt, same_from_place, mod_below, IsIn, HasNoRepeats, below, product_of, Sys, Seat, IsSys, Entry, Join, after, CanChange, Sizes, sizes_of, count, pair_at, numbered, Reason, Final, Act, grown_numbers, from_map, in_append_right, length-below, map-map, NumbersReplay, AreSizes, low_of, lanes_of, row_mod, lanes_few, lanes_in, NamedSys, system_of, IsNamedSys, nodes_of, as_entry, set_lanes, entries_in, is_possible, AreCandidates, AreSlices}
+use Rattle.std.proofs.lemmas.Bool.{lt-ltb, le-ltb}
 use Rattle.std.proofs.lemmas.List.{length_push}
 use Rattle.std.proofs.lemmas.List.Folds.{flat_map-map}
-use Rattle.roman_model.specs.Lists.{IsIn, HasNoRepeats, below, product_of}
-use Rattle.roman_model.specs.System.{Sys, Seat, IsSys}
 use Rattle.roman_model.specs.SystemArena.{is_allowed}
-use Rattle.roman_model.specs.Arena.{Entry}
-use Rattle.roman_model.specs.Change.{Join, after, CanChange}
-use Rattle.roman_model.specs.Numbers.{Sizes, sizes_of, count, pair_at, numbered}
-use Rattle.roman_model.specs.declared.reason.Reason.{Reason}
-use Rattle.roman_model.specs.declared.reason.Reason.TheVariants.{Final, Act}
-use Rattle.roman_model.specs.NumberedChange.{grown_numbers}
-use Rattle.roman_model.proofs.CallerLemmas.{from_map, from_flat_map, from_below, in_append_right, length-below, HasNoRepeats-map, HasNoRepeats-flat_map, HasNoRepeats-below, map-map, map-flat_map, flat_map_same, pair_at-grown, sizes-joined, NumbersReplay}
-use Rattle.roman_radix.specs.Radix.{AreSizes}
-use Rattle.roman_radix.specs.Rows.{low_of, lanes_of}
-use Rattle.roman_radix.proofs.CallerLemmas.{row_mod, lanes_few}
-use Rattle.roman_joint.specs.Rows.{lanes_in}
-use Rattle.roman_joint.specs.NamedSys.{NamedSys, system_of, IsNamedSys}
-use Rattle.roman_order.specs.Board.{nodes_of, as_entry, set_lanes, entries_in}
-use Rattle.roman_repair.specs.Replays.{is_possible, AreCandidates, AreSlices}
+use Rattle.roman_model.proofs.CallerLemmas.{from_flat_map, from_below, HasNoRepeats-map, HasNoRepeats-flat_map, HasNoRepeats-below, map-flat_map, flat_map_same, pair_at-grown, sizes-joined}
 use Rattle.roman_repair.proofs.Keeping.{grown_number}
 
 -- the new system shows that the service could join

@@ -1,21 +1,10 @@
 -- What a replay keeps, candidate by candidate.
 use Rattle.std.proofs.Common.{◌≡◌, ℕ, ◌+◌, ◌*◌, ◌<◌, ◌≤◌, ◌==◌, Bool, true, false, if◌then◌else◌, ◌&&◌, List, [], ◌∷◌, ◌++◌, flat_map, length, IsTrue, IsFalse, sum_by, count_by, inl, inr, refl, sym, ap, ◌∙◌, subst, arith, append-nil, append_assoc}
-use Rattle.std.proofs.lemmas.Bool.{or_from, false_from_ne_true, eqb-true}
-use Rattle.std.proofs.lemmas.List.{map-append}
-use Rattle.std.proofs.lemmas.List.Sums.{sum_by-cons, sum_by-append}
-use Rattle.std.proofs.lemmas.List.Concat.{flat_map-append}
-use Rattle.std.proofs.lemmas.List.Folds.{list_any-append}
-use Rattle.roman_model.specs.Lists.{IsIn, HasNoRepeats, below}
-use Rattle.roman_model.specs.Arena.{Arena, Entry, is_among, is_listed, is_justified, replay_from, readings}
-use Rattle.roman_model.specs.declared.reason.Reason.{Reason}
-use Rattle.roman_model.specs.declared.reason.Reason.TheVariants.{Final, Act}
-use Rattle.roman_model.specs.NumberedChange.{grown_numbers}
-use Rattle.roman_model.proofs.CallerLemmas.{in_map, from_map, in_append_left, in_below, sum_by_within, listed_among, justified_same, replay_from_same, middle_first, readings_at, readings_within}
-use Rattle.roman_rules.specs.Numbered.{IsNumbered}
-use Rattle.roman_rules.specs.Asked.{IsReasonOf, readings_of, readings_of_reason}
-use Rattle.roman_rules.proofs.CallerLemmas.{readings_of-allowed}
-use Rattle.roman_order.specs.Board.{Board, nodes_of, has_entry, as_entry}
-use Rattle.roman_repair.specs.Replays.{is_possible, AreCandidates, with_replay, readings_of_entries}
+use Rattle.roman_repair.proofs.Common.{false_from_ne_true, eqb-true, map-append, sum_by-cons, sum_by-append, flat_map-append, list_any-append, IsIn, HasNoRepeats, below, Arena, Entry, is_listed, is_justified, readings, Reason, Final, Act, grown_numbers, in_map, from_map, in_append_left, in_below, IsNumbered, IsReasonOf, readings_of_reason, readings_of-allowed, Board, nodes_of, has_entry, as_entry, is_possible, AreCandidates, with_replay, readings_of_entries}
+use Rattle.std.proofs.lemmas.Bool.{or_from}
+use Rattle.roman_model.specs.Arena.{is_among, replay_from}
+use Rattle.roman_model.proofs.CallerLemmas.{sum_by_within, listed_among, justified_same, replay_from_same, middle_first, readings_at, readings_within}
+use Rattle.roman_rules.specs.Asked.{readings_of}
 
 -- a possible reason names an action of the system
 pub possible_reason : (A : Arena ℕ) → IsNumbered A → (p : ℕ) (reason : Reason) → IsTrue (is_possible A p reason) → IsReasonOf A reason

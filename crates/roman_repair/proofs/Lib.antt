@@ -1,3 +1,4 @@
+pub mod Common
 pub mod Repairing
 pub mod Keeping
 pub mod Waiting

@@ -1,22 +1,12 @@
 -- The end of a repair, in numbers of pairs.
 use Rattle.std.proofs.Common.{◌≡◌, ℕ, ◌+◌, ◌*◌, ◌/◌, ◌<◌, true, List, [], map, length, take, sym, ap, ◌∙◌, subst, arith}
-use Rattle.std.proofs.lemmas.List.{take-map, length-map}
-use Rattle.roman_model.specs.System.{Sys, IsSys}
-use Rattle.roman_model.specs.Arena.{Entry, IsOrder, replay}
+use Rattle.roman_repair.proofs.Common.{length-map, Sys, IsSys, Entry, IsOrder, replay, Change, after, CanChange, sizes_of, pair_at, numbered, rename_numbers, NumbersReplay, AreNumbers, NamedSys, system_of, IsNamedSys, Board, pairs_of, has_entry, Begins, arena_of, HasCaps, IsRelation, listed_numbers, Tally, IsRepaired, IsBegun, candidates, with_replay, IsReplayable}
+use Rattle.std.proofs.lemmas.List.{take-map}
 use Rattle.roman_model.specs.SystemArena.{arena}
-use Rattle.roman_model.specs.Change.{Change, after, CanChange}
-use Rattle.roman_model.specs.Numbers.{sizes_of, pair_at, numbered, entry_at, IsCompleteList}
-use Rattle.roman_model.specs.NumberedChange.{rename_numbers}
-use Rattle.roman_model.proofs.CallerLemmas.{order_named, NumbersReplay, numbers_replay, IsNumber, AreNumbers, numbers_rename}
+use Rattle.roman_model.specs.Numbers.{entry_at, IsCompleteList}
+use Rattle.roman_model.proofs.CallerLemmas.{order_named, numbers_replay, IsNumber, numbers_rename}
 use Rattle.roman_joint.specs.declared.seat.Seat.{Seat}
-use Rattle.roman_joint.specs.NamedSys.{NamedSys, system_of, IsNamedSys}
-use Rattle.roman_order.specs.Board.{Board, pairs_of, has_entry}
-use Rattle.roman_relation.specs.Settled.{Begins}
-use Rattle.roman_relation.specs.Greatest.{arena_of, HasCaps, IsRelation}
-use Rattle.roman_relation.proofs.CallerLemmas.{listed_numbers}
-use Rattle.roman_repair.specs.declared.tally.Tally.{Tally}
-use Rattle.roman_repair.specs.Repairs.{replayed, GoesOnFromReplay, IsRepaired, IsBegun}
-use Rattle.roman_repair.specs.Replays.{candidates, with_replay, IsReplayable}
+use Rattle.roman_repair.specs.Repairs.{replayed, GoesOnFromReplay}
 
 -- the replay of the renamed old list, in numbers
 abbrev pub numbers_replayed : Change → Sys → List (Entry ℕ) → List (Entry ℕ)

@@ -1,25 +1,8 @@
 -- Orders that are reopened for a changed system, and their replay.
 use Rattle.std.proofs.Common.{◌≡◌, ℕ, ◌+◌, ◌*◌, ◌<◌, ◌≤◌, Bool, true, List, [], ◌∷◌, ◌++◌, flat_map, length, IsTrue, refl, sym, ap, ap₂, ◌∙◌, subst, arith}
-use Rattle.roman_model.specs.Lists.{below}
-use Rattle.roman_model.specs.System.{Sys}
-use Rattle.roman_model.specs.Arena.{Arena, Entry, is_justified, IsOrder, replay}
-use Rattle.roman_model.specs.Change.{Change, after}
-use Rattle.roman_model.specs.Numbers.{Sizes, sizes_of, count, numbered}
-use Rattle.roman_model.specs.declared.reason.Reason.{Reason}
-use Rattle.roman_model.specs.declared.reason.Reason.TheVariants.{Final, Act}
-use Rattle.roman_model.specs.NumberedChange.{grown_numbers, rename_numbers}
-use Rattle.roman_model.proofs.CallerLemmas.{length-below, justified_is, order_new, new_once, order_justified, turned, AreNumbers, numbered_is_same, sizes-turned, NumbersReplay, number_allows-turned}
-use Rattle.roman_radix.specs.Rows.{lanes_of}
-use Rattle.roman_joint.specs.NamedSys.{NamedSys, system_of, IsNamedSys}
-use Rattle.roman_joint.specs.Rows.{lanes_in}
-use Rattle.roman_order.specs.Board.{Board, pairs_of, has_entry}
-use Rattle.roman_relation.specs.Shaped.{IsShaped}
-use Rattle.roman_relation.specs.Greatest.{arena_of, HasCaps, IsRelation}
-use Rattle.roman_relation.proofs.CallerLemmas.{listed_numbers, room_for_pairs}
-use Rattle.roman_relation.specs.Settled.{Begins}
-use Rattle.roman_repair.specs.declared.tally.Tally.{Tally}
-use Rattle.roman_repair.specs.Repairs.{IsRepaired}
-use Rattle.roman_repair.specs.Replays.{is_possible, AreCandidates, candidates, IsReplayable}
+use Rattle.roman_repair.proofs.Common.{below, Sys, Arena, Entry, is_justified, IsOrder, replay, Change, after, Sizes, sizes_of, count, numbered, Reason, Final, Act, grown_numbers, rename_numbers, length-below, turned, AreNumbers, sizes-turned, NumbersReplay, lanes_of, NamedSys, system_of, IsNamedSys, lanes_in, Board, pairs_of, has_entry, IsShaped, arena_of, HasCaps, IsRelation, listed_numbers, Begins, Tally, IsRepaired, is_possible, AreCandidates, candidates, IsReplayable}
+use Rattle.roman_model.proofs.CallerLemmas.{justified_is, order_new, new_once, order_justified, numbered_is_same, number_allows-turned}
+use Rattle.roman_relation.proofs.CallerLemmas.{room_for_pairs}
 use Rattle.roman_repair.proofs.Keeping.{grown_once}
 use Rattle.roman_repair.proofs.Repairing.{numbers_order, numbers_replayed, repaired_from}
 

@@ -1,21 +1,10 @@
 -- Changes that keep the whole renamed list: a freeze or a death.
 use Rattle.std.proofs.Common.{◌≡◌, ℕ, zero, suc, ◌<◌, Bool, List, [], ◌∷◌, length, IsTrue, slice_get, sym, ap, ◌∙◌, subst, arith}
 use Rattle.std.proofs.lemmas.Bool.{false≢true}
-use Rattle.roman_model.specs.System.{Sys, Seat}
+use Rattle.roman_repair.proofs.Common.{Sys, Seat, Entry, IsOrder, Change, after, Sizes, sizes_of, numbered, rename_numbers, turned, sizes-turned, NumbersReplay, lanes_of, NamedSys, system_of, lanes_in, Board, IsShaped, arena_of, HasCaps, IsBegun}
 use Rattle.roman_model.specs.SystemArena.{is_ready}
-use Rattle.roman_model.specs.Arena.{Entry, IsOrder}
-use Rattle.roman_model.specs.Change.{Change, after, KeepsAll}
-use Rattle.roman_model.specs.Numbers.{Sizes, sizes_of, numbered}
-use Rattle.roman_model.specs.NumberedChange.{rename_numbers}
-use Rattle.roman_model.proofs.CallerLemmas.{turned, sizes-turned, NumbersReplay}
-use Rattle.roman_radix.specs.Rows.{lanes_of}
+use Rattle.roman_model.specs.Change.{KeepsAll}
 use Rattle.roman_joint.specs.declared.seat.Seat as joint
-use Rattle.roman_joint.specs.NamedSys.{NamedSys, system_of}
-use Rattle.roman_joint.specs.Rows.{lanes_in}
-use Rattle.roman_order.specs.Board.{Board}
-use Rattle.roman_relation.specs.Shaped.{IsShaped}
-use Rattle.roman_relation.specs.Greatest.{arena_of, HasCaps}
-use Rattle.roman_repair.specs.Repairs.{IsBegun}
 use Rattle.roman_repair.proofs.Repairing.{numbers_replayed, caps_kept}
 use Rattle.roman_repair.proofs.Waiting.{nodes-turned}
 

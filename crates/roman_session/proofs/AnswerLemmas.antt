@@ -1,20 +1,13 @@
 -- What follows from the step of an answer.
 use Rattle.std.proofs.Common.{◌≡◌, ℕ, inl, inr, List, [], ◌++◌, Option, Result, Ok, Err, refl, sym, ap, ◌∙◌, subst}
-use Rattle.roman_io.specs.Sink.{WrotePrefix, Puts}
+use Rattle.roman_session.proofs.Common.{WrotePrefix, Puts, Puts-after_Gathered, reply_text, Reply, Situation, IsSituation, asked, Does, Asks, offer_text, Sight, Phase, Offered}
 use Rattle.roman_text.specs.Pages.{Gathered, Gathers}
-use Rattle.roman_text.proofs.CallerLemmas.{Puts-after_Gathered, Gathered-put}
+use Rattle.roman_text.proofs.CallerLemmas.{Gathered-put}
 use Rattle.roman_text.specs.Shapes.{LineShape, ask, saw, shape_of}
 use Rattle.roman_text.specs.declared.errors.LineError.{LineError}
-use Rattle.roman_text.specs.Replies.{reply_text}
-use Rattle.roman_text.specs.declared.replies.Reply.{Reply}
 use Rattle.roman_text.specs.declared.replies.Reply.TheVariants as reply
-use Rattle.roman_session.specs.Situations.{Situation, IsSituation}
-use Rattle.roman_session.specs.Rulings.{asked}
-use Rattle.roman_session.specs.Steps.{Does, Asks, Sees, Step, StepOn, StepBy, offer_text}
+use Rattle.roman_session.specs.Steps.{Sees, Step, StepOn, StepBy}
 use Rattle.roman_session.specs.Answering.{Answered, AnsweredOn, DoneOn, NamesSome, SeenStaysRelated}
-use Rattle.roman_generator.specs.declared.sight.Sight.{Sight}
-use Rattle.roman_session.specs.declared.phase.Phase.{Phase}
-use Rattle.roman_session.specs.declared.phase.Phase.TheVariants.{Offered}
 use Rattle.roman_session.proofs.StepLemmas.{requests_offered, outcomes_related}
 
 -- the line that offers services doesn't depend on the phase

@@ -1,19 +1,12 @@
 -- A session begins in the starting states of its library.
 use Rattle.std.proofs.Common.{◌≡◌, ℕ, ◌≤◌, List, length, refl, sym, ap₂, ◌∙◌, subst}
-use Rattle.roman_model.specs.System.{Pair, IsPair}
-use Rattle.roman_model.specs.Numbers.{sizes_of, number}
-use Rattle.roman_model.specs.declared.limits.TheConstants.{MAX_BEHAVIOURS}
-use Rattle.roman_joint.specs.NamedSys.{NamedSys, system_of, IsNamedSys}
+use Rattle.roman_session.proofs.Common.{Pair, IsPair, sizes_of, number, MAX_BEHAVIOURS, NamedSys, system_of, IsNamedSys, Relation, situation_in, IsSession, Idle, Inside}
 use Rattle.roman_relation.specs.Greatest.{IsRelation}
-use Rattle.roman_relation.specs.declared.relation.Relation.{Relation}
 use Rattle.roman_library.specs.Library.{PlainLibrary}
 use Rattle.roman_start.specs.Starts.{parts_of, start_pair_of, starting}
 use Rattle.roman_start.specs.Seating.{IsSeated}
 use Rattle.roman_start.specs.declared.seating.Seated.{Seated}
 use Rattle.roman_session.specs.Starts.{IsStart}
-use Rattle.roman_session.specs.Layout.{situation_in, IsSession}
-use Rattle.roman_session.specs.declared.phase.Phase.TheVariants.{Idle}
-use Rattle.roman_session.specs.declared.session.Session.TheInside.{Inside}
 
 -- the fields hold a starting situation
 pub record HasBegun (library : PlainLibrary) (a : Inside) : Type 0 where

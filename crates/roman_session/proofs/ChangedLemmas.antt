@@ -1,35 +1,19 @@
 -- A session after its services changed.
 use Rattle.std.proofs.Common.{◌≡◌, ℕ, ◌<◌, ◌≤◌, ◌+◌, Bool, List, [], ◌∷◌, ◌++◌, true, false, Some, Result, IsTrue, IsFalse, not, map, length, take, drop, slice_get, Vec, Global, vec_len, vec_capacity, inl, inr, refl, sym, ap, ap₂, ◌∙◌, subst, arith, take-append-drop, length-drop}
-use Rattle.std.proofs.lemmas.List.{length-map, length-take}
-use Rattle.std.proofs.lemmas.Option.{get_or_from_slice_get}
+use Rattle.roman_session.proofs.Common.{length-map, get_or_from_slice_get, Sys, Pair, IsPair, is_ready, arena, Join, Sizes, sizes_of, number, MAX_BEHAVIOURS, MAX_SERVICES, there_is, NamedSys, IsNamedSys, Relation, reply_text, Reply, Situation, present_system, IsPhase, seat_at, with_room, CanJoin, Joining, states_long, cases_lt, freezing, thawing, dying, Does, Changes, situation_in, IsSession, Phase, Idle, Offered, Inside}
+use Rattle.std.proofs.lemmas.List.{length-take}
 use Rattle.std.specs.List.{remove}
-use Rattle.roman_model.specs.System.{Sys, Seat, Pair, IsPair}
-use Rattle.roman_model.specs.SystemArena.{is_ready, arena}
+use Rattle.roman_model.specs.System.{Seat}
 use Rattle.roman_model.specs.Arena.{Entry, replay}
 use Rattle.roman_model.specs.CompleteLists.{IsComplete}
-use Rattle.roman_model.specs.Change.{CanChange, Freeze, Thaw, Join, Die, rename}
-use Rattle.roman_model.specs.Numbers.{Sizes, sizes_of, number, entry_at}
-use Rattle.roman_model.specs.declared.limits.TheConstants.{MAX_BEHAVIOURS, MAX_SERVICES}
-use Rattle.roman_model.proofs.CallerLemmas.{turned, IsPair-turned, IsPair-grown, IsPair-without, sizes-turned, there_is}
-use Rattle.roman_joint.specs.NamedSys.{NamedSys, IsNamedSys}
+use Rattle.roman_model.specs.Change.{CanChange, Freeze, Thaw, Die, rename}
+use Rattle.roman_model.specs.Numbers.{entry_at}
+use Rattle.roman_model.proofs.CallerLemmas.{turned, IsPair-turned, IsPair-grown, IsPair-without, sizes-turned}
 use Rattle.roman_joint.specs.NamedSys as joint
-use Rattle.roman_relation.specs.declared.relation.Relation.{Relation}
 use Rattle.roman_repair.specs.Repairs.{IsRepaired}
 use Rattle.roman_repair.specs.declared.tally.Tally.{Tally}
-use Rattle.roman_text.specs.Replies.{reply_text}
-use Rattle.roman_text.specs.declared.replies.Reply.{Reply}
 use Rattle.roman_text.specs.declared.replies.Reply.TheVariants as reply
-use Rattle.roman_session.specs.Situations.{Situation, present_system, IsPhase}
-use Rattle.roman_session.specs.Rulings.{seat_at, with_room}
-use Rattle.roman_session.specs.Joins.{CanJoin}
-use Rattle.roman_session.specs.declared.events.Joining.{Joining}
-use Rattle.roman_generator.proofs.CallerLemmas.{states_long}
-use Rattle.std.proofs.lemmas.Bool.{cases_lt}
-use Rattle.roman_session.specs.Steps.{Changing, freezing, thawing, dying, growing, parts_after, Does, Joins, Changes}
-use Rattle.roman_session.specs.Layout.{situation_in, IsSession}
-use Rattle.roman_session.specs.declared.phase.Phase.{Phase}
-use Rattle.roman_session.specs.declared.phase.Phase.TheVariants.{Idle, Offered}
-use Rattle.roman_session.specs.declared.session.Session.TheInside.{Inside}
+use Rattle.roman_session.specs.Steps.{Changing, growing, parts_after, Joins}
 use Rattle.roman_session.proofs.RulingLemmas.{cells_with, with_room_is, no_room_is}
 
 -- the seat of a present service

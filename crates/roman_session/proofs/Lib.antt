@@ -1,3 +1,4 @@
+pub mod Common
 pub mod RulingLemmas
 pub mod StepLemmas
 pub mod SituationLemmas

@@ -1,32 +1,15 @@
 -- Report lines, one after another.
 use Rattle.std.proofs.Common.{◌≡◌, ℕ, suc, ◌<◌, ◌≤◌, ◌+◌, Bool, List, [], ◌∷◌, ◌++◌, Some, IsTrue, IsFalse, length, drop, map, get_or, not, slice_get, slice_index, refl, sym, ap, ap₂, ◌∙◌, subst, arith, add-one, append_assoc}
-use Rattle.std.specs.List.{filter, flat_map}
+use Rattle.roman_session.proofs.Common.{filter, flat_map, cond-true, cond-false, length-map, get_or_from_slice_get, below, Pair, IsPair, has, is_allowed, name_at, is_related, offers, from_place, from_end, there_is, reply_text, NamedBeh, HasBits, NamedSys, IsNamedSys, system_of, seat_of, Seat, seat_name, beh_name, beh_states, states_of_behaviour, Situation, seats_set, served, served_text, service_lines, offer_lines, lines_text, report_text, offer_text, service_at, states_long}
 use Rattle.std.proofs.Math.Seq.{drop-cons}
-use Rattle.std.proofs.lemmas.Bool.{cond-true, cond-false}
-use Rattle.std.proofs.lemmas.List.{append-nil, drop_all, length-map}
-use Rattle.std.proofs.lemmas.Option.{slice_get_within, get_or_from_slice_get}
-use Rattle.roman_model.specs.Lists.{below}
-use Rattle.roman_model.specs.System.{Pair, IsPair, has}
-use Rattle.roman_model.specs.SystemArena.{is_allowed}
-use Rattle.roman_model.specs.Explanation.{name_at}
-use Rattle.roman_model.specs.Offers.{is_related, offers}
-use Rattle.roman_model.proofs.CallerLemmas.{from_place, from_end, there_is}
+use Rattle.std.proofs.lemmas.List.{append-nil, drop_all}
+use Rattle.std.proofs.lemmas.Option.{slice_get_within}
 use Rattle.roman_text.specs.Report.{line_text}
-use Rattle.roman_text.specs.Replies.{reply_text}
 use Rattle.roman_text.specs.declared.replies.Reply.TheVariants as reply
 use Rattle.roman_text.specs.declared.report.ReportLine.{ReportLine}
 use Rattle.roman_text.specs.declared.report.ReportLine.TheVariants as line
-use Rattle.roman_parts.specs.Named.{NamedBeh}
-use Rattle.roman_rules.specs.Bits.{HasBits}
-use Rattle.roman_joint.specs.NamedSys.{NamedSys, IsNamedSys, system_of, seat_of}
-use Rattle.roman_joint.specs.declared.seat.Seat.{Seat}
 use Rattle.roman_session.specs.Situations as situation
-use Rattle.roman_joint.specs.Names.{seat_name, beh_name, beh_states, states_of_behaviour}
-use Rattle.roman_session.specs.Situations.{Situation}
-use Rattle.roman_session.specs.Serving.{seats_set, served, served_text}
-use Rattle.roman_session.specs.Reports.{report_head, service_line, service_lines, offer_line, offer_lines, lines_text, report_text}
-use Rattle.roman_session.specs.Steps.{offer_text, service_at}
-use Rattle.roman_generator.proofs.CallerLemmas.{states_long}
+use Rattle.roman_session.specs.Reports.{report_head, service_line, offer_line}
 use Rattle.roman_session.proofs.SituationLemmas.{mapped_at}
 use Rattle.roman_session.proofs.ServingLemmas.{offers_set}
 

@@ -1,23 +1,15 @@
 -- Places of names.
 use Rattle.std.proofs.Common.{Option, ◌≡◌, ℕ, ◌<◌, ◌≤◌, inl, inr, Bool, true, false, List, [], Some, None, Result, Ok, Err, is_ok, map, length, get_or, refl, sym, ap, ◌∙◌, subst, arith}
 use Rattle.std.specs.List.{position, position_or_len, list_any}
-use Rattle.std.specs.Option.{ok_or}
-use Rattle.std.specs.Str.{bytes_eq}
-use Rattle.std.proofs.lemmas.Bool.{both_ways, cases_lt}
+use Rattle.roman_session.proofs.Common.{ok_or, bytes_eq, both_ways, cases_lt, get_or_from_slice_get, length-map, IsIn, Reply, Seat, seat_name, named}
 use Rattle.std.proofs.lemmas.List.Quantifiers.{position-Some}
-use Rattle.std.proofs.lemmas.Option.{get_or_from_slice_get, slice_get-get_or}
-use Rattle.std.proofs.lemmas.List.{length-map}
+use Rattle.std.proofs.lemmas.Option.{slice_get-get_or}
 use Rattle.std.proofs.lemmas.List.Elements.{Contains-get_or}
-use Rattle.roman_model.specs.Lists.{IsIn}
 use Rattle.roman_model.proofs.CallerLemmas.{any_from, none_from, in_contains, contains_in}
 use Rattle.roman_read.specs.Names.{place_of}
 use Rattle.roman_read.proofs.CallerLemmas.{position-none, position-some, place_of-present}
 use Rattle.std.proofs.lemmas.Slice.Eq.{bytes_eq-Decides}
-use Rattle.roman_text.specs.declared.replies.Reply.{Reply}
 use Rattle.roman_text.specs.declared.replies.Reply.TheVariants as reply
-use Rattle.roman_joint.specs.declared.seat.Seat.{Seat}
-use Rattle.roman_joint.specs.Names.{seat_name}
-use Rattle.roman_session.specs.Rulings.{named}
 
 -- the first place at which a test passes is unique
 first_place : (p : List ℕ → Bool) (names : List (List ℕ)) (i k : ℕ) → p (get_or names i []) ≡ true → p (get_or names k []) ≡ true →

@@ -2,26 +2,15 @@
 use Rattle.std.proofs.Common.{◌≡◌, ℕ, ◌<◌, ◌≤◌, Bool, true, false, not, leb, inl, inr, List, map, length, Result, Ok, Err, IsTrue, IsFalse, refl, ap, ap₂, subst, ◌∙◌, arith}
 use Rattle.std.proofs.lemmas.Bool.{not-true, lt-ltb, le-leb}
 use Rattle.std.proofs.lemmas.Bool.Decides.{leb_tells}
-use Rattle.roman_model.specs.System.{has}
-use Rattle.roman_model.specs.SystemArena.{is_allowed}
-use Rattle.roman_model.specs.Offers.{is_related, offers}
-use Rattle.roman_model.specs.Change.{Join, after}
-use Rattle.roman_model.specs.declared.limits.TheConstants.{MAX_SERVICES}
+use Rattle.roman_session.proofs.Common.{has, is_allowed, is_related, offers, Join, MAX_SERVICES, Reply, seat_of, beh_name, states_of_behaviour, Situation, present_system, named, demand, seat_at, asked, seen, with_room, Handing, Joining, Jump, Sight, Phase, Idle, Offered, Delegated}
+use Rattle.roman_model.specs.Change.{after}
 use Rattle.roman_read.specs.Items.{◌>>=◌}
 use Rattle.roman_read.specs.Names.{is_name}
 use Rattle.roman_read.proofs.CallerLemmas.{bind_ok, same_ok}
-use Rattle.roman_text.specs.declared.replies.Reply.{Reply}
 use Rattle.roman_text.specs.declared.replies.Reply.TheVariants as reply
-use Rattle.roman_joint.specs.NamedSys.{seat_of, cells}
-use Rattle.roman_joint.specs.Names.{beh_name, states_of_behaviour}
-use Rattle.roman_session.specs.Situations.{Situation, present_system, is_idle}
-use Rattle.roman_session.specs.Rulings.{named, service_named, state_named, demand, delegation, offered_action, seat_at, asked, handed, seen, jumped, env_jumped, frozen, thawed, died, joining, with_room}
-use Rattle.roman_session.specs.declared.events.Handing.{Handing}
-use Rattle.roman_session.specs.declared.events.Joining.{Joining}
-use Rattle.roman_session.specs.declared.events.Jump.{Jump}
-use Rattle.roman_generator.specs.declared.sight.Sight.{Sight}
-use Rattle.roman_session.specs.declared.phase.Phase.{Phase}
-use Rattle.roman_session.specs.declared.phase.Phase.TheVariants.{Idle, Offered, Delegated}
+use Rattle.roman_joint.specs.NamedSys.{cells}
+use Rattle.roman_session.specs.Situations.{is_idle}
+use Rattle.roman_session.specs.Rulings.{service_named, state_named, delegation, offered_action, handed, jumped, env_jumped, frozen, thawed, died, joining}
 
 -- a test that holds leads on to the checks that follow
 pub checked : {Y : Type 0} (test : Bool) (refusal : Reply) (f : Unit {0} → Result Y Reply) (y : Y) → (demand test refusal >>= f) ≡ Ok y → IsTrue test × (f tt ≡ Ok y)

@@ -1,19 +1,9 @@
 -- The seats of a mask, one after another.
 use Rattle.std.proofs.Common.{◌≡◌, ℕ, ◌<◌, ◌≤◌, ◌+◌, Bool, List, [], ◌∷◌, ◌++◌, Some, IsTrue, IsFalse, length, drop, slice_get, sym, ap, ◌∙◌, arith, codes, not, ◌&&◌}
-use Rattle.std.specs.List.{filter, flat_map}
-use Rattle.std.proofs.lemmas.Bool.{cond-true, cond-false}
-use Rattle.roman_model.specs.Lists.{IsIn, below}
-use Rattle.roman_model.specs.System.{Sys, Pair, has}
-use Rattle.roman_model.specs.SystemArena.{is_allowed, arena}
+use Rattle.roman_session.proofs.Common.{filter, flat_map, cond-true, cond-false, IsIn, below, Sys, Pair, has, is_allowed, arena, is_related, offers, from_place, from_end, HasBits, has_seat, NamedSys, Seat, seat_name, seats_set, served, served_text}
 use Rattle.roman_model.specs.Arena.{is_beaten, mask}
-use Rattle.roman_model.specs.Offers.{is_related, offers}
-use Rattle.roman_model.proofs.CallerLemmas.{from_below, filter_same, mask_has, from_place, from_end}
-use Rattle.roman_rules.specs.Bits.{HasBits, has_seat}
+use Rattle.roman_model.proofs.CallerLemmas.{from_below, filter_same, mask_has}
 use Rattle.roman_rules.proofs.CallerLemmas.{has_seat_is}
-use Rattle.roman_joint.specs.NamedSys.{NamedSys}
-use Rattle.roman_joint.specs.declared.seat.Seat.{Seat}
-use Rattle.roman_joint.specs.Names.{seat_name}
-use Rattle.roman_session.specs.Serving.{seats_set, served, served_text}
 use Rattle.roman_session.proofs.SituationLemmas.{mapped_at}
 
 -- a seat of the mask comes next

@@ -1,32 +1,16 @@
 -- What the fields of a session and the calls of its parts say of the situation.
 use Rattle.std.proofs.Common.{◌≡◌, ℕ, ◌<◌, Bool, ◌↔◌, List, [], Option, Some, IfSome, IsTrue, IsFalse, map, length, slice_get, slice_set, slice_index, slice_index_or, sym, ap, ◌∙◌, subst, arith}
 use Rattle.std.specs.Option.{option_map}
-use Rattle.std.proofs.lemmas.Option.{slice_get-map, get_or_from_slice_get}
-use Rattle.std.proofs.lemmas.List.{length-map, get_or-set_same}
-use Rattle.std.proofs.lemmas.Bool.{both_ways}
-use Rattle.roman_model.specs.System.{Sys, Pair, IsPair}
-use Rattle.roman_model.specs.SystemArena.{outcomes, is_ready}
+use Rattle.roman_session.proofs.Common.{get_or_from_slice_get, length-map, both_ways, Sys, Pair, IsPair, is_ready, sizes_of, number, pair_at, IsIn, is_related, offers, Great, related_great, great_related, offer_is, numbers_are_pairs, there_is, moved, NamedBeh, NamedSys, Seat, IsSeatBehaviour, seat_name, beh_states, names_in, states_long, Situation, present_system, IsPhase, IsSituation, service_at, situation_in, IsSession, Phase, Idle, Offered, Delegated, Inside}
+use Rattle.std.proofs.lemmas.Option.{slice_get-map}
+use Rattle.std.proofs.lemmas.List.{get_or-set_same}
+use Rattle.roman_model.specs.SystemArena.{outcomes}
 use Rattle.roman_model.specs.System.{Seat as Seat'}
-use Rattle.roman_model.specs.Numbers.{sizes_of, number, pair_at}
 use Rattle.roman_model.specs.Explanation.{SeatNames, seat_names}
-use Rattle.roman_model.specs.Lists.{IsIn}
-use Rattle.roman_model.specs.Offers.{is_related, offers}
-use Rattle.roman_model.specs.Composition.{Great}
-use Rattle.roman_model.proofs.CallerLemmas.{not_empty_in, ne_not_empty, by_test, related_great, great_related, outcome_seat, states_set, offer_is, numbers_are_pairs, states_below, AreBelow-index, there_is}
-use Rattle.roman_radix.specs.Radix.{moved}
-use Rattle.roman_parts.specs.Named.{NamedBeh}
-use Rattle.roman_joint.specs.NamedSys.{NamedSys}
+use Rattle.roman_model.proofs.CallerLemmas.{not_empty_in, ne_not_empty, by_test, outcome_seat, states_set, states_below, AreBelow-index}
 use Rattle.roman_joint.specs.NamedSys as joint
-use Rattle.roman_joint.specs.declared.seat.Seat.{Seat}
-use Rattle.roman_joint.specs.Behaviours.{IsSeatBehaviour}
-use Rattle.roman_joint.specs.Names.{seat_name, beh_states, names_of_seat, names_in}
-use Rattle.roman_generator.proofs.CallerLemmas.{states_long}
-use Rattle.roman_session.specs.Situations.{Situation, present_system, IsOpen, IsPhase, IsSituation}
-use Rattle.roman_session.specs.Steps.{service_at}
-use Rattle.roman_session.specs.Layout.{situation_in, IsSession}
-use Rattle.roman_session.specs.declared.phase.Phase.{Phase}
-use Rattle.roman_session.specs.declared.phase.Phase.TheVariants.{Idle, Offered, Delegated}
-use Rattle.roman_session.specs.declared.session.Session.TheInside.{Inside}
+use Rattle.roman_joint.specs.Names.{names_of_seat}
+use Rattle.roman_session.specs.Situations.{IsOpen}
 
 -- the situation in the fields is well formed
 pub situation_known : (a : Inside) (s : Situation) → IsSession a → situation_in a ≡ s → IsSituation s

@@ -1,14 +1,8 @@
 -- What follows from offers and outcomes.
 use Rattle.std.proofs.Common.{◌≡◌, ◌≢◌, ℕ, List, [], Ok, IsTrue, sym, subst}
-use Rattle.roman_model.specs.Lists.{IsIn}
-use Rattle.roman_model.specs.System.{IsPair}
-use Rattle.roman_model.specs.Composition.{Great}
-use Rattle.roman_model.specs.Offers.{is_related, offers}
-use Rattle.roman_model.proofs.CallerLemmas.{related_great, great_related, offer_is, related_offers, outcome_in, outcome_pair}
-use Rattle.roman_session.specs.Situations.{Situation, present_system, IsSituation, IsPhase}
-use Rattle.roman_session.specs.Rulings.{asked, seen}
-use Rattle.roman_session.specs.Steps.{HasMoved, Moves, pair_after}
-use Rattle.roman_generator.specs.declared.sight.Sight.{Sight}
+use Rattle.roman_session.proofs.Common.{IsIn, IsPair, Great, is_related, offers, related_great, great_related, offer_is, Situation, present_system, IsSituation, IsPhase, asked, seen, HasMoved, Sight}
+use Rattle.roman_model.proofs.CallerLemmas.{related_offers, outcome_in, outcome_pair}
+use Rattle.roman_session.specs.Steps.{Moves, pair_after}
 use Rattle.roman_session.proofs.RulingLemmas.{asked_is, seen_is}
 
 -- the current pair is related where the test holds

@@ -1,38 +1,18 @@
 -- Writing advice by accepted costs as part of a run.
 use Rattle.std.proofs.Common.{◌≡◌, ◌≢◌, ◌↔◌, ℕ, ◌*◌, ◌<◌, ◌≤◌, inl, inr, Bool, IsTrue, IsFalse, List, Option, Some, IfSome, Result, Ok, Err, refl, sym, ap, ◌∙◌, subst}
-use Rattle.std.proofs.lemmas.Bool.{cond-true, cond-false, lt-ltb, le-ltb, cases_lt}
-use Rattle.roman_io.specs.Shelf.{Texts}
-use Rattle.roman_io.specs.Sink.{Puts}
+use Rattle.roman_top.proofs.Common.{cond-true, cond-false, lt-ltb, cases_lt, Texts, Puts, Sys, Pair, IsSys, sizes_of, count, pair_at, is_related, related_count, by_test, related_great, great_related, numbers_are_pairs, PartError, NamedSys, system_of, PlainLibrary, parts_of, start_pair_of, IsSeated, Seated, Advising, Unrelated, TooMany, Told, advice_text, advised_by, Listed, SaysAdvice, OnCosts, GivesAdvice, SinkCause, Advise, On, IsAnswered, Accepts, Opens, Finishes, EndsBare, IsSpoken, Writes, WritesText, document_opening, OnOpening, ServedBeside, outputs, Status}
+use Rattle.std.proofs.lemmas.Bool.{le-ltb}
 use Rattle.roman_model.specs.Composition.{Great}
-use Rattle.roman_model.specs.System.{Sys, Pair, IsSys}
-use Rattle.roman_model.specs.Numbers.{sizes_of, count, pair_at}
-use Rattle.roman_model.specs.Offers.{is_related, related_count}
-use Rattle.roman_model.proofs.CallerLemmas.{by_test, same_test, related_great, great_related, numbers_are_pairs}
-use Rattle.roman_parts.specs.declared.error.PartError.{PartError}
-use Rattle.roman_joint.specs.NamedSys.{NamedSys, system_of}
-use Rattle.roman_library.specs.Library.{PlainLibrary}
-use Rattle.roman_start.specs.Starts.{parts_of, start_pair_of}
-use Rattle.roman_start.specs.Seating.{IsSeated}
-use Rattle.roman_start.specs.declared.seating.Seated.{Seated}
-use Rattle.roman_cost.specs.AdviceText.{Advising, Unrelated, TooMany, Told, advice_text, advised_by}
+use Rattle.roman_model.proofs.CallerLemmas.{same_test}
 use Rattle.roman_cost.specs.Costs.{costs_of}
 use Rattle.roman_cost.specs.Refusals.{ReadsAs, HasCostCause}
 use Rattle.roman_cost.specs.Tables.{CostTable}
-use Rattle.roman_cost.specs.declared.costs.Listed.{Listed}
 use Rattle.roman_cost.specs.declared.error.CostError.{CostError}
 use Rattle.roman_cost.specs.declared.error.CostError.TheVariants as cost
 use Rattle.roman_cost.specs.declared.error.AdviceError.{AdviceError}
 use Rattle.roman_cost.specs.declared.error.AdviceError.TheVariants as advice_error
 use Rattle.roman_cost.specs.declared.limits.TheConstants.{MAX_VALUES}
-use Rattle.roman_top.specs.Advice.{SaysAdvice, OnCosts, GivesAdvice, Affords, TellsRead, CausedByRead}
-use Rattle.roman_top.specs.Causes.{SinkCause}
-use Rattle.roman_top.specs.Command.{Advise, On}
-use Rattle.roman_top.specs.Complete.{IsAnswered}
-use Rattle.roman_top.specs.Endings.{Accepts, Opens, Finishes, EndsBare, IsSpoken, Writes, WritesText}
-use Rattle.roman_top.specs.Opening.{document_opening, OnOpening}
-use Rattle.roman_top.specs.Served.{ServedBeside}
-use Rattle.roman_top.specs.World.{outputs}
-use Rattle.roman_top.specs.declared.status.Status.{Status}
+use Rattle.roman_top.specs.Advice.{Affords, TellsRead, CausedByRead}
 use Rattle.roman_top.proofs.EndingLemmas.{told_both, on_accepted, writes_put, writes_weaker, spoken_shelf}
 use Rattle.roman_top.proofs.ServedLemmas.{job_served}
 

@@ -1,22 +1,10 @@
 -- The text of `advise` is right by the greatest ND-simulation and by plans.
 use Rattle.std.proofs.Common.{ℕ, List, Result, filter, sym, subst}
-use Rattle.roman_io.specs.Shelf.{Texts}
-use Rattle.roman_model.specs.System.{Pair, IsSys, IsPair}
-use Rattle.roman_model.specs.SystemArena.{pairs}
-use Rattle.roman_model.specs.Offers.{is_related}
-use Rattle.roman_model.proofs.CallerLemmas.{by_test, related_great, great_related}
-use Rattle.roman_parts.specs.declared.error.PartError.{PartError}
-use Rattle.roman_joint.specs.NamedSys.{NamedSys, system_of}
-use Rattle.roman_library.specs.Library.{PlainLibrary}
-use Rattle.roman_start.specs.Starts.{parts_of, start_pair_of}
-use Rattle.roman_cost.specs.AdviceText.{Advising, advised_by}
+use Rattle.roman_top.proofs.Common.{Texts, Pair, IsSys, IsPair, pairs, is_related, by_test, related_great, great_related, PartError, NamedSys, system_of, PlainLibrary, parts_of, start_pair_of, Advising, advised_by, Listed, SaysAdvice, OnCosts, GivesAdvice, Status}
 use Rattle.roman_cost.specs.Laws.{TellsLeast}
 use Rattle.roman_cost.specs.Tables.{seat_costs}
-use Rattle.roman_cost.specs.declared.costs.Listed.{Listed}
 use Rattle.roman_cost.proofs.CallerLemmas.{advice_least}
-use Rattle.roman_top.specs.Advice.{SaysAdvice, OnCosts, GivesAdvice}
 use Rattle.roman_top.specs.HeadlineAdvise.{AdvisesBy, KeepsAdvice}
-use Rattle.roman_top.specs.declared.status.Status.{Status}
 use Rattle.roman_top.proofs.AdviseLemmas.{advised_unrelated, advised_many, advised_told}
 use Rattle.roman_top.proofs.ServingLemmas.{related_all}
 

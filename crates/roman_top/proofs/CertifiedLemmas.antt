@@ -1,19 +1,10 @@
 -- A complete removal list over numbers lists exactly the pairs that aren't related, validly.
 use Rattle.std.proofs.Common.{◌≡◌, ℕ, zero, suc, ◌*◌, ◌<◌, ◌==◌, ◌&&◌, not, List, [], ◌∷◌, map, IsTrue, IsFalse, inl, inr, refl, sym, ap₂, ◌∙◌, subst, arith}
-use Rattle.std.specs.List.{list_any}
+use Rattle.roman_top.proofs.Common.{list_any, both_ways, and_from, or_cases, not-true, IsIn, is_empty, product_of, Sys, Pair, IsSys, IsPair, is_final, all_final, pairs, outcomes, same_pair, is_fine, arena, Entry, is_among, is_listed, is_justified, IsOrderFrom, IsComplete, cert_text, sizes_of, count, number, pair_at, entry_at, IsCompleteList, Reason, Final, Act, any_true, any_from, in_map, from_map, from_allowed, outcome_in, from_outcome, listed_in, in_listed, length-pairs, numbers_are_pairs, map-map, HoldsReason, AreValid, ListsUnrelated, numbered_entry, CertifiesUnrelated}
 use Rattle.std.proofs.Math.Nat.{div-lt_iff_lt-mul}
-use Rattle.std.proofs.lemmas.Bool.{both_ways, and_parts, and_from, or_cases, or_parts, eqb-true, eq-eqb, not-true, not-false}
-use Rattle.roman_model.specs.Lists.{IsIn, is_empty, product_of}
-use Rattle.roman_model.specs.System.{Sys, Pair, IsSys, IsPair, is_final, all_final}
-use Rattle.roman_model.specs.SystemArena.{pairs, outcomes, same_numbers, same_pair, is_fine, arena}
-use Rattle.roman_model.specs.Arena.{Entry, is_among, is_listed, is_justified, IsOrderFrom}
-use Rattle.roman_model.specs.CompleteLists.{IsComplete}
-use Rattle.roman_model.specs.Certificate.{cert_text}
-use Rattle.roman_model.specs.Numbers.{sizes_of, count, number, pair_at, entry_at, IsCompleteList}
-use Rattle.roman_model.specs.declared.reason.Reason.{Reason}
-use Rattle.roman_model.specs.declared.reason.Reason.TheVariants.{Final, Act}
-use Rattle.roman_model.proofs.CallerLemmas.{IsSame, any_true, any_from, in_map, from_map, from_allowed, outcome_in, from_outcome, same_numbers_is, same_numbers_itself, justified_is, listed_in, in_listed, in_not_empty, length-pairs, numbers_are_pairs, map-map}
-use Rattle.roman_top.specs.HeadlineCertify.{HoldsReason, AreValid, ListsUnrelated, numbered_entry, CertifiesUnrelated}
+use Rattle.std.proofs.lemmas.Bool.{and_parts, or_parts, eqb-true, eq-eqb, not-false}
+use Rattle.roman_model.specs.SystemArena.{same_numbers}
+use Rattle.roman_model.proofs.CallerLemmas.{IsSame, same_numbers_is, same_numbers_itself, justified_is, in_not_empty}
 
 -- Different pairs have different numbers.
 

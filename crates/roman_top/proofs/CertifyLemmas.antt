@@ -1,17 +1,9 @@
 -- Writing certificates as part of a run.
 use Rattle.std.proofs.Common.{◌≡◌, ℕ, List, Option, Result, refl, subst}
-use Rattle.roman_io.specs.Sink.{Puts}
-use Rattle.roman_model.specs.Numbers.{sizes_of, count}
-use Rattle.roman_model.specs.Certificate.{cert_text}
-use Rattle.roman_joint.specs.NamedSys.{NamedSys, system_of}
-use Rattle.roman_library.specs.Library.{PlainLibrary}
+use Rattle.roman_top.proofs.Common.{Puts, sizes_of, count, cert_text, NamedSys, system_of, PlainLibrary, IsSeated, Seated, Finishes, Writes, CertifiesSystem, Status}
 use Rattle.roman_order.specs.Board.{Board}
 use Rattle.roman_relation.specs.Greatest.{HasCompleteList}
-use Rattle.roman_start.specs.Seating.{IsSeated}
-use Rattle.roman_start.specs.declared.seating.Seated.{Seated}
-use Rattle.roman_top.specs.Endings.{Finishes, Writes}
-use Rattle.roman_top.specs.Run.{Certifies, CertifiesSystem}
-use Rattle.roman_top.specs.declared.status.Status.{Status}
+use Rattle.roman_top.specs.Run.{Certifies}
 use Rattle.roman_top.specs.declared.status.Status.TheVariants as status
 use Rattle.roman_top.proofs.EndingLemmas.{writes_put}
 

@@ -1,30 +1,16 @@
 -- The check of a certificate, as part of a run.
 use Rattle.std.proofs.Common.{◌≡◌, ℕ, Bool, List, Option, None, Some, IfSome, IfOk, Result, Ok, Err, refl, sym, ap, ◌∙◌, subst}
 use Rattle.std.specs.Result.{IsErrOf}
-use Rattle.roman_io.specs.Shelf.{Texts, shelf_text, rest_from}
+use Rattle.roman_top.proofs.Common.{Texts, shelf_text, rest_from, sizes_of, number, numbered, TooLong, cert_verdict, NamedSys, system_of, start_pair_of, IsSeated, Seated, verdict_of, fault_of, SinkCause, Check, On, Accepts, Opens, EndsBare, Writes, document_opening, OnOpening, library_system, SaysVerdict, ServedBeside, outputs, greatest_text, rejected_text, Status}
 use Rattle.roman_model.specs.Arena.{Arena}
-use Rattle.roman_model.specs.Numbers.{sizes_of, number, numbered}
-use Rattle.roman_model.specs.Certificate.{TooLong, cert_verdict}
-use Rattle.roman_joint.specs.NamedSys.{NamedSys, system_of}
-use Rattle.roman_start.specs.Starts.{start_pair_of}
-use Rattle.roman_start.specs.Seating.{IsSeated}
-use Rattle.roman_start.specs.declared.seating.Seated.{Seated}
 use Rattle.roman_check.specs.Checks.{HaveVerdict}
-use Rattle.roman_check.specs.Verdicts.{verdict_of, fault_of}
 use Rattle.roman_check.specs.declared.verdict.Why.{Why}
 use Rattle.roman_check.specs.declared.verdict.Verdict.{Verdict}
 use Rattle.roman_check.specs.declared.verdict.Verdict.TheVariants as checked_as
 use Rattle.roman_check.specs.declared.error.CheckError.{CheckError}
 use Rattle.roman_check.specs.declared.error.CheckError.TheVariants as check
-use Rattle.roman_top.specs.Causes.{SinkCause}
-use Rattle.roman_top.specs.Command.{Check, On}
-use Rattle.roman_top.specs.Endings.{FindsVerdict, CheckCause, JudgesCheck, CausedByCheck, Accepts, Opens, EndsBare, Writes}
-use Rattle.roman_top.specs.Opening.{document_opening, OnOpening, library_system}
-use Rattle.roman_top.specs.Run.{SaysVerdict, Checks}
-use Rattle.roman_top.specs.Served.{ServedBeside}
-use Rattle.roman_top.specs.World.{outputs}
-use Rattle.roman_top.specs.Verdicts.{greatest_text, rejected_text}
-use Rattle.roman_top.specs.declared.status.Status.{Status}
+use Rattle.roman_top.specs.Endings.{FindsVerdict, CheckCause, JudgesCheck, CausedByCheck}
+use Rattle.roman_top.specs.Run.{Checks}
 use Rattle.roman_top.specs.declared.status.Status.TheVariants as status
 use Rattle.roman_top.proofs.EndingLemmas.{told_both, on_accepted, writes_weaker}
 use Rattle.roman_top.proofs.ServedLemmas.{job_served}

@@ -1,24 +1,12 @@
 -- A certificate that `check` accepts lists exactly the pairs that aren't related, and each one that does is accepted.
 use Rattle.std.proofs.Common.{◌≡◌, ℕ, ◌<◌, Bool, not, List, [], ◌∷◌, map, length, IsTrue, filter, inl, inr, refl, sym, ap, ◌∙◌, subst}
-use Rattle.std.specs.List.{list_any, filter_map}
-use Rattle.std.proofs.lemmas.Bool.{both_ways, and_from, or_cases, or_left, or_right, not-true, not_from_false}
-use Rattle.roman_model.specs.Lines.{lines}
-use Rattle.roman_model.specs.Lists.{IsIn, all_below, is_empty}
-use Rattle.roman_model.specs.System.{Sys, Pair, IsSys, IsPair, is_final, all_final}
-use Rattle.roman_model.specs.SystemArena.{pairs, outcomes, same_pair, is_allowed, is_fine, arena}
-use Rattle.roman_model.specs.Arena.{Entry, is_among, is_listed, is_beaten, is_justified, IsOrderFrom}
-use Rattle.roman_model.specs.CompleteLists.{AreEntries, IsComplete}
-use Rattle.roman_model.specs.Certificate.{Verdict, Greatest, Rejected, TooLong, cert_text, entries_on, entry_of, cert_verdict, greatest, IsWithinCells, GreatestIsComplete}
-use Rattle.roman_model.specs.Offers.{is_related}
-use Rattle.roman_model.specs.Numbers.{sizes_of, count, number, pair_at, numbered, entry_at, IsCompleteList}
-use Rattle.roman_model.specs.declared.reason.Reason.{Reason}
-use Rattle.roman_model.specs.declared.reason.Reason.TheVariants.{Final, Act}
-use Rattle.roman_model.proofs.CallerLemmas.{by_test, any_from, any_true, in_map, from_map, not_empty_in, all_below_from, allowed_in, outcome_in, from_outcome, listed_in, in_listed, length-pairs, length-below, numbers_are_pairs, map-map, related_great, great_related, written_is_greatest}
-use Rattle.roman_top.specs.HeadlineCertify.{HoldsReason, AreValid, ListsUnrelated, numbered_entry, CertifiesUnrelated}
+use Rattle.roman_top.proofs.Common.{list_any, both_ways, and_from, or_cases, not-true, lines, IsIn, all_below, is_empty, Sys, Pair, IsSys, IsPair, is_final, all_final, pairs, outcomes, same_pair, is_allowed, is_fine, arena, Entry, is_among, is_listed, is_beaten, is_justified, IsOrderFrom, IsComplete, Verdict, Greatest, Rejected, TooLong, cert_text, cert_verdict, IsWithinCells, GreatestIsComplete, is_related, sizes_of, count, number, pair_at, numbered, entry_at, IsCompleteList, Reason, Final, Act, by_test, any_from, any_true, in_map, from_map, allowed_in, outcome_in, from_outcome, listed_in, in_listed, length-pairs, length-below, numbers_are_pairs, map-map, related_great, great_related, HoldsReason, AreValid, ListsUnrelated, numbered_entry, CertifiesUnrelated, SaysVerdict, greatest_text, Status}
+use Rattle.std.specs.List.{filter_map}
+use Rattle.std.proofs.lemmas.Bool.{or_left, or_right, not_from_false}
+use Rattle.roman_model.specs.CompleteLists.{AreEntries}
+use Rattle.roman_model.specs.Certificate.{entries_on, entry_of, greatest}
+use Rattle.roman_model.proofs.CallerLemmas.{not_empty_in, all_below_from, written_is_greatest}
 use Rattle.roman_top.specs.HeadlineCheck.{TellsGreatest, certified_entries, JudgesCertificate}
-use Rattle.roman_top.specs.Run.{SaysVerdict}
-use Rattle.roman_top.specs.Verdicts.{greatest_text}
-use Rattle.roman_top.specs.declared.status.Status.{Status}
 use Rattle.roman_top.proofs.CertifiedLemmas.{same_is, same_itself, told_apart, lists_unrelated}
 use Rattle.roman_top.proofs.ServingLemmas.{related_all}
 

@@ -1,22 +1,8 @@
 -- Commands are answered.
 use Rattle.std.proofs.Common.{◌≡◌, ◌≢◌, ℕ, Bool, true, false, IsTrue, MatchBool, List, Option, None, Some, IfSome, refl, sym, subst}
-use Rattle.std.proofs.lemmas.Bool.{false≢true}
-use Rattle.roman_io.specs.Shelf.{Texts, shelf_text}
-use Rattle.roman_model.specs.Lines.{lines, ended_lines}
-use Rattle.roman_model.specs.System.{Sys, Pair}
-use Rattle.roman_model.specs.Numbers.{sizes_of, number, numbered}
-use Rattle.roman_model.specs.Certificate.{Verdict, Greatest, Rejected, TooLong, cert_verdict}
-use Rattle.roman_library.specs.Library.{PlainLibrary}
-use Rattle.roman_start.specs.Starts.{start_pair_of}
-use Rattle.roman_hearing.specs.Hearing.{prefix_of, is_heard_out}
-use Rattle.roman_top.specs.Command.{Job, Synth, Run, Certify, Check, Shortest, Advise, Resilience, Command, On, Make}
-use Rattle.roman_top.specs.Complete.{Suffices, CanAnswer, IsAnswered, IsUndisturbed, AnswersWherePossible}
-use Rattle.roman_top.specs.Opening.{library_system, document_opening}
-use Rattle.roman_top.specs.Run.{EndsBy, SaysVerdict, Talks, JobDoes, IsSessionText, HasRun, texts_for}
-use Rattle.roman_top.specs.Served.{Served}
-use Rattle.roman_top.specs.Sessions.{ToldFromStart}
-use Rattle.roman_top.specs.World.{World}
-use Rattle.roman_top.specs.declared.status.Status.{Status}
+use Rattle.roman_top.proofs.Common.{false≢true, Texts, shelf_text, lines, ended_lines, Sys, Pair, sizes_of, number, numbered, Verdict, Greatest, Rejected, TooLong, cert_verdict, PlainLibrary, start_pair_of, prefix_of, is_heard_out, Job, Synth, Run, Certify, Check, Shortest, Advise, Resilience, Command, On, Make, IsAnswered, library_system, document_opening, EndsBy, SaysVerdict, Talks, JobDoes, IsSessionText, HasRun, Served, ToldFromStart, World, Status}
+use Rattle.roman_top.specs.Complete.{Suffices, CanAnswer, IsUndisturbed, AnswersWherePossible}
+use Rattle.roman_top.specs.Run.{texts_for}
 use Rattle.roman_top.specs.declared.status.Status.TheVariants as status
 use Rattle.roman_top.proofs.AdviseLemmas.{advice_answered}
 use Rattle.roman_top.proofs.EndingLemmas.{told_all, told_more, work_of}

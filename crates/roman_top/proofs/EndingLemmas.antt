@@ -1,18 +1,9 @@
 -- How the parts of a run end.
 use Rattle.std.proofs.Common.{◌≡◌, ℕ, ◌<◌, cond, Bool, true, false, IsTrue, IsFalse, MatchBool, List, Option, None, Some, IfSome, Result, Ok, Err, refl, sym, ap, ◌∙◌, subst}
-use Rattle.std.proofs.lemmas.Bool.{false≢true, true≢false, cond-true, lt-ltb}
-use Rattle.roman_io.specs.Faults.{HasCause}
-use Rattle.roman_io.specs.Shelf.{Texts}
-use Rattle.roman_io.specs.Sink.{Puts}
-use Rattle.roman_joint.specs.NamedSys.{cells}
-use Rattle.roman_library.specs.Documents.{library_of}
-use Rattle.roman_library.specs.Library.{PlainLibrary}
-use Rattle.roman_library.specs.declared.refusal.Refusal.{Refusal}
-use Rattle.roman_top.specs.Causes.{ShelfCause, SinkCause}
-use Rattle.roman_top.specs.Endings.{WritesText, Writes, EndsBare, TurnsAway, ReadsTo, OpensTo, Finishes, IsSpoken}
-use Rattle.roman_top.specs.Opening.{Opening, Refused, Past, Accepted, opening_of, document_opening, OnOpening, library_system, is_past_limit, limit_line}
-use Rattle.roman_top.specs.RefusalLine.{refusal_line}
-use Rattle.roman_top.specs.declared.status.Status.{Status}
+use Rattle.roman_top.proofs.Common.{false≢true, cond-true, lt-ltb, HasCause, Texts, Puts, cells, library_of, PlainLibrary, Refusal, ShelfCause, SinkCause, WritesText, Writes, EndsBare, TurnsAway, Finishes, IsSpoken, Past, Accepted, opening_of, document_opening, OnOpening, library_system, is_past_limit, limit_line, refusal_line, Status}
+use Rattle.std.proofs.lemmas.Bool.{true≢false}
+use Rattle.roman_top.specs.Endings.{ReadsTo, OpensTo}
+use Rattle.roman_top.specs.Opening.{Opening, Refused}
 use Rattle.roman_top.specs.declared.status.Status.TheVariants as status
 
 -- properties of the value that an option may hold

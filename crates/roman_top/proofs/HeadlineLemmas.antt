@@ -1,38 +1,13 @@
 -- The text of a session keeps its promise.
 use Rattle.std.proofs.Common.{◌≡◌, ℕ, ◌<◌, Bool, true, false, MatchBool, cond, List, length, take, nat_le, if◌then◌else◌, Option, Some, IsFalse, sym, ap, ◌∙◌, subst, arith, ltb-true}
-use Rattle.std.proofs.lemmas.Bool.{cond-false}
-use Rattle.roman_io.specs.Shelf.{Texts}
-use Rattle.roman_io.specs.Sink.{Wrote}
-use Rattle.roman_model.specs.Certificate.{GreatestIsComplete}
-use Rattle.roman_model.specs.Lines.{lines, ended_lines}
-use Rattle.roman_model.specs.Lists.{IsIn}
-use Rattle.roman_model.specs.System.{IsSys}
-use Rattle.roman_model.specs.declared.limits.TheConstants.{MAX_SESSION_BYTES}
-use Rattle.roman_model.proofs.CallerLemmas.{by_test}
-use Rattle.roman_joint.specs.NamedSys.{system_of, cells}
-use Rattle.roman_library.specs.Library.{PlainLibrary}
-use Rattle.roman_library.specs.Targets.{PlainTargets, NamesTargets}
+use Rattle.roman_top.proofs.Common.{cond-false, Texts, Wrote, GreatestIsComplete, lines, ended_lines, IsIn, IsSys, MAX_SESSION_BYTES, by_test, system_of, cells, PlainLibrary, PlainTargets, Situation, report_text, parts_of, start_pair_of, Answers, prefix_of, is_heard_out, State, start_state, IsState, LinesAreRead, Synth, Run, Command, On, IsFree, MeansTargets, IsTurnOfTargets, Turn, Accepted, Past, document_opening, opening_of, is_past_limit, library_system, Talks, Synthesises, HasRun, Served, ToldFromStart, World, Status}
+use Rattle.roman_library.specs.Targets.{NamesTargets}
 use Rattle.roman_library.proofs.CallerLemmas.{targets_combined}
-use Rattle.roman_session.specs.Situations.{Situation}
-use Rattle.roman_session.specs.Reports.{report_text}
-use Rattle.roman_start.specs.Starts.{parts_of, start_pair_of}
 use Rattle.roman_hearing.specs.Words.{ReportsGreat}
-use Rattle.roman_hearing.specs.Told.{Answers}
-use Rattle.roman_hearing.specs.Hearing.{prefix_of, is_heard_out}
-use Rattle.roman_hearing.specs.States.{State, start_state, IsState}
-use Rattle.roman_hearing.specs.Events.{LinesAreRead}
 use Rattle.roman_hearing.proofs.CallerLemmas.{reports_great, answered_heard}
-use Rattle.roman_top.specs.Command.{Synth, Run, Command, On}
-use Rattle.roman_top.specs.Faults.{IsFree}
 use Rattle.roman_top.specs.Headline.{HasReported, KeepsPromise, HasHeadline}
-use Rattle.roman_top.specs.HeadlineTargets.{MeansTargets, IsTurnOfTargets, HasAnsweredTargets, KeepsTargets}
-use Rattle.roman_top.specs.HeadlineTurns.{Turn, Means, HasAnsweredLines}
-use Rattle.roman_top.specs.Opening.{Accepted, Past, document_opening, opening_of, is_past_limit, library_system}
-use Rattle.roman_top.specs.Run.{Talks, Synthesises, HasRun}
-use Rattle.roman_top.specs.Served.{Served}
-use Rattle.roman_top.specs.Sessions.{ToldFromStart}
-use Rattle.roman_top.specs.World.{World}
-use Rattle.roman_top.specs.declared.status.Status.{Status}
+use Rattle.roman_top.specs.HeadlineTargets.{HasAnsweredTargets, KeepsTargets}
+use Rattle.roman_top.specs.HeadlineTurns.{Means, HasAnsweredLines}
 use Rattle.roman_top.specs.declared.status.Status.TheVariants as status
 use Rattle.roman_top.proofs.EndingLemmas.{told_more, work_of}
 use Rattle.roman_top.proofs.JobLemmas.{keeps_text}

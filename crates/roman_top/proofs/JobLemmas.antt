@@ -1,26 +1,8 @@
 -- A run of a job on an accepted document keeps its promise.
 use Rattle.std.proofs.Common.{◌≡◌, ℕ, ◌≤◌, List, [], Option, None, Some, sym, subst, arith}
-use Rattle.roman_io.specs.Shelf.{Texts, shelf_text}
-use Rattle.roman_model.specs.System.{IsSys, IsPair}
-use Rattle.roman_model.specs.Certificate.{IsWithinCells, GreatestIsComplete}
+use Rattle.roman_top.proofs.Common.{Texts, shelf_text, IsSys, IsPair, IsWithinCells, GreatestIsComplete, cells, library_of, PlainLibrary, libraries_known, parts_of, start_pair_of, start_pair, LinesAreRead, Job, Synth, Run, Certify, Check, Shortest, Advise, Resilience, Command, On, Make, WritesText, IsFree, TellsLosses, Accepted, document_opening, library_system, JobDoes, HasRun, Served, World, Status}
 use Rattle.roman_model.specs.declared.limits.TheConstants.{MAX_CELLS}
-use Rattle.roman_joint.specs.NamedSys.{cells}
-use Rattle.roman_library.specs.Documents.{library_of}
-use Rattle.roman_library.specs.Library.{PlainLibrary}
-use Rattle.roman_library.proofs.CallerLemmas.{libraries_known}
-use Rattle.roman_start.specs.Starts.{parts_of, start_pair_of}
-use Rattle.roman_start.proofs.CallerLemmas.{start_pair}
-use Rattle.roman_hearing.specs.Events.{LinesAreRead}
-use Rattle.roman_top.specs.Command.{Job, Synth, Run, Certify, Check, Shortest, Advise, Resilience, Command, On, Make}
-use Rattle.roman_top.specs.Endings.{WritesText}
-use Rattle.roman_top.specs.Faults.{IsFree}
 use Rattle.roman_top.specs.HeadlineJobs.{KeepsJob, KeepsText}
-use Rattle.roman_top.specs.HeadlineResilience.{TellsLosses}
-use Rattle.roman_top.specs.Opening.{Accepted, document_opening, library_system}
-use Rattle.roman_top.specs.Run.{JobDoes, HasRun}
-use Rattle.roman_top.specs.Served.{Served}
-use Rattle.roman_top.specs.World.{World}
-use Rattle.roman_top.specs.declared.status.Status.{Status}
 use Rattle.roman_top.proofs.AdvisedLemmas.{keeps_advice}
 use Rattle.roman_top.proofs.CertifiedLemmas.{certifies_unrelated}
 use Rattle.roman_top.proofs.CheckedLemmas.{judges_certificate}

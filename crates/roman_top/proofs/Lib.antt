@@ -1,3 +1,4 @@
+pub mod Common
 pub mod CheckLemmas
 pub mod EndingLemmas
 pub mod OpeningLemmas

@@ -1,17 +1,11 @@
 -- The system and the pair that are left where one or two services fail, and what `resilience` writes of them.
 use Rattle.std.proofs.Common.{◌≡◌, ℕ, zero, suc, ◌+◌, ◌<◌, ◌≤◌, true, List, [], ◌∷◌, map, length, drop, Some, slice_get, remove, inl, inr, refl, sym, subst, arith}
-use Rattle.std.proofs.lemmas.Bool.{cases_lt}
-use Rattle.std.proofs.lemmas.List.{length-map}
-use Rattle.roman_model.specs.Lists.{IsIn, below}
-use Rattle.roman_model.specs.System.{Seat, Sys, Pair, IsSys, IsPair}
+use Rattle.roman_top.proofs.Common.{cases_lt, length-map, IsIn, below, Sys, Pair, IsSys, IsPair, outlook, system_without, pair_without, Way, from_map, from_flat_map, from_place, from_end, there_is, NamedSys, seat_of, system_of, TellsLosses, lines_without, outlook_text}
+use Rattle.roman_model.specs.System.{Seat}
 use Rattle.roman_model.specs.Change.{Change, Freeze, Die, after, without, CanChange}
-use Rattle.roman_model.specs.Without.{outlook, system_without, pair_without}
-use Rattle.roman_model.specs.declared.way.Way.{Way}
 use Rattle.roman_model.specs.declared.way.Way.TheVariants as way
-use Rattle.roman_model.proofs.CallerLemmas.{from_map, from_flat_map, from_below, from_place, from_end, there_is, IsPair-turned, IsPair-without, length-set_frozen, length-remove, renaming_keeps, without_changes}
-use Rattle.roman_joint.specs.NamedSys.{NamedSys, seat_of, system_of}
-use Rattle.roman_top.specs.HeadlineResilience.{AreFailing, TellsLosses}
-use Rattle.roman_top.specs.Outlooks.{lines_without, outlook_text}
+use Rattle.roman_model.proofs.CallerLemmas.{from_below, IsPair-turned, IsPair-without, length-set_frozen, length-remove, renaming_keeps, without_changes}
+use Rattle.roman_top.specs.HeadlineResilience.{AreFailing}
 use Rattle.roman_top.proofs.ServingLemmas.{outlook_right}
 
 -- the system is well formed, and the pair is one of its pairs

@@ -1,20 +1,9 @@
 -- The session of a made system goes from stage to stage by turns.
 use Rattle.std.proofs.Common.{◌≡◌, ℕ, List, [], ◌∷◌, refl, sym, ap, ◌∙◌, subst}
-use Rattle.roman_model.specs.Offers.{is_related, related_count}
-use Rattle.roman_model.specs.Numbers.{sizes_of, count}
-use Rattle.roman_model.proofs.CallerLemmas.{length-pairs}
-use Rattle.roman_library.specs.Library.{PlainLibrary}
-use Rattle.roman_session.specs.Situations.{Situation, present_system}
-use Rattle.roman_text.specs.Shapes.{shape_of, words_of}
-use Rattle.roman_hearing.specs.Told.{until_quit, Answers}
-use Rattle.roman_hearing.specs.Known.{shown, IsKnownSituation}
-use Rattle.roman_hearing.specs.States.{State}
-use Rattle.roman_hearing.specs.Events.{LinesAreRead}
-use Rattle.roman_make.specs.Made.{made}
+use Rattle.roman_top.proofs.Common.{is_related, related_count, sizes_of, count, length-pairs, PlainLibrary, Situation, present_system, shape_of, until_quit, Answers, shown, IsKnownSituation, State, LinesAreRead, made, standing, stages, Passes, Makes, Status}
+use Rattle.roman_text.specs.Shapes.{words_of}
 use Rattle.roman_top.specs.HeadlineMake.{TellsStanding, TellsStages, KeepsMade}
-use Rattle.roman_top.specs.Made.{standing, stage_line, stages, Passes}
-use Rattle.roman_top.specs.Run.{Makes}
-use Rattle.roman_top.specs.declared.status.Status.{Status}
+use Rattle.roman_top.specs.Made.{stage_line}
 use Rattle.roman_top.proofs.ServingLemmas.{outlook_right}
 use Rattle.roman_top.proofs.TurnLemmas.{IsFrom, start_seen, start_from, turns_of}
 

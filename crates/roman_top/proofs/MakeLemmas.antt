@@ -1,20 +1,9 @@
 -- Made systems, as part of a run.
 use Rattle.std.proofs.Common.{◌≡◌, ℕ, ◌<◌, ◌≤◌, ◌++◌, Bool, IsTrue, IsFalse, List, length, Option, Result, nat_le, refl, sym, subst, arith, ltb-true}
 use Rattle.std.proofs.lemmas.Bool.{leb-true}
-use Rattle.roman_io.specs.Sink.{Puts}
-use Rattle.roman_model.specs.Lists.{all_below}
-use Rattle.roman_model.proofs.CallerLemmas.{all_below_at, by_test}
-use Rattle.roman_library.specs.Library.{PlainLibrary, IsLibrary}
-use Rattle.roman_make.specs.Made.{made, floor, worker, shift}
-use Rattle.roman_joint.specs.NamedSys.{cells}
-use Rattle.roman_session.specs.Situations.{Situation}
-use Rattle.roman_session.specs.Starts.{IsStart}
-use Rattle.roman_hearing.specs.Known.{IsKnownSituation}
-use Rattle.roman_top.specs.Made.{made_line, stages, Passes}
-use Rattle.roman_top.specs.Opening.{library_system, is_past_limit}
-use Rattle.roman_top.specs.Run.{Makes}
-use Rattle.roman_top.specs.Endings.{Finishes, Writes}
-use Rattle.roman_top.specs.declared.status.Status.{Status}
+use Rattle.roman_top.proofs.Common.{Puts, all_below, by_test, PlainLibrary, IsLibrary, made, cells, Situation, IsStart, IsKnownSituation, made_line, stages, Passes, library_system, is_past_limit, Makes, Finishes, Writes, Status}
+use Rattle.roman_model.proofs.CallerLemmas.{all_below_at}
+use Rattle.roman_make.specs.Made.{floor, worker, shift}
 use Rattle.roman_top.specs.declared.status.Status.TheVariants as status
 use Rattle.roman_top.proofs.EndingLemmas.{writes_put}
 use Rattle.roman_top.proofs.StartsKnown.{start_known}

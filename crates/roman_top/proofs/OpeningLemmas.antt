@@ -1,18 +1,8 @@
 -- Opening documents, and how a run ends without one.
 use Rattle.std.proofs.Common.{◌≡◌, ℕ, ◌<◌, List, [], Option, IfSome, Result, Ok, Err, refl, sym, ◌∙◌, subst}
-use Rattle.roman_io.specs.Faults.{HasCause, Rose}
-use Rattle.roman_io.specs.Shelf.{Texts}
-use Rattle.roman_io.specs.Sink.{Wrote, Puts}
+use Rattle.roman_top.proofs.Common.{HasCause, Rose, Texts, Wrote, Puts, cells, library_of, PlainLibrary, Refusal, Opens, Finishes, library_system, limit_line, refusal_line, outputs, Status}
 use Rattle.roman_io.proofs.CallerLemmas.{Wrote-nil}
-use Rattle.roman_joint.specs.NamedSys.{cells}
-use Rattle.roman_library.specs.Documents.{library_of}
-use Rattle.roman_library.specs.Library.{PlainLibrary}
-use Rattle.roman_library.specs.declared.refusal.Refusal.{Refusal}
-use Rattle.roman_top.specs.Endings.{Leaves, Opens, OpensLibrary, Finishes}
-use Rattle.roman_top.specs.Opening.{library_system, limit_line}
-use Rattle.roman_top.specs.RefusalLine.{refusal_line}
-use Rattle.roman_top.specs.World.{outputs}
-use Rattle.roman_top.specs.declared.status.Status.{Status}
+use Rattle.roman_top.specs.Endings.{Leaves, OpensLibrary}
 use Rattle.roman_top.specs.declared.status.Status.TheVariants as status
 use Rattle.roman_top.proofs.EndingLemmas.{told_all, refused, exceeded}
 

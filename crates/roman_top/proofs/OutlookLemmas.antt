@@ -1,19 +1,13 @@
 -- The lines of `resilience`, pushed one after another.
 use Rattle.std.proofs.Common.{◌≡◌, ℕ, ◌+◌, ◌<◌, ◌≤◌, List, [], ◌∷◌, ◌++◌, map, length, drop, Some, slice_get, codes, decimal, refl, sym, ap, ap₂, ◌∙◌, append_assoc}
-use Rattle.std.specs.List.{flat_map}
-use Rattle.std.proofs.lemmas.List.{append-nil}
+use Rattle.roman_top.proofs.Common.{flat_map, append-nil, below, Pair, outlook, system_without, pair_without, Way, Die, from_place, from_end, NamedSys, system_of, outlook_words, service_names, lines_without, ones, twos, outlook_text}
 use Rattle.std.proofs.lemmas.List.Concat.{flat_map-append}
-use Rattle.roman_model.specs.Lists.{below}
-use Rattle.roman_model.specs.System.{Pair}
-use Rattle.roman_model.specs.Without.{Outlook, outlook, system_without, pair_without}
-use Rattle.roman_model.specs.declared.way.Way.{Way}
-use Rattle.roman_model.specs.declared.way.Way.TheVariants.{Freeze, Die}
-use Rattle.roman_model.proofs.CallerLemmas.{from_place, from_end}
-use Rattle.roman_joint.specs.NamedSys.{NamedSys, system_of}
+use Rattle.roman_model.specs.Without.{Outlook}
+use Rattle.roman_model.specs.declared.way.Way.TheVariants.{Freeze}
 use Rattle.roman_joint.specs.Names.{seat_name}
 use Rattle.roman_joint.specs.declared.seat.Seat.{Seat}
 use Rattle.roman_session.proofs.CallerLemmas.{mapped_at}
-use Rattle.roman_top.specs.Outlooks.{outlook_words, way_word, service_names, line_without, lines_without, ones, twos, head_text, outlook_text}
+use Rattle.roman_top.specs.Outlooks.{way_word, line_without, head_text}
 
 -- Names.
 

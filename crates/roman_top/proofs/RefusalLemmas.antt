@@ -1,8 +1,7 @@
 -- The line of a refusal from its pieces.
 use Rattle.std.proofs.Common.{◌≡◌, ℕ, List, [], ◌++◌, codes, append_assoc}
-use Rattle.std.proofs.lemmas.List.{append-nil}
-use Rattle.roman_library.specs.declared.refusal.Refusal.{Refusal}
-use Rattle.roman_top.specs.RefusalLine.{refusal_line, rule_text}
+use Rattle.roman_top.proofs.Common.{append-nil, Refusal, refusal_line}
+use Rattle.roman_top.specs.RefusalLine.{rule_text}
 
 regroup : (a b c : List ℕ) → a ++ (b ++ (c ++ [])) ≡ a ++ b ++ c
 regroup a b c = simp (append_assoc, append-nil)

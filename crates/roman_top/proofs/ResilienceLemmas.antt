@@ -1,18 +1,7 @@
 -- Writing outlooks as part of a run.
 use Rattle.std.proofs.Common.{◌≡◌, ℕ, List, Option, Result, refl, ap, ◌∙◌, subst}
-use Rattle.roman_io.specs.Sink.{Puts}
-use Rattle.roman_model.specs.Numbers.{sizes_of, pair_at}
-use Rattle.roman_model.proofs.CallerLemmas.{numbers_are_pairs}
-use Rattle.roman_joint.specs.NamedSys.{NamedSys, system_of}
-use Rattle.roman_library.specs.Library.{PlainLibrary}
-use Rattle.roman_start.specs.Seating.{IsSeated}
-use Rattle.roman_start.specs.Starts.{parts_of, start_pair_of}
-use Rattle.roman_start.specs.declared.seating.Seated.{Seated}
-use Rattle.roman_top.specs.Endings.{Finishes, Writes}
-use Rattle.roman_top.specs.Opening.{EndsSaying, library_system}
-use Rattle.roman_top.specs.Outlooks.{outlook_text}
+use Rattle.roman_top.proofs.Common.{Puts, sizes_of, pair_at, numbers_are_pairs, NamedSys, system_of, PlainLibrary, IsSeated, parts_of, start_pair_of, Seated, Finishes, Writes, EndsSaying, library_system, outlook_text, Status}
 use Rattle.roman_top.specs.Run.{Foresees}
-use Rattle.roman_top.specs.declared.status.Status.{Status}
 use Rattle.roman_top.specs.declared.status.Status.TheVariants as status
 use Rattle.roman_top.proofs.EndingLemmas.{writes_put}
 

@@ -1,20 +1,11 @@
 -- What a call does, derived from what its parts do.
 use Rattle.std.proofs.Common.{◌≡◌, ℕ, List, [], Option, None, Some, Result, Ok, Err, inl, refl, sym, subst}
-use Rattle.roman_io.specs.Faults.{HasCause}
-use Rattle.roman_io.specs.Shelf.{Texts, shelf_text}
-use Rattle.roman_io.specs.Sink.{Puts}
+use Rattle.roman_top.proofs.Common.{HasCause, Texts, shelf_text, Puts, PlainLibrary, InputCause, SinkCause, Job, Run, Command, On, Make, WritesText, Writes, EndsBare, TurnsAway, Accepts, Opens, Finishes, IsSpoken, IsFree, AtShelfFault, HasRunPrefix, IsOfTaken, EndsInput, document_opening, OnOpening, JobDoes, Makes, IsSessionText, HasRun, Served, ServedBeside, World, world, outputs, Status}
 use Rattle.roman_io.specs.Source.{Gave}
 use Rattle.roman_io.proofs.CallerLemmas.{Gave-nil}
-use Rattle.roman_library.specs.Library.{PlainLibrary}
-use Rattle.roman_top.specs.Causes.{InputCause, SinkCause}
-use Rattle.roman_top.specs.Command.{Job, Run, Command, On, Make, usage_line}
-use Rattle.roman_top.specs.Endings.{WritesText, WritesPrefix, Writes, EndsBare, DoesJob, TurnsAway, IsAway, Accepts, Opens, Finishes, IsSpoken}
-use Rattle.roman_top.specs.Faults.{IsFree, AtShelfFault, HasRunPrefix, IsOfTaken, EndsInput}
-use Rattle.roman_top.specs.Opening.{document_opening, OnOpening}
-use Rattle.roman_top.specs.Run.{JobDoes, Makes, IsSessionText, HasRun}
-use Rattle.roman_top.specs.Served.{Served, ServedBeside}
-use Rattle.roman_top.specs.World.{World, Outputs, world, outputs, beside, IsUnwritten}
-use Rattle.roman_top.specs.declared.status.Status.{Status}
+use Rattle.roman_top.specs.Command.{usage_line}
+use Rattle.roman_top.specs.Endings.{WritesPrefix, DoesJob, IsAway}
+use Rattle.roman_top.specs.World.{Outputs, beside, IsUnwritten}
 use Rattle.roman_top.specs.declared.status.Status.TheVariants as status
 use Rattle.roman_top.proofs.EndingLemmas.{told_more, writes_weaker, spoken_stops, spoken_shelf, away_is_run, on_accepted}
 

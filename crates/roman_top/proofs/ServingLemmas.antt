@@ -1,16 +1,10 @@
 -- Outlooks are right: they count the related pairs, and the cases in which a seat serves an action.
 use Rattle.std.proofs.Common.{◌≡◌, ℕ, not, List, [], map, length, IsTrue, filter, flat_map, sum_by, refl, sym, ap, ◌∙◌, subst}
-use Rattle.std.proofs.lemmas.Bool.{cond-true, cond-false}
-use Rattle.std.proofs.lemmas.List.{length-map}
+use Rattle.roman_top.proofs.Common.{cond-true, cond-false, length-map, slice_get_within, IsIn, below, Sys, Pair, IsSys, IsPair, pairs, is_allowed, arena, is_beaten, is_related, outlook, by_test, in_map, from_map, from_flat_map, allowed_in, from_allowed, related_great, great_related}
 use Rattle.std.proofs.lemmas.List.Concat.{length-flat_map}
-use Rattle.std.proofs.lemmas.Option.{slice_get_within}
-use Rattle.roman_model.specs.Lists.{IsIn, HasNoRepeats, below}
-use Rattle.roman_model.specs.System.{Sys, Pair, IsSys, IsPair}
-use Rattle.roman_model.specs.SystemArena.{pairs, is_allowed, arena}
-use Rattle.roman_model.specs.Arena.{is_beaten}
-use Rattle.roman_model.specs.Offers.{is_related, offers, choice_count}
-use Rattle.roman_model.specs.Without.{outlook}
-use Rattle.roman_model.proofs.CallerLemmas.{by_test, in_map, from_map, in_flat_map, from_flat_map, in_filter, filter_in, in_below, HasNoRepeats-map, HasNoRepeats-flat_map, HasNoRepeats-filter, HasNoRepeats-below, sum_by_same, in_pairs, from_pairs, pairs_once, allowed_in, from_allowed, allowed_in_range, related_great, great_related, offers_are, offer_is}
+use Rattle.roman_model.specs.Lists.{HasNoRepeats}
+use Rattle.roman_model.specs.Offers.{offers, choice_count}
+use Rattle.roman_model.proofs.CallerLemmas.{in_flat_map, in_filter, filter_in, in_below, HasNoRepeats-map, HasNoRepeats-flat_map, HasNoRepeats-filter, HasNoRepeats-below, sum_by_same, in_pairs, from_pairs, pairs_once, allowed_in_range, offers_are, offer_is}
 use Rattle.roman_rank.specs.DepthText.{AreRelated}
 use Rattle.roman_top.specs.HeadlineResilience.{Serving, IsServing, AreServings, IsRightOutlook}
 

@@ -1,18 +1,8 @@
 -- Writing depths as part of a run.
 use Rattle.std.proofs.Common.{◌≡◌, ℕ, ◌<◌, List, Option, Result, refl, sym, ap, ◌∙◌, subst}
-use Rattle.roman_model.specs.System.{Pair}
-use Rattle.roman_model.specs.Numbers.{sizes_of, count, pair_at}
-use Rattle.roman_model.proofs.CallerLemmas.{numbers_are_pairs}
-use Rattle.roman_joint.specs.NamedSys.{NamedSys, system_of}
-use Rattle.roman_library.specs.Library.{PlainLibrary}
+use Rattle.roman_top.proofs.Common.{Pair, sizes_of, count, pair_at, numbers_are_pairs, NamedSys, system_of, PlainLibrary, IsSeated, start_pair_of, Seated, Finishes, Writes, library_system, TellsShortestOf, Status}
 use Rattle.roman_rank.specs.DepthText.{PutsDepths}
-use Rattle.roman_start.specs.Seating.{IsSeated}
-use Rattle.roman_start.specs.Starts.{start_pair_of}
-use Rattle.roman_start.specs.declared.seating.Seated.{Seated}
-use Rattle.roman_top.specs.Endings.{Finishes, Writes}
-use Rattle.roman_top.specs.Opening.{library_system}
-use Rattle.roman_top.specs.Run.{TellsShortest, TellsShortestOf}
-use Rattle.roman_top.specs.declared.status.Status.{Status}
+use Rattle.roman_top.specs.Run.{TellsShortest}
 use Rattle.roman_top.specs.declared.status.Status.TheVariants as status
 use Rattle.roman_top.proofs.EndingLemmas.{writes_put}
 

@@ -1,30 +1,23 @@
 -- Sessions of accepted documents begin in well-formed situations.
 use Rattle.std.proofs.Common.{◌≡◌, ℕ, List, [], map, IsFalse, refl, sym, ap, ◌∙◌, subst, arith}
-use Rattle.std.proofs.lemmas.Bool.{both_ways, lt-ltb}
-use Rattle.std.proofs.lemmas.List.{length-map}
-use Rattle.roman_io.specs.Shelf.{Texts}
-use Rattle.roman_model.specs.Lists.{IsIn}
-use Rattle.roman_model.specs.System.{Pair, IsPair, IsBeh, IsSys}
+use Rattle.roman_top.proofs.Common.{both_ways, lt-ltb, length-map, Texts, IsIn, Pair, IsPair, IsSys, from_map, there_is, NamedSys, seat_of, system_of, cells, library_of, PlainLibrary, IsLibrary, Situation, Idle, parts_of, start_pair_of, IsStart, start_pair, IsKnownSituation, Accepted, document_opening, is_past_limit, libraries_known}
+use Rattle.roman_model.specs.System.{IsBeh}
 use Rattle.roman_model.specs.System as model
-use Rattle.roman_model.proofs.CallerLemmas.{from_map, in_contains, order_goes_on, there_is}
-use Rattle.roman_joint.specs.NamedSys.{NamedSys, IsNamedSys, beh_at, seat_of, system_of, cells}
+use Rattle.roman_model.proofs.CallerLemmas.{in_contains, order_goes_on}
+use Rattle.roman_joint.specs.NamedSys.{IsNamedSys, beh_at}
 use Rattle.roman_joint.proofs.CallerLemmas.{beh_read}
-use Rattle.roman_library.specs.Documents.{library_of}
-use Rattle.roman_library.specs.Library.{PlainLibrary, IsService, IsLibrary}
+use Rattle.roman_library.specs.Library.{IsService}
 use Rattle.roman_library.specs.declared.library.Service.{Service}
-use Rattle.roman_session.specs.Situations.{Situation, IsPhase}
+use Rattle.roman_session.specs.Situations.{IsPhase}
 use Rattle.roman_session.specs.Situations as situation
-use Rattle.roman_session.specs.declared.phase.Phase.TheVariants.{Idle}
-use Rattle.roman_start.specs.Starts.{seat_of_service, parts_of, start_pair_of}
-use Rattle.roman_session.specs.Starts.{IsStart}
+use Rattle.roman_start.specs.Starts.{seat_of_service}
 use Rattle.roman_session.proofs.CallerLemmas.{is_within}
-use Rattle.roman_start.proofs.CallerLemmas.{behaviours_within, names_once, start_pair}
-use Rattle.roman_hearing.specs.Known.{AreNamed, IsKnownSituation}
+use Rattle.roman_start.proofs.CallerLemmas.{behaviours_within, names_once}
+use Rattle.roman_hearing.specs.Known.{AreNamed}
 use Rattle.roman_top.specs.Accepted.{StartsAreKnown}
-use Rattle.roman_top.specs.Opening.{Accepted, document_opening, is_past_limit}
 use Rattle.roman_top.proofs.EndingLemmas.{accepted_is}
 use Rattle.roman_library.specs.Known.{IsKnownLibrary}
-use Rattle.roman_library.proofs.CallerLemmas.{libraries_known, behaviour_there}
+use Rattle.roman_library.proofs.CallerLemmas.{behaviour_there}
 
 -- the behaviour of a service is over the environment
 service_beh : (library : PlainLibrary) (x : Service) → IsLibrary library → IsIn x library.services → IsBeh library.environment.env (beh_at library.catalogue x.behaviour)

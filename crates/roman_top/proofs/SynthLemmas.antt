@@ -1,20 +1,9 @@
 -- Writing reports as part of a run.
 use Rattle.std.proofs.Common.{◌≡◌, ℕ, Bool, true, false, List, Option, Result, refl, sym, subst}
-use Rattle.std.proofs.lemmas.Bool.{both_ways}
-use Rattle.roman_io.specs.Sink.{Puts}
-use Rattle.roman_model.specs.System.{Pair}
-use Rattle.roman_model.specs.Offers.{is_related}
-use Rattle.roman_model.proofs.CallerLemmas.{related_great, great_related}
-use Rattle.roman_joint.specs.NamedSys.{NamedSys}
+use Rattle.roman_top.proofs.Common.{both_ways, Puts, Pair, is_related, related_great, great_related, NamedSys, PlainLibrary, Situation, present_system, report_text, parts_of, IsStart, Finishes, IsSpoken, Reports, Writes, EndsBy, Synthesises, Status}
 use Rattle.roman_joint.specs.NamedSys as joint
-use Rattle.roman_library.specs.Library.{PlainLibrary}
-use Rattle.roman_session.specs.Situations.{Situation, present_system, IsSituation}
-use Rattle.roman_session.specs.Reports.{report_text}
-use Rattle.roman_start.specs.Starts.{parts_of}
-use Rattle.roman_session.specs.Starts.{IsStart}
-use Rattle.roman_top.specs.Endings.{Finishes, IsTold, IsSpoken, Reports, Writes, status_of}
-use Rattle.roman_top.specs.Run.{EndsBy, Synthesises}
-use Rattle.roman_top.specs.declared.status.Status.{Status}
+use Rattle.roman_session.specs.Situations.{IsSituation}
+use Rattle.roman_top.specs.Endings.{IsTold, status_of}
 use Rattle.roman_top.specs.declared.status.Status.TheVariants as status
 use Rattle.roman_top.proofs.EndingLemmas.{writes_put}
 

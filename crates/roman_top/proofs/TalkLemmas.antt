@@ -1,30 +1,18 @@
 -- Sessions, as part of a run.
 use Rattle.std.proofs.Common.{◌≡◌, ℕ, ◌+◌, ◌-◌, List, Option, None, Some, IfSome, Result, Ok, Err, OnOk, IsErrOf, IsTrue, IsFalse, ◌⊎◌, inr, refl, sym, ◌∙◌, subst}
-use Rattle.std.proofs.lemmas.Bool.{cond-true, cond-false}
-use Rattle.roman_io.specs.Faults.{Rose}
-use Rattle.roman_io.specs.Shelf.{Texts, shelf_text, rest_from}
+use Rattle.roman_top.proofs.Common.{cond-true, cond-false, Rose, Texts, shelf_text, rest_from, lines, ended_lines, MAX_SESSION_BYTES, by_test, Situation, IsStart, prefix_of, is_heard_out, ShelfCause, InputCause, SinkCause, Run, On, Accepts, Opens, IsFree, HasRunPrefix, AtShelfFault, IsOfTaken, EndsInput, document_opening, Talks, IsSessionText, HasRun, Served, ServedBeside, World, world, outputs, Status}
 use Rattle.roman_io.specs.Source.{Had, IsAtEnd, GaveAtMost}
 use Rattle.roman_io.proofs.CallerLemmas.{Gave-told}
-use Rattle.roman_model.specs.Lines.{lines, ended_lines}
-use Rattle.roman_model.specs.declared.limits.TheConstants.{MAX_SESSION_BYTES, PIECE_BYTES}
-use Rattle.roman_model.proofs.CallerLemmas.{by_test}
-use Rattle.roman_session.specs.Situations.{Situation}
-use Rattle.roman_session.specs.Starts.{IsStart}
+use Rattle.roman_model.specs.declared.limits.TheConstants.{PIECE_BYTES}
 use Rattle.roman_hearing.specs.Told.{Told}
-use Rattle.roman_hearing.specs.Hearing.{prefix_of, is_heard_out, GaveQuit, StreamState, stream_state, cursor, IsHeardOut, IsCutOff, GoesOn, StopsShort, TellsPrefixOfAll, CausedBy}
+use Rattle.roman_hearing.specs.Hearing.{GaveQuit, StreamState, stream_state, cursor, IsHeardOut, IsCutOff, GoesOn, StopsShort, TellsPrefixOfAll, CausedBy}
 use Rattle.roman_hearing.specs.Known.{AreBehaviours}
 use Rattle.roman_hearing.specs.declared.hearing.HearError.{HearError}
 use Rattle.roman_hearing.specs.declared.hearing.HearError.TheVariants as hear
 use Rattle.roman_hearing.proofs.CallerLemmas.{short_out}
-use Rattle.roman_top.specs.Causes.{ShelfCause, InputCause, SinkCause}
-use Rattle.roman_top.specs.Command.{Run, On}
-use Rattle.roman_top.specs.Endings.{Accepts, GoesOnFrom, HearsText, Opens, heard_status}
-use Rattle.roman_top.specs.Faults.{IsFree, HasAnswered, HasAnsweredPrefix, HasAnsweredInput, HasRunPrefix, HasPrefixOfTaken, AtShelfFault, IsOfTaken, IsOfSession, TakesInput, EndsInput}
-use Rattle.roman_top.specs.Opening.{document_opening}
-use Rattle.roman_top.specs.Run.{Talks, Runs, IsSessionText, HasRun}
-use Rattle.roman_top.specs.Served.{Served, ServedBeside}
-use Rattle.roman_top.specs.World.{World, world, outputs}
-use Rattle.roman_top.specs.declared.status.Status.{Status}
+use Rattle.roman_top.specs.Endings.{GoesOnFrom, HearsText, heard_status}
+use Rattle.roman_top.specs.Faults.{HasAnswered, HasAnsweredPrefix, HasAnsweredInput, HasPrefixOfTaken, IsOfSession, TakesInput}
+use Rattle.roman_top.specs.Run.{Runs}
 use Rattle.roman_top.specs.declared.status.Status.TheVariants as status
 use Rattle.roman_top.proofs.EndingLemmas.{told_more, match_true, match_false, on_accepted}
 

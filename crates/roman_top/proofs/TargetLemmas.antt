@@ -1,35 +1,29 @@
 -- A turn of a session on a document with several targets, target by target.
 use Rattle.std.proofs.Common.{◌≡◌, ◌↔◌, ℕ, ◌<◌, List, [], length, Result, Ok, Some, IsTrue, inl, inr, slice_get, slice_set, sym, ap, ◌∙◌, subst, arith}
-use Rattle.std.proofs.lemmas.List.{length-map}
-use Rattle.std.proofs.lemmas.Option.{slice_get_within, slice_get-get_or, get_or_from_slice_get}
-use Rattle.roman_model.specs.Lists.{IsSublist, below, product_of}
-use Rattle.roman_model.specs.System.{Beh, Sys, has_move, IsPair, TStep, SStep, Allows}
+use Rattle.roman_top.proofs.Common.{length-map, slice_get_within, get_or_from_slice_get, below, product_of, Sys, IsPair, length-below, there_is, LineShape, LineError, NamedSys, seat_of, system_of, PlainLibrary, PlainTargets, Situation, Idle, shown, IsKnownSituation, State, IsOpenGreat, TurnsInto, open_great, MeansTargets, IsTurnOfTargets}
+use Rattle.std.proofs.lemmas.Option.{slice_get-get_or}
+use Rattle.roman_model.specs.Lists.{IsSublist}
+use Rattle.roman_model.specs.System.{Beh, has_move, TStep, SStep, Allows}
 use Rattle.roman_model.specs.Composition.{couple, Serves, GreatCouple}
 use Rattle.roman_model.specs.Explanation.{name_at}
 use Rattle.roman_model.specs.Numbers.{states_at}
 use Rattle.roman_model.specs.Several.{Several, of_one, ServesAll, GreatAll}
 use Rattle.roman_model.specs.Combined.{all_requests, couple_all, target_sizes}
 use Rattle.roman_model.specs.declared.request.Request.{Request}
-use Rattle.roman_model.proofs.CallerLemmas.{from_get_map, get_map, get_or-below, length-below, move_in_range, there_is}
+use Rattle.roman_model.proofs.CallerLemmas.{from_get_map, get_map, get_or-below, move_in_range}
 use Rattle.roman_laws.specs.Requests.{TargetAllows, IsRequestOf, IsMoveOf, TurnsAreOf}
 use Rattle.roman_laws.proofs.CallerLemmas.{request_at, turns_of}
 use Rattle.roman_text.specs.Replies.{reply_text}
-use Rattle.roman_text.specs.Shapes.{LineShape, ask, hand, saw}
-use Rattle.roman_text.specs.declared.errors.LineError.{LineError}
+use Rattle.roman_text.specs.Shapes.{ask, hand, saw}
 use Rattle.roman_text.specs.declared.replies.Reply.TheVariants as reply
-use Rattle.roman_joint.specs.NamedSys.{NamedSys, seat_of, system_of}
 use Rattle.roman_multi.specs.Combining.{PlainCombined, machines, requests_in, joined, names_at, combined_state_names, request_name, request_names, combined_parts}
-use Rattle.roman_library.specs.Library.{PlainLibrary}
-use Rattle.roman_library.specs.Targets.{PlainTargets, CombinesTargets}
-use Rattle.roman_session.specs.Situations.{Situation}
-use Rattle.roman_session.specs.declared.phase.Phase.TheVariants.{Idle}
-use Rattle.roman_hearing.specs.Known.{shown, IsKnownSituation}
+use Rattle.roman_library.specs.Targets.{CombinesTargets}
 use Rattle.roman_hearing.specs.Several.{MeansAll, several_with}
-use Rattle.roman_hearing.specs.States.{State, MayAsk, ServesHere, IsOpenGreat}
-use Rattle.roman_hearing.specs.Turns.{Needs, TurnsInto}
+use Rattle.roman_hearing.specs.States.{MayAsk, ServesHere}
+use Rattle.roman_hearing.specs.Turns.{Needs}
 use Rattle.roman_hearing.specs.Words.{Replies, OffersServing}
-use Rattle.roman_hearing.proofs.CallerLemmas.{open_great, means_all, parts_are, parts_in}
-use Rattle.roman_top.specs.HeadlineTargets.{couple_now, TargetAction, OffersServingAll, MovesOne, TellsTarget, MeansTargets, IsTurnOfTargets}
+use Rattle.roman_hearing.proofs.CallerLemmas.{means_all, parts_are, parts_in}
+use Rattle.roman_top.specs.HeadlineTargets.{couple_now, TargetAction, OffersServingAll, MovesOne, TellsTarget}
 use Rattle.roman_top.proofs.TurnLemmas.{IsFrom, StepsTell}
 
 -- a condition in place of an equivalent one

@@ -1,26 +1,11 @@
 -- Each answered line has its turn.
 use Rattle.std.proofs.Common.{◌≡◌, ℕ, List, [], ◌∷◌, ◌++◌, Result, Ok, inl, inr, IsTrue, refl, sym, ap, ap₂, ◌∙◌, subst}
-use Rattle.std.proofs.lemmas.Bool.{false≢true, both_ways, cond-true, cond-false}
-use Rattle.std.specs.List.{flat_map}
-use Rattle.roman_model.specs.Lists.{IsIn}
-use Rattle.roman_model.specs.System.{Pair}
-use Rattle.roman_model.proofs.CallerLemmas.{by_test}
-use Rattle.roman_joint.specs.NamedSys.{NamedSys}
-use Rattle.roman_library.specs.Library.{PlainLibrary}
-use Rattle.roman_session.specs.Situations.{Situation}
-use Rattle.roman_session.specs.Starts.{IsStart}
-use Rattle.roman_session.specs.Steps.{Step, is_quit}
+use Rattle.roman_top.proofs.Common.{false≢true, both_ways, cond-true, cond-false, flat_map, IsIn, Pair, by_test, NamedSys, PlainLibrary, Situation, IsStart, Step, LineShape, shape_of, LineError, parts_of, until_quit, Answers, shown, IsKnownSituation, State, start_state, IsState, IsOpenGreat, LinesAreRead, TurnsInto, open_great, Turn}
+use Rattle.roman_session.specs.Steps.{is_quit}
 use Rattle.roman_session.specs.declared.phase.Phase.{Phase}
-use Rattle.roman_text.specs.Shapes.{LineShape, quit, shape_of}
-use Rattle.roman_text.specs.declared.errors.LineError.{LineError}
-use Rattle.roman_start.specs.Starts.{parts_of}
-use Rattle.roman_hearing.specs.Told.{until_quit, Answers}
-use Rattle.roman_hearing.specs.Known.{shown, IsKnownSituation}
-use Rattle.roman_hearing.specs.States.{State, start_state, IsState, IsOpenGreat}
-use Rattle.roman_hearing.specs.Events.{LinesAreRead}
-use Rattle.roman_hearing.specs.Turns.{TurnsInto}
-use Rattle.roman_hearing.proofs.CallerLemmas.{steps_known, steps_turns, line_keeps, open_great}
-use Rattle.roman_top.specs.HeadlineTurns.{Turn, AreTurns, after_turns}
+use Rattle.roman_text.specs.Shapes.{quit}
+use Rattle.roman_hearing.proofs.CallerLemmas.{steps_known, steps_turns, line_keeps}
+use Rattle.roman_top.specs.HeadlineTurns.{AreTurns, after_turns}
 
 -- all parts but the services are the library's
 abbrev pub IsFrom : PlainLibrary → Situation → Type 0

@@ -1,24 +1,18 @@
 -- What remains after a change, and after two.
 use Rattle.std.proofs.Common.{◌≡◌, ℕ, ◌/◌, ◌<◌, ◌↔◌, Bool, true, false, not, List, [], ◌∷◌, length, remove, Some, IsTrue, slice_get, refl, sym, ap, ap₂, ◌∙◌, subst, arith}
-use Rattle.std.proofs.lemmas.List.{length-map}
-use Rattle.roman_model.specs.System.{Seat, Sys, Pair}
+use Rattle.roman_whatif.proofs.Common.{length-map, Seat, Sys, Pair, Sizes, sizes_of, count, pair_at, is_related, related_count, choice_count, Outlook, outlook, system_without, pair_without, Way, same_test, leave_one, freeze_one, NamedSys, seat_of, system_of, Relation, IsLeft, IsIdleScratchOf, left_of}
 use Rattle.roman_model.specs.SystemArena.{is_ready}
 use Rattle.roman_model.specs.Composition.{Great}
 use Rattle.roman_model.specs.Change.{Freeze, Die, after, without}
-use Rattle.roman_model.specs.Numbers.{Sizes, sizes_of, sizes_without, count, number, pair_at}
-use Rattle.roman_model.specs.Offers.{is_related, related_count, choice_count}
-use Rattle.roman_model.specs.Without.{Outlook, outlook, system_without, pair_without}
-use Rattle.roman_model.specs.declared.way.Way.{Way}
+use Rattle.roman_model.specs.Numbers.{sizes_without, number}
 use Rattle.roman_model.specs.declared.way.Way.TheVariants as way
-use Rattle.roman_model.proofs.CallerLemmas.{same_test, number_without-is, pair_at-without, numbers_are_pairs, related_great, great_related, sizes-turned, sizes-left, length-remove, length-set_frozen, get_map, leave_one, freeze_one, without_changes}
-use Rattle.roman_joint.specs.NamedSys.{NamedSys, seat_of, system_of, IsNamedSys}
+use Rattle.roman_model.proofs.CallerLemmas.{number_without-is, pair_at-without, numbers_are_pairs, related_great, great_related, sizes-turned, sizes-left, length-remove, length-set_frozen, get_map, without_changes}
+use Rattle.roman_joint.specs.NamedSys.{IsNamedSys}
 use Rattle.roman_joint.specs.Parts.{HasSameParts}
 use Rattle.roman_joint.specs.declared.seat.Seat as joint
 use Rattle.roman_order.specs.Board.{Board}
 use Rattle.roman_relation.specs.Greatest.{HasCaps, IsRelation}
-use Rattle.roman_relation.specs.declared.relation.Relation.{Relation}
-use Rattle.roman_whatif.specs.Left.{IsLeft, IsScratchOf, IsIdleScratchOf}
-use Rattle.roman_whatif.specs.Losses.{left_of}
+use Rattle.roman_whatif.specs.Left.{IsScratchOf}
 use Rattle.roman_whatif.proofs.LaterFirst.{system_later, pair_later}
 
 -- Outlooks.

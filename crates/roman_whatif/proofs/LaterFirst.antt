@@ -1,11 +1,8 @@
 -- Two services that fail one after the other, the later one first.
 use Rattle.std.proofs.Common.{◌≡◌, ℕ, zero, suc, ◌<◌, true, List, [], ◌∷◌, remove, refl, sym, ap, ◌∙◌}
-use Rattle.roman_model.specs.System.{Seat, Sys, Pair, has}
+use Rattle.roman_whatif.proofs.Common.{Seat, Sys, Pair, has, leave_out, freeze_at, system_without, pair_without, Way, Freeze, Die, leave_one, freeze_one}
 use Rattle.roman_model.specs.Change.{set_frozen}
-use Rattle.roman_model.specs.Without.{leave_out, freeze_at, system_without, pair_without}
-use Rattle.roman_model.specs.declared.way.Way.{Way}
-use Rattle.roman_model.specs.declared.way.Way.TheVariants.{Freeze, Die}
-use Rattle.roman_model.proofs.CallerLemmas.{leave_one, leave_two, freeze_one, freeze_two}
+use Rattle.roman_model.proofs.CallerLemmas.{leave_two, freeze_two}
 
 leave_later : {X : Type 0} (k j : ℕ) (xs : List X) → k < j → leave_out (has (k ∷ [])) (leave_out (has (j ∷ [])) xs) ≡ leave_out (has (k ∷ j ∷ [])) xs
 leave_later k j xs l = leave_one k (leave_out (has (j ∷ [])) xs) ∙ ap (λ ys. remove ys k) (leave_one j xs) ∙ sym (leave_two k j xs l)

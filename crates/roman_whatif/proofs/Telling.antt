@@ -2,13 +2,8 @@
 use Rattle.std.proofs.Common.{◌≡◌, ◌≢◌, ℕ, ◌+◌, ◌*◌, ◌<◌, false, List, ◌++◌, length, take, drop, inl, inr, sym, ap, ◌∙◌, subst, arith}
 use Rattle.std.proofs.Math.ListN.{set}
 use Rattle.std.proofs.Math.Seq.{take-append_seam}
-use Rattle.std.proofs.lemmas.Bool.{cases_lt}
+use Rattle.roman_whatif.proofs.Common.{cases_lt, Outlook, Way, NamedSys, told, told_at, IsToldOf}
 use Rattle.std.proofs.lemmas.List.{get_or-set_same, get_or-set_other}
-use Rattle.roman_model.specs.Without.{Outlook}
-use Rattle.roman_model.specs.declared.way.Way.{Way}
-use Rattle.roman_joint.specs.NamedSys.{NamedSys}
-use Rattle.roman_whatif.specs.Told.{told}
-use Rattle.roman_whatif.specs.Losses.{told_at, IsToldOf}
 use Rattle.roman_whatif.specs.declared.outlook.Outlook as declared
 
 -- an outlook is written

@@ -1,6 +1,5 @@
 use Rattle.std.proofs.Common.{ap, ◌∙◌}
-use Rattle.std.proofs.lemmas.Fmt.{decimal_digit}
-use Rattle.roman_model.specs.Certificate.{reason_text}
+use Rattle.roman_cert.proofs.Common.{decimal_digit, reason_text}
 use Rattle.roman_cert.proofs.certificate.letter_of.Goals as goal
 
 pub returns-else-action-ge10 : goal.returns-else-action-ge10

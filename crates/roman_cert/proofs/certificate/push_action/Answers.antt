@@ -1,12 +1,7 @@
 use Rattle.std.proofs.Common.{◌≡◌, ℕ, List, [], ◌∷◌, ◌++◌, codes, decimal, refl, sym, ap, ◌∙◌, subst, append_assoc}
-use Rattle.std.proofs.lemmas.Fmt.{decimal_digit}
-use Rattle.std.proofs.lemmas.Result.{err_from_is_err_and}
+use Rattle.roman_cert.proofs.Common.{decimal_digit, err_from_is_err_and, Act, text_of_lines, entry_line, as_entry}
 use Rattle.roman_io.specs.Sink.{WrotePrefix}
 use Rattle.roman_io.proofs.CallerLemmas.{WrotePrefix-append}
-use Rattle.roman_model.specs.declared.reason.Reason.TheVariants.{Act}
-use Rattle.roman_model.specs.Lines.{text_of_lines}
-use Rattle.roman_model.specs.Certificate.{entry_line}
-use Rattle.roman_order.specs.Board.{as_entry}
 use Rattle.roman_text.specs.Pages.{Gathers}
 use Rattle.roman_text.proofs.CallerLemmas.{Gathers-after}
 use Rattle.roman_cert.proofs.Certificates.{entry_parts}

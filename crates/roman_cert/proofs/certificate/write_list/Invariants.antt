@@ -1,8 +1,5 @@
 use Rattle.std.proofs.Common.{◌≡◌}
-use Rattle.roman_model.specs.Certificate.{cert_text}
-use Rattle.roman_text.proofs.CallerLemmas.{IsFilling}
-use Rattle.roman_order.specs.Walks.{IsAhead}
-use Rattle.roman_cert.specs.Templates.{IsTemplate}
+use Rattle.roman_cert.proofs.Common.{cert_text, IsFilling, IsAhead, IsTemplate}
 use Rattle.roman_cert.proofs.Certificates.{rest_from}
 use Rattle.roman_cert.proofs.certificate.write_list.Given as goal
 

@@ -1,9 +1,5 @@
 use Rattle.std.proofs.Common.{◌∙◌, subst}
-use Rattle.roman_io.specs.Sink.{Puts}
-use Rattle.roman_model.specs.Numbers.{sizes_of, count}
-use Rattle.roman_model.specs.Certificate.{cert_text}
-use Rattle.roman_model.proofs.CallerLemmas.{length-below}
-use Rattle.roman_joint.specs.NamedSys.{system_of}
+use Rattle.roman_cert.proofs.Common.{Puts, sizes_of, count, cert_text, length-below, system_of}
 use Rattle.roman_cert.proofs.Certificates.{written_accepted}
 use Rattle.roman_cert.proofs.certificate.write_order.Goals as goal
 

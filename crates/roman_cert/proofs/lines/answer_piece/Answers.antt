@@ -1,8 +1,5 @@
 use Rattle.std.proofs.Common.{◌++◌, List, ℕ, codes, ap, ap₂, ◌∙◌}
-use Rattle.std.specs.Option.{option_map}
-use Rattle.roman_model.specs.Numbers.{sizes_of, pair_at}
-use Rattle.roman_joint.specs.NamedSys.{system_of}
-use Rattle.roman_joint.specs.Names.{names_in}
+use Rattle.roman_cert.proofs.Common.{option_map, sizes_of, pair_at, system_of, names_in}
 use Rattle.roman_cert.proofs.LineTexts.{may_answer}
 use Rattle.roman_cert.proofs.lines.answer_piece.Goals as goal
 

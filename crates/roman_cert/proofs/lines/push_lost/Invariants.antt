@@ -1,7 +1,5 @@
 use Rattle.std.proofs.Common.{◌≡◌, ◌++◌}
-use Rattle.roman_order.specs.Board.{as_entry}
-use Rattle.roman_text.proofs.CallerLemmas.{IsFilling}
-use Rattle.roman_cert.specs.Slices.{lost_text}
+use Rattle.roman_cert.proofs.Common.{as_entry, IsFilling, lost_text}
 use Rattle.roman_cert.proofs.LineTexts.{lost_from}
 use Rattle.roman_cert.proofs.lines.push_lost.Given as goal
 

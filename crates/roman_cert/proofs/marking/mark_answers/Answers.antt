@@ -1,8 +1,5 @@
 use Rattle.std.proofs.Common.{arith, ap, sym, ◌∙◌, Some, None}
-use Rattle.std.proofs.Math.Bool.{or-false}
-use Rattle.roman_model.specs.Explanation.{answer}
-use Rattle.roman_rules.proofs.CallerLemmas.{numbered_same}
-use Rattle.roman_order.specs.Board.{Board, is_marked}
+use Rattle.roman_cert.proofs.Common.{or-false, answer, numbered_same, Board, is_marked}
 use Rattle.roman_cert.proofs.MarkLemmas.{answers_marked, seats_more, marks_one}
 use Rattle.roman_cert.proofs.marking.mark_answers.Goals.{in-Some, in_default}
 use Rattle.roman_cert.proofs.marking.mark_answers.Goals as goal

@@ -1,6 +1,5 @@
 use Rattle.std.proofs.Common.{◌≡◌, length, ap, ◌∙◌, arith}
-use Rattle.roman_order.specs.Board.{Board, is_marked}
-use Rattle.roman_rules.proofs.CallerLemmas.{numbered_same}
+use Rattle.roman_cert.proofs.Common.{Board, is_marked, numbered_same}
 use Rattle.roman_cert.proofs.MarkLemmas.{rests_from, rests_all, rests_back}
 use Rattle.roman_cert.proofs.marking.mark_slice.Goals as goal
 

@@ -1,11 +1,6 @@
 use Rattle.std.proofs.Common.{◌<◌, length, refl, sym, ◌∙◌, arith}
-use Rattle.std.proofs.lemmas.Result.{err_from_is_err_and}
-use Rattle.roman_model.specs.Lists.{below}
-use Rattle.roman_model.specs.Numbers.{sizes_of, count}
-use Rattle.roman_model.proofs.CallerLemmas.{length-below}
-use Rattle.roman_joint.specs.NamedSys.{system_of}
+use Rattle.roman_cert.proofs.Common.{err_from_is_err_and, below, sizes_of, count, length-below, system_of, fill_behind, fill_same, fill_more, fill_failed, fill_end}
 use Rattle.roman_joint.proofs.CallerLemmas.{if_some}
-use Rattle.roman_text.proofs.CallerLemmas.{fill_behind, fill_same, fill_more, fill_failed, fill_end}
 use Rattle.roman_cert.proofs.AnswerTexts.{answers_begin, answers_next, answers_skip, answers_end}
 use Rattle.roman_cert.proofs.slice.push_answers.Goals as goal
 

@@ -1,8 +1,5 @@
 use Rattle.std.proofs.Common.{◌≡◌, ◌++◌}
-use Rattle.roman_model.specs.declared.reason.Reason.TheVariants.{Act}
-use Rattle.roman_order.specs.Board.{as_entry}
-use Rattle.roman_text.proofs.CallerLemmas.{IsFilling}
-use Rattle.roman_cert.specs.Slices.{answers_text}
+use Rattle.roman_cert.proofs.Common.{Act, as_entry, IsFilling, answers_text}
 use Rattle.roman_cert.proofs.AnswerTexts.{answers_from}
 use Rattle.roman_cert.proofs.slice.push_answers.Given as goal
 

@@ -1,9 +1,5 @@
 use Rattle.std.proofs.Common.{◌≡◌, ◌++◌, [], ap, sym, ◌∙◌, append-nil}
-use Rattle.std.proofs.lemmas.Result.{err_from_is_err_and}
-use Rattle.roman_model.specs.declared.reason.Reason.TheVariants.{Act}
-use Rattle.roman_order.specs.Board.{as_entry}
-use Rattle.roman_text.proofs.CallerLemmas.{fill_behind, fill_same, fill_more, fill_failed, fill_end, fill_last}
-use Rattle.roman_cert.specs.Slices.{answers_text}
+use Rattle.roman_cert.proofs.Common.{err_from_is_err_and, Act, as_entry, fill_behind, fill_same, fill_more, fill_failed, fill_end, fill_last, answers_text}
 use Rattle.roman_cert.proofs.AnswerTexts.{no_answers}
 use Rattle.roman_cert.proofs.SliceTexts.{entry_pair, entry_reason, entry_lines_are}
 use Rattle.roman_cert.proofs.slice.push_entry.Goals as goal

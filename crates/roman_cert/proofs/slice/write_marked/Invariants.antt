@@ -1,7 +1,5 @@
 use Rattle.std.proofs.Common.{◌≡◌}
-use Rattle.roman_text.proofs.CallerLemmas.{IsFilling}
-use Rattle.roman_order.specs.Walks.{IsAhead}
-use Rattle.roman_cert.specs.Slices.{marked_entries, slice_text}
+use Rattle.roman_cert.proofs.Common.{IsFilling, IsAhead, marked_entries, slice_text}
 use Rattle.roman_cert.proofs.SliceTexts.{slice_from}
 use Rattle.roman_cert.proofs.slice.write_marked.Given as goal
 

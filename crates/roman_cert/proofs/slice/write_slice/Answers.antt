@@ -1,12 +1,6 @@
 use Rattle.std.proofs.Common.{◌≡◌, ℕ, length, ap, sym, subst, ◌∙◌, arith}
-use Rattle.roman_model.specs.Arena.{IsOrder}
-use Rattle.roman_model.specs.Explanation.{rests_on}
-use Rattle.roman_model.specs.Numbers.{sizes_of, count}
-use Rattle.roman_model.proofs.CallerLemmas.{length-below, complete_order}
-use Rattle.roman_joint.specs.NamedSys.{system_of}
-use Rattle.roman_order.specs.Board.{Board, pairs_of, is_marked}
-use Rattle.roman_relation.specs.Greatest.{arena_of, IsRelation}
-use Rattle.roman_relation.proofs.CallerLemmas.{listed_numbers}
+use Rattle.roman_cert.proofs.Common.{IsOrder, rests_on, sizes_of, count, length-below, system_of, Board, pairs_of, is_marked, arena_of, IsRelation, listed_numbers}
+use Rattle.roman_model.proofs.CallerLemmas.{complete_order}
 use Rattle.roman_cert.proofs.Slicing.{explanation_written, unrelated_explained, unrelated_wins, marks_keep}
 use Rattle.roman_cert.proofs.slice.write_slice.Goals as goal
 

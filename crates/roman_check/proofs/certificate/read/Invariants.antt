@@ -1,8 +1,5 @@
 use Rattle.std.proofs.Common.{◌≡◌, ◌+◌, ◌≤◌, List, ℕ, length}
-use Rattle.roman_io.specs.Source.{Gave}
-use Rattle.roman_model.specs.declared.limits.TheConstants.{MAX_CERTIFICATE_BYTES}
-use Rattle.roman_check.specs.Audits.{IsInRows}
-use Rattle.roman_check.specs.Readers.{IsReading}
+use Rattle.roman_check.proofs.Common.{Gave, MAX_CERTIFICATE_BYTES, IsInRows, IsReading}
 use Rattle.roman_check.proofs.certificate.read.Given as goal
 
 abbrev pub invariant-takes : goal.invariant-takes

@@ -1,4 +1,4 @@
-use Rattle.roman_model.specs.Certificate.{head_line}
+use Rattle.roman_check.proofs.Common.{head_line}
 use Rattle.roman_check.proofs.Texts.{same_as_eq}
 use Rattle.roman_check.proofs.entries.is_head.Goals as goal
 

@@ -1,6 +1,5 @@
 use Rattle.std.proofs.Common.{◌≡◌, ◌+◌, ◌%◌, ◌<◌, [], ◌∷◌, ℕ, arith, ap, ◌∙◌}
-use Rattle.std.proofs.lemmas.Fmt.{decimal_digit}
-use Rattle.roman_model.proofs.CallerLemmas.{act_reason}
+use Rattle.roman_check.proofs.Common.{decimal_digit, act_reason}
 use Rattle.roman_check.proofs.entries.reason_of.Goals as goal
 
 pub returns : goal.returns

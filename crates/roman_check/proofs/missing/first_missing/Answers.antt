@@ -1,9 +1,5 @@
 use Rattle.std.proofs.Common.{◌≡◌, ℕ, ◌+◌, ◌*◌, ◌^◌, ◌<◌, ◌≤◌, IsFalse, length, Some, subst, sym, ap, ◌∙◌, inl, inr, arith, rules}
-use Rattle.std.specs.Int.{trailing_zeros, w64}
-use Rattle.std.proofs.lemmas.Bool.{cases_eq}
-use Rattle.roman_model.specs.Certificate.{could_be_listed}
-use Rattle.roman_lanes.specs.Rows.{is_on}
-use Rattle.roman_lanes.proofs.CallerLemmas.{on_zero}
+use Rattle.roman_check.proofs.Common.{trailing_zeros, w64, cases_eq, could_be_listed, is_on, on_zero}
 use Rattle.roman_check.proofs.ReasonLemmas.{least_found, none_found, before_row, before_lane, row_ends, IsLowest, lowest, lowest_within, same_rows}
 use Rattle.roman_check.proofs.missing.first_missing.Goals as goal
 

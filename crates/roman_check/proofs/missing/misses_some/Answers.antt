@@ -1,10 +1,5 @@
 use Rattle.std.proofs.Common.{◌≡◌, ℕ, ◌+◌, ◌*◌, ◌≤◌, ◌&&◌, ◌||◌, Bool, false, not, length, slice_index, sym, ap, ap₂, ◌∙◌, arith}
-use Rattle.std.proofs.Math.Bool.{or-false}
-use Rattle.std.proofs.lemmas.Nat.{mul-le}
-use Rattle.roman_model.specs.Arena.{is_listed, is_justified}
-use Rattle.roman_model.specs.declared.reason.Reason.TheVariants.{Act}
-use Rattle.roman_lanes.specs.Rows.{is_on}
-use Rattle.roman_lanes.proofs.CallerLemmas.{on_zero}
+use Rattle.roman_check.proofs.Common.{or-false, mul-le, is_listed, is_justified, Act, is_on, on_zero}
 use Rattle.roman_check.proofs.ReasonLemmas.{one_more}
 use Rattle.roman_check.proofs.missing.misses_some.Goals as goal
 

@@ -1,8 +1,5 @@
 use Rattle.std.proofs.Common.{◌≡◌, ℕ, ◌+◌, ◌*◌, ◌<◌, ◌&&◌, false, not, List, length}
-use Rattle.std.specs.List.{list_any}
-use Rattle.roman_model.specs.Arena.{Entry, is_listed, is_justified}
-use Rattle.roman_model.specs.Certificate.{reasons}
-use Rattle.roman_lanes.specs.Rows.{AreRows}
+use Rattle.roman_check.proofs.Common.{list_any, Entry, is_listed, is_justified, reasons, AreRows}
 use Rattle.roman_check.proofs.missing.misses_some.Given as goal
 
 -- clause 2 and the actions so far aren't reasons at the band's pairs that aren't listed

@@ -1,8 +1,6 @@
 use Rattle.std.proofs.Common.{◌+◌, ◌*◌, ◌||◌, ap₂, ◌∙◌, arith}
-use Rattle.std.proofs.lemmas.Bool.{and_right}
-use Rattle.roman_model.specs.Arena.{is_justified}
-use Rattle.roman_lanes.specs.Rows.{is_on}
-use Rattle.roman_lanes.proofs.CallerLemmas.{on_and, on_or}
+use Rattle.roman_check.proofs.Common.{and_right, is_justified, is_on, on_and}
+use Rattle.roman_lanes.proofs.CallerLemmas.{on_or}
 use Rattle.roman_check.proofs.ReasonLemmas.{only_final, one_more}
 use Rattle.roman_check.proofs.missing.missing_among.Goals as goal
 

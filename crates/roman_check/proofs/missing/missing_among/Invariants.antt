@@ -1,8 +1,5 @@
 use Rattle.std.proofs.Common.{◌≡◌, ℕ, ◌+◌, ◌*◌, ◌<◌, Bool, false, not, ◌&&◌}
-use Rattle.std.specs.List.{list_any}
-use Rattle.roman_model.specs.Arena.{is_justified}
-use Rattle.roman_model.specs.Certificate.{reasons}
-use Rattle.roman_lanes.specs.Rows.{is_on, AreRows}
+use Rattle.roman_check.proofs.Common.{list_any, is_justified, reasons, is_on, AreRows}
 use Rattle.roman_check.proofs.missing.missing_among.Given as goal
 
 -- clause 2 and the actions so far are asked about

@@ -1,10 +1,5 @@
 use Rattle.std.proofs.Common.{ℕ, ◌≡◌, ◌<◌, ◌≤◌, bit_and, ◌-◌, ◌/◌, ◌^◌, ◌+◌, ◌*◌, ◌&&◌, ap, ◌∙◌, arith, get_or}
-use Rattle.std.specs.List.{list_any}
-use Rattle.std.proofs.lemmas.Bool.{and_right}
-use Rattle.roman_model.specs.Arena.{is_listed, is_justified}
-use Rattle.roman_model.specs.Certificate.{reasons}
-use Rattle.roman_lanes.specs.Rows.{is_on}
-use Rattle.roman_lanes.proofs.CallerLemmas.{on_and, on_full, on_full_past, on_zero}
+use Rattle.roman_check.proofs.Common.{list_any, and_right, is_listed, is_justified, reasons, is_on, on_and, on_full, on_full_past, on_zero}
 use Rattle.roman_check.proofs.ReasonLemmas.{and_all}
 use Rattle.roman_check.proofs.missing.missing_in.Goals as goal
 

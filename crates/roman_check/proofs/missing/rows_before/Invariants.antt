@@ -1,7 +1,5 @@
 use Rattle.std.proofs.Common.{◌≡◌, ℕ, ◌+◌, ◌*◌, ◌<◌, false, not, List, length}
-use Rattle.roman_model.specs.Arena.{Entry, is_listed}
-use Rattle.roman_model.specs.Certificate.{could_be_listed}
-use Rattle.roman_lanes.specs.Rows.{AreRows}
+use Rattle.roman_check.proofs.Common.{Entry, is_listed, could_be_listed, AreRows}
 use Rattle.roman_check.proofs.missing.rows_before.Given as goal
 
 -- no pair of the bands so far is missing

@@ -1,5 +1,5 @@
 use Rattle.std.proofs.Common.{arith}
-use Rattle.std.proofs.lemmas.Bool.{eqb-true, eq-eqb, false≢true}
+use Rattle.roman_check.proofs.Common.{eqb-true, eq-eqb, false≢true}
 use Rattle.roman_check.proofs.DigitLemmas.{decimal_shape, decimal_from_digits}
 use Rattle.roman_check.proofs.numbers.is_number.Goals as goal
 

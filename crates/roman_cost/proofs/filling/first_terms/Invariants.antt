@@ -1,8 +1,5 @@
 use Rattle.std.proofs.Common.{◌≡◌, take}
-use Rattle.std.specs.List.{flat_map}
-use Rattle.roman_joint.specs.NamedSys.{system_of}
-use Rattle.roman_cost.specs.Tables.{seat_costs}
-use Rattle.roman_cost.specs.Terms.{pair_terms}
+use Rattle.roman_cost.proofs.Common.{flat_map, system_of, seat_costs, pair_terms}
 use Rattle.roman_cost.proofs.filling.first_terms.Given as goal
 
 -- the terms of the pairs so far

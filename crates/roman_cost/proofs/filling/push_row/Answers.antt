@@ -1,12 +1,5 @@
 use Rattle.std.proofs.Common.{◌≡◌, ◌++◌, [], ℕ, suc, List, map, take, append-nil, sym, ap, ap₂, ◌∙◌, subst, arith}
-use Rattle.roman_model.specs.Lists.{IsIn}
-use Rattle.roman_model.specs.Plans.{least_at}
-use Rattle.roman_model.proofs.CallerLemmas.{flat_map_row}
-use Rattle.roman_joint.specs.NamedSys.{system_of}
-use Rattle.roman_cost.specs.Advised.{value_rows, related_pairs, HavePlaces}
-use Rattle.roman_cost.specs.Filling.{AreSmall}
-use Rattle.roman_cost.specs.Tables.{seat_costs}
-use Rattle.roman_cost.specs.Terms.{nothing_yet, worked_out}
+use Rattle.roman_cost.proofs.Common.{IsIn, least_at, flat_map_row, system_of, value_rows, related_pairs, HavePlaces, AreSmall, seat_costs, nothing_yet, worked_out}
 use Rattle.roman_cost.proofs.CostLemmas.{seat_costs_small}
 use Rattle.roman_cost.proofs.Rows.{row_fits, row_told, row_small}
 use Rattle.roman_cost.proofs.TermLemmas.{each_small, worked_pairs, rest_in, take_in, values_whole}

@@ -1,7 +1,5 @@
 use Rattle.std.proofs.Common.{◌≡◌, map, filter}
-use Rattle.roman_model.specs.Lists.{below}
-use Rattle.roman_model.proofs.CallerLemmas.{rank}
-use Rattle.roman_joint.specs.NamedSys.{system_of}
+use Rattle.roman_cost.proofs.Common.{below, rank, system_of}
 use Rattle.roman_cost.proofs.Ranks.{related_at}
 use Rattle.roman_cost.proofs.filling.ranked_pairs.Given as goal
 

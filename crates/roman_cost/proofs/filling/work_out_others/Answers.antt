@@ -1,8 +1,5 @@
 use Rattle.std.proofs.Common.{ℕ, suc, ◌++◌, List, map, get_or, refl, ap, ◌∙◌}
-use Rattle.std.proofs.lemmas.List.{take_all}
-use Rattle.roman_model.specs.Plans.{least_at}
-use Rattle.roman_joint.specs.NamedSys.{system_of}
-use Rattle.roman_cost.specs.Tables.{seat_costs}
+use Rattle.roman_cost.proofs.Common.{take_all, least_at, system_of, seat_costs}
 use Rattle.roman_cost.proofs.CostLemmas.{seat_costs_small}
 use Rattle.roman_cost.proofs.Ranks.{from_related}
 use Rattle.roman_cost.proofs.Rows.{in_at, row_more}

@@ -1,8 +1,5 @@
 use Rattle.std.proofs.Common.{◌≡◌, ℕ, suc, ◌++◌, map, take}
-use Rattle.roman_model.specs.Plans.{least_at}
-use Rattle.roman_joint.specs.NamedSys.{system_of}
-use Rattle.roman_cost.specs.Advised.{related_pairs}
-use Rattle.roman_cost.specs.Tables.{seat_costs}
+use Rattle.roman_cost.proofs.Common.{least_at, system_of, related_pairs, seat_costs}
 use Rattle.roman_cost.proofs.filling.work_out_others.Given as goal
 
 -- the values of the pairs so far

@@ -1,7 +1,5 @@
 use Rattle.std.proofs.Common.{◌+◌, ◌*◌, ap, ◌∙◌}
-use Rattle.std.proofs.lemmas.List.{take_all}
-use Rattle.roman_model.specs.Plans.{max_over}
-use Rattle.roman_cost.specs.Filling.{ranked}
+use Rattle.roman_cost.proofs.Common.{take_all, max_over, ranked}
 use Rattle.roman_cost.proofs.Greatest.{max_stepped, max_all}
 use Rattle.roman_cost.proofs.outcomes.greatest_outcome.Goals as goal
 

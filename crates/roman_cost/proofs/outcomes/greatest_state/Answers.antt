@@ -1,5 +1,5 @@
 use Rattle.std.proofs.Common.{◌+◌, ◌*◌, ap}
-use Rattle.roman_cost.specs.Filling.{ranked}
+use Rattle.roman_cost.proofs.Common.{ranked}
 use Rattle.roman_cost.proofs.Greatest.{max_stepped}
 use Rattle.roman_cost.proofs.outcomes.greatest_state.Goals as goal
 

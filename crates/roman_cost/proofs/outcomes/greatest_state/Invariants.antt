@@ -1,6 +1,5 @@
 use Rattle.std.proofs.Common.{◌≡◌, ◌+◌, ◌*◌, take}
-use Rattle.roman_model.specs.Plans.{max_over}
-use Rattle.roman_cost.specs.Filling.{ranked}
+use Rattle.roman_cost.proofs.Common.{max_over, ranked}
 use Rattle.roman_cost.proofs.outcomes.greatest_state.Given as goal
 
 -- the greatest value so far

@@ -1,17 +1,7 @@
 use Rattle.std.proofs.Common.{◌≡◌, ℕ, Bool, List, Option, Some, ◌<◌, ◌≤◌, length, filter, IsTrue, IsSome, refl, sym, ap, ◌∙◌, subst, arith}
-use Rattle.std.proofs.lemmas.List.{length-map}
+use Rattle.roman_cost.proofs.Common.{length-map, IsIn, below, sizes_of, count, pair_at, is_related, offers, first_least, least, choice, through, choice_is, related_great, numbers_are_pairs, related_offers, has, Sys, Pair, is_allowed, has_seat_is, NamedSys, system_of, seat_of, seat_costs, Listed}
 use Rattle.std.proofs.lemmas.Option.{same_Some}
-use Rattle.roman_model.specs.Lists.{IsIn, below}
-use Rattle.roman_model.specs.Numbers.{sizes_of, count, pair_at}
-use Rattle.roman_model.specs.Offers.{is_related, offers}
-use Rattle.roman_model.specs.Plans.{first_least, least, choice, through}
-use Rattle.roman_model.proofs.CallerLemmas.{choice_is, related_great, numbers_are_pairs, related_offers}
-use Rattle.roman_model.specs.System.{has, Sys, Pair}
-use Rattle.roman_model.specs.SystemArena.{is_allowed}
-use Rattle.roman_rules.proofs.CallerLemmas.{has_seat_is}
-use Rattle.roman_joint.specs.NamedSys.{NamedSys, IsNamedSys, system_of, seat_of}
-use Rattle.roman_cost.specs.Tables.{seat_costs}
-use Rattle.roman_cost.specs.declared.costs.Listed.{Listed}
+use Rattle.roman_joint.specs.NamedSys.{IsNamedSys}
 use Rattle.roman_cost.proofs.Best.{best_of, best_of-taken, best_of-passed, best_of-first}
 use Rattle.roman_cost.proofs.OfferedSeats.{seat_in, offered, offered_ranked, offers_among, cost_by, cost_is, best_is_choice}
 use Rattle.roman_cost.proofs.seats.cheapest.Goals as goal

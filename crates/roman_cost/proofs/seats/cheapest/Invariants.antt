@@ -1,10 +1,5 @@
 use Rattle.std.proofs.Common.{◌≡◌, filter}
-use Rattle.roman_model.specs.Lists.{below}
-use Rattle.roman_model.specs.Numbers.{sizes_of, pair_at}
-use Rattle.roman_model.specs.Offers.{offers}
-use Rattle.roman_model.specs.System.{has}
-use Rattle.roman_joint.specs.NamedSys.{system_of}
-use Rattle.roman_cost.specs.Tables.{seat_costs}
+use Rattle.roman_cost.proofs.Common.{below, sizes_of, pair_at, offers, has, system_of, seat_costs}
 use Rattle.roman_cost.proofs.Best.{best_of}
 use Rattle.roman_cost.proofs.OfferedSeats.{cost_by}
 use Rattle.roman_cost.proofs.seats.cheapest.Given as goal

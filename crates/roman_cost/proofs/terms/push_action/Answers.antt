@@ -1,15 +1,5 @@
 use Rattle.std.proofs.Common.{◌≡◌, ◌<◌, ℕ, Bool, ◌++◌, [], ◌∷◌, List, Vec, Global, length, filter, sym, ap, ◌∙◌, arith, append_assoc}
-use Rattle.std.specs.List.{flat_map}
-use Rattle.std.proofs.lemmas.List.{length-map}
-use Rattle.roman_model.specs.Lists.{IsIn, below}
-use Rattle.roman_model.specs.Numbers.{sizes_of, pair_at, numbered}
-use Rattle.roman_model.specs.Offers.{offers}
-use Rattle.roman_model.specs.System.{has}
-use Rattle.roman_rules.proofs.CallerLemmas.{has_seat_is}
-use Rattle.roman_joint.specs.NamedSys.{system_of, seat_of}
-use Rattle.roman_cost.specs.Tables.{seat_costs}
-use Rattle.roman_cost.specs.Terms.{service_terms}
-use Rattle.roman_cost.specs.declared.terms.Term.{Term}
+use Rattle.roman_cost.proofs.Common.{flat_map, length-map, IsIn, below, sizes_of, pair_at, numbered, offers, has, has_seat_is, system_of, seat_of, seat_costs, service_terms, Term}
 use Rattle.roman_cost.specs.declared.terms.Term.TheVariants as term
 use Rattle.roman_cost.proofs.OfferedSeats.{seat_in, offered, offers_among}
 use Rattle.roman_cost.proofs.Rows.{all_from}

@@ -1,12 +1,5 @@
 use Rattle.std.proofs.Common.{◌≡◌, ◌++◌, filter}
-use Rattle.std.specs.List.{flat_map}
-use Rattle.roman_model.specs.Lists.{below}
-use Rattle.roman_model.specs.Numbers.{sizes_of, pair_at}
-use Rattle.roman_model.specs.Offers.{offers}
-use Rattle.roman_model.specs.System.{has}
-use Rattle.roman_joint.specs.NamedSys.{system_of}
-use Rattle.roman_cost.specs.Tables.{seat_costs}
-use Rattle.roman_cost.specs.Terms.{service_terms}
+use Rattle.roman_cost.proofs.Common.{flat_map, below, sizes_of, pair_at, offers, has, system_of, seat_costs, service_terms}
 use Rattle.roman_cost.proofs.terms.push_action.Given as goal
 
 -- the terms of the offered seats so far

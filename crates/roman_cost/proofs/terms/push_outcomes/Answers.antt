@@ -1,8 +1,5 @@
 use Rattle.std.proofs.Common.{◌+◌, ◌*◌, ◌++◌, ℕ, List, map, ap, ◌∙◌}
-use Rattle.std.specs.List.{flat_map}
-use Rattle.std.proofs.lemmas.List.{take_all}
-use Rattle.roman_cost.specs.Terms.{outcome_terms}
-use Rattle.roman_cost.specs.declared.terms.Term.{Term}
+use Rattle.roman_cost.proofs.Common.{flat_map, take_all, outcome_terms, Term}
 use Rattle.roman_cost.proofs.TermLemmas.{outcomes_flat}
 use Rattle.roman_cost.proofs.terms.push_outcomes.Goals as goal
 

@@ -1,6 +1,5 @@
 use Rattle.std.proofs.Common.{◌≡◌, ◌+◌, ◌*◌, ◌++◌, map, take}
-use Rattle.std.specs.List.{flat_map}
-use Rattle.roman_cost.specs.Terms.{outcome_terms}
+use Rattle.roman_cost.proofs.Common.{flat_map, outcome_terms}
 use Rattle.roman_cost.proofs.terms.push_outcomes.Given as goal
 
 -- the terms of the environment's states so far

@@ -1,10 +1,5 @@
 use Rattle.std.proofs.Common.{ℕ, Bool, List, Vec, Global, sym, ap, ◌∙◌}
-use Rattle.roman_model.specs.Numbers.{sizes_of, pair_at}
-use Rattle.roman_model.specs.SystemArena.{is_allowed}
-use Rattle.roman_joint.specs.NamedSys.{system_of}
-use Rattle.roman_cost.specs.Tables.{seat_costs}
-use Rattle.roman_cost.specs.Terms.{action_terms}
-use Rattle.roman_cost.specs.declared.terms.Term.{Term}
+use Rattle.roman_cost.proofs.Common.{sizes_of, pair_at, is_allowed, system_of, seat_costs, action_terms, Term}
 use Rattle.roman_cost.proofs.TermLemmas.{flat_taken, flat_passed}
 use Rattle.roman_cost.proofs.terms.push_pair.Goals as goal
 use Rattle.roman_cost.proofs.terms.push_pair.Goals.{then-allowed+in_ok-push_action, else-allowed}

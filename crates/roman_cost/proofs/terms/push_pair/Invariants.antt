@@ -1,11 +1,5 @@
 use Rattle.std.proofs.Common.{◌≡◌, ◌++◌, filter}
-use Rattle.std.specs.List.{flat_map}
-use Rattle.roman_model.specs.Lists.{below}
-use Rattle.roman_model.specs.Numbers.{sizes_of, pair_at}
-use Rattle.roman_model.specs.SystemArena.{is_allowed}
-use Rattle.roman_joint.specs.NamedSys.{system_of}
-use Rattle.roman_cost.specs.Tables.{seat_costs}
-use Rattle.roman_cost.specs.Terms.{action_terms}
+use Rattle.roman_cost.proofs.Common.{flat_map, below, sizes_of, pair_at, is_allowed, system_of, seat_costs, action_terms}
 use Rattle.roman_cost.proofs.terms.push_pair.Given as goal
 
 -- the terms of the allowed actions so far

@@ -1,10 +1,5 @@
 use Rattle.std.proofs.Common.{◌<◌, ◌≤◌, ◌+◌, ◌-◌, refl, sym, ◌∙◌, arith}
-use Rattle.std.proofs.lemmas.Result.{err_from_is_err_and}
-use Rattle.roman_model.specs.Numbers.{sizes_of, pair_at}
-use Rattle.roman_joint.specs.NamedSys.{system_of}
-use Rattle.roman_cost.specs.AdviceText.{choice_line}
-use Rattle.roman_cost.specs.Tables.{seat_costs}
-use Rattle.roman_text.proofs.CallerLemmas.{fill_behind, fill_same, fill_more, fill_failed, fill_end}
+use Rattle.roman_cost.proofs.Common.{err_from_is_err_and, sizes_of, pair_at, system_of, choice_line, seat_costs, fill_behind, fill_same, fill_more, fill_failed, fill_end}
 use Rattle.roman_cost.proofs.Lines.{choices_from, as_taken, choices_begin, next_choice, next_unallowed, no_choice}
 use Rattle.roman_cost.proofs.writing.push_choices.Goals as goal
 

@@ -1,11 +1,5 @@
 use Rattle.std.proofs.Common.{◌≡◌, ◌++◌, ◌-◌}
-use Rattle.std.specs.List.{flat_map}
-use Rattle.roman_model.specs.Numbers.{sizes_of, pair_at}
-use Rattle.roman_model.specs.Plans.{allowed_actions}
-use Rattle.roman_joint.specs.NamedSys.{system_of}
-use Rattle.roman_cost.specs.AdviceText.{choice_line}
-use Rattle.roman_cost.specs.Tables.{seat_costs}
-use Rattle.roman_text.proofs.CallerLemmas.{IsFilling}
+use Rattle.roman_cost.proofs.Common.{flat_map, sizes_of, pair_at, allowed_actions, system_of, choice_line, seat_costs, IsFilling}
 use Rattle.roman_cost.proofs.Lines.{choices_from}
 use Rattle.roman_cost.proofs.writing.push_choices.Given as goal
 

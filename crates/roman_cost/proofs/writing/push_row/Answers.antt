@@ -1,6 +1,5 @@
 use Rattle.std.proofs.Common.{refl, ◌∙◌}
-use Rattle.std.proofs.lemmas.Result.{err_from_is_err_and}
-use Rattle.roman_text.proofs.CallerLemmas.{fill_same, fill_more, fill_failed}
+use Rattle.roman_cost.proofs.Common.{err_from_is_err_and, fill_same, fill_more, fill_failed}
 use Rattle.roman_cost.proofs.Lines.{next_value}
 use Rattle.roman_cost.proofs.writing.push_row.Goals as goal
 

@@ -1,10 +1,5 @@
 use Rattle.std.proofs.Common.{◌≡◌, ◌++◌, drop}
-use Rattle.std.specs.List.{flat_map}
-use Rattle.roman_model.specs.Plans.{Costs, least_at}
-use Rattle.roman_model.specs.System.{Sys}
-use Rattle.roman_cost.specs.AdviceText.{value_line, value_lines}
-use Rattle.roman_cost.specs.Advised.{Advises}
-use Rattle.roman_text.proofs.CallerLemmas.{IsFilling}
+use Rattle.roman_cost.proofs.Common.{flat_map, Costs, least_at, Sys, value_line, value_lines, Advises, IsFilling}
 use Rattle.roman_cost.proofs.writing.push_row.Given as goal
 
 -- the lines of the pairs so far are pushed

@@ -1,6 +1,5 @@
 use Rattle.std.proofs.Common.{refl, ◌∙◌, arith}
-use Rattle.std.proofs.lemmas.Result.{err_from_is_err_and}
-use Rattle.roman_text.proofs.CallerLemmas.{fill_behind, fill_same, fill_more, fill_failed, fill_end}
+use Rattle.roman_cost.proofs.Common.{err_from_is_err_and, fill_behind, fill_same, fill_more, fill_failed, fill_end}
 use Rattle.roman_cost.proofs.Lines.{next_row, no_row}
 use Rattle.roman_cost.proofs.writing.push_values.Goals as goal
 

@@ -1,11 +1,5 @@
 use Rattle.std.proofs.Common.{◌≡◌, ◌++◌, suc, drop}
-use Rattle.std.specs.List.{flat_map}
-use Rattle.roman_model.specs.Lists.{below}
-use Rattle.roman_model.specs.Plans.{Costs}
-use Rattle.roman_model.specs.System.{Sys}
-use Rattle.roman_cost.specs.AdviceText.{value_lines, certificate_text}
-use Rattle.roman_cost.specs.Advised.{Advises}
-use Rattle.roman_text.proofs.CallerLemmas.{IsFilling}
+use Rattle.roman_cost.proofs.Common.{flat_map, below, Costs, Sys, value_lines, certificate_text, Advises, IsFilling}
 use Rattle.roman_cost.proofs.writing.push_values.Given as goal
 
 -- the lines of the numbers of requests so far are pushed

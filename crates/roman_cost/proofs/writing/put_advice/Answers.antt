@@ -1,9 +1,7 @@
 use Rattle.std.proofs.Common.{◌++◌, [], codes, sym, ◌∙◌, subst}
-use Rattle.std.proofs.lemmas.Result.{err_from_is_err_and}
-use Rattle.roman_model.specs.Lists.{IsIn}
-use Rattle.roman_joint.specs.NamedSys.{system_of}
+use Rattle.roman_cost.proofs.Common.{err_from_is_err_and, IsIn, system_of, fill_more, fill_failed}
 use Rattle.roman_cost.proofs.Ranks.{in_related}
-use Rattle.roman_text.proofs.CallerLemmas.{fill_more, fill_failed, fill_put}
+use Rattle.roman_text.proofs.CallerLemmas.{fill_put}
 use Rattle.roman_cost.proofs.Lines.{choices_text, values_text, advice_begins}
 use Rattle.roman_cost.proofs.writing.put_advice.Goals as goal
 

@@ -1,8 +1,5 @@
 use Rattle.std.proofs.Common.{◌≡◌, ◌+◌, List, [], ℕ, length}
-use Rattle.roman_io.specs.Source.{Gave}
-use Rattle.roman_model.specs.declared.limits.TheConstants.{MAX_SESSION_BYTES}
-use Rattle.roman_hearing.specs.Hearing.{cursor}
-use Rattle.roman_hearing.specs.HearingBytes.{reader_state, IsHearing}
+use Rattle.roman_hearing.proofs.Common.{Gave, MAX_SESSION_BYTES, cursor, reader_state, IsHearing}
 use Rattle.roman_hearing.proofs.hearing.hear.Given as goal
 
 abbrev pub invariant-takes : goal.invariant-takes

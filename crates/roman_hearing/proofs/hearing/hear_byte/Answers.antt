@@ -1,6 +1,5 @@
 use Rattle.std.proofs.Common.{sym, ◌∙◌}
-use Rattle.std.proofs.lemmas.Result.{err_from_is_err_and}
-use Rattle.roman_text.specs.Lines.{unfinished}
+use Rattle.roman_hearing.proofs.Common.{err_from_is_err_and, unfinished}
 use Rattle.roman_hearing.proofs.HearingLemmas.{hears_other, hears_line, hears_failed}
 use Rattle.roman_hearing.proofs.hearing.hear_byte.Goals as goal
 

@@ -1,7 +1,5 @@
 use Rattle.std.proofs.Common.{◌++◌, take, take_all, subst, ◌∙◌, List, ℕ}
-use Rattle.std.proofs.lemmas.Result.{err_from_is_err_and}
-use Rattle.roman_hearing.specs.Hearing.{cursor}
-use Rattle.roman_hearing.specs.HearingBytes.{reader_state, IsHearing}
+use Rattle.roman_hearing.proofs.Common.{err_from_is_err_and, cursor, reader_state, IsHearing}
 use Rattle.roman_hearing.proofs.HearingLemmas.{hears_at, stops_at, fails_at}
 use Rattle.roman_hearing.proofs.hearing.hear_bytes.Goals as goal
 

@@ -1,7 +1,5 @@
 use Rattle.std.proofs.Common.{◌≡◌, ◌++◌, List, ℕ, Option, take}
-use Rattle.roman_session.specs.Situations.{Situation}
-use Rattle.roman_hearing.specs.Hearing.{cursor}
-use Rattle.roman_hearing.specs.HearingBytes.{reader_state, IsHearing}
+use Rattle.roman_hearing.proofs.Common.{Situation, cursor, reader_state, IsHearing}
 use Rattle.roman_hearing.proofs.hearing.hear_bytes.Given as goal
 
 abbrev pub invariant-loop-byte : goal.invariant-loop-byte

@@ -1,5 +1,5 @@
 use Rattle.std.proofs.Common.{ap, ◌∙◌}
-use Rattle.roman_text.specs.Shapes.{shape_of}
+use Rattle.roman_hearing.proofs.Common.{shape_of}
 use Rattle.roman_hearing.proofs.HearingLemmas.{answered_on_alike}
 use Rattle.roman_hearing.proofs.hearing.hear_line.Goals as goal
 

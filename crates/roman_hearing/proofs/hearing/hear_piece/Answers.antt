@@ -1,7 +1,5 @@
 use Rattle.std.proofs.Common.{[], Ok, ◌++◌, take, sym, subst, arith, List, ℕ}
-use Rattle.roman_session.specs.declared.next.Next.{Next}
-use Rattle.roman_hearing.specs.Hearing.{cursor}
-use Rattle.roman_hearing.specs.HearingBytes.{reader_state, IsHearing, StopsAtQuit, FailsIn, HearsPiece}
+use Rattle.roman_hearing.proofs.Common.{Next, cursor, reader_state, IsHearing, StopsAtQuit, FailsIn, HearsPiece}
 use Rattle.roman_hearing.proofs.HearingLemmas.{due_part, due_whole, put_hearing, put_quit, put_failed}
 use Rattle.roman_hearing.proofs.hearing.hear_piece.Goals as goal
 

@@ -1,7 +1,5 @@
 use Rattle.std.proofs.Common.{List, ℕ, sym, ◌∙◌, subst}
-use Rattle.roman_text.specs.Lines.{unfinished}
-use Rattle.roman_hearing.specs.Hearing.{cursor}
-use Rattle.roman_hearing.specs.HearingBytes.{reader_state, IsHearing}
+use Rattle.roman_hearing.proofs.Common.{unfinished, cursor, reader_state, IsHearing}
 use Rattle.roman_hearing.proofs.HearingLemmas.{hears_no_rest, hears_rest, fails_put, fails_rest}
 use Rattle.roman_hearing.proofs.hearing.hear_rest.Goals as goal
 

@@ -1,8 +1,5 @@
 use Rattle.std.proofs.Common.{ℕ, ◌+◌, ◌-◌, ◌*◌, ◌<◌, ◌∙◌, not, ◌&&◌, ap, get_or, length, slice_index, arith}
-use Rattle.std.specs.List.{list_any}
-use Rattle.roman_lanes.specs.Rows.{is_on}
-use Rattle.roman_joint.specs.NamedSys.{system_of}
-use Rattle.roman_joint.specs.Bands.{band_in, turn_at}
+use Rattle.roman_joint.proofs.Common.{list_any, is_on, system_of, band_in, turn_at}
 use Rattle.roman_joint.proofs.Finds.{in_at}
 use Rattle.roman_joint.proofs.SplitLemmas.{joint_sizes}
 use Rattle.roman_joint.proofs.GoodLemmas.{known, RowsThere, rows_there, alive_there}

@@ -1,10 +1,5 @@
 use Rattle.std.proofs.Common.{◌*◌, ◌<◌, refl, ◌∙◌, arith}
-use Rattle.roman_model.specs.Arena.{is_beaten}
-use Rattle.roman_model.specs.Numbers.{sizes_of, numbered}
-use Rattle.roman_radix.specs.Rows.{row_sizes}
-use Rattle.roman_joint.specs.NamedSys.{system_of}
-use Rattle.roman_joint.specs.Rows.{lane_state_of}
-use Rattle.roman_joint.specs.Bands.{band_in}
+use Rattle.roman_joint.proofs.Common.{is_beaten, sizes_of, numbered, row_sizes, system_of, lane_state_of, band_in}
 use Rattle.roman_joint.proofs.SplitLemmas.{joint_sizes}
 use Rattle.roman_joint.proofs.BandLemmas.{own_seat, state_few, where_more, where_all}
 use Rattle.roman_joint.proofs.band.clear_own.Goals as goal

@@ -1,11 +1,5 @@
 use Rattle.std.proofs.Common.{◌≡◌, ℕ, ◌*◌, ◌<◌, Bool, length}
-use Rattle.roman_model.specs.Arena.{is_beaten}
-use Rattle.roman_model.specs.Numbers.{sizes_of, numbered}
-use Rattle.roman_radix.specs.Rows.{row_sizes}
-use Rattle.roman_joint.specs.NamedSys.{system_of}
-use Rattle.roman_joint.specs.Rows.{lane_state_of, IsRow, IsTargetMove}
-use Rattle.roman_joint.specs.Bands.{band_in, AllAlive, KeepsWhere}
-use Rattle.roman_joint.specs.declared.turn.TargetMove.{TargetMove}
+use Rattle.roman_joint.proofs.Common.{is_beaten, sizes_of, numbered, row_sizes, system_of, lane_state_of, IsRow, IsTargetMove, band_in, AllAlive, KeepsWhere, TargetMove}
 use Rattle.roman_joint.proofs.band.clear_own.Given as goal
 
 -- the pairs of the rows of the states so far are cleared

@@ -1,15 +1,5 @@
 use Rattle.std.proofs.Common.{◌≡◌, ℕ, ◌+◌, ◌*◌, ◌/◌, ◌%◌, ◌<◌, true, not, ◌&&◌, slice_index, IsFalse, refl, sym, ap, ap₂, ◌∙◌, arith}
-use Rattle.roman_model.specs.Lists.{is_empty}
-use Rattle.roman_model.specs.Arena.{is_beaten}
-use Rattle.roman_model.specs.Numbers.{sizes_of, numbered}
-use Rattle.roman_model.proofs.CallerLemmas.{empty_is}
-use Rattle.roman_radix.specs.Rows.{row_sizes}
-use Rattle.roman_radix.proofs.CallerLemmas.{lanes_few}
-use Rattle.roman_lanes.specs.Rows.{is_on}
-use Rattle.roman_lanes.proofs.CallerLemmas.{on_zero}
-use Rattle.roman_joint.specs.NamedSys.{system_of}
-use Rattle.roman_joint.specs.Rows.{lanes_in, lane_state_of}
-use Rattle.roman_joint.specs.Bands.{band_in}
+use Rattle.roman_joint.proofs.Common.{is_empty, is_beaten, sizes_of, numbered, empty_is, row_sizes, lanes_few, is_on, on_zero, system_of, lanes_in, lane_state_of, band_in}
 use Rattle.roman_joint.proofs.SeatLemmas.{len_empty}
 use Rattle.roman_joint.proofs.SplitLemmas.{joint_sizes}
 use Rattle.roman_joint.proofs.WordLemmas.{not_not, all_pass}

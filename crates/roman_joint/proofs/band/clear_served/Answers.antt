@@ -1,14 +1,5 @@
 use Rattle.std.proofs.Common.{◌≡◌, ℕ, ◌*◌, ◌<◌, ◌≤◌, length, slice_index, ◌∙◌, subst, arith}
-use Rattle.std.proofs.lemmas.List.{length-map}
-use Rattle.roman_model.specs.Lists.{all_below}
-use Rattle.roman_model.specs.Arena.{is_beaten}
-use Rattle.roman_model.specs.Numbers.{sizes_of, numbered}
-use Rattle.roman_radix.specs.Rows.{row_sizes}
-use Rattle.roman_radix.proofs.CallerLemmas.{lanes_few}
-use Rattle.roman_lanes.specs.Rows.{Keeps}
-use Rattle.roman_joint.specs.NamedSys.{system_of, seat_of}
-use Rattle.roman_joint.specs.Rows.{lanes_in}
-use Rattle.roman_joint.specs.Bands.{band_in}
+use Rattle.roman_joint.proofs.Common.{length-map, all_below, is_beaten, sizes_of, numbered, row_sizes, lanes_few, Keeps, system_of, seat_of, lanes_in, band_in}
 use Rattle.roman_joint.proofs.BandLemmas.{mid_few, keeps_cut, keeps_seat}
 use Rattle.roman_joint.proofs.band.clear_served.Goals as goal
 

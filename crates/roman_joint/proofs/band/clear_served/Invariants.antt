@@ -1,11 +1,5 @@
 use Rattle.std.proofs.Common.{◌≡◌, ℕ, ◌*◌, Bool, not, length}
-use Rattle.roman_model.specs.Lists.{all_below}
-use Rattle.roman_model.specs.Arena.{is_beaten}
-use Rattle.roman_model.specs.Numbers.{numbered}
-use Rattle.roman_lanes.specs.Rows.{AreRows, Keeps}
-use Rattle.roman_joint.specs.NamedSys.{system_of}
-use Rattle.roman_joint.specs.Rows.{lanes_in, IsRow}
-use Rattle.roman_joint.specs.Bands.{band_in}
+use Rattle.roman_joint.proofs.Common.{all_below, is_beaten, numbered, AreRows, Keeps, system_of, lanes_in, IsRow, band_in}
 use Rattle.roman_joint.proofs.band.clear_served.Given as goal
 
 -- the pairs that no seat so far serves are left

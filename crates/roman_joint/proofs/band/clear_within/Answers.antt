@@ -1,8 +1,5 @@
 use Rattle.std.proofs.Common.{◌+◌, ◌*◌, arith}
-use Rattle.roman_model.specs.Arena.{is_beaten}
-use Rattle.roman_model.specs.Numbers.{numbered}
-use Rattle.roman_joint.specs.NamedSys.{system_of, seat_of}
-use Rattle.roman_joint.specs.Bands.{band_in, turn_at}
+use Rattle.roman_joint.proofs.Common.{is_beaten, numbered, system_of, seat_of, band_in, turn_at}
 use Rattle.roman_joint.proofs.ArenaFacts.{joint_numbered}
 use Rattle.roman_joint.proofs.SeatLemmas.{seat_placed}
 use Rattle.roman_joint.proofs.GoodLemmas.{known}

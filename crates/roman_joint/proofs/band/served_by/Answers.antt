@@ -1,13 +1,6 @@
 use Rattle.std.proofs.Common.{◌≡◌, ℕ, ◌+◌, ◌*◌, ◌<◌, true, not, ◌&&◌, slice_index, sum_by, ap, ap₂, ◌∙◌, arith}
-use Rattle.roman_model.specs.Lists.{below}
-use Rattle.roman_model.specs.Arena.{is_beaten}
-use Rattle.roman_model.specs.Numbers.{sizes_of, numbered}
-use Rattle.roman_radix.proofs.CallerLemmas.{lanes_few}
-use Rattle.roman_lanes.specs.Rows.{is_on, HasLanes}
-use Rattle.roman_rules.proofs.CallerLemmas.{sum_below_more, ones_counted, ones_few, served_by}
-use Rattle.roman_joint.specs.NamedSys.{system_of}
-use Rattle.roman_joint.specs.Rows.{lanes_in}
-use Rattle.roman_joint.specs.Bands.{band_in}
+use Rattle.roman_joint.proofs.Common.{below, is_beaten, sizes_of, numbered, lanes_few, is_on, HasLanes, sum_below_more, served_by, system_of, lanes_in, band_in}
+use Rattle.roman_rules.proofs.CallerLemmas.{ones_counted, ones_few}
 use Rattle.roman_joint.proofs.GoodLemmas.{full_on, full_off}
 use Rattle.roman_joint.proofs.band.served_by.Goals as goal
 

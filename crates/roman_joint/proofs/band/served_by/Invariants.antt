@@ -1,11 +1,5 @@
 use Rattle.std.proofs.Common.{◌≡◌, ℕ, ◌+◌, ◌*◌, ◌≤◌, Bool, not, sum_by}
-use Rattle.roman_model.specs.Lists.{below}
-use Rattle.roman_model.specs.Numbers.{numbered}
-use Rattle.roman_lanes.specs.Rows.{AreRows}
-use Rattle.roman_rules.proofs.CallerLemmas.{served_by}
-use Rattle.roman_joint.specs.NamedSys.{system_of}
-use Rattle.roman_joint.specs.Rows.{lanes_in, IsRow}
-use Rattle.roman_joint.specs.Bands.{band_in, AllAlive}
+use Rattle.roman_joint.proofs.Common.{below, numbered, AreRows, served_by, system_of, lanes_in, IsRow, band_in, AllAlive}
 use Rattle.roman_joint.proofs.band.served_by.Given as goal
 
 -- the pairs of the rows so far at which the seat serves are counted

@@ -1,10 +1,5 @@
 use Rattle.std.proofs.Common.{◌≡◌, ◌+◌, ◌*◌, ◌/◌, ◌%◌, ◌<◌, ◌≤◌, ◌&&◌, ◌||◌, slice_get, slice_index, sym, ap, ap₂, subst, ◌∙◌}
-use Rattle.roman_model.specs.Numbers.{sizes_of, pair_at}
-use Rattle.roman_lanes.specs.Rows.{is_on}
-use Rattle.roman_lanes.proofs.CallerLemmas.{on_zero}
-use Rattle.roman_joint.specs.NamedSys.{system_of}
-use Rattle.roman_joint.specs.Rows.{lanes_in, low_in, may_rest}
-use Rattle.roman_joint.specs.Bands.{mid_in, band_in}
+use Rattle.roman_joint.proofs.Common.{sizes_of, pair_at, is_on, on_zero, system_of, lanes_in, low_in, may_rest, mid_in, band_in}
 use Rattle.roman_joint.proofs.SplitLemmas.{joint_sizes}
 use Rattle.roman_joint.proofs.LeadLemmas.{lane_part}
 use Rattle.roman_joint.proofs.GoodLemmas.{within, full_on}

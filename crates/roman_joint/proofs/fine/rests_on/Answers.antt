@@ -1,8 +1,5 @@
 use Rattle.std.proofs.Common.{◌≤◌, slice_get, sym, ap, subst, ◌∙◌, arith}
-use Rattle.roman_model.specs.Numbers.{sizes_of}
-use Rattle.roman_joint.specs.NamedSys.{system_of}
-use Rattle.roman_joint.specs.Rows.{low_in, may_rest}
-use Rattle.roman_lanes.proofs.CallerLemmas.{on_zero}
+use Rattle.roman_joint.proofs.Common.{sizes_of, system_of, low_in, may_rest, on_zero}
 use Rattle.roman_joint.proofs.SplitLemmas.{joint_sizes}
 use Rattle.roman_joint.proofs.LeadLemmas.{lane_part}
 use Rattle.roman_joint.proofs.GoodLemmas.{within, full_on}

@@ -1,12 +1,5 @@
 use Rattle.std.proofs.Common.{◌/◌, ◌&&◌, slice_get, slice_index, ap, ◌∙◌, arith}
-use Rattle.std.proofs.lemmas.Bool.{le-ltb, lt-ltb}
-use Rattle.std.proofs.lemmas.Nat.{mod_below}
-use Rattle.roman_model.specs.Numbers.{sizes_of}
-use Rattle.roman_radix.specs.Radix.{stride_of}
-use Rattle.roman_radix.proofs.CallerLemmas.{AreSizes-index}
-use Rattle.roman_joint.specs.NamedSys.{system_of}
-use Rattle.roman_joint.specs.Rows.{lane_state_of, may_rest}
-use Rattle.roman_lanes.proofs.CallerLemmas.{on_zero}
+use Rattle.roman_joint.proofs.Common.{le-ltb, lt-ltb, mod_below, sizes_of, stride_of, AreSizes-index, system_of, lane_state_of, may_rest, on_zero}
 use Rattle.roman_joint.proofs.SplitLemmas.{joint_sizes}
 use Rattle.roman_joint.proofs.GoodLemmas.{within, below_more, state_is}
 use Rattle.roman_joint.proofs.AllowedLemmas.{same_state}

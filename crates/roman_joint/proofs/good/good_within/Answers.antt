@@ -1,4 +1,4 @@
-use Rattle.roman_joint.specs.NamedSys.{system_of, seat_of}
+use Rattle.roman_joint.proofs.Common.{system_of, seat_of}
 use Rattle.roman_joint.proofs.ArenaFacts.{joint_numbered}
 use Rattle.roman_joint.proofs.SeatLemmas.{seat_placed}
 use Rattle.roman_joint.proofs.GoodLemmas.{known}

@@ -1,6 +1,5 @@
 use Rattle.std.proofs.Common.{arith}
-use Rattle.std.proofs.lemmas.List.{length-map}
-use Rattle.roman_radix.proofs.CallerLemmas.{low_of-le}
+use Rattle.roman_joint.proofs.Common.{length-map, low_of-le}
 use Rattle.roman_joint.proofs.good.serving.Goals as goal
 
 pub returns-then-alive-eq0-clause-few : goal.returns-then-alive-eq0-clause-few

@@ -1,6 +1,5 @@
 use Rattle.std.proofs.Common.{◌≡◌, Bool, true, false, cond, refl, arith}
-use Rattle.std.proofs.lemmas.Bool.{cases_eq}
-use Rattle.roman_lanes.proofs.CallerLemmas.{on_zero}
+use Rattle.roman_joint.proofs.Common.{cases_eq, on_zero}
 use Rattle.roman_joint.proofs.GoodLemmas.{state_is}
 use Rattle.roman_joint.proofs.layout.first_lanes.Goals as goal
 

@@ -1,9 +1,5 @@
 use Rattle.std.proofs.Common.{ℕ, get_or, sym, ◌∙◌, arith}
-use Rattle.std.proofs.lemmas.List.{take_all}
-use Rattle.std.proofs.lemmas.Nat.Bits.{shr_and_one}
-use Rattle.roman_joint.specs.NamedSys.{system_of}
-use Rattle.roman_joint.specs.Marks.{front_env}
-use Rattle.roman_joint.specs.Marks.{MarksEnv}
+use Rattle.roman_joint.proofs.Common.{take_all, shr_and_one, system_of, front_env, MarksEnv}
 use Rattle.roman_joint.proofs.MarkLemmas.{grows_on, env_on, more_below, each_in, count_more, none_leads}
 use Rattle.roman_joint.proofs.marks.mark_action.Goals as goal
 

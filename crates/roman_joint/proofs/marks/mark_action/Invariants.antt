@@ -1,9 +1,5 @@
 use Rattle.std.proofs.Common.{◌≡◌, ℕ, ◌+◌, ◌<◌, length, take, get_or}
-use Rattle.std.specs.List.{flat_map}
-use Rattle.roman_model.specs.System.{Pair}
-use Rattle.roman_joint.specs.NamedSys.{system_of}
-use Rattle.roman_joint.specs.Marks.{front_env}
-use Rattle.roman_joint.specs.Marks.{Grows, MarksEnv, IsAt}
+use Rattle.roman_joint.proofs.Common.{flat_map, Pair, system_of, front_env, Grows, MarksEnv, IsAt}
 use Rattle.roman_joint.proofs.marks.mark_action.Given as goal
 
 -- the bands of the environment's states so far are marked

@@ -1,8 +1,5 @@
 use Rattle.std.proofs.Common.{ℕ, get_or, sym, arith}
-use Rattle.std.proofs.lemmas.List.{take_all}
-use Rattle.roman_joint.specs.NamedSys.{system_of}
-use Rattle.roman_joint.specs.Marks.{front_target}
-use Rattle.roman_joint.specs.Marks.{MarksTurn}
+use Rattle.roman_joint.proofs.Common.{take_all, system_of, front_target, MarksTurn}
 use Rattle.roman_joint.proofs.MarkLemmas.{grows_on, turn_on, more_below, each_in, count_more}
 use Rattle.roman_joint.proofs.marks.mark_env.Goals as goal
 

@@ -1,11 +1,5 @@
 use Rattle.std.proofs.Common.{ℕ, ◌+◌, ◌≡◌, ◌/◌, ◌<◌, length}
-use Rattle.std.specs.List.{flat_map}
-use Rattle.roman_model.specs.Lists.{below}
-use Rattle.roman_model.specs.System.{Pair}
-use Rattle.roman_joint.specs.NamedSys.{system_of}
-use Rattle.roman_joint.specs.Backward.{from_seat}
-use Rattle.roman_joint.specs.Bands.{band_in}
-use Rattle.roman_joint.specs.Marks.{Grows, IsMarked, row_at, MarksSeat, IsAt}
+use Rattle.roman_joint.proofs.Common.{flat_map, below, Pair, system_of, from_seat, band_in, Grows, IsMarked, row_at, MarksSeat, IsAt}
 use Rattle.roman_joint.proofs.marks.mark_turn.Given as goal
 
 -- the bands of the seats so far are marked

@@ -1,5 +1,5 @@
 use Rattle.std.proofs.Common.{◌≡◌, ℕ, ◌+◌, ◌*◌, Bool, not, drop, All}
-use Rattle.std.specs.List.{find}
+use Rattle.roman_joint.proofs.Common.{find}
 use Rattle.roman_joint.proofs.outcomes.state_gone.Given as goal
 
 -- the first pair that is gone is the first one among those that are left

@@ -1,8 +1,5 @@
 use Rattle.std.proofs.Common.{◌≡◌, ◌+◌, ◌-◌, ◌*◌, ◌/◌, ◌%◌, ◌<◌, not, ◌&&◌, slice_index, inl, inr, sym, ap, ap₂, ◌∙◌, arith}
-use Rattle.std.specs.List.{list_any}
-use Rattle.std.proofs.lemmas.Bool.{cases_lt}
-use Rattle.std.proofs.lemmas.Nat.{mod_below}
-use Rattle.roman_lanes.specs.Rows.{is_on}
+use Rattle.roman_joint.proofs.Common.{list_any, cases_lt, mod_below, is_on}
 use Rattle.roman_joint.proofs.RunLemmas.{state_at, place_of, in_block}
 use Rattle.roman_joint.proofs.runs.clear_state.Goals as goal
 

@@ -1,6 +1,5 @@
 use Rattle.std.proofs.Common.{◌≡◌, ◌≢◌, ℕ, ◌+◌, ◌-◌, ◌*◌, ◌/◌, ◌%◌, ◌<◌, ◌≤◌, false, not, ◌&&◌, length, slice_index}
-use Rattle.std.specs.List.{list_any}
-use Rattle.roman_lanes.specs.Rows.{is_on}
+use Rattle.roman_joint.proofs.Common.{list_any, is_on}
 use Rattle.roman_joint.proofs.runs.clear_state.Given as goal
 
 -- the blocks so far are cleared

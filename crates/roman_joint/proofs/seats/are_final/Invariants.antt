@@ -1,8 +1,6 @@
 use Rattle.std.proofs.Common.{◌≡◌, ◌<◌, map, drop}
-use Rattle.roman_model.specs.Lists.{product_of}
-use Rattle.roman_model.specs.System.{all_final}
-use Rattle.roman_model.specs.Numbers.{pair_at, states_at}
-use Rattle.roman_joint.specs.NamedSys.{seat_of}
+use Rattle.roman_joint.proofs.Common.{product_of, all_final, pair_at, seat_of}
+use Rattle.roman_model.specs.Numbers.{states_at}
 use Rattle.roman_joint.proofs.seats.are_final.Given as goal
 
 -- the result is that of the services that are left, at the rest of the number

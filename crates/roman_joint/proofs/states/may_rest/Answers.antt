@@ -1,7 +1,5 @@
 use Rattle.std.proofs.Common.{◌||◌, not, ◌∙◌, sym, ap, arith}
-use Rattle.roman_model.specs.System.{is_final}
-use Rattle.roman_joint.specs.NamedSys.{seat_of}
-use Rattle.roman_joint.specs.Rows.{may_rest}
+use Rattle.roman_joint.proofs.Common.{is_final, seat_of, may_rest}
 use Rattle.roman_joint.proofs.SeatLemmas.{seat_read, seat_placed}
 use Rattle.roman_joint.proofs.states.may_rest.Goals as goal
 

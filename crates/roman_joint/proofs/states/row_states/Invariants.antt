@@ -1,9 +1,5 @@
 use Rattle.std.proofs.Common.{◌≡◌, ℕ, ◌/◌, ◌%◌, ◌<◌, length, drop, slice_index}
-use Rattle.roman_model.specs.Lists.{product_of}
-use Rattle.roman_model.specs.Numbers.{sizes_of}
-use Rattle.roman_radix.specs.Radix.{stride_of}
-use Rattle.roman_joint.specs.NamedSys.{system_of}
-use Rattle.roman_joint.specs.Rows.{lanes_in}
+use Rattle.roman_joint.proofs.Common.{product_of, sizes_of, stride_of, system_of, lanes_in}
 use Rattle.roman_joint.proofs.states.row_states.Given as goal
 
 -- the states of the services so far, and the number of the states after them

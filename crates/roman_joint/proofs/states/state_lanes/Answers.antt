@@ -1,13 +1,6 @@
 use Rattle.std.proofs.Common.{◌≡◌, ℕ, ◌*◌, ◌^◌, ◌%◌, ◌<◌, ◌≤◌, ◌&&◌, length, slice_index, sym, ap, ap₂, subst, ◌∙◌, arith}
-use Rattle.std.proofs.Math.Bool.{and-true, and-false}
-use Rattle.roman_model.specs.Numbers.{Sizes}
-use Rattle.roman_radix.specs.Radix.{IsSizes, stride_of}
-use Rattle.roman_radix.specs.Rows.{low_of}
-use Rattle.roman_radix.proofs.CallerLemmas.{lanes_few}
-use Rattle.roman_lanes.specs.Rows.{is_on}
-use Rattle.roman_joint.specs.Rows.{lane_has_state, AreRowsOf}
-use Rattle.roman_joint.specs.declared.layout.Rows.{Rows}
-use Rattle.roman_lanes.proofs.CallerLemmas.{on_and}
+use Rattle.roman_joint.proofs.Common.{and-true, Sizes, IsSizes, stride_of, low_of, lanes_few, is_on, lane_has_state, AreRowsOf, Rows, on_and}
+use Rattle.std.proofs.Math.Bool.{and-false}
 use Rattle.roman_joint.proofs.LeadLemmas.{stride_positive}
 use Rattle.roman_joint.proofs.GoodLemmas.{full_on, full_off, state_below, state_shift}
 use Rattle.roman_joint.proofs.states.state_lanes.Goals as goal

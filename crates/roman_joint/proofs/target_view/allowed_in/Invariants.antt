@@ -1,8 +1,5 @@
 use Rattle.std.proofs.Common.{◌≡◌, ℕ, ◌<◌, ◌≤◌, ◌&&◌, not}
-use Rattle.std.specs.Int.{bit_at}
-use Rattle.roman_model.specs.Lists.{is_empty}
-use Rattle.roman_model.specs.SystemArena.{env_next, beh_next}
-use Rattle.roman_rules.specs.Bits.{bit_of}
+use Rattle.roman_joint.proofs.Common.{bit_at, is_empty, env_next, beh_next, bit_of}
 use Rattle.roman_joint.proofs.target_view.allowed_in.Given as goal
 
 -- the set is right for the actions so far, and has no other action

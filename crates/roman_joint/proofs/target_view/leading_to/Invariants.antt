@@ -1,7 +1,5 @@
 use Rattle.std.proofs.Common.{◌≡◌, ℕ, ◌<◌, []}
-use Rattle.std.specs.Int.{bit_at}
-use Rattle.roman_model.specs.Lists.{IsIn}
-use Rattle.roman_model.specs.SystemArena.{env_prev, beh_prev}
+use Rattle.roman_joint.proofs.Common.{bit_at, IsIn, env_prev, beh_prev}
 use Rattle.roman_joint.proofs.target_view.leading_to.Given as goal
 
 -- of the actions so far, those outside the set don't lead there

@@ -1,6 +1,5 @@
 use Rattle.std.proofs.Common.{◌≡◌, ℕ, ◌<◌, List, [], length, get_or, sym, ap, ◌∙◌, subst}
-use Rattle.roman_model.specs.SystemArena.{env_prev, beh_prev}
-use Rattle.roman_model.proofs.CallerLemmas.{empty_is}
+use Rattle.roman_joint.proofs.Common.{env_prev, beh_prev, empty_is}
 use Rattle.roman_joint.proofs.SeatLemmas.{len_empty}
 use Rattle.roman_joint.proofs.TargetViewLemmas.{none_more}
 use Rattle.roman_joint.proofs.target_view.may_lead.Goals as goal

@@ -1,5 +1,5 @@
 use Rattle.std.proofs.Common.{◌+◌, sym, ◌∙◌, arith}
-use Rattle.std.proofs.lemmas.List.{drop_all}
+use Rattle.roman_joint.proofs.Common.{drop_all}
 use Rattle.roman_joint.proofs.walk.one_more.Goals as goal
 
 pub returns-else-taken-count-clause-same : goal.returns-else-taken-count-clause-same

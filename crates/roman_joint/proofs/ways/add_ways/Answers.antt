@@ -1,11 +1,5 @@
 use Rattle.std.proofs.Common.{◌≡◌, ℕ, ◌+◌, ◌<◌, ◌==◌, ◌&&◌, ◌||◌, eqb, List, length, get_or, slice_index, ap, ◌∙◌, arith}
-use Rattle.std.proofs.Math.ListN.{set}
-use Rattle.std.specs.Prelude.{bit_or}
-use Rattle.std.proofs.lemmas.Bool.{cases_eq}
-use Rattle.std.proofs.lemmas.Bool.Decides.{nat_tests}
-use Rattle.std.proofs.lemmas.List.{get_or-set_same, get_or-set_other, length-set}
-use Rattle.roman_lanes.specs.Rows.{is_on}
-use Rattle.roman_lanes.proofs.CallerLemmas.{on_or}
+use Rattle.roman_joint.proofs.Common.{set, bit_or, cases_eq, nat_tests, get_or-set_same, get_or-set_other, length-set, is_on, on_or}
 use Rattle.roman_joint.proofs.WordLemmas.{some_more}
 use Rattle.roman_joint.proofs.ways.add_ways.Goals as goal
 

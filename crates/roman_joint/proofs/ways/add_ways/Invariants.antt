@@ -1,6 +1,5 @@
 use Rattle.std.proofs.Common.{◌≡◌, ℕ, ◌+◌, ◌==◌, ◌&&◌, ◌||◌, length, take, slice_index}
-use Rattle.std.specs.List.{list_any}
-use Rattle.roman_lanes.specs.Rows.{is_on}
+use Rattle.roman_joint.proofs.Common.{list_any, is_on}
 use Rattle.roman_joint.proofs.ways.add_ways.Given as goal
 
 -- the ways to the states so far

@@ -1,17 +1,6 @@
 use Rattle.std.proofs.Common.{◌≡◌, ℕ, zero, suc, ◌+◌, ◌-◌, ◌/◌, ◌<◌, ◌==◌, true, false, not, ◌&&◌, ◌||◌, eqb, ltb, replicate, slice_index, refl, sym, ap, ap₂, ◌∙◌, arith}
-use Rattle.std.specs.List.{list_any}
-use Rattle.std.proofs.lemmas.Bool.{lt-ltb, le-ltb}
-use Rattle.std.proofs.lemmas.Bool.Decides.{nat_tests}
-use Rattle.std.proofs.lemmas.Nat.{mod_below}
-use Rattle.roman_model.specs.Lists.{is_empty}
-use Rattle.roman_model.proofs.CallerLemmas.{any_same}
-use Rattle.roman_model.specs.SystemArena.{beh_next}
-use Rattle.roman_radix.specs.Radix.{stride_of}
-use Rattle.roman_radix.proofs.CallerLemmas.{AreSizes-index}
-use Rattle.roman_lanes.specs.Rows.{is_on}
-use Rattle.roman_joint.specs.Rows.{lane_state_of}
+use Rattle.roman_joint.proofs.Common.{list_any, lt-ltb, le-ltb, nat_tests, mod_below, is_empty, any_same, beh_next, stride_of, AreSizes-index, is_on, lane_state_of, on_zero}
 use Rattle.roman_joint.proofs.SeatLemmas.{len_empty}
-use Rattle.roman_lanes.proofs.CallerLemmas.{on_zero}
 use Rattle.roman_joint.proofs.GoodLemmas.{below_more, state_is}
 use Rattle.roman_joint.proofs.AllowedLemmas.{same_state}
 use Rattle.roman_joint.proofs.ways.ways_of.Goals as goal

@@ -1,10 +1,5 @@
 use Rattle.std.proofs.Common.{◌≡◌, ℕ, ◌+◌, ◌<◌, ◌≤◌, ◌==◌, false, not, ◌&&◌, length, slice_index, ltb}
-use Rattle.std.specs.List.{list_any}
-use Rattle.roman_model.specs.Lists.{is_empty}
-use Rattle.roman_model.specs.SystemArena.{beh_next}
-use Rattle.roman_radix.specs.Rows.{lanes_of}
-use Rattle.roman_lanes.specs.Rows.{is_on}
-use Rattle.roman_joint.specs.Rows.{lane_state_of}
+use Rattle.roman_joint.proofs.Common.{list_any, is_empty, beh_next, lanes_of, is_on, lane_state_of}
 use Rattle.roman_joint.proofs.ways.ways_of.Given as goal
 
 -- the ways from the states so far

@@ -1,6 +1,5 @@
 use Rattle.std.proofs.Common.{ℕ, ◌+◌, ◌*◌, not, ◌&&◌, slice_index, ap, ◌∙◌, arith}
-use Rattle.std.specs.List.{list_any}
-use Rattle.roman_lanes.specs.Rows.{is_on}
+use Rattle.roman_joint.proofs.Common.{list_any, is_on}
 use Rattle.roman_joint.proofs.WordLemmas.{none_after}
 use Rattle.roman_joint.proofs.words.all_alive.Goals as goal
 

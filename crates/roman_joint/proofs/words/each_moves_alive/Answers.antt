@@ -1,9 +1,6 @@
 use Rattle.std.proofs.Common.{◌≡◌, ℕ, ◌+◌, ◌-◌, ◌<◌, Bool, true, false, not, ◌&&◌, get_or, bit_and, refl, sym, ap, ◌∙◌, arith, rules}
-use Rattle.std.proofs.lemmas.Simd.{length-zip2, get_or-zip2}
-use Rattle.roman_lanes.specs.Rows.{is_on}
-use Rattle.roman_joint.specs.declared.moves.Move.{Move}
+use Rattle.roman_joint.proofs.Common.{length-zip2, get_or-zip2, is_on, Move, on_and}
 use Rattle.roman_joint.proofs.Finds.{in_at}
-use Rattle.roman_lanes.proofs.CallerLemmas.{on_and}
 use Rattle.roman_joint.proofs.WordLemmas.{alive_more}
 use Rattle.roman_joint.proofs.words.each_moves_alive.Goals as goal
 

@@ -1,8 +1,5 @@
 use Rattle.std.proofs.Common.{◌≡◌, ℕ, ◌+◌, ◌-◌, ◌<◌, ◌≤◌, true, false, not, ◌&&◌, length, take, slice_index}
-use Rattle.std.specs.List.{list_any}
-use Rattle.roman_model.specs.Lists.{IsIn}
-use Rattle.roman_lanes.specs.Rows.{is_on}
-use Rattle.roman_joint.specs.declared.moves.Move.{Move}
+use Rattle.roman_joint.proofs.Common.{list_any, IsIn, is_on, Move}
 use Rattle.roman_joint.proofs.words.each_moves_alive.Given as goal
 
 -- the lanes from which the moves so far lead to alive lanes

@@ -1,6 +1,5 @@
 use Rattle.std.proofs.Common.{◌≡◌, ℕ, ◌+◌, ◌*◌, not, get_or, bit_and, sym, ap, ◌∙◌, arith}
-use Rattle.std.proofs.lemmas.Simd.{length-zip2, get_or-zip2}
-use Rattle.roman_lanes.specs.Rows.{is_on}
+use Rattle.roman_joint.proofs.Common.{length-zip2, get_or-zip2, is_on}
 use Rattle.roman_joint.proofs.WordLemmas.{alive_more, not_not}
 use Rattle.roman_joint.proofs.words.each_rows_alive.Goals as goal
 

@@ -1,6 +1,5 @@
 use Rattle.std.proofs.Common.{◌≡◌, ℕ, ◌+◌, ◌*◌, not, ◌&&◌, take, slice_index}
-use Rattle.std.specs.List.{list_any}
-use Rattle.roman_lanes.specs.Rows.{is_on}
+use Rattle.roman_joint.proofs.Common.{list_any, is_on}
 use Rattle.roman_joint.proofs.words.rows_alive.Given as goal
 
 -- the lanes that are alive in the rows of the states so far

@@ -1,9 +1,7 @@
 use Rattle.std.proofs.Common.{get_or, replicate, sym, ap, ◌∙◌, arith}
-use Rattle.std.specs.Prelude.{bit_or}
+use Rattle.roman_joint.proofs.Common.{bit_or, length-zip2, length-replicate, get_or-zip2, get_or-replicate, is_on, on_or}
 use Rattle.std.specs.Int.{bit_not, w64}
-use Rattle.std.proofs.lemmas.Simd.{length-zip2, length-replicate, get_or-zip2, get_or-replicate}
-use Rattle.roman_lanes.specs.Rows.{is_on}
-use Rattle.roman_lanes.proofs.CallerLemmas.{on_or, on_not}
+use Rattle.roman_lanes.proofs.CallerLemmas.{on_not}
 use Rattle.roman_joint.proofs.words.unmoved.Goals as goal
 
 pub returns : goal.returns

@@ -1,9 +1,6 @@
 -- The place among the behaviours is the place among their names.
 use Rattle.std.proofs.Common.{rules, tests, sym, ◌∙◌}
-use Rattle.std.specs.Str.{bytes_eq}
-use Rattle.std.proofs.lemmas.Iterator.{YieldsList-from_slice}
-use Rattle.std.proofs.lemmas.Iterator.Search.{position_from_yields_List}
-use Rattle.roman_library.specs.Library.{behaviour_name}
+use Rattle.roman_library.proofs.Common.{bytes_eq, YieldsList-from_slice, position_from_yields_List, behaviour_name}
 use Rattle.roman_library.proofs.PlaceLemmas.{place_of-map}
 use Rattle.roman_library.proofs.names.place_of_behaviour.Goals as goal
 

@@ -1,5 +1,5 @@
 -- A target that was read is over its environment.
-use Rattle.serde_json.specs.View.{view}
+use Rattle.roman_library.proofs.Common.{view}
 use Rattle.roman_library.proofs.LibraryLemmas.{target_is_over}
 use Rattle.roman_library.proofs.parts.target_over.Goals as goal
 

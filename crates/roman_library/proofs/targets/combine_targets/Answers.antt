@@ -1,9 +1,7 @@
 -- The combined parts are those of a library, and an error is the broken rule.
 use Rattle.std.proofs.Common.{sym, subst}
 use Rattle.roman_parts.specs.Reading.{Fails}
-use Rattle.roman_parts.specs.declared.error.PartError.{PartError}
-use Rattle.roman_library.specs.Documents.{combined_of}
-use Rattle.roman_library.specs.Library.{ArePartsOf}
+use Rattle.roman_library.proofs.Common.{PartError, combined_of, ArePartsOf}
 use Rattle.roman_library.proofs.TargetLemmas.{made_gives, broken_gives, combined_parts_known}
 use Rattle.roman_library.proofs.targets.combine_targets.Goals as goal
 

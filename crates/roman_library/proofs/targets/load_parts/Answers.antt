@@ -1,5 +1,5 @@
 -- The combined targets of a document are its parts.
-use Rattle.serde_json.specs.View.{view}
+use Rattle.roman_library.proofs.Common.{view}
 use Rattle.roman_library.proofs.PlacedLemmas.{several_parts}
 use Rattle.roman_library.proofs.targets.load_parts.Goals as goal
 

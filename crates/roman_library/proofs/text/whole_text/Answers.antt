@@ -1,5 +1,5 @@
 use Rattle.std.proofs.Common.{rules, ◌≡◌, ℕ, length, subst, Option, IfSome}
-use Rattle.roman_io.specs.Shelf.{Fetches, Texts, shelf_text}
+use Rattle.roman_library.proofs.Common.{Fetches, Texts, shelf_text}
 use Rattle.roman_library.proofs.PrefixLemmas.{fetched_more}
 use Rattle.roman_library.proofs.text.whole_text.Goals as goal
 

@@ -1,7 +1,5 @@
 use Rattle.std.proofs.Common.{◌≡◌, slice_get, flat_map}
-use Rattle.roman_model.specs.Lists.{below}
-use Rattle.roman_multi.specs.Combining.{machines}
-use Rattle.roman_multi.specs.Lists.{used_at}
+use Rattle.roman_multi.proofs.Common.{below, machines, used_at}
 use Rattle.roman_multi.proofs.asking.requests.Given as goal
 
 abbrev pub invariant-loop-i : goal.invariant-loop-i

@@ -1,8 +1,5 @@
 use Rattle.std.proofs.Common.{◌≡◌, ◌<◌, length, ap, not, sym, ◌∙◌, arith}
-use Rattle.std.specs.List.{list_any}
-use Rattle.roman_model.specs.Lists.{below, is_empty}
-use Rattle.roman_model.specs.SystemArena.{beh_next}
-use Rattle.roman_parts.proofs.CallerLemmas.{IsOver-states}
+use Rattle.roman_multi.proofs.Common.{list_any, below, is_empty, beh_next, IsOver-states}
 use Rattle.roman_multi.proofs.ListLemmas.{any_at}
 use Rattle.roman_multi.proofs.asking.uses.Goals as goal
 

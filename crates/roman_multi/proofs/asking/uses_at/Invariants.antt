@@ -1,7 +1,5 @@
 use Rattle.std.proofs.Common.{IsFalse, not}
-use Rattle.std.specs.List.{list_any}
-use Rattle.roman_model.specs.Lists.{below, is_empty}
-use Rattle.roman_model.specs.SystemArena.{beh_next}
+use Rattle.roman_multi.proofs.Common.{list_any, below, is_empty, beh_next}
 use Rattle.roman_multi.proofs.asking.uses_at.Given as goal
 
 abbrev pub invariant-loop-e : goal.invariant-loop-e

@@ -1,7 +1,5 @@
 use Rattle.std.proofs.Common.{◌≡◌, ◌<◌, ◌≤◌, ap, sym, ◌∙◌, length, slice_get, subst}
-use Rattle.roman_model.specs.declared.limits.TheConstants.{MAX_STATES}
-use Rattle.roman_parts.proofs.CallerLemmas.{IsOver-states}
-use Rattle.roman_multi.specs.Lists.{listed_moves, moves_on}
+use Rattle.roman_multi.proofs.Common.{MAX_STATES, IsOver-states, listed_moves, moves_on}
 use Rattle.roman_multi.proofs.PartLemmas.{AreListsOf, made_behaviour_is, made_finals_below, made_steps_in_range, if_ok_three}
 use Rattle.roman_multi.proofs.behaviours.combine_behaviour.Goals as goal
 

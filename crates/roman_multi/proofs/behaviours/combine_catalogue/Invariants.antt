@@ -1,5 +1,5 @@
 use Rattle.std.proofs.Common.{◌≡◌, map, take}
-use Rattle.roman_multi.specs.Combining.{combined_behaviour}
+use Rattle.roman_multi.proofs.Common.{combined_behaviour}
 use Rattle.roman_multi.proofs.behaviours.combine_catalogue.Given as goal
 
 abbrev pub invariant-loop-behaviour : goal.invariant-loop-behaviour

@@ -1,6 +1,5 @@
 use Rattle.std.proofs.Common.{◌≡◌, filter}
-use Rattle.roman_model.specs.Lists.{below}
-use Rattle.roman_model.specs.System.{is_final}
+use Rattle.roman_multi.proofs.Common.{below, is_final}
 use Rattle.roman_multi.proofs.behaviours.finals_of.Given as goal
 
 abbrev pub invariant-loop-b : goal.invariant-loop-b

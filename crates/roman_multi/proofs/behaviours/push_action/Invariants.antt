@@ -1,6 +1,5 @@
 use Rattle.std.proofs.Common.{◌≡◌, ◌++◌}
-use Rattle.roman_model.specs.SystemArena.{beh_next}
-use Rattle.roman_multi.specs.Lists.{moves_by}
+use Rattle.roman_multi.proofs.Common.{beh_next, moves_by}
 use Rattle.roman_multi.proofs.behaviours.push_action.Given as goal
 
 abbrev pub invariant-loop-e : goal.invariant-loop-e

@@ -1,6 +1,5 @@
 use Rattle.std.proofs.Common.{arith}
-use Rattle.std.proofs.lemmas.List.{length-map}
-use Rattle.roman_model.proofs.CallerLemmas.{length-below}
+use Rattle.roman_multi.proofs.Common.{length-map, length-below}
 use Rattle.roman_multi.proofs.MoveLemmas.{requests_in_range}
 use Rattle.roman_multi.proofs.combining.names_of.Goals as goal
 

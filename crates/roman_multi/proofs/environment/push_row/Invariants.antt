@@ -1,6 +1,5 @@
 use Rattle.std.proofs.Common.{◌≡◌, ◌++◌, map, flat_map, slice_get}
-use Rattle.roman_model.specs.Lists.{below}
-use Rattle.roman_multi.specs.Lists.{next_on}
+use Rattle.roman_multi.proofs.Common.{below, next_on}
 use Rattle.roman_multi.proofs.environment.push_row.Given as goal
 
 abbrev pub invariant-loop-n : goal.invariant-loop-n

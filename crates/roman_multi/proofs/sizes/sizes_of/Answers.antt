@@ -1,9 +1,5 @@
 use Rattle.std.proofs.Common.{◌≡◌, ◌++◌, ◌∷◌, [], ap, ◌∙◌, sym, length, get_or, take, arith}
-use Rattle.roman_model.specs.Combined.{target_sizes}
-use Rattle.roman_parts.proofs.CallerLemmas.{IsOver-states}
-use Rattle.roman_parts.specs.Named.{IsTarget}
-use Rattle.roman_multi.specs.Combining.{machines}
-use Rattle.roman_multi.specs.declared.parts.Named.{Named}
+use Rattle.roman_multi.proofs.Common.{target_sizes, IsOver-states, IsTarget, machines, Named}
 use Rattle.roman_multi.proofs.KnownLemmas.{known_more, sizes_more}
 use Rattle.roman_multi.proofs.sizes.sizes_of.Goals as goal
 

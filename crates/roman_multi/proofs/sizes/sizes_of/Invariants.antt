@@ -1,7 +1,5 @@
 use Rattle.std.proofs.Common.{◌≡◌, take, All}
-use Rattle.roman_model.specs.Combined.{target_sizes}
-use Rattle.roman_parts.specs.Named.{IsTarget}
-use Rattle.roman_multi.specs.Combining.{machines}
+use Rattle.roman_multi.proofs.Common.{target_sizes, IsTarget, machines}
 use Rattle.roman_multi.proofs.sizes.sizes_of.Given as goal
 
 abbrev pub invariant-loop-i : goal.invariant-loop-i

@@ -1,6 +1,5 @@
 use Rattle.std.proofs.Common.{sym, subst, arith, IsTrue}
-use Rattle.std.proofs.lemmas.List.{length-map}
-use Rattle.roman_read.specs.Names.{is_name}
+use Rattle.roman_multi.proofs.Common.{length-map, is_name}
 use Rattle.roman_multi.proofs.TableLemmas.{read_is_name, made_name, made_is, word_at, new_more, found_before, named_more}
 use Rattle.roman_multi.proofs.tables.table_of.Goals as goal
 

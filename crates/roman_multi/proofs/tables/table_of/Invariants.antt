@@ -1,7 +1,5 @@
 use Rattle.std.proofs.Common.{◌≡◌, map, take, IsFalse}
-use Rattle.std.specs.List.{list_any}
-use Rattle.roman_model.specs.Lists.{below}
-use Rattle.roman_multi.specs.Combining.{stands_before}
+use Rattle.roman_multi.proofs.Common.{list_any, below, stands_before}
 use Rattle.roman_multi.proofs.tables.table_of.Given as goal
 
 abbrev pub invariant-loop-word : goal.invariant-loop-word

@@ -1,9 +1,5 @@
 use Rattle.std.proofs.Common.{◌≡◌, ◌&&◌, ap, sym, ◌∙◌, length, slice_index, get_or, arith, add-one, drop, suc}
-use Rattle.roman_model.specs.Combined.{target_sizes}
-use Rattle.roman_model.specs.Numbers.{states_at, pair_at}
-use Rattle.roman_multi.specs.Combining.{machines}
-use Rattle.roman_model.specs.Several.{are_final}
-use Rattle.roman_model.proofs.CallerLemmas.{length-states_at}
+use Rattle.roman_multi.proofs.Common.{target_sizes, states_at, pair_at, machines, are_final, length-states_at}
 use Rattle.roman_multi.proofs.KnownLemmas.{machine_at, sizes_length}
 use Rattle.roman_multi.proofs.FlatLemmas.{part_is, part_below}
 use Rattle.roman_multi.proofs.TargetLemmas.{final_drop}

@@ -1,8 +1,5 @@
 use Rattle.std.proofs.Common.{◌≡◌, drop}
-use Rattle.roman_model.specs.Combined.{target_sizes}
-use Rattle.roman_model.specs.Numbers.{states_at}
-use Rattle.roman_model.specs.Several.{are_final}
-use Rattle.roman_multi.specs.Combining.{machines}
+use Rattle.roman_multi.proofs.Common.{target_sizes, states_at, are_final, machines}
 use Rattle.roman_multi.proofs.target.are_final.Given as goal
 
 abbrev pub invariant-loop-i : goal.invariant-loop-i

@@ -1,14 +1,5 @@
 use Rattle.std.proofs.Common.{◌<◌, ◌≤◌, List, ap, sym, ◌∙◌, length, slice_get, subst}
-use Rattle.std.proofs.lemmas.Result.{IfOk-weaker}
-use Rattle.roman_model.specs.Lists.{product_of}
-use Rattle.roman_model.specs.Combined.{target_sizes, combined_target}
-use Rattle.roman_model.specs.Numbers.{states_at}
-use Rattle.roman_model.specs.declared.limits.TheConstants.{MAX_STATES, MAX_ACTIONS}
-use Rattle.roman_model.specs.declared.request.Request.{Request}
-use Rattle.roman_model.specs.System.{IsDeterministic}
-use Rattle.roman_model.proofs.CallerLemmas.{combined_system}
-use Rattle.roman_multi.specs.Combining.{machines}
-use Rattle.roman_multi.specs.Lists.{listed_moves, next_of_all}
+use Rattle.roman_multi.proofs.Common.{IfOk-weaker, product_of, target_sizes, combined_target, states_at, MAX_STATES, MAX_ACTIONS, Request, IsDeterministic, combined_system, machines, listed_moves, next_of_all}
 use Rattle.roman_multi.proofs.KnownLemmas.{several, several_is}
 use Rattle.roman_multi.proofs.MoveLemmas.{requests_in_range}
 use Rattle.roman_multi.proofs.TargetLemmas.{AreListsOf, made_target_is, made_steps_in_range, made_finals_below}

@@ -1,8 +1,5 @@
 use Rattle.std.proofs.Common.{◌≡◌, ◌++◌, slice_get}
-use Rattle.roman_model.specs.Combined.{target_sizes}
-use Rattle.roman_model.specs.Numbers.{states_at}
-use Rattle.roman_multi.specs.Combining.{machines}
-use Rattle.roman_multi.specs.Lists.{moves_from, next_of_all}
+use Rattle.roman_multi.proofs.Common.{target_sizes, states_at, machines, moves_from, next_of_all}
 use Rattle.roman_multi.proofs.target.push_state.Given as goal
 
 abbrev pub invariant-loop-n : goal.invariant-loop-n

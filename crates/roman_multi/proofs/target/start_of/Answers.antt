@@ -1,7 +1,6 @@
 use Rattle.std.proofs.Common.{ap, ◌∙◌}
-use Rattle.roman_multi.specs.Combining.{machines}
+use Rattle.roman_multi.proofs.Common.{machines, take_all}
 use Rattle.std.proofs.Common.{map}
-use Rattle.std.proofs.lemmas.List.{take_all}
 use Rattle.roman_multi.proofs.FlatLemmas.{starts_pair}
 use Rattle.roman_multi.proofs.target.start_of.Goals as goal
 

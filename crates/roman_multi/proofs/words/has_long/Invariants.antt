@@ -1,6 +1,5 @@
 use Rattle.std.proofs.Common.{◌≡◌, map, drop}
-use Rattle.std.specs.List.{list_any}
-use Rattle.roman_multi.specs.Combining.{is_long}
+use Rattle.roman_multi.proofs.Common.{list_any, is_long}
 use Rattle.roman_multi.proofs.words.has_long.Given as goal
 
 abbrev pub invariant-loop-word : goal.invariant-loop-word

@@ -1,11 +1,6 @@
 use Rattle.std.proofs.Common.{◌≡◌, ◌<◌, ◌==◌, ◌++◌, ◌∷◌, [], ap, ap₂, sym, ◌∙◌, length, slice_index, get_or, subst, arith, List, ℕ}
-use Rattle.std.specs.Prelude.{if◌then◌else◌, slice_index_or}
-use Rattle.std.proofs.lemmas.List.{take_all}
+use Rattle.roman_multi.proofs.Common.{if◌then◌else◌, slice_index_or, take_all, target_sizes, states_at, length-states_at, machines, names_at}
 use Rattle.std.proofs.lemmas.Option.{get_or_from_slice_get}
-use Rattle.roman_model.specs.Combined.{target_sizes}
-use Rattle.roman_model.specs.Numbers.{states_at}
-use Rattle.roman_model.proofs.CallerLemmas.{length-states_at}
-use Rattle.roman_multi.specs.Combining.{machines, names_at}
 use Rattle.roman_multi.proofs.KnownLemmas.{sizes_length}
 use Rattle.roman_multi.proofs.FlatLemmas.{part_is, part_below}
 use Rattle.roman_multi.proofs.WordLemmas.{joined_more, names_at_length, names_at_get, is_word_from}

@@ -1,9 +1,5 @@
 use Rattle.std.proofs.Common.{◌≡◌, ◌<◌, length, take, IsTrue}
-use Rattle.std.specs.List.{list_all}
-use Rattle.roman_model.specs.Combined.{target_sizes}
-use Rattle.roman_model.specs.Numbers.{states_at}
-use Rattle.roman_read.specs.Names.{is_name_byte}
-use Rattle.roman_multi.specs.Combining.{joined, machines, names_at}
+use Rattle.roman_multi.proofs.Common.{list_all, target_sizes, states_at, is_name_byte, joined, machines, names_at}
 use Rattle.roman_multi.proofs.words.state_word.Given as goal
 
 abbrev pub invariant-loop-i : goal.invariant-loop-i

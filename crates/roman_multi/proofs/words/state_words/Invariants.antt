@@ -1,9 +1,5 @@
 use Rattle.std.proofs.Common.{◌≡◌, map, All, IsTrue}
-use Rattle.roman_model.specs.Combined.{target_sizes}
-use Rattle.roman_model.specs.Lists.{below}
-use Rattle.roman_model.specs.Numbers.{states_at}
-use Rattle.roman_multi.specs.Combining.{joined, machines, names_at}
-use Rattle.roman_multi.specs.Lists.{is_word}
+use Rattle.roman_multi.proofs.Common.{target_sizes, below, states_at, joined, machines, names_at, is_word}
 use Rattle.roman_multi.proofs.words.state_words.Given as goal
 
 abbrev pub invariant-loop-t : goal.invariant-loop-t

@@ -1,6 +1,5 @@
 use Rattle.std.proofs.Common.{◌/◌, ◌%◌, ap, get_or, eqb}
-use Rattle.std.proofs.lemmas.Nat.Bits.{shr_and_one}
-use Rattle.roman_lanes.specs.Flags.{has_flag}
+use Rattle.roman_order.proofs.Common.{shr_and_one, has_flag}
 use Rattle.roman_order.proofs.flags.has.Goals as goal
 
 pub returns : goal.returns

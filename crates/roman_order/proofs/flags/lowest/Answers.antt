@@ -1,8 +1,5 @@
 use Rattle.std.proofs.Common.{ap, eqb, arith}
-use Rattle.std.specs.Int.{w64}
-use Rattle.std.proofs.lemmas.Bool.{eq-eqb}
-use Rattle.std.proofs.lemmas.Nat.Bits.{bit_at-trailing_zeros}
-use Rattle.roman_lanes.specs.Rows.{is_on}
+use Rattle.roman_order.proofs.Common.{w64, eq-eqb, bit_at-trailing_zeros, is_on}
 use Rattle.roman_order.proofs.flags.lowest.Goals as goal
 
 pub returns-clause-within : goal.returns-clause-within

@@ -1,8 +1,7 @@
 use Rattle.std.proofs.Common.{◌≡◌, ℕ, ◌<◌, ◌≤◌, List, length, take, get_or, Option, Some, None, false, arith}
 use Rattle.std.specs.Option.{IfNone}
-use Rattle.std.proofs.lemmas.Bool.{cases_lt}
-use Rattle.std.proofs.lemmas.List.{get_or-take, get_or_past, length-take-le}
-use Rattle.roman_lanes.specs.Flags.{has_flag}
+use Rattle.roman_order.proofs.Common.{cases_lt, get_or_past, length-take-le, has_flag}
+use Rattle.std.proofs.lemmas.List.{get_or-take}
 use Rattle.roman_order.proofs.Words.{has_flag-zeros}
 use Rattle.roman_order.proofs.flags.next_word.Goals as goal
 

@@ -1,6 +1,5 @@
 use Rattle.std.proofs.Common.{◌≡◌, ◌+◌, ◌*◌, ◌%◌, sym, ◌∙◌, arith}
-use Rattle.std.proofs.lemmas.List.{get_or-set_same}
-use Rattle.roman_lanes.proofs.CallerLemmas.{on_clear_same, on_clear_other}
+use Rattle.roman_order.proofs.Common.{get_or-set_same, on_clear_same, on_clear_other}
 use Rattle.roman_order.proofs.Words.{has_flag-others, has_flag-at}
 use Rattle.roman_order.proofs.flags.take_first.Goals as goal
 

@@ -1,5 +1,6 @@
 use Rattle.std.proofs.Common.{◌≡◌, ◌≤◌, ◌++◌, vec_capacity}
-use Rattle.std.specs.Slice.Iter.{chunks_rest, chunks_size}
+use Rattle.roman_order.proofs.Common.{chunks_rest}
+use Rattle.std.specs.Slice.Iter.{chunks_size}
 use Rattle.roman_order.proofs.order.rewrite.Given as goal
 
 -- the items of the table, followed by the remaining pieces, are those of the list

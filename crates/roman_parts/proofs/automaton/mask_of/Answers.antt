@@ -1,6 +1,5 @@
 use Rattle.std.proofs.Common.{ℕ, ◌||◌, ◌==◌, get_or, sym, ap, ap₂, ◌∙◌, arith}
-use Rattle.std.proofs.lemmas.List.Folds.{list_any_more}
-use Rattle.std.proofs.lemmas.Nat.Bits.{bit_at-zero}
+use Rattle.roman_parts.proofs.Common.{list_any_more, bit_at-zero}
 use Rattle.roman_parts.proofs.CellLemmas.{has_set, same_eqb}
 use Rattle.roman_parts.proofs.automaton.mask_of.Goals as goal
 

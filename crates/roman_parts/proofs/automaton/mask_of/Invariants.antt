@@ -1,6 +1,5 @@
 use Rattle.std.proofs.Common.{◌≡◌, ℕ, take}
-use Rattle.roman_guard.specs.Meaning.{has_state}
-use Rattle.roman_model.specs.System.{has}
+use Rattle.roman_parts.proofs.Common.{has_state, has}
 use Rattle.roman_parts.proofs.automaton.mask_of.Given as goal
 
 -- the mask has the states so far

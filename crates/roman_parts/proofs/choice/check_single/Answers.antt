@@ -1,7 +1,6 @@
 -- A choice is between two steps of the list, in a state of both guards.
 use Rattle.std.proofs.Common.{length, sym, arith}
-use Rattle.std.proofs.lemmas.Option.{get_or_from_slice_get}
-use Rattle.roman_parts.specs.Choices.{single_of}
+use Rattle.roman_parts.proofs.Common.{get_or_from_slice_get, single_of}
 use Rattle.roman_parts.proofs.SingleLemmas.{choice_within}
 use Rattle.roman_parts.proofs.choice.check_single.Goals as goal
 

@@ -1,7 +1,6 @@
 -- None of the steps so far forms a choice with an earlier one.
 use Rattle.std.proofs.Common.{map}
-use Rattle.roman_parts.specs.Listed.{move_of}
-use Rattle.roman_parts.specs.Choices.{choice_with}
+use Rattle.roman_parts.proofs.Common.{move_of, choice_with}
 use Rattle.roman_parts.proofs.ChoiceLemmas.{NoneBelow}
 use Rattle.roman_parts.proofs.choice.find_choice.Given as goal
 

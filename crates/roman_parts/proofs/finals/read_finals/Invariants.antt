@@ -1,10 +1,6 @@
 -- The final states so far are in range, and the remaining items give the result of all items.
 use Rattle.std.proofs.Common.{◌<◌, [], length}
-use Rattle.std.specs.List.{All}
-use Rattle.serde_json.specs.View.{items_view}
-use Rattle.roman_read.specs.Items.{each_item, pushing}
-use Rattle.roman_read.proofs.CallerLemmas.{IsLeft}
-use Rattle.roman_parts.specs.Lists.{place_in}
+use Rattle.roman_parts.proofs.Common.{All, items_view, each_item, pushing, IsLeft, place_in}
 use Rattle.roman_parts.specs.declared.error.List.TheVariants.{Finals}
 use Rattle.roman_parts.proofs.finals.read_finals.Given as goal
 

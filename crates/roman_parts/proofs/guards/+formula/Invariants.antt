@@ -1,7 +1,6 @@
 -- Each call goes to a value that is nested less deeply, or stays and goes down the ranks of the functions.
 use Rattle.std.proofs.Common.{◌+◌, ◌*◌}
-use Rattle.serde_json.specs.Data.{depth}
-use Rattle.serde_json.specs.View.{view}
+use Rattle.roman_parts.proofs.Common.{depth, view}
 use Rattle.roman_parts.proofs.GuardLemmas.{GuardsLeft}
 use Rattle.roman_parts.proofs.guards.+formula.Given as goal
 

@@ -1,8 +1,6 @@
 -- The remaining items give the result of all items.
 use Rattle.std.proofs.Common.{[]}
-use Rattle.serde_json.specs.View.{items_view}
-use Rattle.roman_read.specs.Items.{each_item, pushing}
-use Rattle.roman_read.proofs.CallerLemmas.{IsLeft}
+use Rattle.roman_parts.proofs.Common.{items_view, each_item, pushing, IsLeft}
 use Rattle.roman_parts.specs.Guards.{state_in}
 use Rattle.roman_parts.proofs.guards.read_places.Given as goal
 

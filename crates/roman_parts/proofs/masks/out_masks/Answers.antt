@@ -1,5 +1,5 @@
 use Rattle.std.proofs.Common.{◌≡◌, ◌*◌, ℕ, length, replicate, arith}
-use Rattle.std.proofs.lemmas.List.{take_at}
+use Rattle.roman_parts.proofs.Common.{take_at}
 use Rattle.roman_parts.proofs.CellLemmas.{goes_none, goes_more}
 use Rattle.roman_parts.proofs.masks.out_masks.Goals as goal
 

@@ -1,5 +1,5 @@
 use Rattle.std.proofs.Common.{◌≡◌, ◌*◌, length, take}
-use Rattle.roman_parts.specs.Cells.{goes, HasGuardedCells}
+use Rattle.roman_parts.proofs.Common.{goes, HasGuardedCells}
 use Rattle.roman_parts.proofs.masks.out_masks.Given as goal
 
 -- the cells have the steps so far

@@ -1,9 +1,6 @@
 -- The names so far are as many as the items so far, and the remaining items give the result of all items.
 use Rattle.std.proofs.Common.{◌≡◌, [], length}
-use Rattle.serde_json.specs.View.{items_view}
-use Rattle.roman_read.specs.Items.{each_item}
-use Rattle.roman_read.proofs.CallerLemmas.{IsLeft}
-use Rattle.roman_parts.specs.Lists.{name_step}
+use Rattle.roman_parts.proofs.Common.{items_view, each_item, IsLeft, name_step}
 use Rattle.roman_parts.proofs.names.read_names.Given as goal
 
 abbrev pub invariant-loop-i : goal.invariant-loop-i

@@ -1,12 +1,6 @@
 -- The parts of an environment, read one by one.
 use Rattle.std.proofs.Common.{◌≡◌, ℕ, List, map, is_some, length, Ok, IsTrue, ap, sym, ◌∙◌, arith}
-use Rattle.std.proofs.lemmas.Grind.{common_steps}
-use Rattle.serde_json.specs.Find.{as_object}
-use Rattle.serde_json.specs.View.{view}
-use Rattle.roman_model.specs.System.{Env}
-use Rattle.roman_model.specs.Normal.{normal_env}
-use Rattle.roman_parts.specs.Listed.{triple_of, listed_env}
-use Rattle.roman_parts.specs.Named.{NamedEnv}
+use Rattle.roman_parts.proofs.Common.{common_steps, as_object, view, Env, normal_env, triple_of, listed_env, NamedEnv}
 use Rattle.roman_parts.proofs.PartLemmas.{env_read}
 use Rattle.roman_parts.proofs.parts.read_environment.Goals as goal
 

@@ -1,10 +1,6 @@
 -- The steps so far are in range and as many as the items so far, and the remaining items give the result of all items.
 use Rattle.std.proofs.Common.{◌≡◌, ◌<◌, ◌^◌, [], length, map}
-use Rattle.std.specs.List.{All}
-use Rattle.serde_json.specs.View.{items_view}
-use Rattle.roman_read.specs.Items.{each_item, pushing}
-use Rattle.roman_read.proofs.CallerLemmas.{IsLeft}
-use Rattle.roman_parts.specs.Listed.{move_of, AreMoves}
+use Rattle.roman_parts.proofs.Common.{All, items_view, each_item, pushing, IsLeft, move_of, AreMoves}
 use Rattle.roman_parts.specs.Steps.{move_item}
 use Rattle.roman_parts.proofs.steps.read_moves.Given as goal
 

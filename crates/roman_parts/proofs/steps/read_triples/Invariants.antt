@@ -1,9 +1,6 @@
 -- The steps so far are in range, and the remaining items give the result of all items.
 use Rattle.std.proofs.Common.{[], length, map}
-use Rattle.serde_json.specs.View.{items_view}
-use Rattle.roman_read.specs.Items.{each_item, pushing}
-use Rattle.roman_read.proofs.CallerLemmas.{IsLeft}
-use Rattle.roman_parts.specs.Listed.{triple_of, AreTriples}
+use Rattle.roman_parts.proofs.Common.{items_view, each_item, pushing, IsLeft, triple_of, AreTriples}
 use Rattle.roman_parts.specs.Steps.{triple_item}
 use Rattle.roman_parts.proofs.steps.read_triples.Given as goal
 

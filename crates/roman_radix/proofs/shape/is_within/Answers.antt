@@ -1,5 +1,5 @@
 use Rattle.std.proofs.Common.{arith}
-use Rattle.std.proofs.lemmas.Bool.{false≢true}
+use Rattle.roman_radix.proofs.Common.{false≢true}
 use Rattle.roman_radix.proofs.Strides.{positive_rest, too_many}
 use Rattle.roman_radix.proofs.shape.is_within.Goals as goal
 

@@ -1,5 +1,5 @@
 use Rattle.std.proofs.Common.{◌≡◌, ◌*◌, ◌^◌, ◌<◌, drop}
-use Rattle.roman_model.specs.Lists.{product_of}
+use Rattle.roman_radix.proofs.Common.{product_of}
 use Rattle.roman_radix.proofs.shape.is_within.Given as goal
 
 abbrev pub invariant-loop-size : goal.invariant-loop-size

@@ -1,7 +1,5 @@
 use Rattle.std.proofs.Common.{◌≡◌, ◌-◌, ◌≤◌, ◌++◌, take, drop, replicate}
-use Rattle.roman_model.specs.Lists.{product_of}
-use Rattle.roman_model.specs.declared.limits.TheConstants.{MAX_SERVICES}
-use Rattle.roman_radix.specs.Places.{strides_of}
+use Rattle.roman_radix.proofs.Common.{product_of, MAX_SERVICES, strides_of}
 use Rattle.roman_radix.proofs.shape.strides_over.Given as goal
 
 abbrev pub invariant-loop-k : goal.invariant-loop-k

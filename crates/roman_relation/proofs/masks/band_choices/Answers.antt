@@ -1,8 +1,6 @@
 use Rattle.std.proofs.Common.{◌≡◌, ℕ, ◌+◌, ◌*◌, length, sum_by, ap, ◌∙◌, arith}
-use Rattle.roman_model.specs.Lists.{below}
-use Rattle.roman_model.specs.Arena.{is_listed, mask}
-use Rattle.roman_model.proofs.CallerLemmas.{sum_by_same}
-use Rattle.roman_rules.proofs.CallerLemmas.{sum_below_more, sum_turned}
+use Rattle.roman_relation.proofs.Common.{below, is_listed, mask, sum_by_same, sum_below_more}
+use Rattle.roman_rules.proofs.CallerLemmas.{sum_turned}
 use Rattle.roman_relation.proofs.Bands.{band_begins}
 use Rattle.roman_relation.proofs.Lanes.{words_rows, shaped_pairs}
 use Rattle.roman_relation.proofs.masks.band_choices.Goals as goal

@@ -1,8 +1,5 @@
 use Rattle.std.proofs.Common.{◌≡◌, ℕ, ◌+◌, ◌*◌, ◌<◌, length, sum_by, sym, ap, ◌∙◌, arith}
-use Rattle.std.proofs.lemmas.Nat.{mul-le}
-use Rattle.roman_model.specs.Lists.{below}
-use Rattle.roman_model.specs.Arena.{is_listed, mask}
-use Rattle.roman_rules.proofs.CallerLemmas.{sum_below_more}
+use Rattle.roman_relation.proofs.Common.{mul-le, below, is_listed, mask, sum_below_more}
 use Rattle.roman_relation.proofs.Bands.{band_ends, whole_bands}
 use Rattle.roman_relation.proofs.Choosing.{sum_rows}
 use Rattle.roman_relation.proofs.masks.choices.Goals as goal

@@ -1,7 +1,6 @@
 use Rattle.std.proofs.Common.{◌≡◌, ◌+◌, ◌*◌, ◌/◌, ◌%◌, sym, ap, ◌∙◌, subst, arith}
-use Rattle.std.proofs.lemmas.Nat.{mod_below, div-add-mod'}
+use Rattle.roman_relation.proofs.Common.{mod_below, div-add-mod', is_listed, mask}
 use Rattle.roman_model.specs.System.{has}
-use Rattle.roman_model.specs.Arena.{is_listed, mask}
 use Rattle.roman_rules.specs.Bits.{HasBits}
 use Rattle.roman_relation.proofs.Lanes.{words_rows}
 use Rattle.roman_relation.proofs.masks.mask.Goals as goal

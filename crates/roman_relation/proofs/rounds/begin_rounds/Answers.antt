@@ -1,9 +1,5 @@
 use Rattle.std.proofs.Common.{◌≡◌, ◌/◌, ◌<◌, ◌*◌, IsFalse, refl, sym, ap, ◌∙◌, subst, arith}
-use Rattle.std.proofs.lemmas.Bool.{both_ways, lt-ltb}
-use Rattle.std.proofs.lemmas.Nat.{mul-le, div_below}
-use Rattle.roman_model.specs.Arena.{IsOrder, is_listed}
-use Rattle.roman_order.specs.Board.{Board, pairs_of, is_marked}
-use Rattle.roman_relation.specs.Rounds.{AreUnlisted}
+use Rattle.roman_relation.proofs.Common.{both_ways, lt-ltb, mul-le, div_below, IsOrder, is_listed, Board, pairs_of, is_marked, AreUnlisted}
 use Rattle.roman_relation.proofs.Bands.{whole_bands}
 use Rattle.roman_relation.proofs.Going.{SameFrame, shaped_on, shaped_like}
 use Rattle.roman_relation.proofs.Lanes.{shaped_row, words_rows}

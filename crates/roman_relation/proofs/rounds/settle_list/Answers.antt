@@ -1,9 +1,6 @@
 use Rattle.std.proofs.Common.{◌≡◌, ℕ, suc, ◌<◌, true, [], ◌∷◌, ◌++◌, length, refl, sym, ap, ◌∙◌, subst, arith}
-use Rattle.std.proofs.lemmas.Bool.{eqb-true}
-use Rattle.std.proofs.lemmas.List.{length_push, nil_from_length}
-use Rattle.roman_model.specs.Arena.{fall}
-use Rattle.roman_order.specs.Board.{Board, has_entry}
-use Rattle.roman_relation.specs.Settled.{Begins, HoldsLost, RisesByDepth, AreLevels}
+use Rattle.roman_relation.proofs.Common.{eqb-true, length_push, fall, Board, has_entry, Begins, HoldsLost, RisesByDepth, AreLevels}
+use Rattle.std.proofs.lemmas.List.{nil_from_length}
 use Rattle.roman_relation.proofs.Beginnings.{begins_on, begins_length}
 use Rattle.roman_relation.proofs.Going.{SameFrame, fall_added, rest_from}
 use Rattle.roman_relation.proofs.Playing.{awaits_levels}

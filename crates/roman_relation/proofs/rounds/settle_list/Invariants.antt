@@ -1,8 +1,5 @@
 use Rattle.std.proofs.Common.{◌≡◌, ℕ, suc, ◌+◌, ◌-◌, ◌≤◌, true, false, [], length}
-use Rattle.roman_model.specs.Arena.{fall}
-use Rattle.roman_order.specs.Board.{pairs_of}
-use Rattle.roman_relation.specs.Settled.{Begins, HoldsLost, RisesByDepth, AreLevels}
-use Rattle.roman_relation.specs.Rounds.{AwaitsRound}
+use Rattle.roman_relation.proofs.Common.{fall, pairs_of, Begins, HoldsLost, RisesByDepth, AreLevels, AwaitsRound}
 use Rattle.roman_relation.proofs.rounds.settle_list.Given as goal
 
 -- rounds were played; from an empty list, the list has the pairs that are lost within as many requests, level by level

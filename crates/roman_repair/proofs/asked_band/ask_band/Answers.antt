@@ -1,8 +1,5 @@
 use Rattle.std.proofs.Common.{◌+◌, ◌*◌, IsTrue, length, sym, ap, subst, arith}
-use Rattle.roman_model.specs.Arena.{is_justified}
-use Rattle.roman_rules.specs.Asked.{readings_of_reason}
-use Rattle.roman_rules.proofs.CallerLemmas.{readings_of-allowed}
-use Rattle.roman_repair.specs.Replays.{is_possible}
+use Rattle.roman_repair.proofs.Common.{is_justified, readings_of_reason, readings_of-allowed, is_possible}
 use Rattle.roman_repair.proofs.BandAnswers.{full_lane, kept_of_all}
 use Rattle.roman_repair.proofs.asked_band.ask_band.Goals as goal
 

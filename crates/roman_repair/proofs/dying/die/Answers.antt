@@ -1,10 +1,5 @@
 use Rattle.std.proofs.Common.{sym, ap, ◌∙◌, subst, remove}
-use Rattle.roman_model.specs.System.{Sys}
-use Rattle.roman_model.specs.Change.{Die}
-use Rattle.roman_model.specs.Numbers.{numbered}
-use Rattle.roman_joint.specs.NamedSys.{system_of}
-use Rattle.roman_joint.specs.Rows.{lanes_in}
-use Rattle.roman_relation.specs.Shaped.{IsShaped}
+use Rattle.roman_repair.proofs.Common.{Sys, Die, numbered, system_of, lanes_in, IsShaped}
 use Rattle.roman_repair.proofs.Repairing.{relation_replays, repaired_from}
 use Rattle.roman_repair.proofs.DeathStates.{seat_there}
 use Rattle.roman_repair.proofs.DeathEntries.{left_shaped}

@@ -1,9 +1,6 @@
 use Rattle.std.proofs.Common.{◌≡◌, ℕ, ◌-◌, ◌<◌, ◌++◌, true, length, inl, inr, sym, ap, ◌∙◌, subst, arith, rules, length-append}
-use Rattle.roman_model.specs.Arena.{is_listed}
-use Rattle.roman_lanes.specs.Rows.{is_on}
-use Rattle.roman_order.specs.Board.{Board, set_lanes, entries_in}
+use Rattle.roman_repair.proofs.Common.{is_listed, is_on, Board, set_lanes, entries_in, AreCandidates, with_replay}
 use Rattle.roman_relation.proofs.CallerLemmas.{words_rows}
-use Rattle.roman_repair.specs.Replays.{AreCandidates, with_replay}
 use Rattle.roman_repair.proofs.Fronts.{first_lane, in_row, lane_alive, front_kept, front_dropped, lane_possible, shorter, either_front, one_less, entries_more, on_not_off}
 use Rattle.roman_repair.proofs.BandAnswers.{known_on}
 use Rattle.roman_repair.proofs.events.keep_front.Goals as goal

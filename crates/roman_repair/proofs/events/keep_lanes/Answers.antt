@@ -1,7 +1,5 @@
 use Rattle.std.proofs.Common.{◌≡◌, ◌+◌, ◌*◌, [], map, sym, ap, ◌∙◌, append-nil}
-use Rattle.roman_order.specs.Board.{as_entry, entries_in}
-use Rattle.roman_order.proofs.CallerLemmas.{set_lanes-zero}
-use Rattle.roman_repair.specs.Replays.{with_replay}
+use Rattle.roman_repair.proofs.Common.{as_entry, entries_in, set_lanes-zero, with_replay}
 use Rattle.roman_repair.proofs.events.keep_lanes.Goals as goal
 
 pub returns-clause-list : goal.returns-clause-list

@@ -1,9 +1,5 @@
 use Rattle.std.proofs.Common.{◌≡◌, ℕ, ◌+◌, ◌<◌, ◌≤◌, true, length}
-use Rattle.roman_lanes.specs.Rows.{is_on}
-use Rattle.roman_model.specs.Arena.{is_listed}
-use Rattle.roman_repair.specs.AskedBands.{HoldsInBand}
-use Rattle.roman_order.specs.Board.{set_lanes, entries_in}
-use Rattle.roman_repair.specs.Replays.{AreCandidates, with_replay, readings_of_entries}
+use Rattle.roman_repair.proofs.Common.{is_on, is_listed, HoldsInBand, set_lanes, entries_in, AreCandidates, with_replay, readings_of_entries}
 use Rattle.roman_repair.proofs.events.keep_lanes.Given as goal
 
 -- the entries for the remaining lanes are left

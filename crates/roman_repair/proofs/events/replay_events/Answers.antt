@@ -1,5 +1,5 @@
 use Rattle.std.proofs.Common.{◌≡◌, ◌++◌, ap, ◌∙◌, arith}
-use Rattle.roman_order.specs.Board.{Board, entries_in}
+use Rattle.roman_repair.proofs.Common.{Board, entries_in}
 use Rattle.roman_repair.proofs.Keeping.{candidates_left}
 use Rattle.roman_repair.proofs.Fronts.{part_first, part_turn, part_cost}
 use Rattle.roman_repair.proofs.events.replay_events.Goals as goal

@@ -1,7 +1,5 @@
 use Rattle.std.proofs.Common.{◌+◌, ◌≤◌, length}
-use Rattle.roman_model.specs.Arena.{is_listed}
-use Rattle.roman_repair.specs.AskedBands.{HoldsInBand}
-use Rattle.roman_repair.specs.Replays.{readings_of_entries}
+use Rattle.roman_repair.proofs.Common.{is_listed, HoldsInBand, readings_of_entries}
 use Rattle.roman_repair.proofs.Keeping.{IsReplaying}
 use Rattle.roman_repair.proofs.events.replay_events.Given as goal
 

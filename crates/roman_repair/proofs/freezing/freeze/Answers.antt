@@ -1,11 +1,7 @@
 use Rattle.std.proofs.Common.{true, refl, sym, ap, ◌∙◌, subst}
-use Rattle.roman_model.specs.System.{Sys}
+use Rattle.roman_repair.proofs.Common.{Sys, numbered, system_of, lanes_in, IsShaped}
 use Rattle.roman_model.specs.Change.{Freeze}
-use Rattle.roman_model.specs.Numbers.{numbered}
-use Rattle.roman_joint.specs.NamedSys.{system_of}
 use Rattle.roman_joint.specs.Changes.{with_frozen}
-use Rattle.roman_joint.specs.Rows.{lanes_in}
-use Rattle.roman_relation.specs.Shaped.{IsShaped}
 use Rattle.roman_repair.proofs.Repairing.{relation_replays, repaired_from}
 use Rattle.roman_repair.proofs.Whole.{ready_there, whole_replay, whole_begun, shaped_turned}
 use Rattle.roman_repair.proofs.freezing.freeze.Goals as goal

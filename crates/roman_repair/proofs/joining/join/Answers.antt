@@ -1,13 +1,5 @@
 use Rattle.std.proofs.Common.{◌≡◌, flat_map, sym, ap, ◌∙◌, subst}
-use Rattle.roman_model.specs.System.{Seat}
-use Rattle.roman_model.specs.Change.{Join, after}
-use Rattle.roman_model.specs.Numbers.{Sizes}
-use Rattle.roman_radix.specs.Radix.{AreSizes}
-use Rattle.roman_radix.specs.Rows.{lanes_of}
-use Rattle.roman_repair.specs.Replays.{AreSlices}
-use Rattle.roman_model.specs.NumberedChange.{grown_numbers}
-use Rattle.roman_joint.specs.NamedSys.{NamedSys, system_of, seat_of}
-use Rattle.roman_joint.specs.Rows.{lanes_in}
+use Rattle.roman_repair.proofs.Common.{Seat, Join, after, Sizes, AreSizes, lanes_of, AreSlices, grown_numbers, NamedSys, system_of, seat_of, lanes_in}
 use Rattle.roman_repair.proofs.Repairing.{relation_replays}
 use Rattle.roman_repair.proofs.Waiting.{IsReopened, relation_candidates, replayable, reopened_repaired}
 use Rattle.roman_repair.proofs.Joined.{joined_can, joined_candidates, joined_lanes}

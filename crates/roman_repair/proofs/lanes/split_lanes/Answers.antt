@@ -1,10 +1,7 @@
 use Rattle.std.proofs.Common.{◌≡◌, ◌++◌, true, bit_and, sym, ap, ◌∙◌, inl, inr, append-nil}
-use Rattle.std.specs.Int.{trailing_zeros, w64}
-use Rattle.std.proofs.lemmas.Bool.{cases_lt, both_ways, and_parts, and_from}
-use Rattle.roman_lanes.specs.Rows.{is_on}
-use Rattle.roman_lanes.proofs.CallerLemmas.{on_and, on_zero}
-use Rattle.roman_order.specs.Board.{set_lanes}
-use Rattle.roman_order.proofs.CallerLemmas.{set_lanes-zero, some_lane}
+use Rattle.roman_repair.proofs.Common.{trailing_zeros, w64, cases_lt, both_ways, and_parts, is_on, on_and, on_zero, set_lanes, set_lanes-zero}
+use Rattle.std.proofs.lemmas.Bool.{and_from}
+use Rattle.roman_order.proofs.CallerLemmas.{some_lane}
 use Rattle.roman_repair.proofs.Fronts.{first_lane, is_cut, cut_lanes, front_fits, front_off, front_some, on_in, in_some, false_else, both_fit}
 use Rattle.roman_repair.proofs.lanes.split_lanes.Goals as goal
 

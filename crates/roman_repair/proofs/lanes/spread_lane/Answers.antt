@@ -1,9 +1,6 @@
 use Rattle.std.proofs.Common.{◌≡◌, ◌+◌, ◌-◌, ◌*◌, [], map, cond, sym, ap, ◌∙◌, arith}
-use Rattle.std.proofs.lemmas.Bool.{both_ways}
-use Rattle.roman_model.specs.Lists.{below}
-use Rattle.roman_lanes.specs.Rows.{is_on}
-use Rattle.roman_lanes.proofs.CallerLemmas.{on_zero, on_tested, off_tested}
-use Rattle.roman_order.proofs.CallerLemmas.{set_lanes-zero}
+use Rattle.roman_repair.proofs.Common.{both_ways, below, is_on, on_zero, set_lanes-zero}
+use Rattle.roman_lanes.proofs.CallerLemmas.{on_tested, off_tested}
 use Rattle.roman_repair.proofs.lanes.spread_lane.Goals as goal
 
 pub returns-then-word-lane-eq0-clause-lanes : goal.returns-then-word-lane-eq0-clause-lanes

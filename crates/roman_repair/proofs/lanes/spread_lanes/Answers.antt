@@ -1,8 +1,5 @@
 use Rattle.std.proofs.Common.{◌≡◌, ℕ, ◌+◌, ◌*◌, List, ◌++◌, ap₂, ◌∙◌, arith}
-use Rattle.std.proofs.lemmas.Bool.{both_ways}
-use Rattle.roman_lanes.specs.Rows.{is_on}
-use Rattle.roman_lanes.proofs.CallerLemmas.{on_zero}
-use Rattle.roman_order.proofs.CallerLemmas.{set_lanes-zero}
+use Rattle.roman_repair.proofs.Common.{both_ways, is_on, on_zero, set_lanes-zero}
 use Rattle.roman_repair.proofs.Growing.{lanes_joined, joined_within, spread_more}
 use Rattle.roman_repair.proofs.lanes.spread_lanes.Goals as goal
 

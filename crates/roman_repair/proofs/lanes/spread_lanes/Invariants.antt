@@ -1,6 +1,5 @@
 use Rattle.std.proofs.Common.{◌≡◌, ℕ, ◌*◌, ◌<◌, true}
-use Rattle.roman_lanes.specs.Rows.{is_on}
-use Rattle.roman_order.specs.Board.{set_lanes}
+use Rattle.roman_repair.proofs.Common.{is_on, set_lanes}
 use Rattle.roman_repair.proofs.Growing.{spread_below}
 use Rattle.roman_repair.proofs.lanes.spread_lanes.Given as goal
 

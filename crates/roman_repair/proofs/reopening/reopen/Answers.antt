@@ -1,7 +1,5 @@
 use Rattle.std.proofs.Common.{◌*◌, ap, ◌∙◌}
-use Rattle.roman_radix.specs.Rows.{lanes_of}
-use Rattle.roman_joint.specs.NamedSys.{system_of}
-use Rattle.roman_order.specs.Board.{Board}
+use Rattle.roman_repair.proofs.Common.{lanes_of, system_of, Board}
 use Rattle.roman_repair.proofs.Waiting.{room_to_reopen, shaped_for}
 use Rattle.roman_repair.proofs.reopening.reopen.Goals as goal
 

@@ -1,7 +1,5 @@
 use Rattle.std.proofs.Common.{◌≡◌, ◌+◌, ◌*◌, ◌≤◌}
-use Rattle.roman_model.specs.Arena.{is_listed}
-use Rattle.roman_repair.specs.AskedBands.{HoldsInBand}
-use Rattle.roman_repair.specs.Replays.{with_replay, readings_of_entries}
+use Rattle.roman_repair.proofs.Common.{is_listed, HoldsInBand, with_replay, readings_of_entries}
 use Rattle.roman_repair.proofs.Growing.{grown_below}
 use Rattle.roman_repair.proofs.replaying.keep_grown.Given as goal
 

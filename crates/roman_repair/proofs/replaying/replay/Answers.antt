@@ -1,6 +1,5 @@
 use Rattle.std.proofs.Common.{◌≡◌, ◌++◌, flat_map, ap, ◌∙◌, arith}
-use Rattle.roman_model.specs.NumberedChange.{grown_numbers}
-use Rattle.roman_order.specs.Board.{Board, entries_in}
+use Rattle.roman_repair.proofs.Common.{grown_numbers, Board, entries_in}
 use Rattle.roman_repair.proofs.Keeping.{candidates_left, grown_first, grown_turn, grown_cost}
 use Rattle.roman_repair.proofs.replaying.replay.Goals as goal
 

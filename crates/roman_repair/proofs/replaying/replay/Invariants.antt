@@ -1,8 +1,5 @@
 use Rattle.std.proofs.Common.{◌+◌, ◌≤◌, flat_map, length}
-use Rattle.roman_model.specs.Arena.{is_listed}
-use Rattle.roman_model.specs.NumberedChange.{grown_numbers}
-use Rattle.roman_repair.specs.AskedBands.{HoldsInBand}
-use Rattle.roman_repair.specs.Replays.{readings_of_entries}
+use Rattle.roman_repair.proofs.Common.{is_listed, grown_numbers, HoldsInBand, readings_of_entries}
 use Rattle.roman_repair.proofs.Keeping.{IsReplaying}
 use Rattle.roman_repair.proofs.replaying.replay.Given as goal
 

@@ -1,10 +1,5 @@
 use Rattle.std.proofs.Common.{◌≡◌, [], length, sym, ap, ◌∙◌, subst, arith, rules}
-use Rattle.roman_model.specs.Arena.{replay, readings}
-use Rattle.roman_joint.specs.NamedSys.{NamedSys}
-use Rattle.roman_joint.proofs.CallerLemmas.{joint_numbered}
-use Rattle.roman_relation.specs.Settled.{Begins}
-use Rattle.roman_relation.specs.Greatest.{arena_of}
-use Rattle.roman_repair.specs.Replays.{AreCandidates, candidates, with_replay, readings_of_entries}
+use Rattle.roman_repair.proofs.Common.{replay, readings, NamedSys, joint_numbered, Begins, arena_of, AreCandidates, candidates, with_replay, readings_of_entries}
 use Rattle.roman_repair.proofs.Keeping.{candidates_readings}
 use Rattle.roman_repair.proofs.Repairing.{replayed_begun}
 use Rattle.roman_repair.proofs.Waiting.{grown_by_one}

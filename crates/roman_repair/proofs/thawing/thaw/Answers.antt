@@ -1,9 +1,6 @@
 use Rattle.std.proofs.Common.{◌<◌, false, flat_map, length, sym, ap, ◌∙◌, arith}
-use Rattle.std.proofs.lemmas.List.{length-map}
+use Rattle.roman_repair.proofs.Common.{length-map, grown_numbers, NamedSys, system_of, seat_of, lanes_in}
 use Rattle.roman_model.specs.Change.{Thaw}
-use Rattle.roman_model.specs.NumberedChange.{grown_numbers}
-use Rattle.roman_joint.specs.NamedSys.{NamedSys, system_of, seat_of}
-use Rattle.roman_joint.specs.Rows.{lanes_in}
 use Rattle.roman_repair.proofs.Repairing.{relation_replays}
 use Rattle.roman_repair.proofs.Whole.{shaped_turned}
 use Rattle.roman_repair.proofs.Waiting.{IsReopened, relation_candidates, turned_candidates, replayable, reopened_repaired, grown_by_one}

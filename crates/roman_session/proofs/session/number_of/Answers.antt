@@ -1,8 +1,7 @@
 use Rattle.std.proofs.Common.{sym, ap, ◌∙◌, subst}
-use Rattle.roman_model.specs.System.{Pair}
-use Rattle.roman_model.specs.Numbers.{Sizes, IsPairOf, number}
+use Rattle.roman_session.proofs.Common.{Pair, Sizes, number, system_of}
+use Rattle.roman_model.specs.Numbers.{IsPairOf}
 use Rattle.roman_model.proofs.CallerLemmas.{IsPairOf-from}
-use Rattle.roman_joint.specs.NamedSys.{system_of}
 use Rattle.roman_session.proofs.session.number_of.Goals as goal
 
 pub number-requires : goal.number-requires

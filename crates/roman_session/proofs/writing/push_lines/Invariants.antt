@@ -1,6 +1,5 @@
 use Rattle.std.proofs.Common.{◌≡◌, ◌++◌, drop}
-use Rattle.roman_session.specs.Reports.{lines_text}
-use Rattle.roman_text.proofs.CallerLemmas.{IsFilling}
+use Rattle.roman_session.proofs.Common.{lines_text, IsFilling}
 use Rattle.roman_session.proofs.writing.push_lines.Given as goal
 
 -- the lines so far were pushed

@@ -1,9 +1,5 @@
 use Rattle.std.proofs.Common.{◌≡◌, ◌++◌, length, drop}
-use Rattle.std.specs.List.{filter}
-use Rattle.roman_model.specs.Lists.{below}
-use Rattle.roman_rules.specs.Bits.{has_seat}
-use Rattle.roman_session.specs.Serving.{seats_set, served_text}
-use Rattle.roman_text.proofs.CallerLemmas.{IsFilling}
+use Rattle.roman_session.proofs.Common.{filter, below, has_seat, seats_set, served_text, IsFilling}
 use Rattle.roman_session.proofs.writing.push_served.Given as goal
 
 -- the names of the seats so far were pushed

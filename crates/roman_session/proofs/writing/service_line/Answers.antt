@@ -1,7 +1,5 @@
 use Rattle.std.proofs.Common.{◌≡◌, ℕ, Some, List, not, ap, slice_get, subst, sym, ◌∙◌, length, arith}
-use Rattle.roman_model.specs.System.{Beh}
-use Rattle.roman_joint.specs.declared.seat.Seat.{Seat}
-use Rattle.roman_joint.proofs.CallerLemmas.{behaves}
+use Rattle.roman_session.proofs.Common.{Beh, Seat, behaves}
 use Rattle.roman_text.specs.declared.report.ReportLine.TheVariants as line
 use Rattle.roman_session.proofs.LineLemmas.{service_line_is}
 use Rattle.roman_session.proofs.writing.service_line.Goals as goal

@@ -1,5 +1,4 @@
-use Rattle.roman_start.specs.Seating.{IsSeated}
-use Rattle.roman_top.specs.Command.{Advise}
+use Rattle.roman_top.proofs.Common.{IsSeated, Advise}
 use Rattle.roman_top.proofs.AdviseLemmas.{advise_served}
 use Rattle.roman_top.proofs.ServedLemmas.{away_served}
 use Rattle.roman_top.proofs.advise.advise.Goals as goal

@@ -1,7 +1,5 @@
 use Rattle.std.proofs.Common.{ℕ, Err, refl, sym, ap, ◌∙◌}
-use Rattle.roman_model.specs.Numbers.{sizes_of, pair_at}
-use Rattle.roman_joint.specs.NamedSys.{system_of}
-use Rattle.roman_cost.specs.AdviceText.{Unrelated, TooMany, Told, advice_text, advised_by}
+use Rattle.roman_top.proofs.Common.{sizes_of, pair_at, system_of, Unrelated, TooMany, Told, advice_text, advised_by}
 use Rattle.roman_top.specs.declared.status.Status.TheVariants as status
 use Rattle.roman_top.proofs.AdviseLemmas.{told_related, advice_put, advised_unrelated, advised_many, advised_told, few_values}
 use Rattle.roman_top.proofs.EndingLemmas.{finished_spoken, finished_sink}

@@ -1,7 +1,4 @@
-use Rattle.roman_joint.specs.NamedSys.{system_of}
-use Rattle.roman_start.specs.Seating.{IsSeated}
-use Rattle.roman_top.specs.Command.{Certify}
-use Rattle.roman_top.specs.Run.{CertifiesSystem}
+use Rattle.roman_top.proofs.Common.{system_of, IsSeated, Certify, CertifiesSystem}
 use Rattle.roman_top.proofs.CertifyLemmas.{certified_is_run}
 use Rattle.roman_top.proofs.ServedLemmas.{opened_served}
 use Rattle.roman_top.proofs.certify.certify.Goals as goal

@@ -1,5 +1,4 @@
-use Rattle.roman_start.specs.Seating.{IsSeated}
-use Rattle.roman_top.specs.Command.{Check}
+use Rattle.roman_top.proofs.Common.{IsSeated, Check}
 use Rattle.roman_top.proofs.CheckLemmas.{check_served}
 use Rattle.roman_top.proofs.ServedLemmas.{away_served}
 use Rattle.roman_top.proofs.check.check_certificate.Goals as goal

@@ -1,6 +1,4 @@
-use Rattle.roman_check.specs.Verdicts.{verdict_of, fault_of}
-use Rattle.roman_top.specs.Run.{SaysVerdict}
-use Rattle.roman_top.specs.Verdicts.{greatest_text, rejected_text}
+use Rattle.roman_top.proofs.Common.{verdict_of, fault_of, SaysVerdict, greatest_text, rejected_text}
 use Rattle.roman_top.specs.declared.status.Status.TheVariants as status
 use Rattle.roman_top.proofs.CheckLemmas.{says_greatest, says_rejected}
 use Rattle.roman_top.proofs.EndingLemmas.{writes_put}

@@ -1,7 +1,5 @@
 use Rattle.std.proofs.Common.{ap}
-use Rattle.roman_model.specs.Numbers.{numbered}
-use Rattle.roman_model.proofs.CallerLemmas.{length-below}
-use Rattle.roman_joint.specs.NamedSys.{system_of}
+use Rattle.roman_top.proofs.Common.{numbered, length-below, system_of}
 use Rattle.roman_top.proofs.CheckLemmas.{finds_text}
 use Rattle.roman_top.proofs.check.verdict_on.Goals as goal
 

@@ -1,4 +1,4 @@
-use Rattle.roman_library.specs.Library.{plain}
+use Rattle.roman_top.proofs.Common.{plain}
 use Rattle.roman_top.proofs.MakeLemmas.{made_start, not_past_limit}
 use Rattle.roman_top.proofs.make.summarise.Goals as goal
 

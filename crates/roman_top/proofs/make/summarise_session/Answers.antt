@@ -1,4 +1,4 @@
-use Rattle.roman_top.specs.Stages.{lines_of}
+use Rattle.roman_top.proofs.Common.{lines_of}
 use Rattle.roman_top.specs.declared.status.Status.TheVariants as status
 use Rattle.roman_top.proofs.EndingLemmas.{finished_spoken, finished_sink}
 use Rattle.roman_top.proofs.MakeLemmas.{summarised}

@@ -1,5 +1,4 @@
-use Rattle.roman_library.specs.Library.{plain}
-use Rattle.roman_session.specs.Starts.{IsStart}
+use Rattle.roman_top.proofs.Common.{plain, IsStart}
 use Rattle.roman_top.proofs.OpeningLemmas.{opens_away, opens_none, opens_past_limit}
 use Rattle.roman_top.proofs.opening.open_session.Goals as goal
 

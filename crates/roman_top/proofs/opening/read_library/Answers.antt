@@ -1,4 +1,4 @@
-use Rattle.roman_library.specs.Library.{plain}
+use Rattle.roman_top.proofs.Common.{plain}
 use Rattle.roman_top.proofs.OpeningLemmas.{read_ok, read_fault, read_none, read_refused}
 use Rattle.roman_top.proofs.opening.read_library.Goals as goal
 

@@ -1,6 +1,5 @@
 use Rattle.std.proofs.Common.{ℕ, List, ◌++◌, codes, sym, ap, ◌∙◌}
-use Rattle.roman_whatif.specs.Left.{places}
-use Rattle.roman_top.specs.Outlooks.{service_names}
+use Rattle.roman_top.proofs.Common.{places, service_names}
 use Rattle.roman_top.proofs.OutlookLemmas.{one_named, two_named}
 use Rattle.roman_top.proofs.outlooks.names_piece.Goals as goal
 

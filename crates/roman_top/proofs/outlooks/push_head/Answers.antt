@@ -1,10 +1,5 @@
 use Rattle.std.proofs.Common.{ℕ, ◌++◌, codes, decimal, refl, ap, ◌∙◌}
-use Rattle.std.proofs.lemmas.Result.{err_from_is_err_and}
-use Rattle.roman_model.specs.Numbers.{sizes_of, pair_at}
-use Rattle.roman_model.specs.Without.{outlook}
-use Rattle.roman_joint.specs.NamedSys.{system_of}
-use Rattle.roman_text.proofs.CallerLemmas.{fill_behind, fill_more, fill_failed, fill_last}
-use Rattle.roman_top.specs.Outlooks.{outlook_words}
+use Rattle.roman_top.proofs.Common.{err_from_is_err_and, sizes_of, pair_at, outlook, system_of, fill_behind, fill_more, fill_failed, fill_last, outlook_words}
 use Rattle.roman_top.proofs.OutlookLemmas.{head_pieces}
 use Rattle.roman_top.proofs.outlooks.push_head.Goals as goal
 

@@ -1,9 +1,5 @@
 use Rattle.std.proofs.Common.{ℕ, List, ◌++◌, refl, ap₂, ◌∙◌}
-use Rattle.std.proofs.lemmas.Result.{err_from_is_err_and}
-use Rattle.roman_text.proofs.CallerLemmas.{fill_behind, fill_more, fill_failed, fill_last}
-use Rattle.roman_whatif.specs.Left.{places}
-use Rattle.roman_whatif.specs.Told.{told}
-use Rattle.roman_top.specs.Outlooks.{outlook_words}
+use Rattle.roman_top.proofs.Common.{err_from_is_err_and, fill_behind, fill_more, fill_failed, fill_last, places, told, outlook_words}
 use Rattle.roman_top.proofs.OutlookLemmas.{line_pieces}
 use Rattle.roman_top.proofs.outlooks.push_line.Goals as goal
 

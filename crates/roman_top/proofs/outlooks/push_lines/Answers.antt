@@ -1,12 +1,5 @@
 use Rattle.std.proofs.Common.{refl}
-use Rattle.std.proofs.lemmas.Result.{err_from_is_err_and}
-use Rattle.roman_model.specs.Numbers.{sizes_of, pair_at}
-use Rattle.roman_model.specs.Without.{outlook, system_without, pair_without}
-use Rattle.roman_model.specs.declared.way.Way.TheVariants.{Die}
-use Rattle.roman_joint.specs.NamedSys.{system_of}
-use Rattle.roman_text.proofs.CallerLemmas.{fill_behind, fill_more, fill_failed, fill_last}
-use Rattle.roman_whatif.specs.Left.{places}
-use Rattle.roman_whatif.specs.Told.{told}
+use Rattle.roman_top.proofs.Common.{err_from_is_err_and, sizes_of, pair_at, outlook, system_without, pair_without, Die, system_of, fill_behind, fill_more, fill_failed, fill_last, places, told}
 use Rattle.roman_top.proofs.OutlookLemmas.{both_lines}
 use Rattle.roman_top.proofs.outlooks.push_lines.Goals as goal
 

@@ -1,9 +1,5 @@
 use Rattle.std.proofs.Common.{ℕ, ◌<◌, ◌≤◌, [], ◌∷◌, length, ◌∙◌, arith}
-use Rattle.std.proofs.lemmas.Result.{err_from_is_err_and}
-use Rattle.roman_model.specs.Numbers.{sizes_of, pair_at}
-use Rattle.roman_joint.specs.NamedSys.{system_of}
-use Rattle.roman_text.proofs.CallerLemmas.{fill_same, fill_more, fill_failed, fill_end}
-use Rattle.roman_top.specs.Outlooks.{lines_without}
+use Rattle.roman_top.proofs.Common.{err_from_is_err_and, sizes_of, pair_at, system_of, fill_same, fill_more, fill_failed, fill_end, lines_without}
 use Rattle.roman_top.proofs.OutlookLemmas.{each_next, each_end}
 use Rattle.roman_top.proofs.outlooks.push_ones.Goals as goal
 

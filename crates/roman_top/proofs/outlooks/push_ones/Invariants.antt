@@ -1,10 +1,5 @@
 use Rattle.std.proofs.Common.{◌≡◌, ℕ, [], ◌∷◌, ◌++◌, map, length, drop}
-use Rattle.std.specs.List.{flat_map}
-use Rattle.roman_model.specs.Lists.{below}
-use Rattle.roman_model.specs.Numbers.{sizes_of, pair_at}
-use Rattle.roman_joint.specs.NamedSys.{system_of}
-use Rattle.roman_text.proofs.CallerLemmas.{IsFilling}
-use Rattle.roman_top.specs.Outlooks.{lines_without, ones}
+use Rattle.roman_top.proofs.Common.{flat_map, below, sizes_of, pair_at, system_of, IsFilling, lines_without, ones}
 use Rattle.roman_top.proofs.outlooks.push_ones.Given as goal
 
 -- the lines of the services so far were pushed

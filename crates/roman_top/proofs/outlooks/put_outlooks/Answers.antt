@@ -1,7 +1,4 @@
-use Rattle.std.proofs.lemmas.Result.{err_from_is_err_and}
-use Rattle.roman_model.specs.Numbers.{sizes_of, pair_at}
-use Rattle.roman_joint.specs.NamedSys.{system_of}
-use Rattle.roman_text.proofs.CallerLemmas.{fill_more, fill_failed, fill_whole, fill_put}
+use Rattle.roman_top.proofs.Common.{err_from_is_err_and, sizes_of, pair_at, system_of, fill_more, fill_failed, fill_whole, fill_put}
 use Rattle.roman_top.proofs.OutlookLemmas.{text_pieces}
 use Rattle.roman_top.proofs.outlooks.put_outlooks.Goals as goal
 

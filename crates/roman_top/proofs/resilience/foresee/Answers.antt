@@ -1,9 +1,5 @@
 use Rattle.std.proofs.Common.{◌<◌, sym, subst}
-use Rattle.roman_model.specs.Numbers.{sizes_of, count}
-use Rattle.roman_joint.specs.NamedSys.{NamedSys, system_of}
-use Rattle.roman_start.specs.Seating.{IsSeated}
-use Rattle.roman_top.specs.Command.{Resilience}
-use Rattle.roman_top.specs.Opening.{EndsSaying}
+use Rattle.roman_top.proofs.Common.{sizes_of, count, NamedSys, system_of, IsSeated, Resilience, EndsSaying}
 use Rattle.roman_top.specs.declared.status.Status.TheVariants as status
 use Rattle.roman_top.proofs.ResilienceLemmas.{text_at, foreseen_is_run}
 use Rattle.roman_top.proofs.ServedLemmas.{opened_served}

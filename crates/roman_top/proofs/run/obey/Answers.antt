@@ -1,5 +1,5 @@
 use Rattle.std.proofs.Common.{None, Some, ap}
-use Rattle.roman_top.specs.Command.{Synth, Run, Certify, Check, Shortest, Resilience, Advise, On, Make, command_as}
+use Rattle.roman_top.proofs.Common.{Synth, Run, Certify, Check, Shortest, Resilience, Advise, On, Make, command_as}
 use Rattle.roman_top.proofs.ServedLemmas.{served_as, made_served}
 use Rattle.roman_top.proofs.run.obey.Goals as goal
 

@@ -1,7 +1,4 @@
-use Rattle.roman_joint.specs.NamedSys.{system_of}
-use Rattle.roman_start.specs.Seating.{IsSeated}
-use Rattle.roman_top.specs.Command.{Shortest}
-use Rattle.roman_top.specs.Run.{TellsShortestOf}
+use Rattle.roman_top.proofs.Common.{system_of, IsSeated, Shortest, TellsShortestOf}
 use Rattle.roman_top.proofs.ServedLemmas.{opened_served}
 use Rattle.roman_top.proofs.ShortestLemmas.{start_pair, start_below, shortened_is_run}
 use Rattle.roman_top.proofs.shortest.shortest.Goals as goal

@@ -1,6 +1,5 @@
 use Rattle.std.proofs.Common.{◌-◌, take, drop}
-use Rattle.roman_make.specs.Script.{script_lines}
-use Rattle.roman_top.specs.Stages.{HasComeTo}
+use Rattle.roman_top.proofs.Common.{script_lines, HasComeTo}
 use Rattle.roman_top.proofs.summary.play.Given as goal
 
 -- the lines so far were answered

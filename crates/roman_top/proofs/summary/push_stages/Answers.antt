@@ -1,7 +1,5 @@
 use Rattle.std.proofs.Common.{ap, ◌∙◌, arith}
-use Rattle.std.proofs.lemmas.Result.{err_from_is_err_and}
-use Rattle.roman_text.proofs.CallerLemmas.{fill_same, fill_more, fill_failed, fill_last}
-use Rattle.roman_top.specs.Stages.{line_of_stage}
+use Rattle.roman_top.proofs.Common.{err_from_is_err_and, fill_same, fill_more, fill_failed, fill_last, line_of_stage}
 use Rattle.roman_top.proofs.StageLemmas.{lines_of-drop, lines_of-end}
 use Rattle.roman_top.proofs.summary.push_stages.Goals as goal
 

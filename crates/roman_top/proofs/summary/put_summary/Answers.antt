@@ -1,6 +1,5 @@
 use Rattle.std.proofs.Common.{◌∙◌}
-use Rattle.std.proofs.lemmas.Result.{err_from_is_err_and}
-use Rattle.roman_text.proofs.CallerLemmas.{fill_whole, fill_more, fill_failed, fill_put}
+use Rattle.roman_top.proofs.Common.{err_from_is_err_and, fill_whole, fill_more, fill_failed, fill_put}
 use Rattle.roman_top.proofs.StageLemmas.{summary_pieces}
 use Rattle.roman_top.proofs.summary.put_summary.Goals as goal
 

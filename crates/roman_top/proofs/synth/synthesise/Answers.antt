@@ -1,6 +1,4 @@
-use Rattle.roman_session.specs.Starts.{IsStart}
-use Rattle.roman_top.specs.Command.{Synth}
-use Rattle.roman_top.specs.Endings.{Reports}
+use Rattle.roman_top.proofs.Common.{IsStart, Synth, Reports}
 use Rattle.roman_top.proofs.ServedLemmas.{away_served, opened_served}
 use Rattle.roman_top.proofs.SynthLemmas.{reported_is_run, told_spoken}
 use Rattle.roman_top.proofs.synth.synthesise.Goals as goal

@@ -1,6 +1,5 @@
 use Rattle.std.proofs.Common.{Some}
-use Rattle.roman_session.specs.Starts.{IsStart}
-use Rattle.roman_top.specs.Command.{Run}
+use Rattle.roman_top.proofs.Common.{IsStart, Run}
 use Rattle.roman_top.proofs.ServedLemmas.{away_served}
 use Rattle.roman_top.proofs.TalkLemmas.{shelf_served}
 use Rattle.roman_top.proofs.talking.talk_shelf.Goals as goal

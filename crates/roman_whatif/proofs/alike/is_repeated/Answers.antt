@@ -1,6 +1,7 @@
 use Rattle.std.proofs.Common.{◌≡◌, ◌-◌, Bool, true, false, not, refl, arith}
 use Rattle.std.proofs.Math.Bool.{beq}
-use Rattle.std.proofs.lemmas.Bool.{true≢false, eqb-true}
+use Rattle.roman_whatif.proofs.Common.{eqb-true}
+use Rattle.std.proofs.lemmas.Bool.{true≢false}
 use Rattle.roman_whatif.proofs.Repeats.{repeated_when}
 use Rattle.roman_whatif.proofs.alike.is_repeated.Goals as goal
 

@@ -1,8 +1,6 @@
 use Rattle.std.proofs.Common.{◌<◌, false, length, remove, sym, ap, ◌∙◌, subst}
-use Rattle.std.proofs.lemmas.List.{length-map}
-use Rattle.roman_model.specs.System.{Seat}
-use Rattle.roman_model.specs.Numbers.{count}
-use Rattle.roman_joint.specs.NamedSys.{still, seat_of, system_of}
+use Rattle.roman_whatif.proofs.Common.{length-map, Seat, count, seat_of, system_of}
+use Rattle.roman_joint.specs.NamedSys.{still}
 use Rattle.roman_whatif.proofs.Lasting.{caps_for, parts_with_seats, left_dying}
 use Rattle.roman_whatif.proofs.failing.lose_seat.Goals as goal
 

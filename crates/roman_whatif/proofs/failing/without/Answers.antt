@@ -1,7 +1,5 @@
 use Rattle.std.proofs.Common.{◌<◌, [], ◌∷◌, length, IfSome, sym, ap, subst}
-use Rattle.roman_relation.specs.declared.relation.Relation.{Relation}
-use Rattle.roman_whatif.specs.Left.{places}
-use Rattle.roman_whatif.specs.Told.{told}
+use Rattle.roman_whatif.proofs.Common.{Relation, places, told}
 use Rattle.roman_whatif.proofs.Lasting.{still_there, left_again, told_left, great_told, scratch_again}
 use Rattle.roman_whatif.proofs.failing.without.Goals as goal
 

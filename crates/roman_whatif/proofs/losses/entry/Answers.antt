@@ -1,6 +1,5 @@
 use Rattle.std.proofs.Common.{◌<◌, length, IfSome, sym, ap, ◌∙◌, subst}
-use Rattle.roman_whatif.specs.Left.{places}
-use Rattle.roman_whatif.specs.Losses.{left_of}
+use Rattle.roman_whatif.proofs.Common.{places, left_of}
 use Rattle.roman_whatif.proofs.losses.entry.Goals as goal
 
 pub returns-in-None : goal.returns-in-None

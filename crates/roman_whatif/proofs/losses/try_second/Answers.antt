@@ -1,6 +1,5 @@
 use Rattle.std.proofs.Common.{◌≡◌, ◌+◌, ◌-◌, ◌*◌, [], ◌∷◌, refl, sym, ap, ◌∙◌, arith}
-use Rattle.roman_whatif.specs.Told.{told}
-use Rattle.roman_whatif.specs.Losses.{told_at, left_of}
+use Rattle.roman_whatif.proofs.Common.{told, told_at, left_of}
 use Rattle.roman_whatif.proofs.Lasting.{still_there, left_again, told_left, left_idle, idle_on_left}
 use Rattle.roman_whatif.proofs.Repeats.{alike_first}
 use Rattle.roman_whatif.proofs.losses.try_second.Goals as goal

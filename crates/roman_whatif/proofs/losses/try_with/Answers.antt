@@ -1,9 +1,5 @@
 use Rattle.std.proofs.Common.{ℕ, ◌+◌, ◌*◌, ◌<◌, [], ◌∷◌, length, refl, sym, ◌∙◌, subst, arith}
-use Rattle.std.proofs.lemmas.List.{length-set}
-use Rattle.roman_relation.specs.declared.relation.Relation.{Relation}
-use Rattle.roman_whatif.specs.Left.{IsLeft}
-use Rattle.roman_whatif.specs.Told.{told}
-use Rattle.roman_whatif.specs.Losses.{left_of}
+use Rattle.roman_whatif.proofs.Common.{length-set, Relation, IsLeft, told, left_of}
 use Rattle.roman_whatif.proofs.Lasting.{told_left, left_idle}
 use Rattle.roman_whatif.proofs.Telling.{told_there, told_elsewhere, told_one_more}
 use Rattle.roman_whatif.proofs.losses.try_with.Goals as goal

@@ -1,5 +1,5 @@
 use Rattle.std.proofs.Common.{refl, sym, arith}
-use Rattle.std.proofs.lemmas.Fmt.{decimal_digit}
+use Rattle.roman_cert.proofs.Common.{decimal_digit}
 use Rattle.roman_cert.proofs.template.Template.new.Goals as goal
 
 pub returns : goal.returns

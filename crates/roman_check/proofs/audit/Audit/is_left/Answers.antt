@@ -1,5 +1,5 @@
 use Rattle.std.proofs.Common.{length, not, ap, ◌∙◌}
-use Rattle.roman_model.specs.Arena.{is_listed}
+use Rattle.roman_check.proofs.Common.{is_listed}
 use Rattle.roman_check.proofs.ReasonLemmas.{row_within}
 use Rattle.roman_check.proofs.audit.Audit.is_left.Goals as goal
 

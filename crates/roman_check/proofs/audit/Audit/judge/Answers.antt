@@ -1,6 +1,5 @@
 use Rattle.std.proofs.Common.{◌∙◌, ap, arith}
-use Rattle.roman_model.specs.SystemArena.{same_numbers}
-use Rattle.roman_model.specs.Certificate.{count_line}
+use Rattle.roman_check.proofs.Common.{same_numbers, count_line}
 use Rattle.roman_check.proofs.AuditLemmas.{judged_head, judged_count, judged_body, judged_after_end}
 use Rattle.roman_check.proofs.audit.Audit.judge.Goals as goal
 

@@ -1,8 +1,5 @@
 use Rattle.std.proofs.Common.{◌≡◌, ◌++◌, [], length, ◌∙◌, ap, ap₂, subst, Some}
-use Rattle.std.specs.List.{cons_option}
-use Rattle.roman_model.specs.Certificate.{entry_of, entry_fault}
-use Rattle.roman_check.specs.Readings.{entry_with}
-use Rattle.roman_check.specs.Audits.{HasListed}
+use Rattle.roman_check.proofs.Common.{cons_option, entry_of, entry_fault, entry_with, HasListed}
 use Rattle.roman_check.proofs.AuditLemmas.{entry_given, reason_given}
 use Rattle.roman_check.proofs.audit.Audit.judge_entry.Goals as goal
 

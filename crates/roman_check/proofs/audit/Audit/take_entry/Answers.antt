@@ -1,8 +1,5 @@
 use Rattle.std.proofs.Common.{◌+◌, ◌*◌, ◌<◌, ◌==◌, ◌||◌, ◌++◌, ◌∷◌, [], not, length, ◌∙◌, sym, ap, subst}
-use Rattle.std.proofs.lemmas.Bool.{not-true}
-use Rattle.roman_model.specs.Arena.{is_listed}
-use Rattle.roman_rules.specs.Asked.{HoldsWhereKept}
-use Rattle.roman_check.specs.Readings.{entry_with}
+use Rattle.roman_check.proofs.Common.{not-true, is_listed, HoldsWhereKept, entry_with}
 use Rattle.roman_check.proofs.AuditLemmas.{repeated_entry, unjustified_entry, clean_entry, pair_within, entry_listed}
 use Rattle.roman_check.proofs.audit.Audit.take_entry.Goals as goal
 

@@ -1,8 +1,5 @@
 use Rattle.std.proofs.Common.{◌+◌, ◌*◌, ◌<◌, ◌==◌, ◌||◌, ◌++◌, ◌∷◌, [], not, length, ◌∙◌, sym, ap, subst}
-use Rattle.std.proofs.lemmas.Bool.{not-true}
-use Rattle.roman_model.specs.Arena.{is_listed, is_justified}
-use Rattle.roman_rules.specs.Asked.{HoldsWhereKept}
-use Rattle.roman_check.specs.Readings.{entry_with}
+use Rattle.roman_check.proofs.Common.{not-true, is_listed, is_justified, HoldsWhereKept, entry_with}
 use Rattle.roman_check.proofs.AuditLemmas.{clean_entry, entry_listed}
 use Rattle.roman_check.proofs.audit.Audit.take_known.Goals as goal
 

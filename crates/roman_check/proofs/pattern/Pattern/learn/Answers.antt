@@ -1,6 +1,5 @@
 use Rattle.std.proofs.Common.{◌≡◌, ◌+◌, ◌-◌, ◌<◌, ◌≤◌, length, take, sym, arith, subst, length-take-le}
-use Rattle.std.proofs.lemmas.List.{get_or-take}
-use Rattle.roman_check.specs.Readings.{HasParts}
+use Rattle.roman_check.proofs.Common.{get_or-take, HasParts}
 use Rattle.roman_check.proofs.PatternLemmas.{parts_same, large_number}
 use Rattle.roman_check.proofs.pattern.Pattern.learn.Goals as goal
 

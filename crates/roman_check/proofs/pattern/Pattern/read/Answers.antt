@@ -1,6 +1,5 @@
 use Rattle.std.proofs.Common.{◌≡◌, ◌+◌, take, Some, sym, subst}
-use Rattle.roman_model.specs.Certificate.{entry_of}
-use Rattle.roman_check.specs.Readings.{entry_with, IsEndedAt}
+use Rattle.roman_check.proofs.Common.{entry_of, entry_with, IsEndedAt}
 use Rattle.roman_check.proofs.EntryLemmas.{few_of}
 use Rattle.roman_check.proofs.PatternLemmas.{parts_entry}
 use Rattle.roman_check.proofs.pattern.Pattern.read.Goals as goal

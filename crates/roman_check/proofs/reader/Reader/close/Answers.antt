@@ -1,5 +1,5 @@
 use Rattle.std.proofs.Common.{◌+◌, ap, arith}
-use Rattle.std.proofs.lemmas.Bool.{both_ways}
+use Rattle.roman_check.proofs.Common.{both_ways}
 use Rattle.roman_check.proofs.ReaderLemmas.{closed_empty, closed_line, closed_at_fault}
 use Rattle.roman_check.proofs.reader.Reader.close.Goals as goal
 

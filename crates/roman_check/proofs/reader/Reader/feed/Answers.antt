@@ -1,5 +1,5 @@
 use Rattle.std.proofs.Common.{refl, arith}
-use Rattle.std.proofs.lemmas.List.{take_rest}
+use Rattle.roman_check.proofs.Common.{take_rest}
 use Rattle.roman_check.proofs.ReaderLemmas.{read_more, stop_in_piece, read_rest}
 use Rattle.roman_check.proofs.reader.Reader.feed.Goals as goal
 

@@ -1,6 +1,5 @@
 use Rattle.std.proofs.Common.{◌+◌, ◌-◌, ◌≤◌, length}
-use Rattle.roman_check.specs.Readers.{IsReadTo}
-use Rattle.roman_check.specs.Audits.{IsInRows}
+use Rattle.roman_check.proofs.Common.{IsReadTo, IsInRows}
 use Rattle.roman_check.proofs.reader.Reader.feed.Given as goal
 
 -- the lines that end so far are read

@@ -1,10 +1,5 @@
 use Rattle.std.proofs.Common.{◌≡◌, ◌+◌, ◌-◌, ◌<◌, ◌++◌, ◌∷◌, [], length, take, drop, None, Some, refl, sym, ap, ◌∙◌, subst, rules, arith}
-use Rattle.roman_model.specs.Lists.{IsIn}
-use Rattle.roman_model.specs.Certificate.{reasons, entry_fault}
-use Rattle.roman_check.specs.Lines.{Holds}
-use Rattle.roman_check.specs.Audits.{HasListed}
-use Rattle.roman_check.specs.Readings.{entry_with}
-use Rattle.roman_check.specs.Readers.{IsReadTo}
+use Rattle.roman_check.proofs.Common.{IsIn, reasons, entry_fault, Holds, HasListed, entry_with, IsReadTo}
 use Rattle.roman_check.proofs.AuditLemmas.{few_numbered}
 use Rattle.roman_check.proofs.PatternLemmas.{parts_entry}
 use Rattle.roman_check.proofs.ReaderLemmas.{entry_in_piece, read_line, read_more}

@@ -1,9 +1,5 @@
 use Rattle.std.proofs.Common.{◌≡◌, ◌+◌, ◌-◌, ◌≤◌, length}
-use Rattle.roman_check.specs.declared.audit.Due.TheVariants.{Body}
-use Rattle.roman_check.specs.declared.reader.Reader.{Reader}
-use Rattle.roman_check.specs.Patterns.{IsPattern}
-use Rattle.roman_check.specs.Readers.{IsReadTo}
-use Rattle.roman_check.specs.Audits.{IsInRows}
+use Rattle.roman_check.proofs.Common.{Body, Reader, IsPattern, IsReadTo, IsInRows}
 use Rattle.roman_check.proofs.reader.Reader.read_alike.Given as goal
 
 -- the entries so far are read, and nothing else has changed

@@ -1,8 +1,5 @@
 use Rattle.std.proofs.Common.{◌+◌, ◌-◌, [], length, take, drop, None, refl, sym, ap₂, ◌∙◌, subst, arith}
-use Rattle.roman_model.specs.Lists.{IsIn}
-use Rattle.roman_model.specs.Certificate.{entry_of, reasons}
-use Rattle.roman_check.specs.Lines.{Holds}
-use Rattle.roman_check.specs.Readings.{entry_with}
+use Rattle.roman_check.proofs.Common.{IsIn, entry_of, reasons, Holds, entry_with}
 use Rattle.roman_check.proofs.AuditLemmas.{entry_given, reason_given}
 use Rattle.roman_check.proofs.ReaderLemmas.{entry_in_piece, read_line, stop_line, read_more, stop_in_piece}
 use Rattle.roman_check.proofs.reader.Reader.read_entries.Goals as goal

@@ -1,11 +1,5 @@
 use Rattle.std.proofs.Common.{◌≡◌, ◌+◌, ◌-◌, ◌≤◌, length}
-use Rattle.roman_model.specs.Lists.{IsIn}
-use Rattle.roman_model.specs.Certificate.{reasons}
-use Rattle.roman_check.specs.declared.audit.Due.TheVariants.{Body}
-use Rattle.roman_check.specs.declared.reader.Reader.{Reader}
-use Rattle.roman_check.specs.Patterns.{IsPattern}
-use Rattle.roman_check.specs.Readers.{IsReadTo}
-use Rattle.roman_check.specs.Audits.{IsInRows}
+use Rattle.roman_check.proofs.Common.{IsIn, reasons, Body, Reader, IsPattern, IsReadTo, IsInRows}
 use Rattle.roman_check.proofs.reader.Reader.read_entries.Given as goal
 
 -- the entries so far are read, and an entry or the last line is due

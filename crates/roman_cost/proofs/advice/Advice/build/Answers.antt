@@ -1,10 +1,5 @@
 use Rattle.std.proofs.Common.{◌≡◌, suc, length, ap, sym, ◌∙◌, subst, arith}
-use Rattle.roman_model.specs.Plans.{least_at}
-use Rattle.roman_model.proofs.CallerLemmas.{length_rows}
-use Rattle.roman_joint.specs.NamedSys.{system_of}
-use Rattle.roman_cost.specs.Advised.{value_rows}
-use Rattle.roman_cost.specs.Filling.{AreSmall}
-use Rattle.roman_cost.specs.Tables.{seat_costs}
+use Rattle.roman_cost.proofs.Common.{least_at, length_rows, system_of, value_rows, AreSmall, seat_costs}
 use Rattle.roman_cost.proofs.CostLemmas.{seat_costs_small}
 use Rattle.roman_cost.proofs.Rows.{resized_row, rows_small}
 use Rattle.roman_cost.proofs.advice.Advice.build.Goals as goal

@@ -1,7 +1,5 @@
 use Rattle.std.proofs.Common.{◌≡◌, suc}
-use Rattle.roman_joint.specs.NamedSys.{system_of}
-use Rattle.roman_cost.specs.Advised.{value_rows}
-use Rattle.roman_cost.specs.Tables.{seat_costs}
+use Rattle.roman_cost.proofs.Common.{system_of, value_rows, seat_costs}
 use Rattle.roman_cost.proofs.advice.Advice.build.Given as goal
 
 -- the rows so far

@@ -1,7 +1,5 @@
 use Rattle.std.proofs.Common.{ap, ◌∙◌, ◌-◌, map}
-use Rattle.roman_model.specs.Plans.{least_at}
-use Rattle.roman_joint.specs.NamedSys.{system_of}
-use Rattle.roman_cost.specs.Tables.{seat_costs}
+use Rattle.roman_cost.proofs.Common.{least_at, system_of, seat_costs}
 use Rattle.roman_cost.proofs.advice.Advice.choice.Goals as goal
 
 pub returns-clause-seat : goal.returns-clause-seat

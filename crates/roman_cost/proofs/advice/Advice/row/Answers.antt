@@ -1,6 +1,5 @@
 use Rattle.std.proofs.Common.{◌≡◌, map, length, sym, ap, ◌∙◌, arith}
-use Rattle.roman_model.specs.Plans.{least_at}
-use Rattle.roman_cost.specs.Advised.{AdviceTable}
+use Rattle.roman_cost.proofs.Common.{least_at, AdviceTable}
 use Rattle.roman_cost.proofs.Rows.{table_row}
 use Rattle.roman_cost.proofs.advice.Advice.row.Goals as goal
 

@@ -1,10 +1,5 @@
 use Rattle.std.proofs.Common.{◌≡◌, ◌<◌, ◌≤◌, ◌+◌, ◌*◌, suc, ℕ, length, slice_index, sym, ap, ◌∙◌, subst, arith}
-use Rattle.std.proofs.lemmas.Nat.{mul-add-lt}
-use Rattle.std.proofs.lemmas.List.{get_or_read}
-use Rattle.roman_model.specs.Lists.{IsIn}
-use Rattle.roman_model.specs.Plans.{least_at}
-use Rattle.roman_model.proofs.CallerLemmas.{length_rows}
-use Rattle.roman_cost.specs.Advised.{AdviceTable}
+use Rattle.roman_cost.proofs.Common.{mul-add-lt, get_or_read, IsIn, least_at, length_rows, AdviceTable}
 use Rattle.roman_cost.proofs.Ranks.{value_at}
 use Rattle.roman_cost.proofs.advice.Advice.value.Goals as goal
 

@@ -1,5 +1,5 @@
 use Rattle.std.proofs.Common.{◌≡◌, ◌<◌, None, refl, sym, subst}
-use Rattle.roman_cost.specs.Tables.{CostTable, listed_cost}
+use Rattle.roman_cost.proofs.Common.{CostTable, listed_cost}
 use Rattle.roman_cost.proofs.CostLemmas.{HoldsCosts-put}
 use Rattle.roman_cost.proofs.costs.Costs.put.Goals as goal
 

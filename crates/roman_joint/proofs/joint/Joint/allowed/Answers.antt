@@ -1,7 +1,6 @@
 use Rattle.std.proofs.Common.{ap, ◌∙◌}
-use Rattle.roman_model.specs.Numbers.{Sizes, pair_at}
-use Rattle.roman_parts.specs.Named.{NamedEnv, NamedTarget}
-use Rattle.roman_joint.specs.NamedSys.{system_of}
+use Rattle.roman_joint.proofs.Common.{Sizes, pair_at, NamedEnv, system_of}
+use Rattle.roman_parts.specs.Named.{NamedTarget}
 use Rattle.roman_joint.proofs.Shown.{Shows, shown, allowed_shown}
 use Rattle.roman_joint.proofs.joint.Joint.allowed.Goals as goal
 

@@ -1,6 +1,6 @@
 use Rattle.std.proofs.Common.{◌≡◌}
-use Rattle.roman_joint.specs.NamedSys.{system_of}
-use Rattle.roman_joint.specs.Walks.{IsWalk, left, way_left}
+use Rattle.roman_joint.proofs.Common.{system_of, IsWalk, left}
+use Rattle.roman_joint.specs.Walks.{way_left}
 use Rattle.roman_joint.proofs.joint.Joint.back.Given as goal
 
 -- no delegation was returned yet

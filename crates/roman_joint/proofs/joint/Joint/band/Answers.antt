@@ -1,8 +1,5 @@
 use Rattle.std.proofs.Common.{arith}
-use Rattle.roman_model.specs.Numbers.{sizes_of}
-use Rattle.roman_radix.specs.Rows.{row_sizes}
-use Rattle.roman_radix.proofs.CallerLemmas.{lanes_few}
-use Rattle.roman_joint.specs.NamedSys.{system_of}
+use Rattle.roman_joint.proofs.Common.{sizes_of, row_sizes, lanes_few, system_of}
 use Rattle.roman_joint.proofs.SplitLemmas.{joint_sizes}
 use Rattle.roman_joint.proofs.BandLemmas.{first_in}
 use Rattle.roman_joint.proofs.joint.Joint.band.Goals as goal

@@ -1,10 +1,5 @@
 use Rattle.std.proofs.Common.{◌≡◌, ◌*◌, ◌/◌, sym, ap, ap₂, ◌∙◌, arith}
-use Rattle.roman_model.specs.Numbers.{sizes_of, count}
-use Rattle.roman_radix.specs.Rows.{row_sizes}
-use Rattle.roman_radix.proofs.CallerLemmas.{count_rows, rows_are, IsSizes-rows}
-use Rattle.roman_joint.specs.NamedSys.{system_of}
-use Rattle.roman_joint.specs.Rows.{lanes_in}
-use Rattle.roman_joint.specs.Bands.{band_in}
+use Rattle.roman_joint.proofs.Common.{sizes_of, count, row_sizes, count_rows, rows_are, IsSizes-rows, system_of, lanes_in, band_in}
 use Rattle.roman_joint.proofs.SplitLemmas.{joint_sizes, factor}
 use Rattle.roman_joint.proofs.GoodLemmas.{width_positive}
 use Rattle.roman_joint.proofs.BandLemmas.{first_in}

@@ -1,15 +1,7 @@
 use Rattle.std.proofs.Common.{◌≡◌, ℕ, ◌+◌, ◌*◌, length, sum_by, sym, ap, ◌∙◌, arith}
-use Rattle.std.proofs.lemmas.List.{length-map}
-use Rattle.roman_model.specs.Lists.{below}
-use Rattle.roman_model.specs.Arena.{mask}
+use Rattle.roman_joint.proofs.Common.{length-map, below, mask, sizes_of, numbered, row_sizes, lanes_few, sum_below_more, served_by, system_of, seat_of, lanes_in, band_in}
 use Rattle.roman_model.proofs.CallerLemmas.{sum_by_same}
-use Rattle.roman_model.specs.Numbers.{sizes_of, numbered}
-use Rattle.roman_radix.specs.Rows.{row_sizes}
-use Rattle.roman_radix.proofs.CallerLemmas.{lanes_few}
-use Rattle.roman_rules.proofs.CallerLemmas.{sum_below_more, sum_cut, sum_turned, served_by, action_counted, none_chosen}
-use Rattle.roman_joint.specs.NamedSys.{system_of, seat_of}
-use Rattle.roman_joint.specs.Rows.{lanes_in}
-use Rattle.roman_joint.specs.Bands.{band_in}
+use Rattle.roman_rules.proofs.CallerLemmas.{sum_cut, sum_turned, action_counted, none_chosen}
 use Rattle.roman_joint.proofs.ArenaFacts.{joint_numbered}
 use Rattle.roman_joint.proofs.SplitLemmas.{joint_sizes}
 use Rattle.roman_joint.proofs.AllowedLemmas.{open_here}

@@ -1,12 +1,5 @@
 use Rattle.std.proofs.Common.{◌≡◌, List, refl, sym, ap, ◌∙◌, subst}
-use Rattle.roman_model.specs.Numbers.{sizes_of}
-use Rattle.roman_joint.specs.declared.target_view.TargetView.{TargetView}
-use Rattle.roman_joint.specs.NamedSys.{NamedSys, system_of, IsNamedSys}
-use Rattle.roman_joint.specs.Layout.{named_sys_in}
-use Rattle.roman_joint.specs.Parts.{HasSameParts}
-use Rattle.roman_joint.specs.Rows.{AreRowsOf}
-use Rattle.roman_joint.specs.TargetViews.{AreTargetViews}
-use Rattle.roman_joint.specs.Moves.{HoldsMoves}
+use Rattle.roman_joint.proofs.Common.{sizes_of, TargetView, NamedSys, system_of, IsNamedSys, named_sys_in, HasSameParts, AreRowsOf, AreTargetViews, HoldsMoves}
 use Rattle.roman_joint.proofs.SeatChanges.{with_the_seats}
 use Rattle.roman_joint.proofs.joint.Joint.copy.Goals as goal
 

@@ -1,9 +1,5 @@
 use Rattle.std.proofs.Common.{ap, ◌∙◌, arith}
-use Rattle.std.specs.List.{remove}
-use Rattle.roman_model.specs.Change.{Die, after}
-use Rattle.roman_joint.specs.NamedSys.{system_of}
-use Rattle.roman_joint.specs.Layout.{named_sys_in}
-use Rattle.roman_joint.specs.Moves.{AreSeatsOf}
+use Rattle.roman_joint.proofs.Common.{remove, Die, after, system_of, named_sys_in, AreSeatsOf}
 use Rattle.roman_joint.proofs.Shown.{is_joint, room_kept}
 use Rattle.roman_joint.proofs.SeatChanges.{with_seats, gone_known, gone_sizes, gone_system}
 use Rattle.roman_joint.proofs.joint.Joint.drop_seat.Goals as goal

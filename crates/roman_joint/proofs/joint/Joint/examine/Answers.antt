@@ -1,9 +1,6 @@
 use Rattle.std.proofs.Common.{Some, None, IsFalse, get_or, sym, ap, ◌∙◌, subst, arith}
-use Rattle.std.specs.List.{find}
-use Rattle.roman_model.specs.Lists.{is_empty}
-use Rattle.roman_model.specs.Numbers.{sizes_of}
-use Rattle.roman_joint.specs.NamedSys.{system_of}
-use Rattle.roman_joint.specs.Outcomes.{outcome_number, IsPairWith}
+use Rattle.roman_joint.proofs.Common.{find, is_empty, sizes_of, system_of, IsPairWith}
+use Rattle.roman_joint.specs.Outcomes.{outcome_number}
 use Rattle.roman_joint.proofs.Finds.{in_at, if_some, find_numbers, no_numbers, some_numbers, none_there, some_there}
 use Rattle.roman_joint.proofs.joint.Joint.examine.Goals as goal
 

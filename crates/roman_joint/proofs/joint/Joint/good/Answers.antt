@@ -1,8 +1,7 @@
 use Rattle.std.proofs.Common.{◌∙◌, sym, ap, not}
-use Rattle.roman_joint.specs.NamedSys.{system_of}
+use Rattle.roman_joint.proofs.Common.{system_of, on_zero}
 use Rattle.roman_joint.proofs.ArenaFacts.{joint_numbered}
 use Rattle.roman_joint.proofs.AllowedLemmas.{unopened}
-use Rattle.roman_lanes.proofs.CallerLemmas.{on_zero}
 use Rattle.roman_joint.proofs.joint.Joint.good.Goals as goal
 
 pub returns-in_default : goal.returns-in_default

@@ -1,6 +1,5 @@
 use Rattle.std.proofs.Common.{◌+◌, ◌-◌, ◌*◌, arith}
-use Rattle.std.proofs.lemmas.List.{length-map}
-use Rattle.roman_joint.specs.NamedSys.{system_of, seat_of}
+use Rattle.roman_joint.proofs.Common.{length-map, system_of, seat_of}
 use Rattle.roman_joint.proofs.Shown.{Shows, shown, seats_shown}
 use Rattle.roman_joint.proofs.MoveLemmas.{StandsAt, span_at, stands_at}
 use Rattle.roman_joint.proofs.joint.Joint.lane_moves.Goals as goal

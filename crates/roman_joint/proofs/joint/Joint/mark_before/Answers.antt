@@ -1,9 +1,5 @@
 use Rattle.std.proofs.Common.{◌≡◌, ℕ, ◌+◌, ◌*◌, ◌<◌, length, ap, ◌∙◌, arith}
-use Rattle.roman_model.specs.Numbers.{sizes_of, count, pair_at}
-use Rattle.roman_joint.specs.NamedSys.{system_of}
-use Rattle.roman_joint.specs.Rows.{lanes_in}
-use Rattle.roman_joint.specs.Bands.{band_in}
-use Rattle.roman_joint.specs.Marks.{MarksAction, front_action}
+use Rattle.roman_joint.proofs.Common.{sizes_of, count, pair_at, system_of, lanes_in, band_in, MarksAction, front_action}
 use Rattle.roman_joint.proofs.SplitLemmas.{joint_sizes}
 use Rattle.roman_joint.proofs.BandLemmas.{in_band}
 use Rattle.roman_joint.proofs.MarkLemmas.{grows_on, action_on, more_below, marks_all, count_below, count_front, pair_there}

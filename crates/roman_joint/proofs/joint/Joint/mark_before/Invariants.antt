@@ -1,9 +1,5 @@
 use Rattle.std.proofs.Common.{◌≡◌, ℕ, ◌+◌, ◌<◌, length}
-use Rattle.std.specs.List.{flat_map}
-use Rattle.roman_model.specs.Lists.{below}
-use Rattle.roman_model.specs.System.{Pair}
-use Rattle.roman_joint.specs.NamedSys.{system_of}
-use Rattle.roman_joint.specs.Marks.{Grows, MarksAction, IsAt, front_action}
+use Rattle.roman_joint.proofs.Common.{flat_map, below, Pair, system_of, Grows, MarksAction, IsAt, front_action}
 use Rattle.roman_joint.proofs.joint.Joint.mark_before.Given as goal
 
 -- the bands of the actions so far are marked

@@ -1,15 +1,6 @@
 use Rattle.std.proofs.Common.{◌≡◌, ◌+◌, ◌*◌, ◌^◌, ◌/◌, ◌<◌, eqb, bit_and, sym, ap, subst, ◌∙◌, arith}
-use Rattle.std.proofs.lemmas.Nat.Bits.{shr_and_one}
-use Rattle.std.proofs.lemmas.List.{length-map}
-use Rattle.roman_model.specs.System.{has}
-use Rattle.roman_model.specs.Arena.{mask}
-use Rattle.roman_model.specs.Numbers.{sizes_of, numbered}
-use Rattle.roman_radix.proofs.CallerLemmas.{lanes_few}
-use Rattle.roman_lanes.specs.Rows.{is_on}
-use Rattle.roman_rules.specs.Bits.{HasBits}
+use Rattle.roman_joint.proofs.Common.{shr_and_one, length-map, has, mask, sizes_of, numbered, lanes_few, is_on, HasBits, system_of, seat_of, lanes_in, AreAlive}
 use Rattle.roman_rules.proofs.CallerLemmas.{has_good, mask_refused, mask_more, mask_all}
-use Rattle.roman_joint.specs.NamedSys.{system_of, seat_of}
-use Rattle.roman_joint.specs.Rows.{lanes_in, AreAlive}
 use Rattle.roman_joint.proofs.ArenaFacts.{joint_numbered}
 use Rattle.roman_joint.proofs.AllowedLemmas.{open_here}
 use Rattle.roman_joint.proofs.GoodLemmas.{known, beaten_dead}

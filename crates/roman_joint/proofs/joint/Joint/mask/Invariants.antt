@@ -1,12 +1,5 @@
 use Rattle.std.proofs.Common.{◌≡◌, ℕ, ◌+◌, ◌*◌, ◌<◌, ◌≤◌, Bool, not}
-use Rattle.std.specs.Int.{bit_at}
-use Rattle.roman_model.specs.System.{has}
-use Rattle.roman_model.specs.Arena.{mask}
-use Rattle.roman_model.specs.Numbers.{numbered}
-use Rattle.roman_lanes.specs.Rows.{AreRows}
-use Rattle.roman_rules.specs.Bits.{bit_of}
-use Rattle.roman_joint.specs.NamedSys.{system_of}
-use Rattle.roman_joint.specs.Rows.{lanes_in, IsRow}
+use Rattle.roman_joint.proofs.Common.{bit_at, has, mask, numbered, AreRows, bit_of, system_of, lanes_in, IsRow}
 use Rattle.roman_joint.proofs.joint.Joint.mask.Given as goal
 
 -- the mask is right for the seats so far, and has no other seat

@@ -1,6 +1,5 @@
 use Rattle.std.proofs.Common.{◌≡◌, length, sym, ap, ◌∙◌, arith}
-use Rattle.std.proofs.lemmas.List.{length-map}
-use Rattle.roman_joint.specs.NamedSys.{system_of, seat_of}
+use Rattle.roman_joint.proofs.Common.{length-map, system_of, seat_of}
 use Rattle.roman_joint.proofs.WalkLemmas.{goes_action, below-past}
 use Rattle.roman_joint.proofs.joint.Joint.next_action.Goals as goal
 

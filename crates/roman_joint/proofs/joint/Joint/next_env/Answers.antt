@@ -1,9 +1,5 @@
 use Rattle.std.proofs.Common.{length, get_or, sym, ap, ◌∙◌, arith}
-use Rattle.std.proofs.lemmas.List.{length-map}
-use Rattle.roman_model.specs.SystemArena.{env_prev}
-use Rattle.roman_radix.specs.Radix.{env_stride_of}
-use Rattle.roman_joint.specs.NamedSys.{system_of, seat_of}
-use Rattle.roman_joint.specs.Walks.{goal_of}
+use Rattle.roman_joint.proofs.Common.{length-map, env_prev, env_stride_of, system_of, seat_of, goal_of}
 use Rattle.roman_joint.proofs.Rows.{count_fits, env_moves}
 use Rattle.roman_joint.proofs.WalkLemmas.{goes_env, flat_map-past, few_prev}
 use Rattle.roman_joint.proofs.joint.Joint.next_env.Goals as goal

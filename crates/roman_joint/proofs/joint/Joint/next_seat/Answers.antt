@@ -1,6 +1,5 @@
 use Rattle.std.proofs.Common.{arith}
-use Rattle.std.proofs.lemmas.List.{length-map}
-use Rattle.roman_joint.specs.NamedSys.{system_of, seat_of}
+use Rattle.roman_joint.proofs.Common.{length-map, system_of, seat_of}
 use Rattle.roman_joint.proofs.WalkLemmas.{goes_seat, below-past}
 use Rattle.roman_joint.proofs.joint.Joint.next_seat.Goals as goal
 

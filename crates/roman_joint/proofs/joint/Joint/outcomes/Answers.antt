@@ -1,9 +1,5 @@
 use Rattle.std.proofs.Common.{◌+◌, ◌*◌, slice_index, sym, ap, ◌∙◌, rules, arith}
-use Rattle.roman_model.specs.System.{Beh}
-use Rattle.roman_model.specs.SystemArena.{beh_next}
-use Rattle.roman_model.specs.Numbers.{Sizes, number, pair_at}
-use Rattle.roman_radix.specs.Radix.{moved}
-use Rattle.roman_joint.specs.NamedSys.{system_of}
+use Rattle.roman_joint.proofs.Common.{Beh, beh_next, Sizes, number, pair_at, moved, system_of}
 use Rattle.roman_joint.proofs.BehaviourLemmas.{Behaves, behaves}
 use Rattle.roman_joint.proofs.OutcomeLemmas.{are_outcomes}
 use Rattle.roman_joint.proofs.Rows.{size_of_seat, count_fits}

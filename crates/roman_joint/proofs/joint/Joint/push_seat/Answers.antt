@@ -1,7 +1,5 @@
 use Rattle.std.proofs.Common.{◌≡◌, ◌++◌, ◌∷◌, [], sym, ap, ◌∙◌, subst, refl, arith}
-use Rattle.roman_model.specs.Numbers.{sizes_of}
-use Rattle.roman_joint.specs.NamedSys.{NamedSys, system_of, IsNamedSys}
-use Rattle.roman_joint.specs.Layout.{named_sys_in}
+use Rattle.roman_joint.proofs.Common.{sizes_of, NamedSys, system_of, IsNamedSys, named_sys_in}
 use Rattle.roman_joint.proofs.Shown.{is_joint, room_kept}
 use Rattle.roman_joint.proofs.SeatChanges.{with_seats}
 use Rattle.roman_joint.proofs.joint.Joint.push_seat.Goals as goal

@@ -1,9 +1,5 @@
 use Rattle.std.proofs.Common.{length, sym, ap, ◌∙◌, subst, arith}
-use Rattle.std.proofs.lemmas.List.{length-map}
-use Rattle.roman_parts.specs.Named.{NamedEnv}
-use Rattle.roman_joint.specs.NamedSys.{NamedSys, seat_of}
-use Rattle.roman_joint.specs.Layout.{named_sys_in}
-use Rattle.roman_joint.specs.Parts.{HasSameParts}
+use Rattle.roman_joint.proofs.Common.{length-map, NamedEnv, NamedSys, seat_of, named_sys_in, HasSameParts}
 use Rattle.roman_joint.proofs.Shown.{is_joint, room_kept}
 use Rattle.roman_joint.proofs.SeatChanges.{with_the_seats}
 use Rattle.roman_joint.proofs.joint.Joint.reset_seats_to.Goals as goal

@@ -1,7 +1,5 @@
 use Rattle.std.proofs.Common.{◌≡◌, ◌*◌, ◌%◌, ap, ◌∙◌, arith}
-use Rattle.roman_model.specs.Numbers.{sizes_of, pair_at}
-use Rattle.roman_joint.specs.NamedSys.{system_of}
-use Rattle.roman_joint.specs.Rows.{lanes_in}
+use Rattle.roman_joint.proofs.Common.{sizes_of, pair_at, system_of, lanes_in}
 use Rattle.roman_joint.proofs.SplitLemmas.{joint_sizes, row_made}
 use Rattle.roman_joint.proofs.GoodLemmas.{env_rows_positive}
 use Rattle.roman_joint.proofs.joint.Joint.row.Goals as goal

@@ -1,9 +1,6 @@
 use Rattle.std.proofs.Common.{◌≡◌, ◌≤◌, List, length, get_or, sym, ap, ◌∙◌, subst, arith}
 use Rattle.std.specs.Option.{IsSome}
-use Rattle.roman_model.specs.System.{Beh, IsBeh}
-use Rattle.roman_model.specs.Change.{Join, after}
-use Rattle.roman_parts.specs.Named.{NamedBeh}
-use Rattle.roman_joint.specs.NamedSys.{beh_at, seat_of, system_of, cells, IsOverEnv}
+use Rattle.roman_joint.proofs.Common.{Beh, IsBeh, Join, after, NamedBeh, beh_at, seat_of, system_of, cells, IsOverEnv}
 use Rattle.roman_joint.proofs.SeatLemmas.{seat_beh_read, states_range}
 use Rattle.roman_joint.proofs.SeatChanges.{joined_known, joined_sizes, joined_test}
 use Rattle.roman_joint.proofs.joint.Joint.shape_with.Goals as goal

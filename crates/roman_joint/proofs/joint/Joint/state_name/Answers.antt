@@ -1,7 +1,5 @@
 use Rattle.std.proofs.Common.{◌<◌, ℕ, List, length, slice_index, sym, ap₂, ◌∙◌, subst}
-use Rattle.roman_model.specs.Explanation.{name_at}
-use Rattle.roman_model.specs.Numbers.{sizes_of}
-use Rattle.roman_joint.specs.NamedSys.{system_of}
+use Rattle.roman_joint.proofs.Common.{name_at, sizes_of, system_of}
 use Rattle.roman_joint.proofs.NameLemmas.{state_within, states_are, name_there}
 use Rattle.roman_joint.proofs.joint.Joint.state_name.Goals as goal
 

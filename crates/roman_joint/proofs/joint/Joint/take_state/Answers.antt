@@ -1,12 +1,5 @@
 use Rattle.std.proofs.Common.{◌≡◌, ◌<◌, length, get_or, slice_get, slice_set, ap, ◌∙◌, arith}
-use Rattle.std.proofs.lemmas.List.{length-map}
-use Rattle.roman_model.specs.System.{Seat}
-use Rattle.roman_model.specs.Numbers.{sizes_of, number}
-use Rattle.roman_model.proofs.CallerLemmas.{AreBelow-index, IsPairOf-at}
-use Rattle.roman_radix.specs.Radix.{stride_of}
-use Rattle.roman_joint.specs.NamedSys.{system_of, seat_of}
-use Rattle.roman_joint.specs.Backward.{seat_prev}
-use Rattle.roman_joint.specs.Walks.{goal_of, states_before}
+use Rattle.roman_joint.proofs.Common.{length-map, Seat, sizes_of, number, AreBelow-index, IsPairOf-at, stride_of, system_of, seat_of, seat_prev, goal_of, states_before}
 use Rattle.roman_joint.proofs.Rows.{seat_moves, count_fits}
 use Rattle.roman_joint.proofs.WalkLemmas.{passes_state}
 use Rattle.roman_joint.proofs.joint.Joint.take_state.Goals as goal

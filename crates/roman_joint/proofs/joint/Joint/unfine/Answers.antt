@@ -1,12 +1,5 @@
 use Rattle.std.proofs.Common.{◌≡◌, ℕ, ◌+◌, ◌*◌, true, false, not, ◌&&◌, ◌||◌, add-one, length, slice_get, slice_index, sym, ap, ap₂, ◌∙◌, arith}
-use Rattle.std.proofs.lemmas.List.{length-map}
-use Rattle.roman_model.specs.Lists.{all_below}
-use Rattle.roman_model.specs.System.{is_final}
-use Rattle.roman_model.specs.Numbers.{sizes_of, pair_at}
-use Rattle.roman_lanes.specs.Rows.{is_on}
-use Rattle.roman_joint.specs.NamedSys.{system_of, seat_of}
-use Rattle.roman_joint.specs.Rows.{lanes_in, may_rest}
-use Rattle.roman_lanes.proofs.CallerLemmas.{on_zero, on_and}
+use Rattle.roman_joint.proofs.Common.{length-map, all_below, is_final, sizes_of, pair_at, is_on, system_of, seat_of, lanes_in, may_rest, on_zero, on_and}
 use Rattle.roman_joint.proofs.GoodLemmas.{full_on, full_off}
 use Rattle.roman_joint.proofs.AllowedLemmas.{cut_off, fine_there}
 use Rattle.roman_joint.proofs.joint.Joint.unfine.Goals as goal

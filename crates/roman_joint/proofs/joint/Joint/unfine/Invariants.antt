@@ -1,9 +1,5 @@
 use Rattle.std.proofs.Common.{◌≡◌, ℕ, ◌+◌, ◌*◌, ◌<◌, slice_get, slice_index}
-use Rattle.roman_model.specs.Lists.{all_below}
-use Rattle.roman_model.specs.Numbers.{sizes_of, pair_at}
-use Rattle.roman_lanes.specs.Rows.{is_on}
-use Rattle.roman_joint.specs.NamedSys.{system_of}
-use Rattle.roman_joint.specs.Rows.{lanes_in, IsRow, may_rest}
+use Rattle.roman_joint.proofs.Common.{all_below, sizes_of, pair_at, is_on, system_of, lanes_in, IsRow, may_rest}
 use Rattle.roman_joint.proofs.joint.Joint.unfine.Given as goal
 
 -- the lanes at which the seats so far may rest

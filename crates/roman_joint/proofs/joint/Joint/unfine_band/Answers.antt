@@ -1,11 +1,5 @@
 use Rattle.std.proofs.Common.{◌≡◌, ◌+◌, ◌*◌, ◌<◌, true, false, not, ◌||◌, length, slice_get, slice_index, sym, ap, ◌∙◌, arith}
-use Rattle.std.proofs.lemmas.List.{length-set}
-use Rattle.roman_model.specs.Lists.{all_below}
-use Rattle.roman_model.specs.System.{is_final}
-use Rattle.roman_model.specs.Numbers.{sizes_of, pair_at, numbered}
-use Rattle.roman_joint.specs.NamedSys.{system_of}
-use Rattle.roman_joint.specs.Rows.{lanes_in, may_rest}
-use Rattle.roman_joint.specs.Bands.{band_in}
+use Rattle.roman_joint.proofs.Common.{length-set, all_below, is_final, sizes_of, pair_at, numbered, system_of, lanes_in, may_rest, band_in}
 use Rattle.roman_joint.proofs.SplitLemmas.{joint_sizes}
 use Rattle.roman_joint.proofs.AllowedLemmas.{fine_there}
 use Rattle.roman_joint.proofs.WordLemmas.{not_not}

@@ -1,9 +1,5 @@
 use Rattle.std.proofs.Common.{◌≡◌, ℕ, ◌*◌, length, not}
-use Rattle.roman_model.specs.Numbers.{numbered}
-use Rattle.roman_lanes.specs.Rows.{Keeps}
-use Rattle.roman_joint.specs.NamedSys.{system_of}
-use Rattle.roman_joint.specs.Rows.{lanes_in, IsRow}
-use Rattle.roman_joint.specs.Bands.{band_in}
+use Rattle.roman_joint.proofs.Common.{numbered, Keeps, system_of, lanes_in, IsRow, band_in}
 use Rattle.roman_joint.proofs.joint.Joint.unfine_band.Given as goal
 
 -- in the rows so far, the pairs that meet clause 2 are cleared

@@ -1,12 +1,5 @@
 use Rattle.std.proofs.Common.{◌≡◌, ℕ, ◌+◌, ◌*◌, Bool, false, not, ◌&&◌, ◌∙◌, sym, ap, ap₂, subst, add-one, arith, length}
-use Rattle.std.proofs.lemmas.List.{length-map}
-use Rattle.roman_model.specs.Lists.{all_below}
-use Rattle.roman_model.specs.Arena.{is_beaten}
-use Rattle.roman_model.specs.Numbers.{numbered}
-use Rattle.roman_lanes.specs.Rows.{is_on}
-use Rattle.roman_joint.specs.NamedSys.{system_of, seat_of}
-use Rattle.roman_joint.specs.Rows.{lanes_in, AreAlive}
-use Rattle.roman_lanes.proofs.CallerLemmas.{on_zero}
+use Rattle.roman_joint.proofs.Common.{length-map, all_below, is_beaten, numbered, is_on, system_of, seat_of, lanes_in, AreAlive, on_zero}
 use Rattle.roman_joint.proofs.WordLemmas.{all_pass}
 use Rattle.roman_joint.proofs.AllowedLemmas.{turn_open, refused, judged, and_nothing, cut_off, all_further}
 use Rattle.roman_joint.proofs.GoodLemmas.{known, beaten_dead}

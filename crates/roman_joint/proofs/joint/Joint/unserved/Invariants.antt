@@ -1,10 +1,5 @@
 use Rattle.std.proofs.Common.{◌≡◌, ℕ, ◌+◌, ◌*◌, ◌<◌, Bool, false, not, ◌&&◌}
-use Rattle.roman_model.specs.Lists.{all_below}
-use Rattle.roman_model.specs.Arena.{is_beaten}
-use Rattle.roman_model.specs.Numbers.{numbered}
-use Rattle.roman_lanes.specs.Rows.{is_on, AreRows}
-use Rattle.roman_joint.specs.NamedSys.{system_of}
-use Rattle.roman_joint.specs.Rows.{lanes_in, IsRow}
+use Rattle.roman_joint.proofs.Common.{all_below, is_beaten, numbered, is_on, AreRows, system_of, lanes_in, IsRow}
 use Rattle.roman_joint.proofs.joint.Joint.unserved.Given as goal
 
 -- the pairs that no seat so far serves are left

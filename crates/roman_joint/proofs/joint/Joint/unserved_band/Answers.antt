@@ -1,13 +1,5 @@
 use Rattle.std.proofs.Common.{◌≡◌, ◌+◌, ◌*◌, ◌∙◌, length, sym, subst, arith}
-use Rattle.std.proofs.Math.ListN.{set}
-use Rattle.roman_model.specs.Lists.{all_below}
-use Rattle.roman_model.specs.Arena.{is_beaten, is_justified}
-use Rattle.roman_model.specs.declared.reason.Reason.TheVariants.{Act}
-use Rattle.roman_model.specs.Numbers.{numbered}
-use Rattle.roman_joint.specs.NamedSys.{system_of}
-use Rattle.roman_lanes.specs.Rows.{Keeps}
-use Rattle.roman_joint.specs.Rows.{lanes_in}
-use Rattle.roman_joint.specs.Bands.{band_in}
+use Rattle.roman_joint.proofs.Common.{set, all_below, is_beaten, is_justified, Act, numbered, system_of, Keeps, lanes_in, band_in}
 use Rattle.roman_joint.proofs.SplitLemmas.{joint_sizes}
 use Rattle.roman_joint.proofs.AllowedLemmas.{turn_open, refused, judged}
 use Rattle.roman_joint.proofs.BandLemmas.{row_in, in_band, keeps_nothing, keeps_one, keeps_same}

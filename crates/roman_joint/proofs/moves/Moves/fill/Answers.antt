@@ -1,8 +1,5 @@
 use Rattle.std.proofs.Common.{◌≡◌, ℕ, ◌+◌, ◌-◌, ◌*◌, ◌≤◌, length, ap, arith}
-use Rattle.std.proofs.Math.Nat.{mul-le-mul_left, mul-le-mul_right}
-use Rattle.std.proofs.lemmas.List.{length-map}
-use Rattle.roman_radix.specs.Rows.{low_of}
-use Rattle.roman_joint.specs.NamedSys.{seat_of}
+use Rattle.roman_joint.proofs.Common.{mul-le-mul_left, mul-le-mul_right, length-map, low_of, seat_of}
 use Rattle.roman_joint.proofs.moves.Moves.fill.Goals as goal
 
 pub fill_turn-requires-clause-place : goal.fill_turn-requires-clause-place

@@ -1,7 +1,5 @@
 use Rattle.std.proofs.Common.{◌≡◌, ◌-◌, ◌*◌, ◌≤◌, length}
-use Rattle.roman_radix.specs.Rows.{low_of}
-use Rattle.roman_joint.specs.NamedSys.{NamedSys, system_of}
-use Rattle.roman_joint.specs.Moves.{AreSeatsOf, HoldsSpans, IsKept}
+use Rattle.roman_joint.proofs.Common.{low_of, NamedSys, system_of, AreSeatsOf, HoldsSpans, IsKept}
 use Rattle.roman_joint.proofs.moves.Moves.fill.Given as goal
 
 -- the spans of the turns so far are there

@@ -1,7 +1,5 @@
 use Rattle.std.proofs.Common.{◌≡◌, ◌+◌, ◌-◌, ◌≤◌, length, drop}
-use Rattle.roman_radix.specs.Rows.{low_of}
-use Rattle.roman_joint.specs.NamedSys.{NamedSys, system_of}
-use Rattle.roman_joint.specs.Moves.{ways_room, AreSeatsOf, HoldsSpans, IsKept}
+use Rattle.roman_joint.proofs.Common.{low_of, NamedSys, system_of, ways_room, AreSeatsOf, HoldsSpans, IsKept}
 use Rattle.roman_joint.proofs.moves.Moves.fill_turn.Given as goal
 
 -- the spans of the services so far are there

@@ -1,6 +1,5 @@
 use Rattle.std.proofs.Common.{◌≡◌, ◌+◌, ◌-◌, not, ◌&&◌, get_or, subst}
-use Rattle.std.specs.List.{list_any}
-use Rattle.roman_lanes.specs.Rows.{is_on}
+use Rattle.roman_joint.proofs.Common.{list_any, is_on}
 use Rattle.roman_joint.proofs.moving.MovingChangeOf.changed.Goals as goal
 
 pub returns : goal.returns

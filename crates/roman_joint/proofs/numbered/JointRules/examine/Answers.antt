@@ -1,7 +1,5 @@
 use Rattle.std.proofs.Common.{arith}
-use Rattle.roman_model.specs.Numbers.{sizes_of, count}
-use Rattle.roman_model.proofs.CallerLemmas.{length-below}
-use Rattle.roman_joint.specs.NamedSys.{system_of}
+use Rattle.roman_joint.proofs.Common.{sizes_of, count, length-below, system_of}
 use Rattle.roman_joint.proofs.numbered.JointRules.examine.Goals as goal
 
 pub returns-clause-finding : goal.returns-clause-finding

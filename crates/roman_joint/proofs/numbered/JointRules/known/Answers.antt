@@ -1,11 +1,5 @@
 use Rattle.std.proofs.Common.{◌*◌, ◌/◌, sym, ap, ◌∙◌}
-use Rattle.roman_model.specs.Numbers.{sizes_of, count}
-use Rattle.roman_model.proofs.CallerLemmas.{length-below}
-use Rattle.roman_radix.specs.Rows.{row_sizes}
-use Rattle.roman_radix.proofs.CallerLemmas.{lanes_few, count_rows, rows_are, IsSizes-rows}
-use Rattle.roman_joint.specs.NamedSys.{system_of}
-use Rattle.roman_joint.specs.Rows.{lanes_in}
-use Rattle.roman_joint.specs.Bands.{band_in}
+use Rattle.roman_joint.proofs.Common.{sizes_of, count, length-below, row_sizes, lanes_few, count_rows, rows_are, IsSizes-rows, system_of, lanes_in, band_in}
 use Rattle.roman_joint.proofs.ArenaFacts.{joint_numbered}
 use Rattle.roman_joint.proofs.SplitLemmas.{joint_sizes}
 use Rattle.roman_joint.proofs.GoodLemmas.{width_positive}

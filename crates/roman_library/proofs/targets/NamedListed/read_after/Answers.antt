@@ -1,7 +1,5 @@
 -- A target that is read is appended to those before it.
-use Rattle.std.proofs.lemmas.List.Elements.{All-push}
-use Rattle.roman_multi.specs.declared.parts.Named.{Named}
-use Rattle.roman_parts.specs.Named.{IsTarget}
+use Rattle.roman_library.proofs.Common.{All-push, Named, IsTarget}
 use Rattle.roman_library.proofs.targets.NamedListed.read_after.Goals as goal
 
 pub returns-clause-known : goal.returns-clause-known

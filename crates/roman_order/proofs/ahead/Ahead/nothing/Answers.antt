@@ -1,6 +1,5 @@
 use Rattle.std.proofs.Common.{arith}
-use Rattle.std.proofs.lemmas.Bool.{both_ways}
-use Rattle.roman_lanes.proofs.CallerLemmas.{on_zero}
+use Rattle.roman_order.proofs.Common.{both_ways, on_zero}
 use Rattle.roman_order.proofs.Lanes.{set_lanes-zero}
 use Rattle.roman_order.proofs.ahead.Ahead.nothing.Goals as goal
 

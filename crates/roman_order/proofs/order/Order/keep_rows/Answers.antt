@@ -1,8 +1,5 @@
 use Rattle.std.proofs.Common.{◌+◌, not, slice_index, inl, inr, ap, sym, ◌∙◌, subst, arith}
-use Rattle.std.proofs.lemmas.Bool.{cases_eq}
-use Rattle.std.proofs.lemmas.Nat.{mul-le}
-use Rattle.roman_lanes.specs.Rows.{HasLanes}
-use Rattle.roman_order.specs.Board.{Board, has_entry}
+use Rattle.roman_order.proofs.Common.{cases_eq, mul-le, HasLanes, Board, has_entry}
 use Rattle.roman_order.proofs.order.Order.keep_rows.Goals as goal
 
 pub overflow_add-x : goal.overflow_add-x

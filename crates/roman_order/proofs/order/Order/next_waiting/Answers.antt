@@ -1,8 +1,5 @@
 use Rattle.std.proofs.Common.{◌+◌, ◌*◌, ◌∷◌, ap, sym, refl, subst, ◌∙◌, arith, rules}
-use Rattle.std.proofs.lemmas.List.{length-set}
-use Rattle.roman_order.specs.Board.{as_entry}
-use Rattle.roman_order.specs.Events.{entries_of}
-use Rattle.roman_order.specs.Sound.{CanWait}
+use Rattle.roman_order.proofs.Common.{length-set, as_entry, entries_of, CanWait}
 use Rattle.roman_order.proofs.Lanes.{without_lane, without_lane-on, without_lane-fits, set_lanes-zero, some_lane, no_lane}
 use Rattle.roman_order.proofs.Events.{fewer, done_waiting, first_pair, left_waiting, rest_waiting}
 use Rattle.roman_order.proofs.Waiting.{next_event, taken, later_event, waiting_first, waits_sound}

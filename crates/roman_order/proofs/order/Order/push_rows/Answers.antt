@@ -1,6 +1,5 @@
 use Rattle.std.proofs.Common.{ap, arith}
-use Rattle.std.proofs.lemmas.Nat.{mul-le}
-use Rattle.roman_order.specs.Board.{Board}
+use Rattle.roman_order.proofs.Common.{mul-le, Board}
 use Rattle.roman_order.proofs.Lanes.{entries_in_rows-row, has_entry-later}
 use Rattle.roman_order.proofs.order.Order.push_rows.Goals as goal
 

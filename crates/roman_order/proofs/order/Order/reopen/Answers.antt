@@ -1,6 +1,5 @@
 use Rattle.std.proofs.Common.{vec_capacity, ap, ◌∙◌, arith, rules}
-use Rattle.std.proofs.lemmas.List.{length-replicate}
-use Rattle.roman_order.specs.Board.{Board}
+use Rattle.roman_order.proofs.Common.{length-replicate, Board}
 use Rattle.roman_order.proofs.Tables.{list_waits, blank_sound}
 use Rattle.roman_order.proofs.order.Order.reopen.Goals as goal
 

@@ -1,7 +1,5 @@
 use Rattle.std.proofs.Common.{◌≡◌, ℕ, List, sym, ap, ◌∙◌, arith, rules}
-use Rattle.roman_model.specs.Arena.{Entry}
-use Rattle.roman_order.specs.Board.{Board}
-use Rattle.roman_order.specs.Events.{entries_of}
+use Rattle.roman_order.proofs.Common.{Entry, Board, entries_of}
 use Rattle.roman_order.proofs.Events.{CanWait-nil}
 use Rattle.roman_order.proofs.Tables.{room_for}
 use Rattle.roman_order.proofs.order.Order.reset_to.Goals as goal

@@ -1,6 +1,5 @@
 use Rattle.std.proofs.Common.{ap, arith, rules}
-use Rattle.std.proofs.lemmas.List.{length-replicate}
-use Rattle.roman_order.specs.Board.{Board}
+use Rattle.roman_order.proofs.Common.{length-replicate, Board}
 use Rattle.roman_order.proofs.Tables.{blank_sound}
 use Rattle.roman_order.proofs.order.Order.shape_to.Goals as goal
 

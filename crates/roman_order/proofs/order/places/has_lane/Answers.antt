@@ -1,8 +1,5 @@
 use Rattle.std.proofs.Common.{◌&&◌, eqb, ap, sym, ◌∙◌}
-use Rattle.std.specs.Int.{bit_at}
-use Rattle.std.proofs.lemmas.Bool.{eq-eqb}
-use Rattle.std.proofs.lemmas.Nat.Bits.{shr_and_one}
-use Rattle.roman_lanes.specs.Rows.{is_on}
+use Rattle.roman_order.proofs.Common.{bit_at, eq-eqb, shr_and_one, is_on}
 use Rattle.roman_order.proofs.order.places.has_lane.Goals as goal
 
 pub returns-then-row-x : goal.returns-then-row-x

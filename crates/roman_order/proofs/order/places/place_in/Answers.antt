@@ -1,13 +1,6 @@
 use Rattle.std.proofs.Common.{◌≡◌, ℕ, ◌+◌, ◌*◌, ◌/◌, ◌%◌, ◌<◌, false, length, filter, take, Some, ap, sym, ◌∙◌, arith, eqb}
 use Rattle.std.proofs.Math.Seq.{take-length}
-use Rattle.std.proofs.lemmas.Bool.{or_from}
-use Rattle.std.proofs.lemmas.List.Folds.{list_any-append}
-use Rattle.std.proofs.lemmas.Nat.{mod_below, div-add-mod'}
-use Rattle.roman_model.specs.Lists.{below}
-use Rattle.roman_model.specs.Arena.{Entry}
-use Rattle.roman_lanes.specs.Rows.{is_on}
-use Rattle.roman_order.specs.Board.{has_entry, place_in_list}
-use Rattle.roman_order.specs.Events.{entries_at, entries_of}
+use Rattle.roman_order.proofs.Common.{or_from, list_any-append, mod_below, div-add-mod', below, Entry, is_on, has_entry, place_in_list, entries_at, entries_of}
 use Rattle.roman_order.proofs.Stamps.{part, has_entry-event, place_found, place_none, found_below}
 use Rattle.roman_order.proofs.order.places.place_in.Goals as goal
 

@@ -1,5 +1,5 @@
 use Rattle.std.proofs.Common.{◌≡◌, ℕ, true}
-use Rattle.roman_lanes.specs.Rows.{is_on}
+use Rattle.roman_order.proofs.Common.{is_on}
 use Rattle.roman_order.proofs.Stamps.{IsStamped}
 use Rattle.roman_order.proofs.order.places.write_event.Given as goal
 

@@ -1,8 +1,5 @@
 use Rattle.std.proofs.Common.{◌≡◌, suc, ◌+◌, ◌*◌, ◌<◌, true, length, take, drop, sym, ◌∙◌, subst, arith, eqb}
-use Rattle.std.specs.List.{IsDistinct}
-use Rattle.roman_order.specs.Board.{nodes_of, has_entry}
-use Rattle.roman_order.specs.Events.{entries_of}
-use Rattle.roman_order.specs.Sound.{AreStamps}
+use Rattle.roman_order.proofs.Common.{IsDistinct, nodes_of, has_entry, entries_of, AreStamps}
 use Rattle.roman_order.proofs.Places.{length-le_from_apart}
 use Rattle.roman_order.proofs.Reading.{some_listed}
 use Rattle.roman_order.proofs.Stamps.{part, listed_lane}

@@ -1,6 +1,5 @@
 use Rattle.std.proofs.Common.{◌-◌, ◌≡◌, ℕ, ◌≤◌, true, drop}
-use Rattle.roman_lanes.specs.Rows.{is_on}
-use Rattle.roman_order.specs.Board.{set_lanes}
+use Rattle.roman_order.proofs.Common.{is_on, set_lanes}
 use Rattle.roman_order.proofs.order.reading.without_lowest.Given as goal
 
 -- the rest is the word without the lanes that were taken

@@ -1,5 +1,5 @@
 use Rattle.std.proofs.Common.{length, sym, ap, ◌∙◌}
-use Rattle.roman_parts.specs.Listed.{listed_beh}
+use Rattle.roman_parts.proofs.Common.{listed_beh}
 use Rattle.roman_parts.proofs.NormalLemmas.{IsOver-normal}
 use Rattle.roman_parts.proofs.target.Target.from_lists.Goals as goal
 

@@ -1,10 +1,6 @@
 use Rattle.std.proofs.Common.{◌≡◌, ◌-◌, length, replicate, take, sym, ap₂, ◌∙◌, subst, arith}
 use Rattle.std.proofs.lemmas.List.{take-append-le}
-use Rattle.roman_model.specs.declared.limits.TheConstants.{MAX_SERVICES}
-use Rattle.roman_model.specs.Numbers.{Sizes}
-use Rattle.roman_radix.specs.declared.shape.Shape.TheInside.{Inside}
-use Rattle.roman_radix.specs.Radix.{AreSizes}
-use Rattle.roman_radix.specs.Rows.{low_of, row_sizes}
+use Rattle.roman_radix.proofs.Common.{MAX_SERVICES, Sizes, Inside, AreSizes, low_of, row_sizes}
 use Rattle.roman_radix.proofs.Strides.{length-padded}
 use Rattle.roman_radix.proofs.Shown.{Shows, shown}
 use Rattle.roman_radix.proofs.RowLemmas.{low_of-le, AreSizes-take}

@@ -1,9 +1,6 @@
 use Rattle.std.proofs.Common.{◌≡◌, ◌+◌, ◌*◌, ◌∷◌, ◌++◌, [], refl, sym, ◌∙◌, subst, arith}
-use Rattle.std.proofs.lemmas.Bool.{false≢true}
-use Rattle.std.proofs.Math.ListN.{set}
-use Rattle.roman_model.specs.Numbers.{count, grown_sizes}
+use Rattle.roman_radix.proofs.Common.{false≢true, set, count, grown_sizes, IsSizes}
 use Rattle.roman_model.proofs.CallerLemmas.{count-grown}
-use Rattle.roman_radix.specs.Radix.{IsSizes}
 use Rattle.roman_radix.proofs.Tables.{Has, has_pushed, IsSizes-grown, same_sizes}
 use Rattle.roman_radix.proofs.Shown.{Shows, shown}
 use Rattle.roman_radix.proofs.shape.Shape.grow.Goals as goal

@@ -1,5 +1,5 @@
 use Rattle.std.proofs.Common.{◌≡◌, ◌+◌, drop}
-use Rattle.roman_model.specs.Numbers.{states_number, number}
+use Rattle.roman_radix.proofs.Common.{states_number, number}
 use Rattle.roman_radix.proofs.shape.Shape.number.Given as goal
 
 -- the number so far plus the number of the states that are left

@@ -1,6 +1,5 @@
 use Rattle.std.proofs.Common.{◌≡◌, ℕ, ◌<◌, ◌≤◌, ◌/◌, length, drop, get_or, slice_index}
-use Rattle.roman_model.specs.Lists.{product_of}
-use Rattle.roman_model.specs.Numbers.{pair_at}
+use Rattle.roman_radix.proofs.Common.{product_of, pair_at}
 use Rattle.roman_radix.proofs.shape.Shape.parts_of.Given as goal
 
 -- the states of the last components, and the number of the rest

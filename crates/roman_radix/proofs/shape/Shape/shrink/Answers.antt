@@ -1,8 +1,5 @@
 use Rattle.std.proofs.Common.{◌-◌, subst, arith}
-use Rattle.std.specs.List.{remove}
-use Rattle.std.proofs.Math.ListN.{set}
-use Rattle.roman_model.specs.declared.limits.TheConstants.{MAX_SERVICES}
-use Rattle.roman_radix.specs.Radix.{IsSizes}
+use Rattle.roman_radix.proofs.Common.{remove, set, MAX_SERVICES, IsSizes}
 use Rattle.roman_radix.proofs.Tables.{Has, has_shrunk, IsSizes-without, same_sizes}
 use Rattle.roman_radix.proofs.Shown.{Shows, shown}
 use Rattle.roman_radix.proofs.shape.Shape.shrink.Goals as goal

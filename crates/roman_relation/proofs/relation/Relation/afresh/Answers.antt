@@ -1,8 +1,5 @@
 use Rattle.std.proofs.Common.{◌≡◌, ◌*◌, [], inr, sym, ap, ◌∙◌, arith}
-use Rattle.roman_model.specs.Numbers.{sizes_of, count}
-use Rattle.roman_model.proofs.CallerLemmas.{length-below}
-use Rattle.roman_joint.specs.NamedSys.{system_of}
-use Rattle.roman_order.specs.Board.{Board, pairs_of}
+use Rattle.roman_relation.proofs.Common.{sizes_of, count, length-below, system_of, Board, pairs_of}
 use Rattle.roman_relation.proofs.Relating.{completed, room_for_pairs}
 use Rattle.roman_relation.proofs.relation.Relation.afresh.Goals as goal
 

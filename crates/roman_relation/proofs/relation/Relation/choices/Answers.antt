@@ -1,4 +1,4 @@
-use Rattle.roman_joint.specs.NamedSys.{system_of}
+use Rattle.roman_relation.proofs.Common.{system_of}
 use Rattle.roman_relation.proofs.Relating.{listed_numbers, choices_counted}
 use Rattle.roman_relation.proofs.relation.Relation.choices.Goals as goal
 

@@ -1,7 +1,6 @@
 use Rattle.std.proofs.Common.{◌≡◌, [], ap, ◌∙◌}
-use Rattle.roman_order.specs.Board.{Board}
+use Rattle.roman_relation.proofs.Common.{Board, arena_of}
 use Rattle.roman_relation.proofs.Relating.{completed, either_levels}
-use Rattle.roman_relation.specs.Greatest.{arena_of}
 use Rattle.roman_relation.proofs.relation.Relation.settle.Goals as goal
 
 pub returns-clause-complete : goal.returns-clause-complete

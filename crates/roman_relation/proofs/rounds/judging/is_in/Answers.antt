@@ -1,6 +1,6 @@
 use Rattle.std.proofs.Common.{ap, eqb}
 use Rattle.std.proofs.lemmas.Nat.Bits.{shr_and_one}
-use Rattle.roman_lanes.specs.Rows.{is_on}
+use Rattle.roman_relation.proofs.Common.{is_on}
 use Rattle.roman_relation.proofs.rounds.judging.is_in.Goals as goal
 
 pub returns : goal.returns

@@ -1,13 +1,6 @@
 use Rattle.std.proofs.Common.{◌≡◌, ℕ, ◌+◌, ◌*◌, ◌/◌, ◌<◌, true, length, slice_index, inl, inr, refl, sym, ap, ◌∙◌, subst, arith}
-use Rattle.std.specs.Int.{bit_at}
-use Rattle.std.proofs.lemmas.Bool.{cases_eq, eq-eqb}
-use Rattle.std.proofs.lemmas.Nat.{mul-le}
-use Rattle.roman_model.proofs.CallerLemmas.{by_test, unallowed_unjustified}
-use Rattle.roman_model.specs.Arena.{is_listed}
-use Rattle.roman_lanes.specs.Rows.{is_on}
+use Rattle.roman_relation.proofs.Common.{bit_at, cases_eq, eq-eqb, mul-le, by_test, unallowed_unjustified, is_listed, is_on, Board, IsJudged}
 use Rattle.roman_rules.specs.Bits.{bit_of}
-use Rattle.roman_order.specs.Board.{Board}
-use Rattle.roman_relation.specs.Rounds.{IsJudged}
 use Rattle.roman_relation.proofs.Beginnings.{begins_itself, begins_on}
 use Rattle.roman_relation.proofs.Bands.{band_at, band_begins}
 use Rattle.roman_relation.proofs.Going.{SameFrame, shaped_like}

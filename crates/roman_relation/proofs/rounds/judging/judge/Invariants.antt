@@ -1,8 +1,5 @@
 use Rattle.std.proofs.Common.{◌≡◌, ℕ, ◌+◌, ◌*◌, ◌/◌, ◌<◌, ◌⊎◌, true, length, IsTrue}
-use Rattle.roman_model.specs.Arena.{is_listed}
-use Rattle.roman_lanes.specs.Rows.{is_on}
-use Rattle.roman_relation.specs.Settled.{Begins}
-use Rattle.roman_relation.specs.Rounds.{InRound, IsJudged}
+use Rattle.roman_relation.proofs.Common.{is_listed, is_on, Begins, InRound, IsJudged}
 use Rattle.roman_relation.proofs.rounds.judging.judge.Given as goal
 
 -- the band's pairs are judged for the actions so far

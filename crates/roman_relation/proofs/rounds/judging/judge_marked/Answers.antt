@@ -1,13 +1,6 @@
 use Rattle.std.proofs.Common.{◌≡◌, ℕ, ◌+◌, ◌*◌, ◌/◌, ◌%◌, ◌<◌, true, length, IsTrue, inl, inr, refl, sym, ap, ◌∙◌, subst, arith, rules}
-use Rattle.std.specs.Prelude.{count_by}
-use Rattle.std.proofs.lemmas.Bool.{cases_eq, both_ways, lt-ltb, ltb-true}
-use Rattle.std.proofs.lemmas.Nat.{mod_below, div_below}
-use Rattle.roman_model.specs.Lists.{below}
-use Rattle.roman_model.specs.Arena.{is_listed}
-use Rattle.roman_lanes.specs.Flags.{has_flag}
-use Rattle.roman_order.specs.Board.{Board, is_marked}
-use Rattle.roman_relation.specs.Settled.{Begins}
-use Rattle.roman_relation.specs.Rounds.{IsPairJudged}
+use Rattle.roman_relation.proofs.Common.{count_by, cases_eq, both_ways, lt-ltb, mod_below, div_below, below, is_listed, has_flag, Board, is_marked, Begins, IsPairJudged}
+use Rattle.std.proofs.lemmas.Bool.{ltb-true}
 use Rattle.roman_relation.proofs.Bands.{band_ends, pair_in, whole_bands}
 use Rattle.roman_relation.proofs.Beginnings.{begins_itself, begins_on}
 use Rattle.roman_relation.proofs.Going.{SameFrame, shaped_like}

@@ -1,10 +1,5 @@
 use Rattle.std.proofs.Common.{◌≡◌, ℕ, ◌*◌, ◌/◌, ◌<◌, ◌⊎◌, true, length, IsTrue}
-use Rattle.std.specs.Prelude.{count_by}
-use Rattle.roman_model.specs.Lists.{below}
-use Rattle.roman_model.specs.Arena.{is_listed}
-use Rattle.roman_order.specs.Board.{is_marked}
-use Rattle.roman_relation.specs.Settled.{Begins}
-use Rattle.roman_relation.specs.Rounds.{InRound, IsPairJudged}
+use Rattle.roman_relation.proofs.Common.{count_by, below, is_listed, is_marked, Begins, InRound, IsPairJudged}
 use Rattle.roman_relation.proofs.rounds.judging.judge_marked.Given as goal
 
 -- the pairs of each band that was marked are judged, or the band is still marked

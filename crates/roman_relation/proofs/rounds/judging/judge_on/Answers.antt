@@ -1,10 +1,5 @@
 use Rattle.std.proofs.Common.{◌≡◌, ℕ, ◌+◌, ◌*◌, ◌≤◌, ◌++◌, length, take, IsTrue, sym, ap, ◌∙◌, subst, arith, rules}
-use Rattle.roman_model.specs.Arena.{is_listed, is_justified}
-use Rattle.roman_model.specs.declared.reason.Reason.TheVariants.{Act}
-use Rattle.roman_lanes.specs.Rows.{Keeps}
-use Rattle.roman_order.specs.Board.{Board, entries_in_rows}
-use Rattle.roman_relation.specs.Settled.{Begins}
-use Rattle.roman_relation.specs.Rounds.{AreUnlisted, InRound}
+use Rattle.roman_relation.proofs.Common.{is_listed, is_justified, Act, Keeps, Board, entries_in_rows, Begins, AreUnlisted, InRound}
 use Rattle.roman_relation.proofs.Going.{begins_append}
 use Rattle.roman_relation.proofs.Lanes.{words_rows}
 use Rattle.roman_relation.proofs.Pushing.{AreLost, are_lost, lost_free, rows_round, rows_judged, rows_only}

@@ -1,16 +1,8 @@
 use Rattle.std.proofs.Common.{◌≡◌, ℕ, ◌+◌, ◌*◌, ◌/◌, ◌%◌, ◌<◌, ◌≤◌, true, false, not, ◌++◌, ltb, length, slice_index, IsTrue, inl, inr, refl, sym, ap, ◌∙◌, subst, arith, rules}
-use Rattle.std.proofs.lemmas.Bool.{not_from_true}
-use Rattle.std.proofs.lemmas.Nat.{mod_below, div-add-mod', mul-le}
+use Rattle.roman_relation.proofs.Common.{not_from_true, mod_below, div-add-mod', mul-le, IsIn, is_on, HasLanes, has_flag, count_by, Board, has_entry, entries_at, moves_to_all, on_at}
 use Rattle.std.proofs.lemmas.List.Sums.{count_by-le-length}
-use Rattle.roman_model.specs.Lists.{IsIn}
 use Rattle.roman_model.specs.Arena.{is_listed, Delegation, back as back_of}
-use Rattle.roman_lanes.specs.Rows.{is_on, HasLanes}
-use Rattle.roman_lanes.specs.Flags.{has_flag}
-use Rattle.std.specs.Prelude.{count_by}
-use Rattle.roman_order.specs.Board.{Board, has_entry}
-use Rattle.roman_order.specs.Events.{entries_at}
 use Rattle.roman_order.proofs.CallerLemmas.{rewritten_whole}
-use Rattle.roman_relation.specs.Rounds.{moves_to_all, on_at}
 use Rattle.roman_relation.proofs.Backs.{back_again, back_now, band_is_new, band_is_old, event_lane}
 use Rattle.roman_relation.proofs.Bands.{band_begins, in_band, outside_band, pair_in, pair_inside, row_band, row_of_band}
 use Rattle.roman_relation.proofs.Lanes.{unlisted_row, lane_place, shaped_pairs}

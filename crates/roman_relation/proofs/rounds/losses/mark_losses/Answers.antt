@@ -1,12 +1,7 @@
 use Rattle.std.proofs.Common.{◌≡◌, ◌+◌, ℕ, ◌<◌, ◌≤◌, true, List, [], ◌++◌, length, take, drop, refl, sym, ap, ◌∙◌, subst, arith, take-append-drop, append-nil, append_assoc}
 use Rattle.std.proofs.lemmas.List.{take_all}
-use Rattle.roman_model.specs.Arena.{IsOrder, fall}
-use Rattle.roman_model.proofs.CallerLemmas.{fall_append}
-use Rattle.roman_lanes.specs.Rows.{is_on}
-use Rattle.roman_order.specs.Board.{Board, set_lanes}
-use Rattle.roman_order.specs.Events.{IsEvent, entries_at}
+use Rattle.roman_relation.proofs.Common.{IsOrder, fall, fall_append, is_on, Board, set_lanes, IsEvent, entries_at, IsMarking, moves_to_all}
 use Rattle.roman_order.proofs.CallerLemmas.{length-entries_at}
-use Rattle.roman_relation.specs.Rounds.{IsMarking, moves_to_all}
 use Rattle.roman_relation.proofs.Backs.{all_back, event_new, none_moves, take_entries}
 use Rattle.roman_relation.proofs.Losses.{event_listed, noted_entries, fall_entries, entries_off}
 use Rattle.roman_relation.proofs.rounds.losses.mark_losses.Goals as goal

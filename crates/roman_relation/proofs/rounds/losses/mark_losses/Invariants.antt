@@ -1,6 +1,5 @@
 use Rattle.std.proofs.Common.{◌≡◌, ℕ, ◌+◌, ◌-◌, ◌≤◌, ◌++◌, List, take}
-use Rattle.roman_model.specs.Arena.{Entry, fall}
-use Rattle.roman_relation.specs.Rounds.{IsMarking, AreGoneBack, moves_to_all}
+use Rattle.roman_relation.proofs.Common.{Entry, fall, IsMarking, AreGoneBack, moves_to_all}
 use Rattle.roman_relation.proofs.rounds.losses.mark_losses.Given as goal
 
 -- the entries so far are noted

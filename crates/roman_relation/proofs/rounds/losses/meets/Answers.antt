@@ -1,5 +1,5 @@
 use Rattle.std.proofs.Common.{eqb, bit_and}
-use Rattle.std.proofs.lemmas.Bool.{not-true, not-false, eqb-true, eq-eqb, both_ways}
+use Rattle.roman_relation.proofs.Common.{not-true, not-false, eqb-true, eq-eqb, both_ways}
 use Rattle.roman_relation.proofs.Losses.{apart_words, meeting_words}
 use Rattle.roman_relation.proofs.rounds.losses.meets.Goals as goal
 

@@ -1,8 +1,5 @@
 use Rattle.std.proofs.Common.{◌≡◌, ◌+◌, ◌-◌, ◌*◌, ◌/◌, ◌%◌, ◌<◌, length, IsTrue, IsFalse, inl, inr, sym, ap, ◌∙◌, subst, arith, rules}
-use Rattle.std.proofs.lemmas.Bool.{cases_lt}
-use Rattle.std.proofs.lemmas.Nat.{mod_below, div_below, div-add-mod'}
-use Rattle.roman_model.specs.Arena.{is_listed}
-use Rattle.roman_order.specs.Board.{Board}
+use Rattle.roman_relation.proofs.Common.{cases_lt, mod_below, div_below, div-add-mod', is_listed, Board}
 use Rattle.roman_relation.proofs.Bands.{band_ends, whole_bands, pair_past}
 use Rattle.roman_relation.proofs.Beginnings.{begins_unlisted}
 use Rattle.roman_relation.proofs.Going.{goes_on_itself, goes_on_on, shaped_on}

@@ -1,6 +1,5 @@
 use Rattle.std.proofs.Common.{◌≡◌, ℕ, ◌*◌, ◌<◌, ◌⊎◌, length, IsTrue, IsFalse}
-use Rattle.roman_model.specs.Arena.{is_listed}
-use Rattle.roman_relation.specs.Settled.{SettlesOn}
+use Rattle.roman_relation.proofs.Common.{is_listed, SettlesOn}
 use Rattle.roman_relation.proofs.rounds.unfine.list_unfine.Given as goal
 
 -- the pairs of the bands so far are listed or meet clause 2

@@ -1,9 +1,5 @@
 use Rattle.std.proofs.Common.{◌≡◌, ℕ, ◌+◌, ◌*◌, ◌≤◌, ◌++◌, length, slice_index, sym, ap, ◌∙◌, subst, arith, IsTrue, IsFalse, inl, inr}
-use Rattle.std.proofs.lemmas.Bool.{not-false, not-true}
-use Rattle.std.proofs.lemmas.Nat.{mul-le}
-use Rattle.roman_model.specs.Arena.{is_listed}
-use Rattle.roman_model.specs.declared.reason.Reason.TheVariants.{Final}
-use Rattle.roman_order.specs.Board.{Board, entries_in_rows, has_entry}
+use Rattle.roman_relation.proofs.Common.{not-false, not-true, mul-le, is_listed, Final, Board, entries_in_rows, has_entry}
 use Rattle.roman_relation.proofs.Bands.{band_begins}
 use Rattle.roman_relation.proofs.Going.{goes_on_added}
 use Rattle.roman_relation.proofs.Lanes.{words_rows, shaped_pairs}

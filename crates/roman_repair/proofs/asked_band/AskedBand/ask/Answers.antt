@@ -1,5 +1,5 @@
 use Rattle.std.proofs.Common.{◌*◌, ◌/◌, ap, arith}
-use Rattle.std.proofs.lemmas.Nat.{div-add-mod'}
+use Rattle.roman_repair.proofs.Common.{div-add-mod'}
 use Rattle.roman_repair.proofs.asked_band.AskedBand.ask.Goals as goal
 
 pub returns-then-self-first-clause-known : goal.returns-then-self-first-clause-known

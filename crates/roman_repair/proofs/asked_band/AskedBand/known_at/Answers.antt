@@ -1,6 +1,4 @@
-use Rattle.std.proofs.lemmas.Bool.{both_ways}
-use Rattle.roman_lanes.specs.Rows.{is_on}
-use Rattle.roman_lanes.proofs.CallerLemmas.{on_zero}
+use Rattle.roman_repair.proofs.Common.{both_ways, is_on, on_zero}
 use Rattle.roman_repair.proofs.asked_band.AskedBand.known_at.Goals as goal
 
 pub returns-then-x-self : goal.returns-then-x-self

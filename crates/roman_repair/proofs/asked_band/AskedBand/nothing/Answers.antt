@@ -1,8 +1,5 @@
 use Rattle.std.proofs.Common.{sym, ap, ◌∙◌}
-use Rattle.std.proofs.lemmas.Bool.{both_ways}
-use Rattle.std.proofs.lemmas.List.{get_or-replicate}
-use Rattle.roman_lanes.specs.Rows.{is_on}
-use Rattle.roman_lanes.proofs.CallerLemmas.{on_zero}
+use Rattle.roman_repair.proofs.Common.{both_ways, get_or-replicate, is_on, on_zero}
 use Rattle.roman_repair.proofs.asked_band.AskedBand.nothing.Goals as goal
 
 pub returns-clause-none : goal.returns-clause-none

@@ -1,4 +1,4 @@
-use Rattle.roman_repair.specs.Deaths.{list_and}
+use Rattle.roman_repair.proofs.Common.{list_and}
 use Rattle.roman_repair.proofs.Gathering.{no_entries, gathers_on}
 use Rattle.roman_repair.proofs.dying.gathering.gather.Goals as goal
 

@@ -1,6 +1,5 @@
 use Rattle.std.proofs.Common.{◌/◌, ◌^◌}
-use Rattle.std.specs.Int.{trailing_zeros, w64}
-use Rattle.std.proofs.lemmas.Bool.{eqb-true}
+use Rattle.roman_repair.proofs.Common.{trailing_zeros, w64, eqb-true}
 use Rattle.roman_repair.proofs.Gathering.{all_lower}
 use Rattle.roman_repair.proofs.dying.gathering.goes_on.Goals as goal
 

@@ -1,7 +1,5 @@
 use Rattle.std.proofs.Common.{◌&&◌, ap, ◌∙◌}
-use Rattle.std.specs.Int.{bit_not, w64}
-use Rattle.roman_lanes.specs.Rows.{is_on}
-use Rattle.roman_lanes.proofs.CallerLemmas.{on_and, on_less}
+use Rattle.roman_repair.proofs.Common.{bit_not, w64, is_on, on_and, on_less}
 use Rattle.roman_repair.proofs.dying.gathering.other_lanes.Goals as goal
 
 pub returns-clause-each : goal.returns-clause-each

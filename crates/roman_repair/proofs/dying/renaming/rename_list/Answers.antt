@@ -1,14 +1,5 @@
 use Rattle.std.proofs.Common.{◌≡◌, ℕ, ◌*◌, ◌≤◌, List, [], ◌++◌, refl, sym, ap, ap₂, ◌∙◌, subst, arith}
-use Rattle.roman_model.specs.Lists.{IsIn}
-use Rattle.roman_model.specs.Arena.{Entry}
-use Rattle.roman_model.specs.Numbers.{sizes_of, sizes_without, count}
-use Rattle.roman_model.specs.declared.reason.Reason.TheVariants.{Final}
-use Rattle.roman_model.proofs.CallerLemmas.{length-below}
-use Rattle.roman_joint.specs.NamedSys.{system_of}
-use Rattle.roman_joint.specs.Rows.{lanes_in}
-use Rattle.roman_order.specs.Board.{Board, entries_in}
-use Rattle.roman_relation.proofs.CallerLemmas.{listed_numbers}
-use Rattle.roman_repair.specs.Deaths.{list_and, list_with}
+use Rattle.roman_repair.proofs.Common.{IsIn, Entry, sizes_of, sizes_without, count, Final, length-below, system_of, lanes_in, Board, entries_in, listed_numbers, list_and, list_with}
 use Rattle.roman_repair.proofs.DeathEntries.{event_in_range, list_with_append, fewer_pairs, small_pairs}
 use Rattle.roman_repair.proofs.Gathering.{no_entries, nothing_gathered, still_gathered}
 use Rattle.roman_repair.proofs.dying.renaming.rename_list.Goals as goal

@@ -1,12 +1,5 @@
 use Rattle.std.proofs.Common.{◌≡◌, ℕ, ◌<◌, length}
-use Rattle.roman_model.specs.Lists.{IsIn}
-use Rattle.roman_model.specs.System.{Seat}
-use Rattle.roman_model.specs.Arena.{Entry}
-use Rattle.roman_model.specs.Change.{Die, CanChange}
-use Rattle.roman_model.specs.Numbers.{sizes_of, count}
-use Rattle.roman_model.specs.NumberedChange.{rename_numbers}
-use Rattle.roman_joint.specs.NamedSys.{system_of}
-use Rattle.roman_repair.specs.Deaths.{list_and, list_with, IsGathered}
+use Rattle.roman_repair.proofs.Common.{IsIn, Seat, Entry, Die, CanChange, sizes_of, count, rename_numbers, system_of, list_and, list_with, IsGathered}
 use Rattle.roman_repair.proofs.dying.renaming.rename_list.Given as goal
 
 -- the entries so far are renamed, and the others are pending

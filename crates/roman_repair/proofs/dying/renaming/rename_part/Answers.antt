@@ -1,12 +1,8 @@
 use Rattle.std.proofs.Common.{◌*◌, ◌/◌, ◌%◌, ◌^◌, ◌++◌, ◌||◌, not, bit_and, slice_index, sym, ap, ◌∙◌, subst, arith}
-use Rattle.roman_model.specs.System.{is_final}
+use Rattle.roman_repair.proofs.Common.{is_final, Sizes, sizes_of, sizes_without, count, pair_at, HasLanes, system_of, has_entry, entries_in, list_and}
 use Rattle.roman_model.specs.Change.{without}
-use Rattle.roman_model.specs.Numbers.{Sizes, sizes_of, sizes_without, count, number, pair_at}
+use Rattle.roman_model.specs.Numbers.{number}
 use Rattle.roman_model.proofs.CallerLemmas.{number_without-is}
-use Rattle.roman_lanes.specs.Rows.{HasLanes}
-use Rattle.roman_joint.specs.NamedSys.{system_of}
-use Rattle.roman_order.specs.Board.{has_entry, entries_in}
-use Rattle.roman_repair.specs.Deaths.{list_and}
 use Rattle.roman_repair.proofs.DeathStates.{seat_in_sizes}
 use Rattle.roman_repair.proofs.DeathEntries.{left_row, nothing_left, part_stays, part_left, lost_within}
 use Rattle.roman_repair.proofs.dying.renaming.rename_part.Goals as goal

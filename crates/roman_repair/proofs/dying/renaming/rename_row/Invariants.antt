@@ -1,10 +1,5 @@
 use Rattle.std.proofs.Common.{◌≡◌, ◌*◌}
-use Rattle.roman_model.specs.System.{Seat}
-use Rattle.roman_model.specs.Change.{Die, CanChange}
-use Rattle.roman_model.specs.Numbers.{sizes_of}
-use Rattle.roman_joint.specs.NamedSys.{system_of}
-use Rattle.roman_joint.specs.Rows.{lanes_in}
-use Rattle.roman_repair.specs.Deaths.{list_and, list_with, IsGathered}
+use Rattle.roman_repair.proofs.Common.{Seat, Die, CanChange, sizes_of, system_of, lanes_in, list_and, list_with, IsGathered}
 use Rattle.roman_repair.proofs.DeathEntries.{entries_below}
 use Rattle.roman_repair.proofs.dying.renaming.rename_row.Given as goal
 

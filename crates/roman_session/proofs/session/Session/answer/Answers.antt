@@ -1,4 +1,4 @@
-use Rattle.std.proofs.lemmas.Result.{err_from_is_err_and}
+use Rattle.roman_session.proofs.Common.{err_from_is_err_and}
 use Rattle.roman_session.proofs.AnswerLemmas.{names_some, stays_related, answered_whole, answered_prefix}
 use Rattle.roman_session.proofs.session.Session.answer.Goals as goal
 

@@ -1,5 +1,4 @@
-use Rattle.std.proofs.lemmas.Result.{err_from_is_err_and}
-use Rattle.roman_text.specs.Replies.{reply_text}
+use Rattle.roman_session.proofs.Common.{err_from_is_err_and, reply_text}
 use Rattle.roman_text.specs.Shapes.{shape_of_event}
 use Rattle.roman_text.specs.declared.replies.Reply.TheVariants as reply
 use Rattle.roman_session.proofs.AnswerLemmas.{step_by_shape, step_unshaped}

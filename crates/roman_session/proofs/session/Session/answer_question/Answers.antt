@@ -1,11 +1,8 @@
 use Rattle.std.proofs.Common.{Bool, not, refl, subst}
-use Rattle.roman_model.specs.Explanation.{explain_text}
-use Rattle.roman_text.specs.Replies.{reply_text}
+use Rattle.roman_session.proofs.Common.{explain_text, reply_text, names_in, present_system, demand, Does}
 use Rattle.roman_text.specs.declared.replies.Reply.TheVariants as reply
-use Rattle.roman_joint.specs.Names.{names_in}
-use Rattle.roman_session.specs.Situations.{present_system}
-use Rattle.roman_session.specs.Rulings.{demand, unexplained}
-use Rattle.roman_session.specs.Steps.{Does, Explains}
+use Rattle.roman_session.specs.Rulings.{unexplained}
+use Rattle.roman_session.specs.Steps.{Explains}
 use Rattle.roman_session.proofs.AnswerLemmas.{done}
 use Rattle.roman_session.proofs.session.Session.answer_question.Goals as goal
 

@@ -1,7 +1,5 @@
 use Rattle.std.proofs.Common.{ℕ, Result, refl, sym, subst}
-use Rattle.roman_text.specs.Replies.{reply_text}
-use Rattle.roman_text.specs.declared.replies.Reply.{Reply}
-use Rattle.roman_session.specs.Steps.{Asks, Does, offer_text}
+use Rattle.roman_session.proofs.Common.{reply_text, Reply, Asks, Does, offer_text}
 use Rattle.roman_session.proofs.AnswerLemmas.{asks_said, done}
 use Rattle.roman_session.proofs.session.Session.answer_request.Goals as goal
 

@@ -1,11 +1,6 @@
 use Rattle.std.proofs.Common.{◌≤◌, ◌<◌, length, vec_capacity, ap, sym, ◌∙◌, subst, arith}
-use Rattle.roman_model.specs.declared.limits.TheConstants.{MAX_SERVICES}
-use Rattle.roman_text.specs.Replies.{reply_text}
-use Rattle.roman_text.specs.declared.replies.Reply.{Reply}
+use Rattle.roman_session.proofs.Common.{MAX_SERVICES, reply_text, Reply, Situation, dying, Changes, situation_in}
 use Rattle.roman_text.specs.declared.replies.Reply.TheVariants as reply
-use Rattle.roman_session.specs.Situations.{Situation}
-use Rattle.roman_session.specs.Steps.{dying, Changes}
-use Rattle.roman_session.specs.Layout.{situation_in}
 use Rattle.roman_session.proofs.ChangedLemmas.{moved_fields, counted_now, died_pair, died_now}
 use Rattle.roman_session.proofs.SituationLemmas.{state_there}
 use Rattle.roman_session.proofs.session.Session.die_seat.Goals as goal

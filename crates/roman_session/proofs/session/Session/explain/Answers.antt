@@ -1,12 +1,6 @@
 use Rattle.std.proofs.Common.{◌≡◌, ℕ, List, sym, ap, ◌∙◌, subst}
-use Rattle.std.proofs.lemmas.Result.{err_from_is_err_and}
-use Rattle.roman_model.specs.Explanation.{explain_text}
-use Rattle.roman_model.specs.Numbers.{sizes_of, number}
-use Rattle.roman_io.specs.Sink.{Puts}
+use Rattle.roman_session.proofs.Common.{err_from_is_err_and, explain_text, sizes_of, number, Puts, names_in, Situation, present_system, situation_in}
 use Rattle.roman_text.proofs.CallerLemmas.{Gathers-flushed, Gathers-failed}
-use Rattle.roman_joint.specs.Names.{names_in}
-use Rattle.roman_session.specs.Situations.{Situation, present_system}
-use Rattle.roman_session.specs.Layout.{situation_in}
 use Rattle.roman_session.proofs.AnswerLemmas.{puts_gathered}
 use Rattle.roman_session.proofs.SituationLemmas.{situation_known, parts_shown, here_pair, unrelated_there}
 use Rattle.roman_session.proofs.session.Session.explain.Goals as goal

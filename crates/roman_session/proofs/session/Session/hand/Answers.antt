@@ -1,11 +1,8 @@
 use Rattle.std.proofs.Common.{◌<◌, ◌++◌, ℕ, List, Result, codes, length, sym, ap, subst}
 use Rattle.roman_text.specs.Lines.{with_newline}
-use Rattle.roman_text.specs.declared.replies.Reply.{Reply}
+use Rattle.roman_session.proofs.Common.{Reply, offers, Situation, present_system, Does, Handing}
 use Rattle.roman_model.proofs.CallerLemmas.{number_listed}
-use Rattle.roman_model.specs.Offers.{offers}
-use Rattle.roman_session.specs.Situations.{Situation, present_system}
-use Rattle.roman_session.specs.Steps.{Does, Hands}
-use Rattle.roman_session.specs.declared.events.Handing.{Handing}
+use Rattle.roman_session.specs.Steps.{Hands}
 use Rattle.roman_session.proofs.RulingLemmas.{handed_is}
 use Rattle.roman_session.proofs.SituationLemmas.{situation_known, parts_shown, offered_open, offered_within, service_named_at}
 use Rattle.roman_session.proofs.session.Session.hand.Goals as goal

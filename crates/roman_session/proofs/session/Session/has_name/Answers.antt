@@ -1,5 +1,5 @@
 use Rattle.std.proofs.Common.{ap, ◌∙◌}
-use Rattle.std.specs.Str.{bytes_eq}
+use Rattle.roman_session.proofs.Common.{bytes_eq}
 use Rattle.roman_session.proofs.SituationLemmas.{parts_shown, service_named_at}
 use Rattle.roman_session.proofs.session.Session.has_name.Goals as goal
 

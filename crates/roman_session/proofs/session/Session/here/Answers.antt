@@ -1,7 +1,5 @@
 use Rattle.std.proofs.Common.{ap, ◌∙◌}
-use Rattle.roman_model.specs.Numbers.{sizes_of, number}
-use Rattle.roman_model.proofs.CallerLemmas.{numbers_are_pairs}
-use Rattle.roman_session.specs.Situations.{Situation, present_system}
+use Rattle.roman_session.proofs.Common.{sizes_of, number, numbers_are_pairs, Situation, present_system}
 use Rattle.roman_session.proofs.SituationLemmas.{situation_known}
 use Rattle.roman_session.proofs.session.Session.here.Goals as goal
 

@@ -1,9 +1,5 @@
 use Rattle.std.proofs.Common.{◌≤◌, Err, vec_capacity, ap, sym, ◌∙◌, subst, arith}
-use Rattle.roman_model.specs.declared.limits.TheConstants.{MAX_SERVICES}
-use Rattle.roman_session.specs.Situations.{Situation}
-use Rattle.roman_session.specs.Joins.{CanJoin}
-use Rattle.roman_session.specs.Layout.{situation_in}
-use Rattle.roman_joint.specs.NamedSys.{NamedSys}
+use Rattle.roman_session.proofs.Common.{MAX_SERVICES, Situation, CanJoin, situation_in, NamedSys}
 use Rattle.roman_session.proofs.RulingLemmas.{cells_with}
 use Rattle.roman_session.proofs.ChangedLemmas.{moved_fields, counted_now, joined_pair, joined_now, has_place, has_room, is_within, joins_by, limit_by}
 use Rattle.roman_session.proofs.SituationLemmas.{parts_shown}

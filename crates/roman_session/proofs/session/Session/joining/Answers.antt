@@ -1,9 +1,6 @@
 use Rattle.std.proofs.Common.{◌≡◌, ◌<◌, ℕ, List, map, length, refl, sym, ap, ◌∙◌, subst, arith}
-use Rattle.roman_model.specs.Lists.{IsIn}
-use Rattle.roman_model.specs.System.{Beh}
-use Rattle.roman_parts.specs.Named.{NamedBeh}
-use Rattle.roman_joint.specs.NamedSys.{NamedSys, beh_at}
-use Rattle.roman_joint.specs.Names.{seat_name}
+use Rattle.roman_session.proofs.Common.{IsIn, Beh, NamedBeh, NamedSys, seat_name}
+use Rattle.roman_joint.specs.NamedSys.{beh_at}
 use Rattle.roman_joint.proofs.CallerLemmas.{seat_beh_read, states_range}
 use Rattle.roman_session.proofs.NameLemmas.{name_is_new}
 use Rattle.roman_session.proofs.SituationLemmas.{parts_shown}

@@ -1,14 +1,7 @@
 use Rattle.std.proofs.Common.{◌≡◌, ℕ, Result, slice_set, refl, sym, ap, ap₂, ◌∙◌, subst}
-use Rattle.roman_model.specs.System.{IsPair}
-use Rattle.roman_radix.specs.Radix.{moved}
-use Rattle.roman_text.specs.Replies.{reply_text}
-use Rattle.roman_text.specs.declared.replies.Reply.{Reply}
+use Rattle.roman_session.proofs.Common.{IsPair, moved, reply_text, Reply, Situation, present_system, Does, Jump, Phase, Idle}
 use Rattle.roman_text.specs.declared.replies.Reply.TheVariants as reply
-use Rattle.roman_session.specs.Situations.{Situation, present_system}
-use Rattle.roman_session.specs.Steps.{Does, Jumps}
-use Rattle.roman_session.specs.declared.events.Jump.{Jump}
-use Rattle.roman_session.specs.declared.phase.Phase.{Phase}
-use Rattle.roman_session.specs.declared.phase.Phase.TheVariants.{Idle}
+use Rattle.roman_session.specs.Steps.{Jumps}
 use Rattle.roman_session.proofs.RulingLemmas.{jumped_is}
 use Rattle.roman_session.proofs.SituationLemmas.{situation_known, jumped_pair}
 use Rattle.roman_session.proofs.session.Session.jump.Goals as goal

@@ -1,11 +1,6 @@
 use Rattle.std.proofs.Common.{◌≡◌, ◌<◌, length, slice_index, sym, ap, ◌∙◌, subst, arith}
-use Rattle.std.proofs.lemmas.List.{length-map}
-use Rattle.roman_model.specs.System.{Pair, Seat, IsPair}
-use Rattle.roman_model.specs.Numbers.{Sizes, sizes_of, count, number, pair_at}
-use Rattle.roman_radix.specs.Radix.{moved}
-use Rattle.roman_joint.specs.NamedSys.{NamedSys, system_of, seat_of}
-use Rattle.roman_session.specs.Situations.{Situation, present_system}
-use Rattle.roman_session.specs.Layout.{situation_in}
+use Rattle.roman_session.proofs.Common.{length-map, Pair, IsPair, Sizes, sizes_of, count, number, pair_at, moved, NamedSys, system_of, seat_of, Situation, present_system, situation_in}
+use Rattle.roman_model.specs.System.{Seat}
 use Rattle.roman_session.proofs.SituationLemmas.{situation_known, parts_shown, here_pair, moved_within, state_there}
 use Rattle.roman_session.proofs.session.Session.move_to.Goals as goal
 

@@ -1,10 +1,5 @@
 use Rattle.std.proofs.Common.{◌≡◌, ℕ, subst, sym}
-use Rattle.roman_model.specs.System.{has}
-use Rattle.roman_model.specs.Offers.{offers}
-use Rattle.roman_rules.specs.Bits.{HasBits}
-use Rattle.roman_session.specs.Situations.{Situation, present_system, IsPhase}
-use Rattle.roman_session.specs.Layout.{situation_in}
-use Rattle.roman_session.specs.declared.phase.Phase.TheVariants.{Offered}
+use Rattle.roman_session.proofs.Common.{has, offers, HasBits, Situation, present_system, IsPhase, situation_in, Offered}
 use Rattle.roman_session.proofs.SituationLemmas.{phase_kept}
 use Rattle.roman_session.proofs.session.Session.offer.Goals as goal
 

@@ -1,8 +1,5 @@
 use Rattle.std.proofs.Common.{ap, ◌∙◌, subst}
-use Rattle.roman_model.specs.System.{has}
-use Rattle.roman_model.specs.Offers.{offers}
-use Rattle.roman_rules.specs.Bits.{HasBits}
-use Rattle.roman_session.specs.Situations.{Situation, present_system}
+use Rattle.roman_session.proofs.Common.{has, offers, HasBits, Situation, present_system}
 use Rattle.roman_session.proofs.session.Session.offered.Goals as goal
 
 pub returns : goal.returns

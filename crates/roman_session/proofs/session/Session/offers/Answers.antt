@@ -1,8 +1,5 @@
 use Rattle.std.proofs.Common.{ℕ, List, ◌∙◌, subst}
-use Rattle.roman_model.specs.System.{has}
-use Rattle.roman_model.specs.SystemArena.{is_allowed}
-use Rattle.roman_model.specs.Offers.{is_related, offers}
-use Rattle.roman_rules.specs.Bits.{HasBits}
+use Rattle.roman_session.proofs.Common.{has, is_allowed, is_related, offers, HasBits}
 use Rattle.roman_session.proofs.SituationLemmas.{situation_known, parts_shown, at_here}
 use Rattle.roman_session.proofs.session.Session.offers.Goals as goal
 

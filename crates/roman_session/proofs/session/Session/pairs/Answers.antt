@@ -1,7 +1,6 @@
 use Rattle.std.proofs.Common.{sym, ap, ◌∙◌}
-use Rattle.roman_model.specs.Numbers.{count, sizes_of}
+use Rattle.roman_session.proofs.Common.{count, sizes_of, NamedSys, system_of}
 use Rattle.roman_model.proofs.CallerLemmas.{length-pairs}
-use Rattle.roman_joint.specs.NamedSys.{NamedSys, system_of}
 use Rattle.roman_session.proofs.SituationLemmas.{parts_shown}
 use Rattle.roman_session.proofs.session.Session.pairs.Goals as goal
 

@@ -1,10 +1,6 @@
 use Rattle.std.proofs.Common.{◌<◌, refl, sym, ap, ◌∙◌, subst}
-use Rattle.std.proofs.lemmas.Result.{err_from_is_err_and}
-use Rattle.roman_model.specs.Explanation.{name_at}
+use Rattle.roman_session.proofs.Common.{err_from_is_err_and, name_at, NamedSys, system_of, present_system, fill_behind, fill_more, fill_failed, fill_last}
 use Rattle.roman_model.proofs.CallerLemmas.{allowed_in_range}
-use Rattle.roman_joint.specs.NamedSys.{NamedSys, system_of}
-use Rattle.roman_session.specs.Situations.{present_system}
-use Rattle.roman_text.proofs.CallerLemmas.{fill_behind, fill_more, fill_failed, fill_last}
 use Rattle.roman_session.proofs.LineLemmas.{offer_line_is}
 use Rattle.roman_session.proofs.SituationLemmas.{parts_shown}
 use Rattle.roman_session.proofs.session.Session.push_offer.Goals as goal

@@ -1,6 +1,5 @@
 use Rattle.std.proofs.Common.{◌≡◌, refl, sym, ◌∙◌, arith, rules}
-use Rattle.std.proofs.lemmas.Result.{err_from_is_err_and}
-use Rattle.roman_text.proofs.CallerLemmas.{fill_behind, fill_same, fill_more, fill_failed, fill_end}
+use Rattle.roman_session.proofs.Common.{err_from_is_err_and, fill_behind, fill_same, fill_more, fill_failed, fill_end}
 use Rattle.roman_session.proofs.LineLemmas.{next_offer, next_unallowed, no_offer, offers_begin, no_offers}
 use Rattle.roman_session.proofs.session.Session.push_offers.Goals as goal
 

@@ -1,6 +1,5 @@
 use Rattle.std.proofs.Common.{refl}
-use Rattle.std.proofs.lemmas.Result.{err_from_is_err_and}
-use Rattle.roman_text.proofs.CallerLemmas.{fill_behind, fill_more, fill_failed, fill_last}
+use Rattle.roman_session.proofs.Common.{err_from_is_err_and, fill_behind, fill_more, fill_failed, fill_last}
 use Rattle.roman_session.proofs.LineLemmas.{report_is}
 use Rattle.roman_session.proofs.session.Session.push_report.Goals as goal
 

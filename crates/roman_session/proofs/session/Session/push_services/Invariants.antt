@@ -1,6 +1,5 @@
 use Rattle.std.proofs.Common.{◌≡◌, ◌++◌}
-use Rattle.roman_session.specs.Reports.{service_lines, lines_text}
-use Rattle.roman_text.proofs.CallerLemmas.{IsFilling}
+use Rattle.roman_session.proofs.Common.{service_lines, lines_text, IsFilling}
 use Rattle.roman_session.proofs.LineLemmas.{services_from}
 use Rattle.roman_session.proofs.session.Session.push_services.Given as goal
 

@@ -1,8 +1,5 @@
 use Rattle.std.proofs.Common.{◌++◌, ℕ, List, ap, subst}
-use Rattle.std.proofs.lemmas.Result.{err_from_is_err_and}
-use Rattle.roman_io.specs.Sink.{WrotePrefix, Puts}
-use Rattle.roman_text.proofs.CallerLemmas.{Puts-after_Gathered}
-use Rattle.roman_session.specs.Reports.{report_text}
+use Rattle.roman_session.proofs.Common.{err_from_is_err_and, WrotePrefix, Puts, Puts-after_Gathered, report_text}
 use Rattle.roman_session.proofs.session.Session.report.Goals as goal
 
 pub returns-in_err-push_report-clause-report : goal.returns-in_err-push_report-clause-report

@@ -1,7 +1,5 @@
 use Rattle.std.proofs.Common.{◌<◌, length, subst}
-use Rattle.roman_session.specs.Situations.{Situation, IsPhase}
-use Rattle.roman_session.specs.Layout.{situation_in}
-use Rattle.roman_session.specs.declared.phase.Phase.TheVariants.{Delegated}
+use Rattle.roman_session.proofs.Common.{Situation, IsPhase, situation_in, Delegated}
 use Rattle.roman_session.proofs.SituationLemmas.{offered_within}
 use Rattle.roman_session.proofs.session.Session.seen.Goals as goal
 

@@ -1,11 +1,6 @@
 use Rattle.std.proofs.Common.{below_more, Option, ◌≡◌, ℕ, ◌<◌, ◌≤◌, false, map, length, sym, ap, arith}
-use Rattle.std.specs.Option.{ok_or}
-use Rattle.std.specs.Str.{bytes_eq}
-use Rattle.std.proofs.lemmas.List.{length-map}
+use Rattle.roman_session.proofs.Common.{ok_or, bytes_eq, length-map, NamedSys, seat_name, service_at}
 use Rattle.roman_text.specs.declared.replies.Reply.TheVariants as reply
-use Rattle.roman_joint.specs.NamedSys.{NamedSys}
-use Rattle.roman_joint.specs.Names.{seat_name}
-use Rattle.roman_session.specs.Steps.{service_at}
 use Rattle.roman_session.proofs.NameLemmas.{place_found, service_not_found}
 use Rattle.roman_session.proofs.SituationLemmas.{parts_shown}
 use Rattle.roman_session.proofs.session.Session.service_place.Goals as goal

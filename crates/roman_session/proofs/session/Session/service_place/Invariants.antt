@@ -1,6 +1,5 @@
 use Rattle.std.proofs.Common.{◌≡◌, ℕ, ◌<◌, false}
-use Rattle.std.specs.Str.{bytes_eq}
-use Rattle.roman_session.specs.Steps.{service_at}
+use Rattle.roman_session.proofs.Common.{bytes_eq, service_at}
 use Rattle.roman_session.proofs.session.Session.service_place.Given as goal
 
 -- the services so far have other names

@@ -1,6 +1,5 @@
 use Rattle.std.proofs.Common.{subst, sym}
-use Rattle.roman_session.specs.Situations.{Situation, IsPhase}
-use Rattle.roman_session.specs.Layout.{situation_in}
+use Rattle.roman_session.proofs.Common.{Situation, IsPhase, situation_in}
 use Rattle.roman_session.proofs.SituationLemmas.{phase_kept}
 use Rattle.roman_session.proofs.session.Session.set_phase.Goals as goal
 

@@ -1,12 +1,8 @@
 use Rattle.std.proofs.Common.{ℕ, ◌<◌, List, Option, IfSome, length, slice_get, sym, ap, ◌∙◌, subst, arith}
 use Rattle.std.proofs.lemmas.Result.{IfOk-weaker}
-use Rattle.roman_model.specs.System.{Beh, Seat}
+use Rattle.roman_session.proofs.Common.{Beh, NamedSys, system_of, IsSeatBehaviour, behaves, present_system, named}
+use Rattle.roman_model.specs.System.{Seat}
 use Rattle.roman_model.proofs.CallerLemmas.{seat_in}
-use Rattle.roman_joint.specs.NamedSys.{NamedSys, system_of}
-use Rattle.roman_joint.specs.Behaviours.{IsSeatBehaviour}
-use Rattle.roman_joint.proofs.CallerLemmas.{behaves}
-use Rattle.roman_session.specs.Situations.{present_system}
-use Rattle.roman_session.specs.Rulings.{named}
 use Rattle.roman_session.proofs.SituationLemmas.{situation_known, parts_shown, states_named}
 use Rattle.roman_session.proofs.session.Session.state_place.Goals as goal
 

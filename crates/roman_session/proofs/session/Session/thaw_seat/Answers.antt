@@ -1,10 +1,6 @@
 use Rattle.std.proofs.Common.{ap, sym, ◌∙◌, subst}
-use Rattle.roman_text.specs.Replies.{reply_text}
-use Rattle.roman_text.specs.declared.replies.Reply.{Reply}
+use Rattle.roman_session.proofs.Common.{reply_text, Reply, Situation, thawing, Changes, situation_in}
 use Rattle.roman_text.specs.declared.replies.Reply.TheVariants as reply
-use Rattle.roman_session.specs.Situations.{Situation}
-use Rattle.roman_session.specs.Steps.{thawing, Changes}
-use Rattle.roman_session.specs.Layout.{situation_in}
 use Rattle.roman_session.proofs.ChangedLemmas.{turned_fields, thawed_now}
 use Rattle.roman_session.proofs.session.Session.thaw_seat.Goals as goal
 

@@ -1,7 +1,6 @@
 use Rattle.std.proofs.Common.{sym, ap, ◌∙◌, subst}
-use Rattle.roman_model.specs.declared.way.Way.TheVariants.{Freeze, Die}
-use Rattle.roman_whatif.specs.Left.{places}
-use Rattle.roman_whatif.specs.Losses.{left_of, AreTold}
+use Rattle.roman_whatif.proofs.Common.{Freeze, Die, places, left_of}
+use Rattle.roman_whatif.specs.Losses.{AreTold}
 use Rattle.roman_whatif.proofs.losses.Losses.left.Goals as goal
 
 pub returns-in-Freeze : goal.returns-in-Freeze
