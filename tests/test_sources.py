@@ -16,6 +16,8 @@ LEMMA = re.compile(r" *(pub )?(?:abbrev )?(pub )?([^\s:(){}◌]+) :(?: |$)", re.
 MODULE = re.compile(r"(?: *--.*\n)* *module (?:.*\n)*?.*\bwhere\n")
 DEFINED = re.compile(r"^(?:abbrev pub|unfoldable pub|pub record|pub data) +([A-Za-z_]+)", re.M)
 IMPORTED = re.compile(r"^use Rattle\.(roman_\w+\.specs[\w.]*)\.\{([^}]*)\}", re.M)
+COMMON = re.compile(r"use Rattle\.(roman_\w+)\.proofs\.Common\.\{(.*)\}$")
+PASSED_ON = re.compile(r"(?:unfoldable )?pub use \S+\.\{(.*)\}$")
 HEAD = re.compile(r"(?:abbrev |unfoldable )?(?:pub )?(?:record |data )?([^\s:(){}]+)")
 
 # A definition by its page, as `use` writes it without `Rattle.`, and its name.
@@ -123,6 +125,21 @@ class Sources(unittest.TestCase):
                     if crate != mine and page != "CallerLemmas":
                         inside.append(f"{file.relative_to(TOP)}: {found[0]}")
         self.assertEqual(inside, [])
+
+    def test_the_page_of_common_names_passes_on_what_several_pages_cite(self) -> None:
+        alone: List[str] = []
+        for file in sources("proofs", "Common.antt"):
+            folder = file.parent
+            taken: Counter = Counter()
+            for page in folder.rglob("*.antt"):
+                for line in page.read_text(encoding="utf-8").splitlines():
+                    found = COMMON.match(line)
+                    if found and found[1] == folder.parent.name:
+                        taken.update(found[2].split(", "))
+            for line in file.read_text(encoding="utf-8").splitlines():
+                passed = PASSED_ON.match(line)
+                alone += [f"{file.relative_to(TOP)}: {name}" for name in passed[1].split(", ") if taken[name] < 2] if passed else []
+        self.assertEqual(alone, [])
 
     def test_a_definition_s_name_stands_for_one_thing(self) -> None:
         places: Dict[str, List[str]] = defaultdict(list)

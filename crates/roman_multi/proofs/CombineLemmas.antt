@@ -77,9 +77,6 @@ same_target : (a b : NamedTarget) → a.states ≡ b.states → a.env_states ≡
 same_target a b s n k t =
     ap₂ (λ x y. record { states = x; env_states = y; actions = a.actions; beh = a.beh }) s n ∙ ap₂ (λ x y. record { states = b.states; env_states = b.env_states; actions = x; beh = y }) k t
 
-abbrev parts : NamedEnv → List NamedBeh → NamedTarget → PlainCombined
-parts environment catalogue target = record { environment = environment; catalogue = catalogue; target = target }
-
 -- parts with these names and records are the combined parts
 pub parts_are : (env : NamedEnv) (catalogue : List NamedBeh) (targets : List Named) (requests : List Request) (states actions : List (List ℕ)) (environment : NamedEnv) (made : List NamedBeh) (target : NamedTarget) →
     requests ≡ requests_in env targets → states ≡ combined_state_names targets → actions ≡ request_names env targets →
