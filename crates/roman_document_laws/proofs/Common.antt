@@ -4,11 +4,12 @@ pub use Rattle.std.proofs.lemmas.List.{length-map}
 pub use Rattle.std.proofs.lemmas.Option.{same_Some}
 pub use Rattle.std.specs.List.{AllZip, filter, flat_map}
 pub use Rattle.roman_io.specs.Shelf.{Texts}
+pub use Rattle.roman_laws.proofs.CallerLemmas.{listed_step, step_listed, triple_listed}
 pub use Rattle.roman_library.specs.Documents.{behaviour_in}
 unfoldable pub use Rattle.roman_library.specs.Documents.{catalogue_in, service_of, services_of}
 pub use Rattle.roman_library.specs.Refusals.{placed}
 pub use Rattle.roman_library.specs.declared.library.Service.{Service}
-pub use Rattle.roman_model.proofs.CallerLemmas.{by_test, filter_in, from_flat_map, from_map, from_push, get_in, in_contains, listed_number, listed_step, number_listed, step_listed, triple_listed}
+pub use Rattle.roman_model.proofs.CallerLemmas.{by_test, filter_in, from_flat_map, from_map, from_push, get_in, in_contains, listed_number, number_listed}
 pub use Rattle.roman_model.specs.Lists.{HasNoRepeats, IsIn, below}
 pub use Rattle.roman_model.specs.Normal.{normal_beh, normal_env}
 pub use Rattle.roman_model.specs.System.{Beh, Env, Move, Triple, has_move, is_final}

@@ -4,8 +4,8 @@ use Rattle.roman_document_laws.proofs.Common.{filter, flat_map, IsIn, below, Tri
 use Rattle.roman_model.specs.System.{has_triple}
 use Rattle.roman_model.specs.SystemArena.{env_next}
 use Rattle.roman_model.specs.Made.{guarded_step}
-use Rattle.roman_model.specs.Outcomes.{HasStep}
-use Rattle.roman_model.proofs.CallerLemmas.{listed_triple}
+use Rattle.roman_laws.specs.Outcomes.{HasStep}
+use Rattle.roman_laws.proofs.CallerLemmas.{listed_triple}
 use Rattle.roman_document_laws.specs.Normals.{AreBefore, IsTripleBefore, IsMoveBefore, SameEnv, SameBeh, NormalFormsAreNormal, NormalFormsAreUnique}
 use Rattle.roman_document_laws.proofs.Rising.{rises_filter, rises_flat, rises_map, rises_same, rises_below}
 

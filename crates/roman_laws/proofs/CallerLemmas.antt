@@ -4,3 +4,5 @@
 pub use Rattle.roman_laws.proofs.CombinedSteps.{request_at}
 -- A turn of the system that combines several targets, target by target.
 pub use Rattle.roman_laws.proofs.RequestLemmas.{turns_of}
+-- The tests of triples and of steps are membership in their lists.
+pub use Rattle.roman_laws.proofs.OutcomeLemmas.{listed_step, listed_triple, step_listed, triple_listed}

@@ -1,8 +1,11 @@
 -- The requests of several targets, and the steps that they stand for.
 use Rattle.std.proofs.Common.{◌≡◌, ℕ, suc, ◌==◌, ◌&&◌, not, List, [], ◌∷◌, map, length, Option, Some, None, IsTrue, filter, slice_get, inl, inr, refl, sym, ap, subst, eqb-true}
-use Rattle.roman_laws.proofs.Common.{false≢true, and_parts, not-true, IsIn, below, is_empty, Beh, has, has_move, Request, Several, all_requests, get_in, from_map, any_true}
+use Rattle.roman_laws.proofs.Common.{false≢true, and_parts, IsIn, Beh, has, has_move, Request, Several, all_requests, get_in, any_true, any_from}
+use Rattle.std.proofs.lemmas.Bool.{not-true}
+use Rattle.roman_model.specs.Lists.{below, is_empty}
+use Rattle.roman_model.proofs.CallerLemmas.{from_map}
 use Rattle.roman_model.specs.Combined.{stands_in}
-use Rattle.roman_model.proofs.CallerLemmas.{from_flat_map, filter_in, any_from, not_empty_in, move_passes}
+use Rattle.roman_model.proofs.CallerLemmas.{from_flat_map, filter_in, not_empty_in, move_passes}
 
 -- The requests.
 

@@ -1,4 +1,10 @@
 pub mod Common
+pub mod GreatestLemmas
+pub mod OutcomeLemmas
+pub mod NumberLemmas
+pub mod Examples
+pub mod SeveralExamples
+pub mod TextExamples
 pub mod SimulationLemmas
 pub mod ControllerLemmas
 pub mod ReducedLemmas
@@ -9,6 +15,5 @@ pub mod LosingExamples
 pub mod PlaceLemmas
 pub mod CombinedSteps
 pub mod RequestLemmas
-pub mod NewLists
 pub mod RepairLemmas
 pub mod CallerLemmas

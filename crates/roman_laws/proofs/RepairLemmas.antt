@@ -1,12 +1,13 @@
 -- The renamed list of a change has distinct pairs, so its replay keeps the most.
-use Rattle.std.proofs.Common.{◌≤◌, List, [], ◌∷◌, length, inl, inr, arith}
-use Rattle.roman_model.specs.Lists.{IsSublist}
-use Rattle.roman_laws.proofs.Common.{arena, after, rename}
-use Rattle.roman_model.specs.Arena.{replay}
-use Rattle.roman_model.specs.Laws.{ReplayKeeps}
-use Rattle.roman_model.proofs.CallerLemmas.{replay_sublist}
+use Rattle.std.proofs.Common.{◌≤◌, List, [], ◌∷◌, length, inl, inr, subst, arith}
+use Rattle.roman_laws.proofs.Common.{IsSublist, Sys, Pair, IsSys, arena, after, Entry, IsOrder, replay, Join, system_is_same}
+use Rattle.roman_model.specs.Change.{rename}
+use Rattle.roman_model.specs.Arena.{AreNew}
+use Rattle.roman_model.specs.CompleteLists.{AreEntries}
+use Rattle.roman_model.specs.Change.{Change, Freeze, Thaw, Die, CanChange}
+use Rattle.roman_model.proofs.CallerLemmas.{join_once, new_from_once, new_once, new_same, order_new, renaming_keeps, replay_sublist}
 use Rattle.roman_laws.specs.Repairs.{RepairsKeepTheMost, ReplaysKeepTheMost}
-use Rattle.roman_laws.proofs.NewLists.{renamed_new}
+use Rattle.roman_laws.proofs.GreatestLemmas.{replay_kept}
 
 -- a sublist isn't longer than the list
 sublist_no_longer : {X : Type 0} (xs ys : List X) → IsSublist xs ys → length xs ≤ length ys
@@ -15,10 +16,20 @@ sublist_no_longer (x ∷ xs) [] sub = absurd sub
 sublist_no_longer (x ∷ xs) (y ∷ ys) (inl (e, sub)) = let l : length xs ≤ length ys = sublist_no_longer xs ys sub in omega arith
 sublist_no_longer (x ∷ xs) (y ∷ ys) (inr sub) = let l : length (x ∷ xs) ≤ length ys = sublist_no_longer (x ∷ xs) ys sub in omega arith
 
-pub repairs_most : ReplayKeeps → RepairsKeepTheMost
-repairs_most keeps change s L ok can are order =
+-- a renamed removal list has distinct pairs
+renamed_new : (change : Change) (s : Sys) (L : List (Entry Pair)) → IsSys s → CanChange change s → AreEntries s L → IsOrder (arena s) L → AreNew (arena (after change s)) [] (rename change L)
+renamed_new (Freeze k) s L ok can are order = new_same s (after (Freeze k) s) [] L (order_new (arena s) L order)
+renamed_new (Thaw k) s L ok can are order = new_same s (after (Thaw k) s) [] L (order_new (arena s) L order)
+renamed_new (Join seat) s L ok can are order =
+    new_from_once (after (Join seat) s) [] (rename (Join seat) L) (join_once seat L (new_once (arena s) (system_is_same s) [] L (order_new (arena s) L order))) (λ x i j. j)
+renamed_new (Die k seat) s L ok can are order =
+    let replays = renaming_keeps (Die k seat) s L ok can are order in
+    order_new (arena (after (Die k seat) s)) (rename (Die k seat) L) (subst (IsOrder (arena (after (Die k seat) s))) (replays.whole tt) replays.order)
+
+pub repairs_most : RepairsKeepTheMost
+repairs_most change s L ok can are order =
     let new = renamed_new change s L ok can are order in
-    let best = keeps (after change s) (rename change L) new in
+    let best = replay_kept (after change s) (rename change L) new in
     record {
       new = new;
       kept = record { part = replay_sublist (arena (after change s)) (rename change L); order = best.order };
@@ -26,5 +37,5 @@ repairs_most keeps change s L ok can are order =
       longest = λ M can. sublist_no_longer M (replay (arena (after change s)) (rename change L)) (best.best M can.part can.order);
     }
 
-pub replays_most : ReplayKeeps → ReplaysKeepTheMost
-replays_most keeps change s old new kept ok can are order begins count = grind (arith, repairs_most)
+pub replays_most : ReplaysKeepTheMost
+replays_most change s old new kept ok can are order begins count = grind (arith, repairs_most)

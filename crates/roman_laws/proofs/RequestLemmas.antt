@@ -1,11 +1,11 @@
 -- The system that combines several targets allows the requests of its targets, and offers the seats that serve all of them.
 use Rattle.std.proofs.Common.{◌≡◌, ℕ, ◌<◌, List, length, Some, IsTrue, slice_get, slice_index, slice_set, sym, ap, ◌∙◌, subst}
 use Rattle.std.proofs.lemmas.List.{length-map}
-use Rattle.roman_laws.proofs.Common.{same_Some, Beh, Pair, has_move, SStep, IsPair, is_allowed, couple, Serves, GreatCouple, Several, all_requests, Request, get_in, allowed_in, from_allowed, outcome_in, outcome_pair, offers_are}
-use Rattle.roman_model.specs.System.{has_triple, TStep}
+use Rattle.roman_laws.proofs.Common.{same_Some, Beh, Pair, has_move, SStep, IsPair, is_allowed, couple, Serves, GreatCouple, Several, all_requests, Request, get_in, allowed_in, from_allowed, outcome_in, outcome_pair, offers_are, has_triple, combined, IsSeveral}
+use Rattle.roman_model.specs.System.{TStep}
 use Rattle.roman_model.specs.Numbers.{states_number, states_at}
 use Rattle.roman_model.specs.Several.{ServesAll, GreatAll}
-use Rattle.roman_model.specs.Combined.{target_sizes, combined_seat, combined, IsSeveral, couple_all}
+use Rattle.roman_model.specs.Combined.{target_sizes, combined_seat, couple_all}
 use Rattle.roman_model.proofs.CallerLemmas.{from_combined_target, combined_target_goes, combined_is_all, combined_system, in_requests, from_combined_triple, combined_triple, from_combined_sstep, combined_sstep}
 use Rattle.roman_laws.specs.Requests.{TargetAllows, IsRequestOf, RequestsOfTargets, IsMoveOf, TurnsOfTargets}
 use Rattle.roman_laws.proofs.CombinedSteps.{place_in}

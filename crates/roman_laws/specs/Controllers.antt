@@ -4,8 +4,9 @@ use Rattle.roman_model.specs.Lists.{IsIn}
 use Rattle.roman_model.specs.System.{Sys, Pair, IsSys, IsPair, TStep, SStep, Allows, is_final, all_final}
 use Rattle.roman_model.specs.SystemArena.{is_allowed}
 use Rattle.roman_model.specs.Composition.{couple, Serves, GreatCouple, Great}
-use Rattle.roman_model.specs.Offers.{Choice, offers, Follows, end_of}
+use Rattle.roman_model.specs.Offers.{offers}
 use Rattle.roman_model.specs.Outcomes.{LeadsTo}
+use Rattle.roman_laws.specs.Following.{Choice, Follows, end_of}
 
 -- a controller: a function from the history, the latest choice first, and the requested action to the seat that is to serve it
 abbrev pub Controller : Type 0

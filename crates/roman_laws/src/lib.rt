@@ -2,11 +2,16 @@
 //! depends on `roman_model` alone, and no code of the program depends on it. Each law is the contract
 //! of a function that computes nothing.
 //!
-//! `specs/Controllers` has controllers, and those that realise the target. `specs/Losing` has the
-//! effect of losing services, and `specs/Reduced` has systems without some of their services.
-//! `specs/Requests` has the requests of each of several targets and the services that serve them.
-//! `specs/Repairs` has the greatest part of a removal list that a change can keep.
+//! `specs/Greatest` has the greatest ND-simulation against removal lists, depths and replays, and
+//! `specs/Following` runs that follow the offers. `specs/Outcomes` characterises the tests of a system
+//! by its steps, and `specs/Numbers` has the numbers of pairs. `specs/Controllers` has controllers,
+//! and those that realise the target. `specs/Losing` has the effect of losing services, and
+//! `specs/Reduced` has systems without some of their services. `specs/Requests` has the requests of
+//! each of several targets and the services that serve them. `specs/Repairs` has the greatest part of
+//! a removal list that a change can keep.
 #![tactic(auto)]
+
+mod definitions;
 
 ghost use Rattle.roman_laws.specs.Controllers.{ControllersTakeOffers};
 ghost use Rattle.roman_laws.specs.Losing.{LeastFailingSuffice, LosingNeverHelps};
@@ -14,7 +19,10 @@ ghost use Rattle.roman_laws.specs.Reduced.{ReducedAreSystems};
 ghost use Rattle.roman_laws.specs.Repairs.{RepairsKeepTheMost, ReplaysKeepTheMost};
 ghost use Rattle.roman_laws.specs.Requests.{RequestsOfTargets, TurnsOfTargets};
 
-use roman_model::replay_keeps;
+pub use definitions::{
+    combined_is_all, following_stays, greatest_is_greatest, order_refutes, outcomes_are_steps,
+    pairs_are_numbered, replay_keeps, shapes_are_numbered, unrelated_loses,
+};
 
 /// Some controller realises the target from a pair exactly where the pair is related. The controllers
 /// that realise it are exactly those that take offers. Each wish that is offered is fulfilled by one
@@ -54,6 +62,4 @@ pub fn requests_of_targets()
 pub fn repairs_keep_the_most()
     ensures kept { RepairsKeepTheMost }
     ensures replayed { ReplaysKeepTheMost }
-{
-    replay_keeps();
-}
+{}

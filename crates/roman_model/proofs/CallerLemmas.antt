@@ -7,23 +7,23 @@ pub use Rattle.roman_model.proofs.Lists.{filter_in, filter_same, filter_sublist,
 pub use Rattle.roman_model.proofs.Lists.{from_below, from_flat_map, from_map, from_push, get_or-below, in_append_left, in_append_right, in_below, in_contains}
 pub use Rattle.roman_model.proofs.Lists.{in_filter, in_flat_map, in_map, in_not_empty, in_push, length-below, list_any-flat_map, list_any-map, ne_not_empty}
 pub use Rattle.roman_model.proofs.Lists.{no_longer, none_from, not_empty_in, not_empty_ne, same_test, split_at, sublist_in, sublist_none, sum_by_same}
-pub use Rattle.roman_model.proofs.Lists.{sum_by_within}
+pub use Rattle.roman_model.proofs.Lists.{sublist_skip, sum_by_within}
 -- Lemmas on the pairs of a system, its steps and outcomes.
 pub use Rattle.roman_model.proofs.SystemLemmas.{allowed_in, allowed_in_range, from_allowed, from_beh_next, from_beh_prev, from_env_next, from_env_prev, from_outcome}
-pub use Rattle.roman_model.proofs.SystemLemmas.{from_pairs, from_seat_next, in_beh_next, in_beh_prev, in_env_next, in_env_prev, in_pairs, move_in_range, outcome_in}
+pub use Rattle.roman_model.proofs.SystemLemmas.{from_pairs, from_seat_next, in_beh_next, in_beh_prev, in_env_next, in_env_prev, in_pairs, listed_number, move_in_range, number_listed, outcome_in}
 pub use Rattle.roman_model.proofs.SystemLemmas.{outcome_pair, outcome_seat, pairs_once, same_numbers_is, same_numbers_itself, seat_in, states_set, triple_in_range}
 -- Lemmas on any arena: listed nodes, beaten seats, reasons, masks, and nodes that survive.
 pub use Rattle.roman_model.proofs.ArenaLemmas.{IsArena, IsSame, among_in, beaten_none, from_back, in_back, in_listed, in_mask, justified_is, justified_more}
 pub use Rattle.roman_model.proofs.ArenaLemmas.{justified_same, listed_among, listed_append, listed_in, listed_push, mask_has, mask_has_past, mask_none}
 pub use Rattle.roman_model.proofs.ArenaLemmas.{unallowed_unjustified}
 -- Removal lists and replays over any arena.
-pub use Rattle.roman_model.proofs.OrderLemmas.{middle_first, new_once, order_justified, order_new, order_push, replay_from_same, replay_sublist}
+pub use Rattle.roman_model.proofs.OrderLemmas.{middle_first, new_once, order_justified, order_new, order_push, replay_from_same, replay_order, replay_sublist}
 -- Depths over any arena: the least numbers of requests within which the opponent wins.
-pub use Rattle.roman_model.proofs.DepthLemmas.{last_is_steady, loses_down, loses_up, settled_exact}
+pub use Rattle.roman_model.proofs.DepthLemmas.{last_is_steady, loses_down, lost_dead, loses_up, settled_exact}
 -- Lemmas for working through a removal list: entries by their place, the delegations that lead to a node, and sums.
 pub use Rattle.roman_model.proofs.WorkLemmas.{fall_append, fall_push, order_entry, order_middle, readings_at, readings_within}
 -- A system as an arena, the greatest ND-simulation, and complete removal lists.
-pub use Rattle.roman_model.proofs.CompositionLemmas.{great_related, lost_unrelated, related_great}
+pub use Rattle.roman_model.proofs.CompositionLemmas.{fine_from, fine_is, great_meets, great_related, great_survives, last_is_sim, listed_unrelated, lost_unrelated, meets_survives, related_great, system_is_same}
 -- Every removal list can be extended to a complete one.
 pub use Rattle.roman_model.proofs.CompletionLemmas.{order_goes_on}
 -- The offers, and the pairs to which they lead.
@@ -33,17 +33,17 @@ pub use Rattle.roman_model.proofs.PlayLemmas.{order_won}
 -- The depths of a system's pairs, and the opponent's game by them.
 pub use Rattle.roman_model.proofs.DepthPlayLemmas.{depth_least, depth_won}
 -- Numbers of lists of states and of pairs: bounds, and the change of a number where a state changes, comes or goes.
-pub use Rattle.roman_model.proofs.NumberLemmas.{AreBelow-index, AreBelow-length, IsPairOf-at, IsPairOf-from, IsPairOf-grown, IsPairOf-moved, IsPairOf-without}
+pub use Rattle.roman_model.proofs.NumberLemmas.{AreBelow-at, AreBelow-index, AreBelow-length, IsPairOf-at, IsPairOf-from, IsPairOf-grown, IsPairOf-moved, IsPairOf-without}
 pub use Rattle.roman_model.proofs.NumberLemmas.{count-grown, count-without, length-states_at, number-grown, number-moved, number-pair_at, number-set, number_below}
 pub use Rattle.roman_model.proofs.NumberLemmas.{number_without-is, numbers_are_pairs, pair_at-grown, pair_at-number, pair_at-without, part_at}
-pub use Rattle.roman_model.proofs.NumberLemmas.{parts_of_number, states_below, states_number-at, states_number-set}
+pub use Rattle.roman_model.proofs.NumberLemmas.{parts_of_number, states_at-number, states_below, states_number-at, states_number-set, states_number_below}
 -- Removal lists, masks and depths carry over between arenas whose nodes correspond by a renaming.
 pub use Rattle.roman_model.proofs.Renames.{order_named}
 -- The arenas over numbers of pairs and over pairs carry over to each other.
 pub use Rattle.roman_model.proofs.NumberedArena.{AreNumbers, IsNumber, numbers_rename}
 -- The effect of a change of the seats on systems, pairs, outcomes and removal lists.
 pub use Rattle.roman_model.proofs.ChangeLemmas.{IsPair-grown, IsPair-turned, IsPair-without, flat_map_same, flat_map_same_in, left, length-remove}
-pub use Rattle.roman_model.proofs.ChangeLemmas.{length-set_frozen, map-flat_map, map-map, remove_in, states_frozen, turned}
+pub use Rattle.roman_model.proofs.ChangeLemmas.{join_once, length-set_frozen, map-flat_map, map-map, new_from_once, new_same, remove_in, states_frozen, turned}
 -- The replay of a renamed list is a removal list after each change.
 pub use Rattle.roman_model.proofs.ChangeLaws.{renaming_keeps}
 -- Changes over the numbers of pairs: renaming and replay agree with those over pairs.
@@ -65,8 +65,6 @@ pub use Rattle.roman_model.proofs.CertificateLemmas.{entry_of-is, entry_of-line,
 pub use Rattle.roman_model.proofs.CertificateLaws.{complete_order, due_is, written_is_greatest}
 -- The verdict on a text whose first lines have been read.
 pub use Rattle.roman_model.proofs.VerdictLemmas.{fault_after_end, fault_in_body, verdict_accepted, verdict_at, verdict_ended, verdict_rejected, verdict_too_long}
--- The tests and lists of a system agree with its steps.
-pub use Rattle.roman_model.proofs.OutcomeLemmas.{listed_number, listed_step, listed_triple, number_listed, step_listed, triple_listed}
 -- The plan of the choices costs least of all plans at a related pair.
 pub use Rattle.roman_model.proofs.PlanLemmas.{choice_is, max_over_le, max_over_same, plans_least}
 -- Least worst-case costs, computed one action, one seat and one outcome at a time.

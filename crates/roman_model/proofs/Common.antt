@@ -11,8 +11,8 @@ pub use Rattle.std.specs.List.{AllZip, cons_option, list_any}
 pub use Rattle.std.specs.Option.{option_to_list}
 pub use Rattle.std.specs.Prelude.{max}
 pub use Rattle.roman_model.specs.Arena.{AreNew, Arena, Entry, IsOrder, IsOrderFrom, back, depth, is_among, is_beaten, is_justified, is_listed, loses, mask, replay, replay_from}
-pub use Rattle.roman_model.specs.Certificate.{Form, Greatest, IsClean, Rejected, Repeated, TooLong, Unjustified, Unlisted, Verdict, Why, body_fault, cert_text, cert_verdict, count_line, end_line, entries_on, entry_line, entry_of, faults, head_line, line_fault, possible_entries, reason_text, reasons, unless_over, unlisted}
-pub use Rattle.roman_model.specs.Change.{Die, Freeze, Join, Thaw, after, entry_without, firsts, grown, may_go, rename, set_frozen, without}
+pub use Rattle.roman_model.specs.Certificate.{IsClean, Rejected, TooLong, Verdict, Why, body_fault, cert_verdict, count_line, end_line, entries_on, entry_line, entry_of, faults, head_line, line_fault, possible_entries, reason_text, reasons, unless_over, unlisted}
+pub use Rattle.roman_model.specs.Change.{Die, Freeze, Join, Thaw, entry_without, firsts, grown, may_go, rename, set_frozen, without}
 pub use Rattle.roman_model.specs.Combined.{IsSeveral, all_requests, combined, combined_seat, combined_start, has_move_on, has_triple_on, target_sizes, targets_go}
 pub use Rattle.roman_model.specs.CompleteLists.{AreEntries, IsComplete}
 pub use Rattle.roman_model.specs.Composition.{Couple, Great, GreatCouple, Meets, Serves, couple}
@@ -22,11 +22,11 @@ pub use Rattle.roman_model.specs.Lines.{AreLines, IsLine, ended_lines, lines, te
 pub use Rattle.roman_model.specs.Lists.{HasNoRepeats, IsIn, IsSublist, all_below, below, is_empty, product_of}
 pub use Rattle.roman_model.specs.NumberedChange.{number_without}
 pub use Rattle.roman_model.specs.Numbers.{AreBelow, IsCompleteList, Sizes, count, entry_at, grown_sizes, number, numbered, pair_at, sizes_of, sizes_without, states_at, states_number}
-pub use Rattle.roman_model.specs.Offers.{choice_count, is_related, offers}
+pub use Rattle.roman_model.specs.Offers.{is_related, offers}
 pub use Rattle.roman_model.specs.Plans.{Costs, allowed_actions, choice, least, least_from, max_over, through}
 pub use Rattle.roman_model.specs.Play.{AreSeats, WinsWithin, has_ready, went_on}
 pub use Rattle.roman_model.specs.Several.{Several, are_final, of_one}
-pub use Rattle.roman_model.specs.System.{Beh, Env, IsBeh, IsEnv, IsPair, IsSys, Move, Pair, SStep, Seat, Sys, Triple, all_final, has, has_move, has_triple, is_final}
+pub use Rattle.roman_model.specs.System.{Beh, Env, IsBeh, IsEnv, IsPair, IsSys, Pair, SStep, Seat, Sys, all_final, has, has_move, has_triple, is_final}
 pub use Rattle.roman_model.specs.SystemArena.{arena, beh_next, env_next, is_allowed, is_fine, outcomes, outcomes_by, pairs, same_numbers, same_pair, seat_next}
 pub use Rattle.roman_model.specs.declared.limits.TheConstants.{MAX_ACTIONS, MAX_CERTIFICATE_BYTES, MAX_SERVICES}
 pub use Rattle.roman_model.specs.declared.reason.Reason.{Reason}

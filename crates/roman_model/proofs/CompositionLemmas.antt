@@ -2,11 +2,10 @@
 use Rattle.std.proofs.Common.{◌≡◌, ◌≢◌, ℕ, ◌<◌, Bool, not, List, [], map, length, IsTrue, IsFalse, filter, slice_set, refl, sym, subst, arith, rules}
 use Rattle.roman_model.proofs.Common.{both_ways, or_cases, or_left, or_right, not-true, not-false, not_from_true, not_from_false, slice_get_within, IsIn, Sys, Pair, IsSys, IsPair, SStep, is_final, all_final, pairs, outcomes, is_allowed, is_fine, arena, Entry, is_listed, is_justified, IsOrder, loses, Couple, couple, Serves, Meets, GreatCouple, Great, AreEntries, IsComplete, OrderCompletes, is_related, Reason, Final, Act}
 use Rattle.roman_model.specs.Composition.{IsNdSim}
-use Rattle.roman_model.specs.Laws.{GreatestIsGreatest, OrderRefutes, UnrelatedLoses, ReplayKeeps}
 use Rattle.roman_model.proofs.Lists.{by_test, same_test, in_map, from_map, in_filter, filter_in, ne_not_empty, not_empty_in, not_empty_ne, in_not_empty}
 use Rattle.roman_model.proofs.SystemLemmas.{same_pair_is, same_pair_itself, in_pairs, from_pairs, pairs_once, outcome_in, from_outcome, outcome_seat, outcome_pair, allowed_in, from_allowed, allowed_in_range}
-use Rattle.roman_model.proofs.ArenaLemmas.{IsSame, IsArena, Survives, survives_more, survivor_within, in_listed, mask_not_empty, unallowed_unjustified}
-use Rattle.roman_model.proofs.OrderLemmas.{listed_dead, replay_order, replay_keeps}
+use Rattle.roman_model.proofs.ArenaLemmas.{IsSame, IsArena, Survives, survives_more, survivor_within, mask_not_empty, unallowed_unjustified}
+use Rattle.roman_model.proofs.OrderLemmas.{listed_dead}
 use Rattle.roman_model.proofs.DepthLemmas.{lost_dead, unlost_survives}
 
 -- The arena of a system.
@@ -130,29 +129,11 @@ related_great s p ok pair t = great_in s (loses (arena s) (length (pairs s))) p 
 pub great_related : (s : Sys) (p : Pair) → IsSys s → Great s p → IsTrue (is_related s p)
 great_related s p ok great = grind (arith, by_test, lost_unrelated, not_from_false)
 
--- The related pairs are the greatest ND-simulation.
-pub greatest_is : GreatestIsGreatest
-greatest_is s ok = record {
-  closed = great_meets s;
-  holds_each = λ R sim c i. (R, sim, i);
-  finite = (
-    map couple (filter (is_related s) (pairs s)),
-    last_is_sim s ok,
-    λ p pair. (
-      λ great. in_map couple p (filter (is_related s) (pairs s)) (in_filter (is_related s) p (pairs s) (in_pairs s p pair) (great_related s p ok great)),
-      λ i. (map couple (filter (is_related s) (pairs s)), last_is_sim s ok, i),
-    ),
-  );
-}
-
 -- Removal lists.
 
 -- a listed pair isn't related
 pub listed_unrelated : (s : Sys) (L : List (Entry Pair)) (p : Pair) → IsSys s → IsOrder (arena s) L → IsTrue (is_listed (arena s) L p) → Great s p → ⊥
 listed_unrelated s L p ok order t great = listed_dead (arena s) (system_is_same s) (Great s) (λ q. great_survives s q ok) L order p t great
-
-pub order_refuted : OrderRefutes
-order_refuted s L ok order x i pair great = listed_unrelated s L x.node ok order (in_listed (arena s) (system_is_same s) L x i) great
 
 -- where no reason holds at an unlisted pair, the unlisted pairs are related
 pub unlisted_related : (s : Sys) (L : List (Entry Pair)) → IsSys s →
@@ -194,11 +175,3 @@ pub complete_listed : (s : Sys) (L : List (Entry Pair)) (p : Pair) → IsSys s �
 complete_listed s L p ok complete pair = same_test (is_listed (arena s) L p) (not (is_related s p))
     (λ t. by_test (is_related s p) (λ r. absurd ((complete.exact p pair).0 t (related_great s p ok pair r))) (λ f. not_from_false (is_related s p) f))
     (λ t. (complete.exact p pair).1 (λ great. both_ways (is_related s p) (not-true (is_related s p) t) (great_related s p ok great)))
-
--- Depth is bounded.
-pub unrelated_lost : UnrelatedLoses
-unrelated_lost s ok p pair = grind (arith, by_test, lost_unrelated, not_from_false, related_great)
-
--- The replay keeps the most entries.
-pub replay_kept : ReplayKeeps
-replay_kept s L new = record { order = replay_order (arena s) L new; best = λ M sub order. replay_keeps (arena s) M L sub order }

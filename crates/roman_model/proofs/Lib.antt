@@ -23,10 +23,6 @@ pub mod LineLemmas
 pub mod CertificateLemmas
 pub mod CertificateLaws
 pub mod VerdictLemmas
-pub mod OutcomeLemmas
-pub mod ShapeLemmas
-pub mod Examples
-pub mod TextExamples
 pub mod PlanLemmas
 pub mod AdviceLemmas
 pub mod TableLemmas
@@ -35,5 +31,4 @@ pub mod Places
 pub mod MadeLemmas
 pub mod CombinedLemmas
 pub mod CombinedLaws
-pub mod SeveralExamples
 pub mod CallerLemmas

@@ -3,7 +3,6 @@ use Rattle.std.proofs.Common.{◌≡◌, ℕ, zero, suc, ◌+◌, ◌*◌, ◌/�
 use Rattle.roman_model.proofs.Common.{AllZip, mul-add-lt, product_of, Seat, Sys, Pair, IsPair, Sizes, sizes_of, AreBelow, grown_sizes, sizes_without, count, states_number, states_at, number, pair_at, grown, without, number_without}
 use Rattle.std.proofs.lemmas.Nat.{div-mul-add, mod-mul-add, div_below, mod_below}
 use Rattle.roman_model.specs.Numbers.{IsPairOf, NumbersArePairs}
-use Rattle.roman_model.specs.Laws.{PairsAreNumbered}
 
 pub AreBelow-length : (sizes bs : List ℕ) → AreBelow sizes bs → length bs ≡ length sizes
 AreBelow-length [] [] h = refl
@@ -296,6 +295,3 @@ IsPair-from s p ok = record { t = ok.t; e = ok.e; bs = below_states s.seats p.bs
 
 pub numbers_are_pairs : (s : Sys) → NumbersArePairs s
 numbers_are_pairs s = search (rules, IsPair-from, IsPairOf-at, IsPairOf-from, number-pair_at, number_below, pair_at-number)
-
-pub pairs_are_numbered : PairsAreNumbered
-pairs_are_numbered s ok = numbers_are_pairs s

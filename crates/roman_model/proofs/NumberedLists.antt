@@ -1,6 +1,7 @@
 -- Removal lists over the numbers of pairs: the laws of their arena, complete lists, and counts of pairs.
 use Rattle.std.proofs.Common.{◌≡◌, ℕ, ◌+◌, ◌<◌, ◌≤◌, not, List, [], map, length, Bool, IsTrue, IsFalse, ◌↔◌, filter, sum_by, refl, sym, ap, ◌∙◌, subst, arith, rules}
-use Rattle.roman_model.proofs.Common.{both_ways, eqb-true, eq-eqb, not-false, length-map, IsIn, HasNoRepeats, below, Sys, Pair, IsSys, IsPair, pairs, outcomes, arena, Entry, is_listed, is_justified, mask, IsOrder, loses, Great, IsComplete, sizes_of, count, number, pair_at, numbered, entry_at, IsCompleteList, is_related, offers, choice_count, Reason, Final, Act}
+use Rattle.roman_model.proofs.Common.{both_ways, eqb-true, eq-eqb, not-false, length-map, IsIn, HasNoRepeats, below, Sys, Pair, IsSys, IsPair, pairs, outcomes, arena, Entry, is_listed, is_justified, mask, IsOrder, loses, Great, IsComplete, sizes_of, count, number, pair_at, numbered, entry_at, IsCompleteList, is_related, offers, Reason, Final, Act}
+use Rattle.roman_model.specs.Offers.{choice_count}
 use Rattle.std.proofs.lemmas.List.Filters.{length-filter_both}
 use Rattle.roman_model.specs.Arena.{choices}
 use Rattle.roman_model.proofs.Lists.{same_test, in_map, from_map, in_filter, filter_in, in_below, from_below, length-below, same_length, sum_by-map, sum_by_same, sum_by_within, HasNoRepeats-map, HasNoRepeats-filter, HasNoRepeats-below}

@@ -1,7 +1,7 @@
 -- The offers, and the pairs to which they lead.
-use Rattle.std.proofs.Common.{◌≡◌, ◌≢◌, ℕ, ◌<◌, not, List, [], ◌∷◌, length, IsTrue, arith, rules}
+use Rattle.std.proofs.Common.{◌≡◌, ◌≢◌, ℕ, ◌<◌, not, List, [], length, IsTrue, rules}
 use Rattle.roman_model.proofs.Common.{not-false, not_from_true, IsIn, Sys, Pair, IsSys, IsPair, outcomes, is_allowed, arena, Entry, is_listed, mask, GreatCouple, Great, IsComplete, is_related, offers}
-use Rattle.roman_model.specs.Offers.{OffersAreGenerator, FollowingStays}
+use Rattle.roman_model.specs.Offers.{OffersAreGenerator}
 use Rattle.roman_model.proofs.Lists.{in_not_empty, not_empty_ne}
 use Rattle.roman_model.proofs.SystemLemmas.{outcome_pair}
 use Rattle.roman_model.proofs.ArenaLemmas.{unbeaten_is, unbeaten_from, in_mask, from_mask, mask_same}
@@ -43,11 +43,3 @@ pub related_offers : (s : Sys) (p : Pair) (a : ℕ) → IsSys s → Great s p �
 related_offers s p a ok great allowed =
     let (k, l, some, all) = (great_survives s p ok great).served a allowed in
     not_empty_ne (offers s p a) (in_not_empty k (offers s p a) (in_offers s p a k ok allowed l some all))
-
--- A run that follows the offers stays at related pairs.
-pub following_related : FollowingStays
-following_related s ok p pair great [] follows = grind (arith, great_survives, related_offers)
-following_related s ok p pair great (m ∷ ms) follows =
-    let (allowed, offered, reached, rest) = follows in
-    let (allows, l, some, all) = offer_is s p m.action m.seat ok pair offered in
-    following_related s ok m.to (outcome_pair s p m.action m.seat m.to ok pair reached) (all m.to reached) ms rest

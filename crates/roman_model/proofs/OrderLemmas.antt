@@ -108,23 +108,6 @@ replay_from_order {N} A before kept (x ∷ L) new within =
 pub replay_order : {N : Type 0} (A : Arena N) (L : List (Entry N)) → AreNew A [] L → IsOrder A (replay A L)
 replay_order A L new = replay_from_order A [] [] L new (λ q t. t)
 
--- a replay keeps each sublist that is a removal list
-pub replay_from_keeps : {N : Type 0} (A : Arena N) (before kept : List N) (M L : List (Entry N)) → IsSublist M L → IsOrderFrom A before M →
-    ((q : N) → IsTrue (is_among A before q) → IsTrue (is_among A kept q)) → IsSublist M (replay_from A kept L)
-replay_from_keeps A before kept [] L s order within = tt
-replay_from_keeps A before kept (m ∷ M) [] s order within = absurd s
-replay_from_keeps A before kept (m ∷ M) (x ∷ L) (inl (e, s)) order within = grind (arith, cond-true, justified_more, or_cases, or_left, or_right, (replay_from_keeps A (m.node ∷ before) (x.node ∷ kept) M L s order.2))
-replay_from_keeps A before kept (m ∷ M) (x ∷ L) (inr s) order within =
-    by_test (is_justified A (is_among A kept) x.node x.reason)
-    (λ t. subst (λ R. IsSublist (m ∷ M) R) (sym (cond-true (is_justified A (is_among A kept) x.node x.reason) (x ∷ replay_from A (x.node ∷ kept) L) (replay_from A kept L) t))
-    (sublist_skip (m ∷ M) (replay_from A (x.node ∷ kept) L) x
-    (replay_from_keeps A before (x.node ∷ kept) (m ∷ M) L s order (λ q r. or_right (A.same q x.node) (is_among A kept q) (within q r)))))
-    (λ f. subst (λ R. IsSublist (m ∷ M) R) (sym (cond-false (is_justified A (is_among A kept) x.node x.reason) (x ∷ replay_from A (x.node ∷ kept) L) (replay_from A kept L) f))
-    (replay_from_keeps A before kept (m ∷ M) L s order within))
-
-pub replay_keeps : {N : Type 0} (A : Arena N) (M L : List (Entry N)) → IsSublist M L → IsOrder A M → IsSublist M (replay A L)
-replay_keeps A M L s order = replay_from_keeps A [] [] M L s order (λ q t. t)
-
 -- the replay of a removal list is the whole list
 pub replay_from_whole : {N : Type 0} (A : Arena N) (before : List N) (L : List (Entry N)) → IsOrderFrom A before L → replay_from A before L ≡ L
 replay_from_whole A before [] order = refl

@@ -3,7 +3,15 @@ use Rattle.std.proofs.Common.{◌≡◌, ℕ, zero, suc, ◌<◌, ◌==◌, not,
 use Rattle.roman_model.proofs.Common.{AllZip, false≢true, and_parts, and_from, not-true, not_from_false, eqb-true, eq-eqb, cond-true, cond-false, none-some, same_Some, slice_get_within, IsIn, HasNoRepeats, below, is_empty, Env, Beh, Seat, Sys, Pair, has, has_triple, has_move, IsEnv, IsBeh, IsSys, IsPair, SStep, pairs, env_next, beh_next, seat_next, outcomes_by, outcomes, is_allowed, same_numbers, same_pair}
 use Rattle.roman_model.specs.System.{TStep, Allows}
 use Rattle.roman_model.specs.SystemArena.{combinations, env_prev, beh_prev, is_ready}
-use Rattle.roman_model.proofs.Lists.{by_test, in_map, from_map, in_flat_map, from_flat_map, in_filter, filter_in, any_true, in_not_empty, not_empty_in, in_below, from_below, HasNoRepeats-map, HasNoRepeats-flat_map, HasNoRepeats-below}
+use Rattle.roman_model.proofs.Lists.{by_test, in_map, from_map, in_flat_map, from_flat_map, in_filter, filter_in, any_true, any_from, in_not_empty, not_empty_in, in_below, from_below, HasNoRepeats-map, HasNoRepeats-flat_map, HasNoRepeats-below}
+
+-- Membership of numbers.
+
+pub number_listed : (ns : List ℕ) (n : ℕ) → IsTrue (has ns n) → IsIn n ns
+number_listed ns n h = grind (arith, any_true, eqb-true)
+
+pub listed_number : (ns : List ℕ) (n : ℕ) → IsIn n ns → IsTrue (has ns n)
+listed_number ns n i = any_from (λ m. m == n) n ns i (eq-eqb n n refl)
 
 -- Equal pairs.
 

@@ -20,4 +20,3 @@ pub mod Without
 pub mod Several
 pub mod Combined
 pub mod Outcomes
-pub mod Shapes

@@ -1,7 +1,7 @@
 -- The definitions of several targets, computed for two lamps and two targets that each turn a lamp on and off.
 use Rattle.std.proofs.Common.{◌≡◌, [], ◌∷◌, length, refl, arith}
-use Rattle.roman_model.proofs.Common.{pairs, offers, Several, IsSeveral, all_requests, combined}
-use Rattle.roman_model.proofs.Examples.{room, lamp, seat_of, pair_of, related_pairs}
+use Rattle.roman_laws.proofs.Common.{pairs, offers, Several, IsSeveral, all_requests, combined}
+use Rattle.roman_laws.proofs.Examples.{room, lamp, seat_of, pair_of, related_pairs}
 
 abbrev two : Several
 two = record { env = room; targets = lamp ∷ lamp ∷ []; seats = seat_of lamp ∷ seat_of lamp ∷ [] }

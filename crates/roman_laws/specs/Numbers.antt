@@ -1,8 +1,12 @@
--- The numbers of pairs of any sizes, within the limits of documents or not.
+-- The numbers of pairs, those of a system's pairs and those of any sizes, within the limits of documents or not.
 use Rattle.std.specs.Prelude.{◌≡◌, ℕ, ◌<◌, List}
 use Rattle.roman_model.specs.Lists.{product_of}
-use Rattle.roman_model.specs.System.{Pair}
-use Rattle.roman_model.specs.Numbers.{Sizes, AreBelow, IsPairOf, count, states_number, states_at, number, pair_at}
+use Rattle.roman_model.specs.System.{Sys, Pair, IsSys}
+use Rattle.roman_model.specs.Numbers.{Sizes, AreBelow, IsPairOf, NumbersArePairs, count, states_number, states_at, number, pair_at}
+
+-- the pairs and the numbers below their count correspond one to one
+abbrev pub PairsAreNumbered : Type 0
+PairsAreNumbered = (s : Sys) → IsSys s → NumbersArePairs s
 
 -- the numbers below the count are exactly the numbers of the pairs with these sizes
 pub record NumbersArePairsOf (n : Sizes) : Type 0 where

@@ -1,10 +1,8 @@
 -- The tests and lists of a system agree with its steps.
 use Rattle.std.proofs.Common.{◌≡◌, ℕ, zero, suc, ◌==◌, ◌&&◌, ◌||◌, not, ◌<◌, Bool, true, false, List, [], ◌∷◌, Some, IsTrue, slice_get, slice_index, refl, subst, arith}
-use Rattle.roman_model.proofs.Common.{AllZip, eq-eqb, eqb-true, and_parts, and_from, IsIn, Triple, Env, Beh, Seat, has, has_triple, has_move, is_final, all_final}
-use Rattle.roman_model.proofs.Lists.{any_true, any_from}
-use Rattle.roman_model.proofs.SystemLemmas.{outcome_in, from_outcome, allowed_in, from_allowed}
-use Rattle.roman_model.proofs.CompositionLemmas.{fine_is, fine_from}
-use Rattle.roman_model.specs.Outcomes.{HasStep, OutcomesAreSteps, TestsAreMembership}
+use Rattle.roman_laws.proofs.Common.{eq-eqb, eqb-true, and_parts, and_from, AllZip, IsIn, Triple, Env, Beh, Seat, has_triple, has_move, is_final, all_final, any_true, any_from, number_listed, listed_number, outcome_in, from_outcome, allowed_in, from_allowed}
+use Rattle.roman_model.proofs.CallerLemmas.{fine_is, fine_from}
+use Rattle.roman_laws.specs.Outcomes.{HasStep, OutcomesAreSteps, TestsAreMembership}
 
 -- Membership
 
@@ -22,12 +20,6 @@ triple_listed env e a e' h =
 
 pub listed_triple : (env : Env) (e a e' : ℕ) → IsIn (record { from = e; action = a; to = e' }) env.triples → IsTrue (has_triple env e a e')
 listed_triple env e a e' i = grind (arith, and_from, any_from, eq-eqb)
-
-pub number_listed : (ns : List ℕ) (n : ℕ) → IsTrue (has ns n) → IsIn n ns
-number_listed ns n h = grind (arith, any_true, eqb-true)
-
-pub listed_number : (ns : List ℕ) (n : ℕ) → IsIn n ns → IsTrue (has ns n)
-listed_number ns n i = any_from (λ m. m == n) n ns i (eq-eqb n n refl)
 
 pub step_listed : (beh : Beh) (b e a b' : ℕ) → IsTrue (has_move beh b e a b') → HasStep beh b e a b'
 step_listed beh b e a b' h = grind (arith, and_parts, any_true, eqb-true, number_listed)

@@ -1,0 +1,61 @@
+-- The related pairs are the greatest ND-simulation. No listed pair is related, depth is bounded, a replay keeps the most entries, and runs
+-- that follow the offers stay at related pairs.
+use Rattle.std.proofs.Common.{List, [], ◌∷◌, map, IsTrue, filter, inl, inr, sym, subst, arith}
+use Rattle.roman_laws.proofs.Common.{cond-true, cond-false, or_cases, or_right, not_from_false, Entry, IsOrder, replay, couple, IsSublist, is_related, pairs, arena, by_test, outcome_pair, system_is_same, great_meets, great_related, related_great, offer_is, related_offers}
+use Rattle.std.proofs.lemmas.Bool.{or_left}
+use Rattle.roman_model.specs.Arena.{Arena, is_among, is_justified, IsOrderFrom, replay_from}
+use Rattle.roman_model.proofs.CallerLemmas.{in_map, in_filter, sublist_skip, in_pairs, in_listed, justified_more, replay_order, great_survives, last_is_sim, lost_unrelated, listed_unrelated}
+use Rattle.roman_laws.specs.Greatest.{GreatestIsGreatest, OrderRefutes, UnrelatedLoses, ReplayKeeps}
+use Rattle.roman_laws.specs.Following.{FollowingStays}
+
+-- The related pairs are the greatest ND-simulation.
+pub greatest_is : GreatestIsGreatest
+greatest_is s ok = record {
+  closed = great_meets s;
+  holds_each = λ R sim c i. (R, sim, i);
+  finite = (
+    map couple (filter (is_related s) (pairs s)),
+    last_is_sim s ok,
+    λ p pair. (
+      λ great. in_map couple p (filter (is_related s) (pairs s)) (in_filter (is_related s) p (pairs s) (in_pairs s p pair) (great_related s p ok great)),
+      λ i. (map couple (filter (is_related s) (pairs s)), last_is_sim s ok, i),
+    ),
+  );
+}
+
+-- No listed pair is related.
+pub order_refuted : OrderRefutes
+order_refuted s L ok order x i pair great = listed_unrelated s L x.node ok order (in_listed (arena s) (system_is_same s) L x i) great
+
+-- Depth is bounded.
+pub unrelated_lost : UnrelatedLoses
+unrelated_lost s ok p pair = grind (arith, by_test, lost_unrelated, not_from_false, related_great)
+
+-- a replay keeps each sublist that is a removal list
+pub replay_from_keeps : {N : Type 0} (A : Arena N) (before kept : List N) (M L : List (Entry N)) → IsSublist M L → IsOrderFrom A before M →
+    ((q : N) → IsTrue (is_among A before q) → IsTrue (is_among A kept q)) → IsSublist M (replay_from A kept L)
+replay_from_keeps A before kept [] L s order within = tt
+replay_from_keeps A before kept (m ∷ M) [] s order within = absurd s
+replay_from_keeps A before kept (m ∷ M) (x ∷ L) (inl (e, s)) order within = grind (arith, cond-true, justified_more, or_cases, or_left, or_right, (replay_from_keeps A (m.node ∷ before) (x.node ∷ kept) M L s order.2))
+replay_from_keeps A before kept (m ∷ M) (x ∷ L) (inr s) order within =
+    by_test (is_justified A (is_among A kept) x.node x.reason)
+    (λ t. subst (λ R. IsSublist (m ∷ M) R) (sym (cond-true (is_justified A (is_among A kept) x.node x.reason) (x ∷ replay_from A (x.node ∷ kept) L) (replay_from A kept L) t))
+    (sublist_skip (m ∷ M) (replay_from A (x.node ∷ kept) L) x
+    (replay_from_keeps A before (x.node ∷ kept) (m ∷ M) L s order (λ q r. or_right (A.same q x.node) (is_among A kept q) (within q r)))))
+    (λ f. subst (λ R. IsSublist (m ∷ M) R) (sym (cond-false (is_justified A (is_among A kept) x.node x.reason) (x ∷ replay_from A (x.node ∷ kept) L) (replay_from A kept L) f))
+    (replay_from_keeps A before kept (m ∷ M) L s order within))
+
+pub replay_keeps : {N : Type 0} (A : Arena N) (M L : List (Entry N)) → IsSublist M L → IsOrder A M → IsSublist M (replay A L)
+replay_keeps A M L s order = replay_from_keeps A [] [] M L s order (λ q t. t)
+
+-- The replay keeps the most entries.
+pub replay_kept : ReplayKeeps
+replay_kept s L new = record { order = replay_order (arena s) L new; best = λ M sub order. replay_keeps (arena s) M L sub order }
+
+-- A run that follows the offers stays at related pairs.
+pub following_related : FollowingStays
+following_related s ok p pair great [] follows = grind (arith, great_survives, related_offers)
+following_related s ok p pair great (m ∷ ms) follows =
+    let (allowed, offered, reached, rest) = follows in
+    let (allows, l, some, all) = offer_is s p m.action m.seat ok pair offered in
+    following_related s ok m.to (outcome_pair s p m.action m.seat m.to ok pair reached) (all m.to reached) ms rest

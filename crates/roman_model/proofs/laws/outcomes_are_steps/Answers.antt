@@ -1,5 +1,0 @@
-use Rattle.roman_model.proofs.OutcomeLemmas.{outcomes_steps, tests_membership}
-use Rattle.roman_model.proofs.laws.outcomes_are_steps.Goals as goal
-
-pub returns : goal.returns
-returns c = record { outcomes = outcomes_steps; listed = tests_membership }
