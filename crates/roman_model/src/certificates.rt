@@ -6,6 +6,7 @@ ghost use Rattle.roman_model.specs.Explanation.{ExplanationIsLeast, ExplanationI
 /// The certificate of a complete removal list is accepted, where the system has no more cells than a
 /// document may allow. The verdict states the number of related pairs, and whether the start pair is
 /// related.
+#[tactic(auto, using(crate::proofs::CertificateLaws::written_is_greatest))]
 pub fn written_is_greatest()
     ensures greatest { WrittenIsGreatest }
 {}

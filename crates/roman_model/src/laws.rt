@@ -8,24 +8,28 @@ ghost use Rattle.roman_model.specs.Without.{WithoutByChanges};
 
 /// A removal list is complete where every unlisted pair meets clause 2 and each allowed action has a
 /// seat left there.
+#[tactic(auto, using(crate::proofs::CompositionLemmas::order_completed))]
 pub fn order_completes()
     ensures complete { OrderCompletes }
 {}
 
 /// The offers are those of the orchestrator generator. They are the masks of every complete removal
 /// list.
+#[tactic(auto, using(crate::proofs::OfferLemmas::offers_are))]
 pub fn offers_are_generator()
     ensures offered { OffersAreGenerator }
 {}
 
 /// The opponent that plays by a removal list wins from each of its pairs, within as many requests as
 /// the list has entries, whichever seats serve.
+#[tactic(auto, using(crate::proofs::PlayLemmas::order_won))]
 pub fn order_wins()
     ensures won { OrderWins }
 {}
 
 /// The opponent that plays by depth wins from a pair of depth n within n requests, whichever seats
 /// serve.
+#[tactic(auto, using(crate::proofs::DepthPlayLemmas::depth_won))]
 pub fn depth_wins()
     ensures won { DepthWins }
 {}
@@ -46,6 +50,7 @@ pub fn plans_cost_least()
 
 /// A system that lacks one or two of its seats, gone or frozen, equals the system after as many
 /// changes.
+#[tactic(auto, using(crate::proofs::WithoutLemmas::without_changes))]
 pub fn without_by_changes()
     ensures there { WithoutByChanges }
 {}
