@@ -1,6 +1,6 @@
 -- Least worst-case costs, computed one action, one seat and one outcome at a time.
-use Rattle.std.proofs.Common.{◌≡◌, ℕ, zero, suc, ◌+◌, ◌*◌, ◌<◌, ◌≤◌, Bool, cond, List, [], ◌∷◌, ◌++◌, map, filter, nat_le, refl, ap, ◌∙◌, arith, rules}
-use Rattle.roman_model.proofs.Common.{max, filter-append, below, Sys, Pair, IsSys, outcomes, sizes_of, pair_at, number, count, numbered, Costs, max_over, allowed_actions, least_from, through, least, choice}
+use Rattle.std.proofs.Common.{◌≡◌, ℕ, zero, suc, ◌+◌, ◌*◌, ◌<◌, ◌≤◌, cond, List, [], ◌∷◌, ◌++◌, map, nat_le, refl, ap, ◌∙◌, arith}
+use Rattle.roman_model.proofs.Common.{max, Sys, Pair, IsSys, outcomes, sizes_of, pair_at, number, count, numbered, Costs, max_over, allowed_actions, least_from, through, least, choice}
 use Rattle.roman_model.specs.Plans.{least_at}
 use Rattle.roman_model.proofs.SystemLemmas.{outcome_pair}
 use Rattle.roman_model.proofs.NumberLemmas.{numbers_are_pairs}
@@ -18,10 +18,6 @@ max_over_push f xs x = grind (arith, max_over-append)
 pub max_over-map : {X Y : Type 0} (f : Y → ℕ) (g : X → Y) (xs : List X) → max_over f (map g xs) ≡ max_over (λ x. f (g x)) xs
 max_over-map f g [] = refl
 max_over-map f g (x ∷ xs) = ap (max (f (g x))) (max_over-map f g xs)
-
--- the greatest value over the passing numbers up to n
-pub max_over_below : (f : ℕ → ℕ) (p : ℕ → Bool) (n : ℕ) → max_over f (filter p (below (n + 1))) ≡ cond (p n) (max (max_over f (filter p (below n))) (f n)) (max_over f (filter p (below n)))
-max_over_below f p n = search (rules, filter-append, max_over_push)
 
 -- The first least element of a list that grows at its end.
 

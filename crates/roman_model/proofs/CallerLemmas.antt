@@ -51,7 +51,7 @@ pub use Rattle.roman_model.proofs.NumberedChanges.{NumbersReplay, number_allows-
 pub use Rattle.roman_model.proofs.NumberedChanges.{sizes-joined, sizes-left, sizes-turned}
 -- Removal lists over the numbers of pairs: the laws of their arena, complete lists, and counts of pairs.
 pub use Rattle.roman_model.proofs.NumberedLists.{length-pairs, numbered_choices, numbered_completed_by, numbered_is_arena, numbered_is_same, numbered_listed}
-pub use Rattle.roman_model.proofs.NumberedLists.{numbered_loses, numbered_offers, numbered_related_count, sum_over_pairs, told_related}
+pub use Rattle.roman_model.proofs.NumberedLists.{numbered_loses, numbered_offers, numbered_related_count, sum_over_pairs}
 -- The explanation is the least closed part of a removal list, is a removal list by itself, and ends with the explained entry.
 pub use Rattle.roman_model.proofs.ExplanationLemmas.{answer_before, before_falls, before_is, explanation_is_least, explanation_is_order, rests_is}
 -- Explanations carry over between arenas whose nodes correspond by a renaming.
@@ -68,7 +68,7 @@ pub use Rattle.roman_model.proofs.VerdictLemmas.{fault_after_end, fault_in_body,
 -- The plan of the choices costs least of all plans at a related pair.
 pub use Rattle.roman_model.proofs.PlanLemmas.{choice_is, max_over_le, max_over_same, plans_least}
 -- Least worst-case costs, computed one action, one seat and one outcome at a time.
-pub use Rattle.roman_model.proofs.AdviceLemmas.{least_bound, least_from_push, max_over-append, max_over-map, max_over_below, max_over_push, through_numbered}
+pub use Rattle.roman_model.proofs.AdviceLemmas.{least_bound, least_from_push, max_over-append, max_over-map, max_over_push, through_numbered}
 -- Tables of rows with a place for each of some elements, and the rank of a number among the numbers that pass a test.
 pub use Rattle.roman_model.proofs.TableLemmas.{flat_map_row, length_rows, rank, rank_at, table_at}
 -- A system without one or two seats equals the system after as many changes.

@@ -1,14 +1,14 @@
 -- Removal lists over the numbers of pairs: the laws of their arena, complete lists, and counts of pairs.
-use Rattle.std.proofs.Common.{◌≡◌, ℕ, ◌+◌, ◌<◌, ◌≤◌, not, List, [], map, length, Bool, IsTrue, IsFalse, ◌↔◌, filter, sum_by, refl, sym, ap, ◌∙◌, subst, arith, rules}
-use Rattle.roman_model.proofs.Common.{both_ways, eqb-true, eq-eqb, not-false, length-map, IsIn, HasNoRepeats, below, Sys, Pair, IsSys, IsPair, pairs, outcomes, arena, Entry, is_listed, is_justified, mask, IsOrder, loses, Great, IsComplete, sizes_of, count, number, pair_at, numbered, entry_at, IsCompleteList, is_related, offers, Reason, Final, Act}
+use Rattle.std.proofs.Common.{◌≡◌, ℕ, ◌+◌, ◌<◌, ◌≤◌, not, List, [], map, length, IsTrue, IsFalse, filter, sum_by, refl, sym, ap, ◌∙◌, subst, arith, rules}
+use Rattle.roman_model.proofs.Common.{both_ways, eqb-true, eq-eqb, not-false, length-map, IsIn, HasNoRepeats, below, Sys, Pair, IsSys, IsPair, pairs, outcomes, arena, Entry, is_listed, is_justified, mask, IsOrder, loses, IsComplete, sizes_of, count, number, pair_at, numbered, entry_at, IsCompleteList, is_related, offers, Reason, Final, Act}
 use Rattle.roman_model.specs.Offers.{choice_count}
 use Rattle.std.proofs.lemmas.List.Filters.{length-filter_both}
 use Rattle.roman_model.specs.Arena.{choices}
-use Rattle.roman_model.proofs.Lists.{same_test, in_map, from_map, in_filter, filter_in, in_below, from_below, length-below, same_length, sum_by-map, sum_by_same, sum_by_within, HasNoRepeats-map, HasNoRepeats-filter, HasNoRepeats-below}
+use Rattle.roman_model.proofs.Lists.{in_map, from_map, in_filter, filter_in, in_below, from_below, length-below, same_length, sum_by-map, sum_by_same, sum_by_within, HasNoRepeats-map, HasNoRepeats-filter, HasNoRepeats-below}
 use Rattle.roman_model.proofs.SystemLemmas.{in_pairs, from_pairs, pairs_once, outcome_pair}
 use Rattle.roman_model.proofs.ArenaLemmas.{IsSame, IsArena, in_listed, listed_in, mask_empty, mask_same}
 use Rattle.roman_model.proofs.OrderLemmas.{order_new, new_once}
-use Rattle.roman_model.proofs.CompositionLemmas.{system_is_same, system_is_arena, complete_listed, order_completed, great_related, related_great}
+use Rattle.roman_model.proofs.CompositionLemmas.{system_is_same, system_is_arena, complete_listed, order_completed}
 use Rattle.roman_model.proofs.NumberLemmas.{numbers_are_pairs}
 use Rattle.roman_model.proofs.Renames.{loses_renamed}
 use Rattle.roman_model.proofs.NumberedArena.{IsNumber, numbers_rename, AreNumbers, listed_at, mask_at, numbered_completes_by}
@@ -137,11 +137,3 @@ related_count s L ok complete =
 
 pub numbered_related_count : (s : Sys) (L : List (Entry ℕ)) → IsSys s → IsCompleteList s L → length (filter (is_related s) (pairs s)) + length L ≡ count (sizes_of s)
 numbered_related_count s L ok complete = grind (arith, length-map, length-pairs, related_count)
-
--- the test agrees with the greatest ND-simulation
-pub told_related : (s : Sys) (p : ℕ) (told : Bool) → IsSys s → p < count (sizes_of s) → (IsTrue told ↔ Great s (pair_at (sizes_of s) p)) → told ≡ is_related s (pair_at (sizes_of s) p)
-told_related s p told ok l great =
-    let pair : IsPair s (pair_at (sizes_of s) p) = (numbers_are_pairs s).pair p l in
-    same_test told (is_related s (pair_at (sizes_of s) p))
-    (λ t. great_related s (pair_at (sizes_of s) p) ok (great.0 t))
-    (λ t. great.1 (related_great s (pair_at (sizes_of s) p) ok pair t))
