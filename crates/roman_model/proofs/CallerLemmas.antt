@@ -76,8 +76,8 @@ pub use Rattle.roman_model.proofs.WithoutLemmas.{freeze_one, freeze_two, leave_o
 -- The items of a list at their places.
 pub use Rattle.roman_model.proofs.Places.{from_end, from_get_map, from_place, get_in, get_map, there_is}
 -- Records built from tests: their steps are exactly those that pass, their numbers are in range, and equal tests build equal records.
-pub use Rattle.roman_model.proofs.MadeLemmas.{IsBeh-made, IsEnv-made, beh_from_same, env_from_same, from_guarded, from_made_final, from_made_move, from_made_triple}
-pub use Rattle.roman_model.proofs.MadeLemmas.{from_made_triples, in_guarded, made_final, made_move, made_triple, move_passes, move_test}
+pub use Rattle.roman_model.proofs.MadeLemmas.{IsBeh-made, IsEnv-made, beh_from_same, env_from_same, from_made_final, from_made_move, from_made_triple}
+pub use Rattle.roman_model.proofs.MadeLemmas.{made_final, made_move, made_triple, move_passes, move_test}
 -- The combined actions, and the steps and final states of the combined parts, which are those of the members.
 pub use Rattle.roman_model.proofs.CombinedLemmas.{IsMemberStep, combined_sstep, combined_target_goes, combined_triple, from_combined_sstep, from_combined_target}
 pub use Rattle.roman_model.proofs.CombinedLemmas.{from_combined_triple, in_requests, stands_uses, target_size_at}
