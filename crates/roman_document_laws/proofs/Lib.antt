@@ -1,8 +1,8 @@
+pub mod Common
 mod ListLemmas
 mod Rising
 mod NormalForms
 mod PartReadLemmas
 mod PartWriterLemmas
 mod DocumentReadLemmas
-mod DocumentWriterLemmaspub mod Common
-
+mod DocumentWriterLemmas
