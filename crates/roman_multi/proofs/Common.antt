@@ -1,13 +1,12 @@
 -- The names that several proof pages of this crate cite, passed on from one place. Declares nothing.
 pub use Rattle.std.proofs.lemmas.Bool.{and_from, and_parts, false≢true, ltb-false}
-pub use Rattle.std.proofs.lemmas.List.{length-map, map-append, take_all, take_more}
-pub use Rattle.std.proofs.lemmas.List.Elements.{All-push}
+pub use Rattle.std.proofs.lemmas.List.{length-map, take_all, take_more}
 pub use Rattle.std.proofs.lemmas.Option.{none-some, same_Some, slice_get-get_or}
 pub use Rattle.std.proofs.lemmas.Result.{IfOk-weaker}
 pub use Rattle.std.specs.List.{AllZip, list_all, list_any}
 pub use Rattle.std.specs.Prelude.{if◌then◌else◌, slice_index_or}
 pub use Rattle.roman_model.proofs.CallerLemmas.{any_from, any_true, beh_from_same, combined_system, from_beh_next, from_below, from_flat_map, from_map, get_in, in_beh_next, in_below, in_flat_map, in_map, length-below, length-states_at, listed_number, number_listed, same_test}
-pub use Rattle.roman_model.specs.Combined.{IsSeveral, combined, combined_beh, combined_env, combined_start, combined_target, target_sizes}
+pub use Rattle.roman_model.specs.Combined.{IsSeveral, combined, combined_beh, combined_env, combined_target, target_sizes}
 pub use Rattle.roman_model.specs.Lists.{IsIn, below, is_empty, product_of}
 pub use Rattle.roman_model.specs.Made.{beh_from}
 pub use Rattle.roman_model.specs.Normal.{normal_beh}

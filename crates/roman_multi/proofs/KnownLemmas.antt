@@ -1,13 +1,11 @@
 -- Known targets: their machines are in range and deterministic, and their sizes are those of a shape.
 use Rattle.std.proofs.Common.{◌≡◌, ℕ, zero, suc, ◌+◌, ◌<◌, ◌≤◌, List, [], ◌∷◌, ◌++◌, map, length, take, get_or, All, Some, slice_get, slice_index, inl, inr, refl, sym, ap, ◌∙◌, subst, arith}
-use Rattle.roman_multi.proofs.Common.{AllZip, take_more, map-append, length-map, slice_get-get_or, All-push, IsIn, product_of, Env, Beh, IsEnv, IsBeh, IsDeterministic, Several, target_sizes, IsSeveral, MAX_STATES, MAX_ACTIONS, from_map, NamedEnv, IsTarget, IsOver-states, machines, requests_in, Named}
+use Rattle.roman_multi.proofs.Common.{AllZip, take_more, length-map, slice_get-get_or, IsIn, product_of, Env, Beh, IsEnv, IsBeh, IsDeterministic, Several, target_sizes, IsSeveral, MAX_STATES, MAX_ACTIONS, from_map, NamedEnv, IsTarget, IsOver-states, machines, requests_in, Named}
+use Rattle.std.proofs.lemmas.List.{map-append}
+use Rattle.std.proofs.lemmas.List.Elements.{All-push}
 use Rattle.std.proofs.lemmas.Option.{slice_get-map}
 use Rattle.std.specs.Option.{option_map}
 use Rattle.roman_model.proofs.CallerLemmas.{target_size_at}
-
--- a property of all elements holds of the element at a place
-pub known_at : {X : Type 0} (P : X → Type 0) (xs : List X) (i : ℕ) (x : X) → All P xs → i < length xs → x ≡ get_or xs i x → P x
-known_at P xs i x all l is = subst P (sym is) (all i x l)
 
 pub all_in : {X : Type 0} (P : X → Type 0) (xs : List X) (x : X) → All P xs → IsIn x xs → P x
 all_in P [] x all i = absurd i

@@ -1,6 +1,6 @@
 -- The behaviour built from the lists is the combined behaviour.
-use Rattle.std.proofs.Common.{◌≡◌, ℕ, ◌+◌, ◌<◌, ◌++◌, ◌∷◌, [], List, map, length, filter, slice_get, get_or, take, Result, Ok, Err, IfOk, All, sym, ap, ap₂, ◌∙◌, arith}
-use Rattle.roman_multi.proofs.Common.{take_more, map-append, below, IsEnv, is_final, normal_beh, combined_beh, Request, listed_beh, AreMoves, NamedEnv, NamedBeh, IsOver, combined_behaviour, listed_moves, moves_on}
+use Rattle.std.proofs.Common.{◌≡◌, ℕ, ◌<◌, List, length, filter, slice_get, Result, Ok, Err, IfOk, All, sym, ap₂, ◌∙◌, arith}
+use Rattle.roman_multi.proofs.Common.{below, IsEnv, is_final, normal_beh, combined_beh, Request, listed_beh, AreMoves, NamedEnv, NamedBeh, IsOver, combined_behaviour, listed_moves, moves_on}
 use Rattle.roman_multi.specs.Combining.{IsBehaviourOf}
 use Rattle.roman_multi.proofs.MoveLemmas.{combined_beh_is, moves_in_range, moves_on_below, passing_below}
 
@@ -43,9 +43,3 @@ pub made_behaviour_is : (env : NamedEnv) (requests : List Request) (behaviour ma
     (made.name ≡ name) × (made.states ≡ states) → (made.env_states ≡ env_states) × (made.actions ≡ actions) →
     made.beh ≡ normal_beh env_states actions (listed_beh (length states) start finals steps) → made ≡ combined_behaviour env requests behaviour
 made_behaviour_is env requests behaviour made name states start finals steps env_states actions lists es ns named kept names over normal = grind (arith, made_beh_is, same_behaviour)
-
--- the list with one more behaviour
-pub map_more : {X Y : Type 0} (f : X → Y) (xs : List X) (i : ℕ) (x : X) (now new : List Y) (y : Y) → now ≡ map f (take i xs) → i < length xs → x ≡ get_or xs i x → new ≡ now ++ y ∷ [] → y ≡ f x →
-    new ≡ map f (take (i + 1) xs)
-map_more f xs i x now new y before l at step is =
-    step ∙ ap₂ (λ us v. us ++ v ∷ []) before (is ∙ ap f at) ∙ sym (ap (map f) (take_more xs i x l) ∙ map-append f (take i xs) (get_or xs i x ∷ []))

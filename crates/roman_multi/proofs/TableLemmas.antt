@@ -1,6 +1,6 @@
 -- Lists of words, and the tables of words that are names.
-use Rattle.std.proofs.Common.{◌≡◌, ℕ, ◌+◌, ◌<◌, List, [], ◌∷◌, ◌++◌, map, length, take, get_or, All, Option, Some, None, IsSome, IsTrue, IsFalse, is_some, refl, sym, ap, ap₂, ◌∙◌, subst, add-one, arith}
-use Rattle.roman_multi.proofs.Common.{list_any, take_more, map-append, length-map, All-push, below, none-some, same_Some, is_name, is_long, stands_before, is_word}
+use Rattle.std.proofs.Common.{◌≡◌, ℕ, ◌+◌, ◌<◌, List, [], ◌∷◌, ◌++◌, map, length, take, get_or, All, Option, Some, None, IsSome, IsTrue, IsFalse, is_some, refl, sym, ap, ap₂, ◌∙◌, subst, arith}
+use Rattle.roman_multi.proofs.Common.{list_any, take_more, length-map, below, none-some, same_Some, is_name, is_long, stands_before, is_word}
 use Rattle.std.specs.Option.{SomeIff}
 use Rattle.std.proofs.lemmas.List.{get_or-map}
 use Rattle.roman_model.proofs.CallerLemmas.{any_false}
@@ -9,12 +9,6 @@ use Rattle.roman_multi.specs.Combining.{has_repeats}
 use Rattle.roman_multi.proofs.ListLemmas.{none_more, any_at}
 use Rattle.roman_multi.proofs.TripleLemmas.{get_or_in}
 use Rattle.roman_multi.proofs.WordLemmas.{word_is_name}
-
--- the words with one more, for the next element of a list
-pub taken_more : {W X : Type 0} (items : W → List ℕ) (f : X → List ℕ) (now new : List W) (xs : List X) (i : ℕ) (d : X) (w : W) → map items now ≡ map f (take i xs) → i < length xs → new ≡ now ++ w ∷ [] →
-    items w ≡ f (get_or xs i d) → map items new ≡ map f (take (i + 1) xs)
-taken_more items f now new xs i d w before l step is =
-    ap (map items) step ∙ map-append items now (w ∷ []) ∙ ap₂ (λ us v. us ++ v ∷ []) before is ∙ sym (ap (map f) (take_more xs i d l) ∙ map-append f (take i xs) (get_or xs i d ∷ []))
 
 -- a word that isn't too long is a name
 pub read_is_name : {W : Type 0} (items : W → List ℕ) (words : List W) (i : ℕ) (w : W) → All (λ w. IsTrue (is_word (items w))) words → IsFalse (list_any is_long (map items words)) → i < length words →
