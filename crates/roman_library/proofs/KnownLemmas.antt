@@ -1,22 +1,19 @@
 -- Each accepted document means a well-formed library.
-use Rattle.std.proofs.Common.{◌≡◌, ◌==◌, Bool, true, false, cond, All, ℕ, ◌+◌, ◌<◌, ◌≤◌, ◌&&◌, List, [], ◌∷◌, ◌++◌, map, length, Option, Some, None, is_some, is_none, IfSome, slice_get, nat_le, codes, Result, Ok, Err, refl, sym, ap, ◌∙◌, subst, arith, leb-true, length-append}
+use Rattle.std.proofs.Common.{◌≡◌, ◌==◌, Bool, true, false, cond, All, ℕ, ◌+◌, ◌<◌, ◌≤◌, List, [], ◌∷◌, ◌++◌, map, length, Option, Some, None, IfSome, slice_get, codes, Result, Ok, Err, refl, sym, ap, ◌∙◌, subst, arith, length-append}
 use Rattle.std.proofs.lemmas.Bool.{and_parts}
-use Rattle.roman_library.proofs.Common.{All-push, Data, Texts, MAX_BEHAVIOURS, MAX_CELLS, ◌>>=◌, each_item, place_of, same_ok, bind_ok, NamedEnv, NamedBeh, NamedTarget, IsBehaviour, IsTarget, name_of, target_of, PartError, behaviour_known, target_known, PartAt, ReadAfter, value_at, limit_of, version_of, listed_in, listed_step, environment_in, catalogue_in, targets_in, unless_broken, combined_of, parts_in, service_of, service_step, services_of, library_in, library_of, PlainCombined, target_name, forbidding, combined_parts, Named, CombineError, PlainLibrary, ArePartsOf, IsService, IsCatalogue, AreServices, behaviour_name, service_name, placed, Service, Part}
+use Rattle.roman_library.proofs.Common.{All-push, Data, Texts, MAX_BEHAVIOURS, MAX_CELLS, ◌>>=◌, each_item, place_of, same_ok, bind_ok, NamedEnv, NamedBeh, NamedTarget, IsBehaviour, IsTarget, name_of, target_of, PartError, behaviour_known, target_known, PartAt, ReadAfter, value_at, limit_of, version_of, listed_in, listed_step, environment_in, catalogue_in, targets_in, combined_of, parts_in, service_of, service_step, services_of, library_in, library_of, PlainCombined, target_name, forbidding, combined_parts, Named, PlainLibrary, ArePartsOf, IsService, IsCatalogue, AreServices, behaviour_name, service_name, placed, Service, Part}
 use Rattle.std.proofs.lemmas.List.Elements.{All-get_or}
 use Rattle.std.proofs.lemmas.Option.{get_or_from_slice_get, slice_get_within}
 use Rattle.serde_json.specs.Data.{Items, no_items, item}
-use Rattle.serde_json.specs.Find.{as_object}
 use Rattle.serde_json.specs.Events.{items_len}
-use Rattle.roman_model.specs.declared.limits.TheConstants.{MAX_SERVICES, DEFAULT_CELLS}
-use Rattle.roman_read.specs.Json.{member_of, number_of}
-use Rattle.roman_read.specs.declared.rules.Miss.{Miss}
+use Rattle.roman_model.specs.declared.limits.TheConstants.{MAX_SERVICES}
+use Rattle.roman_read.specs.Json.{member_of}
 use Rattle.roman_read.specs.declared.rules.Kind.TheVariants as kind
-use Rattle.roman_parts.specs.Lists.{place_in}
 use Rattle.roman_parts.specs.Parts.{environment_of}
-use Rattle.roman_parts.specs.Reading.{looked, found, check, counted_items}
+use Rattle.roman_parts.specs.Reading.{looked, found, counted_items}
 use Rattle.roman_parts.specs.declared.error.List.TheVariants as list
 use Rattle.roman_parts.proofs.CallerLemmas.{IsOver-start, check_is, found_is, none_is, counted_are, place_below, IsEnvironment, environment_known}
-use Rattle.roman_library.specs.Documents.{part_of, limit_in, optional, new_name_of, new_behaviour_of, target_in, named_target_of, behaviour_place, state_of, frozen_of, rests_of}
+use Rattle.roman_library.specs.Documents.{part_of, limit_in, new_name_of, new_behaviour_of, target_in, named_target_of, behaviour_place, state_of, frozen_of, rests_of}
 use Rattle.roman_library.specs.Known.{IsKnownLibrary, LibrariesAreKnown}
 use Rattle.roman_multi.proofs.CallerLemmas.{request_count}
 use Rattle.roman_library.proofs.TargetLemmas.{combined_parts_known}
@@ -37,12 +34,7 @@ record IsNewBehaviour (env : NamedEnv) (before : List NamedBeh) (b : NamedBeh) :
 
 name_is_new : (before : List (List ℕ)) (d : Data) (name : List ℕ) → new_name_of before d ≡ Ok name → (name_of d ≡ Ok name) × (place_of before name ≡ None)
 unfolding new_name_of
-name_is_new before d name h =
-    let (whole, e, h1) = bind_ok (check (is_some (as_object d)) kind.Form list.Whole 0 d) _ name h in
-    let (object, same) = check_is (is_some (as_object d)) kind.Form list.Whole 0 d whole e in
-    let (text, e1, h2) = bind_ok (name_of whole) _ name h1 in
-    let (free, is) = check_is (is_none (place_of before text)) kind.Repeated list.Name 0 text name h2 in
-    (ap name_of same ∙ e1 ∙ ap Ok is, subst (λ (n : List ℕ). place_of before n ≡ None) is (none_is (place_of before text) free))
+name_is_new before d name h = grind (arith, bind_ok, check_is, none_is)
 
 new_behaviour_known : (env : NamedEnv) (before : List NamedBeh) (d : Data) (b : NamedBeh) → new_behaviour_of env before d ≡ Ok b → IsNewBehaviour env before b
 unfolding new_behaviour_of
@@ -109,11 +101,7 @@ behaviour_there env catalogue k b are there =
 
 state_below : (env : NamedEnv) (b : NamedBeh) (d : Data) (state : ℕ) → IsBehaviour env b → state_of b d ≡ Ok state → state < b.beh.states
 unfolding state_of
-state_below env b d state is h = by (member_of d (codes "state")) h
-  where
-    by : (r : Result Data Miss) → optional (place_in b.states list.State 0) b.beh.start r ≡ Ok state → state < b.beh.states
-    by (Ok member) g = let less = place_below b.states list.State 0 member state g in omega (arith, less, is.names)
-    by (Err miss) g = let same : b.beh.start ≡ state = same_ok b.beh.start state g in omega (arith, same, IsOver-start b.env_states b.actions b.beh is.known)
+state_below env b d state is h = grind (arith, IsOver-start, place_below, same_ok)
 
 record IsNewService (catalogue : List NamedBeh) (before : List Service) (x : Service) : Type 0 where
   known : IsService catalogue x
@@ -145,9 +133,7 @@ record AreServicesOf (catalogue : List NamedBeh) (out : List Service) (n : ℕ) 
 services_grow : (document : List ℕ) (version : ℕ) (env : NamedEnv) (catalogue : List NamedBeh) (i : ℕ) (before : List Service) (items : Items) (out : List Service) → IsCatalogue env catalogue →
     AreServices catalogue before → each_item (service_step document version catalogue) i before items ≡ Ok out → AreServicesOf catalogue out (length before + items_len items)
 unfolding each_item service_step
-services_grow document version env catalogue i before no_items out behaviours are h =
-    let same = same_ok before out h in
-    record { known = subst (AreServices catalogue) same are; count = let e : length before ≡ length out = ap length same in omega arith }
+services_grow document version env catalogue i before no_items out behaviours are h = grind (arith, same_ok)
 services_grow document version env catalogue i before (item d ds) out behaviours are h =
     let (more, e, h1) = bind_ok (service_step document version catalogue i before d) _ out h in
     let (x, e1, h2) = bind_ok (placed document (part.Service i) (service_of version catalogue before d)) _ more e in
@@ -173,19 +159,11 @@ services_known document version env catalogue d out behaviours h =
 
 limit_in_known : (d : Data) (limit : ℕ) → limit_in d ≡ Ok limit → (0 < limit) × (limit ≤ MAX_CELLS)
 unfolding limit_in
-limit_in_known d limit h =
-    let (number, e, h1) = bind_ok (looked list.Limit 0 (number_of d)) _ limit h in
-    let (within, same) = check_is (nat_le 1 number && nat_le number MAX_CELLS) kind.Count list.Limit 0 number limit h1 in
-    let (some, few) = and_parts (nat_le 1 number) (nat_le number MAX_CELLS) within in
-    subst (λ (limit : ℕ). (0 < limit) × (limit ≤ MAX_CELLS)) same (leb-true 1 number some, leb-true number MAX_CELLS few)
+limit_in_known d limit h = grind (arith, and_parts, bind_ok, check_is)
 
 limit_known : (d : Data) (limit : ℕ) → limit_of d ≡ Ok limit → (0 < limit) × (limit ≤ MAX_CELLS)
 unfolding limit_of
-limit_known d limit h = by (member_of d (codes "limit")) h
-  where
-    by : (r : Result Data Miss) → optional limit_in DEFAULT_CELLS r ≡ Ok limit → (0 < limit) × (limit ≤ MAX_CELLS)
-    by (Ok member) g = limit_in_known member limit g
-    by (Err miss) g = subst (λ (limit : ℕ). (0 < limit) × (limit ≤ MAX_CELLS)) (same_ok DEFAULT_CELLS limit g) (leb-true 1 DEFAULT_CELLS refl, leb-true DEFAULT_CELLS MAX_CELLS refl)
+limit_known d limit h = grind (arith, limit_in_known, same_ok)
 
 -- Several targets
 
@@ -229,11 +207,7 @@ combined_named env catalogue targets world are all allowed = record {
 combined_of_known : (env : NamedEnv) (catalogue : List NamedBeh) (targets : List Named) (made : PlainCombined) → IsEnvironment env → IsCatalogue env catalogue → All (λ named. IsTarget env named.target) targets →
     combined_of env catalogue targets ≡ Ok made → AreNamedParts catalogue made
 unfolding combined_of
-combined_of_known env catalogue targets made world are all h = by (forbidding env targets) refl h
-  where
-    by : (o : Option CombineError) → forbidding env targets ≡ o → unless_broken o (combined_parts env catalogue targets) ≡ Ok made → AreNamedParts catalogue made
-    by None allowed g = subst (AreNamedParts catalogue) (same_ok (combined_parts env catalogue targets) made g) (combined_named env catalogue targets world are all allowed)
-    by (Some rule) broken g = absurd (let f : ⊥ = cc in f)
+combined_of_known env catalogue targets made world are all h = grind (arith, combined_named, same_ok)
 
 parts_known : (texts : Texts) (document : List ℕ) (version : ℕ) (env : NamedEnv) (catalogue : List NamedBeh) (d : Data) (made : PlainCombined) → IsEnvironment env → IsCatalogue env catalogue →
     parts_in texts document version env catalogue d ≡ Ok made → AreNamedParts catalogue made

@@ -70,6 +70,7 @@ pub fn document<F: Shelf>(alloc: Global, shelf: &mut F, name: &str) -> Result<Va
 }
 
 /// Returns the bytes of the text with this name.
+#[tactic(auto, using(crate::proofs::PrefixLemmas::fetched_more))]
 fn whole_text<F: Shelf>(alloc: Global, shelf: &mut F, name: &str) -> Result<Vec<u8>, DocError>
     ensures text { IsTextOf (F.texts shelf.old) name.now result }
     ensures texts { F.texts shelf.new ≡ F.texts shelf.old }

@@ -1,7 +1,7 @@
 -- The bands that were noted in a round.
-use Rattle.std.proofs.Common.{◌≡◌, ℕ, zero, suc, ◌+◌, ◌*◌, ◌/◌, ◌<◌, ◌≤◌, Bool, true, false, cond, ◌||◌, ◌==◌, List, [], ◌∷◌, ◌++◌, length, take, drop, slice_index, IsTrue, IsFalse, inl, inr, refl, sym, ap, ap₂, ◌∙◌, subst, arith, take-append-drop, append_assoc, sum_by}
+use Rattle.std.proofs.Common.{◌≡◌, ℕ, zero, suc, ◌+◌, ◌*◌, ◌/◌, ◌<◌, ◌≤◌, Bool, true, false, cond, ◌||◌, ◌==◌, List, [], ◌∷◌, ◌++◌, length, take, drop, IsTrue, IsFalse, inl, inr, refl, sym, ap, ◌∙◌, subst, arith, take-append-drop, append_assoc, sum_by}
 use Rattle.std.proofs.Math.Bool.{or-false}
-use Rattle.roman_relation.proofs.Common.{take-append_seam, take-length, cases_eq, both_ways, or_left, or_right, or_parts, false_from_ne_true, not_from_true, eq-eqb, ne_eqb, take-take, list_any-append, sum_by_push, IsIn, below, Arena, Entry, is_listed, IsOrder, by_test, sum_by_same, from_below, any_from, from_map, in_map, listed_append, is_on, IsNumbered, Board, as_entry, set_lanes, IsEvent, entries_at, Event, in_lanes, AreGoneBack, moves_to_all, on_at}
+use Rattle.roman_relation.proofs.Common.{take-append_seam, take-length, cases_eq, both_ways, or_right, or_parts, false_from_ne_true, not_from_true, eq-eqb, ne_eqb, take-take, list_any-append, sum_by_push, IsIn, below, Arena, Entry, is_listed, IsOrder, by_test, sum_by_same, from_below, any_from, from_map, in_map, listed_append, is_on, Board, as_entry, set_lanes, IsEvent, entries_at, Event, in_lanes, AreGoneBack, moves_to_all, on_at}
 use Rattle.std.proofs.Math.Seq.{take-append-add, drop-append_seam}
 use Rattle.std.proofs.lemmas.List.{length-take-le}
 use Rattle.roman_model.proofs.CallerLemmas.{none_from, split_at, order_middle}
@@ -46,12 +46,7 @@ own_band n w e is =
     any_from (λ (x : Entry ℕ). y == x.node / n / w) (f lane) (entries_at n e) (in_map f lane (set_lanes e.lanes) (lane_in e.lanes lane low on)) (eq-eqb y ((e.row * n + lane) / n / w) here)
 
 other_band : (n w z : ℕ) (e : Event) → IsEvent n e → (z ≡ e.row / w → ⊥) → has_band n w (entries_at n e) z ≡ false
-other_band n w z e is ne = none_from (λ (x : Entry ℕ). z == x.node / n / w) (entries_at n e)
-    (λ x i.
-    let (lane, j, same) = from_map (λ l. as_entry (e.row * n + l, e.reason)) x (set_lanes e.lanes) i in
-    let (low, on) = in_lanes e.lanes lane j in
-    let band : x.node / n / w ≡ e.row / w = ap (λ (v : Entry ℕ). v.node / n / w) same ∙ ap (λ r. r / w) (lane_place n e.row lane (is.within lane on)).0 in
-    ne_eqb z (x.node / n / w) (λ s. ne (s ∙ band)))
+other_band n w z e is ne = grind (arith, from_map, in_lanes, lane_place, ne_eqb, none_from)
 
 band_more : (n w z : ℕ) (M N : List (Entry ℕ)) → has_band n w (M ++ N) z ≡ (has_band n w M z || has_band n w N z)
 band_more n w z M N = list_any-append (λ (x : Entry ℕ). z == x.node / n / w) M N
@@ -67,17 +62,11 @@ other_more n w z M e is ne = band_more n w z M (entries_at n e) ∙ (ap (λ b. h
 -- where the kept words have one of the event's lanes, its band wasn't noted; where they have none, it was
 pub band_is_new : (A : Arena ℕ) (n w start row lane : ℕ) (M : List (Entry ℕ)) (b : Board) → AreGoneBack A n w start M b → lane < n → row * n + lane < length A.nodes →
     on_at n b.before (row * n + lane) ≡ true → IsTrue (is_listed A b.list (row * n + lane)) → has_band n w M (row / w) ≡ false
-band_is_new A n w start row lane M b back l inside on listed =
-    let p : ℕ = row * n + lane in
-    let band : p / n / w ≡ row / w = ap (λ x. x / w) (lane_place n row lane l).0 in
-    false_from_ne_true (has_band n w M (row / w)) (λ t. both_ways (on_at n b.before p) (back.gone p inside (ap (has_band n w M) band ∙ t) listed) on)
+band_is_new A n w start row lane M b back l inside on listed = grind (arith, both_ways, false_from_ne_true, lane_place)
 
 pub band_is_old : (A : Arena ℕ) (n w start row lane : ℕ) (M : List (Entry ℕ)) (b : Board) → AreGoneBack A n w start M b → lane < n → row * n + lane < length A.nodes →
     on_at n b.before (row * n + lane) ≡ false → IsFalse (is_listed A (take start b.list) (row * n + lane)) → has_band n w M (row / w) ≡ true
-band_is_old A n w start row lane M b back l inside off fresh =
-    let p : ℕ = row * n + lane in
-    let band : p / n / w ≡ row / w = ap (λ x. x / w) (lane_place n row lane l).0 in
-    by_test (has_band n w M (row / w)) (λ t. t) (λ f. absurd (both_ways (on_at n b.before p) off (back.fresh p inside (ap (has_band n w M) band ∙ f) fresh)))
+band_is_old A n w start row lane M b back l inside off fresh = grind (arith, both_ways, by_test, lane_place)
 
 -- one more event of a noted band changes nothing
 pub back_again : (A : Arena ℕ) (n w mid start : ℕ) (M : List (Entry ℕ)) (e : Event) (b : Board) → IsEvent n e → has_band n w M (e.row / w) ≡ true → AreGoneBack A n w start M b →

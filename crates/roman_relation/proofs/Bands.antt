@@ -1,5 +1,5 @@
 -- Rows as parts of bands.
-use Rattle.std.proofs.Common.{◌≡◌, ℕ, suc, ◌+◌, ◌*◌, ◌/◌, ◌%◌, ◌<◌, ◌≤◌, ◌-◌, ◌⊎◌, length, inl, inr, sym, ap, ◌∙◌, arith}
+use Rattle.std.proofs.Common.{◌≡◌, ℕ, ◌+◌, ◌*◌, ◌/◌, ◌%◌, ◌<◌, ◌≤◌, ◌-◌, ◌⊎◌, length, ap, ◌∙◌, arith}
 use Rattle.roman_relation.proofs.Common.{cases_lt, mul-le, mul-add-lt, div_below, div-add-mod', mod_below, Arena, Board, IsShaped}
 use Rattle.std.proofs.Math.Nat.{div-le_self}
 use Rattle.roman_relation.proofs.Lanes.{lane_place, shaped_pairs, shaped_rows}
@@ -10,32 +10,18 @@ pair_in lanes band p = ap (λ x. x * lanes + p % lanes) (div-add-mod' (p / lanes
 
 -- the rows of a band
 pub in_band : (band y row : ℕ) → 0 < band → row / band ≡ y → (y * band ≤ row) × (row < y * band + band)
-in_band band y row some e =
-    let place : y * band + row % band ≡ row = ap (λ q. q * band + row % band) (sym e) ∙ div-add-mod' row band in
-    let l = mod_below row band some in
-    (omega arith, omega arith)
+in_band band y row some e = grind (arith, div-add-mod', mod_below)
 
 -- a row between the first rows of a band and of the next lies in the band
 pub band_at : (band y row : ℕ) → y * band ≤ row → row < y * band + band → row / band ≡ y
-band_at band y row low high =
-    let place : y * band + (row - y * band) ≡ row = omega arith in
-    ap (λ x. x / band) (sym place) ∙ (lane_place band y (row - y * band) (omega arith)).0
+band_at band y row low high = grind (arith, lane_place)
 
 pub outside_band : (band y row : ℕ) → 0 < band → (row / band ≡ y → ⊥) → (row < y * band) ⊎ (y * band + band ≤ row)
-outside_band band y row some ne = elim (cases_lt row (y * band)) [
-  | inl l ↦ inl l
-  | inr h ↦ elim (cases_lt row (y * band + band)) [
-    | inl l ↦ absurd (ne (band_at band y row h l))
-    | inr m ↦ inr m
-  ]
-]
+outside_band band y row some ne = grind (arith, band_at, cases_lt)
 
 -- a band below the number of bands ends within their rows
 pub band_ends : (band y bands : ℕ) → y < bands → y * band + band ≤ bands * band
-band_ends band y bands l =
-    let next : suc y * band ≡ y * band + band = omega arith in
-    let h = mul-le (suc y) band bands band (omega arith) (omega arith) in
-    omega arith
+band_ends band y bands l = grind (arith, mul-le)
 
 -- the order consists of whole bands
 pub whole_bands : (A : Arena ℕ) (lanes band bands : ℕ) (b : Board) → IsShaped A lanes b → 0 < lanes → bands * band * lanes ≡ length A.nodes → bands * band ≡ b.rows
@@ -50,10 +36,7 @@ row_band A lanes band bands row b shaped some many e l =
 
 -- the first pair of a row is in range
 pub band_begins : (lanes x rows : ℕ) → x < rows → 0 < lanes → x * lanes < rows * lanes
-band_begins lanes x rows l some =
-    let h = mul-le (suc x) lanes rows lanes (omega arith) (omega arith) in
-    let next : suc x * lanes ≡ x * lanes + lanes = omega arith in
-    omega arith
+band_begins lanes x rows l some = grind (arith, mul-le)
 
 -- a pair between the first pair of a band and that of the next lies in the band
 pub pair_past : (lanes band y p : ℕ) → 0 < lanes → y * band * lanes ≤ p → p < (y + 1) * band * lanes →

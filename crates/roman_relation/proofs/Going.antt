@@ -1,5 +1,5 @@
 -- Orders that extend others.
-use Rattle.std.proofs.Common.{◌≡◌, ℕ, ◌+◌, ◌*◌, List, ◌++◌, length, take, drop, refl, sym, ap, ap₂, ◌∙◌, subst, take-append-drop}
+use Rattle.std.proofs.Common.{◌≡◌, ℕ, ◌+◌, ◌*◌, List, ◌++◌, length, take, drop, refl, sym, ap, ap₂, ◌∙◌, subst, take-append-drop, arith}
 use Rattle.roman_relation.proofs.Common.{take-append_seam, take-length, Arena, Entry, IsOrder, fall, fall_append, Board, IsShaped, Begins, SettlesOn}
 use Rattle.roman_relation.proofs.Beginnings.{begins_itself, begins_on}
 
@@ -10,11 +10,7 @@ pub goes_on_itself : (A : Arena ℕ) (b : Board) → IsOrder A b.list → Settle
 goes_on_itself A b order = record { valid = order; begins = begins_itself b.list; rest = refl }
 
 pub goes_on_on : (A : Arena ℕ) (a b c : Board) → SettlesOn A a b → SettlesOn A b c → SettlesOn A a c
-goes_on_on A a b c p q = record {
-  valid = q.valid;
-  begins = begins_on a.list b.list c.list p.begins q.begins;
-  rest = q.rest ∙ ap (λ (x : Board). record x { list = c.list; marks = c.marks; before = c.before }) p.rest;
-}
+goes_on_on A a b c p q = grind (arith, begins_on)
 
 -- the second order has the room and the shape of the first, and the same entries wait
 abbrev pub SameFrame : Board → Board → Type 0

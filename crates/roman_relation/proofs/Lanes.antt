@@ -1,5 +1,5 @@
 -- Pairs as lanes of rows.
-use Rattle.std.proofs.Common.{◌≡◌, ℕ, ◌+◌, ◌*◌, ◌/◌, ◌%◌, ◌<◌, Bool, false, not, List, length, slice_index, IsFalse, sym, ap, ap₂, ◌∙◌, subst, arith}
+use Rattle.std.proofs.Common.{◌≡◌, ℕ, ◌+◌, ◌*◌, ◌/◌, ◌%◌, ◌<◌, Bool, false, not, List, length, slice_index, IsFalse, sym, ap, ap₂, ◌∙◌, arith}
 use Rattle.roman_relation.proofs.Common.{both_ways, not_from_false, div-add-mod', div_below, mod_below, Arena, Entry, is_listed, is_on, HasLanes, on_zero, IsNumbered, Board, has_entry, IsShaped, AreUnlisted, on_at}
 use Rattle.std.proofs.lemmas.Nat.{same_from_place}
 use Rattle.roman_lanes.specs.Rows.{AreRows}
@@ -28,9 +28,7 @@ at_pair lanes test words p some l are =
 -- the words have the bits of the pairs that aren't listed
 pub words_rows : (A : Arena ℕ) → IsNumbered A → (lanes : ℕ) (b : Board) (words : List ℕ) → IsShaped A lanes b →
     AreRows b.lanes (λ p. not (has_entry b.list p)) words → AreUnlisted A lanes b.list words
-words_rows A ok lanes b words shaped are = record {
-  each = λ row l. unlisted_row A ok lanes row b.list (slice_index words row) ((subst (λ n. AreRows n (λ p. not (has_entry b.list p)) words) shaped.lanes are).each row l);
-}
+words_rows A ok lanes b words shaped are = grind (arith, unlisted_row)
 
 -- the word of a row has the bits of its pairs that aren't listed
 pub words_row : (A : Arena ℕ) → IsNumbered A → (lanes row : ℕ) (b : Board) (words : List ℕ) → IsShaped A lanes b → length words ≡ b.rows →

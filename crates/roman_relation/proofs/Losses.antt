@@ -54,11 +54,10 @@ pub event_listed : (A : Arena ℕ) → IsNumbered A → (n : ℕ) (L R : List (E
     IsTrue (is_listed A L (e.row * n + lane))
 event_listed A ok n L R i e lane few is rest on =
     let p : ℕ = e.row * n + lane in
-    let inside : has_entry (entries_at n e) p ≡ true = has_entry-event n e e.row lane few (is.within lane on) is ∙ (ap (λ b. b && is_on e.lanes lane) (eq-eqb e.row e.row refl) ∙ on) in
-    listed_is A ok L p
-    ∙ (ap (λ M. has_entry M p) (sym (take-append-drop i L) ∙ ap (λ M. take i L ++ M) rest)
+    let inside : has_entry (entries_at n e) p ≡ true = has_entry-event _ _ _ _ few (is.within lane on) is ∙ (ap (λ b. b && is_on e.lanes lane) (eq-eqb e.row e.row refl) ∙ on) in
+    listed_is _ ok _ _ ∙ (ap (λ M. has_entry M p) (sym (take-append-drop i L) ∙ ap (λ M. take i L ++ M) rest)
     ∙ (list_any-append (λ (x : Entry ℕ). p == x.node) (take i L) (entries_at n e ++ R)
-    ∙ or_right (has_entry (take i L) p) _ (list_any-append (λ (x : Entry ℕ). p == x.node) (entries_at n e) R ∙ or_left (has_entry (entries_at n e) p) _ inside)))
+    ∙ or_right _ _ (list_any-append (λ (x : Entry ℕ). p == x.node) (entries_at n e) R ∙ or_left _ _ inside)))
 
 -- ---- all entries of an event are noted
 
@@ -78,9 +77,7 @@ fall_entries A L i (x ∷ M) R rest =
 
 -- where the bits of an event's lanes are cleared, so are the bits of its entries
 pub entries_off : (n : ℕ) (words : List ℕ) (e : Event) → ((lane : ℕ) → is_on e.lanes lane ≡ true → on_at n words (e.row * n + lane) ≡ false) → (x : Entry ℕ) → IsIn x (entries_at n e) → on_at n words x.node ≡ false
-entries_off n words e off x i =
-    let (lane, j, same) = from_map (λ lane. as_entry (e.row * n + lane, e.reason)) x (set_lanes e.lanes) i in
-    ap (λ (y : Entry ℕ). on_at n words y.node) same ∙ off lane (in_lanes e.lanes lane j).1
+entries_off n words e off x i = grind (arith, from_map, in_lanes)
 
 -- the bit of a pair, by its row and its lane
 pub on_lane : (n : ℕ) (words : List ℕ) (row lane : ℕ) → lane < n → on_at n words (row * n + lane) ≡ is_on (slice_index words row) lane

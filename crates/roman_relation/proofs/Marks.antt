@@ -1,10 +1,10 @@
 -- Clearing marks one by one, and noting bands.
-use Rattle.std.proofs.Common.{◌≡◌, ◌≢◌, ℕ, zero, suc, ◌+◌, ◌*◌, ◌/◌, ◌%◌, ◌<◌, ◌==◌, Bool, true, false, cond, not, List, [], ◌∷◌, ◌++◌, length, take, Some, slice_get, slice_index, IsTrue, inl, inr, refl, sym, ap, ◌∙◌, subst, arith}
-use Rattle.roman_relation.proofs.Common.{count_by, cases_eq, cases_lt, both_ways, not_from_true, not_from_false, not-true, false_from_ne_true, or_cases, eqb-true, sum_by_push, get_or_past, get_or_from_slice_get, slice_get_within, mod_below, div-add-mod', bit_at, IsIn, below, Arena, Entry, is_listed, back, fall, by_test, from_below, sum_by_same, in_listed, listed_push, is_on, HasLanes, has_flag, IsNumbered, numbered_same, Board, pairs_of, has_entry, is_marked, IsShaped, IsMarking, on_at}
+use Rattle.std.proofs.Common.{◌≡◌, ◌≢◌, ℕ, zero, suc, ◌+◌, ◌*◌, ◌/◌, ◌%◌, ◌<◌, Bool, true, false, cond, not, List, [], ◌∷◌, ◌++◌, length, take, Some, slice_get, slice_index, IsTrue, inl, inr, refl, sym, ap, ◌∙◌, arith}
+use Rattle.roman_relation.proofs.Common.{count_by, cases_eq, cases_lt, both_ways, not_from_true, not_from_false, not-true, false_from_ne_true, or_cases, eqb-true, sum_by_push, get_or_past, get_or_from_slice_get, slice_get_within, mod_below, div-add-mod', IsIn, below, Arena, Entry, is_listed, back, fall, from_below, sum_by_same, in_listed, listed_push, is_on, HasLanes, has_flag, IsNumbered, numbered_same, Board, is_marked, IsMarking, on_at}
 use Rattle.std.proofs.lemmas.List.{take_more}
 use Rattle.std.proofs.lemmas.Nat.Bits.{bit_at-zero}
 use Rattle.roman_model.proofs.CallerLemmas.{contains_in, fall_push}
-use Rattle.roman_relation.proofs.Beginnings.{listed_is, take_listed}
+use Rattle.roman_relation.proofs.Beginnings.{take_listed}
 
 -- ---- fewer marks
 
@@ -26,12 +26,7 @@ count_falls f h (suc n) p l on off same =
 -- a marked number has a place in the words
 pub marked_within : (words : List ℕ) (p : ℕ) → has_flag words p ≡ true → p < 64 * length words
 unfolding has_flag
-marked_within words p on = elim (cases_lt p (64 * length words)) [
-  | inl l ↦ l
-  | inr past ↦
-      let none : slice_index words (p / 64) ≡ 0 = get_or_past words (p / 64) 0 (omega arith) in
-      absurd (both_ways (bit_at (slice_index words (p / 64)) (p % 64) == 1) (ap (λ w. bit_at w (p % 64) == 1) none ∙ ap (λ n. n == 1) (bit_at-zero (p % 64))) on)
-]
+marked_within words p on = grind (arith, bit_at-zero, both_ways, cases_lt, get_or_past)
 
 -- a number that is marked after a mark was cleared was marked before
 pub still_marked : (b c : Board) (y z : ℕ) → is_marked b y ≡ true → ((z ≡ y → ⊥) → is_marked c z ≡ is_marked b z) → is_marked c z ≡ true → is_marked b z ≡ true
@@ -59,35 +54,7 @@ noted_other A lanes band y b c p is ne = ap (λ w. is_on w (p % lanes)) (is.othe
 
 pub noted_marking : (A : Arena ℕ) (lanes band y start end : ℕ) (b c : Board) → IsNoted A lanes band y b c → IsMarking A lanes band start end b →
     IsMarking A lanes band start end c
-noted_marking A lanes band y start end b c is marking = subst (IsMarking A lanes band start end) (sym (ap (λ L. record c { list = L }) is.same)) (record {
-  old = λ p l on. elim (cases_eq (p / lanes / band) y) [
-    | inl e ↦ false_from_ne_true (is_listed A (take start b.list) p)
-        (λ t. both_ways (is_listed A b.list p) (not-true (is_listed A b.list p) (sym (own p e) ∙ on)) (take_listed A start b.list p t))
-    | inr ne ↦ marking.old p l (sym (other p ne) ∙ on)
-  ];
-  alive = λ p l off. elim (cases_eq (p / lanes / band) y) [
-    | inl e ↦ own p e ∙ not_from_false (is_listed A b.list p) off
-    | inr ne ↦ other p ne ∙ marking.alive p l off
-  ];
-  past = λ row lane h l. elim (cases_eq (row / band) y) [
-    | inl e ↦ (is.kept row e).rest lane l
-    | inr ne ↦ ap (λ w. is_on w lane) (is.others row ne) ∙ marking.past row lane (omega (arith, is.long)) l
-  ];
-  noted = λ p t f. elim (cases_eq (p / lanes / band) y) [
-    | inl e ↦ own p e ∙ not_from_true (is_listed A b.list p) (take_listed A end b.list p t)
-    | inr ne ↦ other p ne ∙ marking.noted p t f
-  ];
-  marked = λ p q a k l m i t f off. elim (cases_eq (q / lanes / band) y) [
-    | inl e ↦ is.marked p q a k l e i
-    | inr ne ↦ is.still (p / lanes / band) (marking.marked p q a k l m i t f (sym (other q ne) ∙ off))
-  ];
-})
-  where
-    own : (p : ℕ) → p / lanes / band ≡ y → on_at lanes c.before p ≡ not (is_listed A b.list p)
-    own p e = noted_own A lanes band y b c p is e
-
-    other : (p : ℕ) → p / lanes / band ≢ y → on_at lanes c.before p ≡ on_at lanes b.before p
-    other p ne = noted_other A lanes band y b c p is ne
+noted_marking A lanes band y start end b c is marking = grind (arith, both_ways, cases_eq, false_from_ne_true, not-true, not_from_false, not_from_true, noted_other, noted_own, take_listed)
 
 -- one more entry is noted
 pub noted_more : (A : Arena ℕ) → IsNumbered A → (lanes band start i : ℕ) (b : Board) (x : Entry ℕ) → slice_get b.list i ≡ Some x → on_at lanes b.before x.node ≡ false → IsMarking A lanes band start i b → IsMarking A lanes band start (i + 1) b

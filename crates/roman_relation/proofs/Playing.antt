@@ -1,7 +1,7 @@
 -- A whole round.
-use Rattle.std.proofs.Common.{◌≡◌, ℕ, suc, ◌+◌, ◌*◌, ◌/◌, ◌<◌, ◌≤◌, true, false, not, List, length, take, IsTrue, IsFalse, inl, inr, sym, ap, ◌∙◌, subst, arith}
+use Rattle.std.proofs.Common.{◌≡◌, ℕ, suc, ◌*◌, ◌/◌, ◌<◌, ◌≤◌, true, false, not, List, length, take, IsTrue, IsFalse, inl, inr, sym, ap, ◌∙◌, subst, arith}
 use Rattle.std.specs.List.{list_any}
-use Rattle.roman_relation.proofs.Common.{take-length, both_ways, or_cases, or_left, or_right, not_from_true, not_from_false, not-true, false_from_ne_true, mul-add-lt, IsIn, below, Arena, is_listed, is_justified, IsOrder, Reason, Final, Act, by_test, any_same, in_listed, unallowed_unjustified, IsNumbered, numbered_same, Board, has_entry, is_marked, Begins, IsSettled, HoldsLost, AreUnlisted, AwaitsRound, InRound, IsJudged, IsPairJudged, IsMarking, on_at}
+use Rattle.roman_relation.proofs.Common.{take-length, both_ways, or_cases, or_left, or_right, not_from_true, not_from_false, not-true, false_from_ne_true, mul-add-lt, IsIn, below, Arena, is_listed, is_justified, IsOrder, Reason, Final, Act, by_test, any_same, in_listed, IsNumbered, numbered_same, Board, has_entry, is_marked, Begins, IsSettled, HoldsLost, AreUnlisted, AwaitsRound, InRound, IsPairJudged, IsMarking, on_at}
 use Rattle.roman_model.specs.Arena.{loses}
 use Rattle.roman_model.proofs.CallerLemmas.{same_test, any_true, justified_same}
 use Rattle.roman_relation.proofs.Beginnings.{listed_is, begins_listed, begins_unlisted, take_listed}
@@ -9,56 +9,28 @@ use Rattle.roman_relation.proofs.Lanes.{at_pair, on_lane}
 
 -- a round can begin between two rounds
 pub round_begins : (A : Arena ℕ) (lanes band start : ℕ) (b : Board) → start ≡ length b.list → AwaitsRound A lanes band b → InRound A lanes start b
-round_begins A lanes band start b e ready =
-    let all : take start b.list ≡ b.list = ap (λ n. take n b.list) e ∙ take-length b.list in
-    record {
-      valid = ready.valid;
-      begun = omega arith;
-      kept = subst (λ L. AreUnlisted A lanes L b.before) (sym all) ready.kept;
-      because = λ p t. inl (subst (λ L. IsTrue (is_listed A L p)) (sym all) t);
-    }
+round_begins A lanes band start b e ready = grind (arith, take-length)
 
 -- after the marked bands were judged, all pairs are judged
 pub all_done : (A : Arena ℕ) (lanes band start : ℕ) (b c : Board) → start ≡ length b.list → AwaitsRound A lanes band b → Begins b.list c.list →
     ((p : ℕ) → p < length A.nodes → is_marked b (p / lanes / band) ≡ true → IsPairJudged A start c p) → (p : ℕ) → p < length A.nodes → IsPairJudged A start c p
-all_done A lanes band start b c e ready begins done p l a off = by_test (is_marked b (p / lanes / band))
-    (λ t. done p l t a off)
+all_done A lanes band start b c e ready begins done p l a off =
+    by_test (is_marked b (p / lanes / band)) (λ t. done p l t a off)
     (λ f. subst (λ L. IsFalse (is_justified A (is_listed A L) p (Act a))) (sym (ap (λ n. take n c.list) e ∙ begins)) (ready.served p a l f (begins_unlisted A b.list c.list p begins off)))
 
 -- when marking begins, nothing is marked, and the kept words are those at the round's start
 pub marking_starts : (A : Arena ℕ) (lanes band start : ℕ) (c : Board) → 0 < lanes → length A.nodes ≤ length c.before * lanes → InRound A lanes start c → IsMarking A lanes band start start c
-marking_starts A lanes band start c some long round = record {
-  old = λ p l on. not-true (is_listed A (take start c.list) p) (sym (at p l) ∙ on);
-  alive = λ p l off. at p l ∙ not_from_false (is_listed A (take start c.list) p) (false_from_ne_true (is_listed A (take start c.list) p) (λ t. both_ways (is_listed A c.list p) off (take_listed A start c.list p t)));
-  past = λ row lane l m. (round.kept.each row l).rest lane m;
-  noted = λ p t f. absurd (both_ways (is_listed A (take start c.list) p) f t);
-  marked = λ p q a k l m i t f off. absurd (both_ways (on_at lanes c.before q) off (at q m ∙ not_from_false (is_listed A (take start c.list) q) f));
-}
-  where
-    at : (p : ℕ) → p < length A.nodes → on_at lanes c.before p ≡ not (is_listed A (take start c.list) p)
-    at p l = at_pair lanes (λ q. not (is_listed A (take start c.list) q)) c.before p some (omega arith) round.kept
+marking_starts A lanes band start c some long round = grind (arith, at_pair, both_ways, false_from_ne_true, not-true, not_from_false, take_listed)
 
 pub round_keeps : (A : Arena ℕ) (lanes start : ℕ) (c : Board) → 0 < lanes → length A.nodes ≤ length c.before * lanes → InRound A lanes start c → (p : ℕ) → p < length A.nodes → IsFalse (is_listed A (take start c.list) p) → on_at lanes c.before p ≡ true
 round_keeps A lanes start c some long round p l off = at_pair lanes (λ q. not (is_listed A (take start c.list) q)) c.before p some (omega arith) round.kept ∙ not_from_false (is_listed A (take start c.list) p) off
 
 -- when all entries are noted, the kept words are those of the list
 kept_at : (A : Arena ℕ) (lanes band start : ℕ) (d : Board) → IsMarking A lanes band start (length d.list) d → (p : ℕ) → p < length A.nodes → on_at lanes d.before p ≡ not (is_listed A d.list p)
-kept_at A lanes band start d marking p l = by_test (is_listed A d.list p)
-    (λ t. by_test (is_listed A (take start d.list) p)
-    (λ old. false_from_ne_true (on_at lanes d.before p) (λ on. both_ways (is_listed A (take start d.list) p) (marking.old p l on) old) ∙ sym (not_from_true (is_listed A d.list p) t))
-    (λ new. marking.noted p (subst (λ L. IsTrue (is_listed A L p)) (sym (take-length d.list)) t) new ∙ sym (not_from_true (is_listed A d.list p) t)))
-    (λ f. marking.alive p l f ∙ sym (not_from_false (is_listed A d.list p) f))
+kept_at A lanes band start d marking p l = grind (arith, both_ways, by_test, false_from_ne_true, not_from_false, not_from_true, take-length)
 
 pub kept_ends : (A : Arena ℕ) (lanes band start : ℕ) (d : Board) → 0 < lanes → length d.before * lanes ≤ length A.nodes → IsMarking A lanes band start (length d.list) d → AreUnlisted A lanes d.list d.before
-kept_ends A lanes band start d some long marking = record {
-  each = λ row h. record {
-    each = λ lane l. sym (on_lane lanes row lane d.before l) ∙ kept_at A lanes band start d marking (row * lanes + lane) (below_all row lane h l);
-    rest = λ lane l. marking.past row lane h l;
-  };
-}
-  where
-    below_all : (row lane : ℕ) → row < length d.before → lane < lanes → row * lanes + lane < length A.nodes
-    below_all row lane h l = let m = mul-add-lt row lanes lane (length d.before) h l in omega (arith, m)
+kept_ends A lanes band start d some long marking = grind (arith, kept_at, mul-add-lt, on_lane)
 
 -- in bands that aren't marked, each allowed action is served
 pub served_next : (A : Arena ℕ) → IsNumbered A → (lanes band start : ℕ) (d : Board) → IsMarking A lanes band start (length d.list) d → ((p : ℕ) → p < length A.nodes → IsPairJudged A start d p) →
@@ -118,10 +90,4 @@ round_marks A lanes start b c e round = subst (InRound A lanes start) (sym e) (r
 
 -- a state between rounds in which only the levels change
 pub awaits_levels : (A : Arena ℕ) (lanes band : ℕ) (b c : Board) (levels : List ℕ) → c ≡ record b { levels = levels } → AwaitsRound A lanes band b → AwaitsRound A lanes band c
-awaits_levels A lanes band b c levels e ready = subst (AwaitsRound A lanes band) (sym e) (record {
-  shaped = record { pairs = ready.shaped.pairs; lanes = ready.shaped.lanes };
-  valid = ready.valid;
-  kept = ready.kept;
-  fine = ready.fine;
-  served = ready.served;
-})
+awaits_levels A lanes band b c levels e ready = grind arith

@@ -1,6 +1,6 @@
 -- Lists with entries for the lanes of a row.
 use Rattle.std.proofs.Common.{◌≡◌, ℕ, zero, suc, ◌+◌, ◌*◌, ◌/◌, ◌<◌, ◌≤◌, ◌⊎◌, Bool, true, false, not, ◌&&◌, ◌||◌, List, [], ◌∷◌, ◌++◌, map, length, take, slice_index, IsTrue, IsFalse, inl, inr, refl, sym, ap, ◌∙◌, subst, arith, append_assoc, length-append}
-use Rattle.roman_relation.proofs.Common.{both_ways, cases_lt, cases_eq, false_from_ne_true, or_cases, or_parts, or_left, and_parts, and_from, not_from_false, not-true, ne_eqb, get_or_past, IsIn, below, Arena, Entry, is_listed, is_justified, IsOrder, Reason, Final, Act, from_map, any_from, in_below, listed_append, listed_push, is_on, Keeps, on_zero, IsNumbered, numbered_same, Board, as_entry, set_lanes, entries_in_rows, has_entry, in_lanes, Begins, AreUnlisted, InRound, IsJudged}
+use Rattle.roman_relation.proofs.Common.{both_ways, cases_lt, cases_eq, false_from_ne_true, or_cases, or_parts, or_left, and_parts, and_from, not_from_false, not-true, ne_eqb, get_or_past, IsIn, below, Arena, Entry, is_listed, is_justified, IsOrder, Reason, Act, from_map, any_from, in_below, listed_append, listed_push, is_on, Keeps, on_zero, IsNumbered, numbered_same, Board, as_entry, entries_in_rows, has_entry, in_lanes, Begins, AreUnlisted, InRound, IsJudged}
 use Rattle.std.proofs.lemmas.Bool.{or_from}
 use Rattle.std.proofs.lemmas.List.{append-nil, take-append-le}
 use Rattle.roman_model.specs.Lists.{HasNoRepeats}
@@ -32,18 +32,12 @@ order_lanes A ok gone first reason L (l ∷ ls) order once less each =
 -- the pairs that the entries of a row's lanes list
 pub listed_lane : (A : Arena ℕ) → IsNumbered A → (lanes row lost : ℕ) (reason : Reason) (q : ℕ) → IsTrue (is_listed A (entries_in lanes row lost reason) q) →
     (lane : ℕ) × (lane < 64) × (is_on lost lane ≡ true) × (q ≡ row * lanes + lane)
-listed_lane A ok lanes row lost reason q t =
-    let (x, i, e) = listed_in A (numbered_same A ok) (entries_in lanes row lost reason) q t in
-    let (lane, j, f) = from_map (λ l. as_entry (row * lanes + l, reason)) x (set_lanes lost) i in
-    let (low, on) = in_lanes lost lane j in
-    (lane, low, on, e ∙ ap (λ (y : Entry ℕ). y.node) f)
+listed_lane A ok lanes row lost reason q t = grind (arith, from_map, in_lanes, listed_in, numbered_same)
 
 -- after the push, the pair at a lane is listed if it was before, or if its lane was added
 pub pushed_lane : (A : Arena ℕ) → IsNumbered A → (L : List (Entry ℕ)) (lanes row lost lane : ℕ) (reason : Reason) → lane < 64 →
     is_listed A (L ++ entries_in lanes row lost reason) (row * lanes + lane) ≡ (is_listed A L (row * lanes + lane) || is_on lost lane)
-pushed_lane A ok L lanes row lost lane reason low =
-    listed_is A ok (L ++ entries_in lanes row lost reason) (row * lanes + lane) ∙ (has_entry-lane L (row * lanes) lost lane reason low
-    ∙ ap (λ b. b || is_on lost lane) (sym (listed_is A ok L (row * lanes + lane))))
+pushed_lane A ok L lanes row lost lane reason low = listed_is _ ok _ _ ∙ (has_entry-lane _ _ _ _ _ low ∙ ap (λ b. b || is_on lost lane) (sym (listed_is _ ok _ _)))
 
 -- ---- the lanes that a row loses for a reason
 
@@ -56,40 +50,25 @@ pub record IsLost (A : Arena ℕ) (gone : ℕ → Bool) (L : List (Entry ℕ)) (
 lost_parts : (A : Arena ℕ) (gone : ℕ → Bool) (L : List (Entry ℕ)) (lanes row : ℕ) (reason : Reason) (lost lane : ℕ) →
     IsLost A gone L lanes row reason lost → is_on lost lane ≡ true →
     IsFalse (is_listed A L (row * lanes + lane)) × IsTrue (is_justified A gone (row * lanes + lane) reason)
-lost_parts A gone L lanes row reason lost lane is on =
-    let p = row * lanes + lane in
-    let (new, holds) = and_parts (not (is_listed A L p)) (is_justified A gone p reason) (sym (is.is lane (is.within lane on)) ∙ on) in
-    (not-true (is_listed A L p) new, holds)
+lost_parts A gone L lanes row reason lost lane is on = grind (arith, and_parts, not-true)
 
 lost_order : (A : Arena ℕ) → IsNumbered A → (gone : ℕ → Bool) (L : List (Entry ℕ)) (lanes row : ℕ) (reason : Reason) (lost : ℕ) →
     IsLost A gone L lanes row reason lost → ((q : ℕ) → IsTrue (gone q) → IsTrue (is_listed A L q)) →
     IsOrder A L → IsOrder A (L ++ entries_in lanes row lost reason)
 lost_order A ok gone L lanes row reason lost is less order =
-    order_lanes A ok gone (row * lanes) reason L (set_lanes lost) order (lanes_once lost) less
-    (λ lane i. lost_parts A gone L lanes row reason lost lane is (in_lanes lost lane i).1)
+    order_lanes _ ok _ _ _ _ _ order (lanes_once _) less (λ lane i. lost_parts _ _ _ _ _ _ _ _ is (in_lanes _ _ i).1)
 
 -- where a pair of the row isn't listed after the push, the reason doesn't hold
 lost_left : (A : Arena ℕ) → IsNumbered A → (gone : ℕ → Bool) (L : List (Entry ℕ)) (lanes row : ℕ) (reason : Reason) (lost lane : ℕ) →
     IsLost A gone L lanes row reason lost → lane < lanes →
     IsFalse (is_listed A (L ++ entries_in lanes row lost reason) (row * lanes + lane)) → IsFalse (is_justified A gone (row * lanes + lane) reason)
-lost_left A ok gone L lanes row reason lost lane is l off =
-    let p = row * lanes + lane in
-    let low : lane < 64 = omega (arith, is.few) in
-    let parts = or_parts (is_listed A L p) (is_on lost lane) (sym (pushed_lane A ok L lanes row lost lane reason low) ∙ off) in
-    false_from_ne_true (is_justified A gone p reason)
-    (λ t. both_ways (is_on lost lane) parts.1 (is.is lane l ∙ and_from (not (is_listed A L p)) (is_justified A gone p reason) (not_from_false (is_listed A L p) parts.0) t))
+lost_left A ok gone L lanes row reason lost lane is l off = grind (arith, and_from, both_ways, false_from_ne_true, not_from_false, or_parts, pushed_lane)
 
 -- a pair that is listed after the push was listed before, or the reason holds there
 lost_because : (A : Arena ℕ) → IsNumbered A → (gone : ℕ → Bool) (L : List (Entry ℕ)) (lanes row : ℕ) (reason : Reason) (lost q : ℕ) →
     IsLost A gone L lanes row reason lost →
     IsTrue (is_listed A (L ++ entries_in lanes row lost reason) q) → IsTrue (is_listed A L q) ⊎ IsTrue (is_justified A gone q reason)
-lost_because A ok gone L lanes row reason lost q is t =
-    elim (or_cases (is_listed A L q) (is_listed A (entries_in lanes row lost reason) q) (sym (listed_append A L (entries_in lanes row lost reason) q) ∙ t)) [
-      | inl old ↦ inl old
-      | inr new ↦
-          let (lane, low, on, e) = listed_lane A ok lanes row lost reason q new in
-          inr (subst (λ r. IsTrue (is_justified A gone r reason)) (sym e) (lost_parts A gone L lanes row reason lost lane is on).1)
-    ]
+lost_because A ok gone L lanes row reason lost q is t = grind (arith, listed_append, listed_lane, lost_parts, or_cases)
 
 -- ---- the pairs that neighbouring rows lose for a reason
 
@@ -103,44 +82,17 @@ pub record AreLost (A : Arena ℕ) (gone : ℕ → Bool) (L : List (Entry ℕ)) 
 pub are_lost : (A : Arena ℕ) (gone : ℕ → Bool) (L : List (Entry ℕ)) (lanes x rows : ℕ) (reason : Reason) (words old lost : List ℕ) → lanes ≤ 64 → AreUnlisted A lanes L words →
     x + rows ≤ length words → length old ≡ rows → ((i : ℕ) → i < rows → slice_index old i ≡ slice_index words (x + i)) →
     Keeps lanes x rows (λ p. is_justified A gone p reason) old lost → AreLost A gone L lanes x rows reason lost
-are_lost A gone L lanes x rows reason words old lost few are inside long same keeps = record {
-  few = few;
-  within = λ i lane on. elim (cases_lt lane lanes) [ inl l ↦ l | inr past ↦ absurd (both_ways (is_on (slice_index lost i) lane) (keeps.none i lane (off i lane past)) on) ];
-  is = λ i lane h l. keeps.each i lane h l
-      ∙ ap (λ b. b && is_justified A gone ((x + i) * lanes + lane) reason) (ap (λ w. is_on w lane) (same i h) ∙ (are.each (x + i) (omega arith)).each lane l);
-}
-  where
-    off : (i lane : ℕ) → lanes ≤ lane → is_on (slice_index old i) lane ≡ false
-    off i lane past = elim (cases_lt i rows) [
-      | inl h ↦ ap (λ w. is_on w lane) (same i h) ∙ (are.each (x + i) (omega arith)).rest lane past
-      | inr out ↦ ap (λ w. is_on w lane) (get_or_past old i 0 (omega arith)) ∙ on_zero lane
-    ]
+are_lost A gone L lanes x rows reason words old lost few are inside long same keeps = grind (arith, both_ways, cases_lt, get_or_past, on_zero)
 
 -- the pairs that the rows lose aren't listed yet
 pub lost_free : (A : Arena ℕ) → IsNumbered A → (gone : ℕ → Bool) (b : Board) (lanes x rows : ℕ) (reason : Reason) (lost : List ℕ) (i lane : ℕ) → b.lanes ≡ lanes → length lost ≡ rows →
     AreLost A gone b.list lanes x rows reason lost → is_on (slice_index lost i) lane ≡ true → has_entry b.list ((x + i) * b.lanes + lane) ≡ false
-lost_free A ok gone b lanes x rows reason lost i lane same long are on = elim (cases_lt i rows) [
-  | inl h ↦
-      let p = (x + i) * lanes + lane in
-      let l : lane < lanes = are.within i lane on in
-      ap (λ m. has_entry b.list ((x + i) * m + lane)) same
-      ∙ (sym (listed_is A ok b.list p) ∙ not-true (is_listed A b.list p) (and_parts (not (is_listed A b.list p)) (is_justified A gone p reason) (sym (are.is i lane h l) ∙ on)).0)
-  | inr out ↦ absurd (both_ways (is_on (slice_index lost i) lane) (ap (λ w. is_on w lane) (get_or_past lost i 0 (omega arith)) ∙ on_zero lane) on)
-]
+lost_free A ok gone b lanes x rows reason lost i lane same long are on = grind (arith, and_parts, both_ways, cases_lt, get_or_past, listed_is, not-true, on_zero)
 
 -- the lost lanes of a row stay the same after the entries of the rows before it
 lost_row : (A : Arena ℕ) → IsNumbered A → (gone : ℕ → Bool) (L : List (Entry ℕ)) (lanes x rows : ℕ) (reason : Reason) (lost : List ℕ) (n : ℕ) → AreLost A gone L lanes x rows reason lost → n < rows →
     IsLost A gone (L ++ entries_in_rows lanes x n lost reason) lanes (x + n) reason (slice_index lost n)
-lost_row A ok gone L lanes x rows reason lost n are h = record {
-  few = are.few;
-  within = are.within n;
-  is = λ lane l. are.is n lane h l ∙ ap (λ b. not b && is_justified A gone ((x + n) * lanes + lane) reason) (sym (later lane l));
-}
-  where
-    later : (lane : ℕ) → lane < lanes → is_listed A (L ++ entries_in_rows lanes x n lost reason) ((x + n) * lanes + lane) ≡ is_listed A L ((x + n) * lanes + lane)
-    later lane l =
-        listed_is A ok (L ++ entries_in_rows lanes x n lost reason) ((x + n) * lanes + lane)
-        ∙ (has_entry-later L lanes x lost reason are.within n n lane (omega arith) l ∙ sym (listed_is A ok L ((x + n) * lanes + lane)))
+lost_row A ok gone L lanes x rows reason lost n are h = grind (arith, has_entry-later, listed_is)
 
 -- a removal list stays one with the entries of the lost pairs
 pub rows_order : (A : Arena ℕ) → IsNumbered A → (gone : ℕ → Bool) (L : List (Entry ℕ)) (lanes x rows : ℕ) (reason : Reason) (lost : List ℕ) → AreLost A gone L lanes x rows reason lost →

@@ -1,5 +1,5 @@
 -- Relations with a complete list, and the greatest ND-simulation.
-use Rattle.std.proofs.Common.{◌≡◌, ◌≢◌, ℕ, ◌+◌, ◌/◌, ◌<◌, ◌≤◌, ◌↔◌, ◌⊎◌, Bool, true, not, List, [], ◌∷◌, length, filter, IsTrue, inl, inr, refl, sym, ap, ◌∙◌, subst, arith}
+use Rattle.std.proofs.Common.{◌≡◌, ◌≢◌, ℕ, ◌+◌, ◌<◌, ◌≤◌, ◌↔◌, ◌⊎◌, Bool, true, not, List, [], ◌∷◌, length, filter, IsTrue, inl, inr, refl, sym, ap, ◌∙◌, subst, arith}
 use Rattle.std.proofs.Math.Bool.{not-not}
 use Rattle.std.proofs.Math.Nat.{le-div_iff_mul-le}
 use Rattle.roman_relation.proofs.Common.{below, Arena, Entry, is_listed, sizes_of, count, length-below, in_listed, system_of, Board, pairs_of, has_entry, IsSettled, AreLevels, arena_of}
@@ -56,7 +56,4 @@ choices_counted n board m known complete are is = is ∙ numbered_choices (syste
 
 -- the order has room for the joint
 pub room_for_pairs : (n : NamedSys) (board : Board) → IsNamedSys n → HasCaps n board → length (below (count (sizes_of (system_of n)))) ≤ board.cap_pairs
-room_for_pairs n board known caps =
-    let s = system_of n in
-    let fits : count (sizes_of s) ≤ n.limit / s.env.actions = (le-div_iff_mul-le known.system.env.actions.0).1 known.fits in
-    omega (arith, fits, caps.pairs, length-below (count (sizes_of s)))
+room_for_pairs n board known caps = grind (arith, le-div_iff_mul-le, length-below)

@@ -1,5 +1,5 @@
 -- Lists whose entries rise by depth.
-use Rattle.std.proofs.Common.{◌≡◌, ℕ, suc, ◌+◌, ◌-◌, ◌<◌, ◌≤◌, true, List, [], ◌∷◌, ◌++◌, length, take, slice_get, get_or, Some, IsFalse, inl, inr, refl, sym, ap, ◌∙◌, subst, arith}
+use Rattle.std.proofs.Common.{◌≡◌, ℕ, suc, ◌<◌, ◌≤◌, true, List, [], ◌∷◌, ◌++◌, length, take, slice_get, Some, IsFalse, inl, inr, sym, ap, ◌∙◌, subst, arith}
 use Rattle.roman_relation.proofs.Common.{cases_lt, both_ways, false_from_ne_true, take-take, length_push, take-length, get_or_from_slice_get, slice_get_within, Arena, Entry, is_listed, IsOrder, IsNumbered, has_entry, Begins, HoldsLost, RisesByDepth, AreLevels}
 use Rattle.std.proofs.lemmas.List.{get_or_append_left, get_or-append_right}
 use Rattle.std.proofs.lemmas.Option.{slice_get-get_or}
@@ -50,29 +50,7 @@ rises_more A ok n L M begins order in_range old new rises = record {
 -- ---- levels
 
 pub levels_first : (A : Arena ℕ) (L : List (Entry ℕ)) → HoldsLost A 0 L → AreLevels A ([] ++ length L ∷ []) L
-levels_first A L holds = record {
-  some = omega arith;
-  within = λ n l. let none : n ≡ 0 = omega arith in rw none (omega arith);
-  each = λ n l. let none : n ≡ 0 = omega arith in rw (none, take-length L) holds;
-  last = refl;
-}
+levels_first A L holds = grind (arith, take-length)
 
 pub levels_more : (A : Arena ℕ) (n : ℕ) (levels : List ℕ) (L M : List (Entry ℕ)) → Begins L M → length levels ≡ suc n → HoldsLost A (suc n) M → AreLevels A levels L → AreLevels A (levels ++ length M ∷ []) M
-levels_more A n levels L M begins long holds are = record {
-  some = omega (arith, more);
-  within = λ m l. elim (cases_lt m (length levels)) [
-    | inl old ↦ rw (get_or_append_left levels (length M ∷ []) 0 m old) (omega (arith, are.within m old, begins_length L M begins))
-    | inr new ↦ let here : m ≡ length levels = omega (arith, more) in rw (here, at_end) (omega arith)
-  ];
-  each = λ m l. elim (cases_lt m (length levels)) [
-    | inl old ↦ rw (get_or_append_left levels (length M ∷ []) 0 m old, begins_same L M (get_or levels m 0) begins (are.within m old)) (are.each m old)
-    | inr new ↦ let here : m ≡ length levels = omega (arith, more) in rw (here, at_end, take-length M) (subst (λ k. HoldsLost A k M) (sym long) holds)
-  ];
-  last = let end : length (levels ++ length M ∷ []) - 1 ≡ length levels = omega (arith, more) in rw (end, at_end) refl;
-}
-  where
-    more : length (levels ++ length M ∷ []) ≡ length levels + 1
-    more = length_push levels (length M)
-
-    at_end : get_or (levels ++ length M ∷ []) (length levels) 0 ≡ length M
-    at_end = get_or-append_right levels (length M ∷ []) (length levels) (length levels) 0 refl (omega arith) ∙ (let none : length levels - length levels ≡ 0 = omega arith in ap (λ k. get_or (length M ∷ []) k 0) none)
+levels_more A n levels L M begins long holds are = grind (arith, begins_length, begins_same, cases_lt, get_or-append_right, get_or_append_left, length_push, take-length)

@@ -50,7 +50,4 @@ known_whole A n band first gone asked held words same long is = record {
 
 -- known reasons stay known when more entries are listed
 pub known_on : (A : Arena ℕ) (lanes : ℕ) (asked : AskedBand) (kept new M : List (Entry ℕ)) → new ≡ kept ++ M → HoldsInBand A lanes (is_listed A kept) asked → HoldsInBand A lanes (is_listed A new) asked
-known_on A lanes asked kept new M is known = subst (λ L. HoldsInBand A lanes (is_listed A L) asked) (sym is) (record {
-  each = λ i lane h l on. justified_more A (is_listed A kept) (is_listed A (kept ++ M)) ((asked.first + i) * lanes + lane) asked.reason
-      (λ a k q j t. listed_append A kept M q ∙ or_left (is_listed A kept q) (is_listed A M q) t) (known.each i lane h l on);
-})
+known_on A lanes asked kept new M is known = grind (arith, justified_more, listed_append, or_left)

@@ -27,15 +27,7 @@ first_numbers_seen seen more (x ∷ L) same =
     ∙ ap (λ b. if b then first_numbers more L else x ∷ first_numbers (x.node ∷ more) L) (same x.node)
 
 seen_middle : (i m : ℕ) (seen ns : List ℕ) → list_any (λ j. i == j) ((m ∷ seen) ++ ns) ≡ list_any (λ j. i == j) (seen ++ m ∷ ns)
-seen_middle i m seen ns =
-    list_any-append (λ j. i == j) (m ∷ seen) ns
-    ∙ turned (i == m) (list_any (λ j. i == j) seen) (list_any (λ j. i == j) ns)
-    ∙ sym (list_any-append (λ j. i == j) seen (m ∷ ns))
-  where
-    turned : (a b c : Bool) → ((a || b) || c) ≡ (b || (a || c))
-    turned true true c = refl
-    turned true false c = refl
-    turned false b c = refl
+seen_middle i m seen ns = grind (arith, list_any-append)
 
 -- the first entries of one list, and then those of another
 first_numbers_append : (seen : List ℕ) (L M : List (Entry ℕ)) → first_numbers seen (L ++ M) ≡ first_numbers seen L ++ first_numbers (seen ++ nodes_of (first_numbers seen L)) M
@@ -83,8 +75,7 @@ list_with_append n k seat L V W =
     let parts : entries_left n k seat (V ++ W) ≡ entries_left n k seat V ++ entries_left n k seat W =
     ap (map (number_entry_without k n)) (filter-append (λ x. may_go k seat (pair_at n x.node)) V W)
     ∙ map-append (number_entry_without k n) (filter (λ x. may_go k seat (pair_at n x.node)) V) (filter (λ x. may_go k seat (pair_at n x.node)) W) in
-    ap (λ N. L ++ first_numbers (nodes_of L) N) parts
-    ∙ ap (λ N. L ++ N) (first_numbers_append (nodes_of L) (entries_left n k seat V) (entries_left n k seat W))
+    ap (λ N. L ++ first_numbers (nodes_of L) N) parts ∙ ap (λ N. L ++ N) (first_numbers_append (nodes_of L) (entries_left n k seat V) (entries_left n k seat W))
     ∙ sym (append_assoc L new (first_numbers (nodes_of L ++ nodes_of new) (entries_left n k seat W)))
     ∙ ap (λ ns. (L ++ new) ++ first_numbers ns (entries_left n k seat W)) (sym (map-append (λ (x : Entry ℕ). x.node) L new))
 
@@ -166,12 +157,7 @@ left_row n shape k left lanes order l is pairs wide = row_of_left left lanes ord
 -- the appended entries lie in the row, and weren't listed before
 pub lost_within : (lanes x other alive lane : ℕ) (L : List (Entry ℕ)) → HasLanes lanes x (λ p. not (has_entry L p)) alive → is_on (bit_and other alive) lane ≡ true →
     (lane < lanes) × (has_entry L (x * lanes + lane) ≡ false)
-lost_within lanes x other alive lane L rows on =
-    let here : is_on alive lane ≡ true = (and_parts (is_on other lane) (is_on alive lane) (sym (on_and other alive lane) ∙ on)).1 in
-    elim (cases_lt lane lanes) [
-      | inl l ↦ (l, false_else (has_entry L (x * lanes + lane)) (λ t. both_ways (is_on alive lane) (rows.each lane l ∙ ap not t) here))
-      | inr past ↦ absurd (both_ways (is_on alive lane) (rows.rest lane past) here)
-    ]
+lost_within lanes x other alive lane L rows on = grind (arith, and_parts, both_ways, cases_lt, false_else, on_and)
 
 -- The entries of a row, part by part.
 
@@ -185,8 +171,7 @@ row_next n x word i w reason few =
     let next : (i + 1) * w ≡ i * w + w = omega arith in
     let those = filter (λ a. is_on word (i * w + a)) (below w) in
     let f = λ (lane : ℕ). as_entry (x * n + lane, reason) in
-    sym (ap (λ m. map f (filter (is_on word) (below m))) next
-    ∙ ap (map f) (filter_split (is_on word) (i * w) w)
+    sym (ap (λ m. map f (filter (is_on word) (below m))) next ∙ ap (map f) (filter_split (is_on word) (i * w) w)
     ∙ map-append f (filter (is_on word) (below (i * w))) (map (λ a. i * w + a) those)
     ∙ ap (λ M. map f (filter (is_on word) (below (i * w))) ++ M) (map-map f (λ a. i * w + a) those
     ∙ map_as (λ a. as_entry (x * n + (i * w + a), reason)) (λ a. as_entry (x * n + i * w + a, reason)) those
@@ -247,7 +232,4 @@ pub small_pairs : (n : NamedSys) (shape small : Sizes) (k rows lanes : ℕ) → 
 small_pairs n shape small k rows lanes is without whole wide = ap (λ m. rows * m) wide ∙ whole ∙ ap count (without ∙ ap (sizes_without k) is)
 
 pub left_shaped : (s : Sys) (k : ℕ) (new : Board) → pairs_of new ≡ count (sizes_without k (sizes_of s)) → new.lanes ≡ lanes_of (sizes_without k (sizes_of s)).seats → IsShaped (numbered (left s k)) (lanes_in (left s k)) new
-left_shaped s k new pairs lanes = record {
-  pairs = pairs ∙ ap count (sym (sizes-left s k)) ∙ sym (length-below (count (sizes_of (left s k))));
-  lanes = lanes ∙ ap (λ (n : Sizes). lanes_of n.seats) (sym (sizes-left s k));
-}
+left_shaped s k new pairs lanes = grind (arith, left, length-below, sizes-left)

@@ -1,5 +1,5 @@
 -- The parts of rows that stay together when a service dies.
-use Rattle.std.proofs.Common.{◌≡◌, ℕ, zero, suc, ◌+◌, ◌-◌, ◌*◌, ◌/◌, ◌%◌, ◌^◌, ◌<◌, ◌≤◌, Bool, true, false, ◌&&◌, List, [], ◌∷◌, map, length, drop, filter, cond, eqb, remove, slice_index, inl, inr, refl, sym, ap, ap₂, ◌∙◌, subst, arith, bit_and}
+use Rattle.std.proofs.Common.{◌≡◌, ℕ, zero, suc, ◌+◌, ◌-◌, ◌*◌, ◌/◌, ◌%◌, ◌^◌, ◌<◌, ◌≤◌, Bool, true, false, ◌&&◌, List, [], ◌∷◌, map, length, drop, filter, eqb, remove, slice_index, inl, inr, refl, sym, ap, ap₂, ◌∙◌, subst, arith, bit_and}
 use Rattle.roman_repair.proofs.Common.{bit_at, mul-le-mul_left, cases_lt, both_ways, div-add-mod', bit_at_cat_high, below, product_of, Sizes, count, pair_at, number_without, is_on, on_and, on_full, on_full_past, AreSizes, IsSizes, low_of, lanes_of, row_mod, lanes_few, set_lanes, IsPart}
 use Rattle.std.proofs.lemmas.Nat.{shr-shr, pow_pos, mul-le}
 use Rattle.std.proofs.lemmas.Nat.Bits.{bit_at-zero, bit_at_cat_low, shr_and_one}
@@ -14,13 +14,7 @@ part_first_seat : (n : ℕ) (ns : List ℕ) (w : ℕ) → 0 < n → (c : ℕ) ×
 part_first_seat n ns w some stride lanes = record { stride = stride; lanes = part_of_more n ns w some lanes; left = lanes }
 
 part_later_seat : (n : ℕ) (ns : List ℕ) (k w : ℕ) → 0 < n → IsPart ns k w → IsPart (n ∷ ns) (suc k) w
-part_later_seat n ns k w some is =
-    let next : suc (k + 1) ≡ suc k + 1 = omega arith in
-    record {
-      stride = subst (λ j. (c : ℕ) × (product_of (drop j (n ∷ ns)) ≡ c * w)) next is.stride;
-      lanes = part_of_more n ns w some is.lanes;
-      left = part_of_more n (remove ns k) w some is.left;
-    }
+part_later_seat n ns k w some is = grind (arith, part_of_more)
 
 -- a part for a component before the lanes is a whole row
 pub part_before : (ns : List ℕ) (k : ℕ) → AreSizes ns → k < low_of ns → IsPart ns k (lanes_of ns)
@@ -37,10 +31,7 @@ part_before (n ∷ ns) (suc k) h l = elim (cases_lt 64 (product_of (n ∷ ns))) 
 -- a part for a component within the lanes has one state of it
 pub part_within : (ns : List ℕ) (k : ℕ) → AreSizes ns → low_of ns ≤ k → k < length ns → IsPart ns k (product_of (drop (k + 1) ns))
 part_within [] k h l m = absurd (omega arith)
-part_within (n ∷ ns) zero h l m = elim (cases_lt 64 (product_of (n ∷ ns))) [
-  | inl more ↦ absurd (omega (arith, l, (shorter_row n ns more).0))
-  | inr few ↦ part_first_seat n ns (product_of ns) h.0 (1, omega arith) (1, omega (arith, (whole_row ns (few_behind n ns h.0 few)).1))
-]
+part_within (n ∷ ns) zero h l m = grind (arith, cases_lt, few_behind, part_first_seat, shorter_row, whole_row)
 part_within (n ∷ ns) (suc k) h l m =
     let next : suc (k + 1) ≡ suc k + 1 = omega arith in
     let low : low_of ns ≤ k = elim (cases_lt 64 (product_of (n ∷ ns))) [
@@ -50,11 +41,7 @@ part_within (n ∷ ns) (suc k) h l m =
     subst (λ j. IsPart (n ∷ ns) (suc k) (product_of (drop j (n ∷ ns)))) next (part_later_seat n ns k (product_of (drop (k + 1) ns)) h.0 (part_within ns k h.2 low (omega arith)))
 
 pub part_few : (ns : List ℕ) (k w : ℕ) → AreSizes ns → IsPart ns k w → (0 < w) × (w ≤ 64)
-part_few ns k w h is =
-    let (c, e) = is.lanes in
-    let (some, pos) = positive c w (omega (arith, e, lanes_positive ns h)) in
-    let less : w * 1 ≤ w * c = mul-le-mul_left w some in
-    (pos, omega (arith, less, e, lanes_few ns))
+part_few ns k w h is = grind (arith, lanes_few, lanes_positive, mul-le-mul_left, positive)
 
 -- ---- the pairs of a part
 
@@ -145,25 +132,13 @@ abbrev pub part_word : ℕ → ℕ → ℕ → ℕ
 part_word word base w = bit_and (word / 2 ^ base) ((2 ^ 64 - 1) / 2 ^ (64 - w))
 
 part_on : (word base w i : ℕ) → w ≤ 64 → i < w → is_on (part_word word base w) i ≡ is_on word (base + i)
-part_on word base w i few l =
-    on_and (word / 2 ^ base) ((2 ^ 64 - 1) / 2 ^ (64 - w)) i ∙ ap₂ (λ a b. a && b) (on_lowered word base i) (on_full w i few l) ∙ both (is_on word (base + i))
-  where
-    both : (b : Bool) → (b && true) ≡ b
-    both true = refl
-    both false = refl
+part_on word base w i few l = grind (arith, on_and, on_full, on_lowered)
 
 part_off : (word base w i : ℕ) → w ≤ 64 → w ≤ i → is_on (part_word word base w) i ≡ false
-part_off word base w i few past = on_and (word / 2 ^ base) ((2 ^ 64 - 1) / 2 ^ (64 - w)) i ∙ ap (λ b. is_on (word / 2 ^ base) i && b) (on_full_past w i few past) ∙ neither (is_on (word / 2 ^ base) i)
-  where
-    neither : (b : Bool) → (b && false) ≡ false
-    neither true = refl
-    neither false = refl
+part_off word base w i few past = grind (arith, on_and, on_full_past)
 
 pub part_in : (word base w i : ℕ) → w ≤ 64 → is_on (part_word word base w) i ≡ true → (i < w) × (is_on word (base + i) ≡ true)
-part_in word base w i few on = elim (cases_lt i w) [
-  | inl l ↦ (l, sym (part_on word base w i few l) ∙ on)
-  | inr past ↦ absurd (both_ways (is_on (part_word word base w) i) (part_off word base w i few past) on)
-]
+part_in word base w i few on = grind (arith, both_ways, cases_lt, part_off, part_on)
 
 pub part_lanes : (word base w : ℕ) → w ≤ 64 → set_lanes (part_word word base w) ≡ filter (λ i. is_on word (base + i)) (below w)
 unfolding set_lanes
@@ -176,12 +151,7 @@ part_lanes word base w few =
 -- the elements that pass both tests
 both_tests : {X : Type 0} (f g : X → Bool) (xs : List X) → filter f (filter g xs) ≡ filter (λ x. g x && f x) xs
 both_tests f g [] = refl
-both_tests f g (x ∷ xs) = by_answer (g x) (both_tests f g xs)
-  where
-    by_answer : (b : Bool) → filter f (filter g xs) ≡ filter (λ y. g y && f y) xs →
-        filter f (cond b (x ∷ filter g xs) (filter g xs)) ≡ cond (b && f x) (x ∷ filter (λ y. g y && f y) xs) (filter (λ y. g y && f y) xs)
-    by_answer true rest = ap (λ ys. cond (f x) (x ∷ ys) ys) rest
-    by_answer false rest = rest
+both_tests f g (x ∷ xs) = grind (arith, (both_tests f g xs))
 
 -- the lanes of a part that pass a test, moved to their place in the row
 pub moved_lanes : (word alive place : ℕ) (test : ℕ → Bool) → place < 64 → ((i : ℕ) → i < 64 → is_on word i ≡ true → (place + i < 64) × (is_on alive (place + i) ≡ test i)) →

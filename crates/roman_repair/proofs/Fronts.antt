@@ -67,24 +67,23 @@ same_so_far p q (suc m) same = rw (filter_below_more p m, filter_below_more q m,
 cut_so_far : (word front rest cut m : ℕ) → IsCut word front rest cut → m ≤ 64 →
     filter (is_on word) (below m) ≡ filter (is_on front) (below m) ++ filter (is_on rest) (below m)
 cut_so_far word front rest cut zero is l = refl
-cut_so_far word front rest cut (suc m) is l = elim (cases_lt m cut) [
-  | inl low ↦
-      let same : filter (is_on front) (below (suc m)) ≡ filter (is_on word) (below (suc m)) = same_so_far (is_on front) (is_on word) (suc m) (λ lane h. (is.low lane (omega arith) (omega arith)).0) in
-      let none : filter (is_on rest) (below (suc m)) ≡ [] = none_so_far (is_on rest) (suc m) (λ lane h. (is.low lane (omega arith) (omega arith)).1) in
-      sym (append-nil (filter (is_on word) (below (suc m)))) ∙ ap (λ L. filter (is_on word) (below (suc m)) ++ L) (sym none) ∙ ap (λ L. L ++ filter (is_on rest) (below (suc m))) (sym same)
-  | inr high ↦
-      let (off, on) = is.high m (omega arith) (omega arith) in
-      let last : List ℕ = cond (is_on word m) (m ∷ []) [] in
-      let front_same : filter (is_on front) (below (suc m)) ≡ filter (is_on front) (below m) =
-      filter_below_more (is_on front) m ∙ ap (λ b. filter (is_on front) (below m) ++ cond b (m ∷ []) []) off ∙ append-nil (filter (is_on front) (below m)) in
-      let rest_more : filter (is_on rest) (below (suc m)) ≡ filter (is_on rest) (below m) ++ last =
-      filter_below_more (is_on rest) m ∙ ap (λ b. filter (is_on rest) (below m) ++ cond b (m ∷ []) []) on in
-      filter_below_more (is_on word) m
-      ∙ ap (λ L. L ++ last) (cut_so_far word front rest cut m is (omega arith))
-      ∙ append_assoc (filter (is_on front) (below m)) (filter (is_on rest) (below m)) last
-      ∙ ap (λ L. filter (is_on front) (below m) ++ L) (sym rest_more)
-      ∙ ap (λ L. L ++ filter (is_on rest) (below (suc m))) (sym front_same)
-]
+cut_so_far word front rest cut (suc m) is l =
+    elim (cases_lt m cut) [
+      | inl low ↦
+          let same : filter (is_on front) (below (suc m)) ≡ filter (is_on word) (below (suc m)) = same_so_far (is_on front) (is_on word) (suc m) (λ lane h. (is.low lane (omega arith) (omega arith)).0) in
+          let none : filter (is_on rest) (below (suc m)) ≡ [] = none_so_far (is_on rest) (suc m) (λ lane h. (is.low lane (omega arith) (omega arith)).1) in
+          sym (append-nil (filter (is_on word) (below (suc m)))) ∙ ap (λ L. filter (is_on word) (below (suc m)) ++ L) (sym none) ∙ ap (λ L. L ++ filter (is_on rest) (below (suc m))) (sym same)
+      | inr high ↦
+          let (off, on) = is.high m (omega arith) (omega arith) in
+          let last : List ℕ = cond (is_on word m) (m ∷ []) [] in
+          let front_same : filter (is_on front) (below (suc m)) ≡ filter (is_on front) (below m) =
+          filter_below_more (is_on front) m ∙ ap (λ b. filter (is_on front) (below m) ++ cond b (m ∷ []) []) off ∙ append-nil (filter (is_on front) (below m)) in
+          let rest_more : filter (is_on rest) (below (suc m)) ≡ filter (is_on rest) (below m) ++ last =
+          filter_below_more (is_on rest) m ∙ ap (λ b. filter (is_on rest) (below m) ++ cond b (m ∷ []) []) on in
+          filter_below_more (is_on word) m ∙ ap (λ L. L ++ last) (cut_so_far word front rest cut m is (omega arith))
+          ∙ append_assoc (filter (is_on front) (below m)) (filter (is_on rest) (below m)) last ∙ ap (λ L. filter (is_on front) (below m) ++ L) (sym rest_more)
+          ∙ ap (λ L. L ++ filter (is_on rest) (below (suc m))) (sym front_same)
+    ]
 
 pub cut_lanes : (word front rest cut : ℕ) → IsCut word front rest cut → set_lanes word ≡ set_lanes front ++ set_lanes rest
 unfolding set_lanes
@@ -113,18 +112,7 @@ front_off word cut lane few l =
     and_false false = refl
 
 pub is_cut : (word cut : ℕ) → cut < 64 → front_of word cut < 2 ^ 64 → IsCut word (front_of word cut) (bit_and word (bit_not w64 (front_of word cut))) cut
-is_cut word cut few fits = record {
-  low = λ lane l below. (front_on word cut lane few below, on_less word (front_of word cut) lane fits l ∙ ap (λ b. is_on word lane && not b) (front_on word cut lane few below) ∙ gone (is_on word lane));
-  high = λ lane l past. (front_off word cut lane few past, on_less word (front_of word cut) lane fits l ∙ ap (λ b. is_on word lane && not b) (front_off word cut lane few past) ∙ kept (is_on word lane));
-}
-  where
-    gone : (b : Bool) → (b && not b) ≡ false
-    gone true = refl
-    gone false = refl
-
-    kept : (b : Bool) → (b && not false) ≡ b
-    kept true = refl
-    kept false = refl
+is_cut word cut few fits = grind (arith, front_off, front_on, on_less)
 
 -- a lane that is on is one of a word's lanes
 pub on_in : (word lane : ℕ) → lane < 64 → is_on word lane ≡ true → IsIn lane (set_lanes word)
@@ -187,8 +175,7 @@ pub lanes_from_to : (word begin end : ℕ) → begin < end → end ≤ 64 → ((
 unfolding set_lanes
 lanes_from_to word begin end some few low on high =
     let whole : 64 ≡ begin + (64 - begin) = omega arith in
-    ap (λ n. filter (is_on word) (below n)) whole
-    ∙ moved_so_far (λ i. is_on word (begin + i)) (is_on word) begin (64 - begin) low (λ i l. refl)
+    ap (λ n. filter (is_on word) (below n)) whole ∙ moved_so_far (λ i. is_on word (begin + i)) (is_on word) begin (64 - begin) low (λ i l. refl)
     ∙ ap (map (λ i. begin + i)) (first_so_far (λ i. is_on word (begin + i)) (end - begin) (64 - begin) (omega arith) (λ i l. on (begin + i) (omega arith) (omega arith)) (λ i l k. high (begin + i) (omega arith)))
 
 -- the word of neighbouring lanes, as the code computes it
@@ -257,10 +244,7 @@ entries_cut n x word front rest reason parts =
 -- a property of the pairs of some lanes is one of their entries
 entries_by : (n x word : ℕ) (reason : Reason) (P : Entry ℕ → Type 0) → ((lane : ℕ) → lane < 64 → is_on word lane ≡ true → P (as_entry (x * n + lane, reason))) →
     (y : Entry ℕ) → IsIn y (entries_in n x word reason) → P y
-entries_by n x word reason P each y i =
-    let (lane, j, e) = from_map (λ lane. as_entry (x * n + lane, reason)) y (set_lanes word) i in
-    let (l, on) = in_lanes word lane j in
-    subst P (sym e) (each lane l on)
+entries_by n x word reason P each y i = grind (arith, from_map, in_lanes)
 
 -- a front of lanes that are known to be justified is listed
 pub front_kept : (A : Arena ℕ) (kept : List (Entry ℕ)) (n x word front rest : ℕ) (reason : Reason) → AreCandidates A kept (entries_in n x word reason) → set_lanes word ≡ set_lanes front ++ set_lanes rest →
@@ -332,11 +316,7 @@ front_fits word cut = omega (arith, and_le_r word (1 * 2 ^ cut % 2 ^ 64 - 1))
 
 -- a lane that isn't on in a word's complement is on in the word
 pub on_not_off : (word lane : ℕ) → word < 2 ^ 64 → lane < 64 → is_on (bit_not w64 word) lane ≡ false → is_on word lane ≡ true
-on_not_off word lane fits l off = flipped (is_on word lane) (sym (on_not word lane fits l) ∙ off)
-  where
-    flipped : (b : Bool) → not b ≡ false → b ≡ true
-    flipped true f = refl
-    flipped false f = sym f
+on_not_off word lane fits l off = grind (arith, on_not)
 
 -- candidates for lanes of a row are in the system, and so is their reason
 pub record IsInRow (A : Arena ℕ) (rows n x : ℕ) (reason : Reason) : Type 0 where
@@ -407,12 +387,8 @@ part_first A start now next all part so_far first rest = replaying_still A start
 pub part_turn : (A : Arena ℕ) (start now next new : Board) (all part : List (Entry ℕ)) → IsReplaying A start now all now.waiting → now.waiting ≡ part ++ next.waiting → next ≡ record now { waiting = next.waiting } →
     new.list ≡ with_replay A next.list part → new ≡ record next { list = new.list } → IsReplaying A start new all new.waiting
 part_turn A start now next new all part so_far first rest list kept =
-    subst (IsReplaying A start new all) (sym (ap (λ (b : Board). b.waiting) kept))
-    (replaying_part A start next new all part next.waiting (part_first A start now next all part so_far first rest) list kept)
+    subst (IsReplaying A start new all) (sym (ap (λ (b : Board). b.waiting) kept)) (replaying_part _ _ _ _ _ _ _ (part_first _ _ _ _ _ _ so_far first rest) list kept)
 
 pub part_cost : (A : Arena ℕ) (now next new : Board) (part : List (Entry ℕ)) → now.waiting ≡ part ++ next.waiting → new ≡ record next { list = new.list } →
     readings_of_entries A now.waiting ≡ readings_of_entries A part + readings_of_entries A new.waiting
-part_cost A now next new part first kept =
-    ap (readings_of_entries A) first
-    ∙ sum_by-append (λ (y : Entry ℕ). readings_of_reason A y.node y.reason) part next.waiting
-    ∙ ap (λ W. readings_of_entries A part + readings_of_entries A W) (sym (ap (λ (b : Board). b.waiting) kept))
+part_cost A now next new part first kept = grind (arith, sum_by-append)

@@ -47,18 +47,11 @@ fresh_same board e x word rest few same rows less none = record {
 
 pub fresh_other : (board : Board) (e : Event) (x word : ℕ) → IsGathered board e → e.row ≢ x → HasLanes board.lanes x (λ p. not (has_entry board.list p)) word →
     HasLanes board.lanes x (λ p. not (has_entry (list_and board e) p)) word
-fresh_other board e x word is ne rows = record {
-  each = λ lane l. rows.each lane l ∙ ap not (sym (other_row board.lanes e.row e.lanes x lane e.reason board.list ne l is.within));
-  rest = rows.rest;
-}
+fresh_other board e x word is ne rows = grind (arith, other_row)
 
 -- nothing is gathered
 pub nothing_gathered : (board : Board) → IsGathered board (record { row = 0; reason = Final; lanes = 0 })
-nothing_gathered board = record {
-  row = λ some. absurd (some refl);
-  within = λ lane on. absurd (both_ways (is_on 0 lane) (on_zero lane) on);
-  alive = λ lane on. absurd (both_ways (is_on 0 lane) (on_zero lane) on);
-}
+nothing_gathered board = grind (arith, both_ways, on_zero)
 
 -- entries stay gathered where only the pending ones change
 pub still_gathered : (old new : Board) (e : Event) → new ≡ record old { waiting = new.waiting } → IsGathered old e → IsGathered new e

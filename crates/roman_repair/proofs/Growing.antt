@@ -26,11 +26,7 @@ lanes_joined word more cut low high = cut_lanes (bit_or word more) word more cut
     or_off false = refl
 
 pub joined_within : (word more cut end bit : ℕ) → ((bit : ℕ) → is_on word bit ≡ true → bit < cut) → cut ≤ end → (is_on more bit ≡ true → bit < end) → is_on (bit_or word more) bit ≡ true → bit < end
-joined_within word more cut end bit low less high on = by_answer (is_on word bit) refl
-  where
-    by_answer : (b : Bool) → is_on word bit ≡ b → bit < end
-    by_answer true e = omega (arith, low bit e, less)
-    by_answer false e = high (sym (ap (λ b. b || is_on more bit) e) ∙ sym (on_or word more bit) ∙ on)
+joined_within word more cut end bit low less high on = grind (arith, on_or)
 
 -- the lanes of a word below a bound, each spread
 abbrev pub spread_below : ℕ → ℕ → ℕ → List ℕ

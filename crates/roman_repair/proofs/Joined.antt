@@ -24,21 +24,15 @@ possible-joined s seat p b (Act a) l m =
 
 -- the nodes of the candidates
 grown_nodes : (states : ℕ) (L : List (Entry ℕ)) → nodes_of (flat_map (grown_numbers states) L) ≡ flat_map (λ p. map (λ b. p * states + b) (below states)) (nodes_of L)
-grown_nodes states L =
-    map-flat_map (λ (x : Entry ℕ). x.node) (grown_numbers states) L
-    ∙ flat_map_same (λ x. nodes_of (grown_numbers states x)) (λ x. map (λ b. x.node * states + b) (below states)) L (λ x. map-map (λ (y : Entry ℕ). y.node) (grown_number states x) (below states))
-    ∙ sym (flat_map-map (λ p. map (λ b. p * states + b) (below states)) (λ (x : Entry ℕ). x.node) L)
+grown_nodes states L = grind (arith, flat_map-map, flat_map_same, grown_number, map-flat_map, map-map)
 
 grown_once : (states : ℕ) (L : List (Entry ℕ)) → HasNoRepeats (nodes_of L) → HasNoRepeats (nodes_of (flat_map (grown_numbers states) L))
 grown_once states L once =
-    subst HasNoRepeats (sym (grown_nodes states L))
-    (HasNoRepeats-flat_map (λ p. map (λ b. p * states + b) (below states)) (nodes_of L)
-    (λ p i. HasNoRepeats-map (λ b. p * states + b) (below states) (λ b c j k e. omega arith) (HasNoRepeats-below states))
-    (λ p q r i j k l.
+    subst HasNoRepeats (sym (grown_nodes states L)) (HasNoRepeats-flat_map (λ p. map (λ b. p * states + b) (below states)) (nodes_of L)
+    (λ p i. HasNoRepeats-map (λ b. p * states + b) (below states) (λ b c j k e. omega arith) (HasNoRepeats-below states)) (λ p q r i j k l.
     let (b, m, e) = from_map (λ b. p * states + b) r (below states) k in
     let (c, n, f) = from_map (λ b. q * states + b) r (below states) l in
-    (same_from_place p b q c states (from_below states b m) (from_below states c n) (sym e ∙ f)).0)
-    once)
+    (same_from_place p b q c states (from_below states b m) (from_below states c n) (sym e ∙ f)).0) once)
 
 pub joined_candidates : (s : Sys) (seat : Seat) (L : List (Entry ℕ)) → AreCandidates (numbered s) [] L → NumbersReplay (Join seat) s L →
     AreCandidates (numbered (after (Join seat) s)) [] (flat_map (grown_numbers seat.beh.states) L)
@@ -66,17 +60,11 @@ product_last (x ∷ ns) n = ap (λ p. x * p) (product_last ns n) ∙ (let same :
 -- where the states of all components fit into a row
 pub whole_row : (ns : List ℕ) → product_of ns ≤ 64 → (low_of ns ≡ 0) × (lanes_of ns ≡ product_of ns)
 whole_row [] few = (refl, refl)
-whole_row (n ∷ ns) few = (
-  ap (λ b. cond b (suc (low_of ns)) 0) (le-ltb 64 (product_of (n ∷ ns)) few),
-  ap (λ b. product_of (drop (cond b (suc (low_of ns)) 0) (n ∷ ns))) (le-ltb 64 (product_of (n ∷ ns)) few),
-)
+whole_row (n ∷ ns) few = grind (arith, le-ltb)
 
 -- and where those of the first don't
 pub shorter_row : (n : ℕ) (ns : List ℕ) → 64 < product_of (n ∷ ns) → (low_of (n ∷ ns) ≡ suc (low_of ns)) × (lanes_of (n ∷ ns) ≡ lanes_of ns)
-shorter_row n ns more = (
-  ap (λ b. cond b (suc (low_of ns)) 0) (lt-ltb 64 (product_of (n ∷ ns)) more),
-  ap (λ b. product_of (drop (cond b (suc (low_of ns)) 0) (n ∷ ns))) (lt-ltb 64 (product_of (n ∷ ns)) more),
-)
+shorter_row n ns more = grind (arith, lt-ltb)
 
 pub few_behind : (n : ℕ) (ns : List ℕ) → 0 < n → product_of (n ∷ ns) ≤ 64 → product_of ns ≤ 64
 few_behind n ns some few = let less : product_of ns * 1 ≤ product_of ns * n = mul-le-mul_left (product_of ns) some in omega (arith, less, few)

@@ -1,6 +1,6 @@
 -- What a replay keeps, candidate by candidate.
-use Rattle.std.proofs.Common.{◌≡◌, ℕ, ◌+◌, ◌*◌, ◌<◌, ◌≤◌, ◌==◌, Bool, true, false, if◌then◌else◌, ◌&&◌, List, [], ◌∷◌, ◌++◌, flat_map, length, IsTrue, IsFalse, sum_by, count_by, inl, inr, refl, sym, ap, ◌∙◌, subst, arith, append-nil, append_assoc}
-use Rattle.roman_repair.proofs.Common.{false_from_ne_true, eqb-true, map-append, sum_by-cons, sum_by-append, flat_map-append, list_any-append, IsIn, HasNoRepeats, below, Arena, Entry, is_listed, is_justified, readings, Reason, Final, Act, grown_numbers, in_map, from_map, in_append_left, in_below, IsNumbered, IsReasonOf, readings_of_reason, readings_of-allowed, Board, nodes_of, has_entry, as_entry, is_possible, AreCandidates, with_replay, readings_of_entries}
+use Rattle.std.proofs.Common.{◌≡◌, ℕ, ◌+◌, ◌*◌, ◌<◌, ◌≤◌, Bool, true, false, if◌then◌else◌, ◌&&◌, List, [], ◌∷◌, ◌++◌, flat_map, length, IsTrue, sum_by, count_by, inl, inr, refl, sym, ap, ◌∙◌, subst, arith, append-nil, append_assoc}
+use Rattle.roman_repair.proofs.Common.{false_from_ne_true, eqb-true, map-append, sum_by-cons, sum_by-append, flat_map-append, list_any-append, IsIn, HasNoRepeats, below, Arena, Entry, is_listed, is_justified, readings, Reason, Final, Act, grown_numbers, in_map, from_map, in_append_left, in_below, IsNumbered, IsReasonOf, readings_of_reason, readings_of-allowed, Board, nodes_of, is_possible, AreCandidates, with_replay, readings_of_entries}
 use Rattle.std.proofs.lemmas.Bool.{or_from}
 use Rattle.roman_model.specs.Arena.{is_among, replay_from}
 use Rattle.roman_model.proofs.CallerLemmas.{sum_by_within, listed_among, justified_same, replay_from_same, middle_first, readings_at, readings_within}
@@ -19,8 +19,7 @@ with_one A kept x = if is_justified A (is_listed A kept) x.node x.reason then ke
 
 last_first : (A : Arena ℕ) (kept : List (Entry ℕ)) (x : Entry ℕ) (q : ℕ) → is_among A (nodes_of (kept ++ x ∷ [])) q ≡ is_among A (x.node ∷ nodes_of kept) q
 last_first A kept x q =
-    ap (λ ps. is_among A ps q) (map-append (λ (y : Entry ℕ). y.node) kept (x ∷ []))
-    ∙ middle_first A (nodes_of kept) [] x.node q
+    ap (λ ps. is_among A ps q) (map-append (λ (y : Entry ℕ). y.node) kept (x ∷ [])) ∙ middle_first A (nodes_of kept) [] x.node q
     ∙ ap (λ ps. is_among A (x.node ∷ ps) q) (append-nil (nodes_of kept))
 
 pub with_replay_step : (A : Arena ℕ) (kept : List (Entry ℕ)) (x : Entry ℕ) (L : List (Entry ℕ)) → with_replay A kept (x ∷ L) ≡ with_replay A (with_one A kept x) L
@@ -59,24 +58,12 @@ candidates_left A kept L M are = record {
 
 -- the candidates after one that is kept or not
 candidates_step : (A : Arena ℕ) (kept : List (Entry ℕ)) (x : Entry ℕ) (L : List (Entry ℕ)) → AreCandidates A kept (x ∷ L) → AreCandidates A (with_one A kept x) L
-candidates_step A kept x L are =
-    record { once = are.once.1; new = new (is_justified A (is_listed A kept) x.node x.reason); nodes = λ y i. are.nodes y (inr i); possible = λ y i. are.possible y (inr i) }
-  where
-    other : (y : Entry ℕ) → IsIn y L → IsFalse (y.node == x.node)
-    other y i = false_from_ne_true (y.node == x.node) (λ t. are.once.0 (subst (λ p. IsIn p (nodes_of L)) (eqb-true y.node x.node t) (in_map (λ (z : Entry ℕ). z.node) y L i)))
-
-    new : (b : Bool) (y : Entry ℕ) → IsIn y L → IsFalse (has_entry (if b then kept ++ x ∷ [] else kept) y.node)
-    new true y i =
-        list_any-append (λ (z : Entry ℕ). y.node == z.node) kept (x ∷ [])
-        ∙ or_from (has_entry kept y.node) (has_entry (x ∷ []) y.node) (are.new y (inr i)) (or_from (y.node == x.node) false (other y i) refl)
-    new false y i = are.new y (inr i)
+candidates_step A kept x L are = grind (arith, eqb-true, false_from_ne_true, in_map, list_any-append, or_from)
 
 -- the candidates after several that are kept or not
 pub candidates_replayed : (A : Arena ℕ) (kept L M : List (Entry ℕ)) → AreCandidates A kept (L ++ M) → AreCandidates A (with_replay A kept L) M
 candidates_replayed A kept [] M are = subst (λ N. AreCandidates A N M) (sym (append-nil kept)) are
-candidates_replayed A kept (x ∷ L) M are =
-    subst (λ N. AreCandidates A N M) (sym (with_replay_step A kept x L))
-    (candidates_replayed A (with_one A kept x) L M (candidates_step A kept x (L ++ M) are))
+candidates_replayed A kept (x ∷ L) M are = grind (arith, candidates_step, with_replay_step, (candidates_replayed A (with_one A kept x) L M (candidates_step A kept x (L ++ M) are)))
 
 -- One turn of the replay.
 
@@ -88,13 +75,7 @@ pub record IsReplaying (A : Arena ℕ) (start now : Board) (all left : List (Ent
 
 -- the state of the replay where only the pending entries have changed
 pub replaying_still : (A : Arena ℕ) (start now next : Board) (all left : List (Entry ℕ)) → IsReplaying A start now all left → next ≡ record now { waiting = next.waiting } → IsReplaying A start next all left
-replaying_still A start now next all left so_far rest =
-    let same : now.list ≡ next.list = sym (ap (λ (b : Board). b.list) rest) in
-    record {
-      candidates = subst (λ N. AreCandidates A N left) same so_far.candidates;
-      list = ap (λ N. with_replay A N left) (sym same) ∙ so_far.list;
-      rest = rest ∙ ap (λ (b : Board). record b { waiting = next.waiting }) so_far.rest ∙ ap (λ (L : List (Entry ℕ)). record start { list = L; waiting = next.waiting }) same;
-    }
+replaying_still A start now next all left so_far rest = grind arith
 
 -- the state of the replay after several candidates
 pub replaying_part : (A : Arena ℕ) (start now new : Board) (all L M : List (Entry ℕ)) → IsReplaying A start now all (L ++ M) → new.list ≡ with_replay A now.list L →
@@ -113,17 +94,13 @@ grown_number states x b = record { node = x.node * states + b; reason = x.reason
 
 -- an entry grown by one state is its own candidate
 pub grown_once : (states : ℕ) (x : Entry ℕ) → states ≡ 1 → grown_numbers states x ≡ x ∷ []
-grown_once states x one =
-    let same : x.node * 1 + 0 ≡ x.node = omega arith in
-    ap (λ n. grown_numbers n x) one ∙ ap (λ p. as_entry (p, x.reason) ∷ []) same
+grown_once states x one = grind arith
 
 -- Those of all entries that wait, some of them first.
 
 pub grown_first : (A : Arena ℕ) (start now next : Board) (states : ℕ) (all part : List (Entry ℕ)) → IsReplaying A start now all (flat_map (grown_numbers states) now.waiting) →
     now.waiting ≡ part ++ next.waiting → next ≡ record now { waiting = next.waiting } → IsReplaying A start next all (flat_map (grown_numbers states) part ++ flat_map (grown_numbers states) next.waiting)
-grown_first A start now next states all part so_far first rest =
-    replaying_still A start now next all (flat_map (grown_numbers states) part ++ flat_map (grown_numbers states) next.waiting)
-    (subst (IsReplaying A start now all) (ap (flat_map (grown_numbers states)) first ∙ flat_map-append (grown_numbers states) part next.waiting) so_far) rest
+grown_first A start now next states all part so_far first rest = grind (arith, flat_map-append, replaying_still)
 
 pub grown_turn : (A : Arena ℕ) (start now next new : Board) (states : ℕ) (all part : List (Entry ℕ)) → IsReplaying A start now all (flat_map (grown_numbers states) now.waiting) →
     now.waiting ≡ part ++ next.waiting → next ≡ record now { waiting = next.waiting } → new.list ≡ with_replay A next.list (flat_map (grown_numbers states) part) → new ≡ record next { list = new.list } →
@@ -134,11 +111,7 @@ grown_turn A start now next new states all part so_far first rest list kept =
 
 pub grown_cost : (A : Arena ℕ) (now next new : Board) (states : ℕ) (part : List (Entry ℕ)) → now.waiting ≡ part ++ next.waiting → new ≡ record next { list = new.list } →
     readings_of_entries A (flat_map (grown_numbers states) now.waiting) ≡ readings_of_entries A (flat_map (grown_numbers states) part) + readings_of_entries A (flat_map (grown_numbers states) new.waiting)
-grown_cost A now next new states part first kept =
-    ap (λ W. readings_of_entries A (flat_map (grown_numbers states) W)) first
-    ∙ ap (readings_of_entries A) (flat_map-append (grown_numbers states) part next.waiting)
-    ∙ sum_by-append (λ (y : Entry ℕ). readings_of_reason A y.node y.reason) (flat_map (grown_numbers states) part) (flat_map (grown_numbers states) next.waiting)
-    ∙ ap (λ W. readings_of_entries A (flat_map (grown_numbers states) part) + readings_of_entries A (flat_map (grown_numbers states) W)) (sym (ap (λ (b : Board). b.waiting) kept))
+grown_cost A now next new states part first kept = grind (arith, flat_map-append, sum_by-append)
 
 -- Readings.
 

@@ -1,12 +1,12 @@
 -- The end of a repair, in numbers of pairs.
-use Rattle.std.proofs.Common.{◌≡◌, ℕ, ◌+◌, ◌*◌, ◌/◌, ◌<◌, true, List, [], map, length, take, sym, ap, ◌∙◌, subst, arith}
+use Rattle.std.proofs.Common.{◌≡◌, ℕ, ◌+◌, ◌<◌, true, List, [], length, arith}
 use Rattle.roman_repair.proofs.Common.{length-map, Sys, IsSys, Entry, IsOrder, replay, Change, after, CanChange, sizes_of, pair_at, numbered, rename_numbers, NumbersReplay, AreNumbers, NamedSys, system_of, IsNamedSys, Board, pairs_of, has_entry, Begins, arena_of, HasCaps, IsRelation, listed_numbers, Tally, IsRepaired, IsBegun, candidates, with_replay, IsReplayable}
 use Rattle.std.proofs.lemmas.List.{take-map}
 use Rattle.roman_model.specs.SystemArena.{arena}
-use Rattle.roman_model.specs.Numbers.{entry_at, IsCompleteList}
+use Rattle.roman_model.specs.Numbers.{IsCompleteList}
 use Rattle.roman_model.proofs.CallerLemmas.{order_named, numbers_replay, IsNumber, numbers_rename}
 use Rattle.roman_joint.specs.declared.seat.Seat.{Seat}
-use Rattle.roman_repair.specs.Repairs.{replayed, GoesOnFromReplay}
+use Rattle.roman_repair.specs.Repairs.{GoesOnFromReplay}
 
 -- the replay of the renamed old list, in numbers
 abbrev pub numbers_replayed : Change → Sys → List (Entry ℕ) → List (Entry ℕ)
@@ -15,13 +15,7 @@ numbers_replayed change s old = replay (numbered (after change s)) (rename_numbe
 -- a list that begins with that replay
 pub goes_on_from : (change : Change) (s : Sys) (old start new : List (Entry ℕ)) (tally : Tally) → NumbersReplay change s old → start ≡ numbers_replayed change s old → Begins start new →
     tally.kept ≡ length start → tally.kept + tally.added ≡ length new → GoesOnFromReplay change s old new tally
-goes_on_from change s old start new tally replays is begins kept added =
-    let pairs : map (entry_at (after change s)) start ≡ replayed change s old = ap (map (entry_at (after change s))) is ∙ replays.pairs in
-    record {
-      begins = ap (λ n. take n (map (entry_at (after change s)) new)) kept ∙ take-map (entry_at (after change s)) (length start) new ∙ ap (map (entry_at (after change s))) begins ∙ pairs;
-      kept = kept ∙ sym (length-map start (entry_at (after change s))) ∙ ap length pairs;
-      added = added;
-    }
+goes_on_from change s old start new tally replays is begins kept added = grind (arith, length-map, take-map)
 
 -- a complete list is an order of the numbers
 pub numbers_order : (s : Sys) (L : List (Entry ℕ)) → IsSys s → AreNumbers s L → IsCompleteList s L → IsOrder (numbered s) L
@@ -48,19 +42,9 @@ repaired_from change old_joint old start new_joint new tally replays is system r
 -- an order keeps its room where only the seats of the joint change
 pub caps_kept : (old_joint new_joint : NamedSys) (seats : List Seat) (old new : Board) → new_joint ≡ record old_joint { seats = seats } → new.cap_pairs ≡ old.cap_pairs → HasCaps old_joint old →
     HasCaps new_joint new
-caps_kept old_joint new_joint seats old new joint pairs caps =
-    let places : new_joint.limit / (system_of new_joint).env.actions ≡ old_joint.limit / (system_of old_joint).env.actions = ap (λ (n : NamedSys). n.limit / (system_of n).env.actions) joint in
-    record { pairs = omega (arith, places, pairs, caps.pairs) }
+caps_kept old_joint new_joint seats old new joint pairs caps = grind arith
 
 -- the repair can go on from the list that a replay makes
 pub replayed_begun : (joint : NamedSys) (states : ℕ) (old new : Board) → IsReplayable joint states old → new.list ≡ with_replay (arena_of joint) old.list (candidates states old) →
     new ≡ record old { list = new.list; waiting = [] } → IsBegun joint new
-replayed_begun joint states old new can list rest = record {
-  valid = subst (IsOrder (arena_of joint)) (sym (list ∙ ap (λ K. with_replay (arena_of joint) K (candidates states old)) can.empty)) can.valid;
-  shaped = record {
-    pairs = ap (λ (b : Board). b.rows * b.lanes) rest ∙ can.shaped.pairs;
-    lanes = ap (λ (b : Board). b.lanes) rest ∙ can.shaped.lanes;
-  };
-  caps = record { pairs = omega (arith, ap (λ (b : Board). b.cap_pairs) rest, can.caps.pairs) };
-  idle = ap (λ (b : Board). b.waiting) rest;
-}
+replayed_begun joint states old new can list rest = grind arith

@@ -1,5 +1,5 @@
 -- Orders that are reopened for a changed system, and their replay.
-use Rattle.std.proofs.Common.{◌≡◌, ℕ, ◌+◌, ◌*◌, ◌<◌, ◌≤◌, Bool, true, List, [], ◌∷◌, ◌++◌, flat_map, length, IsTrue, refl, sym, ap, ap₂, ◌∙◌, subst, arith}
+use Rattle.std.proofs.Common.{◌≡◌, ℕ, ◌+◌, ◌*◌, ◌<◌, ◌≤◌, Bool, true, List, [], ◌∷◌, ◌++◌, flat_map, length, IsTrue, refl, ap, ap₂, ◌∙◌, arith}
 use Rattle.roman_repair.proofs.Common.{below, Sys, Arena, Entry, is_justified, IsOrder, replay, Change, after, Sizes, sizes_of, count, numbered, Reason, Final, Act, grown_numbers, rename_numbers, length-below, turned, AreNumbers, sizes-turned, NumbersReplay, lanes_of, NamedSys, system_of, IsNamedSys, lanes_in, Board, pairs_of, has_entry, IsShaped, arena_of, HasCaps, IsRelation, listed_numbers, Begins, Tally, IsRepaired, is_possible, AreCandidates, candidates, IsReplayable}
 use Rattle.roman_model.proofs.CallerLemmas.{justified_is, order_new, new_once, order_justified, numbered_is_same, number_allows-turned}
 use Rattle.roman_relation.proofs.CallerLemmas.{room_for_pairs}
@@ -15,12 +15,7 @@ possible_by A gone p (Act a) j = (justified_is A gone p a j).0
 
 -- the entries of a removal list are candidates
 pub listed_candidates : (s : Sys) (L : List (Entry ℕ)) → AreNumbers s L → IsOrder (numbered s) L → AreCandidates (numbered s) [] L
-listed_candidates s L are order = record {
-  once = new_once (numbered s) (numbered_is_same s) [] L (order_new (numbered s) L order);
-  new = λ x i. refl;
-  nodes = λ x i. subst (λ n. x.node < n) (sym (length-below (count (sizes_of s)))) (are x i);
-  possible = λ x i. possible_by (numbered s) _ x.node x.reason (order_justified (numbered s) L x order i);
-}
+listed_candidates s L are order = grind (arith, length-below, new_once, numbered_is_same, order_justified, order_new, possible_by)
 
 pub nodes-turned : (s : Sys) (k : ℕ) (frozen : Bool) → length (numbered (turned s k frozen)).nodes ≡ length (numbered s).nodes
 nodes-turned s k frozen = ap (λ n. length (below (count n))) (sizes-turned s k frozen)
@@ -31,12 +26,7 @@ possible-turned s k frozen p (Act a) = number_allows-turned s k frozen p a
 
 -- the candidates are the same where a service freezes or thaws
 pub turned_candidates : (s : Sys) (k : ℕ) (frozen : Bool) (L : List (Entry ℕ)) → AreCandidates (numbered s) [] L → AreCandidates (numbered (turned s k frozen)) [] L
-turned_candidates s k frozen L are = record {
-  once = are.once;
-  new = are.new;
-  nodes = λ x i. subst (λ n. x.node < n) (sym (nodes-turned s k frozen)) (are.nodes x i);
-  possible = λ x i. possible-turned s k frozen x.node x.reason ∙ are.possible x i;
-}
+turned_candidates s k frozen L are = grind (arith, nodes-turned, possible-turned)
 
 pub relation_candidates : (joint : NamedSys) (order : Board) → IsNamedSys joint → IsRelation joint order → ((p : ℕ) → has_entry order.list p ≡ true → p < pairs_of order) →
     AreCandidates (arena_of joint) [] order.list
@@ -54,10 +44,7 @@ room_to_reopen joint old shape rows lanes known caps is whole wide =
     omega (arith, pairs, room_for_pairs joint old known caps, length-below (count (sizes_of (system_of joint))))
 
 pub shaped_for : (s : Sys) (shape : Sizes) (new : Board) → shape ≡ sizes_of s → new.rows * lanes_of shape.seats ≡ count shape → new.lanes ≡ lanes_of shape.seats → IsShaped (numbered s) (lanes_in s) new
-shaped_for s shape new is whole wide = record {
-  pairs = ap (λ m. new.rows * m) wide ∙ whole ∙ ap count is ∙ sym (length-below (count (sizes_of s)));
-  lanes = wide ∙ ap (λ (n : Sizes). lanes_of n.seats) is;
-}
+shaped_for s shape new is whole wide = grind (arith, length-below)
 
 -- the whole list is pending for the changed system, and stands for the renamed list
 pub record IsReopened (change : Change) (s : Sys) (joint : NamedSys) (states : ℕ) (old : List (Entry ℕ)) (reopened : Board) : Type 0 where
@@ -78,14 +65,7 @@ pub replayable : (change : Change) (s : Sys) (joint : NamedSys) (states : ℕ) (
     AreCandidates (numbered (after change s)) [] (rename_numbers change (sizes_of s) old) → reopened.list ≡ [] → IsShaped (arena_of joint)
     (lanes_in (system_of joint)) reopened → HasCaps joint reopened →
     IsReplayable joint states reopened
-replayable change s joint states old reopened is may empty shaped caps = record {
-  shaped = shaped;
-  caps = caps;
-  empty = empty;
-  may = subst (λ (t : Sys). AreCandidates (numbered t) [] (candidates states reopened)) (sym is.system) (subst (AreCandidates (numbered (after change s)) []) (sym is.those) may);
-  valid = subst (IsOrder (arena_of joint)) (sym (replay_renamed change s joint states old reopened is))
-      (subst (λ (t : Sys). IsOrder (numbered t) (numbers_replayed change s old)) (sym is.system) is.replays.order);
-}
+replayable change s joint states old reopened is may empty shaped caps = grind (arith, numbers_replayed, replay_renamed)
 
 -- the replayed and completed list is what the repair should end in
 pub reopened_repaired : (change : Change) (n mid joint : NamedSys) (states : ℕ) (old reopened new : Board) (tally : Tally) →
@@ -93,8 +73,7 @@ pub reopened_repaired : (change : Change) (n mid joint : NamedSys) (states : ℕ
     Begins (replay (arena_of mid) (candidates states reopened)) new.list → tally.kept ≡ length
     (replay (arena_of mid) (candidates states reopened)) → tally.kept + tally.added ≡ length new.list → IsRepaired change n old joint new tally
 reopened_repaired change n mid joint states old reopened new tally is same relation begins kept added =
-    repaired_from change n old (replay (arena_of mid) (candidates states reopened)) joint new tally is.replays
-    (replay_renamed change (system_of n) mid states old.list reopened is) (ap system_of same ∙ is.system) relation begins kept added
+    repaired_from _ _ _ _ _ _ _ is.replays (replay_renamed _ _ _ _ _ _ is) (ap system_of same ∙ is.system) relation begins kept added
 
 -- an entry grown by one state stands for its own pair
 pub grown_by_one : (L : List (Entry ℕ)) → flat_map (grown_numbers 1) L ≡ L

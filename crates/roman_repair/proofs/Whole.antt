@@ -1,7 +1,7 @@
 -- Changes that keep the whole renamed list: a freeze or a death.
-use Rattle.std.proofs.Common.{◌≡◌, ℕ, zero, suc, ◌<◌, Bool, List, [], ◌∷◌, length, IsTrue, slice_get, sym, ap, ◌∙◌, subst, arith}
+use Rattle.std.proofs.Common.{◌≡◌, ℕ, zero, suc, ◌<◌, Bool, List, [], ◌∷◌, length, IsTrue, slice_get, sym, ◌∙◌, arith}
 use Rattle.std.proofs.lemmas.Bool.{false≢true}
-use Rattle.roman_repair.proofs.Common.{Sys, Seat, Entry, IsOrder, Change, after, Sizes, sizes_of, numbered, rename_numbers, turned, sizes-turned, NumbersReplay, lanes_of, NamedSys, system_of, lanes_in, Board, IsShaped, arena_of, HasCaps, IsBegun}
+use Rattle.roman_repair.proofs.Common.{Sys, Seat, Entry, Change, after, sizes_of, numbered, rename_numbers, turned, sizes-turned, NumbersReplay, NamedSys, system_of, lanes_in, Board, IsShaped, arena_of, HasCaps, IsBegun}
 use Rattle.roman_model.specs.SystemArena.{is_ready}
 use Rattle.roman_model.specs.Change.{KeepsAll}
 use Rattle.roman_joint.specs.declared.seat.Seat as joint
@@ -21,17 +21,8 @@ whole_replay change s old new replays all list = list ∙ sym (replays.whole all
 pub whole_begun : (change : Change) (old_joint new_joint : NamedSys) (seats : List joint.Seat) (old new : Board) → NumbersReplay change (system_of old_joint) old.list → KeepsAll change → HasCaps old_joint old →
     new_joint ≡ record old_joint { seats = seats } → system_of new_joint ≡ after change (system_of old_joint) → new.list ≡ rename_numbers change (sizes_of (system_of old_joint)) old.list →
     IsShaped (arena_of new_joint) (lanes_in (system_of new_joint)) new → new.cap_pairs ≡ old.cap_pairs → new.waiting ≡ [] → IsBegun new_joint new
-whole_begun change old_joint new_joint seats old new replays all caps joint system list shaped room idle = record {
-  valid = subst (λ (t : Sys). IsOrder (numbered t) new.list) (sym system)
-      (subst (IsOrder (numbered (after change (system_of old_joint)))) (sym (whole_replay change (system_of old_joint) old.list new.list replays all list)) replays.order);
-  shaped = shaped;
-  caps = caps_kept old_joint new_joint seats old new joint room caps;
-  idle = idle;
-}
+whole_begun change old_joint new_joint seats old new replays all caps joint system list shaped room idle = grind (arith, caps_kept, whole_replay)
 
 -- a freeze keeps the pairs and their rows
 pub shaped_turned : (s : Sys) (k : ℕ) (frozen : Bool) (board : Board) → IsShaped (numbered s) (lanes_in s) board → IsShaped (numbered (turned s k frozen)) (lanes_in (turned s k frozen)) board
-shaped_turned s k frozen board shaped = record {
-  pairs = shaped.pairs ∙ sym (nodes-turned s k frozen);
-  lanes = shaped.lanes ∙ sym (ap (λ (n : Sizes). lanes_of n.seats) (sizes-turned s k frozen));
-}
+shaped_turned s k frozen board shaped = grind (arith, nodes-turned, sizes-turned)

@@ -97,6 +97,7 @@ impl AskedBand {
 
     /// Returns the lanes of the row `x` at which the reason is known to hold: none where another band
     /// was asked, or about another reason.
+    #[tactic(auto, using(std::proofs::lemmas::Bool::both_ways, roman_lanes::proofs::CallerLemmas::on_zero))]
     pub(crate) fn known_at(&self, x: u32, reason: Reason) -> u64
         ensures { (A : Arena ℕ) (lanes : ℕ) (gone : ℕ → Bool) → HoldsInBand A lanes gone self.now →
             (lane : ℕ) → lane < lanes → is_on result lane ≡ true → IsTrue (is_justified A gone (x * lanes + lane) reason) }
@@ -136,6 +137,7 @@ impl AskedBand {
     }
 
     /// Asks all rows of the band. Returns the lanes of its row `x` at which the reason holds.
+    #[tactic(auto, using(crate::proofs::BandAnswers::band_before, std::proofs::lemmas::Nat::mod_below, crate::proofs::BandAnswers::row_held, crate::proofs::BandAnswers::known_whole))]
     fn ask_whole<J: Rules, L: Ledger>(
         &mut self,
         joint: &J,

@@ -55,6 +55,7 @@ pub fn join<L: Ledger>(
 }
 
 /// Returns the number of states of the service's behaviour.
+#[tactic(auto, using(roman_joint::proofs::CallerLemmas::states_range, roman_joint::proofs::CallerLemmas::seat_beh_read))]
 fn states_of(joint: &Joint, seat: &Seat) -> u8
     requires { seat.now.behaviour < length joint.now.catalogue }
     ensures { result ≡ (seat_of joint.now.catalogue seat.now).beh.states }

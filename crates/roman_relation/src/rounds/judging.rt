@@ -98,6 +98,7 @@ fn judge<J: Rules>(joint: &J, order: &mut Order, y: u32, left: &mut [u64])
 }
 
 // Returns whether the action `a` is in a set.
+#[tactic(auto, using(std::proofs::lemmas::Nat::Bits::shr_and_one), unfolding(roman_lanes::specs::Rows::is_on))]
 fn is_in(actions: u32, a: u8) -> bool
     requires { a < 32 }
     ensures { result ≡ is_on actions a }

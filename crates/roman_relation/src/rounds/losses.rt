@@ -81,6 +81,7 @@ fn mark_event<J: Rules, L: Ledger>(joint: &J, order: &mut Order, event: Event, s
 }
 
 // Returns whether a word has some lane of another.
+#[tactic(auto, using(crate::proofs::Losses::apart_words, std::proofs::lemmas::Bool::both_ways, crate::proofs::Losses::meeting_words))]
 fn meets(word: u64, other: u64) -> bool
     ensures none { result ≡ false → (lane : ℕ) → is_on other lane ≡ true → is_on word lane ≡ false }
     ensures some { result ≡ true → (lane : ℕ) × (is_on word lane ≡ true) × (is_on other lane ≡ true) }

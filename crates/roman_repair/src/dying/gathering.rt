@@ -9,6 +9,7 @@ use roman_model::Reason;
 use roman_order::{Event, Order};
 
 /// Appends the gathered entries to the list.
+#[tactic(auto, using(crate::proofs::Gathering::no_entries))]
 pub(crate) fn push_gathered(order: &mut Order, gathered: &Event)
     requires { IsGathered order.old gathered.now }
     ensures { order.new ≡ record order.old { list = list_and order.old gathered.now } }
@@ -20,6 +21,7 @@ pub(crate) fn push_gathered(order: &mut Order, gathered: &Event)
 }
 
 /// Returns the lanes of `word` that `other` doesn't have.
+#[tactic(auto, using(roman_lanes::proofs::CallerLemmas::on_less, roman_lanes::proofs::CallerLemmas::on_and))]
 fn other_lanes(word: u64, other: u64) -> u64
     ensures each { (lane : ℕ) → lane < 64 → is_on result lane ≡ (is_on word lane && not (is_on other lane)) }
     ensures none { (lane : ℕ) → is_on word lane ≡ false → is_on result lane ≡ false }
@@ -43,6 +45,7 @@ pub(crate) fn unlisted(order: &Order, gathered: &Event, x: u32) -> u64
 
 /// Returns whether the entries for the lanes `lost` of the row `x` may stand in one event after the
 /// gathered ones: they have the same row and reason, and all their lanes are higher.
+#[tactic(auto, using(crate::proofs::Gathering::all_lower))]
 fn goes_on(gathered: &Event, x: u32, lost: u64, reason: Reason) -> bool
     requires { lost ≢ 0 }
     ensures row { result ≡ true → gathered.now.row ≡ x }

@@ -1,23 +1,13 @@
 -- A service that is read is appended to those before it, and a service that isn't gives the result of all services.
 use Rattle.std.proofs.Common.{◌≡◌, List, Ok, subst, arith, rules}
-use Rattle.roman_library.proofs.Common.{err_from_is_err_and, view, service_of, Stops, placed, Service}
+use Rattle.roman_library.proofs.Common.{err_from_is_err_and, view, service_of, placed, Service}
 use Rattle.roman_library.specs.declared.refusal.Part.TheVariants as part
 use Rattle.roman_library.proofs.LibraryLemmas.{AreServices-push}
 use Rattle.roman_library.proofs.StepLemmas.{services_go_on, services_stop, services_done}
 use Rattle.roman_library.proofs.services.read_items.Goals as goal
 
 pub returns-in_err-service-clause-services : goal.returns-in_err-service-clause-services
-returns-in_err-service-clause-services c =
-    let p = err_from_is_err_and c.from_residual-in_err-service.result c.from_residual-in_err-service.ensures.1 in
-    let i = c.loop-i.i in
-    let x = c.index-items-i.result in
-    let document = c.args.document.now in
-    let why = c.in_err-service.field-0.0 in
-    let stops : Stops why (placed document (part.Service i) (service_of c.args.version c.args.catalogue.now c.loop-i.services.items (view x))) =
-    subst (λ (xs : List Service). Stops why (placed document (part.Service i) (service_of c.args.version c.args.catalogue.now xs (view x))))
-    c.deref.ensures.value c.in_err-service.ensures.service in
-    rw (p.1, p.2)
-    (services_stop document c.args.version c.args.catalogue.now c.args.items.now i c.loop-i.services.items why x (omega arith) c.index-items-i.is stops c.loop-i.invariant.left)
+returns-in_err-service-clause-services c = grind (arith, err_from_is_err_and, services_stop)
 
 pub loop-i-preserved : goal.loop-i-preserved
 loop-i-preserved c =

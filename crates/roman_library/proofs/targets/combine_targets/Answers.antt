@@ -1,16 +1,8 @@
 -- The combined parts are those of a library, and an error is the broken rule.
-use Rattle.std.proofs.Common.{sym, subst}
-use Rattle.roman_parts.specs.Reading.{Fails}
-use Rattle.roman_library.proofs.Common.{PartError, combined_of, ArePartsOf}
+use Rattle.std.proofs.Common.{sym, subst, arith}
+use Rattle.roman_library.proofs.Common.{ArePartsOf}
 use Rattle.roman_library.proofs.TargetLemmas.{made_gives, broken_gives, combined_parts_known}
 use Rattle.roman_library.proofs.targets.combine_targets.Goals as goal
-
-pub combine-requires : goal.combine-requires
-combine-requires c = record {
-  count = c.requires.count;
-  catalogue = λ k d l. let is = c.requires.catalogue.known k d l in record { env_states = is.env_states; actions = is.actions };
-  targets = λ k d l. let is = c.requires.targets k d l in record { env_states = is.env_states; actions = is.actions };
-}
 
 pub returns-in-Ok : goal.returns-in-Ok
 returns-in-Ok c = record {
@@ -20,9 +12,4 @@ returns-in-Ok c = record {
 }
 
 pub returns-in-Err : goal.returns-in-Err
-returns-in-Err c = record {
-  parts =
-      subst (λ (why : PartError). Fails why (combined_of c.args.environment.now c.args.catalogue.now c.args.targets.now)) (sym c.broken_rule.ensures)
-      (broken_gives c.args.environment.now c.args.catalogue.now c.args.targets.now c.in-Err.error c.in-Err.ensures.rules);
-  known = tt;
-}
+returns-in-Err c = grind (arith, broken_gives)

@@ -1,5 +1,5 @@
-use Rattle.std.proofs.Common.{◌≡◌, ℕ, ◌+◌, ◌*◌, ◌<◌, length, sum_by, sym, ap, ◌∙◌, arith}
-use Rattle.roman_relation.proofs.Common.{mul-le, below, is_listed, mask, sum_below_more}
+use Rattle.std.proofs.Common.{◌≡◌, ℕ, ◌+◌, ◌*◌, length, sum_by, sym, ap, ◌∙◌, arith}
+use Rattle.roman_relation.proofs.Common.{below, is_listed, mask, sum_below_more}
 use Rattle.roman_relation.proofs.Bands.{band_ends, whole_bands}
 use Rattle.roman_relation.proofs.Choosing.{sum_rows}
 use Rattle.roman_relation.proofs.masks.choices.Goals as goal
@@ -14,16 +14,7 @@ band_choices-count-requires-clause-band g c =
     omega (arith, band_ends w c.loop-y.y m c.loop-y-test.true, rows, c.known.ensures.band.0)
 
 pub loop-y-preserved : goal.loop-y-preserved
-loop-y-preserved g c =
-    let A = g.J.Rules.arena c.args.joint.now in
-    let n = g.J.Rules.lanes c.args.joint.now in
-    let w = g.J.Rules.band c.args.joint.now in
-    let gone = is_listed A c.args.order.now.list in
-    let more = sum_below_more (λ y. sum_by (λ i. sum_by (λ lane. sum_by (λ a. length (mask A gone ((y * w + i) * n + lane) a)) (below A.actions)) (below n)) (below w)) c.loop-y.y in
-    record {
-      counted = omega (arith, c.loop-y.invariant.counted, c.band_choices-count.ensures.counted, more);
-      bound = omega (arith, c.loop-y.invariant.bound, c.band_choices-count.ensures.bound);
-    }
+loop-y-preserved g c = grind (arith, sum_below_more)
 
 pub returns : goal.returns
 returns g c =

@@ -1,12 +1,9 @@
-use Rattle.std.proofs.Common.{◌≡◌, ◌+◌, ◌*◌, ◌/◌, ◌%◌, sym, ap, ◌∙◌, subst, arith}
-use Rattle.roman_relation.proofs.Common.{mod_below, div-add-mod', is_listed, mask}
+use Rattle.std.proofs.Common.{◌≡◌, ◌+◌, ◌*◌, ◌/◌, ◌%◌, sym, ap, ◌∙◌, subst}
+use Rattle.roman_relation.proofs.Common.{div-add-mod', is_listed, mask}
 use Rattle.roman_model.specs.System.{has}
 use Rattle.roman_rules.specs.Bits.{HasBits}
 use Rattle.roman_relation.proofs.Lanes.{words_rows}
 use Rattle.roman_relation.proofs.masks.mask.Goals as goal
-
-pub mask-requires-clause-lane : goal.mask-requires-clause-lane
-mask-requires-clause-lane g c = omega (arith, mod_below c.args.p c.lanes-lanes.result c.lanes-lanes.ensures.few.0, c.lanes-lanes.ensures.value)
 
 pub returns : goal.returns
 returns g c =

@@ -1,18 +1,9 @@
-use Rattle.std.proofs.Common.{◌≡◌, ◌/◌, ◌<◌, ◌*◌, IsFalse, refl, sym, ap, ◌∙◌, subst, arith}
-use Rattle.roman_relation.proofs.Common.{both_ways, lt-ltb, mul-le, div_below, IsOrder, is_listed, Board, pairs_of, is_marked, AreUnlisted}
+use Rattle.std.proofs.Common.{◌≡◌, ◌/◌, ◌<◌, IsFalse, refl, sym, ap, ◌∙◌, subst, arith}
+use Rattle.roman_relation.proofs.Common.{both_ways, lt-ltb, div_below, IsOrder, is_listed, Board, is_marked, AreUnlisted}
 use Rattle.roman_relation.proofs.Bands.{whole_bands}
 use Rattle.roman_relation.proofs.Going.{SameFrame, shaped_on, shaped_like}
 use Rattle.roman_relation.proofs.Lanes.{shaped_row, words_rows}
 use Rattle.roman_relation.proofs.rounds.begin_rounds.Goals as goal
-
-pub mark_front-requires : goal.mark_front-requires
-mark_front-requires g c =
-    let A = g.J.Rules.arena c.args.joint.now in
-    let n = g.J.Rules.lanes c.args.joint.now in
-    let w = g.J.Rules.band c.args.joint.now in
-    let shaped = shaped_on A n c.args.order.now c.list_unfine.new.order c.requires.shaped c.list_unfine.ensures.goes_on in
-    let bands = mul-le c.bands.result 1 c.bands.result w (omega arith) c.known.ensures.band.0 in
-    omega (arith, bands, mul-le (c.bands.result * w) 1 (c.bands.result * w) n (omega arith) c.known.ensures.lanes.0, c.bands.ensures, shaped.pairs, ap (λ (d : Board). pairs_of d) c.keep_before.ensures.rest)
 
 pub returns-clause-ready : goal.returns-clause-ready
 returns-clause-ready g c =

@@ -87,11 +87,4 @@ rounds-preserved g c =
     }
 
 pub returns-then-len-start-clause-cost : goal.returns-then-len-start-clause-cost
-returns-then-len-start-clause-cost g c =
-    let A = g.J.Rules.arena c.args.joint.now in
-    let b = c.args.order.now in
-    let old = c.rounds.order in
-    let d = c.play_round.new.order in
-    let goes = c.play_round.ensures.goes_on in
-    let all = begins_on b.list old.list d.list c.rounds.invariant.begins goes.begins in
-    omega (arith, c.rounds.invariant.cost, c.play_round.ensures.cost, fall_added A old.list d.list goes.begins, fall_added A b.list d.list all)
+returns-then-len-start-clause-cost g c = grind (arith, begins_on, fall_added)

@@ -20,8 +20,7 @@ pub returns-clause-repaired : goal.returns-clause-repaired
 returns-clause-repaired g c =
     let n = c.args.relation.now.joint in
     let old = c.args.relation.now.order in
-    let replays = relation_replays (Freeze c.args.k) n old c.known.ensures c.requires.relation c.known-2.ensures.in_range
-    (ready_there (system_of n).seats c.args.k c.requires.ready) in
-    repaired_from (Freeze c.args.k) n old old.list c.settle_on.new.relation.joint c.settle_on.new.relation.order c.settle_on.result replays
-    (whole_replay (Freeze c.args.k) (system_of n) old.list old.list replays tt refl) (ap system_of c.settle_on.ensures.joint ∙ c.set_frozen.ensures.system)
+    let replays = relation_replays _ _ _ c.known.ensures c.requires.relation c.known-2.ensures.in_range
+    (ready_there _ _ c.requires.ready) in
+    repaired_from _ _ _ _ _ _ _ replays (whole_replay _ _ _ _ replays tt refl) (ap system_of c.settle_on.ensures.joint ∙ c.set_frozen.ensures.system)
     c.settle_on.ensures.relation c.settle_on.ensures.begins c.settle_on.ensures.kept c.settle_on.ensures.added

@@ -10,14 +10,13 @@ replay_and_settle_on-requires-clause-replayable g c =
     let n = c.args.relation.now.joint in
     let old = c.args.relation.now.order in
     let seat : Seat = seat_of n.catalogue c.args.seat in
-    let can = joined_can c.push_seat.new.self (system_of n) seat c.known-4.ensures c.in_ok-push_seat.ensures.system in
+    let can = joined_can _ _ _ c.known-4.ensures c.in_ok-push_seat.ensures.system in
     let is : IsReopened (Join seat) (system_of n) c.reopen.new.relation.joint c.states_of-states.result old.list c.reopen.new.relation.order = record {
-      replays = relation_replays (Join seat) n old c.known.ensures c.requires.relation c.known-2.ensures.in_range can;
+      replays = relation_replays _ _ _ c.known.ensures c.requires.relation c.known-2.ensures.in_range can;
       system = ap system_of c.reopen.ensures.joint ∙ c.in_ok-push_seat.ensures.system;
       those = ap (flat_map (grown_numbers c.states_of-states.result)) c.reopen.ensures.waiting ∙ ap (λ m. flat_map (grown_numbers m) old.list) c.states_of-states.ensures;
     } in
-    replayable (Join seat) _ _ c.states_of-states.result old.list _ is
-    (joined_candidates (system_of n) seat old.list (relation_candidates n old c.known.ensures c.requires.relation c.known-2.ensures.in_range) is.replays)
+    replayable _ _ _ _ _ _ is (joined_candidates _ _ _ (relation_candidates _ _ c.known.ensures c.requires.relation c.known-2.ensures.in_range) is.replays)
     c.reopen.ensures.list c.reopen.ensures.shaped c.reopen.ensures.caps
 
 pub replay_and_settle_on-requires-clause-slices : goal.replay_and_settle_on-requires-clause-slices

@@ -1,4 +1,4 @@
-use Rattle.std.proofs.Common.{◌+◌, ◌-◌, ◌/◌, ◌<◌, ◌≤◌, sym, ap, ◌∙◌, inl, inr, arith}
+use Rattle.std.proofs.Common.{◌+◌, ◌-◌, ◌/◌, ◌<◌, ◌≤◌, sym, ap, ◌∙◌, arith}
 use Rattle.roman_repair.proofs.Common.{leading_zeros, trailing_zeros, w64, cases_lt, both_ways, is_on, on_zero}
 use Rattle.std.proofs.Math.Nat.{div-mul-le_self, lt-div-mul-add, div-le_of_le-mul, div-lt_iff_lt-mul}
 use Rattle.roman_repair.proofs.Fronts.{first_lane, last_lane}
@@ -8,13 +8,7 @@ pub returns-then-word-eq0-clause-end : goal.returns-then-word-eq0-clause-end
 returns-then-word-eq0-clause-end c lane on = absurd (both_ways (is_on 0 lane) (on_zero lane) (ap (λ w. is_on w lane) (sym c.if-word-eq0.true) ∙ on))
 
 pub returns-clause-first : goal.returns-clause-first
-returns-clause-first c lane on =
-    let first = first_lane c.args.word c.if-word-eq0.false c.ranges.word.fits in
-    let t = trailing_zeros w64 c.args.word in
-    elim (cases_lt lane t) [
-      | inl less ↦ absurd (both_ways (is_on c.args.word lane) (first.before lane less) on)
-      | inr past ↦ omega (arith, past, div-mul-le_self t c.args.width)
-    ]
+returns-clause-first c lane on = grind (arith, both_ways, cases_lt, div-mul-le_self, first_lane)
 
 pub returns-clause-end : goal.returns-clause-end
 returns-clause-end c lane on =

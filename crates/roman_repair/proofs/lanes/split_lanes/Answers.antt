@@ -1,4 +1,4 @@
-use Rattle.std.proofs.Common.{◌≡◌, ◌++◌, true, bit_and, sym, ap, ◌∙◌, inl, inr, append-nil}
+use Rattle.std.proofs.Common.{◌≡◌, ◌++◌, true, bit_and, sym, ap, ◌∙◌, inl, inr, append-nil, arith}
 use Rattle.roman_repair.proofs.Common.{trailing_zeros, w64, cases_lt, both_ways, and_parts, is_on, on_and, on_zero, set_lanes, set_lanes-zero}
 use Rattle.std.proofs.lemmas.Bool.{and_from}
 use Rattle.roman_order.proofs.CallerLemmas.{some_lane}
@@ -40,10 +40,7 @@ pub returns-clause-back : goal.returns-clause-back
 returns-clause-back c lane on = (and_parts (is_on c.args.word lane) _ (sym (on_and c.args.word _ lane) ∙ on)).0
 
 pub returns-clause-some : goal.returns-clause-some
-returns-clause-some c lane l on before off =
-    let both = bit_and c.args.word c.args.end in
-    let first = first_lane both c.if-both-eq0.false (both_fit c.args.word c.args.end c.ranges.word.fits) in
-    front_some c.args.word c.args.end (trailing_zeros w64 both) lane first.low first.on l on before off
+returns-clause-some c lane l on before off = grind (arith, both_fit, first_lane, front_some)
 
 pub returns-then-both-eq0-clause-any : goal.returns-then-both-eq0-clause-any
 returns-then-both-eq0-clause-any c some = some_lane c.args.word some c.ranges.word.fits

@@ -1,4 +1,4 @@
-use Rattle.std.proofs.Common.{◌≡◌, ◌+◌, ◌-◌, ◌*◌, [], map, cond, sym, ap, ◌∙◌, arith}
+use Rattle.std.proofs.Common.{◌+◌, ◌*◌, [], map, cond, sym, ap, ◌∙◌, arith}
 use Rattle.roman_repair.proofs.Common.{both_ways, below, is_on, on_zero, set_lanes-zero}
 use Rattle.roman_lanes.proofs.CallerLemmas.{on_tested, off_tested}
 use Rattle.roman_repair.proofs.lanes.spread_lane.Goals as goal
@@ -11,8 +11,4 @@ pub returns-then-word-lane-eq0-clause-within : goal.returns-then-word-lane-eq0-c
 returns-then-word-lane-eq0-clause-within c bit on = absurd (both_ways (is_on 0 bit) (on_zero bit) on)
 
 pub returns-clause-lanes : goal.returns-clause-lanes
-returns-clause-lanes c =
-    let many : c.args.lane * c.args.width + c.args.width - c.args.lane * c.args.width ≡ c.args.width = omega arith in
-    c.lanes_between.ensures.lanes
-    ∙ ap (λ n. map (λ i. c.args.lane * c.args.width + i) (below n)) many
-    ∙ sym (ap (λ b. cond b (map (λ i. c.args.lane * c.args.width + i) (below c.args.width)) []) (on_tested c.args.word c.args.lane c.if-word-lane-eq0.false))
+returns-clause-lanes c = grind (arith, on_tested)

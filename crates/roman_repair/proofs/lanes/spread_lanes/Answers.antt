@@ -15,7 +15,6 @@ loop-lane-preserved c =
     let end : (lane + 1) * width ≡ lane * width + width = omega arith in
     record {
       lanes = lanes_joined c.loop-lane.spread next.result (lane * width) so_far.within (λ bit on. (next.ensures.within bit on).0)
-          ∙ ap₂ (λ (L M : List ℕ). L ++ M) so_far.lanes next.ensures.lanes
-          ∙ spread_more c.args.word lane width;
+          ∙ ap₂ (λ (L M : List ℕ). L ++ M) so_far.lanes next.ensures.lanes ∙ spread_more c.args.word lane width;
       within = λ bit on. joined_within c.loop-lane.spread next.result (lane * width) ((lane + 1) * width) bit so_far.within (omega (arith, end)) (λ here. omega (arith, end, (next.ensures.within bit here).1)) on;
     }

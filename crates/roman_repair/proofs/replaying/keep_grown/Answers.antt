@@ -1,4 +1,4 @@
-use Rattle.std.proofs.Common.{◌≡◌, ◌+◌, ◌*◌, ◌/◌, ◌≤◌, refl, sym, ap, ap₂, ◌∙◌, subst, arith, append-nil}
+use Rattle.std.proofs.Common.{◌+◌, ◌*◌, ◌/◌, refl, sym, ap, ap₂, ◌∙◌, subst, arith, append-nil}
 use Rattle.roman_repair.proofs.Common.{Board, entries_in, AreCandidates, with_replay, readings_of_entries}
 use Rattle.roman_repair.proofs.Keeping.{with_replay_append}
 use Rattle.roman_repair.proofs.DeathParts.{part_word, part_end, parts_fit}
@@ -65,36 +65,14 @@ loop-i-preserved g c =
     let part = part_entries n lanes states m (lanes / m) c.args.x word i c.from-width.result c.spread_lanes-grown.result c.args.reason is c.from-width.ensures c.spread_lanes-grown.ensures.lanes in
     let next = grown_next states lanes c.args.x word i m c.args.reason is.few in
     record {
-      list = c.keep_part.ensures.list
-          ∙ ap₂ (with_replay A) c.loop-i.invariant.list part
-          ∙ sym (with_replay_append A L before those)
-          ∙ ap (with_replay A L) next;
+      list = c.keep_part.ensures.list ∙ ap₂ (with_replay A) c.loop-i.invariant.list part ∙ sym (with_replay_append A L before those) ∙ ap (with_replay A L) next;
       known = c.keep_part.ensures.known;
       rest = c.keep_part.ensures.rest ∙ ap (λ (b : Board). record b { list = new.list }) c.loop-i.invariant.rest;
       cost = omega (arith, c.keep_part.ensures.cost, ap (readings_of_entries A) part, readings_both A before those, ap (readings_of_entries A) next, c.loop-i.invariant.cost);
     }
 
 pub returns-clause-list : goal.returns-clause-list
-returns-clause-list g c =
-    let A = g.J.Rules.arena c.args.joint.now in
-    let lanes = c.args.lanes in
-    let states = c.args.states in
-    let m = c.lanes.result / c.from-width.result in
-    let end = c.filled_parts-begin.result.1 in
-    let last : c.loop-i.i ≡ end = omega (arith, c.loop-i-test.false, c.loop-i.auto.i-end, c.filled_parts-begin.ensures.ordered.0) in
-    let few : end * m ≤ 64 = omega (arith, parts_fit end m lanes c.filled_parts-begin.ensures.ordered.1, c.requires.slices.few) in
-    c.loop-i.invariant.list
-    ∙ ap (λ i. with_replay A c.args.order.now.list (grown_below states lanes c.args.x c.args.word (i * m) c.args.reason)) last
-    ∙ ap (with_replay A c.args.order.now.list) (grown_whole states lanes c.args.x c.args.word (end * m) c.args.reason few c.filled_parts-begin.ensures.end)
+returns-clause-list g c = grind (arith, grown_below, grown_whole, parts_fit)
 
 pub returns-clause-cost : goal.returns-clause-cost
-returns-clause-cost g c =
-    let A = g.J.Rules.arena c.args.joint.now in
-    let lanes = c.args.lanes in
-    let states = c.args.states in
-    let m = c.lanes.result / c.from-width.result in
-    let end = c.filled_parts-begin.result.1 in
-    let last : c.loop-i.i ≡ end = omega (arith, c.loop-i-test.false, c.loop-i.auto.i-end, c.filled_parts-begin.ensures.ordered.0) in
-    let few : end * m ≤ 64 = omega (arith, parts_fit end m lanes c.filled_parts-begin.ensures.ordered.1, c.requires.slices.few) in
-    let same = ap (readings_of_entries A) (ap (λ i. grown_below states lanes c.args.x c.args.word (i * m) c.args.reason) last ∙ grown_whole states lanes c.args.x c.args.word (end * m) c.args.reason few c.filled_parts-begin.ensures.end) in
-    omega (arith, same, c.loop-i.invariant.cost)
+returns-clause-cost g c = grind (arith, grown_below, grown_whole, parts_fit)

@@ -12,11 +12,7 @@ returns-then-word-eq0-clause-list g c =
     sym (append-nil L) ∙ ap (with_replay (g.J.Rules.arena c.args.joint.now) L) (sym none)
 
 pub overflow_mul-x : goal.overflow_mul-x
-overflow_mul-x g c =
-    let few = row_few _ c.known.ensures.numbered c.args.order.now _ (c.args.x * c.args.many + c.args.i) c.args.word c.args.reason c.requires.shaped c.requires.candidates c.if-word-eq0.false c.ranges.word.fits c.known.ensures.lanes.0 in
-    omega (arith, few)
+overflow_mul-x g c = grind (arith, row_few)
 
 pub overflow_add-x : goal.overflow_add-x
-overflow_add-x g c =
-    let few = row_few _ c.known.ensures.numbered c.args.order.now _ (c.args.x * c.args.many + c.args.i) c.args.word c.args.reason c.requires.shaped c.requires.candidates c.if-word-eq0.false c.ranges.word.fits c.known.ensures.lanes.0 in
-    omega (arith, few)
+overflow_add-x g c = grind (arith, row_few)

@@ -1,21 +1,15 @@
 use Rattle.std.proofs.Common.{◌≡◌, [], length, sym, ap, ◌∙◌, subst, arith, rules}
-use Rattle.roman_repair.proofs.Common.{replay, readings, NamedSys, joint_numbered, Begins, arena_of, AreCandidates, candidates, with_replay, readings_of_entries}
+use Rattle.roman_repair.proofs.Common.{replay, readings, NamedSys, joint_numbered, Begins, arena_of, candidates, with_replay, readings_of_entries}
 use Rattle.roman_repair.proofs.Keeping.{candidates_readings}
 use Rattle.roman_repair.proofs.Repairing.{replayed_begun}
 use Rattle.roman_repair.proofs.Waiting.{grown_by_one}
 use Rattle.roman_repair.proofs.settling.replay_events_and_settle_on.Goals as goal
 
 pub replay_events-requires-clause-candidates : goal.replay_events-requires-clause-candidates
-replay_events-requires-clause-candidates g c =
-    let A = arena_of c.args.relation.now.joint in
-    let old = c.args.relation.now.order in
-    subst (λ K. AreCandidates A K old.waiting) (sym c.requires.replayable.empty) (subst (AreCandidates A []) (grown_by_one old.waiting) c.requires.replayable.may)
+replay_events-requires-clause-candidates g c = grind (arith, grown_by_one)
 
 pub settle_on-requires : goal.settle_on-requires
-settle_on-requires g c =
-    let n = c.args.relation.now.joint in
-    let old = c.args.relation.now.order in
-    replayed_begun n 1 old c.replay_events.new.order c.requires.replayable (c.replay_events.ensures.list ∙ ap (with_replay (arena_of n) old.list) (sym (grown_by_one old.waiting))) c.replay_events.ensures.rest
+settle_on-requires g c = grind (arith, grown_by_one, replayed_begun)
 
 pub returns : goal.returns
 returns g c =

@@ -17,14 +17,12 @@ replay_events_and_settle_on-requires-clause-replayable g c =
       those = ap (flat_map (grown_numbers 1)) c.reopen.ensures.waiting ∙ grown_by_one old.list;
     } in
     replayable (Thaw c.args.k) _ _ 1 old.list _ is (turned_candidates (system_of n) c.args.k false old.list
-    (relation_candidates n old c.known.ensures c.requires.relation c.known-2.ensures.in_range))
-    c.reopen.ensures.list c.reopen.ensures.shaped c.reopen.ensures.caps
+    (relation_candidates n old c.known.ensures c.requires.relation c.known-2.ensures.in_range)) c.reopen.ensures.list c.reopen.ensures.shaped c.reopen.ensures.caps
 
 pub replay_events_and_settle_on-requires-clause-same_rows : goal.replay_events_and_settle_on-requires-clause-same_rows
 replay_events_and_settle_on-requires-clause-same_rows g c =
     let n = c.args.relation.now.joint in
-    c.reopen.ensures.wide
-    ∙ (shaped_turned (system_of n) c.args.k false c.args.relation.now.order c.requires.relation.shaped).lanes
+    c.reopen.ensures.wide ∙ (shaped_turned (system_of n) c.args.k false c.args.relation.now.order c.requires.relation.shaped).lanes
     ∙ sym (ap (λ (m : NamedSys). lanes_in (system_of m)) c.reopen.ensures.joint ∙ ap lanes_in c.set_frozen.ensures.system)
 
 pub returns-clause-repaired : goal.returns-clause-repaired

@@ -1,5 +1,5 @@
-use Rattle.std.proofs.Common.{◌≡◌, ◌*◌, [], inr, sym, ap, ◌∙◌, arith}
-use Rattle.roman_relation.proofs.Common.{sizes_of, count, length-below, system_of, Board, pairs_of}
+use Rattle.std.proofs.Common.{◌≡◌, ◌*◌, [], inr, ap, ◌∙◌, arith}
+use Rattle.roman_relation.proofs.Common.{sizes_of, count, length-below, system_of, Board}
 use Rattle.roman_relation.proofs.Relating.{completed, room_for_pairs}
 use Rattle.roman_relation.proofs.relation.Relation.afresh.Goals as goal
 
@@ -12,21 +12,10 @@ pub returns-clause-complete : goal.returns-clause-complete
 returns-clause-complete g c =
     let idle : c.settle_list.new.order.waiting ≡ [] =
     ap (λ (x : Board). x.waiting) c.settle_list.ensures.rest ∙ ap (λ (x : Board). x.waiting) c.shape_to.ensures.shaped ∙ c.requires.idle in
-    completed c.args.self.now.joint c.settle_list.new.order c.known.ensures c.settle_list.ensures.settled idle
-    (inr (c.settle_list.ensures.levels (ap (λ (x : Board). x.list) c.shape_to.ensures.shaped)))
+    completed _ _ c.known.ensures c.settle_list.ensures.settled idle (inr (c.settle_list.ensures.levels (ap (λ (x : Board). x.list) c.shape_to.ensures.shaped)))
 
 pub settle_list-requires-clause-shaped : goal.settle_list-requires-clause-shaped
-settle_list-requires-clause-shaped g c =
-    let same : c.rows.result * c.lanes-lanes.result ≡ count (sizes_of (system_of c.args.self.now.joint)) = ap (λ m. c.rows.result * m) c.lanes-lanes.ensures.value ∙ c.rows.ensures in
-    record {
-      pairs = ap (λ (x : Board). pairs_of x) c.shape_to.ensures.shaped ∙ (same ∙ sym (length-below (count (sizes_of (system_of c.args.self.now.joint)))));
-      lanes = ap (λ (x : Board). x.lanes) c.shape_to.ensures.shaped ∙ c.lanes-lanes.ensures.value;
-    }
+settle_list-requires-clause-shaped g c = grind (arith, length-below)
 
 pub returns-clause-shaped : goal.returns-clause-shaped
-returns-clause-shaped g c =
-    let same : c.rows.result * c.lanes-lanes.result ≡ count (sizes_of (system_of c.args.self.now.joint)) = ap (λ m. c.rows.result * m) c.lanes-lanes.ensures.value ∙ c.rows.ensures in
-    record {
-      pairs = ap (λ (x : Board). pairs_of x) c.settle_list.ensures.rest ∙ (ap (λ (x : Board). pairs_of x) c.shape_to.ensures.shaped ∙ (same ∙ sym (length-below (count (sizes_of (system_of c.args.self.now.joint))))));
-      lanes = ap (λ (x : Board). x.lanes) c.settle_list.ensures.rest ∙ (ap (λ (x : Board). x.lanes) c.shape_to.ensures.shaped ∙ c.lanes-lanes.ensures.value);
-    }
+returns-clause-shaped g c = grind (arith, length-below)

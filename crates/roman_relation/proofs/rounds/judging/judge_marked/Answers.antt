@@ -103,11 +103,4 @@ pub returns-clause-unmarked : goal.returns-clause-unmarked
 returns-clause-unmarked g c y = ap (λ (d : Board). is_marked d y) c.in_default.ensures.same ∙ c.in_default.ensures.none y
 
 pub returns-clause-done : goal.returns-clause-done
-returns-clause-done g c start p round l on =
-    let A = g.J.Rules.arena c.args.joint.now in
-    let n = g.J.Rules.lanes c.args.joint.now in
-    let w = g.J.Rules.band c.args.joint.now in
-    elim (c.bands.invariant.done start p round l on) [
-      | inl still ↦ absurd (both_ways (is_marked c.bands.order (p / n / w)) (c.in_default.ensures.none (p / n / w)) still)
-      | inr done ↦ subst (λ (d : Board). IsPairJudged A start d p) (sym c.in_default.ensures.same) done
-    ]
+returns-clause-done g c start p round l on = grind (arith, both_ways)

@@ -1,12 +1,9 @@
-use Rattle.std.proofs.Common.{◌≡◌, ℕ, ◌+◌, ◌*◌, ◌≤◌, ◌++◌, length, take, IsTrue, sym, ap, ◌∙◌, subst, arith, rules}
+use Rattle.std.proofs.Common.{◌≡◌, ℕ, ◌++◌, length, take, IsTrue, sym, ap, ◌∙◌, subst, arith, rules}
 use Rattle.roman_relation.proofs.Common.{is_listed, is_justified, Act, Keeps, Board, entries_in_rows, Begins, AreUnlisted, InRound}
 use Rattle.roman_relation.proofs.Going.{begins_append}
 use Rattle.roman_relation.proofs.Lanes.{words_rows}
 use Rattle.roman_relation.proofs.Pushing.{AreLost, are_lost, lost_free, rows_round, rows_judged, rows_only}
 use Rattle.roman_relation.proofs.rounds.judging.judge_on.Goals as goal
-
-pub unserved_band-requires-clause-row : goal.unserved_band-requires-clause-row
-unserved_band-requires-clause-row g c = let (y, first) = c.requires.first in (y, subst (λ z. g.J.Rules.is_row c.args.joint.now z c.args.row.now) first c.requires.row)
 
 pub push_rows-requires : goal.push_rows-requires
 push_rows-requires g c =

@@ -1,4 +1,4 @@
-use Rattle.std.proofs.Common.{◌≡◌, ℕ, ◌+◌, ◌*◌, ◌/◌, ◌%◌, ◌<◌, ◌≤◌, true, false, not, ◌++◌, ltb, length, slice_index, IsTrue, inl, inr, refl, sym, ap, ◌∙◌, subst, arith, rules}
+use Rattle.std.proofs.Common.{◌≡◌, ℕ, ◌+◌, ◌*◌, ◌/◌, ◌%◌, ◌<◌, ◌≤◌, true, false, not, ◌++◌, ltb, length, slice_index, inl, inr, refl, sym, ap, ◌∙◌, subst, arith, rules}
 use Rattle.roman_relation.proofs.Common.{not_from_true, mod_below, div-add-mod', mul-le, IsIn, is_on, HasLanes, has_flag, count_by, Board, has_entry, entries_at, moves_to_all, on_at}
 use Rattle.std.proofs.lemmas.List.Sums.{count_by-le-length}
 use Rattle.roman_model.specs.Arena.{is_listed, Delegation, back as back_of}
@@ -11,11 +11,7 @@ use Rattle.roman_relation.proofs.Losses.{fall_one, on_lane}
 use Rattle.roman_relation.proofs.rounds.losses.mark_event.Goals as goal
 
 pub returns-then-not-meets-clause-noted : goal.returns-then-not-meets-clause-noted
-returns-then-not-meets-clause-noted g c lane on =
-    let n = g.J.Rules.lanes c.args.joint.now in
-    let x = c.args.event.row in
-    on_lane n c.args.order.now.before x lane (c.requires.event.within lane on)
-    ∙ (ap (λ ws. is_on (slice_index ws x) lane) (sym c.before-2.ensures.value) ∙ c.meets.ensures.none c.if-not-meets.true lane on)
+returns-then-not-meets-clause-noted g c lane on = grind (arith, on_lane)
 
 pub returns-then-not-meets-clause-back : goal.returns-then-not-meets-clause-back
 returns-then-not-meets-clause-back g c start M back fresh =
@@ -60,15 +56,7 @@ mark_before-requires g c =
     }
 
 pub keep_rows-requires : goal.keep_rows-requires
-keep_rows-requires g c =
-    let A = g.J.Rules.arena c.args.joint.now in
-    let n = g.J.Rules.lanes c.args.joint.now in
-    let w = g.J.Rules.band c.args.joint.now in
-    let b = c.args.order.now in
-    let x = c.args.event.row in
-    let (bands, whole) = c.known.ensures.bands in
-    let ends = row_band A n w bands x b c.requires.shaped c.known.ensures.lanes.0 c.known.ensures.band.0 whole c.requires.row in
-    omega (arith, ends, ap (λ m. x / m * m + m) c.band-band.ensures.value)
+keep_rows-requires g c = grind (arith, row_band)
 
 pub returns : goal.returns
 returns g c =

@@ -1,4 +1,4 @@
-use Rattle.std.proofs.Common.{◌≡◌, ◌+◌, ℕ, ◌<◌, ◌≤◌, true, List, [], ◌++◌, length, take, drop, refl, sym, ap, ◌∙◌, subst, arith, take-append-drop, append-nil, append_assoc}
+use Rattle.std.proofs.Common.{◌≡◌, ◌+◌, ℕ, ◌≤◌, true, [], ◌++◌, length, take, drop, refl, sym, ap, ◌∙◌, subst, arith, take-append-drop, append-nil, append_assoc}
 use Rattle.std.proofs.lemmas.List.{take_all}
 use Rattle.roman_relation.proofs.Common.{IsOrder, fall, fall_append, is_on, Board, set_lanes, IsEvent, entries_at, IsMarking, moves_to_all}
 use Rattle.roman_order.proofs.CallerLemmas.{length-entries_at}
@@ -21,22 +21,8 @@ losses-init g c =
       cost = omega arith;
     }
 
-pub event_at-event-requires : goal.event_at-event-requires
-event_at-event-requires g c = omega (arith, c.losses-test.true, c.len-end.ensures.value, ap (λ (d : Board). length d.list) c.losses.invariant.rest)
-
-pub mark_event-requires-clause-event : goal.mark_event-requires-clause-event
-mark_event-requires-clause-event g c = subst (λ m. IsEvent m c.event_at-event.result) (ap (λ (y : Board). y.lanes) c.losses.invariant.rest ∙ c.requires.shaped.lanes) c.event_at-event.ensures.event
-
 pub mark_event-requires-clause-listed : goal.mark_event-requires-clause-listed
-mark_event-requires-clause-listed g c lane on =
-    let A = g.J.Rules.arena c.args.joint.now in
-    let n = g.J.Rules.lanes c.args.joint.now in
-    let d = c.losses.order in
-    let e = c.event_at-event.result in
-    let R = drop (c.losses.i + length (set_lanes e.lanes)) d.list in
-    let lanes : d.lanes ≡ n = ap (λ (y : Board). y.lanes) c.losses.invariant.rest ∙ c.requires.shaped.lanes in
-    let event = subst (λ m. IsEvent m e) lanes c.event_at-event.ensures.event in
-    event_listed A c.known.ensures.numbered n d.list R c.losses.i e lane c.known.ensures.lanes.1 event (c.event_at-event.ensures.entries ∙ ap (λ m. entries_at m e ++ R) lanes) on
+mark_event-requires-clause-listed g c lane on = grind (arith, event_listed)
 
 pub losses-preserved : goal.losses-preserved
 losses-preserved g c =
@@ -91,13 +77,4 @@ returns-clause-cost g c =
     omega (arith, c.losses.invariant.cost, ap (fall A) all, parts)
 
 pub returns-clause-steps : goal.returns-clause-steps
-returns-clause-steps g c =
-    let A = g.J.Rules.arena c.args.joint.now in
-    let n = g.J.Rules.lanes c.args.joint.now in
-    let L = c.losses.order.list in
-    let start = c.args.start in
-    let (P, parts, back, sum) = c.losses.invariant.back in
-    let list : L ≡ c.args.order.now.list = ap (λ (y : Board). y.list) c.losses.invariant.rest in
-    let end : c.losses.i ≡ length L = omega (arith, c.losses.invariant.within, c.losses-test.false, c.len-end.ensures.value, ap length list) in
-    let added = all_back L P start (omega (arith, c.requires.start, ap length list)) (ap (λ j. take j L) (sym end) ∙ parts) in
-    sum ∙ ap (λ N. c.args.steps.now + moves_to_all A n (g.J.Rules.band c.args.joint.now) (g.J.Rules.mid c.args.joint.now) c.args.order.now.rows N) added
+returns-clause-steps g c = grind (arith, all_back)

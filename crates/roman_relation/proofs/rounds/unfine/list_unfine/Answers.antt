@@ -1,21 +1,9 @@
-use Rattle.std.proofs.Common.{◌≡◌, ◌+◌, ◌-◌, ◌*◌, ◌/◌, ◌%◌, ◌<◌, length, IsTrue, IsFalse, inl, inr, sym, ap, ◌∙◌, subst, arith, rules}
-use Rattle.roman_relation.proofs.Common.{cases_lt, mod_below, div_below, div-add-mod', is_listed, Board}
+use Rattle.std.proofs.Common.{◌*◌, IsTrue, IsFalse, inl, inr, sym, ap, ◌∙◌, subst, arith}
+use Rattle.roman_relation.proofs.Common.{cases_lt, is_listed, Board}
 use Rattle.roman_relation.proofs.Bands.{band_ends, whole_bands, pair_past}
 use Rattle.roman_relation.proofs.Beginnings.{begins_unlisted}
-use Rattle.roman_relation.proofs.Going.{goes_on_itself, goes_on_on, shaped_on}
+use Rattle.roman_relation.proofs.Going.{goes_on_on}
 use Rattle.roman_relation.proofs.rounds.unfine.list_unfine.Goals as goal
-
-pub loop-y-init : goal.loop-y-init
-loop-y-init g c = record {
-  goes_on = goes_on_itself (g.J.Rules.arena c.args.joint.now) c.args.order.now c.requires.valid;
-  long = search rules;
-  fine = λ p l off. absurd (omega arith);
-  because = λ p t. inl t;
-}
-
-pub list_unfine_band-requires-clause-shaped : goal.list_unfine_band-requires-clause-shaped
-list_unfine_band-requires-clause-shaped g c =
-    shaped_on (g.J.Rules.arena c.args.joint.now) (g.J.Rules.lanes c.args.joint.now) c.args.order.now c.loop-y.order c.requires.shaped c.loop-y.invariant.goes_on
 
 pub list_unfine_band-requires-clause-band : goal.list_unfine_band-requires-clause-band
 list_unfine_band-requires-clause-band g c =
@@ -25,9 +13,6 @@ list_unfine_band-requires-clause-band g c =
     let m = c.bands-y-end.result in
     let rows = whole_bands A n w m c.args.order.now c.requires.shaped c.known.ensures.lanes.0 c.bands-y-end.ensures in
     omega (arith, band_ends w c.loop-y.y m c.loop-y-test.true, rows, ap (λ (d : Board). d.rows) c.loop-y.invariant.goes_on.rest)
-
-pub list_unfine_band-requires-clause-valid : goal.list_unfine_band-requires-clause-valid
-list_unfine_band-requires-clause-valid g c = c.loop-y.invariant.goes_on.valid
 
 pub loop-y-preserved : goal.loop-y-preserved
 loop-y-preserved g c =
@@ -47,11 +32,3 @@ loop-y-preserved g c =
       ];
       because = λ p t. elim (c.list_unfine_band.ensures.because p t) [ inl old ↦ c.loop-y.invariant.because p old | inr fails ↦ inr fails ];
     }
-
-pub returns-clause-fine : goal.returns-clause-fine
-returns-clause-fine g c p l off =
-    let n = g.J.Rules.lanes c.args.joint.now in
-    let w = g.J.Rules.band c.args.joint.now in
-    let end : c.loop-y.y ≡ c.bands-y-end.result = omega (arith, c.loop-y-test.false) in
-    let all : c.loop-y.y * w * n ≡ length (g.J.Rules.arena c.args.joint.now).nodes = ap (λ m. m * w * n) end ∙ c.bands-y-end.ensures in
-    c.loop-y.invariant.fine p (omega (arith, all)) off

@@ -1,20 +1,10 @@
-use Rattle.std.proofs.Common.{◌≡◌, ℕ, ◌+◌, ◌*◌, ◌≤◌, ◌++◌, length, slice_index, sym, ap, ◌∙◌, subst, arith, IsTrue, IsFalse, inl, inr}
-use Rattle.roman_relation.proofs.Common.{not-false, not-true, mul-le, is_listed, Final, Board, entries_in_rows, has_entry}
+use Rattle.std.proofs.Common.{◌≡◌, ◌+◌, ◌*◌, ◌++◌, length, slice_index, ap, ◌∙◌, subst, arith, IsTrue, IsFalse, inl, inr}
+use Rattle.roman_relation.proofs.Common.{not-false, not-true, is_listed, Final, Board, entries_in_rows, has_entry}
 use Rattle.roman_relation.proofs.Bands.{band_begins}
 use Rattle.roman_relation.proofs.Going.{goes_on_added}
 use Rattle.roman_relation.proofs.Lanes.{words_rows, shaped_pairs}
 use Rattle.roman_relation.proofs.Pushing.{AreLost, are_lost, lost_free, rows_order, rows_left, rows_because}
 use Rattle.roman_relation.proofs.rounds.unfine.list_unfine_band.Goals as goal
-
-pub overflow_mul-x : goal.overflow_mul-x
-overflow_mul-x g c =
-    let n = g.J.Rules.lanes c.args.joint.now in
-    let b = c.args.order.now in
-    let rows = mul-le b.rows 1 b.rows n (omega arith) c.known.ensures.lanes.0 in
-    omega (arith, rows, shaped_pairs (g.J.Rules.arena c.args.joint.now) n b c.requires.shaped, c.known.ensures.numbered.few_nodes, c.requires.band, ap (λ m. c.args.y * m) c.band.ensures.value)
-
-pub copy_rows-requires : goal.copy_rows-requires
-copy_rows-requires g c = omega (arith, c.requires.band, c.requires.left, c.words.ensures.long, ap (λ m. c.args.y * m) c.band.ensures.value)
 
 pub first_row-row-requires : goal.first_row-row-requires
 first_row-row-requires g c =

@@ -1,17 +1,11 @@
-use Rattle.std.proofs.Common.{◌≡◌, ℕ, ◌*◌, ◌≤◌, List, [], ◌++◌, refl, sym, ap, ap₂, ◌∙◌, subst, arith}
-use Rattle.roman_repair.proofs.Common.{IsIn, Entry, sizes_of, sizes_without, count, Final, length-below, system_of, lanes_in, Board, entries_in, listed_numbers, list_and, list_with}
+use Rattle.std.proofs.Common.{◌≡◌, ℕ, List, [], ◌++◌, refl, sym, ap, ap₂, ◌∙◌, subst, arith}
+use Rattle.roman_repair.proofs.Common.{IsIn, Entry, sizes_of, count, Final, length-below, system_of, lanes_in, Board, entries_in, listed_numbers, list_and, list_with}
 use Rattle.roman_repair.proofs.DeathEntries.{event_in_range, list_with_append, fewer_pairs, small_pairs}
 use Rattle.roman_repair.proofs.Gathering.{no_entries, nothing_gathered, still_gathered}
 use Rattle.roman_repair.proofs.dying.renaming.rename_list.Goals as goal
 
 pub reopen-requires-clause-pairs : goal.reopen-requires-clause-pairs
-reopen-requires-clause-pairs c =
-    let n = c.args.joint.now in
-    let shape = c.shape-shape.result.now in
-    let small : c.rows.result * c.lanes-lanes.result ≡ count (sizes_without c.args.k (sizes_of (system_of n))) =
-    small_pairs n shape c.shrink-small.result c.args.k c.rows.result c.lanes-lanes.result c.shape-shape.ensures c.shrink-small.ensures c.rows.ensures c.lanes-lanes.ensures.value in
-    let fewer : count (sizes_without c.args.k (sizes_of (system_of n))) ≤ count (sizes_of (system_of n)) = fewer_pairs n shape c.args.k c.shape-shape.ensures c.known-2.ensures c.requires.seat in
-    omega (arith, small, fewer, c.known-3.ensures.room, c.requires.shaped.pairs, length-below (count (sizes_of (system_of n))))
+reopen-requires-clause-pairs c = grind (arith, fewer_pairs, length-below, small_pairs)
 
 pub waiting-init : goal.waiting-init
 waiting-init c =
@@ -58,15 +52,11 @@ waiting-preserved c =
     record {
       list = λ seat seated.
           let done : list_and new c.rename_row.new.gathered ≡ list_with n c.args.k seat L part = c.rename_row.ensures.list seat seated ∙ ap (λ M. list_with n c.args.k seat M part) list in
-          ap₂ (λ M W. list_with n c.args.k seat M W) done waiting
-          ∙ sym (list_with_append n c.args.k seat L part mid.waiting)
-          ∙ ap (list_with n c.args.k seat L) (sym first)
-          ∙ c.waiting.invariant.list seat seated;
+          ap₂ (λ M W. list_with n c.args.k seat M W) done waiting ∙ sym (list_with_append n c.args.k seat L part mid.waiting)
+          ∙ ap (list_with n c.args.k seat L) (sym first) ∙ c.waiting.invariant.list seat seated;
       gathered = c.rename_row.ensures.gathered;
       waiting = λ y i. is.others y (subst (λ W. IsIn y W) waiting i);
-      rest =
-          c.rename_row.ensures.rest
-          ∙ ap (λ (y : Board). record y { list = new.list }) c.next_waiting_event.ensures.rest
+      rest = c.rename_row.ensures.rest ∙ ap (λ (y : Board). record y { list = new.list }) c.next_waiting_event.ensures.rest
           ∙ ap (λ (y : Board). record y { list = new.list; waiting = mid.waiting }) c.waiting.invariant.rest
           ∙ ap (λ (W : List (Entry ℕ)). record c.reopen.new.self { list = new.list; waiting = W }) (sym waiting);
     }

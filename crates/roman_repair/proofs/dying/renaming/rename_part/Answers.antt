@@ -30,14 +30,10 @@ pub without-left-requires-clause-pair : goal.without-left-requires-clause-pair
 without-left-requires-clause-pair c = omega (arith, c.requires.first, ap count c.shape-shape.ensures)
 
 pub unlisted-requires-clause-row : goal.unlisted-requires-clause-row
-unlisted-requires-clause-row c =
-    let order = c.args.order.now in
-    left_row (sizes_of (system_of c.args.joint.now)) c.shape-shape.result.now c.args.k c.without-left.result c.args.lanes order c.without-left.ensures.below c.shape-shape.ensures c.requires.shaped c.requires.lanes.0
+unlisted-requires-clause-row c = grind (arith, left_row)
 
 pub gather-requires-clause-row : goal.gather-requires-clause-row
-gather-requires-clause-row c =
-    let order = c.args.order.now in
-    left_row (sizes_of (system_of c.args.joint.now)) c.shape-shape.result.now c.args.k c.without-left.result c.args.lanes order c.without-left.ensures.below c.shape-shape.ensures c.requires.shaped c.requires.lanes.0
+gather-requires-clause-row c = grind (arith, left_row)
 
 pub gather-requires-clause-within : goal.gather-requires-clause-within
 gather-requires-clause-within c lane on =
@@ -61,8 +57,7 @@ returns-clause-list c seat seated =
     let lost = bit_and (c.args.word * 2 ^ (left % lanes) % 2 ^ 64) alive in
     let few = c.known-2.ensures.lanes in
     let same = c.requires.lanes.0 in
-    c.gather.ensures.list
-    ∙ ap (λ m. L ++ entries_in m (left / lanes) lost c.args.reason) (sym same)
+    c.gather.ensures.list ∙ ap (λ m. L ++ entries_in m (left / lanes) lost c.args.reason) (sym same)
     ∙ part_left n k seat c.args.first c.args.word left lanes alive c.args.reason L (record {
       part = c.requires.part;
       seat_in = seat_in_sizes c.args.joint.now k c.requires.seat;
@@ -70,7 +65,6 @@ returns-clause-list c seat seated =
       goes = sym (c.may_go.ensures seat seated
           ∙ ap (λ b. not seat.rests || is_final seat.beh b) (c.part_of.ensures.value ∙ ap (λ (m : Sizes). slice_index (pair_at m c.args.first).bs k) c.shape-shape.ensures))
           ∙ c.if-not-may_go.false;
-    }) (c.without-left.ensures.number
-    ∙ ap (λ (m : Sizes). number (sizes_without k m) (without k (pair_at m c.args.first))) c.shape-shape.ensures
+    }) (c.without-left.ensures.number ∙ ap (λ (m : Sizes). number (sizes_without k m) (without k (pair_at m c.args.first))) c.shape-shape.ensures
     ∙ number_without-is n c.args.first k c.requires.first (seat_in_sizes c.args.joint.now k c.requires.seat)) (same ∙ c.requires.lanes.1) (omega (arith, few.0, same), omega (arith, few.1, same))
     (subst (λ m. HasLanes m (left / lanes) (λ p. not (has_entry L p)) alive) (sym same) c.unlisted.ensures)

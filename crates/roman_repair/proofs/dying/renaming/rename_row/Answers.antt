@@ -1,4 +1,4 @@
-use Rattle.std.proofs.Common.{◌≡◌, ◌+◌, ◌*◌, ◌≤◌, refl, sym, ap, ◌∙◌, subst, arith, append-nil}
+use Rattle.std.proofs.Common.{◌+◌, ◌*◌, refl, sym, ap, ◌∙◌, subst, arith, append-nil}
 use Rattle.roman_repair.proofs.Common.{Sizes, sizes_of, count, lanes_of, system_of, lanes_in, Board, IsPart, list_and, list_with, entries_from}
 use Rattle.roman_radix.proofs.CallerLemmas.{exact}
 use Rattle.roman_repair.proofs.DeathParts.{part_word, part_in, part_end, parts_fit, row_end, part_begins}
@@ -20,10 +20,7 @@ overflow_add-first c =
     omega (arith, wide, end, part_end c.loop-i.i c.part_width-width.result c.lanes-wide.result (omega (arith, c.loop-i-test.true, c.filled_parts-begin.ensures.ordered.1)), c.lanes-wide.ensures.value, c.known-2.ensures.counted)
 
 pub filled_parts-begin-requires-clause-within : goal.filled_parts-begin-requires-clause-within
-filled_parts-begin-requires-clause-within c lane on =
-    let (d, is) = c.part_width-width.ensures.part.lanes in
-    let wide = c.lanes-wide.ensures.value ∙ ap (λ (m : Sizes). lanes_of m.seats) c.shape-shape.ensures in
-    omega (arith, (c.requires.within lane on).0, wide, exact c.lanes-wide.result d c.part_width-width.result c.part_width-width.ensures.few.0 (c.lanes-wide.ensures.value ∙ is))
+filled_parts-begin-requires-clause-within c lane on = grind (arith, exact)
 
 pub loop-i-init : goal.loop-i-init
 loop-i-init c =
@@ -45,10 +42,7 @@ rename_part-requires-clause-first c =
     omega (arith, wide, end, part_end c.loop-i.i c.part_width-width.result c.lanes-wide.result (omega (arith, c.loop-i-test.true, c.filled_parts-begin.ensures.ordered.1)), c.lanes-wide.ensures.value, c.part_width-width.ensures.few.0, ap count c.shape-shape.ensures)
 
 pub rename_part-requires-clause-pair : goal.rename_part-requires-clause-pair
-rename_part-requires-clause-pair c i on =
-    let wide = ap (λ m. c.args.x * m) (c.lanes-wide.ensures.value ∙ ap (λ (m : Sizes). lanes_of m.seats) c.shape-shape.ensures) in
-    let here = part_in c.args.word (c.loop-i.i * c.part_width-width.result) c.part_width-width.result i c.part_width-width.ensures.few.1 on in
-    omega (arith, wide, (c.requires.within _ here.1).1)
+rename_part-requires-clause-pair c i on = grind (arith, part_in)
 
 pub rename_part-requires-clause-part : goal.rename_part-requires-clause-part
 rename_part-requires-clause-part c =
@@ -73,8 +67,7 @@ loop-i-preserved c =
     let part = part_word c.args.word (i * w) w in
     let L = list_and c.args.order.now c.args.gathered.now in
     record {
-      list = λ seat seated.
-          c.rename_part.ensures.list seat seated
+      list = λ seat seated. c.rename_part.ensures.list seat seated
           ∙ ap (λ M. list_with n c.args.k seat M (entries_from (c.args.x * c.lanes-wide.result + i * w) part c.args.reason)) (c.loop-i.invariant.list seat seated)
           ∙ ap (λ m. list_with n c.args.k seat (list_with n c.args.k seat L (entries_below lanes c.args.x c.args.word (i * w) c.args.reason)) (entries_from (c.args.x * m + i * w) part c.args.reason)) wide
           ∙ sym (list_with_append n c.args.k seat L (entries_below lanes c.args.x c.args.word (i * w) c.args.reason) (entries_from (c.args.x * lanes + i * w) part c.args.reason))
@@ -84,14 +77,4 @@ loop-i-preserved c =
     }
 
 pub returns-clause-list : goal.returns-clause-list
-returns-clause-list c seat seated =
-    let n = sizes_of (system_of c.args.joint.now) in
-    let lanes = lanes_in (system_of c.args.joint.now) in
-    let w = c.part_width-width.result in
-    let L = list_and c.args.order.now c.args.gathered.now in
-    let end = c.filled_parts-begin.result.1 in
-    let last : c.loop-i.i ≡ end = omega (arith, c.loop-i-test.false, c.loop-i.auto.i-end, c.filled_parts-begin.ensures.ordered.0) in
-    let few : end * w ≤ 64 = omega (arith, parts_fit end w c.lanes-wide.result c.filled_parts-begin.ensures.ordered.1, c.lanes-wide.ensures.few.1) in
-    c.loop-i.invariant.list seat seated
-    ∙ ap (λ i. list_with n c.args.k seat L (entries_below lanes c.args.x c.args.word (i * w) c.args.reason)) last
-    ∙ ap (list_with n c.args.k seat L) (row_whole lanes c.args.x c.args.word (end * w) c.args.reason few c.filled_parts-begin.ensures.end)
+returns-clause-list c seat seated = grind (arith, entries_below, parts_fit, row_whole)

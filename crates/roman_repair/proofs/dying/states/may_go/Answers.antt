@@ -9,6 +9,4 @@ pub returns-then-not-rests : goal.returns-then-not-rests
 returns-then-not-rests c seat seated = loose_goes c.args.joint.now c.args.k c.args.b c.seat.result.now seat c.seat.ensures seated c.if-not-rests.true
 
 pub returns-else-not-rests : goal.returns-else-not-rests
-returns-else-not-rests c seat seated =
-    final_goes c.args.joint.now c.args.k c.args.b c.seat.result.now c.behaviour.result.now c.is_final.result seat c.known.ensures c.seat.ensures c.behaviour.ensures
-    c.if-not-rests.false c.is_final.ensures seated
+returns-else-not-rests c seat seated = final_goes _ _ _ _ _ _ _ c.known.ensures c.seat.ensures c.behaviour.ensures c.if-not-rests.false c.is_final.ensures seated
