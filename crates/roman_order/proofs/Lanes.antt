@@ -23,9 +23,7 @@ pub record IsFirstOf (n m t : ℕ) : Type 0 where
 first_then : (n m t k : ℕ) → IsFirstOf n m t → t < k → k ≤ 64 → filter (is_on n) (below k) ≡ t ∷ filter (is_on m) (below k)
 first_then n m t zero is h l = absurd (omega arith)
 first_then n m t (suc k) is h l = elim (cases_eq k t) [
-  | inl e ↦
-      let none_m = none_before m t k (λ i b. is.same i (omega (arith, is.low)) (λ s. omega arith) ∙ is.before i b) (omega arith) in
-      rw (filter_below_more (is_on n) k, filter_below_more (is_on m) k, none_before n t k is.before (omega arith), none_m, e, is.on, is.off) refl
+  | inl e ↦ grind (arith, none_before, filter_below_more)
   | inr ne ↦ rw (filter_below_more (is_on n) k, filter_below_more (is_on m) k, first_then n m t k is (omega arith) (omega arith), is.same k (omega arith) ne) refl
 ]
 
@@ -70,13 +68,7 @@ one_pow k l = let below : 2 ^ k < 2 ^ 64 = pow-lt l in omega arith
 
 pub set_lanes-one : (k : ℕ) → k < 64 → set_lanes (1 * 2 ^ k % 2 ^ 64) ≡ k ∷ []
 set_lanes-one k l =
-    ap set_lanes (one_pow _ l) ∙ set_lanes-first _ _ _ (record {
-      low = l;
-      on = on_pow_same _;
-      before = λ i h. on_pow_other _ _ (λ e. omega arith);
-      off = on_zero _;
-      same = λ i h ne. on_zero _ ∙ sym (on_pow_other _ _ ne);
-    }) ∙ ap (λ xs. k ∷ xs) set_lanes-zero
+    ap set_lanes (one_pow _ l) ∙ set_lanes-first _ _ _ (grind (arith, on_pow_same, on_pow_other, on_zero)) ∙ ap (λ xs. k ∷ xs) set_lanes-zero
 
 pub one_lane : (k lane : ℕ) → k < 64 → is_on (1 * 2 ^ k % 2 ^ 64) lane ≡ true → lane ≡ k
 one_lane k lane l t = elim (cases_eq lane k) [ inl e ↦ e | inr ne ↦ absurd (both_ways (is_on (2 ^ k) lane) (on_pow_other k lane ne) (rw one_pow at t)) ]
@@ -141,10 +133,7 @@ pub AreRows-pushed : (lanes x lost : ℕ) (L : List (Entry ℕ)) (reason : Reaso
     AreRows lanes (λ p. not (has_entry L p)) words →
     AreRows lanes (λ p. not (has_entry (L ++ entries_in lanes x lost reason) p)) (set words x (bit_and (get_or words x 0) (bit_not w64 lost)))
 AreRows-pushed lanes x lost L reason words few room fits within rows = record {
-  each = λ y h. elim (cases_eq y x) [
-    | inl e ↦ rw (e, get_or-set_same words x word 0 room) own
-    | inr ne ↦ rw (get_or-set_other words x y word 0 ne) (other y ne (rows.each y (omega (arith, h, length-set words x word))))
-  ];
+  each = grind (arith, cases_eq, get_or-set_same, get_or-set_other, length-set, word, own, other);
 }
   where
     after : List (Entry ℕ)

@@ -14,9 +14,7 @@ pub position_from-bound : {X : Type 0} (test : X → Bool) (i : ℕ) (xs : List 
 position_from-bound test i [] j e = cc
 position_from-bound test i (x ∷ xs) j e =
     elim (cases_Bool (test x)) [
-      | inl t ↦
-          let same : i ≡ j = let first = rw t at e in cc in
-          omega arith
+      | inl t ↦ grind arith
       | inr f ↦
           let later = rw f at e in
           let bound = position_from-bound test (i + 1) xs j later in

@@ -1,5 +1,5 @@
 -- The entries from a place of the list on.
-use Rattle.std.proofs.Common.{◌≡◌, ℕ, zero, suc, ◌+◌, ◌-◌, ◌*◌, ◌<◌, ◌≤◌, true, List, [], ◌∷◌, ◌++◌, map, length, get_or, take, drop, Some, slice_get, inl, inr, refl, sym, ap, ap₂, ◌∙◌, subst, arith, eqb, length-append}
+use Rattle.std.proofs.Common.{◌≡◌, ℕ, zero, suc, ◌+◌, ◌-◌, ◌*◌, ◌<◌, ◌≤◌, true, List, [], ◌∷◌, ◌++◌, map, length, get_or, take, drop, Some, slice_get, inl, inr, refl, sym, ap, ◌∙◌, subst, arith, eqb, length-append}
 use Rattle.roman_order.proofs.Common.{AllByRecursion, drop-cons, cases_lt, eq-eqb, or_left, or_right, length-drop, list_any-append, flat_map-append, Entry, Board, as_entry, set_lanes, has_entry, IsEvent, entries_at, entries_of, board_of, firsts_of, AreCounted, IsSound, Event, Inside}
 use Rattle.std.proofs.Math.ListN.{drop_of_length-le}
 use Rattle.std.proofs.Math.Nat.{lt_of_mul-lt-mul_right}
@@ -72,8 +72,7 @@ pub event_of : (lanes n : ℕ) (places : List ℕ) (es : List Event) (j i : ℕ)
     get_or places j 0 ≤ i → (j + 1 < length es → i < get_or places (j + 1) 0) → i < n → IsEventOf lanes es i (get_or places j 0) e
 event_of lanes n places es j i e are h read from to low =
     let parts : es ≡ take j es ++ (e ∷ drop (suc j) es) = sym (take-append-drop j es) ∙ ap (λ ys. take j es ++ ys) (drop-cons es j e h ∙ ap (λ x. x ∷ drop (suc j) es) (sym read)) in
-    let whole : entries_of lanes es ≡ entries_of lanes (take j es) ++ (entries_at lanes e ++ entries_of lanes (drop (suc j) es)) =
-    ap (entries_of lanes) parts ∙ flat_map-append (entries_at lanes) (take j es) (e ∷ drop (suc j) es) in
+    let whole : entries_of lanes es ≡ entries_of lanes (take j es) ++ (entries_at lanes e ++ entries_of lanes (drop (suc j) es)) = grind (arith, flat_map-append) in
     let start : length (entries_of lanes (take j es)) ≡ get_or places j 0 = omega (arith, ap (λ ms. get_or ms j 0) are.firsts, firsts_at lanes 0 es j h) in
     record {
       before = entries_of lanes (take j es);
@@ -122,10 +121,8 @@ event_rest lanes es i first e left is rest =
     let long : length S ≡ length (set_lanes e.lanes) = length-entries_at _ _ in
     let here : i ≡ length is.before + k = omega (arith, is.start, is.from) in
     let ends : i + length (set_lanes left) ≡ length is.before + length S = omega (arith, ap length rest, length-drop k (set_lanes e.lanes), long, is.start, is.from, is.within) in
-    let past : is.after ≡ drop (i + length (set_lanes left)) (entries_of lanes es) =
-    sym (ap₂ (λ n xs. drop n xs) ends is.parts ∙ (drop-append-add is.before (S ++ is.after) (length S) ∙ drop-append_seam S is.after)) in
-    ap₂ (λ n xs. drop n xs) here is.parts ∙ (drop-append-add is.before (S ++ is.after) k ∙ (drop-append-le k S is.after (omega (arith, is.within, long))
-    ∙ (ap (λ xs. xs ++ is.after) (drop-map g k (set_lanes e.lanes) ∙ ap (λ ls. map g ls) (sym rest)) ∙ ap (λ xs. entries_at lanes (later e left) ++ xs) past)))
+    let past : is.after ≡ drop (i + length (set_lanes left)) (entries_of lanes es) = grind (arith, drop-append-add, drop-append_seam) in
+    grind (arith, drop-append-add, drop-append-le, drop-map, later)
 
 -- some lane of the event is left
 pub some_left : (lanes : ℕ) (es : List Event) (i first : ℕ) (e : Event) (left : ℕ) → IsEventOf lanes es i first e → set_lanes left ≡ drop (i - first) (set_lanes e.lanes) → 0 < length (set_lanes left)

@@ -107,10 +107,7 @@ place_below first w lane i (suc k) reason h on = elim (cases_eq lane k) [
       ∙ none_from (λ l. eqb (first + lane) (first + l)) (filter (is_on w) (below k)) (λ l m. ne_eqb (first + lane) (first + l) (λ s. let low = from_below k l (filter_in (is_on w) l (below k) m).0 in omega (arith, low))) in
       let here : eqb (first + lane) (first + k) ≡ true = eq-eqb (first + lane) (first + k) (ap (λ l. first + l) e) in
       let sum : i + length (map f (filter (is_on w) (below k))) ≡ i + length (filter (is_on w) (below lane)) = omega (arith, length-map (filter (is_on w) (below k)) f, ap (λ m. length (filter (is_on w) (below m))) e) in
-      ap (λ ls. position_from test i (map f ls)) last
-      ∙ (ap (position_from test i) (map_push f (filter (is_on w) (below k)) k)
-      ∙ (position_from-past test i (map f (filter (is_on w) (below k))) (f k ∷ []) none
-      ∙ (ap (λ b. cond b (Some (i + length (map f (filter (is_on w) (below k))))) None) here ∙ ap Some sum)))
+      grind (arith, map_push, position_from-past, test, f)
   | inr ne ↦
       let rest = cond (is_on w k) (k ∷ []) [] in
       ap (λ ls. position_from test i (map f ls)) (filter_below_more (is_on w) k)

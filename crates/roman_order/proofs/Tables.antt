@@ -89,11 +89,7 @@ room-row a x lost reason sound free fits some =
       sound.counted.count,
       sound.sized.room,
     ) in
-    record {
-      events = omega (arith, within, some, (few a sound).events);
-      firsts = omega (arith, within, some, (few a sound).events, (few a sound).firsts);
-      count = omega (arith, within, ones_of lost fits, sound.sized.few);
-    }
+    grind (arith, few, ones_of)
 
 -- an order is sound after entries for unlisted pairs of a row were added
 pub pushed_sound : (a b : Inside) (x lost : ℕ) (reason : Reason) → IsSound a → IsFree (board_of a) x lost → lost < 2 ^ 64 → 0 < length (set_lanes lost) → b.rows ≡ a.rows →

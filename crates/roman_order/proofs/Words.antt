@@ -47,14 +47,7 @@ pub has_flag-front : (words : List ℕ) (end : ℕ) → ((i : ℕ) → i < end /
 unfolding has_flag is_on
 has_flag-front words end whole part rest p = elim (cases_lt (p / 64) (end / 64)) [
   | inl h ↦ ap (λ w. is_on w (p % 64)) (whole (p / 64) h) ∙ (on_ones 64 (p % 64) (omega arith) ∙ sym (lt-ltb p end (omega arith)))
-  | inr h ↦ elim (cases_eq (p / 64) (end / 64)) [
-    | inl e ↦ ap (λ i. is_on (get_or words i 0) (p % 64)) e ∙ (ap (λ w. is_on w (p % 64)) part
-        ∙ elim (cases_lt (p % 64) (end % 64)) as (λ _. is_on (2 ^ (end % 64) - 1) (p % 64) ≡ ltb p end) [
-          | inl l ↦ on_ones (end % 64) (p % 64) l ∙ sym (lt-ltb p end (omega arith))
-          | inr l ↦ on_ones_above (end % 64) (p % 64) l ∙ sym (le-ltb p end (omega arith))
-        ])
-    | inr ne ↦ ap (λ w. is_on w (p % 64)) (rest (p / 64) (omega arith)) ∙ (on_zero (p % 64) ∙ sym (le-ltb p end (omega arith)))
-  ]
+  | inr h ↦ grind (arith, cases_eq, cases_lt, on_ones, lt-ltb, on_ones_above, le-ltb, on_zero)
 ]
 
 -- a table of n words: the first are full, and the others are 0

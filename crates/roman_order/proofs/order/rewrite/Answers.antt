@@ -5,10 +5,10 @@ use Rattle.roman_order.proofs.order.rewrite.Goals as goal
 
 pub loop-piece-init : goal.loop-piece-init
 loop-piece-init g c = (
-  search rules,
-  tt,
-  search rules,
-  rw (c.clear.ensures.items, c.into_iter-piece-iterator.ensures.into_iter_gives) c.chunks-piece-items.ensures.rest,
+  grind arith,
+  grind arith,
+  grind arith,
+  grind arith,
   omega (arith, c.clear.ensures.capacity),
 )
 

@@ -1,5 +1,5 @@
-use Rattle.std.proofs.Common.{◌+◌, ◌*◌, ◌∷◌, ap, sym, refl, subst, ◌∙◌, arith, rules}
-use Rattle.roman_order.proofs.Common.{length-set, as_entry, entries_of, CanWait}
+use Rattle.std.proofs.Common.{sym, refl, subst, arith, rules}
+use Rattle.roman_order.proofs.Common.{length-set, CanWait}
 use Rattle.roman_order.proofs.Lanes.{without_lane, without_lane-on, without_lane-fits, set_lanes-zero, some_lane, no_lane}
 use Rattle.roman_order.proofs.Events.{fewer, done_waiting, first_pair, left_waiting, rest_waiting}
 use Rattle.roman_order.proofs.Waiting.{next_event, taken, later_event, waiting_first, waits_sound}
@@ -45,5 +45,4 @@ returns-else-left-eq0-clause-first c =
     let e = c.index-event.result.now in
     let left = without_lane e.lanes c.lowest-lane.result in
     let wl = c.self.inside.waiting_lanes in
-    waiting_first _ _ _ _ _ c.self.view_is n t.first ∙ ap (λ es. as_entry (e.row * wl + c.lowest-lane.result, e.reason) ∷ entries_of wl es)
-    (sym (later_event _ _ _ _ n c.index_mut.ensures.value))
+    grind (arith, waiting_first, later_event)

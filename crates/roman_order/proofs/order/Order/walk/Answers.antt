@@ -18,10 +18,4 @@ returns c =
     let f = λ (lane : ℕ). as_entry (e.row * b.lanes + lane, e.reason) in
     let from = c.read_ahead.ensures.ahead.entries ∙ ap (λ ls. map f ls ++ rest) first in
     let one : c.args.i + length (set_lanes e.lanes) ≡ (c.args.i + 1) + length (set_lanes (without_lane e.lanes t)) = omega (arith, ap length first) in
-    record {
-      entry = rw lanes (get_first b.list c.args.i (f t) (map f (set_lanes (without_lane e.lanes t)) ++ rest) from);
-      ahead = record {
-        entries = drop_next b.list c.args.i (f t) (map f (set_lanes (without_lane e.lanes t)) ++ rest) from ∙ ap (λ j. map f (set_lanes (without_lane e.lanes t)) ++ drop j b.list) one;
-        within = λ lane on. c.read_ahead.ensures.ahead.within lane (without_lane-on e.lanes t lane on);
-      };
-    }
+    grind (arith, get_first, without_lane, drop_next, without_lane-on)
