@@ -50,9 +50,7 @@ served_moves s p x served = record { seat = served.seat; seated = served.seated;
 
 -- where the environment has no step, the action isn't served
 pub env_stays : (s : Sys) (e b : ℕ) (x : Sight) → IsSys s → IsFalse (has (env_next s.env e x.action) x.env) → IsServed s e b x → ⊥
-env_stays s e b x ok out served =
-    let next = env_next s.env e x.action in
-    both_ways (has next x.env) out (listed_number next x.env (in_env_next s.env e x.action x.env ok.env served.world))
+env_stays s e b x ok out served = grind (arith, both_ways, in_env_next, listed_number)
 
 -- where the service has no step, the action isn't served
 pub seat_stays : (s : Sys) (e b : ℕ) (x : Sight) (seat : Seat) → IsSys s → slice_get s.seats x.seat ≡ Some seat → IsFalse (has (beh_next seat.beh b e x.action) x.state) → IsServed s e b x → ⊥
@@ -65,15 +63,7 @@ seat_stays s e b x seat ok seated out served =
 -- where both the environment and the service have a step, the action is served
 pub served_from : (s : Sys) (e b : ℕ) (x : Sight) (seat : Seat) → slice_get s.seats x.seat ≡ Some seat → IsTrue (is_ready (slice_get s.seats x.seat)) →
     IsTrue (has (env_next s.env e x.action) x.env) → IsTrue (has (beh_next seat.beh b e x.action) x.state) → IsServed s e b x
-served_from s e b x seat seated ready has_e has_b =
-    let (y, y_seated, y_ready) = ready_seat (slice_get s.seats x.seat) ready in
-    record {
-      seat = seat;
-      seated = seated;
-      ready = subst (λ (y : Seat). IsFalse y.frozen) (same_seat s x.seat y seat y_seated seated) y_ready;
-      world = from_env_next s.env e x.action x.env (number_listed (env_next s.env e x.action) x.env has_e);
-      moves = from_beh_next seat.beh b e x.action x.state (number_listed (beh_next seat.beh b e x.action) x.state has_b);
-    }
+served_from s e b x seat seated ready has_e has_b = grind (arith, from_beh_next, from_env_next, number_listed, ready_seat, same_seat)
 
 -- where the action is served, the target goes to the state that is looked up
 pub target_goes : (s : Sys) (t e b : ℕ) (x : Sight) (o : Option ℕ) → IsServed s e b x →
@@ -119,16 +109,11 @@ all_move s p x to q ok l target served is below =
 
 -- the state of a seat is a state of its behaviour
 pub state_within : (s : Sys) (p : Pair) (k : ℕ) (seat : Seat) → IsPair s p → slice_get s.seats k ≡ Some seat → slice_index p.bs k < seat.beh.states
-state_within s p k seat pair seated =
-    let l = slice_get_within s.seats k seat seated in
-    let below = AreBelow-index (sizes_of s).seats p.bs k (states_below s.seats p.bs pair.bs) (omega (arith, l, length-map s.seats (λ (x : Seat). x.beh.states))) in
-    subst (λ (n : ℕ). slice_index p.bs k < n) (size_at s.seats k seat seated) below
+state_within s p k seat pair seated = grind (arith, AreBelow-index, length-map, size_at, slice_get_within, states_below)
 
 -- the state of a ready service is a state of its seat's behaviour
 pub state_seated : (s : Sys) (p : Pair) (k : ℕ) → IsPair s p → IsTrue (is_ready (slice_get s.seats k)) → IfSome (slice_get s.seats k) (λ seat. slice_index p.bs k < seat.beh.states)
-state_seated s p k pair ready =
-    let (seat, seated, unfrozen) = ready_seat (slice_get s.seats k) ready in
-    subst (λ (o : Option Seat). IfSome o (λ seat. slice_index p.bs k < seat.beh.states)) (sym seated) (state_within s p k seat pair seated)
+state_seated s p k pair ready = grind (arith, ready_seat, state_within)
 
 -- a state of the looked-up seat is a state of the seat
 pub state_of_seat : (s : Sys) (k b : ℕ) (seat : Seat) → slice_get s.seats k ≡ Some seat → IfSome (slice_get s.seats k) (λ seat. b < seat.beh.states) → b < seat.beh.states

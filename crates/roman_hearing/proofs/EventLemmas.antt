@@ -1,5 +1,5 @@
 -- Each line is read as its shape says.
-use Rattle.std.proofs.Common.{◌≡◌, ℕ, ◌≤◌, Bool, true, false, List, [], ◌∷◌, length, cond, codes, Result, Ok, Err, IsTrue, IsFalse, inl, inr, nat_lt, refl, sym, ◌∙◌, subst, ltb-true, ltb-false}
+use Rattle.std.proofs.Common.{◌≡◌, ℕ, ◌≤◌, Bool, true, false, List, [], ◌∷◌, length, cond, codes, Result, Ok, Err, IsTrue, IsFalse, inl, inr, nat_lt, refl, sym, ◌∙◌, subst, ltb-true, ltb-false, arith}
 use Rattle.roman_hearing.proofs.Common.{bytes_eq, false≢true, both_ways, cond-true, cond-false, by_test, LineShape, nothing, ask, hand, saw, abort, freeze, thaw, die, join, jump, jump_env, report, explain, quit, shape_of, LineError}
 use Rattle.std.specs.Str.Lines.{strip_carriage_return}
 use Rattle.roman_text.specs.Shapes.{words_of, is_comment, by_words, shape_of_words, spelling}
@@ -17,18 +17,8 @@ other_first true event other first rest = first
 other_first false event other first rest = rest
 
 words_give : (word : List ℕ) (more : List (List ℕ)) → IsFalse (gives_nothing (by_words word more))
-words_give word [] =
-    other_first (bytes_eq word (codes "abort")) abort _ refl
-    (other_first (bytes_eq word (codes "report")) report _ refl
-    (other_first (bytes_eq word (codes "explain")) explain _ refl
-    (other_first (bytes_eq word (codes "quit")) quit (Err Form) refl refl)))
-words_give word (a ∷ []) =
-    other_first (bytes_eq word (codes "do")) (ask a) _ refl
-    (other_first (bytes_eq word (codes "use")) (hand a) _ refl
-    (other_first (bytes_eq word (codes "freeze")) (freeze a) _ refl
-    (other_first (bytes_eq word (codes "thaw")) (thaw a) _ refl
-    (other_first (bytes_eq word (codes "die")) (die a) _ refl
-    (other_first (bytes_eq word (codes "jumpenv")) (jump_env a) (Err Form) refl refl)))))
+words_give word [] = grind (arith, other_first)
+words_give word (a ∷ []) = grind (arith, other_first)
 words_give word (a ∷ b ∷ []) =
     other_first (bytes_eq word (codes "saw")) (saw a b) _ refl (other_first (bytes_eq word (codes "jump")) (jump a b) (Err Form) refl refl)
 words_give word (a ∷ b ∷ c ∷ []) = other_first (bytes_eq word (codes "join")) (join a b c false) (Err Form) refl refl

@@ -35,15 +35,14 @@ quit_out heard rest few quit =
 
 -- the answered lines begin with the whole lines of first bytes within the limit
 heard_more : (heard rest : List ℕ) → length heard ≤ MAX_SESSION_BYTES → (more : List (List ℕ)) × (heard_lines (heard ++ rest) ≡ ended_lines heard ++ more)
-heard_more heard rest few = by_test (is_heard_out (heard ++ rest))
-    (λ out.
+heard_more heard rest few =
+    by_test (is_heard_out (heard ++ rest)) (λ out.
     let (prefix, e) = ended_more heard rest in
     let (last, f) = lines_more (heard ++ rest) in (
       prefix ++ last,
       cond-true (is_heard_out (heard ++ rest)) (lines (heard ++ rest)) (ended_lines (prefix_of (heard ++ rest))) out
           ∙ f ∙ ap (λ (ls : List (List ℕ)). ls ++ last) e ∙ append_assoc (ended_lines heard) prefix last,
-    ))
-    (λ long.
+    )) (λ long.
     let (more, e) = ended_more heard (take (MAX_SESSION_BYTES - length heard) rest) in (
       more,
       cond-false (is_heard_out (heard ++ rest)) (lines (heard ++ rest)) (ended_lines (prefix_of (heard ++ rest))) long

@@ -1,13 +1,13 @@
 -- Every line has a step.
 use Rattle.std.proofs.Common.{◌≡◌, ℕ, ◌<◌, Bool, true, ◌==◌, ◌&&◌, List, [], ◌++◌, length, false, Result, Ok, Err, IsTrue, IsFalse, inl, inr, nat_lt, nat_le, slice_set, refl, sym, ap, subst, arith, ltb-true, leb-true, eqb-true, eq-eqb}
-use Rattle.roman_hearing.proofs.Common.{list_any, both_ways, and_parts, and_from, length-map, get_or_from_slice_get, IsIn, Sys, Pair, is_allowed, outcomes, same_numbers, arena, Entry, IsComplete, name_at, explain_text, MAX_SERVICES, by_test, any_true, same_numbers_is, same_numbers_itself, from_allowed, outcome_in, from_outcome, there_is, bind_ok, LineShape, nothing, ask, hand, saw, abort, freeze, thaw, die, join, jump, jump_env, report, explain, quit, shape_of, reply_text, LineError, Reply, IsNamedSys, seat_of, names_in, frozen_system, frozen_known, gone_system, gone_known, joined_system, joined_known, Situation, present_system, IsPhase, IsSituation, seat_at, asked, handed, seen, aborted, jumped, env_jumped, frozen, thawed, died, joining, join_of, unexplained, report_text, Asks, Hands, Sees, Aborts, Jumps, EnvJumps, Changing, Changes, Freezes, Thaws, Dies, Joins, freezing, thawing, dying, growing, Explains, Does, StepOn, StepBy, Step, offer_text, parts_after, Handing, Joining, Jump, Sight, Phase, Idle, Offered, Delegated, seat_is, checked, asked_is, handed_is, jumped_is, env_jumped_is, frozen_is, thawed_is, died_is, joining_idle, cells_with, AreBehaviours}
+use Rattle.roman_hearing.proofs.Common.{list_any, both_ways, and_parts, and_from, length-map, get_or_from_slice_get, IsIn, Sys, Pair, is_allowed, outcomes, same_numbers, arena, Entry, IsComplete, name_at, explain_text, MAX_SERVICES, by_test, any_true, same_numbers_is, same_numbers_itself, from_allowed, outcome_in, from_outcome, there_is, bind_ok, LineShape, nothing, ask, hand, saw, abort, freeze, thaw, die, join, jump, jump_env, report, explain, quit, shape_of, reply_text, LineError, Reply, IsNamedSys, seat_of, names_in, frozen_system, frozen_known, gone_system, gone_known, joined_system, joined_known, Situation, present_system, IsPhase, IsSituation, seat_at, asked, handed, seen, aborted, jumped, env_jumped, frozen, thawed, died, joining, join_of, unexplained, report_text, Asks, Hands, Sees, Aborts, Jumps, EnvJumps, Changing, Changes, Freezes, Thaws, Dies, Joins, freezing, thawing, dying, growing, Explains, Does, StepOn, StepBy, Step, parts_after, Handing, Joining, Jump, Sight, Phase, Idle, Offered, Delegated, seat_is, checked, asked_is, handed_is, jumped_is, env_jumped_is, frozen_is, thawed_is, died_is, joining_idle, cells_with, AreBehaviours}
 use Rattle.roman_model.specs.System.{TStep, SStep}
 use Rattle.roman_model.specs.Arena.{replay}
 use Rattle.roman_model.specs.Change.{CanChange, rename, after}
 use Rattle.roman_model.proofs.CallerLemmas.{any_false, sublist_in, replay_sublist, renaming_keeps, order_goes_on}
 use Rattle.roman_text.specs.declared.replies.Reply.TheVariants as reply
 use Rattle.roman_joint.specs.NamedSys as joint
-use Rattle.roman_session.specs.Steps.{Says, CanBe, pair_after, service_at}
+use Rattle.roman_session.specs.Steps.{Says, CanBe, pair_after}
 use Rattle.roman_session.proofs.CallerLemmas.{seen_is}
 use Rattle.roman_hearing.proofs.WithinLemmas.{seat_within, joining_new, joining_beh}
 
@@ -57,28 +57,13 @@ explains_there s x is = record { text = explain_text (present_system s) (names_i
 -- ---- requests
 
 asks_there : (s : Situation) (a : ℕ) → IsGoing s → IsTrue (is_allowed (present_system s) s.here a) → CanGo (Asks s a)
-asks_there s a is allowed = record {
-  text = offer_text s a;
-  new = record s { phase = Offered a };
-  acts = (refl, refl);
-  going = record { parts = is.parts; behaviours = is.behaviours; list = is.list; phase = allowed };
-}
+asks_there s a is allowed = grind arith
 
 hands_there : (s : Situation) (x : Handing) → IsGoing s → s.phase ≡ Offered x.action → CanGo (Hands s x)
-hands_there s x is phase = record {
-  text = reply_text (reply.Using (service_at s x.seat));
-  new = record s { phase = Delegated x.action x.seat };
-  acts = (refl, refl);
-  going = record { parts = is.parts; behaviours = is.behaviours; list = is.list; phase = subst (IsAllowed s) phase is.phase };
-}
+hands_there s x is phase = grind arith
 
 aborts_there : (s : Situation) (x : Unit {0}) → IsGoing s → CanGo (Aborts s x)
-aborts_there s x is = record {
-  text = reply_text reply.Aborted;
-  new = record s { phase = Idle };
-  acts = (refl, refl);
-  going = record { parts = is.parts; behaviours = is.behaviours; list = is.list; phase = tt };
-}
+aborts_there s x is = grind arith
 
 -- ---- outcomes that are seen
 
@@ -117,37 +102,22 @@ never_seen s x is allowed none moved =
     let (t, e, step) = from_allowed (present_system s) s.here x.action allowed in
     let bs : List ℕ = slice_set s.here.bs x.seat x.state in
     let q : Pair = pair_after s x t in
-    both_ways (shows s x q)
-    (any_false (shows s x) q (outcomes (present_system s) s.here x.action x.seat) none
+    both_ways (shows s x q) (any_false (shows s x) q (outcomes (present_system s) s.here x.action x.seat) none
     (outcome_in (present_system s) s.here x.action x.seat t x.env bs is.parts.system (moved.world, step.1) moved))
     (and_from (x.env == x.env) (same_numbers bs bs) (eq-eqb x.env x.env refl) (same_numbers_itself bs))
 
 sees_there : (s : Situation) (x : Sight) → IsGoing s → IsTrue (is_allowed (present_system s) s.here x.action) → CanGo (Sees s x)
-sees_there s x is allowed = by_test (list_any (shows s x) (outcomes (present_system s) s.here x.action x.seat))
-    (λ some. let (q, i, shown) = any_true (shows s x) (outcomes (present_system s) s.here x.action x.seat) some in sight_there s x q is i shown)
-    (λ none. record { text = reply_text reply.Impossible; new = s; acts = inr (never_seen s x is allowed none, refl, refl); going = is })
+sees_there s x is allowed =
+    by_test _ (λ some. let (q, i, shown) = any_true _ _ some in sight_there _ _ _ is i shown)
+    (λ none. record { text = reply_text reply.Impossible; new = s; acts = inr (never_seen _ _ is allowed none, refl, refl); going = is })
 
 -- ---- jumps
 
 jumps_there : (s : Situation) (x : Jump) → IsGoing s → s.phase ≡ Idle → CanGo (Jumps s x)
-jumps_there s x is idle =
-    let new : Situation = record s { here = record s.here { bs = slice_set s.here.bs x.seat x.state } } in
-    record {
-      text = reply_text reply.Jumped;
-      new = new;
-      acts = (refl, refl);
-      going = record { parts = is.parts; behaviours = is.behaviours; list = is.list; phase = subst (IsAllowed new) (sym idle) tt };
-    }
+jumps_there s x is idle = grind arith
 
 env_jumps_there : (s : Situation) (e : ℕ) → IsGoing s → s.phase ≡ Idle → CanGo (EnvJumps s e)
-env_jumps_there s e is idle =
-    let new : Situation = record s { here = record s.here { e = e } } in
-    record {
-      text = reply_text reply.Jumped;
-      new = new;
-      acts = (refl, refl);
-      going = record { parts = is.parts; behaviours = is.behaviours; list = is.list; phase = subst (IsAllowed new) (sym idle) tt };
-    }
+env_jumps_there s e is idle = grind arith
 
 -- ---- changes of the services
 

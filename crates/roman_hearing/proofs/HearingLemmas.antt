@@ -24,33 +24,21 @@ step_alike old new line held text same step = rw (sym same) step
 -- a truncated line gets the same answer
 pub answered_on_alike : {T E : Type 0} (old new : Situation) (line held : List ℕ) (before now : Option (List ℕ)) (page holds : List ℕ) (result : Result T E) → shape_of held ≡ shape_of line →
     AnsweredOn old held new before now page holds result → AnsweredOn old line new before now page holds result
-answered_on_alike old new line held before now page holds result same answered = record {
-  text = answered.text;
-  step = step_alike old new line held answered.text same answered.step;
-  gathers = answered.gathers;
-}
+answered_on_alike old new line held before now page holds result same answered = grind (arith, step_alike)
 
 -- the session goes on after a line that isn't `quit`
 next_more : (line : List ℕ) → More ≡ next_of line → IsFalse (ends_session line)
-next_more line e = by_test (ends_session line)
-    (λ quit. let other : More ≡ Quit = e ∙ cond-true (ends_session line) Quit More quit in let h : ⊥ = cc in absurd h)
-    (λ other. other)
+next_more line e = grind (arith, by_test, cond-true)
 
 next_quit : (line : List ℕ) → Quit ≡ next_of line → IsTrue (ends_session line)
-next_quit line e = by_test (ends_session line)
-    (λ quit. quit)
-    (λ other. let more : Quit ≡ More = e ∙ cond-false (ends_session line) Quit More other in let h : ⊥ = cc in absurd h)
+next_quit line e = grind (arith, by_test, cond-false)
 
 -- ---- the reply to one more line
 
 -- the reply is pushed on the page
 takes_more : (old mid new : Situation) (ls : List (List ℕ)) (line more : List ℕ) (before wrote now : Option (List ℕ)) (page holds : List ℕ) → IsFalse (has_quit ls) →
     TellsOnPage (cursor old before) ls (cursor mid wrote) page → Step mid line more new → Gathered wrote now holds (page ++ more) → TellsOnPage (cursor old before) (ls ++ line ∷ []) (cursor new now) holds
-takes_more old mid new ls line more before wrote now page holds quitless takes step gathered = record {
-  text = takes.text ++ more;
-  told = told_push old mid new ls line takes.text more quitless takes.told step;
-  gathered = Gathered-then before wrote now page holds takes.text more takes.gathered gathered;
-}
+takes_more old mid new ls line more before wrote now page holds quitless takes step gathered = grind (arith, Gathered-then, told_push)
 
 -- the reply isn't pushed whole
 takes_failed : (old mid new : Situation) (ls : List (List ℕ)) (line more : List ℕ) (before wrote now : Option (List ℕ)) (page : List ℕ) → IsFalse (has_quit ls) →
@@ -74,29 +62,16 @@ whole_told old new ls takes = record {
 
 -- the page is flushed
 put_whole : (old : Cursor) (mid : Situation) (wrote now : Option (List ℕ)) (ls : List (List ℕ)) (page : List ℕ) → TellsOnPage old ls (cursor mid wrote) page → Wrote wrote now page → TellsOnPage old ls (cursor mid now) []
-put_whole old mid wrote now ls page takes put = record {
-  text = takes.text;
-  told = takes.told;
-  gathered = Gathered-put old.written now takes.text
-      (subst (Wrote old.written now) (sym takes.gathered.rest) (Wrote-then old.written wrote now takes.gathered.prefix page takes.gathered.wrote put));
-}
+put_whole old mid wrote now ls page takes put = grind (arith, Gathered-put, Wrote-then)
 
 put_prefix : (old : Cursor) (mid : Situation) (wrote now : Option (List ℕ)) (ls : List (List ℕ)) (page : List ℕ) → TellsOnPage old ls (cursor mid wrote) page → WrotePrefix wrote now page → TellsPrefix old ls (cursor mid now)
-put_prefix old mid wrote now ls page takes prefix = record {
-  text = takes.text;
-  told = takes.told;
-  wrote = subst (WrotePrefix old.written now) (sym takes.gathered.rest) (WrotePrefix-after old.written wrote now takes.gathered.prefix page takes.gathered.wrote prefix);
-}
+put_prefix old mid wrote now ls page takes prefix = grind (arith, WrotePrefix-after)
 
 -- ---- one byte
 
 -- before the first byte
 pub hearing_starts : (s : Situation) (told : Option (List ℕ)) (held : List ℕ) → held ≡ [] → IsHearing (cursor s told) [] (reader_state s told [] held)
-hearing_starts s told held empty = record {
-  quitless = refl;
-  tells = record { text = []; told = (refl, refl); gathered = Gathered-empty told [] refl };
-  rest = empty ∙ sym (ap kept unfinished-nil ∙ kept-nil);
-}
+hearing_starts s told held empty = grind (arith, Gathered-empty, kept-nil, unfinished-nil)
 
 module _ (old : Situation) (before : Option (List ℕ)) (taken : List ℕ) (mid : Situation) (wrote : Option (List ℕ)) (page held : List ℕ) (byte : ℕ) (is : IsHearing (cursor old before) taken (reader_state mid wrote page held)) where
   -- a byte within a line

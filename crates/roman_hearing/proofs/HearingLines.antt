@@ -1,5 +1,5 @@
 -- The replies to consecutive lines, up to the first line that ends the session.
-use Rattle.std.proofs.Common.{◌≡◌, ℕ, false, List, [], ◌∷◌, ◌++◌, length, take, drop, nat_lt, nat_le, IsTrue, IsFalse, refl, sym, ap, ◌∙◌, subst, append_assoc, append-nil, take-append-drop, if◌then◌else◌}
+use Rattle.std.proofs.Common.{◌≡◌, ℕ, false, List, [], ◌∷◌, ◌++◌, length, take, drop, nat_lt, nat_le, IsTrue, IsFalse, refl, sym, ap, ◌∙◌, subst, append_assoc, append-nil, take-append-drop, if◌then◌else◌, arith}
 use Rattle.roman_hearing.proofs.Common.{cond-true, cond-false, or_parts, or_from, or_left, or_right, lines, ended_lines, by_test, unfinished, kept, shape_of, lines_rest, lines_none, Situation, Step, until_quit, Answers, Told, MAX_SESSION_BYTES, ends_session, has_quit, is_heard_out, heard_lines}
 use Rattle.std.proofs.lemmas.List.Folds.{list_any-append}
 use Rattle.roman_text.proofs.CallerLemmas.{ended_lines-append}
@@ -13,8 +13,8 @@ ended_more xs ys = (ended_lines (unfinished xs ++ ys), ended_lines-append xs ys)
 
 -- the lines of some bytes begin with the whole ones
 pub lines_more : (bytes : List ℕ) → (more : List (List ℕ)) × (lines bytes ≡ ended_lines bytes ++ more)
-lines_more bytes = by_test (nat_lt 0 (length (kept (unfinished bytes))))
-    (λ some. (unfinished bytes ∷ [], lines_rest bytes some))
+lines_more bytes =
+    by_test (nat_lt 0 (length (kept (unfinished bytes)))) (λ some. (unfinished bytes ∷ [], lines_rest bytes some))
     (λ none. ([], lines_none bytes none ∙ sym (append-nil (ended_lines bytes))))
 
 -- ---- lines that end the session
@@ -54,10 +54,8 @@ answered_heard session =
     let few = nat_le (length session) MAX_SESSION_BYTES in
     let all = lines session in
     let first = ended_lines (take MAX_SESSION_BYTES session) in
-    by_test few
-    (λ short. ap until_quit (cond-true (is_heard_out session) all first (or_left few (has_quit first) short) ∙ sym (cond-true few all first short)))
-    (λ long. by_test (has_quit first)
-    (λ quit.
+    by_test few (λ short. ap until_quit (cond-true (is_heard_out session) all first (or_left few (has_quit first) short) ∙ sym (cond-true few all first short)))
+    (λ long. by_test (has_quit first) (λ quit.
     let (others, rest) = lines_more session in
     let (more, ended) = ended_more (take MAX_SESSION_BYTES session) (drop MAX_SESSION_BYTES session) in
     let whole : all ≡ first ++ (more ++ others) =
@@ -68,9 +66,7 @@ answered_heard session =
 
 -- any last line is answered
 until_last : (line : List ℕ) → until_quit (line ∷ []) ≡ line ∷ []
-until_last line = by_test (is_quit (shape_of line))
-    (λ quit. cond-true (is_quit (shape_of line)) (line ∷ []) (line ∷ []) quit)
-    (λ other. cond-false (is_quit (shape_of line)) (line ∷ []) (line ∷ []) other)
+until_last line = grind (arith, by_test, cond-false, cond-true)
 
 all_lines : (ls : List (List ℕ)) → IsFalse (has_quit ls) → until_quit ls ≡ ls
 all_lines ls h = ap until_quit (sym (append-nil ls)) ∙ goes_on ls [] h ∙ append-nil ls
@@ -86,9 +82,7 @@ answers_then old mid new (line ∷ ls) ms text more (said, later, next, split, s
 
 -- the replies to more lines
 pub told_then : (old mid new : Situation) (ls ms : List (List ℕ)) (text more : List ℕ) → IsFalse (has_quit ls) → Told old ls text mid → Told mid ms more new → Told old (ls ++ ms) (text ++ more) new
-told_then old mid new ls ms text more quitless told rest =
-    subst (λ (all : List (List ℕ)). Answers old all (text ++ more) new) (sym (goes_on ls ms quitless))
-    (answers_then old mid new ls (until_quit ms) text more (subst (λ (prefix : List (List ℕ)). Answers old prefix text mid) (all_lines ls quitless) told) rest)
+told_then old mid new ls ms text more quitless told rest = grind (arith, all_lines, answers_then, goes_on)
 
 -- the reply to one more line
 pub told_push : (old mid new : Situation) (ls : List (List ℕ)) (line text more : List ℕ) → IsFalse (has_quit ls) → Told old ls text mid → Step mid line more new →

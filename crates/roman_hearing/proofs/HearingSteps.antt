@@ -16,8 +16,8 @@ answers_there s (line ∷ ls) is =
 -- the replies to some lines can be followed by the replies to more
 pub told_more : (old mid : Situation) (ls ms : List (List ℕ)) (text : List ℕ) → AreBehaviours old.parts → IsSituation mid → Told old ls text mid →
     (more : List ℕ) × (last : Situation) × Told old (ls ++ ms) (text ++ more) last
-told_more old mid ls ms text behaviours known told = by_test (has_quit ls)
-    (λ quit. ([], mid, subst (λ (text : List ℕ). Told old (ls ++ ms) text mid) (sym (append-nil text)) (told_stops old mid ls ms text quit told)))
+told_more old mid ls ms text behaviours known told =
+    by_test (has_quit ls) (λ quit. ([], mid, subst (λ (text : List ℕ). Told old (ls ++ ms) text mid) (sym (append-nil text)) (told_stops old mid ls ms text quit told)))
     (λ quitless.
     let is = can_go_on mid known (behaviours_stay old mid (answers_keep old mid (until_quit ls) text told) behaviours) in
     let (more, last, answers) = answers_there mid (until_quit ms) is in

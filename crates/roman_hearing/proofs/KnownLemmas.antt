@@ -1,10 +1,9 @@
 -- Steps lead from well-formed situations to well-formed ones.
-use Rattle.std.proofs.Common.{◌≡◌, ℕ, ◌<◌, Bool, true, false, List, ◌++◌, length, Result, Ok, Err, inl, inr, slice_set, nat_lt, nat_le, refl, sym, subst, arith, ltb-true, leb-true}
-use Rattle.roman_hearing.proofs.Common.{get_or_from_slice_get, Sys, IsPair, IsComplete, offers, MAX_SERVICES, number_listed, there_is, same_ok, bind_ok, LineShape, nothing, ask, hand, saw, abort, freeze, thaw, die, join, jump, jump_env, report, explain, quit, shape_of, LineError, Reply, IsNamedSys, seat_of, frozen_system, frozen_known, gone_system, gone_known, joined_system, joined_known, Situation, present_system, IsPhase, IsSituation, seat_at, asked, handed, seen, aborted, jumped, env_jumped, frozen, thawed, died, joining, join_of, unexplained, Asks, Hands, Sees, Aborts, Jumps, EnvJumps, Changing, Changes, Freezes, Thaws, Dies, Joins, freezing, thawing, dying, growing, Explains, Does, StepOn, StepBy, Step, parts_after, Handing, Joining, Jump, Sight, Idle, checked, asked_is, handed_is, jumped_is, env_jumped_is, frozen_is, thawed_is, died_is, joining_idle, cells_with, AreBehaviours, AreNamed}
+use Rattle.std.proofs.Common.{◌≡◌, ℕ, ◌<◌, Bool, true, false, List, length, Result, Ok, Err, inl, inr, slice_set, nat_lt, nat_le, refl, sym, subst, arith, ltb-true, leb-true}
+use Rattle.roman_hearing.proofs.Common.{get_or_from_slice_get, Sys, IsPair, MAX_SERVICES, number_listed, there_is, same_ok, bind_ok, LineShape, nothing, ask, hand, saw, abort, freeze, thaw, die, join, jump, jump_env, report, explain, quit, shape_of, LineError, Reply, IsNamedSys, seat_of, frozen_system, frozen_known, gone_system, gone_known, joined_system, joined_known, Situation, present_system, IsPhase, IsSituation, seat_at, asked, handed, seen, aborted, jumped, env_jumped, frozen, thawed, died, joining, join_of, unexplained, Asks, Hands, Sees, Aborts, Jumps, EnvJumps, Changing, Changes, Freezes, Thaws, Dies, Joins, freezing, thawing, dying, growing, Explains, Does, StepOn, StepBy, Step, parts_after, Handing, Joining, Jump, Sight, Idle, checked, asked_is, handed_is, jumped_is, env_jumped_is, frozen_is, thawed_is, died_is, joining_idle, cells_with, AreBehaviours, AreNamed}
 use Rattle.roman_model.proofs.CallerLemmas.{IsPair-turned, IsPair-grown, IsPair-without}
 use Rattle.roman_text.specs.declared.replies.Reply.TheVariants as reply
 use Rattle.roman_joint.specs.NamedSys as joint
-use Rattle.roman_session.specs.Situations.{IsOpen}
 use Rattle.roman_session.proofs.CallerLemmas.{jumped_pair, moved_pair}
 use Rattle.roman_hearing.specs.Known.{StepsStayKnown}
 use Rattle.roman_hearing.proofs.KeepLemmas.{line_keeps}
@@ -23,15 +22,7 @@ asks_known old new action text a is ok asks =
     subst IsSituation (sym asks.1) (record { parts = is.parts; here = is.here; list = is.list; phase = (asked.related, asked.allowed) })
 
 hands_known : (old new : Situation) (service text : List ℕ) (x : Handing) → IsSituation old → handed old service ≡ Ok x → Hands old x text new → IsSituation new
-hands_known old new service text x is ok hands =
-    let handed = handed_is old service x ok in
-    let is_open : IsOpen old x.action = subst (IsPhase old) handed.phase is.phase in
-    subst IsSituation (sym hands.1) (record {
-      parts = is.parts;
-      here = is.here;
-      list = is.list;
-      phase = (is_open, number_listed (offers (present_system old) old.here x.action) x.seat handed.offered);
-    })
+hands_known old new service text x is ok hands = grind (arith, handed_is, number_listed)
 
 sees_known : (old new : Situation) (x : Sight) (text : List ℕ) → IsSituation old → Sees old x text new → IsSituation new
 sees_known old new x text is (inl moves) =
@@ -71,14 +62,7 @@ env_jumps_known old new env text e is are ok jumps =
 
 changes_known : (old new : Situation) (x : Changing) (text : List ℕ) → old.phase ≡ Idle → IsNamedSys (parts_after old x) → IsPair (joint.system_of (parts_after old x)) x.here → Changes old x text new →
     IsSituation new
-changes_known old new x text idle known pair changes =
-    let next : Situation = record { parts = parts_after old x; here = x.here; phase = old.phase; list = changes.kept ++ changes.added } in
-    subst IsSituation (sym changes.becomes) (record {
-      parts = known;
-      here = pair;
-      list = subst (λ (s : Situation). IsComplete (present_system s) (changes.kept ++ changes.added)) changes.becomes changes.complete;
-      phase = subst (IsPhase next) (sym idle) tt;
-    })
+changes_known old new x text idle known pair changes = grind arith
 
 freezes_known : (old new : Situation) (service text : List ℕ) (k : ℕ) → IsSituation old → frozen old service ≡ Ok k → Freezes old k text new → IsSituation new
 freezes_known old new service text k is ok changes =

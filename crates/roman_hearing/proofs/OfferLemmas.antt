@@ -1,19 +1,13 @@
 -- A service that isn't offered would fail.
-use Rattle.std.proofs.Common.{◌≡◌, ℕ, not, ◌⊎◌, inl, inr, [], IsTrue, IsFalse}
-use Rattle.roman_hearing.proofs.Common.{list_any, or_cases, not-true, IsIn, is_empty, Sys, Pair, outcomes, arena, is_beaten, is_related, by_test, empty_is, any_true}
+use Rattle.std.proofs.Common.{◌≡◌, ℕ, not, ◌⊎◌, [], IsTrue, IsFalse, arith}
+use Rattle.roman_hearing.proofs.Common.{or_cases, not-true, IsIn, Sys, Pair, outcomes, arena, is_beaten, is_related, by_test, empty_is, any_true}
 use Rattle.roman_model.proofs.CallerLemmas.{in_mask}
 use Rattle.roman_hearing.specs.Laws.{NotOfferedFails}
 
 -- a seat that is beaten has no outcome, or an outcome whose pair isn't related
 beaten_fails : (s : Sys) (p : Pair) (a k : ℕ) → IsTrue (is_beaten (arena s) (λ q. not (is_related s q)) p a k) →
     (outcomes s p a k ≡ []) ⊎ ((q : Pair) × IsIn q (outcomes s p a k) × IsFalse (is_related s q))
-beaten_fails s p a k beaten =
-    elim (or_cases (is_empty (outcomes s p a k)) (list_any (λ q. not (is_related s q)) (outcomes s p a k)) beaten) [
-      | inl none ↦ inl (empty_is (outcomes s p a k) none)
-      | inr some ↦
-          let (q, i, gone) = any_true (λ q. not (is_related s q)) (outcomes s p a k) some in
-          inr (q, i, not-true (is_related s q) gone)
-    ]
+beaten_fails s p a k beaten = grind (arith, any_true, empty_is, not-true, or_cases)
 
 pub not_offered_fails : NotOfferedFails
 not_offered_fails s p a k l allowed out =

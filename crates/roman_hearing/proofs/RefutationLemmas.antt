@@ -1,6 +1,6 @@
 -- The explanation of a pair that isn't related is a removal list in terms of steps, and the opponent who plays by it wins.
 use Rattle.std.proofs.Common.{◌≡◌, ℕ, zero, suc, ◌+◌, ◌<◌, ◌==◌, Bool, true, false, not, ◌&&◌, ◌||◌, List, [], ◌∷◌, ◌++◌, length, codes, Option, None, Some, IsTrue, IsFalse, inl, inr, filter, find, slice_get, refl, sym, ap, ◌∙◌, subst, arith, append_assoc, eqb-true, eq-eqb}
-use Rattle.roman_hearing.proofs.Common.{list_any, false≢true, both_ways, and_parts, and_from, or_cases, or_parts, not-true, cond-true, cond-false, IsIn, below, is_empty, text_of_lines, Seat, Sys, Pair, IsSys, is_final, arena, outcomes, same_numbers, Entry, is_beaten, Great, explain_text, by_test, empty_is, filter_in, in_filter, filter_sublist, in_below, listed_in, in_listed, from_allowed, from_outcome, outcome_in, same_numbers_is, same_numbers_itself, names_in, Situation, present_system, IsSituation, shown, IsReady, Refutes}
+use Rattle.roman_hearing.proofs.Common.{list_any, false≢true, both_ways, and_parts, and_from, or_cases, or_parts, not-true, cond-true, cond-false, IsIn, below, is_empty, text_of_lines, Sys, Pair, IsSys, is_final, arena, outcomes, same_numbers, Entry, is_beaten, Great, explain_text, by_test, empty_is, filter_in, in_filter, filter_sublist, in_below, listed_in, in_listed, from_allowed, from_outcome, outcome_in, same_numbers_is, same_numbers_itself, names_in, Situation, present_system, IsSituation, shown, IsReady, Refutes}
 use Rattle.std.specs.Option.{option_to_list}
 use Rattle.std.proofs.lemmas.Option.{none-some, slice_get_within}
 use Rattle.roman_model.specs.System.{all_final}
@@ -34,11 +34,7 @@ pairs_same s = record {
 -- a pair that is lost where some pairs are gone is lost where more pairs are gone
 lost_more : (s : Sys) (Gone More : Pair → Type 0) (answers : ℕ → Option Pair) (p : Pair) (r : Reason) → ((q : Pair) → Gone q → More q) → IsLost s Gone answers p r → IsLost s More answers p r
 lost_more s Gone More answers p Final more lost = lost
-lost_more s Gone More answers p (Act a) more lost = (lost.0, λ k l. more_answer k (answers k) (lost.1 k l))
-  where
-    more_answer : (k : ℕ) (o : Option Pair) → MayAnswer s Gone p a k o → MayAnswer s More p a k o
-    more_answer k None never = never
-    more_answer k (Some q) (goes, gone) = (goes, more q gone)
+lost_more s Gone More answers p (Act a) more lost = grind arith
 
 module _ (s : Sys) (answers : Entry Pair → ℕ → Option Pair) (all : List (Entry Pair)) where
   wins_more : (n : ℕ) (p : Pair) → WinsBy s answers all n p → WinsBy s answers all (suc n) p
@@ -169,16 +165,10 @@ module _ (s : Sys) (ok : IsSys s) (L : List (Entry Pair)) (p : Pair) (order : Is
 
 -- the seats that are ready
 ready_exact : (s : Situation) (k : ℕ) → IsIn k (ready_seats (arena (present_system s))) → IsReady (shown s) k
-ready_exact s k i = by_seat (slice_get (present_system s).seats k) refl (filter_in (arena (present_system s)).ready k (below (length (present_system s).seats)) i).1
-  where
-    by_seat : (o : Option Seat) → slice_get (present_system s).seats k ≡ o → IsTrue (is_ready o) → IsReady (shown s) k
-    by_seat None e ready = absurd (false≢true ready)
-    by_seat (Some seat) e ready = (seat, e, not-true seat.frozen ready)
+ready_exact s k i = grind (arith, false≢true, filter_in, not-true)
 
 ready_from : (s : Situation) (k : ℕ) → IsReady (shown s) k → IsIn k (ready_seats (arena (present_system s)))
-ready_from s k (seat, there, ready) =
-    in_filter (arena (present_system s)).ready k (below (length (present_system s).seats))
-    (in_below (length (present_system s).seats) k (slice_get_within (present_system s).seats k seat there)) (ap is_ready there ∙ ap not ready)
+ready_from s k (seat, there, ready) = in_filter _ _ _ (in_below _ _ (slice_get_within (present_system s).seats k seat there)) (ap is_ready there ∙ ap not ready)
 
 pub refutes : (s : Situation) (text : List ℕ) → IsSituation s → (Great (present_system s) s.here → ⊥) → text ≡ explain_text (present_system s) (names_in s.parts) s.list s.here → Refutes (shown s) text
 refutes s text is lost says =

@@ -1,5 +1,5 @@
 -- The report of a session equals the report of the library that begins where the session stands.
-use Rattle.std.proofs.Common.{◌≡◌, ℕ, ◌<◌, List, [], ◌∷◌, map, refl, ap, sym, ◌∙◌, subst}
+use Rattle.std.proofs.Common.{◌≡◌, ℕ, ◌<◌, List, [], ◌∷◌, map, refl, ap, arith}
 use Rattle.std.specs.List.{AllZip}
 use Rattle.roman_hearing.proofs.Common.{NamedBeh, NamedSys, seat_of, system_of, Beh, IsBeh, IsSys, IsPair, Situation, IsSituation, lines_text, report_text, afresh, shown}
 use Rattle.roman_joint.specs.declared.seat.Seat.{Seat}
@@ -39,12 +39,7 @@ unfolding report_text lines_text
 start_unsaid s = refl
 
 pub reports_afresh : ReportsAreAfresh
-reports_afresh s is =
-    let seats = seats_again s.parts.catalogue s.parts.seats s.here.bs is.here.bs in
-    let bs = states_again s.parts.catalogue s.parts.seats s.here.bs is.here.bs in
-    start_unsaid s
-    ∙ ap (λ (seats : List Seat). report_text (begun s seats) s.here) (sym seats)
-    ∙ ap (λ (bs : List ℕ). report_text (parts_of (afresh (shown s))) (record { t = s.here.t; e = s.here.e; bs = bs })) (sym bs)
+reports_afresh s is = grind (arith, seats_again, start_unsaid, states_again)
 
 -- The steps don't depend on the starting states of the library
 
@@ -64,11 +59,4 @@ begun_known s is =
 
 -- the library that begins where the session stands has a well-formed system, and its start pair is one of the system
 pub afresh_known : (s : Situation) → IsSituation s → IsSys (system_of (parts_of (afresh (shown s)))) × IsPair (system_of (parts_of (afresh (shown s)))) (start_pair_of (afresh (shown s)))
-afresh_known s is =
-    let seats = seats_again s.parts.catalogue s.parts.seats s.here.bs is.here.bs in
-    let bs = states_again s.parts.catalogue s.parts.seats s.here.bs is.here.bs in
-    let pair : IsPair (system_of (begun s s.parts.seats)) s.here = record { t = is.here.t; e = is.here.e; bs = is.here.bs } in (
-      subst (λ (seats : List Seat). IsSys (system_of (begun s seats))) (sym seats) (begun_known s is),
-      subst (λ (bs : List ℕ). IsPair (system_of (parts_of (afresh (shown s)))) (record { t = s.here.t; e = s.here.e; bs = bs })) (sym bs)
-          (subst (λ (seats : List Seat). IsPair (system_of (begun s seats)) s.here) (sym seats) pair),
-    )
+afresh_known s is = grind (arith, begun_known, seats_again, states_again)

@@ -5,7 +5,7 @@ use Rattle.roman_hearing.proofs.Common.{length-map, IsIn, Beh, Sys, Pair, IsBeh,
 use Rattle.roman_model.specs.Lists.{product_of}
 use Rattle.roman_model.specs.System as model
 use Rattle.roman_model.specs.Several.{GreatAll}
-use Rattle.roman_model.specs.Combined.{combined, combined_env, combined_beh, combined_target, combined_seat, couple_all, target_sizes, IsSeveral}
+use Rattle.roman_model.specs.Combined.{combined, combined_beh, combined_seat, couple_all, target_sizes, IsSeveral}
 use Rattle.roman_model.specs.declared.limits.TheConstants.{MAX_STATES}
 use Rattle.roman_model.specs.declared.request.Request.{Request}
 use Rattle.roman_model.proofs.CallerLemmas.{combined_is_all}
@@ -44,11 +44,7 @@ made_system made seats = record { env = made.environment.env; target = made.targ
 made_combined : (said : PlainTargets) (seats : List Seat) → All (λ seat. seat.behaviour < length said.catalogue) seats →
     made_system (combined_parts said.environment said.catalogue said.targets) seats ≡ combined (several_with said seats)
 unfolding combined_parts
-made_combined said seats all =
-    let requests = requests_in said.environment said.targets in
-    ap (λ (xs : List model.Seat).
-    record { env = combined_env requests said.environment.env; target = combined_target said.environment.env.states requests (machines said.targets); seats = xs })
-    (seats_combined said.environment requests said.catalogue seats all)
+made_combined said seats all = grind (arith, seats_combined)
 
 catalogue_length : (said : PlainTargets) → length (combined_parts said.environment said.catalogue said.targets).catalogue ≡ length said.catalogue
 unfolding combined_parts

@@ -63,9 +63,7 @@ behaviour_in_turn true (Some i) p idle free x g = state_in_turn (p i) idle free 
 
 join_in_turn : (s : Situation) (service behaviour state : List ℕ) (loose : Bool) → join_of s service behaviour state loose ≡ joined_in_turn s service behaviour state loose
 unfolding joining
-join_in_turn s service behaviour state loose =
-    behaviour_in_turn (is_name service) (place_of (map beh_name s.parts.catalogue) behaviour) (λ i. place_of (states_of_behaviour s.parts.catalogue i) state) (is_idle s.phase)
-    (is_none (place_of (map seat_name s.parts.seats) service)) (λ i b. record { seat = record { name = service; behaviour = i; frozen = false; rests = not loose }; state = b }) (with_room s)
+join_in_turn s service behaviour state loose = grind (arith, behaviour_in_turn)
 
 -- a service isn't ready exactly where it is frozen
 ready_tells : (s : Situation) (k : ℕ) → k < length s.parts.seats → IsReady (shown s) k → IsFalse (seat_at s k).frozen

@@ -1,7 +1,6 @@
 -- What an event names is in range: the place of a service, a state or a behaviour.
 use Rattle.std.proofs.Common.{◌≡◌, ℕ, ◌<◌, Bool, List, [], map, length, Option, None, Some, ok_or, is_none, is_ok, IfSome, false, Ok, IsTrue, slice_get, refl, sym, ap, ◌∙◌, subst, arith}
-use Rattle.std.specs.List.{position}
-use Rattle.roman_hearing.proofs.Common.{bytes_eq, length-map, position-Some, get_or_from_slice_get, Seat, IsBeh, Beh, seat_names, there_is, is_name, place_of, same_ok, bind_ok, NamedBeh, beh_at, seat_name, beh_name, states_of_behaviour, names_in, beh_read, Situation, present_system, is_idle, IsSituation, named, joining, Joining, name_is_new, checked, AreBehaviours}
+use Rattle.roman_hearing.proofs.Common.{length-map, position-Some, get_or_from_slice_get, Seat, IsBeh, Beh, seat_names, there_is, is_name, place_of, same_ok, bind_ok, NamedBeh, beh_at, seat_name, beh_name, states_of_behaviour, names_in, beh_read, Situation, present_system, is_idle, IsSituation, named, joining, Joining, name_is_new, checked, AreBehaviours}
 use Rattle.std.proofs.lemmas.List.Elements.{All-get_or}
 use Rattle.roman_text.specs.declared.replies.Reply.TheVariants as reply
 use Rattle.roman_parts.specs.Named.{IsBehaviour}
@@ -14,11 +13,7 @@ use Rattle.roman_session.proofs.CallerLemmas.{mapped_at, states_named}
 
 -- the number of a name is below the number of names
 pub named_within : (names : List (List ℕ)) (name : List ℕ) (i : ℕ) → named names name ≡ Ok i → i < length names
-named_within names name i h = (position-Some (bytes_eq name) names i [] (some_of (position (bytes_eq name) names) h)).0
-  where
-    some_of : (o : Option ℕ) → ok_or o reply.ErrorName ≡ Ok i → o ≡ Some i
-    some_of None e = cc
-    some_of (Some j) e = let same : j ≡ i = cc in ap Some same
+named_within names name i h = grind (arith, position-Some)
 
 -- a named service is present
 pub seat_within : (s : Situation) (service : List ℕ) (k : ℕ) → service_named s service ≡ Ok k → k < length s.parts.seats

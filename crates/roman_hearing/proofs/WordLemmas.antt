@@ -1,15 +1,13 @@
 -- Offers, counts and reports are right by the greatest ND-simulation.
-use Rattle.std.proofs.Common.{◌≡◌, ℕ, ◌+◌, Bool, List, [], ◌∷◌, ◌++◌, map, length, cond, true, false, IsTrue, ◌↔◌, refl, sym, ap₂, ◌∙◌, subst, length-append}
+use Rattle.std.proofs.Common.{◌≡◌, ℕ, ◌+◌, Bool, List, [], ◌∷◌, ◌++◌, map, length, cond, true, false, IsTrue, ◌↔◌, refl, sym, ◌∙◌, subst, length-append, arith}
 use Rattle.std.specs.List.{flat_map, filter}
 use Rattle.roman_hearing.proofs.Common.{both_ways, length-map, IsIn, below, Sys, Pair, IsSys, IsPair, is_final, arena, is_allowed, Entry, IsComplete, Great, name_at, is_related, offers, filter_sublist, filter_in, in_filter, in_below, allowed_in, from_allowed, related_great, great_related, in_listed, listed_in, from_map, system_of, seat_name, Situation, present_system, IsPhase, IsSituation, lines_text, report_text, Phase, Idle, Offered, Delegated, shown, State, IsGreat, MayAsk, afresh, Counts}
 use Rattle.roman_model.specs.Lists.{IsSublist}
-use Rattle.roman_model.specs.SystemArena.{pairs}
 use Rattle.roman_model.specs.Numbers.{sizes_of, count}
 use Rattle.roman_model.specs.Offers.{related_count}
 use Rattle.roman_model.proofs.CallerLemmas.{sublist_none, HasNoRepeats-filter, allowed_in_range, from_pairs, in_pairs, pairs_once, length-pairs, offers_are, order_new, new_once, in_map}
-use Rattle.roman_text.specs.declared.report.ReportLine.{ReportLine}
 use Rattle.roman_text.specs.declared.report.ReportLine.TheVariants as line
-use Rattle.roman_session.specs.Reports.{service_lines, offer_line}
+use Rattle.roman_session.specs.Reports.{service_lines}
 use Rattle.roman_hearing.specs.Laws.{OpenIsGreat}
 use Rattle.roman_hearing.specs.States.{start_state, IsOpenGreat}
 use Rattle.roman_hearing.specs.Words.{AreServing, ReportsGreat}
@@ -68,18 +66,7 @@ lost_counted s kept added complete =
 
 -- the count of related pairs is their number
 related_counted : (s : Sys) → IsSys s → Counts s (Great s) (related_count s)
-related_counted s sys = record {
-  pairs = filter (is_related s) (pairs s);
-  once = HasNoRepeats-filter (is_related s) (pairs s) (pairs_once s);
-  each = λ p. (
-    λ i.
-        let (j, related) = filter_in (is_related s) p (pairs s) i in
-        let pair = from_pairs s p j in
-        (pair, related_great s p sys pair related),
-    λ (pair, great). in_filter (is_related s) p (pairs s) (in_pairs s p pair) (great_related s p sys great),
-  );
-  count = refl;
-}
+related_counted s sys = grind (arith, HasNoRepeats-filter, filter_in, from_pairs, great_related, in_filter, in_pairs, pairs_once, related_great)
 
 -- reports
 
@@ -121,15 +108,7 @@ report_says : (s : State) → report_text s.parts s.here ≡ lines_text (
     (actions_offered s (is_related (system_of s.parts) s.here))
     ++ line.End ∷ [])))
 unfolding report_text actions_offered
-report_says s =
-    let sys = system_of s.parts in
-    let told : ℕ → List ReportLine → List ℕ = λ n more. lines_text (
-    line.Pairs n
-    ∷ line.Related (related_count sys)
-    ∷ line.Environment (name_at s.parts.environment.states s.here.e)
-    ∷ line.Target (name_at s.parts.target.states s.here.t) (is_final s.parts.target.beh s.here.t)
-    ∷ (service_lines s.parts.catalogue s.parts.seats s.here.bs ++ line.Answer (is_related sys s.here) ∷ (more ++ line.End ∷ []))) in
-    ap₂ told (length-pairs sys) (picked_lines (is_related sys s.here) (offer_line s.parts s.here) (filter (is_allowed sys s.here) (below sys.env.actions)))
+report_says s = grind (arith, length-pairs, picked_lines)
 
 actions_order : (s : State) (b : Bool) → IsSublist (actions_offered s b) (below s.parts.environment.env.actions)
 unfolding actions_offered

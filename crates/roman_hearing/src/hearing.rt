@@ -195,6 +195,7 @@ fn hear_rest<O: Sink, L: Ledger>(
 }
 
 /// Pushes the reply to the held line on the page. Long lines are truncated once they can't parse.
+#[tactic(auto, using(crate::proofs::HearingLemmas::answered_on_alike))]
 fn hear_line<O: Sink, L: Ledger>(
     session: &mut Session,
     splitter: &Splitter,

@@ -18,22 +18,26 @@ pub fn outcomes_are_related()
 
 /// A service that isn't offered for an allowed action has no outcome, or an outcome whose pair isn't
 /// related.
+#[tactic(auto, using(crate::proofs::OfferLemmas::not_offered_fails))]
 pub fn services_not_offered_fail()
     ensures fails { NotOfferedFails }
 {}
 
 /// The report equals the report of a new synthesis from the present services and the present states.
+#[tactic(auto, using(crate::proofs::ReportLemmas::reports_afresh))]
 pub fn reports_are_afresh()
     ensures afresh { ReportsAreAfresh }
 {}
 
 /// Each step from a well-formed situation leads to a well-formed situation.
+#[tactic(auto, using(crate::proofs::KnownLemmas::steps_known))]
 pub fn steps_stay_known()
     ensures known { StepsStayKnown }
 {}
 
 /// A line is read as the event that its words spell. It is read as no event where it has no words or
 /// is a comment. Every other line, and every line of more than 256 bytes, is read as an error.
+#[tactic(auto, using(crate::proofs::EventLemmas::lines_read))]
 pub fn lines_are_read()
     ensures read { LinesAreRead }
 {
@@ -43,11 +47,13 @@ pub fn lines_are_read()
 /// Each step is a turn: it leads to the state of its event, and its text answers that event. State
 /// and text are defined by the greatest ND-simulation, by steps and by names, without the removal
 /// list.
+#[tactic(auto, using(crate::proofs::TurnLemmas::steps_turns))]
 pub fn steps_are_turns()
     ensures turns { StepsAreTurns }
 {}
 
 /// An open request can be served, and its delegate is a service that serves it.
+#[tactic(auto, using(crate::proofs::WordLemmas::open_great))]
 pub fn open_is_great()
     ensures great { OpenIsGreat }
 {}

@@ -1,5 +1,5 @@
 -- Words that are numbered as names, one by one.
-use Rattle.std.proofs.Common.{◌≡◌, ℕ, ◌+◌, ◌<◌, ◌&&◌, ◌++◌, ◌∷◌, [], List, length, get_or, take, drop, map, None, IsTrue, Bor, is_none, refl, ap, sym, ◌∙◌, subst, add-one, drop-cons}
+use Rattle.std.proofs.Common.{◌≡◌, ℕ, ◌+◌, ◌<◌, ◌++◌, ◌∷◌, [], List, length, get_or, take, drop, map, None, IsTrue, Bor, refl, ap, sym, ◌∙◌, subst, add-one, drop-cons, arith}
 use Rattle.std.proofs.lemmas.Bool.{and_parts}
 use Rattle.std.proofs.lemmas.List.{take_more, get_or-map, length-map, length_push}
 use Rattle.roman_read.specs.Names.{is_name, place_of}
@@ -13,10 +13,7 @@ pub record IsNext (before : List (List ℕ)) (word : List ℕ) (rest : List (Lis
   pub further : IsTrue (are_new (before ++ word ∷ []) rest)
 
 next_word : (before : List (List ℕ)) (word : List ℕ) (rest : List (List ℕ)) → IsTrue (are_new before (word ∷ rest)) → IsNext before word rest
-next_word before word rest new =
-    let parts = and_parts (is_name word && is_none (place_of before word)) (are_new (before ++ word ∷ []) rest) new in
-    let first = and_parts (is_name word) (is_none (place_of before word)) parts.0 in
-    record { name = first.0; new = none_is (place_of before word) first.1; further = parts.1 }
+next_word before word rest new = grind (arith, and_parts, none_is)
 
 -- the words from their references
 abbrev pub shown : List (Bor (List ℕ)) → List (List ℕ)

@@ -1,5 +1,5 @@
 -- The parts that are made are the parts of the definitions.
-use Rattle.std.proofs.Common.{◌≡◌, ℕ, ◌<◌, ◌==◌, ◌&&◌, ◌∷◌, [], List, length, get_or, map, take, Bor, Bool, true, IsTrue, nat_lt, codes, refl, ap, sym, ◌∙◌, subst, inl, inr}
+use Rattle.std.proofs.Common.{◌≡◌, ℕ, ◌<◌, ◌==◌, ◌&&◌, ◌∷◌, [], List, length, get_or, map, take, Bor, Bool, true, IsTrue, nat_lt, codes, refl, ap, sym, ◌∙◌, subst, inl, inr, arith}
 use Rattle.std.specs.List.{list_all, AllByRecursion as ByRecursion}
 use Rattle.std.proofs.lemmas.Bool.{and_parts, eqb-true, ltb-true}
 use Rattle.std.proofs.lemmas.List.Elements.{All-from_recursion}
@@ -8,7 +8,7 @@ use Rattle.std.proofs.lemmas.Simd.{map-map}
 use Rattle.roman_guard.specs.Meaning.{states_below}
 use Rattle.roman_model.specs.Lists.{IsIn}
 use Rattle.roman_model.specs.Normal.{normal_env, normal_beh}
-use Rattle.roman_model.specs.System.{Beh, Move, has, has_move, IsDeterministic}
+use Rattle.roman_model.specs.System.{Beh, Move, has_move, IsDeterministic}
 use Rattle.roman_model.proofs.CallerLemmas.{any_true, move_test}
 use Rattle.roman_parts.proofs.CallerLemmas.{from_normal_move}
 use Rattle.roman_parts.specs.Listed.{listed_env, listed_beh, AreMoves}
@@ -25,9 +25,7 @@ env_path s a e = λ i. record { states = s i; actions = a i; env = e i }
 pub floor_is : (made : NamedEnv) (states actions : List (List ℕ)) → states ≡ floor_states → actions ≡ floor_actions → (made.states ≡ states) × (made.actions ≡ actions)
     → made.env ≡ normal_env (listed_env (length states) (length actions) 0 FLOOR_STEPS) → made ≡ floor
 unfolding floor
-floor_is made states actions s a (ms, ma) normal =
-    env_path (ms ∙ s) (ma ∙ a)
-    (normal ∙ ap (λ n. normal_env (listed_env n (length actions) 0 FLOOR_STEPS)) (ap length s) ∙ ap (λ n. normal_env (listed_env 1 n 0 FLOOR_STEPS)) (ap length a))
+floor_is made states actions s a (ms, ma) normal = grind (arith, env_path)
 
 -- ---- the steps of machines
 
@@ -104,18 +102,13 @@ abbrev shift_to : ℕ → ℕ
 shift_to a = get_or (1 ∷ 2 ∷ 0 ∷ 3 ∷ 1 ∷ []) a 0
 
 one_to : (beh : Beh) (b e a b' : ℕ) → list_all (λ m. m.to == shift_to m.action) beh.steps ≡ true → IsTrue (has_move (normal_beh 1 5 beh) b e a b') → b' ≡ shift_to a
-one_to beh b e a b' all t =
-    let own = (from_normal_move 1 5 beh b e a b' t).4 in
-    let (m, m_in, test) = any_true (λ x. x.from == b && x.action == a && has x.guard e && x.to == b') beh.steps own in
-    let (from, action, guard, to) = move_test m b e a b' test in
-    sym to ∙ eqb-true m.to (shift_to m.action) (each_in (λ x. x.to == shift_to x.action) beh.steps m all m_in) ∙ ap shift_to action
+one_to beh b e a b' all t = grind (arith, any_true, each_in, eqb-true, from_normal_move, move_test)
 
 -- the shift is deterministic, since each of its actions leads to one state
 pub shift_single : (env : NamedEnv) (states : List (List ℕ)) (steps : List (ℕ × ℕ × ℕ × ℕ)) → env ≡ floor → states ≡ shift_states → steps ≡ always SHIFT_STEPS
     → IsDeterministic (normal_beh env.env.states env.env.actions (listed_beh (length states) 0 (0 ∷ []) steps))
 shift_single env states steps e s rows =
-    subst IsDeterministic (sym (over_floor env states (0 ∷ []) steps (always SHIFT_STEPS) 4 e (ap length s) rows))
-    (λ b e a b1 b2 h1 h2.
+    subst IsDeterministic (sym (over_floor env states (0 ∷ []) steps (always SHIFT_STEPS) 4 e (ap length s) rows)) (λ b e a b1 b2 h1 h2.
     let beh = listed_beh 4 0 (0 ∷ []) (always SHIFT_STEPS) in
     one_to beh b e a b1 refl h1 ∙ sym (one_to beh b e a b2 refl h2))
 

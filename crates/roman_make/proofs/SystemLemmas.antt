@@ -1,5 +1,5 @@
 -- The library that is made is the library of the definition, and is well formed.
-use Rattle.std.proofs.Common.{◌≡◌, ℕ, zero, suc, ◌≤◌, ◌∷◌, [], List, length, map, take, sym, subst, inl, inr, lit<, lit≤, arith}
+use Rattle.std.proofs.Common.{◌≡◌, ℕ, zero, suc, ◌≤◌, ◌∷◌, [], List, length, map, take, inl, inr, lit<, lit≤, arith}
 use Rattle.std.proofs.lemmas.List.{length-map, length-take-le}
 use Rattle.std.proofs.lemmas.List.Elements.{All-cons, All-map}
 use Rattle.std.proofs.lemmas.Simd.{map-map}
@@ -69,6 +69,4 @@ made_is_library n few env behaviour target = record {
 -- the library that is made is well formed
 pub library_known : (made_library : PlainLibrary) (n : ℕ) (env : NamedEnv) (beh : NamedBeh) (target : NamedTarget) → made_library ≡ made n → n ≤ 10
     → env ≡ floor → IsEnv env.env → beh ≡ worker → IsBehaviour floor beh → target ≡ shift → IsTarget floor target → IsLibrary made_library
-library_known made_library n env beh target is few e env_known b beh_known t target_known =
-    subst IsLibrary (sym is)
-    (made_is_library n few (subst (λ x. IsEnv x.env) e env_known) (subst (IsBehaviour floor) b beh_known) (subst (IsTarget floor) t target_known))
+library_known made_library n env beh target is few e env_known b beh_known t target_known = grind (arith, made_is_library)

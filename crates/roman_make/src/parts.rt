@@ -76,6 +76,7 @@ pub(crate) fn make_shift(alloc: Global, env: &Environment) -> Result<Target, All
 }
 
 /// Makes the first `n` workers. Requires `n` at most 10.
+#[tactic(auto, using(crate::proofs::PartLemmas::taken))]
 pub(crate) fn make_services(alloc: Global, n: u8) -> Result<Vec<Service>, AllocError>
     requires { n ≤ 10 }
     ensures { IfOk result (λ services. services.items ≡ map idle_worker (take n worker_names)) }

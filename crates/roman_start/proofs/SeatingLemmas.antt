@@ -1,5 +1,5 @@
 -- The seating of a library.
-use Rattle.std.proofs.Common.{◌≡◌, ℕ, ◌<◌, ◌≤◌, List, vec_capacity, ap₂, ◌∙◌, sym, subst}
+use Rattle.std.proofs.Common.{◌≡◌, ℕ, ◌<◌, ◌≤◌, List, vec_capacity, sym, subst, arith}
 use Rattle.roman_model.specs.System.{IsPair}
 use Rattle.roman_model.specs.Numbers.{sizes_of, count, number}
 use Rattle.roman_model.specs.declared.limits.TheConstants.{MAX_SERVICES}
@@ -20,11 +20,4 @@ seated_pair library parts bs is same states =
 -- the result of seating the library
 pub seated : (library : PlainLibrary) (x : Seated) (bs : List ℕ) → IsLibrary library → x.joint ≡ parts_of library → x.states.items ≡ (start_pair_of library).bs → bs ≡ (start_pair_of library).bs →
     x.start ≡ number (sizes_of (system_of x.joint)) (starting x.joint bs) → x.start < count (sizes_of (system_of x.joint)) → MAX_SERVICES ≤ vec_capacity x.states → IsSeated library x
-seated library x bs is same states given start below room = record {
-  parts = same;
-  states = states;
-  pair = start_pair library is;
-  start = start ∙ ap₂ (λ (n : NamedSys) (bs : List ℕ). number (sizes_of (system_of n)) (starting n bs)) same given;
-  below = subst (λ (n : NamedSys). x.start < count (sizes_of (system_of n))) same below;
-  room = room;
-}
+seated library x bs is same states given start below room = grind (arith, start_pair)

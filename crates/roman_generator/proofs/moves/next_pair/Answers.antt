@@ -1,7 +1,6 @@
-use Rattle.std.proofs.Common.{◌≡◌, ◌<◌, length, slice_index, sym, ap, ◌∙◌, subst, arith}
+use Rattle.std.proofs.Common.{◌≡◌, ◌<◌, slice_index, sym, ap, ◌∙◌, subst, arith}
 use Rattle.std.proofs.lemmas.List.{length-map}
 use Rattle.std.proofs.lemmas.Option.{slice_get_within}
-use Rattle.roman_model.specs.System.{Seat}
 use Rattle.roman_model.specs.Numbers.{Sizes, sizes_of, count, number, pair_at}
 use Rattle.roman_model.proofs.CallerLemmas.{from_allowed, move_in_range, triple_in_range, numbers_are_pairs}
 use Rattle.roman_radix.specs.Radix.{moved}
@@ -12,11 +11,7 @@ use Rattle.roman_generator.proofs.MoveLemmas.{ready_seat, state_seated, served_i
 use Rattle.roman_generator.proofs.moves.next_pair.Goals as goal
 
 pub part_of-b-requires-clause-component : goal.part_of-b-requires-clause-component
-part_of-b-requires-clause-component c =
-    let s = system_of c.args.joint.now in
-    let (seat, seated, ready) = ready_seat _ c.requires.ready in
-    let l = slice_get_within s.seats c.args.k seat seated in
-    omega (arith, l, length-map s.seats (λ (x : Seat). x.beh.states), ap (λ (m : Sizes). length m.seats) c.shape-shape.ensures)
+part_of-b-requires-clause-component c = grind (arith, length-map, ready_seat, slice_get_within)
 
 pub target_after-requires-clause-allowed : goal.target_after-requires-clause-allowed
 target_after-requires-clause-allowed c =
@@ -47,20 +42,13 @@ pub moved-requires-clause-t : goal.moved-requires-clause-t
 moved-requires-clause-t c =
     let s = system_of c.args.joint.now in
     let target = c.in_ok-to.ensures.moves.0 in
-    subst (λ (m : Sizes). c.in_ok-to.to < m.target) (sym c.shape-shape.ensures)
-    (move_in_range s.env s.target c.target_of-t.result c.env_of-e.result c.args.a c.in_ok-to.to c.known.ensures.system.target target.1).3
+    subst (λ (m : Sizes). c.in_ok-to.to < m.target) (sym c.shape-shape.ensures) (move_in_range _ _ _ _ _ _ c.known.ensures.system.target target.1).3
 
 pub moved-requires-clause-e : goal.moved-requires-clause-e
-moved-requires-clause-e c =
-    let s = system_of c.args.joint.now in
-    let target = c.in_ok-to.ensures.moves.0 in
-    subst (λ (m : Sizes). c.args.e2 < m.env) (sym c.shape-shape.ensures) (triple_in_range s.env c.env_of-e.result c.args.a c.args.e2 c.known.ensures.system.env target.0).2
+moved-requires-clause-e c = grind (arith, triple_in_range)
 
 pub moved-requires-clause-state : goal.moved-requires-clause-state
-moved-requires-clause-state c =
-    let x : Sight = record { action = c.args.a; seat = c.args.k; state = c.args.b2; env = c.args.e2 } in
-    subst (λ (m : Sizes). c.args.b2 < slice_index m.seats c.args.k) (sym c.shape-shape.ensures)
-    (served_within (system_of c.args.joint.now) c.env_of-e.result c.part_of-b.result x c.known.ensures.system c.in_ok-to.ensures.moves.1)
+moved-requires-clause-state c = grind (arith, served_within)
 
 pub returns-clause-moves : goal.returns-clause-moves
 returns-clause-moves c =

@@ -1,9 +1,9 @@
 use Rattle.std.proofs.Common.{arith}
-use Rattle.std.proofs.lemmas.Option.{slice_get_within, IfSome_then}
+use Rattle.std.proofs.lemmas.Option.{slice_get_within}
 use Rattle.roman_model.specs.System.{Pair}
 use Rattle.roman_model.proofs.CallerLemmas.{from_allowed}
 use Rattle.roman_joint.specs.NamedSys.{system_of}
-use Rattle.roman_generator.proofs.MoveLemmas.{ready_seat, states_long, state_seated, served_moves, none_moves}
+use Rattle.roman_generator.proofs.MoveLemmas.{ready_seat, states_long, state_seated, none_moves}
 use Rattle.roman_generator.proofs.moves.next_target.Goals as goal
 
 pub bounds-states-sight : goal.bounds-states-sight
@@ -21,11 +21,6 @@ target_after-requires-clause-allowed c =
 pub target_after-requires-clause-state : goal.target_after-requires-clause-state
 target_after-requires-clause-state c =
     state_seated (system_of c.args.joint.now) (record { t = c.args.t; e = c.args.e; bs = c.args.states.now }) c.args.sight.seat c.requires.pair c.requires.ready
-
-pub returns-clause-moves : goal.returns-clause-moves
-returns-clause-moves c =
-    let p : Pair = record { t = c.args.t; e = c.args.e; bs = c.args.states.now } in
-    IfSome_then c.target_after.result c.target_after.ensures.moves (λ to h. (h.0, served_moves (system_of c.args.joint.now) p c.args.sight h.1))
 
 pub returns-clause-none : goal.returns-clause-none
 returns-clause-none c =

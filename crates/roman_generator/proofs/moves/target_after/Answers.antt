@@ -18,9 +18,7 @@ next-requires-clause-action c =
     subst (λ (env : NamedEnv). c.args.sight.action < env.env.actions) (sym c.environment.ensures) within.2
 
 pub behaviour-behaviour-requires : goal.behaviour-behaviour-requires
-behaviour-behaviour-requires c =
-    let (seat, seated, ready) = ready_seat _ c.requires.ready in
-    seat_within c.args.joint.now c.args.sight.seat seat seated
+behaviour-behaviour-requires c = grind (arith, ready_seat, seat_within)
 
 pub out-requires-clause-state : goal.out-requires-clause-state
 out-requires-clause-state c =

@@ -6,8 +6,7 @@ use Rattle.roman_hearing.proofs.hearing.hear_bytes.Goals as goal
 pub returns-in_err-hear_byte-clause-hears : goal.returns-in_err-hear_byte-clause-hears
 returns-in_err-hear_byte-clause-hears g c old before taken is =
     let p = err_from_is_err_and c.from_residual.result c.from_residual.ensures.1 in
-    rw p.1
-    (fails_at old before taken c.args.bytes.now c.loop-byte.byte-index c.hear_byte.new.session (g.O.Sink.written c.hear_byte.new.out) c.loop-byte-test.true
+    rw p.1 (fails_at old before taken c.args.bytes.now c.loop-byte.byte-index c.hear_byte.new.session (g.O.Sink.written c.hear_byte.new.out) c.loop-byte-test.true
     (c.in_err-hear_byte.ensures.hears old before (taken ++ take c.loop-byte.byte-index c.args.bytes.now) (c.loop-byte.invariant.hears old before taken is)))
 
 pub returns-in-Quit-clause-hears : goal.returns-in-Quit-clause-hears

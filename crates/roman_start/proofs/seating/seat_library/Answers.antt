@@ -35,5 +35,4 @@ returns-clause-seated c =
     let seats : c.in_ok-seats.seats.items ≡ map seat_of_service library.services = c.in_ok-seats.ensures ∙ ap (map seat_of_service) c.deref.ensures.value in
     let joint : c.in_ok-joint.joint ≡ parts_of library = c.in_ok-joint.ensures.parts ∙ ap (λ (seats : List Seat). record (parts_of library) { seats = seats }) seats in
     let states : c.in_ok-states.states.items ≡ (start_pair_of library).bs = c.in_ok-states.ensures.states ∙ ap (map state_of_service) c.deref-2.ensures.value in
-    seated library (record { joint = c.in_ok-joint.joint; states = c.in_ok-states.states; start = c.start_of-start.result }) c.deref-3.result.now c.requires joint states
-    (c.deref-3.ensures.value ∙ states) c.start_of-start.ensures.number c.start_of-start.ensures.below c.in_ok-states.ensures.room
+    seated _ _ _ c.requires joint states (c.deref-3.ensures.value ∙ states) c.start_of-start.ensures.number c.start_of-start.ensures.below c.in_ok-states.ensures.room

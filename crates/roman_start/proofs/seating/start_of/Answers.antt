@@ -3,7 +3,6 @@ use Rattle.roman_model.specs.System.{Pair}
 use Rattle.roman_model.specs.Numbers.{Sizes, sizes_of, IsPairOf}
 use Rattle.roman_model.proofs.CallerLemmas.{IsPairOf-from}
 use Rattle.roman_joint.specs.NamedSys.{system_of}
-use Rattle.roman_start.specs.Starts.{starting}
 use Rattle.roman_start.proofs.seating.start_of.Goals as goal
 
 pub number-requires : goal.number-requires
@@ -13,5 +12,4 @@ number-requires c =
     let t = c.start-target.ensures.start ∙ ap (λ x. x.beh.start) c.target.ensures in
     let e = c.start-env.ensures.start ∙ ap (λ x. x.env.start) c.environment.ensures in
     subst (λ (m : Sizes). IsPairOf m (record { t = c.start-target.result; e = c.start-env.result; bs = bs })) (sym c.shape.ensures)
-    (subst (λ (p : Pair). IsPairOf (sizes_of (system_of n)) p) (ap₂ (λ (t e : ℕ). record { t = t; e = e; bs = bs }) (sym t) (sym e))
-    (IsPairOf-from (system_of n) (starting n bs) c.requires))
+    (subst (λ (p : Pair). IsPairOf (sizes_of (system_of n)) p) (ap₂ (λ (t e : ℕ). record { t = t; e = e; bs = bs }) (sym t) (sym e)) (IsPairOf-from _ _ c.requires))
