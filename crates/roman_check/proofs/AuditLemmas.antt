@@ -1,6 +1,6 @@
 -- Lines that are judged by those that were read.
 use Rattle.std.proofs.Common.{◌≡◌, ℕ, ◌+◌, ◌*◌, ◌<◌, ◌==◌, Bool, true, false, not, ◌||◌, List, [], ◌∷◌, ◌++◌, length, Option, Some, None, IsTrue, IsFalse, if◌then◌else◌, option_map, find, refl, sym, ap, ◌∙◌, subst, arith, append-nil}
-use Rattle.roman_check.proofs.Common.{list_any, cons_option, or-false, cond-true, cond-false, not-true, list_any-append, IsIn, same_numbers, Arena, Entry, is_listed, is_justified, head_line, count_line, end_line, reasons, entry_of, entries_on, could_be_listed, entry_fault, line_fault, same_numbers_is, AreFew, from_possible, possible_small, entry_of-is, entry_of_other, fault_in_body, fault_after_end, Reason, Final, Act, AreRows, HoldsWhereKept, IsNumbered, Audit, Body, Nothing, Why, Form, fault_of, Remain, IsInRows, HasListed, Judges}
+use Rattle.roman_check.proofs.Common.{mul-le, list_any, cons_option, or-false, cond-true, cond-false, not-true, list_any-append, IsIn, same_numbers, Arena, Entry, is_listed, is_justified, head_line, count_line, end_line, reasons, entry_of, entries_on, could_be_listed, entry_fault, same_numbers_is, AreFew, from_possible, possible_small, entry_of-is, entry_of_other, fault_in_body, fault_after_end, Reason, Final, Act, AreRows, HoldsWhereKept, IsNumbered, Audit, Body, Nothing, Why, Form, fault_of, Remain, IsInRows, HasListed, Judges}
 use Rattle.std.proofs.lemmas.Bool.{not-false}
 use Rattle.std.proofs.lemmas.List.Elements.{filter_map-append}
 use Rattle.roman_model.specs.Certificate as text
@@ -60,6 +60,13 @@ reason_given A (Act a) i = given_action A.actions a i
 -- the row of a pair is one of the table
 pub pair_within : (lanes pairs : ℕ) (audit : Audit) → IsInRows lanes pairs audit → (p row lane : ℕ) → row * audit.left.lanes + lane ≡ p → p < pairs → row < length audit.left.words.items
 pair_within lanes pairs audit shaped p row lane e l = grind (arith, row_within)
+
+-- a place of the table is that of a pair
+pub place_within : (lanes pairs : ℕ) (audit : Audit) → IsInRows lanes pairs audit → (row lane : ℕ) → row < length audit.left.words.items → lane < audit.left.lanes → row * audit.left.lanes + lane < pairs
+place_within lanes pairs audit shaped row lane l m =
+    let most = mul-le (row + 1) audit.left.lanes (length audit.left.words.items) audit.left.lanes (omega arith) (omega arith) in
+    let next : (row + 1) * audit.left.lanes ≡ row * audit.left.lanes + audit.left.lanes = omega arith in
+    omega (arith, most, next, m, ap (λ n. length audit.left.words.items * n) shaped.in_rows ∙ shaped.room)
 
 -- the last line, where this pair or no pair is missing
 pub end_judged : (A : Arena ℕ) (L : List (Entry ℕ)) (line : List ℕ) (found : Option ℕ) → found ≡ find (could_be_listed A L) A.nodes → IsTrue (same_numbers end_line line) → option_map text.Unlisted found ≡ body_fault A L (Some line)

@@ -1,12 +1,12 @@
 -- Lines that differ in the last two digits of the pair.
-use Rattle.std.proofs.Common.{◌≡◌, ℕ, ◌+◌, ◌-◌, ◌*◌, ◌/◌, ◌%◌, ◌^◌, ◌<◌, ◌≤◌, List, [], ◌∷◌, ◌++◌, length, take, drop, get_or, set, Some, decimal, sym, ap, ap₂, ◌∙◌, inl, inr, arith, append_assoc, length-append, length-drop, length-take-le}
-use Rattle.roman_check.proofs.Common.{cases_lt, decimal_digit, take_at, take_rest, take-take, drop-take, get_or-take, get_or-drop, get_or-set_other, IsIn, reason_text, reasons, entry_of, Reason, AreFew, IsEndedAt, HasParts, IsPattern}
+use Rattle.std.proofs.Common.{◌≡◌, ℕ, ◌+◌, ◌-◌, ◌*◌, ◌/◌, ◌%◌, ◌^◌, ◌<◌, ◌≤◌, List, [], ◌∷◌, ◌++◌, length, take, drop, get_or, set, Some, decimal, sym, ap, ap₂, ◌∙◌, inl, inr, arith, append_assoc, length-append, length-take-le}
+use Rattle.roman_check.proofs.Common.{cases_lt, decimal_digit, take_at, take-take, drop-take, get_or-take, get_or-drop, get_or-set_other, IsIn, reasons, entry_of, Reason, AreFew, IsEndedAt, HasParts, IsPattern}
 use Rattle.std.proofs.lemmas.Fmt.{decimal_step}
 use Rattle.std.proofs.lemmas.Grind.{same_number_lists}
 use Rattle.std.proofs.lemmas.List.{take_more_set, drop-set-lt, length-set}
-use Rattle.roman_check.specs.declared.pattern.Pattern.{Pattern}
+use Rattle.roman_check.specs.declared.pattern.Shape.{Shape}
 use Rattle.roman_check.proofs.DigitLemmas.{decimal_shape}
-use Rattle.roman_check.proofs.EntryLemmas.{after, cut_to, some_entry}
+use Rattle.roman_check.proofs.EntryLemmas.{cut_to, some_entry}
 
 -- Parts of a line
 
@@ -49,20 +49,20 @@ parts_same xs ys n space end r within same parts =
       ended = record { within = within; newline = sym (same end (omega arith)) ∙ parts.ended.newline };
     }
 
--- the first eight bytes and the last eight of a line are all of them
-pub same_ends : (xs ys : List ℕ) (len m n : ℕ) → 7 ≤ len → len < 16 → 8 ≤ m → 8 ≤ n → ((k : ℕ) → k < 8 → get_or xs k 0 ≡ get_or ys k 0) →
-    ((k : ℕ) → k < 8 → get_or (take m (drop (len - 7) xs)) k 0 ≡ get_or (take n (drop (len - 7) ys)) k 0) → (k : ℕ) → k ≤ len → get_or xs k 0 ≡ get_or ys k 0
-same_ends xs ys len m n long short left right front back k l = elim (cases_lt k 8) [
+-- the first w bytes of a line and the last w are all of them
+pub same_ends : (xs ys : List ℕ) (w last len m n : ℕ) → last ≤ w → len < last + w → w ≤ m → w ≤ n → ((k : ℕ) → k < w → get_or xs k 0 ≡ get_or ys k 0) →
+    ((k : ℕ) → k < w → get_or (take m (drop last xs)) k 0 ≡ get_or (take n (drop last ys)) k 0) → (k : ℕ) → k ≤ len → get_or xs k 0 ≡ get_or ys k 0
+same_ends xs ys w last len m n long short left right front back k l = elim (cases_lt k w) [
   | inl less ↦ front k less
   | inr more ↦
-      let j = k - (len - 7) in
-      let low : j < 8 = omega arith in
-      let place : len - 7 + j ≡ k = omega arith in
+      let j = k - last in
+      let low : j < w = omega arith in
+      let place : last + j ≡ k = omega arith in
       ap (λ i. get_or xs i 0) (sym place) ∙ sym (behind xs m j (omega arith)) ∙ back j low ∙ behind ys n j (omega arith) ∙ ap (λ i. get_or ys i 0) place
 ]
   where
-    behind : (zs : List ℕ) (m j : ℕ) → j < m → get_or (take m (drop (len - 7) zs)) j 0 ≡ get_or zs (len - 7 + j) 0
-    behind zs m j low = get_or-take m (drop (len - 7) zs) j 0 low ∙ get_or-drop (len - 7) zs j 0
+    behind : (zs : List ℕ) (m j : ℕ) → j < m → get_or (take m (drop last zs)) j 0 ≡ get_or zs (last + j) 0
+    behind zs m j low = get_or-take m (drop last zs) j 0 low ∙ get_or-drop last zs j 0
 
 -- Two digits
 
@@ -117,10 +117,9 @@ first_number =
     ∙ ap (λ ds. ds ++ 48 ∷ 48 ∷ []) (two_digits 1 0 0 (omega arith) (omega arith) (omega arith) (omega arith) ∙ ap (λ ds. ds ++ 48 ∷ 48 ∷ []) (decimal_digit 1 (omega arith)))
 
 -- other digits stand as the last two
-pub with_digits : (p : Pattern) (tens ones n : ℕ) → IsPattern p → 48 ≤ tens → tens ≤ 57 → 48 ≤ ones → ones ≤ 57 → n + 528 ≡ p.base + tens * 10 + ones →
-    HasParts (set (set p.text p.place tens) (p.place + 1) ones) n p.reason (p.place + 2) p.len
-with_digits p tens ones n is tens_low tens_high ones_low ones_high value =
-    let text = p.text in
+pub with_digits : (text : List ℕ) (p : Shape) (tens ones n : ℕ) → IsPattern text p → 48 ≤ tens → tens ≤ 57 → 48 ≤ ones → ones ≤ 57 → n + 528 ≡ p.base + tens * 10 + ones →
+    HasParts (set (set text p.place tens) (p.place + 1) ones) n p.reason (p.place + 2) p.len
+with_digits text p tens ones n is tens_low tens_high ones_low ones_high value =
     let place = p.place in
     let q = is.pair / 100 in
     let base : p.base ≡ q * 100 = is.base in

@@ -1,5 +1,5 @@
 -- The state of a check after the lines read so far.
-use Rattle.std.specs.Prelude.{◌≡◌, ℕ, ◌*◌, Bool, not, List, [], ◌∷◌, ◌++◌, drop, length, Option, None, Some, if◌then◌else◌}
+use Rattle.std.specs.Prelude.{◌≡◌, ℕ, ◌*◌, ◌<◌, Bool, not, List, [], ◌∷◌, ◌++◌, drop, length, Option, None, Some, if◌then◌else◌}
 use Rattle.std.specs.List.{list_any}
 use Rattle.std.specs.Option.{option_map}
 use Rattle.roman_model.specs.SystemArena.{same_numbers}
@@ -11,6 +11,7 @@ use Rattle.roman_rules.specs.declared.asked.Asked.{Asked}
 use Rattle.roman_rules.specs.Asked.{HoldsWhereKept}
 use Rattle.roman_check.specs.declared.audit.Audit.{Audit}
 use Rattle.roman_check.specs.declared.audit.Due.{Due}
+use Rattle.roman_check.specs.declared.audit.Front.{Front}
 use Rattle.roman_check.specs.declared.audit.Due.TheVariants.{Head, Count, Body, Nothing}
 use Rattle.roman_check.specs.declared.table.Remaining.{Remaining}
 use Rattle.roman_check.specs.declared.verdict.Why.{Why}
@@ -27,6 +28,14 @@ due_after (head ∷ size ∷ body) = if list_any (same_numbers end_line) body th
 pub record IsInRows (lanes pairs : ℕ) (audit : Audit) : Type 0 where
   pub in_rows : audit.left.lanes ≡ lanes
   pub room : length audit.left.words.items * lanes ≡ pairs
+
+-- the row that was asked last, which is one of the table
+pub record IsFront (audit : Audit) (front : Front) : Type 0 where
+  pub inside : front.row < length audit.left.words.items
+  pub row : front.row ≡ audit.asked.row
+  pub first : front.first ≡ audit.asked.row * audit.left.lanes
+  pub lanes : front.lanes ≡ audit.left.lanes
+  pub known : front.known ≡ audit.asked.lanes
 
 -- where the stored answer of a row is right, the result is whether the reason holds at the pair with the table's pairs left, and the new stored answer is right
 pub record AnswersReason (A : Arena ℕ) (left : Remaining) (p : ℕ) (reason : Reason) (old new : Asked) (result : Bool) : Type 0 where

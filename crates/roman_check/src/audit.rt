@@ -1,5 +1,5 @@
 //! Judges each line of a certificate by the lines read before it.
-ghost use Rattle.std.specs.Prelude.{◌≡◌, ℕ, ◌+◌, ◌*◌, ◌<◌, ◌++◌, false, not, IsTrue, List, [], ◌∷◌, None, Some, length, IfOk, if◌then◌else◌};
+ghost use Rattle.std.specs.Prelude.{◌≡◌, ℕ, ◌+◌, ◌*◌, ◌<◌, ◌++◌, false, not, IsTrue, List, [], ◌∷◌, None, Some, length, IfOk, IfSome, if◌then◌else◌};
 ghost use Rattle.std.specs.Option.{option_map};
 ghost use Rattle.roman_model.specs.SystemArena.{same_numbers};
 ghost use Rattle.roman_model.specs.Arena.{Arena, Entry, is_listed};
@@ -7,11 +7,11 @@ ghost use Rattle.roman_model.specs.Certificate.{end_line, entry_of, entries_on, 
 ghost use Rattle.roman_rules.specs.Asked.{IsReasonOf};
 ghost use Rattle.roman_check.specs.Readings.{entry_with};
 ghost use Rattle.roman_check.specs.Verdicts.{fault_of};
-ghost use Rattle.roman_check.specs.Audits.{IsInRows, AnswersReason, HasListed, Judges};
+ghost use Rattle.roman_check.specs.Audits.{IsInRows, IsFront, AnswersReason, HasListed, Judges};
 
 use crate::entries::{entry, is_count, is_end, is_head};
 use crate::missing::first_missing;
-use crate::remaining::has_lane;
+use crate::remaining::{has_lane, lane_from};
 use crate::table::Remaining;
 use crate::verdict::Why;
 use roman_io::Steps;
@@ -33,6 +33,17 @@ pub(crate) enum Due {
     Nothing,
 }
 
+/// The row that was asked last.
+#[derive(Clone, Copy)]
+pub(crate) struct Front {
+    pub(crate) row: u32,
+    // the number of its first pair, and the number of its pairs
+    pub(crate) first: u64,
+    pub(crate) lanes: u32,
+    // the lanes at which the reason is known to hold
+    pub(crate) known: u64,
+}
+
 /// The state of a check after the lines read so far.
 #[derive(Drop)]
 pub(crate) struct Audit {
@@ -43,51 +54,52 @@ pub(crate) struct Audit {
     pub(crate) asked: Asked,
 }
 
-/// Asks a row whether a reason holds at the pair `p`, where the pairs `left` remain.
+/// Asks a row whether a reason holds at one of its lanes, where the pairs `left` remain. `place` is the
+/// row and the lane.
 #[cold]
 #[inline(never)]
 fn ask<J: Rules, L: Ledger>(
     asked: &mut Asked,
     joint: &J,
     left: &Remaining,
-    p: u32,
-    reason: Reason,
-    steps: &mut Steps<L>,
-) -> bool
-    requires lanes { left.now.lanes ≡ J.lanes joint.now }
-    requires room { length left.now.words.items * J.lanes joint.now ≡ length (J.arena joint.now).nodes }
-    requires pair { p < length (J.arena joint.now).nodes }
-    requires reason { IsReasonOf (J.arena joint.now) reason }
-    ensures { AnswersReason (J.arena joint.now) left.now p reason asked.old asked.new result }
-{
-    asked.holds(joint, left.words(), p, reason, steps)
-}
-
-/// Returns whether a reason holds at the pair `p`, where the pairs `left` remain. `place` is the row
-/// and lane of `p`. Asks no row where the answer is known.
-#[inline(always)]
-fn holds<J: Rules, L: Ledger>(
-    asked: &mut Asked,
-    joint: &J,
-    left: &Remaining,
-    p: u32,
     place: (u32, u32),
     reason: Reason,
     steps: &mut Steps<L>,
 ) -> bool
     requires lanes { left.now.lanes ≡ J.lanes joint.now }
     requires room { length left.now.words.items * J.lanes joint.now ≡ length (J.arena joint.now).nodes }
-    requires pair { p < length (J.arena joint.now).nodes }
-    requires place { place.0 * left.now.lanes + place.1 ≡ p }
+    requires pair { place.0 * left.now.lanes + place.1 < length (J.arena joint.now).nodes }
     requires lane { place.1 < left.now.lanes }
     requires reason { IsReasonOf (J.arena joint.now) reason }
-    ensures { AnswersReason (J.arena joint.now) left.now p reason asked.old asked.new result }
+    ensures { AnswersReason (J.arena joint.now) left.now (place.0 * left.now.lanes + place.1) reason asked.old asked.new result }
+{
+    let (row, lane) = place;
+    has_lane(asked.ask(joint, left.words(), row, reason, steps), lane)
+}
+
+/// Returns whether a reason holds at a pair, where the pairs `left` remain. `place` is the row and the
+/// lane of the pair. Asks no row where the answer is known.
+#[inline(always)]
+fn holds<J: Rules, L: Ledger>(
+    asked: &mut Asked,
+    joint: &J,
+    left: &Remaining,
+    place: (u32, u32),
+    reason: Reason,
+    steps: &mut Steps<L>,
+) -> bool
+    requires lanes { left.now.lanes ≡ J.lanes joint.now }
+    requires room { length left.now.words.items * J.lanes joint.now ≡ length (J.arena joint.now).nodes }
+    requires pair { place.0 * left.now.lanes + place.1 < length (J.arena joint.now).nodes }
+    requires lane { place.1 < left.now.lanes }
+    requires reason { IsReasonOf (J.arena joint.now) reason }
+    ensures { AnswersReason (J.arena joint.now) left.now (place.0 * left.now.lanes + place.1) reason asked.old asked.new result }
 {
     let (row, lane) = place;
     if row == asked.row && reason == asked.reason && has_lane(asked.lanes, lane) {
         return true;
     }
-    ask(asked, joint, left, p, reason, steps)
+    ask(asked, joint, left, place, reason, steps)
 }
 
 impl Audit {
@@ -144,19 +156,36 @@ impl Audit {
             return Some(Why::Repeated);
         }
         let (left, place) = (&self.left, (row, lane));
-        if !holds(&mut self.asked, joint, left, pair, place, reason, steps) {
+        if !holds(&mut self.asked, joint, left, place, reason, steps) {
             return Some(Why::Unjustified);
         }
         self.left.remove(row, lane);
         None
     }
 
+    /// Returns the row that was asked last, or `None` where the table has no such row.
+    pub(crate) fn front(&self) -> Option<Front>
+        ensures { IfSome result (IsFront self.now) }
+    {
+        let (row, lanes) = (self.asked.row, self.left.lanes);
+        if row as usize >= self.left.words().len() {
+            return None;
+        }
+        Some(Front {
+            row,
+            first: u64::from(row) * u64::from(lanes),
+            lanes,
+            known: self.asked.lanes,
+        })
+    }
+
     /// Removes a pair for the reason that was asked about last, where the pair lies in the row that was
     /// asked and the reason is known to hold there. Returns whether it did. Changes nothing otherwise.
     #[inline(always)]
-    pub(crate) fn take_known<J: Rules>(&mut self, joint: &J, pair: u32) -> bool
+    pub(crate) fn take_known<J: Rules>(&mut self, joint: &J, front: Front, pair: u64) -> bool
         requires shaped { IsInRows (J.lanes joint.now) (length (J.arena joint.now).nodes) self.old }
-        requires pair { pair < length (J.arena joint.now).nodes }
+        requires front { IsFront self.old front }
+        ensures pair { IsTrue result → pair < length (J.arena joint.now).nodes }
         ensures fault { let A = J.arena joint.now in
             IsTrue result → (L : List (Entry ℕ)) → HasListed A L self.old → None ≡ entry_fault A L (Some (entry_with (pair, self.old.asked.reason))) }
         ensures list { let A = J.arena joint.now in
@@ -167,14 +196,13 @@ impl Audit {
         ensures asked { self.new.asked ≡ self.old.asked }
     {
         joint.known();
-        let row = self.asked.row;
-        let Some(lane) = self.left.lane_in(row, pair) else {
+        let Some(lane) = lane_from(front.first, front.lanes, pair) else {
             return false;
         };
-        if !has_lane(self.asked.lanes, lane) || !self.left.has(row, lane) {
+        if !self.left.has_known(front.row, lane, front.known) {
             return false;
         }
-        self.left.remove(self.asked.row, lane);
+        self.left.remove(front.row, lane);
         true
     }
 

@@ -61,6 +61,9 @@ fn misses_some<J: Rules>(joint: &J, words: &[u64], y: u32, left: &mut [u64]) -> 
     joint.known();
     let x = y * joint.band();
     copy_rows(words, x, left);
+    if are_clear(left) {
+        return false;
+    }
     let row = joint.first_row(y);
     joint.unfine_band(&row, left);
     if !are_clear(left) {

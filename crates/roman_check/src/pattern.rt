@@ -1,10 +1,10 @@
 //! Reads lines of a certificate that differ only in the last two digits of the pair.
 ghost use Rattle.std.specs.Prelude.{◌≡◌, ℕ, ◌+◌, ◌*◌, ◌<◌, ◌≤◌, length, take, Some, IfSome, IsTrue, slice_index};
-ghost use Rattle.std.specs.Int.{from_le_bytes, w64};
+ghost use Rattle.std.specs.Int.{from_le_bytes, w32, w64};
 ghost use Rattle.roman_model.specs.Lists.{IsIn};
 ghost use Rattle.roman_model.specs.Certificate.{reasons, entry_of};
 ghost use Rattle.roman_check.specs.Readings.{entry_with, IsEndedAt, HasParts};
-ghost use Rattle.roman_check.specs.Patterns.{IsPattern, eight};
+ghost use Rattle.roman_check.specs.Patterns.{IsPattern, four, eight};
 
 use crate::entries::{ROOM, front_entry};
 use crate::numbers::digit;
@@ -13,14 +13,9 @@ use roman_model::Reason;
 /// The greatest length of a pattern's line in bytes, with its newline.
 const WIDTH: usize = 16;
 
-/// The line of an entry, with its newline. Other last two digits of the pair make it the line of
-/// another entry with the same reason.
-///
-/// Neighbouring lines of a certificate mostly differ only in these two digits. Two comparisons of eight
-/// bytes each then replace reading the rest of the line.
-#[derive(Drop)]
-pub(crate) struct Pattern {
-    pub(crate) text: [u8; WIDTH],
+/// How the line of a pattern is divided.
+#[derive(Clone, Copy)]
+pub(crate) struct Shape {
     // the length of the line, without its newline
     pub(crate) len: usize,
     // the place of the last two digits of the pair
@@ -28,6 +23,26 @@ pub(crate) struct Pattern {
     // the pair, with zeros for these two digits
     pub(crate) base: u64,
     pub(crate) reason: Reason,
+}
+
+/// The line of an entry, with its newline. Other last two digits of the pair make it the line of
+/// another entry with the same reason.
+///
+/// Neighbouring lines of a certificate mostly differ only in these two digits. Two comparisons of four or
+/// eight bytes each then replace reading the rest of the line.
+#[derive(Drop)]
+pub(crate) struct Pattern {
+    pub(crate) text: [u8; WIDTH],
+    pub(crate) shape: Shape,
+}
+
+/// Returns the first four bytes as a little-endian number.
+#[inline(always)]
+fn half(bytes: &[u8]) -> u32
+    requires { 4 ≤ length bytes.now }
+    ensures { result ≡ from_le_bytes w32 (four bytes.now) }
+{
+    u32::from_le_bytes([bytes[0], bytes[1], bytes[2], bytes[3]])
 }
 
 /// Returns the first eight bytes as a little-endian number.
@@ -41,9 +56,19 @@ fn word(bytes: &[u8]) -> u64
     ])
 }
 
+/// Returns whether the first four bytes are equal.
+#[inline(always)]
+fn halves_alike(a: &[u8], b: &[u8]) -> bool
+    requires left { 4 ≤ length a.now }
+    requires right { 4 ≤ length b.now }
+    ensures { IsTrue result → (k : ℕ) → k < 4 → slice_index a.now k ≡ slice_index b.now k }
+{
+    half(a) == half(b)
+}
+
 /// Returns whether the first eight bytes are equal.
 #[inline(always)]
-fn begin_alike(a: &[u8], b: &[u8]) -> bool
+fn words_alike(a: &[u8], b: &[u8]) -> bool
     requires left { 8 ≤ length a.now }
     requires right { 8 ≤ length b.now }
     ensures { IsTrue result → (k : ℕ) → k < 8 → slice_index a.now k ≡ slice_index b.now k }
@@ -51,61 +76,44 @@ fn begin_alike(a: &[u8], b: &[u8]) -> bool
     word(a) == word(b)
 }
 
-impl Pattern {
-    /// Returns the pattern with the line of pair 10,000 and clause 2.
-    #[tactic(auto, using(crate::proofs::PatternLemmas::first_number))]
-    pub(crate) fn new() -> Pattern
-        ensures pattern { IsPattern result }
-        ensures reason { result.reason ≡ Reason.Final }
-    {
-        Pattern {
-            text: [
-                b'1', b'0', b'0', b'0', b'0', b' ', b'f', b'\n', 0, 0, 0, 0, 0, 0, 0, 0,
-            ],
-            len: 7,
-            place: 3,
-            base: 10_000,
-            reason: Reason::Final,
-        }
-    }
-
-    /// Sets the last two digits of the pair.
+impl Shape {
+    /// Sets the last two digits of the pair in a text of this shape.
     #[inline(always)]
-    fn put_digits(&mut self, tens: u8, ones: u8)
-        requires pattern { IsPattern self.old }
+    fn put_digits(self, text: &mut [u8; WIDTH], tens: u8, ones: u8)
+        requires pattern { IsPattern text.old self }
         requires tens { (48 ≤ tens) × (tens ≤ 57) }
         requires ones { (48 ≤ ones) × (ones ≤ 57) }
-        ensures pattern { IsPattern self.new }
-        ensures parts { (n : ℕ) → n + 528 ≡ self.old.base + tens * 10 + ones → HasParts self.new.text n self.old.reason (self.old.place + 2) self.old.len }
-        ensures rest { self.new ≡ record self.old { text = self.new.text } }
+        ensures pattern { IsPattern text.new self }
+        ensures parts { (n : ℕ) → n + 528 ≡ self.base + tens * 10 + ones → HasParts text.new n self.reason (self.place + 2) self.len }
     {
-        let place = self.place;
-        self.text[place] = tens;
-        self.text[place + 1] = ones;
+        text[self.place] = tens;
+        text[self.place + 1] = ones;
     }
 
     /// Returns whether the bytes begin with the line.
     #[inline(always)]
-    fn begins(&self, bytes: &[u8]) -> bool
-        requires long { 7 ≤ self.now.len }
-        requires short { self.now.len < 16 }
+    fn begins(self, text: &[u8; WIDTH], bytes: &[u8]) -> bool
+        requires long { 3 ≤ self.len }
+        requires short { self.len < 16 }
         requires room { 16 ≤ length bytes.now }
-        ensures { IsTrue result → (k : ℕ) → k ≤ self.now.len → slice_index self.now.text k ≡ slice_index bytes.now k }
+        ensures { IsTrue result → (k : ℕ) → k ≤ self.len → slice_index text.now k ≡ slice_index bytes.now k }
     {
+        if self.len < 7 {
+            let last = self.len - 3;
+            return halves_alike(text, bytes) && halves_alike(&text[last..], &bytes[last..]);
+        }
         let last = self.len - 7;
-        begin_alike(&self.text, bytes) && begin_alike(&self.text[last..], &bytes[last..])
+        words_alike(text, bytes) && words_alike(&text[last..], &bytes[last..])
     }
 
-    /// Returns the pair of the first line of the bytes, where that line differs from the pattern at
-    /// most in the last two digits of the pair, and the pair is below `pairs`. Sets the pattern's
-    /// digits to those of the bytes.
+    /// Returns the pair of the first line of the bytes, where that line differs from the text at most
+    /// in the last two digits of the pair. Sets the digits of the text to those of the bytes.
     #[inline(always)]
-    pub(crate) fn fit(&mut self, bytes: &[u8], pairs: u32) -> Option<u32>
-        requires pattern { IsPattern self.old }
+    pub(crate) fn fit(self, text: &mut [u8; WIDTH], bytes: &[u8]) -> Option<u64>
+        requires pattern { IsPattern text.old self }
         requires room { 16 ≤ length bytes.now }
-        ensures pattern { IsPattern self.new }
-        ensures rest { self.new ≡ record self.old { text = self.new.text } }
-        ensures pair { IfSome result (λ pair. (pair < pairs) × HasParts bytes.now pair self.old.reason (self.old.place + 2) self.old.len) }
+        ensures pattern { IsPattern text.new self }
+        ensures pair { IfSome result (λ pair. HasParts bytes.now pair self.reason (self.place + 2) self.len) }
     {
         let place = self.place;
         let tens = digit(bytes[place]);
@@ -113,45 +121,64 @@ impl Pattern {
         if tens > 9 || ones > 9 {
             return None;
         }
-        self.put_digits(bytes[place], bytes[place + 1]);
-        if !self.begins(bytes) {
+        self.put_digits(text, bytes[place], bytes[place + 1]);
+        if !self.begins(text, bytes) {
             return None;
         }
-        let pair = self.base + tens * 10 + ones;
-        if pair >= u64::from(pairs) {
-            return None;
+        Some(self.base + tens * 10 + ones)
+    }
+}
+
+impl Pattern {
+    /// Returns the pattern with the line of pair 10,000 and clause 2.
+    #[tactic(auto, using(crate::proofs::PatternLemmas::first_number))]
+    pub(crate) fn new() -> Pattern
+        ensures pattern { IsPattern result.text result.shape }
+        ensures reason { result.shape.reason ≡ Reason.Final }
+    {
+        Pattern {
+            text: [
+                b'1', b'0', b'0', b'0', b'0', b' ', b'f', b'\n', 0, 0, 0, 0, 0, 0, 0, 0,
+            ],
+            shape: Shape {
+                len: 7,
+                place: 3,
+                base: 10_000,
+                reason: Reason::Final,
+            },
         }
-        Some(pair as u32)
     }
 
     /// Makes the first line of the bytes the pattern. Changes nothing where the line is too short or
     /// too long. Requires that the line is the entry of the pair and the reason, whose number of the
     /// pair ends at `space`.
     fn learn(&mut self, bytes: &[u8], pair: u32, reason: Reason, space: usize, len: usize)
-        requires pattern { IsPattern self.old }
+        requires pattern { IsPattern self.old.text self.old.shape }
         requires room { 16 ≤ length bytes.now }
         requires parts { HasParts bytes.now pair reason space len }
-        ensures pattern { IsPattern self.new }
-        ensures reason { (actions : ℕ) → IsIn self.old.reason (reasons actions) → IsIn reason (reasons actions) → IsIn self.new.reason (reasons actions) }
+        ensures pattern { IsPattern self.new.text self.new.shape }
+        ensures reason { (actions : ℕ) → IsIn self.old.shape.reason (reasons actions) → IsIn reason (reasons actions) → IsIn self.new.shape.reason (reasons actions) }
     {
-        if pair < 100 || len < 7 || len >= WIDTH {
+        if pair < 100 || len >= WIDTH {
             return;
         }
         self.text.copy_from_slice(&bytes[..WIDTH]);
-        self.len = len;
-        self.place = space - 2;
-        self.base = u64::from(pair - pair % 100);
-        self.reason = reason;
+        self.shape = Shape {
+            len,
+            place: space - 2,
+            base: u64::from(pair - pair % 100),
+            reason,
+        };
     }
 
     /// Reads the first line of the bytes without the pattern. Returns its entry and its length, and
     /// makes it the pattern where it fits. May return `None` for a valid entry.
     #[inline(never)]
     fn read_anew(&mut self, bytes: &[u8], pairs: u32, actions: u8) -> Option<(u32, Reason, usize)>
-        requires pattern { IsPattern self.old }
-        requires reason { IsIn self.old.reason (reasons actions) }
-        ensures pattern { IsPattern self.new }
-        ensures reason { IsIn self.new.reason (reasons actions) }
+        requires pattern { IsPattern self.old.text self.old.shape }
+        requires reason { IsIn self.old.shape.reason (reasons actions) }
+        ensures pattern { IsPattern self.new.text self.new.shape }
+        ensures reason { IsIn self.new.shape.reason (reasons actions) }
         ensures read { IfSome result (λ r. IsEndedAt bytes.now r.2 × (entry_of pairs actions (take r.2 bytes.now) ≡ Some (entry_with (r.0, r.1)))) }
     {
         let (pair, reason, space, len) = front_entry(bytes, pairs, actions)?;
@@ -168,17 +195,20 @@ impl Pattern {
         pairs: u32,
         actions: u8,
     ) -> Option<(u32, Reason, usize)>
-        requires pattern { IsPattern self.old }
-        requires reason { IsIn self.old.reason (reasons actions) }
-        ensures pattern { IsPattern self.new }
-        ensures reason { IsIn self.new.reason (reasons actions) }
+        requires pattern { IsPattern self.old.text self.old.shape }
+        requires reason { IsIn self.old.shape.reason (reasons actions) }
+        ensures pattern { IsPattern self.new.text self.new.shape }
+        ensures reason { IsIn self.new.shape.reason (reasons actions) }
         ensures read { IfSome result (λ r. IsEndedAt bytes.now r.2 × (entry_of pairs actions (take r.2 bytes.now) ≡ Some (entry_with (r.0, r.1)))) }
     {
         if bytes.len() < ROOM {
             return None;
         }
-        if let Some(pair) = self.fit(bytes, pairs) {
-            return Some((pair, self.reason, self.len));
+        let shape = self.shape;
+        if let Some(pair) = shape.fit(&mut self.text, bytes) {
+            if pair < u64::from(pairs) {
+                return Some((pair as u32, shape.reason, shape.len));
+            }
         }
         self.read_anew(bytes, pairs, actions)
     }

@@ -126,7 +126,7 @@ impl Reader {
     fn read_alike<J: Rules>(
         &mut self,
         joint: &J,
-        pattern: &mut Pattern,
+        pattern: &Pattern,
         piece: &[u8],
         from: usize,
     ) -> usize
@@ -136,31 +136,33 @@ impl Reader {
         requires due { self.old.audit.due ≡ Due.Body }
         requires alone { (bytes : List ℕ) → Holds self.old.line bytes → bytes ≡ [] }
         requires none { Holds self.old.line [] }
-        requires pattern { IsPattern pattern.old }
-        requires reason { IsIn pattern.old.reason (reasons (J.arena joint.now).actions) }
+        requires pattern { IsPattern pattern.now.text pattern.now.shape }
+        requires reason { IsIn pattern.now.shape.reason (reasons (J.arena joint.now).actions) }
         ensures place { (from ≤ result) × (result ≤ length piece.now) × (self.new.lines ≤ self.old.lines + (result - from)) }
         ensures read { (before : Reader) → IsReadTo (J.arena joint.now) before self.old piece.now from → IsReadTo (J.arena joint.now) before self.new piece.now result }
         ensures due { self.new.audit.due ≡ Due.Body }
         ensures line { self.new.line ≡ self.old.line }
         ensures shaped { IsInRows (J.lanes joint.now) (length (J.arena joint.now).nodes) self.new.audit }
-        ensures pattern { IsPattern pattern.new }
-        ensures reason { pattern.new.reason ≡ pattern.old.reason }
     {
         joint.known();
         let mut start = from;
-        if pattern.reason != self.audit.asked.reason {
+        let (mut text, shape) = (pattern.text, pattern.shape);
+        if shape.reason != self.audit.asked.reason {
             return start;
         }
-        let pairs = joint.pairs();
-        while piece.len() - start >= ROOM {
-            let Some(pair) = pattern.fit(&piece[start..], pairs) else {
+        let Some(front) = self.audit.front() else {
+            return start;
+        };
+        let end = piece.len().saturating_sub(ROOM);
+        while start < end {
+            let Some(pair) = shape.fit(&mut text, &piece[start..]) else {
                 return start;
             };
-            if !self.audit.take_known(joint, pair) {
+            if !self.audit.take_known(joint, front, pair) {
                 return start;
             }
             self.lines += 1;
-            start += pattern.len + 1;
+            start += shape.len + 1;
         }
         start
     }
@@ -201,7 +203,7 @@ impl Reader {
                 return Err(why);
             }
             self.lines += 1;
-            start = self.read_alike(joint, &mut pattern, piece, end + 1);
+            start = self.read_alike(joint, &pattern, piece, end + 1);
         }
         Ok(start)
     }

@@ -1,5 +1,5 @@
 //! The remaining pairs, row by row: those that no entry names yet.
-ghost use Rattle.std.specs.Prelude.{◌≡◌, ◌≢◌, ℕ, ◌+◌, ◌*◌, ◌<◌, ◌≤◌, ◌==◌, Bool, false, not, ◌||◌, length, IfOk, IfSome, IsFalse};
+ghost use Rattle.std.specs.Prelude.{◌≡◌, ◌≢◌, ℕ, ◌+◌, ◌*◌, ◌<◌, ◌≤◌, ◌==◌, Bool, false, not, ◌&&◌, ◌||◌, length, IfOk, IfSome, IsFalse};
 ghost use Rattle.roman_lanes.specs.Rows.{is_on};
 ghost use Rattle.roman_check.specs.Remain.{Remain};
 
@@ -26,6 +26,20 @@ fn without_lane(word: u64, lane: u32) -> u64
     word & !(1 << lane)
 }
 
+/// Returns the lane of the pair `p` in the row of `lanes` pairs that begins with the pair `first`, or
+/// `None` where `p` doesn't lie in it.
+#[inline(always)]
+pub(crate) fn lane_from(first: u64, lanes: u32, p: u64) -> Option<u32>
+    requires { first < 9223372036854775808 }
+    ensures { IfSome result (λ lane. (first + lane ≡ p) × (lane < lanes)) }
+{
+    let lane = p.wrapping_sub(first);
+    if lane >= u64::from(lanes) {
+        return None;
+    }
+    Some(lane as u32)
+}
+
 impl Remaining {
     /// Returns the table in which all pairs remain. Fails only when out of memory.
     pub(crate) fn build(
@@ -49,16 +63,11 @@ impl Remaining {
     }
 
     /// Returns the lane of the pair `p`, or `None` where `p` doesn't lie in the row.
-    #[inline(always)]
-    pub(crate) fn lane_in(&self, row: u32, p: u32) -> Option<u32>
+    fn lane_in(&self, row: u32, p: u32) -> Option<u32>
         ensures { IfSome result (λ lane. (row * self.now.lanes + lane ≡ p) × (lane < self.now.lanes)) }
     {
         let first = u64::from(row) * u64::from(self.lanes);
-        let lane = u64::from(p).wrapping_sub(first);
-        if lane >= u64::from(self.lanes) {
-            return None;
-        }
-        Some(lane as u32)
+        lane_from(first, self.lanes, u64::from(p))
     }
 
     /// Returns the row and the lane of the pair `p`. Tries the row `near` first.
@@ -79,6 +88,17 @@ impl Remaining {
         ensures { (pairs : ℕ) (gone : ℕ → Bool) → Remain pairs gone self.now → result ≡ not (gone (row * self.now.lanes + lane)) }
     {
         has_lane(self.words[row as usize], lane)
+    }
+
+    /// Returns whether the pair at this row and lane remains, and its bit is set among the lanes `known`.
+    #[inline(always)]
+    #[tactic(auto, using(roman_lanes::proofs::CallerLemmas::on_and))]
+    pub(crate) fn has_known(&self, row: u32, lane: u32, known: u64) -> bool
+        requires row { row < length self.now.words.items }
+        requires lane { lane < self.now.lanes }
+        ensures { (pairs : ℕ) (gone : ℕ → Bool) → Remain pairs gone self.now → result ≡ (is_on known lane && not (gone (row * self.now.lanes + lane))) }
+    {
+        has_lane(known & self.words[row as usize], lane)
     }
 
     /// Removes the pair at this row and lane. The table stays right only where the pair remained

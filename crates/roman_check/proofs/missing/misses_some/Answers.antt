@@ -1,5 +1,5 @@
 use Rattle.std.proofs.Common.{◌≡◌, ℕ, ◌+◌, ◌*◌, ◌≤◌, ◌&&◌, ◌||◌, Bool, false, not, length, slice_index, sym, ap, ap₂, ◌∙◌, arith}
-use Rattle.roman_check.proofs.Common.{or-false, mul-le, is_listed, is_justified, Act, is_on, on_zero}
+use Rattle.roman_check.proofs.Common.{list_any, or-false, mul-le, is_listed, is_justified, reasons, Act, is_on, on_zero}
 use Rattle.roman_check.proofs.ReasonLemmas.{one_more}
 use Rattle.roman_check.proofs.missing.misses_some.Goals as goal
 
@@ -16,6 +16,15 @@ first_row-row-requires g c =
 -- where no lane is on, no pair is both left and passes the test
 is_off : (word lane : ℕ) (left test : Bool) → word ≡ 0 → is_on word lane ≡ (left && test) → left && test ≡ false
 is_off word lane left test none is = sym is ∙ (ap (λ w. is_on w lane) none ∙ on_zero lane)
+
+pub returns-then-are_clear-clause-none : goal.returns-then-are_clear-clause-none
+returns-then-are_clear-clause-none g c clear L rows i lane h l =
+    let A = g.J.Rules.arena c.args.joint.now in
+    let w = g.J.Rules.band c.args.joint.now in
+    let copied = c.copy_rows.ensures.each i (omega (arith, h, c.requires.left)) ∙ ap (λ m. slice_index c.args.words.now (c.args.y * m + i)) c.band.ensures.value in
+    let left = ap (λ v. is_on v lane) copied ∙ (rows.each (c.args.y * w + i) (omega (arith, h, c.requires.band))).each lane l in
+    let empty = c.are_clear.ensures c.if-are_clear.true i (omega (arith, h, c.requires.left, c.copy_rows.ensures.long)) in
+    ap (λ b. b && list_any (is_justified A (is_listed A L) ((c.args.y * w + i) * g.J.Rules.lanes c.args.joint.now + lane)) (reasons A.actions)) (sym left ∙ (ap (λ v. is_on v lane) empty ∙ on_zero lane))
 
 pub loop-a-init : goal.loop-a-init
 loop-a-init g c = grind (arith, is_off, or-false)

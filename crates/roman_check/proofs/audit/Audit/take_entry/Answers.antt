@@ -1,5 +1,5 @@
 use Rattle.std.proofs.Common.{◌+◌, ◌*◌, ◌<◌, ◌==◌, ◌||◌, ◌++◌, ◌∷◌, [], not, length, ◌∙◌, sym, ap, subst}
-use Rattle.roman_check.proofs.Common.{not-true, is_listed, HoldsWhereKept, entry_with}
+use Rattle.roman_check.proofs.Common.{not-true, is_justified, is_listed, HoldsWhereKept, entry_with}
 use Rattle.roman_check.proofs.AuditLemmas.{repeated_entry, unjustified_entry, clean_entry, pair_within, entry_listed}
 use Rattle.roman_check.proofs.audit.Audit.take_entry.Goals as goal
 
@@ -16,7 +16,7 @@ pub returns-then-not-holds-clause-fault : goal.returns-then-not-holds-clause-fau
 returns-then-not-holds-clause-fault g c L has =
     let A = g.J.Rules.arena c.args.joint.now in
     unjustified_entry A L (entry_with (c.args.pair, c.args.reason)) (sym c.if-not-has.false ∙ c.has.ensures (length A.nodes) (is_listed A L) has.left ∙ ap (λ p. not (is_listed A L p)) c.place-row.ensures.pair)
-    (sym (c.holds.ensures.justified (is_listed A L) has.left.rows has.known) ∙ c.if-not-holds.true)
+    (ap (λ p. is_justified A (is_listed A L) p c.args.reason) (sym c.place-row.ensures.pair) ∙ sym (c.holds.ensures.justified (is_listed A L) has.left.rows has.known) ∙ c.if-not-holds.true)
 
 pub remove-requires-clause-row : goal.remove-requires-clause-row
 remove-requires-clause-row g c =
@@ -26,7 +26,7 @@ pub returns-clause-fault : goal.returns-clause-fault
 returns-clause-fault g c L has =
     let A = g.J.Rules.arena c.args.joint.now in
     clean_entry A L (entry_with (c.args.pair, c.args.reason)) (sym c.if-not-has.false ∙ c.has.ensures (length A.nodes) (is_listed A L) has.left ∙ ap (λ p. not (is_listed A L p)) c.place-row.ensures.pair)
-    (sym (c.holds.ensures.justified (is_listed A L) has.left.rows has.known) ∙ c.if-not-holds.false)
+    (ap (λ p. is_justified A (is_listed A L) p c.args.reason) (sym c.place-row.ensures.pair) ∙ sym (c.holds.ensures.justified (is_listed A L) has.left.rows has.known) ∙ c.if-not-holds.false)
 
 pub returns-clause-list : goal.returns-clause-list
 returns-clause-list g c L has none =

@@ -17,11 +17,10 @@ returns-clause-pattern c =
     record {
       pair = c.args.pair;
       large = c.if-pair-lt100.false;
-      base = omega (arith, c.from-self.ensures);
-      small = omega (arith, c.from-self.ensures, c.ranges.pair.fits);
+      base = omega (arith, c.from.ensures);
+      small = omega (arith, c.from.ensures, c.ranges.pair.fits);
       parts = subst (λ text. HasParts text c.args.pair c.args.reason (c.args.space - 2 + 2) c.args.len) (sym c.copy_from_slice.ensures.after)
           (subst (λ s. HasParts (take 16 bytes) c.args.pair c.args.reason s c.args.len) (omega arith)
           (parts_same _ _ _ _ _ _ (omega arith) (λ k l. sym (get_or-take 16 bytes k 0 (omega arith))) parts));
-      long = c.if-len-lt7.false;
       short = short;
     }

@@ -1,5 +1,5 @@
-use Rattle.std.proofs.Common.{◌≡◌, ◌+◌, ◌-◌, ◌<◌, ◌++◌, ◌∷◌, [], length, take, drop, None, Some, refl, sym, ap, ◌∙◌, subst, rules, arith}
-use Rattle.roman_check.proofs.Common.{IsIn, reasons, entry_fault, Holds, HasListed, entry_with, IsReadTo}
+use Rattle.std.proofs.Common.{◌≡◌, ◌+◌, ◌-◌, ◌++◌, ◌∷◌, [], length, take, drop, None, Some, refl, sym, ap, ◌∙◌, subst, rules, arith}
+use Rattle.roman_check.proofs.Common.{entry_fault, Holds, HasListed, entry_with, IsReadTo}
 use Rattle.roman_check.proofs.AuditLemmas.{few_numbered}
 use Rattle.roman_check.proofs.PatternLemmas.{parts_entry}
 use Rattle.roman_check.proofs.ReaderLemmas.{entry_in_piece, read_line, read_more}
@@ -16,30 +16,26 @@ loop-start-preserved g c =
     let start = c.loop-start.start in
     let mid = c.loop-start.self in
     let new = record c.loop-start.self { audit = c.take_known.new.self; lines = c.loop-start.self.lines + 1 } in
-    let old = c.loop-start.pattern in
+    let shape = c.args.pattern.now.shape in
     let bytes = take (length piece - start) (drop start piece) in
-    let same : c.args.pattern.now.reason ≡ c.args.self.now.audit.asked.reason = search rules in
-    let asked : mid.audit.asked.reason ≡ old.reason = ap (λ a. a.reason) c.loop-start.invariant.asked ∙ sym same ∙ sym c.loop-start.invariant.reason in
-    let x = entry_with (c.in-Some.pair, old.reason) in
-    let (small, parts) = c.in-Some.ensures.pair in
+    let same : shape.reason ≡ c.args.self.now.audit.asked.reason = search rules in
+    let asked : mid.audit.asked.reason ≡ shape.reason = ap (λ a. a.reason) c.loop-start.invariant.asked ∙ sym same in
+    let x = entry_with (c.in-Some-fit.pair, shape.reason) in
     let few = few_numbered A ok in
-    let within = subst (λ n. c.in-Some.pair < n) c.pairs-pairs.ensures small in
-    let (ended, is) = parts_entry (length A.nodes) A.actions bytes c.in-Some.pair (old.place + 2) old.len old.reason few ok.few_nodes parts within (subst (λ r. IsIn r (reasons A.actions)) (sym c.loop-start.invariant.reason) c.requires.reason) in
-    let (low, below, newline, line, judged) = entry_in_piece A ok mid new piece start old.len (length A.nodes) A.actions x None refl refl ended is c.loop-start.invariant.due
+    let (ended, is) = parts_entry (length A.nodes) A.actions bytes c.in-Some-fit.pair (shape.place + 2) shape.len shape.reason few ok.few_nodes c.in-Some-fit.ensures.pair (c.take_known.ensures.pair c.if-not-take_known.false) c.requires.reason in
+    let (low, below, newline, line, judged) = entry_in_piece A ok mid new piece start shape.len (length A.nodes) A.actions x None refl refl ended is c.loop-start.invariant.due
     (λ bytes held. c.requires.alone bytes (subst (λ line. Holds line bytes) c.loop-start.invariant.line held))
-    (λ L has. subst (λ r. None ≡ entry_fault A L (Some (entry_with (c.in-Some.pair, r)))) asked (c.take_known.ensures.fault c.if-not-take_known.false L has))
-    (λ L has none. subst (λ r. HasListed A (L ++ entry_with (c.in-Some.pair, r) ∷ []) c.take_known.new.self) asked (c.take_known.ensures.list c.if-not-take_known.false L has)) c.take_known.ensures.due in
-    let len : c.fit.new.self.len ≡ old.len = ap (λ p. p.len) c.fit.ensures.rest in
-    let end : start + old.len + 1 ≡ start + (c.fit.new.self.len + 1) = omega arith in
+    (λ L has. subst (λ r. None ≡ entry_fault A L (Some (entry_with (c.in-Some-fit.pair, r)))) asked (c.take_known.ensures.fault c.if-not-take_known.false L has))
+    (λ L has none. subst (λ r. HasListed A (L ++ entry_with (c.in-Some-fit.pair, r) ∷ []) c.take_known.new.self) asked (c.take_known.ensures.list c.if-not-take_known.false L has)) c.take_known.ensures.due in
+    let end : start + shape.len + 1 ≡ start + (shape.len + 1) = omega arith in
     record {
       pattern = c.fit.ensures.pattern;
-      reason = ap (λ p. p.reason) c.fit.ensures.rest ∙ c.loop-start.invariant.reason;
       asked = c.take_known.ensures.asked ∙ c.loop-start.invariant.asked;
       low = omega (arith, c.loop-start.invariant.low);
       high = omega (arith, below);
       reads = λ before so_far. subst (λ n. IsReadTo A before new piece n) end
-          (read_more A before mid new piece start (start + old.len) None low below newline (c.loop-start.invariant.reads before so_far)
-          (read_line A mid new (take (start + old.len - start) (drop start piece)) None line judged refl refl (subst (λ line. Holds line []) (sym c.loop-start.invariant.line) c.requires.none)) refl);
+          (read_more A before mid new piece start (start + shape.len) None low below newline (c.loop-start.invariant.reads before so_far)
+          (read_line A mid new (take (start + shape.len - start) (drop start piece)) None line judged refl refl (subst (λ line. Holds line []) (sym c.loop-start.invariant.line) c.requires.none)) refl);
       due = c.take_known.ensures.due ∙ c.loop-start.invariant.due;
       line = c.loop-start.invariant.line;
       shaped = c.take_known.ensures.shaped;

@@ -5,8 +5,7 @@ use Rattle.roman_check.proofs.reader.Reader.read_alike.Given as goal
 -- the entries so far are read, and nothing else has changed
 abbrev pub invariant-loop-start : goal.invariant-loop-start
 invariant-loop-start g l = record {
-  pattern : IsPattern l.pattern;
-  reason : l.pattern.reason ≡ l.initial.pattern.reason;
+  pattern : IsPattern l.text l.shape;
   asked : l.self.audit.asked ≡ l.initial.self.audit.asked;
   low : l.from ≤ l.start;
   high : l.start ≤ length l.piece;

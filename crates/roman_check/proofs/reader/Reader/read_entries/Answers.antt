@@ -1,5 +1,5 @@
 use Rattle.std.proofs.Common.{◌+◌, ◌-◌, [], length, take, drop, None, refl, sym, ap₂, ◌∙◌, subst, arith}
-use Rattle.roman_check.proofs.Common.{IsIn, entry_of, reasons, Holds, entry_with}
+use Rattle.roman_check.proofs.Common.{entry_of, Holds, entry_with}
 use Rattle.roman_check.proofs.AuditLemmas.{entry_given, reason_given}
 use Rattle.roman_check.proofs.ReaderLemmas.{entry_in_piece, read_line, stop_line, read_more, stop_in_piece}
 use Rattle.roman_check.proofs.reader.Reader.read_entries.Goals as goal
@@ -43,8 +43,8 @@ loop-pair-preserved g c =
     let alike = c.read_alike-start.ensures in
     let (after, within, counted) = alike.place in
     record {
-      pattern = alike.pattern;
-      reason = subst (λ r. IsIn r (reasons c.actions-actions.result)) (sym alike.reason) c.read.ensures.reason;
+      pattern = c.read.ensures.pattern;
+      reason = c.read.ensures.reason;
       low = omega (arith, c.loop-pair.invariant.low, after);
       high = within;
       reads = λ before so_far. alike.read before (

@@ -5,8 +5,8 @@ use Rattle.roman_check.proofs.reader.Reader.read_entries.Given as goal
 -- the entries so far are read, and an entry or the last line is due
 abbrev pub invariant-loop-pair : goal.invariant-loop-pair
 invariant-loop-pair g l = record {
-  pattern : IsPattern l.pattern;
-  reason : IsIn l.pattern.reason (reasons l.actions);
+  pattern : IsPattern l.pattern.text l.pattern.shape;
+  reason : IsIn l.pattern.shape.reason (reasons l.actions);
   low : l.from ≤ l.start;
   high : l.start ≤ length l.piece;
   reads : (before : Reader) → IsReadTo (g.J.Rules.arena l.joint) before l.initial.self l.piece l.from → IsReadTo (g.J.Rules.arena l.joint) before l.self l.piece l.start;
