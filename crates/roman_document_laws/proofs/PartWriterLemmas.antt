@@ -8,7 +8,7 @@ use Rattle.roman_guard.specs.Meaning.{is_one_of, states_below}
 use Rattle.roman_guard.proofs.CallerLemmas.{in_states_below, states_below_are, states_below-suc, states_below-zero}
 use Rattle.roman_model.specs.Explanation.{name_at}
 use Rattle.roman_model.specs.System.{IsEnv, IsBeh, IsDeterministic, has}
-use Rattle.roman_model.specs.declared.limits.TheConstants.{MAX_STATES, MAX_ACTIONS}
+use Rattle.roman_model.specs.declared.limits.TheConstants.{MAX_STATES}
 use Rattle.roman_model.proofs.CallerLemmas.{same_test, none_from, find_not_found, contains_in}
 use Rattle.roman_read.specs.Json.{member_of}
 use Rattle.roman_document_laws.proofs.ListLemmas.{all_given}
