@@ -3,7 +3,7 @@ use Rattle.std.proofs.Common.{◌≡◌, ℕ, zero, suc, ◌<◌, ◌≤◌, ◌
 use Rattle.roman_document_laws.proofs.Common.{and_from, le-leb, length-map, Data, Texts, IsIn, HasNoRepeats, get_in, from_push, in_contains, AreItems, is_name, place_in, NamedEnv, NamedBeh, list_value, place_value, behaviour_value, IsSayableEnv, IsSayableBeh, IsSayableTarget, behaviour_in, catalogue_in, service_of, services_of, placed, Service}
 use Rattle.std.proofs.lemmas.List.{map_push}
 use Rattle.roman_model.specs.declared.limits.TheConstants.{MAX_CELLS}
-use Rattle.roman_model.proofs.CallerLemmas.{in_map}
+use Rattle.roman_model.proofs.CallerLemmas.{in_map, there_is}
 use Rattle.roman_parts.specs.declared.error.List.TheVariants as list
 use Rattle.roman_document_laws.proofs.PartReadLemmas.{ok_place, absent_none}
 use Rattle.roman_document_laws.proofs.PartWriterLemmas.{is_place, name_said, parts_said}
@@ -65,11 +65,6 @@ catalogue_said texts document library is = ((document_lists_read.behaviours text
 })
 
 -- Services
-
-there_is : {X : Type 0} (xs : List X) (k : ℕ) → k < length xs → (x : X) × (slice_get xs k ≡ Some x)
-there_is [] k h = absurd (omega (arith, h))
-there_is (x ∷ xs) zero h = (x, refl)
-there_is (x ∷ xs) (suc k) h = there_is xs k (omega (arith, h))
 
 states_there : (catalogue : List NamedBeh) (k : ℕ) (b : NamedBeh) → slice_get catalogue k ≡ Some b → catalogue_states catalogue k ≡ b.states
 states_there [] k b h = cc

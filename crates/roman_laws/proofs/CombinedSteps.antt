@@ -1,18 +1,11 @@
 -- The requests of several targets, and the steps that they stand for.
-use Rattle.std.proofs.Common.{◌≡◌, ℕ, suc, ◌==◌, ◌&&◌, not, List, [], ◌∷◌, map, length, Option, Some, None, IsTrue, filter, slice_get, inl, inr, refl, sym, ap, subst, eqb-true}
-use Rattle.roman_laws.proofs.Common.{false≢true, and_parts, IsIn, Beh, has, has_move, Request, Several, all_requests, get_in, any_true, any_from}
+use Rattle.std.proofs.Common.{◌≡◌, ℕ, ◌==◌, ◌&&◌, not, map, length, Option, Some, None, IsTrue, filter, slice_get, refl, sym, subst, eqb-true}
+use Rattle.roman_laws.proofs.Common.{false≢true, and_parts, Beh, has, has_move, Request, Several, all_requests, get_in, any_true, any_from}
 use Rattle.std.proofs.lemmas.Bool.{not-true}
 use Rattle.roman_model.specs.Lists.{below, is_empty}
 use Rattle.roman_model.proofs.CallerLemmas.{from_map}
 use Rattle.roman_model.specs.Combined.{stands_in}
 use Rattle.roman_model.proofs.CallerLemmas.{from_flat_map, filter_in, not_empty_in, move_passes}
-
--- The requests.
-
-pub place_in : {X : Type 0} (xs : List X) (x : X) → IsIn x xs → (k : ℕ) × (slice_get xs k ≡ Some x)
-place_in [] x i = absurd i
-place_in (y ∷ xs) x (inl e) = (0, ap Some (sym e))
-place_in (y ∷ xs) x (inr i) = let (k, e) = place_in xs x i in (suc k, e)
 
 -- a target that has a step on the action, in the place of a target
 stands_target : (o : Option Beh) (a : ℕ) → IsTrue (stands_in o a) → (target : Beh) × (o ≡ Some target) × ((b : ℕ) × (e : ℕ) × (b' : ℕ) × IsTrue (has_move target b e a b'))

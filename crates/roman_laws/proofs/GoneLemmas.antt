@@ -1,24 +1,11 @@
 -- Seats that leave one after the other.
 use Rattle.std.proofs.Common.{◌≡◌, ℕ, zero, suc, ◌==◌, Bool, true, false, cond, not, ◌||◌, List, [], ◌∷◌, ◌++◌, Some, IsTrue, IsFalse, slice_get, slice_index, remove, refl, sym, ap, ap₂, ◌∙◌, subst, inl, inr, arith}
-use Rattle.roman_laws.proofs.Common.{false≢true, both_ways, eq-eqb, eqb-true, or_right, or_cases, none-some, IsIn, Sys, Pair, has, IsSys, IsPair, is_final, Great, leave_out, system_without, pair_without, by_test, in_append_left, in_append_right, from_append, number_listed, listed_number, left, GreatWithout, ArePart}
+use Rattle.roman_laws.proofs.Common.{both_ways, eqb-true, or_right, or_cases, none-some, IsIn, Sys, Pair, has, IsSys, IsPair, is_final, Great, leave_out, system_without, pair_without, by_test, in_append_left, in_append_right, from_append, number_listed, listed_number, left, GreatWithout, ArePart}
 use Rattle.roman_model.specs.declared.way.Way.TheVariants as way
-use Rattle.roman_model.proofs.CallerLemmas.{same_test}
+use Rattle.roman_model.proofs.CallerLemmas.{leave_out_same, other_zero, suc_same, zero_other, same_test}
 use Rattle.roman_laws.specs.Losing.{MayGoAt}
 use Rattle.roman_laws.proofs.ReducedLemmas.{IsSys-reduced, IsPair-reduced}
 use Rattle.roman_laws.proofs.LosingLemmas.{great_with_gone}
-
-suc_same : (i k : ℕ) → (suc i == suc k) ≡ (i == k)
-suc_same i k = grind (arith, eq-eqb, eqb-true, same_test)
-
-zero_other : (i : ℕ) → (0 == suc i) ≡ false
-zero_other i = same_test (0 == suc i) false (λ t. let e : 0 ≡ suc i = eqb-true 0 (suc i) t in absurd (omega arith)) (λ f. absurd (false≢true f))
-
-other_zero : (k : ℕ) → (suc k == 0) ≡ false
-other_zero k = same_test (suc k == 0) false (λ t. let e : suc k ≡ 0 = eqb-true (suc k) 0 t in absurd (omega arith)) (λ f. absurd (false≢true f))
-
-leave_out_same : {X : Type 0} (at bt : ℕ → Bool) (xs : List X) → ((i : ℕ) → at i ≡ bt i) → leave_out at xs ≡ leave_out bt xs
-leave_out_same at bt [] same = refl
-leave_out_same at bt (x ∷ xs) same = ap₂ (λ b ys. cond b ys (x ∷ ys)) (same 0) (leave_out_same (λ i. at (suc i)) (λ i. bt (suc i)) xs (λ i. same (suc i)))
 
 -- the place of j after the places that pass are left out
 abbrev pub place_left : (ℕ → Bool) → ℕ → ℕ

@@ -1,10 +1,11 @@
 -- A pair that is related with more seats frozen is related with fewer, and a pair that is related without a seat that may go is related with it.
 use Rattle.std.proofs.Common.{◌≡◌, ℕ, zero, suc, ◌<◌, Bool, true, not, ◌&&◌, ◌||◌, List, [], ◌∷◌, length, Some, IsTrue, IsFalse, slice_get, slice_index, slice_set, remove, refl, sym, ap, ap₂, ◌∙◌, subst, arith}
-use Rattle.roman_laws.proofs.Common.{AllZip, none-some, same_Some, slice_get_within, IsIn, Beh, Seat, Sys, Pair, has, has_move, IsSys, IsPair, SStep, is_final, all_final, Couple, Meets, GreatCouple, Great, set_frozen, freeze_at, by_test, number_listed, listed_number, left, GreatWithout, ArePart, great_meets}
+use Rattle.roman_laws.proofs.Common.{none-some, same_Some, slice_get_within, IsIn, Beh, Seat, Sys, Pair, has, has_move, IsSys, IsPair, SStep, is_final, all_final, Couple, Meets, GreatCouple, Great, set_frozen, freeze_at, by_test, number_listed, listed_number, left, great_meets, GreatWithout, ArePart}
 use Rattle.std.proofs.lemmas.Bool.{or_parts, or_from}
 use Rattle.std.proofs.lemmas.List.{length-set}
 use Rattle.roman_model.specs.Change.{without, may_go}
 use Rattle.roman_model.specs.declared.way.Way.TheVariants as way
+use Rattle.roman_model.proofs.CallerLemmas.{states_length}
 use Rattle.roman_laws.proofs.SimulationLemmas.{closed_great}
 use Rattle.roman_laws.proofs.PlaceLemmas.{place_before, get_removed, index_removed, set_removed, index_other_set, final_with}
 
@@ -154,12 +155,6 @@ stands_by_meets s k seat b seated goes c stands =
                 ),
           );
     }
-
-states_length : (seats : List Seat) (bs : List ℕ) → AllZip (λ seat b. b < seat.beh.states) seats bs → length bs ≡ length seats
-states_length [] [] h = refl
-states_length [] (b ∷ bs) h = absurd h
-states_length (seat ∷ seats) [] h = absurd h
-states_length (seat ∷ seats) (b ∷ bs) h = ap suc (states_length seats bs h.1)
 
 pub great_with_gone : (s : Sys) (k : ℕ) (seat : Seat) (p : Pair) → IsSys s → IsPair s p → slice_get s.seats k ≡ Some seat → IsTrue (may_go k seat p) → Great (left s k) (without k p) → Great s p
 great_with_gone s k seat p ok pair seated goes great =

@@ -1,20 +1,13 @@
 -- The renamed list of a change has distinct pairs, so its replay keeps the most.
-use Rattle.std.proofs.Common.{◌≤◌, List, [], ◌∷◌, length, inl, inr, subst, arith}
-use Rattle.roman_laws.proofs.Common.{IsSublist, Sys, Pair, IsSys, arena, after, Entry, IsOrder, replay, Join, system_is_same}
+use Rattle.std.proofs.Common.{List, [], subst, arith}
+use Rattle.roman_laws.proofs.Common.{Sys, Pair, IsSys, arena, after, Join, Entry, IsOrder, replay, system_is_same}
 use Rattle.roman_model.specs.Change.{rename}
 use Rattle.roman_model.specs.Arena.{AreNew}
 use Rattle.roman_model.specs.CompleteLists.{AreEntries}
 use Rattle.roman_model.specs.Change.{Change, Freeze, Thaw, Die, CanChange}
-use Rattle.roman_model.proofs.CallerLemmas.{join_once, new_from_once, new_once, new_same, order_new, renaming_keeps, replay_sublist}
+use Rattle.roman_model.proofs.CallerLemmas.{sublist_length, join_once, new_from_once, new_once, new_same, order_new, renaming_keeps, replay_sublist}
 use Rattle.roman_laws.specs.Repairs.{RepairsKeepTheMost, ReplaysKeepTheMost}
 use Rattle.roman_laws.proofs.GreatestLemmas.{replay_kept}
-
--- a sublist isn't longer than the list
-sublist_no_longer : {X : Type 0} (xs ys : List X) → IsSublist xs ys → length xs ≤ length ys
-sublist_no_longer [] ys sub = omega arith
-sublist_no_longer (x ∷ xs) [] sub = absurd sub
-sublist_no_longer (x ∷ xs) (y ∷ ys) (inl (e, sub)) = let l : length xs ≤ length ys = sublist_no_longer xs ys sub in omega arith
-sublist_no_longer (x ∷ xs) (y ∷ ys) (inr sub) = let l : length (x ∷ xs) ≤ length ys = sublist_no_longer (x ∷ xs) ys sub in omega arith
 
 -- a renamed removal list has distinct pairs
 renamed_new : (change : Change) (s : Sys) (L : List (Entry Pair)) → IsSys s → CanChange change s → AreEntries s L → IsOrder (arena s) L → AreNew (arena (after change s)) [] (rename change L)
@@ -34,7 +27,7 @@ repairs_most change s L ok can are order =
       new = new;
       kept = record { part = replay_sublist (arena (after change s)) (rename change L); order = best.order };
       holds = λ M can. best.best M can.part can.order;
-      longest = λ M can. sublist_no_longer M (replay (arena (after change s)) (rename change L)) (best.best M can.part can.order);
+      longest = λ M can. sublist_length M (replay (arena (after change s)) (rename change L)) (best.best M can.part can.order);
     }
 
 pub replays_most : ReplaysKeepTheMost

@@ -1,14 +1,13 @@
 -- The system that combines several targets allows the requests of its targets, and offers the seats that serve all of them.
 use Rattle.std.proofs.Common.{◌≡◌, ℕ, ◌<◌, List, length, Some, IsTrue, slice_get, slice_index, slice_set, sym, ap, ◌∙◌, subst}
 use Rattle.std.proofs.lemmas.List.{length-map}
-use Rattle.roman_laws.proofs.Common.{same_Some, Beh, Pair, has_move, SStep, IsPair, is_allowed, couple, Serves, GreatCouple, Several, all_requests, Request, get_in, allowed_in, from_allowed, outcome_in, outcome_pair, offers_are, has_triple, combined, IsSeveral}
+use Rattle.roman_laws.proofs.Common.{same_Some, Beh, Pair, has_move, SStep, IsPair, has_triple, is_allowed, couple, Serves, GreatCouple, Several, all_requests, combined, IsSeveral, Request, get_in, allowed_in, from_allowed, outcome_in, outcome_pair, offers_are}
 use Rattle.roman_model.specs.System.{TStep}
 use Rattle.roman_model.specs.Numbers.{states_number, states_at}
 use Rattle.roman_model.specs.Several.{ServesAll, GreatAll}
 use Rattle.roman_model.specs.Combined.{target_sizes, combined_seat, couple_all}
-use Rattle.roman_model.proofs.CallerLemmas.{from_combined_target, combined_target_goes, combined_is_all, combined_system, in_requests, from_combined_triple, combined_triple, from_combined_sstep, combined_sstep}
+use Rattle.roman_model.proofs.CallerLemmas.{in_get, from_combined_target, combined_target_goes, combined_is_all, combined_system, in_requests, from_combined_triple, combined_triple, from_combined_sstep, combined_sstep}
 use Rattle.roman_laws.specs.Requests.{TargetAllows, IsRequestOf, RequestsOfTargets, IsMoveOf, TurnsOfTargets}
-use Rattle.roman_laws.proofs.CombinedSteps.{place_in}
 
 -- the states of the targets in a combined state
 abbrev pub targets_at : Several → ℕ → List ℕ
@@ -66,7 +65,7 @@ request_named w p n allowed =
 request_numbered : (w : Several) (p : Pair) (i : ℕ) (target : Beh) (a : ℕ) → IsSeveral w → slice_get w.targets i ≡ Some target → TargetAllows w p i target a → (n : ℕ) × IsRequestOf w n i target a
 request_numbered w p i target a ok member allows =
     let (t1, e1, step) = allows in
-    let (n, at) = place_in (all_requests w) (record { target = i; action = a })
+    let (n, at) = in_get (all_requests w) (record { target = i; action = a })
     (in_requests w.env w.targets i target (slice_index (targets_at w p.t) i) p.e a t1 member (ok.targets target (get_in w.targets i target member)).0 step.1) in
     (n, record { request = at; member = member })
 

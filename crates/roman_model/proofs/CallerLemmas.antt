@@ -7,7 +7,7 @@ pub use Rattle.roman_model.proofs.Lists.{filter_in, filter_same, filter_sublist,
 pub use Rattle.roman_model.proofs.Lists.{from_below, from_flat_map, from_map, from_push, get_or-below, in_append_left, in_append_right, in_below, in_contains}
 pub use Rattle.roman_model.proofs.Lists.{in_filter, in_flat_map, in_map, in_not_empty, in_push, length-below, list_any-flat_map, list_any-map, ne_not_empty}
 pub use Rattle.roman_model.proofs.Lists.{no_longer, none_from, not_empty_in, not_empty_ne, same_test, split_at, sublist_in, sublist_none, sum_by_same}
-pub use Rattle.roman_model.proofs.Lists.{sublist_skip, sum_by_within}
+pub use Rattle.roman_model.proofs.Lists.{sublist_length, sublist_skip, sum_by_within}
 -- Lemmas on the pairs of a system, its steps and outcomes.
 pub use Rattle.roman_model.proofs.SystemLemmas.{allowed_in, allowed_in_range, from_allowed, from_beh_next, from_beh_prev, from_env_next, from_env_prev, from_outcome}
 pub use Rattle.roman_model.proofs.SystemLemmas.{from_pairs, from_seat_next, in_beh_next, in_beh_prev, in_env_next, in_env_prev, in_pairs, listed_number, move_in_range, number_listed, outcome_in}
@@ -43,7 +43,7 @@ pub use Rattle.roman_model.proofs.Renames.{order_named}
 pub use Rattle.roman_model.proofs.NumberedArena.{AreNumbers, IsNumber, numbers_rename}
 -- The effect of a change of the seats on systems, pairs, outcomes and removal lists.
 pub use Rattle.roman_model.proofs.ChangeLemmas.{IsPair-grown, IsPair-turned, IsPair-without, flat_map_same, flat_map_same_in, left, length-remove}
-pub use Rattle.roman_model.proofs.ChangeLemmas.{join_once, length-set_frozen, map-flat_map, map-map, new_from_once, new_same, remove_in, states_frozen, turned}
+pub use Rattle.roman_model.proofs.ChangeLemmas.{join_once, length-set_frozen, map-flat_map, map-map, new_from_once, new_same, remove_in, states_frozen, states_length, turned}
 -- The replay of a renamed list is a removal list after each change.
 pub use Rattle.roman_model.proofs.ChangeLaws.{renaming_keeps}
 -- Changes over the numbers of pairs: renaming and replay agree with those over pairs.
@@ -72,9 +72,9 @@ pub use Rattle.roman_model.proofs.AdviceLemmas.{least_bound, least_from_push, ma
 -- Tables of rows with a place for each of some elements, and the rank of a number among the numbers that pass a test.
 pub use Rattle.roman_model.proofs.TableLemmas.{flat_map_row, length_rows, rank, rank_at, table_at}
 -- A system without one or two seats equals the system after as many changes.
-pub use Rattle.roman_model.proofs.WithoutLemmas.{freeze_one, freeze_two, leave_one, leave_two, without_changes}
+pub use Rattle.roman_model.proofs.WithoutLemmas.{freeze_one, freeze_two, leave_one, leave_out_same, leave_two, other_zero, suc_same, without_changes, zero_other}
 -- The items of a list at their places.
-pub use Rattle.roman_model.proofs.Places.{from_end, from_get_map, from_place, get_in, get_map, there_is}
+pub use Rattle.roman_model.proofs.Places.{from_end, from_get_map, from_place, get_in, get_map, in_get, there_is}
 -- Records built from tests: their steps are exactly those that pass, their numbers are in range, and equal tests build equal records.
 pub use Rattle.roman_model.proofs.MadeLemmas.{IsBeh-made, IsEnv-made, beh_from_same, env_from_same, from_made_final, from_made_move, from_made_triple}
 pub use Rattle.roman_model.proofs.MadeLemmas.{made_final, made_move, made_triple, move_passes, move_test}

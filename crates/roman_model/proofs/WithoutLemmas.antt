@@ -5,20 +5,20 @@ use Rattle.std.proofs.Math.Bool.{or-true}
 use Rattle.roman_model.specs.Without.{leave_out, freeze_at, WithoutByChanges}
 use Rattle.roman_model.proofs.Lists.{same_test}
 
-suc_same : (i k : ℕ) → (suc i == suc k) ≡ (i == k)
+pub suc_same : (i k : ℕ) → (suc i == suc k) ≡ (i == k)
 suc_same i k = grind (arith, eq-eqb, eqb-true, same_test)
 
 -- tests of numbers, which compute only at numerals
-zero_other : (i : ℕ) → (0 == suc i) ≡ false
+pub zero_other : (i : ℕ) → (0 == suc i) ≡ false
 zero_other i = same_test (0 == suc i) false (λ t. let e : 0 ≡ suc i = eqb-true 0 (suc i) t in absurd (omega arith)) (λ f. absurd (false≢true f))
 
-other_zero : (k : ℕ) → (suc k == 0) ≡ false
+pub other_zero : (k : ℕ) → (suc k == 0) ≡ false
 other_zero k = same_test (suc k == 0) false (λ t. let e : suc k ≡ 0 = eqb-true (suc k) 0 t in absurd (omega arith)) (λ f. absurd (false≢true f))
 
 zero_next : (i : ℕ) → has (0 ∷ []) (suc i) ≡ false
 zero_next i = ap (λ b. b || false) (zero_other i)
 
-leave_out_same : {X : Type 0} (at bt : ℕ → Bool) (xs : List X) → ((i : ℕ) → at i ≡ bt i) → leave_out at xs ≡ leave_out bt xs
+pub leave_out_same : {X : Type 0} (at bt : ℕ → Bool) (xs : List X) → ((i : ℕ) → at i ≡ bt i) → leave_out at xs ≡ leave_out bt xs
 leave_out_same at bt [] same = refl
 leave_out_same at bt (x ∷ xs) same = ap₂ (λ b ys. cond b ys (x ∷ ys)) (same 0) (leave_out_same (λ i. at (suc i)) (λ i. bt (suc i)) xs (λ i. same (suc i)))
 
