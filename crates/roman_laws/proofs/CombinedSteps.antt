@@ -3,9 +3,8 @@ use Rattle.std.proofs.Common.{◌≡◌, ℕ, ◌==◌, ◌&&◌, not, map, leng
 use Rattle.roman_laws.proofs.Common.{false≢true, and_parts, Beh, has, has_move, Request, Several, all_requests, get_in, any_true, any_from}
 use Rattle.std.proofs.lemmas.Bool.{not-true}
 use Rattle.roman_model.specs.Lists.{below, is_empty}
-use Rattle.roman_model.proofs.CallerLemmas.{from_map}
+use Rattle.roman_model.proofs.CallerLemmas.{from_map, from_flat_map, filter_in, not_empty_in, move_passes}
 use Rattle.roman_model.specs.Combined.{stands_in}
-use Rattle.roman_model.proofs.CallerLemmas.{from_flat_map, filter_in, not_empty_in, move_passes}
 
 -- a target that has a step on the action, in the place of a target
 stands_target : (o : Option Beh) (a : ℕ) → IsTrue (stands_in o a) → (target : Beh) × (o ≡ Some target) × ((b : ℕ) × (e : ℕ) × (b' : ℕ) × IsTrue (has_move target b e a b'))
