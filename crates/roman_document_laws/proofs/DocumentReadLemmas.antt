@@ -1,6 +1,5 @@
 -- The lists of a document: their values, and their refusals.
-use Rattle.std.proofs.Common.{◌≡◌, ℕ, ◌≤◌, inl, inr, List, [], ◌∷◌, ◌++◌, length, codes, Result, Ok, Err, refl, sym, ap, ◌∙◌, subst, arith}
-use Rattle.roman_document_laws.proofs.Common.{Data, Texts, ◌>>=◌, same_ok, bind_ok, NamedEnv, NamedBeh, counted_items, PartError, behaviour_in, catalogue_in, service_of, services_of, placed, Service}
+use Rattle.roman_document_laws.proofs.Common.{◌≡◌, ℕ, ◌≤◌, inl, inr, List, [], ◌∷◌, ◌++◌, length, codes, Result, Ok, Err, refl, sym, ap, ◌∙◌, subst, arith, Data, Texts, ◌>>=◌, same_ok, bind_ok, NamedEnv, NamedBeh, counted_items, PartError, behaviour_in, catalogue_in, service_of, services_of, placed, Service}
 use Rattle.roman_model.specs.declared.limits.TheConstants.{MAX_BEHAVIOURS, MAX_SERVICES}
 use Rattle.roman_document_laws.proofs.ListLemmas.{same_err, bind_err, IsStep, IsListing, list_gives, list_given, list_refuses, list_refused}
 use Rattle.roman_parts.specs.declared.error.List.{List as Place}

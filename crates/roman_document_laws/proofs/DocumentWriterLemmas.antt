@@ -1,6 +1,6 @@
 -- The written value of a library means that library.
-use Rattle.std.proofs.Common.{◌≡◌, ℕ, zero, suc, ◌<◌, ◌≤◌, ◌&&◌, List, [], ◌∷◌, ◌++◌, map, length, Bool, Option, Some, IfSome, nat_le, Ok, IsTrue, slice_get, inl, inr, refl, sym, ap, subst, arith}
-use Rattle.roman_document_laws.proofs.Common.{and_from, le-leb, length-map, Data, Texts, IsIn, HasNoRepeats, get_in, from_push, in_contains, AreItems, is_name, place_in, NamedEnv, NamedBeh, list_value, place_value, behaviour_value, IsSayableEnv, IsSayableBeh, IsSayableTarget, behaviour_in, catalogue_in, service_of, services_of, placed, Service}
+use Rattle.roman_document_laws.proofs.Common.{◌≡◌, ℕ, zero, suc, ◌<◌, ◌≤◌, ◌&&◌, List, [], ◌∷◌, ◌++◌, map, length, Bool, Option, Some, nat_le, Ok, IsTrue, slice_get, inl, inr, refl, sym, ap, subst, arith, and_from, le-leb, length-map, Data, Texts, IsIn, HasNoRepeats, get_in, from_push, in_contains, AreItems, is_name, place_in, NamedEnv, NamedBeh, list_value, place_value, behaviour_value, IsSayableEnv, IsSayableBeh, IsSayableTarget, behaviour_in, catalogue_in, service_of, services_of, placed, Service}
+use Rattle.std.proofs.Common.{IfSome}
 use Rattle.std.proofs.lemmas.List.{map_push}
 use Rattle.roman_model.specs.declared.limits.TheConstants.{MAX_CELLS}
 use Rattle.roman_model.proofs.CallerLemmas.{in_map, there_is}

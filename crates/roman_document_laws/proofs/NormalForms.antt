@@ -1,6 +1,5 @@
 -- Normal forms rise, have the same steps, and are determined by them.
-use Rattle.std.proofs.Common.{◌≡◌, ◌≢◌, ℕ, inl, inr, List, [], ◌∷◌, map, refl, sym, ◌∙◌, subst, arith}
-use Rattle.roman_document_laws.proofs.Common.{filter, flat_map, IsIn, below, Triple, Env, Move, Beh, has_move, is_final, normal_env, normal_beh, from_flat_map, from_map, triple_listed, number_listed, listed_number, step_listed, listed_step, has_triple-normal, has_move-normal, is_final-normal, Rises, IsLess, IsNormalEnv, IsNormalBeh}
+use Rattle.roman_document_laws.proofs.Common.{◌≡◌, ◌≢◌, ℕ, inl, inr, List, [], ◌∷◌, map, refl, sym, ◌∙◌, subst, arith, filter, flat_map, IsIn, below, Triple, Env, Move, Beh, has_move, is_final, normal_env, normal_beh, from_flat_map, from_map, number_listed, listed_number, triple_listed, step_listed, listed_step, has_triple-normal, has_move-normal, is_final-normal, Rises, IsLess, IsNormalEnv, IsNormalBeh}
 use Rattle.roman_model.specs.System.{has_triple}
 use Rattle.roman_model.specs.SystemArena.{env_next}
 use Rattle.roman_model.specs.Made.{guarded_step}

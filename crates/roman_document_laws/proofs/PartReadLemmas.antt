@@ -1,6 +1,6 @@
 -- Lists of names, final states and steps: their values, and their refusals.
-use Rattle.std.proofs.Common.{◌≡◌, ◌≢◌, ℕ, suc, ◌<◌, ◌≤◌, ◌⊎◌, ◌&&◌, inl, inr, Bool, true, false, List, [], ◌∷◌, ◌++◌, length, get_or, Option, Some, None, is_none, nat_le, codes, Result, Ok, Err, IsTrue, IsFalse, slice_get, refl, sym, ap, ◌∙◌, subst, arith, leb-true, true≢false}
-use Rattle.roman_document_laws.proofs.Common.{AllZip, and_parts, and_from, both_ways, le-leb, same_Some, Data, Items, no_items, item, items_len, items_of, IsIn, HasNoRepeats, Triple, Move, MAX_STEPS, by_test, from_push, get_in, ◌>>=◌, each_item, pushing, text_of, kind_of, IsListAt, MissesList, AreItems, is_name, Kind, Miss, same_ok, bind_ok, guarded_states, names_of, place_in, finals_of, counted_items, IsPlace, BreaksPlace, IsTripleItem, IsMoveItem, triples_of, moves_of, PartError}
+use Rattle.roman_document_laws.proofs.Common.{◌≡◌, ◌≢◌, ℕ, suc, ◌<◌, ◌≤◌, ◌⊎◌, ◌&&◌, inl, inr, Bool, true, false, List, [], ◌∷◌, ◌++◌, length, Option, Some, None, nat_le, codes, Result, Ok, Err, IsTrue, slice_get, refl, sym, ap, ◌∙◌, subst, arith, AllZip, and_parts, and_from, both_ways, le-leb, same_Some, Data, Items, no_items, item, items_len, items_of, IsIn, HasNoRepeats, Triple, Move, MAX_STEPS, by_test, from_push, get_in, ◌>>=◌, each_item, pushing, text_of, kind_of, IsListAt, MissesList, AreItems, is_name, Kind, Miss, same_ok, bind_ok, guarded_states, names_of, place_in, finals_of, counted_items, IsPlace, BreaksPlace, IsTripleItem, IsMoveItem, triples_of, moves_of, PartError}
+use Rattle.std.proofs.Common.{get_or, is_none, IsFalse, leb-true, true≢false}
 use Rattle.std.specs.Str.{bytes_eq}
 use Rattle.std.proofs.lemmas.Bool.{cases_order}
 use Rattle.std.proofs.lemmas.List.Quantifiers.{position-Some}

@@ -1,6 +1,6 @@
 -- The written value of a part means that part.
-use Rattle.std.proofs.Common.{◌≡◌, ℕ, zero, suc, ◌<◌, ◌≤◌, ◌==◌, ◌&&◌, not, cond, Bool, true, false, List, [], ◌∷◌, ◌++◌, map, length, Option, None, Some, is_some, find, codes, Result, Ok, IsTrue, slice_get, inl, inr, refl, sym, ap, ◌∙◌, subst, arith, eqb-true}
-use Rattle.roman_document_laws.proofs.Common.{AllZip, and_parts, both_ways, cond-true, cond-false, length-map, same_Some, Data, items_of, IsIn, HasNoRepeats, below, Env, Beh, Triple, Move, has_move, is_final, normal_env, normal_beh, MAX_STEPS, by_test, get_in, in_contains, filter_in, triple_listed, number_listed, listed_number, step_listed, listed_step, ◌>>=◌, each_item, pushing, text_of, is_name, IsListAt, AreItems, guarded_states, names_of, finals_of, NamedEnv, NamedBeh, Rises, IsLess, IsNormalEnv, IsNormalBeh, IsPlace, BreaksPlace, IsTripleItem, IsMoveItem, triples_of, moves_of, list_value, place_value, behaviour_value, IsSayableEnv, IsSayableBeh, IsSayableTarget, PartError, has_triple-normal, has_move-normal, is_final-normal}
+use Rattle.roman_document_laws.proofs.Common.{◌≡◌, ℕ, zero, suc, ◌<◌, ◌≤◌, ◌&&◌, Bool, true, false, List, [], ◌∷◌, ◌++◌, map, length, Option, None, Some, codes, Result, Ok, IsTrue, slice_get, inl, inr, refl, sym, ap, ◌∙◌, subst, arith, AllZip, and_parts, both_ways, cond-true, cond-false, length-map, same_Some, Data, items_of, IsIn, HasNoRepeats, below, Env, Beh, Triple, Move, has_move, is_final, normal_env, normal_beh, MAX_STEPS, by_test, get_in, in_contains, filter_in, number_listed, listed_number, triple_listed, step_listed, listed_step, ◌>>=◌, each_item, pushing, text_of, is_name, IsListAt, AreItems, guarded_states, names_of, finals_of, NamedEnv, NamedBeh, Rises, IsLess, IsNormalEnv, IsNormalBeh, IsPlace, BreaksPlace, IsTripleItem, IsMoveItem, triples_of, moves_of, list_value, place_value, behaviour_value, IsSayableEnv, IsSayableBeh, IsSayableTarget, PartError, has_triple-normal, has_move-normal, is_final-normal}
+use Rattle.std.proofs.Common.{◌==◌, not, cond, is_some, find, eqb-true}
 use Rattle.std.proofs.lemmas.Bool.{not-true, eq-eqb}
 use Rattle.serde_json.specs.Data.{string}
 use Rattle.serde_json.specs.Find.{as_object}

@@ -1,6 +1,6 @@
 -- Rising lists.
-use Rattle.std.proofs.Common.{◌≡◌, ℕ, zero, suc, ◌<◌, Bool, inl, inr, List, [], ◌∷◌, ◌++◌, map, refl, sym, ap₂, ◌∙◌, subst, arith}
-use Rattle.roman_document_laws.proofs.Common.{filter, flat_map, cond-true, cond-false, IsIn, below, by_test, from_flat_map, from_map, filter_in, Rises, IsLess}
+use Rattle.roman_document_laws.proofs.Common.{◌≡◌, ℕ, zero, suc, ◌<◌, Bool, inl, inr, List, [], ◌∷◌, ◌++◌, map, refl, sym, ◌∙◌, subst, arith, filter, flat_map, cond-true, cond-false, IsIn, below, by_test, from_flat_map, from_map, filter_in, Rises, IsLess}
+use Rattle.std.proofs.Common.{ap₂}
 use Rattle.roman_model.proofs.CallerLemmas.{from_append, from_below}
 
 module _ {X : Type 0} (Before : X → X → Type 0) where

@@ -1,6 +1,6 @@
 -- The requests of several targets, and the steps that they stand for.
-use Rattle.std.proofs.Common.{◌≡◌, ℕ, ◌==◌, ◌&&◌, not, map, length, Option, Some, None, IsTrue, filter, slice_get, refl, sym, subst, eqb-true}
-use Rattle.roman_laws.proofs.Common.{false≢true, and_parts, Beh, has, has_move, Request, Several, all_requests, get_in, any_true, any_from}
+use Rattle.roman_laws.proofs.Common.{◌≡◌, ℕ, ◌==◌, ◌&&◌, not, map, length, Some, IsTrue, filter, slice_get, refl, sym, subst, false≢true, and_parts, Beh, has, has_move, Request, Several, all_requests, get_in, any_true, any_from}
+use Rattle.std.proofs.Common.{Option, None, eqb-true}
 use Rattle.std.proofs.lemmas.Bool.{not-true}
 use Rattle.roman_model.specs.Lists.{below, is_empty}
 use Rattle.roman_model.proofs.CallerLemmas.{from_map, from_flat_map, filter_in, not_empty_in, move_passes}

@@ -1,7 +1,6 @@
 -- The definitions, computed for three small systems. A lamp is off or on. A flaky lamp may also stick when it is turned on. The target
 -- turns a lamp on and off, and may rest while it is off.
-use Rattle.std.proofs.Common.{◌≡◌, ℕ, ◌+◌, ◌<◌, true, false, List, [], ◌∷◌, map, length, Some, IsTrue, filter, inl, inr, refl, sym, subst, arith}
-use Rattle.roman_laws.proofs.Common.{and_parts, eqb-true, IsIn, Triple, Env, Beh, Seat, Sys, Pair, IsBeh, IsSys, has_move, pairs, arena, IsOrder, Join, after, is_related, offers, Final, Act, any_true}
+use Rattle.roman_laws.proofs.Common.{◌≡◌, ℕ, ◌+◌, ◌<◌, true, false, List, [], ◌∷◌, map, length, Some, IsTrue, filter, inl, inr, refl, sym, subst, arith, and_parts, eqb-true, IsIn, Triple, Env, Beh, Seat, Sys, Pair, IsBeh, IsSys, has_move, pairs, arena, IsOrder, Join, after, is_related, offers, Final, Act, any_true}
 use Rattle.roman_model.specs.System.{Move}
 use Rattle.roman_model.specs.Arena.{depth}
 use Rattle.roman_model.specs.Offers.{choice_count}

@@ -1,6 +1,5 @@
 -- An example in which the loss of a seat that rests outside a final state helps: a lamp with another seat that is never final.
-use Rattle.std.proofs.Common.{◌≡◌, true, false, [], ◌∷◌, refl}
-use Rattle.roman_laws.proofs.Common.{Beh, Sys, Pair, is_related, system_without, pair_without}
+use Rattle.roman_laws.proofs.Common.{◌≡◌, true, false, [], ◌∷◌, refl, Beh, Sys, Pair, is_related, system_without, pair_without}
 use Rattle.roman_model.specs.declared.way.Way.TheVariants as way
 use Rattle.roman_laws.proofs.Examples.{room, lamp, seat_of}
 

@@ -1,5 +1,5 @@
 -- The numbers of pairs and of lists of states, for all sizes.
-use Rattle.std.proofs.Common.{arith}
+use Rattle.roman_laws.proofs.Common.{arith}
 use Rattle.roman_model.proofs.CallerLemmas.{states_number_below, states_at-number, AreBelow-at, states_number-at, number_below, pair_at-number, IsPairOf-at, number-pair_at}
 use Rattle.roman_laws.specs.Numbers.{ShapesAreNumbered}
 

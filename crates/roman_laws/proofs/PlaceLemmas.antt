@@ -1,6 +1,5 @@
 -- Lists of seats and of states that lose one element: the elements at their places.
-use Rattle.std.proofs.Common.{◌≡◌, ℕ, zero, suc, ◌<◌, not, ◌||◌, List, [], ◌∷◌, length, Some, IsTrue, slice_get, slice_index, slice_set, remove, refl, sym, ap, subst, arith}
-use Rattle.roman_laws.proofs.Common.{false≢true, and_parts, and_from, none-some, same_Some, Seat, is_final, all_final}
+use Rattle.roman_laws.proofs.Common.{◌≡◌, ℕ, zero, suc, ◌<◌, not, ◌||◌, List, [], ◌∷◌, length, Some, IsTrue, slice_get, slice_index, slice_set, remove, refl, sym, ap, subst, arith, false≢true, and_parts, and_from, none-some, same_Some, Seat, is_final, all_final}
 
 -- the place of item j before item k left
 abbrev pub place_before : ℕ → ℕ → ℕ

@@ -1,6 +1,6 @@
 -- A system without some of its seats, and its pairs.
-use Rattle.std.proofs.Common.{◌≡◌, ℕ, suc, ◌<◌, ◌≤◌, Bool, true, false, cond, List, [], ◌∷◌, length, refl, sym, ap, subst, inl, inr, arith}
-use Rattle.roman_laws.proofs.Common.{AllZip, IsIn, Seat, Sys, Pair, has, IsSys, IsPair, IsBeh, leave_out, freeze_at, system_without, pair_without, Way, related_great, great_related}
+use Rattle.roman_laws.proofs.Common.{◌≡◌, ℕ, suc, ◌<◌, Bool, true, false, cond, List, [], ◌∷◌, length, refl, sym, ap, subst, inl, inr, arith, AllZip, IsIn, Seat, Sys, Pair, has, IsSys, IsPair, IsBeh, leave_out, freeze_at, system_without, pair_without, Way, related_great, great_related}
+use Rattle.std.proofs.Common.{◌≤◌}
 use Rattle.roman_model.specs.declared.limits.TheConstants.{MAX_SERVICES}
 use Rattle.roman_model.specs.declared.way.Way.TheVariants as way
 use Rattle.roman_laws.specs.Reduced.{ReducedAreSystems}

@@ -1,6 +1,5 @@
 -- The renamed list of a change has distinct pairs, so its replay keeps the most.
-use Rattle.std.proofs.Common.{List, [], subst, arith}
-use Rattle.roman_laws.proofs.Common.{Sys, Pair, IsSys, arena, after, Join, Entry, IsOrder, replay, system_is_same}
+use Rattle.roman_laws.proofs.Common.{List, [], subst, arith, Sys, Pair, IsSys, arena, after, Join, Entry, IsOrder, replay, system_is_same}
 use Rattle.roman_model.specs.Change.{rename, Change, Freeze, Thaw, Die, CanChange}
 use Rattle.roman_model.specs.Arena.{AreNew}
 use Rattle.roman_model.specs.CompleteLists.{AreEntries}

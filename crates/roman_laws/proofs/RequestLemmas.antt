@@ -1,7 +1,6 @@
 -- The system that combines several targets allows the requests of its targets, and offers the seats that serve all of them.
-use Rattle.std.proofs.Common.{◌≡◌, ℕ, ◌<◌, List, length, Some, IsTrue, slice_get, slice_index, slice_set, sym, ap, ◌∙◌, subst}
+use Rattle.roman_laws.proofs.Common.{◌≡◌, ℕ, ◌<◌, List, length, Some, IsTrue, slice_get, slice_index, slice_set, sym, ap, ◌∙◌, subst, same_Some, Beh, Pair, has_move, SStep, IsPair, has_triple, is_allowed, couple, Serves, GreatCouple, Several, all_requests, combined, IsSeveral, Request, get_in, allowed_in, from_allowed, outcome_in, outcome_pair, offers_are}
 use Rattle.std.proofs.lemmas.List.{length-map}
-use Rattle.roman_laws.proofs.Common.{same_Some, Beh, Pair, has_move, SStep, IsPair, has_triple, is_allowed, couple, Serves, GreatCouple, Several, all_requests, combined, IsSeveral, Request, get_in, allowed_in, from_allowed, outcome_in, outcome_pair, offers_are}
 use Rattle.roman_model.specs.System.{TStep}
 use Rattle.roman_model.specs.Numbers.{states_number, states_at}
 use Rattle.roman_model.specs.Several.{ServesAll, GreatAll}

@@ -1,6 +1,5 @@
 -- The definitions of several targets, computed for two lamps and two targets that each turn a lamp on and off.
-use Rattle.std.proofs.Common.{◌≡◌, [], ◌∷◌, length, refl, arith}
-use Rattle.roman_laws.proofs.Common.{pairs, offers, Several, IsSeveral, all_requests, combined}
+use Rattle.roman_laws.proofs.Common.{◌≡◌, [], ◌∷◌, length, refl, arith, pairs, offers, Several, IsSeveral, all_requests, combined}
 use Rattle.roman_laws.proofs.Examples.{room, lamp, seat_of, pair_of, related_pairs}
 
 abbrev two : Several

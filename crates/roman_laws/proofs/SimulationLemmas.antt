@@ -1,6 +1,5 @@
 -- Each relation that meets the three clauses of an ND-simulation is part of the greatest one, even if it can't be listed.
-use Rattle.std.proofs.Common.{length}
-use Rattle.roman_laws.proofs.Common.{not_from_false, Sys, IsSys, Pair, IsPair, arena, pairs, Couple, couple, Meets, Great, by_test, related_great}
+use Rattle.roman_laws.proofs.Common.{length, not_from_false, Sys, IsSys, Pair, IsPair, arena, pairs, Couple, couple, Meets, Great, by_test, related_great}
 use Rattle.roman_model.specs.Arena.{loses}
 use Rattle.roman_model.proofs.CallerLemmas.{lost_dead, meets_survives}
 

@@ -1,7 +1,7 @@
 -- Each accepted document means a well-formed library.
-use Rattle.std.proofs.Common.{◌≡◌, ◌==◌, Bool, true, false, cond, All, ℕ, ◌+◌, ◌<◌, ◌≤◌, List, [], ◌∷◌, ◌++◌, map, length, Option, Some, None, IfSome, slice_get, codes, Result, Ok, Err, refl, sym, ap, ◌∙◌, subst, arith, length-append}
+use Rattle.roman_library.proofs.Common.{◌≡◌, Bool, cond, All, ℕ, ◌+◌, ◌<◌, ◌≤◌, List, [], ◌∷◌, ◌++◌, map, length, Option, Some, None, IfSome, slice_get, Result, Ok, Err, refl, sym, ap, ◌∙◌, subst, arith, length-append, All-push, Data, Texts, MAX_BEHAVIOURS, MAX_CELLS, ◌>>=◌, each_item, place_of, same_ok, bind_ok, NamedEnv, NamedBeh, NamedTarget, IsBehaviour, IsTarget, name_of, target_of, PartError, behaviour_known, target_known, PartAt, ReadAfter, value_at, limit_of, version_of, listed_in, listed_step, environment_in, catalogue_in, targets_in, combined_of, parts_in, service_of, service_step, services_of, library_in, library_of, PlainCombined, target_name, forbidding, combined_parts, Named, PlainLibrary, ArePartsOf, IsService, IsCatalogue, AreServices, behaviour_name, service_name, placed, Service, Part}
+use Rattle.std.proofs.Common.{◌==◌, true, false, codes}
 use Rattle.std.proofs.lemmas.Bool.{and_parts}
-use Rattle.roman_library.proofs.Common.{All-push, Data, Texts, MAX_BEHAVIOURS, MAX_CELLS, ◌>>=◌, each_item, place_of, same_ok, bind_ok, NamedEnv, NamedBeh, NamedTarget, IsBehaviour, IsTarget, name_of, target_of, PartError, behaviour_known, target_known, PartAt, ReadAfter, value_at, limit_of, version_of, listed_in, listed_step, environment_in, catalogue_in, targets_in, combined_of, parts_in, service_of, service_step, services_of, library_in, library_of, PlainCombined, target_name, forbidding, combined_parts, Named, PlainLibrary, ArePartsOf, IsService, IsCatalogue, AreServices, behaviour_name, service_name, placed, Service, Part}
 use Rattle.std.proofs.lemmas.List.Elements.{All-get_or}
 use Rattle.std.proofs.lemmas.Option.{get_or_from_slice_get, slice_get_within}
 use Rattle.serde_json.specs.Data.{Items, no_items, item}

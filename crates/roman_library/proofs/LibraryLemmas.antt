@@ -1,7 +1,6 @@
 -- Properties of the parts of a library.
-use Rattle.std.proofs.Common.{◌≡◌, ℕ, List, [], ◌∷◌, ◌++◌, map, None, Ok, sym, ◌∙◌, arith}
+use Rattle.roman_library.proofs.Common.{◌≡◌, ℕ, List, [], ◌∷◌, ◌++◌, map, None, Ok, sym, ◌∙◌, arith, All-push, Data, HasNoRepeats, place_of, NamedEnv, NamedBeh, NamedTarget, IsBehaviour, same_ok, behaviour_known, target_known, name_of, target_of, IsCatalogue, IsService, AreServices, behaviour_name, service_name, Service}
 use Rattle.std.proofs.lemmas.List.{map_push}
-use Rattle.roman_library.proofs.Common.{All-push, Data, HasNoRepeats, place_of, NamedEnv, NamedBeh, NamedTarget, IsBehaviour, same_ok, behaviour_known, target_known, name_of, target_of, IsCatalogue, IsService, AreServices, behaviour_name, service_name, Service}
 use Rattle.roman_model.proofs.CallerLemmas.{HasNoRepeats-push}
 use Rattle.roman_parts.proofs.CallerLemmas.{none_absent}
 use Rattle.roman_parts.specs.Parts.{behaviour_of}

@@ -1,6 +1,6 @@
 -- Several targets of a document, and the parts made from them.
-use Rattle.std.proofs.Common.{◌≡◌, ◌<◌, List, [], ◌∷◌, map, length, get_or, All, IfSome, Option, Some, None, Ok, Err, slice_get, refl, sym, ap, subst}
-use Rattle.roman_library.proofs.Common.{length-map, HasNoRepeats, NamedEnv, NamedBeh, IsBehaviour, IsTarget, Gives, combined_parts, forbidding, Named, Combined, CombineError, combined_of, ArePartsOf, IsCatalogue, IsService, AreServices, behaviour_name, Service}
+use Rattle.roman_library.proofs.Common.{◌≡◌, ◌<◌, List, [], ◌∷◌, map, length, get_or, All, IfSome, Option, Some, None, Ok, Err, slice_get, refl, sym, ap, subst, length-map, HasNoRepeats, NamedEnv, NamedBeh, IsBehaviour, IsTarget, Gives, combined_parts, forbidding, Named, Combined, combined_of, ArePartsOf, IsCatalogue, IsService, AreServices, behaviour_name, Service}
+use Rattle.roman_multi.specs.declared.error.CombineError.{CombineError}
 use Rattle.std.proofs.lemmas.List.{get_or-map}
 use Rattle.std.proofs.lemmas.Option.{slice_get-map}
 use Rattle.std.specs.Option.{option_map}

@@ -1,6 +1,6 @@
 -- The certificate of a complete list is accepted, and an accepted certificate is complete.
-use Rattle.std.proofs.Common.{◌≡◌, ℕ, zero, suc, ◌+◌, ◌*◌, ◌^◌, ◌<◌, ◌≤◌, Bool, false, not, ◌&&◌, List, [], ◌∷◌, ◌++◌, map, length, take, Option, Some, None, IsTrue, IsFalse, if◌then◌else◌, filter, find, option_map, slice_get, slice_index_or, codes, decimal, nat_le, refl, sym, ap, ap₂, ◌∙◌, subst, inl, inr, arith, append_assoc, append-nil, length-append, le-leb}
-use Rattle.roman_model.proofs.Common.{list_any, cons_option, cases_lt, both_ways, or_from, and_parts, and_left, not-false, not_from_true, not_from_false, cond-true, cond-false, and_from, length-map, filter_map-append, list_any-append, none-some, IsIn, below, all_below, lines, ended_lines, text_of_lines, IsLine, AreLines, Sys, IsSys, pairs, same_numbers, arena, Arena, Entry, is_listed, is_beaten, is_justified, IsOrder, Great, sizes_of, count, pair_at, numbered, entry_at, IsCompleteList, is_related, head_line, count_line, reason_text, entry_line, end_line, Why, Rejected, TooLong, reasons, possible_entries, entry_of, entries_on, unless_over, body_fault, line_fault, faults, unlisted, cert_verdict, IsClean, MAX_ACTIONS, MAX_CERTIFICATE_BYTES, Reason, Final, Act}
+use Rattle.roman_model.proofs.Common.{◌≡◌, ℕ, zero, suc, ◌+◌, ◌*◌, ◌^◌, ◌<◌, ◌≤◌, Bool, false, not, ◌&&◌, List, [], ◌∷◌, ◌++◌, map, length, take, Option, Some, None, IsTrue, IsFalse, if◌then◌else◌, filter, find, option_map, slice_get, slice_index_or, codes, decimal, nat_le, refl, sym, ap, ap₂, ◌∙◌, subst, inl, inr, arith, append_assoc, append-nil, length-append, list_any, cons_option, cases_lt, both_ways, or_from, and_parts, and_left, not-false, not_from_true, not_from_false, cond-true, cond-false, and_from, length-map, filter_map-append, list_any-append, none-some, IsIn, below, all_below, lines, ended_lines, text_of_lines, IsLine, AreLines, Sys, IsSys, pairs, same_numbers, arena, Arena, Entry, is_listed, is_beaten, is_justified, IsOrder, Great, sizes_of, count, pair_at, numbered, entry_at, IsCompleteList, is_related, head_line, count_line, reason_text, entry_line, end_line, Why, Rejected, TooLong, reasons, possible_entries, entry_of, entries_on, unless_over, body_fault, line_fault, faults, unlisted, cert_verdict, IsClean, MAX_ACTIONS, MAX_CERTIFICATE_BYTES, Reason, Final, Act}
+use Rattle.std.proofs.Common.{le-leb}
 use Rattle.roman_model.specs.Certificate.{cert_text, Form, Repeated, Unjustified, Unlisted, Greatest}
 use Rattle.std.proofs.Math.Bool.{not-not}
 use Rattle.std.proofs.lemmas.Bool.{lt-leb}

@@ -1,4 +1,5 @@
 -- The names that several proof pages of this crate cite, passed on from one place. Declares nothing.
+pub use Rattle.std.proofs.Common.{Bool, IsFalse, IsTrue, List, None, Option, Some, [], add-one, ap, append-nil, append_assoc, ap₂, arith, codes, cond, decimal, drop, false, filter, find, flat_map, get_or, if◌then◌else◌, inl, inr, length, length-append, map, nat_le, not, option_map, refl, remove, rules, slice_get, slice_index, slice_index_or, slice_set, subst, suc, sum_by, sym, take, true, zero, ℕ, ◌%◌, ◌&&◌, ◌*◌, ◌++◌, ◌+◌, ◌-◌, ◌<◌, ◌==◌, ◌^◌, ◌||◌, ◌∙◌, ◌∷◌, ◌≡◌, ◌≢◌, ◌≤◌, ◌⊎◌}
 pub use Rattle.std.proofs.Math.Bool.{or-false}
 pub use Rattle.std.proofs.lemmas.Bool.{and_cases, and_from, and_left, and_parts, both_ways, cases_eq, cases_lt, cases_order, cond-false, cond-true, eq-eqb, eqb-true, false≢true, not-false, not-true, not_from_false, not_from_true, or_cases, or_from, or_left, or_parts, or_right}
 pub use Rattle.std.proofs.lemmas.List.{get_or_append_left, get_or_push, length-map, length_push, map-append}

@@ -1,6 +1,5 @@
 -- Every removal list can be extended to a complete one.
-use Rattle.std.proofs.Common.{ℕ, zero, suc, ◌+◌, ◌≤◌, Bool, not, ◌&&◌, List, [], ◌∷◌, ◌++◌, length, map, flat_map, IsTrue, IsFalse, inl, inr, refl, sym, subst, arith, append_assoc, append-nil, length-append}
-use Rattle.roman_model.proofs.Common.{list_any, both_ways, and_parts, and_from, not-true, not_from_false, IsIn, below, all_below, Sys, Pair, IsSys, IsPair, pairs, is_allowed, arena, Entry, is_listed, is_justified, is_beaten, IsOrder, AreEntries, IsComplete, Reason, Final, Act}
+use Rattle.roman_model.proofs.Common.{ℕ, zero, suc, ◌+◌, ◌≤◌, Bool, not, ◌&&◌, List, [], ◌∷◌, ◌++◌, length, map, flat_map, IsTrue, IsFalse, inl, inr, refl, sym, subst, arith, append_assoc, append-nil, length-append, list_any, both_ways, and_parts, and_from, not-true, not_from_false, IsIn, below, all_below, Sys, Pair, IsSys, IsPair, pairs, is_allowed, arena, Entry, is_listed, is_justified, is_beaten, IsOrder, AreEntries, IsComplete, Reason, Final, Act}
 use Rattle.roman_model.proofs.Lists.{by_test, any_true, any_false, in_map, from_map, in_flat_map, from_flat_map, in_below, from_push}
 use Rattle.roman_model.proofs.SystemLemmas.{in_pairs, from_pairs, allowed_in_range}
 use Rattle.roman_model.proofs.OrderLemmas.{order_push, order_fits}

@@ -1,6 +1,5 @@
 -- The depths of a system's pairs, and the opponent's game by depth.
-use Rattle.std.proofs.Common.{◌≡◌, ℕ, zero, suc, ◌<◌, ◌≤◌, not, if◌then◌else◌, List, [], ◌∷◌, length, Option, Some, None, IsTrue, IsFalse, find, inl, inr, refl, sym, ap, ◌∙◌, subst, arith, rules}
-use Rattle.roman_model.proofs.Common.{list_any, both_ways, or_cases, not_from_false, cond-true, cond-false, cases_order, IsIn, below, is_empty, Sys, Pair, IsSys, IsPair, pairs, outcomes, arena, is_justified, loses, depth, Great, has_ready, went_on, WinsWithin, AreSeats, Act}
+use Rattle.roman_model.proofs.Common.{◌≡◌, ℕ, zero, suc, ◌<◌, ◌≤◌, not, if◌then◌else◌, List, [], ◌∷◌, length, Option, Some, None, IsTrue, IsFalse, find, inl, inr, refl, sym, ap, ◌∙◌, subst, arith, rules, list_any, both_ways, or_cases, not_from_false, cond-true, cond-false, cases_order, IsIn, below, is_empty, Sys, Pair, IsSys, IsPair, pairs, outcomes, arena, is_justified, loses, depth, Great, has_ready, went_on, WinsWithin, AreSeats, Act}
 use Rattle.roman_model.specs.Play.{refuting, request_at, depth_play_at, depth_play, DepthWins, DepthIsLeast}
 use Rattle.roman_model.proofs.Lists.{by_test, any_from, find_some, find_found}
 use Rattle.roman_model.proofs.SystemLemmas.{in_pairs, outcome_pair}

@@ -1,6 +1,5 @@
 -- The lines of a text whose first lines are known.
-use Rattle.std.proofs.Common.{◌≡◌, ◌≢◌, ℕ, ◌==◌, List, [], ◌∷◌, ◌++◌, refl, sym, ap, ◌∙◌, inl, inr, append_assoc, append-nil, arith}
-use Rattle.roman_model.proofs.Common.{or_parts, cond-false, lines, ended_lines, text_of_lines, IsLine, AreLines, has}
+use Rattle.roman_model.proofs.Common.{◌≡◌, ◌≢◌, ℕ, ◌==◌, List, [], ◌∷◌, ◌++◌, refl, sym, ap, ◌∙◌, inl, inr, append_assoc, append-nil, arith, or_parts, cond-false, lines, ended_lines, text_of_lines, IsLine, AreLines, has}
 use Rattle.roman_model.specs.Lines.{onto_first_line, onto_ended_line}
 
 pub lines-line : (line rest : List ℕ) → IsLine line → lines (line ++ 10 ∷ rest) ≡ line ∷ lines rest

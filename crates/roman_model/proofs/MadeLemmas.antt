@@ -1,6 +1,5 @@
 -- Records built from tests: their steps are exactly those that pass, their numbers are in range, and equal tests build equal records.
-use Rattle.std.proofs.Common.{◌≡◌, ℕ, ◌<◌, ◌≤◌, ◌==◌, Bool, ◌&&◌, IsTrue, List, [], ◌∷◌, map, filter, sym, ap, ap₂, ◌∙◌, subst, inl, inr, refl, arith}
-use Rattle.roman_model.proofs.Common.{eq-eqb, eqb-true, and_parts, and_from, IsIn, below, Env, has, has_triple, has_move, IsEnv, IsBeh, is_final, MAX_ACTIONS}
+use Rattle.roman_model.proofs.Common.{◌≡◌, ℕ, ◌<◌, ◌≤◌, ◌==◌, Bool, ◌&&◌, IsTrue, List, [], ◌∷◌, map, filter, sym, ap, ap₂, ◌∙◌, subst, inl, inr, refl, arith, eq-eqb, eqb-true, and_parts, and_from, IsIn, below, Env, has, has_triple, has_move, IsEnv, IsBeh, is_final, MAX_ACTIONS}
 use Rattle.roman_model.specs.System.{Triple, Move}
 use Rattle.roman_model.specs.declared.limits.TheConstants.{MAX_STATES}
 use Rattle.roman_model.specs.Made.{env_from, guarded_step, beh_from}

@@ -1,6 +1,6 @@
 -- Numbers of lists of states and of pairs: bounds, and the change of a number where a state changes, comes or goes.
-use Rattle.std.proofs.Common.{◌≡◌, ℕ, zero, suc, ◌+◌, ◌*◌, ◌/◌, ◌%◌, ◌<◌, List, [], ◌∷◌, ◌++◌, map, length, take, drop, slice_index, slice_set, remove, refl, sym, ap, ◌∙◌, arith, add-one, div-add-mod', rules}
-use Rattle.roman_model.proofs.Common.{AllZip, mul-add-lt, product_of, Seat, Sys, Pair, IsPair, Sizes, sizes_of, AreBelow, grown_sizes, sizes_without, count, states_number, states_at, number, pair_at, grown, without, number_without}
+use Rattle.roman_model.proofs.Common.{◌≡◌, ℕ, zero, suc, ◌+◌, ◌*◌, ◌%◌, ◌<◌, List, [], ◌∷◌, ◌++◌, map, length, take, drop, slice_index, slice_set, remove, refl, sym, ap, ◌∙◌, arith, add-one, rules, AllZip, mul-add-lt, product_of, Seat, Sys, Pair, IsPair, Sizes, sizes_of, AreBelow, grown_sizes, sizes_without, count, states_number, states_at, number, pair_at, grown, without, number_without}
+use Rattle.std.proofs.Common.{◌/◌, div-add-mod'}
 use Rattle.std.proofs.lemmas.Nat.{div-mul-add, mod-mul-add, div_below, mod_below}
 use Rattle.roman_model.specs.Numbers.{IsPairOf, NumbersArePairs}
 

@@ -1,6 +1,5 @@
 -- Changes over the numbers of pairs: renaming and replay agree with those over pairs.
-use Rattle.std.proofs.Common.{◌≡◌, ℕ, zero, suc, ◌+◌, ◌*◌, ◌<◌, ◌==◌, Bool, true, false, List, [], ◌∷◌, ◌++◌, map, length, take, drop, filter, flat_map, Some, if◌then◌else◌, slice_get, slice_index, remove, refl, sym, ap, ap₂, ◌∙◌, subst, inl, inr, arith}
-use Rattle.roman_model.proofs.Common.{list_any, eqb-true, eq-eqb, cond-true, cond-false, map-append, length-map, flat_map-map, mul-add-lt, none-some, same_Some, slice_get_within, IsIn, below, Seat, Sys, Pair, IsSys, is_allowed, same_pair, arena, Entry, IsOrder, replay, Freeze, Thaw, Join, Die, grown, without, may_go, firsts, entry_without, rename, Sizes, sizes_of, grown_sizes, sizes_without, count, number, pair_at, numbered, entry_at, number_without}
+use Rattle.roman_model.proofs.Common.{◌≡◌, ℕ, zero, suc, ◌+◌, ◌*◌, ◌<◌, ◌==◌, Bool, true, false, List, [], ◌∷◌, ◌++◌, map, length, take, drop, filter, flat_map, Some, if◌then◌else◌, slice_get, slice_index, remove, refl, sym, ap, ap₂, ◌∙◌, subst, inl, inr, arith, list_any, eqb-true, eq-eqb, cond-true, cond-false, map-append, length-map, flat_map-map, mul-add-lt, none-some, same_Some, slice_get_within, IsIn, below, Seat, Sys, Pair, IsSys, is_allowed, same_pair, arena, Entry, IsOrder, replay, Freeze, Thaw, Join, Die, grown, without, may_go, firsts, entry_without, rename, Sizes, sizes_of, grown_sizes, sizes_without, count, number, pair_at, numbered, entry_at, number_without}
 use Rattle.roman_model.specs.Change.{after}
 use Rattle.std.proofs.lemmas.List.{take-map, drop-map}
 use Rattle.roman_model.specs.Change.{Change, grown_entries, CanChange, KeepsAll, RenamedReplays}

@@ -1,6 +1,5 @@
 -- Removal lists over the numbers of pairs: the laws of their arena, complete lists, and counts of pairs.
-use Rattle.std.proofs.Common.{◌≡◌, ℕ, ◌+◌, ◌<◌, ◌≤◌, not, List, [], map, length, IsTrue, IsFalse, filter, sum_by, refl, sym, ap, ◌∙◌, subst, arith, rules}
-use Rattle.roman_model.proofs.Common.{both_ways, eqb-true, eq-eqb, not-false, length-map, IsIn, HasNoRepeats, below, Sys, Pair, IsSys, IsPair, pairs, outcomes, arena, Entry, is_listed, is_justified, mask, IsOrder, loses, IsComplete, sizes_of, count, number, pair_at, numbered, entry_at, IsCompleteList, is_related, offers, Reason, Final, Act}
+use Rattle.roman_model.proofs.Common.{◌≡◌, ℕ, ◌+◌, ◌<◌, ◌≤◌, not, List, [], map, length, IsTrue, IsFalse, filter, sum_by, refl, sym, ap, ◌∙◌, subst, arith, rules, both_ways, eqb-true, eq-eqb, not-false, length-map, IsIn, HasNoRepeats, below, Sys, Pair, IsSys, IsPair, pairs, outcomes, arena, Entry, is_listed, is_justified, mask, IsOrder, loses, IsComplete, sizes_of, count, number, pair_at, numbered, entry_at, IsCompleteList, is_related, offers, Reason, Final, Act}
 use Rattle.roman_model.specs.Offers.{choice_count}
 use Rattle.std.proofs.lemmas.List.Filters.{length-filter_both}
 use Rattle.roman_model.specs.Arena.{choices}

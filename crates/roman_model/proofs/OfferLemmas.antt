@@ -1,6 +1,5 @@
 -- The offers, and the pairs to which they lead.
-use Rattle.std.proofs.Common.{◌≡◌, ◌≢◌, ℕ, ◌<◌, not, List, [], length, IsTrue, rules}
-use Rattle.roman_model.proofs.Common.{not-false, not_from_true, IsIn, Sys, Pair, IsSys, IsPair, outcomes, is_allowed, arena, Entry, is_listed, mask, GreatCouple, Great, IsComplete, is_related, offers}
+use Rattle.roman_model.proofs.Common.{◌≡◌, ◌≢◌, ℕ, ◌<◌, not, List, [], length, IsTrue, rules, not-false, not_from_true, IsIn, Sys, Pair, IsSys, IsPair, outcomes, is_allowed, arena, Entry, is_listed, mask, GreatCouple, Great, IsComplete, is_related, offers}
 use Rattle.roman_model.specs.Offers.{OffersAreGenerator}
 use Rattle.roman_model.proofs.Lists.{in_not_empty, not_empty_ne}
 use Rattle.roman_model.proofs.SystemLemmas.{outcome_pair}

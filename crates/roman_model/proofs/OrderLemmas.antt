@@ -1,6 +1,5 @@
 -- Removal lists and replays over any arena.
-use Rattle.std.proofs.Common.{◌≡◌, ◌≤◌, Bool, true, false, cond, ◌||◌, List, [], ◌∷◌, ◌++◌, map, length, IsTrue, IsFalse, inl, inr, refl, sym, ap, ap₂, ◌∙◌, subst, arith}
-use Rattle.roman_model.proofs.Common.{false≢true, both_ways, or_cases, or_parts, or_left, or_right, or_from, cond-true, cond-false, length-map, IsIn, IsSublist, HasNoRepeats, Arena, Entry, is_among, is_listed, is_justified, IsOrderFrom, IsOrder, AreNew, replay_from, replay}
+use Rattle.roman_model.proofs.Common.{◌≡◌, ◌≤◌, Bool, true, false, cond, ◌||◌, List, [], ◌∷◌, ◌++◌, map, length, IsTrue, IsFalse, inl, inr, refl, sym, ap, ap₂, ◌∙◌, subst, arith, false≢true, both_ways, or_cases, or_parts, or_left, or_right, or_from, cond-true, cond-false, length-map, IsIn, IsSublist, HasNoRepeats, Arena, Entry, is_among, is_listed, is_justified, IsOrderFrom, IsOrder, AreNew, replay_from, replay}
 use Rattle.roman_model.proofs.Lists.{by_test, from_map, sublist_skip, no_longer}
 use Rattle.roman_model.proofs.ArenaLemmas.{IsSame, Survives, same_from, listed_in, justified_more, justified_same, unjustified}
 

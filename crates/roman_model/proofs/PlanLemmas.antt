@@ -1,6 +1,5 @@
 -- The plan of the choices costs least of all plans at a related pair.
-use Rattle.std.proofs.Common.{◌≡◌, ◌≢◌, ℕ, zero, suc, ◌+◌, ◌-◌, ◌<◌, ◌≤◌, Bool, true, false, cond, ◌⊎◌, List, [], ◌∷◌, ◌++◌, IsTrue, filter, nat_le, inl, inr, refl, sym, ap, ap₂, ◌∙◌, subst, arith, rules}
-use Rattle.roman_model.proofs.Common.{max, cond-true, cond-false, IsIn, below, Sys, Pair, IsSys, IsPair, outcomes, is_allowed, Great, offers, Costs, max_over, allowed_actions, least_from, through, least, choice}
+use Rattle.roman_model.proofs.Common.{◌≡◌, ◌≢◌, ℕ, zero, suc, ◌+◌, ◌-◌, ◌<◌, ◌≤◌, Bool, true, false, cond, ◌⊎◌, List, [], ◌∷◌, ◌++◌, IsTrue, filter, nat_le, inl, inr, refl, sym, ap, ap₂, ◌∙◌, subst, arith, rules, max, cond-true, cond-false, IsIn, below, Sys, Pair, IsSys, IsPair, outcomes, is_allowed, Great, offers, Costs, max_over, allowed_actions, least_from, through, least, choice}
 use Rattle.std.proofs.Math.Nat.{le-max_left, le-max_right, max-le}
 use Rattle.std.proofs.lemmas.Bool.{leb-true, leb-false}
 use Rattle.roman_model.specs.Plans.{Plan, Leaf, Node, IsPlan, worst, first_least, chosen, IsChoice, PlansCostLeast}

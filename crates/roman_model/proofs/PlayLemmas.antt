@@ -1,6 +1,5 @@
 -- The opponent's game, by a removal list and by depth.
-use Rattle.std.proofs.Common.{◌≡◌, ℕ, zero, suc, ◌<◌, ◌≤◌, not, if◌then◌else◌, List, [], ◌∷◌, ◌++◌, length, Option, Some, None, IsTrue, IsFalse, inl, inr, sym, ap, ap₂, ◌∙◌, subst, arith}
-use Rattle.roman_model.proofs.Common.{list_any, both_ways, or_parts, not_from_false, cond-true, cond-false, is_empty, Sys, Pair, outcomes, arena, Entry, is_listed, is_justified, IsOrder, entries_before, answer, has_ready, went_on, WinsWithin, AreSeats, Reason, Final, Act}
+use Rattle.roman_model.proofs.Common.{◌≡◌, ℕ, zero, suc, ◌<◌, ◌≤◌, not, if◌then◌else◌, List, [], ◌∷◌, ◌++◌, length, Option, Some, None, IsTrue, IsFalse, inl, inr, sym, ap, ap₂, ◌∙◌, subst, arith, list_any, both_ways, or_parts, not_from_false, cond-true, cond-false, is_empty, Sys, Pair, outcomes, arena, Entry, is_listed, is_justified, IsOrder, entries_before, answer, has_ready, went_on, WinsWithin, AreSeats, Reason, Final, Act}
 use Rattle.std.specs.Option.{option_map}
 use Rattle.roman_model.specs.Play.{reason_of, play_at, play, OrderWins}
 use Rattle.roman_model.proofs.Lists.{by_test, find_some, find_found, any_from, split_at}

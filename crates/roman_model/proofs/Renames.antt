@@ -1,6 +1,5 @@
 -- Removal lists, masks and depths carry over between arenas whose nodes correspond by a renaming.
-use Rattle.std.proofs.Common.{◌≡◌, ℕ, zero, suc, Bool, true, false, not, ◌&&◌, ◌||◌, List, [], ◌∷◌, map, if◌then◌else◌, filter, refl, sym, ap, ap₂, ◌∙◌, subst, inl, inr}
-use Rattle.roman_model.proofs.Common.{list_any, IsIn, below, all_below, is_empty, Arena, Entry, is_among, is_listed, is_beaten, is_justified, mask, IsOrderFrom, IsOrder, replay_from, replay, loses, Reason, Final, Act}
+use Rattle.roman_model.proofs.Common.{◌≡◌, ℕ, zero, suc, Bool, true, false, not, ◌&&◌, ◌||◌, List, [], ◌∷◌, map, if◌then◌else◌, filter, refl, sym, ap, ap₂, ◌∙◌, subst, inl, inr, list_any, IsIn, below, all_below, is_empty, Arena, Entry, is_among, is_listed, is_beaten, is_justified, mask, IsOrderFrom, IsOrder, replay_from, replay, loses, Reason, Final, Act}
 use Rattle.roman_model.proofs.Lists.{any_same, list_any-map, is_empty-map, all_below_same, filter_same}
 
 -- f maps nodes of A to nodes of B, and the arenas agree on each of these nodes and its image

@@ -1,6 +1,5 @@
 -- The verdict on a text whose first lines have been read.
-use Rattle.std.proofs.Common.{◌≡◌, ℕ, zero, suc, ◌+◌, ◌-◌, ◌<◌, ◌≤◌, List, [], ◌∷◌, ◌++◌, length, take, Option, Some, None, IsTrue, IsFalse, slice_get, slice_index_or, ap, ◌∙◌, inl, inr, arith, append_assoc, length-append}
-use Rattle.roman_model.proofs.Common.{list_any, cond-true, cond-false, cases_lt, lines, ended_lines, text_of_lines, AreLines, same_numbers, Arena, end_line, Why, Verdict, Rejected, TooLong, entries_on, unless_over, body_fault, line_fault, faults, unlisted, cert_verdict, IsClean, MAX_CERTIFICATE_BYTES}
+use Rattle.roman_model.proofs.Common.{◌≡◌, ℕ, zero, suc, ◌+◌, ◌-◌, ◌<◌, ◌≤◌, List, [], ◌∷◌, ◌++◌, length, take, Option, Some, None, IsTrue, IsFalse, slice_get, slice_index_or, ap, ◌∙◌, inl, inr, arith, append_assoc, length-append, list_any, cond-true, cond-false, cases_lt, lines, ended_lines, text_of_lines, AreLines, same_numbers, Arena, end_line, Why, Verdict, Rejected, TooLong, entries_on, unless_over, body_fault, line_fault, faults, unlisted, cert_verdict, IsClean, MAX_CERTIFICATE_BYTES}
 use Rattle.roman_model.proofs.LineLemmas.{lines-text, ended_lines-text}
 use Rattle.roman_model.proofs.CertificateLemmas.{faults_none, faults_first, clean_front, fault_next, fault_over}
 use Rattle.roman_model.proofs.CertificateLaws.{judged_short, judged_long}

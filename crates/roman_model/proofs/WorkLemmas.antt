@@ -1,6 +1,6 @@
 -- Lemmas for working through a removal list: entries by their place, the delegations that lead to a node, and sums.
-use Rattle.std.proofs.Common.{◌≡◌, ℕ, ◌+◌, ◌<◌, ◌≤◌, ◌&&◌, ◌||◌, List, [], ◌∷◌, ◌++◌, length, get_or, take, drop, IsTrue, IsFalse, sum_by, count_by, sym, ap, ◌∙◌, subst, take-append-drop, arith}
-use Rattle.roman_model.proofs.Common.{length-map, sum_by-append, IsIn, HasNoRepeats, below, Arena, Entry, is_among, is_listed, is_justified, IsOrderFrom, IsOrder, back}
+use Rattle.roman_model.proofs.Common.{◌≡◌, ℕ, ◌+◌, ◌<◌, ◌≤◌, ◌&&◌, ◌||◌, List, [], ◌∷◌, ◌++◌, length, get_or, take, drop, IsTrue, IsFalse, sum_by, sym, ap, ◌∙◌, subst, arith, length-map, sum_by-append, IsIn, HasNoRepeats, below, Arena, Entry, is_among, is_listed, is_justified, IsOrderFrom, IsOrder, back}
+use Rattle.std.proofs.Common.{count_by, take-append-drop}
 use Rattle.std.proofs.lemmas.List.{drop_more}
 use Rattle.std.proofs.lemmas.List.Sums.{sum_by_push, length-filter}
 use Rattle.std.proofs.lemmas.List.Concat.{length-flat_map}

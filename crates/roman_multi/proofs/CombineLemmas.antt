@@ -1,6 +1,5 @@
 -- The rule that forbids the targets to be combined.
-use Rattle.std.proofs.Common.{◌≡◌, ℕ, ◌<◌, ◌≤◌, List, [], ◌∷◌, map, length, Some, None, Err, IsTrue, IsFalse, refl, ap, ap₂, ◌∙◌, arith}
-use Rattle.roman_multi.proofs.Common.{ltb-false, length-map, below, product_of, target_sizes, combined_env, combined_target, count, MAX_STATES, MAX_ACTIONS, Request, length-below, NamedEnv, NamedBeh, machines, requests_in, has_many_states, has_bad_count, has_long_name, has_one_name, forbidding, combined_behaviour, flat, Named}
+use Rattle.roman_multi.proofs.Common.{◌≡◌, ℕ, ◌<◌, ◌≤◌, List, [], ◌∷◌, map, length, Some, None, Err, IsTrue, IsFalse, refl, ap, ap₂, ◌∙◌, arith, ltb-false, length-map, below, product_of, target_sizes, combined_env, combined_target, count, MAX_STATES, MAX_ACTIONS, Request, length-below, NamedEnv, NamedBeh, machines, requests_in, has_many_states, has_bad_count, has_long_name, has_one_name, forbidding, combined_behaviour, flat, Named}
 use Rattle.std.proofs.lemmas.Bool.{lt-ltb, le-ltb, true≢false}
 use Rattle.roman_parts.specs.Named.{NamedTarget}
 use Rattle.roman_multi.specs.Combining.{PlainCombined, combined_state_names, request_names, KeepsRules, combined_parts}

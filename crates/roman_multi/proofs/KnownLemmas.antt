@@ -1,6 +1,5 @@
 -- Known targets: their machines are in range and deterministic, and their sizes are those of a shape.
-use Rattle.std.proofs.Common.{◌≡◌, ℕ, zero, suc, ◌+◌, ◌<◌, ◌≤◌, List, [], ◌∷◌, ◌++◌, map, length, take, get_or, All, Some, slice_get, slice_index, inl, inr, refl, sym, ap, ◌∙◌, subst, arith}
-use Rattle.roman_multi.proofs.Common.{AllZip, take_more, length-map, slice_get-get_or, IsIn, product_of, Env, Beh, IsEnv, IsBeh, IsDeterministic, Several, target_sizes, IsSeveral, MAX_STATES, MAX_ACTIONS, from_map, NamedEnv, IsTarget, IsOver-states, machines, requests_in, Named}
+use Rattle.roman_multi.proofs.Common.{◌≡◌, ℕ, zero, suc, ◌+◌, ◌<◌, ◌≤◌, List, [], ◌∷◌, ◌++◌, map, length, take, get_or, All, Some, slice_get, slice_index, inl, inr, refl, sym, ap, ◌∙◌, subst, arith, AllZip, take_more, length-map, slice_get-get_or, IsIn, product_of, Env, Beh, IsEnv, IsBeh, IsDeterministic, Several, target_sizes, IsSeveral, MAX_STATES, MAX_ACTIONS, from_map, NamedEnv, IsTarget, IsOver-states, machines, requests_in, Named}
 use Rattle.std.proofs.lemmas.List.{map-append}
 use Rattle.std.proofs.lemmas.List.Elements.{All-push}
 use Rattle.std.proofs.lemmas.Option.{slice_get-map}

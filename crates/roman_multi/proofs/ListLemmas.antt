@@ -1,6 +1,6 @@
 -- Lists that loops build over the numbers below a bound.
-use Rattle.std.proofs.Common.{◌≡◌, ℕ, suc, ◌<◌, ◌+◌, Bool, false, not, List, [], ◌∷◌, ◌++◌, length, Option, None, Some, IsTrue, IsFalse, is_some, MatchOption, flat_map, slice_get, get_or, refl, sym, ap, ap₂, ◌∙◌, add-one, append_assoc}
-use Rattle.roman_multi.proofs.Common.{list_any, slice_get-get_or, below, is_empty, any_from, in_below}
+use Rattle.roman_multi.proofs.Common.{◌≡◌, ℕ, suc, ◌<◌, ◌+◌, Bool, false, not, List, [], ◌∷◌, ◌++◌, length, Option, None, Some, IsTrue, IsFalse, is_some, flat_map, slice_get, get_or, refl, sym, ap, ap₂, ◌∙◌, add-one, append_assoc, list_any, slice_get-get_or, below, is_empty, any_from, in_below}
+use Rattle.std.proofs.Common.{MatchOption}
 use Rattle.std.proofs.lemmas.Bool.{or_from}
 use Rattle.std.proofs.lemmas.List.Folds.{list_any-append}
 use Rattle.roman_model.proofs.CallerLemmas.{flat_map_row}

@@ -1,6 +1,6 @@
 -- The behaviour built from the lists is the combined behaviour.
-use Rattle.std.proofs.Common.{◌≡◌, ℕ, ◌<◌, List, length, filter, slice_get, Result, Ok, Err, IfOk, All, sym, ap₂, ◌∙◌, arith}
-use Rattle.roman_multi.proofs.Common.{below, IsEnv, is_final, normal_beh, combined_beh, Request, listed_beh, AreMoves, NamedEnv, NamedBeh, IsOver, combined_behaviour, listed_moves, moves_on}
+use Rattle.roman_multi.proofs.Common.{◌≡◌, ℕ, ◌<◌, List, length, filter, slice_get, Err, All, sym, ap₂, ◌∙◌, arith, below, IsEnv, is_final, normal_beh, combined_beh, Request, listed_beh, AreMoves, NamedEnv, NamedBeh, IsOver, combined_behaviour, listed_moves, moves_on}
+use Rattle.std.proofs.Common.{Result, Ok, IfOk}
 use Rattle.roman_multi.specs.Combining.{IsBehaviourOf}
 use Rattle.roman_multi.proofs.MoveLemmas.{combined_beh_is, moves_in_range, moves_on_below, passing_below}
 

@@ -1,6 +1,6 @@
 -- Lists of words, and the tables of words that are names.
-use Rattle.std.proofs.Common.{◌≡◌, ℕ, ◌+◌, ◌<◌, List, [], ◌∷◌, ◌++◌, map, length, take, get_or, All, Option, Some, None, IsSome, IsTrue, IsFalse, is_some, refl, sym, ap, ap₂, ◌∙◌, subst, arith}
-use Rattle.roman_multi.proofs.Common.{list_any, take_more, length-map, below, none-some, same_Some, is_name, is_long, stands_before, is_word}
+use Rattle.roman_multi.proofs.Common.{◌≡◌, ℕ, ◌+◌, ◌<◌, List, [], ◌∷◌, ◌++◌, map, length, take, get_or, All, Option, Some, None, IsTrue, IsFalse, is_some, refl, sym, ap, ap₂, ◌∙◌, subst, arith, list_any, take_more, length-map, below, none-some, same_Some, is_name, is_long, stands_before, is_word}
+use Rattle.std.proofs.Common.{IsSome}
 use Rattle.std.specs.Option.{SomeIff}
 use Rattle.std.proofs.lemmas.List.{get_or-map}
 use Rattle.roman_model.proofs.CallerLemmas.{any_false}

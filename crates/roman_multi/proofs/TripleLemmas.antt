@@ -1,6 +1,5 @@
 -- The triples that the loops list are the triples of the combined environment.
-use Rattle.std.proofs.Common.{◌≡◌, ℕ, zero, suc, ◌<◌, ◌==◌, ◌&&◌, List, [], ◌∷◌, map, length, get_or, Option, Some, None, IsTrue, slice_get, inl, inr, refl, sym, ap, ap₂, ◌∙◌, subst, arith}
-use Rattle.roman_multi.proofs.Common.{false≢true, and_parts, and_from, IsIn, Env, IsEnv, combined_env, Request, next_on, same_test, any_true, any_from, in_map, from_map, in_flat_map, from_flat_map, in_below, from_below}
+use Rattle.roman_multi.proofs.Common.{◌≡◌, ℕ, zero, suc, ◌<◌, ◌==◌, ◌&&◌, List, [], ◌∷◌, map, length, get_or, Option, Some, None, IsTrue, slice_get, inl, inr, refl, sym, ap, ap₂, ◌∙◌, subst, arith, false≢true, and_parts, and_from, IsIn, Env, IsEnv, combined_env, Request, next_on, same_test, any_true, any_from, in_map, from_map, in_flat_map, from_flat_map, in_below, from_below}
 use Rattle.std.proofs.lemmas.Bool.{eq-eqb, eqb-true}
 use Rattle.roman_model.specs.System.{Triple, has_triple}
 use Rattle.roman_model.specs.Normal.{normal_env}

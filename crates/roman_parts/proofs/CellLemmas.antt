@@ -1,6 +1,6 @@
 -- The cells of a table after one more step.
-use Rattle.std.proofs.Common.{◌≡◌, ℕ, ◌+◌, ◌*◌, ◌%◌, ◌^◌, ◌<◌, ◌==◌, ◌&&◌, ◌||◌, Bool, true, false, nat_lt, List, [], length, get_or, set, take, replicate, refl, sym, ap, ap₂, ◌∙◌, subst, inl, inr, arith}
-use Rattle.roman_parts.proofs.Common.{w64, true≢false, cases_eq, cases_lt, cases_order, eq-eqb, ne_eqb, eqb-true, and_parts, and_from, list_any_more, bit_at-zero, same_test, has_state, cell_has, is_triple, leads, leads_back, HasCells, is_move, goes, goes_back, HasGuardedCells}
+use Rattle.roman_parts.proofs.Common.{◌≡◌, ℕ, ◌+◌, ◌*◌, ◌%◌, ◌^◌, ◌<◌, ◌==◌, ◌&&◌, ◌||◌, Bool, true, false, List, [], length, get_or, take, replicate, refl, sym, ap, ap₂, ◌∙◌, subst, inl, inr, arith, w64, true≢false, cases_eq, cases_lt, cases_order, eq-eqb, ne_eqb, eqb-true, and_parts, and_from, list_any_more, bit_at-zero, same_test, has_state, cell_has, is_triple, leads, leads_back, HasCells, is_move, goes, goes_back, HasGuardedCells}
+use Rattle.std.proofs.Common.{nat_lt, set}
 use Rattle.std.specs.Int.{bit_at}
 use Rattle.std.specs.Int.RustNames.{bit_or}
 use Rattle.std.specs.List.{list_any}

@@ -1,7 +1,7 @@
 -- Choices between steps, searched pair by pair.
-use Rattle.std.proofs.Common.{◌≡◌, ℕ, zero, suc, ◌+◌, ◌<◌, ◌≤◌, ◌==◌, ◌&&◌, not, List, [], ◌∷◌, length, get_or, take, map, filter, find, cond, Bool, Option, Some, None, is_some, option_map, refl, ap, ◌∙◌, arith, slice_get, below_more}
+use Rattle.roman_parts.proofs.Common.{◌≡◌, ℕ, zero, suc, ◌+◌, ◌<◌, ◌≤◌, ◌==◌, ◌&&◌, not, List, [], ◌∷◌, length, get_or, take, map, filter, cond, Bool, Option, Some, None, is_some, option_map, refl, ap, ◌∙◌, arith, slice_get, and_from, cond-true, eq-eqb, ne_eqb, get_or-map, length-map, slice_get-get_or, below, has, from_below, has_state, states_of, states_below, move_of, first_below, choice_between, choice_at}
+use Rattle.std.proofs.Common.{find, below_more}
 use Rattle.std.specs.List.{range_with_len}
-use Rattle.roman_parts.proofs.Common.{and_from, cond-true, eq-eqb, ne_eqb, get_or-map, length-map, slice_get-get_or, below, has, from_below, has_state, states_of, states_below, move_of, first_below, choice_between, choice_at}
 use Rattle.std.proofs.lemmas.List.{get_or-take, length-take}
 use Rattle.roman_model.proofs.CallerLemmas.{find_first, find_not_found, none_from}
 use Rattle.roman_guard.specs.Meaning.{has_both, least_below}

@@ -1,4 +1,5 @@
 -- The names that several proof pages of this crate cite, passed on from one place. Declares nothing.
+pub use Rattle.std.proofs.Common.{All, Bool, IsTrue, List, None, Ok, Option, Some, [], add-one, ap, append_assoc, ap₂, arith, cond, false, filter, get_or, inl, inr, is_some, length, length-append, map, not, option_map, refl, replicate, slice_get, subst, suc, sym, take, true, zero, ℕ, ◌%◌, ◌&&◌, ◌*◌, ◌++◌, ◌+◌, ◌<◌, ◌==◌, ◌^◌, ◌||◌, ◌∙◌, ◌∷◌, ◌≡◌, ◌≤◌}
 pub use Rattle.std.proofs.lemmas.Bool.{and_from, and_parts, cases_eq, cases_lt, cases_order, cond-true, eq-eqb, eqb-true, ne_eqb, true≢false}
 pub use Rattle.std.proofs.lemmas.Grind.{common_steps}
 pub use Rattle.std.proofs.lemmas.List.{get_or-map, length-map, map_push, take_at}
@@ -6,7 +7,6 @@ pub use Rattle.std.proofs.lemmas.List.Folds.{list_any_more}
 pub use Rattle.std.proofs.lemmas.Nat.Bits.{bit_at-zero}
 pub use Rattle.std.proofs.lemmas.Option.{get_or_from_slice_get, same_Some, slice_get-get_or, slice_get_within}
 pub use Rattle.std.specs.Int.{w64}
-pub use Rattle.std.specs.List.{All}
 pub use Rattle.roman_guard.proofs.CallerLemmas.{states_below-suc, states_below-zero}
 pub use Rattle.roman_guard.specs.Meaning.{has_state, states_of}
 unfoldable pub use Rattle.roman_guard.specs.Meaning.{states_below}

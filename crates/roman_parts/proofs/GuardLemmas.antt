@@ -1,6 +1,6 @@
 -- The meaning of a guard, by the form of its value.
-use Rattle.std.proofs.Common.{◌≡◌, ℕ, zero, suc, ◌+◌, ◌<◌, ◌≤◌, List, [], ◌∷◌, ◌++◌, length, get_or, drop, map, Bool, Some, None, Result, Ok, Err, refl, sym, ap, ◌∙◌, arith, add-one, drop-cons, append_assoc, slice_get, string_bytes}
-use Rattle.roman_parts.proofs.Common.{map_push, Data, Items, depth, as_object, view, items_view, Value}
+use Rattle.roman_parts.proofs.Common.{◌≡◌, ℕ, zero, suc, ◌+◌, ◌<◌, ◌≤◌, List, [], ◌∷◌, ◌++◌, length, get_or, map, Bool, Some, None, Ok, refl, sym, ap, ◌∙◌, arith, add-one, append_assoc, slice_get, map_push, Data, Items, depth, as_object, view, items_view, Value}
+use Rattle.std.proofs.Common.{drop, Result, Err, drop-cons, string_bytes}
 use Rattle.std.proofs.lemmas.List.{drop_all, append-nil}
 use Rattle.serde_json.specs.Data.{null, boolean, number, string, array, object, no_members, member, items_depth}
 use Rattle.serde_json.specs.Find.{as_bool, as_array}

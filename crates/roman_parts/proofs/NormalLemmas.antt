@@ -1,6 +1,6 @@
 -- The normal form has the same steps, and its numbers are in range.
-use Rattle.std.proofs.Common.{◌≡◌, ℕ, ◌<◌, ◌≤◌, IsTrue, List, [], ◌∷◌, refl, subst, inl, inr, MatchOption, slice_get, rules}
-use Rattle.roman_parts.proofs.Common.{IsIn, below, Env, Beh, has_triple, has_move, IsEnv, IsDeterministic, env_next, env_prev, beh_next, beh_prev, MAX_STATES, MAX_ACTIONS, normal_env, normal_beh, same_test, filter_in, from_below, filter_same}
+use Rattle.roman_parts.proofs.Common.{◌≡◌, ℕ, ◌<◌, ◌≤◌, IsTrue, List, [], ◌∷◌, refl, subst, inl, inr, slice_get, IsIn, below, Env, Beh, has_triple, has_move, IsEnv, IsDeterministic, env_next, env_prev, beh_next, beh_prev, MAX_STATES, MAX_ACTIONS, normal_env, normal_beh, same_test, filter_in, from_below, filter_same}
+use Rattle.std.proofs.Common.{MatchOption, rules}
 use Rattle.roman_model.specs.Lists.{HasNoRepeats}
 use Rattle.roman_model.specs.System.{IsBeh, is_final}
 use Rattle.roman_parts.specs.Named.{IsOver}

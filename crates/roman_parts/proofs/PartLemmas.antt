@@ -1,8 +1,8 @@
 -- The value of a document that is read as a part is well formed.
-use Rattle.std.proofs.Common.{◌≡◌, ℕ, ◌+◌, ◌<◌, ◌≤◌, ◌&&◌, Bool, true, false, List, [], ◌∷◌, ◌++◌, length, Option, Some, None, is_some, is_none, nat_le, codes, Ok, IsTrue, refl, sym, ap, ◌∙◌, subst, arith, leb-true, length-append}
+use Rattle.roman_parts.proofs.Common.{◌≡◌, ℕ, ◌+◌, ◌<◌, ◌≤◌, ◌&&◌, Bool, true, false, List, [], ◌∷◌, ◌++◌, length, Option, Some, None, is_some, Ok, IsTrue, refl, sym, ap, ◌∙◌, subst, arith, length-append, and_parts, Data, Items, as_object, IsIn, normal_env, Beh, Move, IsEnv, MAX_STATES, MAX_ACTIONS, each_item, any_from, choice_of, single_of, name_step, place_in, NamedEnv}
+use Rattle.std.proofs.Common.{is_none, nat_le, codes, leb-true}
 use Rattle.std.specs.List.{position_or_len}
 use Rattle.std.specs.Str.{bytes_eq}
-use Rattle.roman_parts.proofs.Common.{and_parts, Data, Items, as_object, IsIn, normal_env, Beh, Move, IsEnv, MAX_STATES, MAX_ACTIONS, each_item, any_from, choice_of, single_of, name_step, place_in, NamedEnv}
 use Rattle.std.proofs.lemmas.List.Quantifiers.{position-Some}
 use Rattle.std.proofs.lemmas.Slice.Eq.{bytes_eq-Decides}
 use Rattle.serde_json.specs.Data.{no_items, item}

@@ -1,6 +1,6 @@
 -- The states of a word, one by one.
-use Rattle.std.proofs.Common.{◌≡◌, ◌≢◌, ℕ, zero, suc, ◌*◌, ◌%◌, ◌^◌, ◌<◌, ◌≤◌, ◌==◌, Bool, true, false, cond, [], ◌∷◌, ◌++◌, length, sym, ap, ap₂, ◌∙◌, subst, inl, inr, arith, length-append}
-use Rattle.roman_parts.proofs.Common.{w64, cases_order, cond-true, bit_at-zero, has_state, states_below, states_of, states_below-zero, states_below-suc}
+use Rattle.roman_parts.proofs.Common.{◌≡◌, ℕ, zero, suc, ◌*◌, ◌%◌, ◌^◌, ◌<◌, ◌≤◌, ◌==◌, Bool, true, false, cond, [], ◌∷◌, ◌++◌, length, sym, ap, ap₂, ◌∙◌, subst, inl, inr, arith, length-append, w64, cases_order, cond-true, bit_at-zero, has_state, states_below, states_of, states_below-zero, states_below-suc}
+use Rattle.std.proofs.Common.{◌≢◌}
 use Rattle.std.specs.Int.{bit_not, trailing_zeros}
 use Rattle.std.specs.Int.RustNames.{bit_and}
 use mir.Val.{bits}

@@ -1,6 +1,5 @@
 -- Lists of three and four items, and lists of steps that are read item by item.
-use Rattle.std.proofs.Common.{◌≡◌, List, [], ◌∷◌, length, get_or, Some, None, refl, arith}
-use Rattle.roman_parts.proofs.Common.{map_push, view, items_view, Value}
+use Rattle.roman_parts.proofs.Common.{◌≡◌, List, [], ◌∷◌, length, get_or, Some, None, refl, arith, map_push, view, items_view, Value}
 use Rattle.roman_read.proofs.CallerLemmas.{at_start, pushed_on, pushed_ends, is_done}
 use Rattle.roman_parts.specs.Steps.{three_of, four_of}
 

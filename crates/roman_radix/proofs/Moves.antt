@@ -1,6 +1,6 @@
 -- How a pair's number changes with its states.
-use Rattle.std.proofs.Common.{◌≡◌, ℕ, ◌+◌, ◌-◌, ◌*◌, ◌/◌, ◌%◌, ◌<◌, ◌≤◌, List, length, take, drop, slice_index, get_or, inl, inr, refl, sym, ap, ap₂, ◌∙◌, subst, arith}
-use Rattle.roman_radix.proofs.Common.{set, div-div-eq-div-mul, drop_more, drop_all, get_or-take, length-take-le, product_of, Pair, Sizes, IsPairOf, grown_sizes, sizes_without, count, states_number, number, pair_at, AreBelow-length, number_below, part_at, stride_of, env_stride_of, target_stride_of, with_part}
+use Rattle.roman_radix.proofs.Common.{◌≡◌, ℕ, ◌+◌, ◌-◌, ◌*◌, ◌/◌, ◌%◌, ◌<◌, ◌≤◌, List, length, take, drop, slice_index, get_or, refl, sym, ap, ap₂, ◌∙◌, subst, arith, set, div-div-eq-div-mul, drop_more, drop_all, get_or-take, length-take-le, product_of, Pair, Sizes, IsPairOf, grown_sizes, sizes_without, count, states_number, number, pair_at, AreBelow-length, number_below, part_at, stride_of, env_stride_of, target_stride_of, with_part}
+use Rattle.std.proofs.Common.{inl, inr}
 use Rattle.std.proofs.lemmas.Bool.{cases_eq}
 use Rattle.std.proofs.lemmas.List.{get_or-set_same, get_or-set_other, ext_get_or}
 use Rattle.roman_model.specs.Change.{grown, without}

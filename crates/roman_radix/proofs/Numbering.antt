@@ -1,6 +1,5 @@
 -- How a pair's number is computed from a shape's fields, and changed.
-use Rattle.std.proofs.Common.{◌≡◌, ℕ, ◌+◌, ◌-◌, ◌*◌, ◌%◌, ◌^◌, ◌<◌, ◌≤◌, length, drop, slice_index, get_or, ◌∙◌, arith}
-use Rattle.roman_radix.proofs.Common.{MAX_SERVICES, Pair, Sizes, IsPairOf, count, states_number, number, pair_at, AreBelow-length, number_below, with_part, sizes_in, IsLaidOut, Inside}
+use Rattle.roman_radix.proofs.Common.{◌≡◌, ℕ, ◌+◌, ◌-◌, ◌*◌, ◌%◌, ◌^◌, ◌<◌, ◌≤◌, length, drop, slice_index, get_or, ◌∙◌, arith, MAX_SERVICES, Pair, Sizes, IsPairOf, count, states_number, number, pair_at, AreBelow-length, number_below, with_part, sizes_in, IsLaidOut, Inside}
 use Rattle.roman_radix.proofs.Moves.{Replaced, replaced, Moved, moves_to, Shrunk, shrinks_to, states_more}
 use Rattle.roman_radix.proofs.Shown.{shown, stride_is, size_is}
 

@@ -1,6 +1,6 @@
 -- Rows and lanes.
-use Rattle.std.proofs.Common.{◌≡◌, ℕ, zero, suc, ◌+◌, ◌*◌, ◌/◌, ◌%◌, ◌<◌, ◌≤◌, cond, List, [], ◌∷◌, length, take, drop, slice_index, sym, ap, ◌∙◌, arith}
-use Rattle.roman_radix.proofs.Common.{div-div-eq-div-mul, get_or-take, length-take-le, product_of, Sizes, count, AreSizes, IsSizes, env_stride_of, stride_of, low_of, lanes_of, row_sizes}
+use Rattle.roman_radix.proofs.Common.{◌≡◌, ℕ, zero, suc, ◌+◌, ◌*◌, ◌/◌, ◌%◌, ◌<◌, ◌≤◌, List, [], ◌∷◌, length, take, drop, slice_index, sym, ap, ◌∙◌, arith, div-div-eq-div-mul, get_or-take, length-take-le, product_of, Sizes, count, AreSizes, IsSizes, env_stride_of, stride_of, low_of, lanes_of, row_sizes}
+use Rattle.std.proofs.Common.{cond}
 use Rattle.std.proofs.lemmas.Nat.{div-mul-add, div-add-mod', mul-le}
 use Rattle.std.proofs.lemmas.Bool.{cases_lt, lt-ltb, le-ltb}
 use Rattle.roman_radix.specs.Rows.{env_rows_of}

@@ -1,6 +1,5 @@
 -- A shape's fields in terms of the sizes that it holds.
-use Rattle.std.proofs.Common.{◌≡◌, ℕ, ◌+◌, ◌^◌, ◌<◌, length, get_or, slice_index, arith}
-use Rattle.roman_radix.proofs.Common.{Sizes, count, Inside, IsSizes, stride_of, env_stride_of, target_stride_of, padded, strides_of, low_of, lanes_of, sizes_in, IsLaidOut}
+use Rattle.roman_radix.proofs.Common.{◌≡◌, ℕ, ◌+◌, ◌^◌, ◌<◌, length, get_or, slice_index, arith, Sizes, count, Inside, IsSizes, stride_of, env_stride_of, target_stride_of, padded, strides_of, low_of, lanes_of, sizes_in, IsLaidOut}
 use Rattle.roman_radix.proofs.Strides.{product_positive, AreSizes-drop, AreSizes-index, stride_at, size_at}
 
 pub record Shows (a : Inside) (n : Sizes) : Type 0 where

@@ -1,6 +1,6 @@
 -- Products of sizes, and the table of strides.
-use Rattle.std.proofs.Common.{◌≡◌, ℕ, zero, suc, ◌+◌, ◌-◌, ◌*◌, ◌^◌, ◌<◌, ◌≤◌, List, [], ◌∷◌, ◌++◌, length, take, drop, get_or, replicate, refl, sym, ap, ◌∙◌, arith, add-one, mul-le-mul}
-use Rattle.roman_radix.proofs.Common.{set, set_at, replicate_more, append_assoc, length-append, drop_all, drop_more, mul-le-mul_left, product_of, MAX_SERVICES, AreSizes, padded, strides_of}
+use Rattle.roman_radix.proofs.Common.{◌≡◌, ℕ, zero, suc, ◌+◌, ◌-◌, ◌*◌, ◌^◌, ◌<◌, ◌≤◌, List, [], ◌∷◌, ◌++◌, length, take, drop, get_or, replicate, refl, sym, ap, ◌∙◌, arith, add-one, set, set_at, replicate_more, append_assoc, length-append, drop_all, drop_more, mul-le-mul_left, product_of, MAX_SERVICES, AreSizes, padded, strides_of}
+use Rattle.std.proofs.Common.{mul-le-mul}
 use Rattle.std.proofs.lemmas.List.{get_or_append_left, replicate-append-replicate, length-replicate, length-take}
 use Rattle.std.specs.List.{All, AllByRecursion}
 use Rattle.std.proofs.lemmas.List.Elements.{recursion_from_All, All-drop}

@@ -1,6 +1,5 @@
 -- Tables of sizes after a size is added or dropped, and the sizes themselves.
-use Rattle.std.proofs.Common.{◌≡◌, ℕ, zero, suc, ◌+◌, ◌-◌, ◌*◌, ◌^◌, ◌<◌, ◌≤◌, List, [], ◌∷◌, ◌++◌, length, take, drop, get_or, replicate, refl, sym, ap, ◌∙◌, arith, add-one}
-use Rattle.roman_radix.proofs.Common.{set, mul-le-mul_left, remove, append_assoc, set_at, length-append, replicate_more, drop_more, drop_all, Sizes, grown_sizes, sizes_without, count, MAX_SERVICES, AreSizes, IsSizes, padded}
+use Rattle.roman_radix.proofs.Common.{◌≡◌, ℕ, zero, suc, ◌+◌, ◌-◌, ◌*◌, ◌^◌, ◌<◌, ◌≤◌, List, [], ◌∷◌, ◌++◌, length, take, drop, get_or, replicate, refl, sym, ap, ◌∙◌, arith, add-one, set, mul-le-mul_left, remove, append_assoc, set_at, length-append, replicate_more, drop_more, drop_all, Sizes, grown_sizes, sizes_without, count, MAX_SERVICES, AreSizes, IsSizes, padded}
 use Rattle.std.specs.List.{copy_within}
 use Rattle.std.proofs.lemmas.List.{take_at, drop-replicate, take_rest}
 use Rattle.std.proofs.lemmas.List.Edits.{length-remove, remove-append_left}

@@ -1,6 +1,5 @@
 -- A part that is loaded is appended to those before it, and a part that isn't gives the result of all parts.
-use Rattle.std.proofs.Common.{◌≡◌, Option, IfSome, Ok, subst, sym, arith, rules}
-use Rattle.roman_library.proofs.Common.{err_from_is_err_and, view, Texts, listed_in, Stops}
+use Rattle.roman_library.proofs.Common.{◌≡◌, Option, IfSome, Ok, subst, sym, arith, rules, err_from_is_err_and, view, Texts, listed_in, Stops}
 use Rattle.roman_library.proofs.StepLemmas.{parts_go_on, parts_stop, parts_done}
 use Rattle.roman_library.proofs.listing.load_items.Goals as goal
 

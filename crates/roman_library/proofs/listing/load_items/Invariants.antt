@@ -1,6 +1,5 @@
 -- The parts so far are known and as many as the items so far, the remaining items give the result of all items, and the shelf is as before.
-use Rattle.std.proofs.Common.{◌≡◌, length}
-use Rattle.roman_library.proofs.Common.{listed_step}
+use Rattle.roman_library.proofs.Common.{◌≡◌, length, listed_step}
 use Rattle.roman_library.proofs.StepLemmas.{PartsLeft}
 use Rattle.roman_library.proofs.listing.load_items.Given as goal
 

@@ -1,6 +1,5 @@
 -- The refusal of a part is the refusal of the document.
-use Rattle.std.proofs.Common.{◌≡◌, ◌<◌, ◌≤◌, ◌∙◌, ℕ, List, Option, IfSome, Ok, length, subst, sym, rules}
-use Rattle.roman_library.proofs.Common.{err_from_is_err_and, view, Texts, NamedBeh, version_of, limit_of, catalogue_in, services_of, parts_in, MAX_BEHAVIOURS, MAX_CELLS, AreServices, Stops}
+use Rattle.roman_library.proofs.Common.{◌≡◌, ◌<◌, ◌≤◌, ◌∙◌, ℕ, List, Option, IfSome, Ok, length, subst, sym, rules, err_from_is_err_and, view, Texts, NamedBeh, version_of, limit_of, catalogue_in, services_of, parts_in, MAX_BEHAVIOURS, MAX_CELLS, AreServices, Stops}
 use Rattle.roman_library.specs.declared.refusal.Part.TheVariants as part
 use Rattle.roman_library.proofs.PlacedLemmas.{placed_ok, placed_keeps, catalogue_stops, services_stop_all, parts_stop}
 use Rattle.roman_library.proofs.loading.load_library.Goals as goal

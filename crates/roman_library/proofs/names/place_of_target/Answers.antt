@@ -1,6 +1,5 @@
 -- The place among the targets is the place among their names.
-use Rattle.std.proofs.Common.{rules, tests, sym, ◌∙◌}
-use Rattle.roman_library.proofs.Common.{bytes_eq, YieldsList-from_slice, position_from_yields_List, target_name}
+use Rattle.roman_library.proofs.Common.{rules, tests, sym, ◌∙◌, bytes_eq, YieldsList-from_slice, position_from_yields_List, target_name}
 use Rattle.roman_library.proofs.PlaceLemmas.{place_of-map}
 use Rattle.roman_library.proofs.names.place_of_target.Goals as goal
 

@@ -1,6 +1,5 @@
 -- A service that is read is appended to those before it, and a service that isn't gives the result of all services.
-use Rattle.std.proofs.Common.{◌≡◌, List, Ok, subst, arith, rules}
-use Rattle.roman_library.proofs.Common.{err_from_is_err_and, view, service_of, placed, Service}
+use Rattle.roman_library.proofs.Common.{◌≡◌, List, Ok, subst, arith, rules, err_from_is_err_and, view, service_of, placed, Service}
 use Rattle.roman_library.specs.declared.refusal.Part.TheVariants as part
 use Rattle.roman_library.proofs.LibraryLemmas.{AreServices-push}
 use Rattle.roman_library.proofs.StepLemmas.{services_go_on, services_stop, services_done}

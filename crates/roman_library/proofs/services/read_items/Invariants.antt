@@ -1,6 +1,5 @@
 -- The services so far are known and as many as the items so far, and the remaining items give the result of all items.
-use Rattle.std.proofs.Common.{◌≡◌, length}
-use Rattle.roman_library.proofs.Common.{AreServices}
+use Rattle.roman_library.proofs.Common.{◌≡◌, length, AreServices}
 use Rattle.roman_library.proofs.StepLemmas.{ServicesLeft}
 use Rattle.roman_library.proofs.services.read_items.Given as goal
 

@@ -1,5 +1,5 @@
-use Rattle.std.proofs.Common.{◌≡◌, ◌-◌, vec_len, IfSome}
-use Rattle.roman_library.proofs.Common.{shelf_text}
+use Rattle.roman_library.proofs.Common.{◌≡◌, IfSome, shelf_text}
+use Rattle.std.proofs.Common.{◌-◌, vec_len}
 use Rattle.roman_library.proofs.PrefixLemmas.{IsPrefix}
 use Rattle.roman_library.proofs.text.whole_text.Given as goal
 

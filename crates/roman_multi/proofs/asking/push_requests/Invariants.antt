@@ -1,4 +1,4 @@
-use Rattle.std.proofs.Common.{◌≡◌, ◌++◌}
+use Rattle.roman_multi.proofs.Common.{◌≡◌, ◌++◌}
 use Rattle.roman_multi.specs.Lists.{used_by}
 use Rattle.roman_multi.proofs.asking.push_requests.Given as goal
 

@@ -1,4 +1,4 @@
-use Rattle.std.proofs.Common.{arith}
+use Rattle.roman_multi.proofs.Common.{arith}
 use Rattle.roman_multi.proofs.KnownLemmas.{machine_at}
 use Rattle.roman_multi.proofs.ListLemmas.{flat_map_begun}
 use Rattle.roman_multi.proofs.MoveLemmas.{all_requests_are}

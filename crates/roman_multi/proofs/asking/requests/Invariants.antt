@@ -1,5 +1,4 @@
-use Rattle.std.proofs.Common.{◌≡◌, slice_get, flat_map}
-use Rattle.roman_multi.proofs.Common.{below, machines, used_at}
+use Rattle.roman_multi.proofs.Common.{◌≡◌, slice_get, flat_map, below, machines, used_at}
 use Rattle.roman_multi.proofs.asking.requests.Given as goal
 
 abbrev pub invariant-loop-i : goal.invariant-loop-i

@@ -1,5 +1,4 @@
-use Rattle.std.proofs.Common.{◌≡◌, ◌<◌, length, ap, not, sym, ◌∙◌, arith}
-use Rattle.roman_multi.proofs.Common.{list_any, below, is_empty, beh_next, IsOver-states}
+use Rattle.roman_multi.proofs.Common.{◌≡◌, ◌<◌, length, ap, not, sym, ◌∙◌, arith, list_any, below, is_empty, beh_next, IsOver-states}
 use Rattle.roman_multi.proofs.ListLemmas.{any_at}
 use Rattle.roman_multi.proofs.asking.uses.Goals as goal
 

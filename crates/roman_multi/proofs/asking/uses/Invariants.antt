@@ -1,5 +1,4 @@
-use Rattle.std.proofs.Common.{IsFalse, not}
-use Rattle.roman_multi.proofs.Common.{list_any, below, is_empty, beh_next}
+use Rattle.roman_multi.proofs.Common.{IsFalse, not, list_any, below, is_empty, beh_next}
 use Rattle.roman_multi.proofs.asking.uses.Given as goal
 
 abbrev pub invariant-loop-t : goal.invariant-loop-t

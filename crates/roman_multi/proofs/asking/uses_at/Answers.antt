@@ -1,5 +1,4 @@
-use Rattle.std.proofs.Common.{not, sym, arith}
-use Rattle.roman_multi.proofs.Common.{is_empty, beh_next}
+use Rattle.roman_multi.proofs.Common.{not, sym, arith, is_empty, beh_next}
 use Rattle.roman_multi.proofs.ListLemmas.{any_at, goes_found}
 use Rattle.roman_multi.proofs.asking.uses_at.Goals as goal
 

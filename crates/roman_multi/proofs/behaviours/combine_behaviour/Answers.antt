@@ -1,5 +1,4 @@
-use Rattle.std.proofs.Common.{◌≡◌, ◌<◌, ◌≤◌, ap, sym, ◌∙◌, length, slice_get, subst}
-use Rattle.roman_multi.proofs.Common.{MAX_STATES, IsOver-states, listed_moves, moves_on}
+use Rattle.roman_multi.proofs.Common.{◌≡◌, ◌<◌, ◌≤◌, ap, sym, ◌∙◌, length, slice_get, subst, MAX_STATES, IsOver-states, listed_moves, moves_on}
 use Rattle.roman_multi.proofs.PartLemmas.{AreListsOf, made_behaviour_is, made_finals_below, made_steps_in_range, if_ok_three}
 use Rattle.roman_multi.proofs.behaviours.combine_behaviour.Goals as goal
 

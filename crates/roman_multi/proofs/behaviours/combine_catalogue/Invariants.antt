@@ -1,5 +1,4 @@
-use Rattle.std.proofs.Common.{◌≡◌, map, take}
-use Rattle.roman_multi.proofs.Common.{combined_behaviour}
+use Rattle.roman_multi.proofs.Common.{◌≡◌, map, take, combined_behaviour}
 use Rattle.roman_multi.proofs.behaviours.combine_catalogue.Given as goal
 
 abbrev pub invariant-loop-behaviour : goal.invariant-loop-behaviour

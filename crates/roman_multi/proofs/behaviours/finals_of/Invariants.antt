@@ -1,5 +1,4 @@
-use Rattle.std.proofs.Common.{◌≡◌, filter}
-use Rattle.roman_multi.proofs.Common.{below, is_final}
+use Rattle.roman_multi.proofs.Common.{◌≡◌, filter, below, is_final}
 use Rattle.roman_multi.proofs.behaviours.finals_of.Given as goal
 
 abbrev pub invariant-loop-b : goal.invariant-loop-b

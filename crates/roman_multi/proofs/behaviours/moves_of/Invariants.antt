@@ -1,5 +1,4 @@
-use Rattle.std.proofs.Common.{◌≡◌, length, slice_get}
-use Rattle.roman_multi.proofs.Common.{listed_moves, moves_on}
+use Rattle.roman_multi.proofs.Common.{◌≡◌, length, slice_get, listed_moves, moves_on}
 use Rattle.roman_multi.proofs.behaviours.moves_of.Given as goal
 
 abbrev pub invariant-loop-b : goal.invariant-loop-b

@@ -1,5 +1,4 @@
-use Rattle.std.proofs.Common.{◌≡◌, ◌++◌}
-use Rattle.roman_multi.proofs.Common.{beh_next, moves_by}
+use Rattle.roman_multi.proofs.Common.{◌≡◌, ◌++◌, beh_next, moves_by}
 use Rattle.roman_multi.proofs.behaviours.push_action.Given as goal
 
 abbrev pub invariant-loop-e : goal.invariant-loop-e

@@ -1,5 +1,4 @@
-use Rattle.std.proofs.Common.{◌≡◌, ◌++◌, take}
-use Rattle.roman_multi.proofs.Common.{moves_in}
+use Rattle.roman_multi.proofs.Common.{◌≡◌, ◌++◌, take, moves_in}
 use Rattle.roman_multi.proofs.behaviours.push_moves.Given as goal
 
 abbrev pub invariant-loop-to : goal.invariant-loop-to

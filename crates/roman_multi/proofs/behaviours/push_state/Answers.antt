@@ -1,5 +1,4 @@
-use Rattle.std.proofs.Common.{refl, slice_get}
-use Rattle.roman_multi.proofs.Common.{beh_next, moves_by, moves_on}
+use Rattle.roman_multi.proofs.Common.{refl, slice_get, beh_next, moves_by, moves_on}
 use Rattle.roman_multi.proofs.ListLemmas.{flat_map_pushed, read_get}
 use Rattle.roman_multi.proofs.behaviours.push_state.Goals as goal
 

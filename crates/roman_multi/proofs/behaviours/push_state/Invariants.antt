@@ -1,5 +1,4 @@
-use Rattle.std.proofs.Common.{◌≡◌, ◌++◌, slice_get}
-use Rattle.roman_multi.proofs.Common.{moves_from, moves_on}
+use Rattle.roman_multi.proofs.Common.{◌≡◌, ◌++◌, slice_get, moves_from, moves_on}
 use Rattle.roman_multi.proofs.behaviours.push_state.Given as goal
 
 abbrev pub invariant-loop-n : goal.invariant-loop-n

@@ -1,4 +1,4 @@
-use Rattle.std.proofs.Common.{ap, ◌∙◌, length, arith}
+use Rattle.roman_multi.proofs.Common.{ap, ◌∙◌, length, arith}
 use Rattle.roman_multi.proofs.CombineLemmas.{parts_are, state_count, request_count}
 use Rattle.roman_multi.proofs.MoveLemmas.{requests_in_range}
 use Rattle.roman_multi.proofs.combining.combine_parts.Goals as goal

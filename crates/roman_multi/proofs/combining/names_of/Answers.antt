@@ -1,5 +1,4 @@
-use Rattle.std.proofs.Common.{arith}
-use Rattle.roman_multi.proofs.Common.{length-map, length-below}
+use Rattle.roman_multi.proofs.Common.{arith, length-map, length-below}
 use Rattle.roman_multi.proofs.MoveLemmas.{requests_in_range}
 use Rattle.roman_multi.proofs.combining.names_of.Goals as goal
 

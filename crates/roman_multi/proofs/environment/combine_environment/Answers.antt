@@ -1,5 +1,4 @@
-use Rattle.std.proofs.Common.{ap, ◌∙◌, length, arith}
-use Rattle.roman_multi.proofs.Common.{IfOk-weaker}
+use Rattle.roman_multi.proofs.Common.{ap, ◌∙◌, length, arith, IfOk-weaker}
 use Rattle.roman_multi.proofs.TripleLemmas.{listed_in_range, made_env_is}
 use Rattle.roman_multi.proofs.environment.combine_environment.Goals as goal
 

@@ -1,5 +1,4 @@
-use Rattle.std.proofs.Common.{◌≡◌, ◌++◌, map, flat_map, slice_get}
-use Rattle.roman_multi.proofs.Common.{below, next_on}
+use Rattle.roman_multi.proofs.Common.{◌≡◌, ◌++◌, map, flat_map, slice_get, below, next_on}
 use Rattle.roman_multi.proofs.environment.push_row.Given as goal
 
 abbrev pub invariant-loop-n : goal.invariant-loop-n

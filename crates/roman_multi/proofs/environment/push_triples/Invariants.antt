@@ -1,4 +1,4 @@
-use Rattle.std.proofs.Common.{◌≡◌, ◌++◌, map, take}
+use Rattle.roman_multi.proofs.Common.{◌≡◌, ◌++◌, map, take}
 use Rattle.roman_multi.proofs.environment.push_triples.Given as goal
 
 abbrev pub invariant-loop-to : goal.invariant-loop-to

@@ -1,5 +1,4 @@
-use Rattle.std.proofs.Common.{◌≡◌, ◌++◌, ◌∷◌, [], ap, ◌∙◌, sym, length, get_or, take, arith}
-use Rattle.roman_multi.proofs.Common.{target_sizes, IsOver-states, IsTarget, machines, Named}
+use Rattle.roman_multi.proofs.Common.{◌≡◌, ◌++◌, ◌∷◌, [], ap, ◌∙◌, sym, length, get_or, take, arith, target_sizes, IsOver-states, IsTarget, machines, Named}
 use Rattle.roman_multi.proofs.KnownLemmas.{known_more, sizes_more}
 use Rattle.roman_multi.proofs.sizes.sizes_of.Goals as goal
 

@@ -1,5 +1,4 @@
-use Rattle.std.proofs.Common.{◌≡◌, take, All}
-use Rattle.roman_multi.proofs.Common.{target_sizes, IsTarget, machines}
+use Rattle.roman_multi.proofs.Common.{◌≡◌, take, All, target_sizes, IsTarget, machines}
 use Rattle.roman_multi.proofs.sizes.sizes_of.Given as goal
 
 abbrev pub invariant-loop-i : goal.invariant-loop-i

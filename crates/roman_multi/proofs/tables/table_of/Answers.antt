@@ -1,5 +1,4 @@
-use Rattle.std.proofs.Common.{sym, subst, arith, IsTrue}
-use Rattle.roman_multi.proofs.Common.{length-map, is_name}
+use Rattle.roman_multi.proofs.Common.{sym, subst, arith, IsTrue, length-map, is_name}
 use Rattle.roman_multi.proofs.TableLemmas.{read_is_name, made_name, made_is, word_at, new_more, found_before, named_more}
 use Rattle.roman_multi.proofs.tables.table_of.Goals as goal
 

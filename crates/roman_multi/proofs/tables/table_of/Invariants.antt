@@ -1,5 +1,4 @@
-use Rattle.std.proofs.Common.{◌≡◌, map, take, IsFalse}
-use Rattle.roman_multi.proofs.Common.{list_any, below, stands_before}
+use Rattle.roman_multi.proofs.Common.{◌≡◌, map, take, IsFalse, list_any, below, stands_before}
 use Rattle.roman_multi.proofs.tables.table_of.Given as goal
 
 abbrev pub invariant-loop-word : goal.invariant-loop-word

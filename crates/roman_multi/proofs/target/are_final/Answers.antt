@@ -1,5 +1,4 @@
-use Rattle.std.proofs.Common.{◌≡◌, ◌&&◌, ap, sym, ◌∙◌, length, slice_index, get_or, arith, add-one, drop, suc}
-use Rattle.roman_multi.proofs.Common.{target_sizes, states_at, pair_at, machines, are_final, length-states_at}
+use Rattle.roman_multi.proofs.Common.{◌≡◌, ◌&&◌, ap, sym, ◌∙◌, length, slice_index, get_or, arith, add-one, drop, suc, target_sizes, states_at, pair_at, machines, are_final, length-states_at}
 use Rattle.roman_multi.proofs.KnownLemmas.{machine_at, sizes_length}
 use Rattle.roman_multi.proofs.FlatLemmas.{part_is, part_below}
 use Rattle.roman_multi.proofs.TargetLemmas.{final_drop}

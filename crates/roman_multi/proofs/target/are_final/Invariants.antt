@@ -1,5 +1,4 @@
-use Rattle.std.proofs.Common.{◌≡◌, drop}
-use Rattle.roman_multi.proofs.Common.{target_sizes, states_at, are_final, machines}
+use Rattle.roman_multi.proofs.Common.{◌≡◌, drop, target_sizes, states_at, are_final, machines}
 use Rattle.roman_multi.proofs.target.are_final.Given as goal
 
 abbrev pub invariant-loop-i : goal.invariant-loop-i

@@ -1,5 +1,4 @@
-use Rattle.std.proofs.Common.{◌<◌, ◌≤◌, List, ap, sym, ◌∙◌, length, slice_get, subst}
-use Rattle.roman_multi.proofs.Common.{IfOk-weaker, product_of, target_sizes, combined_target, states_at, MAX_STATES, MAX_ACTIONS, Request, IsDeterministic, combined_system, machines, listed_moves, next_of_all}
+use Rattle.roman_multi.proofs.Common.{◌<◌, ◌≤◌, List, ap, sym, ◌∙◌, length, slice_get, subst, IfOk-weaker, product_of, target_sizes, combined_target, states_at, MAX_STATES, MAX_ACTIONS, Request, IsDeterministic, combined_system, machines, listed_moves, next_of_all}
 use Rattle.roman_multi.proofs.KnownLemmas.{several, several_is}
 use Rattle.roman_multi.proofs.MoveLemmas.{requests_in_range}
 use Rattle.roman_multi.proofs.TargetLemmas.{AreListsOf, made_target_is, made_steps_in_range, made_finals_below}

@@ -1,5 +1,4 @@
-use Rattle.std.proofs.Common.{◌≡◌, filter}
-use Rattle.roman_multi.proofs.Common.{target_sizes, below, states_at, are_final, machines}
+use Rattle.roman_multi.proofs.Common.{◌≡◌, filter, target_sizes, below, states_at, are_final, machines}
 use Rattle.roman_multi.proofs.target.finals_of.Given as goal
 
 abbrev pub invariant-loop-t : goal.invariant-loop-t

@@ -1,4 +1,4 @@
-use Rattle.std.proofs.Common.{arith}
+use Rattle.roman_multi.proofs.Common.{arith}
 use Rattle.roman_multi.proofs.ListLemmas.{flat_map_begun}
 use Rattle.roman_multi.proofs.target.moves_of.Goals as goal
 

@@ -1,5 +1,4 @@
-use Rattle.std.proofs.Common.{◌≡◌, length, slice_get}
-use Rattle.roman_multi.proofs.Common.{target_sizes, states_at, machines, listed_moves, next_of_all}
+use Rattle.roman_multi.proofs.Common.{◌≡◌, length, slice_get, target_sizes, states_at, machines, listed_moves, next_of_all}
 use Rattle.roman_multi.proofs.target.moves_of.Given as goal
 
 abbrev pub invariant-loop-t : goal.invariant-loop-t

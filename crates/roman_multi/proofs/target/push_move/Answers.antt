@@ -1,4 +1,4 @@
-use Rattle.std.proofs.Common.{arith}
+use Rattle.roman_multi.proofs.Common.{arith}
 use Rattle.roman_multi.proofs.KnownLemmas.{machine_at}
 use Rattle.roman_multi.proofs.FlatLemmas.{part_is, part_below, below_part, moved_is}
 use Rattle.roman_multi.proofs.TargetLemmas.{no_step, one_step}

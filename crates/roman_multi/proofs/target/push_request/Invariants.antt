@@ -1,5 +1,4 @@
-use Rattle.std.proofs.Common.{◌≡◌, ◌++◌, Some}
-use Rattle.roman_multi.proofs.Common.{target_sizes, states_at, machines, moves_by, next_of_all}
+use Rattle.roman_multi.proofs.Common.{◌≡◌, ◌++◌, Some, target_sizes, states_at, machines, moves_by, next_of_all}
 use Rattle.roman_multi.proofs.target.push_request.Given as goal
 
 abbrev pub invariant-loop-e : goal.invariant-loop-e

@@ -1,5 +1,4 @@
-use Rattle.std.proofs.Common.{slice_get, refl, Some}
-use Rattle.roman_multi.proofs.Common.{target_sizes, states_at, machines, moves_by, next_of_all}
+use Rattle.roman_multi.proofs.Common.{slice_get, refl, Some, target_sizes, states_at, machines, moves_by, next_of_all}
 use Rattle.roman_multi.proofs.ListLemmas.{flat_map_pushed, read_get}
 use Rattle.roman_multi.proofs.target.push_state.Goals as goal
 

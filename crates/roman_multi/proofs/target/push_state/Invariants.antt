@@ -1,5 +1,4 @@
-use Rattle.std.proofs.Common.{◌≡◌, ◌++◌, slice_get}
-use Rattle.roman_multi.proofs.Common.{target_sizes, states_at, machines, moves_from, next_of_all}
+use Rattle.roman_multi.proofs.Common.{◌≡◌, ◌++◌, slice_get, target_sizes, states_at, machines, moves_from, next_of_all}
 use Rattle.roman_multi.proofs.target.push_state.Given as goal
 
 abbrev pub invariant-loop-n : goal.invariant-loop-n

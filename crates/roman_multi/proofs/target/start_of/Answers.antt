@@ -1,6 +1,4 @@
-use Rattle.std.proofs.Common.{ap, ◌∙◌}
-use Rattle.roman_multi.proofs.Common.{machines, take_all}
-use Rattle.std.proofs.Common.{map}
+use Rattle.roman_multi.proofs.Common.{ap, ◌∙◌, machines, take_all, map}
 use Rattle.roman_multi.proofs.FlatLemmas.{starts_pair}
 use Rattle.roman_multi.proofs.target.start_of.Goals as goal
 

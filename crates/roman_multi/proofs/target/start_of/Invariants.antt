@@ -1,5 +1,4 @@
-use Rattle.std.proofs.Common.{◌≡◌, map, take}
-use Rattle.roman_multi.proofs.Common.{machines}
+use Rattle.roman_multi.proofs.Common.{◌≡◌, map, take, machines}
 use Rattle.roman_multi.proofs.target.start_of.Given as goal
 
 abbrev pub invariant-loop-named : goal.invariant-loop-named

@@ -1,5 +1,4 @@
-use Rattle.std.proofs.Common.{◌≡◌, map, drop}
-use Rattle.roman_multi.proofs.Common.{list_any, is_long}
+use Rattle.roman_multi.proofs.Common.{◌≡◌, map, drop, list_any, is_long}
 use Rattle.roman_multi.proofs.words.has_long.Given as goal
 
 abbrev pub invariant-loop-word : goal.invariant-loop-word

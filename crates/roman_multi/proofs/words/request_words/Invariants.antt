@@ -1,6 +1,5 @@
-use Rattle.std.proofs.Common.{◌≡◌, map, take, All, IsTrue}
+use Rattle.roman_multi.proofs.Common.{◌≡◌, map, take, All, IsTrue, is_word}
 use Rattle.roman_multi.specs.Combining.{request_name}
-use Rattle.roman_multi.proofs.Common.{is_word}
 use Rattle.roman_multi.proofs.words.request_words.Given as goal
 
 abbrev pub invariant-loop-request : goal.invariant-loop-request

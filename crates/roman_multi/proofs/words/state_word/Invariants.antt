@@ -1,5 +1,4 @@
-use Rattle.std.proofs.Common.{◌≡◌, ◌<◌, length, take, IsTrue}
-use Rattle.roman_multi.proofs.Common.{list_all, target_sizes, states_at, is_name_byte, joined, machines, names_at}
+use Rattle.roman_multi.proofs.Common.{◌≡◌, ◌<◌, length, take, IsTrue, list_all, target_sizes, states_at, is_name_byte, joined, machines, names_at}
 use Rattle.roman_multi.proofs.words.state_word.Given as goal
 
 abbrev pub invariant-loop-i : goal.invariant-loop-i

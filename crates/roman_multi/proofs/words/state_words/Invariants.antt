@@ -1,5 +1,4 @@
-use Rattle.std.proofs.Common.{◌≡◌, map, All, IsTrue}
-use Rattle.roman_multi.proofs.Common.{target_sizes, below, states_at, joined, machines, names_at, is_word}
+use Rattle.roman_multi.proofs.Common.{◌≡◌, map, All, IsTrue, target_sizes, below, states_at, joined, machines, names_at, is_word}
 use Rattle.roman_multi.proofs.words.state_words.Given as goal
 
 abbrev pub invariant-loop-t : goal.invariant-loop-t

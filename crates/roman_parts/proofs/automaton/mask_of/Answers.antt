@@ -1,5 +1,4 @@
-use Rattle.std.proofs.Common.{ℕ, ◌||◌, ◌==◌, get_or, sym, ap, ap₂, ◌∙◌, arith}
-use Rattle.roman_parts.proofs.Common.{list_any_more, bit_at-zero}
+use Rattle.roman_parts.proofs.Common.{ℕ, ◌||◌, ◌==◌, get_or, sym, ap, ap₂, ◌∙◌, arith, list_any_more, bit_at-zero}
 use Rattle.roman_parts.proofs.CellLemmas.{has_set, same_eqb}
 use Rattle.roman_parts.proofs.automaton.mask_of.Goals as goal
 

@@ -1,5 +1,4 @@
-use Rattle.std.proofs.Common.{◌≡◌, ℕ, take}
-use Rattle.roman_parts.proofs.Common.{has_state, has}
+use Rattle.roman_parts.proofs.Common.{◌≡◌, ℕ, take, has_state, has}
 use Rattle.roman_parts.proofs.automaton.mask_of.Given as goal
 
 -- the mask has the states so far

@@ -1,6 +1,5 @@
 -- A choice is between two steps of the list, in a state of both guards.
-use Rattle.std.proofs.Common.{length, sym, arith}
-use Rattle.roman_parts.proofs.Common.{get_or_from_slice_get, single_of}
+use Rattle.roman_parts.proofs.Common.{length, sym, arith, get_or_from_slice_get, single_of}
 use Rattle.roman_parts.proofs.SingleLemmas.{choice_within}
 use Rattle.roman_parts.proofs.choice.check_single.Goals as goal
 

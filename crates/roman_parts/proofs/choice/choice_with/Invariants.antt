@@ -1,6 +1,5 @@
 -- Step j forms no choice with the steps so far.
-use Rattle.std.proofs.Common.{map}
-use Rattle.roman_parts.proofs.Common.{move_of, choice_at}
+use Rattle.roman_parts.proofs.Common.{map, move_of, choice_at}
 use Rattle.roman_parts.proofs.ChoiceLemmas.{NoneBelow}
 use Rattle.roman_parts.proofs.choice.choice_with.Given as goal
 

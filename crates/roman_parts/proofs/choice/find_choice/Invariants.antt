@@ -1,6 +1,5 @@
 -- None of the steps so far forms a choice with an earlier one.
-use Rattle.std.proofs.Common.{map}
-use Rattle.roman_parts.proofs.Common.{move_of, choice_with}
+use Rattle.roman_parts.proofs.Common.{map, move_of, choice_with}
 use Rattle.roman_parts.proofs.ChoiceLemmas.{NoneBelow}
 use Rattle.roman_parts.proofs.choice.find_choice.Given as goal
 

@@ -1,6 +1,6 @@
 -- The final states so far are in range, and the remaining items give the result of all items.
-use Rattle.std.proofs.Common.{◌<◌, [], length}
-use Rattle.roman_parts.proofs.Common.{All, items_view, each_item, pushing, IsLeft, place_in}
+use Rattle.roman_parts.proofs.Common.{◌<◌, [], length, items_view, each_item, pushing, IsLeft, place_in}
+use Rattle.std.specs.List.{All}
 use Rattle.roman_parts.specs.declared.error.List.TheVariants.{Finals}
 use Rattle.roman_parts.proofs.finals.read_finals.Given as goal
 

@@ -1,6 +1,5 @@
 -- Each call goes to a value that is nested less deeply, or stays and goes down the ranks of the functions.
-use Rattle.std.proofs.Common.{◌+◌, ◌*◌}
-use Rattle.roman_parts.proofs.Common.{depth, view}
+use Rattle.roman_parts.proofs.Common.{◌+◌, ◌*◌, depth, view}
 use Rattle.roman_parts.proofs.GuardLemmas.{GuardsLeft}
 use Rattle.roman_parts.proofs.guards.+formula.Given as goal
 

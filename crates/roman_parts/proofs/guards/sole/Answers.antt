@@ -1,5 +1,5 @@
 -- The first of the members is the only one.
-use Rattle.std.proofs.Common.{◌≡◌, length, sym, arith}
+use Rattle.roman_parts.proofs.Common.{◌≡◌, length, sym, arith}
 use Rattle.roman_parts.proofs.GuardLemmas.{sole_of-entry}
 use Rattle.roman_parts.proofs.guards.sole.Goals as goal
 

@@ -1,5 +1,4 @@
-use Rattle.std.proofs.Common.{◌≡◌, ◌*◌, ℕ, length, replicate, arith}
-use Rattle.roman_parts.proofs.Common.{take_at}
+use Rattle.roman_parts.proofs.Common.{◌≡◌, ◌*◌, ℕ, length, replicate, arith, take_at}
 use Rattle.roman_parts.proofs.CellLemmas.{goes_back_none, goes_back_more}
 use Rattle.roman_parts.proofs.masks.into_masks.Goals as goal
 

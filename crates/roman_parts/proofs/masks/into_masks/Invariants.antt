@@ -1,5 +1,4 @@
-use Rattle.std.proofs.Common.{◌≡◌, ◌*◌, length, take}
-use Rattle.roman_parts.proofs.Common.{goes_back, HasGuardedCells}
+use Rattle.roman_parts.proofs.Common.{◌≡◌, ◌*◌, length, take, goes_back, HasGuardedCells}
 use Rattle.roman_parts.proofs.masks.into_masks.Given as goal
 
 -- the cells have the steps so far

@@ -1,4 +1,4 @@
-use Rattle.std.proofs.Common.{sym, arith}
+use Rattle.roman_parts.proofs.Common.{sym, arith}
 use Rattle.roman_parts.proofs.CellLemmas.{marks_more, marks_same}
 use Rattle.roman_parts.proofs.masks.mark_move.Goals as goal
 use Rattle.roman_parts.proofs.masks.mark_move.Goals.{then-has, else-has}

@@ -1,5 +1,4 @@
-use Rattle.std.proofs.Common.{◌≡◌, ◌*◌, length, replicate, arith}
-use Rattle.roman_parts.proofs.Common.{take_at}
+use Rattle.roman_parts.proofs.Common.{◌≡◌, ◌*◌, length, replicate, arith, take_at}
 use Rattle.roman_parts.proofs.CellLemmas.{leads_back_none, leads_back_more}
 use Rattle.roman_parts.proofs.masks.prev_masks.Goals as goal
 

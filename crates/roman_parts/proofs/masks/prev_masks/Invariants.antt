@@ -1,5 +1,4 @@
-use Rattle.std.proofs.Common.{◌≡◌, ◌*◌, length, take}
-use Rattle.roman_parts.proofs.Common.{leads_back, HasCells}
+use Rattle.roman_parts.proofs.Common.{◌≡◌, ◌*◌, length, take, leads_back, HasCells}
 use Rattle.roman_parts.proofs.masks.prev_masks.Given as goal
 
 -- the cells have the steps so far

@@ -1,6 +1,5 @@
 -- The names so far are as many as the items so far, and the remaining items give the result of all items.
-use Rattle.std.proofs.Common.{◌≡◌, [], length}
-use Rattle.roman_parts.proofs.Common.{items_view, each_item, IsLeft, name_step}
+use Rattle.roman_parts.proofs.Common.{◌≡◌, [], length, items_view, each_item, IsLeft, name_step}
 use Rattle.roman_parts.proofs.names.read_names.Given as goal
 
 abbrev pub invariant-loop-i : goal.invariant-loop-i

@@ -1,6 +1,5 @@
 -- The parts of an environment, read one by one.
-use Rattle.std.proofs.Common.{◌≡◌, ℕ, List, map, is_some, length, Ok, IsTrue, ap, sym, ◌∙◌, arith}
-use Rattle.roman_parts.proofs.Common.{common_steps, as_object, view, Env, normal_env, triple_of, listed_env, NamedEnv}
+use Rattle.roman_parts.proofs.Common.{◌≡◌, ℕ, List, map, is_some, length, Ok, IsTrue, ap, sym, ◌∙◌, arith, common_steps, as_object, view, Env, normal_env, triple_of, listed_env, NamedEnv}
 use Rattle.roman_parts.proofs.PartLemmas.{env_read}
 use Rattle.roman_parts.proofs.parts.read_environment.Goals as goal
 

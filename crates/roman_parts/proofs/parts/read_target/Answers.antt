@@ -1,6 +1,5 @@
 -- Steps that form no choice go to at most one state.
-use Rattle.std.proofs.Common.{◌≡◌, None, length, map}
-use Rattle.roman_parts.proofs.Common.{choice_of, move_of}
+use Rattle.roman_parts.proofs.Common.{◌≡◌, None, length, map, choice_of, move_of}
 use Rattle.roman_parts.proofs.SingleLemmas.{single_steps}
 use Rattle.roman_parts.proofs.parts.read_target.Goals as goal
 

@@ -1,4 +1,4 @@
-use Rattle.std.proofs.Common.{◌*◌, ◌≤◌}
+use Rattle.roman_parts.proofs.Common.{◌*◌, ◌≤◌}
 use Rattle.roman_parts.proofs.rows.count.Given as goal
 
 -- each mask has at most 64 states

@@ -1,5 +1,4 @@
-use Rattle.std.proofs.Common.{◌≡◌, ◌++◌, length}
-use Rattle.roman_parts.proofs.Common.{states_of}
+use Rattle.roman_parts.proofs.Common.{◌≡◌, ◌++◌, length, states_of}
 use Rattle.roman_parts.proofs.rows.push_states.Given as goal
 
 -- the items so far, followed by the remaining states

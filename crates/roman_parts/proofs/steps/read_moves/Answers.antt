@@ -1,6 +1,5 @@
 -- The next step is appended, in range.
-use Rattle.std.proofs.Common.{arith}
-use Rattle.roman_parts.proofs.Common.{common_steps}
+use Rattle.roman_parts.proofs.Common.{arith, common_steps}
 use Rattle.roman_parts.proofs.StepLemmas.{step_lists}
 use Rattle.roman_parts.proofs.steps.read_moves.Goals as goal
 

@@ -1,5 +1,4 @@
-use Rattle.std.proofs.Common.{arith}
-use Rattle.roman_radix.proofs.Common.{false≢true}
+use Rattle.roman_radix.proofs.Common.{arith, false≢true}
 use Rattle.roman_radix.proofs.Strides.{positive_rest, too_many}
 use Rattle.roman_radix.proofs.shape.is_within.Goals as goal
 

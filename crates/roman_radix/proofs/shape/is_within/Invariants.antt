@@ -1,5 +1,4 @@
-use Rattle.std.proofs.Common.{◌≡◌, ◌*◌, ◌^◌, ◌<◌, drop}
-use Rattle.roman_radix.proofs.Common.{product_of}
+use Rattle.roman_radix.proofs.Common.{◌≡◌, ◌*◌, ◌^◌, ◌<◌, drop, product_of}
 use Rattle.roman_radix.proofs.shape.is_within.Given as goal
 
 abbrev pub invariant-loop-size : goal.invariant-loop-size

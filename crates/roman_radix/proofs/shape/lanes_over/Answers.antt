@@ -1,5 +1,4 @@
-use Rattle.std.proofs.Common.{◌≡◌, ◌-◌, ◌*◌, ◌<◌, ◌≤◌, length, take, drop, get_or, sym, ◌∙◌, arith}
-use Rattle.roman_radix.proofs.Common.{get_or-take, length-take-le, product_of}
+use Rattle.roman_radix.proofs.Common.{◌≡◌, ◌-◌, ◌*◌, ◌<◌, ◌≤◌, length, take, drop, get_or, sym, ◌∙◌, arith, get_or-take, length-take-le, product_of}
 use Rattle.roman_radix.proofs.Strides.{product_more}
 use Rattle.roman_radix.proofs.RowLemmas.{low_is, too_many_from}
 use Rattle.roman_radix.proofs.shape.lanes_over.Goals as goal

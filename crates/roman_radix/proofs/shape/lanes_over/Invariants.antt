@@ -1,5 +1,4 @@
-use Rattle.std.proofs.Common.{◌≡◌, ◌≤◌, take, drop}
-use Rattle.roman_radix.proofs.Common.{product_of}
+use Rattle.roman_radix.proofs.Common.{◌≡◌, ◌≤◌, take, drop, product_of}
 use Rattle.roman_radix.proofs.shape.lanes_over.Given as goal
 
 -- the pairs over the components so far fit in a row

@@ -1,5 +1,4 @@
-use Rattle.std.proofs.Common.{◌≡◌, ◌-◌, ◌*◌, ◌≤◌, length, take, drop, get_or, sym, ◌∙◌, arith}
-use Rattle.roman_radix.proofs.Common.{get_or-take, product_of}
+use Rattle.roman_radix.proofs.Common.{◌≡◌, ◌-◌, ◌*◌, ◌≤◌, length, take, drop, get_or, sym, ◌∙◌, arith, get_or-take, product_of}
 use Rattle.roman_radix.proofs.Strides.{length_first, strides_none, product_none, strides_more, product_more, product_drop-le, strides_all}
 use Rattle.roman_radix.proofs.shape.strides_over.Goals as goal
 

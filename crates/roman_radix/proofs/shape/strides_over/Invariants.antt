@@ -1,5 +1,4 @@
-use Rattle.std.proofs.Common.{◌≡◌, ◌-◌, ◌≤◌, ◌++◌, take, drop, replicate}
-use Rattle.roman_radix.proofs.Common.{product_of, MAX_SERVICES, strides_of}
+use Rattle.roman_radix.proofs.Common.{◌≡◌, ◌-◌, ◌≤◌, ◌++◌, take, drop, replicate, product_of, MAX_SERVICES, strides_of}
 use Rattle.roman_radix.proofs.shape.strides_over.Given as goal
 
 abbrev pub invariant-loop-k : goal.invariant-loop-k

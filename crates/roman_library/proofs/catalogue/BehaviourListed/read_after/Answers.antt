@@ -1,6 +1,5 @@
 -- A behaviour that is read is over its environment and has the name that was checked, so it can be appended to those before it.
-use Rattle.std.proofs.Common.{◌≡◌, ◌∷◌, ◌++◌, [], map, refl, rules, None}
-use Rattle.roman_library.proofs.Common.{view, place_of, IsBehaviour, behaviour_name}
+use Rattle.roman_library.proofs.Common.{◌≡◌, ◌∷◌, ◌++◌, [], map, refl, rules, None, view, place_of, IsBehaviour, behaviour_name}
 use Rattle.roman_library.proofs.LibraryLemmas.{behaviour_is_over, behaviour_has_name, IsCatalogue-push}
 use Rattle.roman_library.proofs.catalogue.BehaviourListed.read_after.Goals as goal
 

@@ -1,4 +1,4 @@
-use Rattle.std.proofs.Common.{◌≡◌, ◌*◌, ℕ, List, length, arith}
+use Rattle.roman_parts.proofs.Common.{◌≡◌, ◌*◌, ℕ, List, length, arith}
 use Rattle.roman_parts.proofs.TableLemmas.{laid_moves}
 use Rattle.roman_parts.proofs.automaton.Automaton.from_lists.Goals as goal
 

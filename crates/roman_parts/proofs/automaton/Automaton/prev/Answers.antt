@@ -1,5 +1,4 @@
-use Rattle.std.proofs.Common.{◌<◌, ap, arith}
-use Rattle.roman_parts.proofs.Common.{slice_get_within}
+use Rattle.roman_parts.proofs.Common.{◌<◌, ap, arith, slice_get_within}
 use Rattle.roman_parts.proofs.TableLemmas.{into_below}
 use Rattle.roman_parts.proofs.automaton.Automaton.prev.Goals as goal
 

@@ -1,5 +1,4 @@
-use Rattle.std.proofs.Common.{◌≡◌, ◌*◌, ℕ, List, length, arith}
-use Rattle.roman_parts.proofs.Common.{HasCells, leads, leads_back}
+use Rattle.roman_parts.proofs.Common.{◌≡◌, ◌*◌, ℕ, List, length, arith, HasCells, leads, leads_back}
 use Rattle.roman_parts.proofs.TableLemmas.{laid_triples}
 use Rattle.roman_parts.proofs.environment.Environment.from_lists.Goals as goal
 

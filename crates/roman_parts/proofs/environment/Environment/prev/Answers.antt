@@ -1,5 +1,4 @@
-use Rattle.std.proofs.Common.{◌<◌, ◌*◌, ◌+◌, length, ap, arith}
-use Rattle.roman_parts.proofs.Common.{slice_get_within}
+use Rattle.roman_parts.proofs.Common.{◌<◌, ◌*◌, ◌+◌, length, ap, arith, slice_get_within}
 use Rattle.roman_parts.proofs.TableLemmas.{prev_below}
 use Rattle.roman_parts.proofs.environment.Environment.prev.Goals as goal
 

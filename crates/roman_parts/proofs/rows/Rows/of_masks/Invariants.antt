@@ -1,5 +1,4 @@
-use Rattle.std.proofs.Common.{◌*◌, ◌≤◌, length, map, take}
-use Rattle.roman_parts.proofs.Common.{states_of}
+use Rattle.roman_parts.proofs.Common.{◌*◌, ◌≤◌, length, map, take, states_of}
 use Rattle.roman_parts.proofs.RowLemmas.{IsLaid}
 use Rattle.roman_parts.proofs.rows.Rows.of_masks.Given as goal
 

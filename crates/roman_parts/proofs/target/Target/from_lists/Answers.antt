@@ -1,5 +1,4 @@
-use Rattle.std.proofs.Common.{length, sym, ap, ◌∙◌}
-use Rattle.roman_parts.proofs.Common.{listed_beh}
+use Rattle.roman_parts.proofs.Common.{length, sym, ap, ◌∙◌, listed_beh}
 use Rattle.roman_parts.proofs.NormalLemmas.{IsOver-normal}
 use Rattle.roman_parts.proofs.target.Target.from_lists.Goals as goal
 

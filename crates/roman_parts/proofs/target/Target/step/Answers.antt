@@ -1,4 +1,4 @@
-use Rattle.std.proofs.Common.{arith}
+use Rattle.roman_parts.proofs.Common.{arith}
 use Rattle.roman_parts.proofs.NormalLemmas.{single_next}
 use Rattle.roman_parts.proofs.target.Target.step.Goals as goal
 

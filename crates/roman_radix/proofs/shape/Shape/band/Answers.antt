@@ -1,6 +1,5 @@
-use Rattle.std.proofs.Common.{◌≡◌, ◌-◌, length, replicate, take, sym, ap₂, ◌∙◌, subst, arith}
+use Rattle.roman_radix.proofs.Common.{◌≡◌, ◌-◌, length, replicate, take, sym, ap₂, ◌∙◌, subst, arith, MAX_SERVICES, Sizes, Inside, AreSizes, low_of, row_sizes}
 use Rattle.std.proofs.lemmas.List.{take-append-le}
-use Rattle.roman_radix.proofs.Common.{MAX_SERVICES, Sizes, Inside, AreSizes, low_of, row_sizes}
 use Rattle.roman_radix.proofs.Strides.{length-padded}
 use Rattle.roman_radix.proofs.Shown.{Shows, shown}
 use Rattle.roman_radix.proofs.RowLemmas.{low_of-le, AreSizes-take}

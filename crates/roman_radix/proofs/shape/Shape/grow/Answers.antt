@@ -1,5 +1,4 @@
-use Rattle.std.proofs.Common.{◌≡◌, ◌+◌, ◌*◌, ◌∷◌, ◌++◌, [], refl, sym, ◌∙◌, subst, arith}
-use Rattle.roman_radix.proofs.Common.{false≢true, set, count, grown_sizes, IsSizes}
+use Rattle.roman_radix.proofs.Common.{◌≡◌, ◌+◌, ◌*◌, ◌∷◌, ◌++◌, [], refl, sym, ◌∙◌, subst, arith, false≢true, set, count, grown_sizes, IsSizes}
 use Rattle.roman_model.proofs.CallerLemmas.{count-grown}
 use Rattle.roman_radix.proofs.Tables.{Has, has_pushed, IsSizes-grown, same_sizes}
 use Rattle.roman_radix.proofs.Shown.{Shows, shown}

@@ -1,4 +1,4 @@
-use Rattle.std.proofs.Common.{refl, arith}
+use Rattle.roman_radix.proofs.Common.{refl, arith}
 use Rattle.roman_radix.proofs.Moves.{Grown, grows_to}
 use Rattle.roman_radix.proofs.shape.Shape.grown.Goals as goal
 

@@ -1,4 +1,4 @@
-use Rattle.std.proofs.Common.{arith}
+use Rattle.roman_radix.proofs.Common.{arith}
 use Rattle.roman_radix.proofs.Shown.{Shows, shown}
 use Rattle.roman_radix.proofs.RowLemmas.{lanes_few, lanes_positive}
 use Rattle.roman_radix.proofs.shape.Shape.lanes.Goals as goal

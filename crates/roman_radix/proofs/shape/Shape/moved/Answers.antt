@@ -1,4 +1,4 @@
-use Rattle.std.proofs.Common.{arith}
+use Rattle.roman_radix.proofs.Common.{arith}
 use Rattle.roman_radix.proofs.Numbering.{moves}
 use Rattle.roman_radix.proofs.shape.Shape.moved.Goals as goal
 

@@ -1,4 +1,4 @@
-use Rattle.std.proofs.Common.{refl, arith}
+use Rattle.roman_radix.proofs.Common.{refl, arith}
 use Rattle.roman_radix.proofs.Tables.{has_copied, AreSizes-from, IsSizes-new, same_sizes}
 use Rattle.roman_radix.proofs.shape.Shape.new.Goals as goal
 

@@ -1,5 +1,4 @@
-use Rattle.std.proofs.Common.{arith}
-use Rattle.roman_radix.proofs.Common.{number}
+use Rattle.roman_radix.proofs.Common.{arith, number}
 use Rattle.roman_radix.proofs.Moves.{front_and_states, states_end}
 use Rattle.roman_radix.proofs.Numbering.{number_of, state_added}
 use Rattle.roman_radix.proofs.Shown.{Shows, shown}

@@ -1,5 +1,4 @@
-use Rattle.std.proofs.Common.{◌≡◌, ◌+◌, drop}
-use Rattle.roman_radix.proofs.Common.{states_number, number}
+use Rattle.roman_radix.proofs.Common.{◌≡◌, ◌+◌, drop, states_number, number}
 use Rattle.roman_radix.proofs.shape.Shape.number.Given as goal
 
 -- the number so far plus the number of the states that are left

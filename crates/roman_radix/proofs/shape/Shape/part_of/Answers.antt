@@ -1,6 +1,5 @@
-use Rattle.std.proofs.Common.{arith}
+use Rattle.roman_radix.proofs.Common.{arith, part_at}
 use Rattle.std.proofs.lemmas.Nat.{mod_below}
-use Rattle.roman_radix.proofs.Common.{part_at}
 use Rattle.roman_radix.proofs.Shown.{shown, stride_is, size_is}
 use Rattle.roman_radix.proofs.shape.Shape.part_of.Goals as goal
 

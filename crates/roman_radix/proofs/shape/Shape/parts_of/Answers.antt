@@ -1,4 +1,4 @@
-use Rattle.std.proofs.Common.{◌-◌, ◌<◌, length, get_or, ◌∙◌, arith}
+use Rattle.roman_radix.proofs.Common.{◌-◌, ◌<◌, length, get_or, ◌∙◌, arith}
 use Rattle.std.proofs.lemmas.List.{length-set}
 use Rattle.roman_radix.proofs.Moves.{DigitTaken, digit_taken, digits_all}
 use Rattle.roman_radix.proofs.Shown.{Shows, shown, SizeIs, size_is}

@@ -1,5 +1,4 @@
-use Rattle.std.proofs.Common.{◌≡◌, ℕ, ◌<◌, ◌≤◌, ◌/◌, length, drop, get_or, slice_index}
-use Rattle.roman_radix.proofs.Common.{product_of, pair_at}
+use Rattle.roman_radix.proofs.Common.{◌≡◌, ℕ, ◌<◌, ◌≤◌, ◌/◌, length, drop, get_or, slice_index, product_of, pair_at}
 use Rattle.roman_radix.proofs.shape.Shape.parts_of.Given as goal
 
 -- the states of the last components, and the number of the rest

@@ -1,4 +1,4 @@
-use Rattle.std.proofs.Common.{arith}
+use Rattle.roman_radix.proofs.Common.{arith}
 use Rattle.roman_radix.proofs.Shown.{Shows, shown}
 use Rattle.roman_radix.proofs.RowLemmas.{lanes_positive, rows_are}
 use Rattle.roman_radix.proofs.shape.Shape.rows.Goals as goal

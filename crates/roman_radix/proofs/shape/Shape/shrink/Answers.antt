@@ -1,5 +1,4 @@
-use Rattle.std.proofs.Common.{◌-◌, subst, arith}
-use Rattle.roman_radix.proofs.Common.{remove, set, MAX_SERVICES, IsSizes}
+use Rattle.roman_radix.proofs.Common.{◌-◌, subst, arith, remove, set, MAX_SERVICES, IsSizes}
 use Rattle.roman_radix.proofs.Tables.{Has, has_shrunk, IsSizes-without, same_sizes}
 use Rattle.roman_radix.proofs.Shown.{Shows, shown}
 use Rattle.roman_radix.proofs.shape.Shape.shrink.Goals as goal

@@ -1,4 +1,4 @@
-use Rattle.std.proofs.Common.{arith}
+use Rattle.roman_radix.proofs.Common.{arith}
 use Rattle.roman_radix.proofs.Numbering.{replaces}
 use Rattle.roman_radix.proofs.shape.Shape.with_part.Goals as goal
 

@@ -1,4 +1,4 @@
-use Rattle.std.proofs.Common.{arith}
+use Rattle.roman_radix.proofs.Common.{arith}
 use Rattle.roman_radix.proofs.Numbering.{shrinks}
 use Rattle.roman_radix.proofs.Shown.{shown, stride_is, size_is}
 use Rattle.roman_radix.proofs.shape.Shape.without.Goals as goal
