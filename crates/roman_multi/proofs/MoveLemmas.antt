@@ -1,5 +1,5 @@
 -- The steps that the loops list are the steps of the combined behaviours, and the requests are the combined actions.
-use Rattle.roman_multi.proofs.Common.{◌≡◌, ℕ, ◌<◌, ◌≤◌, ◌^◌, ◌==◌, ◌&&◌, Bool, List, [], ◌∷◌, map, length, Option, Some, None, IsTrue, flat_map, filter, slice_get, inl, inr, refl, sym, ap, ap₂, ◌∙◌, subst, get_or, arith, IsIn, below, Beh, Env, has, has_move, is_final, IsBeh, beh_next, normal_beh, beh_from, combined_beh, Request, listed_beh, AreMoves, listed_moves, moves_on, used_at, same_test, any_true, any_from, in_map, from_map, in_flat_map, from_flat_map, in_below, from_below, in_beh_next, from_beh_next, beh_from_same, listed_number, number_listed, get_in, length-map, NamedEnv, IsTarget, machines, requests_in, Named, has_filter, All}
+use Rattle.roman_multi.proofs.Common.{◌≡◌, ℕ, ◌<◌, ◌≤◌, ◌^◌, ◌==◌, ◌&&◌, Bool, List, [], ◌∷◌, map, length, Option, Some, None, IsTrue, flat_map, filter, slice_get, inl, inr, refl, sym, ap, ap₂, ◌∙◌, subst, get_or, arith, All, IsIn, below, Beh, Env, has, has_move, is_final, IsBeh, beh_next, normal_beh, beh_from, combined_beh, Request, listed_beh, AreMoves, listed_moves, moves_on, used_at, same_test, any_true, any_from, in_map, from_map, in_flat_map, from_flat_map, in_below, from_below, in_beh_next, from_beh_next, beh_from_same, listed_number, number_listed, get_in, length-map, NamedEnv, IsTarget, machines, requests_in, Named, has_filter}
 use Rattle.roman_guard.specs.Meaning.{states_of}
 use Rattle.roman_model.specs.System.{Move}
 use Rattle.roman_model.specs.Combined.{has_move_on, stands_in, uses, requests_of}

@@ -155,9 +155,6 @@ pub marks_same : (env_states actions bound : ℕ) (old new : List ℕ) (move : �
 unfolding is_move
 marks_same env_states actions bound old new move lacks below = grind (arith, below_next, eqb-true, one_less)
 
-pub marks_all : (env_states actions : ℕ) (old new : List ℕ) (move : ℕ × ℕ × ℕ × ℕ) → MarksBelow env_states actions env_states old new move → MarksMove env_states actions old new move
-marks_all env_states actions old new move below = grind (arith, lt-ltb)
-
 -- the cells after one more step
 goes-more : (steps : List (ℕ × ℕ × ℕ × ℕ)) (i : ℕ) (m : ℕ × ℕ × ℕ × ℕ) (b e a n : ℕ) → i < length steps → m ≡ get_or steps i m →
     goes (take (i + 1) steps) b e a n ≡ (goes (take i steps) b e a n || is_move m b e a n)

@@ -1,19 +1,18 @@
 -- The names that several proof pages of this crate cite, passed on from one place. Declares nothing.
 pub use Rattle.std.proofs.Math.Seq.{take-append_seam, take-length}
-pub use Rattle.std.proofs.lemmas.Bool.{and_from, and_parts, both_ways, cases_eq, cases_lt, eq-eqb, eqb-true, false_from_ne_true, lt-ltb, ne_eqb, not-false, not-true, not_from_false, not_from_true, or_cases, or_left, or_parts, or_right}
+pub use Rattle.std.proofs.lemmas.Bool.{and_from, and_parts, both_ways, cases_eq, cases_lt, eq-eqb, eqb-true, false_from_ne_true, lt-ltb, ne_eqb, not-true, not_from_false, not_from_true, or_cases, or_left, or_parts, or_right}
 pub use Rattle.std.proofs.lemmas.List.{get_or_past, length_push, take-take}
 pub use Rattle.std.proofs.lemmas.List.Folds.{list_any-append}
 pub use Rattle.std.proofs.lemmas.List.Sums.{sum_by_push}
 pub use Rattle.std.proofs.lemmas.Nat.{div-add-mod', div_below, mod_below, mul-add-lt, mul-le}
 pub use Rattle.std.proofs.lemmas.Option.{get_or_from_slice_get, slice_get_within}
-pub use Rattle.std.specs.Int.{bit_at}
 pub use Rattle.std.specs.Prelude.{count_by}
 pub use Rattle.roman_joint.specs.NamedSys.{system_of}
 pub use Rattle.roman_lanes.proofs.CallerLemmas.{on_zero}
 unfoldable pub use Rattle.roman_lanes.specs.Flags.{has_flag}
 pub use Rattle.roman_lanes.specs.Rows.{HasLanes, Keeps}
 unfoldable pub use Rattle.roman_lanes.specs.Rows.{is_on}
-pub use Rattle.roman_model.proofs.CallerLemmas.{any_from, any_same, by_test, fall_append, from_below, from_map, in_below, in_listed, in_map, length-below, listed_append, listed_push, sum_by_same, unallowed_unjustified}
+pub use Rattle.roman_model.proofs.CallerLemmas.{any_from, any_same, by_test, fall_append, from_below, from_map, in_below, in_listed, in_map, length-below, listed_append, listed_push, sum_by_same}
 pub use Rattle.roman_model.specs.Arena.{Arena, Entry, IsOrder, back, fall, is_justified, is_listed, mask}
 pub use Rattle.roman_model.specs.Lists.{IsIn, below}
 pub use Rattle.roman_model.specs.Numbers.{count, sizes_of}

@@ -7,11 +7,11 @@ pub use Rattle.std.proofs.lemmas.List.Folds.{list_any-append}
 pub use Rattle.std.proofs.lemmas.List.Sums.{sum_by-append, sum_by-cons}
 pub use Rattle.std.proofs.lemmas.Nat.{div-add-mod', mod_below, same_from_place}
 pub use Rattle.std.proofs.lemmas.Nat.Bits.{bit_at_cat_high}
-pub use Rattle.std.specs.Int.{bit_at, bit_not, leading_zeros, trailing_zeros, w64}
+pub use Rattle.std.specs.Int.{bit_at, leading_zeros, trailing_zeros, w64}
 pub use Rattle.roman_joint.proofs.CallerLemmas.{joint_numbered}
 pub use Rattle.roman_joint.specs.NamedSys.{IsNamedSys, NamedSys, seat_of, system_of}
 pub use Rattle.roman_joint.specs.Rows.{lanes_in}
-pub use Rattle.roman_lanes.proofs.CallerLemmas.{on_and, on_full, on_full_past, on_less, on_or, on_zero}
+pub use Rattle.roman_lanes.proofs.CallerLemmas.{on_and, on_full, on_full_past, on_or, on_zero}
 pub use Rattle.roman_lanes.specs.Rows.{HasLanes}
 unfoldable pub use Rattle.roman_lanes.specs.Rows.{is_on}
 pub use Rattle.roman_model.proofs.CallerLemmas.{AreNumbers, NumbersReplay, filter_below_more, from_map, in_append_left, in_append_right, in_below, in_map, justified_more, length-below, list_any-map, listed_append, map-map, sizes-turned, turned}

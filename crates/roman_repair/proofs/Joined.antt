@@ -125,9 +125,6 @@ positive zero n some = absurd (let none : zero * n ≡ 0 = omega arith in omega 
 positive (suc m) zero some = absurd (let none : suc m * zero ≡ 0 = omega arith in omega (arith, none, some))
 positive (suc m) (suc n) some = (omega arith, omega arith)
 
-pub states_some : (n m states : ℕ) → n ≡ m * states → 0 < n → 0 < states
-states_some n m states is some = (positive m states (omega (arith, is, some))).1
-
 -- neighbouring grown pairs lie in one row
 pub grown_within : (n m states pair : ℕ) → n ≡ m * states → 0 < n → pair * states % n + states ≤ n
 grown_within n m states pair is some =

@@ -1,5 +1,5 @@
 -- The bits of masks, and the number of seats in the masks of a row's pairs.
-use Rattle.std.proofs.Common.{◌≡◌, ℕ, zero, suc, ◌+◌, ◌-◌, ◌*◌, ◌%◌, ◌^◌, ◌<◌, ◌≤◌, Bool, true, cond, not, [], length, filter, sum_by, count_ones, IsTrue, IsFalse, inl, inr, refl, sym, ap, ap₂, ◌∙◌, arith}
+use Rattle.std.proofs.Common.{◌≡◌, ℕ, zero, suc, ◌+◌, ◌-◌, ◌*◌, ◌%◌, ◌^◌, ◌<◌, ◌≤◌, Bool, cond, not, [], length, filter, sum_by, count_ones, IsTrue, IsFalse, inl, inr, refl, sym, ap, ap₂, ◌∙◌, arith}
 use Rattle.std.specs.Int.{bit_at}
 use Rattle.std.proofs.Math.Pow.{pow_pos}
 use Rattle.std.proofs.lemmas.Bool.{cases_eq, cases_lt, cond-true, cond-false, both_ways, not_from_true, eq-eqb, ne_eqb}
@@ -138,11 +138,6 @@ mask_counted A ok gone p a = by_test (A.allows p a)
 -- the number of pairs of a row at which a seat serves the action
 abbrev pub served_by : Arena ℕ → (ℕ → Bool) → ℕ → ℕ → ℕ → ℕ → ℕ
 served_by A gone lanes row a k = sum_by (λ lane. cond (not (is_beaten A gone (row * lanes + lane) a k)) 1 0) (below lanes)
-
-pub none_served : (A : Arena ℕ) (gone : ℕ → Bool) (lanes row a k : ℕ) → ((lane : ℕ) → lane < lanes → is_beaten A gone (row * lanes + lane) a k ≡ true) → served_by A gone lanes row a k ≡ 0
-none_served A gone lanes row a k beaten =
-    sum_by_same (λ lane. cond (not (is_beaten A gone (row * lanes + lane) a k)) 1 0) (λ lane. 0) (below lanes) (λ lane i. ap (λ b. cond (not b) 1 0) (beaten lane (from_below lanes lane i)))
-    ∙ sum_none lanes
 
 -- the number of seats in an action's masks in a row, summed seat by seat
 pub action_counted : (A : Arena ℕ) → IsNumbered A → (gone : ℕ → Bool) (lanes row a : ℕ) →

@@ -1,4 +1,4 @@
-use Rattle.roman_multi.proofs.Common.{ap, ◌∙◌, machines, take_all, map}
+use Rattle.roman_multi.proofs.Common.{ap, ◌∙◌, map, machines, take_all}
 use Rattle.roman_multi.proofs.FlatLemmas.{starts_pair}
 use Rattle.roman_multi.proofs.target.start_of.Goals as goal
 

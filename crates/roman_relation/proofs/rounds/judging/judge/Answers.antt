@@ -1,5 +1,7 @@
 use Rattle.std.proofs.Common.{◌≡◌, ℕ, ◌+◌, ◌*◌, ◌/◌, ◌<◌, true, length, slice_index, inl, inr, refl, sym, ap, ◌∙◌, subst, arith}
-use Rattle.roman_relation.proofs.Common.{bit_at, cases_eq, eq-eqb, mul-le, by_test, unallowed_unjustified, is_on, Board, IsJudged}
+use Rattle.roman_relation.proofs.Common.{cases_eq, eq-eqb, mul-le, by_test, is_on, Board, IsJudged}
+use Rattle.std.specs.Int.{bit_at}
+use Rattle.roman_model.proofs.CallerLemmas.{unallowed_unjustified}
 use Rattle.roman_rules.specs.Bits.{bit_of}
 use Rattle.roman_relation.proofs.Beginnings.{begins_itself, begins_on}
 use Rattle.roman_relation.proofs.Bands.{band_at, band_begins}

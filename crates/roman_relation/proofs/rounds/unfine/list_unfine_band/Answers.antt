@@ -1,5 +1,6 @@
 use Rattle.std.proofs.Common.{◌≡◌, ◌+◌, ◌*◌, ◌++◌, length, slice_index, ap, ◌∙◌, subst, arith, IsTrue, IsFalse, inl, inr}
-use Rattle.roman_relation.proofs.Common.{not-false, not-true, is_listed, Final, Board, entries_in_rows, has_entry}
+use Rattle.roman_relation.proofs.Common.{not-true, is_listed, Final, Board, entries_in_rows, has_entry}
+use Rattle.std.proofs.lemmas.Bool.{not-false}
 use Rattle.roman_relation.proofs.Bands.{band_begins}
 use Rattle.roman_relation.proofs.Going.{goes_on_added}
 use Rattle.roman_relation.proofs.Lanes.{words_rows, shaped_pairs}
