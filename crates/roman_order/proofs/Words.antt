@@ -33,12 +33,12 @@ has_flag-at words i t within = grind arith
 
 -- ---- words without a bit have no flag
 
-pub has_flag-zeros : (words : List ℕ) → ((i : ℕ) → get_or words i 0 ≡ 0) → (p : ℕ) → has_flag words p ≡ false
+pub flag_off : (words : List ℕ) (p : ℕ) → get_or words (p / 64) 0 ≡ 0 → has_flag words p ≡ false
 unfolding has_flag is_on
-has_flag-zeros words none p = ap (λ w. is_on w (p % 64)) (none (p / 64)) ∙ on_zero (p % 64)
+flag_off words p none = ap (λ w. is_on w (p % 64)) none ∙ on_zero (p % 64)
 
 pub no_flags : (n p : ℕ) → has_flag (replicate n zero) p ≡ false
-no_flags n p = has_flag-zeros (replicate n zero) (λ i. get_or-all_blank n i zero) p
+no_flags n p = flag_off (replicate n zero) p (get_or-all_blank n (p / 64) zero)
 
 -- ---- the flags below a number
 

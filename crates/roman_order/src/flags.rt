@@ -43,17 +43,19 @@ pub(crate) fn set_front(words: &mut [u64], end: u32)
     }
 }
 
-/// Returns the place of the next word with a set flag, from `from` on, then from the start. Returns
-/// `None` exactly where no flag is set.
-pub(crate) fn next_word(words: &[u64], from: usize) -> Option<usize>
-    ensures none { IfNone result ((p : ℕ) → has_flag words.now p ≡ false) }
-    ensures some { IfSome result (λ i. (i < length words.now) × (slice_index words.now i ≢ 0)) }
+/// Returns the place of the next of the first `many` words with a set flag, from `from` on, then from
+/// the start. Returns `None` exactly where these words have no set flag.
+pub(crate) fn next_word(words: &[u64], many: usize, from: usize) -> Option<usize>
+    requires { many ≤ length words.now }
+    ensures none { IfNone result ((p : ℕ) → p < 64 * many → has_flag words.now p ≡ false) }
+    ensures some { IfSome result (λ i. (i < many) × (slice_index words.now i ≢ 0)) }
 {
-    let start = from.min(words.len());
-    if let Some(i) = first_set(words, start) {
+    let front = &words[..many];
+    let start = from.min(many);
+    if let Some(i) = first_set(front, start) {
         return Some(i);
     }
-    first_set(&words[..start], 0)
+    first_set(&front[..start], 0)
 }
 
 /// Returns the lowest set bit of a word. Requires a word that isn't 0.

@@ -38,11 +38,13 @@ impl Order {
         flags::set_front(&mut self.marks, end);
     }
 
-    /// Clears one mark, and returns its number. Returns `None` exactly where no number is marked. The
-    /// search continues where the last mark was found, and goes round once, so marks are returned in
-    /// turns, not in order of size.
-    pub fn next_marked(&mut self) -> Option<u32>
-        ensures none { IfNone result ((p : ℕ) → is_marked self.old p ≡ false) }
+    /// Clears one mark, and returns its number. Returns `None` only where no number below `end` is
+    /// marked, and exactly there if `end` is a multiple of 64. The search continues where the last mark
+    /// was found, and goes round once, so marks are returned in turns, not in order of size. It reads
+    /// the words of the numbers below `end`, and can also find a mark next to them in the last word.
+    pub fn next_marked(&mut self, end: u32) -> Option<u32>
+        requires { end ≤ pairs_of self.old }
+        ensures none { IfNone result ((p : ℕ) → p < end → is_marked self.old p ≡ false) }
         ensures some { IfSome result (λ p. is_marked self.old p ≡ true) }
         ensures taken { IfSome result (λ p. is_marked self.new p ≡ false) }
         ensures others { (q : ℕ) → IfSome result (λ p. q ≢ p → is_marked self.new q ≡ is_marked self.old q) }
@@ -50,7 +52,8 @@ impl Order {
         ensures long { length self.new.marks ≡ length self.old.marks }
         ensures rest { self.new ≡ record self.old { marks = self.new.marks } }
     {
-        let Some(i) = flags::next_word(&self.marks, self.cursor) else {
+        let many = flags::words_for(end);
+        let Some(i) = flags::next_word(&self.marks, many, self.cursor) else {
             self.cursor = 0;
             return None;
         };

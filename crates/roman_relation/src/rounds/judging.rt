@@ -15,7 +15,7 @@ use roman_rules::{Rules, are_clear, copy_rows};
 /// The greatest number of rows in a band.
 const BAND: usize = 64;
 
-/// Clears all marks, and judges the bands that were marked.
+/// Judges the marked bands, and clears their marks.
 pub(crate) fn judge_marked<J: Rules>(joint: &J, order: &mut Order)
     requires shaped { IsShaped (J.arena joint.now) (J.lanes joint.now) order.old }
     requires round { (start : ℕ) × InRound (J.arena joint.now) (J.lanes joint.now) start order.old }
@@ -23,7 +23,8 @@ pub(crate) fn judge_marked<J: Rules>(joint: &J, order: &mut Order)
         (start : ℕ) → InRound A (J.lanes joint.now) start order.old → InRound A (J.lanes joint.now) start order.new }
     ensures begins { Begins order.old.list order.new.list }
     ensures rest { order.new ≡ record order.old { list = order.new.list; marks = order.new.marks } }
-    ensures unmarked { (y : ℕ) → is_marked order.new y ≡ false }
+    ensures unmarked { let A = J.arena joint.now in
+        (p : ℕ) → p < length A.nodes → is_marked order.new (p / J.lanes joint.now / J.band joint.now) ≡ false }
     ensures only { let A = J.arena joint.now in
         (p : ℕ) → IsTrue (is_listed A order.new.list p) →
         IsTrue (is_listed A order.old.list p) ⊎ (is_marked order.old (p / J.lanes joint.now / J.band joint.now) ≡ true) }
@@ -35,7 +36,7 @@ pub(crate) fn judge_marked<J: Rules>(joint: &J, order: &mut Order)
     let bands = joint.bands();
     let mut words = [0; BAND];
     let left = &mut words[..joint.band() as usize];
-    'bands: while let Some(y) = order.next_marked() {
+    'bands: while let Some(y) = order.next_marked(bands) {
         judge_if(joint, order, y, y < bands, left);
     }
 }
@@ -84,10 +85,10 @@ fn judge<J: Rules>(joint: &J, order: &mut Order, y: u32, left: &mut [u64])
 {
     joint.known();
     order.known();
-    let x = y * joint.band();
+    let band = joint.band();
+    let x = y * band;
     let words = order.words();
-    copy_rows(words, x, left);
-    if are_clear(left) {
+    if are_clear(&words[x as usize..(x + band) as usize]) {
         return;
     }
     let row = joint.first_row(y);

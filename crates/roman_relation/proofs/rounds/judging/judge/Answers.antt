@@ -1,7 +1,6 @@
-use Rattle.std.proofs.Common.{◌≡◌, ℕ, ◌+◌, ◌*◌, ◌/◌, ◌<◌, true, length, slice_index, inl, inr, refl, sym, ap, ◌∙◌, subst, arith}
-use Rattle.roman_relation.proofs.Common.{cases_eq, eq-eqb, mul-le, by_test, is_on, Board, IsJudged}
-use Rattle.std.specs.Int.{bit_at}
-use Rattle.roman_model.proofs.CallerLemmas.{unallowed_unjustified}
+use Rattle.std.proofs.Common.{◌≡◌, ℕ, ◌+◌, ◌-◌, ◌*◌, ◌/◌, ◌<◌, ◌≤◌, true, List, length, take, drop, slice_index, inl, inr, refl, sym, ap, ◌∙◌, subst, arith}
+use Rattle.roman_relation.proofs.Common.{bit_at, cases_eq, eq-eqb, mul-le, by_test, unallowed_unjustified, is_listed, is_on, Board, IsJudged}
+use Rattle.std.proofs.lemmas.List.{get_or-take, get_or-drop, length-drop, length-take-le}
 use Rattle.roman_rules.specs.Bits.{bit_of}
 use Rattle.roman_relation.proofs.Beginnings.{begins_itself, begins_on}
 use Rattle.roman_relation.proofs.Bands.{band_at, band_begins}
@@ -15,10 +14,7 @@ overflow_mul-x g c =
     let n = g.J.Rules.lanes c.args.joint.now in
     let b = c.args.order.now in
     let rows = mul-le b.rows 1 b.rows n (omega arith) c.known.ensures.lanes.0 in
-    omega (arith, rows, shaped_pairs (g.J.Rules.arena c.args.joint.now) n b c.requires.shaped, c.known.ensures.numbered.few_nodes, c.requires.band, ap (λ m. c.args.y * m) c.band.ensures.value)
-
-pub copy_rows-requires : goal.copy_rows-requires
-copy_rows-requires g c = omega (arith, c.requires.band, c.requires.left, c.words-words.ensures.long, ap (λ m. c.args.y * m) c.band.ensures.value)
+    omega (arith, rows, shaped_pairs (g.J.Rules.arena c.args.joint.now) n b c.requires.shaped, c.known.ensures.numbered.few_nodes, c.requires.band, ap (λ m. c.args.y * m) c.band-band.ensures.value)
 
 pub first_row-row-requires : goal.first_row-row-requires
 first_row-row-requires g c =
@@ -33,7 +29,7 @@ loop-a-init g c = record {
   round = λ start round. round;
   begins = begins_itself c.args.order.now.list;
   rest = refl;
-  long = c.copy_rows.ensures.long ∙ c.requires.left;
+  long = c.requires.left;
   only = λ q t. inl t;
   judged = λ start i lane b round h l m on. absurd (omega arith);
 }
@@ -47,23 +43,23 @@ pub judge_on-requires-clause-round : goal.judge_on-requires-clause-round
 judge_on-requires-clause-round g c = let (start, round) = c.requires.round in (start, c.loop-a.invariant.round start round)
 
 pub judge_on-requires-clause-first : goal.judge_on-requires-clause-first
-judge_on-requires-clause-first g c = (c.args.y, ap (λ m. c.args.y * m) c.band.ensures.value)
+judge_on-requires-clause-first g c = (c.args.y, ap (λ m. c.args.y * m) c.band-band.ensures.value)
 
 pub judge_on-requires-clause-band : goal.judge_on-requires-clause-band
-judge_on-requires-clause-band g c = omega (arith, c.requires.band, ap (λ m. c.args.y * m) c.band.ensures.value, ap (λ (d : Board). d.rows) c.loop-a.invariant.rest)
+judge_on-requires-clause-band g c = omega (arith, c.requires.band, ap (λ m. c.args.y * m) c.band-band.ensures.value, ap (λ (d : Board). d.rows) c.loop-a.invariant.rest)
 
 pub judge_on-requires-clause-row : goal.judge_on-requires-clause-row
-judge_on-requires-clause-row g c = subst (λ m. g.J.Rules.is_row c.args.joint.now (c.args.y * m) c.first_row-row.result) (sym c.band.ensures.value) c.first_row-row.ensures
+judge_on-requires-clause-row g c = subst (λ m. g.J.Rules.is_row c.args.joint.now (c.args.y * m) c.first_row-row.result) (sym c.band-band.ensures.value) c.first_row-row.ensures
 
 pub loop-a-preserved : goal.loop-a-preserved
 loop-a-preserved g c =
     let A = g.J.Rules.arena c.args.joint.now in
     let n = g.J.Rules.lanes c.args.joint.now in
-    let x = c.args.y * c.band.result in
+    let x = c.args.y * c.band-band.result in
     let old = c.loop-a.order in
     let new = c.judge_on.new.order in
     let allowed = c.row_actions-allowed.result in
-    let same : x ≡ c.args.y * g.J.Rules.band c.args.joint.now = ap (λ m. c.args.y * m) c.band.ensures.value in
+    let same : x ≡ c.args.y * g.J.Rules.band c.args.joint.now = ap (λ m. c.args.y * m) c.band-band.ensures.value in
     record {
       round = λ start round. c.judge_on.ensures.round start (c.loop-a.invariant.round start round);
       begins = begins_on c.args.order.now.list old.list new.list c.loop-a.invariant.begins c.judge_on.ensures.begins;
@@ -98,8 +94,11 @@ returns-clause-done g c start i lane round h l a =
     let allowed = eq-eqb (bit_at c.row_actions-allowed.result a) 1 (bit ∙ ap bit_of t) in
     let below : a < c.loop-a.a = omega (arith, within, c.loop-a-test.false, c.actions-a-end.ensures) in
     let judged = c.loop-a.invariant.judged start i lane a round h l below allowed in
-    subst (λ m. IsJudged A start c.loop-a.order ((c.args.y * m + i) * n + lane) a) c.band.ensures.value judged)
+    subst (λ m. IsJudged A start c.loop-a.order ((c.args.y * m + i) * n + lane) a) c.band-band.ensures.value judged)
     (λ refused off. unallowed_unjustified A _ p a refused)
+
+none_in : (words : List ℕ) (x m i : ℕ) → x + m ≤ length words → i < m → ((j : ℕ) → j < length (take (x + m - x) (drop x words)) → slice_index (take (x + m - x) (drop x words)) j ≡ 0) → slice_index words (x + i) ≡ 0
+none_in words x m i inside h clear = grind (arith, get_or-take, get_or-drop, length-drop, length-take-le, (clear i))
 
 -- a band whose pairs are all listed
 pub returns-then-are_clear-clause-done : goal.returns-then-are_clear-clause-done
@@ -109,6 +108,8 @@ returns-then-are_clear-clause-done g c start i lane round h l a off =
     let w = g.J.Rules.band c.args.joint.now in
     let b = c.args.order.now in
     let words = c.words-words.result.now in
-    let inside : i < length c.copy_rows.new.to = omega (arith, h, c.copy_rows.ensures.long, c.requires.left) in
-    let empty : slice_index words (c.args.y * w + i) ≡ 0 = ap (λ m. slice_index words (c.args.y * m + i)) (sym c.band.ensures.value) ∙ (sym (c.copy_rows.ensures.each i (omega (arith, h, c.requires.left))) ∙ c.are_clear.ensures c.if-are_clear.true i inside) in
+    let same = ap (λ m. c.args.y * m) c.band-band.ensures.value in
+    let inside : c.args.y * c.band-band.result + c.band-band.result ≤ length words = omega (arith, c.requires.band, c.band-band.ensures.value, same, c.words-words.ensures.long) in
+    let empty : slice_index words (c.args.y * w + i) ≡ 0 =
+    ap (λ x. slice_index words (x + i)) (sym same) ∙ none_in words (c.args.y * c.band-band.result) c.band-band.result i inside (omega (arith, h, c.band-band.ensures.value)) (c.are_clear.ensures c.if-are_clear.true) in
     absurd (all_listed A c.known.ensures.numbered n (c.args.y * w + i) lane b words c.requires.shaped c.words-words.ensures.long (omega (arith, c.requires.band, h)) c.words-words.ensures.alive empty l off)

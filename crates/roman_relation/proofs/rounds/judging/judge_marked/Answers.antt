@@ -1,5 +1,5 @@
 use Rattle.std.proofs.Common.{◌≡◌, ℕ, ◌+◌, ◌*◌, ◌/◌, ◌%◌, ◌<◌, true, length, IsTrue, inl, inr, refl, sym, ap, ◌∙◌, subst, arith, rules}
-use Rattle.roman_relation.proofs.Common.{count_by, cases_eq, both_ways, lt-ltb, mod_below, div_below, below, is_listed, has_flag, Board, is_marked, Begins, IsPairJudged}
+use Rattle.roman_relation.proofs.Common.{count_by, cases_eq, both_ways, lt-ltb, mod_below, div_below, below, is_listed, has_flag, Board, is_marked, Begins, IsPairJudged, Arena, IsShaped}
 use Rattle.std.proofs.lemmas.Bool.{ltb-true}
 use Rattle.roman_relation.proofs.Bands.{band_ends, pair_in, whole_bands}
 use Rattle.roman_relation.proofs.Beginnings.{begins_itself, begins_on}
@@ -9,6 +9,12 @@ use Rattle.roman_relation.proofs.Marks.{count_falls, marked_within, still_marked
 use Rattle.roman_relation.proofs.Playing.{round_marks}
 use Rattle.roman_relation.proofs.Pushing.{judged_on}
 use Rattle.roman_relation.proofs.rounds.judging.judge_marked.Goals as goal
+
+-- the band of a pair is among those that are searched
+band_of : (A : Arena ℕ) (n w m p : ℕ) (b : Board) → IsShaped A n b → 0 < n → 0 < w → m * w * n ≡ length A.nodes → p < length A.nodes → p / n / w < m
+band_of A n w m p b shaped some many all l =
+    let rows = whole_bands A n w m b shaped some all in
+    div_below (p / n) w m many (omega (arith, shaped_row A n p b shaped some l, rows))
 
 pub bands-init : goal.bands-init
 bands-init g c = record {
@@ -60,7 +66,6 @@ bands-preserved g c =
     let begins : Begins old.list new.list = subst (λ L. Begins L new.list) list c.judge_if.ensures.begins in
     let some : 0 < n = c.known.ensures.lanes.0 in
     let many : 0 < w = c.known.ensures.band.0 in
-    let rows = whole_bands A n w m b c.requires.shaped some c.bands-bands.ensures in
     let was = λ (z : ℕ) (on : is_marked mid z ≡ true). still_marked old mid y z c.in-Some.ensures.some (λ ne. c.in-Some.ensures.others z ne) on in
     record {
       round = λ start r. c.judge_if.ensures.round start (round_marks A n start old mid next (c.bands.invariant.round start r));
@@ -76,8 +81,7 @@ bands-preserved g c =
       done = λ start p r l on. elim (c.bands.invariant.done start p r l on) [
         | inl still ↦ elim (cases_eq (p / n / w) y) [
           | inl e ↦
-              let row : p / n < m * w = omega (arith, shaped_row A n p b c.requires.shaped some l, rows) in
-              let is_band = lt-ltb y m (omega (arith, div_below (p / n) w m many row, e)) in
+              let is_band = lt-ltb y m (omega (arith, band_of A n w m p b c.requires.shaped some many c.bands-bands.ensures l, e)) in
               let place : (y * w + p / n % w) * n + p % n ≡ p = ap (λ z. (z * w + p / n % w) * n + p % n) (sym e) ∙ pair_in n w p in
               inr (subst (IsPairJudged A start new) place
               (c.judge_if.ensures.done start (p / n % w) (p % n) (round_marks A n start old mid next (c.bands.invariant.round start r)) is_band (mod_below (p / n) w many) (mod_below p n some)))
@@ -100,7 +104,20 @@ bands-smaller g c =
     (subst (λ k. count_by (has_flag mid.marks) (below (64 * k)) < count_by (has_flag old.marks) (below (64 * length old.marks))) (sym c.in-Some.ensures.long) fewer)
 
 pub returns-clause-unmarked : goal.returns-clause-unmarked
-returns-clause-unmarked g c y = ap (λ (d : Board). is_marked d y) c.in_default.ensures.same ∙ c.in_default.ensures.none y
+returns-clause-unmarked g c p l =
+    let A = g.J.Rules.arena c.args.joint.now in
+    let n = g.J.Rules.lanes c.args.joint.now in
+    let w = g.J.Rules.band c.args.joint.now in
+    ap (λ (d : Board). is_marked d (p / n / w)) c.in_default.ensures.same
+    ∙ c.in_default.ensures.none (p / n / w) (band_of A n w c.bands-bands.result p c.args.order.now c.requires.shaped c.known.ensures.lanes.0 c.known.ensures.band.0 c.bands-bands.ensures l)
 
 pub returns-clause-done : goal.returns-clause-done
-returns-clause-done g c start p round l on = grind (arith, both_ways)
+returns-clause-done g c start p round l on =
+    let A = g.J.Rules.arena c.args.joint.now in
+    let n = g.J.Rules.lanes c.args.joint.now in
+    let w = g.J.Rules.band c.args.joint.now in
+    let low = band_of A n w c.bands-bands.result p c.args.order.now c.requires.shaped c.known.ensures.lanes.0 c.known.ensures.band.0 c.bands-bands.ensures l in
+    elim (c.bands.invariant.done start p round l on) [
+      | inl still ↦ absurd (both_ways (is_marked c.bands.order (p / n / w)) (c.in_default.ensures.none (p / n / w) low) still)
+      | inr done ↦ subst (λ (d : Board). IsPairJudged A start d p) (sym c.in_default.ensures.same) done
+    ]
