@@ -13,3 +13,4 @@ pub mod Rows
 pub mod Marks
 pub mod Moves
 pub mod Bands
+pub mod Own

@@ -1,11 +1,13 @@
 //! The pairs of rows and bands that don't meet clause 2 of an ND-simulation.
-ghost use Rattle.std.specs.Prelude.{◌≡◌, ℕ, ◌+◌, ◌*◌, ◌<◌, ◌≤◌, not, length, slice_get, slice_index};
+ghost use Rattle.std.specs.Prelude.{◌≡◌, ℕ, ◌+◌, ◌*◌, ◌<◌, ◌≤◌, ◌||◌, not, length, slice_get, slice_index};
 ghost use Rattle.roman_model.specs.Lists.{all_below};
 ghost use Rattle.roman_model.specs.Numbers.{sizes_of, pair_at, numbered};
 ghost use Rattle.roman_lanes.specs.Rows.{is_on, HasLanes, Keeps};
 ghost use Rattle.roman_joint.specs.NamedSys.{system_of};
 ghost use Rattle.roman_joint.specs.Rows.{lanes_in, low_in, lane_state_of, IsRow, may_rest as may_rest_in};
-ghost use Rattle.roman_joint.specs.Bands.{band_in};
+ghost use Rattle.roman_joint.specs.Bands.{mid_in, band_in};
+ghost use Rattle.roman_joint.specs.Own.{is_own};
+ghost use Rattle.roman_joint.specs.declared.row.Row.{Row};
 
 use crate::joint::Joint;
 use crate::row::Row;
@@ -48,31 +50,28 @@ fn rests_on(joint: &Joint, row: &Row, k: u8) -> u64
     rests_within(joint, k)
 }
 
-/// Returns the lanes of row `i` of a band, counted from its first row, at which a seat may rest.
-fn rests_in(joint: &Joint, row: &Row, i: u32, k: u8) -> u64
+/// Returns the lanes of a band's rows at which a seat may rest, or all lanes for one of the band's own.
+/// They are the same in all rows of the band.
+fn rests_unless_own(joint: &Joint, row: &Row, k: u8) -> u64
     requires row { (y : ℕ) × IsRow (system_of joint.now) (y * band_in (system_of joint.now)) row.now }
-    requires within { i < band_in (system_of joint.now) }
     requires seat { k < length joint.now.seats }
     ensures { let s = system_of joint.now in
-        (y lane : ℕ) → IsRow s (y * band_in s) row.now → lane < lanes_in s → is_on result lane
-        ≡ may_rest_in (slice_get s.seats k) (slice_index (pair_at (sizes_of s) ((y * band_in s + i) * lanes_in s + lane)).bs k) }
+        (y i lane : ℕ) → IsRow s (y * band_in s) row.now → i < band_in s → lane < lanes_in s → is_on result lane
+        ≡ (is_own s k || may_rest_in (slice_get s.seats k) (slice_index (pair_at (sizes_of s) ((y * band_in s + i) * lanes_in s + lane)).bs k)) }
 {
     let rows = joint.layout();
     if k < rows.mid || rows.low <= k {
         return rests_on(joint, row, k);
     }
-    let b = i / rows.strides[k as usize] % u32::from(rows.sizes[k as usize]);
-    let rests = may_rest(joint, k, b as u8);
-    with_lanes(0, rows.full, rests)
+    rows.full
 }
 
-/// Returns the lanes of row `i` of a band at which all seats may rest.
-fn all_rest_in(joint: &Joint, row: &Row, i: u32) -> u64
+/// Returns the lanes of a band's rows at which all seats may rest that aren't the band's own.
+fn others_rest(joint: &Joint, row: &Row) -> u64
     requires row { (y : ℕ) × IsRow (system_of joint.now) (y * band_in (system_of joint.now)) row.now }
-    requires within { i < band_in (system_of joint.now) }
     ensures { let s = system_of joint.now in
-        (y lane : ℕ) → IsRow s (y * band_in s) row.now → lane < lanes_in s → is_on result lane
-        ≡ all_below (λ k. may_rest_in (slice_get s.seats k) (slice_index (pair_at (sizes_of s) ((y * band_in s + i) * lanes_in s + lane)).bs k)) (length s.seats) }
+        (y i lane : ℕ) → IsRow s (y * band_in s) row.now → i < band_in s → lane < lanes_in s → is_on result lane
+        ≡ all_below (λ k. is_own s k || may_rest_in (slice_get s.seats k) (slice_index (pair_at (sizes_of s) ((y * band_in s + i) * lanes_in s + lane)).bs k)) (length s.seats) }
 {
     joint.known();
     let mut rests = joint.layout().full;
@@ -80,7 +79,45 @@ fn all_rest_in(joint: &Joint, row: &Row, i: u32) -> u64
         if rests == 0 {
             return 0;
         }
-        rests &= rests_in(joint, row, i, k);
+        rests &= rests_unless_own(joint, row, k);
+    }
+    rests
+}
+
+/// Returns the lanes of row `i` of a band, counted from its first row, at which a seat of the band's
+/// own may rest: all lanes or none.
+fn rests_in(joint: &Joint, i: u32, k: u8) -> u64
+    requires within { i < band_in (system_of joint.now) }
+    requires past { mid_in (system_of joint.now) ≤ k }
+    requires own { k < low_in (system_of joint.now) }
+    requires seat { k < length joint.now.seats }
+    ensures { let s = system_of joint.now in
+        (y lane : ℕ) (row : Row) → IsRow s (y * band_in s) row → lane < lanes_in s → is_on result lane
+        ≡ may_rest_in (slice_get s.seats k) (slice_index (pair_at (sizes_of s) ((y * band_in s + i) * lanes_in s + lane)).bs k) }
+{
+    let rows = joint.layout();
+    let b = i / rows.strides[k as usize] % u32::from(rows.sizes[k as usize]);
+    let rests = may_rest(joint, k, b as u8);
+    with_lanes(0, rows.full, rests)
+}
+
+/// Returns the lanes of row `i` of a band at which all seats may rest. `others` has the lanes at which
+/// those may rest that aren't the band's own.
+fn all_rest_in(joint: &Joint, i: u32, others: u64) -> u64
+    requires within { i < band_in (system_of joint.now) }
+    ensures { let s = system_of joint.now in
+        (y lane : ℕ) (row : Row) → IsRow s (y * band_in s) row → lane < lanes_in s →
+        let rests = λ (k : ℕ). may_rest_in (slice_get s.seats k) (slice_index (pair_at (sizes_of s) ((y * band_in s + i) * lanes_in s + lane)).bs k) in
+        is_on others lane ≡ all_below (λ k. is_own s k || rests k) (length s.seats) →
+        is_on result lane ≡ all_below rests (length s.seats) }
+{
+    let rows = joint.layout();
+    let mut rests = others;
+    for k in rows.mid..rows.low {
+        if rests == 0 {
+            return 0;
+        }
+        rests &= rests_in(joint, i, k);
     }
     rests
 }
@@ -124,8 +161,12 @@ impl Joint {
             clear(left);
             return;
         }
+        let others = others_rest(self, row);
+        if others == 0 {
+            return;
+        }
         for i in 0..self.layout().band {
-            let rests = all_rest_in(self, row, i);
+            let rests = all_rest_in(self, i, others);
             left[i as usize] = less(left[i as usize], rests);
         }
     }
