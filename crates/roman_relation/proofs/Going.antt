@@ -1,10 +1,13 @@
 -- Orders that extend others.
 use Rattle.std.proofs.Common.{◌≡◌, ℕ, ◌+◌, ◌*◌, List, ◌++◌, length, take, drop, refl, sym, ap, ap₂, ◌∙◌, subst, take-append-drop, arith}
 use Rattle.roman_relation.proofs.Common.{take-append_seam, take-length, Arena, Entry, IsOrder, fall, fall_append, Board, IsShaped, Begins, SettlesOn}
-use Rattle.roman_relation.proofs.Beginnings.{begins_on}
+use Rattle.roman_relation.proofs.Beginnings.{begins_itself, begins_on}
 
 pub begins_append : (L M : List (Entry ℕ)) → Begins L (L ++ M)
 begins_append L M = take-append_seam L M
+
+pub goes_on_itself : (A : Arena ℕ) (b : Board) → IsOrder A b.list → SettlesOn A b b
+goes_on_itself A b order = record { valid = order; begins = begins_itself b.list; rest = refl }
 
 pub goes_on_on : (A : Arena ℕ) (a b c : Board) → SettlesOn A a b → SettlesOn A b c → SettlesOn A a c
 goes_on_on A a b c p q = grind (arith, begins_on)

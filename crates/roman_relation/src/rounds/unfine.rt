@@ -7,7 +7,7 @@ ghost use Rattle.roman_relation.specs.Settled.{SettlesOn};
 
 use roman_model::Reason;
 use roman_order::Order;
-use roman_rules::{Rules, copy_rows};
+use roman_rules::{Rules, are_clear, copy_rows};
 
 /// The greatest number of rows in a band.
 const BAND: usize = 64;
@@ -51,6 +51,9 @@ fn list_unfine_band<J: Rules>(joint: &J, order: &mut Order, y: u32, left: &mut [
     order.known();
     let x = y * joint.band();
     copy_rows(order.words(), x, left);
+    if are_clear(left) {
+        return;
+    }
     let row = joint.first_row(y);
     joint.unfine_band(&row, left);
     order.push_rows(x, left, Reason::Final);

@@ -1,9 +1,8 @@
-use Rattle.std.proofs.Common.{◌≡◌, ◌+◌, ◌*◌, ◌++◌, length, slice_index, ap, ◌∙◌, subst, arith, IsTrue, IsFalse, inl, inr}
-use Rattle.roman_relation.proofs.Common.{not-true, is_listed, Final, Board, entries_in_rows, has_entry}
-use Rattle.std.proofs.lemmas.Bool.{not-false}
+use Rattle.std.proofs.Common.{◌≡◌, ◌+◌, ◌*◌, ◌<◌, ◌++◌, length, slice_index, sym, ap, ◌∙◌, subst, arith, IsTrue, IsFalse, inl, inr}
+use Rattle.roman_relation.proofs.Common.{not-false, not-true, mul-le, is_listed, Final, Board, entries_in_rows, has_entry}
 use Rattle.roman_relation.proofs.Bands.{band_begins}
-use Rattle.roman_relation.proofs.Going.{goes_on_added}
-use Rattle.roman_relation.proofs.Lanes.{words_rows, shaped_pairs}
+use Rattle.roman_relation.proofs.Going.{goes_on_added, goes_on_itself}
+use Rattle.roman_relation.proofs.Lanes.{all_listed, words_rows, shaped_pairs}
 use Rattle.roman_relation.proofs.Pushing.{AreLost, are_lost, lost_free, rows_order, rows_left, rows_because}
 use Rattle.roman_relation.proofs.rounds.unfine.list_unfine_band.Goals as goal
 
@@ -66,4 +65,22 @@ returns g c =
           (rows_left A ok gone b.list n (y * w) w Final lost are w i lane (omega arith) h l (subst (λ (d : Board). IsFalse (is_listed A d.list ((y * w + i) * n + lane))) pushed off));
       because = λ q t. elim (rows_because A ok gone b.list n (y * w) w Final lost are w q (omega arith)
           (subst (λ (d : Board). IsTrue (is_listed A d.list q)) pushed t)) [ inl old ↦ inl old | inr fails ↦ inr (not-true (A.fine q) fails) ];
+    }
+
+-- a band whose pairs are all listed
+pub returns-then-are_clear : goal.returns-then-are_clear
+returns-then-are_clear g c =
+    let A = g.J.Rules.arena c.args.joint.now in
+    let n = g.J.Rules.lanes c.args.joint.now in
+    let w = g.J.Rules.band c.args.joint.now in
+    let b = c.args.order.now in
+    let words = c.words.result.now in
+    record {
+      goes_on = goes_on_itself A b c.requires.valid;
+      long = c.copy_rows.ensures.long;
+      fine = λ i lane h l off.
+          let inside : i < length c.copy_rows.new.to = omega (arith, h, c.copy_rows.ensures.long, c.requires.left) in
+          let empty : slice_index words (c.args.y * w + i) ≡ 0 = ap (λ m. slice_index words (c.args.y * m + i)) (sym c.band.ensures.value) ∙ (sym (c.copy_rows.ensures.each i (omega (arith, h, c.requires.left))) ∙ c.are_clear.ensures c.if-are_clear.true i inside) in
+          absurd (all_listed A c.known.ensures.numbered n (c.args.y * w + i) lane b words c.requires.shaped c.words.ensures.long (omega (arith, c.requires.band, h)) c.words.ensures.alive empty l off);
+      because = λ q t. inl t;
     }
