@@ -2,6 +2,8 @@
 use Rattle.std.proofs.Common.{◌≡◌, ℕ, ◌+◌, ◌-◌, ◌*◌, ◌/◌, ◌^◌, ◌<◌, ◌≤◌, Bool, true, ◌&&◌, List, ◌++◌, drop, length, get_or, replicate, slice_index, IsTrue, inl, inr, sym, ap, ◌∙◌, subst, arith}
 use Rattle.roman_repair.proofs.Common.{cases_lt, both_ways, or_left, get_or-replicate, div-add-mod', mul-le-mul_left, is_on, on_full, on_zero, Arena, Entry, is_listed, is_justified, justified_more, listed_append, HoldsInBand}
 use Rattle.std.proofs.lemmas.List.{get_or-append_right, get_or-drop, get_or_append_left}
+use Rattle.roman_rules.proofs.CallerLemmas.{known_more}
+use Rattle.roman_rules.specs.Asked.{HoldsWhereKept}
 use Rattle.roman_repair.specs.declared.asked_band.AskedBand.{AskedBand}
 
 -- a word that is full of lanes has each of them
@@ -40,9 +42,10 @@ pub row_held : (held rest : List ℕ) (i lane : ℕ) (is : Bool) → i < length 
 row_held held rest i lane is l same = ap (λ w. is_on w lane) (get_or_append_left held rest 0 i l) ∙ same
 
 -- what was answered of a whole band is known
-pub known_whole : (A : Arena ℕ) (n band first : ℕ) (gone : ℕ → Bool) (asked : AskedBand) (held : List ℕ) → asked.words ≡ held ++ drop band (replicate 64 0) → asked.first ≡ first → length held ≡ band →
+pub known_whole : (A : Arena ℕ) (n band first : ℕ) (gone : ℕ → Bool) (asked : AskedBand) (held : List ℕ) → HoldsWhereKept A n gone asked.row → asked.words ≡ held ++ drop band (replicate 64 0) → asked.first ≡ first → length held ≡ band →
     ((i lane : ℕ) → i < band → lane < n → is_on (slice_index held i) lane ≡ is_justified A gone ((first + i) * n + lane) asked.reason) → HoldsInBand A n gone asked
-known_whole A n band first gone asked held words same long is = record {
+known_whole A n band first gone asked held row words same long is = record {
+  row = row;
   each = λ i lane h l on.
       let (m, there) = held_in_band held band i lane long h (ap (λ ws. is_on (slice_index ws i) lane) (sym words) ∙ on) in
       subst (λ f. IsTrue (is_justified A gone ((f + i) * n + lane) asked.reason)) (sym same) (sym (is i lane m l) ∙ there);
@@ -50,4 +53,10 @@ known_whole A n band first gone asked held words same long is = record {
 
 -- known reasons stay known when more entries are listed
 pub known_on : (A : Arena ℕ) (lanes : ℕ) (asked : AskedBand) (kept new M : List (Entry ℕ)) → new ≡ kept ++ M → HoldsInBand A lanes (is_listed A kept) asked → HoldsInBand A lanes (is_listed A new) asked
-known_on A lanes asked kept new M is known = grind (arith, justified_more, listed_append, or_left)
+known_on A lanes asked kept new M is known =
+    let more : (q : ℕ) → IsTrue (is_listed A kept q) → IsTrue (is_listed A (kept ++ M) q) = λ q t. listed_append A kept M q ∙ or_left (is_listed A kept q) (is_listed A M q) t in
+    subst (λ L. HoldsInBand A lanes (is_listed A L) asked) (sym is) (record {
+      row = known_more A lanes (is_listed A kept) (is_listed A (kept ++ M)) asked.row more known.row;
+      each = λ i lane h l on. justified_more A (is_listed A kept) (is_listed A (kept ++ M)) ((asked.first + i) * lanes + lane) asked.reason
+          (λ a k q j. more q) (known.each i lane h l on);
+    })

@@ -96,7 +96,7 @@ pub(crate) fn replay_events<J: Rules, L: Ledger>(joint: &J, order: &mut Order, s
     ensures rest { order.new ≡ record order.old { list = order.new.list; waiting = [] } }
     ensures cost { steps.new ≤ steps.old + readings_of_entries (J.arena joint.now) order.old.waiting }
 {
-    let mut asked = AskedBand::nothing(0, Reason::Final);
+    let mut asked = AskedBand::nothing();
     'replay: while let Some(event) = order.next_waiting_event() {
         keep_lanes(
             joint,

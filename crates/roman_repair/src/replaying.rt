@@ -100,7 +100,7 @@ pub(crate) fn replay<J: Rules, L: Ledger>(
     ensures cost { steps.new ≤ steps.old + readings_of_entries (J.arena joint.now) (flat_map (grown_numbers states) order.old.waiting) }
 {
     joint.known();
-    let mut asked = AskedBand::nothing(0, Reason::Final);
+    let mut asked = AskedBand::nothing();
     'replay: while let Some(event) = order.next_waiting_event() {
         keep_grown(
             joint,

@@ -1,8 +1,15 @@
-use Rattle.std.proofs.Common.{◌≡◌, ◌++◌, ap, ◌∙◌, arith}
-use Rattle.roman_repair.proofs.Common.{Board, entries_in}
+use Rattle.std.proofs.Common.{◌≡◌, ◌++◌, refl, ap, ◌∙◌, arith}
+use Rattle.roman_repair.proofs.Common.{is_listed, Board, entries_in}
 use Rattle.roman_repair.proofs.Keeping.{candidates_left}
 use Rattle.roman_repair.proofs.Fronts.{part_first, part_turn, part_cost}
 use Rattle.roman_repair.proofs.events.replay_events.Goals as goal
+
+pub replay-init : goal.replay-init
+replay-init g c = record {
+  replaying = record { candidates = c.requires.candidates; list = refl; rest = refl };
+  known = c.nothing-asked.ensures (g.J.Rules.arena c.args.joint.now) (g.J.Rules.lanes c.args.joint.now) (is_listed (g.J.Rules.arena c.args.joint.now) c.args.order.now.list);
+  cost = omega arith;
+}
 
 pub keep_lanes-requires-clause-candidates : goal.keep_lanes-requires-clause-candidates
 keep_lanes-requires-clause-candidates g c =

@@ -1,7 +1,14 @@
-use Rattle.std.proofs.Common.{◌≡◌, ◌++◌, flat_map, ap, ◌∙◌, arith}
-use Rattle.roman_repair.proofs.Common.{grown_numbers, Board, entries_in}
+use Rattle.std.proofs.Common.{◌≡◌, ◌++◌, flat_map, refl, ap, ◌∙◌, arith}
+use Rattle.roman_repair.proofs.Common.{is_listed, grown_numbers, Board, entries_in}
 use Rattle.roman_repair.proofs.Keeping.{candidates_left, grown_first, grown_turn, grown_cost}
 use Rattle.roman_repair.proofs.replaying.replay.Goals as goal
+
+pub replay-init : goal.replay-init
+replay-init g c = record {
+  replaying = record { candidates = c.requires.candidates; list = refl; rest = refl };
+  known = c.nothing-asked.ensures (g.J.Rules.arena c.args.joint.now) (g.J.Rules.lanes c.args.joint.now) (is_listed (g.J.Rules.arena c.args.joint.now) c.args.order.now.list);
+  cost = omega arith;
+}
 
 pub keep_grown-requires-clause-candidates : goal.keep_grown-requires-clause-candidates
 keep_grown-requires-clause-candidates g c =
