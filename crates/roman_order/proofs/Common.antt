@@ -1,11 +1,12 @@
 -- The names that several proof pages of this crate cite, passed on from one place. Declares nothing.
+pub use Rattle.std.proofs.Common.{Bool, List, None, Some, [], ap, append-nil, append_assoc, arith, bit_and, cond, count_ones, drop, eqb, false, filter, get_or, inl, inr, length, length-append, map, not, refl, replicate, rules, slice_get, subst, suc, sym, take, true, vec_capacity, zero, ℕ, ◌%◌, ◌&&◌, ◌*◌, ◌++◌, ◌+◌, ◌-◌, ◌/◌, ◌<◌, ◌^◌, ◌||◌, ◌∙◌, ◌∷◌, ◌≡◌, ◌≢◌, ◌≤◌}
 pub use Rattle.std.proofs.Math.Bool.{or-false}
 pub use Rattle.std.proofs.Math.ListN.{set}
 pub use Rattle.std.proofs.Math.Pow.{pow-lt}
 pub use Rattle.std.proofs.Math.Seq.{drop-cons}
 pub use Rattle.std.proofs.lemmas.Bool.{and_parts, both_ways, cases_Bool, cases_eq, cases_lt, eq-eqb, eqb-true, ne_eqb, or_from, or_left, or_right}
 pub use Rattle.std.proofs.lemmas.Grind.{flat_map-append}
-pub use Rattle.std.proofs.lemmas.List.{get_or-replicate, get_or-set_other, get_or-set_same, get_or_past, get_or_read, length-drop, length-map, length-replicate, length-set, length-take-le, map_push}
+pub use Rattle.std.proofs.lemmas.List.{get_or-replicate, get_or-set_other, get_or-set_same, get_or_read, length-drop, length-map, length-replicate, length-set, length-take-le, map_push}
 pub use Rattle.std.proofs.lemmas.List.Folds.{list_any-append}
 pub use Rattle.std.proofs.lemmas.List.Sums.{sum_by_push}
 pub use Rattle.std.proofs.lemmas.Map.Keys.{IsDistinct-head, IsDistinct-tail}

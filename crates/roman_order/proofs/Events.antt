@@ -1,6 +1,5 @@
 -- Lists of events.
-use Rattle.std.proofs.Common.{◌≡◌, ℕ, suc, ◌+◌, ◌*◌, ◌^◌, ◌<◌, ◌≤◌, true, List, [], ◌∷◌, ◌++◌, map, length, refl, ap, ◌∙◌, arith, eqb, append-nil, length-append}
-use Rattle.roman_order.proofs.Common.{list_any-append, AllByRecursion, or_right, or_left, eq-eqb, length-map, flat_map-append, Entry, is_on, as_entry, set_lanes, has_entry, IsEvent, entries_at, entries_of, firsts_of, AreCounted, CanWait, Event}
+use Rattle.roman_order.proofs.Common.{◌≡◌, ℕ, suc, ◌+◌, ◌*◌, ◌^◌, ◌<◌, ◌≤◌, true, List, [], ◌∷◌, ◌++◌, map, length, refl, ap, ◌∙◌, arith, eqb, append-nil, length-append, list_any-append, AllByRecursion, or_right, or_left, eq-eqb, length-map, flat_map-append, Entry, is_on, as_entry, set_lanes, has_entry, IsEvent, entries_at, entries_of, firsts_of, AreCounted, CanWait, Event}
 
 -- ---- one more event
 

@@ -1,5 +1,5 @@
 -- Marks that were lent.
-use Rattle.std.proofs.Common.{◌≡◌, ℕ, List, ◌++◌, length, take, drop, sym, ap, ◌∙◌}
+use Rattle.roman_order.proofs.Common.{◌≡◌, ℕ, List, ◌++◌, length, take, drop, sym, ap, ◌∙◌}
 use Rattle.std.proofs.Math.Seq.{take-append_seam}
 use Rattle.roman_order.specs.Lending.{rewritten}
 

@@ -1,6 +1,6 @@
 -- The number of lanes of a word.
-use Rattle.std.proofs.Common.{◌≡◌, ℕ, zero, suc, ◌%◌, ◌^◌, ◌<◌, cond, filter, length, sum_by, count_ones, inl, inr, sym, ap, ◌∙◌, arith}
-use Rattle.roman_order.proofs.Common.{bit_at, cases_eq, eq-eqb, ne_eqb, sum_by_push, below, sum_by_same, is_on, set_lanes}
+use Rattle.roman_order.proofs.Common.{◌≡◌, ℕ, zero, suc, ◌%◌, ◌^◌, ◌<◌, cond, filter, length, count_ones, inl, inr, sym, ap, ◌∙◌, arith, bit_at, cases_eq, eq-eqb, ne_eqb, sum_by_push, below, sum_by_same, is_on, set_lanes}
+use Rattle.std.proofs.Common.{sum_by}
 use Rattle.std.proofs.Math.Pow.{pow_pos}
 use Rattle.std.proofs.lemmas.Bool.{cond-true, cond-false}
 use Rattle.std.proofs.lemmas.List.Sums.{length-filter}

@@ -1,6 +1,6 @@
 -- Lists with one more entry.
-use Rattle.std.proofs.Common.{◌≡◌, ◌≢◌, ℕ, ◌+◌, ◌-◌, ◌^◌, ◌<◌, ◌≤◌, Bool, true, false, List, [], ◌∷◌, ◌++◌, length, Some, None, refl, ap, sym, ◌∙◌, inl, inr, arith, eqb, ◌||◌, is_some}
-use Rattle.roman_order.proofs.Common.{list_any, position_from, IsDistinct, or-false, cases_eq, cases_Bool, ne_eqb, map_push, length-map, list_any-append, Entry, list_any-map, nodes_of, has_entry, place_in_list, IsPlaced}
+use Rattle.roman_order.proofs.Common.{◌≡◌, ◌≢◌, ℕ, ◌+◌, ◌-◌, ◌^◌, ◌<◌, ◌≤◌, Bool, true, false, List, [], ◌∷◌, ◌++◌, length, Some, None, refl, ap, sym, ◌∙◌, inl, inr, arith, eqb, ◌||◌, list_any, position_from, IsDistinct, or-false, cases_eq, cases_Bool, ne_eqb, map_push, length-map, list_any-append, Entry, list_any-map, nodes_of, has_entry, place_in_list, IsPlaced}
+use Rattle.std.proofs.Common.{is_some}
 use Rattle.std.proofs.lemmas.Bool.{false≢true}
 use Rattle.std.proofs.lemmas.Cmp.{nat_eq_equiv}
 use Rattle.std.proofs.lemmas.Map.Keys.{IsDistinct-push}

@@ -1,6 +1,5 @@
 -- The entries from a place of the list on.
-use Rattle.std.proofs.Common.{◌≡◌, ℕ, zero, suc, ◌+◌, ◌-◌, ◌*◌, ◌<◌, ◌≤◌, true, List, [], ◌∷◌, ◌++◌, map, length, get_or, take, drop, Some, slice_get, inl, inr, refl, sym, ap, ◌∙◌, subst, arith, eqb, length-append}
-use Rattle.roman_order.proofs.Common.{AllByRecursion, drop-cons, cases_lt, eq-eqb, or_left, or_right, length-drop, list_any-append, flat_map-append, Entry, Board, as_entry, set_lanes, has_entry, IsEvent, entries_at, entries_of, board_of, firsts_of, AreCounted, IsSound, Event, Inside}
+use Rattle.roman_order.proofs.Common.{◌≡◌, ℕ, zero, suc, ◌+◌, ◌-◌, ◌*◌, ◌<◌, ◌≤◌, true, List, [], ◌∷◌, ◌++◌, map, length, get_or, take, drop, Some, slice_get, inl, inr, refl, sym, ap, ◌∙◌, subst, arith, eqb, length-append, AllByRecursion, drop-cons, cases_lt, eq-eqb, or_left, or_right, length-drop, list_any-append, flat_map-append, Entry, Board, as_entry, set_lanes, has_entry, IsEvent, entries_at, entries_of, board_of, firsts_of, AreCounted, IsSound, Event, Inside}
 use Rattle.std.proofs.Math.ListN.{drop_of_length-le}
 use Rattle.std.proofs.Math.Nat.{lt_of_mul-lt-mul_right}
 use Rattle.std.proofs.Math.Seq.{drop-append_seam, drop-append-add}

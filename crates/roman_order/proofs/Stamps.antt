@@ -1,6 +1,5 @@
 -- Places and stamps.
-use Rattle.std.proofs.Common.{◌≡◌, ℕ, zero, suc, ◌+◌, ◌*◌, ◌<◌, ◌≤◌, Bool, true, false, cond, ◌&&◌, filter, take, drop, List, [], ◌∷◌, ◌++◌, map, length, get_or, Some, None, slice_get, refl, sym, ap, ◌∙◌, subst, inl, inr, arith, eqb, append_assoc, append-nil, length-append}
-use Rattle.roman_order.proofs.Common.{list_any, position_from, IsDistinct, AllByRecursion, set, same_from_place, and_parts, eqb-true, cases_eq, cases_Bool, eq-eqb, ne_eqb, both_ways, or_from, or_left, or_right, list_any-append, map_push, length-map, length-set, get_or-set_same, get_or-set_other, IsDistinct-head, IsDistinct-tail, Entry, Reason, as_entry, set_lanes, nodes_of, has_entry, place_in_list, below, filter_below_more, list_any-map, none_from, filter_in, from_below, is_on, IsEvent, entries_at, entries_of, AreStamps, Event}
+use Rattle.roman_order.proofs.Common.{◌≡◌, ℕ, zero, suc, ◌+◌, ◌*◌, ◌<◌, ◌≤◌, Bool, true, false, cond, ◌&&◌, filter, take, drop, List, [], ◌∷◌, ◌++◌, map, length, get_or, Some, None, slice_get, refl, sym, ap, ◌∙◌, subst, inl, inr, arith, eqb, append_assoc, append-nil, length-append, list_any, position_from, IsDistinct, AllByRecursion, set, same_from_place, and_parts, eqb-true, cases_eq, cases_Bool, eq-eqb, ne_eqb, both_ways, or_from, or_left, or_right, list_any-append, map_push, length-map, length-set, get_or-set_same, get_or-set_other, IsDistinct-head, IsDistinct-tail, Entry, Reason, as_entry, set_lanes, nodes_of, has_entry, place_in_list, below, filter_below_more, list_any-map, none_from, filter_in, from_below, is_on, IsEvent, entries_at, entries_of, AreStamps, Event}
 use Rattle.std.proofs.lemmas.Bool.{or_parts}
 use Rattle.std.proofs.lemmas.Option.{get_or_from_slice_get}
 use Rattle.std.proofs.lemmas.List.{map-append}

@@ -1,6 +1,5 @@
 -- The waiting events in the tables of an order.
-use Rattle.std.proofs.Common.{◌≡◌, ℕ, ◌+◌, ◌*◌, ◌<◌, ◌≤◌, true, false, ◌∷◌, length, get_or, drop, arith}
-use Rattle.roman_order.proofs.Common.{set, drop-cons, get_or_read, Board, as_entry, set_lanes, entries_of, board_of, CanWait, IsSized, IsSound, Event, Inside, is_on}
+use Rattle.roman_order.proofs.Common.{◌≡◌, ℕ, ◌+◌, ◌*◌, ◌<◌, ◌≤◌, true, false, ◌∷◌, length, get_or, drop, arith, set, drop-cons, get_or_read, Board, as_entry, set_lanes, entries_of, board_of, CanWait, IsSized, IsSound, Event, Inside, is_on}
 use Rattle.std.proofs.lemmas.List.{drop-set}
 use Rattle.roman_order.proofs.Lanes.{without_lane, without_first, set_lanes-first}
 use Rattle.roman_order.proofs.Events.{later, first_waiting}

@@ -1,6 +1,5 @@
 -- Rows as parts of bands.
-use Rattle.std.proofs.Common.{◌≡◌, ℕ, ◌+◌, ◌*◌, ◌/◌, ◌%◌, ◌<◌, ◌≤◌, ◌-◌, ◌⊎◌, length, ap, ◌∙◌, arith}
-use Rattle.roman_relation.proofs.Common.{cases_lt, mul-le, mul-add-lt, div_below, div-add-mod', mod_below, Arena, Board, IsShaped}
+use Rattle.roman_relation.proofs.Common.{◌≡◌, ℕ, ◌+◌, ◌*◌, ◌/◌, ◌%◌, ◌<◌, ◌≤◌, ◌-◌, ◌⊎◌, length, ap, ◌∙◌, arith, cases_lt, mul-le, mul-add-lt, div_below, div-add-mod', mod_below, Arena, Board, IsShaped}
 use Rattle.std.proofs.Math.Nat.{div-le_self}
 use Rattle.roman_relation.proofs.Lanes.{lane_place, shaped_pairs, shaped_rows}
 

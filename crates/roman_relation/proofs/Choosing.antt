@@ -1,6 +1,5 @@
 -- The number of seats in all masks.
-use Rattle.std.proofs.Common.{◌≡◌, ℕ, zero, suc, ◌+◌, ◌*◌, sum_by, sym, ap, ◌∙◌, arith}
-use Rattle.roman_relation.proofs.Common.{sum_by_push, below}
+use Rattle.roman_relation.proofs.Common.{◌≡◌, ℕ, zero, suc, ◌+◌, ◌*◌, sum_by, sym, ap, ◌∙◌, arith, sum_by_push, below}
 use Rattle.roman_rules.proofs.CallerLemmas.{sum_further}
 
 -- a sum over rows and lanes is a sum over all pairs

@@ -1,7 +1,8 @@
 -- The names that several proof pages of this crate cite, passed on from one place. Declares nothing.
+pub use Rattle.std.proofs.Common.{Bool, IsFalse, IsTrue, List, Some, [], ap, append_assoc, ap₂, arith, cond, drop, false, inl, inr, length, not, refl, rules, slice_get, slice_index, subst, suc, sum_by, sym, take, take-append-drop, true, zero, ℕ, ◌%◌, ◌&&◌, ◌*◌, ◌++◌, ◌+◌, ◌-◌, ◌/◌, ◌<◌, ◌==◌, ◌||◌, ◌∙◌, ◌∷◌, ◌≡◌, ◌≢◌, ◌≤◌, ◌⊎◌}
 pub use Rattle.std.proofs.Math.Seq.{take-append_seam, take-length}
 pub use Rattle.std.proofs.lemmas.Bool.{and_from, and_parts, both_ways, cases_eq, cases_lt, eq-eqb, eqb-true, false_from_ne_true, lt-ltb, ne_eqb, not-true, not_from_false, not_from_true, or_cases, or_left, or_parts, or_right}
-pub use Rattle.std.proofs.lemmas.List.{get_or_past, length_push, take-take}
+pub use Rattle.std.proofs.lemmas.List.{get_or-take, get_or_past, length-take-le, length_push, take-take}
 pub use Rattle.std.proofs.lemmas.List.Folds.{list_any-append}
 pub use Rattle.std.proofs.lemmas.List.Sums.{sum_by_push}
 pub use Rattle.std.proofs.lemmas.Nat.{div-add-mod', div_below, mod_below, mul-add-lt, mul-le}

@@ -1,6 +1,5 @@
 -- Orders that extend others.
-use Rattle.std.proofs.Common.{◌≡◌, ℕ, ◌+◌, ◌*◌, List, ◌++◌, length, take, drop, refl, sym, ap, ap₂, ◌∙◌, subst, take-append-drop, arith}
-use Rattle.roman_relation.proofs.Common.{take-append_seam, take-length, Arena, Entry, IsOrder, fall, fall_append, Board, IsShaped, Begins, SettlesOn}
+use Rattle.roman_relation.proofs.Common.{◌≡◌, ℕ, ◌+◌, ◌*◌, List, ◌++◌, length, take, drop, refl, sym, ap, ap₂, ◌∙◌, subst, take-append-drop, arith, take-append_seam, take-length, Arena, Entry, IsOrder, fall, fall_append, Board, IsShaped, Begins, SettlesOn}
 use Rattle.roman_relation.proofs.Beginnings.{begins_itself, begins_on}
 
 pub begins_append : (L M : List (Entry ℕ)) → Begins L (L ++ M)

@@ -1,6 +1,5 @@
 -- Pairs as lanes of rows.
-use Rattle.std.proofs.Common.{◌≡◌, ℕ, ◌+◌, ◌*◌, ◌/◌, ◌%◌, ◌<◌, Bool, false, not, List, length, slice_index, IsFalse, sym, ap, ap₂, ◌∙◌, arith}
-use Rattle.roman_relation.proofs.Common.{both_ways, not_from_false, div-add-mod', div_below, mod_below, Arena, Entry, is_listed, is_on, HasLanes, on_zero, IsNumbered, Board, has_entry, IsShaped, AreUnlisted, on_at}
+use Rattle.roman_relation.proofs.Common.{◌≡◌, ℕ, ◌+◌, ◌*◌, ◌/◌, ◌%◌, ◌<◌, Bool, false, not, List, length, slice_index, IsFalse, sym, ap, ap₂, ◌∙◌, arith, both_ways, not_from_false, div-add-mod', div_below, mod_below, Arena, Entry, is_listed, is_on, HasLanes, on_zero, IsNumbered, Board, has_entry, IsShaped, AreUnlisted, on_at}
 use Rattle.std.proofs.lemmas.Nat.{same_from_place}
 use Rattle.roman_lanes.specs.Rows.{AreRows}
 use Rattle.roman_relation.proofs.Beginnings.{listed_is}

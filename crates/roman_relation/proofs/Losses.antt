@@ -1,6 +1,6 @@
 -- Noting the entries of an event together.
-use Rattle.std.proofs.Common.{◌≡◌, ◌≢◌, ℕ, zero, suc, ◌+◌, ◌*◌, ◌^◌, ◌<◌, ◌≤◌, true, false, ◌&&◌, List, [], ◌∷◌, ◌++◌, length, take, drop, slice_index, IsTrue, inl, inr, refl, sym, ap, ap₂, ◌∙◌, subst, arith, bit_and, take-append-drop, ◌==◌}
-use Rattle.roman_relation.proofs.Common.{both_ways, false_from_ne_true, and_from, and_parts, or_left, or_right, eq-eqb, list_any-append, IsIn, below, Arena, Entry, is_listed, back, fall, in_map, from_map, in_below, is_on, on_zero, IsNumbered, Board, as_entry, set_lanes, has_entry, IsEvent, entries_at, Event, in_lanes, IsMarking, on_at}
+use Rattle.roman_relation.proofs.Common.{◌≡◌, ◌≢◌, ℕ, zero, suc, ◌+◌, ◌*◌, ◌<◌, ◌≤◌, true, false, ◌&&◌, List, [], ◌∷◌, ◌++◌, length, take, drop, slice_index, IsTrue, inl, inr, refl, sym, ap, ap₂, ◌∙◌, subst, arith, take-append-drop, ◌==◌, both_ways, false_from_ne_true, and_from, and_parts, or_left, or_right, eq-eqb, list_any-append, IsIn, below, Arena, Entry, is_listed, back, fall, in_map, from_map, in_below, is_on, on_zero, IsNumbered, Board, as_entry, set_lanes, has_entry, IsEvent, entries_at, Event, in_lanes, IsMarking, on_at}
+use Rattle.std.proofs.Common.{◌^◌, bit_and}
 use Rattle.std.proofs.lemmas.Nat.{and_le_l}
 use Rattle.std.proofs.lemmas.List.Sums.{sum_by-cons}
 use Rattle.roman_model.proofs.CallerLemmas.{sum_by_within, in_filter}

@@ -1,6 +1,5 @@
 -- Clearing marks one by one, and noting bands.
-use Rattle.std.proofs.Common.{◌≡◌, ◌≢◌, ℕ, zero, suc, ◌+◌, ◌*◌, ◌/◌, ◌%◌, ◌<◌, Bool, true, false, cond, not, List, [], ◌∷◌, ◌++◌, length, take, Some, slice_get, slice_index, IsTrue, inl, inr, refl, sym, ap, ◌∙◌, arith}
-use Rattle.roman_relation.proofs.Common.{count_by, cases_eq, cases_lt, both_ways, not_from_true, not_from_false, not-true, false_from_ne_true, or_cases, eqb-true, sum_by_push, get_or_past, get_or_from_slice_get, slice_get_within, mod_below, div-add-mod', IsIn, below, Arena, Entry, is_listed, back, fall, from_below, sum_by_same, in_listed, listed_push, is_on, HasLanes, has_flag, IsNumbered, numbered_same, Board, is_marked, IsMarking, on_at}
+use Rattle.roman_relation.proofs.Common.{◌≡◌, ◌≢◌, ℕ, zero, suc, ◌+◌, ◌*◌, ◌/◌, ◌%◌, ◌<◌, Bool, true, false, cond, not, List, [], ◌∷◌, ◌++◌, length, take, Some, slice_get, slice_index, IsTrue, inl, inr, refl, sym, ap, ◌∙◌, arith, count_by, cases_eq, cases_lt, both_ways, not_from_true, not_from_false, not-true, false_from_ne_true, or_cases, eqb-true, sum_by_push, get_or_past, get_or_from_slice_get, slice_get_within, mod_below, div-add-mod', IsIn, below, Arena, Entry, is_listed, back, fall, from_below, sum_by_same, in_listed, listed_push, is_on, HasLanes, has_flag, IsNumbered, numbered_same, Board, is_marked, IsMarking, on_at}
 use Rattle.std.proofs.lemmas.List.{take_more}
 use Rattle.std.proofs.lemmas.Nat.Bits.{bit_at-zero}
 use Rattle.roman_model.proofs.CallerLemmas.{contains_in, fall_push}

@@ -1,8 +1,8 @@
 -- Relations with a complete list, and the greatest ND-simulation.
-use Rattle.std.proofs.Common.{◌≡◌, ◌≢◌, ℕ, ◌+◌, ◌<◌, ◌≤◌, ◌↔◌, ◌⊎◌, Bool, true, not, List, [], ◌∷◌, length, filter, IsTrue, inl, inr, refl, sym, ap, ◌∙◌, subst, arith}
+use Rattle.roman_relation.proofs.Common.{◌≡◌, ◌≢◌, ℕ, ◌+◌, ◌<◌, ◌≤◌, ◌⊎◌, Bool, true, not, List, [], ◌∷◌, length, IsTrue, inl, inr, refl, sym, ap, ◌∙◌, subst, arith, below, Arena, Entry, is_listed, sizes_of, count, length-below, in_listed, system_of, Board, pairs_of, has_entry, IsSettled, AreLevels, arena_of}
+use Rattle.std.proofs.Common.{◌↔◌, filter}
 use Rattle.std.proofs.Math.Bool.{not-not}
 use Rattle.std.proofs.Math.Nat.{le-div_iff_mul-le}
-use Rattle.roman_relation.proofs.Common.{below, Arena, Entry, is_listed, sizes_of, count, length-below, in_listed, system_of, Board, pairs_of, has_entry, IsSettled, AreLevels, arena_of}
 use Rattle.roman_model.specs.System.{Sys}
 use Rattle.roman_model.specs.SystemArena.{pairs}
 use Rattle.roman_model.specs.Arena.{choices}

@@ -1,6 +1,5 @@
 -- The parts of rows that stay together when a service dies.
-use Rattle.std.proofs.Common.{◌≡◌, ℕ, zero, suc, ◌+◌, ◌-◌, ◌*◌, ◌/◌, ◌%◌, ◌^◌, ◌<◌, ◌≤◌, Bool, true, false, ◌&&◌, List, [], ◌∷◌, map, length, drop, filter, eqb, remove, slice_index, inl, inr, refl, sym, ap, ap₂, ◌∙◌, subst, arith, bit_and}
-use Rattle.roman_repair.proofs.Common.{bit_at, mul-le-mul_left, cases_lt, both_ways, div-add-mod', bit_at_cat_high, below, product_of, Sizes, count, pair_at, number_without, is_on, on_and, on_full, on_full_past, AreSizes, IsSizes, low_of, lanes_of, row_mod, lanes_few, set_lanes, IsPart}
+use Rattle.roman_repair.proofs.Common.{◌≡◌, ℕ, zero, suc, ◌+◌, ◌-◌, ◌*◌, ◌/◌, ◌%◌, ◌^◌, ◌<◌, ◌≤◌, Bool, true, false, ◌&&◌, List, [], ◌∷◌, map, length, drop, filter, eqb, remove, slice_index, inl, inr, refl, sym, ap, ap₂, ◌∙◌, subst, arith, bit_and, bit_at, mul-le-mul_left, cases_lt, both_ways, div-add-mod', bit_at_cat_high, below, product_of, Sizes, count, pair_at, number_without, is_on, on_and, on_full, on_full_past, AreSizes, IsSizes, low_of, lanes_of, row_mod, lanes_few, set_lanes, IsPart}
 use Rattle.std.proofs.lemmas.Nat.{shr-shr, pow_pos, mul-le}
 use Rattle.std.proofs.lemmas.Nat.Bits.{bit_at-zero, bit_at_cat_low, shr_and_one}
 use Rattle.roman_model.proofs.CallerLemmas.{by_test, part_at}

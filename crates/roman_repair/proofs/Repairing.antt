@@ -1,6 +1,5 @@
 -- The end of a repair, in numbers of pairs.
-use Rattle.std.proofs.Common.{◌≡◌, ℕ, ◌+◌, ◌<◌, true, List, [], length, arith}
-use Rattle.roman_repair.proofs.Common.{length-map, Sys, IsSys, Entry, IsOrder, replay, Change, after, CanChange, sizes_of, pair_at, numbered, rename_numbers, NumbersReplay, AreNumbers, NamedSys, system_of, IsNamedSys, Board, pairs_of, has_entry, Begins, arena_of, HasCaps, IsRelation, listed_numbers, Tally, IsRepaired, IsBegun, candidates, with_replay, IsReplayable}
+use Rattle.roman_repair.proofs.Common.{◌≡◌, ℕ, ◌+◌, ◌<◌, true, List, [], length, arith, length-map, Sys, IsSys, Entry, IsOrder, replay, Change, after, CanChange, sizes_of, pair_at, numbered, rename_numbers, NumbersReplay, AreNumbers, NamedSys, system_of, IsNamedSys, Board, pairs_of, has_entry, Begins, arena_of, HasCaps, IsRelation, listed_numbers, Tally, IsRepaired, IsBegun, candidates, with_replay, IsReplayable}
 use Rattle.std.proofs.lemmas.List.{take-map}
 use Rattle.roman_model.specs.SystemArena.{arena}
 use Rattle.roman_model.specs.Numbers.{IsCompleteList}

@@ -1,5 +1,4 @@
-use Rattle.std.proofs.Common.{◌/◌, ◌%◌, ap, get_or, eqb}
-use Rattle.roman_order.proofs.Common.{shr_and_one, has_flag}
+use Rattle.roman_order.proofs.Common.{◌/◌, ◌%◌, ap, get_or, eqb, shr_and_one, has_flag}
 use Rattle.roman_order.proofs.flags.has.Goals as goal
 
 pub returns : goal.returns

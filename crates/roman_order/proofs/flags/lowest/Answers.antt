@@ -1,5 +1,4 @@
-use Rattle.std.proofs.Common.{ap, eqb, arith}
-use Rattle.roman_order.proofs.Common.{w64, eq-eqb, bit_at-trailing_zeros, is_on}
+use Rattle.roman_order.proofs.Common.{ap, eqb, arith, w64, eq-eqb, bit_at-trailing_zeros, is_on}
 use Rattle.roman_order.proofs.flags.lowest.Goals as goal
 
 pub returns-clause-within : goal.returns-clause-within

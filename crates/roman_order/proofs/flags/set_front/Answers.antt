@@ -1,5 +1,4 @@
-use Rattle.std.proofs.Common.{arith}
-use Rattle.roman_order.proofs.Common.{set, length-replicate, length-drop, get_or-set_same, get_or-set_other, full_word}
+use Rattle.roman_order.proofs.Common.{arith, set, length-replicate, length-drop, get_or-set_same, get_or-set_other, full_word}
 use Rattle.std.proofs.lemmas.List.{length-append}
 use Rattle.roman_order.proofs.Words.{has_flag-front, front_table, front_filled, front_full, front_rest}
 use Rattle.roman_order.proofs.flags.set_front.Goals as goal

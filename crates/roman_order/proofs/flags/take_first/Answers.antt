@@ -1,5 +1,4 @@
-use Rattle.std.proofs.Common.{◌≡◌, ◌+◌, ◌*◌, ◌%◌, sym, ◌∙◌, arith}
-use Rattle.roman_order.proofs.Common.{get_or-set_same, on_clear_same, on_clear_other}
+use Rattle.roman_order.proofs.Common.{◌≡◌, ◌+◌, ◌*◌, ◌%◌, sym, ◌∙◌, arith, get_or-set_same, on_clear_same, on_clear_other}
 use Rattle.roman_order.proofs.Words.{has_flag-others, has_flag-at}
 use Rattle.roman_order.proofs.flags.take_first.Goals as goal
 

@@ -1,6 +1,5 @@
-use Rattle.std.proofs.Common.{◌++◌, length, sym, ap, ◌∙◌, arith, rules, append_assoc, append-nil, length-append}
+use Rattle.roman_order.proofs.Common.{◌++◌, length, sym, ap, ◌∙◌, arith, rules, append_assoc, append-nil, length-append, chunks_rest}
 use Rattle.std.proofs.lemmas.List.{nil_from_length}
-use Rattle.roman_order.proofs.Common.{chunks_rest}
 use Rattle.roman_order.proofs.order.rewrite.Goals as goal
 
 pub loop-piece-init : goal.loop-piece-init

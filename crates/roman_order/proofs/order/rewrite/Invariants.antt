@@ -1,5 +1,4 @@
-use Rattle.std.proofs.Common.{◌≡◌, ◌≤◌, ◌++◌, vec_capacity}
-use Rattle.roman_order.proofs.Common.{chunks_rest}
+use Rattle.roman_order.proofs.Common.{◌≡◌, ◌≤◌, ◌++◌, vec_capacity, chunks_rest}
 use Rattle.std.specs.Slice.Iter.{chunks_size}
 use Rattle.roman_order.proofs.order.rewrite.Given as goal
 

@@ -1,5 +1,4 @@
-use Rattle.std.proofs.Common.{◌≡◌, ℕ, ◌+◌, ◌*◌, length, sum_by, ap, ◌∙◌, arith}
-use Rattle.roman_relation.proofs.Common.{below, is_listed, mask, sum_by_same, sum_below_more}
+use Rattle.roman_relation.proofs.Common.{◌≡◌, ℕ, ◌+◌, ◌*◌, length, sum_by, ap, ◌∙◌, arith, below, is_listed, mask, sum_by_same, sum_below_more}
 use Rattle.roman_rules.proofs.CallerLemmas.{sum_turned}
 use Rattle.roman_relation.proofs.Bands.{band_begins}
 use Rattle.roman_relation.proofs.Lanes.{words_rows, shaped_pairs}

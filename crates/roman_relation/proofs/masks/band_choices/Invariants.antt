@@ -1,5 +1,4 @@
-use Rattle.std.proofs.Common.{◌≡◌, ◌+◌, ◌*◌, ◌≤◌, length, sum_by}
-use Rattle.roman_relation.proofs.Common.{below, is_listed, mask}
+use Rattle.roman_relation.proofs.Common.{◌≡◌, ◌+◌, ◌*◌, ◌≤◌, length, sum_by, below, is_listed, mask}
 use Rattle.roman_relation.proofs.masks.band_choices.Given as goal
 
 -- the actions so far are counted

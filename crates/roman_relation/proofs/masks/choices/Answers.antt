@@ -1,5 +1,4 @@
-use Rattle.std.proofs.Common.{◌≡◌, ℕ, ◌+◌, ◌*◌, length, sum_by, sym, ap, ◌∙◌, arith}
-use Rattle.roman_relation.proofs.Common.{below, is_listed, mask, sum_below_more}
+use Rattle.roman_relation.proofs.Common.{◌≡◌, ℕ, ◌+◌, ◌*◌, length, sum_by, sym, ap, ◌∙◌, arith, below, is_listed, mask, sum_below_more}
 use Rattle.roman_relation.proofs.Bands.{band_ends, whole_bands}
 use Rattle.roman_relation.proofs.Choosing.{sum_rows}
 use Rattle.roman_relation.proofs.masks.choices.Goals as goal

@@ -1,5 +1,4 @@
-use Rattle.std.proofs.Common.{◌≡◌, ◌+◌, ◌*◌, ◌/◌, ◌%◌, sym, ap, ◌∙◌, subst}
-use Rattle.roman_relation.proofs.Common.{div-add-mod', is_listed, mask}
+use Rattle.roman_relation.proofs.Common.{◌≡◌, ◌+◌, ◌*◌, ◌/◌, ◌%◌, sym, ap, ◌∙◌, subst, div-add-mod', is_listed, mask}
 use Rattle.roman_model.specs.System.{has}
 use Rattle.roman_rules.specs.Bits.{HasBits}
 use Rattle.roman_relation.proofs.Lanes.{words_rows}

@@ -1,5 +1,4 @@
-use Rattle.std.proofs.Common.{◌≡◌, ◌/◌, ◌<◌, IsFalse, refl, sym, ap, ◌∙◌, subst, arith}
-use Rattle.roman_relation.proofs.Common.{both_ways, lt-ltb, div_below, IsOrder, is_listed, Board, is_marked, AreUnlisted}
+use Rattle.roman_relation.proofs.Common.{◌≡◌, ◌/◌, ◌<◌, IsFalse, refl, sym, ap, ◌∙◌, subst, arith, both_ways, lt-ltb, div_below, IsOrder, is_listed, Board, is_marked, AreUnlisted}
 use Rattle.roman_relation.proofs.Bands.{whole_bands}
 use Rattle.roman_relation.proofs.Going.{SameFrame, shaped_on, shaped_like}
 use Rattle.roman_relation.proofs.Lanes.{shaped_row, words_rows}

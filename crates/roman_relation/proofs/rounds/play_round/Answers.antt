@@ -1,5 +1,4 @@
-use Rattle.std.proofs.Common.{◌≡◌, ℕ, ◌+◌, ◌*◌, ◌<◌, suc, List, length, take, drop, IsTrue, IsFalse, refl, sym, ap, ◌∙◌, subst, arith, rules}
-use Rattle.roman_relation.proofs.Common.{Entry, IsOrder, is_listed, is_justified, Act, Board, has_entry, Begins, IsSettled, HoldsLost, InRound, IsPairJudged, moves_to_all}
+use Rattle.roman_relation.proofs.Common.{◌≡◌, ℕ, ◌+◌, ◌*◌, ◌<◌, suc, List, length, take, drop, IsTrue, IsFalse, refl, sym, ap, ◌∙◌, subst, arith, rules, Entry, IsOrder, is_listed, is_justified, Act, Board, has_entry, Begins, IsSettled, HoldsLost, InRound, IsPairJudged, moves_to_all}
 use Rattle.roman_relation.proofs.Backs.{none_back}
 use Rattle.roman_relation.proofs.Beginnings.{begins_unlisted}
 use Rattle.roman_relation.proofs.Going.{SameFrame, shaped_like, same_list}

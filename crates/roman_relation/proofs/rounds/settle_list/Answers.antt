@@ -1,5 +1,4 @@
-use Rattle.std.proofs.Common.{◌≡◌, ℕ, suc, ◌<◌, true, [], ◌∷◌, ◌++◌, length, refl, sym, ap, ◌∙◌, subst, arith}
-use Rattle.roman_relation.proofs.Common.{eqb-true, length_push, fall, Board, has_entry, Begins, HoldsLost, RisesByDepth, AreLevels}
+use Rattle.roman_relation.proofs.Common.{◌≡◌, ℕ, suc, ◌<◌, true, [], ◌∷◌, ◌++◌, length, refl, sym, ap, ◌∙◌, subst, arith, eqb-true, length_push, fall, Board, has_entry, Begins, HoldsLost, RisesByDepth, AreLevels}
 use Rattle.std.proofs.lemmas.List.{nil_from_length}
 use Rattle.roman_relation.proofs.Beginnings.{begins_on, begins_length}
 use Rattle.roman_relation.proofs.Going.{SameFrame, fall_added, rest_from}

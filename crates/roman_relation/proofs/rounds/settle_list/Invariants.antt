@@ -1,5 +1,4 @@
-use Rattle.std.proofs.Common.{◌≡◌, ℕ, suc, ◌+◌, ◌-◌, ◌≤◌, true, false, [], length}
-use Rattle.roman_relation.proofs.Common.{fall, pairs_of, Begins, HoldsLost, RisesByDepth, AreLevels, AwaitsRound}
+use Rattle.roman_relation.proofs.Common.{◌≡◌, ℕ, suc, ◌+◌, ◌-◌, ◌≤◌, true, false, [], length, fall, pairs_of, Begins, HoldsLost, RisesByDepth, AreLevels, AwaitsRound}
 use Rattle.roman_relation.proofs.rounds.settle_list.Given as goal
 
 -- rounds were played; from an empty list, the list has the pairs that are lost within as many requests, level by level

@@ -1,5 +1,4 @@
-use Rattle.std.proofs.Common.{◌+◌, ◌*◌, IsTrue, length, sym, ap, subst, arith}
-use Rattle.roman_repair.proofs.Common.{is_justified, readings_of_reason, readings_of-allowed, is_possible}
+use Rattle.roman_repair.proofs.Common.{◌+◌, ◌*◌, IsTrue, length, sym, ap, subst, arith, is_justified, readings_of_reason, readings_of-allowed, is_possible}
 use Rattle.roman_repair.proofs.BandAnswers.{full_lane, kept_of_all}
 use Rattle.roman_repair.proofs.asked_band.ask_band.Goals as goal
 

@@ -1,5 +1,4 @@
-use Rattle.std.proofs.Common.{◌≡◌, ◌+◌, count_by}
-use Rattle.roman_repair.proofs.Common.{below}
+use Rattle.roman_repair.proofs.Common.{◌≡◌, ◌+◌, count_by, below}
 use Rattle.roman_repair.proofs.asked_band.tick_seats.Given as goal
 
 -- one step for each of the seats so far that is ready

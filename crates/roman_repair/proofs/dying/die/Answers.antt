@@ -1,5 +1,4 @@
-use Rattle.std.proofs.Common.{sym, ap, ◌∙◌, subst, remove}
-use Rattle.roman_repair.proofs.Common.{Sys, Die, numbered, system_of, lanes_in, IsShaped}
+use Rattle.roman_repair.proofs.Common.{sym, ap, ◌∙◌, subst, remove, Sys, Die, numbered, system_of, lanes_in, IsShaped}
 use Rattle.roman_repair.proofs.Repairing.{relation_replays, repaired_from}
 use Rattle.roman_repair.proofs.DeathStates.{seat_there}
 use Rattle.roman_repair.proofs.DeathEntries.{left_shaped}

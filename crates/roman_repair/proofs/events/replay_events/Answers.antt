@@ -1,5 +1,4 @@
-use Rattle.std.proofs.Common.{◌≡◌, ◌++◌, refl, ap, ◌∙◌, arith}
-use Rattle.roman_repair.proofs.Common.{is_listed, Board, entries_in}
+use Rattle.roman_repair.proofs.Common.{◌≡◌, ◌++◌, refl, ap, ◌∙◌, arith, is_listed, Board, entries_in}
 use Rattle.roman_repair.proofs.Keeping.{candidates_left}
 use Rattle.roman_repair.proofs.Fronts.{part_first, part_turn, part_cost}
 use Rattle.roman_repair.proofs.events.replay_events.Goals as goal

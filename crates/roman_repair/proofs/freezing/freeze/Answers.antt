@@ -1,5 +1,4 @@
-use Rattle.std.proofs.Common.{true, refl, sym, ap, ◌∙◌, subst}
-use Rattle.roman_repair.proofs.Common.{Sys, numbered, system_of, lanes_in, IsShaped}
+use Rattle.roman_repair.proofs.Common.{true, refl, sym, ap, ◌∙◌, subst, Sys, numbered, system_of, lanes_in, IsShaped}
 use Rattle.roman_model.specs.Change.{Freeze}
 use Rattle.roman_joint.specs.Changes.{with_frozen}
 use Rattle.roman_repair.proofs.Repairing.{relation_replays, repaired_from}

@@ -1,5 +1,4 @@
-use Rattle.std.proofs.Common.{◌≡◌, flat_map, sym, ap, ◌∙◌, subst}
-use Rattle.roman_repair.proofs.Common.{Seat, Join, after, Sizes, AreSizes, lanes_of, AreSlices, grown_numbers, NamedSys, system_of, seat_of, lanes_in}
+use Rattle.roman_repair.proofs.Common.{◌≡◌, flat_map, sym, ap, ◌∙◌, subst, Seat, Join, after, Sizes, AreSizes, lanes_of, AreSlices, grown_numbers, NamedSys, system_of, seat_of, lanes_in}
 use Rattle.roman_repair.proofs.Repairing.{relation_replays}
 use Rattle.roman_repair.proofs.Waiting.{IsReopened, relation_candidates, replayable, reopened_repaired}
 use Rattle.roman_repair.proofs.Joined.{joined_can, joined_candidates, joined_lanes}

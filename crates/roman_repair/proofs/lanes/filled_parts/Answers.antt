@@ -1,5 +1,4 @@
-use Rattle.std.proofs.Common.{◌+◌, ◌-◌, ◌/◌, ◌<◌, ◌≤◌, sym, ap, ◌∙◌, arith}
-use Rattle.roman_repair.proofs.Common.{leading_zeros, trailing_zeros, w64, cases_lt, both_ways, is_on, on_zero}
+use Rattle.roman_repair.proofs.Common.{◌+◌, ◌-◌, ◌/◌, ◌<◌, ◌≤◌, sym, ap, ◌∙◌, arith, leading_zeros, trailing_zeros, w64, cases_lt, both_ways, is_on, on_zero}
 use Rattle.std.proofs.Math.Nat.{div-mul-le_self, lt-div-mul-add, div-le_of_le-mul, div-lt_iff_lt-mul}
 use Rattle.roman_repair.proofs.Fronts.{first_lane, last_lane}
 use Rattle.roman_repair.proofs.lanes.filled_parts.Goals as goal

@@ -1,5 +1,4 @@
-use Rattle.std.proofs.Common.{◌≤◌, inl, inr}
-use Rattle.roman_repair.proofs.Common.{cases_lt, both_ways}
+use Rattle.roman_repair.proofs.Common.{◌≤◌, inl, inr, cases_lt, both_ways}
 use Rattle.roman_repair.proofs.Fronts.{lanes_from_to, is_between}
 use Rattle.roman_repair.proofs.lanes.lanes_between.Goals as goal
 

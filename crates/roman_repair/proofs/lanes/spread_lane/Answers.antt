@@ -1,5 +1,4 @@
-use Rattle.std.proofs.Common.{◌+◌, ◌*◌, [], map, cond, sym, ap, ◌∙◌, arith}
-use Rattle.roman_repair.proofs.Common.{both_ways, below, is_on, on_zero, set_lanes-zero}
+use Rattle.roman_repair.proofs.Common.{◌+◌, ◌*◌, [], map, cond, sym, ap, ◌∙◌, arith, both_ways, below, is_on, on_zero, set_lanes-zero}
 use Rattle.roman_lanes.proofs.CallerLemmas.{on_tested, off_tested}
 use Rattle.roman_repair.proofs.lanes.spread_lane.Goals as goal
 

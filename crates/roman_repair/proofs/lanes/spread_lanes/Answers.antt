@@ -1,5 +1,4 @@
-use Rattle.std.proofs.Common.{◌≡◌, ℕ, ◌+◌, ◌*◌, List, ◌++◌, ap₂, ◌∙◌, arith}
-use Rattle.roman_repair.proofs.Common.{both_ways, is_on, on_zero, set_lanes-zero}
+use Rattle.roman_repair.proofs.Common.{◌≡◌, ℕ, ◌+◌, ◌*◌, List, ◌++◌, ap₂, ◌∙◌, arith, both_ways, is_on, on_zero, set_lanes-zero}
 use Rattle.roman_repair.proofs.Growing.{lanes_joined, joined_within, spread_more}
 use Rattle.roman_repair.proofs.lanes.spread_lanes.Goals as goal
 

@@ -1,5 +1,4 @@
-use Rattle.std.proofs.Common.{◌≡◌, ℕ, ◌*◌, ◌<◌, true}
-use Rattle.roman_repair.proofs.Common.{is_on, set_lanes}
+use Rattle.roman_repair.proofs.Common.{◌≡◌, ℕ, ◌*◌, ◌<◌, true, is_on, set_lanes}
 use Rattle.roman_repair.proofs.Growing.{spread_below}
 use Rattle.roman_repair.proofs.lanes.spread_lanes.Given as goal
 

@@ -1,5 +1,4 @@
-use Rattle.std.proofs.Common.{◌*◌, ap, ◌∙◌}
-use Rattle.roman_repair.proofs.Common.{lanes_of, system_of, Board}
+use Rattle.roman_repair.proofs.Common.{◌*◌, ap, ◌∙◌, lanes_of, system_of, Board}
 use Rattle.roman_repair.proofs.Waiting.{room_to_reopen, shaped_for}
 use Rattle.roman_repair.proofs.reopening.reopen.Goals as goal
 

@@ -1,5 +1,4 @@
-use Rattle.std.proofs.Common.{◌+◌, ◌*◌, ◌/◌, refl, sym, ap, ap₂, ◌∙◌, subst, arith, append-nil}
-use Rattle.roman_repair.proofs.Common.{Board, entries_in, AreCandidates, with_replay, readings_of_entries}
+use Rattle.roman_repair.proofs.Common.{◌+◌, ◌*◌, ◌/◌, refl, sym, ap, ap₂, ◌∙◌, subst, arith, append-nil, Board, entries_in, AreCandidates, with_replay, readings_of_entries}
 use Rattle.roman_repair.proofs.Keeping.{with_replay_append}
 use Rattle.roman_repair.proofs.DeathParts.{part_word, part_end, parts_fit}
 use Rattle.roman_repair.proofs.Growing.{sliced, grown_begin, grown_below, grown_from, grown_next, grown_whole, part_entries, part_candidates, readings_both}

@@ -1,5 +1,4 @@
-use Rattle.std.proofs.Common.{◌≡◌, ◌++◌, flat_map, refl, ap, ◌∙◌, arith}
-use Rattle.roman_repair.proofs.Common.{is_listed, grown_numbers, Board, entries_in}
+use Rattle.roman_repair.proofs.Common.{◌≡◌, ◌++◌, flat_map, refl, ap, ◌∙◌, arith, is_listed, grown_numbers, Board, entries_in}
 use Rattle.roman_repair.proofs.Keeping.{candidates_left, grown_first, grown_turn, grown_cost}
 use Rattle.roman_repair.proofs.replaying.replay.Goals as goal
 

@@ -1,5 +1,4 @@
-use Rattle.std.proofs.Common.{◌≡◌, [], length, sym, ap, ◌∙◌, subst, arith, rules}
-use Rattle.roman_repair.proofs.Common.{replay, readings, NamedSys, joint_numbered, Begins, arena_of, AreCandidates, candidates, with_replay}
+use Rattle.roman_repair.proofs.Common.{◌≡◌, [], length, sym, ap, ◌∙◌, subst, arith, rules, replay, readings, NamedSys, joint_numbered, Begins, arena_of, AreCandidates, candidates, with_replay}
 use Rattle.roman_repair.proofs.Keeping.{candidates_readings}
 use Rattle.roman_repair.proofs.Repairing.{replayed_begun}
 use Rattle.roman_repair.proofs.settling.replay_and_settle_on.Goals as goal

@@ -1,5 +1,4 @@
-use Rattle.std.proofs.Common.{◌<◌, false, flat_map, length, sym, ap, ◌∙◌, arith}
-use Rattle.roman_repair.proofs.Common.{length-map, grown_numbers, NamedSys, system_of, seat_of, lanes_in}
+use Rattle.roman_repair.proofs.Common.{◌<◌, false, flat_map, length, sym, ap, ◌∙◌, arith, length-map, grown_numbers, NamedSys, system_of, seat_of, lanes_in}
 use Rattle.roman_model.specs.Change.{Thaw}
 use Rattle.roman_repair.proofs.Repairing.{relation_replays}
 use Rattle.roman_repair.proofs.Whole.{shaped_turned}

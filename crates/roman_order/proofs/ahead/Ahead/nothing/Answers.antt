@@ -1,5 +1,4 @@
-use Rattle.std.proofs.Common.{arith}
-use Rattle.roman_order.proofs.Common.{both_ways, on_zero}
+use Rattle.roman_order.proofs.Common.{arith, both_ways, on_zero}
 use Rattle.roman_order.proofs.Lanes.{set_lanes-zero}
 use Rattle.roman_order.proofs.ahead.Ahead.nothing.Goals as goal
 

@@ -1,4 +1,4 @@
-use Rattle.std.proofs.Common.{rules}
+use Rattle.roman_order.proofs.Common.{rules}
 use Rattle.roman_order.proofs.Events.{CanWait-nil}
 use Rattle.roman_order.proofs.Tables.{blank_sound}
 use Rattle.roman_order.proofs.order.Order.build.Goals as goal

@@ -1,5 +1,4 @@
-use Rattle.std.proofs.Common.{◌≡◌, ℕ, ◌+◌, ◌*◌, ◌++◌, map, length, drop, ap, ◌∙◌}
-use Rattle.roman_order.proofs.Common.{Board, as_entry, set_lanes}
+use Rattle.roman_order.proofs.Common.{◌≡◌, ℕ, ◌+◌, ◌*◌, ◌++◌, map, length, drop, ap, ◌∙◌, Board, as_entry, set_lanes}
 use Rattle.roman_order.proofs.Lanes.{without_lane, without_first, set_lanes-first, no_lane}
 use Rattle.roman_order.proofs.Reading.{get_first}
 use Rattle.roman_order.proofs.order.Order.entry.Goals as goal

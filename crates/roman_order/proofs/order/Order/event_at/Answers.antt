@@ -1,5 +1,4 @@
-use Rattle.std.proofs.Common.{◌-◌, drop, ap, ◌∙◌, arith}
-use Rattle.roman_order.proofs.Common.{get_or_read, set_lanes}
+use Rattle.roman_order.proofs.Common.{◌-◌, drop, ap, ◌∙◌, arith, get_or_read, set_lanes}
 use Rattle.roman_order.proofs.Events.{fewer}
 use Rattle.roman_order.proofs.Reading.{event_rest, rest_within, some_left, row_within, begins, found}
 use Rattle.roman_order.proofs.Tables.{few}

@@ -1,5 +1,4 @@
-use Rattle.std.proofs.Common.{◌+◌, ap, arith}
-use Rattle.roman_order.proofs.Common.{cases_eq, mul-le, Board}
+use Rattle.roman_order.proofs.Common.{◌+◌, ap, arith, cases_eq, mul-le, Board}
 use Rattle.roman_order.proofs.order.Order.keep_rows.Goals as goal
 
 pub overflow_add-x : goal.overflow_add-x

@@ -1,5 +1,5 @@
-use Rattle.std.proofs.Common.{◌≡◌, ℕ, ◌+◌, ◌<◌, ◌≤◌, ◌⊎◌, not, length, slice_index}
-use Rattle.roman_order.proofs.Common.{HasLanes, has_entry}
+use Rattle.roman_order.proofs.Common.{◌≡◌, ℕ, ◌+◌, ◌<◌, ◌≤◌, not, length, HasLanes, has_entry}
+use Rattle.std.proofs.Common.{◌⊎◌, slice_index}
 use Rattle.roman_order.proofs.order.Order.keep_rows.Given as goal
 
 -- the words of the rows so far are kept

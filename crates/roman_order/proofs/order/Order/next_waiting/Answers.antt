@@ -1,5 +1,4 @@
-use Rattle.std.proofs.Common.{sym, refl, subst, arith, rules}
-use Rattle.roman_order.proofs.Common.{length-set, CanWait}
+use Rattle.roman_order.proofs.Common.{sym, refl, subst, arith, rules, length-set, CanWait}
 use Rattle.roman_order.proofs.Lanes.{without_lane, without_lane-on, without_lane-fits, set_lanes-zero, some_lane, no_lane}
 use Rattle.roman_order.proofs.Events.{fewer, done_waiting, first_pair, left_waiting, rest_waiting}
 use Rattle.roman_order.proofs.Waiting.{next_event, taken, later_event, waiting_first, waits_sound}

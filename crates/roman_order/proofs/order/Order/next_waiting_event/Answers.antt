@@ -1,5 +1,4 @@
-use Rattle.std.proofs.Common.{ap, arith}
-use Rattle.roman_order.proofs.Common.{entries_of}
+use Rattle.roman_order.proofs.Common.{ap, arith, entries_of}
 use Rattle.roman_order.proofs.Events.{rest_waiting}
 use Rattle.roman_order.proofs.Waiting.{next_event, waits_sound}
 use Rattle.roman_order.proofs.order.Order.next_waiting_event.Goals as goal

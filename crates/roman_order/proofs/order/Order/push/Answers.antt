@@ -1,5 +1,4 @@
-use Rattle.std.proofs.Common.{arith}
-use Rattle.roman_order.proofs.Common.{div-add-mod'}
+use Rattle.roman_order.proofs.Common.{arith, div-add-mod'}
 use Rattle.roman_order.proofs.order.Order.push.Goals as goal
 
 pub push_at-requires-clause-alive : goal.push_at-requires-clause-alive

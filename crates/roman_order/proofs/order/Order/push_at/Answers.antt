@@ -1,4 +1,4 @@
-use Rattle.std.proofs.Common.{arith}
+use Rattle.roman_order.proofs.Common.{arith}
 use Rattle.roman_order.proofs.Lanes.{set_lanes-one, one_lane}
 use Rattle.roman_order.proofs.order.Order.push_at.Goals as goal
 

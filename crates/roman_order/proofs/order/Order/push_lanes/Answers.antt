@@ -1,5 +1,4 @@
-use Rattle.std.proofs.Common.{ap, sym, refl, subst, arith, rules, bit_and}
-use Rattle.roman_order.proofs.Common.{w64, bit_not, set, length-set, get_or_read, Board}
+use Rattle.roman_order.proofs.Common.{ap, sym, refl, subst, arith, rules, bit_and, w64, bit_not, set, length-set, get_or_read, Board}
 use Rattle.roman_order.proofs.Lanes.{set_lanes-zero, some_lane}
 use Rattle.roman_order.proofs.Tables.{IsFree, HasRoom, room-row, pushed_sound}
 use Rattle.roman_order.proofs.order.Order.push_lanes.Goals as goal

@@ -1,5 +1,4 @@
-use Rattle.std.proofs.Common.{ap, arith}
-use Rattle.roman_order.proofs.Common.{mul-le, Board}
+use Rattle.roman_order.proofs.Common.{ap, arith, mul-le, Board}
 use Rattle.roman_order.proofs.Lanes.{entries_in_rows-row, has_entry-later}
 use Rattle.roman_order.proofs.order.Order.push_rows.Goals as goal
 

@@ -1,5 +1,4 @@
-use Rattle.std.proofs.Common.{◌≡◌, ◌++◌}
-use Rattle.roman_order.proofs.Common.{entries_in_rows}
+use Rattle.roman_order.proofs.Common.{◌≡◌, ◌++◌, entries_in_rows}
 use Rattle.roman_order.proofs.order.Order.push_rows.Given as goal
 
 -- the rows so far have their entries

@@ -1,5 +1,4 @@
-use Rattle.std.proofs.Common.{vec_capacity, ap, ◌∙◌, arith, rules}
-use Rattle.roman_order.proofs.Common.{length-replicate, Board}
+use Rattle.roman_order.proofs.Common.{vec_capacity, ap, ◌∙◌, arith, rules, length-replicate, Board}
 use Rattle.roman_order.proofs.Tables.{list_waits, blank_sound}
 use Rattle.roman_order.proofs.order.Order.reopen.Goals as goal
 

@@ -1,5 +1,4 @@
-use Rattle.std.proofs.Common.{◌≡◌, ℕ, List, sym, ap, ◌∙◌, arith, rules}
-use Rattle.roman_order.proofs.Common.{Entry, Board, entries_of}
+use Rattle.roman_order.proofs.Common.{◌≡◌, ℕ, List, sym, ap, ◌∙◌, arith, rules, Entry, Board, entries_of}
 use Rattle.roman_order.proofs.Events.{CanWait-nil}
 use Rattle.roman_order.proofs.Tables.{room_for}
 use Rattle.roman_order.proofs.order.Order.reset_to.Goals as goal

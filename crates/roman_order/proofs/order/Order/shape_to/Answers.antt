@@ -1,5 +1,4 @@
-use Rattle.std.proofs.Common.{ap, arith, rules}
-use Rattle.roman_order.proofs.Common.{length-replicate, Board}
+use Rattle.roman_order.proofs.Common.{ap, arith, rules, length-replicate, Board}
 use Rattle.roman_order.proofs.Tables.{blank_sound}
 use Rattle.roman_order.proofs.order.Order.shape_to.Goals as goal
 

@@ -1,4 +1,4 @@
-use Rattle.std.proofs.Common.{arith}
+use Rattle.roman_order.proofs.Common.{arith}
 use Rattle.roman_order.proofs.Places.{place_in_list-from_greatest}
 use Rattle.roman_order.proofs.Tables.{few_listed, few}
 use Rattle.roman_order.proofs.order.Order.stamp.Goals as goal

@@ -1,4 +1,4 @@
-use Rattle.std.proofs.Common.{arith}
+use Rattle.roman_order.proofs.Common.{arith}
 use Rattle.roman_order.proofs.Counts.{count_by-unlisted}
 use Rattle.roman_order.proofs.order.Order.unlisted.Goals as goal
 

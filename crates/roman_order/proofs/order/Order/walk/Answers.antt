@@ -1,5 +1,4 @@
-use Rattle.std.proofs.Common.{◌≡◌, ℕ, ◌+◌, ◌*◌, ◌++◌, map, length, drop, ap, ◌∙◌, arith}
-use Rattle.roman_order.proofs.Common.{Board, as_entry, set_lanes}
+use Rattle.roman_order.proofs.Common.{◌≡◌, ℕ, ◌+◌, ◌*◌, ◌++◌, map, length, drop, ap, ◌∙◌, arith, Board, as_entry, set_lanes}
 use Rattle.roman_order.proofs.Lanes.{without_lane, without_first, set_lanes-first, without_lane-on, no_lane}
 use Rattle.roman_order.proofs.Reading.{get_first, drop_next}
 use Rattle.roman_order.proofs.order.Order.walk.Goals as goal

@@ -1,5 +1,4 @@
-use Rattle.std.proofs.Common.{◌&&◌, eqb, ap, sym, ◌∙◌}
-use Rattle.roman_order.proofs.Common.{bit_at, eq-eqb, shr_and_one, is_on}
+use Rattle.roman_order.proofs.Common.{◌&&◌, eqb, ap, sym, ◌∙◌, bit_at, eq-eqb, shr_and_one, is_on}
 use Rattle.roman_order.proofs.order.places.has_lane.Goals as goal
 
 pub returns-then-row-x : goal.returns-then-row-x

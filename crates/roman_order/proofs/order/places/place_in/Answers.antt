@@ -1,6 +1,5 @@
-use Rattle.std.proofs.Common.{◌≡◌, ℕ, ◌+◌, ◌*◌, ◌/◌, ◌%◌, ◌<◌, false, length, filter, take, Some, ap, sym, ◌∙◌, arith}
+use Rattle.roman_order.proofs.Common.{◌≡◌, ℕ, ◌+◌, ◌*◌, ◌/◌, ◌%◌, ◌<◌, false, length, filter, take, Some, ap, sym, ◌∙◌, arith, or_from, list_any-append, mod_below, div-add-mod', below, is_on, has_entry, place_in_list, entries_at, entries_of}
 use Rattle.std.proofs.Math.Seq.{take-length}
-use Rattle.roman_order.proofs.Common.{or_from, list_any-append, mod_below, div-add-mod', below, is_on, has_entry, place_in_list, entries_at, entries_of}
 use Rattle.roman_order.proofs.Stamps.{part, has_entry-event, place_found, place_none, found_below}
 use Rattle.roman_order.proofs.order.places.place_in.Goals as goal
 

@@ -1,5 +1,4 @@
-use Rattle.std.proofs.Common.{◌≡◌, false, length, take}
-use Rattle.roman_order.proofs.Common.{has_entry, entries_of}
+use Rattle.roman_order.proofs.Common.{◌≡◌, false, length, take, has_entry, entries_of}
 use Rattle.roman_order.proofs.order.places.place_in.Given as goal
 
 -- the pair isn't among the entries of the events before place j

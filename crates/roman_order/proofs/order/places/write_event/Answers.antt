@@ -1,6 +1,5 @@
-use Rattle.std.proofs.Common.{◌≡◌, ◌+◌, ◌++◌, map, length, sym, ap, ◌∙◌, subst, arith, append-nil, length-append, rules}
+use Rattle.roman_order.proofs.Common.{◌≡◌, ◌+◌, ◌++◌, map, length, sym, ap, ◌∙◌, subst, arith, append-nil, length-append, rules, as_entry, set_lanes, AreStamps}
 use Rattle.std.proofs.lemmas.Nat.{and_le_l}
-use Rattle.roman_order.proofs.Common.{as_entry, set_lanes, AreStamps}
 use Rattle.roman_order.proofs.Lanes.{without_lane, without_lane-on, without_first, without_first-less, set_lanes-first, set_lanes-zero}
 use Rattle.roman_order.proofs.Stamps.{stamped_more}
 use Rattle.roman_order.proofs.order.places.write_event.Goals as goal

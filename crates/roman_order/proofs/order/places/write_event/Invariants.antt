@@ -1,5 +1,4 @@
-use Rattle.std.proofs.Common.{◌≡◌, ℕ, true}
-use Rattle.roman_order.proofs.Common.{is_on}
+use Rattle.roman_order.proofs.Common.{◌≡◌, ℕ, true, is_on}
 use Rattle.roman_order.proofs.Stamps.{IsStamped}
 use Rattle.roman_order.proofs.order.places.write_event.Given as goal
 

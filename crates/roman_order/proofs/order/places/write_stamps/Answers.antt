@@ -1,5 +1,4 @@
-use Rattle.std.proofs.Common.{◌≡◌, suc, ◌+◌, ◌*◌, ◌<◌, true, length, take, drop, sym, ◌∙◌, subst, arith, eqb}
-use Rattle.roman_order.proofs.Common.{IsDistinct, nodes_of, has_entry, entries_of, AreStamps}
+use Rattle.roman_order.proofs.Common.{◌≡◌, suc, ◌+◌, ◌*◌, ◌<◌, true, length, take, drop, sym, ◌∙◌, subst, arith, eqb, IsDistinct, nodes_of, has_entry, entries_of, AreStamps}
 use Rattle.roman_order.proofs.Places.{length-le_from_apart}
 use Rattle.roman_order.proofs.Reading.{some_listed}
 use Rattle.roman_order.proofs.Stamps.{part, listed_lane}

@@ -1,5 +1,4 @@
-use Rattle.std.proofs.Common.{◌≡◌, length, take}
-use Rattle.roman_order.proofs.Common.{entries_of, AreStamps}
+use Rattle.roman_order.proofs.Common.{◌≡◌, length, take, entries_of, AreStamps}
 use Rattle.roman_order.proofs.order.places.write_stamps.Given as goal
 
 -- the entries of the events before place j have their stamps

@@ -1,4 +1,4 @@
-use Rattle.std.proofs.Common.{◌-◌, ◌<◌, ◌≤◌, length, get_or}
+use Rattle.roman_order.proofs.Common.{◌-◌, ◌<◌, ◌≤◌, length, get_or}
 use Rattle.roman_order.proofs.order.reading.place_of.Given as goal
 
 -- the event is at place low or later, and before high

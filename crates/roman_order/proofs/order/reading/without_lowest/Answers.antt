@@ -1,5 +1,4 @@
-use Rattle.std.proofs.Common.{length, ap, arith}
-use Rattle.roman_order.proofs.Common.{length-drop, set_lanes}
+use Rattle.roman_order.proofs.Common.{length, ap, arith, length-drop, set_lanes}
 use Rattle.roman_order.proofs.Lanes.{without_lane, without_lane-on, without_first, set_lanes-first, no_lane}
 use Rattle.roman_order.proofs.Reading.{drop_next}
 use Rattle.roman_order.proofs.order.reading.without_lowest.Goals as goal

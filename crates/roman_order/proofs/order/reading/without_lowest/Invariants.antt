@@ -1,5 +1,4 @@
-use Rattle.std.proofs.Common.{◌-◌, ◌≡◌, ℕ, ◌≤◌, true, drop}
-use Rattle.roman_order.proofs.Common.{is_on, set_lanes}
+use Rattle.roman_order.proofs.Common.{◌-◌, ◌≡◌, ℕ, ◌≤◌, true, drop, is_on, set_lanes}
 use Rattle.roman_order.proofs.order.reading.without_lowest.Given as goal
 
 -- the rest is the word without the lanes that were taken

@@ -1,5 +1,4 @@
-use Rattle.std.proofs.Common.{◌≡◌, ◌*◌, [], inr, ap, ◌∙◌, arith}
-use Rattle.roman_relation.proofs.Common.{sizes_of, count, length-below, system_of, Board}
+use Rattle.roman_relation.proofs.Common.{◌≡◌, ◌*◌, [], inr, ap, ◌∙◌, arith, sizes_of, count, length-below, system_of, Board}
 use Rattle.roman_relation.proofs.Relating.{completed, room_for_pairs}
 use Rattle.roman_relation.proofs.relation.Relation.afresh.Goals as goal
 

@@ -1,5 +1,4 @@
-use Rattle.std.proofs.Common.{arith}
-use Rattle.roman_relation.proofs.Common.{sizes_of, count, length-below, system_of}
+use Rattle.roman_relation.proofs.Common.{arith, sizes_of, count, length-below, system_of}
 use Rattle.roman_relation.proofs.Relating.{listed_numbers, alive_related}
 use Rattle.roman_relation.proofs.relation.Relation.related.Goals as goal
 

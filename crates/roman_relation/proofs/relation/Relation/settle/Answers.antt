@@ -1,5 +1,4 @@
-use Rattle.std.proofs.Common.{◌≡◌, [], ap, ◌∙◌}
-use Rattle.roman_relation.proofs.Common.{Board, arena_of}
+use Rattle.roman_relation.proofs.Common.{◌≡◌, [], ap, ◌∙◌, Board, arena_of}
 use Rattle.roman_relation.proofs.Relating.{completed, either_levels}
 use Rattle.roman_relation.proofs.relation.Relation.settle.Goals as goal
 

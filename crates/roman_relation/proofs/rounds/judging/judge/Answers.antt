@@ -1,6 +1,7 @@
-use Rattle.std.proofs.Common.{◌≡◌, ℕ, ◌+◌, ◌-◌, ◌*◌, ◌/◌, ◌<◌, ◌≤◌, true, List, length, take, drop, slice_index, inl, inr, refl, sym, ap, ◌∙◌, subst, arith}
-use Rattle.roman_relation.proofs.Common.{bit_at, cases_eq, eq-eqb, mul-le, by_test, unallowed_unjustified, is_listed, is_on, Board, IsJudged}
-use Rattle.std.proofs.lemmas.List.{get_or-take, get_or-drop, length-drop, length-take-le}
+use Rattle.roman_relation.proofs.Common.{◌≡◌, ℕ, ◌+◌, ◌-◌, ◌*◌, ◌/◌, ◌<◌, ◌≤◌, true, List, length, take, drop, slice_index, inl, inr, refl, sym, ap, ◌∙◌, subst, arith, cases_eq, eq-eqb, mul-le, by_test, is_on, Board, IsJudged, get_or-take, length-take-le}
+use Rattle.std.specs.Int.{bit_at}
+use Rattle.roman_model.proofs.CallerLemmas.{unallowed_unjustified}
+use Rattle.std.proofs.lemmas.List.{get_or-drop, length-drop}
 use Rattle.roman_rules.specs.Bits.{bit_of}
 use Rattle.roman_relation.proofs.Beginnings.{begins_itself, begins_on}
 use Rattle.roman_relation.proofs.Bands.{band_at, band_begins}

@@ -1,5 +1,4 @@
-use Rattle.std.proofs.Common.{◌≡◌, ℕ, ◌+◌, ◌*◌, ◌/◌, ◌<◌, ◌⊎◌, true, length, IsTrue}
-use Rattle.roman_relation.proofs.Common.{is_listed, is_on, Begins, InRound, IsJudged}
+use Rattle.roman_relation.proofs.Common.{◌≡◌, ℕ, ◌+◌, ◌*◌, ◌/◌, ◌<◌, ◌⊎◌, true, length, IsTrue, is_listed, is_on, Begins, InRound, IsJudged}
 use Rattle.roman_relation.proofs.rounds.judging.judge.Given as goal
 
 -- the band's pairs are judged for the actions so far

@@ -1,5 +1,4 @@
-use Rattle.std.proofs.Common.{◌≡◌, ℕ, ◌+◌, ◌*◌, ◌/◌, ◌%◌, ◌<◌, true, length, IsTrue, inl, inr, refl, sym, ap, ◌∙◌, subst, arith, rules}
-use Rattle.roman_relation.proofs.Common.{count_by, cases_eq, both_ways, lt-ltb, mod_below, div_below, below, is_listed, has_flag, Board, is_marked, Begins, IsPairJudged, Arena, IsShaped}
+use Rattle.roman_relation.proofs.Common.{◌≡◌, ℕ, ◌+◌, ◌*◌, ◌/◌, ◌%◌, ◌<◌, true, length, IsTrue, inl, inr, refl, sym, ap, ◌∙◌, subst, arith, rules, count_by, cases_eq, both_ways, lt-ltb, mod_below, div_below, below, is_listed, Arena, has_flag, Board, is_marked, Begins, IsPairJudged, IsShaped}
 use Rattle.std.proofs.lemmas.Bool.{ltb-true}
 use Rattle.roman_relation.proofs.Bands.{band_ends, pair_in, whole_bands}
 use Rattle.roman_relation.proofs.Beginnings.{begins_itself, begins_on}

@@ -1,5 +1,4 @@
-use Rattle.std.proofs.Common.{◌≡◌, ℕ, ◌*◌, ◌/◌, ◌<◌, ◌⊎◌, true, length, IsTrue}
-use Rattle.roman_relation.proofs.Common.{count_by, below, is_listed, is_marked, Begins, InRound, IsPairJudged}
+use Rattle.roman_relation.proofs.Common.{◌≡◌, ℕ, ◌*◌, ◌/◌, ◌<◌, ◌⊎◌, true, length, IsTrue, count_by, below, is_listed, is_marked, Begins, InRound, IsPairJudged}
 use Rattle.roman_relation.proofs.rounds.judging.judge_marked.Given as goal
 
 -- the pairs of each band that was marked are judged, or the band is still marked

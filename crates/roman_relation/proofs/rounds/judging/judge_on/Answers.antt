@@ -1,5 +1,4 @@
-use Rattle.std.proofs.Common.{◌≡◌, ℕ, ◌++◌, length, take, IsTrue, sym, ap, ◌∙◌, subst, arith, rules}
-use Rattle.roman_relation.proofs.Common.{is_listed, is_justified, Act, Keeps, Board, entries_in_rows, Begins, AreUnlisted, InRound}
+use Rattle.roman_relation.proofs.Common.{◌≡◌, ℕ, ◌++◌, length, take, IsTrue, sym, ap, ◌∙◌, subst, arith, rules, is_listed, is_justified, Act, Keeps, Board, entries_in_rows, Begins, AreUnlisted, InRound}
 use Rattle.roman_relation.proofs.Going.{begins_append}
 use Rattle.roman_relation.proofs.Lanes.{words_rows}
 use Rattle.roman_relation.proofs.Pushing.{AreLost, are_lost, lost_free, rows_round, rows_judged, rows_only}

@@ -1,5 +1,5 @@
-use Rattle.std.proofs.Common.{◌≡◌, ℕ, ◌+◌, ◌*◌, ◌/◌, ◌%◌, ◌<◌, ◌≤◌, true, false, not, ◌++◌, ltb, length, slice_index, inl, inr, refl, sym, ap, ◌∙◌, subst, arith, rules}
-use Rattle.roman_relation.proofs.Common.{not_from_true, mod_below, div-add-mod', mul-le, IsIn, is_on, HasLanes, has_flag, count_by, Board, has_entry, entries_at, moves_to_all, on_at}
+use Rattle.roman_relation.proofs.Common.{◌≡◌, ℕ, ◌+◌, ◌*◌, ◌/◌, ◌%◌, ◌<◌, ◌≤◌, true, false, not, ◌++◌, length, slice_index, inl, inr, refl, sym, ap, ◌∙◌, subst, arith, rules, not_from_true, mod_below, div-add-mod', mul-le, IsIn, is_on, HasLanes, has_flag, count_by, Board, has_entry, entries_at, moves_to_all, on_at}
+use Rattle.std.proofs.Common.{ltb}
 use Rattle.std.proofs.lemmas.List.Sums.{count_by-le-length}
 use Rattle.roman_model.specs.Arena.{is_listed, Delegation, back as back_of}
 use Rattle.roman_order.proofs.CallerLemmas.{rewritten_whole}

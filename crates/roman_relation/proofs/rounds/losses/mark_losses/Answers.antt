@@ -1,6 +1,6 @@
-use Rattle.std.proofs.Common.{◌≡◌, ◌+◌, ℕ, ◌≤◌, true, [], ◌++◌, length, take, drop, refl, sym, ap, ◌∙◌, subst, arith, take-append-drop, append-nil, append_assoc}
+use Rattle.roman_relation.proofs.Common.{◌≡◌, ◌+◌, ℕ, ◌≤◌, true, [], ◌++◌, length, take, drop, refl, sym, ap, ◌∙◌, subst, arith, take-append-drop, append_assoc, IsOrder, fall, fall_append, is_on, Board, set_lanes, IsEvent, entries_at, IsMarking, moves_to_all}
+use Rattle.std.proofs.Common.{append-nil}
 use Rattle.std.proofs.lemmas.List.{take_all}
-use Rattle.roman_relation.proofs.Common.{IsOrder, fall, fall_append, is_on, Board, set_lanes, IsEvent, entries_at, IsMarking, moves_to_all}
 use Rattle.roman_order.proofs.CallerLemmas.{length-entries_at}
 use Rattle.roman_relation.proofs.Backs.{all_back, event_new, none_moves, take_entries}
 use Rattle.roman_relation.proofs.Losses.{event_listed, noted_entries, fall_entries, entries_off}

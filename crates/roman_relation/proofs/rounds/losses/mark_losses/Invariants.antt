@@ -1,5 +1,4 @@
-use Rattle.std.proofs.Common.{◌≡◌, ℕ, ◌+◌, ◌-◌, ◌≤◌, ◌++◌, List, take}
-use Rattle.roman_relation.proofs.Common.{Entry, fall, IsMarking, AreGoneBack, moves_to_all}
+use Rattle.roman_relation.proofs.Common.{◌≡◌, ℕ, ◌+◌, ◌-◌, ◌≤◌, ◌++◌, List, take, Entry, fall, IsMarking, AreGoneBack, moves_to_all}
 use Rattle.roman_relation.proofs.rounds.losses.mark_losses.Given as goal
 
 -- the entries so far are noted

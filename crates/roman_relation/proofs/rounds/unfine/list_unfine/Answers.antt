@@ -1,5 +1,4 @@
-use Rattle.std.proofs.Common.{◌*◌, IsTrue, IsFalse, inl, inr, sym, ap, ◌∙◌, subst, arith}
-use Rattle.roman_relation.proofs.Common.{cases_lt, is_listed, Board}
+use Rattle.roman_relation.proofs.Common.{◌*◌, IsTrue, IsFalse, inl, inr, sym, ap, ◌∙◌, subst, arith, cases_lt, is_listed, Board}
 use Rattle.roman_relation.proofs.Bands.{band_ends, whole_bands, pair_past}
 use Rattle.roman_relation.proofs.Beginnings.{begins_unlisted}
 use Rattle.roman_relation.proofs.Going.{goes_on_on}

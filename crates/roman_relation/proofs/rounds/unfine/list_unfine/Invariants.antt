@@ -1,5 +1,4 @@
-use Rattle.std.proofs.Common.{◌≡◌, ℕ, ◌*◌, ◌<◌, ◌⊎◌, length, IsTrue, IsFalse}
-use Rattle.roman_relation.proofs.Common.{is_listed, SettlesOn}
+use Rattle.roman_relation.proofs.Common.{◌≡◌, ℕ, ◌*◌, ◌<◌, ◌⊎◌, length, IsTrue, IsFalse, is_listed, SettlesOn}
 use Rattle.roman_relation.proofs.rounds.unfine.list_unfine.Given as goal
 
 -- the pairs of the bands so far are listed or meet clause 2

@@ -1,5 +1,5 @@
-use Rattle.std.proofs.Common.{◌≡◌, ◌+◌, ◌*◌, ◌<◌, ◌++◌, length, slice_index, sym, ap, ◌∙◌, subst, arith, IsTrue, IsFalse, inl, inr}
-use Rattle.roman_relation.proofs.Common.{not-false, not-true, mul-le, is_listed, Final, Board, entries_in_rows, has_entry}
+use Rattle.roman_relation.proofs.Common.{◌≡◌, ◌+◌, ◌*◌, ◌<◌, ◌++◌, length, slice_index, sym, ap, ◌∙◌, subst, arith, IsTrue, IsFalse, inl, inr, not-true, is_listed, Final, Board, entries_in_rows, has_entry}
+use Rattle.std.proofs.lemmas.Bool.{not-false}
 use Rattle.roman_relation.proofs.Bands.{band_begins}
 use Rattle.roman_relation.proofs.Going.{goes_on_added, goes_on_itself}
 use Rattle.roman_relation.proofs.Lanes.{all_listed, words_rows, shaped_pairs}

@@ -1,5 +1,4 @@
-use Rattle.std.proofs.Common.{◌≡◌, ◌+◌, ◌*◌, ◌/◌, ◌%◌, ◌-◌, ◌<◌, refl, sym, ap, ◌∙◌, arith}
-use Rattle.roman_repair.proofs.Common.{div-add-mod', mod_below, is_justified}
+use Rattle.roman_repair.proofs.Common.{◌≡◌, ◌+◌, ◌*◌, ◌/◌, ◌%◌, ◌-◌, ◌<◌, refl, sym, ap, ◌∙◌, arith, div-add-mod', mod_below, is_justified}
 use Rattle.roman_repair.proofs.BandAnswers.{band_before, row_held, known_whole}
 use Rattle.roman_repair.proofs.asked_band.AskedBand.ask_whole.Goals as goal
 

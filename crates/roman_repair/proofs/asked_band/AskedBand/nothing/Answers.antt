@@ -1,5 +1,4 @@
-use Rattle.std.proofs.Common.{sym, ap, ◌∙◌}
-use Rattle.roman_repair.proofs.Common.{both_ways, get_or-replicate, is_on, on_zero}
+use Rattle.roman_repair.proofs.Common.{sym, ap, ◌∙◌, both_ways, get_or-replicate, is_on, on_zero}
 use Rattle.roman_repair.proofs.asked_band.AskedBand.nothing.Goals as goal
 
 pub returns : goal.returns

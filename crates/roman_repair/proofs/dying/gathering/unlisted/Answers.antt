@@ -1,4 +1,4 @@
-use Rattle.std.proofs.Common.{arith}
+use Rattle.roman_repair.proofs.Common.{arith}
 use Rattle.roman_repair.proofs.Gathering.{fresh_same, fresh_other}
 use Rattle.roman_repair.proofs.dying.gathering.unlisted.Goals as goal
 

@@ -1,5 +1,4 @@
-use Rattle.std.proofs.Common.{◌≡◌, ℕ, List, [], ◌++◌, refl, sym, ap, ap₂, ◌∙◌, subst, arith}
-use Rattle.roman_repair.proofs.Common.{IsIn, Entry, sizes_of, count, Final, length-below, system_of, lanes_in, Board, entries_in, listed_numbers, list_and, list_with}
+use Rattle.roman_repair.proofs.Common.{◌≡◌, ℕ, List, [], ◌++◌, refl, sym, ap, ap₂, ◌∙◌, subst, arith, IsIn, Entry, sizes_of, count, Final, length-below, system_of, lanes_in, Board, entries_in, listed_numbers, list_and, list_with}
 use Rattle.roman_repair.proofs.DeathEntries.{event_in_range, list_with_append, fewer_pairs, small_pairs}
 use Rattle.roman_repair.proofs.Gathering.{no_entries, nothing_gathered, still_gathered}
 use Rattle.roman_repair.proofs.dying.renaming.rename_list.Goals as goal

@@ -1,5 +1,4 @@
-use Rattle.std.proofs.Common.{◌≡◌, ℕ, ◌<◌, length}
-use Rattle.roman_repair.proofs.Common.{IsIn, Seat, Entry, Die, CanChange, sizes_of, count, rename_numbers, system_of, list_and, list_with, IsGathered}
+use Rattle.roman_repair.proofs.Common.{◌≡◌, ℕ, ◌<◌, length, IsIn, Seat, Entry, Die, CanChange, sizes_of, count, rename_numbers, system_of, list_and, list_with, IsGathered}
 use Rattle.roman_repair.proofs.dying.renaming.rename_list.Given as goal
 
 -- the entries so far are renamed, and the others are pending

@@ -1,5 +1,4 @@
-use Rattle.std.proofs.Common.{◌*◌, ◌/◌, ◌%◌, ◌^◌, ◌++◌, ◌||◌, not, bit_and, slice_index, sym, ap, ◌∙◌, subst, arith}
-use Rattle.roman_repair.proofs.Common.{is_final, Sizes, sizes_of, sizes_without, count, pair_at, HasLanes, system_of, has_entry, entries_in, list_and}
+use Rattle.roman_repair.proofs.Common.{◌*◌, ◌/◌, ◌%◌, ◌^◌, ◌++◌, ◌||◌, not, bit_and, slice_index, sym, ap, ◌∙◌, subst, arith, is_final, Sizes, sizes_of, sizes_without, count, pair_at, HasLanes, system_of, has_entry, entries_in, list_and}
 use Rattle.roman_model.specs.Change.{without}
 use Rattle.roman_model.specs.Numbers.{number}
 use Rattle.roman_model.proofs.CallerLemmas.{number_without-is}

@@ -1,5 +1,4 @@
-use Rattle.std.proofs.Common.{◌+◌, ◌*◌, refl, sym, ap, ◌∙◌, subst, arith, append-nil}
-use Rattle.roman_repair.proofs.Common.{Sizes, sizes_of, count, lanes_of, system_of, lanes_in, Board, IsPart, list_and, list_with, entries_from}
+use Rattle.roman_repair.proofs.Common.{◌+◌, ◌*◌, refl, sym, ap, ◌∙◌, subst, arith, append-nil, Sizes, sizes_of, count, lanes_of, system_of, lanes_in, Board, IsPart, list_and, list_with, entries_from}
 use Rattle.roman_radix.proofs.CallerLemmas.{exact}
 use Rattle.roman_repair.proofs.DeathParts.{part_word, part_in, part_end, parts_fit, row_end, part_begins}
 use Rattle.roman_repair.proofs.DeathEntries.{list_with_append, entries_below, row_begin, row_next, row_whole}

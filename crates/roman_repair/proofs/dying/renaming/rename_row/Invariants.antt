@@ -1,5 +1,4 @@
-use Rattle.std.proofs.Common.{◌≡◌, ◌*◌}
-use Rattle.roman_repair.proofs.Common.{Seat, Die, CanChange, sizes_of, system_of, lanes_in, list_and, list_with, IsGathered}
+use Rattle.roman_repair.proofs.Common.{◌≡◌, ◌*◌, Seat, Die, CanChange, sizes_of, system_of, lanes_in, list_and, list_with, IsGathered}
 use Rattle.roman_repair.proofs.DeathEntries.{entries_below}
 use Rattle.roman_repair.proofs.dying.renaming.rename_row.Given as goal
 

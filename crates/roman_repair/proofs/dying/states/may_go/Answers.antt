@@ -1,4 +1,4 @@
-use Rattle.std.proofs.Common.{◌<◌, subst}
+use Rattle.roman_repair.proofs.Common.{◌<◌, subst}
 use Rattle.roman_repair.proofs.DeathStates.{loose_goes, final_goes, size_is}
 use Rattle.roman_repair.proofs.dying.states.may_go.Goals as goal
 
