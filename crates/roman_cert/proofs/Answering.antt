@@ -4,7 +4,6 @@ use Rattle.std.proofs.Math.Dec.{ltb}
 use Rattle.roman_cert.proofs.Common.{list_any, slice_get, list_any-append, Arena, Entry, is_listed, IsOrder, entries_before, answer, Act, by_test, any_from, get_in, IsSame, order_middle, before_is, IsNumbered, Leaves, numbered_same, Board, pairs_of, has_entry}
 use Rattle.std.specs.List.{position_from}
 use Rattle.std.proofs.lemmas.Bool.{cases_Bool, or_parts, both_ways, le-ltb, lt-ltb, eq-eqb}
-use Rattle.roman_model.specs.Lists.{is_empty}
 use Rattle.roman_model.specs.Arena.{is_justified}
 use Rattle.roman_model.specs.Numbers.{Sizes}
 use Rattle.roman_model.proofs.CallerLemmas.{empty_is, not_empty_in, find_some, justified_is}
@@ -114,6 +113,6 @@ answer_within A ok L p a k q l e = ok.closed p a k q l (find_some (is_listed A (
 
 -- a seat that isn't ready has no answer
 pub unready_answer : (A : Arena ℕ) → IsNumbered A → (L : List (Entry ℕ)) (p a k : ℕ) → IsFalse (A.ready k) → answer A L p a k ≡ None
-unready_answer A ok L p a k frozen = by_test (is_empty (A.outcomes p a k))
-    (λ t. ap (find (is_listed A (entries_before A L p))) (empty_is (A.outcomes p a k) t))
-    (λ f. let (q, i) = not_empty_in (A.outcomes p a k) f in absurd (both_ways (A.ready k) frozen (ok.served p a k q i).2))
+unready_answer A ok L p a k frozen =
+    by_test _ (λ t. ap (find (is_listed A (entries_before A L p))) (empty_is _ t))
+    (λ f. let (q, i) = not_empty_in _ f in absurd (both_ways (A.ready k) frozen (ok.served p a k q i).2))

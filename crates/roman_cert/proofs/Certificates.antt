@@ -19,8 +19,7 @@ cert_begins pairs L bytes is =
 pub cert_next : (L : List (Entry ℕ)) (i : ℕ) (x : Entry ℕ) (bytes : List ℕ) → slice_get L i ≡ Some x → bytes ≡ text_of_lines (entry_line x ∷ []) → rest_from L i ≡ bytes ++ rest_from L (i + 1)
 cert_next L i x bytes e is =
     ap (λ M. text_of_lines (map entry_line M ++ end_line ∷ [])) (drop_at L i x e)
-    ∙ text_of_lines-append (entry_line x ∷ []) (map entry_line (drop (i + 1) L) ++ end_line ∷ [])
-    ∙ ap (λ (bs : List ℕ). bs ++ rest_from L (i + 1)) (sym is)
+    ∙ text_of_lines-append (entry_line x ∷ []) (map entry_line (drop (i + 1) L) ++ end_line ∷ []) ∙ ap (λ (bs : List ℕ). bs ++ rest_from L (i + 1)) (sym is)
 
 -- the line of an entry: the number of its pair, a space and the reason
 pub entry_parts : (x : Entry ℕ) → decimal x.node ++ (32 ∷ (reason_text x.reason ++ 10 ∷ [])) ≡ text_of_lines (entry_line x ∷ [])

@@ -1,7 +1,7 @@
 -- The lines of an explanation, in the parts in which they are pushed.
-use Rattle.std.proofs.Common.{◌≡◌, ℕ, ◌+◌, ◌<◌, ◌≤◌, ◌%◌, List, [], ◌∷◌, ◌++◌, length, drop, codes, Option, Some, slice_index, slice_index_or, sym, ap, ap₂, ◌∙◌, arith, append-nil, append_assoc, add-one, drop-cons}
+use Rattle.std.proofs.Common.{◌≡◌, ℕ, ◌+◌, ◌<◌, ◌≤◌, List, [], ◌∷◌, ◌++◌, length, drop, codes, Option, Some, slice_index, slice_index_or, sym, ap, ap₂, ◌∙◌, arith, append-nil, append_assoc, add-one, drop-cons}
 use Rattle.std.specs.List.{flat_map, join_with_byte}
-use Rattle.roman_cert.proofs.Common.{drop_all, length-map, text_of_lines, product_of, Pair, sizes_of, pair_at, Entry, Reason, lost_line, answer_line, NamedSys, system_of, seat_of, names_in, lost_text}
+use Rattle.roman_cert.proofs.Common.{drop_all, length-map, text_of_lines, Pair, sizes_of, pair_at, Entry, Reason, lost_line, answer_line, NamedSys, system_of, names_in, lost_text}
 use Rattle.roman_model.specs.Explanation.{Names, SeatNames, name_at, seat_names, state_names, reason_name}
 use Rattle.roman_model.proofs.CallerLemmas.{length-states_at}
 use Rattle.roman_joint.specs.Names.{names_of_seat}
@@ -13,8 +13,7 @@ pub may_answer : (names : Names) (k : ℕ) (q : Pair) (answer : Option Pair) (te
 may_answer names k q answer text result is begins ends =
     ends
     ∙ ap (λ (bs : List ℕ). bs ++ codes " may answer " ++ name_at (seat_names names k).states (slice_index q.bs k) ++ codes " " ++ name_at names.env q.e ++ 10 ∷ []) begins
-    ∙ sym (append-nil (answer_line names k (Some q) ++ 10 ∷ []))
-    ∙ ap (λ (o : Option Pair). text_of_lines (answer_line names k o ∷ [])) (sym is)
+    ∙ sym (append-nil (answer_line names k (Some q) ++ 10 ∷ [])) ∙ ap (λ (o : Option Pair). text_of_lines (answer_line names k o ∷ [])) (sym is)
 
 -- The line of a pair
 
@@ -39,8 +38,7 @@ line_begins names q reason bytes is =
     let t = name_at names.target q.t in
     let e = name_at names.env q.e in
     let states = state_names names.seats q.bs in
-    ap (λ (bs : List ℕ). bs ++ states_from names q.bs reason 0) is
-    ∙ regrouped (codes "lost ") t e (flat_map (λ x. 32 ∷ x) states) (codes ": ") (reason_name names reason)
+    ap (λ (bs : List ℕ). bs ++ states_from names q.bs reason 0) is ∙ regrouped (codes "lost ") t e (flat_map (λ x. 32 ∷ x) states) (codes ": ") (reason_name names reason)
     ∙ ap (λ (bs : List ℕ). ((((codes "lost " ++ (t ++ 32 ∷ bs)) ++ codes ": ") ++ reason_name names reason) ++ 10 ∷ []) ++ []) (sym (joined e states))
 
 next_state : (seats : List SeatNames) (bs : List ℕ) (k : ℕ) → k < length seats → k < length bs →
@@ -73,12 +71,7 @@ lost_begins n x bytes is = line_begins (names_in n) (pair_at (sizes_of (system_o
 pub lost_next : (n : NamedSys) (x : Entry ℕ) (k : ℕ) (bytes : List ℕ) → k < length n.seats →
     bytes ≡ 32 ∷ name_at (seat_names (names_in n) k).states (slice_index (pair_at (sizes_of (system_of n)) x.node).bs k) → lost_from n x k ≡ bytes ++ lost_from n x (k + 1)
 unfolding lost_from
-lost_next n x k bytes l is =
-    let s = system_of n in
-    let names : length (names_in n).seats ≡ length n.seats = length-map n.seats (names_of_seat n.catalogue) in
-    let states : length (pair_at (sizes_of s) x.node).bs ≡ length n.seats =
-    length-states_at (sizes_of s).seats (x.node % product_of (sizes_of s).seats) ∙ length-map s.seats (λ seat. seat.beh.states) ∙ length-map n.seats (seat_of n.catalogue) in
-    line_next (names_in n) (pair_at (sizes_of s) x.node).bs x.reason k bytes (omega arith) (omega arith) is
+lost_next n x k bytes l is = grind (arith, length-map, length-states_at, line_next)
 
 pub lost_ends : (n : NamedSys) (x : Entry ℕ) (k : ℕ) (bytes : List ℕ) → length n.seats ≤ k → bytes ≡ codes ": " ++ reason_name (names_in n) x.reason ++ 10 ∷ [] → lost_from n x k ≡ bytes ++ []
 unfolding lost_from

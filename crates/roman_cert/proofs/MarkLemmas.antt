@@ -1,5 +1,5 @@
 -- Marks that are set from the end of a removal list: each entry on which p's entry rests is marked before it is reached.
-use Rattle.std.proofs.Common.{◌≡◌, ◌≢◌, ℕ, ◌+◌, ◌<◌, ◌≤◌, Bool, true, false, ◌-◌, ◌&&◌, ◌||◌, ◌⊎◌, List, [], ◌∷◌, ◌++◌, length, take, drop, Option, Some, IsTrue, IsFalse, filter, refl, sym, ap, ap₂, ◌∙◌, subst, inl, inr, arith, add-one, append_assoc, length-append, length-take, take-append-drop}
+use Rattle.std.proofs.Common.{◌≡◌, ◌≢◌, ℕ, ◌+◌, ◌<◌, ◌≤◌, Bool, true, false, ◌-◌, ◌&&◌, ◌||◌, ◌⊎◌, List, [], ◌∷◌, ◌++◌, length, take, drop, Option, Some, IsTrue, IsFalse, filter, refl, sym, ap, ap₂, ◌∙◌, subst, inl, inr, arith, append_assoc, length-append, length-take, take-append-drop}
 use Rattle.roman_cert.proofs.Common.{list_any, slice_get, or-false, cond-true, cond-false, list_any-append, slice_get_within, IsIn, below, Arena, Entry, is_listed, IsOrder, entries_before, answer, rests_on, Act, any_from, by_test, IsSame, order_middle, before_is, IsNumbered, Board, is_marked}
 use Rattle.std.specs.Option.{option_to_list}
 use Rattle.std.proofs.lemmas.Bool.{or_cases, or_left, or_right, and_parts, false≢true}
@@ -107,29 +107,9 @@ answers_marked A ok L p a n q old new seats is = is ∙ ap (λ (b : Bool). old |
 -- the answer of one more seat is marked, where it has one
 pub seats_more : (A : Arena ℕ) (L : List (Entry ℕ)) (p a k q : ℕ) (first old now : Bool) (found : Option ℕ) → found ≡ answer A L p a k →
     old ≡ (first || answers_up_to A L p a k q) → now ≡ (old || is_among A (option_to_list found) q) → now ≡ (first || answers_up_to A L p a (k + 1) q)
-seats_more A L p a k q first old now found is before after =
-    let test : ℕ → Bool = λ n. is_among A (option_to_list (answer A L p a n)) q in
-    let one_more : answers_up_to A L p a (k + 1) q ≡ (answers_up_to A L p a k q || test k) =
-    ap (λ m. list_any test (below m)) (add-one k) ∙ list_any-append test (below k) (k ∷ []) ∙ ap (λ b. list_any test (below k) || b) (or-false (test k)) in
-    after ∙ ap₂ (λ b o. b || is_among A (option_to_list o) q) before is ∙ regroup first (answers_up_to A L p a k q) (test k) ∙ ap (λ b. first || b) (sym one_more)
-  where
-    regroup : (x y z : Bool) → ((x || y) || z) ≡ (x || (y || z))
-    regroup true y z = refl
-    regroup false y z = refl
+seats_more A L p a k q first old now found is before after = grind (arith, list_any-append, or-false)
 
 -- each pair has its own mark
 pub marks_one : (A : Arena ℕ) → IsSame A → (old now : Board) (r q : ℕ) → IsTrue (is_marked now r) →
     ((x : ℕ) → x ≢ r → is_marked now x ≡ is_marked old x) → is_marked now q ≡ (is_marked old q || is_among A (r ∷ []) q)
-marks_one A same old now r q marked others = by_test (A.same q r)
-    (λ t. subst (λ x. is_marked now x ≡ true) (sym (same.is q r t)) marked ∙ sym (or_some (is_marked old q) (A.same q r) t))
-    (λ f. others q (λ e. false≢true (sym f ∙ subst (λ x. IsTrue (A.same q x)) e (same.itself q))) ∙ sym (or_none (is_marked old q) (A.same q r) f))
-  where
-    or_some : (x y : Bool) → y ≡ true → (x || (y || false)) ≡ true
-    or_some true y e = refl
-    or_some false true e = refl
-    or_some false false e = e
-
-    or_none : (x y : Bool) → y ≡ false → (x || (y || false)) ≡ x
-    or_none true y e = refl
-    or_none false true e = e
-    or_none false false e = refl
+marks_one A same old now r q marked others = grind (arith, by_test, false≢true)

@@ -1,5 +1,5 @@
 -- The entries of an explanation, one after the other.
-use Rattle.std.proofs.Common.{◌≡◌, ℕ, ◌+◌, ◌<◌, ◌≤◌, true, List, [], ◌∷◌, ◌++◌, length, drop, filter, Some, slice_get, IsTrue, IsFalse, refl, ap, ◌∙◌, codes, flat_map, append_assoc}
+use Rattle.std.proofs.Common.{◌≡◌, ℕ, ◌+◌, ◌<◌, ◌≤◌, true, List, [], ◌∷◌, ◌++◌, length, drop, filter, Some, slice_get, IsTrue, IsFalse, refl, ap, ◌∙◌, codes, flat_map, append_assoc, arith}
 use Rattle.roman_cert.proofs.Common.{drop_all, cond-true, cond-false, Entry, IsOrder, sizes_of, count, Reason, Final, Act, get_in, NamedSys, system_of, IsNamedSys, Board, pairs_of, has_entry, is_marked, arena_of, listed_numbers, lost_text, answers_text, entry_text, marked_entries, slice_text}
 use Rattle.roman_model.proofs.CallerLemmas.{numbered_is_arena}
 use Rattle.roman_cert.specs.Reasons.{NamesAction}
@@ -46,10 +46,7 @@ slice_next n board i x e marked =
 
 pub slice_skip : (n : NamedSys) (board : Board) (i : ℕ) (x : Entry ℕ) → slice_get board.list i ≡ Some x → IsFalse (is_marked board x.node) → slice_from n board i ≡ slice_from n board (i + 1)
 unfolding slice_from
-slice_skip n board i x e unmarked =
-    let rest = filter (λ x. is_marked board x.node) (drop (i + 1) board.list) in
-    ap (λ M. slice_text n board.list (filter (λ x. is_marked board x.node) M)) (drop_at board.list i x e)
-    ∙ ap (slice_text n board.list) (cond-false (is_marked board x.node) (x ∷ rest) rest unmarked)
+slice_skip n board i x e unmarked = grind (arith, cond-false, drop_at)
 
 pub slice_ends : (n : NamedSys) (board : Board) (i : ℕ) → length board.list ≤ i → slice_from n board i ≡ codes "end\n" ++ []
 unfolding slice_from slice_text

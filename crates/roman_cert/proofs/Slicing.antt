@@ -1,5 +1,5 @@
 -- The explanation of a pair, as it is printed and as a refutation.
-use Rattle.std.proofs.Common.{◌≡◌, ℕ, ◌<◌, List, [], ◌∷◌, ◌++◌, map, filter, flat_map, length, codes, Option, Result, IsTrue, refl, sym, ap, ap₂, ◌∙◌, subst}
+use Rattle.std.proofs.Common.{◌≡◌, ℕ, ◌<◌, List, [], ◌∷◌, ◌++◌, map, filter, flat_map, length, codes, Option, Result, IsTrue, refl, sym, ap, ap₂, ◌∙◌, subst, arith}
 use Rattle.roman_cert.proofs.Common.{Puts, text_of_lines, Entry, is_listed, arena, sizes_of, count, pair_at, entry_at, IsCompleteList, rests_on, lost_line, AreNumbers, NamedSys, system_of, IsNamedSys, names_in, Board, is_marked, arena_of, IsRelation, lost_text, answers_text, entry_text, marked_entries, slice_text}
 use Rattle.roman_model.specs.Composition.{Great}
 use Rattle.roman_model.specs.Explanation.{explanation, answer_lines, entry_lines, explain_text, ExplainedOrder}
@@ -37,9 +37,8 @@ unfolding slice_text
 slice_text_is n L p known are l =
     let s = system_of n in
     let lines = entry_lines s (names_in n) (map (entry_at s) L) in
-    ap (λ (bs : List ℕ). bs ++ codes "end\n") (entries_text_is n L (explanation (arena_of n) L p))
-    ∙ sym (text_of_lines-append (flat_map lines (map (entry_at s) (explanation (arena_of n) L p))) (codes "end" ∷ []))
-    ∙ ap (λ M. text_of_lines (flat_map lines M ++ codes "end" ∷ [])) (explanation_at s known.system L are p l)
+    ap (λ (bs : List ℕ). bs ++ codes "end\n") (entries_text_is _ _ _) ∙ sym (text_of_lines-append _ _)
+    ∙ ap (λ M. text_of_lines (flat_map lines M ++ codes "end" ∷ [])) (explanation_at _ known.system _ are _ l)
 
 -- the text written for the marked entries is the explanation
 pub explanation_written : {T E : Type 0} (n : NamedSys) (board : Board) (L : List (Entry ℕ)) (p : ℕ) (before now : Option (List ℕ)) (result : Result T E) → IsNamedSys n → AreNumbers (system_of n) L → p < count (sizes_of (system_of n)) → board.list ≡ L →
@@ -74,8 +73,4 @@ unrelated_wins n L p known complete l unrelated =
 
 -- a relation stays one when its marks change
 pub marks_keep : (n : NamedSys) (board : Board) (marks : List ℕ) → IsRelation n board → IsRelation n (record board { marks = marks })
-marks_keep n board marks relation = record {
-  complete = record { list = relation.complete.list; idle = relation.complete.idle; levels = relation.complete.levels };
-  shaped = record { pairs = relation.shaped.pairs; lanes = relation.shaped.lanes };
-  caps = record { pairs = relation.caps.pairs };
-}
+marks_keep n board marks relation = grind arith

@@ -32,6 +32,5 @@ returns-in-Leaves-clause-within g c =
 pub returns-in-Good-clause-answer : goal.returns-in-Good-clause-answer
 returns-in-Good-clause-answer g c =
     let L = c.args.order.now.list in
-    sym (no_pair c.examine.result c.in-Good.is)
-    ∙ answer_found (g.J.Rules.arena c.args.joint.now) c.known.ensures.numbered (g.J.Rules.sizes c.args.joint.now) L c.args.i c.args.p c.args.a c.args.k c.examine.result
+    sym (no_pair _ c.in-Good.is) ∙ answer_found _ c.known.ensures.numbered _ _ _ _ _ _ _
     c.requires.valid c.requires.entry (c.examine.ensures.finding (has_entry (take c.args.i L)) (λ q b l h. search rules))

@@ -28,8 +28,7 @@ returns-in_err-push_number_then-clause-gathers g c =
     let p = err_from_is_err_and c.from_residual.result c.from_residual.ensures.1 in
     let failed = c.in_err-push_number_then.ensures.gathers in
     rw p.1 (
-      subst (WrotePrefix (g.O.Sink.written c.args.out.now) (g.O.Sink.written c.push_number_then-2.new.out)) (in_two c.args.page.now c.args.pair a a refl)
-          (WrotePrefix-append _ _ _ (decimal a ++ codes "\n") failed.0),
+      subst (WrotePrefix (g.O.Sink.written c.args.out.now) (g.O.Sink.written c.push_number_then-2.new.out)) (in_two _ _ _ _ refl) (WrotePrefix-append _ _ _ _ failed.0),
       failed.1,
     )
 
@@ -38,5 +37,4 @@ returns-clause-gathers g c =
     let n = c.from.result in
     let pushed = c.push_number_then-3 in
     subst (λ (text : List ℕ). Gathers (g.O.Sink.written c.args.out.now) (g.O.Sink.written pushed.new.out) pushed.new.self text pushed.result)
-    (in_two c.args.page.now c.args.pair c.args.action n c.from.ensures)
-    (Gathers-after _ _ _ _ _ _ (decimal n ++ codes "\n") _ c.in_ok-push_number_then.ensures.gathers pushed.ensures.gathers)
+    (in_two _ _ _ _ c.from.ensures) (Gathers-after _ _ _ _ _ _ _ _ c.in_ok-push_number_then.ensures.gathers pushed.ensures.gathers)

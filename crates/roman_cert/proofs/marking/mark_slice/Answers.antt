@@ -16,8 +16,4 @@ loop-i-preserved g c =
     }
 
 pub returns-clause-marked : goal.returns-clause-marked
-returns-clause-marked g c q =
-    let A = g.J.Rules.arena c.args.joint.now in
-    let L = c.args.order.now.list in
-    let first : c.loop-i.i ≡ 0 = omega arith in
-    c.loop-i.invariant.marked q ∙ ap (λ i. rests_from A L c.args.p i q) first ∙ rests_all A (numbered_same A c.known.ensures.numbered) L c.requires.valid c.args.p q
+returns-clause-marked g c q = grind (arith, numbered_same, rests_all, rests_from)

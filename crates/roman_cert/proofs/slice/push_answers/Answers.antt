@@ -1,5 +1,5 @@
-use Rattle.std.proofs.Common.{◌<◌, length, refl, sym, ◌∙◌, arith}
-use Rattle.roman_cert.proofs.Common.{err_from_is_err_and, below, sizes_of, count, length-below, system_of, fill_behind, fill_same, fill_more, fill_failed, fill_end}
+use Rattle.std.proofs.Common.{refl, sym, ◌∙◌, arith}
+use Rattle.roman_cert.proofs.Common.{err_from_is_err_and, length-below, fill_behind, fill_same, fill_more, fill_failed, fill_end}
 use Rattle.roman_joint.proofs.CallerLemmas.{if_some}
 use Rattle.roman_cert.proofs.AnswerTexts.{answers_begin, answers_next, answers_skip, answers_end}
 use Rattle.roman_cert.proofs.slice.push_answers.Goals as goal
@@ -8,15 +8,10 @@ pub loop-k-init : goal.loop-k-init
 loop-k-init g c = record { filling = fill_behind _ _ _ _ (answers_begin c.args.joint.now c.args.order.now.list c.args.p c.args.a); cause = refl }
 
 pub loop-k-preserved-then-not-is_ready : goal.loop-k-preserved-then-not-is_ready
-loop-k-preserved-then-not-is_ready g c =
-    let skip = answers_skip c.args.joint.now c.args.order.now.list c.args.p c.args.a c.loop-k.k (omega (arith, c.seats-k-end.ensures.count)) (sym c.is_ready.ensures ∙ c.if-not-is_ready.true) in
-    record { filling = fill_same _ _ _ _ _ _ skip c.loop-k.invariant.filling; cause = c.loop-k.invariant.cause }
+loop-k-preserved-then-not-is_ready g c = grind (arith, answers_skip, fill_same)
 
 pub answer_piece-line-requires-clause-pair : goal.answer_piece-line-requires-clause-pair
-answer_piece-line-requires-clause-pair g c q e =
-    let s = system_of c.args.joint.now in
-    let within : q < length (below (count (sizes_of s))) = if_some c.answer-found.result q (λ q. q < length (below (count (sizes_of s)))) e c.answer-found.ensures.within in
-    omega (arith, length-below (count (sizes_of s)))
+answer_piece-line-requires-clause-pair g c q e = grind (arith, if_some, length-below)
 
 pub returns-in_err-push-clause-gathers : goal.returns-in_err-push-clause-gathers
 returns-in_err-push-clause-gathers g c =
@@ -35,6 +30,4 @@ loop-k-preserved g c =
     }
 
 pub returns-clause-gathers : goal.returns-clause-gathers
-returns-clause-gathers g c =
-    let ends = answers_end c.args.joint.now c.args.order.now.list c.args.p c.args.a c.loop-k.k (omega (arith, c.seats-k-end.ensures.count)) in
-    fill_end _ _ _ _ (fill_same _ _ _ _ _ _ ends c.loop-k.invariant.filling)
+returns-clause-gathers g c = grind (arith, answers_end, fill_end, fill_same)

@@ -1,7 +1,7 @@
 use Rattle.std.proofs.Common.{◌≡◌, ℕ, length, ap, sym, subst, ◌∙◌, arith}
-use Rattle.roman_cert.proofs.Common.{IsOrder, rests_on, sizes_of, count, length-below, system_of, Board, pairs_of, is_marked, arena_of, IsRelation, listed_numbers}
+use Rattle.roman_cert.proofs.Common.{IsOrder, rests_on, sizes_of, count, length-below, system_of, Board, is_marked, arena_of, listed_numbers}
 use Rattle.roman_model.proofs.CallerLemmas.{complete_order}
-use Rattle.roman_cert.proofs.Slicing.{explanation_written, unrelated_explained, unrelated_wins, marks_keep}
+use Rattle.roman_cert.proofs.Slicing.{explanation_written, unrelated_explained, unrelated_wins}
 use Rattle.roman_cert.proofs.slice.write_slice.Goals as goal
 
 pub mark_slice-requires-clause-valid : goal.mark_slice-requires-clause-valid
@@ -13,9 +13,6 @@ mark_slice-requires-clause-valid g c =
 
 pub mark_slice-requires-clause-pair : goal.mark_slice-requires-clause-pair
 mark_slice-requires-clause-pair g c = omega (arith, c.requires.pair, length-below (count (sizes_of (system_of c.args.relation.now.joint))))
-
-pub write_marked-requires-clause-shaped : goal.write_marked-requires-clause-shaped
-write_marked-requires-clause-shaped g c = ap pairs_of c.mark_slice.ensures.rest ∙ (ap pairs_of c.place_all.ensures.same ∙ c.requires.relation.shaped.pairs)
 
 pub write_marked-requires-clause-valid : goal.write_marked-requires-clause-valid
 write_marked-requires-clause-valid g c =
@@ -41,8 +38,3 @@ pub returns-clause-wins : goal.returns-clause-wins
 returns-clause-wins g c =
     let relation = c.args.relation.now in
     unrelated_wins relation.joint relation.order.list c.args.p c.known.ensures c.requires.relation.complete.list c.requires.pair c.requires.unrelated
-
-pub returns-clause-relation : goal.returns-clause-relation
-returns-clause-relation g c =
-    let relation = c.args.relation.now in
-    subst (IsRelation relation.joint) (sym (c.mark_slice.ensures.rest ∙ ap (λ (b : Board). record b { marks = c.mark_slice.new.order.marks }) c.place_all.ensures.same)) (marks_keep relation.joint relation.order c.mark_slice.new.order.marks c.requires.relation)
