@@ -1,5 +1,5 @@
 -- What remains after a change, and after two.
-use Rattle.std.proofs.Common.{◌≡◌, ℕ, ◌/◌, ◌<◌, ◌↔◌, Bool, true, false, not, List, [], ◌∷◌, length, remove, Some, IsTrue, slice_get, refl, sym, ap, ap₂, ◌∙◌, subst, arith}
+use Rattle.std.proofs.Common.{◌≡◌, ℕ, ◌/◌, ◌<◌, ◌↔◌, Bool, true, false, not, List, [], ◌∷◌, length, Some, IsTrue, slice_get, refl, sym, ap, ap₂, ◌∙◌, subst, arith}
 use Rattle.roman_whatif.proofs.Common.{length-map, Seat, Sys, Pair, Sizes, sizes_of, count, pair_at, is_related, related_count, choice_count, Outlook, outlook, system_without, pair_without, Way, same_test, leave_one, freeze_one, NamedSys, seat_of, system_of, Relation, IsLeft, IsIdleScratchOf, left_of}
 use Rattle.roman_model.specs.SystemArena.{is_ready}
 use Rattle.roman_model.specs.Composition.{Great}
@@ -33,20 +33,10 @@ pub parts_themselves : (n : NamedSys) → HasSameParts n n
 parts_themselves n = record { environment = refl; catalogue = refl; target = refl; limit = refl }
 
 pub parts_with_seats : (m n : NamedSys) (seats : List joint.Seat) → m ≡ record n { seats = seats } → HasSameParts m n
-parts_with_seats m n seats e = record {
-  environment = ap (λ (x : NamedSys). x.environment) e;
-  catalogue = ap (λ (x : NamedSys). x.catalogue) e;
-  target = ap (λ (x : NamedSys). x.target) e;
-  limit = ap (λ (x : NamedSys). x.limit) e;
-}
+parts_with_seats m n seats e = grind arith
 
 pub parts_on : (m n o : NamedSys) → HasSameParts m n → HasSameParts n o → HasSameParts m o
-parts_on m n o one two = record {
-  environment = one.environment ∙ two.environment;
-  catalogue = one.catalogue ∙ two.catalogue;
-  target = one.target ∙ two.target;
-  limit = one.limit ∙ two.limit;
-}
+parts_on m n o one two = grind arith
 
 pub parts_back : (m n : NamedSys) → HasSameParts m n → HasSameParts n m
 parts_back m n same = record { environment = sym same.environment; catalogue = sym same.catalogue; target = sym same.target; limit = sym same.limit }
@@ -122,17 +112,8 @@ left_again way k j old mid new board order p q r l one two = record {
 
 -- the earlier seat is still present
 pub still_there : (way : Way) (k j : ℕ) (old mid : NamedSys) (order : Board) (p q : ℕ) → k < j → j < length old.seats → IsLeft way (j ∷ []) old p mid order q → k < length mid.seats
-still_there way.Freeze k j old mid order p q l within left =
-    let e : length mid.seats ≡ length old.seats =
-    sym (length-map mid.seats (seat_of mid.catalogue)) ∙ ap (λ (s : Sys). length s.seats) left.system ∙ ap length (freeze_one j (system_of old).seats) ∙ length-set_frozen (system_of old).seats j true ∙ length-map old.seats (seat_of old.catalogue) in
-    omega (arith, e)
-still_there way.Die k j old mid order p q l within left =
-    let here : j < length (system_of old).seats = subst (λ n. j < n) (sym (length-map old.seats (seat_of old.catalogue))) within in
-    let e : length mid.seats ≡ length (remove (system_of old).seats j) =
-    sym (length-map mid.seats (seat_of mid.catalogue)) ∙ ap (λ (s : Sys). length s.seats) left.system ∙ ap length (leave_one j (system_of old).seats) in
-    let shorter = length-remove (system_of old).seats j here in
-    let all = length-map old.seats (seat_of old.catalogue) in
-    omega (arith, e, shorter, all)
+still_there way.Freeze k j old mid order p q l within left = grind (arith, freeze_one, length-map, length-set_frozen)
+still_there way.Die k j old mid order p q l within left = grind (arith, leave_one, length-map, length-remove)
 
 -- The outlooks of what remains, and further failures there.
 
@@ -170,13 +151,8 @@ left_idle way K base new order p q left = record { scratch = record { parts = le
 
 -- an idle scratch of the base is one of what remains, too
 pub idle_on_left : (base mid joint : NamedSys) (order : Board) → HasSameParts mid base → IsIdleScratchOf base joint order → IsIdleScratchOf mid joint order
-idle_on_left base mid joint order same idle = record {
-  scratch = record { parts = parts_on joint base mid idle.scratch.parts (parts_back mid base same); caps = idle.scratch.caps };
-  idle = idle.idle;
-}
+idle_on_left base mid joint order same idle = grind (arith, parts_back, parts_on)
 
 -- a copy is an idle scratch
 pub idle_copy : (base copy : Relation) → copy ≡ base → IsRelation base.joint base.order → IsIdleScratchOf base.joint copy.joint copy.order
-idle_copy base copy same relation =
-    let first : IsIdleScratchOf base.joint base.joint base.order = record { scratch = record { parts = parts_themselves base.joint; caps = relation.caps }; idle = relation.complete.idle } in
-    subst (λ (r : Relation). IsIdleScratchOf base.joint r.joint r.order) (sym same) first
+idle_copy base copy same relation = grind (arith, parts_themselves)

@@ -36,8 +36,7 @@ alike_moved parts p k way K L alike gone left is =
     let seats : length s.seats ≡ length parts.seats = length-map parts.seats (seat_of parts.catalogue) in
     let states : length bs ≡ length s.seats = length-states_at (sizes_of s).seats (p % product_of (sizes_of s).seats) ∙ length-map s.seats (λ seat. seat.beh.states) in
     let within = alike.within in
-    sym (ap (left_of parts p way) is)
-    ∙ moved_on way k K s (pair_at (sizes_of s) p) (omega arith) (omega arith) alike.seats
+    sym (ap (left_of parts p way) is) ∙ moved_on way k K s (pair_at (sizes_of s) p) (omega arith) (omega arith) alike.seats
     (slice_get-get_or bs k 0 (omega arith) ∙ ap Some alike.states ∙ sym (slice_get-get_or bs (suc k) 0 (omega arith))) gone left
 
 -- two neighbours with the same behaviour and the same marks, in the same state

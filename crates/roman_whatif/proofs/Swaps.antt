@@ -1,5 +1,5 @@
 -- Two neighbouring seats in each other's place: the outlook of a pair stays the same.
-use Rattle.std.proofs.Common.{◌≡◌, ℕ, zero, suc, ◌+◌, ◌<◌, ◌≤◌, ◌==◌, Bool, true, false, cond, not, ◌&&◌, ◌||◌, List, [], ◌∷◌, map, length, IsTrue, filter, flat_map, slice_get, slice_index, slice_set, sum_by, refl, sym, ap, ap₂, ◌∙◌, subst, arith}
+use Rattle.std.proofs.Common.{◌≡◌, ℕ, zero, suc, ◌+◌, ◌<◌, ◌≤◌, Bool, true, false, cond, not, ◌&&◌, ◌||◌, List, [], ◌∷◌, map, length, IsTrue, filter, flat_map, slice_get, slice_index, slice_set, sum_by, refl, sym, ap, ap₂, ◌∙◌, subst, arith}
 use Rattle.std.specs.List.{list_any, AllZip}
 use Rattle.roman_whatif.proofs.Common.{eqb-true, length-set, Seat, Sys, Pair, has, is_related, related_count, choice_count, leave_out, freeze_at, outlook, system_without, pair_without, Way, same_test}
 use Rattle.std.proofs.lemmas.Bool.{eq-eqb}
@@ -148,10 +148,7 @@ sum_turned f xs ys g h turns same =
     omega arith
 
 count_turned : {X : Type 0} (f : X → X) (xs ys : List X) (t u : X → Bool) → Turns f xs ys → ((x : X) → IsIn x xs → t x ≡ u (f x)) → length (filter t xs) ≡ length (filter u ys)
-count_turned f xs ys t u turns same =
-    length-filter t xs
-    ∙ sum_turned f xs ys (λ x. cond (t x) 1 0) (λ y. cond (u y) 1 0) turns (λ x i. ap (λ b. cond b 1 0) (same x i))
-    ∙ sym (length-filter u ys)
+count_turned f xs ys t u turns same = length-filter t xs ∙ sum_turned _ _ _ _ _ turns (λ x i. ap (λ b. cond b 1 0) (same x i)) ∙ sym (length-filter u ys)
 
 all_kept : {X : Type 0} (xs : List X) → filter (λ x. true) xs ≡ xs
 all_kept [] = refl
@@ -170,17 +167,11 @@ places_turn k n w = record {
 
 all_below-other : (k n : ℕ) (test : ℕ → Bool) → suc k < n → all_below (λ j. test (other k j)) n ≡ all_below test n
 all_below-other k n test w =
-    same_test (all_below (λ j. test (other k j)) n) (all_below test n)
-    (λ h. all_below_from test n (λ j l. subst (λ i. IsTrue (test i)) (other_twice k j) (all_below_at (λ i. test (other k i)) n (other k j) h (other_within k j n w l))))
-    (λ h. all_below_from (λ j. test (other k j)) n (λ j l. all_below_at test n (other k j) h (other_within k j n w l)))
+    same_test _ _ (λ h. all_below_from _ _ (λ j l. subst (λ i. IsTrue (test i)) (other_twice _ _) (all_below_at _ _ _ h (other_within _ _ _ w l))))
+    (λ h. all_below_from _ _ (λ j l. all_below_at _ _ _ h (other_within _ _ _ w l)))
 
 has-other : (k : ℕ) (K : List ℕ) (j : ℕ) → has K (other k j) ≡ has (map (other k) K) j
-has-other k K j =
-    any_same (λ m. m == other k j) (λ m. other k m == j) K
-    (λ m i. same_test (m == other k j) (other k m == j)
-    (λ t. eq-eqb (other k m) j (ap (other k) (eqb-true m (other k j) t) ∙ other_twice k j))
-    (λ t. eq-eqb m (other k j) (sym (other_twice k m) ∙ ap (other k) (eqb-true (other k m) j t))))
-    ∙ sym (list_any-map (other k) (λ m. m == j) K)
+has-other k K j = grind (arith, any_same, eq-eqb, eqb-true, list_any-map, other_twice, same_test)
 
 -- Systems.
 

@@ -17,20 +17,12 @@ told_elsewhere table i j o other = ap told (get_or-set_other table i j o (record
 -- the earlier outlooks stay where the earlier places do
 pub told_still : (parts : NamedSys) (p : ℕ) (way : Way) (i m : ℕ) (table new : List declared.Outlook) → i < 32 → i < m → ((x : ℕ) → x < 32 * m → told_at new x ≡ told_at table x) →
     IsToldOf parts p way i table → IsToldOf parts p way i new
-told_still parts p way i m table new few l same told_of = record {
-  alone = same (32 * i + i) (omega arith) ∙ told_of.alone;
-  two = λ k below. same (32 * i + k) (omega arith) ∙ told_of.two k below;
-}
+told_still parts p way i m table new few l same told_of = grind arith
 
 -- the table has one outlook more
 pub told_one_more : (table : List declared.Outlook) (row k : ℕ) (o : declared.Outlook) (left : ℕ → Outlook) → row + k < length table → told o ≡ left k →
     ((i : ℕ) → i < k → told_at table (row + i) ≡ left i) → (i : ℕ) → i < k + 1 → told_at (set table (row + k) o) (row + i) ≡ left i
-told_one_more table row k o left room is so_far i l = elim (cases_lt i k) [
-  | inl less ↦ told_elsewhere table (row + k) (row + i) o (omega arith) ∙ so_far i less
-  | inr most ↦
-      let same : i ≡ k = omega arith in
-      told_there table (row + k) (row + i) o (ap (λ n. row + n) same) room ∙ is ∙ ap left (sym same)
-]
+told_one_more table row k o left room is so_far i l = grind (arith, cases_lt, told_elsewhere, told_there)
 
 -- the table has one row more
 pub rows_more : (parts : NamedSys) (p : ℕ) (way : Way) (j : ℕ) (table new : List declared.Outlook) → j < 32 → ((x : ℕ) → x < 32 * j → told_at new x ≡ told_at table x) →

@@ -1,14 +1,8 @@
 use Rattle.std.proofs.Common.{◌<◌, false, length, remove, sym, ap, ◌∙◌, subst}
 use Rattle.roman_whatif.proofs.Common.{length-map, Seat, count, seat_of, system_of}
 use Rattle.roman_joint.specs.NamedSys.{still}
-use Rattle.roman_whatif.proofs.Lasting.{caps_for, parts_with_seats, left_dying}
+use Rattle.roman_whatif.proofs.Lasting.{parts_with_seats, left_dying}
 use Rattle.roman_whatif.proofs.failing.lose_seat.Goals as goal
-
-pub afresh-requires-clause-caps : goal.afresh-requires-clause-caps
-afresh-requires-clause-caps g c =
-    let old = c.args.relation.now.joint in
-    let new = c.drop_seat.new.self in
-    caps_for old new c.args.relation.now.order (parts_with_seats new old (remove old.seats c.args.k) c.drop_seat.ensures.seats) c.requires.caps
 
 pub returns : goal.returns
 returns g c =

@@ -1,18 +1,11 @@
 use Rattle.std.proofs.Common.{◌≡◌, ◌+◌, ◌-◌, ◌*◌, [], ◌∷◌, refl, sym, ap, ◌∙◌, arith}
 use Rattle.roman_whatif.proofs.Common.{told, told_at, left_of}
-use Rattle.roman_whatif.proofs.Lasting.{still_there, left_again, told_left, left_idle, idle_on_left}
+use Rattle.roman_whatif.proofs.Lasting.{still_there, left_again, told_left}
 use Rattle.roman_whatif.proofs.Repeats.{alike_first}
 use Rattle.roman_whatif.proofs.losses.try_second.Goals as goal
 
-pub fail_on-last-requires-clause-scratch : goal.fail_on-last-requires-clause-scratch
-fail_on-last-requires-clause-scratch g c =
-    let trials = c.args.trials.now in
-    idle_on_left c.args.base.now.joint trials.middle.joint trials.scratch.joint trials.scratch.order c.requires.middle.parts c.requires.scratch
-
 pub fail_on-last-requires-clause-place : goal.fail_on-last-requires-clause-place
-fail_on-last-requires-clause-place g c =
-    let mid = c.args.trials.now.middle in
-    still_there c.args.way c.args.k c.args.j c.args.base.now.joint mid.joint mid.order c.args.p c.args.left c.requires.places.0 c.requires.places.1 c.requires.middle
+fail_on-last-requires-clause-place g c = grind (arith, still_there)
 
 pub returns-clause-told : goal.returns-clause-told
 returns-clause-told g c =
@@ -23,16 +16,6 @@ returns-clause-told g c =
     let k = c.args.k in
     let both = left_again c.args.way k j base mid.joint new.joint mid.order new.order c.args.p c.args.left c.fail_on-last.result c.requires.places.0 c.requires.middle c.fail_on-last.ensures in
     told_left c.args.way (k ∷ j ∷ []) (k ∷ j ∷ []) base base new.joint new.order c.args.p c.fail_on-last.result (told c.now.result) refl refl both c.now.ensures.outlook
-
-pub returns-clause-scratch : goal.returns-clause-scratch
-returns-clause-scratch g c =
-    let base = c.args.base.now.joint in
-    let mid = c.args.trials.now.middle in
-    let new = c.fail_on-last.new.scratch in
-    let j = c.args.j in
-    let k = c.args.k in
-    left_idle c.args.way (k ∷ j ∷ []) base new.joint new.order c.args.p c.fail_on-last.result
-    (left_again c.args.way k j base mid.joint new.joint mid.order new.order c.args.p c.args.left c.fail_on-last.result c.requires.places.0 c.requires.middle c.fail_on-last.ensures)
 
 pub returns-then-is_repeated-clause-told : goal.returns-then-is_repeated-clause-told
 returns-then-is_repeated-clause-told g c =

@@ -1,6 +1,6 @@
 use Rattle.std.proofs.Common.{ℕ, ◌+◌, ◌*◌, ◌<◌, [], ◌∷◌, length, refl, sym, ◌∙◌, subst, arith}
 use Rattle.roman_whatif.proofs.Common.{length-set, Relation, IsLeft, told, left_of}
-use Rattle.roman_whatif.proofs.Lasting.{told_left, left_idle}
+use Rattle.roman_whatif.proofs.Lasting.{told_left}
 use Rattle.roman_whatif.proofs.Telling.{told_there, told_elsewhere, told_one_more}
 use Rattle.roman_whatif.proofs.losses.try_with.Goals as goal
 
@@ -43,12 +43,4 @@ loop-k-preserved g c =
       two = told_one_more table (32 * j) k second.result (λ (i : ℕ). left_of base c.args.p c.args.way (i ∷ j ∷ [])) room second.ensures.told before.two;
       before = λ i l. told_elsewhere table at i second.result (omega (arith, l)) ∙ before.before i l;
       room = length-set table at second.result ∙ before.room;
-    }
-
-pub returns-clause-trials : goal.returns-clause-trials
-returns-clause-trials g c =
-    let mid = c.loop-k.trials.middle in
-    record {
-      middle = left_idle c.args.way (c.args.j ∷ []) c.args.base.now.joint mid.joint mid.order c.args.p c.fail_on-left.result c.loop-k.invariant.middle;
-      scratch = c.loop-k.invariant.scratch;
     }

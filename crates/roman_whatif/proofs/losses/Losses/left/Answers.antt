@@ -4,8 +4,8 @@ use Rattle.roman_whatif.specs.Losses.{AreTold}
 use Rattle.roman_whatif.proofs.losses.Losses.left.Goals as goal
 
 pub returns-in-Freeze : goal.returns-in-Freeze
-returns-in-Freeze c = λ parts losses may.
-    c.entry.ensures parts c.args.self.now.pair Freeze (subst (AreTold parts c.args.self.now.pair Freeze) (sym c.deref.ensures.value) losses.frozen) may
+returns-in-Freeze c =
+    λ parts losses may. c.entry.ensures parts c.args.self.now.pair Freeze (subst (AreTold parts c.args.self.now.pair Freeze) (sym c.deref.ensures.value) losses.frozen) may
     ∙ ap (λ way. left_of parts c.args.self.now.pair way (places c.args.first c.args.second)) (sym c.in-Freeze.is)
 
 pub returns-in-Die : goal.returns-in-Die
