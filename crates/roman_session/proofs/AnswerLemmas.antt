@@ -1,12 +1,12 @@
 -- What follows from the step of an answer.
-use Rattle.std.proofs.Common.{◌≡◌, ℕ, inl, inr, List, [], ◌++◌, Option, Result, Ok, Err, refl, sym, ap, ◌∙◌, subst}
-use Rattle.roman_session.proofs.Common.{WrotePrefix, Puts, Puts-after_Gathered, reply_text, Reply, Situation, IsSituation, asked, Does, Asks, offer_text, Sight, Phase, Offered}
+use Rattle.std.proofs.Common.{◌≡◌, ℕ, List, [], ◌++◌, Option, Result, Ok, Err, refl, sym, ap, ◌∙◌, subst, arith}
+use Rattle.roman_session.proofs.Common.{Puts, Puts-after_Gathered, reply_text, Reply, Situation, IsSituation, asked, Does, Asks, offer_text, Phase, Offered}
 use Rattle.roman_text.specs.Pages.{Gathered, Gathers}
 use Rattle.roman_text.proofs.CallerLemmas.{Gathered-put}
-use Rattle.roman_text.specs.Shapes.{LineShape, ask, saw, shape_of}
+use Rattle.roman_text.specs.Shapes.{LineShape, ask, shape_of}
 use Rattle.roman_text.specs.declared.errors.LineError.{LineError}
 use Rattle.roman_text.specs.declared.replies.Reply.TheVariants as reply
-use Rattle.roman_session.specs.Steps.{Sees, Step, StepOn, StepBy}
+use Rattle.roman_session.specs.Steps.{Step, StepOn, StepBy}
 use Rattle.roman_session.specs.Answering.{Answered, AnsweredOn, DoneOn, NamesSome, SeenStaysRelated}
 use Rattle.roman_session.proofs.StepLemmas.{requests_offered, outcomes_related}
 
@@ -44,11 +44,7 @@ answered_whole old new line before mid after held holds x result empty a puts = 
 -- a reply that wasn't pushed whole
 pub answered_prefix : {T E T' E' : Type 0} (old new : Situation) (line : List ℕ) (before after : Option (List ℕ)) (held holds : List ℕ) (e : E) (e' : E') → held ≡ [] → AnsweredOn {T = T} {E = E} old line new before after held holds (Err e) →
     Answered {T = T'} {E = E'} old line new before after (Err e')
-answered_prefix old new line before after held holds e e' empty a = record {
-  text = a.text;
-  step = a.step;
-  puts = subst (λ (bs : List ℕ). WrotePrefix before after bs) (ap (λ (bs : List ℕ). bs ++ a.text) empty) a.gathers.0;
-}
+answered_prefix old new line before after held holds e e' empty a = grind arith
 
 -- ---- what the reply says
 
@@ -69,7 +65,4 @@ step_unshaped old line why is = subst (λ (r : Result LineShape LineError). Step
 -- after a possible outcome the pair is related
 pub stays_related : (old new : Situation) (line text : List ℕ) → IsSituation old → Step old line text new → SeenStaysRelated old line new
 unfolding Step
-stays_related old new line text is step state env x shape ok can =
-    let by_shape : StepOn old (saw state env) text new = subst (λ (r : Result LineShape LineError). StepBy old r text new) shape step in
-    let sees : Sees old x text new = subst (λ (r : Result Sight Reply). Does Sees old r text new) ok by_shape in
-    elim sees [ inl moves ↦ outcomes_related old new state env text x is ok moves | inr (never, says, stays) ↦ absurd (never can) ]
+stays_related old new line text is step state env x shape ok can = grind (arith, outcomes_related)

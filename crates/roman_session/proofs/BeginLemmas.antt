@@ -1,9 +1,9 @@
 -- A session begins in the starting states of its library.
-use Rattle.std.proofs.Common.{◌≡◌, ℕ, ◌≤◌, List, length, refl, sym, ap₂, ◌∙◌, subst}
-use Rattle.roman_session.proofs.Common.{Pair, IsPair, sizes_of, number, MAX_BEHAVIOURS, NamedSys, system_of, IsNamedSys, Relation, situation_in, IsSession, Idle, Inside}
+use Rattle.std.proofs.Common.{◌≡◌, ℕ, ◌≤◌, length, sym, subst, arith}
+use Rattle.roman_session.proofs.Common.{Pair, IsPair, MAX_BEHAVIOURS, NamedSys, system_of, IsNamedSys, Relation, situation_in, IsSession, Idle, Inside}
 use Rattle.roman_relation.specs.Greatest.{IsRelation}
 use Rattle.roman_library.specs.Library.{PlainLibrary}
-use Rattle.roman_start.specs.Starts.{parts_of, start_pair_of, starting}
+use Rattle.roman_start.specs.Starts.{start_pair_of}
 use Rattle.roman_start.specs.Seating.{IsSeated}
 use Rattle.roman_start.specs.declared.seating.Seated.{Seated}
 use Rattle.roman_session.specs.Starts.{IsStart}
@@ -16,9 +16,7 @@ pub record HasBegun (library : PlainLibrary) (a : Inside) : Type 0 where
 -- the states are those of the library's services
 begins_at : (library : PlainLibrary) (x : Seated) (t e : ℕ) → IsSeated library x → t ≡ x.joint.target.beh.start → e ≡ x.joint.environment.env.start →
     ◌≡◌ {A = Pair} (record { t = t; e = e; bs = x.states.items }) (start_pair_of library)
-begins_at library x t e seated is_t is_e =
-    ap₂ (λ (t e : ℕ). record { t = t; e = e; bs = x.states.items }) is_t is_e
-    ∙ ap₂ (λ (n : NamedSys) (bs : List ℕ). starting n bs) seated.parts seated.states
+begins_at library x t e seated is_t is_e = grind arith
 
 -- the starting states are a pair of the system
 abbrev pub first_pair : Seated → ℕ → ℕ → Pair
@@ -34,18 +32,4 @@ first_fields x relation t e = record { relation = relation; target = t; env = e;
 
 pub begun : (library : PlainLibrary) (x : Seated) (relation : Relation) (t e : ℕ) → IsSeated library x → length library.catalogue ≤ MAX_BEHAVIOURS → IsNamedSys x.joint → relation.joint ≡ x.joint → IsRelation relation.joint relation.order →
     t ≡ x.joint.target.beh.start → e ≡ x.joint.environment.env.start → HasBegun library (first_fields x relation t e)
-begun library x relation t e seated few known joint ok is_t is_e =
-    let here = begins_at library x t e seated is_t is_e in
-    let parts : relation.joint ≡ parts_of library = joint ∙ seated.parts in
-    let pair = subst (λ (n : NamedSys). IsPair (system_of n) (first_pair x t e)) (sym joint) (begins_in library x t e seated is_t is_e) in
-    record {
-      session = record {
-        relation = ok;
-        known = record { parts = subst IsNamedSys (sym joint) known; here = pair; list = ok.complete.list; phase = tt };
-        few = subst (λ (n : NamedSys). length n.catalogue ≤ MAX_BEHAVIOURS) (sym parts) few;
-        room = seated.room;
-        numbered = seated.start ∙ ap₂ (λ (n : NamedSys) (p : Pair). number (sizes_of (system_of n)) p) (sym parts) (sym here);
-        offered = λ action is. let h : ⊥ = cc in absurd h;
-      };
-      start = record { parts = parts; here = here; phase = refl; list = ok.complete.list };
-    }
+begun library x relation t e seated few known joint ok is_t is_e = grind (arith, begins_at, begins_in)

@@ -1,5 +1,5 @@
 -- A session after its services changed.
-use Rattle.std.proofs.Common.{◌≡◌, ℕ, ◌<◌, ◌≤◌, ◌+◌, Bool, List, [], ◌∷◌, ◌++◌, true, false, Some, Result, IsTrue, IsFalse, not, map, length, take, drop, slice_get, Vec, Global, vec_len, vec_capacity, inl, inr, refl, sym, ap, ap₂, ◌∙◌, subst, arith, take-append-drop, length-drop}
+use Rattle.std.proofs.Common.{◌≡◌, ℕ, ◌<◌, ◌≤◌, ◌+◌, Bool, List, [], ◌∷◌, ◌++◌, true, false, Some, IsTrue, IsFalse, not, map, length, take, drop, slice_get, Vec, Global, vec_len, vec_capacity, inl, inr, refl, sym, ap, ap₂, ◌∙◌, subst, arith, take-append-drop, length-drop}
 use Rattle.roman_session.proofs.Common.{length-map, get_or_from_slice_get, Sys, Pair, IsPair, is_ready, arena, Join, Sizes, sizes_of, number, MAX_BEHAVIOURS, MAX_SERVICES, there_is, NamedSys, IsNamedSys, Relation, reply_text, Reply, Situation, present_system, IsPhase, seat_at, with_room, CanJoin, Joining, states_long, cases_lt, freezing, thawing, dying, Does, Changes, situation_in, IsSession, Phase, Idle, Offered, Inside}
 use Rattle.std.proofs.lemmas.List.{length-take}
 use Rattle.std.specs.List.{remove}
@@ -37,13 +37,7 @@ pub record IsSplit (k n : ℕ) (L : List (Entry Pair)) : Type 0 where
   pub rest : length (drop k L) ≡ n
 
 split : (s : Sys) (list : List (Entry ℕ)) (k n : ℕ) → k + n ≡ length list → IsSplit k n (map (entry_at s) list)
-split s list k n sum =
-    let L = map (entry_at s) list in
-    let long : length L ≡ length list = length-map list (entry_at s) in
-    record {
-      prefix = omega (arith, length-take k L, long, sum);
-      rest = omega (arith, length-drop k L, long, sum);
-    }
+split s list k n sum = grind (arith, length-map, length-take, length-drop)
 
 -- the list after a repair, as pairs
 abbrev pub list_of : Inside → List (Entry Pair)
@@ -151,8 +145,7 @@ pub joined_pair : (a : Inside) (relation : Relation) (states : List ℕ) (x : Jo
     states ≡ a.states.items ++ x.state ∷ [] → IsPair (joint.system_of relation.joint) (with_states a states)
 joined_pair a relation states x tally ok can repaired items =
     subst (λ (bs : List ℕ). IsPair (joint.system_of relation.joint) (with_states a bs)) (sym items)
-    (subst (λ (s : Sys). IsPair s (with_states a (a.states.items ++ x.state ∷ []))) (sym repaired.system)
-    (IsPair-grown (joint.system_of a.relation.joint) (joint.seat_of a.relation.joint.catalogue x.seat) (situation_in a).here x.state ok.known.here can.state))
+    (subst (λ (s : Sys). IsPair s (with_states a (a.states.items ++ x.state ∷ []))) (sym repaired.system) (IsPair-grown _ _ _ _ ok.known.here can.state))
 
 pub joined_now : (a : Inside) (relation : Relation) (states : Vec ℕ Global) (n : ℕ) (x : Joining) (tally : Tally) → IsSession a → a.phase ≡ Idle → CanJoin a.relation.joint x →
     relation.joint ≡ parts_after (situation_in a) (growing (situation_in a) x) →
@@ -160,8 +153,7 @@ pub joined_now : (a : Inside) (relation : Relation) (states : Vec ℕ Global) (n
     states.items ≡ a.states.items ++ x.state ∷ [] → n ≡ number (sizes_of (joint.system_of relation.joint)) (with_states a states.items) → MAX_SERVICES ≤ vec_capacity states →
     HasChanged a (moved_fields a relation states n) (growing (situation_in a) x) tally
 joined_now a relation states n x tally ok idle can parts repaired known items counted room =
-    changed a (moved_fields a relation states n) (growing (situation_in a) x) tally ok idle idle parts (ap (with_states a) items) repaired known
-    (joined_pair a relation states.items x tally ok can repaired items) counted room
+    changed _ _ _ _ ok idle idle parts (ap (with_states a) items) repaired known (joined_pair _ _ _ _ _ ok can repaired items) counted room
 
 pub died_pair : (a : Inside) (relation : Relation) (states : List ℕ) (k : ℕ) (tally : Tally) → IsSession a → k < length a.relation.joint.seats →
     ((seat : Seat) → CanChange (Die k seat) (joint.system_of a.relation.joint) → IsRepaired (Die k seat) a.relation.joint a.relation.order relation.joint relation.order tally) →
@@ -200,21 +192,10 @@ is_within cells limit not_past = elim (cases_lt limit cells) [ inl past ↦ absu
 pub joins_by : (a b : Inside) (s : Situation) (x : Joining) (tally : Tally) (said : Reply) → situation_in a ≡ s → length a.relation.joint.seats < MAX_SERVICES →
     cells_with (situation_in a) x ≤ a.relation.joint.limit → said ≡ reply.Kept tally.kept tally.added → HasChanged a b (growing (situation_in a) x) tally →
     Does Joins s (with_room s x) (reply_text said) (situation_in b)
-joins_by a b s x tally said view few fits is done =
-    let new = situation_in b in
-    let kept : Reply = reply.Kept tally.kept tally.added in
-    let joins : Does Joins (situation_in a) (with_room (situation_in a) x) (reply_text kept) new =
-    subst (λ (r : Result Joining Reply). Does Joins (situation_in a) r (reply_text kept) new) (sym (with_room_is (situation_in a) x few fits)) done.changes in
-    subst (λ (said : Reply). Does Joins s (with_room s x) (reply_text said) new) (sym is)
-    (subst (λ (s : Situation). Does Joins s (with_room s x) (reply_text kept) new) view joins)
+joins_by a b s x tally said view few fits is done = grind (arith, with_room_is)
 
 -- the step of a service that is refused for the limit of cells
 pub limit_by : (a : Inside) (relation : Relation) (s : Situation) (x : Joining) → situation_in a ≡ s → length a.relation.joint.seats < MAX_SERVICES →
     a.relation.joint.limit < cells_with (situation_in a) x → relation ≡ a.relation →
     Does Joins s (with_room s x) (reply_text reply.ErrorLimit) (situation_in (turned_fields a relation))
-limit_by a relation s x view few more same =
-    let old = situation_in a in
-    let stays : situation_in (turned_fields a relation) ≡ old = ap (λ (relation : Relation). situation_in (turned_fields a relation)) same in
-    let refused : Does Joins old (with_room old x) (reply_text reply.ErrorLimit) (situation_in (turned_fields a relation)) =
-    subst (λ (r : Result Joining Reply). Does Joins old r (reply_text reply.ErrorLimit) (situation_in (turned_fields a relation))) (sym (no_room_is old x few more)) (refl, stays) in
-    subst (λ (s : Situation). Does Joins s (with_room s x) (reply_text reply.ErrorLimit) (situation_in (turned_fields a relation))) view refused
+limit_by a relation s x view few more same = grind (arith, no_room_is)

@@ -1,6 +1,6 @@
 -- Report lines, one after another.
-use Rattle.std.proofs.Common.{◌≡◌, ℕ, suc, ◌<◌, ◌≤◌, ◌+◌, Bool, List, [], ◌∷◌, ◌++◌, Some, IsTrue, IsFalse, length, drop, map, get_or, not, slice_get, slice_index, refl, sym, ap, ap₂, ◌∙◌, subst, arith, add-one, append_assoc}
-use Rattle.roman_session.proofs.Common.{filter, flat_map, cond-true, cond-false, length-map, get_or_from_slice_get, below, Pair, IsPair, has, is_allowed, name_at, is_related, offers, from_place, from_end, there_is, reply_text, NamedBeh, HasBits, NamedSys, IsNamedSys, system_of, seat_of, Seat, seat_name, beh_name, beh_states, states_of_behaviour, Situation, seats_set, served, served_text, service_lines, offer_lines, lines_text, report_text, offer_text, service_at, states_long}
+use Rattle.std.proofs.Common.{◌≡◌, ℕ, ◌<◌, ◌≤◌, ◌+◌, Bool, List, [], ◌∷◌, ◌++◌, Some, IsTrue, IsFalse, length, drop, map, get_or, not, slice_get, slice_index, refl, sym, ap, ap₂, ◌∙◌, subst, arith, add-one, append_assoc}
+use Rattle.roman_session.proofs.Common.{filter, flat_map, cond-true, cond-false, length-map, get_or_from_slice_get, below, Pair, IsPair, has, is_allowed, name_at, is_related, offers, from_place, from_end, there_is, reply_text, NamedBeh, HasBits, NamedSys, IsNamedSys, system_of, seat_of, Seat, seat_name, Situation, seats_set, served, served_text, service_lines, offer_lines, lines_text, report_text, offer_text, service_at, states_long}
 use Rattle.std.proofs.Math.Seq.{drop-cons}
 use Rattle.std.proofs.lemmas.List.{append-nil, drop_all}
 use Rattle.std.proofs.lemmas.Option.{slice_get_within}
@@ -31,9 +31,7 @@ lines-append (x ∷ xs) ys =
 
 -- the line at a place comes next
 pub next_line : (lines : List ReportLine) (i : ℕ) (x : ReportLine) → i < length lines → x ≡ get_or lines i x → lines_text (drop i lines) ≡ line_text x ++ lines_text (drop (i + 1) lines)
-next_line lines i x l is =
-    ap lines_text (drop-cons lines i x l) ∙ lines-cons (get_or lines i x) (drop (suc i) lines)
-    ∙ ap₂ (λ (x : ReportLine) (j : ℕ). line_text x ++ lines_text (drop j lines)) (sym is) (sym (add-one i))
+next_line lines i x l is = grind (arith, drop-cons, lines-cons)
 
 -- none is left at the end
 pub no_line : (lines : List ReportLine) (i : ℕ) → length lines ≤ i → lines_text (drop i lines) ≡ []
@@ -62,35 +60,20 @@ mask_offers parts p a mask allowed few bits =
 -- the names of the seats of a mask that has the offers' bits
 mask_names : (parts n : NamedSys) (p : Pair) (a mask : ℕ) → IsNamedSys parts → n ≡ parts → IsTrue (is_allowed (system_of parts) p a) → HasBits mask (has (offers (system_of parts) p a)) →
     served_text n (seats_set mask (length n.seats)) ≡ served_text parts (offers (system_of parts) p a)
-mask_names parts n p a mask known same allowed bits =
-    ap (λ (n : NamedSys). served_text n (seats_set mask (length n.seats))) same
-    ∙ ap (served_text parts) (sym (mask_offers parts p a mask allowed known.system.few bits))
+mask_names parts n p a mask known same allowed bits = grind (arith, mask_offers)
 
 -- the line of an action, in the pieces in which it is pushed
 pub offer_line_is : (parts n : NamedSys) (p : Pair) (a mask : ℕ) (name : List ℕ) → IsNamedSys parts → n ≡ parts → name ≡ name_at parts.environment.actions a →
     IsTrue (is_allowed (system_of parts) p a) → HasBits mask (has (offers (system_of parts) p a)) →
     line_text (line.Offer name) ++ (served_text n (seats_set mask (length n.seats)) ++ (line_text line.Stop ++ [])) ≡ lines_text (offer_line parts p a)
-offer_line_is parts n p a mask name known same is allowed bits =
-    let serves : ℕ → ReportLine = λ k. line.Serves (name_at (map seat_name parts.seats) k) in
-    let ks = offers (system_of parts) p a in
-    let stop : lines_text (line.Stop ∷ []) ≡ line_text line.Stop ++ [] = lines-cons line.Stop [] ∙ ap (λ (text : List ℕ). line_text line.Stop ++ text) lines-nil in
-    let rest : lines_text (map serves ks ++ line.Stop ∷ []) ≡ served_text n (seats_set mask (length n.seats)) ++ (line_text line.Stop ++ []) =
-    lines-append (map serves ks) (line.Stop ∷ [])
-    ∙ ap₂ (λ (xs ys : List ℕ). xs ++ ys) (served_lines parts ks ∙ sym (mask_names parts n p a mask known same allowed bits)) stop in
-    ap (λ (name : List ℕ). line_text (line.Offer name) ++ (served_text n (seats_set mask (length n.seats)) ++ (line_text line.Stop ++ []))) is
-    ∙ sym (lines-cons (line.Offer (name_at parts.environment.actions a)) (map serves ks ++ line.Stop ∷ []) ∙ ap (λ (text : List ℕ). line_text (line.Offer (name_at parts.environment.actions a)) ++ text) rest)
+offer_line_is parts n p a mask name known same is allowed bits = grind (arith, lines-append, lines-cons, lines-nil, mask_names, served_lines)
 
 -- the reply to a request, in the pieces in which it is pushed
 pub offer_text_is : (s : Situation) (n : NamedSys) (a mask : ℕ) → IsNamedSys s.parts → n ≡ s.parts → IsTrue (is_allowed (situation.present_system s) s.here a) →
     HasBits mask (has (offers (situation.present_system s) s.here a)) →
     reply_text reply.Offer ++ (served_text n (seats_set mask (length n.seats)) ++ (reply_text reply.Stop ++ [])) ≡ offer_text s a
 unfolding offer_text
-offer_text_is s n a mask known same allowed bits =
-    let served_all = served_text s.parts (offers (situation.present_system s) s.here a) in
-    ap (λ (names : List ℕ). reply_text reply.Offer ++ (names ++ (reply_text reply.Stop ++ []))) (mask_names s.parts n s.here a mask known same allowed bits)
-    ∙ ap (λ (text : List ℕ). reply_text reply.Offer ++ (served_all ++ text)) (append-nil (reply_text reply.Stop))
-    ∙ sym (append_assoc (reply_text reply.Offer) served_all (reply_text reply.Stop))
-    ∙ ap (λ (names : List ℕ). reply_text reply.Offer ++ names ++ reply_text reply.Stop) (served_replies s (offers (situation.present_system s) s.here a))
+offer_text_is s n a mask known same allowed bits = grind (arith, append-nil, mask_names, served_replies)
 
 -- the lines of the actions from a on
 pub lines_from : NamedSys → Pair → ℕ → List ℕ
@@ -104,19 +87,13 @@ next_offer parts p a l allowed =
     let n = (system_of parts).env.actions in
     let test = is_allowed (system_of parts) p in
     let rest = filter test (drop (a + 1) (below n)) in
-    ap (λ (xs : List ℕ). lines_text (flat_map (offer_line parts p) (filter test xs))) (from_place n a l)
-    ∙ ap (λ (xs : List ℕ). lines_text (flat_map (offer_line parts p) xs)) (cond-true (test a) (a ∷ rest) rest allowed)
-    ∙ lines-append (offer_line parts p a) (flat_map (offer_line parts p) rest)
+    ap (λ (xs : List ℕ). lines_text (flat_map (offer_line parts p) (filter test xs))) (from_place _ _ l)
+    ∙ ap (λ (xs : List ℕ). lines_text (flat_map (offer_line parts p) xs)) (cond-true (test a) (a ∷ rest) rest allowed) ∙ lines-append _ _
 
 -- an action that isn't allowed is passed over
 pub next_unallowed : (parts : NamedSys) (p : Pair) (a : ℕ) → a < (system_of parts).env.actions → IsFalse (is_allowed (system_of parts) p a) → lines_from parts p a ≡ lines_from parts p (a + 1)
 unfolding lines_from
-next_unallowed parts p a l unallowed =
-    let n = (system_of parts).env.actions in
-    let test = is_allowed (system_of parts) p in
-    let rest = filter test (drop (a + 1) (below n)) in
-    ap (λ (xs : List ℕ). lines_text (flat_map (offer_line parts p) (filter test xs))) (from_place n a l)
-    ∙ ap (λ (xs : List ℕ). lines_text (flat_map (offer_line parts p) xs)) (cond-false (test a) (a ∷ rest) rest unallowed)
+next_unallowed parts p a l unallowed = grind (arith, cond-false, from_place)
 
 -- none is left at the end
 pub no_offer : (parts : NamedSys) (p : Pair) (a : ℕ) → (system_of parts).env.actions ≤ a → lines_from parts p a ≡ []
@@ -140,12 +117,7 @@ no_offers parts p unrelated =
 -- the line of a service, by the behaviour that stands at its place and the name of its state
 pub service_line_is : (catalogue : List NamedBeh) (seat : Seat) (beh : NamedBeh) (b : ℕ) (name : List ℕ) → slice_get catalogue seat.behaviour ≡ Some beh → slice_get beh.states b ≡ Some name →
     line.Service seat.name beh.name name seat.frozen (not seat.rests) ≡ service_line catalogue seat b
-service_line_is catalogue seat beh b name placed there =
-    let behaviour : beh.name ≡ name_at (map beh_name catalogue) seat.behaviour = sym (mapped_at beh_name catalogue seat.behaviour beh [] placed) in
-    let states : states_of_behaviour catalogue seat.behaviour ≡ beh.states = mapped_at beh_states catalogue seat.behaviour beh [] placed in
-    let state : name ≡ name_at (states_of_behaviour catalogue seat.behaviour) b =
-    sym (get_or_from_slice_get beh.states b name [] there) ∙ ap (λ (names : List (List ℕ)). name_at names b) (sym states) in
-    ap₂ (λ (behaviour state : List ℕ). line.Service seat.name behaviour state seat.frozen (not seat.rests)) behaviour state
+service_line_is catalogue seat beh b name placed there = grind (arith, get_or_from_slice_get, mapped_at)
 
 -- the lines of the services from k on
 pub services_from : NamedSys → Pair → ℕ → List ℕ
@@ -200,12 +172,11 @@ report_pieces parts p =
     let offered = offer_lines parts p in
     let ends = line.End ∷ [] in
     let last : lines_text (offered ++ ends) ≡ lines_text offered ++ (lines_text ends ++ []) =
-    lines-append offered ends ∙ ap (λ (text : List ℕ). lines_text offered ++ text) (sym (append-nil (lines_text ends))) in
+    lines-append _ _ ∙ ap (λ (text : List ℕ). lines_text offered ++ text) (sym (append-nil (lines_text ends))) in
     let after_services : lines_text (answer ∷ (offered ++ ends)) ≡ lines_text (answer ∷ []) ++ (lines_text offered ++ (lines_text ends ++ [])) =
-    lines-append (answer ∷ []) (offered ++ ends) ∙ ap (λ (text : List ℕ). lines_text (answer ∷ []) ++ text) last in
-    sym (lines-append (report_head parts p) (services ++ answer ∷ (offered ++ ends))
-    ∙ ap (λ (text : List ℕ). lines_text (report_head parts p) ++ text)
-    (lines-append services (answer ∷ (offered ++ ends)) ∙ ap (λ (text : List ℕ). lines_text services ++ text) after_services))
+    lines-append _ _ ∙ ap (λ (text : List ℕ). lines_text (answer ∷ []) ++ text) last in
+    sym (lines-append _ _ ∙ ap (λ (text : List ℕ). lines_text (report_head parts p) ++ text)
+    (lines-append _ _ ∙ ap (λ (text : List ℕ). lines_text services ++ text) after_services))
 
 -- the pieces in which the report is pushed
 pub report_is : (parts : NamedSys) (p : Pair) (head : List ReportLine) (related : Bool) → head ≡ report_head parts p → related ≡ is_related (system_of parts) p →
@@ -214,8 +185,4 @@ pub report_is : (parts : NamedSys) (p : Pair) (head : List ReportLine) (related 
     ++ (lines_text (line.Answer related ∷ [])
     ++ (lines_text (offer_lines parts p)
     ++ (lines_text (line.End ∷ []) ++ [])))) ≡ report_text parts p
-report_is parts p head related is_head is_answer =
-    let rest : List ℕ = lines_text (offer_lines parts p) ++ (lines_text (line.End ∷ []) ++ []) in
-    let services : List ℕ = lines_text (service_lines parts.catalogue parts.seats p.bs) in
-    ap₂ (λ (head : List ReportLine) (related : Bool). lines_text head ++ (services ++ (lines_text (line.Answer related ∷ []) ++ rest))) is_head is_answer
-    ∙ report_pieces parts p
+report_is parts p head related is_head is_answer = grind (arith, report_pieces)

@@ -1,7 +1,7 @@
 -- Places of names.
-use Rattle.std.proofs.Common.{Option, ◌≡◌, ℕ, ◌<◌, ◌≤◌, inl, inr, Bool, true, false, List, [], Some, None, Result, Ok, Err, is_ok, map, length, get_or, refl, sym, ap, ◌∙◌, subst, arith}
-use Rattle.std.specs.List.{position, position_or_len, list_any}
-use Rattle.roman_session.proofs.Common.{ok_or, bytes_eq, both_ways, cases_lt, get_or_from_slice_get, length-map, IsIn, Reply, Seat, seat_name, named}
+use Rattle.std.proofs.Common.{◌≡◌, ℕ, ◌<◌, ◌≤◌, Bool, true, false, List, [], Some, None, Result, Err, is_ok, map, length, get_or, ap, ◌∙◌, subst, arith}
+use Rattle.std.specs.List.{position, position_or_len}
+use Rattle.roman_session.proofs.Common.{bytes_eq, both_ways, cases_lt, get_or_from_slice_get, length-map, IsIn, Reply, Seat, seat_name, named}
 use Rattle.std.proofs.lemmas.List.Quantifiers.{position-Some}
 use Rattle.std.proofs.lemmas.Option.{slice_get-get_or}
 use Rattle.std.proofs.lemmas.List.Elements.{Contains-get_or}
@@ -14,11 +14,7 @@ use Rattle.roman_text.specs.declared.replies.Reply.TheVariants as reply
 -- the first place at which a test passes is unique
 first_place : (p : List ℕ → Bool) (names : List (List ℕ)) (i k : ℕ) → p (get_or names i []) ≡ true → p (get_or names k []) ≡ true →
     ((j : ℕ) → j < i → p (get_or names j []) ≡ false) → ((j : ℕ) → j < k → p (get_or names j []) ≡ false) → i ≡ k
-first_place p names i k at_i at_k before_i before_k =
-    elim (cases_lt i k) [
-      | inl less ↦ absurd (both_ways (p (get_or names i [])) (before_k i less) at_i)
-      | inr more ↦ elim (cases_lt k i) [ inl less ↦ absurd (both_ways (p (get_or names k [])) (before_i k less) at_k) | inr same ↦ omega arith ]
-    ]
+first_place p names i k at_i at_k before_i before_k = grind (arith, both_ways, cases_lt)
 
 -- the name at a place is in the list
 in_there : (names : List (List ℕ)) (k : ℕ) → k < length names → IsIn (get_or names k []) names
@@ -45,13 +41,8 @@ place_not_found names name before =
 -- no service with the name
 pub service_not_found : (seats : List Seat) (name : List ℕ) (k : ℕ) → length seats ≤ k →
     ((j : ℕ) → j < k → bytes_eq name (get_or (map seat_name seats) j []) ≡ false) → Err reply.ErrorName ≡ named (map seat_name seats) name
-service_not_found seats name k l before =
-    let none = place_not_found (map seat_name seats) name (λ j less. before j (omega (arith, length-map seats seat_name))) in
-    ap (λ (o : Option ℕ). ok_or o reply.ErrorName) (sym none)
+service_not_found seats name k l before = grind (arith, length-map, place_not_found)
 
 -- a name that has no place in a list isn't in it
 pub name_is_new : (names : List (List ℕ)) (name : List ℕ) (r : Result ℕ Reply) → r ≡ named names name → is_ok r ≡ false → IsIn name names → ⊥
-name_is_new names name r is not_ok i =
-    let there : list_any (bytes_eq name) names ≡ true = any_from (bytes_eq name) name names i ((bytes_eq-Decides name name).1 refl) in
-    let ok : named names name ≡ Ok (position_or_len (bytes_eq name) names) = ap (λ (o : Option ℕ). ok_or o reply.ErrorName) (place_of-present names name there) in
-    both_ways (is_ok r) not_ok (ap (λ (r : Result ℕ Reply). is_ok r) (is ∙ ok))
+name_is_new names name r is not_ok i = grind (arith, any_from, both_ways, bytes_eq-Decides, place_of-present)

@@ -1,11 +1,10 @@
 -- What holds where an event isn't refused.
-use Rattle.std.proofs.Common.{◌≡◌, ℕ, ◌<◌, ◌≤◌, Bool, true, false, not, leb, inl, inr, List, map, length, Result, Ok, Err, IsTrue, IsFalse, refl, ap, ap₂, subst, ◌∙◌, arith}
+use Rattle.std.proofs.Common.{◌≡◌, ℕ, ◌<◌, ◌≤◌, Bool, true, false, List, length, Result, Ok, Err, IsTrue, IsFalse, refl, ap₂, arith}
 use Rattle.std.proofs.lemmas.Bool.{not-true, lt-ltb, le-leb}
 use Rattle.std.proofs.lemmas.Bool.Decides.{leb_tells}
-use Rattle.roman_session.proofs.Common.{has, is_allowed, is_related, offers, Join, MAX_SERVICES, Reply, seat_of, beh_name, states_of_behaviour, Situation, present_system, named, demand, seat_at, asked, seen, with_room, Handing, Joining, Jump, Sight, Phase, Idle, Offered, Delegated}
+use Rattle.roman_session.proofs.Common.{has, is_allowed, is_related, offers, Join, MAX_SERVICES, Reply, seat_of, Situation, present_system, named, demand, seat_at, asked, seen, with_room, Handing, Joining, Jump, Sight, Phase, Idle, Offered, Delegated}
 use Rattle.roman_model.specs.Change.{after}
 use Rattle.roman_read.specs.Items.{◌>>=◌}
-use Rattle.roman_read.specs.Names.{is_name}
 use Rattle.roman_read.proofs.CallerLemmas.{bind_ok, same_ok}
 use Rattle.roman_text.specs.declared.replies.Reply.TheVariants as reply
 use Rattle.roman_joint.specs.NamedSys.{cells}
@@ -26,18 +25,7 @@ pub record IsAsked (s : Situation) (action : List ℕ) (a : ℕ) : Type 0 where
 
 pub asked_is : (s : Situation) (action : List ℕ) (a : ℕ) → asked s action ≡ Ok a → IsAsked s action a
 unfolding asked
-asked_is s action a h =
-    let (b, e, h1) = bind_ok (named s.parts.environment.actions action) _ a h in
-    let (idle, h2) = checked (is_idle s.phase) reply.ErrorBusy _ a h1 in
-    let (related, h3) = checked (is_related (present_system s) s.here) reply.NoComposition _ a h2 in
-    let (allowed, h4) = checked (is_allowed (present_system s) s.here b) reply.NotAllowed _ a h3 in
-    let same : b ≡ a = cc in
-    record {
-      named = e ∙ ap Ok same;
-      idle = idle;
-      related = related;
-      allowed = subst (λ (a : ℕ). IsTrue (is_allowed (present_system s) s.here a)) same allowed;
-    }
+asked_is s action a h = grind (arith, bind_ok, checked)
 
 -- the present delegation, where there is one
 delegation_is : (phase : Phase) (d : Handing) → delegation phase ≡ Ok d → phase ≡ Delegated d.action d.seat
@@ -48,12 +36,7 @@ delegation_is (Delegated a k) d h = cc
 -- an outcome that is seen belongs to the present delegation
 pub seen_is : (s : Situation) (state env : List ℕ) (x : Sight) → seen s state env ≡ Ok x → s.phase ≡ Delegated x.action x.seat
 unfolding seen
-seen_is s state env x h =
-    let (d, e, h1) = bind_ok (delegation s.phase) _ x h in
-    let (b, eb, h2) = bind_ok (state_named s d.seat state) _ x h1 in
-    let (e', ee, h3) = bind_ok (named s.parts.environment.states env) _ x h2 in
-    let same = delegation_is s.phase d e in
-    cc
+seen_is s state env x h = grind (arith, bind_ok, delegation_is)
 
 -- the action for which services were offered, where some were
 offered_is : (phase : Phase) (a : ℕ) → offered_action phase ≡ Ok a → phase ≡ Offered a
@@ -68,16 +51,7 @@ pub record IsHanded (s : Situation) (x : Handing) : Type 0 where
 
 pub handed_is : (s : Situation) (service : List ℕ) (x : Handing) → handed s service ≡ Ok x → IsHanded s x
 unfolding handed
-handed_is s service x h =
-    let (k, e, h1) = bind_ok (service_named s service) _ x h in
-    let (a, ea, h2) = bind_ok (offered_action s.phase) _ x h1 in
-    let (offered, h3) = checked (has (offers (present_system s) s.here a) k) reply.NotOffered _ x h2 in
-    let action : a ≡ x.action = cc in
-    let seat : k ≡ x.seat = cc in
-    record {
-      phase = offered_is s.phase a ea ∙ ap Offered action;
-      offered = subst (λ (k : ℕ). IsTrue (has (offers (present_system s) s.here x.action) k)) seat (subst (λ (a : ℕ). IsTrue (has (offers (present_system s) s.here a) k)) action offered);
-    }
+handed_is s service x h = grind (arith, bind_ok, checked, offered_is)
 
 -- no request is open
 idle_is : (phase : Phase) → IsTrue (is_idle phase) → phase ≡ Idle
@@ -93,12 +67,7 @@ pub record IsJumping (s : Situation) (service name : List ℕ) (x : Jump) : Type
 
 pub jumped_is : (s : Situation) (service state : List ℕ) (x : Jump) → jumped s service state ≡ Ok x → IsJumping s service state x
 unfolding jumped
-jumped_is s service state x h =
-    let (k, e, h1) = bind_ok (service_named s service) _ x h in
-    let (b, eb, h2) = bind_ok (state_named s k state) _ x h1 in
-    let (idle, h3) = checked (is_idle s.phase) reply.ErrorBusy _ x h2 in
-    let whole = same_ok _ x h3 in
-    subst (IsJumping s service state) whole (record { seat = e; state = eb; idle = idle_is s.phase idle })
+jumped_is s service state x h = grind (arith, bind_ok, checked, idle_is, same_ok)
 
 -- a jump of the environment that isn't refused names one of its states, where no request is open
 pub record IsEnvJumping (s : Situation) (env : List ℕ) (e : ℕ) : Type 0 where
@@ -107,11 +76,7 @@ pub record IsEnvJumping (s : Situation) (env : List ℕ) (e : ℕ) : Type 0 wher
 
 pub env_jumped_is : (s : Situation) (env : List ℕ) (e : ℕ) → env_jumped s env ≡ Ok e → IsEnvJumping s env e
 unfolding env_jumped
-env_jumped_is s env e h =
-    let (i, ei, h1) = bind_ok (named s.parts.environment.states env) _ e h in
-    let (idle, h2) = checked (is_idle s.phase) reply.ErrorBusy _ e h1 in
-    let same : i ≡ e = cc in
-    record { named = ei ∙ ap Ok same; idle = idle_is s.phase idle }
+env_jumped_is s env e h = grind (arith, bind_ok, checked, idle_is)
 
 -- ---- changes of the services
 
@@ -123,16 +88,7 @@ pub record IsFreezing (s : Situation) (service : List ℕ) (k : ℕ) : Type 0 wh
 
 pub frozen_is : (s : Situation) (service : List ℕ) (k : ℕ) → frozen s service ≡ Ok k → IsFreezing s service k
 unfolding frozen
-frozen_is s service k h =
-    let (j, e, h1) = bind_ok (service_named s service) _ k h in
-    let (idle, h2) = checked (is_idle s.phase) reply.ErrorBusy _ k h1 in
-    let (ready, h3) = checked (not (seat_at s j).frozen) reply.ErrorFrozen _ k h2 in
-    let same : j ≡ k = cc in
-    record {
-      named = e ∙ ap Ok same;
-      idle = idle_is s.phase idle;
-      ready = subst (λ (k : ℕ). IsFalse (seat_at s k).frozen) same (not-true (seat_at s j).frozen ready);
-    }
+frozen_is s service k h = grind (arith, bind_ok, checked, idle_is, not-true)
 
 -- a service that can be thawed is present and frozen, and no request is open
 pub record IsThawing (s : Situation) (service : List ℕ) (k : ℕ) : Type 0 where
@@ -142,12 +98,7 @@ pub record IsThawing (s : Situation) (service : List ℕ) (k : ℕ) : Type 0 whe
 
 pub thawed_is : (s : Situation) (service : List ℕ) (k : ℕ) → thawed s service ≡ Ok k → IsThawing s service k
 unfolding thawed
-thawed_is s service k h =
-    let (j, e, h1) = bind_ok (service_named s service) _ k h in
-    let (idle, h2) = checked (is_idle s.phase) reply.ErrorBusy _ k h1 in
-    let (frozen, h3) = checked (seat_at s j).frozen reply.ErrorReady _ k h2 in
-    let same : j ≡ k = cc in
-    record { named = e ∙ ap Ok same; idle = idle_is s.phase idle; frozen = subst (λ (k : ℕ). IsTrue (seat_at s k).frozen) same frozen }
+thawed_is s service k h = grind (arith, bind_ok, checked, idle_is)
 
 -- a service that can die is present, and no request is open
 pub record IsDying (s : Situation) (service : List ℕ) (k : ℕ) : Type 0 where
@@ -156,20 +107,12 @@ pub record IsDying (s : Situation) (service : List ℕ) (k : ℕ) : Type 0 where
 
 pub died_is : (s : Situation) (service : List ℕ) (k : ℕ) → died s service ≡ Ok k → IsDying s service k
 unfolding died
-died_is s service k h =
-    let (j, e, h1) = bind_ok (service_named s service) _ k h in
-    let (idle, h2) = checked (is_idle s.phase) reply.ErrorBusy _ k h1 in
-    let same : j ≡ k = cc in
-    record { named = e ∙ ap Ok same; idle = idle_is s.phase idle }
+died_is s service k h = grind (arith, bind_ok, checked, idle_is)
 
 -- services join where no request is open
 pub joining_idle : (s : Situation) (service behaviour state : List ℕ) (loose : Bool) (x : Joining) → joining s service behaviour state loose ≡ Ok x → s.phase ≡ Idle
 unfolding joining
-joining_idle s service behaviour state loose x h =
-    let (named_well, h1) = checked (is_name service) reply.ErrorName _ x h in
-    let (i, e1, h2) = bind_ok (named (map beh_name s.parts.catalogue) behaviour) _ x h1 in
-    let (b, e2, h3) = bind_ok (named (states_of_behaviour s.parts.catalogue i) state) _ x h2 in
-    idle_is s.phase (checked (is_idle s.phase) reply.ErrorBusy _ x h3).0
+joining_idle s service behaviour state loose x h = grind (arith, bind_ok, checked, idle_is)
 
 -- the result of the two tests for room
 room_by : Joining → Bool → Bool → Result Joining Reply
@@ -187,7 +130,4 @@ with_room_is s x few fits = ap₂ (room_by x) (lt-ltb (length s.parts.seats) MAX
 -- where the cells exceed the limit a service doesn't join
 pub no_room_is : (s : Situation) (x : Joining) → length s.parts.seats < MAX_SERVICES → s.parts.limit < cells_with s x → with_room s x ≡ Err reply.ErrorLimit
 unfolding room_by
-no_room_is s x few more =
-    let exceeds : leb (cells_with s x) s.parts.limit ≡ false =
-    elim (leb_tells (cells_with s x) s.parts.limit) [ inl within ↦ absurd (omega (arith, within.1)) | inr past ↦ past.0 ] in
-    ap₂ (room_by x) (lt-ltb (length s.parts.seats) MAX_SERVICES few) exceeds
+no_room_is s x few more = grind (arith, leb_tells, lt-ltb, room_by)

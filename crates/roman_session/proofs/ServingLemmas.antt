@@ -1,6 +1,6 @@
 -- The seats of a mask, one after another.
-use Rattle.std.proofs.Common.{◌≡◌, ℕ, ◌<◌, ◌≤◌, ◌+◌, Bool, List, [], ◌∷◌, ◌++◌, Some, IsTrue, IsFalse, length, drop, slice_get, sym, ap, ◌∙◌, arith, codes, not, ◌&&◌}
-use Rattle.roman_session.proofs.Common.{filter, flat_map, cond-true, cond-false, IsIn, below, Sys, Pair, has, is_allowed, arena, is_related, offers, from_place, from_end, HasBits, has_seat, NamedSys, Seat, seat_name, seats_set, served, served_text}
+use Rattle.std.proofs.Common.{◌≡◌, ℕ, ◌<◌, ◌≤◌, ◌+◌, Bool, List, [], ◌++◌, Some, IsTrue, IsFalse, length, drop, slice_get, sym, ap, ◌∙◌, arith, codes, not, ◌&&◌}
+use Rattle.roman_session.proofs.Common.{filter, flat_map, cond-true, cond-false, IsIn, below, Sys, Pair, has, is_allowed, arena, is_related, offers, from_place, from_end, HasBits, has_seat, NamedSys, Seat, seats_set, served, served_text}
 use Rattle.roman_model.specs.Arena.{is_beaten, mask}
 use Rattle.roman_model.proofs.CallerLemmas.{from_below, filter_same, mask_has}
 use Rattle.roman_rules.proofs.CallerLemmas.{has_seat_is}
@@ -10,19 +10,12 @@ use Rattle.roman_session.proofs.SituationLemmas.{mapped_at}
 pub next_set : (parts : NamedSys) (mask n k : ℕ) (seat : Seat) → k < n → IsTrue (has_seat mask k) → slice_get parts.seats k ≡ Some seat →
     served_text parts (filter (has_seat mask) (drop k (below n))) ≡ (codes " " ++ seat.name) ++ served_text parts (filter (has_seat mask) (drop (k + 1) (below n)))
 unfolding served_text
-next_set parts mask n k seat l set seated =
-    let rest = filter (has_seat mask) (drop (k + 1) (below n)) in
-    ap (λ (ks : List ℕ). flat_map (served parts) (filter (has_seat mask) ks)) (from_place n k l)
-    ∙ ap (flat_map (served parts)) (cond-true (has_seat mask k) (k ∷ rest) rest set)
-    ∙ ap (λ (name : List ℕ). (codes " " ++ name) ++ flat_map (served parts) rest) (mapped_at seat_name parts.seats k seat [] seated)
+next_set parts mask n k seat l set seated = grind (arith, cond-true, from_place, mapped_at)
 
 -- a seat that the mask lacks is passed over
 pub next_unset : (parts : NamedSys) (mask n k : ℕ) → k < n → IsFalse (has_seat mask k) →
     served_text parts (filter (has_seat mask) (drop k (below n))) ≡ served_text parts (filter (has_seat mask) (drop (k + 1) (below n)))
-next_unset parts mask n k l unset =
-    let rest = filter (has_seat mask) (drop (k + 1) (below n)) in
-    ap (λ (ks : List ℕ). served_text parts (filter (has_seat mask) ks)) (from_place n k l)
-    ∙ ap (served_text parts) (cond-false (has_seat mask k) (k ∷ rest) rest unset)
+next_unset parts mask n k l unset = grind (arith, cond-false, from_place)
 
 -- nothing is left at the end
 pub none_set : (parts : NamedSys) (mask n k : ℕ) → n ≤ k → served_text parts (filter (has_seat mask) (drop k (below n))) ≡ []

@@ -1,15 +1,14 @@
 -- What the fields of a session and the calls of its parts say of the situation.
 use Rattle.std.proofs.Common.{◌≡◌, ℕ, ◌<◌, Bool, ◌↔◌, List, [], Option, Some, IfSome, IsTrue, IsFalse, map, length, slice_get, slice_set, slice_index, slice_index_or, sym, ap, ◌∙◌, subst, arith}
 use Rattle.std.specs.Option.{option_map}
-use Rattle.roman_session.proofs.Common.{get_or_from_slice_get, length-map, both_ways, Sys, Pair, IsPair, is_ready, sizes_of, number, pair_at, IsIn, is_related, offers, Great, related_great, great_related, offer_is, numbers_are_pairs, there_is, moved, NamedBeh, NamedSys, Seat, IsSeatBehaviour, seat_name, beh_states, names_in, states_long, Situation, present_system, IsPhase, IsSituation, service_at, situation_in, IsSession, Phase, Idle, Offered, Delegated, Inside}
+use Rattle.roman_session.proofs.Common.{get_or_from_slice_get, length-map, both_ways, Sys, Pair, IsPair, is_ready, sizes_of, number, pair_at, IsIn, is_related, offers, Great, related_great, great_related, offer_is, numbers_are_pairs, there_is, moved, NamedBeh, NamedSys, Seat, IsSeatBehaviour, seat_name, names_in, states_long, Situation, present_system, IsPhase, IsSituation, service_at, situation_in, IsSession, Phase, Idle, Offered, Delegated, Inside}
 use Rattle.std.proofs.lemmas.Option.{slice_get-map}
 use Rattle.std.proofs.lemmas.List.{get_or-set_same}
 use Rattle.roman_model.specs.SystemArena.{outcomes}
 use Rattle.roman_model.specs.System.{Seat as Seat'}
-use Rattle.roman_model.specs.Explanation.{SeatNames, seat_names}
+use Rattle.roman_model.specs.Explanation.{seat_names}
 use Rattle.roman_model.proofs.CallerLemmas.{not_empty_in, ne_not_empty, by_test, outcome_seat, states_set, states_below, AreBelow-index}
 use Rattle.roman_joint.specs.NamedSys as joint
-use Rattle.roman_joint.specs.Names.{names_of_seat}
 use Rattle.roman_session.specs.Situations.{IsOpen}
 
 -- the situation in the fields is well formed
@@ -50,9 +49,7 @@ mapped_at f xs k x d h = get_or_from_slice_get (map f xs) k (f x) d (slice_get-m
 
 -- the names of a service's states are those of its behaviour
 pub states_named : (n : NamedSys) (k : ℕ) (beh : NamedBeh) → IsSeatBehaviour n k beh → (seat_names (names_in n) k).states ≡ beh.states
-states_named n k beh of =
-    ap (λ (x : SeatNames). x.states) (mapped_at (names_of_seat n.catalogue) n.seats k of.seat (record { service = []; states = [] }) of.seated)
-    ∙ mapped_at beh_states n.catalogue of.seat.behaviour beh [] of.placed
+states_named n k beh of = grind (arith, mapped_at)
 
 -- an offered seat is the seat of a present service
 pub offered_within : (s : Situation) (a k : ℕ) → IsSituation s → IsIn k (offers (present_system s) s.here a) → k < length s.parts.seats

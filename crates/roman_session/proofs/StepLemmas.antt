@@ -21,10 +21,9 @@ pub moved_related : (old new : Situation) (x : Sight) (text : List ℕ) → IsSi
 moved_related old new x text is offered moves =
     let s = present_system old in
     let q = pair_after old x moves.to in
-    let (allowed, l, some, all) = offer_is s old.here x.action x.seat is.parts.system is.here offered in
-    let out = outcome_in s old.here x.action x.seat moves.to x.env q.bs is.parts.system moves.moved.target moves.moved.system in
-    subst (λ (s : Situation). IsTrue (is_related (present_system s) s.here)) (sym moves.becomes)
-    (great_related s q is.parts.system (all q out))
+    let (allowed, l, some, all) = offer_is _ _ _ _ is.parts.system is.here offered in
+    let out = outcome_in _ _ _ _ _ _ _ is.parts.system moves.moved.target moves.moved.system in
+    subst (λ (s : Situation). IsTrue (is_related (present_system s) s.here)) (sym moves.becomes) (great_related _ _ is.parts.system (all q out))
 
 -- the pair after a possible outcome is related
 pub outcomes_related : (old new : Situation) (state env text : List ℕ) (x : Sight) → IsSituation old → seen old state env ≡ Ok x → Moves old x text new →
@@ -37,5 +36,4 @@ outcomes_related old new state env text x is ok moves =
 pub moved_pair : (s : Situation) (x : Sight) (to : ℕ) → IsSituation s → HasMoved s x to → IsPair (present_system s) (pair_after s x to)
 moved_pair s x to is moves =
     let q = pair_after s x to in
-    outcome_pair (present_system s) s.here x.action x.seat q is.parts.system is.here
-    (outcome_in (present_system s) s.here x.action x.seat to x.env q.bs is.parts.system moves.target moves.system)
+    outcome_pair _ _ _ _ _ is.parts.system is.here (outcome_in _ _ _ _ _ _ _ is.parts.system moves.target moves.system)

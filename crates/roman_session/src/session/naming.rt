@@ -32,6 +32,7 @@ impl Session {
     }
 
     /// Returns whether the service at place `k` has this name.
+    #[tactic(auto, using(crate::proofs::SituationLemmas::parts_shown, crate::proofs::SituationLemmas::service_named_at))]
     fn has_name(&self, k: u8, name: &[u8]) -> bool
         requires { k < length self.now.parts.seats }
         ensures { result ≡ bytes_eq name.now (service_at self.now k) }

@@ -1,5 +1,5 @@
-use Rattle.std.proofs.Common.{sym, ap, ◌∙◌, subst}
-use Rattle.roman_session.proofs.Common.{Pair, Sizes, number, system_of}
+use Rattle.std.proofs.Common.{sym, subst}
+use Rattle.roman_session.proofs.Common.{Pair, Sizes, system_of}
 use Rattle.roman_model.specs.Numbers.{IsPairOf}
 use Rattle.roman_model.proofs.CallerLemmas.{IsPairOf-from}
 use Rattle.roman_session.proofs.session.number_of.Goals as goal
@@ -8,6 +8,3 @@ pub number-requires : goal.number-requires
 number-requires c =
     let p : Pair = record { t = c.args.t; e = c.args.e; bs = c.args.states.now } in
     subst (λ (m : Sizes). IsPairOf m p) (sym c.shape.ensures) (IsPairOf-from (system_of c.args.joint.now) p c.requires)
-
-pub returns : goal.returns
-returns c = c.number.ensures.number ∙ ap (λ (m : Sizes). number m (record { t = c.args.t; e = c.args.e; bs = c.args.states.now })) c.shape.ensures

@@ -4,12 +4,7 @@ use Rattle.roman_session.proofs.ServingLemmas.{next_set, next_unset, none_set}
 use Rattle.roman_session.proofs.writing.push_served.Goals as goal
 
 pub loop-k-preserved-then-not-has : goal.loop-k-preserved-then-not-has
-loop-k-preserved-then-not-has g c =
-    let n = length c.args.joint.now.seats in
-    record {
-      filling = fill_same _ _ _ _ _ _ (next_unset c.args.joint.now c.args.mask n c.loop-k.k (omega arith) (sym c.has.ensures ∙ c.if-not-has.true)) c.loop-k.invariant.filling;
-      cause = c.loop-k.invariant.cause;
-    }
+loop-k-preserved-then-not-has g c = grind (arith, fill_same, next_unset)
 
 pub returns-in_err-push_name-clause-gathers : goal.returns-in_err-push_name-clause-gathers
 returns-in_err-push_name-clause-gathers g c =

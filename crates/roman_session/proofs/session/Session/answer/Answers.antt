@@ -1,11 +1,6 @@
 use Rattle.roman_session.proofs.Common.{err_from_is_err_and}
-use Rattle.roman_session.proofs.AnswerLemmas.{names_some, stays_related, answered_whole, answered_prefix}
+use Rattle.roman_session.proofs.AnswerLemmas.{names_some, stays_related, answered_whole}
 use Rattle.roman_session.proofs.session.Session.answer.Goals as goal
-
-pub returns-in_err-next-clause-step : goal.returns-in_err-next-clause-step
-returns-in_err-next-clause-step g c =
-    let p = err_from_is_err_and c.from_residual.result c.from_residual.ensures.1 in
-    rw p.1 (answered_prefix _ _ _ _ _ _ _ _ _ c.new-page.ensures.empty c.in_err-next.ensures.step)
 
 pub returns-in_err-next-clause-offered : goal.returns-in_err-next-clause-offered
 returns-in_err-next-clause-offered g c = names_some c.args.self.now c.args.line.now c.known.ensures

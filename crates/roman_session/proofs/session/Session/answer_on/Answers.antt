@@ -1,5 +1,5 @@
+use Rattle.std.proofs.Common.{arith}
 use Rattle.roman_session.proofs.Common.{err_from_is_err_and, reply_text}
-use Rattle.roman_text.specs.Shapes.{shape_of_event}
 use Rattle.roman_text.specs.declared.replies.Reply.TheVariants as reply
 use Rattle.roman_session.proofs.AnswerLemmas.{step_by_shape, step_unshaped}
 use Rattle.roman_session.proofs.session.Session.answer_on.Goals as goal
@@ -21,20 +21,7 @@ returns-in-Err-clause-step g c = record {
 }
 
 pub returns-in_err-answer_event-clause-step : goal.returns-in_err-answer_event-clause-step
-returns-in_err-answer_event-clause-step g c =
-    let done = c.in_err-answer_event.ensures.step in
-    let p = err_from_is_err_and c.from_residual-in_err-answer_event.result c.from_residual-in_err-answer_event.ensures.1 in
-    rw p.1 (record {
-      text = done.text;
-      step = step_by_shape c.args.self.now c.answer_event.new.self c.args.line.now done.text (shape_of_event c.in-Ok.event) c.in-Ok.ensures.shape done.step;
-      gathers = done.gathers;
-    })
+returns-in_err-answer_event-clause-step g c = grind (arith, err_from_is_err_and, step_by_shape)
 
 pub returns-clause-step : goal.returns-clause-step
-returns-clause-step g c =
-    let done = c.in_ok-answer_event.ensures.step in
-    record {
-      text = done.text;
-      step = step_by_shape c.args.self.now c.answer_event.new.self c.args.line.now done.text (shape_of_event c.in-Ok.event) c.in-Ok.ensures.shape done.step;
-      gathers = done.gathers;
-    }
+returns-clause-step g c = grind (arith, step_by_shape)

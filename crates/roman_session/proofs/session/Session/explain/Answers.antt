@@ -1,4 +1,4 @@
-use Rattle.std.proofs.Common.{◌≡◌, ℕ, List, sym, ap, ◌∙◌, subst}
+use Rattle.std.proofs.Common.{◌≡◌, ℕ, List, sym, ap, ◌∙◌, subst, arith}
 use Rattle.roman_session.proofs.Common.{err_from_is_err_and, explain_text, sizes_of, number, Puts, names_in, Situation, present_system, situation_in}
 use Rattle.roman_text.proofs.CallerLemmas.{Gathers-flushed, Gathers-failed}
 use Rattle.roman_session.proofs.AnswerLemmas.{puts_gathered}
@@ -12,9 +12,7 @@ write_slice-requires-clause-unrelated g c =
     unrelated_there s a.relation.joint c.here-here.result (situation_known a s c.self.invariant c.self.view_is) (parts_shown a s c.self.view_is) c.here-here.ensures.number c.requires
 
 pub returns-in_err-flush-clause-gathers : goal.returns-in_err-flush-clause-gathers
-returns-in_err-flush-clause-gathers g c =
-    let p = err_from_is_err_and c.from_residual.result c.from_residual.ensures.1 in
-    rw p.1 (Gathers-failed _ _ _ _ _ c.in_err-flush.ensures.puts c.in_err-flush.ensures.empty)
+returns-in_err-flush-clause-gathers g c = grind (arith, Gathers-failed, err_from_is_err_and)
 
 pub returns-clause-gathers : goal.returns-clause-gathers
 returns-clause-gathers g c =

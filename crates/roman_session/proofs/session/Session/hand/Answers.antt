@@ -1,8 +1,6 @@
-use Rattle.std.proofs.Common.{◌<◌, ◌++◌, ℕ, List, Result, codes, length, sym, ap, subst}
-use Rattle.roman_text.specs.Lines.{with_newline}
-use Rattle.roman_session.proofs.Common.{Reply, offers, Situation, present_system, Does, Handing}
+use Rattle.std.proofs.Common.{◌<◌, length, sym, subst, arith}
+use Rattle.roman_session.proofs.Common.{offers, Situation, present_system}
 use Rattle.roman_model.proofs.CallerLemmas.{number_listed}
-use Rattle.roman_session.specs.Steps.{Hands}
 use Rattle.roman_session.proofs.RulingLemmas.{handed_is}
 use Rattle.roman_session.proofs.SituationLemmas.{situation_known, parts_shown, offered_open, offered_within, service_named_at}
 use Rattle.roman_session.proofs.session.Session.hand.Goals as goal
@@ -25,9 +23,4 @@ set_phase-requires-clause-phase c =
     (offered_open s x.action (situation_known a s c.self.invariant c.self.view_is) handed.phase, number_listed (offers (present_system s) s.here x.action) x.seat handed.offered)
 
 pub returns : goal.returns
-returns c =
-    let s = c.args.self.now in
-    let a = c.self.inside in
-    let name = service_named_at a.relation.joint s c.in-Ok.handing.seat c.seat.result.now (parts_shown a s c.self.view_is) c.seat.ensures in
-    subst (λ (r : Result Handing Reply). Does Hands s r (with_newline (codes "using " ++ c.seat.result.now.name)) c.set_phase.new.self) c.in-Ok.ensures
-    (ap (λ (name : List ℕ). with_newline (codes "using " ++ name)) name, c.set_phase.ensures)
+returns c = grind (arith, parts_shown, service_named_at)

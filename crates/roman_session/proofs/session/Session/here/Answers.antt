@@ -3,9 +3,6 @@ use Rattle.roman_session.proofs.Common.{sizes_of, number, numbers_are_pairs, Sit
 use Rattle.roman_session.proofs.SituationLemmas.{situation_known}
 use Rattle.roman_session.proofs.session.Session.here.Goals as goal
 
-pub returns-clause-number : goal.returns-clause-number
-returns-clause-number c = c.self.invariant.numbered ∙ ap (λ (s : Situation). number (sizes_of (present_system s)) s.here) c.self.view_is
-
 pub returns-clause-below : goal.returns-clause-below
 returns-clause-below c =
     let s = c.args.self.now in

@@ -6,16 +6,10 @@ use Rattle.roman_session.proofs.SituationLemmas.{parts_shown}
 use Rattle.roman_session.proofs.session.Session.join_seat.Goals as goal
 
 pub push_reserved-requires : goal.push_reserved-requires
-push_reserved-requires g c =
-    let a = c.self.inside in
-    has_room a c.self.invariant (has_place a c.self.invariant (λ full. absurd (cc (c.in-Ok.ensures.full.1 full))))
+push_reserved-requires g c = grind (arith, has_place, has_room)
 
 pub number_of-self-inside-requires : goal.number_of-self-inside-requires
-number_of-self-inside-requires g c =
-    let a = c.self.inside in
-    let x = c.args.joining in
-    let can = subst (λ (n : NamedSys). CanJoin n x) (sym (parts_shown a c.args.self.now c.self.view_is)) c.requires.can in
-    joined_pair a c.join.new.relation c.deref.result.now x c.in-Ok.tally c.self.invariant can c.in-Ok.ensures.repaired (c.deref.ensures.value ∙ c.push_reserved.ensures.items)
+number_of-self-inside-requires g c = grind (arith, joined_pair, parts_shown)
 
 pub invariant_of-self : goal.invariant_of-self
 invariant_of-self g c =

@@ -1,5 +1,5 @@
-use Rattle.std.proofs.Common.{◌≡◌, ℕ, Result, slice_set, refl, sym, ap, ap₂, ◌∙◌, subst}
-use Rattle.roman_session.proofs.Common.{IsPair, moved, reply_text, Reply, Situation, present_system, Does, Jump, Phase, Idle}
+use Rattle.std.proofs.Common.{◌≡◌, ℕ, Result, slice_set, refl, sym, ap, ap₂, ◌∙◌, subst, arith}
+use Rattle.roman_session.proofs.Common.{moved, reply_text, Reply, Situation, Does, Jump, Phase, Idle}
 use Rattle.roman_text.specs.declared.replies.Reply.TheVariants as reply
 use Rattle.roman_session.specs.Steps.{Jumps}
 use Rattle.roman_session.proofs.RulingLemmas.{jumped_is}
@@ -7,15 +7,7 @@ use Rattle.roman_session.proofs.SituationLemmas.{situation_known, jumped_pair}
 use Rattle.roman_session.proofs.session.Session.jump.Goals as goal
 
 pub move_to-requires-clause-pair : goal.move_to-requires-clause-pair
-move_to-requires-clause-pair c =
-    let s = c.args.self.now in
-    let a = c.move_to.inside in
-    let x = c.in-Ok.jump in
-    let is = situation_known a s c.move_to.invariant c.move_to.view_is in
-    let t = ap (λ (s : Situation). s.here.t) c.move_to.view_is in
-    let e = ap (λ (s : Situation). s.here.e) c.move_to.view_is in
-    subst (λ (t : ℕ). IsPair (present_system s) (moved s.here t a.env x.seat x.state)) (sym t)
-    (subst (λ (e : ℕ). IsPair (present_system s) (moved s.here s.here.t e x.seat x.state)) (sym e) (jumped_pair s x.seat x.state is c.in-Ok.ensures.seat c.in-Ok.ensures.state))
+move_to-requires-clause-pair c = grind (arith, jumped_pair, situation_known)
 
 pub returns : goal.returns
 returns c =
@@ -24,9 +16,8 @@ returns c =
     let x = c.in-Ok.jump in
     let t = ap (λ (s : Situation). s.here.t) c.move_to.view_is in
     let e = ap (λ (s : Situation). s.here.e) c.move_to.view_is in
-    let idle = (jumped_is s c.args.service.now c.args.state.now x (sym c.in-Ok.ensures.jumped)).idle in
+    let idle = (jumped_is _ _ _ _ (sym c.in-Ok.ensures.jumped)).idle in
     let becomes : c.move_to-2.new.self ≡ record s { here = record s.here { bs = slice_set s.here.bs x.seat x.state } } =
-    c.move_to-2.ensures
-    ∙ ap₂ (λ (t e : ℕ). record s { here = moved s.here t e x.seat x.state; phase = Idle }) t e
+    c.move_to-2.ensures ∙ ap₂ (λ (t e : ℕ). record s { here = moved s.here t e x.seat x.state; phase = Idle }) t e
     ∙ ap (λ (phase : Phase). record s { here = moved s.here s.here.t s.here.e x.seat x.state; phase = phase }) (sym idle) in
     subst (λ (r : Result Jump Reply). Does Jumps s r (reply_text reply.Jumped) c.move_to-2.new.self) c.in-Ok.ensures.jumped (refl, becomes)

@@ -1,30 +1,7 @@
 use Rattle.std.proofs.Common.{◌≡◌, ◌<◌, length, slice_index, sym, ap, ◌∙◌, subst, arith}
-use Rattle.roman_session.proofs.Common.{length-map, Pair, IsPair, Sizes, sizes_of, count, number, pair_at, moved, NamedSys, system_of, seat_of, Situation, present_system, situation_in}
-use Rattle.roman_model.specs.System.{Seat}
+use Rattle.roman_session.proofs.Common.{length-map, Pair, IsPair, Sizes, sizes_of, number, pair_at, moved, NamedSys, system_of, seat_of, Situation, present_system, situation_in}
 use Rattle.roman_session.proofs.SituationLemmas.{situation_known, parts_shown, here_pair, moved_within, state_there}
 use Rattle.roman_session.proofs.session.Session.move_to.Goals as goal
-
-pub moved-self-inside-requires-clause-pair : goal.moved-self-inside-requires-clause-pair
-moved-self-inside-requires-clause-pair c =
-    let sizes = c.shape.ensures ∙ ap (λ (n : NamedSys). sizes_of (system_of n)) (parts_shown c.self.inside c.args.self.now c.self.view_is) in
-    subst (λ (m : Sizes). c.here.result < count m) (sym sizes) c.here.ensures.below
-
-pub moved-self-inside-requires-clause-t : goal.moved-self-inside-requires-clause-t
-moved-self-inside-requires-clause-t c =
-    let sizes = c.shape.ensures ∙ ap (λ (n : NamedSys). sizes_of (system_of n)) (parts_shown c.self.inside c.args.self.now c.self.view_is) in
-    subst (λ (m : Sizes). c.args.t < m.target) (sym sizes) c.requires.pair.t
-
-pub moved-self-inside-requires-clause-e : goal.moved-self-inside-requires-clause-e
-moved-self-inside-requires-clause-e c =
-    let sizes = c.shape.ensures ∙ ap (λ (n : NamedSys). sizes_of (system_of n)) (parts_shown c.self.inside c.args.self.now c.self.view_is) in
-    subst (λ (m : Sizes). c.args.e < m.env) (sym sizes) c.requires.pair.e
-
-pub moved-self-inside-requires-clause-component : goal.moved-self-inside-requires-clause-component
-moved-self-inside-requires-clause-component c =
-    let s = c.args.self.now in
-    let sizes = c.shape.ensures ∙ ap (λ (n : NamedSys). sizes_of (system_of n)) (parts_shown c.self.inside s c.self.view_is) in
-    subst (λ (m : Sizes). c.args.k < length m.seats) (sym sizes)
-    (omega (arith, c.requires.seat, length-map s.parts.seats (seat_of s.parts.catalogue), length-map (present_system s).seats (λ (x : Seat). x.beh.states)))
 
 pub moved-self-inside-requires-clause-state : goal.moved-self-inside-requires-clause-state
 moved-self-inside-requires-clause-state c =
@@ -56,9 +33,7 @@ invariant_of-self c =
       };
       few = c.self.invariant.few;
       room = c.self.invariant.room;
-      numbered =
-          c.moved-self-inside.ensures.number
-          ∙ ap (λ (m : Sizes). number m (moved (pair_at m c.here.result) c.args.t c.args.e c.args.k c.args.b)) c.shape.ensures
-          ∙ ap (λ (p : Pair). number (sizes_of (present_system s)) (moved p c.args.t c.args.e c.args.k c.args.b)) (here_pair s c.here.result known here);
+      numbered = c.moved-self-inside.ensures.number ∙ ap (λ (m : Sizes). number m (moved (pair_at m c.here.result) c.args.t c.args.e c.args.k c.args.b)) c.shape.ensures
+          ∙ ap (λ (p : Pair). number (sizes_of (present_system s)) (moved p c.args.t c.args.e c.args.k c.args.b)) (here_pair _ _ known here);
       offered = λ action is. cc;
     }

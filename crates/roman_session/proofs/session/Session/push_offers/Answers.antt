@@ -1,4 +1,4 @@
-use Rattle.std.proofs.Common.{◌≡◌, refl, sym, ◌∙◌, arith, rules}
+use Rattle.std.proofs.Common.{◌≡◌, sym, arith, rules}
 use Rattle.roman_session.proofs.Common.{err_from_is_err_and, fill_behind, fill_same, fill_more, fill_failed, fill_end}
 use Rattle.roman_session.proofs.LineLemmas.{next_offer, next_unallowed, no_offer, offers_begin, no_offers}
 use Rattle.roman_session.proofs.session.Session.push_offers.Goals as goal
@@ -9,16 +9,10 @@ returns-then-not-composes-clause-gathers g c =
     fill_end _ _ _ _ (fill_behind _ _ _ _ (no_offers s.parts s.here (sym c.if-not-composes.ensures)))
 
 pub loop-a-init : goal.loop-a-init
-loop-a-init g c =
-    let s = c.args.self.now in
-    record { filling = fill_behind _ _ _ _ (offers_begin s.parts s.here (sym c.if-not-composes.ensures)); cause = refl }
+loop-a-init g c = grind (arith, fill_behind, offers_begin)
 
 pub loop-a-preserved-then-not-allows : goal.loop-a-preserved-then-not-allows
-loop-a-preserved-then-not-allows g c =
-    let s = c.args.self.now in
-    let all : c.len-actions.result ≡ s.parts.environment.env.actions = search rules in
-    let next = next_unallowed s.parts s.here c.loop-a.a (omega (arith, all)) (sym c.if-not-allows.ensures) in
-    record { filling = fill_same _ _ _ _ _ _ next c.loop-a.invariant.filling; cause = c.loop-a.invariant.cause }
+loop-a-preserved-then-not-allows g c = grind (arith, fill_same, next_unallowed)
 
 pub returns-in_err-push_offer-clause-gathers : goal.returns-in_err-push_offer-clause-gathers
 returns-in_err-push_offer-clause-gathers g c =
@@ -29,14 +23,7 @@ returns-in_err-push_offer-clause-gathers g c =
     rw p.1 (fill_failed _ _ _ _ _ _ _ (fill_same _ _ _ _ _ _ next c.loop-a.invariant.filling) c.in_err-push_offer.ensures.gathers.0, c.in_err-push_offer.ensures.gathers.1)
 
 pub loop-a-preserved : goal.loop-a-preserved
-loop-a-preserved g c =
-    let s = c.args.self.now in
-    let all : c.len-actions.result ≡ s.parts.environment.env.actions = search rules in
-    let next = next_offer s.parts s.here c.loop-a.a (omega (arith, all)) (sym c.if-not-allows.ensures) in
-    record {
-      filling = fill_more _ _ _ _ _ _ _ _ (fill_same _ _ _ _ _ _ next c.loop-a.invariant.filling) c.in_ok-push_offer.ensures.gathers;
-      cause = c.in_ok-push_offer.ensures.cause.stays ∙ c.loop-a.invariant.cause;
-    }
+loop-a-preserved g c = grind (arith, fill_more, fill_same, next_offer)
 
 pub returns-clause-gathers : goal.returns-clause-gathers
 returns-clause-gathers g c =

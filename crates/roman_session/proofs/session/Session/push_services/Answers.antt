@@ -1,13 +1,11 @@
-use Rattle.std.proofs.Common.{◌<◌, length, refl, ap, ◌∙◌, arith}
+use Rattle.std.proofs.Common.{◌<◌, length, ap, ◌∙◌, arith}
 use Rattle.roman_session.proofs.Common.{err_from_is_err_and, NamedSys, fill_behind, fill_same, fill_more, fill_failed, fill_end}
 use Rattle.roman_session.proofs.LineLemmas.{services_begin, service_next, no_service}
 use Rattle.roman_session.proofs.SituationLemmas.{situation_known, parts_shown}
 use Rattle.roman_session.proofs.session.Session.push_services.Goals as goal
 
 pub loop-k-init : goal.loop-k-init
-loop-k-init g c =
-    let s = c.args.self.now in
-    record { filling = fill_behind _ _ _ _ (services_begin s.parts s.here); cause = refl }
+loop-k-init g c = grind (arith, fill_behind, services_begin)
 
 pub returns-in_err-push_report_line-clause-gathers : goal.returns-in_err-push_report_line-clause-gathers
 returns-in_err-push_report_line-clause-gathers g c =

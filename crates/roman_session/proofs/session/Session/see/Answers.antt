@@ -1,6 +1,5 @@
-use Rattle.std.proofs.Common.{ℕ, List, IsTrue, slice_get, slice_set, sym, subst}
-use Rattle.roman_model.specs.System.{SStep}
-use Rattle.roman_session.proofs.Common.{is_allowed, is_ready, Situation, present_system, HasMoved, situation_in}
+use Rattle.std.proofs.Common.{IsTrue, slice_get, sym, subst, arith}
+use Rattle.roman_session.proofs.Common.{is_allowed, is_ready, Situation, present_system}
 use Rattle.roman_session.proofs.RulingLemmas.{seen_is}
 use Rattle.roman_session.proofs.SituationLemmas.{delegated_is, delegate_ready, offered_within}
 use Rattle.roman_session.proofs.StepLemmas.{moved_pair}
@@ -21,16 +20,7 @@ next_target-requires-clause-ready c =
     subst (λ (s : Situation). IsTrue (is_ready (slice_get (present_system s).seats x.seat))) (sym c.self.view_is) (delegate_ready s x.action x.seat c.known.ensures phase.1)
 
 pub move_to-requires-clause-pair : goal.move_to-requires-clause-pair
-move_to-requires-clause-pair c =
-    let a = c.self.inside in
-    let s = situation_in a in
-    let x = c.in-Ok.sight in
-    let moves = c.in-Some.ensures.moves in
-    let there : HasMoved s x c.in-Some.to = record {
-      target = moves.0;
-      system = subst (λ (bs : List ℕ). SStep (present_system s) bs a.env x.action x.seat (slice_set bs x.seat x.state) x.env) c.deref.ensures.value moves.1;
-    } in
-    moved_pair c.args.self.now x c.in-Some.to c.known.ensures (subst (λ (s : Situation). HasMoved s x c.in-Some.to) c.self.view_is there)
+move_to-requires-clause-pair c = grind (arith, moved_pair)
 
 pub move_to-requires-clause-seat : goal.move_to-requires-clause-seat
 move_to-requires-clause-seat c =

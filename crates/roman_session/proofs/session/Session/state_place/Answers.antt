@@ -28,8 +28,6 @@ returns-clause-within c =
     let is = situation_known c.self.inside s c.self.invariant c.self.view_is in
     let placed = subst (λ (n : NamedSys). IsSeatBehaviour n c.args.k beh) (parts_shown c.self.inside s c.self.view_is) c.behaviour.ensures in
     let of = behaves s.parts c.args.k beh is.parts placed in
-    IfOk-weaker c.place.result (λ b. b < length c.states.result.now) (λ b. IfSome (slice_get (present_system s).seats c.args.k) (λ seat. b < seat.beh.states))
-    (λ b less.
+    IfOk-weaker c.place.result (λ b. b < length c.states.result.now) (λ b. IfSome (slice_get (present_system s).seats c.args.k) (λ seat. b < seat.beh.states)) (λ b less.
     let within : b < of.seat.beh.states = omega (arith, less, ap (λ (b : Beh). b.states) of.is, c.states.ensures.count, ap length c.states.ensures.names) in
-    subst (λ (o : Option Seat). IfSome o (λ seat. b < seat.beh.states)) (sym of.seated) within)
-    c.place.ensures.within
+    subst (λ (o : Option Seat). IfSome o (λ seat. b < seat.beh.states)) (sym of.seated) within) c.place.ensures.within
