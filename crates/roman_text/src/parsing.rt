@@ -1,4 +1,5 @@
-//! Parses lines into events.
+//! Parses lines into events. All calls are inlined, so that an event is matched where it is made and isn't
+//! copied.
 ghost use Rattle.std.specs.Prelude.{◌≡◌, ◌<◌, ◌↔◌, length};
 ghost use Rattle.std.specs.Str.{bytes_eq};
 ghost use Rattle.roman_text.specs.Shapes.{Shapes, shape_of, words_of, by_words, alone, with_one, with_two, with_three, with_four};
@@ -16,6 +17,7 @@ use roman_model::MAX_LINE_BYTES;
 ///
 /// Fails with `TooLong` exactly where the line has more than 256 bytes. Fails with `Form` exactly where
 /// it has at most 256 bytes and its words aren't those of an event.
+#[inline(always)]
 pub fn parse_line(line: &[u8]) -> Result<Event<'_>, LineError>
     ensures shape { Shapes (shape_of line.now) result }
     ensures too_long { (result ≡ Err LineError.TooLong) ↔ (256 < length line.now) }
@@ -33,6 +35,7 @@ pub fn parse_line(line: &[u8]) -> Result<Event<'_>, LineError>
 }
 
 /// Returns the event of a first word and the words of the rest.
+#[inline(always)]
 fn by_words<'a>(word: &[u8], rest: &'a [u8]) -> Result<Event<'a>, LineError>
     ensures { Shapes (by_words word.now (words_of rest.now)) result }
 {
@@ -55,6 +58,7 @@ fn by_words<'a>(word: &[u8], rest: &'a [u8]) -> Result<Event<'a>, LineError>
 }
 
 /// Returns whether a word is this text.
+#[inline(always)]
 fn is(word: &[u8], text: &str) -> bool
     ensures { result ≡ bytes_eq word.now text.now }
 {
@@ -62,6 +66,7 @@ fn is(word: &[u8], text: &str) -> bool
 }
 
 /// Returns the event of one word.
+#[inline(always)]
 fn alone<'a>(word: &[u8]) -> Result<Event<'a>, LineError>
     ensures { Shapes (alone word.now) result }
 {
@@ -81,6 +86,7 @@ fn alone<'a>(word: &[u8]) -> Result<Event<'a>, LineError>
 }
 
 /// Returns the event of a word and one operand.
+#[inline(always)]
 fn with_one<'a>(word: &[u8], a: &'a [u8]) -> Result<Event<'a>, LineError>
     ensures { Shapes (with_one word.now a.now) result }
 {
@@ -106,6 +112,7 @@ fn with_one<'a>(word: &[u8], a: &'a [u8]) -> Result<Event<'a>, LineError>
 }
 
 /// Returns the event of a word and two operands.
+#[inline(always)]
 fn with_two<'a>(word: &[u8], a: &'a [u8], b: &'a [u8]) -> Result<Event<'a>, LineError>
     ensures { Shapes (with_two word.now a.now b.now) result }
 {
@@ -122,6 +129,7 @@ fn with_two<'a>(word: &[u8], a: &'a [u8], b: &'a [u8]) -> Result<Event<'a>, Line
 }
 
 /// Returns the event of a word and three operands.
+#[inline(always)]
 fn with_three<'a>(
     word: &[u8],
     service: &'a [u8],
@@ -142,6 +150,7 @@ fn with_three<'a>(
 }
 
 /// Returns the event of a word, three operands and `loose`.
+#[inline(always)]
 fn with_four<'a>(
     word: &[u8],
     service: &'a [u8],

@@ -37,6 +37,7 @@ fn word_end(line: &[u8]) -> usize
 
 /// Returns the first word of a line and the rest of the line after it. Returns `None` exactly where the
 /// line has no word. Words are separated by spaces and tabs.
+#[inline(always)]
 pub fn first_word(line: &[u8]) -> Option<(&[u8], &[u8])>
     ensures { IsFirstWord line.now result }
 {
