@@ -1,13 +1,13 @@
 -- Bytes that are read one after another.
-use Rattle.std.proofs.Common.{◌≡◌, ℕ, ◌+◌, ◌<◌, ◌≤◌, true, false, List, [], ◌∷◌, ◌++◌, length, take, drop, get_or, min, nat_lt, Option, Result, Ok, Err, IsTrue, IsFalse, refl, sym, ap, ◌∙◌, subst, arith, append_assoc, append-nil, eqb-true}
+use Rattle.std.proofs.Common.{◌≡◌, ℕ, ◌+◌, ◌<◌, ◌≤◌, true, false, List, [], ◌∷◌, ◌++◌, length, take, drop, get_or, min, nat_lt, Option, Result, Ok, Err, IsTrue, IsFalse, IfOk, refl, sym, ap, ap₂, ◌∙◌, subst, arith, append_assoc, append-nil, ltb-false}
 use Rattle.roman_hearing.proofs.Common.{cond-true, cond-false, kept-nil, lines_rest, lines_none, lines, ended_lines, by_test, unfinished, kept, shape_of, Situation, IsSituation, Step, Next, ends_session, has_quit, cursor, Tells, TellsPrefix, reader_state, IsHearing, StopsAtQuit, FallsShort, FailsIn}
-use Rattle.std.proofs.lemmas.List.{take_all, take_min, take_more, take-append-drop}
+use Rattle.std.proofs.lemmas.List.{nil_from_length, take_all, take_min}
 use Rattle.roman_io.specs.Sink.{Wrote, WrotePrefix}
 use Rattle.roman_io.specs.declared.failed.Failed.{Failed}
 use Rattle.roman_io.proofs.CallerLemmas.{Wrote-then, WrotePrefix-after}
 use Rattle.roman_text.specs.Pages.{Gathered}
-use Rattle.roman_text.proofs.CallerLemmas.{Gathered-empty, Gathered-then, Gathered-put, WrotePrefix-gathered, ended_lines-newline, ended_lines-other, unfinished-newline, unfinished-nil, unfinished-other, kept-push}
-use Rattle.roman_text.specs.Lines.{is_newline}
+use Rattle.roman_text.proofs.CallerLemmas.{Gathered-empty, Gathered-then, Gathered-put, WrotePrefix-gathered, ended_lines-newline, ended_lines-part, unfinished-newline, unfinished-nil, unfinished-part, kept-again, kept-append}
+use Rattle.roman_model.specs.Lines.{IsLine}
 use Rattle.roman_session.specs.Answering.{AnsweredOn, next_of}
 use Rattle.roman_session.specs.declared.next.Next.TheVariants.{More, Quit}
 use Rattle.roman_hearing.specs.Hearing.{Cursor}
@@ -67,49 +67,61 @@ put_whole old mid wrote now ls page takes put = grind (arith, Gathered-put, Wrot
 put_prefix : (old : Cursor) (mid : Situation) (wrote now : Option (List ℕ)) (ls : List (List ℕ)) (page : List ℕ) → TellsOnPage old ls (cursor mid wrote) page → WrotePrefix wrote now page → TellsPrefix old ls (cursor mid now)
 put_prefix old mid wrote now ls page takes prefix = grind (arith, WrotePrefix-after)
 
--- ---- one byte
+-- ---- a part of a line
 
 -- before the first byte
 pub hearing_starts : (s : Situation) (told : Option (List ℕ)) (held : List ℕ) → held ≡ [] → IsHearing (cursor s told) [] (reader_state s told [] held)
 hearing_starts s told held empty = grind (arith, Gathered-empty, kept-nil, unfinished-nil)
 
-module _ (old : Situation) (before : Option (List ℕ)) (taken : List ℕ) (mid : Situation) (wrote : Option (List ℕ)) (page held : List ℕ) (byte : ℕ) (is : IsHearing (cursor old before) taken (reader_state mid wrote page held)) where
-  -- a byte within a line
-  pub hears_other : (after : List ℕ) → is_newline byte ≡ false → after ≡ kept (held ++ byte ∷ []) → IsHearing (cursor old before) (taken ++ byte ∷ []) (reader_state mid wrote page after)
-  hears_other after other e = record {
-    quitless = rw (ended_lines-other taken byte other) is.quitless;
-    tells = rw (ended_lines-other taken byte other) is.tells;
-    rest = e ∙ ap (λ (held : List ℕ). kept (held ++ byte ∷ [])) is.rest ∙ kept-push (unfinished taken) byte ∙ sym (ap kept (unfinished-other taken byte other));
+module _ (old : Situation) (before : Option (List ℕ)) (taken : List ℕ) (mid : Situation) (wrote : Option (List ℕ)) (page held part : List ℕ) (is : IsHearing (cursor old before) taken (reader_state mid wrote page held)) (within : IsLine part) where
+  -- what is held of a line decides what is held after more bytes
+  part_kept : kept (held ++ part) ≡ kept (unfinished taken ++ part)
+  part_kept = ap (λ (held : List ℕ). kept (held ++ part)) is.rest ∙ kept-append (unfinished taken) part
+
+  -- no bytes of the line are held before these
+  pub alone_kept : nat_lt 0 (length held) ≡ false → (held ≡ []) × (kept part ≡ kept (unfinished taken ++ part))
+  alone_kept none =
+      let few = ltb-false 0 (length held) none in
+      let empty : held ≡ [] = nil_from_length held (omega arith) in
+      (empty, ap (λ (held : List ℕ). kept (held ++ part)) (sym empty) ∙ part_kept)
+
+  -- these bytes are held too
+  pub more_kept : (line : List ℕ) → line ≡ kept (held ++ part) → kept line ≡ kept (unfinished taken ++ part)
+  more_kept line e = kept-again line (unfinished taken ++ part) (e ∙ part_kept)
+
+  -- bytes within a line
+  pub hears_part : (after : List ℕ) → after ≡ kept (held ++ part) → IsHearing (cursor old before) (taken ++ part) (reader_state mid wrote page after)
+  hears_part after e = record {
+    quitless = rw (ended_lines-part taken part within) is.quitless;
+    tells = rw (ended_lines-part taken part within) is.tells;
+    rest = e ∙ part_kept ∙ sym (ap kept (unfinished-part taken part within));
   }
 
-  -- a newline
-  pub hears_line : (new : Situation) (now : Option (List ℕ)) (holds after : List ℕ) (next : Next) → is_newline byte ≡ true → after ≡ [] → AnsweredOn {E = Failed} mid (unfinished taken) new wrote now page holds (Ok next) →
-      next ≡ next_of (unfinished taken) → HearsBytes (cursor old before) taken (byte ∷ []) (reader_state new now holds after) (Ok next)
-  hears_line new now holds after More newline empty answered next = record {
-    quitless = rw (ended_lines-newline taken byte newline) (quitless_last (ended_lines taken) (unfinished taken) is.quitless (next_more (unfinished taken) next));
-    tells = rw (ended_lines-newline taken byte newline) (takes_more old mid new (ended_lines taken) (unfinished taken) answered.text before wrote now page holds is.quitless is.tells answered.step answered.gathers);
-    rest = empty ∙ sym (ap kept (unfinished-newline taken byte newline) ∙ kept-nil);
-  }
-  hears_line new now holds after Quit newline empty answered next =
-      let is_ten : byte ≡ 10 = eqb-true byte 10 newline in
-      let whole : ended_lines (taken ++ [] ++ 10 ∷ []) ≡ ended_lines taken ++ unfinished taken ∷ [] = ap (λ (bytes : List ℕ). ended_lines (bytes ++ 10 ∷ [])) (append-nil taken) ∙ ended_lines-newline taken 10 refl in
-      record {
-        heard = [];
-        past = [];
-        split = ap (λ (b : ℕ). b ∷ []) is_ten;
-        first = rw (append-nil taken) is.quitless;
-        quit = rw whole (quit_last (ended_lines taken) (unfinished taken) (next_quit (unfinished taken) next));
-        tells = rw whole (takes_more old mid new (ended_lines taken) (unfinished taken) answered.text before wrote now page holds is.quitless is.tells answered.step answered.gathers);
+  ended : ended_lines (taken ++ part ++ 10 ∷ []) ≡ ended_lines taken ++ (unfinished taken ++ part) ∷ []
+  ended = ended_lines-newline (taken ++ part) 10 refl ∙ ap₂ (λ (ls : List (List ℕ)) (line : List ℕ). ls ++ line ∷ []) (ended_lines-part taken part within) (unfinished-part taken part within)
+
+  -- the last bytes of a line and its newline
+  pub hears_ended : (new : Situation) (now : Option (List ℕ)) (holds after : List ℕ) (result : Result Next Failed) → after ≡ [] → AnsweredOn mid (unfinished taken ++ part) new wrote now page holds result →
+      IfOk result (λ next. next ≡ next_of (unfinished taken ++ part)) → IsSituation new → HearsBytes (cursor old before) taken (part ++ 10 ∷ []) (reader_state new now holds after) result
+  hears_ended new now holds after (Ok More) empty answered next known =
+      subst (λ (bytes : List ℕ). IsHearing (cursor old before) bytes (reader_state new now holds after)) (append_assoc taken part (10 ∷ [])) record {
+        quitless = rw ended (quitless_last (ended_lines taken) (unfinished taken ++ part) is.quitless (next_more (unfinished taken ++ part) next));
+        tells = rw ended (takes_more old mid new (ended_lines taken) (unfinished taken ++ part) answered.text before wrote now page holds is.quitless is.tells answered.step answered.gathers);
+        rest = empty ∙ sym (ap kept (unfinished-newline (taken ++ part) 10 refl) ∙ kept-nil);
       }
-
-  -- a newline, where the reply to its line isn't written whole
-  pub hears_failed : (new : Situation) (now : Option (List ℕ)) (holds : List ℕ) (failed : Failed) → is_newline byte ≡ true → AnsweredOn {T = Next} mid (unfinished taken) new wrote now page holds (Err failed) → IsSituation new →
-      FailsIn (cursor old before) (taken ++ byte ∷ []) (cursor new now)
-  hears_failed new now holds failed newline answered known = record {
-    heard = taken ++ byte ∷ [];
+  hears_ended new now holds after (Ok Quit) empty answered next known = record {
+    heard = part;
     past = [];
-    split = sym (append-nil (taken ++ byte ∷ []));
-    fails = rw (ended_lines-newline taken byte newline) (takes_failed old mid new (ended_lines taken) (unfinished taken) answered.text before wrote now page is.quitless is.tells answered.step answered.gathers.0 known);
+    split = refl;
+    first = rw (ended_lines-part taken part within) is.quitless;
+    quit = rw ended (quit_last (ended_lines taken) (unfinished taken ++ part) (next_quit (unfinished taken ++ part) next));
+    tells = rw ended (takes_more old mid new (ended_lines taken) (unfinished taken ++ part) answered.text before wrote now page holds is.quitless is.tells answered.step answered.gathers);
+  }
+  hears_ended new now holds after (Err failed) empty answered next known = record {
+    heard = taken ++ part ++ 10 ∷ [];
+    past = [];
+    split = sym (append_assoc taken part (10 ∷ [])) ∙ sym (append-nil (taken ++ part ++ 10 ∷ []));
+    fails = rw ended (takes_failed old mid new (ended_lines taken) (unfinished taken ++ part) answered.text before wrote now page is.quitless is.tells answered.step answered.gathers.0 known);
   }
 
 -- ---- bytes after bytes
@@ -137,28 +149,19 @@ fails_within old before prefix back bytes new now split fails = record {
   fails = fails.fails;
 }
 
--- a list is what stands before a place, what stands there, and what follows
-at_place : (bytes : List ℕ) (i : ℕ) → i < length bytes → bytes ≡ take i bytes ++ (get_or bytes i 0 ∷ [] ++ drop (i + 1) bytes)
-at_place bytes i l =
-    sym (take-append-drop (i + 1) bytes) ∙ ap (λ (prefix : List ℕ). prefix ++ drop (i + 1) bytes) (take_more bytes i 0 l)
-    ∙ append_assoc (take i bytes) (get_or bytes i 0 ∷ []) (drop (i + 1) bytes)
+module _ (old : Situation) (before : Option (List ℕ)) (taken done part back bytes : List ℕ) (new : Situation) (now : Option (List ℕ)) (split : bytes ≡ done ++ (part ++ 10 ∷ back)) where
+  -- the bytes after those that were read are a part, a newline and others
+  newline_after : bytes ≡ done ++ ((part ++ 10 ∷ []) ++ back)
+  newline_after = split ∙ ap (λ (xs : List ℕ). done ++ xs) (sym (append_assoc part (10 ∷ []) back))
 
-module _ (old : Situation) (before : Option (List ℕ)) (taken bytes : List ℕ) (i : ℕ) (new : Situation) (now : Option (List ℕ)) (l : i < length bytes) where
-  -- the byte at place i was read after the bytes before it
-  pub hears_at : (page held : List ℕ) → IsHearing (cursor old before) (taken ++ take i bytes ++ get_or bytes i 0 ∷ []) (reader_state new now page held) → IsHearing (cursor old before) (taken ++ take (i + 1) bytes) (reader_state new now page held)
-  hears_at page held hearing =
-      subst (λ (xs : List ℕ). IsHearing (cursor old before) xs (reader_state new now page held))
-      (append_assoc taken (take i bytes) (get_or bytes i 0 ∷ []) ∙ ap (λ (xs : List ℕ). taken ++ xs) (sym (take_more bytes i 0 l))) hearing
+  -- the newline ends a line `quit`
+  pub stops_after : (page : List ℕ) → StopsAtQuit (cursor old before) (taken ++ done) (part ++ 10 ∷ []) (cursor new now) page → StopsAtQuit (cursor old before) taken bytes (cursor new now) page
+  stops_after page stops = stops_within old before taken done (part ++ 10 ∷ []) back bytes new now page newline_after stops
 
-  -- the byte at place i ends a line `quit`
-  pub stops_at : (page : List ℕ) → StopsAtQuit (cursor old before) (taken ++ take i bytes) (get_or bytes i 0 ∷ []) (cursor new now) page → StopsAtQuit (cursor old before) taken bytes (cursor new now) page
-  stops_at page stops = stops_within old before taken (take i bytes) (get_or bytes i 0 ∷ []) (drop (i + 1) bytes) bytes new now page (at_place bytes i l) stops
-
-  -- the byte at place i ends a line whose reply isn't written whole
-  pub fails_at : FailsIn (cursor old before) (taken ++ take i bytes ++ get_or bytes i 0 ∷ []) (cursor new now) → FailsIn (cursor old before) (taken ++ bytes) (cursor new now)
-  fails_at fails = fails_within old before (taken ++ take i bytes ++ get_or bytes i 0 ∷ []) (drop (i + 1) bytes) (taken ++ bytes) new now
-      (ap (λ (xs : List ℕ). taken ++ xs) (at_place bytes i l) ∙ sym (append_assoc taken (take i bytes) (get_or bytes i 0 ∷ [] ++ drop (i + 1) bytes))
-      ∙ sym (append_assoc (taken ++ take i bytes) (get_or bytes i 0 ∷ []) (drop (i + 1) bytes)))
+  -- the newline ends a line whose reply isn't written whole
+  pub fails_after : FailsIn (cursor old before) (taken ++ done ++ (part ++ 10 ∷ [])) (cursor new now) → FailsIn (cursor old before) (taken ++ bytes) (cursor new now)
+  fails_after fails = fails_within old before (taken ++ done ++ (part ++ 10 ∷ [])) back (taken ++ bytes) new now
+      (ap (λ (xs : List ℕ). taken ++ xs) newline_after ∙ sym (append_assoc taken done ((part ++ 10 ∷ []) ++ back)) ∙ sym (append_assoc (taken ++ done) (part ++ 10 ∷ []) back))
       fails
 
 -- ---- the last line

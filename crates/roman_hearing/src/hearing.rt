@@ -1,7 +1,8 @@
 //! Sessions whose lines are read from a stream.
-ghost use Rattle.std.specs.Prelude.{◌≡◌, ℕ, ◌+◌, ◌-◌, ◌⊎◌, ◌∷◌, List, [], Option, IfOk, IsErrOf, OnOk};
+ghost use Rattle.std.specs.Prelude.{◌≡◌, ℕ, ◌+◌, ◌-◌, ◌⊎◌, ◌∷◌, ◌++◌, List, [], Option, IfOk, IsErrOf, OnOk};
 ghost use Rattle.roman_io.specs.Faults.{HasCause};
 ghost use Rattle.roman_io.specs.Source.{IsAtEnd, GaveAtMost};
+ghost use Rattle.roman_model.specs.Lines.{IsLine};
 ghost use Rattle.roman_text.specs.Lines.{kept};
 ghost use Rattle.roman_session.specs.Situations.{Situation, IsSituation};
 ghost use Rattle.roman_session.specs.Answering.{AnsweredOn, next_of};
@@ -12,7 +13,7 @@ ghost use Rattle.roman_hearing.specs.HearingBytes.{reader_state, IsHearing, Hear
 use roman_io::{Failed, Sink, Source, Steps};
 use roman_model::{MAX_SESSION_BYTES, PIECE_BYTES};
 use roman_session::{Next, Session};
-use roman_text::{Page, Splitter, keep_shapes};
+use roman_text::{Page, Splitter, keep_shapes, split_line};
 use std::sync::ledger::Ledger;
 use thiserror::Error;
 
@@ -139,33 +140,39 @@ fn hear_bytes<O: Sink, L: Ledger>(
         HearsBytes (cursor old before) taken bytes.now (reader_state session.new (O.written out.new) page.new splitter.new) result }
     ensures cause { HasCause (O.faults out.old) (O.faults out.new) result }
 {
-    for byte in bytes {
-        if let Next::Quit = hear_byte(session, splitter, *byte, page, out, steps)? {
+    let mut rest = bytes;
+    'lines: while let Some((part, after)) = split_line(rest) {
+        if let Next::Quit = hear_ended(session, splitter, part, page, out, steps)? {
             return Ok(Next::Quit);
         }
+        rest = after;
     }
+    splitter.hold(rest);
     Ok(Next::More)
 }
 
-/// Reads a byte. Where it ends a line, pushes the reply to the line on the page.
-fn hear_byte<O: Sink, L: Ledger>(
+/// Reads the last bytes of a line and its newline. Pushes the reply to the line on the page. A line of
+/// which no bytes were held isn't copied.
+fn hear_ended<O: Sink, L: Ledger>(
     session: &mut Session,
     splitter: &mut Splitter,
-    byte: u8,
+    part: &[u8],
     page: &mut Page,
     out: &mut O,
     steps: &mut Steps<L>,
 ) -> Result<Next, Failed>
+    requires { IsLine part.now }
     ensures hears { (old : Situation) (before : Option (List ℕ)) (taken : List ℕ) → IsHearing (cursor old before) taken (reader_state session.old (O.written out.old) page.old splitter.old) →
-        HearsBytes (cursor old before) taken (byte ∷ []) (reader_state session.new (O.written out.new) page.new splitter.new) result }
+        HearsBytes (cursor old before) taken (part.now ++ 10 ∷ []) (reader_state session.new (O.written out.new) page.new splitter.new) result }
     ensures cause { HasCause (O.faults out.old) (O.faults out.new) result }
 {
-    if !splitter.push(byte) {
-        return Ok(Next::More);
+    if !splitter.rest() {
+        return hear_line(session, part, page, out, steps);
     }
-    let next = hear_line(session, splitter, page, out, steps)?;
+    splitter.hold(part);
+    let heard = hear_line(session, splitter.line(), page, out, steps);
     splitter.clear();
-    Ok(next)
+    heard
 }
 
 /// Answers a last line that has no newline, and writes the reply. Does nothing where no bytes are
@@ -185,7 +192,7 @@ fn hear_rest<O: Sink, L: Ledger>(
     if !splitter.rest() {
         return Ok(());
     }
-    let Ok(_) = hear_line(session, splitter, page, out, steps) else {
+    let Ok(_) = hear_line(session, splitter.line(), page, out, steps) else {
         return Err(HearError::WriteFault);
     };
     if let Err(_failed) = page.flush(out) {
@@ -194,22 +201,21 @@ fn hear_rest<O: Sink, L: Ledger>(
     Ok(())
 }
 
-/// Pushes the reply to the held line on the page. Long lines are truncated once they can't parse.
-#[tactic(auto, using(crate::proofs::HearingLemmas::answered_on_alike))]
+/// Pushes the reply to a line on the page. A line that is too long to parse may be truncated.
 fn hear_line<O: Sink, L: Ledger>(
     session: &mut Session,
-    splitter: &Splitter,
+    line: &[u8],
     page: &mut Page,
     out: &mut O,
     steps: &mut Steps<L>,
 ) -> Result<Next, Failed>
-    ensures step { (line : List ℕ) → splitter.now ≡ kept line → AnsweredOn session.old line session.new (O.written out.old) (O.written out.new) page.old page.new result }
-    ensures next { (line : List ℕ) → splitter.now ≡ kept line → IfOk result (λ next. next ≡ next_of line) }
+    ensures step { (whole : List ℕ) → kept line.now ≡ kept whole → AnsweredOn session.old whole session.new (O.written out.old) (O.written out.new) page.old page.new result }
+    ensures next { (whole : List ℕ) → kept line.now ≡ kept whole → IfOk result (λ next. next ≡ next_of whole) }
     ensures known { IsSituation session.new }
     ensures cause { HasCause (O.faults out.old) (O.faults out.new) result }
 {
     keep_shapes();
-    let answered = session.answer_on(splitter.line(), page, out, steps);
+    let answered = session.answer_on(line, page, out, steps);
     session.known();
     answered
 }

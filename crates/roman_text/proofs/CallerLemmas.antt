@@ -1,8 +1,8 @@
 -- What the proofs of other crates may cite of this one. All else in proofs/ can be renamed freely.
 
 -- The lines of a text that grows.
-pub use Rattle.roman_text.proofs.LineLemmas.{ended_lines-append, ended_lines-newline, ended_lines-other, kept-nil, kept-push, lines_are, lines_none, lines_only}
-pub use Rattle.roman_text.proofs.LineLemmas.{lines_rest, unfinished-newline, unfinished-nil, unfinished-other}
+pub use Rattle.roman_text.proofs.LineLemmas.{ended_lines-append, ended_lines-newline, ended_lines-part, kept-again, kept-append, kept-nil, lines_are, lines_none, lines_only}
+pub use Rattle.roman_text.proofs.LineLemmas.{lines_rest, unfinished-newline, unfinished-nil, unfinished-part}
 -- What a page writes and holds, over several calls.
 pub use Rattle.roman_text.proofs.PageLemmas.{Gathered-empty, Gathered-put, Gathered-then, Gathers-after, Gathers-failed, Gathers-flushed, Puts-after_Gathered}
 pub use Rattle.roman_text.proofs.PageLemmas.{WrotePrefix-gathered}

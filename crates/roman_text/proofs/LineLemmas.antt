@@ -1,16 +1,17 @@
 -- The lines of a text that grows.
-use Rattle.std.proofs.Common.{◌≡◌, ◌≢◌, ℕ, zero, suc, ◌+◌, ◌<◌, ◌≤◌, ◌==◌, List, [], ◌∷◌, ◌++◌, length, take, min, Bool, true, false, cond, ◌||◌, refl, sym, ap, ap₂, ◌∙◌, subst, inl, inr, append_assoc, length-append, arith}
+use Rattle.std.proofs.Common.{◌≡◌, ◌≢◌, ℕ, zero, suc, ◌+◌, ◌-◌, ◌≤◌, ◌==◌, List, [], ◌∷◌, ◌++◌, length, take, drop, get_or, min, Bool, true, false, not, cond, ◌||◌, None, Some, refl, sym, ap, ap₂, ◌∙◌, subst, inl, inr, append_assoc, drop-cons, arith}
 use borrow.Author.Tests.{eqb-true, ltb-true}
 use Rattle.std.proofs.Math.Dec.{ltb}
-use Rattle.std.proofs.Math.ListN.{set}
-use Rattle.std.proofs.Math.Seq.{take-suc-set}
 use Rattle.std.proofs.lemmas.Bool.{both_ways, or_from}
-use Rattle.std.proofs.lemmas.List.{append-nil, append_cancel_left, take_all, take-append-le, length-take}
+use Rattle.std.proofs.lemmas.List.{append-nil, append_cancel_left, take_all, take-append-drop, take_min, length-take}
 use Rattle.std.proofs.lemmas.List.Folds.{list_any-append}
+use Rattle.std.proofs.lemmas.List.Sums.{passes_at_first}
+use Rattle.std.specs.List.{position, position_or_len}
 use Rattle.roman_model.specs.System.{has}
 use Rattle.roman_model.specs.Lines.{lines, ended_lines, onto_ended_line, text_of_lines, IsLine}
 use Rattle.roman_model.proofs.CallerLemmas.{from_push, ended_lines-text, ended_lines_last, lines-text, lines_last, text_of_lines-push}
 use Rattle.roman_text.specs.Lines.{is_newline, unfinished, IsSplit, kept}
+use Rattle.roman_text.proofs.WordLemmas.{none_at, some_at}
 
 -- ---- lines
 
@@ -69,36 +70,64 @@ ended_lines-newline bytes byte e = sym (lines_only _ _ _ (newline_split bytes by
 pub unfinished-newline : (bytes : List ℕ) (byte : ℕ) → is_newline byte ≡ true → unfinished (bytes ++ byte ∷ []) ≡ []
 unfinished-newline bytes byte e = sym (lines_only _ _ _ (newline_split bytes byte e)).1
 
--- one more byte that isn't a newline: the unfinished line goes on
-other_split : (bytes : List ℕ) (byte : ℕ) → is_newline byte ≡ false → IsSplit (bytes ++ byte ∷ []) (ended_lines bytes) (unfinished bytes ++ byte ∷ [])
-other_split bytes byte e =
+-- more bytes without a newline: the unfinished line goes on
+part_split : (bytes part : List ℕ) → IsLine part → IsSplit (bytes ++ part) (ended_lines bytes) (unfinished bytes ++ part)
+part_split bytes part is =
     let split = lines_are bytes in
     record {
-      whole = ap (λ (xs : List ℕ). xs ++ byte ∷ []) split.whole ∙ append_assoc (text_of_lines (ended_lines bytes)) (unfinished bytes) (byte ∷ []);
+      whole = ap (λ (xs : List ℕ). xs ++ part) split.whole ∙ append_assoc (text_of_lines (ended_lines bytes)) (unfinished bytes) part;
       each = split.each;
-      last = list_any-append is_newline (unfinished bytes) (byte ∷ []) ∙ or_from (has (unfinished bytes) 10) (has (byte ∷ []) 10) split.last (or_from (byte == 10) false e refl);
+      last = list_any-append is_newline (unfinished bytes) part ∙ or_from (has (unfinished bytes) 10) (has part 10) split.last is;
     }
 
-pub ended_lines-other : (bytes : List ℕ) (byte : ℕ) → is_newline byte ≡ false → ended_lines (bytes ++ byte ∷ []) ≡ ended_lines bytes
-ended_lines-other bytes byte e = sym (lines_only _ _ _ (other_split bytes byte e)).0
+pub ended_lines-part : (bytes part : List ℕ) → IsLine part → ended_lines (bytes ++ part) ≡ ended_lines bytes
+ended_lines-part bytes part is = sym (lines_only _ _ _ (part_split bytes part is)).0
 
-pub unfinished-other : (bytes : List ℕ) (byte : ℕ) → is_newline byte ≡ false → unfinished (bytes ++ byte ∷ []) ≡ unfinished bytes ++ byte ∷ []
-unfinished-other bytes byte e = sym (lines_only _ _ _ (other_split bytes byte e)).1
+pub unfinished-part : (bytes part : List ℕ) → IsLine part → unfinished (bytes ++ part) ≡ unfinished bytes ++ part
+unfinished-part bytes part is = sym (lines_only _ _ _ (part_split bytes part is)).1
 
 pub unfinished-nil : unfinished [] ≡ []
 unfolding unfinished
 unfinished-nil = refl
 
+-- ---- the first newline
+
+until_step : (b : Bool) (x : ℕ) (xs : List ℕ) (n : ℕ) → is_newline x ≡ b → IsLine (take n xs) → IsLine (take (cond (not b) (1 + n) 0) (x ∷ xs))
+until_step true x xs n e h = refl
+until_step false x xs n e h = let next : 1 + n ≡ suc n = omega arith in rw next (or_from (x == 10) (has (take n xs) 10) e h)
+
+-- the bytes before the first newline have none
+line_until : (bytes : List ℕ) → IsLine (take (position_or_len is_newline bytes) bytes)
+line_until [] = refl
+line_until (x ∷ xs) = until_step (is_newline x) x xs (position_or_len is_newline xs) refl (line_until xs)
+
+-- without a first newline there is none
+pub no_newline : (bytes : List ℕ) → position is_newline bytes ≡ None → IsLine bytes
+no_newline bytes e = subst IsLine (take_all _ bytes (none_at is_newline bytes e)) (line_until bytes)
+
+-- the bytes before the first newline and after it
+pub first_newline : (bytes : List ℕ) (i : ℕ) → position is_newline bytes ≡ Some i → IsLine (take i bytes) × (bytes ≡ take i bytes ++ 10 ∷ drop (i + 1) bytes)
+first_newline bytes i e =
+    let n = position_or_len is_newline bytes in
+    let at = some_at is_newline bytes i e in
+    let newline = eqb-true (get_or bytes n 0) 10 (passes_at_first is_newline bytes 0 at.1) in
+    let next : suc n ≡ n + 1 = omega arith in
+    rw at.0 (line_until bytes, sym (take-append-drop n bytes) ∙ ap (λ (rest : List ℕ). take n bytes ++ rest) (drop-cons bytes n 0 at.1 ∙ ap₂ (λ (x k : ℕ). x ∷ drop k bytes) newline next))
+
 -- ---- the kept part of a line
 
--- one more byte: the kept part decides the new kept part
-pub kept-push : (line : List ℕ) (byte : ℕ) → kept (kept line ++ byte ∷ []) ≡ kept (line ++ byte ∷ [])
+-- more bytes: the kept part decides the new kept part
+pub kept-append : (line part : List ℕ) → kept (kept line ++ part) ≡ kept (line ++ part)
 unfolding kept
-kept-push line byte = first_bytes 257 line byte where
-  first_bytes : (n : ℕ) (line : List ℕ) (byte : ℕ) → take n (take n line ++ byte ∷ []) ≡ take n (line ++ byte ∷ [])
-  first_bytes zero line byte = refl
-  first_bytes (suc n) [] byte = refl
-  first_bytes (suc n) (x ∷ xs) byte = ap (λ (rest : List ℕ). x ∷ rest) (first_bytes n xs byte)
+kept-append line part = first_bytes 257 line where
+  first_bytes : (n : ℕ) (line : List ℕ) → take n (take n line ++ part) ≡ take n (line ++ part)
+  first_bytes zero line = refl
+  first_bytes (suc n) [] = refl
+  first_bytes (suc n) (x ∷ xs) = ap (λ (rest : List ℕ). x ∷ rest) (first_bytes n xs)
+
+-- a kept part has no other kept part
+pub kept-again : (line whole : List ℕ) → line ≡ kept whole → kept line ≡ kept whole
+kept-again line whole e = ap kept (sym (append-nil line) ∙ ap (λ (held : List ℕ). held ++ []) e) ∙ kept-append whole [] ∙ ap kept (append-nil whole)
 
 -- the kept part of an empty line is empty
 pub kept-nil : kept [] ≡ []
@@ -109,11 +138,6 @@ kept-nil = refl
 pub kept-short : (line : List ℕ) → length line ≤ 257 → kept line ≡ line
 unfolding kept
 kept-short line h = take_all 257 line h
-
--- where 257 bytes are kept, no more bytes are kept
-pub kept-full : (line : List ℕ) (byte : ℕ) → length line ≡ 257 → kept (line ++ byte ∷ []) ≡ line
-unfolding kept
-kept-full line byte e = take-append-le 257 line (byte ∷ []) (omega arith) ∙ take_all 257 line (omega arith)
 
 -- the length of the kept part
 pub length-kept : (line : List ℕ) → length (kept line) ≡ min 257 (length line)
@@ -126,15 +150,17 @@ unfolding kept
 kept-empty [] h = refl
 kept-empty (x ∷ xs) h = absurd (omega (arith, length-take 257 (x ∷ xs)))
 
--- ---- the room of a splitter
+-- the bytes that are held, and those that have room after them, are kept
+pub hold_room : (held bytes : List ℕ) (n room : ℕ) → n ≡ min (length bytes) room → room + length held ≡ 257 → held ++ take n bytes ≡ kept (held ++ bytes)
+unfolding kept
+hold_room held bytes n room e full = go 257 held full where
+  few : take n bytes ≡ take room bytes
+  few = ap (λ (n : ℕ). take n bytes) (let same : n ≡ min room (length bytes) = omega arith in same) ∙ take_min room bytes
 
--- a byte that has room is kept
-pub push_room : (bytes held : List ℕ) (len byte : ℕ) → take len bytes ≡ held → length bytes ≡ 257 → len < 257 → take (len + 1) (set bytes len byte) ≡ kept (held ++ byte ∷ [])
-push_room bytes held len byte same size room = grind (arith, kept-short, length-take, take-suc-set, length-append)
-
--- a byte that has no room isn't kept
-pub push_full : (bytes held : List ℕ) (len byte : ℕ) → take len bytes ≡ held → length bytes ≡ 257 → len ≤ 257 → 257 ≤ len → held ≡ kept (held ++ byte ∷ [])
-push_full bytes held len byte same size low high = grind (arith, kept-full, length-take)
+  go : (most : ℕ) (held : List ℕ) → room + length held ≡ most → held ++ take n bytes ≡ take most (held ++ bytes)
+  go zero (x ∷ xs) full = absurd (omega arith)
+  go most [] full = few ∙ ap (λ (k : ℕ). take k bytes) (let same : room ≡ most = omega arith in same)
+  go (suc most) (x ∷ xs) full = ap (λ (rest : List ℕ). x ∷ rest) (go most xs (omega arith))
 
 -- ---- the end of a stream
 

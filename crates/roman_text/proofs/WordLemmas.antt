@@ -35,6 +35,13 @@ some_step : (b : Bool) (m n i : ℕ) → ltb m n ≡ b → cond b (Some m) None 
 some_step true m n i e h = (cc, ltb-true m n e)
 some_step false m n i e h = absurd (cc)
 
+-- the place of the first element that passes, where there is one
+pub none_at : {X : Type 0} (p : X → Bool) (xs : List X) → position p xs ≡ None → length xs ≤ position_or_len p xs
+none_at p xs h = none_step (ltb (position_or_len p xs) (length xs)) (position_or_len p xs) (length xs) refl h
+
+pub some_at : {X : Type 0} (p : X → Bool) (xs : List X) (i : ℕ) → position p xs ≡ Some i → (i ≡ position_or_len p xs) × (position_or_len p xs < length xs)
+some_at p xs i h = some_step (ltb (position_or_len p xs) (length xs)) (position_or_len p xs) (length xs) i refl h
+
 -- ---- words
 
 -- a blank at the beginning separates nothing
@@ -59,8 +66,7 @@ words_of-nil = refl
 -- a line of blanks has no words
 pub no_words : (line : List ℕ) → position is_part line ≡ None → words_of line ≡ []
 no_words line h =
-    let end = none_step (ltb (position_or_len is_part line) (length line)) (position_or_len is_part line) (length line) refl h in
-    sym (words_of-start line) ∙ (ap words_of (drop_all (position_or_len is_part line) line end) ∙ words_of-nil)
+    sym (words_of-start line) ∙ (ap words_of (drop_all (position_or_len is_part line) line (none_at is_part line h)) ∙ words_of-nil)
 
 -- the parts of a line after its first one
 record IsPrefix (line : List ℕ) (n : ℕ) : Type 0 where
@@ -105,7 +111,7 @@ pub word_first : (line rest a b : List ℕ) (i j : ℕ) → position is_part lin
     → a ≡ take j rest → b ≡ drop j rest → words_of line ≡ a ∷ words_of b
 word_first line rest a b i j found is_rest is_end is_a is_b =
     let n = position_or_len is_part line in
-    let at = some_step (ltb n (length line)) n (length line) i refl found in
+    let at = some_at is_part line i found in
     let begins : rest ≡ get_or line n 0 ∷ drop (suc n) line = is_rest ∙ (ap (λ (k : ℕ). drop k line) at.0 ∙ drop-cons line n 0 at.1) in
     let here : words_of line ≡ words_of rest = sym (words_of-start line) ∙ ap words_of (sym (is_rest ∙ ap (λ (k : ℕ). drop k line) at.0)) in
     let is_mark : is_blank (get_or line n 0) ≡ false = not-true (is_blank (get_or line n 0)) (passes_at_first is_part line 0 at.1) in

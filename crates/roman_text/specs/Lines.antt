@@ -1,5 +1,6 @@
 -- The lines of the bytes of a stream so far.
-use Rattle.std.specs.Prelude.{◌≡◌, ℕ, Bool, ◌==◌, List, [], ◌∷◌, ◌++◌, take, if◌then◌else◌}
+use Rattle.std.specs.Prelude.{◌≡◌, ℕ, Bool, ◌==◌, List, [], ◌∷◌, ◌++◌, take, Option, None, Some, if◌then◌else◌}
+use Rattle.std.specs.Borrow.{Bor}
 use Rattle.roman_model.specs.System.{has}
 use Rattle.roman_model.specs.Lines.{text_of_lines, IsLine, AreLines}
 
@@ -21,6 +22,11 @@ pub record IsSplit (bytes : List ℕ) (lines : List (List ℕ)) (rest : List ℕ
   pub whole : bytes ≡ text_of_lines lines ++ rest
   pub each : AreLines lines
   pub last : IsLine rest
+
+-- the first line of some bytes and the bytes after its newline, or none where the bytes have no newline
+abbrev pub IsFirstLine : List ℕ → Option (Bor (List ℕ) × Bor (List ℕ)) → Type 0
+IsFirstLine bytes None = IsLine bytes
+IsFirstLine bytes (Some first) = IsLine first.0.now × (bytes ≡ first.0.now ++ 10 ∷ first.1.now)
 
 -- the part of a line that decides its shape: one byte more than the greatest length of a line
 unfoldable pub kept : List ℕ → List ℕ

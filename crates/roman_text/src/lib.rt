@@ -1,6 +1,6 @@
 //! Session lines, replies and report lines as bytes.
 //!
-//! A [`Splitter`] splits a stream of bytes into lines, whatever the pieces in which it comes.
+//! [`split_line`] finds the lines of a stream of bytes, and a [`Splitter`] holds a line that comes in several pieces.
 //! [`parse_line`] parses a line into an event. [`put_reply`] and [`put_report_line`] write a line to a
 //! sink at once, and a [`Page`] gathers many of them. A [`Piece`] is a short text built from words,
 //! names and numbers. No call takes memory.
@@ -23,7 +23,7 @@ mod writing;
 pub use errors::LineError;
 pub use events::Event;
 pub use laws::{keep_shapes, spell_events, split_lines};
-pub use lines::Splitter;
+pub use lines::{Splitter, split_line};
 pub use page::{Page, SHORT};
 pub use parsing::parse_line;
 pub use piece::Piece;

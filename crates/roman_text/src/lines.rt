@@ -1,7 +1,6 @@
 //! Splits a stream of bytes into lines.
-ghost use Rattle.std.specs.Prelude.{◌≡◌, ◌++◌, ◌∷◌, [], length, nat_lt};
-ghost use Rattle.std.specs.Bool.{OnTrue, OnFalse};
-ghost use Rattle.roman_text.specs.Lines.{is_newline, kept};
+ghost use Rattle.std.specs.Prelude.{◌≡◌, ◌+◌, ◌≤◌, ◌++◌, [], length, position, nat_lt};
+ghost use Rattle.roman_text.specs.Lines.{IsFirstLine, is_newline, kept};
 
 use roman_model::MAX_LINE_BYTES;
 use std::marker::Model;
@@ -9,8 +8,8 @@ use std::marker::Model;
 /// One byte more than the greatest length of a line, so that a longer line is recognised.
 const KEPT: usize = MAX_LINE_BYTES as usize + 1;
 
-/// Splits a stream of bytes into lines, whatever the pieces in which it comes. Contracts see the held
-/// bytes of the current line: its first 257, which decide its shape.
+/// Holds the current line of a stream of bytes, whatever the pieces in which it comes. Contracts see
+/// the held bytes of the line: its first 257, which decide its shape.
 #[derive(Drop)]
 pub struct Splitter {
     bytes: [u8; KEPT],
@@ -27,6 +26,22 @@ impl Model for Splitter {
     ghost invariant = { λ s. s.len ≤ 257 };
 }
 
+/// Returns the bytes before the first byte 10 and the bytes after it. Returns `None` exactly where there
+/// is no byte 10.
+pub fn split_line(bytes: &[u8]) -> Option<(&[u8], &[u8])>
+    ensures { IsFirstLine bytes.now result }
+{
+    let end = newline(bytes)?;
+    Some((&bytes[..end], &bytes[end + 1..]))
+}
+
+/// Returns the place of the first byte 10, or `None` where there is no byte 10.
+fn newline(bytes: &[u8]) -> Option<usize>
+    ensures { result ≡ position is_newline bytes.now }
+{
+    bytes.iter().position(|&byte| byte == b'\n')
+}
+
 impl Splitter {
     /// Returns a splitter that holds no bytes.
     pub fn new() -> Splitter
@@ -38,23 +53,30 @@ impl Splitter {
         }
     }
 
-    /// Takes the next byte of the stream, and returns whether it ended a line: whether it is byte 10.
-    /// The ended line is held, without that byte, until [`Splitter::clear`]. Call that before the next
-    /// byte.
-    #[tactic(auto, using(crate::proofs::LineLemmas::push_room, crate::proofs::LineLemmas::push_full))]
-    pub fn push(&mut self, byte: u8) -> bool
-        ensures ends { result ≡ is_newline byte }
-        ensures whole { OnTrue result (self.new ≡ self.old) }
-        ensures goes_on { OnFalse result (self.new ≡ kept (self.old ++ byte ∷ [])) }
+    /// Takes the next bytes of the current line.
+    #[tactic(auto, using(crate::proofs::LineLemmas::hold_room))]
+    pub fn hold(&mut self, bytes: &[u8])
+        ensures { self.new ≡ kept (self.old ++ bytes.now) }
     {
-        if byte == b'\n' {
-            return true;
-        }
-        if self.len < KEPT {
-            self.bytes[self.len] = byte;
-            self.len += 1;
-        }
-        false
+        let len = bytes.len().min(self.room());
+        self.add(&bytes[..len]);
+    }
+
+    /// Returns how many more bytes can be held.
+    fn room(&self) -> usize
+        ensures { result + length self.now ≡ 257 }
+    {
+        KEPT - self.len
+    }
+
+    /// Adds bytes to the held ones. Requires room for them.
+    fn add(&mut self, bytes: &[u8])
+        requires { length self.old + length bytes.now ≤ 257 }
+        ensures { self.new ≡ self.old ++ bytes.now }
+    {
+        let end = self.len + bytes.len();
+        self.bytes[self.len..end].copy_from_slice(bytes);
+        self.len = end;
     }
 
     /// Returns the first 257 bytes of the current line, or all of them where it has fewer.

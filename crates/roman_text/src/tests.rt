@@ -1,6 +1,7 @@
 //! Tests a table of lines, and the bytes of some replies and report lines.
 use crate::{
     Event, LineError, Page, Reply, ReportLine, Splitter, parse_line, put_reply, put_report_line,
+    split_line,
 };
 use roman_io::{Failed, MemSink};
 use roman_read::Name;
@@ -29,15 +30,19 @@ fn reads_lines(rt: HostRuntime) {
     }
     let mut splitter = Splitter::new();
     for piece in [b"do o".as_slice(), b"n\r".as_slice(), b"\nqu".as_slice()] {
-        for &byte in piece {
-            if splitter.push(byte) {
-                assert_eq!(rt; parse_line(splitter.line()), Ok(Event::Ask(b"on")));
-                splitter.clear();
-            }
+        let mut rest = piece;
+        if let Some((line, after)) = split_line(piece) {
+            splitter.hold(line);
+            assert_eq!(rt; parse_line(splitter.line()), Ok(Event::Ask(b"on")));
+            splitter.clear();
+            rest = after;
         }
+        splitter.hold(rest);
     }
     assert!(rt; splitter.rest());
     assert_eq!(rt; splitter.line(), b"qu".as_slice());
+    splitter.hold(&[b'x'; 300]);
+    assert_eq!(rt; splitter.line().len(), 257);
 }
 
 #[test]

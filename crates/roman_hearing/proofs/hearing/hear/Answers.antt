@@ -39,7 +39,8 @@ returns-then-count-eq0-clause-read_fault g c is =
 
 pub returns-then-count-eq0-clause-write_fault : goal.returns-then-count-eq0-clause-write_fault
 returns-then-count-eq0-clause-write_fault g c is =
-    rest_stops_short _ _ _ _ _ _ _ _ _ _ _ c.takes.invariant.gave c.in-Ok.ensures.moves
+    rest_stops_short c.args.session.now c.hear_rest.new.session (g.S.Source.rest c.args.source.now) (g.S.Source.rest c.takes.source) (g.S.Source.rest c.take.new.self) c.takes.invariant.taken
+    c.take.new.into c.in-Ok.count (g.O.Sink.written c.args.out.now) (g.O.Sink.written c.hear_rest.new.out) c.hear_rest.result c.takes.invariant.gave c.in-Ok.ensures.moves
     (c.in-Ok.ensures.ends (omega (arith, c.takes.invariant.piece, c.take.auto.into))) c.if-count-eq0.true (omega (arith, c.takes.invariant.room))
     (c.hear_rest.ensures.hears c.args.session.now (g.O.Sink.written c.args.out.now) c.takes.invariant.taken c.takes.invariant.hearing) is
 
@@ -73,7 +74,8 @@ takes-preserved g c =
     let h = rw c.in-Ok-More.field-0-is at (c.in-Ok-More.ensures.hears c.args.session.now (g.O.Sink.written c.args.out.now) c.takes.invariant.taken c.takes.invariant.hearing) in
     record {
       taken = c.takes.invariant.taken ++ take c.in-Ok.count c.take.new.into;
-      gave = Gave-then _ _ _ _ _ c.takes.invariant.gave c.in-Ok.ensures.moves;
+      gave = Gave-then (g.S.Source.rest c.args.source.now) (g.S.Source.rest c.takes.source) (g.S.Source.rest c.take.new.self) c.takes.invariant.taken (take c.in-Ok.count c.take.new.into)
+          c.takes.invariant.gave c.in-Ok.ensures.moves;
       hearing = h.0;
       page = c.in-Ok-More.ensures.empty;
       room = omega (arith, h.1, c.takes.invariant.room, length-append c.takes.invariant.taken (take c.in-Ok.count c.take.new.into), length-take-le c.in-Ok.count c.take.new.into c.in-Ok.ensures.bound);
