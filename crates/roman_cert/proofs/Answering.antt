@@ -1,7 +1,7 @@
 -- The entries before a place of a removal list, and the defeating answers among them.
-use Rattle.std.proofs.Common.{◌≡◌, ℕ, zero, suc, ◌+◌, ◌<◌, ◌≤◌, Bool, true, false, cond, eqb, ◌||◌, ◌⊎◌, List, [], ◌∷◌, ◌++◌, length, take, drop, Option, Some, None, IsTrue, IsFalse, find, refl, sym, ap, ap₂, ◌∙◌, subst, inl, inr, arith, take-append-drop}
+use Rattle.roman_cert.proofs.Common.{◌≡◌, ℕ, zero, suc, ◌+◌, ◌<◌, ◌≤◌, Bool, true, false, ◌||◌, ◌⊎◌, List, [], ◌∷◌, ◌++◌, length, take, drop, Option, Some, IsTrue, IsFalse, refl, sym, ap, ap₂, ◌∙◌, subst, inl, inr, arith, take-append-drop, list_any, slice_get, list_any-append, Arena, Entry, is_listed, IsOrder, entries_before, answer, Act, by_test, any_from, get_in, IsSame, order_middle, before_is, IsNumbered, Leaves, numbered_same, Board, pairs_of, has_entry}
+use Rattle.std.proofs.Common.{cond, eqb, None, find}
 use Rattle.std.proofs.Math.Dec.{ltb}
-use Rattle.roman_cert.proofs.Common.{list_any, slice_get, list_any-append, Arena, Entry, is_listed, IsOrder, entries_before, answer, Act, by_test, any_from, get_in, IsSame, order_middle, before_is, IsNumbered, Leaves, numbered_same, Board, pairs_of, has_entry}
 use Rattle.std.specs.List.{position_from}
 use Rattle.std.proofs.lemmas.Bool.{cases_Bool, or_parts, both_ways, le-ltb, lt-ltb, eq-eqb}
 use Rattle.roman_model.specs.Arena.{is_justified}

@@ -1,6 +1,7 @@
 -- The parts of a certificate, and its verdict.
-use Rattle.std.proofs.Common.{◌≡◌, ℕ, ◌+◌, ◌*◌, ◌/◌, ◌<◌, ◌≤◌, List, [], ◌∷◌, ◌++◌, map, length, drop, codes, Option, Some, Result, Ok, Err, OnOk, decimal, append_assoc, append-nil, refl, sym, ap, ◌∙◌, inl, inr, arith, mul-le-mul}
-use Rattle.roman_cert.proofs.Common.{slice_get, drop_all, Puts, IsIn, product_of, text_of_lines, IsSys, Entry, sizes_of, count, pair_at, entry_at, IsCompleteList, reason_text, entry_line, cert_text, AreNumbers, NamedSys, system_of, IsNamedSys}
+use Rattle.roman_cert.proofs.Common.{◌≡◌, ℕ, ◌+◌, ◌*◌, ◌/◌, ◌<◌, ◌≤◌, List, [], ◌∷◌, ◌++◌, map, length, drop, codes, Option, Some, Result, decimal, append_assoc, append-nil, refl, sym, ap, ◌∙◌, inl, inr, arith, slice_get, drop_all, Puts, IsIn, text_of_lines, IsSys, Entry, sizes_of, count, pair_at, entry_at, IsCompleteList, reason_text, entry_line, cert_text, AreNumbers, NamedSys, system_of, IsNamedSys}
+use Rattle.std.proofs.Common.{Ok, Err, OnOk, mul-le-mul}
+use Rattle.roman_model.specs.Lists.{product_of}
 use Rattle.std.proofs.Math.Nat.{div-lt_iff_lt-mul}
 use Rattle.roman_model.specs.System.{Sys, Seat, IsPair}
 use Rattle.roman_model.specs.Certificate.{head_line, count_line, end_line, IsWithinCells}

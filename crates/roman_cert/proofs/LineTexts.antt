@@ -1,19 +1,12 @@
 -- The lines of an explanation, in the parts in which they are pushed.
-use Rattle.std.proofs.Common.{◌≡◌, ℕ, ◌+◌, ◌<◌, ◌≤◌, List, [], ◌∷◌, ◌++◌, length, drop, codes, Option, Some, slice_index, slice_index_or, sym, ap, ap₂, ◌∙◌, arith, append-nil, append_assoc, add-one, drop-cons}
+use Rattle.roman_cert.proofs.Common.{◌≡◌, ℕ, ◌+◌, ◌<◌, ◌≤◌, List, [], ◌∷◌, ◌++◌, length, drop, codes, sym, ap, ap₂, ◌∙◌, arith, append-nil, append_assoc, add-one, drop-cons, drop_all, length-map, text_of_lines, Pair, sizes_of, pair_at, Entry, Reason, lost_line, NamedSys, system_of, names_in, lost_text}
+use Rattle.std.proofs.Common.{slice_index, slice_index_or}
 use Rattle.std.specs.List.{flat_map, join_with_byte}
-use Rattle.roman_cert.proofs.Common.{drop_all, length-map, text_of_lines, Pair, sizes_of, pair_at, Entry, Reason, lost_line, answer_line, NamedSys, system_of, names_in, lost_text}
 use Rattle.roman_model.specs.Explanation.{Names, SeatNames, name_at, seat_names, state_names, reason_name}
 use Rattle.roman_model.proofs.CallerLemmas.{length-states_at}
 use Rattle.roman_joint.specs.Names.{names_of_seat}
 
 -- The line of a seat
-
-pub may_answer : (names : Names) (k : ℕ) (q : Pair) (answer : Option Pair) (text result : List ℕ) → answer ≡ Some q → text ≡ codes "  " ++ (seat_names names k).service →
-    result ≡ text ++ codes " may answer " ++ name_at (seat_names names k).states (slice_index q.bs k) ++ codes " " ++ name_at names.env q.e ++ 10 ∷ [] → result ≡ text_of_lines (answer_line names k answer ∷ [])
-may_answer names k q answer text result is begins ends =
-    ends
-    ∙ ap (λ (bs : List ℕ). bs ++ codes " may answer " ++ name_at (seat_names names k).states (slice_index q.bs k) ++ codes " " ++ name_at names.env q.e ++ 10 ∷ []) begins
-    ∙ sym (append-nil (answer_line names k (Some q) ++ 10 ∷ [])) ∙ ap (λ (o : Option Pair). text_of_lines (answer_line names k o ∷ [])) (sym is)
 
 -- The line of a pair
 

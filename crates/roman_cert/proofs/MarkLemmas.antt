@@ -1,6 +1,6 @@
 -- Marks that are set from the end of a removal list: each entry on which p's entry rests is marked before it is reached.
-use Rattle.std.proofs.Common.{◌≡◌, ◌≢◌, ℕ, ◌+◌, ◌<◌, ◌≤◌, Bool, true, false, ◌-◌, ◌&&◌, ◌||◌, ◌⊎◌, List, [], ◌∷◌, ◌++◌, length, take, drop, Option, Some, IsTrue, IsFalse, filter, refl, sym, ap, ap₂, ◌∙◌, subst, inl, inr, arith, append_assoc, length-append, length-take, take-append-drop}
-use Rattle.roman_cert.proofs.Common.{list_any, slice_get, or-false, cond-true, cond-false, list_any-append, slice_get_within, IsIn, below, Arena, Entry, is_listed, IsOrder, entries_before, answer, rests_on, Act, any_from, by_test, IsSame, order_middle, before_is, IsNumbered, Board, is_marked}
+use Rattle.roman_cert.proofs.Common.{◌≡◌, ℕ, ◌+◌, ◌<◌, ◌≤◌, Bool, true, false, ◌||◌, ◌⊎◌, List, [], ◌∷◌, ◌++◌, length, take, drop, Option, Some, IsTrue, IsFalse, filter, refl, sym, ap, ap₂, ◌∙◌, subst, inl, inr, arith, append_assoc, take-append-drop, list_any, slice_get, or-false, cond-true, cond-false, list_any-append, slice_get_within, IsIn, below, Arena, Entry, is_listed, IsOrder, entries_before, answer, rests_on, Act, any_from, by_test, IsSame, order_middle, before_is, IsNumbered, Board, is_marked}
+use Rattle.std.proofs.Common.{◌≢◌, ◌-◌, ◌&&◌, length-append, length-take}
 use Rattle.std.specs.Option.{option_to_list}
 use Rattle.std.proofs.lemmas.Bool.{or_cases, or_left, or_right, and_parts, false≢true}
 use Rattle.roman_model.specs.Arena.{is_among}

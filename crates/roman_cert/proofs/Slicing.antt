@@ -1,6 +1,5 @@
 -- The explanation of a pair, as it is printed and as a refutation.
-use Rattle.std.proofs.Common.{◌≡◌, ℕ, ◌<◌, List, [], ◌∷◌, ◌++◌, map, filter, flat_map, length, codes, Option, Result, IsTrue, refl, sym, ap, ap₂, ◌∙◌, subst, arith}
-use Rattle.roman_cert.proofs.Common.{Puts, text_of_lines, Entry, is_listed, arena, sizes_of, count, pair_at, entry_at, IsCompleteList, rests_on, lost_line, AreNumbers, NamedSys, system_of, IsNamedSys, names_in, Board, is_marked, arena_of, IsRelation, lost_text, answers_text, entry_text, marked_entries, slice_text}
+use Rattle.roman_cert.proofs.Common.{◌≡◌, ℕ, ◌<◌, List, [], ◌∷◌, ◌++◌, map, filter, flat_map, length, codes, Option, Result, IsTrue, refl, sym, ap, ap₂, ◌∙◌, subst, arith, Puts, text_of_lines, Entry, is_listed, arena, sizes_of, count, pair_at, entry_at, IsCompleteList, rests_on, lost_line, AreNumbers, NamedSys, system_of, IsNamedSys, names_in, Board, is_marked, arena_of, lost_text, answers_text, entry_text, marked_entries, slice_text}
 use Rattle.roman_model.specs.Composition.{Great}
 use Rattle.roman_model.specs.Explanation.{explanation, answer_lines, entry_lines, explain_text, ExplainedOrder}
 use Rattle.roman_model.specs.Play.{OpponentWins}
@@ -70,7 +69,3 @@ unrelated_wins n L p known complete l unrelated =
     (explanation_is_least s (map (entry_at s) L) pair (unrelated_listed n L p complete l unrelated)).closed.first
 
 -- What stays
-
--- a relation stays one when its marks change
-pub marks_keep : (n : NamedSys) (board : Board) (marks : List ℕ) → IsRelation n board → IsRelation n (record board { marks = marks })
-marks_keep n board marks relation = grind arith

@@ -1,8 +1,8 @@
 -- Lines that are made from the line before.
-use Rattle.std.proofs.Common.{◌≡◌, ℕ, suc, ◌+◌, ◌*◌, ◌/◌, ◌%◌, ◌^◌, ◌<◌, ◌≤◌, List, [], ◌∷◌, ◌++◌, length, take, drop, get_or, set, decimal, sym, ap, ap₂, ◌∙◌, arith, append_assoc}
+use Rattle.roman_cert.proofs.Common.{◌≡◌, ℕ, suc, ◌+◌, ◌*◌, ◌/◌, ◌<◌, ◌≤◌, List, [], ◌∷◌, ◌++◌, length, take, drop, decimal, sym, ap, ap₂, ◌∙◌, arith, append_assoc, IsTemplate}
+use Rattle.std.proofs.Common.{◌%◌, ◌^◌, get_or, set}
 use Rattle.std.proofs.lemmas.Fmt.{decimal_step}
 use Rattle.std.proofs.lemmas.List.{take-take, drop-take, take-append-drop, drop_more, take-set-le, get_or-set_same, get_or-set_other, length-set}
-use Rattle.roman_cert.proofs.Common.{IsTemplate}
 use Rattle.roman_cert.specs.declared.template.Template.{Template}
 
 two_more : (q a b : ℕ) → 0 < q → a < 10 → b < 10 → q < 2 ^ 32 → decimal (q * 100 + (a * 10 + b)) ≡ decimal q ++ (48 + a) ∷ (48 + b) ∷ []

@@ -1,6 +1,5 @@
 -- Texts of lines, and rests of lists.
-use Rattle.std.proofs.Common.{◌≡◌, ℕ, zero, suc, ◌+◌, ◌<◌, List, [], ◌∷◌, ◌++◌, length, drop, Some, refl, sym, ap₂, ◌∙◌, arith, add-one, drop-cons}
-use Rattle.roman_cert.proofs.Common.{slice_get, slice_get_within, text_of_lines}
+use Rattle.roman_cert.proofs.Common.{◌≡◌, ℕ, zero, suc, ◌+◌, ◌<◌, List, [], ◌∷◌, ◌++◌, length, drop, Some, refl, sym, ap₂, ◌∙◌, arith, add-one, drop-cons, slice_get, slice_get_within, text_of_lines}
 use Rattle.std.proofs.lemmas.Option.{get_or_from_slice_get}
 use Rattle.std.proofs.lemmas.Grind.{flat_map-append}
 

@@ -1,8 +1,7 @@
 -- Decimal texts.
-use Rattle.std.proofs.Common.{◌≡◌, ◌≢◌, ℕ, ◌+◌, ◌-◌, ◌*◌, ◌^◌, ◌<◌, ◌≤◌, List, length, take, get_or, decimal, arith, subst, sym, ap, ◌∙◌, inl, inr, length-take-le}
+use Rattle.roman_check.proofs.Common.{◌≡◌, ◌≢◌, ℕ, ◌+◌, ◌-◌, ◌*◌, ◌^◌, ◌<◌, ◌≤◌, List, length, take, get_or, decimal, arith, subst, sym, ap, ◌∙◌, inl, inr, length-take-le, AllDigits, digits_value, cases_lt, get_or-take, IsNumberTo, length-decimal-le}
 use Rattle.std.specs.Int.{IsInRange, IsOutOfRange}
 use Rattle.std.specs.Char.{digit_value}
-use Rattle.roman_check.proofs.Common.{AllDigits, digits_value, cases_lt, get_or-take, IsNumberTo, length-decimal-le}
 use Rattle.std.proofs.lemmas.Bool.{cases_order}
 use Rattle.std.proofs.lemmas.Str.{digit_value_digit}
 use Rattle.std.proofs.lemmas.Str.Parse.{IsNumeralModel, numerals_by_value, tells_digits, digit_at, digits_value_short}

@@ -1,6 +1,5 @@
 -- Lines that are read as entries.
-use Rattle.std.proofs.Common.{◌≡◌, ◌≢◌, ℕ, suc, ◌+◌, ◌-◌, ◌^◌, ◌<◌, ◌≤◌, Bool, List, ◌∷◌, ◌++◌, length, take, drop, get_or, None, Some, IsTrue, IsFalse, decimal, codes, refl, sym, ap, ap₂, ◌∙◌, subst, inl, arith, length-drop, length-append}
-use Rattle.roman_check.proofs.Common.{AllDigits, both_ways, ne_eqb, take_rest, take_all, take_at, get_or-drop, IsIn, IsLine, has, same_numbers, Entry, Reason, Final, Act, count_line, reason_text, entry_line, reasons, entry_of, from_map, from_below, same_numbers_itself, AreFew, act_reason, from_possible, possible_small, entry_of-is, entry_of_none, IsEndedAt, IsNumberTo}
+use Rattle.roman_check.proofs.Common.{◌≡◌, ◌≢◌, ℕ, suc, ◌+◌, ◌-◌, ◌^◌, ◌<◌, ◌≤◌, Bool, List, ◌∷◌, ◌++◌, length, take, drop, get_or, None, Some, IsTrue, IsFalse, decimal, codes, refl, sym, ap, ap₂, ◌∙◌, subst, inl, arith, length-drop, length-append, AllDigits, both_ways, ne_eqb, take_rest, take_all, take_at, get_or-drop, IsIn, IsLine, has, same_numbers, Entry, Reason, Final, Act, count_line, reason_text, entry_line, reasons, entry_of, from_map, from_below, same_numbers_itself, AreFew, act_reason, from_possible, possible_small, entry_of-is, entry_of_none, IsEndedAt, IsNumberTo}
 use Rattle.std.proofs.lemmas.List.{drop_more, get_or_at}
 use Rattle.roman_model.proofs.CallerLemmas.{IsSmall, cut_at, decimal_without, in_possible, entry_is_line, entry_of-line}
 use Rattle.roman_check.specs.Readings.{ReadsOff}

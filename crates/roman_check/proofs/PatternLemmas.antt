@@ -1,6 +1,5 @@
 -- Lines that differ in the last two digits of the pair.
-use Rattle.std.proofs.Common.{◌≡◌, ℕ, ◌+◌, ◌-◌, ◌*◌, ◌/◌, ◌%◌, ◌^◌, ◌<◌, ◌≤◌, List, [], ◌∷◌, ◌++◌, length, take, drop, get_or, set, Some, decimal, sym, ap, ap₂, ◌∙◌, inl, inr, arith, append_assoc, length-append, length-take-le}
-use Rattle.roman_check.proofs.Common.{cases_lt, decimal_digit, take_at, take-take, drop-take, get_or-take, get_or-drop, get_or-set_other, IsIn, reasons, entry_of, Reason, AreFew, IsEndedAt, HasParts, IsPattern}
+use Rattle.roman_check.proofs.Common.{◌≡◌, ℕ, ◌+◌, ◌-◌, ◌*◌, ◌/◌, ◌%◌, ◌^◌, ◌<◌, ◌≤◌, List, [], ◌∷◌, ◌++◌, length, take, drop, get_or, set, Some, decimal, sym, ap, ap₂, ◌∙◌, inl, inr, arith, append_assoc, length-append, length-take-le, cases_lt, decimal_digit, take_at, take-take, drop-take, get_or-take, get_or-drop, get_or-set_other, IsIn, reasons, entry_of, Reason, AreFew, IsEndedAt, HasParts, IsPattern}
 use Rattle.std.proofs.lemmas.Fmt.{decimal_step}
 use Rattle.std.proofs.lemmas.Grind.{same_number_lists}
 use Rattle.std.proofs.lemmas.List.{take_more_set, drop-set-lt, length-set}

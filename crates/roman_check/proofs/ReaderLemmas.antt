@@ -1,6 +1,5 @@
 -- Texts that are read byte by byte.
-use Rattle.std.proofs.Common.{◌≡◌, ◌≢◌, ℕ, ◌+◌, ◌-◌, ◌<◌, ◌≤◌, ◌==◌, List, [], ◌∷◌, ◌++◌, length, take, drop, get_or, Option, Some, None, option_map, refl, sym, ap, ap₂, ◌∙◌, subst, inl, inr, arith, append_assoc, append-nil, length-append, length-drop}
-use Rattle.roman_check.proofs.Common.{position, take-append-drop, take_rest, get_or-drop, lines, text_of_lines, IsLine, Arena, Entry, entry_of, entry_fault, Reader, Audit, Body, Why, Form, fault_of, Holds, IsEndedAt, HasListed, HasRead, Judges, HasLines, IsReading, IsAtFault, IsNumbered}
+use Rattle.roman_check.proofs.Common.{◌≡◌, ◌≢◌, ℕ, ◌+◌, ◌-◌, ◌<◌, ◌≤◌, ◌==◌, List, [], ◌∷◌, ◌++◌, length, take, drop, get_or, Option, Some, None, option_map, refl, sym, ap, ap₂, ◌∙◌, subst, inl, inr, arith, append_assoc, append-nil, length-append, length-drop, position, take-append-drop, take_rest, get_or-drop, lines, text_of_lines, IsLine, Arena, Entry, entry_of, entry_fault, Reader, Audit, Body, Why, Form, fault_of, Holds, IsEndedAt, HasListed, HasRead, Judges, HasLines, IsReading, IsAtFault, IsNumbered}
 use Rattle.std.proofs.lemmas.List.{take_more}
 use Rattle.roman_model.specs.Lines.{AreLines}
 use Rattle.roman_model.proofs.CallerLemmas.{from_push, text_of_lines-push, lines-text, lines_last, append_line, clean_push}

@@ -1,6 +1,6 @@
 -- Reasons that hold, and pairs that are missing.
-use Rattle.std.proofs.Common.{◌≡◌, ◌≢◌, ℕ, ◌+◌, ◌-◌, ◌*◌, ◌^◌, ◌/◌, ◌%◌, ◌<◌, ◌≤◌, Bool, true, false, not, ◌&&◌, ◌||◌, ◌⊎◌, [], ◌∷◌, length, Some, None, IsTrue, IsFalse, find, refl, sym, ap, ◌∙◌, subst, inl, inr, arith, add-one, eqb}
-use Rattle.roman_check.proofs.Common.{list_any, trailing_zeros, w64, or-false, cases_lt, eq-eqb, false≢true, mul-le, same_from_place, list_any-append, IsIn, below, Arena, Reason, Act, reasons, from_map, from_below, is_on, IsNumbered}
+use Rattle.roman_check.proofs.Common.{◌≡◌, ◌≢◌, ℕ, ◌+◌, ◌-◌, ◌*◌, ◌^◌, ◌/◌, ◌%◌, ◌<◌, ◌≤◌, Bool, true, false, not, ◌&&◌, ◌||◌, [], ◌∷◌, length, Some, None, IsTrue, IsFalse, find, refl, sym, ap, ◌∙◌, subst, inl, inr, arith, add-one, list_any, trailing_zeros, w64, or-false, cases_lt, eq-eqb, false≢true, mul-le, same_from_place, list_any-append, IsIn, below, Arena, Reason, Act, reasons, from_map, from_below, is_on, IsNumbered}
+use Rattle.std.proofs.Common.{◌⊎◌, eqb}
 use Rattle.std.specs.Int.{bit_at}
 use Rattle.std.proofs.lemmas.Nat.{div-add-mod', div_below, row_fits}
 use Rattle.std.proofs.lemmas.Nat.Bits.{bit_at-trailing_zeros}

@@ -1,6 +1,6 @@
 -- Tables of the pairs that remain.
-use Rattle.std.proofs.Common.{◌≡◌, ◌≢◌, ℕ, zero, suc, ◌+◌, ◌-◌, ◌*◌, ◌/◌, ◌^◌, ◌<◌, ◌≤◌, ◌==◌, Bool, true, false, cond, not, ◌&&◌, ◌||◌, length, get_or, replicate, set, count_by, bit_and, IsFalse, refl, sym, ap, ap₂, ◌∙◌, subst, inl, inr, arith, add-one}
-use Rattle.roman_check.proofs.Common.{or-false, cases_eq, ne_eqb, eq-eqb, get_or-set_other, same_from_place, below, is_on, on_and, on_full, on_full_past, Remain}
+use Rattle.roman_check.proofs.Common.{◌≡◌, ◌≢◌, ℕ, zero, suc, ◌+◌, ◌-◌, ◌*◌, ◌/◌, ◌^◌, ◌<◌, ◌≤◌, ◌==◌, Bool, true, false, not, ◌&&◌, ◌||◌, length, get_or, set, count_by, bit_and, IsFalse, refl, sym, ap, ap₂, ◌∙◌, subst, inl, inr, arith, add-one, or-false, cases_eq, ne_eqb, eq-eqb, get_or-set_other, same_from_place, below, is_on, on_and, on_full, on_full_past, Remain}
+use Rattle.std.proofs.Common.{cond, replicate}
 use Rattle.std.proofs.lemmas.Bool.{or_right}
 use Rattle.std.proofs.lemmas.List.{length-replicate, get_or-replicate, get_or-set_same}
 use Rattle.roman_lanes.specs.Rows.{HasLanes}

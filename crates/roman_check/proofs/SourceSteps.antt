@@ -1,6 +1,5 @@
 -- Certificates that are taken from a source piece by piece.
-use Rattle.std.proofs.Common.{◌≡◌, ℕ, ◌+◌, ◌<◌, ◌≤◌, List, [], ◌∷◌, ◌++◌, length, take, drop, Option, Some, None, sym, ap, ◌∙◌, subst, arith, append_assoc, append-nil, length-append}
-use Rattle.roman_check.proofs.Common.{take-append-drop, take-take, take_at, Gave, Gave-then, text_of_lines, Arena, MAX_CERTIFICATE_BYTES, Reader, Why, fault_of, IsReading, IsAtFault}
+use Rattle.roman_check.proofs.Common.{◌≡◌, ℕ, ◌+◌, ◌<◌, ◌≤◌, List, [], ◌∷◌, ◌++◌, length, take, drop, Option, Some, None, sym, ap, ◌∙◌, subst, arith, append_assoc, append-nil, length-append, take-append-drop, take-take, take_at, Gave, Gave-then, text_of_lines, Arena, MAX_CERTIFICATE_BYTES, Reader, Why, fault_of, IsReading, IsAtFault}
 use Rattle.roman_io.specs.Source.{EndsAt, IsAtEnd}
 use Rattle.roman_io.proofs.CallerLemmas.{had_more}
 use Rattle.roman_model.specs.Lines.{ended_lines}

@@ -1,6 +1,6 @@
 -- Equal texts, and texts that don't have a byte.
-use Rattle.std.proofs.Common.{◌≡◌, ℕ, zero, suc, ◌+◌, ◌<◌, ◌==◌, Bool, List, [], ◌∷◌, ◌++◌, length, take, drop, get_or, None, Some, nat_lt, refl, sym, ap₂, ◌∙◌, subst, inl, inr, arith, IsTrue, IsFalse}
-use Rattle.roman_check.proofs.Common.{position, Decides-eqb, eqb-true, cases_lt, cond-true, take_all, take-take, drop-take, take-append-drop, has, same_numbers, same_numbers_is, same_numbers_itself}
+use Rattle.roman_check.proofs.Common.{◌≡◌, ℕ, zero, suc, ◌+◌, ◌<◌, ◌==◌, Bool, List, [], ◌∷◌, ◌++◌, length, take, drop, get_or, None, Some, refl, sym, ap₂, ◌∙◌, subst, inl, inr, arith, IsTrue, IsFalse, position, Decides-eqb, eqb-true, cases_lt, cond-true, take_all, take-take, drop-take, take-append-drop, has, same_numbers, same_numbers_is, same_numbers_itself}
+use Rattle.std.proofs.Common.{nat_lt}
 use Rattle.std.specs.List.{position_or_len}
 use Rattle.std.specs.Cmp.Lexicographic.{pointwise}
 use Rattle.std.proofs.lemmas.Slice.Eq.{slice_eq-Decides}

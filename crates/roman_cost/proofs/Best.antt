@@ -1,6 +1,5 @@
 -- Loops that keep the best seat so far.
-use Rattle.std.proofs.Common.{◌≡◌, ◌≢◌, ℕ, ◌+◌, Bool, true, false, cond, List, [], ◌∷◌, ◌++◌, Option, Some, None, filter, nat_le, refl, sym, ap, ◌∙◌, inl, inr, add-one, append-nil}
-use Rattle.roman_cost.proofs.Common.{IsIn, below, has, least_from, first_least, same_test, filter_in, in_filter, filter_below_more, number_listed}
+use Rattle.roman_cost.proofs.Common.{◌≡◌, ◌≢◌, ℕ, ◌+◌, Bool, true, false, cond, List, [], ◌∷◌, ◌++◌, Option, Some, None, filter, nat_le, refl, sym, ap, ◌∙◌, inl, inr, add-one, append-nil, IsIn, below, has, least_from, first_least, same_test, filter_in, in_filter, filter_below_more, number_listed}
 use Rattle.roman_model.proofs.CallerLemmas.{filter_same, least_from_push, listed_number}
 use Rattle.roman_cost.specs.Filling.{better_of}
 

@@ -1,4 +1,5 @@
 -- The names that several proof pages of this crate cite, passed on from one place. Declares nothing.
+pub use Rattle.std.proofs.Common.{All, Bool, Global, IsFalse, IsTrue, List, None, Option, Some, Vec, [], add-one, ap, append-nil, append_assoc, ap₂, arith, codes, cond, decimal, drop, false, filter, get_or, inl, inr, length, length-append, map, nat_le, refl, slice_get, slice_index, subst, suc, sym, take, true, unwrap_or, zero, ℕ, ◌*◌, ◌++◌, ◌+◌, ◌-◌, ◌<◌, ◌∙◌, ◌∷◌, ◌≡◌, ◌≢◌, ◌≤◌}
 pub use Rattle.std.proofs.lemmas.Bool.{cond-false, cond-true}
 pub use Rattle.std.proofs.lemmas.List.{get_or-map, get_or_read, length-drop, length-map, map_push, take_all, take_more}
 pub use Rattle.std.proofs.lemmas.Nat.{mul-add-lt}

@@ -1,7 +1,7 @@
 -- Listed costs, and their cells.
-use Rattle.std.proofs.Common.{◌≡◌, ◌≢◌, ℕ, zero, suc, ◌+◌, ◌-◌, ◌*◌, ◌<◌, ◌≤◌, ◌==◌, ◌&&◌, Bool, true, false, cond, List, [], ◌∷◌, ◌++◌, length, get_or, set, Option, Some, None, unwrap_or, slice_get, slice_index, All, IsTrue, IsFalse, inl, inr, refl, sym, ap, ◌∙◌, subst, arith}
+use Rattle.roman_cost.proofs.Common.{◌≡◌, ◌≢◌, ℕ, zero, suc, ◌+◌, ◌-◌, ◌*◌, ◌<◌, ◌≤◌, Bool, true, false, cond, List, [], ◌∷◌, ◌++◌, length, get_or, Option, Some, None, unwrap_or, slice_get, slice_index, All, IsTrue, IsFalse, inl, inr, refl, sym, ap, ◌∙◌, subst, arith, cond-false, cond-true, mul-add-lt, by_test, NamedSys, Seat, CostTable, listed_cost, seat_costs, cell_of, Listed, MAX_COST}
+use Rattle.std.proofs.Common.{◌==◌, ◌&&◌, set}
 use Rattle.std.specs.Option.{option_or}
-use Rattle.roman_cost.proofs.Common.{cond-false, cond-true, mul-add-lt, by_test, NamedSys, Seat, CostTable, listed_cost, seat_costs, cell_of, Listed, MAX_COST}
 use Rattle.std.proofs.lemmas.Bool.{cases_order, eq-eqb, eqb-true, and_parts, and_from}
 use Rattle.std.proofs.lemmas.List.{get_or-set_same, get_or-set_other, length-set}
 use Rattle.roman_cost.specs.Tables.{HoldsCosts, cost_of, cost_at}

@@ -1,6 +1,6 @@
 -- Loops that keep the greatest value so far.
-use Rattle.std.proofs.Common.{◌≡◌, ℕ, ◌+◌, ◌<◌, List, [], ◌∷◌, map, length, get_or, take, flat_map, refl, sym, ap, ap₂, ◌∙◌}
-use Rattle.roman_cost.proofs.Common.{max, take_more, max_over}
+use Rattle.roman_cost.proofs.Common.{◌≡◌, ℕ, ◌+◌, ◌<◌, List, [], ◌∷◌, map, length, get_or, take, refl, sym, ap, ap₂, ◌∙◌, max, take_more, max_over}
+use Rattle.std.proofs.Common.{flat_map}
 use Rattle.roman_model.proofs.CallerLemmas.{max_over_push, max_over-map, max_over-append}
 
 -- the greatest value after one element more

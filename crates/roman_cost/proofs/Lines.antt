@@ -1,6 +1,5 @@
 -- The text of advice, one line after the other.
-use Rattle.std.proofs.Common.{◌≡◌, ℕ, suc, ◌+◌, ◌-◌, ◌<◌, ◌≤◌, List, [], ◌∷◌, ◌++◌, IsTrue, IsFalse, codes, decimal, length, drop, map, get_or, slice_get, Option, Some, refl, sym, ap, ap₂, ◌∙◌, subst, arith, add-one, append_assoc}
-use Rattle.roman_cost.proofs.Common.{flat_map, cond-true, cond-false, length-map, get_or-map, below, Sys, Pair, IsSys, is_allowed, sizes_of, count, pair_at, is_related, Costs, allowed_actions, least, least_at, choice, through, related_great, length-below, get_or-below, numbers_are_pairs, choice_is, IsFilling, NamedSys, system_of, seat_of, Seat, worst_line, choice_line, value_line, value_lines, certificate_text, advice_text, seat_costs, Listed}
+use Rattle.roman_cost.proofs.Common.{◌≡◌, ℕ, suc, ◌+◌, ◌-◌, ◌<◌, ◌≤◌, List, [], ◌∷◌, ◌++◌, IsTrue, IsFalse, codes, decimal, length, drop, map, get_or, slice_get, Option, Some, refl, sym, ap, ap₂, ◌∙◌, subst, arith, add-one, append_assoc, flat_map, cond-true, cond-false, length-map, get_or-map, below, Sys, Pair, IsSys, is_allowed, sizes_of, count, pair_at, is_related, Costs, allowed_actions, least, least_at, choice, through, related_great, length-below, get_or-below, numbers_are_pairs, choice_is, IsFilling, NamedSys, system_of, seat_of, Seat, worst_line, choice_line, value_line, value_lines, certificate_text, advice_text, seat_costs, Listed}
 use Rattle.std.specs.List.{filter}
 use Rattle.std.specs.Option.{option_map}
 use Rattle.std.proofs.Math.Seq.{drop-cons}

@@ -1,6 +1,6 @@
 -- The plans by offers are those by seats that serve, and their worst-case costs are the greatest that can occur.
-use Rattle.std.proofs.Common.{◌≡◌, ◌⊎◌, ℕ, zero, suc, ◌+◌, ◌<◌, ◌≤◌, List, [], ◌∷◌, IsTrue, nat_le, inl, inr, refl, sym, ap, ◌∙◌, subst, arith}
-use Rattle.roman_cost.proofs.Common.{max, IsIn, below, Sys, Pair, IsSys, IsPair, outcomes, is_allowed, Great, offers, Costs, max_over, allowed_actions, least, through, choice, by_test, in_filter, in_below, not_empty_in, ne_not_empty, allowed_in_range, from_allowed, outcome_pair, offer_is, choice_is}
+use Rattle.roman_cost.proofs.Common.{◌≡◌, ℕ, zero, suc, ◌+◌, ◌<◌, ◌≤◌, List, [], ◌∷◌, IsTrue, nat_le, inl, inr, refl, sym, ap, ◌∙◌, subst, arith, max, IsIn, below, Sys, Pair, IsSys, IsPair, outcomes, is_allowed, Great, offers, Costs, max_over, allowed_actions, least, through, choice, by_test, in_filter, in_below, not_empty_in, ne_not_empty, allowed_in_range, from_allowed, outcome_pair, offer_is, choice_is}
+use Rattle.std.proofs.Common.{◌⊎◌}
 use Rattle.std.proofs.Math.Nat.{le-max_left, le-max_right, max-le}
 use Rattle.std.proofs.lemmas.Bool.{leb-true, leb-false}
 use Rattle.std.proofs.lemmas.Option.{slice_get_within}

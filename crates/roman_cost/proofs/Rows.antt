@@ -1,9 +1,9 @@
 -- Rows of values: their places and their bounds.
-use Rattle.std.proofs.Common.{◌≡◌, ℕ, zero, suc, ◌+◌, ◌-◌, ◌*◌, ◌<◌, ◌≤◌, List, [], ◌∷◌, ◌++◌, map, length, get_or, take, drop, replicate, All, slice_range, refl, sym, ap, ap₂, ◌∙◌, inl, inr, arith, append_assoc, append-nil, length-append}
+use Rattle.roman_cost.proofs.Common.{◌≡◌, ℕ, zero, suc, ◌+◌, ◌-◌, ◌*◌, ◌<◌, ◌≤◌, List, [], ◌∷◌, ◌++◌, map, length, get_or, take, drop, All, refl, sym, ap, ap₂, ◌∙◌, inl, inr, arith, append_assoc, append-nil, length-append, length-drop, length-map, take_more, map_push, IsIn, below, Sys, sizes_of, pair_at, Costs, least_at, from_map, from_below, flat_map_row, length_rows, related_pairs, value_rows, AdviceTable, Advises, AreSmall, MAX_COST, MAX_REQUESTS}
+use Rattle.std.proofs.Common.{replicate, slice_range}
 use Rattle.std.proofs.Math.Nat.{mul-le-mul_left}
 use Rattle.std.proofs.Math.Seq.{take-nil, take-length, drop-append_seam}
 use Rattle.std.proofs.lemmas.Bool.{cases_eq}
-use Rattle.roman_cost.proofs.Common.{length-drop, length-map, take_more, map_push, IsIn, below, Sys, sizes_of, pair_at, Costs, least_at, from_map, from_below, flat_map_row, length_rows, related_pairs, value_rows, AdviceTable, Advises, AreSmall, MAX_COST, MAX_REQUESTS}
 use Rattle.std.proofs.lemmas.List.{take-append-le, drop-append-le}
 use Rattle.roman_model.proofs.CallerLemmas.{from_flat_map, least_bound}
 

@@ -1,7 +1,7 @@
 -- How a session that is read from a source ends.
-use Rattle.std.proofs.Common.{◌≡◌, ℕ, ◌+◌, ◌-◌, ◌<◌, ◌≤◌, false, List, [], ◌∷◌, ◌++◌, length, take, drop, nat_le, ltb, Option, Result, Ok, Err, OnOk, IsErrOf, IsTrue, inl, inr, refl, sym, ap, ◌∙◌, subst, arith, append_assoc, append-nil, length-append, length-take, take-append-drop, take_at, le-leb}
+use Rattle.roman_hearing.proofs.Common.{◌≡◌, ℕ, ◌+◌, ◌<◌, ◌≤◌, false, List, [], ◌∷◌, ◌++◌, length, take, drop, nat_le, Option, Result, Ok, Err, IsTrue, inl, inr, refl, sym, ap, ◌∙◌, subst, arith, append_assoc, append-nil, length-append, take-append-drop, cond-true, cond-false, or_from, or_left, or_right, Gave, Gave-then, lines, ended_lines, text_of_lines, MAX_SESSION_BYTES, by_test, unfinished, kept, lines_none, kept-nil, Situation, Told, AreBehaviours, has_quit, is_heard_out, heard_lines, cursor, Tells, TellsPrefix, reader_state, IsHearing, StopsAtQuit, FallsShort, FailsIn, HearsPiece}
+use Rattle.std.proofs.Common.{◌-◌, ltb, OnOk, IsErrOf, length-take, take_at, le-leb}
 use Rattle.std.proofs.Math.Seq.{take-append-add}
-use Rattle.roman_hearing.proofs.Common.{cond-true, cond-false, or_from, or_left, or_right, Gave, Gave-then, lines, ended_lines, text_of_lines, MAX_SESSION_BYTES, by_test, unfinished, kept, lines_none, kept-nil, Situation, Told, AreBehaviours, has_quit, is_heard_out, heard_lines, cursor, Tells, TellsPrefix, reader_state, IsHearing, StopsAtQuit, FallsShort, FailsIn, HearsPiece}
 use Rattle.std.proofs.lemmas.Bool.{lt-leb}
 use Rattle.roman_io.specs.Source.{EndsAt, Had}
 use Rattle.roman_io.proofs.CallerLemmas.{WrotePrefix-append, had_more, had_all}

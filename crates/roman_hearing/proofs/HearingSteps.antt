@@ -1,6 +1,5 @@
 -- The replies to some lines can always be continued.
-use Rattle.std.proofs.Common.{ℕ, List, [], ◌∷◌, ◌++◌, refl, sym, subst, append-nil}
-use Rattle.roman_hearing.proofs.Common.{by_test, Situation, IsSituation, until_quit, Answers, Told, has_quit, AreBehaviours}
+use Rattle.roman_hearing.proofs.Common.{ℕ, List, [], ◌∷◌, ◌++◌, refl, sym, subst, append-nil, by_test, Situation, IsSituation, until_quit, Answers, Told, has_quit, AreBehaviours}
 use Rattle.roman_hearing.proofs.HearingGoing.{IsGoing, can_go_on, step_there}
 use Rattle.roman_hearing.proofs.HearingLines.{told_stops, told_then}
 use Rattle.roman_hearing.proofs.KeepLemmas.{answers_keep, behaviours_stay}

@@ -1,6 +1,5 @@
 -- Steps of a session change no parts but the services.
-use Rattle.std.proofs.Common.{◌≡◌, ℕ, List, [], ◌∷◌, Result, Ok, Err, inl, inr, refl, sym, ap, ◌∙◌, subst}
-use Rattle.roman_hearing.proofs.Common.{LineShape, nothing, ask, hand, saw, abort, freeze, thaw, die, join, jump, jump_env, report, explain, quit, shape_of, LineError, Reply, NamedSys, Situation, asked, handed, seen, aborted, jumped, env_jumped, frozen, thawed, died, join_of, unexplained, Asks, Hands, Sees, Aborts, Jumps, EnvJumps, Freezes, Thaws, Dies, Joins, Explains, Does, StepOn, StepBy, Step, Answers, AreBehaviours}
+use Rattle.roman_hearing.proofs.Common.{◌≡◌, ℕ, List, [], ◌∷◌, Result, Ok, Err, inl, inr, refl, sym, ap, ◌∙◌, subst, LineShape, nothing, ask, hand, saw, abort, freeze, thaw, die, join, jump, jump_env, report, explain, quit, shape_of, LineError, Reply, NamedSys, Situation, asked, handed, seen, aborted, jumped, env_jumped, frozen, thawed, died, join_of, unexplained, Asks, Hands, Sees, Aborts, Jumps, EnvJumps, Freezes, Thaws, Dies, Joins, Explains, Does, StepOn, StepBy, Step, Answers, AreBehaviours}
 
 -- all parts but the services stay the same
 abbrev pub Keeps : Situation → Situation → Type 0

@@ -1,6 +1,6 @@
 -- A service that isn't offered would fail.
-use Rattle.std.proofs.Common.{◌≡◌, ℕ, not, ◌⊎◌, [], IsTrue, IsFalse, arith}
-use Rattle.roman_hearing.proofs.Common.{or_cases, not-true, IsIn, Sys, Pair, outcomes, arena, is_beaten, is_related, by_test, empty_is, any_true}
+use Rattle.roman_hearing.proofs.Common.{◌≡◌, ℕ, not, [], IsTrue, IsFalse, arith, or_cases, not-true, IsIn, Sys, Pair, outcomes, arena, is_beaten, is_related, by_test, empty_is, any_true}
+use Rattle.std.proofs.Common.{◌⊎◌}
 use Rattle.roman_model.proofs.CallerLemmas.{in_mask}
 use Rattle.roman_hearing.specs.Laws.{NotOfferedFails}
 

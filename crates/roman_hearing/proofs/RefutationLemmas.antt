@@ -1,6 +1,7 @@
 -- The explanation of a pair that isn't related is a removal list in terms of steps, and the opponent who plays by it wins.
-use Rattle.std.proofs.Common.{◌≡◌, ℕ, zero, suc, ◌+◌, ◌<◌, ◌==◌, Bool, true, false, not, ◌&&◌, ◌||◌, List, [], ◌∷◌, ◌++◌, length, codes, Option, None, Some, IsTrue, IsFalse, inl, inr, filter, find, slice_get, refl, sym, ap, ◌∙◌, subst, arith, append_assoc, eqb-true, eq-eqb}
-use Rattle.roman_hearing.proofs.Common.{list_any, false≢true, both_ways, and_parts, and_from, or_cases, or_parts, not-true, cond-true, cond-false, IsIn, below, is_empty, text_of_lines, Sys, Pair, IsSys, is_final, arena, outcomes, same_numbers, Entry, is_beaten, Great, explain_text, by_test, empty_is, filter_in, in_filter, filter_sublist, in_below, listed_in, in_listed, from_allowed, from_outcome, outcome_in, same_numbers_is, same_numbers_itself, names_in, Situation, present_system, IsSituation, shown, IsReady, Refutes}
+use Rattle.roman_hearing.proofs.Common.{◌≡◌, ℕ, zero, suc, ◌+◌, ◌<◌, ◌==◌, Bool, true, false, not, ◌&&◌, List, [], ◌∷◌, ◌++◌, length, codes, Option, None, Some, IsTrue, IsFalse, inl, inr, slice_get, refl, sym, ap, ◌∙◌, subst, arith, append_assoc, eqb-true, eq-eqb, list_any, false≢true, both_ways, and_parts, and_from, or_cases, or_parts, not-true, cond-true, cond-false, IsIn, below, text_of_lines, Sys, Pair, IsSys, is_final, arena, outcomes, same_numbers, Entry, is_beaten, Great, explain_text, by_test, empty_is, filter_in, in_filter, filter_sublist, in_below, listed_in, in_listed, from_allowed, from_outcome, outcome_in, same_numbers_is, same_numbers_itself, names_in, Situation, present_system, IsSituation, shown, IsReady, Refutes}
+use Rattle.std.proofs.Common.{◌||◌, filter, find}
+use Rattle.roman_model.specs.Lists.{is_empty}
 use Rattle.std.specs.Option.{option_to_list}
 use Rattle.std.proofs.lemmas.Option.{none-some, slice_get_within}
 use Rattle.roman_model.specs.System.{all_final}

@@ -1,8 +1,6 @@
 -- The report of a session equals the report of the library that begins where the session stands.
-use Rattle.std.proofs.Common.{◌≡◌, ℕ, ◌<◌, List, [], ◌∷◌, map, refl, ap, arith}
+use Rattle.roman_hearing.proofs.Common.{◌≡◌, ℕ, ◌<◌, List, [], ◌∷◌, map, refl, ap, arith, NamedBeh, NamedSys, seat_of, system_of, Beh, IsBeh, IsSys, IsPair, Situation, IsSituation, lines_text, report_text, afresh, shown, Seat}
 use Rattle.std.specs.List.{AllZip}
-use Rattle.roman_hearing.proofs.Common.{NamedBeh, NamedSys, seat_of, system_of, Beh, IsBeh, IsSys, IsPair, Situation, IsSituation, lines_text, report_text, afresh, shown}
-use Rattle.roman_joint.specs.declared.seat.Seat.{Seat}
 use Rattle.roman_model.specs.System.{Env}
 use Rattle.roman_start.specs.Starts.{seat_of_service, parts_of, start_pair_of}
 use Rattle.roman_hearing.specs.Afresh.{services_in}

@@ -1,6 +1,7 @@
 -- Each step of a session is a turn.
-use Rattle.std.proofs.Common.{◌≡◌, ℕ, ◌+◌, ◌<◌, ◌≤◌, Bool, true, false, not, List, [], map, length, get_or, Option, None, Some, ok_or, is_none, is_ok, Result, Ok, Err, IsTrue, IsFalse, inl, inr, slice_get, nat_lt, nat_le, refl, sym, ap, ◌∙◌, subst, arith, ltb-true, leb-true}
-use Rattle.roman_hearing.proofs.Common.{bytes_eq, false≢true, both_ways, not-true, length-map, position-Some, get_or_from_slice_get, IsIn, Seat, Sys, is_allowed, Great, name_at, seat_names, is_related, offers, MAX_SERVICES, allowed_in, from_allowed, related_great, great_related, number_listed, is_name, place_of, reply_text, LineShape, nothing, ask, hand, saw, abort, freeze, thaw, die, join, jump, jump_env, report, explain, quit, shape_of, LineError, Reply, seat_of, system_of, seat_name, beh_name, states_of_behaviour, names_in, joined_system, Situation, present_system, is_idle, IsPhase, named, seat_at, asked, handed, seen, aborted, jumped, env_jumped, frozen, thawed, died, joining, join_of, unexplained, Asks, Hands, Sees, Aborts, Jumps, EnvJumps, Changing, Changes, Freezes, Thaws, Dies, Joins, freezing, thawing, dying, growing, Explains, Does, StepBy, Step, offer_text, parts_after, Handing, Joining, Phase, Idle, Offered, Delegated, name_is_new, seat_is, cells_with, State, IsGreat, MayAsk, shown, IsKnownSituation, Counts, IsReady, Refutes}
+use Rattle.roman_hearing.proofs.Common.{◌≡◌, ℕ, ◌+◌, ◌<◌, ◌≤◌, Bool, true, false, not, List, [], map, length, get_or, Option, None, Some, ok_or, is_none, is_ok, Result, Ok, Err, IsTrue, IsFalse, inl, inr, slice_get, nat_lt, nat_le, refl, sym, ap, ◌∙◌, subst, arith, ltb-true, leb-true, bytes_eq, false≢true, both_ways, not-true, length-map, position-Some, get_or_from_slice_get, IsIn, Sys, is_allowed, Great, name_at, seat_names, is_related, offers, MAX_SERVICES, allowed_in, from_allowed, related_great, great_related, number_listed, is_name, place_of, reply_text, LineShape, nothing, ask, hand, saw, abort, freeze, thaw, die, join, jump, jump_env, report, explain, quit, shape_of, LineError, Reply, seat_of, system_of, seat_name, beh_name, states_of_behaviour, names_in, joined_system, Situation, present_system, is_idle, IsPhase, named, seat_at, asked, handed, seen, aborted, jumped, env_jumped, frozen, thawed, died, joining, join_of, unexplained, Asks, Hands, Sees, Aborts, Jumps, EnvJumps, Changing, Changes, Freezes, Thaws, Dies, Joins, freezing, thawing, dying, growing, Explains, Does, StepBy, Step, parts_after, Handing, Joining, Phase, Idle, Offered, Delegated, name_is_new, seat_is, cells_with, State, IsGreat, MayAsk, shown, IsKnownSituation, Counts, IsReady, Refutes}
+use Rattle.roman_model.specs.System.{Seat}
+use Rattle.roman_session.specs.Steps.{offer_text}
 use Rattle.std.proofs.lemmas.Bool.{lt-ltb, le-leb}
 use Rattle.std.proofs.lemmas.Option.{slice_get-get_or, same_Some}
 use Rattle.std.proofs.lemmas.Slice.Eq.{bytes_eq-Decides}

@@ -1,6 +1,7 @@
 -- What an event names is in range: the place of a service, a state or a behaviour.
-use Rattle.std.proofs.Common.{◌≡◌, ℕ, ◌<◌, Bool, List, [], map, length, Option, None, Some, ok_or, is_none, is_ok, IfSome, false, Ok, IsTrue, slice_get, refl, sym, ap, ◌∙◌, subst, arith}
-use Rattle.roman_hearing.proofs.Common.{length-map, position-Some, get_or_from_slice_get, Seat, IsBeh, Beh, seat_names, there_is, is_name, place_of, same_ok, bind_ok, NamedBeh, beh_at, seat_name, beh_name, states_of_behaviour, names_in, beh_read, Situation, present_system, is_idle, IsSituation, named, joining, Joining, name_is_new, checked, AreBehaviours}
+use Rattle.roman_hearing.proofs.Common.{◌≡◌, ℕ, ◌<◌, Bool, List, [], map, length, Option, None, Some, ok_or, is_none, is_ok, false, Ok, IsTrue, slice_get, refl, sym, ap, ◌∙◌, subst, arith, length-map, position-Some, get_or_from_slice_get, IsBeh, Beh, seat_names, there_is, is_name, place_of, same_ok, bind_ok, NamedBeh, beh_at, seat_name, beh_name, states_of_behaviour, names_in, beh_read, Situation, present_system, is_idle, IsSituation, named, joining, Joining, name_is_new, checked, AreBehaviours}
+use Rattle.std.proofs.Common.{IfSome}
+use Rattle.roman_model.specs.System.{Seat}
 use Rattle.std.proofs.lemmas.List.Elements.{All-get_or}
 use Rattle.roman_text.specs.declared.replies.Reply.TheVariants as reply
 use Rattle.roman_parts.specs.Named.{IsBehaviour}

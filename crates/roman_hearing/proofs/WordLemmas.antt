@@ -1,7 +1,6 @@
 -- Offers, counts and reports are right by the greatest ND-simulation.
-use Rattle.std.proofs.Common.{◌≡◌, ℕ, ◌+◌, Bool, List, [], ◌∷◌, ◌++◌, map, length, cond, true, false, IsTrue, ◌↔◌, refl, sym, ◌∙◌, subst, length-append, arith}
+use Rattle.roman_hearing.proofs.Common.{◌≡◌, ℕ, ◌+◌, Bool, List, [], ◌∷◌, ◌++◌, map, length, cond, true, false, IsTrue, ◌↔◌, refl, sym, ◌∙◌, subst, length-append, arith, both_ways, length-map, IsIn, below, Sys, Pair, IsSys, IsPair, is_final, arena, is_allowed, Entry, IsComplete, Great, name_at, is_related, offers, filter_sublist, filter_in, in_filter, in_below, allowed_in, from_allowed, related_great, great_related, in_listed, listed_in, from_map, system_of, seat_name, Situation, present_system, IsPhase, IsSituation, lines_text, report_text, Phase, Idle, Offered, Delegated, shown, State, IsGreat, MayAsk, afresh, Counts}
 use Rattle.std.specs.List.{flat_map, filter}
-use Rattle.roman_hearing.proofs.Common.{both_ways, length-map, IsIn, below, Sys, Pair, IsSys, IsPair, is_final, arena, is_allowed, Entry, IsComplete, Great, name_at, is_related, offers, filter_sublist, filter_in, in_filter, in_below, allowed_in, from_allowed, related_great, great_related, in_listed, listed_in, from_map, system_of, seat_name, Situation, present_system, IsPhase, IsSituation, lines_text, report_text, Phase, Idle, Offered, Delegated, shown, State, IsGreat, MayAsk, afresh, Counts}
 use Rattle.roman_model.specs.Lists.{IsSublist}
 use Rattle.roman_model.specs.Numbers.{sizes_of, count}
 use Rattle.roman_model.specs.Offers.{related_count}

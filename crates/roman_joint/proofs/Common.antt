@@ -1,9 +1,10 @@
 -- The names that several proof pages of this crate cite, passed on from one place. Declares nothing.
+pub use Rattle.std.proofs.Common.{All, Bool, IsFalse, IsTrue, List, None, Option, Some, [], add-one, ap, ap₂, arith, bit_and, cond, drop, eqb, false, get_or, if◌then◌else◌, inl, inr, length, ltb, map, not, refl, replicate, rules, slice_get, slice_index, slice_index_or, slice_set, subst, suc, sum_by, sym, take, true, vec_capacity, zero, ℕ, ◌%◌, ◌&&◌, ◌*◌, ◌++◌, ◌+◌, ◌-◌, ◌/◌, ◌<◌, ◌==◌, ◌^◌, ◌||◌, ◌↔◌, ◌∙◌, ◌∷◌, ◌≡◌, ◌≢◌, ◌≤◌, ◌⊎◌}
 pub use Rattle.std.proofs.Math.Bool.{and-true, and_assoc}
 pub use Rattle.std.proofs.Math.ListN.{set}
 pub use Rattle.std.proofs.Math.Nat.{le-div_iff_mul-le, mul-le-mul_left, mul-le-mul_right}
 pub use Rattle.std.proofs.Math.Seq.{get_or-append_seam}
-pub use Rattle.std.proofs.lemmas.Bool.{both_ways, cases_eq, cases_lt, eqb-true, false≢true, le-ltb, lt-ltb, ne_eqb, not-true}
+pub use Rattle.std.proofs.lemmas.Bool.{and_parts, both_ways, cases_eq, cases_lt, eqb-true, false≢true, le-ltb, lt-ltb, ne_eqb, not-true}
 pub use Rattle.std.proofs.lemmas.Bool.Decides.{nat_tests}
 pub use Rattle.std.proofs.lemmas.List.{append-nil, append_assoc, drop_all, drop_more, get_or-set_other, get_or-set_same, get_or_append_left, length-append, length-map, length-set, map-append, map_push, take_all, take_more}
 pub use Rattle.std.proofs.lemmas.List.Elements.{All-from_recursion}
@@ -15,11 +16,11 @@ pub use Rattle.std.proofs.lemmas.Simd.{get_or-replicate, get_or-zip2, length-rep
 pub use Rattle.std.specs.Int.{bit_at}
 pub use Rattle.std.specs.List.{AllByRecursion, filter, find, flat_map, list_any, remove}
 pub use Rattle.std.specs.Option.{option_map}
-pub use Rattle.std.specs.Prelude.{bit_or, replicate}
+pub use Rattle.std.specs.Prelude.{bit_or}
 pub use Rattle.roman_lanes.proofs.CallerLemmas.{on_and, on_or, on_zero}
 pub use Rattle.roman_lanes.specs.Rows.{AreRows, HasLanes, Keeps}
 unfoldable pub use Rattle.roman_lanes.specs.Rows.{is_on}
-pub use Rattle.roman_model.proofs.CallerLemmas.{AreBelow-index, AreBelow-length, HasNoRepeats-below, HasNoRepeats-filter, HasNoRepeats-flat_map, HasNoRepeats-map, IsPairOf-at, IsPairOf-from, any_from, any_same, any_true, by_test, empty_is, filter_in, from_below, from_env_next, from_flat_map, from_map, from_seat_next, in_back, in_beh_prev, in_below, in_env_prev, in_filter, in_flat_map, in_map, length-below, move_in_range, not_empty_in, number-pair_at, number_below, numbered_is_arena, numbers_are_pairs, part_at, same_test, seat_in, states_set, triple_in_range}
+pub use Rattle.roman_model.proofs.CallerLemmas.{AreBelow-index, AreBelow-length, HasNoRepeats-below, HasNoRepeats-filter, HasNoRepeats-flat_map, HasNoRepeats-map, IsPairOf-at, IsPairOf-from, all_below_at, all_below_from, any_from, any_same, any_true, by_test, empty_is, filter_in, from_below, from_env_next, from_flat_map, from_map, from_seat_next, in_back, in_beh_prev, in_below, in_env_prev, in_filter, in_flat_map, in_map, length-below, move_in_range, not_empty_in, number-pair_at, number_below, numbered_is_arena, numbers_are_pairs, part_at, same_test, seat_in, states_set, triple_in_range}
 pub use Rattle.roman_model.specs.Arena.{Arena, Delegation, back, is_beaten, is_justified, mask}
 pub use Rattle.roman_model.specs.Change.{Die, Join, after}
 pub use Rattle.roman_model.specs.Explanation.{name_at}
@@ -45,6 +46,7 @@ pub use Rattle.roman_joint.specs.Marks.{Grows, IsAt, IsMarked, MarksAction, Mark
 pub use Rattle.roman_joint.specs.Moves.{AreSeatsOf, HoldsMoves, HoldsSpans, IsKept, lane_moves_from, ways_room}
 pub use Rattle.roman_joint.specs.NamedSys.{IsNamedSys, IsOverEnv, NamedSys, beh_at, cells, named_parts, seat_of, system_of}
 pub use Rattle.roman_joint.specs.Outcomes.{IsPairWith}
+pub use Rattle.roman_joint.specs.Own.{is_own}
 pub use Rattle.roman_joint.specs.Parts.{HasSameParts}
 pub use Rattle.roman_joint.specs.Rows.{AreAlive, AreRowsOf, IsRow, IsTargetMove, lane_state_of, lanes_in, low_in, may_rest}
 unfoldable pub use Rattle.roman_joint.specs.Rows.{lane_has_state}

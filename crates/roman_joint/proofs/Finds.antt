@@ -1,6 +1,5 @@
 -- Searches for the first element that passes, step by step.
-use Rattle.std.proofs.Common.{◌≡◌, ℕ, zero, suc, ◌+◌, ◌<◌, ◌≤◌, ◌==◌, Bool, true, false, cond, List, [], ◌∷◌, map, length, drop, get_or, Option, Some, None, IsFalse, refl, sym, ap, ◌∙◌, subst, inl, inr, arith}
-use Rattle.roman_joint.proofs.Common.{find, flat_map, option_map, IsIn, is_empty, in_map, in_flat_map, drop_more, drop_all, map-append, false≢true, eqb-true}
+use Rattle.roman_joint.proofs.Common.{◌≡◌, ℕ, zero, suc, ◌+◌, ◌<◌, ◌≤◌, ◌==◌, Bool, true, false, cond, List, [], ◌∷◌, map, length, drop, get_or, Option, Some, None, IsFalse, refl, sym, ap, ◌∙◌, subst, inl, inr, arith, find, flat_map, option_map, IsIn, is_empty, in_map, in_flat_map, drop_more, drop_all, map-append, false≢true, eqb-true}
 use Rattle.std.specs.Option.{option_or}
 use Rattle.roman_model.proofs.CallerLemmas.{in_not_empty}
 use Rattle.std.specs.Option.{IfSome}

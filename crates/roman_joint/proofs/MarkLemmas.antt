@@ -1,6 +1,6 @@
 -- Marks on the bands from which a band can be reached.
-use Rattle.std.proofs.Common.{◌≡◌, ℕ, zero, suc, ◌+◌, ◌-◌, ◌*◌, ◌/◌, ◌%◌, ◌^◌, ◌<◌, ◌≤◌, Bool, true, cond, count_by, map, List, [], ◌∷◌, ◌++◌, length, take, get_or, Option, Some, slice_get, slice_index, IsTrue, IsFalse, inl, inr, refl, sym, ap, ap₂, ◌∙◌, subst, arith, add-one}
-use Rattle.roman_joint.proofs.Common.{set, bit_or, bit_at, flat_map, filter, cases_eq, cases_lt, lt-ltb, le-ltb, slice_get_within, get_or-set_same, get_or-set_other, length-set, length-map, length-append, take_more, append-nil, length-filter, div-add-mod', mod_below, div_below, IsIn, HasNoRepeats, below, product_of, by_test, in_below, from_below, from_map, from_flat_map, filter_in, in_filter, HasNoRepeats-below, HasNoRepeats-filter, HasNoRepeats-map, HasNoRepeats-flat_map, triple_in_range, move_in_range, in_env_prev, in_beh_prev, seat_in, in_back, AreBelow-length, IsPairOf-at, number-pair_at, numbered_is_arena, Seat, Sys, Pair, IsSys, IsBeh, env_prev, beh_prev, Arena, Delegation, back, sizes_of, count, number, pair_at, numbered, IsSizes, stride_of, row_sizes, env_rows_of, target_rows_of, row_mod, env_rows_are, low_of-le, lanes_positive, length_rows, row_size, row_stride_of, IsSizes-rows, is_on, seat_prev, from_states, from_seat, from_target, from_env, from_action, from_all, lanes_in, low_in, lane_state_of, IsRow, mid_in, band_in, AreLeading, IsMarked, Grows, row_at, MarksSeat, MarksTurn, MarksEnv, MarksAction, IsAt, front_target, front_env, front_action, Row}
+use Rattle.roman_joint.proofs.Common.{◌≡◌, ℕ, zero, suc, ◌+◌, ◌-◌, ◌*◌, ◌/◌, ◌%◌, ◌^◌, ◌<◌, ◌≤◌, Bool, true, cond, map, List, [], ◌∷◌, ◌++◌, length, take, get_or, Option, Some, slice_get, slice_index, IsTrue, IsFalse, inl, inr, refl, sym, ap, ap₂, ◌∙◌, subst, arith, add-one, set, bit_or, bit_at, flat_map, filter, cases_eq, cases_lt, lt-ltb, le-ltb, slice_get_within, get_or-set_same, get_or-set_other, length-set, length-map, length-append, take_more, append-nil, length-filter, div-add-mod', mod_below, div_below, IsIn, HasNoRepeats, below, product_of, by_test, in_below, from_below, from_map, from_flat_map, filter_in, in_filter, HasNoRepeats-below, HasNoRepeats-filter, HasNoRepeats-map, HasNoRepeats-flat_map, triple_in_range, move_in_range, in_env_prev, in_beh_prev, seat_in, in_back, AreBelow-length, IsPairOf-at, number-pair_at, numbered_is_arena, Seat, Sys, Pair, IsSys, IsBeh, env_prev, beh_prev, Arena, Delegation, back, sizes_of, count, number, pair_at, numbered, IsSizes, stride_of, row_sizes, env_rows_of, target_rows_of, row_mod, env_rows_are, low_of-le, lanes_positive, length_rows, row_size, row_stride_of, IsSizes-rows, is_on, seat_prev, from_states, from_seat, from_target, from_env, from_action, from_all, lanes_in, low_in, lane_state_of, IsRow, mid_in, band_in, AreLeading, IsMarked, Grows, row_at, MarksSeat, MarksTurn, MarksEnv, MarksAction, IsAt, front_target, front_env, front_action, Row}
+use Rattle.std.proofs.Common.{count_by}
 use Rattle.std.specs.Prelude.{ltb}
 use Rattle.std.proofs.lemmas.List.Concat.{flat_map-append}
 use Rattle.std.proofs.lemmas.List.Elements.{filter-append}

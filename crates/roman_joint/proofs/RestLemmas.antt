@@ -1,9 +1,6 @@
 -- The seats of a band's own, and the seats that may rest.
-use Rattle.std.proofs.Common.{◌≡◌, ℕ, ◌<◌, ◌≤◌, Bool, true, false, not, ◌&&◌, ◌||◌, ltb, length, IsTrue, ap, ap₂, ◌∙◌, sym, arith}
-use Rattle.std.proofs.lemmas.Bool.{and_parts, or_right}
-use Rattle.roman_model.proofs.CallerLemmas.{all_below_at, all_below_from}
-use Rattle.roman_joint.proofs.Common.{both_ways, lt-ltb, le-ltb, nat_tests, length-map, low_of-le, row_sizes, length_rows, same_test, by_test, all_below, Sys, Seat, sizes_of, low_in, mid_in}
-use Rattle.roman_joint.specs.Own.{is_own}
+use Rattle.roman_joint.proofs.Common.{◌≡◌, ℕ, ◌<◌, ◌≤◌, Bool, true, false, not, ◌&&◌, ◌||◌, ltb, length, IsTrue, ap, ap₂, ◌∙◌, sym, arith, and_parts, all_below_at, all_below_from, both_ways, lt-ltb, le-ltb, nat_tests, length-map, low_of-le, length_rows, row_sizes, same_test, by_test, all_below, Sys, Seat, sizes_of, low_in, mid_in, is_own}
+use Rattle.std.proofs.lemmas.Bool.{or_right}
 use Rattle.roman_joint.proofs.BandLemmas.{mid_low}
 
 pub own_is : (s : Sys) (k : ℕ) → mid_in s ≤ k → k < low_in s → is_own s k ≡ true

@@ -1,6 +1,5 @@
 -- The current number of a walk, and how it changes with a state.
-use Rattle.std.proofs.Common.{◌≡◌, ℕ, zero, suc, ◌+◌, ◌-◌, ◌*◌, ◌<◌, ◌≤◌, List, [], ◌∷◌, Some, map, length, slice_get, slice_index, slice_set, refl, sym, ap, ◌∙◌, subst, arith}
-use Rattle.roman_joint.proofs.Common.{mul-le-mul_left, product_of, Sys, Seat, Pair, IsPair, sizes_of, count, number, pair_at, states_number, numbers_are_pairs, IsPairOf-from, number_below, length-map, stride_of, env_stride_of, target_stride_of, Walk, NamedSys, system_of, IsNamedSys, goal_of, IsWalk}
+use Rattle.roman_joint.proofs.Common.{◌≡◌, ℕ, zero, suc, ◌+◌, ◌-◌, ◌*◌, ◌<◌, ◌≤◌, List, [], ◌∷◌, Some, map, length, slice_get, slice_index, slice_set, refl, sym, ap, ◌∙◌, subst, arith, mul-le-mul_left, product_of, Sys, Seat, Pair, IsPair, sizes_of, count, number, pair_at, states_number, numbers_are_pairs, IsPairOf-from, number_below, length-map, stride_of, env_stride_of, target_stride_of, Walk, NamedSys, system_of, IsNamedSys, goal_of, IsWalk}
 use Rattle.roman_model.specs.declared.limits.TheConstants.{MAX_CELLS}
 use Rattle.roman_radix.proofs.CallerLemmas.{Replaced, replaced}
 use Rattle.roman_radix.specs.Radix.{with_part}

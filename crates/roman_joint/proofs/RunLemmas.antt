@@ -1,6 +1,5 @@
 -- Places of words in blocks.
-use Rattle.std.proofs.Common.{◌≡◌, ℕ, ◌+◌, ◌*◌, ◌/◌, ◌%◌, ◌<◌, ◌≤◌, ap, ◌∙◌, arith}
-use Rattle.roman_joint.proofs.Common.{div-mul-add, mod-mul-add, div-add-mod', mul-le, mul-add-lt, mod_below, row_least, row_below}
+use Rattle.roman_joint.proofs.Common.{◌≡◌, ℕ, ◌+◌, ◌*◌, ◌/◌, ◌%◌, ◌<◌, ◌≤◌, ap, ◌∙◌, arith, div-mul-add, mod-mul-add, div-add-mod', mul-le, mul-add-lt, mod_below, row_least, row_below}
 
 -- the state at a place of a block
 pub state_at : (t b size stride j : ℕ) → b < size → j < stride → (t * (size * stride) + b * stride + j) / stride % size ≡ b

@@ -1,6 +1,5 @@
 -- The system after a service is frozen, dropped or added.
-use Rattle.std.proofs.Common.{◌≡◌, ℕ, zero, suc, ◌*◌, ◌/◌, ◌<◌, ◌≤◌, ◌↔◌, Bool, true, false, if◌then◌else◌, List, [], ◌∷◌, ◌++◌, Some, slice_get, slice_index, get_or, map, length, take, drop, refl, sym, ap, ap₂, ◌∙◌, subst, arith}
-use Rattle.roman_joint.proofs.Common.{AllByRecursion, remove, set, mul-le-mul_left, mul-le-mul_right, le-div_iff_mul-le, map_push, map-append, length-map, All-from_recursion, IsIn, HasNoRepeats, Sys, IsSys, IsBeh, Join, Die, after, Sizes, sizes_of, count, MAX_SERVICES, seat_in, NamedBeh, NamedSys, beh_at, seat_of, system_of, cells, IsNamedSys, with_frozen, HasSameParts}
+use Rattle.roman_joint.proofs.Common.{◌≡◌, ℕ, zero, suc, ◌*◌, ◌/◌, ◌<◌, ◌≤◌, ◌↔◌, Bool, true, false, if◌then◌else◌, List, [], ◌∷◌, ◌++◌, Some, slice_get, slice_index, get_or, map, length, take, drop, refl, sym, ap, ap₂, ◌∙◌, subst, arith, AllByRecursion, remove, set, mul-le-mul_left, mul-le-mul_right, le-div_iff_mul-le, map_push, map-append, length-map, All-from_recursion, IsIn, HasNoRepeats, Sys, IsSys, IsBeh, Join, Die, after, Sizes, sizes_of, count, MAX_SERVICES, seat_in, NamedBeh, NamedSys, beh_at, seat_of, system_of, cells, IsNamedSys, with_frozen, HasSameParts}
 use Rattle.std.proofs.lemmas.List.{take-map, drop-map}
 use Rattle.std.proofs.lemmas.List.Elements.{recursion_from_All}
 use Rattle.roman_model.specs.System as model

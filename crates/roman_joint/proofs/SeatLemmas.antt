@@ -1,6 +1,5 @@
 -- Services and their behaviours, read one after another.
-use Rattle.std.proofs.Common.{◌≡◌, ℕ, zero, suc, ◌+◌, ◌/◌, ◌%◌, ◌^◌, ◌<◌, ◌≤◌, List, [], ◌∷◌, ◌++◌, Some, All, slice_get, get_or, map, length, take, drop, refl, sym, ap, ap₂, ◌∙◌, subst, inl, inr, arith, ◌==◌, slice_index}
-use Rattle.roman_joint.proofs.Common.{AllByRecursion, option_map, slice_get-map, slice_get-get_or, slice_get_within, get_or_from_slice_get, set, take_more, map_push, length-set, length-map, div_below, mod_below, All-from_recursion, IsIn, product_of, is_empty, Env, IsBeh, IsEnv, IsSys, sizes_of, Sizes, NamedEnv, NamedBeh, AreSizes, product_positive, product_more, AreSizes-drop, AreSizes-index, beh_at, seat_of, IsOverEnv, NamedSys, system_of, IsNamedSys, ne_eqb, MAX_SERVICES}
+use Rattle.roman_joint.proofs.Common.{◌≡◌, ℕ, zero, suc, ◌+◌, ◌/◌, ◌%◌, ◌^◌, ◌<◌, ◌≤◌, List, [], ◌∷◌, ◌++◌, Some, All, slice_get, get_or, map, length, take, drop, refl, sym, ap, ap₂, ◌∙◌, subst, inl, inr, arith, ◌==◌, slice_index, AllByRecursion, option_map, slice_get-map, slice_get-get_or, slice_get_within, get_or_from_slice_get, set, take_more, map_push, length-set, length-map, div_below, mod_below, All-from_recursion, IsIn, product_of, is_empty, Env, IsBeh, IsEnv, IsSys, sizes_of, Sizes, NamedEnv, NamedBeh, AreSizes, product_positive, product_more, AreSizes-drop, AreSizes-index, beh_at, seat_of, IsOverEnv, NamedSys, system_of, IsNamedSys, ne_eqb, MAX_SERVICES}
 use Rattle.std.proofs.lemmas.List.{take_more_set, get_or-map}
 use Rattle.roman_model.specs.System as model
 use Rattle.roman_model.specs.System.{IsDeterministic}

@@ -1,6 +1,6 @@
 -- A joint's fields in terms of the system that it holds.
-use Rattle.std.proofs.Common.{◌≡◌, ℕ, ◌≤◌, not, ◌&&◌, length, vec_len, vec_capacity, refl, sym, ap, ◌∙◌, subst, arith}
-use Rattle.roman_joint.proofs.Common.{length-map, sizes_of, pair_at, MAX_SERVICES, NamedSys, system_of, seat_of, IsNamedSys, named_sys_in, AreTargetViews, AreRowsOf, HoldsMoves, IsKept, Moves, Env, Beh, Sys, env_next, beh_next, is_allowed, is_empty}
+use Rattle.roman_joint.proofs.Common.{◌≡◌, ℕ, ◌≤◌, not, ◌&&◌, length, vec_capacity, refl, sym, ap, ◌∙◌, subst, arith, length-map, sizes_of, pair_at, MAX_SERVICES, NamedSys, system_of, seat_of, IsNamedSys, named_sys_in, AreTargetViews, AreRowsOf, HoldsMoves, IsKept, Moves, Env, Beh, Sys, env_next, beh_next, is_allowed, is_empty}
+use Rattle.std.proofs.Common.{vec_len}
 use Rattle.roman_joint.specs.declared.joint.Joint.TheInside.{Inside}
 use Rattle.roman_joint.specs.Layout.{IsJoint}
 use Rattle.roman_joint.specs.Moves.{HasRoom}

@@ -1,6 +1,5 @@
 -- Target views and the system's actions.
-use Rattle.std.proofs.Common.{◌≡◌, ℕ, ◌+◌, ◌/◌, ◌%◌, ◌<◌, ◌≤◌, IsFalse, List, [], ◌∷◌, ◌++◌, length, take, get_or, slice_index_or, inl, inr, refl, sym, ap, ◌∙◌, subst, arith}
-use Rattle.roman_joint.proofs.Common.{bit_at, flat_map, get_or-append_seam, cases_eq, cases_lt, take_more, get_or_append_left, IsIn, Env, Beh, Sys, Pair, IsSys, env_prev, sizes_of, pair_at, numbered, by_test, numbered_is_arena, TargetView, from_target, from_env, from_action, bit_of, HasBits, ArePermitted, AreLeading, IsTargetView}
+use Rattle.roman_joint.proofs.Common.{◌≡◌, ℕ, ◌+◌, ◌/◌, ◌%◌, ◌<◌, ◌≤◌, IsFalse, List, [], ◌∷◌, ◌++◌, length, take, get_or, slice_index_or, inl, inr, refl, sym, ap, ◌∙◌, subst, arith, bit_at, flat_map, get_or-append_seam, cases_eq, cases_lt, take_more, get_or_append_left, IsIn, Env, Beh, Sys, Pair, IsSys, env_prev, sizes_of, pair_at, numbered, by_test, numbered_is_arena, TargetView, from_target, from_env, from_action, bit_of, HasBits, ArePermitted, AreLeading, IsTargetView}
 use Rattle.roman_model.proofs.CallerLemmas.{from_push}
 
 -- one more number at which the list is empty

@@ -1,6 +1,5 @@
 -- One step of a walk backwards: the delegations that are left, and the new position.
-use Rattle.std.proofs.Common.{◌≡◌, ◌⊎◌, ℕ, zero, suc, ◌+◌, ◌<◌, ◌≤◌, Bool, true, false, cond, List, [], ◌∷◌, ◌++◌, length, take, drop, get_or, Option, None, Some, slice_get, slice_index, slice_set, inl, inr, refl, sym, ap, ap₂, ◌∙◌, subst, arith}
-use Rattle.roman_joint.proofs.Common.{bit_at, flat_map, cases_lt, drop_more, drop_all, append_assoc, length-map, length-filter, count_by-le-length, HoldsEachOnce, below, Env, Beh, Sys, Seat, Pair, IsSys, IsPair, IsEnv, IsBeh, has_triple, has_move, env_prev, beh_prev, Delegation, back, sizes_of, count, number, pair_at, numbered, length-below, numbers_are_pairs, seat_in, Walk, seat_prev, from_states, from_seat, from_target, from_env, from_action, from_all, goal_of, IsWalk, states_before, left}
+use Rattle.roman_joint.proofs.Common.{◌≡◌, ◌⊎◌, ℕ, zero, suc, ◌+◌, ◌<◌, ◌≤◌, Bool, true, false, cond, List, [], ◌∷◌, ◌++◌, length, take, drop, get_or, Option, None, Some, slice_get, slice_index, slice_set, inl, inr, refl, sym, ap, ap₂, ◌∙◌, subst, arith, bit_at, flat_map, cases_lt, drop_more, drop_all, append_assoc, length-map, length-filter, count_by-le-length, HoldsEachOnce, below, Env, Beh, Sys, Seat, Pair, IsSys, IsPair, IsEnv, IsBeh, has_triple, has_move, env_prev, beh_prev, Delegation, back, sizes_of, count, number, pair_at, numbered, length-below, numbers_are_pairs, seat_in, Walk, seat_prev, from_states, from_seat, from_target, from_env, from_action, from_all, goal_of, IsWalk, states_before, left}
 use Rattle.std.proofs.lemmas.List.{get_or-take}
 use Rattle.roman_model.proofs.CallerLemmas.{get_or-below}
 use Rattle.roman_joint.proofs.BackwardLemmas.{found_backwards}

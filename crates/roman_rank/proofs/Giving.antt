@@ -1,20 +1,19 @@
 -- The levels of a list, assigned to its nodes.
-use Rattle.std.proofs.Common.{◌≡◌, ◌≢◌, ℕ, zero, suc, ◌+◌, ◌-◌, ◌^◌, ◌<◌, ◌≤◌, ◌==◌, true, List, [], ◌∷◌, ◌++◌, length, take, set, get_or, slice_get, slice_index, Some, IsTrue, IsFalse, inl, inr, refl, sym, ap, ◌∙◌, subst, arith, add-one}
-use Rattle.std.specs.Prelude.{min, max}
+use Rattle.roman_rank.proofs.Common.{◌≡◌, ◌≢◌, ℕ, zero, suc, ◌+◌, ◌-◌, ◌^◌, ◌<◌, ◌≤◌, ◌==◌, true, List, [], ◌∷◌, ◌++◌, length, take, get_or, slice_index, Some, IsTrue, IsFalse, inl, inr, refl, sym, ap, ◌∙◌, subst, arith, add-one, max, take-length, both_ways, eqb-true, eq-eqb, cases_eq, cases_lt, get_or_past, Arena, loses, by_test, last_is_steady, IsNumbered, numbered_arena, in_nodes, has_entry, IsRank, AreRanks, AreRanksBelow, GivesLevel, HoldsAllLost}
+use Rattle.std.proofs.Common.{set, slice_get}
+use Rattle.std.specs.Prelude.{min}
 use Rattle.std.specs.List.{IsDistinct}
-use Rattle.std.proofs.Math.Seq.{take-length, take-append_seam}
-use Rattle.std.proofs.lemmas.Bool.{both_ways, or_cases, or_left, or_right, eqb-true, eq-eqb, false≢true, cases_eq, cases_lt}
-use Rattle.std.proofs.lemmas.List.{get_or-map, get_or-set_same, get_or-set_other, get_or_past}
+use Rattle.std.proofs.Math.Seq.{take-append_seam}
+use Rattle.std.proofs.lemmas.Bool.{or_cases, or_left, or_right, false≢true}
+use Rattle.std.proofs.lemmas.List.{get_or-map, get_or-set_same, get_or-set_other}
 use Rattle.std.proofs.lemmas.Option.{get_or_from_slice_get, slice_get_within}
 use Rattle.std.proofs.lemmas.Map.Keys.{apart_from_distinct}
-use Rattle.roman_model.specs.Arena.{Arena, Entry, is_listed, loses}
-use Rattle.roman_model.proofs.CallerLemmas.{by_test, loses_down, last_is_steady}
-use Rattle.roman_rules.specs.Numbered.{IsNumbered}
-use Rattle.roman_rules.proofs.CallerLemmas.{numbered_arena, in_nodes}
-use Rattle.roman_order.specs.Board.{nodes_of, has_entry}
+use Rattle.roman_model.specs.Arena.{Entry, is_listed}
+use Rattle.roman_model.proofs.CallerLemmas.{loses_down}
+use Rattle.roman_order.specs.Board.{nodes_of}
 use Rattle.roman_relation.specs.Settled.{AreLevels}
 use Rattle.roman_relation.proofs.CallerLemmas.{listed_is}
-use Rattle.roman_rank.specs.Ranking.{IsRank, AreRanks, loses_before, AreRanksBelow, GivesLevel, HoldsAllLost}
+use Rattle.roman_rank.specs.Ranking.{loses_before}
 
 -- ---- places in a list
 

@@ -1,3 +1,4 @@
+pub mod Common
 pub mod Giving
 pub mod Tallies
 pub mod Telling

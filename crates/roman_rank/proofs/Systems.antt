@@ -1,21 +1,13 @@
 -- Facts about a complete relation for ranking its pairs.
-use Rattle.std.proofs.Common.{◌≡◌, ℕ, ◌-◌, ◌^◌, ◌<◌, ◌≤◌, true, length, IsFalse, inl, inr, sym, ◌∙◌, subst, arith}
+use Rattle.roman_rank.proofs.Common.{◌≡◌, ℕ, ◌-◌, ◌^◌, ◌<◌, ◌≤◌, true, length, IsFalse, inl, inr, sym, ◌∙◌, subst, arith, not_from_false, Arena, sizes_of, count, pair_at, is_related, by_test, length-below, lost_unrelated, related_great, numbers_are_pairs, numbered_loses, loses_up, last_is_steady, system_of, Board, pairs_of, has_entry, arena_of, IsNumbered, numbered_arena, in_nodes, cases_lt, HoldsAllLost}
 use Rattle.std.proofs.Math.Nat.{mul-le-mul_left}
-use Rattle.std.proofs.lemmas.Bool.{not_from_false}
-use Rattle.roman_model.specs.Arena.{Arena}
-use Rattle.roman_model.specs.Numbers.{sizes_of, count, pair_at}
-use Rattle.roman_model.specs.Offers.{is_related}
-use Rattle.roman_model.proofs.CallerLemmas.{by_test, length-below, lost_unrelated, related_great, numbers_are_pairs, numbered_listed, numbered_loses, settled_exact, loses_up, last_is_steady}
-use Rattle.roman_joint.specs.NamedSys.{NamedSys, system_of, IsNamedSys}
-use Rattle.roman_order.specs.Board.{Board, pairs_of, has_entry}
+use Rattle.roman_model.proofs.CallerLemmas.{numbered_listed, settled_exact}
+use Rattle.roman_joint.specs.NamedSys.{NamedSys, IsNamedSys}
 use Rattle.roman_relation.specs.Shaped.{IsShaped}
 use Rattle.roman_relation.specs.Settled.{IsSettled}
-use Rattle.roman_relation.specs.Greatest.{arena_of, row_lanes, HasCompleteList}
+use Rattle.roman_relation.specs.Greatest.{row_lanes, HasCompleteList}
 use Rattle.roman_relation.proofs.CallerLemmas.{listed_numbers}
-use Rattle.roman_rules.specs.Numbered.{IsNumbered}
-use Rattle.roman_rules.proofs.CallerLemmas.{numbered_arena, in_nodes, from_nodes}
-use Rattle.std.proofs.lemmas.Bool.{cases_lt}
-use Rattle.roman_rank.specs.Ranking.{HoldsAllLost}
+use Rattle.roman_rules.proofs.CallerLemmas.{from_nodes}
 
 -- a joint has far fewer pairs than a number of 32 bits has values
 pub few_pairs : (n : NamedSys) → IsNamedSys n → length (arena_of n).nodes < 2 ^ 32 - 1

@@ -1,23 +1,23 @@
 -- What a table of depths states about its system.
-use Rattle.std.proofs.Common.{◌≡◌, ◌≢◌, ℕ, zero, suc, ◌+◌, ◌-◌, ◌^◌, ◌<◌, ◌≤◌, ◌==◌, ◌⊎◌, ◌↔◌, not, cond, List, [], ◌++◌, length, drop, filter, get_or, slice_index, flat_map, Option, None, Some, Result, IsTrue, IsFalse, inl, inr, refl, sym, ap, ap₂, ◌∙◌, subst, arith, append_assoc, append-nil, drop-cons, add-one}
-use Rattle.std.specs.Prelude.{count_by, IfSome}
-use Rattle.std.proofs.lemmas.Bool.{both_ways, cases_lt, cases_order, cond-true, cond-false, eqb-true, eq-eqb, ne_eqb, and_from, and_parts, not-true, not_from_false}
+use Rattle.roman_rank.proofs.Common.{◌≡◌, ◌≢◌, ℕ, zero, suc, ◌+◌, ◌-◌, ◌^◌, ◌<◌, ◌≤◌, ◌==◌, cond, List, [], ◌++◌, length, drop, get_or, slice_index, None, Some, IsTrue, IsFalse, inl, inr, refl, sym, ap, ◌∙◌, subst, arith, add-one, count_by, both_ways, cases_lt, cond-true, cond-false, eqb-true, eq-eqb, ne_eqb, not_from_false, get_or_past, below, loses, sizes_of, count, pair_at, is_related, by_test, loses_up, lost_unrelated, related_great, numbers_are_pairs, numbered_loses, IsGreatest, IsRanking, IsRank, AreRanks, level_lines}
+use Rattle.std.proofs.Common.{◌⊎◌, ◌↔◌, not, filter, flat_map, Option, Result, ap₂, append_assoc, append-nil, drop-cons}
+use Rattle.std.specs.Prelude.{IfSome}
+use Rattle.std.proofs.lemmas.Bool.{cases_order, and_from, and_parts, not-true}
 use Rattle.std.proofs.Math.Seq.{drop-length}
-use Rattle.std.proofs.lemmas.List.{get_or_past, drop_all}
+use Rattle.std.proofs.lemmas.List.{drop_all}
 use Rattle.std.proofs.lemmas.List.Sums.{length-filter}
 use Rattle.std.proofs.lemmas.Option.{none-some}
 use Rattle.roman_io.specs.Sink.{Puts}
-use Rattle.roman_model.specs.Lists.{below, all_below}
+use Rattle.roman_model.specs.Lists.{all_below}
 use Rattle.roman_model.specs.System.{Sys, Pair, IsSys, IsPair}
 use Rattle.roman_model.specs.SystemArena.{pairs, arena}
-use Rattle.roman_model.specs.Arena.{loses}
 use Rattle.roman_model.specs.Composition.{Great}
-use Rattle.roman_model.specs.Numbers.{sizes_of, count, number, pair_at, numbered}
-use Rattle.roman_model.specs.Offers.{is_related, related_count}
-use Rattle.roman_model.proofs.CallerLemmas.{by_test, same_test, in_filter, filter_in, all_below_at, all_below_from, HasNoRepeats-filter, loses_up, depth_won, depth_least, in_pairs, from_pairs, pairs_once, outcome_pair, lost_unrelated, related_great, great_related, numbers_are_pairs, numbered_loses, length-pairs, sum_over_pairs, flat_map_row}
-use Rattle.roman_rank.specs.Depths.{IsLeast, IsDepth, has_depth, depth_count, IsGreatest, IsDeepest, HoldsOut, IsShortest}
-use Rattle.roman_rank.specs.Ranking.{depth_in, AreDepths, IsRanking, IsRank, AreRanks}
-use Rattle.roman_rank.specs.DepthText.{head_lines, level_line, level_lines, last_lines, depths_to, AreRelated, TellsDepths, PutsDepths}
+use Rattle.roman_model.specs.Numbers.{number, numbered}
+use Rattle.roman_model.specs.Offers.{related_count}
+use Rattle.roman_model.proofs.CallerLemmas.{same_test, in_filter, filter_in, all_below_at, all_below_from, HasNoRepeats-filter, depth_won, depth_least, in_pairs, from_pairs, pairs_once, outcome_pair, great_related, length-pairs, sum_over_pairs, flat_map_row}
+use Rattle.roman_rank.specs.Depths.{IsLeast, IsDepth, has_depth, depth_count, IsDeepest, HoldsOut, IsShortest}
+use Rattle.roman_rank.specs.Ranking.{depth_in, AreDepths}
+use Rattle.roman_rank.specs.DepthText.{head_lines, level_line, last_lines, depths_to, AreRelated, TellsDepths, PutsDepths}
 use Rattle.roman_rank.proofs.Tallies.{count_places, count_there, count_place}
 
 -- ---- the depth of a pair

@@ -1,5 +1,5 @@
 -- The bands that were noted in a round.
-use Rattle.roman_relation.proofs.Common.{◌≡◌, ℕ, zero, suc, ◌+◌, ◌*◌, ◌/◌, ◌<◌, ◌≤◌, Bool, true, false, cond, ◌||◌, ◌==◌, List, [], ◌∷◌, ◌++◌, length, take, drop, IsTrue, IsFalse, inl, inr, refl, sym, ap, ◌∙◌, subst, arith, take-append-drop, append_assoc, sum_by, take-append_seam, take-length, cases_eq, both_ways, or_right, or_parts, false_from_ne_true, not_from_true, eq-eqb, ne_eqb, take-take, list_any-append, sum_by_push, IsIn, below, Arena, Entry, is_listed, IsOrder, by_test, sum_by_same, from_below, any_from, from_map, in_map, listed_append, is_on, Board, as_entry, set_lanes, IsEvent, entries_at, Event, in_lanes, AreGoneBack, moves_to_all, on_at, length-take-le}
+use Rattle.roman_relation.proofs.Common.{◌≡◌, ℕ, zero, suc, ◌+◌, ◌*◌, ◌/◌, ◌<◌, ◌≤◌, Bool, true, false, cond, ◌||◌, ◌==◌, List, [], ◌∷◌, ◌++◌, length, take, drop, IsTrue, IsFalse, inl, inr, refl, sym, ap, ◌∙◌, subst, arith, take-append-drop, append_assoc, sum_by, take-append_seam, take-length, cases_eq, both_ways, or_right, or_parts, false_from_ne_true, not_from_true, eq-eqb, ne_eqb, take-take, length-take-le, list_any-append, sum_by_push, IsIn, below, Arena, Entry, is_listed, IsOrder, by_test, sum_by_same, from_below, any_from, from_map, in_map, listed_append, is_on, Board, as_entry, set_lanes, IsEvent, entries_at, Event, in_lanes, AreGoneBack, moves_to_all, on_at}
 use Rattle.std.proofs.Math.Bool.{or-false}
 use Rattle.std.proofs.Math.Seq.{take-append-add, drop-append_seam}
 use Rattle.roman_model.proofs.CallerLemmas.{none_from, split_at, order_middle}

@@ -1,6 +1,6 @@
 -- What follows from the step of an answer.
-use Rattle.std.proofs.Common.{◌≡◌, ℕ, List, [], ◌++◌, Option, Result, Ok, Err, refl, sym, ap, ◌∙◌, subst, arith}
-use Rattle.roman_session.proofs.Common.{Puts, Puts-after_Gathered, reply_text, Reply, Situation, IsSituation, asked, Does, Asks, offer_text, Phase, Offered}
+use Rattle.roman_session.proofs.Common.{◌≡◌, ℕ, List, [], ◌++◌, Option, Result, Ok, Err, refl, sym, ap, ◌∙◌, subst, arith, Puts, Puts-after_Gathered, reply_text, Reply, Situation, IsSituation, asked, Does, offer_text, Phase, Offered}
+use Rattle.roman_session.specs.Steps.{Asks}
 use Rattle.roman_text.specs.Pages.{Gathered, Gathers}
 use Rattle.roman_text.proofs.CallerLemmas.{Gathered-put}
 use Rattle.roman_text.specs.Shapes.{LineShape, ask, shape_of}
@@ -40,11 +40,6 @@ answered_whole old new line before mid after held holds x result empty a puts = 
   step = a.step;
   puts = subst (λ (bs : List ℕ). Puts before after bs result) (ap (λ (bs : List ℕ). bs ++ a.text) empty) (Puts-after_Gathered before mid after holds (held ++ a.text) result a.gathers puts);
 }
-
--- a reply that wasn't pushed whole
-pub answered_prefix : {T E T' E' : Type 0} (old new : Situation) (line : List ℕ) (before after : Option (List ℕ)) (held holds : List ℕ) (e : E) (e' : E') → held ≡ [] → AnsweredOn {T = T} {E = E} old line new before after held holds (Err e) →
-    Answered {T = T'} {E = E'} old line new before after (Err e')
-answered_prefix old new line before after held holds e e' empty a = grind arith
 
 -- ---- what the reply says
 

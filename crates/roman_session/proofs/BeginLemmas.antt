@@ -1,6 +1,5 @@
 -- A session begins in the starting states of its library.
-use Rattle.std.proofs.Common.{◌≡◌, ℕ, ◌≤◌, length, sym, subst, arith}
-use Rattle.roman_session.proofs.Common.{Pair, IsPair, MAX_BEHAVIOURS, NamedSys, system_of, IsNamedSys, Relation, situation_in, IsSession, Idle, Inside}
+use Rattle.roman_session.proofs.Common.{◌≡◌, ℕ, ◌≤◌, length, sym, subst, arith, Pair, IsPair, MAX_BEHAVIOURS, NamedSys, system_of, IsNamedSys, Relation, situation_in, IsSession, Idle, Inside}
 use Rattle.roman_relation.specs.Greatest.{IsRelation}
 use Rattle.roman_library.specs.Library.{PlainLibrary}
 use Rattle.roman_start.specs.Starts.{start_pair_of}

@@ -1,6 +1,6 @@
 -- A session after its services changed.
-use Rattle.std.proofs.Common.{◌≡◌, ℕ, ◌<◌, ◌≤◌, ◌+◌, Bool, List, [], ◌∷◌, ◌++◌, true, false, Some, IsTrue, IsFalse, not, map, length, take, drop, slice_get, Vec, Global, vec_len, vec_capacity, inl, inr, refl, sym, ap, ap₂, ◌∙◌, subst, arith, take-append-drop, length-drop}
-use Rattle.roman_session.proofs.Common.{length-map, get_or_from_slice_get, Sys, Pair, IsPair, is_ready, arena, Join, Sizes, sizes_of, number, MAX_BEHAVIOURS, MAX_SERVICES, there_is, NamedSys, IsNamedSys, Relation, reply_text, Reply, Situation, present_system, IsPhase, seat_at, with_room, CanJoin, Joining, states_long, cases_lt, freezing, thawing, dying, Does, Changes, situation_in, IsSession, Phase, Idle, Offered, Inside}
+use Rattle.roman_session.proofs.Common.{◌≡◌, ℕ, ◌<◌, ◌≤◌, ◌+◌, Bool, List, [], ◌∷◌, ◌++◌, true, false, Some, IsTrue, IsFalse, not, map, length, drop, slice_get, vec_capacity, refl, sym, ap, ap₂, ◌∙◌, subst, arith, length-map, get_or_from_slice_get, Sys, Pair, IsPair, is_ready, arena, Join, Sizes, sizes_of, number, MAX_BEHAVIOURS, MAX_SERVICES, there_is, NamedSys, IsNamedSys, Relation, reply_text, Reply, Situation, present_system, IsPhase, seat_at, with_room, CanJoin, Joining, states_long, cases_lt, freezing, thawing, dying, Does, Changes, situation_in, IsSession, Phase, Idle, Offered, Inside}
+use Rattle.std.proofs.Common.{take, Vec, Global, vec_len, inl, inr, take-append-drop, length-drop}
 use Rattle.std.proofs.lemmas.List.{length-take}
 use Rattle.std.specs.List.{remove}
 use Rattle.roman_model.specs.System.{Seat}

@@ -1,7 +1,7 @@
 -- Places of names.
-use Rattle.std.proofs.Common.{◌≡◌, ℕ, ◌<◌, ◌≤◌, Bool, true, false, List, [], Some, None, Result, Err, is_ok, map, length, get_or, ap, ◌∙◌, subst, arith}
+use Rattle.roman_session.proofs.Common.{◌≡◌, ℕ, ◌<◌, ◌≤◌, Bool, true, false, List, [], Some, Result, Err, map, length, get_or, ap, ◌∙◌, subst, arith, bytes_eq, both_ways, cases_lt, get_or_from_slice_get, length-map, IsIn, Reply, Seat, seat_name, named}
+use Rattle.std.proofs.Common.{None, is_ok}
 use Rattle.std.specs.List.{position, position_or_len}
-use Rattle.roman_session.proofs.Common.{bytes_eq, both_ways, cases_lt, get_or_from_slice_get, length-map, IsIn, Reply, Seat, seat_name, named}
 use Rattle.std.proofs.lemmas.List.Quantifiers.{position-Some}
 use Rattle.std.proofs.lemmas.Option.{slice_get-get_or}
 use Rattle.std.proofs.lemmas.List.Elements.{Contains-get_or}

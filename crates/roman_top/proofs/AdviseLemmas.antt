@@ -1,6 +1,5 @@
 -- Writing advice by accepted costs as part of a run.
-use Rattle.std.proofs.Common.{◌≡◌, ◌≢◌, ◌↔◌, ℕ, ◌*◌, ◌<◌, ◌≤◌, inl, inr, Bool, IsTrue, IsFalse, List, Option, Some, IfSome, Result, Ok, Err, refl, sym, ap, ◌∙◌, subst}
-use Rattle.roman_top.proofs.Common.{cond-true, cond-false, lt-ltb, cases_lt, Texts, Puts, Sys, Pair, IsSys, sizes_of, count, pair_at, is_related, related_count, by_test, related_great, great_related, numbers_are_pairs, PartError, NamedSys, system_of, PlainLibrary, parts_of, start_pair_of, IsSeated, Seated, Advising, Unrelated, TooMany, Told, advice_text, advised_by, Listed, SaysAdvice, OnCosts, GivesAdvice, SinkCause, Advise, On, IsAnswered, Accepts, Opens, Finishes, EndsBare, IsSpoken, Writes, WritesText, document_opening, OnOpening, ServedBeside, outputs, Status}
+use Rattle.roman_top.proofs.Common.{◌≡◌, ◌≢◌, ◌↔◌, ℕ, ◌*◌, ◌<◌, ◌≤◌, inl, inr, Bool, IsTrue, IsFalse, List, Option, Some, IfSome, Result, Ok, Err, refl, sym, ap, ◌∙◌, subst, cond-true, cond-false, lt-ltb, cases_lt, Texts, Puts, Sys, Pair, IsSys, sizes_of, count, pair_at, is_related, related_count, by_test, related_great, great_related, numbers_are_pairs, PartError, NamedSys, system_of, PlainLibrary, parts_of, start_pair_of, IsSeated, Seated, Advising, Unrelated, TooMany, Told, advice_text, advised_by, Listed, SaysAdvice, OnCosts, GivesAdvice, SinkCause, Advise, On, IsAnswered, Accepts, Opens, Finishes, EndsBare, IsSpoken, Writes, WritesText, document_opening, OnOpening, ServedBeside, outputs, Status}
 use Rattle.std.proofs.lemmas.Bool.{le-ltb}
 use Rattle.roman_model.specs.Composition.{Great}
 use Rattle.roman_model.proofs.CallerLemmas.{same_test}

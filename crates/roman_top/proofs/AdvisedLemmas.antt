@@ -1,6 +1,5 @@
 -- The text of `advise` is right by the greatest ND-simulation and by plans.
-use Rattle.std.proofs.Common.{ℕ, List, Result, filter, sym, subst}
-use Rattle.roman_top.proofs.Common.{Texts, Pair, IsSys, IsPair, pairs, is_related, by_test, related_great, great_related, PartError, NamedSys, system_of, PlainLibrary, parts_of, start_pair_of, Advising, advised_by, Listed, SaysAdvice, OnCosts, GivesAdvice, Status}
+use Rattle.roman_top.proofs.Common.{ℕ, List, Result, filter, sym, subst, Texts, Pair, IsSys, IsPair, pairs, is_related, by_test, related_great, great_related, PartError, NamedSys, system_of, PlainLibrary, parts_of, start_pair_of, Advising, advised_by, Listed, SaysAdvice, OnCosts, GivesAdvice, Status}
 use Rattle.roman_cost.specs.Laws.{TellsLeast}
 use Rattle.roman_cost.specs.Tables.{seat_costs}
 use Rattle.roman_cost.proofs.CallerLemmas.{advice_least}

@@ -1,6 +1,5 @@
 -- Writing certificates as part of a run.
-use Rattle.std.proofs.Common.{◌≡◌, ℕ, List, Option, Result, refl, subst}
-use Rattle.roman_top.proofs.Common.{Puts, sizes_of, count, cert_text, NamedSys, system_of, PlainLibrary, IsSeated, Seated, Finishes, Writes, CertifiesSystem, Status}
+use Rattle.roman_top.proofs.Common.{◌≡◌, ℕ, List, Option, Result, refl, subst, Puts, sizes_of, count, cert_text, NamedSys, system_of, PlainLibrary, IsSeated, Seated, Finishes, Writes, CertifiesSystem, Status}
 use Rattle.roman_order.specs.Board.{Board}
 use Rattle.roman_relation.specs.Greatest.{HasCompleteList}
 use Rattle.roman_top.specs.Run.{Certifies}

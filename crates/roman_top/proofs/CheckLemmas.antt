@@ -1,7 +1,7 @@
 -- The check of a certificate, as part of a run.
-use Rattle.std.proofs.Common.{◌≡◌, ℕ, Bool, List, Option, None, Some, IfSome, IfOk, Result, Ok, Err, refl, sym, ap, ◌∙◌, subst}
+use Rattle.roman_top.proofs.Common.{◌≡◌, ℕ, Bool, List, Option, None, Some, IfSome, Result, Ok, Err, refl, sym, ap, ◌∙◌, subst, Texts, shelf_text, rest_from, sizes_of, number, numbered, TooLong, cert_verdict, NamedSys, system_of, start_pair_of, IsSeated, Seated, verdict_of, fault_of, SinkCause, Check, On, Accepts, Opens, EndsBare, Writes, document_opening, OnOpening, library_system, SaysVerdict, ServedBeside, outputs, greatest_text, rejected_text, Status}
+use Rattle.std.proofs.Common.{IfOk}
 use Rattle.std.specs.Result.{IsErrOf}
-use Rattle.roman_top.proofs.Common.{Texts, shelf_text, rest_from, sizes_of, number, numbered, TooLong, cert_verdict, NamedSys, system_of, start_pair_of, IsSeated, Seated, verdict_of, fault_of, SinkCause, Check, On, Accepts, Opens, EndsBare, Writes, document_opening, OnOpening, library_system, SaysVerdict, ServedBeside, outputs, greatest_text, rejected_text, Status}
 use Rattle.roman_model.specs.Arena.{Arena}
 use Rattle.roman_check.specs.Checks.{HaveVerdict}
 use Rattle.roman_check.specs.declared.verdict.Why.{Why}

@@ -1,6 +1,5 @@
 -- A certificate that `check` accepts lists exactly the pairs that aren't related, and each one that does is accepted.
-use Rattle.std.proofs.Common.{◌≡◌, ℕ, ◌<◌, Bool, not, List, [], ◌∷◌, map, length, IsTrue, filter, inl, inr, refl, sym, ap, ◌∙◌, subst}
-use Rattle.roman_top.proofs.Common.{list_any, both_ways, and_from, or_cases, not-true, lines, IsIn, all_below, is_empty, Sys, Pair, IsSys, IsPair, is_final, all_final, pairs, outcomes, same_pair, is_allowed, is_fine, arena, Entry, is_among, is_listed, is_beaten, is_justified, IsOrderFrom, IsComplete, Verdict, Greatest, Rejected, TooLong, cert_text, cert_verdict, IsWithinCells, GreatestIsComplete, is_related, sizes_of, count, number, pair_at, numbered, entry_at, IsCompleteList, Reason, Final, Act, by_test, any_from, any_true, in_map, from_map, allowed_in, outcome_in, from_outcome, listed_in, in_listed, length-pairs, length-below, numbers_are_pairs, map-map, related_great, great_related, HoldsReason, AreValid, ListsUnrelated, numbered_entry, CertifiesUnrelated, SaysVerdict, greatest_text, Status}
+use Rattle.roman_top.proofs.Common.{◌≡◌, ℕ, ◌<◌, Bool, not, List, [], ◌∷◌, map, length, IsTrue, filter, inl, inr, refl, sym, ap, ◌∙◌, subst, list_any, both_ways, and_from, or_cases, not-true, lines, IsIn, all_below, is_empty, Sys, Pair, IsSys, IsPair, is_final, all_final, pairs, outcomes, same_pair, is_allowed, is_fine, arena, Entry, is_among, is_listed, is_beaten, is_justified, IsOrderFrom, IsComplete, Verdict, Greatest, Rejected, TooLong, cert_text, cert_verdict, IsWithinCells, GreatestIsComplete, is_related, sizes_of, count, number, pair_at, numbered, entry_at, IsCompleteList, Reason, Final, Act, by_test, any_from, any_true, in_map, from_map, allowed_in, outcome_in, from_outcome, listed_in, in_listed, length-pairs, length-below, numbers_are_pairs, map-map, related_great, great_related, HoldsReason, AreValid, ListsUnrelated, numbered_entry, CertifiesUnrelated, SaysVerdict, greatest_text, Status}
 use Rattle.std.specs.List.{filter_map}
 use Rattle.std.proofs.lemmas.Bool.{or_left, or_right, not_from_false}
 use Rattle.roman_model.specs.CompleteLists.{AreEntries}

@@ -1,4 +1,5 @@
 -- The names that several proof pages of this crate cite, passed on from one place. Declares nothing.
+pub use Rattle.std.proofs.Common.{Bool, Err, IfSome, IsFalse, IsTrue, List, MatchBool, None, Ok, Option, Result, Some, [], ap, append_assoc, ap₂, arith, codes, cond, decimal, drop, false, filter, inl, inr, length, ltb-true, map, nat_le, not, refl, slice_get, subst, suc, sym, take, true, zero, ℕ, ◌*◌, ◌++◌, ◌+◌, ◌-◌, ◌<◌, ◌↔◌, ◌∙◌, ◌∷◌, ◌≡◌, ◌≢◌, ◌≤◌}
 pub use Rattle.std.proofs.lemmas.Bool.{and_from, both_ways, cases_lt, cond-false, cond-true, false≢true, lt-ltb, not-true, or_cases}
 pub use Rattle.std.proofs.lemmas.List.{append-nil, length-map}
 pub use Rattle.std.proofs.lemmas.Option.{get_or_from_slice_get, slice_get_within}

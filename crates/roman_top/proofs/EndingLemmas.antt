@@ -1,6 +1,5 @@
 -- How the parts of a run end.
-use Rattle.std.proofs.Common.{◌≡◌, ℕ, ◌<◌, cond, Bool, true, false, IsTrue, IsFalse, MatchBool, List, Option, None, Some, IfSome, Result, Ok, Err, refl, sym, ap, ◌∙◌, subst}
-use Rattle.roman_top.proofs.Common.{false≢true, cond-true, lt-ltb, HasCause, Texts, Puts, cells, library_of, PlainLibrary, Refusal, ShelfCause, SinkCause, WritesText, Writes, EndsBare, TurnsAway, Finishes, IsSpoken, Past, Accepted, opening_of, document_opening, OnOpening, library_system, is_past_limit, limit_line, refusal_line, Status}
+use Rattle.roman_top.proofs.Common.{◌≡◌, ℕ, ◌<◌, cond, Bool, true, false, IsTrue, IsFalse, MatchBool, List, Option, None, Some, IfSome, Result, Ok, Err, refl, sym, ap, ◌∙◌, subst, false≢true, cond-true, lt-ltb, HasCause, Texts, Puts, cells, library_of, PlainLibrary, Refusal, ShelfCause, SinkCause, WritesText, Writes, EndsBare, TurnsAway, Finishes, IsSpoken, Past, Accepted, opening_of, document_opening, OnOpening, library_system, is_past_limit, limit_line, refusal_line, Status}
 use Rattle.std.proofs.lemmas.Bool.{true≢false}
 use Rattle.roman_top.specs.Endings.{ReadsTo, OpensTo}
 use Rattle.roman_top.specs.Opening.{Opening, Refused}

@@ -1,6 +1,6 @@
 -- The text of a session keeps its promise.
-use Rattle.std.proofs.Common.{◌≡◌, ℕ, ◌<◌, Bool, true, false, MatchBool, cond, List, length, take, nat_le, if◌then◌else◌, Option, Some, IsFalse, sym, ap, ◌∙◌, subst, arith, ltb-true}
-use Rattle.roman_top.proofs.Common.{cond-false, Texts, Wrote, GreatestIsComplete, lines, ended_lines, IsIn, IsSys, MAX_SESSION_BYTES, by_test, system_of, cells, PlainLibrary, PlainTargets, Situation, report_text, parts_of, start_pair_of, Answers, prefix_of, is_heard_out, State, start_state, IsState, LinesAreRead, Synth, Run, Command, On, IsFree, MeansTargets, IsTurnOfTargets, Turn, Accepted, Past, document_opening, opening_of, is_past_limit, library_system, Talks, Synthesises, HasRun, Served, ToldFromStart, World, Status}
+use Rattle.roman_top.proofs.Common.{◌≡◌, ℕ, ◌<◌, Bool, true, false, MatchBool, cond, List, length, take, nat_le, Option, Some, IsFalse, sym, ap, ◌∙◌, subst, arith, ltb-true, cond-false, Texts, Wrote, GreatestIsComplete, lines, ended_lines, IsIn, IsSys, MAX_SESSION_BYTES, by_test, system_of, cells, PlainLibrary, PlainTargets, Situation, report_text, parts_of, start_pair_of, Answers, prefix_of, is_heard_out, State, start_state, IsState, LinesAreRead, Synth, Run, Command, On, IsFree, MeansTargets, IsTurnOfTargets, Turn, Accepted, Past, document_opening, opening_of, is_past_limit, library_system, Talks, Synthesises, HasRun, Served, ToldFromStart, World, Status}
+use Rattle.std.proofs.Common.{if◌then◌else◌}
 use Rattle.roman_library.specs.Targets.{NamesTargets}
 use Rattle.roman_library.proofs.CallerLemmas.{targets_combined}
 use Rattle.roman_hearing.specs.Words.{ReportsGreat}

@@ -1,6 +1,5 @@
 -- The session of a made system goes from stage to stage by turns.
-use Rattle.std.proofs.Common.{◌≡◌, ℕ, List, [], ◌∷◌, refl, sym, ap, ◌∙◌, subst}
-use Rattle.roman_top.proofs.Common.{is_related, related_count, sizes_of, count, length-pairs, PlainLibrary, Situation, present_system, shape_of, until_quit, Answers, shown, IsKnownSituation, State, LinesAreRead, made, standing, stages, Passes, Makes, Status}
+use Rattle.roman_top.proofs.Common.{◌≡◌, ℕ, List, [], ◌∷◌, refl, sym, ap, ◌∙◌, subst, is_related, related_count, sizes_of, count, length-pairs, PlainLibrary, Situation, present_system, shape_of, until_quit, Answers, shown, IsKnownSituation, State, LinesAreRead, made, standing, stages, Passes, Makes, Status}
 use Rattle.roman_text.specs.Shapes.{words_of}
 use Rattle.roman_top.specs.HeadlineMake.{TellsStanding, TellsStages, KeepsMade}
 use Rattle.roman_top.specs.Made.{stage_line}

@@ -1,6 +1,5 @@
 -- Opening documents, and how a run ends without one.
-use Rattle.std.proofs.Common.{◌≡◌, ℕ, ◌<◌, List, [], Option, IfSome, Result, Ok, Err, refl, sym, ◌∙◌, subst}
-use Rattle.roman_top.proofs.Common.{HasCause, Rose, Texts, Wrote, Puts, cells, library_of, PlainLibrary, Refusal, Opens, Finishes, library_system, limit_line, refusal_line, outputs, Status}
+use Rattle.roman_top.proofs.Common.{◌≡◌, ℕ, ◌<◌, List, [], Option, IfSome, Result, Ok, Err, refl, sym, ◌∙◌, subst, HasCause, Rose, Texts, Wrote, Puts, cells, library_of, PlainLibrary, Refusal, Opens, Finishes, library_system, limit_line, refusal_line, outputs, Status}
 use Rattle.roman_io.proofs.CallerLemmas.{Wrote-nil}
 use Rattle.roman_top.specs.Endings.{Leaves, OpensLibrary}
 use Rattle.roman_top.specs.declared.status.Status.TheVariants as status

@@ -1,6 +1,5 @@
 -- The lines of `resilience`, pushed one after another.
-use Rattle.std.proofs.Common.{◌≡◌, ℕ, ◌+◌, ◌<◌, ◌≤◌, List, [], ◌∷◌, ◌++◌, map, length, drop, Some, slice_get, codes, decimal, refl, sym, ap, ap₂, ◌∙◌, append_assoc}
-use Rattle.roman_top.proofs.Common.{flat_map, append-nil, below, Pair, outlook, system_without, pair_without, Way, Die, from_place, from_end, NamedSys, system_of, outlook_words, service_names, lines_without, ones, twos, outlook_text}
+use Rattle.roman_top.proofs.Common.{◌≡◌, ℕ, ◌+◌, ◌<◌, ◌≤◌, List, [], ◌∷◌, ◌++◌, map, length, drop, Some, slice_get, codes, decimal, refl, sym, ap, ap₂, ◌∙◌, append_assoc, flat_map, append-nil, below, Pair, outlook, system_without, pair_without, Way, Die, from_place, from_end, NamedSys, system_of, outlook_words, service_names, lines_without, ones, twos, outlook_text}
 use Rattle.std.proofs.lemmas.List.Concat.{flat_map-append}
 use Rattle.roman_model.specs.Without.{Outlook}
 use Rattle.roman_model.specs.declared.way.Way.TheVariants.{Freeze}

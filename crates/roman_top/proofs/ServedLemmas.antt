@@ -1,6 +1,5 @@
 -- What a call does, derived from what its parts do.
-use Rattle.std.proofs.Common.{◌≡◌, ℕ, List, [], Option, None, Some, Result, Ok, Err, inl, refl, sym, subst}
-use Rattle.roman_top.proofs.Common.{HasCause, Texts, shelf_text, Puts, PlainLibrary, InputCause, SinkCause, Job, Run, Command, On, Make, WritesText, Writes, EndsBare, TurnsAway, Accepts, Opens, Finishes, IsSpoken, IsFree, AtShelfFault, HasRunPrefix, IsOfTaken, EndsInput, document_opening, OnOpening, JobDoes, Makes, IsSessionText, HasRun, Served, ServedBeside, World, world, outputs, Status}
+use Rattle.roman_top.proofs.Common.{◌≡◌, ℕ, List, [], Option, None, Some, Result, Ok, Err, inl, refl, sym, subst, HasCause, Texts, shelf_text, Puts, PlainLibrary, InputCause, SinkCause, Job, Run, Command, On, Make, WritesText, Writes, EndsBare, TurnsAway, Accepts, Opens, Finishes, IsSpoken, IsFree, AtShelfFault, HasRunPrefix, IsOfTaken, EndsInput, document_opening, OnOpening, JobDoes, Makes, IsSessionText, HasRun, Served, ServedBeside, World, world, outputs, Status}
 use Rattle.roman_io.specs.Source.{Gave}
 use Rattle.roman_io.proofs.CallerLemmas.{Gave-nil}
 use Rattle.roman_top.specs.Command.{usage_line}

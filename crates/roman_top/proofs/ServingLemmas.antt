@@ -1,6 +1,6 @@
 -- Outlooks are right: they count the related pairs, and the cases in which a seat serves an action.
-use Rattle.std.proofs.Common.{◌≡◌, ℕ, not, List, [], map, length, IsTrue, filter, flat_map, sum_by, refl, sym, ap, ◌∙◌, subst}
-use Rattle.roman_top.proofs.Common.{cond-true, cond-false, length-map, slice_get_within, IsIn, below, Sys, Pair, IsSys, IsPair, pairs, is_allowed, arena, is_beaten, is_related, outlook, by_test, in_map, from_map, from_flat_map, allowed_in, from_allowed, related_great, great_related}
+use Rattle.roman_top.proofs.Common.{◌≡◌, ℕ, not, List, [], map, length, IsTrue, filter, refl, sym, ap, ◌∙◌, subst, cond-true, cond-false, length-map, slice_get_within, IsIn, below, Sys, Pair, IsSys, IsPair, pairs, is_allowed, arena, is_beaten, is_related, outlook, by_test, in_map, from_map, from_flat_map, allowed_in, from_allowed, related_great, great_related}
+use Rattle.std.proofs.Common.{flat_map, sum_by}
 use Rattle.std.proofs.lemmas.List.Concat.{length-flat_map}
 use Rattle.roman_model.specs.Lists.{HasNoRepeats}
 use Rattle.roman_model.specs.Offers.{offers, choice_count}

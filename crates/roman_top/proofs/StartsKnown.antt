@@ -1,6 +1,5 @@
 -- Sessions of accepted documents begin in well-formed situations.
-use Rattle.std.proofs.Common.{◌≡◌, ℕ, List, [], map, IsFalse, refl, sym, ap, ◌∙◌, subst, arith}
-use Rattle.roman_top.proofs.Common.{both_ways, lt-ltb, length-map, Texts, IsIn, Pair, IsPair, IsSys, from_map, there_is, NamedSys, seat_of, system_of, cells, library_of, PlainLibrary, IsLibrary, Situation, Idle, parts_of, start_pair_of, IsStart, start_pair, IsKnownSituation, Accepted, document_opening, is_past_limit, libraries_known}
+use Rattle.roman_top.proofs.Common.{◌≡◌, ℕ, List, [], map, IsFalse, refl, sym, ap, ◌∙◌, subst, arith, both_ways, lt-ltb, length-map, Texts, IsIn, Pair, IsPair, IsSys, from_map, there_is, NamedSys, seat_of, system_of, cells, library_of, PlainLibrary, IsLibrary, Situation, Idle, parts_of, start_pair_of, IsStart, start_pair, IsKnownSituation, Accepted, document_opening, is_past_limit, libraries_known}
 use Rattle.roman_model.specs.System.{IsBeh}
 use Rattle.roman_model.specs.System as model
 use Rattle.roman_model.proofs.CallerLemmas.{in_contains, order_goes_on}

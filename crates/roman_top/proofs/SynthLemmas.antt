@@ -1,6 +1,5 @@
 -- Writing reports as part of a run.
-use Rattle.std.proofs.Common.{◌≡◌, ℕ, Bool, true, false, List, Option, Result, refl, sym, subst}
-use Rattle.roman_top.proofs.Common.{both_ways, Puts, Pair, is_related, related_great, great_related, NamedSys, PlainLibrary, Situation, present_system, report_text, parts_of, IsStart, Finishes, IsSpoken, Reports, Writes, EndsBy, Synthesises, Status}
+use Rattle.roman_top.proofs.Common.{◌≡◌, ℕ, Bool, true, false, List, Option, Result, refl, sym, subst, both_ways, Puts, Pair, is_related, related_great, great_related, NamedSys, PlainLibrary, Situation, present_system, report_text, parts_of, IsStart, Finishes, IsSpoken, Reports, Writes, EndsBy, Synthesises, Status}
 use Rattle.roman_joint.specs.NamedSys as joint
 use Rattle.roman_session.specs.Situations.{IsSituation}
 use Rattle.roman_top.specs.Endings.{IsTold, status_of}

@@ -1,6 +1,6 @@
 -- Sessions, as part of a run.
-use Rattle.std.proofs.Common.{◌≡◌, ℕ, ◌+◌, ◌-◌, List, Option, None, Some, IfSome, Result, Ok, Err, OnOk, IsErrOf, IsTrue, IsFalse, ◌⊎◌, inr, refl, sym, ◌∙◌, subst}
-use Rattle.roman_top.proofs.Common.{cond-true, cond-false, Rose, Texts, shelf_text, rest_from, lines, ended_lines, MAX_SESSION_BYTES, by_test, Situation, IsStart, prefix_of, is_heard_out, ShelfCause, InputCause, SinkCause, Run, On, Accepts, Opens, IsFree, HasRunPrefix, AtShelfFault, IsOfTaken, EndsInput, document_opening, Talks, IsSessionText, HasRun, Served, ServedBeside, World, world, outputs, Status}
+use Rattle.roman_top.proofs.Common.{◌≡◌, ℕ, ◌+◌, ◌-◌, List, Option, None, Some, IfSome, Result, Ok, Err, IsTrue, IsFalse, inr, refl, sym, ◌∙◌, subst, cond-true, cond-false, Rose, Texts, shelf_text, rest_from, lines, ended_lines, MAX_SESSION_BYTES, by_test, Situation, IsStart, prefix_of, is_heard_out, ShelfCause, InputCause, SinkCause, Run, On, Accepts, Opens, IsFree, HasRunPrefix, AtShelfFault, IsOfTaken, EndsInput, document_opening, Talks, IsSessionText, HasRun, Served, ServedBeside, World, world, outputs, Status}
+use Rattle.std.proofs.Common.{OnOk, IsErrOf, ◌⊎◌}
 use Rattle.roman_io.specs.Source.{Had, IsAtEnd, GaveAtMost}
 use Rattle.roman_io.proofs.CallerLemmas.{Gave-told}
 use Rattle.roman_model.specs.declared.limits.TheConstants.{PIECE_BYTES}

@@ -1,6 +1,5 @@
 -- Each answered line has its turn.
-use Rattle.std.proofs.Common.{◌≡◌, ℕ, List, [], ◌∷◌, ◌++◌, Result, Ok, inl, inr, IsTrue, refl, sym, ap, ap₂, ◌∙◌, subst}
-use Rattle.roman_top.proofs.Common.{false≢true, both_ways, cond-true, cond-false, flat_map, IsIn, Pair, by_test, NamedSys, PlainLibrary, Situation, IsStart, Step, LineShape, shape_of, LineError, parts_of, until_quit, Answers, shown, IsKnownSituation, State, start_state, IsState, IsOpenGreat, LinesAreRead, TurnsInto, open_great, Turn}
+use Rattle.roman_top.proofs.Common.{◌≡◌, ℕ, List, [], ◌∷◌, ◌++◌, Result, Ok, inl, inr, IsTrue, refl, sym, ap, ap₂, ◌∙◌, subst, false≢true, both_ways, cond-true, cond-false, flat_map, IsIn, Pair, by_test, NamedSys, PlainLibrary, Situation, IsStart, Step, LineShape, shape_of, LineError, parts_of, until_quit, Answers, shown, IsKnownSituation, State, start_state, IsState, IsOpenGreat, LinesAreRead, TurnsInto, open_great, Turn}
 use Rattle.roman_session.specs.Steps.{is_quit}
 use Rattle.roman_session.specs.declared.phase.Phase.{Phase}
 use Rattle.roman_text.specs.Shapes.{quit}

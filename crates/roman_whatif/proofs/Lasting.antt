@@ -1,6 +1,6 @@
 -- What remains after a change, and after two.
-use Rattle.std.proofs.Common.{◌≡◌, ℕ, ◌/◌, ◌<◌, ◌↔◌, Bool, true, false, not, List, [], ◌∷◌, length, Some, IsTrue, slice_get, refl, sym, ap, ap₂, ◌∙◌, subst, arith}
-use Rattle.roman_whatif.proofs.Common.{length-map, Seat, Sys, Pair, Sizes, sizes_of, count, pair_at, is_related, related_count, choice_count, Outlook, outlook, system_without, pair_without, Way, same_test, leave_one, freeze_one, NamedSys, seat_of, system_of, Relation, IsLeft, IsIdleScratchOf, left_of}
+use Rattle.roman_whatif.proofs.Common.{◌≡◌, ℕ, ◌<◌, Bool, true, false, not, List, [], ◌∷◌, length, Some, IsTrue, slice_get, refl, sym, ap, ap₂, ◌∙◌, subst, arith, length-map, Seat, Sys, Pair, Sizes, sizes_of, count, pair_at, is_related, related_count, choice_count, Outlook, outlook, system_without, pair_without, Way, same_test, leave_one, freeze_one, NamedSys, seat_of, system_of, IsLeft, left_of}
+use Rattle.std.proofs.Common.{◌/◌, ◌↔◌}
 use Rattle.roman_model.specs.SystemArena.{is_ready}
 use Rattle.roman_model.specs.Composition.{Great}
 use Rattle.roman_model.specs.Change.{Freeze, Die, after, without}
@@ -11,8 +11,7 @@ use Rattle.roman_joint.specs.NamedSys.{IsNamedSys}
 use Rattle.roman_joint.specs.Parts.{HasSameParts}
 use Rattle.roman_joint.specs.declared.seat.Seat as joint
 use Rattle.roman_order.specs.Board.{Board}
-use Rattle.roman_relation.specs.Greatest.{HasCaps, IsRelation}
-use Rattle.roman_whatif.specs.Left.{IsScratchOf}
+use Rattle.roman_relation.specs.Greatest.{IsRelation}
 use Rattle.roman_whatif.proofs.LaterFirst.{system_later, pair_later}
 
 -- Outlooks.
@@ -37,9 +36,6 @@ parts_with_seats m n seats e = grind arith
 
 pub parts_on : (m n o : NamedSys) → HasSameParts m n → HasSameParts n o → HasSameParts m o
 parts_on m n o one two = grind arith
-
-pub parts_back : (m n : NamedSys) → HasSameParts m n → HasSameParts n m
-parts_back m n same = record { environment = sym same.environment; catalogue = sym same.catalogue; target = sym same.target; limit = sym same.limit }
 
 -- One seat.
 
@@ -135,24 +131,4 @@ great_told way K L base old new order p q composes same these left great =
     subst (λ M. IsTrue composes ↔ Great (system_without way M (system_of base)) (pair_without way M (pair_at (sizes_of (system_of base)) p))) these
     (subst (λ n. IsTrue composes ↔ Great (system_without way K (system_of n)) (pair_without way K (pair_at (sizes_of (system_of n)) p))) same (great_left way K old new order p q composes left great))
 
--- a scratch of what remains, in which another seat failed, is still one of the base
-pub scratch_again : (way : Way) (K : List ℕ) (base old new : NamedSys) (order : Board) (p q : ℕ) → old ≡ base → IsLeft way K old p new order q → IsScratchOf base new order
-scratch_again way K base old new order p q same left = record { parts = subst (HasSameParts new) same left.parts; caps = left.relation.caps }
-
 -- Copies on which failures are tried.
-
--- the room is the same where only the services differ
-pub caps_for : (m n : NamedSys) (order : Board) → HasSameParts n m → HasCaps m order → HasCaps n order
-caps_for m n order same caps = record { pairs = ap₂ (λ limit actions. limit / actions) same.limit (ap (λ e. e.env.actions) same.environment) ∙ caps.pairs }
-
--- what remains where seats failed is an idle scratch
-pub left_idle : (way : Way) (K : List ℕ) (base new : NamedSys) (order : Board) (p q : ℕ) → IsLeft way K base p new order q → IsIdleScratchOf base new order
-left_idle way K base new order p q left = record { scratch = record { parts = left.parts; caps = left.relation.caps }; idle = left.relation.complete.idle }
-
--- an idle scratch of the base is one of what remains, too
-pub idle_on_left : (base mid joint : NamedSys) (order : Board) → HasSameParts mid base → IsIdleScratchOf base joint order → IsIdleScratchOf mid joint order
-idle_on_left base mid joint order same idle = grind (arith, parts_back, parts_on)
-
--- a copy is an idle scratch
-pub idle_copy : (base copy : Relation) → copy ≡ base → IsRelation base.joint base.order → IsIdleScratchOf base.joint copy.joint copy.order
-idle_copy base copy same relation = grind (arith, parts_themselves)

@@ -1,6 +1,5 @@
 -- Two services that fail one after the other, the later one first.
-use Rattle.std.proofs.Common.{◌≡◌, ℕ, zero, suc, ◌<◌, true, List, [], ◌∷◌, remove, refl, sym, ap, ◌∙◌}
-use Rattle.roman_whatif.proofs.Common.{Seat, Sys, Pair, has, leave_out, freeze_at, system_without, pair_without, Way, Freeze, Die, leave_one, freeze_one}
+use Rattle.roman_whatif.proofs.Common.{◌≡◌, ℕ, zero, suc, ◌<◌, true, List, [], ◌∷◌, remove, refl, sym, ap, ◌∙◌, Seat, Sys, Pair, has, leave_out, freeze_at, system_without, pair_without, Way, Freeze, Die, leave_one, freeze_one}
 use Rattle.roman_model.specs.Change.{set_frozen}
 use Rattle.roman_model.proofs.CallerLemmas.{leave_two, freeze_two}
 

@@ -1,6 +1,6 @@
 -- The outlooks of failures of services that are alike.
-use Rattle.std.proofs.Common.{◌≡◌, ℕ, zero, suc, ◌+◌, ◌-◌, ◌*◌, ◌%◌, ◌<◌, true, false, List, [], ◌∷◌, map, length, Some, slice_get, slice_index, refl, sym, ap, ap₂, ◌∙◌, subst, inl, inr, arith}
-use Rattle.roman_whatif.proofs.Common.{length-map, cases_lt, has, Sizes, sizes_of, pair_at, Way, NamedSys, seat_of, system_of, left_of, told_at, IsToldOf}
+use Rattle.roman_whatif.proofs.Common.{◌≡◌, ℕ, zero, suc, ◌+◌, ◌-◌, ◌*◌, ◌<◌, true, false, List, [], ◌∷◌, map, length, Some, slice_get, slice_index, refl, sym, ap, ap₂, ◌∙◌, subst, inl, inr, arith, length-map, cases_lt, has, Sizes, sizes_of, pair_at, Way, NamedSys, seat_of, system_of, left_of, told_at, IsToldOf}
+use Rattle.std.proofs.Common.{◌%◌}
 use Rattle.std.proofs.lemmas.Bool.Decides.{nat_tests}
 use Rattle.std.proofs.lemmas.Option.{slice_get-get_or}
 use Rattle.roman_model.specs.Lists.{product_of}

@@ -1,7 +1,7 @@
 -- Two neighbouring seats in each other's place: the outlook of a pair stays the same.
-use Rattle.std.proofs.Common.{◌≡◌, ℕ, zero, suc, ◌+◌, ◌<◌, ◌≤◌, Bool, true, false, cond, not, ◌&&◌, ◌||◌, List, [], ◌∷◌, map, length, IsTrue, filter, flat_map, slice_get, slice_index, slice_set, sum_by, refl, sym, ap, ap₂, ◌∙◌, subst, arith}
+use Rattle.roman_whatif.proofs.Common.{◌≡◌, ℕ, zero, suc, ◌+◌, ◌<◌, Bool, true, false, not, List, [], ◌∷◌, map, length, IsTrue, slice_get, slice_index, refl, sym, ap, ap₂, ◌∙◌, subst, arith, eqb-true, length-set, Seat, Sys, Pair, has, is_related, related_count, choice_count, leave_out, freeze_at, outlook, system_without, pair_without, Way, same_test}
+use Rattle.std.proofs.Common.{◌≤◌, cond, ◌&&◌, ◌||◌, filter, flat_map, slice_set, sum_by}
 use Rattle.std.specs.List.{list_any, AllZip}
-use Rattle.roman_whatif.proofs.Common.{eqb-true, length-set, Seat, Sys, Pair, has, is_related, related_count, choice_count, leave_out, freeze_at, outlook, system_without, pair_without, Way, same_test}
 use Rattle.std.proofs.lemmas.Bool.{eq-eqb}
 use Rattle.std.proofs.lemmas.List.Sums.{sum_by-cons, length-filter}
 use Rattle.std.proofs.lemmas.Slice.Zip.{AllZip-long}

@@ -1,4 +1,4 @@
-use Rattle.std.proofs.Common.{sym, ◌∙◌}
+use Rattle.roman_cert.proofs.Common.{sym, ◌∙◌}
 use Rattle.roman_cert.proofs.Answering.{place_before, no_place_before}
 use Rattle.roman_cert.proofs.answers.is_before.Goals as goal
 

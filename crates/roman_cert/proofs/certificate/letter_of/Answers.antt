@@ -1,5 +1,4 @@
-use Rattle.std.proofs.Common.{ap, ◌∙◌}
-use Rattle.roman_cert.proofs.Common.{decimal_digit, reason_text}
+use Rattle.roman_cert.proofs.Common.{ap, ◌∙◌, decimal_digit, reason_text}
 use Rattle.roman_cert.proofs.certificate.letter_of.Goals as goal
 
 pub returns-else-action-ge10 : goal.returns-else-action-ge10

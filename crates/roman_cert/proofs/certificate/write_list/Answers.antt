@@ -1,5 +1,4 @@
-use Rattle.std.proofs.Common.{◌+◌, [], ◌∷◌, codes, refl, ◌∙◌, arith}
-use Rattle.roman_cert.proofs.Common.{err_from_is_err_and, text_of_lines, entry_line, as_entry, fill_whole, fill_same, fill_more, fill_failed, fill_put}
+use Rattle.roman_cert.proofs.Common.{◌+◌, [], ◌∷◌, codes, refl, ◌∙◌, arith, err_from_is_err_and, text_of_lines, entry_line, as_entry, fill_whole, fill_same, fill_more, fill_failed, fill_put}
 use Rattle.roman_cert.proofs.Certificates.{rest_from, cert_begins, cert_next, cert_ends}
 use Rattle.roman_cert.proofs.certificate.write_list.Goals as goal
 

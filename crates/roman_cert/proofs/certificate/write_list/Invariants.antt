@@ -1,5 +1,4 @@
-use Rattle.std.proofs.Common.{◌≡◌}
-use Rattle.roman_cert.proofs.Common.{cert_text, IsFilling, IsAhead, IsTemplate}
+use Rattle.roman_cert.proofs.Common.{◌≡◌, cert_text, IsFilling, IsAhead, IsTemplate}
 use Rattle.roman_cert.proofs.Certificates.{rest_from}
 use Rattle.roman_cert.proofs.certificate.write_list.Given as goal
 

@@ -1,5 +1,4 @@
-use Rattle.std.proofs.Common.{◌∙◌, subst}
-use Rattle.roman_cert.proofs.Common.{Puts, sizes_of, count, cert_text, length-below, system_of}
+use Rattle.roman_cert.proofs.Common.{◌∙◌, subst, Puts, sizes_of, count, cert_text, length-below, system_of}
 use Rattle.roman_cert.proofs.Certificates.{written_accepted}
 use Rattle.roman_cert.proofs.certificate.write_order.Goals as goal
 

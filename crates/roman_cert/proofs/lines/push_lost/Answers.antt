@@ -1,5 +1,4 @@
-use Rattle.std.proofs.Common.{◌∙◌, arith}
-use Rattle.roman_cert.proofs.Common.{err_from_is_err_and, as_entry, fill_behind, fill_same, fill_more, fill_failed, fill_last}
+use Rattle.roman_cert.proofs.Common.{◌∙◌, arith, err_from_is_err_and, as_entry, fill_behind, fill_same, fill_more, fill_failed, fill_last}
 use Rattle.roman_cert.proofs.LineTexts.{lost_begins, lost_next, lost_ends}
 use Rattle.roman_cert.proofs.lines.push_lost.Goals as goal
 

@@ -1,5 +1,4 @@
-use Rattle.std.proofs.Common.{◌≡◌, ◌++◌}
-use Rattle.roman_cert.proofs.Common.{as_entry, IsFilling, lost_text}
+use Rattle.roman_cert.proofs.Common.{◌≡◌, ◌++◌, as_entry, IsFilling, lost_text}
 use Rattle.roman_cert.proofs.LineTexts.{lost_from}
 use Rattle.roman_cert.proofs.lines.push_lost.Given as goal
 

@@ -1,5 +1,4 @@
-use Rattle.std.proofs.Common.{arith}
-use Rattle.roman_cert.proofs.Common.{or-false, numbered_same}
+use Rattle.roman_cert.proofs.Common.{arith, or-false, numbered_same}
 use Rattle.roman_cert.proofs.MarkLemmas.{answers_marked, seats_more, marks_one}
 use Rattle.roman_cert.proofs.marking.mark_answers.Goals.{in-Some, in_default}
 use Rattle.roman_cert.proofs.marking.mark_answers.Goals as goal

@@ -1,5 +1,4 @@
-use Rattle.std.proofs.Common.{◌≡◌, length, ap, ◌∙◌, arith}
-use Rattle.roman_cert.proofs.Common.{Board, is_marked, numbered_same}
+use Rattle.roman_cert.proofs.Common.{◌≡◌, length, ap, ◌∙◌, arith, Board, is_marked, numbered_same}
 use Rattle.roman_cert.proofs.MarkLemmas.{rests_from, rests_all, rests_back}
 use Rattle.roman_cert.proofs.marking.mark_slice.Goals as goal
 

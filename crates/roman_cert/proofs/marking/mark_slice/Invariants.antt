@@ -1,5 +1,4 @@
-use Rattle.std.proofs.Common.{◌≡◌, ℕ}
-use Rattle.roman_cert.proofs.Common.{is_marked}
+use Rattle.roman_cert.proofs.Common.{◌≡◌, ℕ, is_marked}
 use Rattle.roman_cert.proofs.MarkLemmas.{rests_from}
 use Rattle.roman_cert.proofs.marking.mark_slice.Given as goal
 

@@ -1,5 +1,4 @@
-use Rattle.std.proofs.Common.{arith}
-use Rattle.roman_cert.proofs.Common.{as_entry}
+use Rattle.roman_cert.proofs.Common.{arith, as_entry}
 use Rattle.roman_cert.proofs.Answering.{entry_node}
 use Rattle.roman_cert.proofs.marking.visit.Goals as goal
 

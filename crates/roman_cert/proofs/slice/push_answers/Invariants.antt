@@ -1,5 +1,4 @@
-use Rattle.std.proofs.Common.{◌≡◌, ◌++◌}
-use Rattle.roman_cert.proofs.Common.{Act, as_entry, IsFilling, answers_text}
+use Rattle.roman_cert.proofs.Common.{◌≡◌, ◌++◌, Act, as_entry, IsFilling, answers_text}
 use Rattle.roman_cert.proofs.AnswerTexts.{answers_from}
 use Rattle.roman_cert.proofs.slice.push_answers.Given as goal
 

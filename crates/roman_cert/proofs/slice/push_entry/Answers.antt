@@ -1,5 +1,4 @@
-use Rattle.std.proofs.Common.{◌≡◌, ◌++◌, [], ap, sym, ◌∙◌, append-nil}
-use Rattle.roman_cert.proofs.Common.{err_from_is_err_and, Act, as_entry, fill_behind, fill_same, fill_more, fill_failed, fill_end, fill_last, answers_text}
+use Rattle.roman_cert.proofs.Common.{◌≡◌, ◌++◌, [], ap, sym, ◌∙◌, append-nil, err_from_is_err_and, Act, as_entry, fill_behind, fill_same, fill_more, fill_failed, fill_end, fill_last, answers_text}
 use Rattle.roman_cert.proofs.AnswerTexts.{no_answers}
 use Rattle.roman_cert.proofs.SliceTexts.{entry_pair, entry_reason, entry_lines_are}
 use Rattle.roman_cert.proofs.slice.push_entry.Goals as goal

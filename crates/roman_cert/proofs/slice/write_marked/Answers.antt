@@ -1,5 +1,4 @@
-use Rattle.std.proofs.Common.{[], codes, refl, sym, ◌∙◌, arith}
-use Rattle.roman_cert.proofs.Common.{err_from_is_err_and, as_entry, arena_of, fill_whole, fill_same, fill_more, fill_failed, fill_put}
+use Rattle.roman_cert.proofs.Common.{[], codes, refl, sym, ◌∙◌, arith, err_from_is_err_and, as_entry, arena_of, fill_whole, fill_same, fill_more, fill_failed, fill_put}
 use Rattle.roman_cert.proofs.Answering.{entry_node}
 use Rattle.roman_cert.proofs.SliceTexts.{slice_begins, slice_next, slice_skip, slice_ends}
 use Rattle.roman_cert.proofs.slice.write_marked.Goals as goal

@@ -1,5 +1,4 @@
-use Rattle.std.proofs.Common.{◌≡◌}
-use Rattle.roman_cert.proofs.Common.{IsFilling, IsAhead, marked_entries, slice_text}
+use Rattle.roman_cert.proofs.Common.{◌≡◌, IsFilling, IsAhead, marked_entries, slice_text}
 use Rattle.roman_cert.proofs.SliceTexts.{slice_from}
 use Rattle.roman_cert.proofs.slice.write_marked.Given as goal
 

@@ -1,7 +1,6 @@
-use Rattle.std.proofs.Common.{◌++◌, take, refl, ◌∙◌, subst, arith, length-append, length-drop, length-take-le}
+use Rattle.roman_check.proofs.Common.{◌++◌, take, refl, ◌∙◌, subst, arith, length-append, length-drop, length-take-le, Gave-then, IsReading}
 use Rattle.std.proofs.lemmas.List.{length-take}
 use Rattle.std.proofs.lemmas.Result.{err_from_is_err_and}
-use Rattle.roman_check.proofs.Common.{Gave-then, IsReading}
 use Rattle.roman_io.proofs.CallerLemmas.{gave_at_most, had_all}
 use Rattle.roman_io.specs.Faults.{Rose}
 use Rattle.roman_check.proofs.SourceSteps.{at_end, failed_clean, cut_piece, rejected_at, passed_limit}

@@ -1,5 +1,4 @@
-use Rattle.std.proofs.Common.{◌≡◌, ◌+◌, ◌≤◌, List, ℕ, length}
-use Rattle.roman_check.proofs.Common.{Gave, MAX_CERTIFICATE_BYTES, IsInRows, IsReading}
+use Rattle.roman_check.proofs.Common.{◌≡◌, ◌+◌, ◌≤◌, List, ℕ, length, Gave, MAX_CERTIFICATE_BYTES, IsInRows, IsReading}
 use Rattle.roman_check.proofs.certificate.read.Given as goal
 
 abbrev pub invariant-takes : goal.invariant-takes

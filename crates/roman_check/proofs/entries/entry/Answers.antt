@@ -1,4 +1,4 @@
-use Rattle.std.proofs.Common.{sym}
+use Rattle.roman_check.proofs.Common.{sym}
 use Rattle.roman_check.proofs.EntryLemmas.{few_of, cut_from, no_number, no_pair, no_reason, some_entry}
 use Rattle.roman_check.proofs.entries.entry.Goals as goal
 

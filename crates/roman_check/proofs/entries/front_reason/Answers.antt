@@ -1,5 +1,4 @@
-use Rattle.std.proofs.Common.{arith}
-use Rattle.roman_check.proofs.Common.{act_reason}
+use Rattle.roman_check.proofs.Common.{arith, act_reason}
 use Rattle.roman_check.proofs.entries.front_reason.Goals as goal
 
 pub returns : goal.returns

@@ -1,6 +1,5 @@
-use Rattle.roman_check.proofs.Common.{Decides-eqb}
+use Rattle.roman_check.proofs.Common.{Decides-eqb, Some}
 use Rattle.std.proofs.lemmas.Slice.Eq.{strip_prefix_is}
-use Rattle.std.proofs.Common.{Some}
 use Rattle.roman_check.proofs.EntryLemmas.{counted}
 use Rattle.roman_check.proofs.entries.is_count.Goals as goal
 

@@ -1,4 +1,4 @@
-use Rattle.std.proofs.Common.{◌∙◌, sym, arith}
+use Rattle.roman_check.proofs.Common.{◌∙◌, sym, arith}
 use Rattle.roman_check.proofs.EntryLemmas.{no_reason_text, action_text}
 use Rattle.roman_check.proofs.entries.reason.Goals as goal
 

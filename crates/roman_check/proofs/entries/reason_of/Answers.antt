@@ -1,5 +1,4 @@
-use Rattle.std.proofs.Common.{◌≡◌, ◌+◌, ◌%◌, ◌<◌, [], ◌∷◌, ℕ, arith, ap, ◌∙◌}
-use Rattle.roman_check.proofs.Common.{decimal_digit, act_reason}
+use Rattle.roman_check.proofs.Common.{◌≡◌, ◌+◌, ◌%◌, ◌<◌, [], ◌∷◌, ℕ, arith, ap, ◌∙◌, decimal_digit, act_reason}
 use Rattle.roman_check.proofs.entries.reason_of.Goals as goal
 
 pub returns : goal.returns

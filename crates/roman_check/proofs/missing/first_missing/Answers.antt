@@ -1,5 +1,4 @@
-use Rattle.std.proofs.Common.{◌≡◌, ℕ, ◌+◌, ◌*◌, ◌^◌, ◌<◌, ◌≤◌, IsFalse, length, Some, subst, sym, ap, ◌∙◌, inl, inr, arith, rules}
-use Rattle.roman_check.proofs.Common.{trailing_zeros, w64, cases_eq, could_be_listed, is_on, on_zero}
+use Rattle.roman_check.proofs.Common.{◌≡◌, ℕ, ◌+◌, ◌*◌, ◌^◌, ◌<◌, ◌≤◌, IsFalse, length, Some, subst, sym, ap, ◌∙◌, inl, inr, arith, rules, trailing_zeros, w64, cases_eq, could_be_listed, is_on, on_zero}
 use Rattle.roman_check.proofs.ReasonLemmas.{least_found, none_found, before_row, before_lane, row_ends, IsLowest, lowest, lowest_within, same_rows}
 use Rattle.roman_check.proofs.missing.first_missing.Goals as goal
 

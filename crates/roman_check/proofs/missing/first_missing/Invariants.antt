@@ -1,5 +1,4 @@
-use Rattle.std.proofs.Common.{ℕ, ◌+◌, ◌*◌, ◌<◌, not, List, IsFalse}
-use Rattle.roman_check.proofs.Common.{Entry, is_listed, could_be_listed, AreRows}
+use Rattle.roman_check.proofs.Common.{ℕ, ◌+◌, ◌*◌, ◌<◌, not, List, IsFalse, Entry, is_listed, could_be_listed, AreRows}
 use Rattle.roman_check.proofs.missing.first_missing.Given as goal
 
 -- no pair of the rows so far is missing

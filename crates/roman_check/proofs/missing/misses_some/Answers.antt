@@ -1,5 +1,5 @@
-use Rattle.std.proofs.Common.{◌≡◌, ℕ, ◌+◌, ◌*◌, ◌≤◌, ◌&&◌, ◌||◌, Bool, false, not, length, slice_index, sym, ap, ap₂, ◌∙◌, arith}
-use Rattle.roman_check.proofs.Common.{list_any, or-false, mul-le, is_listed, is_justified, reasons, Act, is_on, on_zero}
+use Rattle.roman_check.proofs.Common.{◌≡◌, ℕ, ◌+◌, ◌*◌, ◌≤◌, ◌&&◌, ◌||◌, Bool, false, not, length, sym, ap, ap₂, ◌∙◌, arith, list_any, or-false, mul-le, is_listed, is_justified, reasons, Act, is_on, on_zero}
+use Rattle.std.proofs.Common.{slice_index}
 use Rattle.roman_check.proofs.ReasonLemmas.{one_more}
 use Rattle.roman_check.proofs.missing.misses_some.Goals as goal
 

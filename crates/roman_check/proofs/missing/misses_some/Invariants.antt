@@ -1,5 +1,4 @@
-use Rattle.std.proofs.Common.{◌≡◌, ℕ, ◌+◌, ◌*◌, ◌<◌, ◌&&◌, false, not, List, length}
-use Rattle.roman_check.proofs.Common.{list_any, Entry, is_listed, is_justified, reasons, AreRows}
+use Rattle.roman_check.proofs.Common.{◌≡◌, ℕ, ◌+◌, ◌*◌, ◌<◌, ◌&&◌, false, not, List, length, list_any, Entry, is_listed, is_justified, reasons, AreRows}
 use Rattle.roman_check.proofs.missing.misses_some.Given as goal
 
 -- clause 2 and the actions so far aren't reasons at the band's pairs that aren't listed

@@ -1,5 +1,4 @@
-use Rattle.std.proofs.Common.{◌+◌, ◌*◌, ◌||◌, ap₂, ◌∙◌, arith}
-use Rattle.roman_check.proofs.Common.{and_right, is_justified, is_on, on_and}
+use Rattle.roman_check.proofs.Common.{◌+◌, ◌*◌, ◌||◌, ap₂, ◌∙◌, arith, and_right, is_justified, is_on, on_and}
 use Rattle.roman_lanes.proofs.CallerLemmas.{on_or}
 use Rattle.roman_check.proofs.ReasonLemmas.{only_final, one_more}
 use Rattle.roman_check.proofs.missing.missing_among.Goals as goal

@@ -1,5 +1,4 @@
-use Rattle.std.proofs.Common.{◌≡◌, ℕ, ◌+◌, ◌*◌, ◌<◌, Bool, false, not, ◌&&◌}
-use Rattle.roman_check.proofs.Common.{list_any, is_justified, reasons, is_on, AreRows}
+use Rattle.roman_check.proofs.Common.{◌≡◌, ℕ, ◌+◌, ◌*◌, ◌<◌, Bool, false, not, ◌&&◌, list_any, is_justified, reasons, is_on, AreRows}
 use Rattle.roman_check.proofs.missing.missing_among.Given as goal
 
 -- clause 2 and the actions so far are asked about

@@ -1,5 +1,4 @@
-use Rattle.std.proofs.Common.{ℕ, ◌≡◌, ◌<◌, ◌≤◌, bit_and, ◌-◌, ◌/◌, ◌^◌, ◌+◌, ◌*◌, ◌&&◌, ap, ◌∙◌, arith, get_or}
-use Rattle.roman_check.proofs.Common.{list_any, and_right, is_listed, is_justified, reasons, is_on, on_and, on_full, on_full_past, on_zero}
+use Rattle.roman_check.proofs.Common.{ℕ, ◌≡◌, ◌<◌, ◌≤◌, bit_and, ◌-◌, ◌/◌, ◌^◌, ◌+◌, ◌*◌, ◌&&◌, ap, ◌∙◌, arith, get_or, list_any, and_right, is_listed, is_justified, reasons, is_on, on_and, on_full, on_full_past, on_zero}
 use Rattle.roman_check.proofs.ReasonLemmas.{and_all}
 use Rattle.roman_check.proofs.missing.missing_in.Goals as goal
 

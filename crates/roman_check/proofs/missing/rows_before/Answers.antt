@@ -1,5 +1,4 @@
-use Rattle.std.proofs.Common.{◌≡◌, ◌+◌, ◌-◌, ◌*◌, false, length, sym, ap, ◌∙◌, subst, inl, inr, arith}
-use Rattle.roman_check.proofs.Common.{cases_lt, could_be_listed}
+use Rattle.roman_check.proofs.Common.{◌≡◌, ◌+◌, ◌-◌, ◌*◌, false, length, sym, ap, ◌∙◌, subst, inl, inr, arith, cases_lt, could_be_listed}
 use Rattle.roman_check.proofs.ReasonLemmas.{same_rows, band_ends}
 use Rattle.roman_check.proofs.missing.rows_before.Goals as goal
 

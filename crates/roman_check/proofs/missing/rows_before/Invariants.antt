@@ -1,5 +1,4 @@
-use Rattle.std.proofs.Common.{◌≡◌, ℕ, ◌+◌, ◌*◌, ◌<◌, false, not, List, length}
-use Rattle.roman_check.proofs.Common.{Entry, is_listed, could_be_listed, AreRows}
+use Rattle.roman_check.proofs.Common.{◌≡◌, ℕ, ◌+◌, ◌*◌, ◌<◌, false, not, List, length, Entry, is_listed, could_be_listed, AreRows}
 use Rattle.roman_check.proofs.missing.rows_before.Given as goal
 
 -- no pair of the bands so far is missing

@@ -1,4 +1,4 @@
-use Rattle.std.proofs.Common.{arith}
+use Rattle.roman_check.proofs.Common.{arith}
 use Rattle.roman_check.proofs.DigitLemmas.{no_digit, digits_step, digits_room}
 use Rattle.roman_check.proofs.numbers.digits.Goals as goal
 

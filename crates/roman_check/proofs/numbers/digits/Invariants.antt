@@ -1,5 +1,4 @@
-use Rattle.std.proofs.Common.{◌≡◌, take}
-use Rattle.roman_check.proofs.Common.{AllDigits, digits_value}
+use Rattle.roman_check.proofs.Common.{◌≡◌, take, AllDigits, digits_value}
 use Rattle.roman_check.proofs.numbers.digits.Given as goal
 
 abbrev pub invariant-loop-byte : goal.invariant-loop-byte

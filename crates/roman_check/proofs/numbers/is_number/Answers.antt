@@ -1,5 +1,4 @@
-use Rattle.std.proofs.Common.{arith}
-use Rattle.roman_check.proofs.Common.{eqb-true, eq-eqb, false≢true}
+use Rattle.roman_check.proofs.Common.{arith, eqb-true, eq-eqb, false≢true}
 use Rattle.roman_check.proofs.DigitLemmas.{decimal_shape, decimal_from_digits}
 use Rattle.roman_check.proofs.numbers.is_number.Goals as goal
 

@@ -1,4 +1,4 @@
-use Rattle.std.proofs.Common.{arith}
+use Rattle.roman_check.proofs.Common.{arith}
 use Rattle.roman_check.proofs.DigitLemmas.{decimal_shape}
 use Rattle.roman_check.proofs.numbers.number_below.Goals as goal
 

@@ -1,4 +1,4 @@
-use Rattle.std.proofs.Common.{arith}
+use Rattle.roman_check.proofs.Common.{arith}
 use Rattle.roman_check.proofs.DigitLemmas.{no_number_past, no_number_within, digits_step, digits_below}
 use Rattle.roman_check.proofs.numbers.number_to.Goals as goal
 

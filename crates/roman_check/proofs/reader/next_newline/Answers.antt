@@ -1,4 +1,4 @@
-use Rattle.std.proofs.Common.{sym}
+use Rattle.roman_check.proofs.Common.{sym}
 use Rattle.roman_check.proofs.ReaderLemmas.{newline_at, newline_nowhere}
 use Rattle.roman_check.proofs.reader.next_newline.Goals as goal
 

@@ -1,5 +1,4 @@
-use Rattle.std.proofs.Common.{ℕ, get_or, subst}
-use Rattle.roman_cost.proofs.Common.{IsIn, system_of}
+use Rattle.roman_cost.proofs.Common.{ℕ, get_or, subst, IsIn, system_of}
 use Rattle.roman_cost.proofs.Ranks.{from_related}
 use Rattle.roman_cost.proofs.Rows.{in_at}
 use Rattle.roman_cost.proofs.filling.first_terms.Goals as goal

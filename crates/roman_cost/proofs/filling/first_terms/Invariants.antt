@@ -1,5 +1,4 @@
-use Rattle.std.proofs.Common.{◌≡◌, take}
-use Rattle.roman_cost.proofs.Common.{flat_map, system_of, seat_costs, pair_terms}
+use Rattle.roman_cost.proofs.Common.{◌≡◌, take, flat_map, system_of, seat_costs, pair_terms}
 use Rattle.roman_cost.proofs.filling.first_terms.Given as goal
 
 -- the terms of the pairs so far

@@ -1,5 +1,4 @@
-use Rattle.std.proofs.Common.{◌≡◌, ◌++◌, [], ℕ, suc, List, map, take, append-nil, sym, ap, ap₂, ◌∙◌, subst, arith}
-use Rattle.roman_cost.proofs.Common.{IsIn, least_at, flat_map_row, system_of, value_rows, related_pairs, HavePlaces, AreSmall, seat_costs, nothing_yet, worked_out}
+use Rattle.roman_cost.proofs.Common.{◌≡◌, ◌++◌, [], ℕ, suc, List, map, take, append-nil, sym, ap, ap₂, ◌∙◌, subst, arith, IsIn, least_at, flat_map_row, system_of, value_rows, related_pairs, HavePlaces, AreSmall, seat_costs, nothing_yet, worked_out}
 use Rattle.roman_cost.proofs.CostLemmas.{seat_costs_small}
 use Rattle.roman_cost.proofs.Rows.{row_fits, row_told, row_small}
 use Rattle.roman_cost.proofs.TermLemmas.{each_small, worked_pairs, rest_in, take_in, values_whole}

@@ -1,5 +1,4 @@
-use Rattle.std.proofs.Common.{◌≡◌, ◌<◌, ◌≤◌, ℕ, Bool, Vec, Global, length, ap, sym, ◌∙◌, arith}
-use Rattle.roman_cost.proofs.Common.{rank, sizes_of, count, system_of}
+use Rattle.roman_cost.proofs.Common.{◌≡◌, ◌<◌, ◌≤◌, ℕ, Bool, Vec, Global, length, ap, sym, ◌∙◌, arith, rank, sizes_of, count, system_of}
 use Rattle.roman_cost.proofs.Ranks.{related_at, told_related, rank-le, ranks_more, pairs_taken, pairs_passed, ranks_done}
 use Rattle.roman_cost.proofs.filling.ranked_pairs.Goals as goal
 use Rattle.roman_cost.proofs.filling.ranked_pairs.Goals.{then-related+in_ok-push-2, else-related}

@@ -1,5 +1,4 @@
-use Rattle.std.proofs.Common.{◌≡◌, map, filter}
-use Rattle.roman_cost.proofs.Common.{below, rank, system_of}
+use Rattle.roman_cost.proofs.Common.{◌≡◌, map, filter, below, rank, system_of}
 use Rattle.roman_cost.proofs.Ranks.{related_at}
 use Rattle.roman_cost.proofs.filling.ranked_pairs.Given as goal
 

@@ -1,5 +1,4 @@
-use Rattle.std.proofs.Common.{ℕ, suc, ◌++◌, List, map, get_or, refl, ap, ◌∙◌}
-use Rattle.roman_cost.proofs.Common.{take_all, least_at, system_of, seat_costs}
+use Rattle.roman_cost.proofs.Common.{ℕ, suc, ◌++◌, List, map, get_or, refl, ap, ◌∙◌, take_all, least_at, system_of, seat_costs}
 use Rattle.roman_cost.proofs.CostLemmas.{seat_costs_small}
 use Rattle.roman_cost.proofs.Ranks.{from_related}
 use Rattle.roman_cost.proofs.Rows.{in_at, row_more}

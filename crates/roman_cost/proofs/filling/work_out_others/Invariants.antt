@@ -1,5 +1,4 @@
-use Rattle.std.proofs.Common.{◌≡◌, ℕ, suc, ◌++◌, map, take}
-use Rattle.roman_cost.proofs.Common.{least_at, system_of, related_pairs, seat_costs}
+use Rattle.roman_cost.proofs.Common.{◌≡◌, ℕ, suc, ◌++◌, map, take, least_at, system_of, related_pairs, seat_costs}
 use Rattle.roman_cost.proofs.filling.work_out_others.Given as goal
 
 -- the values of the pairs so far

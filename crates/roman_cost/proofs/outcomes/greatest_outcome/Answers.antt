@@ -1,5 +1,4 @@
-use Rattle.std.proofs.Common.{◌+◌, ◌*◌, ap, ◌∙◌}
-use Rattle.roman_cost.proofs.Common.{take_all, max_over, ranked}
+use Rattle.roman_cost.proofs.Common.{◌+◌, ◌*◌, ap, ◌∙◌, take_all, max_over, ranked}
 use Rattle.roman_cost.proofs.Greatest.{max_stepped, max_all}
 use Rattle.roman_cost.proofs.outcomes.greatest_outcome.Goals as goal
 

@@ -1,5 +1,4 @@
-use Rattle.std.proofs.Common.{◌+◌, ◌*◌, ap}
-use Rattle.roman_cost.proofs.Common.{ranked}
+use Rattle.roman_cost.proofs.Common.{◌+◌, ◌*◌, ap, ranked}
 use Rattle.roman_cost.proofs.Greatest.{max_stepped}
 use Rattle.roman_cost.proofs.outcomes.greatest_state.Goals as goal
 

@@ -1,5 +1,4 @@
-use Rattle.std.proofs.Common.{◌≡◌, ◌+◌, ◌*◌, take}
-use Rattle.roman_cost.proofs.Common.{max_over, ranked}
+use Rattle.roman_cost.proofs.Common.{◌≡◌, ◌+◌, ◌*◌, take, max_over, ranked}
 use Rattle.roman_cost.proofs.outcomes.greatest_state.Given as goal
 
 -- the greatest value so far

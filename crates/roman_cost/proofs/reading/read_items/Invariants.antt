@@ -1,4 +1,4 @@
-use Rattle.std.proofs.Common.{[], map}
+use Rattle.roman_cost.proofs.Common.{[], map}
 use Rattle.serde_json.specs.View.{items_view}
 use Rattle.roman_read.specs.Items.{each_item}
 use Rattle.roman_read.proofs.CallerLemmas.{IsLeft}

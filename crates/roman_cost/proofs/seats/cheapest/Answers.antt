@@ -1,5 +1,5 @@
-use Rattle.std.proofs.Common.{◌≡◌, ℕ, Bool, List, Option, Some, ◌<◌, ◌≤◌, length, filter, IsTrue, IsSome, refl, sym, ap, ◌∙◌, subst, arith}
-use Rattle.roman_cost.proofs.Common.{length-map, IsIn, below, sizes_of, count, pair_at, is_related, offers, first_least, least, choice, through, choice_is, related_great, numbers_are_pairs, related_offers, has, Sys, Pair, is_allowed, has_seat_is, NamedSys, system_of, seat_of, seat_costs, Listed}
+use Rattle.roman_cost.proofs.Common.{◌≡◌, ℕ, Bool, List, Option, Some, ◌<◌, ◌≤◌, length, filter, IsTrue, refl, sym, ap, ◌∙◌, subst, arith, length-map, IsIn, below, sizes_of, count, pair_at, is_related, offers, first_least, least, choice, through, choice_is, related_great, numbers_are_pairs, related_offers, has, Sys, Pair, is_allowed, has_seat_is, NamedSys, system_of, seat_of, seat_costs, Listed}
+use Rattle.std.proofs.Common.{IsSome}
 use Rattle.std.proofs.lemmas.Option.{same_Some}
 use Rattle.roman_joint.specs.NamedSys.{IsNamedSys}
 use Rattle.roman_cost.proofs.Best.{best_of, best_of-taken, best_of-passed, best_of-first}

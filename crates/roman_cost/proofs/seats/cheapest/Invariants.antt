@@ -1,5 +1,4 @@
-use Rattle.std.proofs.Common.{◌≡◌, filter}
-use Rattle.roman_cost.proofs.Common.{below, sizes_of, pair_at, offers, has, system_of, seat_costs}
+use Rattle.roman_cost.proofs.Common.{◌≡◌, filter, below, sizes_of, pair_at, offers, has, system_of, seat_costs}
 use Rattle.roman_cost.proofs.Best.{best_of}
 use Rattle.roman_cost.proofs.OfferedSeats.{cost_by}
 use Rattle.roman_cost.proofs.seats.cheapest.Given as goal

@@ -1,5 +1,4 @@
-use Rattle.std.proofs.Common.{◌≢◌, ◌<◌, [], get_or, All, ◌∙◌, subst, arith}
-use Rattle.roman_cost.proofs.Common.{IsIn, sizes_of, pair_at, in_map, in_flat_map, allowed_in_range, system_of, outcome_number, outcome_numbers, IsRanked}
+use Rattle.roman_cost.proofs.Common.{◌≢◌, ◌<◌, [], get_or, All, ◌∙◌, subst, arith, IsIn, sizes_of, pair_at, in_map, in_flat_map, allowed_in_range, system_of, outcome_number, outcome_numbers, IsRanked}
 use Rattle.roman_cost.proofs.OfferedSeats.{states_some, all_in, greatest_small}
 use Rattle.roman_cost.proofs.Rows.{in_at}
 use Rattle.roman_cost.proofs.seats.cost_through.Goals as goal

@@ -1,5 +1,4 @@
-use Rattle.std.proofs.Common.{◌≡◌, ◌<◌, ℕ, Bool, ◌++◌, [], ◌∷◌, List, Vec, Global, length, filter, sym, ap, ◌∙◌, arith, append_assoc}
-use Rattle.roman_cost.proofs.Common.{flat_map, length-map, IsIn, below, sizes_of, pair_at, numbered, offers, has, has_seat_is, system_of, seat_of, seat_costs, service_terms, Term}
+use Rattle.roman_cost.proofs.Common.{◌≡◌, ◌<◌, ℕ, Bool, ◌++◌, [], ◌∷◌, List, Vec, Global, length, filter, sym, ap, ◌∙◌, arith, append_assoc, flat_map, length-map, IsIn, below, sizes_of, pair_at, numbered, offers, has, has_seat_is, system_of, seat_of, seat_costs, service_terms, Term}
 use Rattle.roman_cost.specs.declared.terms.Term.TheVariants as term
 use Rattle.roman_cost.proofs.OfferedSeats.{seat_in, offered, offers_among}
 use Rattle.roman_cost.proofs.Rows.{all_from}

@@ -1,5 +1,4 @@
-use Rattle.std.proofs.Common.{◌≡◌, ◌++◌, filter}
-use Rattle.roman_cost.proofs.Common.{flat_map, below, sizes_of, pair_at, offers, has, system_of, seat_costs, service_terms}
+use Rattle.roman_cost.proofs.Common.{◌≡◌, ◌++◌, filter, flat_map, below, sizes_of, pair_at, offers, has, system_of, seat_costs, service_terms}
 use Rattle.roman_cost.proofs.terms.push_action.Given as goal
 
 -- the terms of the offered seats so far

@@ -1,5 +1,4 @@
-use Rattle.std.proofs.Common.{◌+◌, ◌*◌, ◌++◌, ℕ, List, map, ap, ◌∙◌}
-use Rattle.roman_cost.proofs.Common.{flat_map, take_all, outcome_terms, Term}
+use Rattle.roman_cost.proofs.Common.{◌+◌, ◌*◌, ◌++◌, ℕ, List, map, ap, ◌∙◌, flat_map, take_all, outcome_terms, Term}
 use Rattle.roman_cost.proofs.TermLemmas.{outcomes_flat}
 use Rattle.roman_cost.proofs.terms.push_outcomes.Goals as goal
 

@@ -1,5 +1,4 @@
-use Rattle.std.proofs.Common.{◌≡◌, ◌+◌, ◌*◌, ◌++◌, map, take}
-use Rattle.roman_cost.proofs.Common.{flat_map, outcome_terms}
+use Rattle.roman_cost.proofs.Common.{◌≡◌, ◌+◌, ◌*◌, ◌++◌, map, take, flat_map, outcome_terms}
 use Rattle.roman_cost.proofs.terms.push_outcomes.Given as goal
 
 -- the terms of the environment's states so far

@@ -1,5 +1,4 @@
-use Rattle.std.proofs.Common.{ℕ, Bool, List, Vec, Global, sym, ap, ◌∙◌}
-use Rattle.roman_cost.proofs.Common.{sizes_of, pair_at, is_allowed, system_of, seat_costs, action_terms, Term}
+use Rattle.roman_cost.proofs.Common.{ℕ, Bool, List, Vec, Global, sym, ap, ◌∙◌, sizes_of, pair_at, is_allowed, system_of, seat_costs, action_terms, Term}
 use Rattle.roman_cost.proofs.TermLemmas.{flat_taken, flat_passed}
 use Rattle.roman_cost.proofs.terms.push_pair.Goals as goal
 use Rattle.roman_cost.proofs.terms.push_pair.Goals.{then-allowed+in_ok-push_action, else-allowed}

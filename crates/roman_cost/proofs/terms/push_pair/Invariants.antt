@@ -1,5 +1,4 @@
-use Rattle.std.proofs.Common.{◌≡◌, ◌++◌, filter}
-use Rattle.roman_cost.proofs.Common.{flat_map, below, sizes_of, pair_at, is_allowed, system_of, seat_costs, action_terms}
+use Rattle.roman_cost.proofs.Common.{◌≡◌, ◌++◌, filter, flat_map, below, sizes_of, pair_at, is_allowed, system_of, seat_costs, action_terms}
 use Rattle.roman_cost.proofs.terms.push_pair.Given as goal
 
 -- the terms of the allowed actions so far

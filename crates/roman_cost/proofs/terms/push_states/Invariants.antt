@@ -1,5 +1,4 @@
-use Rattle.std.proofs.Common.{◌≡◌, ◌+◌, ◌*◌, ◌++◌, map, take}
-use Rattle.roman_cost.proofs.Common.{outcome_terms}
+use Rattle.roman_cost.proofs.Common.{◌≡◌, ◌+◌, ◌*◌, ◌++◌, map, take, outcome_terms}
 use Rattle.roman_cost.proofs.terms.push_states.Given as goal
 
 -- the terms of the states so far

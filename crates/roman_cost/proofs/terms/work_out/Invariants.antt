@@ -1,5 +1,4 @@
-use Rattle.std.proofs.Common.{◌≡◌, ◌++◌, drop}
-use Rattle.roman_cost.proofs.Common.{nothing_yet, worked_out}
+use Rattle.roman_cost.proofs.Common.{◌≡◌, ◌++◌, drop, nothing_yet, worked_out}
 use Rattle.roman_cost.proofs.terms.work_out.Given as goal
 
 -- the values so far, and those that the remaining terms give

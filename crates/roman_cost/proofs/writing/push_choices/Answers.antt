@@ -1,5 +1,4 @@
-use Rattle.std.proofs.Common.{◌<◌, ◌≤◌, ◌+◌, ◌-◌, refl, sym, ◌∙◌, arith}
-use Rattle.roman_cost.proofs.Common.{err_from_is_err_and, sizes_of, pair_at, system_of, choice_line, seat_costs, fill_behind, fill_same, fill_more, fill_failed, fill_end}
+use Rattle.roman_cost.proofs.Common.{◌<◌, ◌≤◌, ◌+◌, ◌-◌, refl, sym, ◌∙◌, arith, err_from_is_err_and, sizes_of, pair_at, system_of, choice_line, seat_costs, fill_behind, fill_same, fill_more, fill_failed, fill_end}
 use Rattle.roman_cost.proofs.Lines.{choices_from, as_taken, choices_begin, next_choice, next_unallowed, no_choice}
 use Rattle.roman_cost.proofs.writing.push_choices.Goals as goal
 

@@ -1,5 +1,4 @@
-use Rattle.std.proofs.Common.{◌≡◌, ◌++◌, ◌-◌}
-use Rattle.roman_cost.proofs.Common.{flat_map, sizes_of, pair_at, allowed_actions, system_of, choice_line, seat_costs, IsFilling}
+use Rattle.roman_cost.proofs.Common.{◌≡◌, ◌++◌, ◌-◌, flat_map, sizes_of, pair_at, allowed_actions, system_of, choice_line, seat_costs, IsFilling}
 use Rattle.roman_cost.proofs.Lines.{choices_from}
 use Rattle.roman_cost.proofs.writing.push_choices.Given as goal
 

@@ -1,5 +1,4 @@
-use Rattle.std.proofs.Common.{refl, ◌∙◌}
-use Rattle.roman_cost.proofs.Common.{err_from_is_err_and, fill_same, fill_more, fill_failed}
+use Rattle.roman_cost.proofs.Common.{refl, ◌∙◌, err_from_is_err_and, fill_same, fill_more, fill_failed}
 use Rattle.roman_cost.proofs.Lines.{next_value}
 use Rattle.roman_cost.proofs.writing.push_row.Goals as goal
 

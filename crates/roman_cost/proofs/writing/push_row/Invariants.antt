@@ -1,5 +1,4 @@
-use Rattle.std.proofs.Common.{◌≡◌, ◌++◌, drop}
-use Rattle.roman_cost.proofs.Common.{flat_map, Costs, least_at, Sys, value_line, value_lines, Advises, IsFilling}
+use Rattle.roman_cost.proofs.Common.{◌≡◌, ◌++◌, drop, flat_map, Costs, least_at, Sys, value_line, value_lines, Advises, IsFilling}
 use Rattle.roman_cost.proofs.writing.push_row.Given as goal
 
 -- the lines of the pairs so far are pushed

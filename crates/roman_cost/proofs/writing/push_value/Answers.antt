@@ -1,5 +1,4 @@
-use Rattle.std.proofs.Common.{◌≡◌, ℕ, List, ◌++◌, codes, decimal, ◌∙◌, subst, append_assoc}
-use Rattle.roman_cost.proofs.Common.{err_from_is_err_and}
+use Rattle.roman_cost.proofs.Common.{◌≡◌, ℕ, List, ◌++◌, codes, decimal, ◌∙◌, subst, append_assoc, err_from_is_err_and}
 use Rattle.roman_io.specs.Sink.{WrotePrefix}
 use Rattle.roman_io.proofs.CallerLemmas.{WrotePrefix-append}
 use Rattle.roman_text.specs.Pages.{Gathers}

@@ -1,5 +1,4 @@
-use Rattle.std.proofs.Common.{refl, ◌∙◌, arith}
-use Rattle.roman_cost.proofs.Common.{err_from_is_err_and, fill_behind, fill_same, fill_more, fill_failed, fill_end}
+use Rattle.roman_cost.proofs.Common.{refl, ◌∙◌, arith, err_from_is_err_and, fill_behind, fill_same, fill_more, fill_failed, fill_end}
 use Rattle.roman_cost.proofs.Lines.{next_row, no_row}
 use Rattle.roman_cost.proofs.writing.push_values.Goals as goal
 

@@ -1,5 +1,4 @@
-use Rattle.std.proofs.Common.{◌≡◌, ◌++◌, suc, drop}
-use Rattle.roman_cost.proofs.Common.{flat_map, below, Costs, Sys, value_lines, certificate_text, Advises, IsFilling}
+use Rattle.roman_cost.proofs.Common.{◌≡◌, ◌++◌, suc, drop, flat_map, below, Costs, Sys, value_lines, certificate_text, Advises, IsFilling}
 use Rattle.roman_cost.proofs.writing.push_values.Given as goal
 
 -- the lines of the numbers of requests so far are pushed

@@ -1,5 +1,4 @@
-use Rattle.std.proofs.Common.{◌≡◌, ap, ◌∙◌, get_or, length, ◌<◌, arith}
-use Rattle.roman_library.specs.Library.{plain}
+use Rattle.roman_extent.proofs.Common.{◌≡◌, ap, ◌∙◌, get_or, length, ◌<◌, arith, plain}
 use Rattle.roman_extent.proofs.ExtentLemmas.{sizes_push}
 use Rattle.roman_extent.proofs.extent.service_sizes.Goals as goal
 

@@ -1,6 +1,4 @@
-use Rattle.std.proofs.Common.{◌≡◌, map, take}
-use Rattle.roman_library.specs.Library.{plain}
-use Rattle.roman_extent.specs.Extents.{states_in}
+use Rattle.roman_extent.proofs.Common.{◌≡◌, map, take, plain, states_in}
 use Rattle.roman_extent.proofs.extent.service_sizes.Given as goal
 
 -- the sizes so far

@@ -1,6 +1,4 @@
-use Rattle.std.proofs.Common.{ap, ◌∙◌, ◌++◌, ◌∷◌, [], List, ℕ, length}
-use Rattle.roman_model.specs.Lists.{product_of}
-use Rattle.roman_library.specs.Library.{plain}
+use Rattle.roman_extent.proofs.Common.{ap, ◌∙◌, ◌++◌, ◌∷◌, [], List, ℕ, length, product_of, plain}
 use Rattle.roman_extent.proofs.ExtentLemmas.{cells_are}
 use Rattle.roman_extent.proofs.extent.sizes_in.Goals as goal
 

@@ -1,5 +1,4 @@
-use Rattle.std.proofs.Common.{◌∙◌, refl, ap, sym, ap₂, ◌*◌, ◌-◌, ◌^◌, min, take, ℕ}
-use Rattle.roman_model.specs.Lists.{product_of}
+use Rattle.roman_extent.proofs.Common.{◌∙◌, refl, ap, sym, ap₂, ◌*◌, ◌-◌, ◌^◌, min, take, ℕ, product_of}
 use Rattle.roman_extent.proofs.DigitLemmas.{cut_step, product_more}
 use Rattle.roman_extent.proofs.products.is_within.Goals as goal
 

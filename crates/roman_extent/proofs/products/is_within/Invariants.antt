@@ -1,5 +1,4 @@
-use Rattle.std.proofs.Common.{◌≡◌, ◌-◌, ◌^◌, min, take}
-use Rattle.roman_model.specs.Lists.{product_of}
+use Rattle.roman_extent.proofs.Common.{◌≡◌, ◌-◌, ◌^◌, min, take, product_of}
 use Rattle.roman_extent.proofs.products.is_within.Given as goal
 
 -- the product so far, cut off at the greatest number of the type

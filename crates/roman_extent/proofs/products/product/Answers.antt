@@ -1,5 +1,4 @@
-use Rattle.std.proofs.Common.{◌∙◌, ap, sym, refl, ℕ, ◌*◌, get_or}
-use Rattle.roman_extent.specs.Digits.{number_with_digits}
+use Rattle.roman_extent.proofs.Common.{◌∙◌, ap, sym, refl, ℕ, ◌*◌, get_or, number_with_digits}
 use Rattle.roman_extent.proofs.DigitLemmas.{product_more}
 use Rattle.roman_extent.proofs.products.product.Goals as goal
 

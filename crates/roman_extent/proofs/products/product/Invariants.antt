@@ -1,6 +1,4 @@
-use Rattle.std.proofs.Common.{◌≡◌, take}
-use Rattle.roman_model.specs.Lists.{product_of}
-use Rattle.roman_extent.specs.Digits.{AreDigits, number_with_digits}
+use Rattle.roman_extent.proofs.Common.{◌≡◌, take, product_of, AreDigits, number_with_digits}
 use Rattle.roman_extent.proofs.products.product.Given as goal
 
 -- the digits of the product so far

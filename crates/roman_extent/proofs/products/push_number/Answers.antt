@@ -1,5 +1,4 @@
-use Rattle.std.proofs.Common.{◌∙◌, ap, sym, subst, List, ℕ, length, ◌+◌, ◌*◌, ◌/◌, ◌^◌}
-use Rattle.roman_extent.specs.Digits.{AreDigits, number_with_digits}
+use Rattle.roman_extent.proofs.Common.{◌∙◌, ap, sym, subst, List, ℕ, length, ◌+◌, ◌*◌, ◌/◌, ◌^◌, AreDigits, number_with_digits}
 use Rattle.roman_extent.proofs.DigitLemmas.{carry_step, digits_push}
 use Rattle.roman_extent.proofs.products.push_number.Goals as goal
 

@@ -1,5 +1,4 @@
-use Rattle.std.proofs.Common.{◌≡◌, ◌+◌, ◌*◌, ◌^◌, length}
-use Rattle.roman_extent.specs.Digits.{AreDigits, number_with_digits}
+use Rattle.roman_extent.proofs.Common.{◌≡◌, ◌+◌, ◌*◌, ◌^◌, length, AreDigits, number_with_digits}
 use Rattle.roman_extent.proofs.products.push_number.Given as goal
 
 -- the digits so far, and the rest of the number

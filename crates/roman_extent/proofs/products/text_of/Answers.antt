@@ -1,6 +1,4 @@
-use Rattle.std.proofs.Common.{◌≡◌, ◌∙◌, ap, sym, subst, List, ℕ, length, take, string_bytes, ◌+◌, ◌-◌, ◌*◌, ◌^◌, ◌<◌, ◌++◌, ◌∷◌, [], get_or, refl, arith}
-use Rattle.std.specs.Str.Parse.{AllDigits, digits_value}
-use Rattle.roman_extent.specs.Digits.{number_with_digits}
+use Rattle.roman_extent.proofs.Common.{◌≡◌, ◌∙◌, ap, sym, subst, List, ℕ, length, take, string_bytes, ◌+◌, ◌-◌, ◌*◌, ◌^◌, ◌<◌, ◌++◌, ◌∷◌, [], get_or, refl, arith, AllDigits, digits_value, number_with_digits}
 use Rattle.roman_extent.proofs.DigitLemmas.{all_digits_push, glyph_value, text_step}
 use Rattle.roman_extent.proofs.products.text_of.Goals as goal
 

@@ -1,6 +1,4 @@
-use Rattle.std.proofs.Common.{◌≡◌, ◌+◌, ◌*◌, ◌^◌, take, string_bytes}
-use Rattle.std.specs.Str.Parse.{AllDigits, digits_value}
-use Rattle.roman_extent.specs.Digits.{number_with_digits}
+use Rattle.roman_extent.proofs.Common.{◌≡◌, ◌+◌, ◌*◌, ◌^◌, take, string_bytes, AllDigits, digits_value, number_with_digits}
 use Rattle.roman_extent.proofs.products.text_of.Given as goal
 
 -- the text of the digits from place i on

@@ -1,5 +1,4 @@
-use Rattle.std.proofs.Common.{◌≡◌, ◌+◌, ◌*◌, ◌^◌, ◌<◌, length, take}
-use Rattle.roman_extent.specs.Digits.{AreDigits, number_with_digits}
+use Rattle.roman_extent.proofs.Common.{◌≡◌, ◌+◌, ◌*◌, ◌^◌, ◌<◌, length, take, AreDigits, number_with_digits}
 use Rattle.roman_extent.proofs.products.times.Given as goal
 
 -- the digits so far, and the carry

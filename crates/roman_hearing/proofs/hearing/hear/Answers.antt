@@ -1,5 +1,5 @@
-use Rattle.std.proofs.Common.{◌++◌, [], inr, take, refl, ◌∙◌, arith, length-append, length-take-le}
-use Rattle.roman_hearing.proofs.Common.{Gave-then}
+use Rattle.roman_hearing.proofs.Common.{◌++◌, [], inr, take, refl, ◌∙◌, arith, length-append, Gave-then}
+use Rattle.std.proofs.Common.{length-take-le}
 use Rattle.roman_io.proofs.CallerLemmas.{Gave-nil, gave_at_most}
 use Rattle.roman_hearing.proofs.HearingLemmas.{hearing_starts}
 use Rattle.roman_hearing.proofs.HearingEnds.{rest_out, rest_stops_short, rest_prefixes, rest_not_read, rest_not_long, out_at_quit, gave_quit, piece_cut_off, piece_stops_short, piece_prefixes, piece_not_read}

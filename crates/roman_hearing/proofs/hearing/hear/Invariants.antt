@@ -1,5 +1,4 @@
-use Rattle.std.proofs.Common.{◌≡◌, ◌+◌, List, [], ℕ, length}
-use Rattle.roman_hearing.proofs.Common.{Gave, MAX_SESSION_BYTES, cursor, reader_state, IsHearing}
+use Rattle.roman_hearing.proofs.Common.{◌≡◌, ◌+◌, List, [], ℕ, length, Gave, MAX_SESSION_BYTES, cursor, reader_state, IsHearing}
 use Rattle.roman_hearing.proofs.hearing.hear.Given as goal
 
 abbrev pub invariant-takes : goal.invariant-takes

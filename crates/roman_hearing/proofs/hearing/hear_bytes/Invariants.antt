@@ -1,5 +1,4 @@
-use Rattle.std.proofs.Common.{◌≡◌, ◌++◌, List, ℕ, Option, length}
-use Rattle.roman_hearing.proofs.Common.{Situation, cursor, reader_state, IsHearing}
+use Rattle.roman_hearing.proofs.Common.{◌≡◌, ◌++◌, List, ℕ, Option, length, Situation, cursor, reader_state, IsHearing}
 use Rattle.roman_hearing.proofs.hearing.hear_bytes.Given as goal
 
 -- the bytes before the rest were read

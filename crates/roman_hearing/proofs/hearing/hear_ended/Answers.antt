@@ -1,5 +1,4 @@
-use Rattle.std.proofs.Common.{◌++◌, sym, ◌∙◌}
-use Rattle.roman_hearing.proofs.Common.{unfinished}
+use Rattle.roman_hearing.proofs.Common.{◌++◌, sym, ◌∙◌, unfinished}
 use Rattle.roman_hearing.proofs.HearingLemmas.{alone_kept, more_kept, hears_ended}
 use Rattle.roman_hearing.proofs.hearing.hear_ended.Goals as goal
 

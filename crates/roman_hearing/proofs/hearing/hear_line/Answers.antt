@@ -1,5 +1,4 @@
-use Rattle.std.proofs.Common.{sym, ap, ◌∙◌}
-use Rattle.roman_hearing.proofs.Common.{shape_of}
+use Rattle.roman_hearing.proofs.Common.{sym, ap, ◌∙◌, shape_of}
 use Rattle.roman_hearing.proofs.HearingLemmas.{answered_on_alike}
 use Rattle.roman_hearing.proofs.hearing.hear_line.Goals as goal
 

@@ -1,5 +1,4 @@
-use Rattle.std.proofs.Common.{[], Ok, ◌++◌, take, sym, subst, arith, List, ℕ}
-use Rattle.roman_hearing.proofs.Common.{Next, cursor, reader_state, IsHearing, StopsAtQuit, FailsIn, HearsPiece}
+use Rattle.roman_hearing.proofs.Common.{[], Ok, ◌++◌, take, sym, subst, arith, List, ℕ, Next, cursor, reader_state, IsHearing, StopsAtQuit, FailsIn, HearsPiece}
 use Rattle.roman_hearing.proofs.HearingLemmas.{due_part, due_whole, put_hearing, put_quit, put_failed}
 use Rattle.roman_hearing.proofs.hearing.hear_piece.Goals as goal
 

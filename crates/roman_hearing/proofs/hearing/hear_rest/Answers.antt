@@ -1,6 +1,4 @@
-use Rattle.std.proofs.Common.{List, ℕ, sym, ◌∙◌, subst}
-use Rattle.roman_hearing.proofs.Common.{unfinished, cursor, reader_state, IsHearing}
-use Rattle.roman_text.proofs.CallerLemmas.{kept-again}
+use Rattle.roman_hearing.proofs.Common.{List, ℕ, sym, ◌∙◌, subst, unfinished, cursor, reader_state, IsHearing, kept-again}
 use Rattle.roman_hearing.proofs.HearingLemmas.{hears_no_rest, hears_rest, fails_put, fails_rest}
 use Rattle.roman_hearing.proofs.hearing.hear_rest.Goals as goal
 

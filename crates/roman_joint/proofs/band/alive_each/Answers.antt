@@ -1,5 +1,4 @@
-use Rattle.std.proofs.Common.{ℕ, ◌+◌, ◌-◌, ◌*◌, ◌<◌, ◌∙◌, not, ◌&&◌, ap, get_or, length, slice_index, arith}
-use Rattle.roman_joint.proofs.Common.{list_any, is_on, system_of, band_in, turn_at}
+use Rattle.roman_joint.proofs.Common.{ℕ, ◌+◌, ◌-◌, ◌*◌, ◌<◌, ◌∙◌, not, ◌&&◌, ap, get_or, length, slice_index, arith, list_any, is_on, system_of, band_in, turn_at}
 use Rattle.roman_joint.proofs.Finds.{in_at}
 use Rattle.roman_joint.proofs.SplitLemmas.{joint_sizes}
 use Rattle.roman_joint.proofs.GoodLemmas.{known, RowsThere, rows_there, alive_there}

@@ -1,5 +1,4 @@
-use Rattle.std.proofs.Common.{◌*◌, ◌<◌, refl, ◌∙◌, arith}
-use Rattle.roman_joint.proofs.Common.{is_beaten, sizes_of, numbered, row_sizes, system_of, lane_state_of, band_in}
+use Rattle.roman_joint.proofs.Common.{◌*◌, ◌<◌, refl, ◌∙◌, arith, is_beaten, sizes_of, numbered, row_sizes, system_of, lane_state_of, band_in}
 use Rattle.roman_joint.proofs.SplitLemmas.{joint_sizes}
 use Rattle.roman_joint.proofs.BandLemmas.{own_seat, state_few, where_more, where_all}
 use Rattle.roman_joint.proofs.band.clear_own.Goals as goal

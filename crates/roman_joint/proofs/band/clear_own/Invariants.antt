@@ -1,5 +1,4 @@
-use Rattle.std.proofs.Common.{◌≡◌, ℕ, ◌*◌, ◌<◌, Bool, length}
-use Rattle.roman_joint.proofs.Common.{is_beaten, sizes_of, numbered, row_sizes, system_of, lane_state_of, IsRow, IsTargetMove, band_in, AllAlive, KeepsWhere, TargetMove}
+use Rattle.roman_joint.proofs.Common.{◌≡◌, ℕ, ◌*◌, ◌<◌, Bool, length, is_beaten, sizes_of, numbered, row_sizes, system_of, lane_state_of, IsRow, IsTargetMove, band_in, AllAlive, KeepsWhere, TargetMove}
 use Rattle.roman_joint.proofs.band.clear_own.Given as goal
 
 -- the pairs of the rows of the states so far are cleared

@@ -1,5 +1,4 @@
-use Rattle.std.proofs.Common.{◌≡◌, ℕ, ◌+◌, ◌*◌, ◌/◌, ◌%◌, ◌<◌, true, not, ◌&&◌, slice_index, IsFalse, refl, sym, ap, ap₂, ◌∙◌, arith}
-use Rattle.roman_joint.proofs.Common.{is_empty, is_beaten, sizes_of, numbered, empty_is, row_sizes, lanes_few, is_on, on_zero, system_of, lanes_in, lane_state_of, band_in}
+use Rattle.roman_joint.proofs.Common.{◌≡◌, ℕ, ◌+◌, ◌*◌, ◌/◌, ◌%◌, ◌<◌, true, not, ◌&&◌, slice_index, IsFalse, refl, sym, ap, ap₂, ◌∙◌, arith, is_empty, is_beaten, sizes_of, numbered, empty_is, row_sizes, lanes_few, is_on, on_zero, system_of, lanes_in, lane_state_of, band_in}
 use Rattle.roman_joint.proofs.SeatLemmas.{len_empty}
 use Rattle.roman_joint.proofs.SplitLemmas.{joint_sizes}
 use Rattle.roman_joint.proofs.WordLemmas.{not_not, all_pass}

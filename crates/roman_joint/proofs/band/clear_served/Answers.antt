@@ -1,5 +1,4 @@
-use Rattle.std.proofs.Common.{◌≡◌, ℕ, ◌*◌, ◌<◌, ◌≤◌, length, slice_index, ◌∙◌, subst, arith}
-use Rattle.roman_joint.proofs.Common.{length-map, all_below, is_beaten, sizes_of, numbered, row_sizes, lanes_few, Keeps, system_of, seat_of, lanes_in, band_in}
+use Rattle.roman_joint.proofs.Common.{◌≡◌, ℕ, ◌*◌, ◌<◌, ◌≤◌, length, slice_index, ◌∙◌, subst, arith, length-map, all_below, is_beaten, sizes_of, numbered, row_sizes, lanes_few, Keeps, system_of, seat_of, lanes_in, band_in}
 use Rattle.roman_joint.proofs.BandLemmas.{mid_few, keeps_cut, keeps_seat}
 use Rattle.roman_joint.proofs.band.clear_served.Goals as goal
 

@@ -1,5 +1,4 @@
-use Rattle.std.proofs.Common.{◌≡◌, ℕ, ◌*◌, Bool, not, length}
-use Rattle.roman_joint.proofs.Common.{all_below, is_beaten, numbered, AreRows, Keeps, system_of, lanes_in, IsRow, band_in}
+use Rattle.roman_joint.proofs.Common.{◌≡◌, ℕ, ◌*◌, Bool, not, length, all_below, is_beaten, numbered, AreRows, Keeps, system_of, lanes_in, IsRow, band_in}
 use Rattle.roman_joint.proofs.band.clear_served.Given as goal
 
 -- the pairs that no seat so far serves are left

@@ -1,5 +1,4 @@
-use Rattle.std.proofs.Common.{◌+◌, ◌*◌, arith}
-use Rattle.roman_joint.proofs.Common.{is_beaten, numbered, system_of, seat_of, band_in, turn_at}
+use Rattle.roman_joint.proofs.Common.{◌+◌, ◌*◌, arith, is_beaten, numbered, system_of, seat_of, band_in, turn_at}
 use Rattle.roman_joint.proofs.ArenaFacts.{joint_numbered}
 use Rattle.roman_joint.proofs.SeatLemmas.{seat_placed}
 use Rattle.roman_joint.proofs.GoodLemmas.{known}

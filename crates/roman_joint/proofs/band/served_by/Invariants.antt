@@ -1,5 +1,4 @@
-use Rattle.std.proofs.Common.{◌≡◌, ℕ, ◌+◌, ◌*◌, ◌≤◌, Bool, not, sum_by}
-use Rattle.roman_joint.proofs.Common.{below, numbered, AreRows, served_by, system_of, lanes_in, IsRow, band_in, AllAlive}
+use Rattle.roman_joint.proofs.Common.{◌≡◌, ℕ, ◌+◌, ◌*◌, ◌≤◌, Bool, not, sum_by, below, numbered, AreRows, served_by, system_of, lanes_in, IsRow, band_in, AllAlive}
 use Rattle.roman_joint.proofs.band.served_by.Given as goal
 
 -- the pairs of the rows so far at which the seat serves are counted

@@ -1,5 +1,4 @@
-use Rattle.std.proofs.Common.{◌≡◌, ℕ, ◌+◌, ◌*◌, Bool, ◌&&◌, ◌||◌, ltb, add-one, slice_get, slice_index, sym, ap, ap₂, ◌∙◌, arith}
-use Rattle.roman_joint.proofs.Common.{length-map, all_below, and_assoc, and-true, le-ltb, seat_of, NamedSys, sizes_of, pair_at, is_on, on_zero, on_and, system_of, lanes_in, low_in, mid_in, may_rest, band_in}
+use Rattle.roman_joint.proofs.Common.{◌≡◌, ℕ, ◌+◌, ◌*◌, Bool, ◌&&◌, ◌||◌, ltb, add-one, slice_get, slice_index, sym, ap, ap₂, ◌∙◌, arith, length-map, all_below, and_assoc, and-true, le-ltb, seat_of, NamedSys, system_of, sizes_of, pair_at, is_on, on_zero, on_and, lanes_in, low_in, may_rest, mid_in, band_in}
 use Rattle.roman_joint.proofs.RestLemmas.{mid_low_le, low_seats, none_own, some_rest_not, rest_together}
 use Rattle.roman_joint.proofs.fine.all_rest_in.Goals as goal
 

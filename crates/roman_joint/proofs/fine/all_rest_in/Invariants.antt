@@ -1,5 +1,4 @@
-use Rattle.std.proofs.Common.{◌≡◌, ℕ, ◌+◌, ◌*◌, ◌<◌, ◌&&◌, ◌||◌, ltb, slice_get, slice_index}
-use Rattle.roman_joint.proofs.Common.{all_below, sizes_of, pair_at, is_on, system_of, lanes_in, IsRow, may_rest, mid_in, band_in, Row}
+use Rattle.roman_joint.proofs.Common.{◌≡◌, ℕ, ◌+◌, ◌*◌, ◌<◌, ◌&&◌, ◌||◌, ltb, slice_get, slice_index, all_below, sizes_of, pair_at, is_on, system_of, lanes_in, IsRow, may_rest, mid_in, band_in, Row}
 use Rattle.roman_joint.proofs.fine.all_rest_in.Given as goal
 
 -- the lanes at which the other seats and the band's own so far may rest

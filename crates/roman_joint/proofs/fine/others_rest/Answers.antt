@@ -1,6 +1,4 @@
-use Rattle.std.proofs.Common.{◌≡◌, ℕ, ◌+◌, ◌*◌, true, ◌&&◌, ◌||◌, add-one, length, slice_get, slice_index, sym, ap, ap₂, ◌∙◌, arith}
-use Rattle.roman_joint.proofs.Common.{length-map, all_below, sizes_of, pair_at, is_on, on_zero, on_and, system_of, seat_of, lanes_in, may_rest, band_in}
-use Rattle.roman_joint.specs.Own.{is_own}
+use Rattle.roman_joint.proofs.Common.{◌≡◌, ℕ, ◌+◌, ◌*◌, true, ◌&&◌, ◌||◌, add-one, length, slice_get, slice_index, sym, ap, ap₂, ◌∙◌, arith, length-map, all_below, sizes_of, pair_at, is_on, on_zero, on_and, system_of, seat_of, lanes_in, may_rest, band_in, is_own}
 use Rattle.roman_joint.proofs.AllowedLemmas.{cut_off}
 use Rattle.roman_joint.proofs.fine.others_rest.Goals as goal
 

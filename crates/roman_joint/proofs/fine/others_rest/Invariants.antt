@@ -1,6 +1,4 @@
-use Rattle.std.proofs.Common.{◌≡◌, ℕ, ◌+◌, ◌*◌, ◌<◌, ◌||◌, slice_get, slice_index}
-use Rattle.roman_joint.proofs.Common.{all_below, sizes_of, pair_at, is_on, system_of, lanes_in, IsRow, may_rest, band_in}
-use Rattle.roman_joint.specs.Own.{is_own}
+use Rattle.roman_joint.proofs.Common.{◌≡◌, ℕ, ◌+◌, ◌*◌, ◌<◌, ◌||◌, slice_get, slice_index, all_below, sizes_of, pair_at, is_on, system_of, lanes_in, IsRow, may_rest, band_in, is_own}
 use Rattle.roman_joint.proofs.fine.others_rest.Given as goal
 
 -- the lanes at which the seats so far may rest, unless they are the band's own

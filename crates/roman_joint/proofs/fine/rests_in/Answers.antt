@@ -1,5 +1,4 @@
-use Rattle.std.proofs.Common.{◌/◌, ◌%◌, ◌&&◌, ◌||◌, slice_get, slice_index, sym, ap, ap₂, ◌∙◌, arith}
-use Rattle.roman_joint.proofs.Common.{sizes_of, AreSizes-index, low_of-le, on_zero, system_of, may_rest}
+use Rattle.roman_joint.proofs.Common.{◌/◌, ◌%◌, ◌&&◌, ◌||◌, slice_get, slice_index, sym, ap, ap₂, ◌∙◌, arith, sizes_of, AreSizes-index, low_of-le, on_zero, system_of, may_rest}
 use Rattle.roman_joint.proofs.SplitLemmas.{joint_sizes}
 use Rattle.roman_joint.proofs.GoodLemmas.{full_on}
 use Rattle.roman_joint.proofs.BandLemmas.{in_band, own_seat, own_row}

@@ -1,5 +1,4 @@
-use Rattle.std.proofs.Common.{◌≤◌, slice_get, sym, ap, subst, ◌∙◌, arith}
-use Rattle.roman_joint.proofs.Common.{sizes_of, system_of, low_in, may_rest, on_zero}
+use Rattle.roman_joint.proofs.Common.{◌≤◌, slice_get, sym, ap, subst, ◌∙◌, arith, sizes_of, system_of, low_in, may_rest, on_zero}
 use Rattle.roman_joint.proofs.SplitLemmas.{joint_sizes}
 use Rattle.roman_joint.proofs.LeadLemmas.{lane_part}
 use Rattle.roman_joint.proofs.GoodLemmas.{within, full_on}

@@ -1,5 +1,4 @@
-use Rattle.std.proofs.Common.{◌≡◌, ◌+◌, ◌*◌, ◌<◌, ◌≤◌, ◌||◌, slice_get, slice_index, sym, ap, subst, ◌∙◌}
-use Rattle.roman_joint.proofs.Common.{sizes_of, pair_at, is_on, system_of, lanes_in, low_in, may_rest, mid_in, band_in}
+use Rattle.roman_joint.proofs.Common.{◌≡◌, ◌+◌, ◌*◌, ◌<◌, ◌≤◌, ◌||◌, slice_get, slice_index, sym, ap, subst, ◌∙◌, sizes_of, pair_at, is_on, system_of, lanes_in, low_in, may_rest, mid_in, band_in}
 use Rattle.roman_joint.proofs.SplitLemmas.{joint_sizes}
 use Rattle.roman_joint.proofs.LeadLemmas.{lane_part}
 use Rattle.roman_joint.proofs.GoodLemmas.{within, full_on}

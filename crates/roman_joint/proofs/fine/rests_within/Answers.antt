@@ -1,5 +1,4 @@
-use Rattle.std.proofs.Common.{◌/◌, ◌&&◌, slice_get, slice_index, ap, ◌∙◌, arith}
-use Rattle.roman_joint.proofs.Common.{le-ltb, lt-ltb, mod_below, sizes_of, stride_of, AreSizes-index, system_of, lane_state_of, may_rest, on_zero}
+use Rattle.roman_joint.proofs.Common.{◌/◌, ◌&&◌, slice_get, slice_index, ap, ◌∙◌, arith, le-ltb, lt-ltb, mod_below, sizes_of, stride_of, AreSizes-index, system_of, lane_state_of, may_rest, on_zero}
 use Rattle.roman_joint.proofs.SplitLemmas.{joint_sizes}
 use Rattle.roman_joint.proofs.GoodLemmas.{within, below_more, state_is}
 use Rattle.roman_joint.proofs.AllowedLemmas.{same_state}

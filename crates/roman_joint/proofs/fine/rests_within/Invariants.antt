@@ -1,5 +1,4 @@
-use Rattle.std.proofs.Common.{◌≡◌, ℕ, ◌<◌, ◌&&◌, slice_get, ltb}
-use Rattle.roman_joint.proofs.Common.{sizes_of, is_on, system_of, lanes_in, lane_state_of, may_rest}
+use Rattle.roman_joint.proofs.Common.{◌≡◌, ℕ, ◌<◌, ◌&&◌, slice_get, ltb, sizes_of, is_on, system_of, lanes_in, lane_state_of, may_rest}
 use Rattle.roman_joint.proofs.fine.rests_within.Given as goal
 
 -- the lanes of the states so far in which the seat may rest

@@ -1,5 +1,4 @@
-use Rattle.std.proofs.Common.{get_or, length, arith}
-use Rattle.roman_joint.proofs.Common.{system_of}
+use Rattle.roman_joint.proofs.Common.{get_or, length, arith, system_of}
 use Rattle.roman_joint.proofs.Finds.{in_at}
 use Rattle.roman_joint.proofs.GoodLemmas.{known, RowsThere, rows_there, alive_there}
 use Rattle.roman_joint.proofs.good.alive_on.Goals as goal

@@ -1,5 +1,4 @@
-use Rattle.std.proofs.Common.{get_or, length, IsFalse, sym, ◌∙◌, arith}
-use Rattle.roman_joint.proofs.Common.{is_empty, not_empty_in, empty_is, system_of}
+use Rattle.roman_joint.proofs.Common.{get_or, length, IsFalse, sym, ◌∙◌, arith, is_empty, not_empty_in, empty_is, system_of}
 use Rattle.roman_joint.proofs.Finds.{in_at}
 use Rattle.roman_joint.proofs.SeatLemmas.{len_empty}
 use Rattle.roman_joint.proofs.GoodLemmas.{low_few, Known, known, RowsBefore, rows_before, serves_before, beaten_before}

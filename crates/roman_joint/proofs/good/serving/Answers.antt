@@ -1,5 +1,4 @@
-use Rattle.std.proofs.Common.{arith}
-use Rattle.roman_joint.proofs.Common.{length-map, low_of-le}
+use Rattle.roman_joint.proofs.Common.{arith, length-map, low_of-le}
 use Rattle.roman_joint.proofs.good.serving.Goals as goal
 
 pub returns-then-alive-eq0-clause-few : goal.returns-then-alive-eq0-clause-few

@@ -1,5 +1,4 @@
-use Rattle.std.proofs.Common.{◌≡◌, ℕ, ◌+◌, ◌-◌, ◌^◌, ◌≤◌, ltb, refl, ◌∙◌, arith}
-use Rattle.roman_joint.proofs.Common.{nat_tests}
+use Rattle.roman_joint.proofs.Common.{◌≡◌, ℕ, ◌+◌, ◌-◌, ◌^◌, ◌≤◌, ltb, refl, ◌∙◌, arith, nat_tests}
 use Rattle.roman_joint.proofs.WordLemmas.{on_shr, on_first}
 use Rattle.roman_joint.proofs.layout.all_lanes.Goals as goal
 

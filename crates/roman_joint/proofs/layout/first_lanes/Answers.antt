@@ -1,5 +1,4 @@
-use Rattle.std.proofs.Common.{◌≡◌, Bool, true, false, cond, refl, arith}
-use Rattle.roman_joint.proofs.Common.{cases_eq, on_zero}
+use Rattle.roman_joint.proofs.Common.{◌≡◌, Bool, true, false, cond, refl, arith, cases_eq, on_zero}
 use Rattle.roman_joint.proofs.GoodLemmas.{state_is}
 use Rattle.roman_joint.proofs.layout.first_lanes.Goals as goal
 

@@ -1,5 +1,4 @@
-use Rattle.std.proofs.Common.{◌≡◌, ℕ, ◌<◌, ◌≤◌, false}
-use Rattle.roman_joint.proofs.Common.{is_on, lane_has_state}
+use Rattle.roman_joint.proofs.Common.{◌≡◌, ℕ, ◌<◌, ◌≤◌, false, is_on, lane_has_state}
 use Rattle.roman_joint.proofs.layout.first_lanes.Given as goal
 
 -- the word is right for the lanes so far

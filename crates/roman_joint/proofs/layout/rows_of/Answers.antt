@@ -1,5 +1,4 @@
-use Rattle.std.proofs.Common.{◌/◌, ◌<◌, ◌≤◌, length, sym, ap, subst, arith}
-use Rattle.roman_joint.proofs.Common.{AreSizes-index}
+use Rattle.roman_joint.proofs.Common.{◌/◌, ◌<◌, ◌≤◌, length, sym, ap, subst, arith, AreSizes-index}
 use Rattle.roman_joint.proofs.SplitLemmas.{rows_made}
 use Rattle.roman_joint.proofs.LeadLemmas.{stride_positive}
 use Rattle.roman_joint.proofs.layout.rows_of.Goals as goal

@@ -1,5 +1,4 @@
-use Rattle.std.proofs.Common.{◌≡◌, ℕ, ◌/◌, ◌<◌, length, slice_index, ltb, if◌then◌else◌}
-use Rattle.roman_joint.proofs.Common.{stride_of, is_on, lane_has_state}
+use Rattle.roman_joint.proofs.Common.{◌≡◌, ℕ, ◌/◌, ◌<◌, length, slice_index, ltb, if◌then◌else◌, stride_of, is_on, lane_has_state}
 use Rattle.roman_joint.proofs.layout.rows_of.Given as goal
 
 -- the numbers of the services so far are set

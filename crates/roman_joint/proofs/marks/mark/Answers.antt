@@ -1,4 +1,4 @@
-use Rattle.std.proofs.Common.{◌/◌, ◌%◌, refl, arith}
+use Rattle.roman_joint.proofs.Common.{◌/◌, ◌%◌, refl, arith}
 use Rattle.roman_joint.proofs.MarkLemmas.{put_mark}
 use Rattle.roman_joint.proofs.marks.mark.Goals as goal
 

@@ -1,5 +1,4 @@
-use Rattle.std.proofs.Common.{ℕ, get_or, sym, ◌∙◌, arith}
-use Rattle.roman_joint.proofs.Common.{take_all, shr_and_one, system_of, front_env, MarksEnv}
+use Rattle.roman_joint.proofs.Common.{ℕ, get_or, sym, ◌∙◌, arith, take_all, shr_and_one, system_of, front_env, MarksEnv}
 use Rattle.roman_joint.proofs.MarkLemmas.{grows_on, env_on, more_below, each_in, count_more, none_leads}
 use Rattle.roman_joint.proofs.marks.mark_action.Goals as goal
 

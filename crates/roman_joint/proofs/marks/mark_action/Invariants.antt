@@ -1,5 +1,4 @@
-use Rattle.std.proofs.Common.{◌≡◌, ℕ, ◌+◌, ◌<◌, length, take, get_or}
-use Rattle.roman_joint.proofs.Common.{flat_map, Pair, system_of, front_env, Grows, MarksEnv, IsAt}
+use Rattle.roman_joint.proofs.Common.{◌≡◌, ℕ, ◌+◌, ◌<◌, length, take, get_or, flat_map, Pair, system_of, front_env, Grows, MarksEnv, IsAt}
 use Rattle.roman_joint.proofs.marks.mark_action.Given as goal
 
 -- the bands of the environment's states so far are marked

@@ -1,5 +1,4 @@
-use Rattle.std.proofs.Common.{ℕ, get_or, sym, arith}
-use Rattle.roman_joint.proofs.Common.{take_all, system_of, front_target, MarksTurn}
+use Rattle.roman_joint.proofs.Common.{ℕ, get_or, sym, arith, take_all, system_of, front_target, MarksTurn}
 use Rattle.roman_joint.proofs.MarkLemmas.{grows_on, turn_on, more_below, each_in, count_more}
 use Rattle.roman_joint.proofs.marks.mark_env.Goals as goal
 

@@ -1,5 +1,4 @@
-use Rattle.std.proofs.Common.{◌≡◌, ℕ, ◌+◌, ◌*◌, ◌/◌, inl, inr, length, slice_index, get_or, sym, ap, ◌∙◌, subst, arith}
-use Rattle.roman_joint.proofs.Common.{cases_eq, system_of, lanes_in, IsMarked}
+use Rattle.roman_joint.proofs.Common.{◌≡◌, ℕ, ◌+◌, ◌*◌, ◌/◌, inl, inr, length, slice_index, get_or, sym, ap, ◌∙◌, subst, arith, cases_eq, system_of, lanes_in, IsMarked}
 use Rattle.roman_joint.proofs.SplitLemmas.{joint_sizes, factor}
 use Rattle.roman_joint.proofs.GoodLemmas.{low_few, width_positive}
 use Rattle.roman_joint.proofs.BandLemmas.{mid_low, first_in}

@@ -1,5 +1,4 @@
-use Rattle.std.proofs.Common.{◌≡◌, ℕ, ◌+◌, ◌*◌, ◌/◌, ◌<◌, get_or}
-use Rattle.roman_joint.proofs.Common.{Grows, IsMarked}
+use Rattle.roman_joint.proofs.Common.{◌≡◌, ℕ, ◌+◌, ◌*◌, ◌/◌, ◌<◌, get_or, Grows, IsMarked}
 use Rattle.roman_joint.proofs.marks.mark_seat.Given as goal
 
 -- the bands of the states so far are marked, with one step for each

@@ -1,5 +1,4 @@
-use Rattle.std.proofs.Common.{◌≡◌, ℕ, ◌+◌, ◌*◌, ◌/◌, ap, arith}
-use Rattle.roman_joint.proofs.Common.{system_of, mid_in, band_in, from_seat, MarksSeat, row_at}
+use Rattle.roman_joint.proofs.Common.{◌≡◌, ℕ, ◌+◌, ◌*◌, ◌/◌, ap, arith, system_of, mid_in, band_in, from_seat, MarksSeat, row_at}
 use Rattle.roman_joint.proofs.SplitLemmas.{joint_sizes}
 use Rattle.roman_joint.proofs.BandLemmas.{first_in}
 use Rattle.roman_joint.proofs.GoodLemmas.{turn_fits}

@@ -1,5 +1,4 @@
-use Rattle.std.proofs.Common.{ℕ, ◌+◌, ◌≡◌, ◌/◌, ◌<◌, length}
-use Rattle.roman_joint.proofs.Common.{flat_map, below, Pair, system_of, from_seat, band_in, Grows, IsMarked, row_at, MarksSeat, IsAt}
+use Rattle.roman_joint.proofs.Common.{ℕ, ◌+◌, ◌≡◌, ◌/◌, ◌<◌, length, flat_map, below, Pair, system_of, from_seat, band_in, Grows, IsMarked, row_at, MarksSeat, IsAt}
 use Rattle.roman_joint.proofs.marks.mark_turn.Given as goal
 
 -- the bands of the seats so far are marked

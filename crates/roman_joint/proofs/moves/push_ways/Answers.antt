@@ -1,5 +1,4 @@
-use Rattle.std.proofs.Common.{arith}
-use Rattle.roman_joint.proofs.Common.{append_assoc, length-append}
+use Rattle.roman_joint.proofs.Common.{arith, append_assoc, length-append}
 use Rattle.roman_joint.proofs.MoveLemmas.{way_more, ways_few}
 use Rattle.roman_joint.proofs.moves.push_ways.Goals as goal
 

@@ -1,5 +1,4 @@
-use Rattle.std.proofs.Common.{◌≡◌, ◌++◌, vec_capacity}
-use Rattle.roman_joint.proofs.Common.{lane_moves_from}
+use Rattle.roman_joint.proofs.Common.{◌≡◌, ◌++◌, vec_capacity, lane_moves_from}
 use Rattle.roman_joint.proofs.moves.push_ways.Given as goal
 
 -- the moves of the ways so far

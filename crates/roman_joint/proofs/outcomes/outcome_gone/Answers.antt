@@ -1,5 +1,4 @@
-use Rattle.std.proofs.Common.{◌≡◌, ℕ, ◌+◌, ◌*◌, ◌<◌, Bool, List, Option, Some, None, map, length, get_or, sym, ap, ◌∙◌}
-use Rattle.roman_joint.proofs.Common.{find, option_map}
+use Rattle.roman_joint.proofs.Common.{◌≡◌, ℕ, ◌+◌, ◌*◌, ◌<◌, Bool, List, Option, Some, None, map, length, get_or, sym, ap, ◌∙◌, find, option_map}
 use Rattle.roman_joint.proofs.Finds.{in_at, if_some, find-map, find_in_first, find_in_rest, find_in_none}
 use Rattle.roman_joint.proofs.outcomes.outcome_gone.Goals as goal
 

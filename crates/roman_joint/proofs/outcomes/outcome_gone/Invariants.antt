@@ -1,5 +1,4 @@
-use Rattle.std.proofs.Common.{◌≡◌, ℕ, ◌+◌, ◌*◌, Bool, not, map, drop, All}
-use Rattle.roman_joint.proofs.Common.{find, flat_map}
+use Rattle.roman_joint.proofs.Common.{◌≡◌, ℕ, ◌+◌, ◌*◌, Bool, not, map, drop, All, find, flat_map}
 use Rattle.roman_joint.proofs.outcomes.outcome_gone.Given as goal
 
 -- the first pair that is gone is the first one among those that are left

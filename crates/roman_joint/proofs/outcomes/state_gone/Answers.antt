@@ -1,5 +1,4 @@
-use Rattle.std.proofs.Common.{◌+◌, ◌*◌, get_or, sym, ◌∙◌}
-use Rattle.roman_joint.proofs.Common.{not-true}
+use Rattle.roman_joint.proofs.Common.{◌+◌, ◌*◌, get_or, sym, ◌∙◌, not-true}
 use Rattle.std.proofs.lemmas.Bool.{not-false}
 use Rattle.roman_joint.proofs.Finds.{in_at, find_here, find_on, find_end}
 use Rattle.roman_joint.proofs.outcomes.state_gone.Goals as goal

@@ -1,5 +1,4 @@
-use Rattle.std.proofs.Common.{◌≡◌, ℕ, ◌+◌, ◌*◌, Bool, not, drop, All}
-use Rattle.roman_joint.proofs.Common.{find}
+use Rattle.roman_joint.proofs.Common.{◌≡◌, ℕ, ◌+◌, ◌*◌, Bool, not, drop, All, find}
 use Rattle.roman_joint.proofs.outcomes.state_gone.Given as goal
 
 -- the first pair that is gone is the first one among those that are left

@@ -1,5 +1,4 @@
-use Rattle.std.proofs.Common.{◌≡◌, ◌+◌, ◌-◌, ◌*◌, ◌/◌, ◌%◌, ◌<◌, not, ◌&&◌, slice_index, inl, inr, sym, ap, ap₂, ◌∙◌, arith}
-use Rattle.roman_joint.proofs.Common.{list_any, cases_lt, mod_below, is_on}
+use Rattle.roman_joint.proofs.Common.{◌≡◌, ◌+◌, ◌-◌, ◌*◌, ◌/◌, ◌%◌, ◌<◌, not, ◌&&◌, slice_index, inl, inr, sym, ap, ap₂, ◌∙◌, arith, list_any, cases_lt, mod_below, is_on}
 use Rattle.roman_joint.proofs.RunLemmas.{state_at, place_of, in_block}
 use Rattle.roman_joint.proofs.runs.clear_state.Goals as goal
 

@@ -1,5 +1,4 @@
-use Rattle.std.proofs.Common.{◌≡◌, ℕ, ◌+◌, ◌*◌, not, slice_index, ap, ◌∙◌, arith, bit_and}
-use Rattle.roman_joint.proofs.Common.{is_on}
+use Rattle.roman_joint.proofs.Common.{◌≡◌, ℕ, ◌+◌, ◌*◌, not, slice_index, ap, ◌∙◌, arith, bit_and, is_on}
 use Rattle.roman_joint.proofs.WordLemmas.{alive_more, not_not}
 use Rattle.roman_joint.proofs.runs.rows_alive_each.Goals as goal
 

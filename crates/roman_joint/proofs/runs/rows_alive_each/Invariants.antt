@@ -1,5 +1,4 @@
-use Rattle.std.proofs.Common.{◌≡◌, ℕ, ◌+◌, ◌*◌, ◌<◌, not, ◌&&◌, length, take, slice_index}
-use Rattle.roman_joint.proofs.Common.{list_any, is_on}
+use Rattle.roman_joint.proofs.Common.{◌≡◌, ℕ, ◌+◌, ◌*◌, ◌<◌, not, ◌&&◌, length, take, slice_index, list_any, is_on}
 use Rattle.roman_joint.proofs.runs.rows_alive_each.Given as goal
 
 -- the lanes that are set in the rows of the states so far are left

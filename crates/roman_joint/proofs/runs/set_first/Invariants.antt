@@ -1,4 +1,4 @@
-use Rattle.std.proofs.Common.{◌≡◌, ℕ, ◌<◌, length, slice_index}
+use Rattle.roman_joint.proofs.Common.{◌≡◌, ℕ, ◌<◌, length, slice_index}
 use Rattle.roman_joint.proofs.runs.set_first.Given as goal
 
 -- the words so far are set

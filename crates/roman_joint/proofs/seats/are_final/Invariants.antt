@@ -1,5 +1,4 @@
-use Rattle.std.proofs.Common.{◌≡◌, ◌<◌, map, drop}
-use Rattle.roman_joint.proofs.Common.{product_of, all_final, pair_at, seat_of}
+use Rattle.roman_joint.proofs.Common.{◌≡◌, ◌<◌, map, drop, product_of, all_final, pair_at, seat_of}
 use Rattle.roman_model.specs.Numbers.{states_at}
 use Rattle.roman_joint.proofs.seats.are_final.Given as goal
 

@@ -1,5 +1,5 @@
-use Rattle.std.proofs.Common.{◌≡◌, ◌/◌, ◌<◌, ◌≤◌, ◌↔◌, All, IfSome, take, length, sym, ap, ◌∙◌, subst, arith}
-use Rattle.roman_joint.proofs.Common.{le-div_iff_mul-le, Sizes, sizes_of, count, named_parts, system_of, cells}
+use Rattle.roman_joint.proofs.Common.{◌≡◌, ◌/◌, ◌<◌, ◌≤◌, ◌↔◌, All, take, length, sym, ap, ◌∙◌, subst, arith, le-div_iff_mul-le, Sizes, sizes_of, count, named_parts, system_of, cells}
+use Rattle.std.proofs.Common.{IfSome}
 use Rattle.roman_joint.proofs.SeatLemmas.{sizes_counted, makes_system, positive_sizes}
 use Rattle.roman_joint.proofs.seats.shape_of.Goals as goal
 

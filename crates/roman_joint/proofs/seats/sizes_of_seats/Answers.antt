@@ -1,4 +1,4 @@
-use Rattle.std.proofs.Common.{◌<◌, length, sym, ap, ◌∙◌, subst, arith}
+use Rattle.roman_joint.proofs.Common.{◌<◌, length, sym, ap, ◌∙◌, subst, arith}
 use Rattle.roman_joint.specs.declared.seat.Seat.{Seat}
 use Rattle.roman_joint.proofs.SeatLemmas.{one_read, states_range}
 use Rattle.roman_joint.proofs.seats.sizes_of_seats.Goals as goal

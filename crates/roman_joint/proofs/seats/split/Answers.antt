@@ -1,4 +1,4 @@
-use Rattle.std.proofs.Common.{arith}
+use Rattle.roman_joint.proofs.Common.{arith}
 use Rattle.roman_joint.proofs.SeatLemmas.{splits}
 use Rattle.roman_joint.proofs.seats.split.Goals as goal
 

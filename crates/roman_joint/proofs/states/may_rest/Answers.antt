@@ -1,5 +1,4 @@
-use Rattle.std.proofs.Common.{◌||◌, not, ◌∙◌, sym, ap, arith}
-use Rattle.roman_joint.proofs.Common.{is_final, seat_of, may_rest}
+use Rattle.roman_joint.proofs.Common.{◌||◌, not, ◌∙◌, sym, ap, arith, is_final, seat_of, may_rest}
 use Rattle.roman_joint.proofs.SeatLemmas.{seat_read, seat_placed}
 use Rattle.roman_joint.proofs.states.may_rest.Goals as goal
 

@@ -1,5 +1,4 @@
-use Rattle.std.proofs.Common.{◌∙◌, sym, ap, arith}
-use Rattle.roman_joint.proofs.Common.{beh_next, seat_of}
+use Rattle.roman_joint.proofs.Common.{◌∙◌, sym, ap, arith, beh_next, seat_of}
 use Rattle.roman_joint.proofs.OutcomeLemmas.{ready_next}
 use Rattle.roman_joint.proofs.SeatLemmas.{seat_read}
 use Rattle.roman_joint.proofs.states.next_states.Goals as goal

@@ -1,5 +1,4 @@
-use Rattle.std.proofs.Common.{◌≡◌, ◌∙◌, length, slice_get, sym, ap, arith}
-use Rattle.roman_joint.proofs.Common.{beh_prev, seat_prev, system_of, seat_of}
+use Rattle.roman_joint.proofs.Common.{◌≡◌, ◌∙◌, length, slice_get, sym, ap, arith, beh_prev, seat_prev, system_of, seat_of}
 use Rattle.roman_joint.proofs.SeatLemmas.{seat_read}
 use Rattle.roman_joint.proofs.MarkLemmas.{ready_prev}
 use Rattle.roman_joint.proofs.WalkLemmas.{few_seat_prev}

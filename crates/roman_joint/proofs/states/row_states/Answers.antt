@@ -1,5 +1,4 @@
-use Rattle.std.proofs.Common.{◌/◌, ◌<◌, length, slice_index, refl, ◌∙◌, arith}
-use Rattle.roman_joint.proofs.Common.{length-set, sizes_of, system_of}
+use Rattle.roman_joint.proofs.Common.{◌/◌, ◌<◌, length, slice_index, refl, ◌∙◌, arith, length-set, sizes_of, system_of}
 use Rattle.roman_joint.proofs.SplitLemmas.{joint_sizes, before, left_at, left_first, row_states_more}
 use Rattle.roman_joint.proofs.GoodLemmas.{env_rows_positive}
 use Rattle.roman_joint.proofs.states.row_states.Goals as goal

@@ -1,5 +1,4 @@
-use Rattle.std.proofs.Common.{◌≡◌, ℕ, ◌/◌, ◌%◌, ◌<◌, length, drop, slice_index}
-use Rattle.roman_joint.proofs.Common.{product_of, sizes_of, stride_of, system_of, lanes_in}
+use Rattle.roman_joint.proofs.Common.{◌≡◌, ℕ, ◌/◌, ◌%◌, ◌<◌, length, drop, slice_index, product_of, sizes_of, stride_of, system_of, lanes_in}
 use Rattle.roman_joint.proofs.states.row_states.Given as goal
 
 -- the states of the services so far, and the number of the states after them

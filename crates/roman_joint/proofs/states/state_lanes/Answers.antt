@@ -1,5 +1,4 @@
-use Rattle.std.proofs.Common.{◌≡◌, ℕ, ◌*◌, ◌^◌, ◌%◌, ◌<◌, ◌≤◌, ◌&&◌, length, slice_index, sym, ap, ap₂, subst, ◌∙◌, arith}
-use Rattle.roman_joint.proofs.Common.{and-true, Sizes, IsSizes, stride_of, low_of, lanes_few, is_on, lane_has_state, AreRowsOf, Rows, on_and}
+use Rattle.roman_joint.proofs.Common.{◌≡◌, ℕ, ◌*◌, ◌^◌, ◌%◌, ◌<◌, ◌≤◌, ◌&&◌, length, slice_index, sym, ap, ap₂, subst, ◌∙◌, arith, and-true, Sizes, IsSizes, stride_of, low_of, lanes_few, is_on, lane_has_state, AreRowsOf, Rows, on_and}
 use Rattle.std.proofs.Math.Bool.{and-false}
 use Rattle.roman_joint.proofs.LeadLemmas.{stride_positive}
 use Rattle.roman_joint.proofs.GoodLemmas.{full_on, full_off, state_below, state_shift}

@@ -1,5 +1,4 @@
-use Rattle.std.proofs.Common.{◌≡◌, ℕ, ◌/◌, ◌%◌, ◌<◌, length, slice_index_or}
-use Rattle.roman_joint.proofs.Common.{IsTargetView, TargetView}
+use Rattle.roman_joint.proofs.Common.{◌≡◌, ℕ, ◌/◌, ◌%◌, ◌<◌, length, slice_index_or, IsTargetView, TargetView}
 use Rattle.roman_joint.proofs.target_view.all_target_views.Given as goal
 
 -- the target views so far are made

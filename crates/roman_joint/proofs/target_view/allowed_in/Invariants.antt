@@ -1,5 +1,4 @@
-use Rattle.std.proofs.Common.{◌≡◌, ℕ, ◌<◌, ◌≤◌, ◌&&◌, not}
-use Rattle.roman_joint.proofs.Common.{bit_at, is_empty, env_next, beh_next, bit_of}
+use Rattle.roman_joint.proofs.Common.{◌≡◌, ℕ, ◌<◌, ◌≤◌, ◌&&◌, not, bit_at, is_empty, env_next, beh_next, bit_of}
 use Rattle.roman_joint.proofs.target_view.allowed_in.Given as goal
 
 -- the set is right for the actions so far, and has no other action

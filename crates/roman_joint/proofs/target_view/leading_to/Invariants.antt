@@ -1,5 +1,4 @@
-use Rattle.std.proofs.Common.{◌≡◌, ℕ, ◌<◌, []}
-use Rattle.roman_joint.proofs.Common.{bit_at, IsIn, env_prev, beh_prev}
+use Rattle.roman_joint.proofs.Common.{◌≡◌, ℕ, ◌<◌, [], bit_at, IsIn, env_prev, beh_prev}
 use Rattle.roman_joint.proofs.target_view.leading_to.Given as goal
 
 -- of the actions so far, those outside the set don't lead there

@@ -1,5 +1,4 @@
-use Rattle.std.proofs.Common.{◌≡◌, ℕ, ◌<◌, List, [], length, get_or, sym, ap, ◌∙◌, subst}
-use Rattle.roman_joint.proofs.Common.{env_prev, beh_prev, empty_is}
+use Rattle.roman_joint.proofs.Common.{◌≡◌, ℕ, ◌<◌, List, [], length, get_or, sym, ap, ◌∙◌, subst, env_prev, beh_prev, empty_is}
 use Rattle.roman_joint.proofs.SeatLemmas.{len_empty}
 use Rattle.roman_joint.proofs.TargetViewLemmas.{none_more}
 use Rattle.roman_joint.proofs.target_view.may_lead.Goals as goal

@@ -1,5 +1,4 @@
-use Rattle.std.proofs.Common.{◌≡◌, ℕ, [], take}
-use Rattle.roman_joint.proofs.Common.{IsIn, env_prev, beh_prev}
+use Rattle.roman_joint.proofs.Common.{◌≡◌, ℕ, [], take, IsIn, env_prev, beh_prev}
 use Rattle.roman_joint.proofs.target_view.may_lead.Given as goal
 
 -- the action doesn't lead there from the environment's states so far

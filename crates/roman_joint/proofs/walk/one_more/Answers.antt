@@ -1,5 +1,4 @@
-use Rattle.std.proofs.Common.{◌+◌, sym, ◌∙◌, arith}
-use Rattle.roman_joint.proofs.Common.{drop_all}
+use Rattle.roman_joint.proofs.Common.{◌+◌, sym, ◌∙◌, arith, drop_all}
 use Rattle.roman_joint.proofs.walk.one_more.Goals as goal
 
 pub returns-else-taken-count-clause-same : goal.returns-else-taken-count-clause-same

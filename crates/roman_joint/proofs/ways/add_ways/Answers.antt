@@ -1,5 +1,4 @@
-use Rattle.std.proofs.Common.{◌≡◌, ℕ, ◌+◌, ◌<◌, ◌==◌, ◌&&◌, ◌||◌, eqb, List, length, get_or, slice_index, ap, ◌∙◌, arith}
-use Rattle.roman_joint.proofs.Common.{set, bit_or, cases_eq, nat_tests, get_or-set_same, get_or-set_other, length-set, is_on, on_or}
+use Rattle.roman_joint.proofs.Common.{◌≡◌, ℕ, ◌+◌, ◌<◌, ◌==◌, ◌&&◌, ◌||◌, eqb, List, length, get_or, slice_index, ap, ◌∙◌, arith, set, bit_or, cases_eq, nat_tests, get_or-set_same, get_or-set_other, length-set, is_on, on_or}
 use Rattle.roman_joint.proofs.WordLemmas.{some_more}
 use Rattle.roman_joint.proofs.ways.add_ways.Goals as goal
 

@@ -1,5 +1,4 @@
-use Rattle.std.proofs.Common.{◌≡◌, ℕ, ◌+◌, ◌==◌, ◌&&◌, ◌||◌, length, take, slice_index}
-use Rattle.roman_joint.proofs.Common.{list_any, is_on}
+use Rattle.roman_joint.proofs.Common.{◌≡◌, ℕ, ◌+◌, ◌==◌, ◌&&◌, ◌||◌, length, take, slice_index, list_any, is_on}
 use Rattle.roman_joint.proofs.ways.add_ways.Given as goal
 
 -- the ways to the states so far

@@ -1,5 +1,4 @@
-use Rattle.std.proofs.Common.{◌≡◌, ℕ, zero, suc, ◌+◌, ◌-◌, ◌/◌, ◌<◌, ◌==◌, true, false, not, ◌&&◌, ◌||◌, eqb, ltb, replicate, slice_index, refl, sym, ap, ap₂, ◌∙◌, arith}
-use Rattle.roman_joint.proofs.Common.{list_any, lt-ltb, le-ltb, nat_tests, mod_below, is_empty, any_same, beh_next, stride_of, AreSizes-index, is_on, lane_state_of, on_zero}
+use Rattle.roman_joint.proofs.Common.{◌≡◌, ℕ, zero, suc, ◌+◌, ◌-◌, ◌/◌, ◌<◌, ◌==◌, true, false, not, ◌&&◌, ◌||◌, eqb, ltb, replicate, slice_index, refl, sym, ap, ap₂, ◌∙◌, arith, list_any, lt-ltb, le-ltb, nat_tests, mod_below, is_empty, any_same, beh_next, stride_of, AreSizes-index, is_on, lane_state_of, on_zero}
 use Rattle.roman_joint.proofs.SeatLemmas.{len_empty}
 use Rattle.roman_joint.proofs.GoodLemmas.{below_more, state_is}
 use Rattle.roman_joint.proofs.AllowedLemmas.{same_state}

@@ -1,5 +1,4 @@
-use Rattle.std.proofs.Common.{◌≡◌, ℕ, ◌+◌, ◌<◌, ◌≤◌, ◌==◌, false, not, ◌&&◌, length, slice_index, ltb}
-use Rattle.roman_joint.proofs.Common.{list_any, is_empty, beh_next, lanes_of, is_on, lane_state_of}
+use Rattle.roman_joint.proofs.Common.{◌≡◌, ℕ, ◌+◌, ◌<◌, ◌≤◌, ◌==◌, false, not, ◌&&◌, length, slice_index, ltb, list_any, is_empty, beh_next, lanes_of, is_on, lane_state_of}
 use Rattle.roman_joint.proofs.ways.ways_of.Given as goal
 
 -- the ways from the states so far

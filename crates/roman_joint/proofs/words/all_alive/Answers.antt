@@ -1,5 +1,4 @@
-use Rattle.std.proofs.Common.{ℕ, ◌+◌, ◌*◌, not, ◌&&◌, slice_index, ap, ◌∙◌, arith}
-use Rattle.roman_joint.proofs.Common.{list_any, is_on}
+use Rattle.roman_joint.proofs.Common.{ℕ, ◌+◌, ◌*◌, not, ◌&&◌, slice_index, ap, ◌∙◌, arith, list_any, is_on}
 use Rattle.roman_joint.proofs.WordLemmas.{none_after}
 use Rattle.roman_joint.proofs.words.all_alive.Goals as goal
 

@@ -1,5 +1,4 @@
-use Rattle.std.proofs.Common.{◌≡◌, ℕ, ◌+◌, ◌-◌, ◌<◌, Bool, true, false, not, ◌&&◌, get_or, bit_and, refl, sym, ap, ◌∙◌, arith, rules}
-use Rattle.roman_joint.proofs.Common.{length-zip2, get_or-zip2, is_on, Move, on_and}
+use Rattle.roman_joint.proofs.Common.{◌≡◌, ℕ, ◌+◌, ◌-◌, ◌<◌, Bool, true, false, not, ◌&&◌, get_or, bit_and, refl, sym, ap, ◌∙◌, arith, rules, length-zip2, get_or-zip2, is_on, Move, on_and}
 use Rattle.roman_joint.proofs.Finds.{in_at}
 use Rattle.roman_joint.proofs.WordLemmas.{alive_more}
 use Rattle.roman_joint.proofs.words.each_moves_alive.Goals as goal

@@ -1,5 +1,4 @@
-use Rattle.std.proofs.Common.{◌≡◌, ℕ, ◌+◌, ◌-◌, ◌<◌, ◌≤◌, true, false, not, ◌&&◌, length, take, slice_index}
-use Rattle.roman_joint.proofs.Common.{list_any, IsIn, is_on, Move}
+use Rattle.roman_joint.proofs.Common.{◌≡◌, ℕ, ◌+◌, ◌-◌, ◌<◌, ◌≤◌, true, false, not, ◌&&◌, length, take, slice_index, list_any, IsIn, is_on, Move}
 use Rattle.roman_joint.proofs.words.each_moves_alive.Given as goal
 
 -- the lanes from which the moves so far lead to alive lanes

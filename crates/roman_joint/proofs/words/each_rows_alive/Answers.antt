@@ -1,5 +1,4 @@
-use Rattle.std.proofs.Common.{◌≡◌, ℕ, ◌+◌, ◌*◌, not, get_or, bit_and, sym, ap, ◌∙◌, arith}
-use Rattle.roman_joint.proofs.Common.{length-zip2, get_or-zip2, is_on}
+use Rattle.roman_joint.proofs.Common.{◌≡◌, ℕ, ◌+◌, ◌*◌, not, get_or, bit_and, sym, ap, ◌∙◌, arith, length-zip2, get_or-zip2, is_on}
 use Rattle.roman_joint.proofs.WordLemmas.{alive_more, not_not}
 use Rattle.roman_joint.proofs.words.each_rows_alive.Goals as goal
 

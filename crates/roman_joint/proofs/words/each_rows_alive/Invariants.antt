@@ -1,5 +1,4 @@
-use Rattle.std.proofs.Common.{◌≡◌, ℕ, ◌+◌, ◌*◌, ◌<◌, not, ◌&&◌, length, take, slice_index}
-use Rattle.roman_joint.proofs.Common.{list_any, is_on}
+use Rattle.roman_joint.proofs.Common.{◌≡◌, ℕ, ◌+◌, ◌*◌, ◌<◌, not, ◌&&◌, length, take, slice_index, list_any, is_on}
 use Rattle.roman_joint.proofs.words.each_rows_alive.Given as goal
 
 -- the lanes that are alive in the rows of the states so far

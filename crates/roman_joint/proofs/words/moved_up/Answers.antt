@@ -1,5 +1,5 @@
-use Rattle.std.proofs.Common.{ℕ, ◌+◌, ◌<◌, ◌*◌, ◌%◌, ◌^◌, get_or, refl, sym, ap, ◌∙◌, arith}
-use Rattle.roman_joint.proofs.Common.{replicate, length-zip2, length-replicate, get_or-zip2, get_or-replicate, shifts_fit_splat, is_on}
+use Rattle.roman_joint.proofs.Common.{ℕ, ◌+◌, ◌<◌, ◌*◌, ◌%◌, ◌^◌, get_or, refl, sym, ap, ◌∙◌, arith, length-zip2, length-replicate, get_or-zip2, get_or-replicate, shifts_fit_splat, is_on}
+use Rattle.std.specs.Prelude.{replicate}
 use Rattle.roman_joint.proofs.WordLemmas.{on_shl}
 use Rattle.roman_joint.proofs.words.moved_up.Goals as goal
 

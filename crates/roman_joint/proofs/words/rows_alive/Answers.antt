@@ -1,5 +1,4 @@
-use Rattle.std.proofs.Common.{ℕ, ◌+◌, ◌*◌, not, slice_index, ap, ◌∙◌, arith}
-use Rattle.roman_joint.proofs.Common.{is_on}
+use Rattle.roman_joint.proofs.Common.{ℕ, ◌+◌, ◌*◌, not, slice_index, ap, ◌∙◌, arith, is_on}
 use Rattle.roman_joint.proofs.WordLemmas.{alive_more, not_not}
 use Rattle.roman_joint.proofs.words.rows_alive.Goals as goal
 

@@ -1,5 +1,4 @@
-use Rattle.std.proofs.Common.{take}
-use Rattle.roman_rank.specs.Ranking.{AreCounts}
+use Rattle.roman_rank.proofs.Common.{take, AreCounts}
 use Rattle.roman_rank.proofs.counting.counts_of.Given as goal
 
 -- the depths so far are counted

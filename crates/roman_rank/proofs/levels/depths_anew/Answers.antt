@@ -1,5 +1,5 @@
-use Rattle.std.proofs.Common.{◌≡◌, ◌*◌, length, ap, ◌∙◌, arith}
-use Rattle.roman_order.specs.Board.{Board, pairs_of}
+use Rattle.roman_rank.proofs.Common.{◌≡◌, length, ap, ◌∙◌, arith, Board, pairs_of}
+use Rattle.std.proofs.Common.{◌*◌}
 use Rattle.roman_rank.proofs.Systems.{settled_all}
 use Rattle.roman_rank.proofs.levels.depths_anew.Goals as goal
 

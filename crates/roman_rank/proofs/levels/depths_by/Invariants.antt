@@ -1,5 +1,4 @@
-use Rattle.std.proofs.Common.{◌≡◌}
-use Rattle.roman_rank.specs.Ranking.{AreRanksBelow}
+use Rattle.roman_rank.proofs.Common.{◌≡◌, AreRanksBelow}
 use Rattle.roman_rank.proofs.Giving.{start_of}
 use Rattle.roman_rank.proofs.levels.depths_by.Given as goal
 

@@ -1,4 +1,4 @@
-use Rattle.std.proofs.Common.{◌<◌, length, refl, arith}
+use Rattle.roman_rank.proofs.Common.{◌<◌, length, refl, arith}
 use Rattle.roman_order.specs.Board.{as_entry}
 use Rattle.roman_rank.proofs.Giving.{node_at, node_entry, gives_more, gives_all}
 use Rattle.roman_rank.proofs.levels.give_depth.Goals as goal

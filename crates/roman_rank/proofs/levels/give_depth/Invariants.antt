@@ -1,7 +1,5 @@
-use Rattle.std.proofs.Common.{◌≤◌}
-use Rattle.std.specs.Prelude.{max}
+use Rattle.roman_rank.proofs.Common.{◌≤◌, max, GivesLevel}
 use Rattle.roman_order.specs.Walks.{IsAhead}
-use Rattle.roman_rank.specs.Ranking.{GivesLevel}
 use Rattle.roman_rank.proofs.levels.give_depth.Given as goal
 
 -- the pairs of the entries so far have the depth

@@ -1,6 +1,5 @@
-use Rattle.std.proofs.Common.{◌∙◌, arith}
-use Rattle.std.proofs.lemmas.Result.{err_from_is_err_and}
-use Rattle.roman_text.proofs.CallerLemmas.{fill_same, fill_more, fill_failed, fill_end}
+use Rattle.roman_rank.proofs.Common.{◌∙◌, arith, err_from_is_err_and, fill_more, fill_failed}
+use Rattle.roman_text.proofs.CallerLemmas.{fill_same, fill_end}
 use Rattle.roman_rank.proofs.Telling.{next_line, end_lines}
 use Rattle.roman_rank.proofs.text.push_levels.Goals as goal
 

@@ -1,6 +1,5 @@
-use Rattle.std.proofs.Common.{◌≡◌, ◌++◌, drop}
+use Rattle.roman_rank.proofs.Common.{◌≡◌, ◌++◌, drop, level_lines}
 use Rattle.roman_text.proofs.CallerLemmas.{IsFilling}
-use Rattle.roman_rank.specs.DepthText.{level_lines}
 use Rattle.roman_rank.proofs.text.push_levels.Given as goal
 
 -- the lines so far are pushed

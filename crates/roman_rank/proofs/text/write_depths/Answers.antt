@@ -1,7 +1,5 @@
-use Rattle.std.proofs.Common.{[], ◌∙◌}
-use Rattle.std.proofs.lemmas.Result.{err_from_is_err_and}
-use Rattle.roman_text.proofs.CallerLemmas.{fill_whole, fill_more, fill_failed, fill_put}
-use Rattle.roman_rank.specs.DepthText.{level_lines}
+use Rattle.roman_rank.proofs.Common.{[], ◌∙◌, err_from_is_err_and, fill_more, fill_failed, level_lines}
+use Rattle.roman_text.proofs.CallerLemmas.{fill_whole, fill_put}
 use Rattle.roman_rank.proofs.Telling.{whole_pieces, told_puts}
 use Rattle.roman_rank.proofs.text.write_depths.Goals as goal
 

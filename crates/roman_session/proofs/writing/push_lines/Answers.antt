@@ -1,5 +1,4 @@
-use Rattle.std.proofs.Common.{◌∙◌, arith}
-use Rattle.roman_session.proofs.Common.{err_from_is_err_and, fill_same, fill_more, fill_failed, fill_end}
+use Rattle.roman_session.proofs.Common.{◌∙◌, arith, err_from_is_err_and, fill_same, fill_more, fill_failed, fill_end}
 use Rattle.roman_session.proofs.LineLemmas.{next_line, no_line}
 use Rattle.roman_session.proofs.writing.push_lines.Goals as goal
 

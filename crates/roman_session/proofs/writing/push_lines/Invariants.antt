@@ -1,5 +1,4 @@
-use Rattle.std.proofs.Common.{◌≡◌, ◌++◌, drop}
-use Rattle.roman_session.proofs.Common.{lines_text, IsFilling}
+use Rattle.roman_session.proofs.Common.{◌≡◌, ◌++◌, drop, lines_text, IsFilling}
 use Rattle.roman_session.proofs.writing.push_lines.Given as goal
 
 -- the lines so far were pushed

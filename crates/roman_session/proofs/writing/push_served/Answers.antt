@@ -1,5 +1,4 @@
-use Rattle.std.proofs.Common.{length, sym, ◌∙◌, arith}
-use Rattle.roman_session.proofs.Common.{err_from_is_err_and, fill_same, fill_more, fill_failed, fill_end}
+use Rattle.roman_session.proofs.Common.{length, sym, ◌∙◌, arith, err_from_is_err_and, fill_same, fill_more, fill_failed, fill_end}
 use Rattle.roman_session.proofs.ServingLemmas.{next_set, next_unset, none_set}
 use Rattle.roman_session.proofs.writing.push_served.Goals as goal
 

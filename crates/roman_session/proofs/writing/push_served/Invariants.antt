@@ -1,5 +1,4 @@
-use Rattle.std.proofs.Common.{◌≡◌, ◌++◌, length, drop}
-use Rattle.roman_session.proofs.Common.{filter, below, has_seat, seats_set, served_text, IsFilling}
+use Rattle.roman_session.proofs.Common.{◌≡◌, ◌++◌, length, drop, filter, below, has_seat, seats_set, served_text, IsFilling}
 use Rattle.roman_session.proofs.writing.push_served.Given as goal
 
 -- the names of the seats so far were pushed

@@ -1,5 +1,4 @@
-use Rattle.std.proofs.Common.{ap, length, arith}
-use Rattle.roman_session.proofs.Common.{Beh, behaves}
+use Rattle.roman_session.proofs.Common.{ap, length, arith, Beh, behaves}
 use Rattle.roman_session.proofs.LineLemmas.{service_line_is}
 use Rattle.roman_session.proofs.writing.service_line.Goals as goal
 

@@ -1,4 +1,4 @@
-use Rattle.std.proofs.Common.{Ok, Err, ap, ◌∙◌}
+use Rattle.roman_top.proofs.Common.{Ok, Err, ap, ◌∙◌}
 use Rattle.roman_cost.specs.declared.error.CostError.TheVariants as cost
 use Rattle.roman_top.proofs.AdviseLemmas.{read_writes, read_caused}
 use Rattle.roman_top.proofs.EndingLemmas.{spoken_stops}

@@ -1,5 +1,4 @@
-use Rattle.std.proofs.Common.{ℕ, Err, refl, sym, ap, ◌∙◌}
-use Rattle.roman_top.proofs.Common.{sizes_of, pair_at, system_of, Unrelated, TooMany, Told, advice_text, advised_by}
+use Rattle.roman_top.proofs.Common.{ℕ, Err, refl, sym, ap, ◌∙◌, sizes_of, pair_at, system_of, Unrelated, TooMany, Told, advice_text, advised_by}
 use Rattle.roman_top.specs.declared.status.Status.TheVariants as status
 use Rattle.roman_top.proofs.AdviseLemmas.{told_related, advice_put, advised_unrelated, advised_many, advised_told, few_values}
 use Rattle.roman_top.proofs.EndingLemmas.{finished_spoken, finished_sink}

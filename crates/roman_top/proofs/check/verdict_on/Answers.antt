@@ -1,5 +1,4 @@
-use Rattle.std.proofs.Common.{ap}
-use Rattle.roman_top.proofs.Common.{numbered, length-below, system_of}
+use Rattle.roman_top.proofs.Common.{ap, numbered, length-below, system_of}
 use Rattle.roman_top.proofs.CheckLemmas.{finds_text}
 use Rattle.roman_top.proofs.check.verdict_on.Goals as goal
 

@@ -1,5 +1,4 @@
-use Rattle.std.proofs.Common.{ℕ, List, ◌++◌, codes, sym, ap, ◌∙◌}
-use Rattle.roman_top.proofs.Common.{places, service_names}
+use Rattle.roman_top.proofs.Common.{ℕ, List, ◌++◌, codes, sym, ap, ◌∙◌, places, service_names}
 use Rattle.roman_top.proofs.OutlookLemmas.{one_named, two_named}
 use Rattle.roman_top.proofs.outlooks.names_piece.Goals as goal
 

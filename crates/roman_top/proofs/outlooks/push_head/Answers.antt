@@ -1,5 +1,4 @@
-use Rattle.std.proofs.Common.{ℕ, ◌++◌, codes, decimal, refl, ap, ◌∙◌}
-use Rattle.roman_top.proofs.Common.{err_from_is_err_and, sizes_of, pair_at, outlook, system_of, fill_behind, fill_more, fill_failed, fill_last, outlook_words}
+use Rattle.roman_top.proofs.Common.{ℕ, ◌++◌, codes, decimal, refl, ap, ◌∙◌, err_from_is_err_and, sizes_of, pair_at, outlook, system_of, fill_behind, fill_more, fill_failed, fill_last, outlook_words}
 use Rattle.roman_top.proofs.OutlookLemmas.{head_pieces}
 use Rattle.roman_top.proofs.outlooks.push_head.Goals as goal
 

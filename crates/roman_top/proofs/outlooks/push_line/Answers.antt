@@ -1,5 +1,4 @@
-use Rattle.std.proofs.Common.{ℕ, List, ◌++◌, refl, ap₂, ◌∙◌}
-use Rattle.roman_top.proofs.Common.{err_from_is_err_and, fill_behind, fill_more, fill_failed, fill_last, places, told, outlook_words}
+use Rattle.roman_top.proofs.Common.{ℕ, List, ◌++◌, refl, ap₂, ◌∙◌, err_from_is_err_and, fill_behind, fill_more, fill_failed, fill_last, places, told, outlook_words}
 use Rattle.roman_top.proofs.OutlookLemmas.{line_pieces}
 use Rattle.roman_top.proofs.outlooks.push_line.Goals as goal
 

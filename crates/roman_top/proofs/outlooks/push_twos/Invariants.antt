@@ -1,5 +1,4 @@
-use Rattle.std.proofs.Common.{◌≡◌, ℕ, ◌+◌, [], ◌∷◌, ◌++◌, map, length, drop}
-use Rattle.roman_top.proofs.Common.{flat_map, below, sizes_of, pair_at, system_of, IsFilling, lines_without, twos}
+use Rattle.roman_top.proofs.Common.{◌≡◌, ℕ, ◌+◌, [], ◌∷◌, ◌++◌, map, length, drop, flat_map, below, sizes_of, pair_at, system_of, IsFilling, lines_without, twos}
 use Rattle.roman_top.proofs.outlooks.push_twos.Given as goal
 
 -- the lines of the services so far, each with those after it, were pushed

@@ -1,5 +1,4 @@
-use Rattle.std.proofs.Common.{refl, ◌∙◌}
-use Rattle.roman_top.proofs.Common.{err_from_is_err_and, fill_whole, fill_more, fill_failed, fill_put}
+use Rattle.roman_top.proofs.Common.{refl, ◌∙◌, err_from_is_err_and, fill_whole, fill_more, fill_failed, fill_put}
 use Rattle.roman_top.proofs.RefusalLemmas.{refusal_pieces}
 use Rattle.roman_top.proofs.refusals.put_refusal.Goals as goal
 

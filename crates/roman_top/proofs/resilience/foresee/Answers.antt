@@ -1,5 +1,4 @@
-use Rattle.std.proofs.Common.{◌<◌, sym, subst}
-use Rattle.roman_top.proofs.Common.{sizes_of, count, NamedSys, system_of, IsSeated, Resilience, EndsSaying}
+use Rattle.roman_top.proofs.Common.{◌<◌, sym, subst, sizes_of, count, NamedSys, system_of, IsSeated, Resilience, EndsSaying}
 use Rattle.roman_top.specs.declared.status.Status.TheVariants as status
 use Rattle.roman_top.proofs.ResilienceLemmas.{text_at, foreseen_is_run}
 use Rattle.roman_top.proofs.ServedLemmas.{opened_served}

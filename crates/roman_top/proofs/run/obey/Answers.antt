@@ -1,5 +1,4 @@
-use Rattle.std.proofs.Common.{None, Some, ap}
-use Rattle.roman_top.proofs.Common.{Synth, Run, Certify, Check, Shortest, Resilience, Advise, On, Make, command_as}
+use Rattle.roman_top.proofs.Common.{None, Some, ap, Synth, Run, Certify, Check, Shortest, Resilience, Advise, On, Make, command_as}
 use Rattle.roman_top.proofs.ServedLemmas.{served_as, made_served}
 use Rattle.roman_top.proofs.run.obey.Goals as goal
 

@@ -1,5 +1,4 @@
-use Rattle.std.proofs.Common.{arith}
-use Rattle.roman_top.proofs.Common.{script_lines}
+use Rattle.roman_top.proofs.Common.{arith, script_lines}
 use Rattle.roman_top.proofs.StageLemmas.{answered_more}
 use Rattle.roman_top.proofs.summary.play.Goals as goal
 

@@ -1,5 +1,4 @@
-use Rattle.std.proofs.Common.{◌-◌, take, drop}
-use Rattle.roman_top.proofs.Common.{script_lines, HasComeTo}
+use Rattle.roman_top.proofs.Common.{◌-◌, take, drop, script_lines, HasComeTo}
 use Rattle.roman_top.proofs.summary.play.Given as goal
 
 -- the lines so far were answered

@@ -1,5 +1,4 @@
-use Rattle.std.proofs.Common.{ap, ◌∙◌, arith}
-use Rattle.roman_top.proofs.Common.{err_from_is_err_and, fill_same, fill_more, fill_failed, fill_last, line_of_stage}
+use Rattle.roman_top.proofs.Common.{ap, ◌∙◌, arith, err_from_is_err_and, fill_same, fill_more, fill_failed, fill_last, line_of_stage}
 use Rattle.roman_top.proofs.StageLemmas.{lines_of-drop, lines_of-end}
 use Rattle.roman_top.proofs.summary.push_stages.Goals as goal
 

@@ -1,5 +1,4 @@
-use Rattle.std.proofs.Common.{◌≡◌, ◌++◌, drop}
-use Rattle.roman_top.proofs.Common.{IsFilling, lines_of}
+use Rattle.roman_top.proofs.Common.{◌≡◌, ◌++◌, drop, IsFilling, lines_of}
 use Rattle.roman_top.proofs.summary.push_stages.Given as goal
 
 -- the lines of the stages so far were pushed

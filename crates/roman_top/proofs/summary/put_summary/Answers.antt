@@ -1,5 +1,4 @@
-use Rattle.std.proofs.Common.{◌∙◌}
-use Rattle.roman_top.proofs.Common.{err_from_is_err_and, fill_whole, fill_more, fill_failed, fill_put}
+use Rattle.roman_top.proofs.Common.{◌∙◌, err_from_is_err_and, fill_whole, fill_more, fill_failed, fill_put}
 use Rattle.roman_top.proofs.StageLemmas.{summary_pieces}
 use Rattle.roman_top.proofs.summary.put_summary.Goals as goal
 

@@ -1,4 +1,4 @@
-use Rattle.std.proofs.Common.{ap}
+use Rattle.roman_top.proofs.Common.{ap}
 use Rattle.roman_top.proofs.TalkLemmas.{text_source, text_heard}
 use Rattle.roman_top.proofs.talking.hear_text.Goals as goal
 

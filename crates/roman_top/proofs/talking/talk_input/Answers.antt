@@ -1,5 +1,4 @@
-use Rattle.std.proofs.Common.{None, inr}
-use Rattle.roman_top.proofs.Common.{IsStart, Run}
+use Rattle.roman_top.proofs.Common.{None, inr, IsStart, Run}
 use Rattle.roman_top.proofs.ServedLemmas.{away_served}
 use Rattle.roman_top.proofs.TalkLemmas.{input_done}
 use Rattle.roman_top.proofs.talking.talk_input.Goals as goal

@@ -1,5 +1,4 @@
-use Rattle.std.proofs.Common.{Some}
-use Rattle.roman_top.proofs.Common.{IsStart, Run}
+use Rattle.roman_top.proofs.Common.{Some, IsStart, Run}
 use Rattle.roman_top.proofs.ServedLemmas.{away_served}
 use Rattle.roman_top.proofs.TalkLemmas.{shelf_served}
 use Rattle.roman_top.proofs.talking.talk_shelf.Goals as goal

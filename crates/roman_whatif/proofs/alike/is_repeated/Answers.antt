@@ -1,6 +1,5 @@
-use Rattle.std.proofs.Common.{◌≡◌, ◌-◌, Bool, true, false, not, refl, arith}
+use Rattle.roman_whatif.proofs.Common.{◌≡◌, ◌-◌, Bool, true, false, not, refl, arith, eqb-true}
 use Rattle.std.proofs.Math.Bool.{beq}
-use Rattle.roman_whatif.proofs.Common.{eqb-true}
 use Rattle.std.proofs.lemmas.Bool.{true≢false}
 use Rattle.roman_whatif.proofs.Repeats.{repeated_when}
 use Rattle.roman_whatif.proofs.alike.is_repeated.Goals as goal

@@ -1,5 +1,4 @@
-use Rattle.std.proofs.Common.{◌<◌, [], ◌∷◌, length, IfSome, sym, ap, subst, arith}
-use Rattle.roman_whatif.proofs.Common.{Relation, places, told}
+use Rattle.roman_whatif.proofs.Common.{◌<◌, [], ◌∷◌, length, IfSome, sym, ap, subst, arith, Relation, places, told}
 use Rattle.roman_whatif.proofs.Lasting.{still_there, left_again, told_left, great_told}
 use Rattle.roman_whatif.proofs.failing.without.Goals as goal
 

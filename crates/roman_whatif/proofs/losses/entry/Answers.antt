@@ -1,5 +1,4 @@
-use Rattle.std.proofs.Common.{◌<◌, length, IfSome, sym, ap, ◌∙◌, subst}
-use Rattle.roman_whatif.proofs.Common.{places, left_of}
+use Rattle.roman_whatif.proofs.Common.{◌<◌, length, IfSome, sym, ap, ◌∙◌, subst, places, left_of}
 use Rattle.roman_whatif.proofs.losses.entry.Goals as goal
 
 pub returns-in-None : goal.returns-in-None

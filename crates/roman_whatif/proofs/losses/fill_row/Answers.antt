@@ -1,4 +1,4 @@
-use Rattle.std.proofs.Common.{◌-◌, arith}
+use Rattle.roman_whatif.proofs.Common.{◌-◌, arith}
 use Rattle.roman_whatif.proofs.Repeats.{repeats_row}
 use Rattle.roman_whatif.proofs.losses.fill_row.Goals as goal
 

@@ -1,5 +1,4 @@
-use Rattle.std.proofs.Common.{◌≡◌, ℕ, ◌*◌, ◌<◌, length, sym, ap, ◌∙◌, subst, arith}
-use Rattle.roman_whatif.proofs.Common.{told_at, IsToldOf}
+use Rattle.roman_whatif.proofs.Common.{◌≡◌, ℕ, ◌*◌, ◌<◌, length, sym, ap, ◌∙◌, subst, arith, told_at, IsToldOf}
 use Rattle.roman_whatif.proofs.Telling.{rows_more, lent_back}
 use Rattle.roman_whatif.proofs.losses.try_all.Goals as goal
 

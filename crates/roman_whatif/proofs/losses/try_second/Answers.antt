@@ -1,5 +1,4 @@
-use Rattle.std.proofs.Common.{◌≡◌, ◌+◌, ◌-◌, ◌*◌, [], ◌∷◌, refl, sym, ap, ◌∙◌, arith}
-use Rattle.roman_whatif.proofs.Common.{told, told_at, left_of}
+use Rattle.roman_whatif.proofs.Common.{◌≡◌, ◌+◌, ◌-◌, ◌*◌, [], ◌∷◌, refl, sym, ap, ◌∙◌, arith, told, told_at, left_of}
 use Rattle.roman_whatif.proofs.Lasting.{still_there, left_again, told_left}
 use Rattle.roman_whatif.proofs.Repeats.{alike_first}
 use Rattle.roman_whatif.proofs.losses.try_second.Goals as goal

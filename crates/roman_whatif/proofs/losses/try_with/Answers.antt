@@ -1,5 +1,4 @@
-use Rattle.std.proofs.Common.{ℕ, ◌+◌, ◌*◌, ◌<◌, [], ◌∷◌, length, refl, sym, ◌∙◌, subst, arith}
-use Rattle.roman_whatif.proofs.Common.{length-set, Relation, IsLeft, told, left_of}
+use Rattle.roman_whatif.proofs.Common.{ℕ, ◌+◌, ◌*◌, ◌<◌, [], ◌∷◌, length, refl, sym, ◌∙◌, subst, arith, length-set, Relation, IsLeft, told, left_of}
 use Rattle.roman_whatif.proofs.Lasting.{told_left}
 use Rattle.roman_whatif.proofs.Telling.{told_there, told_elsewhere, told_one_more}
 use Rattle.roman_whatif.proofs.losses.try_with.Goals as goal

@@ -1,5 +1,4 @@
-use Rattle.std.proofs.Common.{arith}
-use Rattle.roman_cert.proofs.Common.{decimal_digit}
+use Rattle.roman_cert.proofs.Common.{arith, decimal_digit}
 use Rattle.roman_cert.proofs.template.Template.new.Goals as goal
 
 pub returns : goal.returns

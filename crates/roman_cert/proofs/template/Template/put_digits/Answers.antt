@@ -1,4 +1,4 @@
-use Rattle.std.proofs.Common.{arith}
+use Rattle.roman_cert.proofs.Common.{arith}
 use Rattle.roman_cert.proofs.Templating.{line_of_two}
 use Rattle.roman_cert.proofs.template.Template.put_digits.Goals as goal
 

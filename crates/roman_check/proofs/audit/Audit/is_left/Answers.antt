@@ -1,5 +1,4 @@
-use Rattle.std.proofs.Common.{length, not, ap, ◌∙◌}
-use Rattle.roman_check.proofs.Common.{is_listed}
+use Rattle.roman_check.proofs.Common.{length, not, ap, ◌∙◌, is_listed}
 use Rattle.roman_check.proofs.ReasonLemmas.{row_within}
 use Rattle.roman_check.proofs.audit.Audit.is_left.Goals as goal
 

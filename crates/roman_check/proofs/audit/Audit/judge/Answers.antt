@@ -1,5 +1,4 @@
-use Rattle.std.proofs.Common.{◌∙◌, ap, arith}
-use Rattle.roman_check.proofs.Common.{same_numbers, count_line}
+use Rattle.roman_check.proofs.Common.{◌∙◌, ap, arith, same_numbers, count_line}
 use Rattle.roman_check.proofs.AuditLemmas.{judged_head, judged_count, judged_body, judged_after_end}
 use Rattle.roman_check.proofs.audit.Audit.judge.Goals as goal
 

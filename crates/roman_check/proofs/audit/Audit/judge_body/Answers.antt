@@ -1,6 +1,5 @@
-use Rattle.std.proofs.Common.{◌*◌, List, ℕ, length, ap, ◌∙◌, sym, subst, arith}
+use Rattle.roman_check.proofs.Common.{◌*◌, List, ℕ, length, ap, ◌∙◌, sym, subst, arith, Nothing, HasListed, fault_of}
 use Rattle.std.specs.Option.{option_map}
-use Rattle.roman_check.proofs.Common.{Nothing, HasListed, fault_of}
 use Rattle.roman_check.proofs.AuditLemmas.{end_judged, entry_judged, ended_list, listed_rows}
 use Rattle.roman_check.proofs.audit.Audit.judge_body.Goals as goal
 

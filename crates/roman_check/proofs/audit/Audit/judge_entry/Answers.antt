@@ -1,5 +1,4 @@
-use Rattle.std.proofs.Common.{◌≡◌, ◌++◌, [], length, ◌∙◌, ap, ap₂, subst, Some}
-use Rattle.roman_check.proofs.Common.{cons_option, entry_of, entry_fault, entry_with, HasListed}
+use Rattle.roman_check.proofs.Common.{◌≡◌, ◌++◌, [], length, ◌∙◌, ap, ap₂, subst, Some, cons_option, entry_of, entry_fault, entry_with, HasListed}
 use Rattle.roman_check.proofs.AuditLemmas.{entry_given, reason_given}
 use Rattle.roman_check.proofs.audit.Audit.judge_entry.Goals as goal
 

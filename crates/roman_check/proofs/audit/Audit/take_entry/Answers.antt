@@ -1,5 +1,4 @@
-use Rattle.std.proofs.Common.{◌+◌, ◌*◌, ◌<◌, ◌==◌, ◌||◌, ◌++◌, ◌∷◌, [], not, length, ◌∙◌, sym, ap, subst}
-use Rattle.roman_check.proofs.Common.{not-true, is_justified, is_listed, HoldsWhereKept, entry_with}
+use Rattle.roman_check.proofs.Common.{◌+◌, ◌*◌, ◌<◌, ◌==◌, ◌||◌, ◌++◌, ◌∷◌, [], not, length, ◌∙◌, sym, ap, subst, not-true, is_justified, is_listed, HoldsWhereKept, entry_with}
 use Rattle.roman_check.proofs.AuditLemmas.{repeated_entry, unjustified_entry, clean_entry, pair_within, entry_listed}
 use Rattle.roman_check.proofs.audit.Audit.take_entry.Goals as goal
 

@@ -1,5 +1,4 @@
-use Rattle.std.proofs.Common.{◌≡◌, ℕ, ◌+◌, ◌*◌, ◌<◌, ◌==◌, ◌||◌, ◌&&◌, ◌++◌, ◌∷◌, [], Bool, true, false, not, length, refl, ◌∙◌, sym, ap, subst}
-use Rattle.roman_check.proofs.Common.{not-true, is_on, is_listed, is_justified, HoldsWhereKept, Audit, entry_with}
+use Rattle.roman_check.proofs.Common.{◌≡◌, ℕ, ◌+◌, ◌*◌, ◌<◌, ◌==◌, ◌||◌, ◌&&◌, ◌++◌, ◌∷◌, [], Bool, true, false, not, length, refl, ◌∙◌, sym, ap, subst, not-true, is_on, is_listed, is_justified, HoldsWhereKept, Audit, entry_with}
 use Rattle.roman_check.specs.Audits.{IsFront}
 use Rattle.roman_check.specs.declared.audit.Front.{Front}
 use Rattle.roman_check.proofs.AuditLemmas.{clean_entry, entry_listed, place_within}

@@ -1,5 +1,4 @@
-use Rattle.std.proofs.Common.{◌≡◌, ◌+◌, ◌-◌, ◌<◌, ◌≤◌, length, take, sym, arith, subst, length-take-le}
-use Rattle.roman_check.proofs.Common.{get_or-take, HasParts}
+use Rattle.roman_check.proofs.Common.{◌≡◌, ◌+◌, ◌-◌, ◌<◌, ◌≤◌, length, take, sym, arith, subst, length-take-le, get_or-take, HasParts}
 use Rattle.roman_check.proofs.PatternLemmas.{parts_same, large_number}
 use Rattle.roman_check.proofs.pattern.Pattern.learn.Goals as goal
 

@@ -1,4 +1,4 @@
-use Rattle.std.proofs.Common.{◌+◌, arith}
+use Rattle.roman_check.proofs.Common.{◌+◌, arith}
 use Rattle.roman_check.proofs.EntryLemmas.{few_of}
 use Rattle.roman_check.proofs.PatternLemmas.{parts_entry}
 use Rattle.roman_check.proofs.pattern.Pattern.read.Goals as goal

@@ -1,4 +1,4 @@
-use Rattle.std.proofs.Common.{◌+◌, ◌*◌, ◌≤◌, get_or, arith}
+use Rattle.roman_check.proofs.Common.{◌+◌, ◌*◌, ◌≤◌, get_or, arith}
 use Rattle.roman_check.proofs.PatternLemmas.{parts_same}
 use Rattle.roman_check.proofs.pattern.Shape.fit.Goals as goal
 

@@ -1,5 +1,4 @@
-use Rattle.std.proofs.Common.{◌+◌, ap, arith}
-use Rattle.roman_check.proofs.Common.{both_ways}
+use Rattle.roman_check.proofs.Common.{◌+◌, ap, arith, both_ways}
 use Rattle.roman_check.proofs.ReaderLemmas.{closed_empty, closed_line, closed_at_fault}
 use Rattle.roman_check.proofs.reader.Reader.close.Goals as goal
 

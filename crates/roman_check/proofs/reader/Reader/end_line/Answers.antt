@@ -1,4 +1,4 @@
-use Rattle.std.proofs.Common.{◌+◌, ap}
+use Rattle.roman_check.proofs.Common.{◌+◌, ap}
 use Rattle.roman_check.proofs.ReaderLemmas.{read_line, stop_line}
 use Rattle.roman_check.proofs.reader.Reader.end_line.Goals as goal
 

@@ -1,5 +1,4 @@
-use Rattle.std.proofs.Common.{refl, arith}
-use Rattle.roman_check.proofs.Common.{take_rest}
+use Rattle.roman_check.proofs.Common.{refl, arith, take_rest}
 use Rattle.roman_check.proofs.ReaderLemmas.{read_more, stop_in_piece, read_rest}
 use Rattle.roman_check.proofs.reader.Reader.feed.Goals as goal
 

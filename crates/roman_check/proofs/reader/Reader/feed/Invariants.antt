@@ -1,5 +1,4 @@
-use Rattle.std.proofs.Common.{◌+◌, ◌-◌, ◌≤◌, length}
-use Rattle.roman_check.proofs.Common.{IsReadTo, IsInRows}
+use Rattle.roman_check.proofs.Common.{◌+◌, ◌-◌, ◌≤◌, length, IsReadTo, IsInRows}
 use Rattle.roman_check.proofs.reader.Reader.feed.Given as goal
 
 -- the lines that end so far are read

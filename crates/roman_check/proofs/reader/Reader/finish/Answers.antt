@@ -1,4 +1,4 @@
-use Rattle.std.proofs.Common.{refl}
+use Rattle.roman_check.proofs.Common.{refl}
 use Rattle.roman_check.proofs.EndLemmas.{ended_at_fault}
 use Rattle.roman_check.proofs.reader.Reader.finish.Goals as goal
 

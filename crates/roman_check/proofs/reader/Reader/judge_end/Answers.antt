@@ -1,5 +1,4 @@
-use Rattle.std.proofs.Common.{◌++◌, sym, subst}
-use Rattle.roman_check.proofs.Common.{Judges}
+use Rattle.roman_check.proofs.Common.{◌++◌, sym, subst, Judges}
 use Rattle.roman_check.proofs.reader.Reader.judge_end.Goals as goal
 
 pub returns-then-is_empty-clause-judged : goal.returns-then-is_empty-clause-judged

@@ -1,5 +1,4 @@
-use Rattle.std.proofs.Common.{◌≡◌, ◌+◌, ◌-◌, ◌++◌, ◌∷◌, [], length, take, drop, None, Some, refl, sym, ap, ◌∙◌, subst, rules, arith}
-use Rattle.roman_check.proofs.Common.{entry_fault, Holds, HasListed, entry_with, IsReadTo}
+use Rattle.roman_check.proofs.Common.{◌≡◌, ◌+◌, ◌-◌, ◌++◌, ◌∷◌, [], length, take, drop, None, Some, refl, sym, ap, ◌∙◌, subst, rules, arith, entry_fault, Holds, HasListed, entry_with, IsReadTo}
 use Rattle.roman_check.proofs.AuditLemmas.{few_numbered}
 use Rattle.roman_check.proofs.PatternLemmas.{parts_entry}
 use Rattle.roman_check.proofs.ReaderLemmas.{entry_in_piece, read_line, read_more}

@@ -1,5 +1,4 @@
-use Rattle.std.proofs.Common.{◌≡◌, ◌+◌, ◌-◌, ◌≤◌, length}
-use Rattle.roman_check.proofs.Common.{Body, Reader, IsPattern, IsReadTo, IsInRows}
+use Rattle.roman_check.proofs.Common.{◌≡◌, ◌+◌, ◌-◌, ◌≤◌, length, Body, Reader, IsPattern, IsReadTo, IsInRows}
 use Rattle.roman_check.proofs.reader.Reader.read_alike.Given as goal
 
 -- the entries so far are read, and nothing else has changed

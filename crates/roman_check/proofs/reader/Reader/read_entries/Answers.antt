@@ -1,5 +1,4 @@
-use Rattle.std.proofs.Common.{◌+◌, ◌-◌, [], length, take, drop, None, refl, sym, ap₂, ◌∙◌, subst, arith}
-use Rattle.roman_check.proofs.Common.{entry_of, Holds, entry_with}
+use Rattle.roman_check.proofs.Common.{◌+◌, ◌-◌, [], length, take, drop, None, refl, sym, ap₂, ◌∙◌, subst, arith, entry_of, Holds, entry_with}
 use Rattle.roman_check.proofs.AuditLemmas.{entry_given, reason_given}
 use Rattle.roman_check.proofs.ReaderLemmas.{entry_in_piece, read_line, stop_line, read_more, stop_in_piece}
 use Rattle.roman_check.proofs.reader.Reader.read_entries.Goals as goal

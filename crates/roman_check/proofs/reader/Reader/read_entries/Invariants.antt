@@ -1,5 +1,4 @@
-use Rattle.std.proofs.Common.{◌≡◌, ◌+◌, ◌-◌, ◌≤◌, length}
-use Rattle.roman_check.proofs.Common.{IsIn, reasons, Body, Reader, IsPattern, IsReadTo, IsInRows}
+use Rattle.roman_check.proofs.Common.{◌≡◌, ◌+◌, ◌-◌, ◌≤◌, length, IsIn, reasons, Body, Reader, IsPattern, IsReadTo, IsInRows}
 use Rattle.roman_check.proofs.reader.Reader.read_entries.Given as goal
 
 -- the entries so far are read, and an entry or the last line is due

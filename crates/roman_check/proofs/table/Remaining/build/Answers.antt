@@ -1,4 +1,4 @@
-use Rattle.std.proofs.Common.{refl}
+use Rattle.roman_check.proofs.Common.{refl}
 use Rattle.roman_check.proofs.RemainLemmas.{remain_all}
 use Rattle.roman_check.proofs.table.Remaining.build.Goals as goal
 

@@ -1,6 +1,5 @@
-use Rattle.std.proofs.Common.{◌≡◌, get_or, refl, rules, ap, ◌∙◌}
+use Rattle.roman_check.proofs.Common.{◌≡◌, get_or, refl, rules, ap, ◌∙◌, is_on}
 use Rattle.std.proofs.lemmas.List.{get_or_read}
-use Rattle.roman_check.proofs.Common.{is_on}
 use Rattle.roman_check.proofs.RemainLemmas.{remain_less}
 use Rattle.roman_check.proofs.table.Remaining.remove.Goals as goal
 

@@ -1,5 +1,4 @@
-use Rattle.std.proofs.Common.{◌≡◌, suc, length, ap, sym, ◌∙◌, subst, arith}
-use Rattle.roman_cost.proofs.Common.{least_at, length_rows, system_of, value_rows, AreSmall, seat_costs}
+use Rattle.roman_cost.proofs.Common.{◌≡◌, suc, length, ap, sym, ◌∙◌, subst, arith, least_at, length_rows, system_of, value_rows, AreSmall, seat_costs}
 use Rattle.roman_cost.proofs.CostLemmas.{seat_costs_small}
 use Rattle.roman_cost.proofs.Rows.{resized_row, rows_small}
 use Rattle.roman_cost.proofs.advice.Advice.build.Goals as goal

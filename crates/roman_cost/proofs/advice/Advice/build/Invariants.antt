@@ -1,5 +1,4 @@
-use Rattle.std.proofs.Common.{◌≡◌, suc}
-use Rattle.roman_cost.proofs.Common.{system_of, value_rows, seat_costs}
+use Rattle.roman_cost.proofs.Common.{◌≡◌, suc, system_of, value_rows, seat_costs}
 use Rattle.roman_cost.proofs.advice.Advice.build.Given as goal
 
 -- the rows so far

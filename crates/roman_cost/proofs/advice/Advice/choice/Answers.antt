@@ -1,5 +1,4 @@
-use Rattle.std.proofs.Common.{ap, ◌∙◌, ◌-◌, map}
-use Rattle.roman_cost.proofs.Common.{least_at, system_of, seat_costs}
+use Rattle.roman_cost.proofs.Common.{ap, ◌∙◌, ◌-◌, map, least_at, system_of, seat_costs}
 use Rattle.roman_cost.proofs.advice.Advice.choice.Goals as goal
 
 pub returns-clause-seat : goal.returns-clause-seat

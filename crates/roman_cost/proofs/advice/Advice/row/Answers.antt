@@ -1,5 +1,4 @@
-use Rattle.std.proofs.Common.{◌≡◌, map, length, sym, ap, ◌∙◌, arith}
-use Rattle.roman_cost.proofs.Common.{least_at, AdviceTable}
+use Rattle.roman_cost.proofs.Common.{◌≡◌, map, length, sym, ap, ◌∙◌, arith, least_at, AdviceTable}
 use Rattle.roman_cost.proofs.Rows.{table_row}
 use Rattle.roman_cost.proofs.advice.Advice.row.Goals as goal
 

@@ -1,5 +1,4 @@
-use Rattle.std.proofs.Common.{◌≡◌, ◌<◌, ◌≤◌, ◌+◌, ◌*◌, suc, ℕ, length, slice_index, sym, ap, ◌∙◌, subst, arith}
-use Rattle.roman_cost.proofs.Common.{mul-add-lt, get_or_read, IsIn, least_at, length_rows, AdviceTable}
+use Rattle.roman_cost.proofs.Common.{◌≡◌, ◌<◌, ◌≤◌, ◌+◌, ◌*◌, suc, ℕ, length, slice_index, sym, ap, ◌∙◌, subst, arith, mul-add-lt, get_or_read, IsIn, least_at, length_rows, AdviceTable}
 use Rattle.roman_cost.proofs.Ranks.{value_at}
 use Rattle.roman_cost.proofs.advice.Advice.value.Goals as goal
 

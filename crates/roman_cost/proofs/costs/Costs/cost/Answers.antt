@@ -1,5 +1,4 @@
-use Rattle.std.proofs.Common.{◌≡◌, ◌<◌, ◌-◌, ◌+◌, ◌*◌, length, unwrap_or, sym, ◌∙◌, subst, arith}
-use Rattle.roman_cost.proofs.Common.{mul-add-lt, get_or_read, CostTable, cell_of, listed_cost}
+use Rattle.roman_cost.proofs.Common.{◌≡◌, ◌<◌, ◌-◌, ◌+◌, ◌*◌, length, unwrap_or, sym, ◌∙◌, subst, arith, mul-add-lt, get_or_read, CostTable, cell_of, listed_cost}
 use Rattle.roman_cost.proofs.CostLemmas.{cell_less, cost_of_small}
 use Rattle.roman_cost.proofs.costs.Costs.cost.Goals as goal
 

@@ -1,5 +1,4 @@
-use Rattle.std.proofs.Common.{◌≡◌, ◌<◌, None, refl, sym, subst}
-use Rattle.roman_cost.proofs.Common.{CostTable, listed_cost}
+use Rattle.roman_cost.proofs.Common.{◌≡◌, ◌<◌, None, refl, sym, subst, CostTable, listed_cost}
 use Rattle.roman_cost.proofs.CostLemmas.{HoldsCosts-put}
 use Rattle.roman_cost.proofs.costs.Costs.put.Goals as goal
 

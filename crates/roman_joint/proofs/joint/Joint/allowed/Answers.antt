@@ -1,5 +1,4 @@
-use Rattle.std.proofs.Common.{ap, ◌∙◌}
-use Rattle.roman_joint.proofs.Common.{Sizes, pair_at, NamedEnv, system_of}
+use Rattle.roman_joint.proofs.Common.{ap, ◌∙◌, Sizes, pair_at, NamedEnv, system_of}
 use Rattle.roman_parts.specs.Named.{NamedTarget}
 use Rattle.roman_joint.proofs.Shown.{Shows, shown, allowed_shown}
 use Rattle.roman_joint.proofs.joint.Joint.allowed.Goals as goal

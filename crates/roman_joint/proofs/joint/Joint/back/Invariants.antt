@@ -1,5 +1,4 @@
-use Rattle.std.proofs.Common.{◌≡◌}
-use Rattle.roman_joint.proofs.Common.{system_of, IsWalk, left}
+use Rattle.roman_joint.proofs.Common.{◌≡◌, system_of, IsWalk, left}
 use Rattle.roman_joint.specs.Walks.{way_left}
 use Rattle.roman_joint.proofs.joint.Joint.back.Given as goal
 

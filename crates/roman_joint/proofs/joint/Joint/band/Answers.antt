@@ -1,5 +1,4 @@
-use Rattle.std.proofs.Common.{arith}
-use Rattle.roman_joint.proofs.Common.{sizes_of, row_sizes, lanes_few, system_of}
+use Rattle.roman_joint.proofs.Common.{arith, sizes_of, row_sizes, lanes_few, system_of}
 use Rattle.roman_joint.proofs.SplitLemmas.{joint_sizes}
 use Rattle.roman_joint.proofs.BandLemmas.{first_in}
 use Rattle.roman_joint.proofs.joint.Joint.band.Goals as goal

@@ -1,5 +1,4 @@
-use Rattle.std.proofs.Common.{◌≡◌, ◌*◌, ◌/◌, sym, ap, ap₂, ◌∙◌, arith}
-use Rattle.roman_joint.proofs.Common.{sizes_of, count, row_sizes, count_rows, rows_are, IsSizes-rows, system_of, lanes_in, band_in}
+use Rattle.roman_joint.proofs.Common.{◌≡◌, ◌*◌, ◌/◌, sym, ap, ap₂, ◌∙◌, arith, sizes_of, count, row_sizes, count_rows, rows_are, IsSizes-rows, system_of, lanes_in, band_in}
 use Rattle.roman_joint.proofs.SplitLemmas.{joint_sizes, factor}
 use Rattle.roman_joint.proofs.GoodLemmas.{width_positive}
 use Rattle.roman_joint.proofs.BandLemmas.{first_in}

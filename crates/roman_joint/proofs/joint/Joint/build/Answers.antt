@@ -1,6 +1,5 @@
-use Rattle.std.proofs.Common.{List, refl, ap, ◌∙◌, arith}
+use Rattle.roman_joint.proofs.Common.{List, refl, ap, ◌∙◌, arith, named_parts, AreSeatsOf}
 use Rattle.roman_joint.specs.declared.seat.Seat.{Seat}
-use Rattle.roman_joint.proofs.Common.{named_parts, AreSeatsOf}
 use Rattle.roman_joint.proofs.Shown.{is_joint}
 use Rattle.roman_joint.proofs.joint.Joint.build.Goals as goal
 use Rattle.roman_joint.proofs.joint.Joint.build.Goals.{After-deref-4}

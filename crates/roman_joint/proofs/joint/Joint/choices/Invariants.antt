@@ -1,5 +1,4 @@
-use Rattle.std.proofs.Common.{◌≡◌, ℕ, ◌+◌, ◌*◌, ◌≤◌, Bool, not, sum_by}
-use Rattle.roman_joint.proofs.Common.{below, numbered, AreRows, served_by, system_of, lanes_in, IsRow, band_in}
+use Rattle.roman_joint.proofs.Common.{◌≡◌, ℕ, ◌+◌, ◌*◌, ◌≤◌, Bool, not, sum_by, below, numbered, AreRows, served_by, system_of, lanes_in, IsRow, band_in}
 use Rattle.roman_joint.proofs.joint.Joint.choices.Given as goal
 
 -- the pairs that the seats so far serve are counted

@@ -1,5 +1,4 @@
-use Rattle.std.proofs.Common.{◌≡◌, List, refl, sym, ap, ◌∙◌, subst}
-use Rattle.roman_joint.proofs.Common.{sizes_of, TargetView, NamedSys, system_of, IsNamedSys, named_sys_in, HasSameParts, AreRowsOf, AreTargetViews, HoldsMoves}
+use Rattle.roman_joint.proofs.Common.{◌≡◌, List, refl, sym, ap, ◌∙◌, subst, sizes_of, TargetView, NamedSys, system_of, IsNamedSys, named_sys_in, HasSameParts, AreRowsOf, AreTargetViews, HoldsMoves}
 use Rattle.roman_joint.proofs.SeatChanges.{with_the_seats}
 use Rattle.roman_joint.proofs.joint.Joint.copy.Goals as goal
 

@@ -1,5 +1,4 @@
-use Rattle.std.proofs.Common.{ap, ◌∙◌, arith}
-use Rattle.roman_joint.proofs.Common.{remove, Die, after, system_of, named_sys_in, AreSeatsOf}
+use Rattle.roman_joint.proofs.Common.{ap, ◌∙◌, arith, remove, Die, after, system_of, named_sys_in, AreSeatsOf}
 use Rattle.roman_joint.proofs.Shown.{is_joint, room_kept}
 use Rattle.roman_joint.proofs.SeatChanges.{with_seats, gone_known, gone_sizes, gone_system}
 use Rattle.roman_joint.proofs.joint.Joint.drop_seat.Goals as goal

@@ -1,5 +1,4 @@
-use Rattle.std.proofs.Common.{map, sym, ap, ap₂, ◌∙◌}
-use Rattle.roman_joint.proofs.Common.{Sizes, beh_at}
+use Rattle.roman_joint.proofs.Common.{map, sym, ap, ap₂, ◌∙◌, Sizes, beh_at}
 use Rattle.roman_joint.proofs.SeatLemmas.{same_sizes}
 use Rattle.roman_joint.proofs.joint.Joint.final_ok.Goals as goal
 

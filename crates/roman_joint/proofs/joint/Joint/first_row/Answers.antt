@@ -1,5 +1,4 @@
-use Rattle.std.proofs.Common.{ℕ, zero, suc, ◌*◌, ◌<◌, ap, arith}
-use Rattle.roman_joint.proofs.Common.{system_of, band_in, lanes_in}
+use Rattle.roman_joint.proofs.Common.{ℕ, zero, suc, ◌*◌, ◌<◌, ap, arith, system_of, band_in, lanes_in}
 use Rattle.roman_joint.proofs.SplitLemmas.{joint_sizes}
 use Rattle.roman_joint.proofs.GoodLemmas.{width_positive}
 use Rattle.roman_joint.proofs.joint.Joint.first_row.Goals as goal

@@ -1,5 +1,4 @@
-use Rattle.std.proofs.Common.{◌∙◌, sym, ap, not}
-use Rattle.roman_joint.proofs.Common.{system_of, on_zero}
+use Rattle.roman_joint.proofs.Common.{◌∙◌, sym, ap, not, system_of, on_zero}
 use Rattle.roman_joint.proofs.ArenaFacts.{joint_numbered}
 use Rattle.roman_joint.proofs.AllowedLemmas.{unopened}
 use Rattle.roman_joint.proofs.joint.Joint.good.Goals as goal

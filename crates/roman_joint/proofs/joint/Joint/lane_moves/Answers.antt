@@ -1,5 +1,4 @@
-use Rattle.std.proofs.Common.{◌+◌, ◌-◌, ◌*◌, arith}
-use Rattle.roman_joint.proofs.Common.{length-map, system_of, seat_of}
+use Rattle.roman_joint.proofs.Common.{◌+◌, ◌-◌, ◌*◌, arith, length-map, system_of, seat_of}
 use Rattle.roman_joint.proofs.Shown.{Shows, shown, seats_shown}
 use Rattle.roman_joint.proofs.MoveLemmas.{StandsAt, span_at, stands_at}
 use Rattle.roman_joint.proofs.joint.Joint.lane_moves.Goals as goal

@@ -1,5 +1,4 @@
-use Rattle.std.proofs.Common.{◌≡◌, ℕ, ◌+◌, ◌*◌, ◌<◌, length, ap, ◌∙◌, arith}
-use Rattle.roman_joint.proofs.Common.{sizes_of, count, pair_at, system_of, lanes_in, band_in, MarksAction, front_action}
+use Rattle.roman_joint.proofs.Common.{◌≡◌, ℕ, ◌+◌, ◌*◌, ◌<◌, length, ap, ◌∙◌, arith, sizes_of, count, pair_at, system_of, lanes_in, band_in, MarksAction, front_action}
 use Rattle.roman_joint.proofs.SplitLemmas.{joint_sizes}
 use Rattle.roman_joint.proofs.BandLemmas.{in_band}
 use Rattle.roman_joint.proofs.MarkLemmas.{grows_on, action_on, more_below, marks_all, count_below, count_front, pair_there}

@@ -1,5 +1,4 @@
-use Rattle.std.proofs.Common.{◌≡◌, ℕ, ◌+◌, ◌<◌, length}
-use Rattle.roman_joint.proofs.Common.{flat_map, below, Pair, system_of, Grows, MarksAction, IsAt, front_action}
+use Rattle.roman_joint.proofs.Common.{◌≡◌, ℕ, ◌+◌, ◌<◌, length, flat_map, below, Pair, system_of, Grows, MarksAction, IsAt, front_action}
 use Rattle.roman_joint.proofs.joint.Joint.mark_before.Given as goal
 
 -- the bands of the actions so far are marked

@@ -1,5 +1,4 @@
-use Rattle.std.proofs.Common.{◌≡◌, ◌+◌, ◌*◌, ◌^◌, ◌/◌, ◌<◌, eqb, bit_and, sym, ap, subst, ◌∙◌, arith}
-use Rattle.roman_joint.proofs.Common.{shr_and_one, length-map, has, mask, sizes_of, numbered, lanes_few, is_on, HasBits, system_of, seat_of, lanes_in, AreAlive}
+use Rattle.roman_joint.proofs.Common.{◌≡◌, ◌+◌, ◌*◌, ◌^◌, ◌/◌, ◌<◌, eqb, bit_and, sym, ap, subst, ◌∙◌, arith, shr_and_one, length-map, has, mask, sizes_of, numbered, lanes_few, is_on, HasBits, system_of, seat_of, lanes_in, AreAlive}
 use Rattle.roman_rules.proofs.CallerLemmas.{has_good, mask_refused, mask_more, mask_all}
 use Rattle.roman_joint.proofs.ArenaFacts.{joint_numbered}
 use Rattle.roman_joint.proofs.AllowedLemmas.{open_here}

@@ -1,5 +1,4 @@
-use Rattle.std.proofs.Common.{◌≡◌, ℕ, ◌+◌, ◌*◌, ◌<◌, ◌≤◌, Bool, not}
-use Rattle.roman_joint.proofs.Common.{bit_at, has, mask, numbered, AreRows, bit_of, system_of, lanes_in, IsRow}
+use Rattle.roman_joint.proofs.Common.{◌≡◌, ℕ, ◌+◌, ◌*◌, ◌<◌, ◌≤◌, Bool, not, bit_at, has, mask, numbered, AreRows, bit_of, system_of, lanes_in, IsRow}
 use Rattle.roman_joint.proofs.joint.Joint.mask.Given as goal
 
 -- the mask is right for the seats so far, and has no other seat

@@ -1,5 +1,4 @@
-use Rattle.std.proofs.Common.{◌≡◌, length, sym, ap, ◌∙◌, arith}
-use Rattle.roman_joint.proofs.Common.{length-map, system_of, seat_of}
+use Rattle.roman_joint.proofs.Common.{◌≡◌, length, sym, ap, ◌∙◌, arith, length-map, system_of, seat_of}
 use Rattle.roman_joint.proofs.WalkLemmas.{goes_action, below-past}
 use Rattle.roman_joint.proofs.joint.Joint.next_action.Goals as goal
 

@@ -1,5 +1,4 @@
-use Rattle.std.proofs.Common.{length, get_or, sym, ap, ◌∙◌, arith}
-use Rattle.roman_joint.proofs.Common.{length-map, env_prev, env_stride_of, system_of, seat_of, goal_of}
+use Rattle.roman_joint.proofs.Common.{length, get_or, sym, ap, ◌∙◌, arith, length-map, env_prev, env_stride_of, system_of, seat_of, goal_of}
 use Rattle.roman_joint.proofs.Rows.{count_fits, env_moves}
 use Rattle.roman_joint.proofs.WalkLemmas.{goes_env, flat_map-past, few_prev}
 use Rattle.roman_joint.proofs.joint.Joint.next_env.Goals as goal

@@ -1,5 +1,4 @@
-use Rattle.std.proofs.Common.{arith}
-use Rattle.roman_joint.proofs.Common.{length-map, system_of, seat_of}
+use Rattle.roman_joint.proofs.Common.{arith, length-map, system_of, seat_of}
 use Rattle.roman_joint.proofs.WalkLemmas.{goes_seat, below-past}
 use Rattle.roman_joint.proofs.joint.Joint.next_seat.Goals as goal
 

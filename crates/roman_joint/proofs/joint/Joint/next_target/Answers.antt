@@ -1,5 +1,4 @@
-use Rattle.std.proofs.Common.{length, get_or, refl, sym, ap, ◌∙◌, arith}
-use Rattle.roman_joint.proofs.Common.{beh_prev, target_stride_of, system_of, goal_of}
+use Rattle.roman_joint.proofs.Common.{length, get_or, refl, sym, ap, ◌∙◌, arith, beh_prev, target_stride_of, system_of, goal_of}
 use Rattle.roman_joint.proofs.Rows.{count_fits, target_moves}
 use Rattle.roman_joint.proofs.WalkLemmas.{goes_target, flat_map-past, few_beh_prev}
 use Rattle.roman_joint.proofs.joint.Joint.next_target.Goals as goal

@@ -1,5 +1,4 @@
-use Rattle.std.proofs.Common.{◌+◌, ◌*◌, slice_index, sym, ap, ◌∙◌, rules, arith}
-use Rattle.roman_joint.proofs.Common.{Beh, beh_next, Sizes, number, pair_at, moved, system_of}
+use Rattle.roman_joint.proofs.Common.{◌+◌, ◌*◌, slice_index, sym, ap, ◌∙◌, rules, arith, Beh, beh_next, Sizes, number, pair_at, moved, system_of}
 use Rattle.roman_joint.proofs.BehaviourLemmas.{Behaves, behaves}
 use Rattle.roman_joint.proofs.OutcomeLemmas.{are_outcomes}
 use Rattle.roman_joint.proofs.Rows.{size_of_seat, count_fits}

@@ -1,5 +1,4 @@
-use Rattle.std.proofs.Common.{◌≡◌, ◌++◌, ◌∷◌, [], sym, ap, ◌∙◌, subst, refl, arith}
-use Rattle.roman_joint.proofs.Common.{sizes_of, NamedSys, system_of, IsNamedSys, named_sys_in}
+use Rattle.roman_joint.proofs.Common.{◌≡◌, ◌++◌, ◌∷◌, [], sym, ap, ◌∙◌, subst, refl, arith, sizes_of, NamedSys, system_of, IsNamedSys, named_sys_in}
 use Rattle.roman_joint.proofs.Shown.{is_joint, room_kept}
 use Rattle.roman_joint.proofs.SeatChanges.{with_seats}
 use Rattle.roman_joint.proofs.joint.Joint.push_seat.Goals as goal

@@ -1,5 +1,4 @@
-use Rattle.std.proofs.Common.{length, sym, ap, ◌∙◌, subst, arith}
-use Rattle.roman_joint.proofs.Common.{length-map, NamedEnv, NamedSys, seat_of, named_sys_in, HasSameParts}
+use Rattle.roman_joint.proofs.Common.{length, sym, ap, ◌∙◌, subst, arith, length-map, NamedEnv, NamedSys, seat_of, named_sys_in, HasSameParts}
 use Rattle.roman_joint.proofs.Shown.{is_joint, room_kept}
 use Rattle.roman_joint.proofs.SeatChanges.{with_the_seats}
 use Rattle.roman_joint.proofs.joint.Joint.reset_seats_to.Goals as goal

@@ -1,5 +1,4 @@
-use Rattle.std.proofs.Common.{◌≡◌, ◌*◌, ◌%◌, ap, ◌∙◌, arith}
-use Rattle.roman_joint.proofs.Common.{sizes_of, pair_at, system_of, lanes_in}
+use Rattle.roman_joint.proofs.Common.{◌≡◌, ◌*◌, ◌%◌, ap, ◌∙◌, arith, sizes_of, pair_at, system_of, lanes_in}
 use Rattle.roman_joint.proofs.SplitLemmas.{joint_sizes, row_made}
 use Rattle.roman_joint.proofs.GoodLemmas.{env_rows_positive}
 use Rattle.roman_joint.proofs.joint.Joint.row.Goals as goal

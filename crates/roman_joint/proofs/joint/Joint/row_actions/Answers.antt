@@ -1,5 +1,4 @@
-use Rattle.std.proofs.Common.{arith}
-use Rattle.roman_joint.proofs.Common.{system_of}
+use Rattle.roman_joint.proofs.Common.{arith, system_of}
 use Rattle.roman_joint.proofs.SplitLemmas.{joint_sizes}
 use Rattle.roman_joint.proofs.TargetViewLemmas.{permitted_at}
 use Rattle.roman_joint.proofs.BandLemmas.{in_band}

@@ -1,5 +1,4 @@
-use Rattle.std.proofs.Common.{◌<◌, length, sym, ap, ◌∙◌, arith}
-use Rattle.roman_joint.proofs.Common.{named_sys_in, with_frozen}
+use Rattle.roman_joint.proofs.Common.{◌<◌, length, sym, ap, ◌∙◌, arith, named_sys_in, with_frozen}
 use Rattle.roman_joint.proofs.Shown.{is_joint}
 use Rattle.roman_joint.proofs.MoveLemmas.{moves_frozen}
 use Rattle.roman_joint.proofs.SeatChanges.{with_seats, frozen_set, frozen_known, frozen_sizes, frozen_system}

@@ -1,5 +1,4 @@
-use Rattle.std.proofs.Common.{◌<◌, ℕ, List, length, slice_index, sym, ap₂, ◌∙◌, subst}
-use Rattle.roman_joint.proofs.Common.{name_at, sizes_of, system_of}
+use Rattle.roman_joint.proofs.Common.{◌<◌, ℕ, List, length, slice_index, sym, ap₂, ◌∙◌, subst, name_at, sizes_of, system_of}
 use Rattle.roman_joint.proofs.NameLemmas.{state_within, states_are, name_there}
 use Rattle.roman_joint.proofs.joint.Joint.state_name.Goals as goal
 

@@ -1,5 +1,4 @@
-use Rattle.std.proofs.Common.{◌≡◌, ◌<◌, length, get_or, slice_get, slice_set, ap, ◌∙◌, arith}
-use Rattle.roman_joint.proofs.Common.{length-map, Seat, sizes_of, number, AreBelow-index, IsPairOf-at, stride_of, system_of, seat_of, seat_prev, goal_of, states_before}
+use Rattle.roman_joint.proofs.Common.{◌≡◌, ◌<◌, length, get_or, slice_get, slice_set, ap, ◌∙◌, arith, length-map, Seat, sizes_of, number, AreBelow-index, IsPairOf-at, stride_of, system_of, seat_of, seat_prev, goal_of, states_before}
 use Rattle.roman_joint.proofs.Rows.{seat_moves, count_fits}
 use Rattle.roman_joint.proofs.WalkLemmas.{passes_state}
 use Rattle.roman_joint.proofs.joint.Joint.take_state.Goals as goal

@@ -1,5 +1,4 @@
-use Rattle.std.proofs.Common.{length, ap, arith}
-use Rattle.roman_joint.proofs.Common.{numbers_are_pairs, NamedSys, system_of}
+use Rattle.roman_joint.proofs.Common.{length, ap, arith, numbers_are_pairs, NamedSys, system_of}
 use Rattle.roman_joint.proofs.WalkLemmas.{few_beh_prev}
 use Rattle.roman_joint.proofs.joint.Joint.targets_before.Goals as goal
 

@@ -1,5 +1,4 @@
-use Rattle.std.proofs.Common.{◌≡◌, ℕ, ◌+◌, ◌*◌, true, false, not, ◌&&◌, ◌||◌, add-one, length, slice_get, slice_index, sym, ap, ap₂, ◌∙◌, arith}
-use Rattle.roman_joint.proofs.Common.{length-map, all_below, is_final, sizes_of, pair_at, is_on, system_of, seat_of, lanes_in, may_rest, on_zero, on_and}
+use Rattle.roman_joint.proofs.Common.{◌≡◌, ℕ, ◌+◌, ◌*◌, true, false, not, ◌&&◌, ◌||◌, add-one, length, slice_get, slice_index, sym, ap, ap₂, ◌∙◌, arith, length-map, all_below, is_final, sizes_of, pair_at, is_on, system_of, seat_of, lanes_in, may_rest, on_zero, on_and}
 use Rattle.roman_joint.proofs.GoodLemmas.{full_on, full_off}
 use Rattle.roman_joint.proofs.AllowedLemmas.{cut_off, fine_there}
 use Rattle.roman_joint.proofs.joint.Joint.unfine.Goals as goal

@@ -1,5 +1,4 @@
-use Rattle.std.proofs.Common.{◌≡◌, ℕ, ◌+◌, ◌*◌, ◌<◌, slice_get, slice_index}
-use Rattle.roman_joint.proofs.Common.{all_below, sizes_of, pair_at, is_on, system_of, lanes_in, IsRow, may_rest}
+use Rattle.roman_joint.proofs.Common.{◌≡◌, ℕ, ◌+◌, ◌*◌, ◌<◌, slice_get, slice_index, all_below, sizes_of, pair_at, is_on, system_of, lanes_in, IsRow, may_rest}
 use Rattle.roman_joint.proofs.joint.Joint.unfine.Given as goal
 
 -- the lanes at which the seats so far may rest

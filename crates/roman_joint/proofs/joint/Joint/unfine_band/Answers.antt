@@ -1,5 +1,4 @@
-use Rattle.std.proofs.Common.{◌≡◌, ℕ, ◌+◌, ◌*◌, ◌<◌, true, false, not, ◌&&◌, ◌||◌, length, slice_get, slice_index, refl, sym, ap, ap₂, ◌∙◌, arith}
-use Rattle.roman_joint.proofs.Common.{and-true, length-set, all_below, is_final, is_on, on_zero, sizes_of, pair_at, numbered, system_of, lanes_in, may_rest, band_in}
+use Rattle.roman_joint.proofs.Common.{◌≡◌, ℕ, ◌+◌, ◌*◌, ◌<◌, true, false, not, ◌&&◌, ◌||◌, length, slice_get, slice_index, refl, sym, ap, ap₂, ◌∙◌, arith, and-true, length-set, all_below, is_final, is_on, on_zero, sizes_of, pair_at, numbered, system_of, lanes_in, may_rest, band_in}
 use Rattle.roman_joint.proofs.SplitLemmas.{joint_sizes}
 use Rattle.roman_joint.proofs.AllowedLemmas.{fine_there}
 use Rattle.roman_joint.proofs.WordLemmas.{not_not}

@@ -1,5 +1,4 @@
-use Rattle.std.proofs.Common.{◌≡◌, ℕ, ◌*◌, length, not}
-use Rattle.roman_joint.proofs.Common.{numbered, Keeps, system_of, lanes_in, IsRow, band_in}
+use Rattle.roman_joint.proofs.Common.{◌≡◌, ℕ, ◌*◌, length, not, numbered, Keeps, system_of, lanes_in, IsRow, band_in}
 use Rattle.roman_joint.proofs.joint.Joint.unfine_band.Given as goal
 
 -- in the rows so far, the pairs that meet clause 2 are cleared

@@ -1,5 +1,4 @@
-use Rattle.std.proofs.Common.{◌≡◌, ℕ, ◌+◌, ◌*◌, Bool, false, not, ◌&&◌, ◌∙◌, sym, ap, ap₂, subst, add-one, arith, length}
-use Rattle.roman_joint.proofs.Common.{length-map, all_below, is_beaten, numbered, is_on, system_of, seat_of, lanes_in, AreAlive, on_zero}
+use Rattle.roman_joint.proofs.Common.{◌≡◌, ℕ, ◌+◌, ◌*◌, Bool, false, not, ◌&&◌, ◌∙◌, sym, ap, ap₂, subst, add-one, arith, length, length-map, all_below, is_beaten, numbered, is_on, system_of, seat_of, lanes_in, AreAlive, on_zero}
 use Rattle.roman_joint.proofs.WordLemmas.{all_pass}
 use Rattle.roman_joint.proofs.AllowedLemmas.{turn_open, refused, judged, and_nothing, cut_off, all_further}
 use Rattle.roman_joint.proofs.GoodLemmas.{known, beaten_dead}

@@ -1,5 +1,4 @@
-use Rattle.std.proofs.Common.{◌≡◌, ℕ, ◌+◌, ◌*◌, ◌<◌, Bool, false, not, ◌&&◌}
-use Rattle.roman_joint.proofs.Common.{all_below, is_beaten, numbered, is_on, AreRows, system_of, lanes_in, IsRow}
+use Rattle.roman_joint.proofs.Common.{◌≡◌, ℕ, ◌+◌, ◌*◌, ◌<◌, Bool, false, not, ◌&&◌, all_below, is_beaten, numbered, is_on, AreRows, system_of, lanes_in, IsRow}
 use Rattle.roman_joint.proofs.joint.Joint.unserved.Given as goal
 
 -- the pairs that no seat so far serves are left

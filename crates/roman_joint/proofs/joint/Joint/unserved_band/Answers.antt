@@ -1,5 +1,4 @@
-use Rattle.std.proofs.Common.{◌≡◌, ◌+◌, ◌*◌, ◌∙◌, length, sym, subst, arith}
-use Rattle.roman_joint.proofs.Common.{set, all_below, is_beaten, is_justified, Act, numbered, system_of, Keeps, lanes_in, band_in}
+use Rattle.roman_joint.proofs.Common.{◌≡◌, ◌+◌, ◌*◌, ◌∙◌, length, sym, subst, arith, set, all_below, is_beaten, is_justified, Act, numbered, system_of, Keeps, lanes_in, band_in}
 use Rattle.roman_joint.proofs.SplitLemmas.{joint_sizes}
 use Rattle.roman_joint.proofs.AllowedLemmas.{turn_open, refused, judged}
 use Rattle.roman_joint.proofs.BandLemmas.{row_in, in_band, keeps_nothing, keeps_one, keeps_same}

@@ -1,5 +1,4 @@
-use Rattle.std.proofs.Common.{◌≡◌, length, take, ◌∙◌, subst}
-use Rattle.roman_joint.proofs.Common.{Sizes, sizes_of, pair_at, system_of}
+use Rattle.roman_joint.proofs.Common.{◌≡◌, length, take, ◌∙◌, subst, Sizes, sizes_of, pair_at, system_of}
 use Rattle.roman_joint.proofs.Shown.{Shows, shown, seats_shown}
 use Rattle.roman_joint.proofs.TargetViewLemmas.{leads_nowhere}
 use Rattle.roman_joint.proofs.WalkLemmas.{Begins, first_walk, begins}

@@ -1,4 +1,4 @@
-use Rattle.std.proofs.Common.{◌≡◌, take}
+use Rattle.roman_joint.proofs.Common.{◌≡◌, take}
 use Rattle.roman_joint.proofs.joint.copies.copy_catalogue.Given as goal
 
 -- the behaviours so far are copied

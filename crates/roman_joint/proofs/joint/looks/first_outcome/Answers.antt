@@ -1,5 +1,4 @@
-use Rattle.std.proofs.Common.{◌+◌, ◌*◌, ◌%◌, ◌∙◌, refl, arith}
-use Rattle.roman_joint.proofs.Common.{stride_of}
+use Rattle.roman_joint.proofs.Common.{◌+◌, ◌*◌, ◌%◌, ◌∙◌, refl, arith, stride_of}
 use Rattle.roman_joint.proofs.OutcomeLemmas.{StartsAt, starts_at}
 use Rattle.roman_joint.proofs.joint.looks.first_outcome.Goals as goal
 use Rattle.roman_joint.proofs.joint.looks.first_outcome.Goals.{After-stride}

@@ -1,5 +1,4 @@
-use Rattle.std.proofs.Common.{◌≡◌, ◌<◌, slice_index, arith}
-use Rattle.roman_joint.proofs.Common.{AreSizes-index}
+use Rattle.roman_joint.proofs.Common.{◌≡◌, ◌<◌, slice_index, arith, AreSizes-index}
 use Rattle.roman_joint.proofs.GoodLemmas.{state_below}
 use Rattle.roman_joint.proofs.MoveLemmas.{moves_made, ways_few}
 use Rattle.roman_joint.proofs.moves.Moves.add.Goals as goal

@@ -1,5 +1,4 @@
-use Rattle.std.proofs.Common.{◌≡◌, ℕ, ◌+◌, ◌-◌, ◌*◌, ◌≤◌, length, ap, arith}
-use Rattle.roman_joint.proofs.Common.{mul-le-mul_left, mul-le-mul_right, length-map, low_of, seat_of}
+use Rattle.roman_joint.proofs.Common.{◌≡◌, ℕ, ◌+◌, ◌-◌, ◌*◌, ◌≤◌, length, ap, arith, mul-le-mul_left, mul-le-mul_right, length-map, low_of, seat_of}
 use Rattle.roman_joint.proofs.moves.Moves.fill.Goals as goal
 
 pub fill_turn-requires-clause-place : goal.fill_turn-requires-clause-place

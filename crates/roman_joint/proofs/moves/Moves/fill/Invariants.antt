@@ -1,5 +1,4 @@
-use Rattle.std.proofs.Common.{◌≡◌, ◌-◌, ◌*◌, ◌≤◌, length}
-use Rattle.roman_joint.proofs.Common.{low_of, NamedSys, system_of, AreSeatsOf, HoldsSpans, IsKept}
+use Rattle.roman_joint.proofs.Common.{◌≡◌, ◌-◌, ◌*◌, ◌≤◌, length, low_of, NamedSys, system_of, AreSeatsOf, HoldsSpans, IsKept}
 use Rattle.roman_joint.proofs.moves.Moves.fill.Given as goal
 
 -- the spans of the turns so far are there

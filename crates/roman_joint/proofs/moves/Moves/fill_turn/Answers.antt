@@ -1,5 +1,4 @@
-use Rattle.std.proofs.Common.{◌∷◌, [], length, get_or, sym, ap, ◌∙◌, arith}
-use Rattle.roman_joint.proofs.Common.{length-append, low_of-le}
+use Rattle.roman_joint.proofs.Common.{◌∷◌, [], length, get_or, sym, ap, ◌∙◌, arith, length-append, low_of-le}
 use Rattle.roman_joint.specs.declared.seat.Seat as declared
 use Rattle.roman_joint.proofs.MoveLemmas.{lanes_room, room_more, seat_here, sizes_long, turn_more, kept_on}
 use Rattle.roman_joint.proofs.moves.Moves.fill_turn.Goals as goal

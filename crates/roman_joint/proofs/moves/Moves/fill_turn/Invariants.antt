@@ -1,5 +1,4 @@
-use Rattle.std.proofs.Common.{◌≡◌, ◌+◌, ◌-◌, ◌≤◌, length, drop}
-use Rattle.roman_joint.proofs.Common.{low_of, NamedSys, system_of, ways_room, AreSeatsOf, HoldsSpans, IsKept}
+use Rattle.roman_joint.proofs.Common.{◌≡◌, ◌+◌, ◌-◌, ◌≤◌, length, drop, low_of, NamedSys, system_of, ways_room, AreSeatsOf, HoldsSpans, IsKept}
 use Rattle.roman_joint.proofs.moves.Moves.fill_turn.Given as goal
 
 -- the spans of the services so far are there

@@ -1,5 +1,4 @@
-use Rattle.std.proofs.Common.{◌≡◌, ◌+◌, ◌-◌, not, ◌&&◌, get_or, subst}
-use Rattle.roman_joint.proofs.Common.{list_any, is_on}
+use Rattle.roman_joint.proofs.Common.{◌≡◌, ◌+◌, ◌-◌, not, ◌&&◌, get_or, subst, list_any, is_on}
 use Rattle.roman_joint.proofs.moving.MovingChangeOf.changed.Goals as goal
 
 pub returns : goal.returns

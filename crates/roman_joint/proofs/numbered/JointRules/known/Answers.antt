@@ -1,5 +1,4 @@
-use Rattle.std.proofs.Common.{◌*◌, ◌/◌, sym, ap, ◌∙◌}
-use Rattle.roman_joint.proofs.Common.{sizes_of, count, length-below, row_sizes, lanes_few, count_rows, rows_are, IsSizes-rows, system_of, lanes_in, band_in}
+use Rattle.roman_joint.proofs.Common.{◌*◌, ◌/◌, sym, ap, ◌∙◌, sizes_of, count, length-below, row_sizes, lanes_few, count_rows, rows_are, IsSizes-rows, system_of, lanes_in, band_in}
 use Rattle.roman_joint.proofs.ArenaFacts.{joint_numbered}
 use Rattle.roman_joint.proofs.SplitLemmas.{joint_sizes}
 use Rattle.roman_joint.proofs.GoodLemmas.{width_positive}

@@ -1,5 +1,4 @@
-use Rattle.std.proofs.Common.{arith}
-use Rattle.roman_joint.proofs.Common.{sizes_of, count, length-below, system_of}
+use Rattle.roman_joint.proofs.Common.{arith, sizes_of, count, length-below, system_of}
 use Rattle.roman_joint.proofs.numbered.JointRules.mark_before.Goals as goal
 
 pub returns-clause-marked : goal.returns-clause-marked

@@ -1,9 +1,4 @@
-use Rattle.std.proofs.Common.{List, ℕ, length, ap, subst, arith}
-use Rattle.roman_model.specs.Numbers.{sizes_of, count}
-use Rattle.roman_model.proofs.CallerLemmas.{length-below}
-use Rattle.roman_joint.specs.NamedSys.{system_of}
-use Rattle.roman_relation.specs.Greatest.{arena_of}
-use Rattle.roman_rank.specs.Ranking.{AreCounts}
+use Rattle.roman_rank.proofs.Common.{List, ℕ, length, ap, subst, arith, sizes_of, count, length-below, system_of, arena_of, AreCounts}
 use Rattle.roman_rank.proofs.Giving.{ranks_small}
 use Rattle.roman_rank.proofs.Systems.{few_pairs}
 use Rattle.roman_rank.proofs.Telling.{ranks_depths}

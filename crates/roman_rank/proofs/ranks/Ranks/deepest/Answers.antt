@@ -1,6 +1,4 @@
-use Rattle.std.proofs.Common.{◌≡◌, ◌-◌, ◌<◌, ℕ, zero, suc, List, None, Some, length, sym, ap, subst, arith}
-use Rattle.roman_rank.specs.Depths.{IsGreatest}
-use Rattle.roman_rank.specs.Ranking.{IsRanking}
+use Rattle.roman_rank.proofs.Common.{◌≡◌, ◌-◌, ◌<◌, ℕ, zero, suc, List, None, Some, length, sym, ap, subst, arith, IsGreatest, IsRanking}
 use Rattle.roman_rank.proofs.Telling.{deepest_of, last_greatest, deepest_is_none}
 use Rattle.roman_rank.proofs.ranks.Ranks.deepest.Goals as goal
 

@@ -1,4 +1,4 @@
-use Rattle.std.proofs.Common.{◌≡◌, ◌≢◌, ◌-◌, ◌^◌, ◌<◌, ℕ, List, Some, length, slice_index, sym, ap, ◌∙◌, subst, arith}
+use Rattle.roman_rank.proofs.Common.{◌≡◌, ◌≢◌, ◌-◌, ◌^◌, ◌<◌, ℕ, List, Some, length, slice_index, sym, ap, ◌∙◌, subst, arith}
 use Rattle.std.proofs.lemmas.List.{get_or_read}
 use Rattle.roman_rank.proofs.Telling.{depth_is_none, some_depth}
 use Rattle.roman_rank.proofs.ranks.Ranks.depth.Goals as goal

@@ -1,5 +1,4 @@
-use Rattle.std.proofs.Common.{◌-◌, ◌^◌, ◌==◌, List, ℕ, ap, ◌∙◌}
-use Rattle.std.specs.Prelude.{count_by}
+use Rattle.roman_rank.proofs.Common.{◌-◌, ◌^◌, ◌==◌, List, ℕ, ap, ◌∙◌, count_by}
 use Rattle.roman_rank.proofs.Telling.{related_counted}
 use Rattle.roman_rank.proofs.ranks.Ranks.related.Goals as goal
 

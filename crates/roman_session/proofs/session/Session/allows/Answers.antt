@@ -1,5 +1,4 @@
-use Rattle.std.proofs.Common.{◌∙◌}
-use Rattle.roman_session.proofs.Common.{is_allowed}
+use Rattle.roman_session.proofs.Common.{◌∙◌, is_allowed}
 use Rattle.roman_session.proofs.SituationLemmas.{situation_known, parts_shown, at_here}
 use Rattle.roman_session.proofs.session.Session.allows.Goals as goal
 

@@ -1,5 +1,4 @@
-use Rattle.std.proofs.Common.{arith}
-use Rattle.roman_session.proofs.Common.{err_from_is_err_and, reply_text}
+use Rattle.roman_session.proofs.Common.{arith, err_from_is_err_and, reply_text}
 use Rattle.roman_text.specs.declared.replies.Reply.TheVariants as reply
 use Rattle.roman_session.proofs.AnswerLemmas.{step_by_shape, step_unshaped}
 use Rattle.roman_session.proofs.session.Session.answer_on.Goals as goal

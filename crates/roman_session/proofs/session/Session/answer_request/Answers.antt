@@ -1,4 +1,4 @@
-use Rattle.std.proofs.Common.{arith}
+use Rattle.roman_session.proofs.Common.{arith}
 use Rattle.roman_session.proofs.AnswerLemmas.{asks_said, done}
 use Rattle.roman_session.proofs.session.Session.answer_request.Goals as goal
 

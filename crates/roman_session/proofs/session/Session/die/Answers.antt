@@ -1,4 +1,4 @@
-use Rattle.std.proofs.Common.{sym}
+use Rattle.roman_session.proofs.Common.{sym}
 use Rattle.roman_session.proofs.RulingLemmas.{died_is}
 use Rattle.roman_session.proofs.session.Session.die.Goals as goal
 

@@ -1,5 +1,4 @@
-use Rattle.std.proofs.Common.{◌≤◌, ◌<◌, length, vec_capacity, ap, sym, ◌∙◌, subst, arith}
-use Rattle.roman_session.proofs.Common.{MAX_SERVICES, reply_text, Reply, Situation, dying, Changes, situation_in}
+use Rattle.roman_session.proofs.Common.{◌≤◌, ◌<◌, length, vec_capacity, ap, sym, ◌∙◌, subst, arith, MAX_SERVICES, reply_text, Reply, Situation, dying, Changes, situation_in}
 use Rattle.roman_text.specs.declared.replies.Reply.TheVariants as reply
 use Rattle.roman_session.proofs.ChangedLemmas.{moved_fields, counted_now, died_pair, died_now}
 use Rattle.roman_session.proofs.SituationLemmas.{state_there}

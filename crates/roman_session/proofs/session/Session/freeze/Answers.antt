@@ -1,4 +1,4 @@
-use Rattle.std.proofs.Common.{sym}
+use Rattle.roman_session.proofs.Common.{sym}
 use Rattle.roman_session.proofs.RulingLemmas.{frozen_is}
 use Rattle.roman_session.proofs.ChangedLemmas.{seat_ready}
 use Rattle.roman_session.proofs.session.Session.freeze.Goals as goal

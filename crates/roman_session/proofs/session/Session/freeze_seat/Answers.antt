@@ -1,5 +1,4 @@
-use Rattle.std.proofs.Common.{ap, sym, ◌∙◌, subst}
-use Rattle.roman_session.proofs.Common.{reply_text, Reply, Situation, freezing, Changes, situation_in}
+use Rattle.roman_session.proofs.Common.{ap, sym, ◌∙◌, subst, reply_text, Reply, Situation, freezing, Changes, situation_in}
 use Rattle.roman_text.specs.declared.replies.Reply.TheVariants as reply
 use Rattle.roman_session.proofs.ChangedLemmas.{turned_fields, frozen_now}
 use Rattle.roman_session.proofs.session.Session.freeze_seat.Goals as goal

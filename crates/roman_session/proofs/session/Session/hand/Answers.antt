@@ -1,5 +1,4 @@
-use Rattle.std.proofs.Common.{◌<◌, length, sym, subst, arith}
-use Rattle.roman_session.proofs.Common.{offers, Situation, present_system}
+use Rattle.roman_session.proofs.Common.{◌<◌, length, sym, subst, arith, offers, Situation, present_system}
 use Rattle.roman_model.proofs.CallerLemmas.{number_listed}
 use Rattle.roman_session.proofs.RulingLemmas.{handed_is}
 use Rattle.roman_session.proofs.SituationLemmas.{situation_known, parts_shown, offered_open, offered_within, service_named_at}

@@ -1,5 +1,4 @@
-use Rattle.std.proofs.Common.{ap, ◌∙◌}
-use Rattle.roman_session.proofs.Common.{sizes_of, number, numbers_are_pairs, Situation, present_system}
+use Rattle.roman_session.proofs.Common.{ap, ◌∙◌, sizes_of, number, numbers_are_pairs, Situation, present_system}
 use Rattle.roman_session.proofs.SituationLemmas.{situation_known}
 use Rattle.roman_session.proofs.session.Session.here.Goals as goal
 

@@ -1,4 +1,4 @@
-use Rattle.std.proofs.Common.{sym}
+use Rattle.roman_session.proofs.Common.{sym}
 use Rattle.roman_session.proofs.RulingLemmas.{joining_idle}
 use Rattle.roman_session.proofs.session.Session.join.Goals as goal
 

@@ -1,5 +1,4 @@
-use Rattle.std.proofs.Common.{◌≤◌, Err, vec_capacity, ap, sym, ◌∙◌, subst, arith}
-use Rattle.roman_session.proofs.Common.{MAX_SERVICES, Situation, CanJoin, situation_in, NamedSys}
+use Rattle.roman_session.proofs.Common.{◌≤◌, Err, vec_capacity, ap, sym, ◌∙◌, subst, arith, MAX_SERVICES, Situation, CanJoin, situation_in, NamedSys}
 use Rattle.roman_session.proofs.RulingLemmas.{cells_with}
 use Rattle.roman_session.proofs.ChangedLemmas.{moved_fields, counted_now, joined_pair, joined_now, has_place, has_room, is_within, joins_by, limit_by}
 use Rattle.roman_session.proofs.SituationLemmas.{parts_shown}

@@ -1,5 +1,4 @@
-use Rattle.std.proofs.Common.{◌≡◌, ℕ, Result, slice_set, refl, sym, ap, ap₂, ◌∙◌, subst, arith}
-use Rattle.roman_session.proofs.Common.{moved, reply_text, Reply, Situation, Does, Jump, Phase, Idle}
+use Rattle.roman_session.proofs.Common.{◌≡◌, ℕ, Result, slice_set, refl, sym, ap, ap₂, ◌∙◌, subst, arith, moved, reply_text, Reply, Situation, Does, Jump, Phase, Idle}
 use Rattle.roman_text.specs.declared.replies.Reply.TheVariants as reply
 use Rattle.roman_session.specs.Steps.{Jumps}
 use Rattle.roman_session.proofs.RulingLemmas.{jumped_is}

@@ -1,4 +1,4 @@
-use Rattle.std.proofs.Common.{sym}
+use Rattle.roman_session.proofs.Common.{sym}
 use Rattle.roman_session.proofs.RulingLemmas.{env_jumped_is}
 use Rattle.roman_session.proofs.session.Session.jump_env.Goals as goal
 

@@ -1,5 +1,4 @@
-use Rattle.std.proofs.Common.{◌≡◌, ◌<◌, length, slice_index, sym, ap, ◌∙◌, subst, arith}
-use Rattle.roman_session.proofs.Common.{length-map, Pair, IsPair, Sizes, sizes_of, number, pair_at, moved, NamedSys, system_of, seat_of, Situation, present_system, situation_in}
+use Rattle.roman_session.proofs.Common.{◌≡◌, ◌<◌, length, slice_index, sym, ap, ◌∙◌, subst, arith, length-map, Pair, IsPair, Sizes, sizes_of, number, pair_at, moved, NamedSys, system_of, seat_of, Situation, present_system, situation_in}
 use Rattle.roman_session.proofs.SituationLemmas.{situation_known, parts_shown, here_pair, moved_within, state_there}
 use Rattle.roman_session.proofs.session.Session.move_to.Goals as goal
 

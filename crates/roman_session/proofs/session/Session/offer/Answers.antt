@@ -1,5 +1,4 @@
-use Rattle.std.proofs.Common.{◌≡◌, ℕ, subst, sym}
-use Rattle.roman_session.proofs.Common.{has, offers, HasBits, Situation, present_system, IsPhase, situation_in, Offered}
+use Rattle.roman_session.proofs.Common.{◌≡◌, ℕ, subst, sym, has, offers, HasBits, Situation, present_system, IsPhase, situation_in, Offered}
 use Rattle.roman_session.proofs.SituationLemmas.{phase_kept}
 use Rattle.roman_session.proofs.session.Session.offer.Goals as goal
 

@@ -1,5 +1,4 @@
-use Rattle.std.proofs.Common.{ap, ◌∙◌, subst}
-use Rattle.roman_session.proofs.Common.{has, offers, HasBits, Situation, present_system}
+use Rattle.roman_session.proofs.Common.{ap, ◌∙◌, subst, has, offers, HasBits, Situation, present_system}
 use Rattle.roman_session.proofs.session.Session.offered.Goals as goal
 
 pub returns : goal.returns

@@ -1,5 +1,4 @@
-use Rattle.std.proofs.Common.{ℕ, List, ◌∙◌, subst}
-use Rattle.roman_session.proofs.Common.{has, is_allowed, is_related, offers, HasBits}
+use Rattle.roman_session.proofs.Common.{ℕ, List, ◌∙◌, subst, has, is_allowed, is_related, offers, HasBits}
 use Rattle.roman_session.proofs.SituationLemmas.{situation_known, parts_shown, at_here}
 use Rattle.roman_session.proofs.session.Session.offers.Goals as goal
 

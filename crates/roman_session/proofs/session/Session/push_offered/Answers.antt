@@ -1,5 +1,4 @@
-use Rattle.std.proofs.Common.{refl}
-use Rattle.roman_session.proofs.Common.{err_from_is_err_and, fill_behind, fill_more, fill_failed, fill_last}
+use Rattle.roman_session.proofs.Common.{refl, err_from_is_err_and, fill_behind, fill_more, fill_failed, fill_last}
 use Rattle.roman_session.proofs.LineLemmas.{offer_text_is}
 use Rattle.roman_session.proofs.SituationLemmas.{parts_shown, offered_open}
 use Rattle.roman_session.proofs.session.Session.push_offered.Goals as goal

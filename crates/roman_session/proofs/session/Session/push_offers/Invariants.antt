@@ -1,5 +1,4 @@
-use Rattle.std.proofs.Common.{◌≡◌, ◌++◌}
-use Rattle.roman_session.proofs.Common.{offer_lines, lines_text, IsFilling}
+use Rattle.roman_session.proofs.Common.{◌≡◌, ◌++◌, offer_lines, lines_text, IsFilling}
 use Rattle.roman_session.proofs.LineLemmas.{lines_from}
 use Rattle.roman_session.proofs.session.Session.push_offers.Given as goal
 

@@ -1,5 +1,4 @@
-use Rattle.std.proofs.Common.{◌<◌, length, ap, ◌∙◌, arith}
-use Rattle.roman_session.proofs.Common.{err_from_is_err_and, NamedSys, fill_behind, fill_same, fill_more, fill_failed, fill_end}
+use Rattle.roman_session.proofs.Common.{◌<◌, length, ap, ◌∙◌, arith, err_from_is_err_and, NamedSys, fill_behind, fill_same, fill_more, fill_failed, fill_end}
 use Rattle.roman_session.proofs.LineLemmas.{services_begin, service_next, no_service}
 use Rattle.roman_session.proofs.SituationLemmas.{situation_known, parts_shown}
 use Rattle.roman_session.proofs.session.Session.push_services.Goals as goal

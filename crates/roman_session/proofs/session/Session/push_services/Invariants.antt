@@ -1,5 +1,4 @@
-use Rattle.std.proofs.Common.{◌≡◌, ◌++◌}
-use Rattle.roman_session.proofs.Common.{service_lines, lines_text, IsFilling}
+use Rattle.roman_session.proofs.Common.{◌≡◌, ◌++◌, service_lines, lines_text, IsFilling}
 use Rattle.roman_session.proofs.LineLemmas.{services_from}
 use Rattle.roman_session.proofs.session.Session.push_services.Given as goal
 

@@ -1,5 +1,4 @@
-use Rattle.std.proofs.Common.{arith}
-use Rattle.roman_session.proofs.Common.{Puts-after_Gathered}
+use Rattle.roman_session.proofs.Common.{arith, Puts-after_Gathered}
 use Rattle.roman_session.proofs.session.Session.report.Goals as goal
 
 pub returns-clause-report : goal.returns-clause-report

@@ -1,5 +1,4 @@
-use Rattle.std.proofs.Common.{IsTrue, slice_get, sym, subst, arith}
-use Rattle.roman_session.proofs.Common.{is_allowed, is_ready, Situation, present_system}
+use Rattle.roman_session.proofs.Common.{IsTrue, slice_get, sym, subst, arith, is_allowed, is_ready, Situation, present_system}
 use Rattle.roman_session.proofs.RulingLemmas.{seen_is}
 use Rattle.roman_session.proofs.SituationLemmas.{delegated_is, delegate_ready, offered_within}
 use Rattle.roman_session.proofs.StepLemmas.{moved_pair}

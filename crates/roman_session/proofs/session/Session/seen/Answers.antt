@@ -1,5 +1,4 @@
-use Rattle.std.proofs.Common.{◌<◌, length, subst}
-use Rattle.roman_session.proofs.Common.{Situation, IsPhase, situation_in, Delegated}
+use Rattle.roman_session.proofs.Common.{◌<◌, length, subst, Situation, IsPhase, situation_in, Delegated}
 use Rattle.roman_session.proofs.SituationLemmas.{offered_within}
 use Rattle.roman_session.proofs.session.Session.seen.Goals as goal
 

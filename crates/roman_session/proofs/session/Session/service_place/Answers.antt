@@ -1,5 +1,4 @@
-use Rattle.std.proofs.Common.{arith}
-use Rattle.roman_session.proofs.Common.{length-map}
+use Rattle.roman_session.proofs.Common.{arith, length-map}
 use Rattle.roman_session.proofs.NameLemmas.{place_found, service_not_found}
 use Rattle.roman_session.proofs.SituationLemmas.{parts_shown}
 use Rattle.roman_session.proofs.session.Session.service_place.Goals as goal

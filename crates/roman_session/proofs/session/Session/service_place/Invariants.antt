@@ -1,5 +1,4 @@
-use Rattle.std.proofs.Common.{◌≡◌, ℕ, ◌<◌, false}
-use Rattle.roman_session.proofs.Common.{bytes_eq, service_at}
+use Rattle.roman_session.proofs.Common.{◌≡◌, ℕ, ◌<◌, false, bytes_eq, service_at}
 use Rattle.roman_session.proofs.session.Session.service_place.Given as goal
 
 -- the services so far have other names

@@ -1,5 +1,4 @@
-use Rattle.std.proofs.Common.{subst, sym}
-use Rattle.roman_session.proofs.Common.{Situation, IsPhase, situation_in}
+use Rattle.roman_session.proofs.Common.{subst, sym, Situation, IsPhase, situation_in}
 use Rattle.roman_session.proofs.SituationLemmas.{phase_kept}
 use Rattle.roman_session.proofs.session.Session.set_phase.Goals as goal
 

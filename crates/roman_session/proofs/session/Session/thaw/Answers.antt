@@ -1,4 +1,4 @@
-use Rattle.std.proofs.Common.{sym}
+use Rattle.roman_session.proofs.Common.{sym}
 use Rattle.roman_session.proofs.RulingLemmas.{thawed_is}
 use Rattle.roman_session.proofs.ChangedLemmas.{seat_unready}
 use Rattle.roman_session.proofs.session.Session.thaw.Goals as goal

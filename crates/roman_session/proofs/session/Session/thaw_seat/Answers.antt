@@ -1,5 +1,4 @@
-use Rattle.std.proofs.Common.{ap, sym, ◌∙◌, subst}
-use Rattle.roman_session.proofs.Common.{reply_text, Reply, Situation, thawing, Changes, situation_in}
+use Rattle.roman_session.proofs.Common.{ap, sym, ◌∙◌, subst, reply_text, Reply, Situation, thawing, Changes, situation_in}
 use Rattle.roman_text.specs.declared.replies.Reply.TheVariants as reply
 use Rattle.roman_session.proofs.ChangedLemmas.{turned_fields, thawed_now}
 use Rattle.roman_session.proofs.session.Session.thaw_seat.Goals as goal

@@ -1,5 +1,4 @@
-use Rattle.std.proofs.Common.{sym, ap, ◌∙◌, subst}
-use Rattle.roman_whatif.proofs.Common.{Freeze, Die, places, left_of}
+use Rattle.roman_whatif.proofs.Common.{sym, ap, ◌∙◌, subst, Freeze, Die, places, left_of}
 use Rattle.roman_whatif.specs.Losses.{AreTold}
 use Rattle.roman_whatif.proofs.losses.Losses.left.Goals as goal
 
