@@ -1,5 +1,6 @@
 -- Loops that keep the best seat so far.
-use Rattle.roman_cost.proofs.Common.{◌≡◌, ◌≢◌, ℕ, ◌+◌, Bool, true, false, cond, List, [], ◌∷◌, ◌++◌, Option, Some, None, filter, nat_le, refl, sym, ap, ◌∙◌, inl, inr, add-one, append-nil, IsIn, below, has, least_from, first_least, same_test, filter_in, in_filter, filter_below_more, number_listed}
+use Rattle.roman_cost.proofs.Common.{◌≡◌, ◌≢◌, ℕ, ◌+◌, Bool, true, false, cond, List, [], ◌∷◌, ◌++◌, Option, Some, None, filter, refl, sym, ap, ◌∙◌, inl, inr, add-one, append-nil, arith, IsIn, below, has, least_from, first_least, same_test, filter_in, in_filter, filter_below_more, number_listed}
+use Rattle.std.proofs.Common.{nat_le}
 use Rattle.roman_model.proofs.CallerLemmas.{filter_same, least_from_push, listed_number}
 use Rattle.roman_cost.specs.Filling.{better_of}
 
@@ -10,12 +11,7 @@ best_of f (x ∷ xs) = Some (least_from f x xs, f (least_from f x xs))
 
 pub best_of-push : (f : ℕ → ℕ) (xs : List ℕ) (k cost : ℕ) → cost ≡ f k → better_of (best_of f xs) k cost ≡ best_of f (xs ++ k ∷ [])
 best_of-push f [] k cost e = ap (λ c. Some (k, c)) e
-best_of-push f (x ∷ xs) k cost e =
-    ap (better_of (Some (least_from f x xs, f (least_from f x xs))) k) e ∙ by (nat_le (f (least_from f x xs)) (f k)) ∙ ap (λ r. Some (r, f r)) (sym (least_from_push f x xs k))
-  where
-    by : (b : Bool) → cond {A = Option (ℕ × ℕ)} b (Some (least_from f x xs, f (least_from f x xs))) (Some (k, f k)) ≡ Some (cond b (least_from f x xs) k, f (cond b (least_from f x xs) k))
-    by true = refl
-    by false = refl
+best_of-push f (x ∷ xs) k cost e = grind (arith, least_from_push)
 
 pub best_of-first : (f : ℕ → ℕ) (xs : List ℕ) → xs ≢ [] → best_of f xs ≡ Some (first_least f xs, f (first_least f xs))
 best_of-first f [] some = absurd (some refl)
@@ -24,10 +20,7 @@ best_of-first f (x ∷ xs) some = refl
 -- the best after one number more, which passes or doesn't
 pub best_of-taken : (f : ℕ → ℕ) (p : ℕ → Bool) (k cost : ℕ) (best new : Option (ℕ × ℕ)) → p k ≡ true → best ≡ best_of f (filter p (below k)) → cost ≡ f k →
     new ≡ better_of best k cost → new ≡ best_of f (filter p (below (k + 1)))
-best_of-taken f p k cost best new passes before e is =
-    is ∙ ap (λ o. better_of o k cost) before ∙ best_of-push f (filter p (below k)) k cost e
-    ∙ ap (λ ys. best_of f (filter p (below k) ++ ys)) (sym (ap (λ b. cond b (k ∷ []) []) passes)) ∙ ap (best_of f) (sym (filter_below_more p k))
-    ∙ ap (λ n. best_of f (filter p (below n))) (sym (add-one k))
+best_of-taken f p k cost best new passes before e is = grind (arith, best_of-push, filter_below_more)
 
 pub best_of-passed : (f : ℕ → ℕ) (p : ℕ → Bool) (k : ℕ) (best : Option (ℕ × ℕ)) → p k ≡ false → best ≡ best_of f (filter p (below k)) →
     best ≡ best_of f (filter p (below (k + 1)))
@@ -37,10 +30,7 @@ best_of-passed f p k best fails before =
 
 -- filtering the numbers below a bound by a list of such numbers gives the list
 pub filter_has : (q : ℕ → Bool) (n : ℕ) → filter (has (filter q (below n))) (below n) ≡ filter q (below n)
-filter_has q n = filter_same (has (filter q (below n))) q (below n) (λ x i.
-    same_test (has (filter q (below n)) x) (q x)
-    (λ t. (filter_in q x (below n) (number_listed (filter q (below n)) x t)).1)
-    (λ t. listed_number (filter q (below n)) x (in_filter q x (below n) i t)))
+filter_has q n = grind (arith, filter_in, filter_same, in_filter, listed_number, number_listed, same_test)
 
 -- the least is the same where the values agree on the list
 least_from_same : (f g : ℕ → ℕ) (x : ℕ) (xs : List ℕ) → f x ≡ g x → ((y : ℕ) → IsIn y xs → f y ≡ g y) → least_from f x xs ≡ least_from g x xs

@@ -1,5 +1,5 @@
 -- The names that several proof pages of this crate cite, passed on from one place. Declares nothing.
-pub use Rattle.std.proofs.Common.{All, Bool, Global, IsFalse, IsTrue, List, None, Option, Some, Vec, [], add-one, ap, append-nil, append_assoc, ap₂, arith, codes, cond, decimal, drop, false, filter, get_or, inl, inr, length, length-append, map, nat_le, refl, slice_get, slice_index, subst, suc, sym, take, true, unwrap_or, zero, ℕ, ◌*◌, ◌++◌, ◌+◌, ◌-◌, ◌<◌, ◌∙◌, ◌∷◌, ◌≡◌, ◌≢◌, ◌≤◌}
+pub use Rattle.std.proofs.Common.{All, Bool, Global, IsFalse, IsTrue, List, None, Option, Some, Vec, [], add-one, ap, append-nil, append_assoc, ap₂, arith, codes, cond, decimal, drop, false, filter, get_or, inl, inr, length, length-append, map, refl, slice_get, slice_index, subst, suc, sym, take, true, unwrap_or, zero, ℕ, ◌*◌, ◌++◌, ◌+◌, ◌-◌, ◌<◌, ◌∙◌, ◌∷◌, ◌≡◌, ◌≢◌, ◌≤◌}
 pub use Rattle.std.proofs.lemmas.Bool.{cond-false, cond-true}
 pub use Rattle.std.proofs.lemmas.List.{get_or-map, get_or_read, length-drop, length-map, map_push, take_all, take_more}
 pub use Rattle.std.proofs.lemmas.Nat.{mul-add-lt}
@@ -8,7 +8,6 @@ pub use Rattle.std.specs.List.{flat_map}
 pub use Rattle.std.specs.Prelude.{max}
 pub use Rattle.roman_joint.specs.NamedSys.{NamedSys, seat_of, system_of}
 pub use Rattle.roman_joint.specs.Outcomes.{outcome_number, outcome_numbers}
-pub use Rattle.roman_joint.specs.declared.seat.Seat.{Seat}
 pub use Rattle.roman_model.proofs.CallerLemmas.{allowed_in_range, by_test, choice_is, filter_below_more, filter_in, flat_map_row, from_allowed, from_below, from_map, get_or-below, great_related, in_below, in_filter, in_flat_map, in_map, length-below, length_rows, max_over_le, ne_not_empty, not_empty_in, number_listed, numbers_are_pairs, offer_is, outcome_pair, rank, related_great, related_offers, same_test}
 pub use Rattle.roman_model.specs.Composition.{Great}
 pub use Rattle.roman_model.specs.Lists.{IsIn, below}

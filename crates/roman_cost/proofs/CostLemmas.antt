@@ -1,22 +1,17 @@
 -- Listed costs, and their cells.
-use Rattle.roman_cost.proofs.Common.{◌≡◌, ◌≢◌, ℕ, zero, suc, ◌+◌, ◌-◌, ◌*◌, ◌<◌, ◌≤◌, Bool, true, false, cond, List, [], ◌∷◌, ◌++◌, length, get_or, Option, Some, None, unwrap_or, slice_get, slice_index, All, IsTrue, IsFalse, inl, inr, refl, sym, ap, ◌∙◌, subst, arith, cond-false, cond-true, mul-add-lt, by_test, NamedSys, Seat, CostTable, listed_cost, seat_costs, cell_of, Listed, MAX_COST}
+use Rattle.roman_cost.proofs.Common.{◌≡◌, ◌≢◌, ℕ, zero, suc, ◌+◌, ◌-◌, ◌*◌, ◌<◌, ◌≤◌, Bool, true, false, cond, List, [], ◌∷◌, ◌++◌, length, get_or, Option, Some, None, unwrap_or, slice_index, All, IsTrue, IsFalse, inl, inr, refl, sym, ap, ◌∙◌, subst, arith, cond-false, cond-true, mul-add-lt, by_test, NamedSys, CostTable, listed_cost, seat_costs, cell_of, Listed, MAX_COST}
 use Rattle.std.proofs.Common.{◌==◌, ◌&&◌, set}
 use Rattle.std.specs.Option.{option_or}
 use Rattle.std.proofs.lemmas.Bool.{cases_order, eq-eqb, eqb-true, and_parts, and_from}
 use Rattle.std.proofs.lemmas.List.{get_or-set_same, get_or-set_other, length-set}
-use Rattle.roman_cost.specs.Tables.{HoldsCosts, cost_of, cost_at}
+use Rattle.roman_cost.specs.Tables.{HoldsCosts, cost_of}
 
 -- One item more.
 
 pub listed_cost-push : (listed : List Listed) (item : Listed) (b a : ℕ) →
     listed_cost (listed ++ item ∷ []) b a ≡ option_or (listed_cost listed b a) (listed_cost (item ∷ []) b a)
 listed_cost-push [] item b a = refl
-listed_cost-push (x ∷ listed) item b a = by (x.behaviour == b && x.action == a) (listed_cost-push listed item b a)
-  where
-    by : (t : Bool) → listed_cost (listed ++ item ∷ []) b a ≡ option_or (listed_cost listed b a) (listed_cost (item ∷ []) b a) →
-        cond t (Some x.cost) (listed_cost (listed ++ item ∷ []) b a) ≡ option_or (cond t (Some x.cost) (listed_cost listed b a)) (listed_cost (item ∷ []) b a)
-    by true e = refl
-    by false e = e
+listed_cost-push (x ∷ listed) item b a = grind (arith, (listed_cost-push listed item b a))
 
 option_or_none : {X : Type 0} (o : Option X) → option_or o None ≡ o
 option_or_none None = refl
@@ -90,11 +85,7 @@ cost_of_small (x ∷ listed) each b a =
     by false here rest = rest
 
 pub seat_costs_small : (n : NamedSys) (listed : List Listed) → All (λ x. x.cost ≤ MAX_COST) listed → (k a : ℕ) → seat_costs n listed k a ≤ MAX_COST
-seat_costs_small n listed each k a = by (slice_get n.seats k)
-  where
-    by : (o : Option Seat) → cost_at listed o a ≤ MAX_COST
-    by None = omega arith
-    by (Some seat) = cost_of_small listed each seat.behaviour a
+seat_costs_small n listed each k a = grind (arith, cost_of_small)
 
 -- The content of a cell.
 

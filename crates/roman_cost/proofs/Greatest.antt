@@ -1,5 +1,5 @@
 -- Loops that keep the greatest value so far.
-use Rattle.roman_cost.proofs.Common.{◌≡◌, ℕ, ◌+◌, ◌<◌, List, [], ◌∷◌, map, length, get_or, take, refl, sym, ap, ap₂, ◌∙◌, max, take_more, max_over}
+use Rattle.roman_cost.proofs.Common.{◌≡◌, ℕ, ◌+◌, ◌<◌, List, [], ◌∷◌, map, length, get_or, take, refl, sym, ap, ap₂, ◌∙◌, arith, max, take_more, max_over}
 use Rattle.std.proofs.Common.{flat_map}
 use Rattle.roman_model.proofs.CallerLemmas.{max_over_push, max_over-map, max_over-append}
 
@@ -16,8 +16,4 @@ max_over-flat_map f g (x ∷ xs) = max_over-append f (g x) (flat_map g xs) ∙ a
 -- the greatest of the rows' greatest values is the greatest over all rows
 pub max_all : {Y : Type 0} (f : Y → ℕ) (g : ℕ → ℕ → Y) (envs states : List ℕ) (best : ℕ) → best ≡ max_over (λ e. max_over (λ b. f (g e b)) states) envs →
     best ≡ max_over f (flat_map (λ e. map (g e) states) envs)
-max_all f g envs states best is = is ∙ each envs ∙ sym (max_over-flat_map f (λ e. map (g e) states) envs)
-  where
-    each : (es : List ℕ) → max_over (λ e. max_over (λ b. f (g e b)) states) es ≡ max_over (λ e. max_over f (map (g e) states)) es
-    each [] = refl
-    each (e ∷ es) = ap₂ max (sym (max_over-map f (g e) states)) (each es)
+max_all f g envs states best is = grind (arith, max_over-flat_map, max_over-map)

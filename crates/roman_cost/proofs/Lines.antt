@@ -1,5 +1,6 @@
 -- The text of advice, one line after the other.
-use Rattle.roman_cost.proofs.Common.{◌≡◌, ℕ, suc, ◌+◌, ◌-◌, ◌<◌, ◌≤◌, List, [], ◌∷◌, ◌++◌, IsTrue, IsFalse, codes, decimal, length, drop, map, get_or, slice_get, Option, Some, refl, sym, ap, ap₂, ◌∙◌, subst, arith, add-one, append_assoc, flat_map, cond-true, cond-false, length-map, get_or-map, below, Sys, Pair, IsSys, is_allowed, sizes_of, count, pair_at, is_related, Costs, allowed_actions, least, least_at, choice, through, related_great, length-below, get_or-below, numbers_are_pairs, choice_is, IsFilling, NamedSys, system_of, seat_of, Seat, worst_line, choice_line, value_line, value_lines, certificate_text, advice_text, seat_costs, Listed}
+use Rattle.roman_cost.proofs.Common.{◌≡◌, ℕ, suc, ◌+◌, ◌-◌, ◌<◌, ◌≤◌, List, [], ◌∷◌, ◌++◌, IsTrue, IsFalse, codes, decimal, length, drop, map, get_or, slice_get, Option, Some, refl, sym, ap, ap₂, ◌∙◌, arith, add-one, append_assoc, flat_map, cond-true, cond-false, length-map, get_or-map, below, Sys, Pair, IsSys, is_allowed, sizes_of, count, pair_at, is_related, Costs, allowed_actions, least, least_at, choice, through, related_great, length-below, get_or-below, numbers_are_pairs, choice_is, IsFilling, NamedSys, system_of, seat_of, worst_line, choice_line, value_line, value_lines, certificate_text, advice_text, seat_costs, Listed}
+use Rattle.roman_joint.specs.declared.seat.Seat.{Seat}
 use Rattle.std.specs.List.{filter}
 use Rattle.std.specs.Option.{option_map}
 use Rattle.std.proofs.Math.Seq.{drop-cons}
@@ -15,8 +16,7 @@ use Rattle.roman_cost.proofs.OfferedSeats.{offered}
 from_place : (n k : ℕ) → k < n → drop k (below n) ≡ k ∷ drop (k + 1) (below n)
 from_place n k l =
     let within : k < length (below n) = omega (arith, length-below n) in
-    drop-cons (below n) k 0 within
-    ∙ ap₂ (λ (x j : ℕ). x ∷ drop j (below n)) (get_or-below n k 0 l) (sym (add-one k))
+    drop-cons (below n) k 0 within ∙ ap₂ (λ (x j : ℕ). x ∷ drop j (below n)) (get_or-below n k 0 l) (sym (add-one k))
 
 from_end : (n k : ℕ) → n ≤ k → drop k (below n) ≡ []
 from_end n k l = drop_all k (below n) (omega (arith, length-below n))
@@ -46,19 +46,12 @@ value_parts h p value = in_parts (codes "value ") (decimal h) (codes " ") (decim
 pub next_value : (s : Sys) (C : Costs) (h : ℕ) (items pairs row : List ℕ) (i p value : ℕ) (head : List ℕ) → items ≡ pairs → i < length items → p ≡ get_or items i 0 → row ≡ map (least_at s C h) pairs →
     value ≡ get_or row i 0 → head ≡ value_head h →
     flat_map (λ p. value_line h p (least_at s C h p)) (drop i pairs) ≡ (head ++ value_tail p value) ++ flat_map (λ p. value_line h p (least_at s C h p)) (drop (i + 1) pairs)
-next_value s C h items pairs row i p value head same l at is told begins =
-    let F : ℕ → List ℕ = λ p. value_line h p (least_at s C h p) in
-    let least_is : value ≡ least_at s C h (get_or pairs i 0) = told ∙ ap (λ (xs : List ℕ). get_or xs i 0) is ∙ get_or-map (least_at s C h) pairs i 0 0 (subst (λ (ps : List ℕ). i < length ps) same l) in
-    let here : p ≡ get_or pairs i 0 = at ∙ ap (λ (ps : List ℕ). get_or ps i 0) same in
-    as_taken (flat_map F (drop i pairs)) (F (get_or pairs i 0)) (flat_map F (drop (i + 1) pairs)) (head ++ value_tail p value) (next_text F pairs i (subst (λ (ps : List ℕ). i < length ps) same l))
-    (ap (λ (xs : List ℕ). xs ++ value_tail p value) begins ∙ value_parts h p value ∙ ap₂ (value_line h) here least_is)
+next_value s C h items pairs row i p value head same l at is told begins = grind (arith, as_taken, get_or-map, next_text, value_parts)
 
 -- the next row has the values for one request more
 pub next_row : (s : Sys) (C : Costs) (n h : ℕ) → h < n →
     flat_map (λ h. value_lines s C (suc h)) (drop h (below n)) ≡ value_lines s C (h + 1) ++ flat_map (λ h. value_lines s C (suc h)) (drop (h + 1) (below n))
-next_row s C n h l =
-    ap (flat_map (λ h. value_lines s C (suc h))) (from_place n h l)
-    ∙ ap (λ (i : ℕ). value_lines s C i ++ flat_map (λ h. value_lines s C (suc h)) (drop (h + 1) (below n))) (sym (add-one h))
+next_row s C n h l = grind (arith, from_place)
 
 -- no rows remain at the end
 pub no_row : (s : Sys) (C : Costs) (n h : ℕ) → n ≤ h → flat_map (λ h. value_lines s C (suc h)) (drop h (below n)) ≡ []
@@ -74,22 +67,12 @@ choices_from n C h p a = flat_map (choice_line n C h p) (filter (is_allowed (sys
 pub next_choice : (n : NamedSys) (C : Costs) (h : ℕ) (p : Pair) (a : ℕ) → a < (system_of n).env.actions → IsTrue (is_allowed (system_of n) p a) →
     choices_from n C h p a ≡ choice_line n C h p a ++ choices_from n C h p (a + 1)
 unfolding choices_from
-next_choice n C h p a l allowed =
-    let m = (system_of n).env.actions in
-    let test = is_allowed (system_of n) p in
-    let rest = filter test (drop (a + 1) (below m)) in
-    ap (λ (xs : List ℕ). flat_map (choice_line n C h p) (filter test xs)) (from_place m a l)
-    ∙ ap (flat_map (choice_line n C h p)) (cond-true (test a) (a ∷ rest) rest allowed)
+next_choice n C h p a l allowed = grind (arith, cond-true, from_place)
 
 -- an action that isn't allowed has no line
 pub next_unallowed : (n : NamedSys) (C : Costs) (h : ℕ) (p : Pair) (a : ℕ) → a < (system_of n).env.actions → IsFalse (is_allowed (system_of n) p a) → choices_from n C h p a ≡ choices_from n C h p (a + 1)
 unfolding choices_from
-next_unallowed n C h p a l unallowed =
-    let m = (system_of n).env.actions in
-    let test = is_allowed (system_of n) p in
-    let rest = filter test (drop (a + 1) (below m)) in
-    ap (λ (xs : List ℕ). flat_map (choice_line n C h p) (filter test xs)) (from_place m a l)
-    ∙ ap (flat_map (choice_line n C h p)) (cond-false (test a) (a ∷ rest) rest unallowed)
+next_unallowed n C h p a l unallowed = grind (arith, cond-false, from_place)
 
 -- no lines remain at the end
 pub no_choice : (n : NamedSys) (C : Costs) (h : ℕ) (p : Pair) (a : ℕ) → (system_of n).env.actions ≤ a → choices_from n C h p a ≡ []
@@ -115,12 +98,7 @@ chosen_seat n C h p a k ok l related allowed is =
 -- the line of the action and the chosen seat
 pub choice_line_is : (n : NamedSys) (C : Costs) (h : ℕ) (p : Pair) (a k cost : ℕ) (action : List ℕ) (seat : Seat) → k ≡ choice (system_of n) C h p a → cost ≡ through (system_of n) C (least (system_of n) C h) p a k →
     slice_get n.environment.actions a ≡ Some action → slice_get n.seats k ≡ Some seat → service_text action seat.name cost ≡ choice_line n C h p a
-choice_line_is n C h p a k cost action seat is costs action_named seated =
-    let j = choice (system_of n) C h p a in
-    let action_is : action ≡ name_at n.environment.actions a = sym (get_or_from_slice_get n.environment.actions a action [] action_named) in
-    let seat_is : seat.name ≡ name_at (map seat_name n.seats) j = sym (named n.seats k seat seated) ∙ ap (name_at (map seat_name n.seats)) is in
-    let cost_is : cost ≡ through (system_of n) C (least (system_of n) C h) p a j = costs ∙ ap (through (system_of n) C (least (system_of n) C h) p a) is in
-    rw (action_is, seat_is, cost_is) refl
+choice_line_is n C h p a k cost action seat is costs action_named seated = grind (arith, get_or_from_slice_get, named)
 
 -- ---- the whole
 

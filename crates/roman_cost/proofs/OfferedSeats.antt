@@ -1,8 +1,6 @@
 -- The offered seats of a related pair: each has outcomes, all of them are related, and its cost is the one that the definition gives.
 use Rattle.roman_cost.proofs.Common.{◌≡◌, ◌≢◌, ℕ, suc, ◌+◌, ◌*◌, ◌<◌, ◌≤◌, Bool, List, [], ◌∷◌, map, length, filter, slice_index, inl, inr, IsTrue, All, refl, sym, ap, ◌∙◌, subst, arith, IsIn, below, Sys, Pair, IsSys, IsPair, has, outcomes, is_allowed, sizes_of, count, pair_at, number, numbered, is_related, offers, Costs, max_over, first_least, least, least_at, choice, through, from_map, in_map, not_empty_in, ne_not_empty, outcome_pair, great_related, offer_is, numbers_are_pairs, max_over_le, number_listed, cond-true, has_seat_is, related_pairs, HavePlaces, ranked, IsRanked, AreSmall, MAX_COST, MAX_REQUESTS}
-use Rattle.std.proofs.Common.{not, flat_map}
-use Rattle.roman_model.specs.SystemArena.{arena}
-use Rattle.roman_model.specs.Arena.{is_beaten}
+use Rattle.std.proofs.Common.{flat_map}
 use Rattle.roman_model.proofs.CallerLemmas.{not_empty_ne, in_not_empty, outcome_seat, through_numbered, max_over_same}
 use Rattle.roman_rules.specs.Bits.{HasBits, has_seat}
 use Rattle.roman_cost.proofs.Best.{filter_has, first_least_same}
@@ -55,8 +53,7 @@ pub cost_is : (s : Sys) (C : Costs) (ranks row : List ℕ) (p a k h : ℕ) → I
 cost_is s C ranks row p a k h ok l are is i =
     let known : IsOffered s p a k = offered s p a k ok l i in
     ap (λ m. C k a + m) (max_over_same (ranked ranks row) (least_at s C h) ((numbered s).outcomes p a k)
-    (λ q j. ranked_value s C h (related_pairs s) ranks row q are (known.related q j) is))
-    ∙ through_numbered s C h p a k ok l
+    (λ q j. ranked_value s C h (related_pairs s) ranks row q are (known.related q j) is)) ∙ through_numbered s C h p a k ok l
 
 -- the best of the offered seats by that row is the choice
 pub best_is_choice : (s : Sys) (C : Costs) (ranks row : List ℕ) (p a h : ℕ) → IsSys s → p < count (sizes_of s) → HavePlaces (related_pairs s) ranks →
@@ -68,13 +65,7 @@ best_is_choice s C ranks row p a h ok l are is =
 
 -- the offers are the seats of the system that are among them
 pub offers_among : (s : Sys) (P : Pair) (a : ℕ) → IsTrue (is_allowed s P a) → filter (has (offers s P a)) (below (length s.seats)) ≡ offers s P a
-offers_among s P a allowed =
-    let rule : ℕ → Bool = λ k. not_beaten k in
-    let is : offers s P a ≡ filter rule (below (length s.seats)) = cond-true (is_allowed s P a) (filter rule (below (length s.seats))) [] allowed in
-    ap (λ ks. filter (has ks) (below (length s.seats))) is ∙ filter_has rule (length s.seats) ∙ sym is
-  where
-    not_beaten : ℕ → Bool
-    not_beaten k = not (is_beaten (arena s) (λ q. not (is_related s q)) P a k)
+offers_among s P a allowed = grind (arith, cond-true, filter_has)
 
 -- where a delegation has outcomes, the seat goes to some state
 pub states_some : (g : ℕ → ℕ → ℕ) (envs states : List ℕ) → flat_map (λ e. map (g e) states) envs ≢ [] → 0 < length states

@@ -1,5 +1,5 @@
 -- The plans by offers are those by seats that serve, and their worst-case costs are the greatest that can occur.
-use Rattle.roman_cost.proofs.Common.{◌≡◌, ℕ, zero, suc, ◌+◌, ◌<◌, ◌≤◌, List, [], ◌∷◌, IsTrue, nat_le, inl, inr, refl, sym, ap, ◌∙◌, subst, arith, max, IsIn, below, Sys, Pair, IsSys, IsPair, outcomes, is_allowed, Great, offers, Costs, max_over, allowed_actions, least, through, choice, by_test, in_filter, in_below, not_empty_in, ne_not_empty, allowed_in_range, from_allowed, outcome_pair, offer_is, choice_is}
+use Rattle.roman_cost.proofs.Common.{◌≡◌, ℕ, zero, suc, ◌+◌, ◌<◌, ◌≤◌, List, [], ◌∷◌, IsTrue, inl, inr, refl, sym, ap, ◌∙◌, subst, arith, max, IsIn, below, Sys, Pair, IsSys, IsPair, outcomes, is_allowed, Great, offers, Costs, max_over, allowed_actions, least, through, choice, by_test, in_filter, in_below, not_empty_in, ne_not_empty, allowed_in_range, from_allowed, outcome_pair, offer_is, choice_is}
 use Rattle.std.proofs.Common.{◌⊎◌}
 use Rattle.std.proofs.Math.Nat.{le-max_left, le-max_right, max-le}
 use Rattle.std.proofs.lemmas.Bool.{leb-true, leb-false}
@@ -51,26 +51,15 @@ offered_plan s (suc h) p (Node seat next) ok pair is = λ a allowed.
 at_most_max : {X : Type 0} (f : X → ℕ) (x : X) (xs : List X) → IsIn x xs → f x ≤ max_over f xs
 at_most_max f x [] i = absurd i
 at_most_max f x (y ∷ xs) (inl e) = subst (λ z. f z ≤ max (f y) (max_over f xs)) (sym e) (le-max_left (f y) (max_over f xs))
-at_most_max f x (y ∷ xs) (inr i) =
-    let rest : f x ≤ max_over f xs = at_most_max f x xs i in
-    let more : max_over f xs ≤ max (f y) (max_over f xs) = le-max_right (f y) (max_over f xs) in
-    omega arith
+at_most_max f x (y ∷ xs) (inr i) = grind (arith, le-max_right, (at_most_max f x xs i))
 
 max_is_one : (m n : ℕ) → (max m n ≡ m) ⊎ (max m n ≡ n)
-max_is_one m n =
-    let first : m ≤ max m n = le-max_left m n in
-    let second : n ≤ max m n = le-max_right m n in
-    by_test (nat_le m n)
-    (λ t. let l : m ≤ n = leb-true m n t in let up : max m n ≤ n = max-le l (omega arith) in inr (omega arith))
-    (λ f. let l : n < m = leb-false m n f in let up : max m n ≤ m = max-le (omega arith) (omega arith) in inl (omega arith))
+max_is_one m n = grind (arith, by_test, le-max_left, le-max_right, leb-false, leb-true, max-le)
 
 -- the greatest value is that of some element, or 0
 max_of_one : {X : Type 0} (f : X → ℕ) (xs : List X) → ((x : X) × IsIn x xs × (f x ≡ max_over f xs)) ⊎ (max_over f xs ≡ 0)
 max_of_one f [] = inr refl
-max_of_one f (x ∷ xs) = elim (max_is_one (f x) (max_over f xs)) [
-  | inl first ↦ inl (x, inl refl, sym first)
-  | inr rest ↦ elim (max_of_one f xs) [ inl found ↦ let (y, i, e) = found in inl (y, inr i, e ∙ sym rest) | inr none ↦ inr (rest ∙ none) ]
-]
+max_of_one f (x ∷ xs) = grind (arith, max_is_one, (max_of_one f xs))
 
 max_of_some : {X : Type 0} (f : X → ℕ) (xs : List X) (x : X) → IsIn x xs → (y : X) × IsIn y xs × (f y ≡ max_over f xs)
 max_of_some f xs x i = elim (max_of_one f xs) [
@@ -152,12 +141,7 @@ through_costs s C rest p a k ok pair allowed offered =
 
 -- there is only one such cost
 costs_once : (s : Sys) (C : Costs) (rest : Pair → ℕ) (p : Pair) (a k cost other : ℕ) → CostsBy s C rest p a k cost → CostsBy s C rest p a k other → cost ≡ other
-costs_once s C rest p a k cost other one two =
-    let (q, moves, e) = one.some in
-    let (r, goes, f) = two.some in
-    let up : C k a + rest q ≤ other = two.within q moves in
-    let down : C k a + rest r ≤ cost = one.within r goes in
-    omega arith
+costs_once s C rest p a k cost other one two = grind arith
 
 pub choice_cheapest : (s : Sys) (C : Costs) (h : ℕ) (p : Pair) (a : ℕ) → IsSys s → IsPair s p → Great s p → Allows s p.t p.e a →
     IsCheapest s C (least s C h) p a (choice s C h p a) (through s C (least s C h) p a (choice s C h p a))
@@ -176,15 +160,7 @@ choice_cheapest s C h p a ok pair great allows =
 -- costs are the same where each pair costs the same
 costs_same : (s : Sys) (C : Costs) (rest other : Pair → ℕ) (p : Pair) (a k cost : ℕ) → IsSys s → IsPair s p → ((q : Pair) → IsPair s q → rest q ≡ other q) →
     CostsBy s C rest p a k cost → CostsBy s C other p a k cost
-costs_same s C rest other p a k cost ok pair same costs = record {
-  within = λ q moves.
-      let here : C k a + rest q ≤ cost = costs.within q moves in
-      let e : rest q ≡ other q = same q (outcome_pair s p a k q ok pair (moves_in s p a k q ok moves)) in
-      omega arith;
-  some =
-      let (q, moves, there) = costs.some in
-      (q, moves, ap (λ n. C k a + n) (sym (same q (outcome_pair s p a k q ok pair (moves_in s p a k q ok moves)))) ∙ there);
-}
+costs_same s C rest other p a k cost ok pair same costs = grind (arith, moves_in, outcome_pair)
 
 pub cheapest_same : (s : Sys) (C : Costs) (rest other : Pair → ℕ) (p : Pair) (a k cost : ℕ) → IsSys s → IsPair s p → ((q : Pair) → IsPair s q → rest q ≡ other q) →
     IsCheapest s C rest p a k cost → IsCheapest s C other p a k cost

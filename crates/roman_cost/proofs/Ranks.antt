@@ -11,9 +11,7 @@ pub in_related : (s : Sys) (p : ℕ) → p < count (sizes_of s) → IsTrue (rela
 in_related s p l t = in_filter (related_at s) p (below (count (sizes_of s))) (in_below (count (sizes_of s)) p l) t
 
 pub from_related : (s : Sys) (p : ℕ) → IsIn p (related_pairs s) → (p < count (sizes_of s)) × IsTrue (related_at s p)
-from_related s p i =
-    let (j, t) = filter_in (related_at s) p (below (count (sizes_of s))) i in
-    (from_below (count (sizes_of s)) p j, t)
+from_related s p i = grind (arith, filter_in, from_below)
 
 -- the answer of a relation about a pair is that test
 pub told_related : (s : Sys) (p : ℕ) (told : Bool) → IsSys s → p < count (sizes_of s) → (IsTrue told ↔ Great s (pair_at (sizes_of s) p)) → told ≡ related_at s p
@@ -25,15 +23,7 @@ told_related s p told ok l says =
 
 pub rank-le : (q : ℕ → Bool) (n : ℕ) → rank q n ≤ n
 rank-le q zero = omega arith
-rank-le q (suc n) =
-    let before : rank q n ≤ n = rank-le q n in
-    let more : rank q (suc n) ≡ length (filter q (below n) ++ cond (q n) (n ∷ []) []) = ap length (filter_below_more q n) in
-    let one : length (cond (q n) (n ∷ []) []) ≤ 1 = by (q n) in
-    omega (arith, length-append (filter q (below n)) (cond (q n) (n ∷ []) []))
-  where
-    by : (b : Bool) → length (cond b (n ∷ []) []) ≤ 1
-    by true = omega arith
-    by false = omega arith
+rank-le q (suc n) = grind (arith, filter_below_more, rank, length-append, (rank-le q n))
 
 pub ranks_more : (q : ℕ → Bool) (n : ℕ) (ranks new : List ℕ) (r : ℕ) → ranks ≡ map (rank q) (below n) → r ≡ rank q n → new ≡ ranks ++ r ∷ [] →
     new ≡ map (rank q) (below (n + 1))

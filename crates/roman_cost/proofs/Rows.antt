@@ -35,10 +35,7 @@ row_small s C pairs h bound few = all_from (λ v. v ≤ MAX_REQUESTS * MAX_COST)
 -- The place of a row.
 
 pub range_left : {X : Type 0} (xs ys : List X) (i n : ℕ) → i + n ≤ length xs → slice_range (xs ++ ys) i (i + n) ≡ slice_range xs i (i + n)
-range_left xs ys i n l =
-    let long : i ≤ length xs = omega arith in
-    let left : i + n - i ≤ length (drop i xs) = omega (arith, length-drop i xs) in
-    ap (take (i + n - i)) (drop-append-le i xs ys long) ∙ take-append-le (i + n - i) (drop i xs) ys left
+range_left xs ys i n l = grind (arith, drop-append-le, length-drop, take-append-le)
 
 pub range_seam : {X : Type 0} (xs ys : List X) (i n : ℕ) → i ≡ length xs → n ≡ length ys → slice_range (xs ++ ys) i (i + n) ≡ ys
 range_seam xs ys i n at long =
@@ -95,9 +92,7 @@ first_row s C pairs n e = ap (λ k. replicate k 0) e ∙ zeros pairs ∙ sym (ap
 
 pub resized_row : (s : Sys) (C : Costs) (pairs values new : List ℕ) (n m : ℕ) → values ≡ [] → m ≡ 0 → n ≡ length pairs → new ≡ take n values ++ replicate (n - m) 0 →
     new ≡ value_rows s C pairs 1
-resized_row s C pairs values new n m empty none long is =
-    let rest : n - m ≡ n = omega arith in
-    is ∙ ap₂ (λ xs k. take n xs ++ replicate k 0) empty rest ∙ ap (λ xs. xs ++ replicate n 0) (take-nil n) ∙ first_row s C pairs n long
+resized_row s C pairs values new n m empty none long is = grind (arith, first_row, take-nil)
 
 -- a row so far, after one value more
 pub row_more : (f : ℕ → ℕ) (rows pairs values new : List ℕ) (i value : ℕ) → i < length pairs → values ≡ rows ++ map f (take i pairs) → value ≡ f (get_or pairs i 0) →

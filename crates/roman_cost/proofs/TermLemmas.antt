@@ -1,5 +1,5 @@
 -- The values of the terms of related pairs.
-use Rattle.roman_cost.proofs.Common.{◌≡◌, ◌≢◌, ℕ, zero, suc, ◌+◌, ◌-◌, ◌*◌, ◌<◌, ◌≤◌, Bool, true, false, cond, List, [], ◌∷◌, ◌++◌, map, length, take, drop, filter, Option, Some, None, unwrap_or, nat_le, slice_index, IsTrue, refl, sym, ap, ap₂, ◌∙◌, inl, inr, subst, arith, append_assoc, append-nil, add-one, max, flat_map, take_all, length-drop, IsIn, below, Sys, Pair, IsSys, is_allowed, sizes_of, count, pair_at, numbered, offers, Costs, max_over, least_from, first_least, least, least_at, choice, through, allowed_actions, filter_in, filter_below_more, max_over_le, related_great, numbers_are_pairs, choice_is, related_offers, related_pairs, HavePlaces, ranked, AreSmall, nothing_yet, worked_out, outcome_terms, service_terms, action_terms, pair_terms, MAX_COST, MAX_REQUESTS, Term}
+use Rattle.roman_cost.proofs.Common.{◌≡◌, ◌≢◌, ℕ, zero, suc, ◌+◌, ◌-◌, ◌*◌, ◌<◌, ◌≤◌, Bool, true, false, cond, List, [], ◌∷◌, ◌++◌, map, length, take, drop, filter, Option, Some, None, unwrap_or, slice_index, IsTrue, refl, sym, ap, ap₂, ◌∙◌, inl, inr, subst, arith, append_assoc, append-nil, add-one, max, flat_map, take_all, length-drop, IsIn, below, Sys, Pair, IsSys, is_allowed, sizes_of, count, pair_at, numbered, offers, Costs, max_over, least_from, first_least, least, least_at, choice, through, allowed_actions, filter_in, filter_below_more, max_over_le, related_great, numbers_are_pairs, choice_is, related_offers, related_pairs, HavePlaces, ranked, AreSmall, nothing_yet, worked_out, outcome_terms, service_terms, action_terms, pair_terms, MAX_COST, MAX_REQUESTS, Term}
 use Rattle.std.specs.Prelude.{min}
 use Rattle.std.proofs.lemmas.List.{take-append-drop, map-append}
 use Rattle.std.proofs.lemmas.Grind.{flat_map-append}
@@ -15,16 +15,14 @@ use Rattle.roman_cost.proofs.Ranks.{from_related, related_at}
 pub flat_taken : {X : Type 0} (f : ℕ → List X) (p : ℕ → Bool) (k : ℕ) (old terms new : List X) → p k ≡ true → terms ≡ old ++ flat_map f (filter p (below k)) → new ≡ terms ++ f k →
     new ≡ old ++ flat_map f (filter p (below (k + 1)))
 flat_taken f p k old terms new passes before is =
-    is ∙ ap (λ xs. xs ++ f k) before ∙ append_assoc old (flat_map f (filter p (below k))) (f k)
-    ∙ ap (λ xs. old ++ xs)
+    is ∙ ap (λ xs. xs ++ f k) before ∙ append_assoc old (flat_map f (filter p (below k))) (f k) ∙ ap (λ xs. old ++ xs)
     (ap (λ xs. flat_map f (filter p (below k)) ++ xs) (sym (append-nil (f k))) ∙ sym (flat_map-append f (filter p (below k)) (k ∷ []))
     ∙ ap (λ b. flat_map f (filter p (below k) ++ cond b (k ∷ []) [])) (sym passes) ∙ ap (flat_map f) (sym (filter_below_more p k)) ∙ ap (λ n. flat_map f (filter p (below n))) (sym (add-one k)))
 
 pub flat_passed : {X : Type 0} (f : ℕ → List X) (p : ℕ → Bool) (k : ℕ) (old terms : List X) → p k ≡ false → terms ≡ old ++ flat_map f (filter p (below k)) →
     terms ≡ old ++ flat_map f (filter p (below (k + 1)))
 flat_passed f p k old terms fails before =
-    before
-    ∙ ap (λ xs. old ++ xs)
+    before ∙ ap (λ xs. old ++ xs)
     (ap (flat_map f) (sym (append-nil (filter p (below k)))) ∙ ap (λ b. flat_map f (filter p (below k) ++ cond b (k ∷ []) [])) (sym fails) ∙ ap (flat_map f) (sym (filter_below_more p k))
     ∙ ap (λ n. flat_map f (filter p (below n))) (sym (add-one k)))
 
@@ -49,12 +47,7 @@ cheapest_of f c (k ∷ ks) = cheapest_of f (Some (cheaper_of c (f k))) ks
 
 cheapest_from : (f : ℕ → ℕ) (k : ℕ) (ks : List ℕ) → cheapest_of f (Some (f k)) ks ≡ Some (f (least_from f k ks))
 cheapest_from f k [] = refl
-cheapest_from f k (j ∷ ks) = by (nat_le (f k) (f j)) (cheapest_from f k ks) (cheapest_from f j ks)
-  where
-    by : (b : Bool) → cheapest_of f (Some (f k)) ks ≡ Some (f (least_from f k ks)) → cheapest_of f (Some (f j)) ks ≡ Some (f (least_from f j ks)) →
-        cheapest_of f (Some (cond b (f k) (f j))) ks ≡ Some (f (cond b (least_from f k ks) (least_from f j ks)))
-    by true here there = here
-    by false here there = there
+cheapest_from f k (j ∷ ks) = grind (arith, (cheapest_from f k ks), (cheapest_from f j ks))
 
 cheapest_first : (f : ℕ → ℕ) (ks : List ℕ) → ks ≢ [] → cheapest_of f None ks ≡ Some (f (first_least f ks))
 cheapest_first f [] some = absurd (some refl)

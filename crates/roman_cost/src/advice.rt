@@ -131,6 +131,7 @@ impl Advice {
     }
 
     // Returns the row of values for `h` requests: the least worst-case cost at each of the pairs.
+    #[tactic(auto, using(crate::proofs::Rows::table_row))]
     pub(crate) fn row(&self, h: u8) -> &[u32]
         requires { h ≤ self.now.requests }
         ensures row { (s : Sys) (C : plans.Costs) → Advises s C self.now → result.now ≡ map (least_at s C h) self.now.pairs }

@@ -6,6 +6,7 @@ ghost use Rattle.roman_cost.specs.Laws.{AdviceIsLeast};
 /// all plans, at a pair of the greatest ND-simulation. The text names all such pairs and no others.
 /// For each action that the target allows at the pair of the advice it names the first of the
 /// services that serve the action at the least cost, and that cost.
+#[tactic(auto, using(crate::proofs::LawLemmas::advice_least))]
 pub fn advice_is_least()
     ensures least { AdviceIsLeast }
 {}

@@ -1,14 +1,10 @@
-use Rattle.roman_cost.proofs.Common.{◌≡◌, ◌<◌, ◌≤◌, ℕ, Bool, Vec, Global, length, ap, sym, ◌∙◌, arith, rank, sizes_of, count, system_of}
+use Rattle.roman_cost.proofs.Common.{◌≡◌, ◌<◌, ℕ, Bool, Vec, Global, length, ap, sym, ◌∙◌, arith, rank, sizes_of, count, system_of}
 use Rattle.roman_cost.proofs.Ranks.{related_at, told_related, rank-le, ranks_more, pairs_taken, pairs_passed, ranks_done}
 use Rattle.roman_cost.proofs.filling.ranked_pairs.Goals as goal
 use Rattle.roman_cost.proofs.filling.ranked_pairs.Goals.{then-related+in_ok-push-2, else-related}
 
 pub overflow_cast-len : goal.overflow_cast-len
-overflow_cast-len c =
-    let q : ℕ → Bool = related_at (system_of c.args.relation.now.joint) in
-    let few : rank q c.loop-p.p ≤ c.loop-p.p = rank-le q c.loop-p.p in
-    let long : length c.loop-p.pairs.items ≡ rank q c.loop-p.p = ap length c.loop-p.invariant.pairs in
-    omega (arith, c.len.ensures, c.loop-p.pairs.ok.0, c.loop-p-test.true, c.pairs-count.type_inv)
+overflow_cast-len c = grind (arith, rank, rank-le, related_at)
 
 pub loop-p-preserved : goal.loop-p-preserved
 loop-p-preserved c =

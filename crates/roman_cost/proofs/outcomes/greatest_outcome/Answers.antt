@@ -5,8 +5,7 @@ use Rattle.roman_cost.proofs.outcomes.greatest_outcome.Goals as goal
 pub loop-env-preserved : goal.loop-env-preserved
 loop-env-preserved c =
     let o = c.args.outcomes in
-    max_stepped (λ e. max_over (λ b. ranked c.args.ranks.now c.args.row.now (o.base + e * o.env_stride + b * o.stride)) o.states.now) o.envs.now c.loop-env.env-index 0 c.loop-env.greatest _ c.greater-greatest.result
-    c.loop-env.invariant c.loop-env-test.true
+    max_stepped _ _ _ _ _ _ _ c.loop-env.invariant c.loop-env-test.true
     (c.greatest_state-value.ensures ∙ ap (λ e. max_over (λ b. ranked c.args.ranks.now c.args.row.now (o.base + e * o.env_stride + b * o.stride)) o.states.now) c.from.ensures)
     c.greater-greatest.ensures
 

@@ -1,4 +1,4 @@
-use Rattle.roman_cost.proofs.Common.{◌≡◌, ℕ, Bool, List, Option, Some, ◌<◌, ◌≤◌, length, filter, IsTrue, refl, sym, ap, ◌∙◌, subst, arith, length-map, IsIn, below, sizes_of, count, pair_at, is_related, offers, first_least, least, choice, through, choice_is, related_great, numbers_are_pairs, related_offers, has, Sys, Pair, is_allowed, has_seat_is, NamedSys, system_of, seat_of, seat_costs, Listed}
+use Rattle.roman_cost.proofs.Common.{◌≡◌, ℕ, List, Option, Some, ◌<◌, ◌≤◌, length, filter, IsTrue, refl, sym, ap, ◌∙◌, subst, arith, length-map, IsIn, below, sizes_of, count, pair_at, is_related, offers, first_least, least, choice, through, choice_is, related_great, numbers_are_pairs, related_offers, has, Sys, Pair, is_allowed, has_seat_is, NamedSys, system_of, seat_of, seat_costs, Listed}
 use Rattle.std.proofs.Common.{IsSome}
 use Rattle.std.proofs.lemmas.Option.{same_Some}
 use Rattle.roman_joint.specs.NamedSys.{IsNamedSys}
@@ -36,18 +36,7 @@ cost_through-cost-requires-clause-ranked c =
     offered_ranked s c.args.p c.args.a c.loop-k.k c.args.ranks.now c.args.row.now (offered s c.args.p c.args.a c.loop-k.k c.known.ensures.system c.requires.pair i) c.requires.ranks c.requires.row
 
 pub loop-k-preserved : goal.loop-k-preserved
-loop-k-preserved c =
-    let s = system_of c.args.joint.now in
-    let C = seat_costs c.args.joint.now c.args.costs.now.listed in
-    let test : ℕ → Bool = has (offers s (pair_at (sizes_of s) c.args.p) c.args.a) in
-    let cost : ℕ → ℕ = cost_by s C c.args.ranks.now c.args.row.now c.args.p c.args.a in
-    let told : c.has.result ≡ test c.loop-k.k = c.has.ensures ∙ has_seat_is c.args.offered test c.loop-k.k c.requires.offered (omega arith) in
-    elim c.if-has.branch [
-      | then-has w ↦
-          w.best-is ∙ best_of-taken cost test c.loop-k.k w.cost_through-cost.result c.loop-k.best w.better-best.result (sym told ∙ w.if-has.true) c.loop-k.invariant
-          w.cost_through-cost.ensures w.better-best.ensures
-      | else-has w ↦ w.best-is ∙ best_of-passed cost test c.loop-k.k c.loop-k.best (sym told ∙ w.if-has.false) c.loop-k.invariant
-    ]
+loop-k-preserved c = grind (arith, best_of-passed, best_of-taken, cost_by, else-has, has_seat_is, then-has)
 
 -- the best of all offered seats
 whole : (n : NamedSys) (listed : List Listed) (ranks row : List ℕ) (p a k count : ℕ) (best : Option (ℕ × ℕ)) → IsNamedSys n → p < pairs_of n → IsTrue (is_related (system_of n) (at n p)) →

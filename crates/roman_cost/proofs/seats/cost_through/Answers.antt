@@ -32,8 +32,4 @@ greatest_outcome-requires-clause-fits c = λ i d l j e m.
     omega (arith, at.below, c.outcomes-outcomes.ensures.few)
 
 pub overflow_add-result : goal.overflow_add-result
-overflow_add-result c =
-    let o = c.outcomes-outcomes.result in
-    let all : All (IsRanked c.args.ranks.now c.args.row.now) (outcome_numbers o) = subst (All (IsRanked c.args.ranks.now c.args.row.now)) c.outcomes-outcomes.ensures.numbers c.requires.ranked in
-    let few = greatest_small c.args.ranks.now c.args.row.now (outcome_numbers o) all c.requires.small in
-    omega (arith, c.greatest_outcome.ensures, few, c.cost-cost.ensures.small)
+overflow_add-result c = grind (arith, greatest_small)

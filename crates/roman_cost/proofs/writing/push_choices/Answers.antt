@@ -1,20 +1,12 @@
-use Rattle.roman_cost.proofs.Common.{◌<◌, ◌≤◌, ◌+◌, ◌-◌, refl, sym, ◌∙◌, arith, err_from_is_err_and, sizes_of, pair_at, system_of, choice_line, seat_costs, fill_behind, fill_same, fill_more, fill_failed, fill_end}
+use Rattle.roman_cost.proofs.Common.{◌<◌, ◌≤◌, ◌+◌, ◌-◌, sym, ◌∙◌, arith, err_from_is_err_and, sizes_of, pair_at, system_of, choice_line, seat_costs, fill_behind, fill_same, fill_more, fill_failed, fill_end}
 use Rattle.roman_cost.proofs.Lines.{choices_from, as_taken, choices_begin, next_choice, next_unallowed, no_choice}
 use Rattle.roman_cost.proofs.writing.push_choices.Goals as goal
 
 pub loop-a-init : goal.loop-a-init
-loop-a-init g c =
-    let n = c.args.relation.now.joint in
-    let C = seat_costs n c.args.costs.now.listed in
-    record { filling = fill_behind _ _ _ _ (choices_begin n C (c.args.advice.now.requests - 1) (pair_at (sizes_of (system_of n)) c.args.start)); cause = refl }
+loop-a-init g c = grind (arith, choices_begin, fill_behind)
 
 pub loop-a-preserved-then-not-allowed : goal.loop-a-preserved-then-not-allowed
-loop-a-preserved-then-not-allowed g c =
-    let n = c.args.relation.now.joint in
-    let C = seat_costs n c.args.costs.now.listed in
-    let l : c.loop-a.a < (system_of n).env.actions = omega (arith, c.loop-a-test.true, c.actions-a-end.ensures) in
-    let next = next_unallowed n C (c.args.advice.now.requests - 1) (pair_at (sizes_of (system_of n)) c.args.start) c.loop-a.a l (sym c.if-not-allowed.ensures) in
-    record { filling = fill_same _ _ _ _ _ _ next c.loop-a.invariant.filling; cause = c.loop-a.invariant.cause }
+loop-a-preserved-then-not-allowed g c = grind (arith, fill_same, next_unallowed)
 
 pub returns-in_err-push-clause-gathers : goal.returns-in_err-push-clause-gathers
 returns-in_err-push-clause-gathers g c =

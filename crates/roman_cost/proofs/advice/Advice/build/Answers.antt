@@ -4,11 +4,7 @@ use Rattle.roman_cost.proofs.Rows.{resized_row, rows_small}
 use Rattle.roman_cost.proofs.advice.Advice.build.Goals as goal
 
 pub loop-done-init : goal.loop-done-init
-loop-done-init c =
-    let s = system_of c.args.relation.now.joint in
-    let C = seat_costs c.args.relation.now.joint c.args.costs.now.listed in
-    let long : c.len.result ≡ length c.in_ok-pairs.pairs.items = omega (arith, c.len.ensures, c.in_ok-pairs.pairs.ok.0) in
-    resized_row s C c.in_ok-pairs.pairs.items c.in_ok-values.values.items c.resize.new.self.items c.len.result _ c.in_ok-values.ensures.items c.in_ok-values.ensures.len long c.in_ok-resize.ensures.items
+loop-done-init c = grind (arith, resized_row)
 
 pub invariant_of-result : goal.invariant_of-result
 invariant_of-result c =

@@ -1,4 +1,4 @@
-use Rattle.roman_cost.proofs.Common.{◌≡◌, ◌<◌, ◌≤◌, ◌+◌, ◌*◌, suc, ℕ, length, slice_index, sym, ap, ◌∙◌, subst, arith, mul-add-lt, get_or_read, IsIn, least_at, length_rows, AdviceTable}
+use Rattle.roman_cost.proofs.Common.{◌≡◌, ◌<◌, ◌≤◌, ◌+◌, ◌*◌, suc, ℕ, length, slice_index, sym, ap, ◌∙◌, subst, arith, mul-add-lt, get_or_read, IsIn, length_rows, AdviceTable}
 use Rattle.roman_cost.proofs.Ranks.{value_at}
 use Rattle.roman_cost.proofs.advice.Advice.value.Goals as goal
 
@@ -23,7 +23,8 @@ index-requires c =
     omega (arith, at, same, c.self.invariant.len, c.self.inside.values.ok.0)
 
 pub returns : goal.returns
-returns c = λ s C says.
+returns c =
+    λ s C says.
     let table : AdviceTable = c.args.self.now in
     let there : IsIn c.args.p c.self.inside.pairs.items = subst (λ (t : AdviceTable). IsIn c.args.p t.pairs) (sym c.self.view_is) c.requires.related in
     let rank : c.index-rank.result.now ≡ slice_index c.self.inside.ranks.items c.args.p =
@@ -36,11 +37,10 @@ returns c = λ s C says.
     ap (λ xs. slice_index xs c.index-rank.result.now) (sym pairs_is) ∙ ap (slice_index c.self.inside.pairs.items) rank ∙ c.self.invariant.ranks.at c.args.p there in
     let more : c.args.h < suc table.requests = omega (arith, c.requires.requests) in
     let fits : c.args.h * length table.pairs + c.index-rank.result.now < length table.pairs * suc table.requests =
-    mul-add-lt c.args.h (length table.pairs) c.index-rank.result.now (suc table.requests) more less in
+    mul-add-lt _ _ _ _ more less in
     let size : length c.self.inside.values.items ≡ suc table.requests * length table.pairs =
-    ap length (values_is ∙ says.values) ∙ length_rows (least_at s C) table.pairs (suc table.requests) in
+    ap length (values_is ∙ says.values) ∙ length_rows _ _ _ in
     let place : c.args.h * c.len.result + c.index-rank.result.now ≡ c.args.h * length table.pairs + c.index-rank.result.now = ap (λ k. c.args.h * k + c.index-rank.result.now) long in
     let within : c.args.h * c.len.result + c.index-rank.result.now < length c.self.inside.values.items = omega (arith, place, fits, size) in
-    value_at s C table c.args.h c.args.p c.index-rank.result.now c.index.result.now says c.requires.requests less at
-    (get_or_read c.self.inside.values.items _ _ within c.index.ensures 0
+    value_at _ _ _ _ _ _ _ says c.requires.requests less at (get_or_read c.self.inside.values.items _ _ within c.index.ensures 0
     ∙ ap (slice_index c.self.inside.values.items) place ∙ ap (λ xs. slice_index xs (c.args.h * length table.pairs + c.index-rank.result.now)) values_is)

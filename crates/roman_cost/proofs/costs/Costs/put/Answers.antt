@@ -9,5 +9,4 @@ invariant_of-self-2 c =
     let la : c.args.item.action < t.actions = subst (λ (t : CostTable). c.args.item.action < t.actions) (sym c.self.view_is) c.requires.action in
     let new : listed_cost t.listed.items c.args.item.behaviour c.args.item.action ≡ None =
     subst (λ (t : CostTable). listed_cost t.listed c.args.item.behaviour c.args.item.action ≡ None) (sym c.self.view_is) c.requires.new in
-    rw c.in_ok-push.ensures.items
-    (HoldsCosts-put (record { behaviours = t.behaviours; actions = t.actions; listed = t.listed.items }) t.cells.items _ c.args.item c.self.invariant lb la c.requires.small new refl)
+    rw c.in_ok-push.ensures.items (HoldsCosts-put _ _ _ _ c.self.invariant lb la c.requires.small new refl)
