@@ -1,5 +1,5 @@
 -- The names that several proof pages of this crate cite, passed on from one place. Declares nothing.
-pub use Rattle.std.proofs.Common.{IsFalse, IsTrue, List, None, Some, [], add-one, ap, arith, cond, drop, get_or, inl, inr, length, refl, slice_index, subst, suc, sym, take, true, zero, ℕ, ◌++◌, ◌+◌, ◌-◌, ◌<◌, ◌==◌, ◌^◌, ◌∙◌, ◌∷◌, ◌≡◌, ◌≢◌, ◌≤◌}
+pub use Rattle.std.proofs.Common.{IsFalse, IsTrue, List, Some, [], add-one, ap, arith, cond, drop, get_or, inl, inr, length, refl, slice_index, subst, suc, sym, take, true, zero, ℕ, ◌++◌, ◌+◌, ◌-◌, ◌<◌, ◌==◌, ◌^◌, ◌∙◌, ◌∷◌, ◌≡◌, ◌≢◌, ◌≤◌}
 pub use Rattle.std.proofs.Math.Seq.{take-length}
 pub use Rattle.std.proofs.lemmas.Bool.{both_ways, cases_eq, cases_lt, cond-false, cond-true, eq-eqb, eqb-true, ne_eqb, not_from_false}
 pub use Rattle.std.proofs.lemmas.List.{get_or_past}
@@ -11,11 +11,10 @@ pub use Rattle.roman_model.specs.Arena.{Arena, loses}
 pub use Rattle.roman_model.specs.Lists.{below}
 pub use Rattle.roman_model.specs.Numbers.{count, pair_at, sizes_of}
 pub use Rattle.roman_model.specs.Offers.{is_related}
-pub use Rattle.roman_order.specs.Board.{Board, has_entry, pairs_of}
+pub use Rattle.roman_order.specs.Board.{has_entry}
 pub use Rattle.roman_relation.specs.Greatest.{arena_of}
 pub use Rattle.roman_rules.proofs.CallerLemmas.{in_nodes, numbered_arena}
 pub use Rattle.roman_rules.specs.Numbered.{IsNumbered}
 pub use Rattle.roman_text.proofs.CallerLemmas.{fill_failed, fill_more}
 pub use Rattle.roman_rank.specs.DepthText.{level_lines}
-pub use Rattle.roman_rank.specs.Depths.{IsGreatest}
-pub use Rattle.roman_rank.specs.Ranking.{AreCounts, AreRanks, AreRanksBelow, GivesLevel, HoldsAllLost, IsRank, IsRanking}
+pub use Rattle.roman_rank.specs.Ranking.{AreCounts, AreRanks, AreRanksBelow, GivesLevel, HoldsAllLost, IsRank}

@@ -1,5 +1,5 @@
 -- The levels of a list, assigned to its nodes.
-use Rattle.roman_rank.proofs.Common.{◌≡◌, ◌≢◌, ℕ, zero, suc, ◌+◌, ◌-◌, ◌^◌, ◌<◌, ◌≤◌, ◌==◌, true, List, [], ◌∷◌, ◌++◌, length, take, get_or, slice_index, Some, IsTrue, IsFalse, inl, inr, refl, sym, ap, ◌∙◌, subst, arith, add-one, max, take-length, both_ways, eqb-true, eq-eqb, cases_eq, cases_lt, get_or_past, Arena, loses, by_test, last_is_steady, IsNumbered, numbered_arena, in_nodes, has_entry, IsRank, AreRanks, AreRanksBelow, GivesLevel, HoldsAllLost}
+use Rattle.roman_rank.proofs.Common.{◌≡◌, ◌≢◌, ℕ, zero, suc, ◌+◌, ◌-◌, ◌^◌, ◌<◌, ◌≤◌, ◌==◌, true, List, [], ◌∷◌, ◌++◌, length, take, slice_index, Some, IsTrue, IsFalse, inl, inr, refl, sym, ap, ◌∙◌, subst, arith, add-one, max, take-length, both_ways, eqb-true, eq-eqb, cases_eq, cases_lt, get_or_past, Arena, loses, by_test, last_is_steady, IsNumbered, numbered_arena, in_nodes, has_entry, IsRank, AreRanks, AreRanksBelow, GivesLevel, HoldsAllLost}
 use Rattle.std.proofs.Common.{set, slice_get}
 use Rattle.std.specs.Prelude.{min}
 use Rattle.std.specs.List.{IsDistinct}
@@ -51,24 +51,11 @@ node_entry L i x e =
 -- one more entry's node is given the number
 pub gives_more : (L : List (Entry ℕ)) (start i n p : ℕ) (old now : List ℕ) → start ≤ i → slice_index (nodes_of L) i ≡ p → p < length now →
     GivesLevel L start i n old now → GivesLevel L start (i + 1) n old (set now p n)
-gives_more L start i n p old now from at l gives = record {
-  given = λ j f t. elim (cases_eq (slice_index (nodes_of L) j) p) [
-    | inl e ↦ ap (λ k. get_or (set now p n) k 0) e ∙ get_or-set_same now p n 0 l
-    | inr ne ↦
-        let other : j ≢ i = λ e. ne (ap (slice_index (nodes_of L)) e ∙ at) in
-        get_or-set_other now p (slice_index (nodes_of L) j) n 0 ne ∙ gives.given j f (omega arith)
-  ];
-  others = λ q apart.
-      let other : q ≢ p = λ e. apart i from (omega arith) (at ∙ sym e) in
-      get_or-set_other now p q n 0 other ∙ gives.others q (λ j f t. apart j f (omega arith));
-}
+gives_more L start i n p old now from at l gives = grind (arith, cases_eq, get_or-set_other, get_or-set_same)
 
 -- the nodes of all entries up to the end are given the number
 pub gives_all : (L : List (Entry ℕ)) (start end i n : ℕ) (old new : List ℕ) → end ≤ i → i ≤ max start end → GivesLevel L start i n old new → GivesLevel L start end n old new
-gives_all L start end i n old new past within gives = record {
-  given = λ j f t. gives.given j f (omega arith);
-  others = λ q apart. gives.others q (λ j f t. apart j f (omega arith));
-}
+gives_all L start end i n old new past within gives = grind arith
 
 -- a prefix of what is written back
 pub front_is : (n : ℕ) (xs ys : List ℕ) → length xs ≡ n → take n (xs ++ ys) ≡ xs
@@ -102,30 +89,27 @@ loses_before_more A (suc n) p f = loses_down A n (suc n) p (omega arith) f
 pub ranks_more : (A : Arena ℕ) → IsNumbered A → (levels : List ℕ) (L : List (Entry ℕ)) (n : ℕ) (old new : List ℕ) → AreLevels A levels L →
     IsDistinct (λ x y. x == y) (nodes_of L) → length (nodes_of L) ≡ length L → n < length levels → n < 2 ^ 32 - 1 → length new ≡ length old →
     GivesLevel L (start_of levels n) (slice_index levels n) n old new → AreRanksBelow A n old → AreRanksBelow A (suc n) new
-ranks_more A ok levels L n old new are apart long l few same gives below = record {
-  long = same ∙ below.long;
-  lost = λ p inside t. by_test (loses_before A n p)
-      (λ sooner.
-      let (less, is) = below.lost p inside sooner in
-      let kept = gives.others p (λ i from to e.
-      let (j, before, k, at) = entry_place L (start_of levels n) p (front_lost A ok levels L n p are (omega arith) inside ∙ sooner) in
-      one_place L j i apart (omega arith) (omega (arith, long, are.within n l)) (at ∙ sym e)) in
-      subst (λ d. (d < suc n) × IsRank A p d) (sym kept) (omega arith, is))
-      (λ now.
-      let (i, to, k, at) = entry_place L (slice_index levels n) p (front_lost A ok levels L (suc n) p are (omega arith) inside ∙ t) in
-      let from : start_of levels n ≤ i = elim (cases_lt i (start_of levels n)) [
-        | inl before ↦ absurd (both_ways (loses_before A n p) now (sym (front_lost A ok levels L n p are (omega arith) inside) ∙ place_entry L (start_of levels n) p i before k at))
-        | inr past ↦ past
-      ] in
-      let is : slice_index new p ≡ n = subst (λ q. slice_index new q ≡ n) at (gives.given i from to) in
-      let rank : IsRank A p n = inl (few, t, λ m less. loses_before_less A n m p less now) in
-      subst (λ d. (d < suc n) × IsRank A p d) (sym is) (omega arith, rank));
-  others = λ p inside f.
-      gives.others p (λ i from to e.
-      both_ways (loses A n p) f
-      (sym (front_lost A ok levels L (suc n) p are (omega arith) inside) ∙ place_entry L (slice_index levels n) p i to (omega (arith, are.within n l)) e))
-      ∙ below.others p inside (loses_before_more A n p f);
-}
+ranks_more A ok levels L n old new are apart long l few same gives below =
+    record {
+      long = same ∙ below.long;
+      lost = λ p inside t. by_test (loses_before A n p) (λ sooner.
+          let (less, is) = below.lost p inside sooner in
+          let kept = gives.others p (λ i from to e.
+          let (j, before, k, at) = entry_place L (start_of levels n) p (front_lost A ok levels L n p are (omega arith) inside ∙ sooner) in
+          one_place L j i apart (omega arith) (omega (arith, long, are.within n l)) (at ∙ sym e)) in
+          subst (λ d. (d < suc n) × IsRank A p d) (sym kept) (omega arith, is)) (λ now.
+          let (i, to, k, at) = entry_place L (slice_index levels n) p (front_lost A ok levels L (suc n) p are (omega arith) inside ∙ t) in
+          let from : start_of levels n ≤ i = elim (cases_lt i (start_of levels n)) [
+            | inl before ↦ absurd (both_ways (loses_before A n p) now (sym (front_lost A ok levels L n p are (omega arith) inside) ∙ place_entry L (start_of levels n) p i before k at))
+            | inr past ↦ past
+          ] in
+          let is : slice_index new p ≡ n = subst (λ q. slice_index new q ≡ n) at (gives.given i from to) in
+          let rank : IsRank A p n = inl (few, t, λ m less. loses_before_less A n m p less now) in
+          subst (λ d. (d < suc n) × IsRank A p d) (sym is) (omega arith, rank));
+      others = λ p inside f. gives.others p (λ i from to e. both_ways (loses A n p) f
+          (sym (front_lost A ok levels L (suc n) p are (omega arith) inside) ∙ place_entry L (slice_index levels n) p i to (omega (arith, are.within n l)) e))
+          ∙ below.others p inside (loses_before_more A n p f);
+    }
 
 -- after all levels, or after one more than there are nodes, each node has its rank
 pub ranks_all : (A : Arena ℕ) → IsNumbered A → (levels : List ℕ) (L : List (Entry ℕ)) (n : ℕ) (table : List ℕ) → AreLevels A levels L → HoldsAllLost A L →
@@ -158,7 +142,4 @@ ranks_all A ok levels L n table are all last below = record {
 
 -- ranks are numbers of 32 bits
 pub ranks_small : (A : Arena ℕ) (table : List ℕ) → AreRanks A table → (p : ℕ) → slice_index table p < 2 ^ 32
-ranks_small A table ranks p = elim (cases_lt p (length table)) [
-  | inl l ↦ elim (ranks.each p (subst (λ m. p < m) ranks.long l)) [ inl (few, lost, least) ↦ omega (arith, few) | inr (is, never) ↦ omega (arith, is) ]
-  | inr past ↦ let none : slice_index table p ≡ 0 = get_or_past table p 0 past in omega (arith, none)
-]
+ranks_small A table ranks p = grind (arith, cases_lt, get_or_past)

@@ -1,8 +1,9 @@
 -- Facts about a complete relation for ranking its pairs.
-use Rattle.roman_rank.proofs.Common.{◌≡◌, ℕ, ◌-◌, ◌^◌, ◌<◌, ◌≤◌, true, length, IsFalse, inl, inr, sym, ◌∙◌, subst, arith, not_from_false, Arena, sizes_of, count, pair_at, is_related, by_test, length-below, lost_unrelated, related_great, numbers_are_pairs, numbered_loses, loses_up, last_is_steady, system_of, Board, pairs_of, has_entry, arena_of, IsNumbered, numbered_arena, in_nodes, cases_lt, HoldsAllLost}
+use Rattle.roman_rank.proofs.Common.{◌≡◌, ℕ, ◌-◌, ◌^◌, ◌<◌, true, length, IsFalse, inl, inr, sym, ◌∙◌, subst, arith, not_from_false, Arena, sizes_of, count, pair_at, is_related, by_test, length-below, lost_unrelated, related_great, numbers_are_pairs, numbered_loses, loses_up, last_is_steady, system_of, has_entry, arena_of, IsNumbered, numbered_arena, in_nodes, cases_lt, HoldsAllLost}
 use Rattle.std.proofs.Math.Nat.{mul-le-mul_left}
 use Rattle.roman_model.proofs.CallerLemmas.{numbered_listed, settled_exact}
 use Rattle.roman_joint.specs.NamedSys.{NamedSys, IsNamedSys}
+use Rattle.roman_order.specs.Board.{Board, pairs_of}
 use Rattle.roman_relation.specs.Shaped.{IsShaped}
 use Rattle.roman_relation.specs.Settled.{IsSettled}
 use Rattle.roman_relation.specs.Greatest.{row_lanes, HasCompleteList}
@@ -11,10 +12,7 @@ use Rattle.roman_rules.proofs.CallerLemmas.{from_nodes}
 
 -- a joint has far fewer pairs than a number of 32 bits has values
 pub few_pairs : (n : NamedSys) → IsNamedSys n → length (arena_of n).nodes < 2 ^ 32 - 1
-few_pairs n known =
-    let m = count (sizes_of (system_of n)) in
-    let one : 1 ≤ (system_of n).env.actions = omega (arith, known.system.env.actions.0) in
-    omega (arith, length-below m, mul-le-mul_left m one, known.fits, known.limit.1)
+few_pairs n known = grind (arith, length-below, mul-le-mul_left)
 
 -- a complete list has every pair at which the opponent wins
 pub complete_all : (n : NamedSys) (board : Board) → IsNamedSys n → HasCompleteList n board → IsShaped (arena_of n) (row_lanes n) board → ((p : ℕ) → has_entry board.list p ≡ true → p < pairs_of board) →

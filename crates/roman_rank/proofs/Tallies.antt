@@ -42,37 +42,31 @@ count_place p (x ∷ xs) l = by_test (p x)
 
 -- a place without a depth is skipped
 pub counts_passed : (table counts : List ℕ) (i : ℕ) → i < length table → get_or table i 0 ≡ 2 ^ 32 - 1 → AreCounts (take i table) counts → AreCounts (take (i + 1) table) counts
-counts_passed table counts i l none are = record {
-  each = λ n k.
-      let other : get_or table i 0 ≢ n = λ e. absurd (omega (arith, none, e)) in
-      are.each n k ∙ sym (count_by_more_no (λ d. d == n) table i 0 l (ne_eqb (get_or table i 0) n other));
-  within = are.within;
-  last = are.last;
-}
+counts_passed table counts i l none are = grind (arith, count_by_more_no, ne_eqb)
 
 -- a depth is counted once more
 pub counts_more : (table counts new : List ℕ) (i d : ℕ) → i < length table → get_or table i 0 ≡ d → d < 2 ^ 32 - 1 → HasOneMore d counts new → AreCounts (take i table) counts → AreCounts (take (i + 1) table) new
-counts_more table counts new i d l is small more are = record {
-  each = λ n k. elim (cases_eq n d) [
-    | inl e ↦
-        let yes : (get_or table i 0 == n) ≡ true = eq-eqb (get_or table i 0) n (is ∙ sym e) in
-        ap (slice_index new) e ∙ (more.one ∙ (ap (λ m. m + 1) (ap (slice_index counts) (sym e) ∙ are.each n k) ∙ sym (count_by_more_yes (λ x. x == n) table i 0 l yes)))
-    | inr ne ↦
-        let other : get_or table i 0 ≢ n = λ e. ne (sym e ∙ is) in
-        more.others n ne ∙ (are.each n k ∙ sym (count_by_more_no (λ x. x == n) table i 0 l (ne_eqb (get_or table i 0) n other)))
-  ];
-  within = omega (arith, more.long, are.within);
-  last = λ some. elim (cases_lt d (length counts)) [
-    | inl old ↦
-        let same : length new ≡ length counts = omega (arith, more.long) in
-        let before : 0 < slice_index counts (length counts - 1) = are.last (omega arith) in
-        subst (λ m. 0 < slice_index new (m - 1)) (sym same)
-        (elim (cases_eq (length counts - 1) d) [
-          | inl e ↦ subst (λ m. 0 < slice_index new m) (sym e) (omega (arith, more.one))
-          | inr ne ↦ subst (λ m. 0 < m) (sym (more.others (length counts - 1) ne)) before
-        ])
-    | inr high ↦
-        let end : length new - 1 ≡ d = omega (arith, more.long) in
-        subst (λ m. 0 < slice_index new m) (sym end) (omega (arith, more.one))
-  ];
-}
+counts_more table counts new i d l is small more are =
+    record {
+      each = λ n k. elim (cases_eq n d) [
+        | inl e ↦
+            let yes : (get_or table i 0 == n) ≡ true = eq-eqb (get_or table i 0) n (is ∙ sym e) in
+            ap (slice_index new) e ∙ (more.one ∙ (ap (λ m. m + 1) (ap (slice_index counts) (sym e) ∙ are.each n k) ∙ sym (count_by_more_yes (λ x. x == n) table i 0 l yes)))
+        | inr ne ↦
+            let other : get_or table i 0 ≢ n = λ e. ne (sym e ∙ is) in
+            more.others n ne ∙ (are.each n k ∙ sym (count_by_more_no (λ x. x == n) table i 0 l (ne_eqb (get_or table i 0) n other)))
+      ];
+      within = omega (arith, more.long, are.within);
+      last = λ some. elim (cases_lt d (length counts)) [
+        | inl old ↦
+            let same : length new ≡ length counts = omega (arith, more.long) in
+            let before : 0 < slice_index counts (length counts - 1) = are.last (omega arith) in
+            subst (λ m. 0 < slice_index new (m - 1)) (sym same) (elim (cases_eq (length counts - 1) d) [
+              | inl e ↦ subst (λ m. 0 < slice_index new m) (sym e) (omega (arith, more.one))
+              | inr ne ↦ subst (λ m. 0 < m) (sym (more.others (length counts - 1) ne)) before
+            ])
+        | inr high ↦
+            let end : length new - 1 ≡ d = omega (arith, more.long) in
+            subst (λ m. 0 < slice_index new m) (sym end) (omega (arith, more.one))
+      ];
+    }

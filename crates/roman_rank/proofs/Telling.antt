@@ -1,6 +1,6 @@
 -- What a table of depths states about its system.
-use Rattle.roman_rank.proofs.Common.{◌≡◌, ◌≢◌, ℕ, zero, suc, ◌+◌, ◌-◌, ◌^◌, ◌<◌, ◌≤◌, ◌==◌, cond, List, [], ◌++◌, length, drop, get_or, slice_index, None, Some, IsTrue, IsFalse, inl, inr, refl, sym, ap, ◌∙◌, subst, arith, add-one, count_by, both_ways, cases_lt, cond-true, cond-false, eqb-true, eq-eqb, ne_eqb, not_from_false, get_or_past, below, loses, sizes_of, count, pair_at, is_related, by_test, loses_up, lost_unrelated, related_great, numbers_are_pairs, numbered_loses, IsGreatest, IsRanking, IsRank, AreRanks, level_lines}
-use Rattle.std.proofs.Common.{◌⊎◌, ◌↔◌, not, filter, flat_map, Option, Result, ap₂, append_assoc, append-nil, drop-cons}
+use Rattle.roman_rank.proofs.Common.{◌≡◌, ◌≢◌, ℕ, zero, suc, ◌+◌, ◌-◌, ◌^◌, ◌<◌, ◌≤◌, ◌==◌, cond, List, [], ◌++◌, length, drop, get_or, slice_index, Some, IsTrue, IsFalse, inl, inr, refl, sym, ap, ◌∙◌, subst, arith, add-one, count_by, both_ways, cases_lt, cond-true, cond-false, eqb-true, eq-eqb, ne_eqb, not_from_false, get_or_past, below, loses, sizes_of, count, pair_at, is_related, by_test, loses_up, lost_unrelated, related_great, numbers_are_pairs, numbered_loses, IsRank, AreRanks, level_lines}
+use Rattle.std.proofs.Common.{◌⊎◌, ◌↔◌, not, filter, flat_map, Option, None, Result, ap₂, append_assoc, append-nil, drop-cons}
 use Rattle.std.specs.Prelude.{IfSome}
 use Rattle.std.proofs.lemmas.Bool.{cases_order, and_from, and_parts, not-true}
 use Rattle.std.proofs.Math.Seq.{drop-length}
@@ -15,8 +15,8 @@ use Rattle.roman_model.specs.Composition.{Great}
 use Rattle.roman_model.specs.Numbers.{number, numbered}
 use Rattle.roman_model.specs.Offers.{related_count}
 use Rattle.roman_model.proofs.CallerLemmas.{same_test, in_filter, filter_in, all_below_at, all_below_from, HasNoRepeats-filter, depth_won, depth_least, in_pairs, from_pairs, pairs_once, outcome_pair, great_related, length-pairs, sum_over_pairs, flat_map_row}
-use Rattle.roman_rank.specs.Depths.{IsLeast, IsDepth, has_depth, depth_count, IsDeepest, HoldsOut, IsShortest}
-use Rattle.roman_rank.specs.Ranking.{depth_in, AreDepths}
+use Rattle.roman_rank.specs.Depths.{IsLeast, IsDepth, has_depth, depth_count, IsGreatest, IsDeepest, HoldsOut, IsShortest}
+use Rattle.roman_rank.specs.Ranking.{depth_in, AreDepths, IsRanking}
 use Rattle.roman_rank.specs.DepthText.{head_lines, level_line, last_lines, depths_to, AreRelated, TellsDepths, PutsDepths}
 use Rattle.roman_rank.proofs.Tallies.{count_places, count_there, count_place}
 
@@ -30,45 +30,28 @@ rank_depth s p d ok l (inl (few, lost, least)) =
     (record { lost = sym (numbered_loses s d p ok l) ∙ lost; no_sooner = λ m less. sym (numbered_loses s m p ok l) ∙ least m less })
 rank_depth s p d ok l (inr (is, never)) =
     let q = pair_at (sizes_of s) p in
-    subst (IsDepth s q) (sym (cond-true (d == 2 ^ 32 - 1) None (Some d) (eq-eqb d (2 ^ 32 - 1) is)))
-    (related_great s q ok ((numbers_are_pairs s).pair p l)
+    subst (IsDepth s q) (sym (cond-true (d == 2 ^ 32 - 1) None (Some d) (eq-eqb d (2 ^ 32 - 1) is))) (related_great s q ok ((numbers_are_pairs s).pair p l)
     (not_from_false (loses (arena s) (length (pairs s)) q) (sym (numbered_loses s (length (pairs s)) p ok l) ∙ never (length (pairs s)))))
 
 -- a table of ranks is a table of depths
 pub ranks_depths : (s : Sys) (table : List ℕ) → IsSys s → length (numbered s).nodes ≡ count (sizes_of s) → AreRanks (numbered s) table → AreDepths s table
-ranks_depths s table ok nodes ranks = record {
-  system = ok;
-  long = ranks.long ∙ nodes;
-  each = λ p l. rank_depth s p (slice_index table p) ok l (ranks.each p (subst (λ m. p < m) (sym nodes) l));
-}
+ranks_depths s table ok nodes ranks = grind (arith, rank_depth)
 
 -- the table has no depth of a related pair, and the depth of any other pair
 pub depth_cases : (s : Sys) (table : List ℕ) (p : ℕ) → AreDepths s table → p < count (sizes_of s) →
     ((slice_index table p ≡ 2 ^ 32 - 1) × Great s (pair_at (sizes_of s) p)) ⊎ ((slice_index table p ≢ 2 ^ 32 - 1) × IsLeast s (pair_at (sizes_of s) p) (slice_index table p))
-depth_cases s table p are l =
-    let d = slice_index table p in
-    by_test (d == 2 ^ 32 - 1)
-    (λ t. inl (eqb-true d (2 ^ 32 - 1) t, subst (IsDepth s (pair_at (sizes_of s) p)) (cond-true (d == 2 ^ 32 - 1) None (Some d) t) (are.each p l)))
-    (λ f. inr (λ e. both_ways (d == 2 ^ 32 - 1) f (eq-eqb d (2 ^ 32 - 1) e), subst (IsDepth s (pair_at (sizes_of s) p)) (cond-false (d == 2 ^ 32 - 1) None (Some d) f) (are.each p l)))
+depth_cases s table p are l = grind (arith, both_ways, by_test, cond-false, cond-true, eq-eqb, eqb-true)
 
 least_unrelated : (s : Sys) (p : Pair) (n : ℕ) → IsSys s → IsLeast s p n → Great s p → ⊥
 least_unrelated s p n ok least great = lost_unrelated s n p ok least.lost great
 
 least_once : (s : Sys) (p : Pair) (m n : ℕ) → IsLeast s p m → IsLeast s p n → m ≡ n
-least_once s p m n one two = elim (cases_order m n) [
-  | inl e ↦ e
-  | inr other ↦ elim other [
-    | inl less ↦ absurd (both_ways (loses (arena s) m p) (two.no_sooner m less) one.lost)
-    | inr more ↦ absurd (both_ways (loses (arena s) n p) (one.no_sooner n more) two.lost)
-  ]
-]
+least_once s p m n one two = grind (arith, both_ways, cases_order)
 
 -- ---- counts
 
 least_has : (s : Sys) (p : Pair) (n : ℕ) → IsLeast s p n → IsTrue (has_depth s n p)
-least_has s p n least =
-    and_from (loses (arena s) n p) (all_below (λ m. not (loses (arena s) m p)) n) least.lost
-    (all_below_from (λ m. not (loses (arena s) m p)) n (λ m l. not_from_false (loses (arena s) m p) (least.no_sooner m l)))
+least_has s p n least = grind (arith, all_below_from, and_from, not_from_false)
 
 has_least : (s : Sys) (p : Pair) (n : ℕ) → IsTrue (has_depth s n p) → IsLeast s p n
 has_least s p n t =
@@ -122,32 +105,32 @@ by_number : (s : Sys) (P : Pair → Type 0) → ((i : ℕ) → i < count (sizes_
 by_number s P each p pair = subst P ((numbers_are_pairs s).back p pair) (each (number (sizes_of s) p) ((numbers_are_pairs s).below p pair))
 
 pub none_deep : (s : Sys) (table counts : List ℕ) → AreDepths s table → IsRanking table counts → length counts ≡ 0 → (p : Pair) → IsPair s p → Great s p
-none_deep s table counts are ranking empty = by_number s (Great s)
-    (λ i l. elim (depth_cases s table i are l) [
+none_deep s table counts are ranking empty =
+    by_number _ _ (λ i l. elim (depth_cases _ _ _ are l) [
       | inl (none, great) ↦ great
-      | inr (some, least) ↦ absurd (omega (arith, empty, within_counts table counts i ranking (subst (λ m. i < m) (sym are.long) l) some))
+      | inr (some, least) ↦ absurd (omega (arith, empty, within_counts _ _ _ ranking (subst (λ m. i < m) (sym are.long) l) some))
     ])
 
 pub last_greatest : (s : Sys) (table counts : List ℕ) → AreDepths s table → IsRanking table counts → 0 < length counts → IsGreatest s (length counts - 1)
-last_greatest s table counts are ranking some = record {
-  some =
-      let n = length counts - 1 in
-      let few : n < 2 ^ 32 - 1 = omega (arith, ranking.counted.within) in
-      let counted : 0 < count_by (λ d. d == n) table = subst (λ m. 0 < m) (ranking.counted.each n few) (ranking.counted.last some) in
-      let (i, l, t) = count_place (λ d. d == n) table counted in
-      let inside : i < count (sizes_of s) = subst (λ m. i < m) are.long l in
-      elim (depth_cases s table i are inside) [
-        | inl (none, great) ↦ absurd (omega (arith, none, eqb-true (get_or table i 0) n t, few))
-        | inr (deep, least) ↦ (pair_at (sizes_of s) i, (numbers_are_pairs s).pair i inside, subst (IsLeast s (pair_at (sizes_of s) i)) (eqb-true (get_or table i 0) n t) least)
-      ];
-  all = by_number s (λ p. Great s p ⊎ IsTrue (loses (arena s) (length counts - 1) p))
-      (λ i l. elim (depth_cases s table i are l) [
+last_greatest s table counts are ranking some =
+    record {
+      some =
+          let n = length counts - 1 in
+          let few : n < 2 ^ 32 - 1 = omega (arith, ranking.counted.within) in
+          let counted : 0 < count_by (λ d. d == n) table = subst (λ m. 0 < m) (ranking.counted.each n few) (ranking.counted.last some) in
+          let (i, l, t) = count_place (λ d. d == n) table counted in
+          let inside : i < count (sizes_of s) = subst (λ m. i < m) are.long l in
+          elim (depth_cases s table i are inside) [
+            | inl (none, great) ↦ absurd (omega (arith, none, eqb-true (get_or table i 0) n t, few))
+            | inr (deep, least) ↦ (pair_at (sizes_of s) i, (numbers_are_pairs s).pair i inside, subst (IsLeast s (pair_at (sizes_of s) i)) (eqb-true (get_or table i 0) n t) least)
+          ];
+      all = by_number s (λ p. Great s p ⊎ IsTrue (loses (arena s) (length counts - 1) p)) (λ i l. elim (depth_cases s table i are l) [
         | inl (none, great) ↦ inl great
         | inr (deep, least) ↦
             let less = within_counts table counts i ranking (subst (λ m. i < m) (sym are.long) l) deep in
             inr (loses_up (arena s) (slice_index table i) (length counts - 1) (pair_at (sizes_of s) i) (omega (arith, less)) least.lost)
       ]);
-}
+    }
 
 -- where there is a greatest depth some pair isn't related
 pub greatest_unrelated : (s : Sys) (n : ℕ) → IsSys s → IsGreatest s n → ((p : Pair) → IsPair s p → Great s p) → ⊥
@@ -166,10 +149,7 @@ holds_out s (suc n) p ok pair f = (
 )
 
 pub least_shortest : (s : Sys) (p : Pair) (n : ℕ) → IsSys s → IsPair s p → IsLeast s p n → IsShortest s p n
-least_shortest s p n ok pair least = record {
-  wins = depth_won s ok p pair n (((depth_least s ok p pair).least n).1 (least.lost, least.no_sooner));
-  holds_out = λ m l. holds_out s m p ok pair (least.no_sooner m l);
-}
+least_shortest s p n ok pair least = grind (arith, depth_least, depth_won, holds_out)
 
 -- ---- the text
 
@@ -178,8 +158,7 @@ pub lines_split : (f : ℕ → List ℕ) (counts : List ℕ) (k : ℕ) → k ≤
     level_lines 0 counts ≡ flat_map f (below k) ++ level_lines k (drop k counts)
 lines_split f counts zero l same = refl
 lines_split f counts (suc k) l same =
-    lines_split f counts k (omega arith) same
-    ∙ (ap (λ cs. flat_map f (below k) ++ level_lines k cs) (drop-cons counts k 0 (omega arith))
+    lines_split f counts k (omega arith) same ∙ (ap (λ cs. flat_map f (below k) ++ level_lines k cs) (drop-cons counts k 0 (omega arith))
     ∙ (ap (λ line. flat_map f (below k) ++ (line ++ level_lines (suc k) (drop (suc k) counts))) (sym (same k (omega arith)))
     ∙ (sym (append_assoc (flat_map f (below k)) (f k) (level_lines (suc k) (drop (suc k) counts)))
     ∙ ap (λ xs. xs ++ level_lines (suc k) (drop (suc k) counts)) (sym (flat_map_row f k)))))
@@ -211,16 +190,7 @@ shortest_told s p (Some n) ok pair least = least_shortest s p n ok pair least
 
 -- the pairs that pass the test are the related ones
 related_are : (s : Sys) → IsSys s → AreRelated s (filter (is_related s) (pairs s))
-related_are s ok = record {
-  once = HasNoRepeats-filter (is_related s) (pairs s) (pairs_once s);
-  each = λ p. (
-    λ i.
-        let (j, related) = filter_in (is_related s) p (pairs s) i in
-        let pair = from_pairs s p j in
-        (pair, related_great s p ok pair related),
-    λ (pair, great). in_filter (is_related s) p (pairs s) (in_pairs s p pair) (great_related s p ok great),
-  );
-}
+related_are s ok = grind (arith, HasNoRepeats-filter, filter_in, from_pairs, great_related, in_filter, in_pairs, pairs_once, related_great)
 
 -- the text by a table states the depths
 pub table_tells : (s : Sys) (table counts : List ℕ) (p related : ℕ) (start : Option ℕ) → AreDepths s table → IsRanking table counts → p < length table →
@@ -238,8 +208,7 @@ table_tells s table counts p related start are ranking l is e =
       start = start;
       depth = depth;
       least = shortest_told s (pair_at (sizes_of s) p) start are.system ((numbers_are_pairs s).pair p inside) depth;
-      says =
-          ap₂ (λ head lines. head ++ lines ++ last_lines start) (ap₂ head_lines (are.long ∙ sym (length-pairs s)) is)
+      says = ap₂ (λ head lines. head ++ lines ++ last_lines start) (ap₂ head_lines (are.long ∙ sym (length-pairs s)) is)
           (lines_told s table counts are ranking ∙ ap (flat_map f) (depths_told (length counts)));
     }
 
@@ -247,28 +216,16 @@ table_tells s table counts p related start are ranking l is e =
 pub told_puts : {T E : Type 0} (s : Sys) (table counts : List ℕ) (p pairs related : ℕ) (start : Option ℕ) (old new : Option (List ℕ)) (result : Result T E) → AreDepths s table → IsRanking table counts → p < length table →
     pairs ≡ length table → related ≡ related_count s → start ≡ depth_in table p → Puts old new (head_lines pairs related ++ level_lines 0 counts ++ last_lines start) result →
     PutsDepths s (pair_at (sizes_of s) p) old new result
-told_puts s table counts p pairs related start old new result are ranking l long is e puts = record {
-  text = head_lines pairs related ++ level_lines 0 counts ++ last_lines start;
-  tells = subst (λ n. TellsDepths s (pair_at (sizes_of s) p) (head_lines n related ++ level_lines 0 counts ++ last_lines start)) (sym long) (table_tells s table counts p related start are ranking l is e);
-  puts = puts;
-}
+told_puts s table counts p pairs related start old new result are ranking l long is e puts = grind (arith, table_tells)
 
 -- ---- the results of the calls
 
 -- the depth of a pair
 pub depth_is_least : (s : Sys) (table : List ℕ) (p : ℕ) (o : Option ℕ) → AreDepths s table → p < length table → o ≡ depth_in table p → IfSome o (IsLeast s (pair_at (sizes_of s) p))
-depth_is_least s table p o are l e = by_depth o (subst (IsDepth s (pair_at (sizes_of s) p)) (sym e) (are.each p (subst (λ m. p < m) are.long l)))
-  where
-    by_depth : (o : Option ℕ) → IsDepth s (pair_at (sizes_of s) p) o → IfSome o (IsLeast s (pair_at (sizes_of s) p))
-    by_depth None great = tt
-    by_depth (Some n) least = least
+depth_is_least s table p o are l e = grind arith
 
 pub depth_is_none : (s : Sys) (table : List ℕ) (p : ℕ) (o : Option ℕ) → AreDepths s table → p < length table → o ≡ depth_in table p → (o ≡ None) ↔ Great s (pair_at (sizes_of s) p)
-depth_is_none s table p o are l e = by_depth o (subst (IsDepth s (pair_at (sizes_of s) p)) (sym e) (are.each p (subst (λ m. p < m) are.long l)))
-  where
-    by_depth : (o : Option ℕ) → IsDepth s (pair_at (sizes_of s) p) o → (o ≡ None) ↔ Great s (pair_at (sizes_of s) p)
-    by_depth None great = (λ _. great, λ _. refl)
-    by_depth (Some n) least = (λ f. absurd (none-some n (sym f)), λ great. absurd (least_unrelated s (pair_at (sizes_of s) p) n are.system least great))
+depth_is_none s table p o are l e = grind (arith, least_unrelated, none-some)
 
 pub some_depth : (table : List ℕ) (p d : ℕ) → d ≡ slice_index table p → d ≢ 2 ^ 32 - 1 → Some d ≡ depth_in table p
 some_depth table p d is other =

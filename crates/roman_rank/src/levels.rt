@@ -59,6 +59,7 @@ fn give_depth(order: &Order, depths: &mut [u32], start: u32, end: u32, n: u32, n
 
 /// Returns the depth of each pair, or `u32::MAX` for a related pair. Runs the rounds anew, on a list of
 /// its own. Fails only when out of memory.
+#[tactic(auto, using(crate::proofs::Systems::settled_all))]
 pub(crate) fn depths_anew<J: Rules, L: Ledger>(
     alloc: Global,
     joint: &J,

@@ -72,6 +72,7 @@ impl Ranks {
     /// Returns the least number of requests within which the opponent wins from the pair `p`. This is 0
     /// where clause 2 of an ND-simulation fails at the pair. Returns `None` exactly where the pair is
     /// related.
+    #[tactic(auto, using(crate::proofs::Telling::depth_is_none, std::proofs::lemmas::List::get_or_read, crate::proofs::Telling::some_depth))]
     pub fn depth(&self, p: u32) -> Option<u32>
         requires { p < length self.now }
         ensures value { result ≡ depth_in self.now p }
@@ -101,6 +102,7 @@ impl Ranks {
     }
 
     /// Returns the number of related pairs of the system.
+    #[tactic(auto, using(crate::proofs::Telling::related_counted))]
     pub fn related(&self) -> u32
         ensures { (s : Sys) → AreDepths s self.now → result ≡ related_count s }
     {
@@ -116,6 +118,7 @@ impl Ranks {
 }
 
 /// Returns the depth of each pair, or `u32::MAX` for a related pair. Fails only when out of memory.
+#[tactic(auto, using(crate::proofs::Systems::few_pairs, crate::proofs::Systems::complete_all))]
 fn depths_of<L: Ledger>(
     alloc: Global,
     relation: &Relation,

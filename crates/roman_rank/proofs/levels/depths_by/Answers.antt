@@ -18,8 +18,7 @@ loop-n-preserved g c =
     let few : n < 2 ^ 32 - 1 = omega (arith, c.loop-n-test.true, c.min-count.ensures, c.pairs-pairs.ensures, c.requires.few) in
     let within : n < length levels = omega (arith, c.loop-n-test.true, c.min-count.ensures, ap length c.levels.ensures) in
     let gives : GivesLevel L (start_of levels n) (slice_index levels n) n old new =
-    subst (λ xs. GivesLevel L (start_of levels n) (slice_index levels n) n xs new) lent
-    (subst (λ k. GivesLevel L (start_of levels n) k n c.deref_mut.result.now new) end
+    subst (λ xs. GivesLevel L (start_of levels n) (slice_index levels n) n xs new) lent (subst (λ k. GivesLevel L (start_of levels n) k n c.deref_mut.result.now new) end
     (subst (λ k. GivesLevel L k (slice_index c.levels-in-loop-n.result.now n) n c.deref_mut.result.now new) c.loop-n.invariant.start c.give_depth-near.ensures)) in
     record {
       start = end ∙ sym (start_next levels n);

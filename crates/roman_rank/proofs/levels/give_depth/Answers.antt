@@ -1,6 +1,6 @@
 use Rattle.roman_rank.proofs.Common.{◌<◌, length, refl, arith}
 use Rattle.roman_order.specs.Board.{as_entry}
-use Rattle.roman_rank.proofs.Giving.{node_at, node_entry, gives_more, gives_all}
+use Rattle.roman_rank.proofs.Giving.{node_at, node_entry, gives_more}
 use Rattle.roman_rank.proofs.levels.give_depth.Goals as goal
 
 pub bounds-depths-pair : goal.bounds-depths-pair
@@ -25,6 +25,3 @@ loop-i-preserved c =
       within = omega arith;
       ahead = c.walk-pair.ensures.ahead;
     }
-
-pub returns : goal.returns
-returns c = gives_all c.args.order.now.list c.args.start c.args.end c.loop-i.i c.args.n c.args.depths.now c.loop-i.depths (omega arith) c.loop-i.invariant.within c.loop-i.invariant.gives

@@ -1,6 +1,6 @@
 use Rattle.roman_rank.proofs.Common.{◌∙◌, arith, err_from_is_err_and, fill_more, fill_failed}
-use Rattle.roman_text.proofs.CallerLemmas.{fill_same, fill_end}
-use Rattle.roman_rank.proofs.Telling.{next_line, end_lines}
+use Rattle.roman_text.proofs.CallerLemmas.{fill_same}
+use Rattle.roman_rank.proofs.Telling.{next_line}
 use Rattle.roman_rank.proofs.text.push_levels.Goals as goal
 
 pub returns-in_err-push-clause-gathers : goal.returns-in_err-push-clause-gathers
@@ -16,7 +16,3 @@ loop-n-preserved g c =
       filling = fill_more _ _ _ _ _ _ _ _ (fill_same _ _ _ _ _ _ next c.loop-n.invariant.filling) c.in_ok-push.ensures.gathers;
       cause = c.in_ok-push.ensures.cause.stays ∙ c.loop-n.invariant.cause;
     }
-
-pub returns-clause-gathers : goal.returns-clause-gathers
-returns-clause-gathers g c =
-    fill_end _ _ _ _ (fill_same _ _ _ _ _ _ (end_lines c.args.counts.now c.loop-n.n (omega (arith, c.loop-n-test.false))) c.loop-n.invariant.filling)
