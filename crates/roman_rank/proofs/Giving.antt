@@ -53,10 +53,6 @@ pub gives_more : (L : List (Entry ℕ)) (start i n p : ℕ) (old now : List ℕ)
     GivesLevel L start i n old now → GivesLevel L start (i + 1) n old (set now p n)
 gives_more L start i n p old now from at l gives = grind (arith, cases_eq, get_or-set_other, get_or-set_same)
 
--- the nodes of all entries up to the end are given the number
-pub gives_all : (L : List (Entry ℕ)) (start end i n : ℕ) (old new : List ℕ) → end ≤ i → i ≤ max start end → GivesLevel L start i n old new → GivesLevel L start end n old new
-gives_all L start end i n old new past within gives = grind arith
-
 -- a prefix of what is written back
 pub front_is : (n : ℕ) (xs ys : List ℕ) → length xs ≡ n → take n (xs ++ ys) ≡ xs
 front_is n xs ys e = ap (λ m. take m (xs ++ ys)) (sym e) ∙ take-append_seam xs ys

@@ -245,9 +245,6 @@ next_line counts n bytes l e =
     ap (level_lines n) (drop-cons counts n 0 l)
     ∙ (ap (λ line. line ++ level_lines (suc n) (drop (suc n) counts)) (sym e) ∙ ap (λ m. bytes ++ level_lines m (drop m counts)) (sym (add-one n)))
 
-pub end_lines : (counts : List ℕ) (n : ℕ) → length counts ≤ n → level_lines n (drop n counts) ≡ []
-end_lines counts n l = ap (level_lines n) (drop_all n counts l)
-
 -- the pieces of the text
 pub whole_pieces : (head lines last one three : List ℕ) → one ≡ head → three ≡ last → one ++ (lines ++ (three ++ [])) ≡ head ++ lines ++ last
 whole_pieces head lines last one three e f =

@@ -1,5 +1,7 @@
 -- Writing advice by accepted costs as part of a run.
-use Rattle.roman_top.proofs.Common.{◌≡◌, ◌≢◌, ◌↔◌, ℕ, ◌*◌, ◌<◌, ◌≤◌, inl, inr, Bool, IsTrue, IsFalse, List, Option, Some, IfSome, Result, Ok, Err, refl, sym, ap, ◌∙◌, subst, cond-true, cond-false, lt-ltb, cases_lt, Texts, Puts, Sys, Pair, IsSys, sizes_of, count, pair_at, is_related, related_count, by_test, related_great, great_related, numbers_are_pairs, PartError, NamedSys, system_of, PlainLibrary, parts_of, start_pair_of, IsSeated, Seated, Advising, Unrelated, TooMany, Told, advice_text, advised_by, Listed, SaysAdvice, OnCosts, GivesAdvice, SinkCause, Advise, On, IsAnswered, Accepts, Opens, Finishes, EndsBare, IsSpoken, Writes, WritesText, document_opening, OnOpening, ServedBeside, outputs, Status}
+use Rattle.roman_top.proofs.Common.{◌≡◌, ◌≢◌, ◌↔◌, ℕ, ◌*◌, ◌<◌, ◌≤◌, Bool, IsTrue, IsFalse, List, Option, Some, IfSome, Result, Ok, Err, refl, sym, ap, ◌∙◌, subst, arith, cond-true, cond-false, lt-ltb, cases_lt, Texts, Puts, Sys, Pair, IsSys, sizes_of, count, pair_at, is_related, related_count, by_test, related_great, great_related, numbers_are_pairs, NamedSys, system_of, PlainLibrary, parts_of, start_pair_of, IsSeated, Seated, Advising, Unrelated, TooMany, Told, advice_text, advised_by, Listed, SaysAdvice, GivesAdvice, SinkCause, Advise, On, IsAnswered, Accepts, Opens, Finishes, EndsBare, IsSpoken, Writes, WritesText, document_opening, OnOpening, ServedBeside, outputs, Status}
+use Rattle.roman_parts.specs.declared.error.PartError.{PartError}
+use Rattle.roman_top.specs.Advice.{OnCosts}
 use Rattle.std.proofs.lemmas.Bool.{le-ltb}
 use Rattle.roman_model.specs.Composition.{Great}
 use Rattle.roman_model.proofs.CallerLemmas.{same_test}
@@ -27,21 +29,14 @@ pub advised_unrelated : (n : NamedSys) (listed : List Listed) (h : ℕ) (p : Pai
 advised_unrelated n listed h p unrelated = cond-false (is_related (system_of n) p) _ Unrelated unrelated
 
 pub advised_many : (n : NamedSys) (listed : List Listed) (h : ℕ) (p : Pair) → IsTrue (is_related (system_of n) p) → MAX_VALUES < related_count (system_of n) * h → advised_by n listed h p ≡ TooMany
-advised_many n listed h p related many =
-    cond-true (is_related (system_of n) p) _ Unrelated related
-    ∙ cond-true _ TooMany (Told (advice_text n listed h p)) (lt-ltb MAX_VALUES (related_count (system_of n) * h) many)
+advised_many n listed h p related many = grind (arith, cond-true, lt-ltb)
 
 pub advised_told : (n : NamedSys) (listed : List Listed) (h : ℕ) (p : Pair) → IsTrue (is_related (system_of n) p) → related_count (system_of n) * h ≤ MAX_VALUES → advised_by n listed h p ≡ Told (advice_text n listed h p)
-advised_told n listed h p related few =
-    cond-true (is_related (system_of n) p) _ Unrelated related
-    ∙ cond-false _ TooMany (Told (advice_text n listed h p)) (le-ltb MAX_VALUES (related_count (system_of n) * h) few)
+advised_told n listed h p related few = grind (arith, cond-false, cond-true, le-ltb)
 
 -- there are few enough values where the limit isn't reported
 pub few_values : {X : Type 0} (s : Sys) (h : ℕ) (built : Result X AdviceError) → (built ≡ Err advice_error.Limit → ⊥) → ((built ≡ Err advice_error.Limit) ↔ (MAX_VALUES < related_count s * h)) → related_count s * h ≤ MAX_VALUES
-few_values s h built other limit = elim (cases_lt MAX_VALUES (related_count s * h)) [
-  | inl many ↦ absurd (other (limit.1 many))
-  | inr few ↦ few
-]
+few_values s h built other limit = grind (arith, cases_lt)
 
 -- the text of the advice was put
 pub advice_put : {T E : Type 0} (advising is : Advising) (text : List ℕ) (ends : Status) (old new : Option (List ℕ)) (result : Status) (r : Result T E) → advising ≡ is → SaysAdvice is text ends →
@@ -55,12 +50,6 @@ pub advice_moved : (n m : NamedSys) (listed : List Listed) (h start : ℕ) (old 
 advice_moved n m listed h start old new result same writes = subst (λ (n : NamedSys). Writes (SaysAdvice (advised_by n listed h (pair_at (sizes_of (system_of n)) start))) old new result) same writes
 
 -- ---- how the parts end
-
--- accepted and refused costs
-pub read_caused : (read known : Result CostTable CostError) (old new : Option (List ℕ)) (result : Status) → read ≡ known → ((n n_now : ℕ) → HasCostCause n n_now known → n_now ≡ n) → IsSpoken old new result →
-    CausedByRead read result
-read_caused read known old new result is stays spoken n n_now caused =
-    spoken_shelf old new n n_now result spoken (stays n n_now (subst (λ (r : Result CostTable CostError). HasCostCause n n_now r) is caused))
 
 pub read_writes : (name : List ℕ) (n : NamedSys) (requests : ℕ) (p : Pair) (read known : Result CostTable CostError) (old new : Option (List ℕ)) (result : Status) → read ≡ known →
     Writes (TellsRead name n requests p known) old new result → Writes (TellsRead name n requests p read) old new result
@@ -129,14 +118,8 @@ advising_answered (Told told) text result few says = subst IsAnswered (sym says.
 
 -- few values aren't too many
 few_advised : (n : NamedSys) (listed : List Listed) (h : ℕ) (p : Pair) → related_count (system_of n) * h ≤ MAX_VALUES → advised_by n listed h p ≢ TooMany
-few_advised n listed h p few many = by_test (is_related (system_of n) p)
-    (λ related. let e : TooMany ≡ Told (advice_text n listed h p) = sym many ∙ advised_told n listed h p related few in absurd (let f : ⊥ = cc in f))
-    (λ unrelated. let e : TooMany ≡ Unrelated = sym many ∙ advised_unrelated n listed h p unrelated in absurd (let f : ⊥ = cc in f))
+few_advised n listed h p few many = grind (arith, advised_told, advised_unrelated, by_test)
 
 -- where the costs are accepted and the values are few, advice is answered
 pub advice_answered : (name : List ℕ) (requests : ℕ) (texts : Texts) (library : PlainLibrary) (text : List ℕ) (result : Status) → Affords name requests texts library → GivesAdvice name requests texts library text result → IsAnswered result
-advice_answered name requests texts library text result affords gives =
-    let n = parts_of library in
-    let says : SaysAdvice (advised_by n affords.listed requests (start_pair_of library)) text result =
-    subst (λ (r : Result (List Listed) PartError). OnCosts name (λ listed. SaysAdvice (advised_by n listed requests (start_pair_of library))) r text result) affords.read gives in
-    advising_answered (advised_by n affords.listed requests (start_pair_of library)) text result (few_advised n affords.listed requests (start_pair_of library) affords.few) says
+advice_answered name requests texts library text result affords gives = grind (arith, advising_answered, few_advised)

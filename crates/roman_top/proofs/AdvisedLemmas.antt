@@ -1,5 +1,5 @@
 -- The text of `advise` is right by the greatest ND-simulation and by plans.
-use Rattle.roman_top.proofs.Common.{ℕ, List, Result, filter, sym, subst, Texts, Pair, IsSys, IsPair, pairs, is_related, by_test, related_great, great_related, PartError, NamedSys, system_of, PlainLibrary, parts_of, start_pair_of, Advising, advised_by, Listed, SaysAdvice, OnCosts, GivesAdvice, Status}
+use Rattle.roman_top.proofs.Common.{ℕ, List, filter, sym, subst, arith, Texts, Pair, IsSys, IsPair, pairs, is_related, by_test, related_great, great_related, NamedSys, system_of, PlainLibrary, parts_of, start_pair_of, Advising, advised_by, Listed, SaysAdvice, GivesAdvice, Status}
 use Rattle.roman_cost.specs.Laws.{TellsLeast}
 use Rattle.roman_cost.specs.Tables.{seat_costs}
 use Rattle.roman_cost.proofs.CallerLemmas.{advice_least}
@@ -23,10 +23,4 @@ advises_by n listed requests p text result ok pair says = record {
 
 pub keeps_advice : (costs : List ℕ) (requests : ℕ) (texts : Texts) (library : PlainLibrary) (text : List ℕ) (result : Status) →
     IsSys (system_of (parts_of library)) → IsPair (system_of (parts_of library)) (start_pair_of library) → GivesAdvice costs requests texts library text result → KeepsAdvice costs requests texts library text result
-keeps_advice costs requests texts library text result ok pair gives = record {
-  refused = λ error e. subst (λ (read : Result (List Listed) PartError). OnCosts costs Work read text result) e gives;
-  advised = λ listed e. advises_by (parts_of library) listed requests (start_pair_of library) text result ok pair (subst (λ (read : Result (List Listed) PartError). OnCosts costs Work read text result) e gives);
-}
-  where
-    Work : List Listed → List ℕ → Status → Type 0
-    Work listed = SaysAdvice (advised_by (parts_of library) listed requests (start_pair_of library))
+keeps_advice costs requests texts library text result ok pair gives = grind (arith, advises_by)

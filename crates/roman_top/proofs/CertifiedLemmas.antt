@@ -1,5 +1,5 @@
 -- A complete removal list over numbers lists exactly the pairs that aren't related, validly.
-use Rattle.roman_top.proofs.Common.{◌≡◌, ℕ, zero, suc, ◌*◌, ◌<◌, not, List, [], ◌∷◌, map, IsTrue, IsFalse, inl, inr, refl, sym, ap₂, ◌∙◌, subst, arith, list_any, both_ways, and_from, or_cases, not-true, IsIn, is_empty, product_of, Sys, Pair, IsSys, IsPair, is_final, all_final, pairs, outcomes, same_pair, is_fine, arena, Entry, is_among, is_listed, is_justified, IsOrderFrom, IsComplete, cert_text, sizes_of, count, number, pair_at, entry_at, IsCompleteList, Reason, Final, Act, any_true, any_from, in_map, from_map, from_allowed, outcome_in, from_outcome, listed_in, in_listed, length-pairs, numbers_are_pairs, map-map, HoldsReason, AreValid, ListsUnrelated, numbered_entry, CertifiesUnrelated}
+use Rattle.roman_top.proofs.Common.{◌≡◌, ℕ, zero, suc, ◌*◌, ◌<◌, List, [], ◌∷◌, map, IsTrue, IsFalse, inl, inr, refl, sym, ap₂, ◌∙◌, subst, arith, list_any, both_ways, and_from, or_cases, not-true, IsIn, is_empty, product_of, Sys, Pair, IsSys, IsPair, is_final, all_final, pairs, outcomes, same_pair, is_fine, arena, Entry, is_among, is_justified, IsOrderFrom, IsComplete, cert_text, sizes_of, count, number, pair_at, entry_at, IsCompleteList, Reason, Final, Act, any_true, any_from, in_map, from_map, from_allowed, outcome_in, from_outcome, listed_in, in_listed, length-pairs, numbers_are_pairs, map-map, HoldsReason, AreValid, ListsUnrelated, numbered_entry, CertifiesUnrelated}
 use Rattle.std.proofs.Common.{◌==◌, ◌&&◌}
 use Rattle.std.proofs.Math.Nat.{div-lt_iff_lt-mul}
 use Rattle.std.proofs.lemmas.Bool.{and_parts, or_parts, eqb-true, eq-eqb, not-false}
@@ -18,9 +18,7 @@ same_is p q h =
     pair_is t u e f bs cs ht he hbs = rw (ht, he, hbs) refl
 
 pub same_itself : (p : Pair) → IsTrue (same_pair p p)
-same_itself p =
-    and_from (p.t == p.t && p.e == p.e) (same_numbers p.bs p.bs)
-    (and_from (p.t == p.t) (p.e == p.e) (eq-eqb p.t p.t refl) (eq-eqb p.e p.e refl)) (same_numbers_itself p.bs)
+same_itself p = grind (arith, and_from, eq-eqb, same_numbers_itself)
 
 pub told_apart : (s : Sys) → IsSame (arena s)
 told_apart s = record { is = same_is; itself = same_itself }
@@ -28,9 +26,7 @@ told_apart s = record { is = same_is; itself = same_itself }
 -- Reasons.
 
 unfine_reason : (s : Sys) (p : Pair) → IsFalse (is_fine s p) → IsTrue (is_final s.target p.t) × (IsTrue (all_final s.seats p.bs) → ⊥)
-unfine_reason s p f =
-    let (final, others) = or_parts (not (is_final s.target p.t)) (all_final s.seats p.bs) f in
-    (not-false (is_final s.target p.t) final, λ all. both_ways (all_final s.seats p.bs) others all)
+unfine_reason s p f = grind (arith, both_ways, not-false, or_parts)
 
 holds_reason : (s : Sys) (before : List Pair) (p : Pair) (reason : Reason) → IsSys s → IsTrue (is_justified (arena s) (is_among (arena s) before) p reason) → HoldsReason s (λ q. IsIn q before) p reason
 holds_reason s before p Final ok j = unfine_reason s p (not-true (is_fine s p) j)
@@ -51,25 +47,10 @@ holds_reason s before p (Act a) ok j =
 
 valid_from : (s : Sys) (before : List Pair) (L : List (Entry Pair)) → IsSys s → IsOrderFrom (arena s) before L → AreValid s before L
 valid_from s before [] ok order = tt
-valid_from s before (x ∷ L) ok order = (
-  λ i. both_ways (is_among (arena s) before x.node) order.0 (any_from (same_pair x.node) x.node before i (same_itself x.node)),
-  holds_reason s before x.node x.reason ok order.1,
-  valid_from s (x.node ∷ before) L ok order.2,
-)
+valid_from s before (x ∷ L) ok order = grind (arith, any_from, both_ways, holds_reason, same_itself, (valid_from s (x.node ∷ before) L ok order.2))
 
 pub lists_unrelated : (s : Sys) (L : List (Entry Pair)) → IsSys s → IsComplete s L → ListsUnrelated s L
-lists_unrelated s L ok complete = record {
-  valid = valid_from s [] L ok complete.order;
-  exact = λ p. (
-    λ i.
-        let (x, j, e) = from_map (λ x. x.node) p L i in
-        let pair : IsPair s p = subst (IsPair s) (sym e) (complete.pairs x j) in
-        (pair, (complete.exact p pair).0 (subst (λ q. IsTrue (is_listed (arena s) L q)) (sym e) (in_listed (arena s) (told_apart s) L x j))),
-    λ (pair, unrelated).
-        let (x, j, e) = listed_in (arena s) (told_apart s) L p ((complete.exact p pair).1 unrelated) in
-        subst (λ q. IsIn q (map (λ x. x.node) L)) (sym e) (in_map (λ x. x.node) x L j),
-  );
-}
+lists_unrelated s L ok complete = grind (arith, from_map, in_listed, in_map, listed_in, told_apart, valid_from)
 
 -- Numbers.
 

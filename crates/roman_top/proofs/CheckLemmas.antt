@@ -1,5 +1,5 @@
 -- The check of a certificate, as part of a run.
-use Rattle.roman_top.proofs.Common.{◌≡◌, ℕ, Bool, List, Option, None, Some, IfSome, Result, Ok, Err, refl, sym, ap, ◌∙◌, subst, Texts, shelf_text, rest_from, sizes_of, number, numbered, TooLong, cert_verdict, NamedSys, system_of, start_pair_of, IsSeated, Seated, verdict_of, fault_of, SinkCause, Check, On, Accepts, Opens, EndsBare, Writes, document_opening, OnOpening, library_system, SaysVerdict, ServedBeside, outputs, greatest_text, rejected_text, Status}
+use Rattle.roman_top.proofs.Common.{◌≡◌, ℕ, Bool, List, Option, None, Some, IfSome, Result, Ok, Err, refl, sym, ap, ◌∙◌, subst, arith, Texts, shelf_text, rest_from, numbered, TooLong, cert_verdict, system_of, IsSeated, Seated, verdict_of, fault_of, SinkCause, Check, On, Accepts, Opens, EndsBare, Writes, document_opening, OnOpening, SaysVerdict, ServedBeside, outputs, greatest_text, rejected_text, Status}
 use Rattle.std.proofs.Common.{IfOk}
 use Rattle.std.specs.Result.{IsErrOf}
 use Rattle.roman_model.specs.Arena.{Arena}
@@ -31,10 +31,7 @@ found_text A start (Some texts) name _ whole long = tt
 pub finds_text : (A : Arena ℕ) (start : ℕ) (told given : Option Texts) (name given_name : List ℕ) (at : ℕ) (result : Result Verdict CheckError) → given ≡ told → given_name ≡ name → at ≡ 0 →
     IfOk result (λ verdict. HaveVerdict A start (rest_from given given_name at) (verdict_of verdict)) → (IsErrOf result check.TooLong → HaveVerdict A start (rest_from given given_name at) TooLong) →
     IfSome told (λ texts. FindsVerdict A start (shelf_text texts name) result)
-finds_text A start told given name given_name at result same_texts same_name at_start whole long =
-    let same : rest_from given given_name at ≡ rest_from told name 0 = rw (same_texts, same_name, at_start) refl in
-    found_text A start told name result (subst (λ (rest : Option (List ℕ)). IfOk result (λ verdict. HaveVerdict A start rest (verdict_of verdict))) same whole)
-    (λ e. subst (λ (rest : Option (List ℕ)). HaveVerdict A start rest TooLong) same (long e))
+finds_text A start told given name given_name at result same_texts same_name at_start whole long = grind (arith, found_text)
 
 -- the verdict on the certificate is the verdict of the run
 judged : (A : Arena ℕ) (start : ℕ) (certificate : List ℕ) (checked : Result Verdict CheckError) → FindsVerdict A start certificate checked → (text : List ℕ) (ends : Status) → JudgesCheck checked text ends → SaysVerdict (cert_verdict A start certificate) text ends
@@ -47,15 +44,7 @@ judged A start certificate (Err check.Memory) finds text ends judges = absurd ju
 checked_is_run : (texts : Texts) (system certificate : List ℕ) (seated : Seated) (checked : Result Verdict CheckError) (old new : Option (List ℕ)) (result : Status) →
     Accepts (document_opening texts system) (λ library. IsSeated library seated) → FindsVerdict (numbered (system_of seated.joint)) seated.start (shelf_text texts certificate) checked → Writes (JudgesCheck checked) old new result →
     Writes (OnOpening (Checks (shelf_text texts certificate)) (document_opening texts system)) old new result
-checked_is_run texts system certificate seated checked old new result accepts finds writes =
-    let library = accepts.library in
-    let s = library_system library in
-    let of_parts : FindsVerdict (numbered s) seated.start (shelf_text texts certificate) checked = subst (λ (n : NamedSys). FindsVerdict (numbered (system_of n)) seated.start (shelf_text texts certificate) checked) accepts.holds.parts finds in
-    let found : FindsVerdict (numbered s) (number (sizes_of s) (start_pair_of library)) (shelf_text texts certificate) checked = subst (λ (n : ℕ). FindsVerdict (numbered s) n (shelf_text texts certificate) checked) accepts.holds.start of_parts in
-    writes_weaker (JudgesCheck checked) (OnOpening (Checks (shelf_text texts certificate)) (document_opening texts system)) old new result
-    (λ (text : List ℕ) (ends : Status) (judges : JudgesCheck checked text ends).
-    on_accepted (Checks (shelf_text texts certificate)) (document_opening texts system) library text ends accepts.accepted
-    (judged (numbered s) (number (sizes_of s) (start_pair_of library)) (shelf_text texts certificate) checked found text ends judges)) writes
+checked_is_run texts system certificate seated checked old new result accepts finds writes = grind (arith, judged, on_accepted, writes_weaker)
 
 -- a check of an opened document does its job
 pub check_served : (system certificate : List ℕ) (seated : Seated) (told told_mid told_now : Option Texts) (shelf shelf_mid shelf_now : ℕ) (old mid new : Option (List ℕ)) (out out_mid out_now : ℕ) (checked : Result Verdict CheckError) (result : Status) →

@@ -1,5 +1,7 @@
 -- A certificate that `check` accepts lists exactly the pairs that aren't related, and each one that does is accepted.
-use Rattle.roman_top.proofs.Common.{◌≡◌, ℕ, ◌<◌, Bool, not, List, [], ◌∷◌, map, length, IsTrue, filter, inl, inr, refl, sym, ap, ◌∙◌, subst, list_any, both_ways, and_from, or_cases, not-true, lines, IsIn, all_below, is_empty, Sys, Pair, IsSys, IsPair, is_final, all_final, pairs, outcomes, same_pair, is_allowed, is_fine, arena, Entry, is_among, is_listed, is_beaten, is_justified, IsOrderFrom, IsComplete, Verdict, Greatest, Rejected, TooLong, cert_text, cert_verdict, IsWithinCells, GreatestIsComplete, is_related, sizes_of, count, number, pair_at, numbered, entry_at, IsCompleteList, Reason, Final, Act, by_test, any_from, any_true, in_map, from_map, allowed_in, outcome_in, from_outcome, listed_in, in_listed, length-pairs, length-below, numbers_are_pairs, map-map, related_great, great_related, HoldsReason, AreValid, ListsUnrelated, numbered_entry, CertifiesUnrelated, SaysVerdict, greatest_text, Status}
+use Rattle.roman_top.proofs.Common.{◌≡◌, ℕ, ◌<◌, Bool, List, [], ◌∷◌, map, length, IsTrue, filter, inl, inr, refl, sym, ap, ◌∙◌, subst, arith, list_any, both_ways, and_from, or_cases, not-true, lines, IsIn, all_below, is_empty, Sys, Pair, IsSys, IsPair, is_final, all_final, pairs, outcomes, same_pair, is_allowed, is_fine, arena, Entry, is_among, is_justified, IsOrderFrom, IsComplete, Verdict, Greatest, Rejected, TooLong, cert_text, cert_verdict, IsWithinCells, GreatestIsComplete, is_related, sizes_of, count, number, pair_at, numbered, entry_at, IsCompleteList, Reason, Final, Act, by_test, any_from, any_true, in_map, from_map, allowed_in, outcome_in, from_outcome, listed_in, in_listed, length-pairs, length-below, numbers_are_pairs, map-map, related_great, great_related, HoldsReason, AreValid, ListsUnrelated, numbered_entry, CertifiesUnrelated, SaysVerdict, greatest_text, Status}
+use Rattle.std.proofs.Common.{not}
+use Rattle.roman_model.specs.Arena.{is_listed, is_beaten}
 use Rattle.std.specs.List.{filter_map}
 use Rattle.std.proofs.lemmas.Bool.{or_left, or_right, not_from_false}
 use Rattle.roman_model.specs.CompleteLists.{AreEntries}
@@ -12,12 +14,7 @@ use Rattle.roman_top.proofs.ServingLemmas.{related_all}
 -- A valid list of exactly the pairs that aren't related is a complete removal list.
 
 unfine : (s : Sys) (p : Pair) → IsTrue (is_final s.target p.t) → (IsTrue (all_final s.seats p.bs) → ⊥) → IsTrue (not (is_fine s p))
-unfine s p final others = by_test (is_fine s p)
-    (λ fine. elim (or_cases (not (is_final s.target p.t)) (all_final s.seats p.bs) fine) [
-      | inl f ↦ absurd (both_ways (is_final s.target p.t) (not-true (is_final s.target p.t) f) final)
-      | inr all ↦ absurd (others all)
-    ])
-    (λ f. not_from_false (is_fine s p) f)
+unfine s p final others = grind (arith, both_ways, by_test, not-true, not_from_false, or_cases)
 
 justified_from : (s : Sys) (before : List Pair) (p : Pair) (reason : Reason) → IsSys s → HoldsReason s (λ q. IsIn q before) p reason → IsTrue (is_justified (arena s) (is_among (arena s) before) p reason)
 justified_from s before p Final ok (final, others) = unfine s p final others
@@ -25,8 +22,7 @@ justified_from s before p (Act a) ok (allows, each) =
     and_from (is_allowed s p a) (all_below (is_beaten (arena s) (is_among (arena s) before) p a) (length s.seats)) (allowed_in s p a ok allows)
     (all_below_from (is_beaten (arena s) (is_among (arena s) before) p a) (length s.seats) (λ k l. elim (each k l) [
       | inl none ↦ or_left (is_empty (outcomes s p a k)) (list_any (is_among (arena s) before) (outcomes s p a k))
-          (by_test (is_empty (outcomes s p a k)) (λ t. t)
-          (λ f. let (q, i) = not_empty_in (outcomes s p a k) f in absurd (none q (from_outcome s p a k q i))))
+          (by_test (is_empty (outcomes s p a k)) (λ t. t) (λ f. let (q, i) = not_empty_in (outcomes s p a k) f in absurd (none q (from_outcome s p a k q i))))
       | inr found ↦
           let (q, moves, gone) = found in
           or_right (is_empty (outcomes s p a k)) (list_any (is_among (arena s) before) (outcomes s p a k))
@@ -36,10 +32,10 @@ justified_from s before p (Act a) ok (allows, each) =
 
 order_from_valid : (s : Sys) (before : List Pair) (L : List (Entry Pair)) → IsSys s → AreValid s before L → IsOrderFrom (arena s) before L
 order_from_valid s before [] ok valid = tt
-order_from_valid s before (x ∷ L) ok valid = (
+order_from_valid s before (x ∷ L) ok valid =
+ (
   by_test (is_among (arena s) before x.node)
-      (λ t. let (q, i, same) = any_true (same_pair x.node) before t in absurd (valid.0 (subst (λ r. IsIn r before) (sym (same_is x.node q same)) i)))
-      (λ f. f),
+      (λ t. let (q, i, same) = any_true (same_pair x.node) before t in absurd (valid.0 (subst (λ r. IsIn r before) (sym (same_is x.node q same)) i))) (λ f. f),
   justified_from s before x.node x.reason ok valid.1,
   order_from_valid s (x.node ∷ before) L ok valid.2,
 )
@@ -74,8 +70,7 @@ certified_verdict s start certificate ok few within certifies =
     let complete : IsComplete s certifies.entries = complete_from_valid s certifies.entries ok certifies.lists in
     let listed : IsCompleteList s (map (numbered_entry s) certifies.entries) = subst (IsComplete s) (sym (pairs_back s certifies.entries complete.pairs)) complete in
     ap (cert_verdict (numbered s) start) (certifies.says ∙ ap (λ n. cert_text n (map (numbered_entry s) certifies.entries)) (length-pairs s))
-    ∙ written_is_greatest s start (map (numbered_entry s) certifies.entries) ok few within
-    (λ x i.
+    ∙ written_is_greatest s start (map (numbered_entry s) certifies.entries) ok few within (λ x i.
     let (y, j, e) = from_map (numbered_entry s) x certifies.entries i in
     subst (λ (z : Entry ℕ). z.node < count (sizes_of s)) (sym e) ((numbers_are_pairs s).below y.node (complete.pairs y j))) listed
 

@@ -1,5 +1,5 @@
 -- The names that several proof pages of this crate cite, passed on from one place. Declares nothing.
-pub use Rattle.std.proofs.Common.{Bool, Err, IfSome, IsFalse, IsTrue, List, MatchBool, None, Ok, Option, Result, Some, [], ap, append_assoc, ap₂, arith, codes, cond, decimal, drop, false, filter, inl, inr, length, ltb-true, map, nat_le, not, refl, slice_get, subst, suc, sym, take, true, zero, ℕ, ◌*◌, ◌++◌, ◌+◌, ◌-◌, ◌<◌, ◌↔◌, ◌∙◌, ◌∷◌, ◌≡◌, ◌≢◌, ◌≤◌}
+pub use Rattle.std.proofs.Common.{Bool, Err, IfSome, IsFalse, IsTrue, List, MatchBool, None, Ok, Option, Result, Some, [], ap, append_assoc, ap₂, arith, codes, decimal, drop, false, filter, inl, inr, length, map, nat_le, refl, slice_get, subst, suc, sym, take, true, zero, ℕ, ◌*◌, ◌++◌, ◌+◌, ◌-◌, ◌<◌, ◌↔◌, ◌∙◌, ◌∷◌, ◌≡◌, ◌≢◌, ◌≤◌}
 pub use Rattle.std.proofs.lemmas.Bool.{and_from, both_ways, cases_lt, cond-false, cond-true, false≢true, lt-ltb, not-true, or_cases}
 pub use Rattle.std.proofs.lemmas.List.{append-nil, length-map}
 pub use Rattle.std.proofs.lemmas.Option.{get_or_from_slice_get, slice_get_within}
@@ -12,7 +12,7 @@ pub use Rattle.roman_hearing.proofs.CallerLemmas.{open_great}
 pub use Rattle.roman_hearing.specs.Events.{LinesAreRead}
 pub use Rattle.roman_hearing.specs.Hearing.{is_heard_out, prefix_of}
 pub use Rattle.roman_hearing.specs.Known.{IsKnownSituation, shown}
-pub use Rattle.roman_hearing.specs.States.{IsOpenGreat, IsState, State, start_state}
+pub use Rattle.roman_hearing.specs.States.{IsState, State, start_state}
 pub use Rattle.roman_hearing.specs.Told.{Answers, until_quit}
 pub use Rattle.roman_hearing.specs.Turns.{TurnsInto}
 pub use Rattle.roman_io.specs.Faults.{HasCause, Rose}
@@ -27,7 +27,7 @@ pub use Rattle.roman_library.specs.declared.refusal.Refusal.{Refusal}
 unfoldable pub use Rattle.roman_make.specs.Made.{made}
 pub use Rattle.roman_make.specs.Script.{script_lines}
 pub use Rattle.roman_model.proofs.CallerLemmas.{allowed_in, any_from, any_true, by_test, from_allowed, from_end, from_flat_map, from_map, from_outcome, from_place, great_related, in_listed, in_map, length-below, length-pairs, listed_in, map-map, numbers_are_pairs, outcome_in, related_great, there_is}
-pub use Rattle.roman_model.specs.Arena.{Entry, IsOrderFrom, is_among, is_beaten, is_justified, is_listed}
+pub use Rattle.roman_model.specs.Arena.{Entry, IsOrderFrom, is_among, is_justified}
 pub use Rattle.roman_model.specs.Certificate.{Greatest, GreatestIsComplete, IsWithinCells, Rejected, TooLong, Verdict, cert_text, cert_verdict}
 pub use Rattle.roman_model.specs.CompleteLists.{IsComplete}
 pub use Rattle.roman_model.specs.Lines.{ended_lines, lines}
@@ -42,7 +42,6 @@ pub use Rattle.roman_model.specs.declared.reason.Reason.{Reason}
 pub use Rattle.roman_model.specs.declared.reason.Reason.TheVariants.{Act, Final}
 pub use Rattle.roman_model.specs.declared.way.Way.{Way}
 pub use Rattle.roman_model.specs.declared.way.Way.TheVariants.{Die}
-pub use Rattle.roman_parts.specs.declared.error.PartError.{PartError}
 pub use Rattle.roman_session.specs.Reports.{report_text}
 pub use Rattle.roman_session.specs.Situations.{Situation, present_system}
 pub use Rattle.roman_session.specs.Starts.{IsStart}
@@ -58,7 +57,7 @@ unfoldable pub use Rattle.roman_text.specs.Shapes.{shape_of}
 pub use Rattle.roman_text.specs.declared.errors.LineError.{LineError}
 pub use Rattle.roman_whatif.specs.Left.{places}
 pub use Rattle.roman_whatif.specs.Told.{told}
-pub use Rattle.roman_top.specs.Advice.{GivesAdvice, OnCosts, SaysAdvice}
+pub use Rattle.roman_top.specs.Advice.{GivesAdvice, SaysAdvice}
 pub use Rattle.roman_top.specs.Causes.{InputCause, ShelfCause, SinkCause}
 pub use Rattle.roman_top.specs.Command.{Advise, Certify, Check, Command, Job, Make, On, Resilience, Run, Shortest, Synth, command_as}
 pub use Rattle.roman_top.specs.Complete.{IsAnswered}
@@ -69,7 +68,7 @@ pub use Rattle.roman_top.specs.HeadlineResilience.{TellsLosses}
 pub use Rattle.roman_top.specs.HeadlineTargets.{IsTurnOfTargets, MeansTargets}
 pub use Rattle.roman_top.specs.HeadlineTurns.{Turn}
 pub use Rattle.roman_top.specs.Made.{Passes, made_line, stages, standing}
-pub use Rattle.roman_top.specs.Opening.{Accepted, EndsSaying, OnOpening, Past, document_opening, is_past_limit, library_system, limit_line, opening_of}
+pub use Rattle.roman_top.specs.Opening.{Accepted, EndsSaying, OnOpening, document_opening, is_past_limit, library_system, limit_line}
 pub use Rattle.roman_top.specs.Outlooks.{ones, outlook_words, service_names, twos}
 unfoldable pub use Rattle.roman_top.specs.Outlooks.{lines_without, outlook_text}
 pub use Rattle.roman_top.specs.RefusalLine.{refusal_line}

@@ -1,5 +1,6 @@
 -- How the parts of a run end.
-use Rattle.roman_top.proofs.Common.{◌≡◌, ℕ, ◌<◌, cond, Bool, true, false, IsTrue, IsFalse, MatchBool, List, Option, None, Some, IfSome, Result, Ok, Err, refl, sym, ap, ◌∙◌, subst, false≢true, cond-true, lt-ltb, HasCause, Texts, Puts, cells, library_of, PlainLibrary, Refusal, ShelfCause, SinkCause, WritesText, Writes, EndsBare, TurnsAway, Finishes, IsSpoken, Past, Accepted, opening_of, document_opening, OnOpening, library_system, is_past_limit, limit_line, refusal_line, Status}
+use Rattle.roman_top.proofs.Common.{◌≡◌, ℕ, ◌<◌, Bool, true, false, IsTrue, IsFalse, MatchBool, List, Option, None, Some, IfSome, Result, Ok, Err, sym, ap, ◌∙◌, subst, arith, false≢true, cond-true, lt-ltb, HasCause, Texts, Puts, cells, library_of, PlainLibrary, Refusal, ShelfCause, SinkCause, WritesText, Writes, EndsBare, TurnsAway, Finishes, IsSpoken, Accepted, document_opening, OnOpening, library_system, is_past_limit, limit_line, refusal_line, Status}
+use Rattle.roman_top.specs.Opening.{Past, opening_of}
 use Rattle.std.proofs.lemmas.Bool.{true≢false}
 use Rattle.roman_top.specs.Endings.{ReadsTo, OpensTo}
 use Rattle.roman_top.specs.Opening.{Opening, Refused}
@@ -37,32 +38,19 @@ pub record IsAccepted (meaning : Result PlainLibrary Refusal) (library : PlainLi
 
 pub accepted_is : (meaning : Result PlainLibrary Refusal) (library : PlainLibrary) → opening_of meaning ≡ Accepted library → IsAccepted meaning library
 accepted_is (Err refusal) library h = absurd (let e : ⊥ = cc in e)
-accepted_is (Ok other) library h = by (is_past_limit other) refl h
-  where
-    by : (b : Bool) → is_past_limit other ≡ b → cond b (Past other) (Accepted other) ≡ Accepted library → IsAccepted (Ok other) library
-    by true e g = absurd (let f : ⊥ = cc in f)
-    by false e g = let same : other ≡ library = cc in record { means = ap Ok same; within = subst (λ (l : PlainLibrary). IsFalse (is_past_limit l)) same e }
+accepted_is (Ok other) library h = grind arith
 
 -- the line of a refusal was put
 pub refused : {T E X : Type 0} (view : X → PlainLibrary) (told : Option Texts) (name : List ℕ) (refusal : Refusal) (old new : Option (List ℕ)) (result : Status) (r : Result T E) →
     IfSome told (λ texts. library_of texts name ≡ Err refusal) → Puts old new (refusal_line refusal) r → Finishes r status.Refused result →
     IfSome told (λ texts. ReadsTo {X = X} view texts name old new (Err result))
-refused view told name refusal old new result r means puts finishes = told_more told (λ texts. library_of texts name ≡ Err refusal) (λ texts. Writes (TurnsAway (document_opening texts name)) old new result) means
-    (λ texts is.
-    let there : TurnsAway (document_opening texts name) (refusal_line refusal) status.Refused =
-    subst (λ (opening : Opening). TurnsAway opening (refusal_line refusal) status.Refused) (sym (ap opening_of is)) (refl, refl) in
-    writes_put (TurnsAway (document_opening texts name)) old new (refusal_line refusal) status.Refused result r puts finishes there (λ w. w))
+refused view told name refusal old new result r means puts finishes = grind (arith, told_more, writes_put)
 
 -- the line of a limit was put
 pub exceeded : {T E X : Type 0} (Holds : PlainLibrary → X → Type 0) (told : Option Texts) (name : List ℕ) (library : PlainLibrary) (old mid new : Option (List ℕ)) (result : Status) (r : Result T E) →
     IfSome told (λ texts. library_of texts name ≡ Ok library) → library.limit < cells (library_system library) → mid ≡ old → Puts mid new (limit_line library.limit) r → Finishes r status.Limit result →
     IfSome told (λ texts. OpensTo Holds (document_opening texts name) old new (Err result))
-exceeded Holds told name library old mid new result r means past same puts finishes = told_more told (λ texts. library_of texts name ≡ Ok library) (λ texts. Writes (TurnsAway (document_opening texts name)) old new result) means
-    (λ texts is.
-    let there : TurnsAway (document_opening texts name) (limit_line library.limit) status.Limit =
-    subst (λ (opening : Opening). TurnsAway opening (limit_line library.limit) status.Limit)
-    (sym (opens_past (library_of texts name) library is (lt-ltb library.limit (cells (library_system library)) past))) (refl, refl) in
-    writes_put (TurnsAway (document_opening texts name)) old new (limit_line library.limit) status.Limit result r (subst (λ (o : Option (List ℕ)). Puts o new (limit_line library.limit) r) same puts) finishes there (λ w. w))
+exceeded Holds told name library old mid new result r means past same puts finishes = grind (arith, lt-ltb, opens_past, told_more, writes_put)
 
 -- parts of a run
 

@@ -1,6 +1,6 @@
 -- The text of a session keeps its promise.
-use Rattle.roman_top.proofs.Common.{◌≡◌, ℕ, ◌<◌, Bool, true, false, MatchBool, cond, List, length, take, nat_le, Option, Some, IsFalse, sym, ap, ◌∙◌, subst, arith, ltb-true, cond-false, Texts, Wrote, GreatestIsComplete, lines, ended_lines, IsIn, IsSys, MAX_SESSION_BYTES, by_test, system_of, cells, PlainLibrary, PlainTargets, Situation, report_text, parts_of, start_pair_of, Answers, prefix_of, is_heard_out, State, start_state, IsState, LinesAreRead, Synth, Run, Command, On, IsFree, MeansTargets, IsTurnOfTargets, Turn, Accepted, Past, document_opening, opening_of, is_past_limit, library_system, Talks, Synthesises, HasRun, Served, ToldFromStart, World, Status}
-use Rattle.std.proofs.Common.{if◌then◌else◌}
+use Rattle.roman_top.proofs.Common.{◌≡◌, ℕ, ◌<◌, Bool, true, false, MatchBool, List, length, take, nat_le, Option, Some, sym, ◌∙◌, subst, arith, cond-false, Texts, Wrote, GreatestIsComplete, lines, ended_lines, IsIn, MAX_SESSION_BYTES, by_test, PlainLibrary, PlainTargets, Situation, report_text, parts_of, start_pair_of, Answers, prefix_of, is_heard_out, State, start_state, IsState, LinesAreRead, Synth, Run, Command, On, IsFree, MeansTargets, IsTurnOfTargets, Turn, Accepted, document_opening, Talks, Synthesises, HasRun, Served, ToldFromStart, World, Status}
+use Rattle.std.proofs.Common.{cond, if◌then◌else◌}
 use Rattle.roman_library.specs.Targets.{NamesTargets}
 use Rattle.roman_library.proofs.CallerLemmas.{targets_combined}
 use Rattle.roman_hearing.specs.Words.{ReportsGreat}
@@ -17,10 +17,7 @@ use Rattle.roman_top.proofs.TurnLemmas.{StepsTell, HasTurns, state_known, start_
 
 -- the document is accepted, and its library is within the limit
 means_accepted : (texts : Texts) (system : List ℕ) (library : PlainLibrary) → Means texts system library → document_opening texts system ≡ Accepted library
-means_accepted texts system library (is, fits) =
-    let within : IsFalse (is_past_limit library) = by_test (is_past_limit library)
-    (λ past. absurd (let more : library.limit < cells (library_system library) = ltb-true library.limit (cells (library_system library)) past in omega (arith, more, fits))) (λ within. within) in
-    ap opening_of is ∙ cond-false (is_past_limit library) (Past library) (Accepted library) within
+means_accepted texts system library (is, fits) = grind (arith, by_test, cond-false)
 
 -- the replies to the lines that are read
 heard_tells : (b : Bool) (library : PlainLibrary) (ls ms : List (List ℕ)) (text : List ℕ) (P Q : Type 0) → MatchBool b (ToldFromStart library ls text × P) (ToldFromStart library ms text × Q) → ToldFromStart library (cond b ls ms) text
@@ -45,12 +42,7 @@ talked P texts system session library text result read tell accepted talks =
 -- the report of a synthesis
 reported : (texts : Texts) (system : List ℕ) (library : PlainLibrary) (text : List ℕ) → document_opening texts system ≡ Accepted library → text ≡ report_text (parts_of library) (start_pair_of library) →
     IsState library (start_state library) × ReportsGreat (start_state library) text
-reported texts system library text accepted says =
-    let (start, begins) = some_start texts system library accepted in
-    let known = starts_known texts system library start accepted begins in
-    let seen = start_seen library start begins in
-    let well = subst (IsState library) seen (state_known library start (start_from library start begins) known) in
-    (well, reports_great (start_state library) text (subst (λ (s : State). IsSys (system_of s.parts)) seen known.situation.parts.system) well.here says)
+reported texts system library text accepted says = grind (arith, reports_great, some_start, start_from, start_seen, starts_known, state_known)
 
 -- the lines of a session are answered by turns, of each of which P holds
 answered_lines : (P : Turn → Type 0) (texts : Texts) (system : List ℕ) (name : Option (List ℕ)) (library : PlainLibrary) (old new : World) (result : Status) → LinesAreRead → StepsTell library P →

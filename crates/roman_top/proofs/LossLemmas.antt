@@ -42,9 +42,8 @@ one_left way.Die k s p ok pair l =
 
 two_left : (how : Way) (k j : ℕ) (s : Sys) (p : Pair) → IsSys s → IsPair s p → k < j → j < length s.seats → IsWhole (system_without how (k ∷ j ∷ []) s) (pair_without how (k ∷ j ∷ []) p)
 two_left way.Freeze k j s p ok pair l h =
-    let first = frozen_once s p k ok pair (omega arith) in
-    subst (λ r. IsWhole r p) ((without_changes s p).two_frozen k j)
-    (frozen_once (after (Freeze k) s) p j first.system first.pair (subst (λ n. j < n) (sym (length-set_frozen s.seats k true)) h))
+    let first = frozen_once _ _ _ ok pair (omega arith) in
+    subst (λ r. IsWhole r p) ((without_changes s p).two_frozen k j) (frozen_once _ _ _ first.system first.pair (subst (λ n. j < n) (sym (length-set_frozen _ _ _)) h))
 two_left way.Die k j s p ok pair l h =
     let (other, seated) = there_is s.seats j h in
     let first = gone_once s p j other ok pair seated in

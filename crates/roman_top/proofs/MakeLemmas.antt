@@ -1,5 +1,6 @@
 -- Made systems, as part of a run.
-use Rattle.roman_top.proofs.Common.{◌≡◌, ℕ, ◌<◌, ◌≤◌, ◌++◌, Bool, IsTrue, IsFalse, List, length, Option, Result, nat_le, refl, sym, subst, arith, ltb-true, Puts, all_below, by_test, PlainLibrary, IsLibrary, made, cells, Situation, IsStart, IsKnownSituation, made_line, stages, Passes, library_system, is_past_limit, Makes, Finishes, Writes, Status}
+use Rattle.roman_top.proofs.Common.{◌≡◌, ℕ, ◌<◌, ◌≤◌, ◌++◌, Bool, IsTrue, IsFalse, List, length, Option, Result, nat_le, refl, sym, subst, arith, Puts, all_below, by_test, PlainLibrary, IsLibrary, made, cells, Situation, IsStart, IsKnownSituation, made_line, stages, Passes, library_system, is_past_limit, Makes, Finishes, Writes, Status}
+use Rattle.std.proofs.Common.{ltb-true}
 use Rattle.std.proofs.lemmas.Bool.{leb-true}
 use Rattle.roman_model.proofs.CallerLemmas.{all_below_at}
 use Rattle.roman_make.specs.Made.{floor, worker, shift}
@@ -27,11 +28,7 @@ few_cells n few = leb-true (cells (library_system (made n))) 4194304 (all_below_
 
 -- the cells of a made system don't exceed its limit
 pub not_past_limit : (library : PlainLibrary) (n : ℕ) → library ≡ made n → n ≤ 10 → library.limit < cells (library_system library) → ⊥
-not_past_limit library n is few past =
-    let of_made : (made n).limit < cells (library_system (made n)) = subst (λ (l : PlainLibrary). l.limit < cells (library_system l)) is past in
-    let limit = made_limit n in
-    let small = few_cells n few in
-    omega arith
+not_past_limit library n is few past = grind (arith, few_cells, made_limit)
 
 -- a session of a made system begins in a well-formed situation
 named_made : (n : ℕ) → (length (made n).environment.states ≡ (made n).environment.env.states) × (length (made n).environment.actions ≡ (made n).environment.env.actions)
@@ -51,5 +48,4 @@ made_start library n s is few known start =
 pub summarised : {T E : Type 0} (n : ℕ) (start : Situation) (lines : List ℕ) (old new : Option (List ℕ)) (result : Status) (r : Result T E) → IsStart (made n) start → IsKnownSituation start → Passes start stages lines →
     Puts old new (made_line n ++ lines) r → Finishes r status.Done result → Writes (Makes n) old new result
 summarised n start lines old new result r begins known passes puts finishes =
-    writes_put (Makes n) old new (made_line n ++ lines) status.Done result r puts finishes
-    (record { start = start; begins = begins; known = known; rest = lines; passes = passes; whole = refl }, refl) (λ w. w)
+    writes_put _ _ _ _ _ _ _ puts finishes (record { start = start; begins = begins; known = known; rest = lines; passes = passes; whole = refl }, refl) (λ w. w)

@@ -1,5 +1,5 @@
 -- The lines of `resilience`, pushed one after another.
-use Rattle.roman_top.proofs.Common.{◌≡◌, ℕ, ◌+◌, ◌<◌, ◌≤◌, List, [], ◌∷◌, ◌++◌, map, length, drop, Some, slice_get, codes, decimal, refl, sym, ap, ap₂, ◌∙◌, append_assoc, flat_map, append-nil, below, Pair, outlook, system_without, pair_without, Way, Die, from_place, from_end, NamedSys, system_of, outlook_words, service_names, lines_without, ones, twos, outlook_text}
+use Rattle.roman_top.proofs.Common.{◌≡◌, ℕ, ◌+◌, ◌<◌, ◌≤◌, List, [], ◌∷◌, ◌++◌, map, length, drop, Some, slice_get, codes, decimal, refl, sym, ap, ap₂, ◌∙◌, append_assoc, arith, flat_map, append-nil, below, Pair, outlook, system_without, pair_without, Way, Die, from_place, from_end, NamedSys, system_of, outlook_words, service_names, lines_without, ones, twos, outlook_text}
 use Rattle.std.proofs.lemmas.List.Concat.{flat_map-append}
 use Rattle.roman_model.specs.Without.{Outlook}
 use Rattle.roman_model.specs.declared.way.Way.TheVariants.{Freeze}
@@ -11,9 +11,7 @@ use Rattle.roman_top.specs.Outlooks.{way_word, line_without, head_text}
 -- Names.
 
 pub one_named : (parts : NamedSys) (k : ℕ) (seat : Seat) → slice_get parts.seats k ≡ Some seat → codes "without " ++ seat.name ≡ codes "without" ++ service_names parts (k ∷ [])
-one_named parts k seat there =
-    ap (λ (x : List ℕ). codes "without " ++ x) (sym (append-nil seat.name))
-    ∙ ap (λ (x : List ℕ). codes "without" ++ ((codes " " ++ x) ++ [])) (sym (mapped_at seat_name parts.seats k seat [] there))
+one_named parts k seat there = grind (arith, append-nil, mapped_at)
 
 pub two_named : (parts : NamedSys) (k j : ℕ) (seat other : Seat) → slice_get parts.seats k ≡ Some seat → slice_get parts.seats j ≡ Some other →
     ((codes "without " ++ seat.name) ++ codes " ") ++ other.name ≡ codes "without" ++ service_names parts (k ∷ j ∷ [])
@@ -31,9 +29,7 @@ line_pieces parts K way left prefix words is_prefix is_words = ap (λ (x : List 
 pub both_lines : (parts : NamedSys) (p : Pair) (K : List ℕ) (frozen gone : Outlook) → frozen ≡ outlook (system_without Freeze K (system_of parts)) (pair_without Freeze K p) →
     gone ≡ outlook (system_without Die K (system_of parts)) (pair_without Die K p) → line_without parts K Freeze frozen ++ (line_without parts K Die gone ++ []) ≡ lines_without parts p K
 unfolding lines_without
-both_lines parts p K frozen gone at_freeze at_die =
-    ap (λ (x : List ℕ). line_without parts K Freeze frozen ++ x) (append-nil (line_without parts K Die gone))
-    ∙ ap₂ (λ (x y : Outlook). line_without parts K Freeze x ++ line_without parts K Die y) at_freeze at_die
+both_lines parts p K frozen gone at_freeze at_die = grind (arith, append-nil)
 
 pub head_pieces : (parts : NamedSys) (now : Outlook) (first words : List ℕ) → first ≡ codes "services " ++ decimal (length parts.seats) ++ codes "\nstart" → words ≡ outlook_words now →
     first ++ (words ++ []) ≡ head_text parts now

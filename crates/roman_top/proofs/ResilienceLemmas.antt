@@ -12,8 +12,7 @@ text_at n p = outlook_text n (pair_at (sizes_of (system_of n)) p)
 pub foreseen : {T E : Type 0} (joint given : NamedSys) (p : ℕ) (old new : Option (List ℕ)) (result : Status) (r : Result T E) → given ≡ joint → Puts old new (text_at given p) r → Finishes r status.Done result →
     Writes (EndsSaying (text_at joint p) status.Done) old new result
 foreseen joint given p old new result r same puts finishes =
-    subst (λ (n : NamedSys). Writes (EndsSaying (text_at n p) status.Done) old new result) same
-    (writes_put (EndsSaying (text_at given p) status.Done) old new (text_at given p) status.Done result r puts finishes (refl, refl) (λ w. w))
+    subst (λ (n : NamedSys). Writes (EndsSaying (text_at n p) status.Done) old new result) same (writes_put _ _ _ _ _ _ _ puts finishes (refl, refl) (λ w. w))
 
 -- the outlook text of the start pair of an opened document is that of its library
 pub foreseen_is_run : (seated : Seated) (library : PlainLibrary) → IsSeated library seated → (text : List ℕ) (ends : Status) → EndsSaying (text_at seated.joint seated.start) status.Done text ends → Foresees library text ends

@@ -1,5 +1,5 @@
 -- What a call does, derived from what its parts do.
-use Rattle.roman_top.proofs.Common.{◌≡◌, ℕ, List, [], Option, None, Some, Result, Ok, Err, inl, refl, sym, subst, HasCause, Texts, shelf_text, Puts, PlainLibrary, InputCause, SinkCause, Job, Run, Command, On, Make, WritesText, Writes, EndsBare, TurnsAway, Accepts, Opens, Finishes, IsSpoken, IsFree, AtShelfFault, HasRunPrefix, IsOfTaken, EndsInput, document_opening, OnOpening, JobDoes, Makes, IsSessionText, HasRun, Served, ServedBeside, World, world, outputs, Status}
+use Rattle.roman_top.proofs.Common.{◌≡◌, ℕ, List, [], Option, None, Some, Result, Ok, Err, inl, refl, sym, subst, arith, HasCause, Texts, Puts, PlainLibrary, InputCause, SinkCause, Job, Run, Command, On, Make, WritesText, Writes, EndsBare, TurnsAway, Opens, Finishes, IsSpoken, IsFree, AtShelfFault, HasRunPrefix, IsOfTaken, EndsInput, document_opening, OnOpening, JobDoes, Makes, IsSessionText, HasRun, Served, ServedBeside, World, world, outputs, Status}
 use Rattle.roman_io.specs.Source.{Gave}
 use Rattle.roman_io.proofs.CallerLemmas.{Gave-nil}
 use Rattle.roman_top.specs.Command.{usage_line}
@@ -58,12 +58,7 @@ aside (Run None) = record {
     input_given : (system : List ℕ) (rest : Option (List ℕ)) → (session : List ℕ) × IsSessionText (Some (On system (Run None))) [] rest session
     input_given system None = ([], tt)
     input_given system (Some bytes) = (bytes, refl)
-aside (Run (Some name)) = record {
-  given = λ texts system rest. (shelf_text texts name, refl);
-  shelf = λ system old new w. inl w;
-  taken = λ texts system old new gave prefix. tt;
-  ends = λ system old new result away. tt;
-}
+aside (Run (Some name)) = grind arith
 aside _ = record { given = λ texts system rest. ([], tt); shelf = λ system old new w. w; taken = λ texts system old new gave prefix. tt; ends = λ system old new result away. tt }
 
 -- Documents that aren't opened
@@ -149,14 +144,12 @@ pub opened_served : {X : Type 0} (Holds : PlainLibrary → X → Type 0) (x : X)
 opened_served Holds x Work system job told told_now shelf shelf_now old mid new out out_mid out_now result plain is_run opens writes spoken cause =
     let mine : Writes Work old new result = subst (λ (o : Option (List ℕ)). Writes Work o new result) opens.leaves.stops writes in
     let said : IsSpoken old new result = subst (λ (o : Option (List ℕ)). IsSpoken o new result) opens.leaves.stops spoken in
-    job_served system job (outputs told shelf old out) (outputs told_now shelf_now new out_now) result plain (record {
-      writes = told_more told (λ texts. Accepts (document_opening texts system) (λ library. Holds library x)) (λ texts. Writes (OnOpening (JobDoes job texts []) (document_opening texts system)) old new result) opens.opens
-          (λ texts accepts. writes_weaker Work (OnOpening (JobDoes job texts []) (document_opening texts system)) old new result
-          (λ (text : List ℕ) (ends : Status) (work : Work text ends).
-          on_accepted (JobDoes job texts []) (document_opening texts system) accepts.library text ends accepts.accepted (is_run texts accepts.library accepts.holds text ends work)) mine);
-      stops = spoken_stops old new result said;
+    job_served _ _ _ _ _ plain (record {
+      writes = told_more _ _ _ opens.opens (λ texts accepts. writes_weaker _ _ _ _ _ (λ (text : List ℕ) (ends : Status) (work : Work text ends).
+          on_accepted _ _ _ _ _ accepts.accepted (is_run texts accepts.library accepts.holds text ends work)) mine);
+      stops = spoken_stops _ _ _ said;
       texts = opens.leaves.texts;
-      shelf = spoken_shelf old new shelf shelf_now result said opens.leaves.shelf;
+      shelf = spoken_shelf _ _ _ _ _ said opens.leaves.shelf;
       out = subst (λ (n : ℕ). SinkCause n out_now result) opens.leaves.out cause;
     })
 
@@ -185,29 +178,5 @@ made_served n told shelf rest input old new out out_now result writes spoken cau
 
 pub usage_served : {T E : Type 0} (told : Option Texts) (shelf : ℕ) (rest : Option (List ℕ)) (input : ℕ) (old new : Option (List ℕ)) (out out_now : ℕ) (result : Status) (r : Result T E) →
     Puts old new usage_line r → Finishes r status.Usage result → HasCause out out_now r → Served None (world told shelf rest input old out) (world told shelf rest input new out_now) result
-usage_served told shelf rest input old new out out_now result (Ok x) puts finishes cause =
-    subst (λ (result : Status). Served None (world told shelf rest input old out) (world told shelf rest input new out_now) result) (sym finishes) (record {
-      run = λ free. record { session = []; given = tt; text = usage_line; run = (refl, refl); wrote = puts };
-      shelf_fault = λ is. absurd (let e : ⊥ = cc in e);
-      read_fault = λ is. absurd (let e : ⊥ = cc in e);
-      write_fault = λ is. absurd (let e : ⊥ = cc in e);
-      memory = λ is. absurd (let e : ⊥ = cc in e);
-      shelf = refl;
-      input = refl;
-      out = cause.stays;
-      ends = tt;
-      texts = refl;
-    })
-usage_served told shelf rest input old new out out_now result (Err e) puts finishes cause =
-    subst (λ (result : Status). Served None (world told shelf rest input old out) (world told shelf rest input new out_now) result) (sym finishes) (record {
-      run = λ free. absurd free;
-      shelf_fault = λ is. absurd (let e : ⊥ = cc in e);
-      read_fault = λ is. absurd (let e : ⊥ = cc in e);
-      write_fault = λ is. (record { session = []; given = tt; text = usage_line; ends = status.Usage; run = (refl, refl); wrote = puts }, tt);
-      memory = λ is. absurd (let e : ⊥ = cc in e);
-      shelf = refl;
-      input = refl;
-      out = cause.failed;
-      ends = tt;
-      texts = refl;
-    })
+usage_served told shelf rest input old new out out_now result (Ok x) puts finishes cause = grind arith
+usage_served told shelf rest input old new out out_now result (Err e) puts finishes cause = grind arith

@@ -1,6 +1,6 @@
 -- Outlooks are right: they count the related pairs, and the cases in which a seat serves an action.
-use Rattle.roman_top.proofs.Common.{◌≡◌, ℕ, not, List, [], map, length, IsTrue, filter, refl, sym, ap, ◌∙◌, subst, cond-true, cond-false, length-map, slice_get_within, IsIn, below, Sys, Pair, IsSys, IsPair, pairs, is_allowed, arena, is_beaten, is_related, outlook, by_test, in_map, from_map, from_flat_map, allowed_in, from_allowed, related_great, great_related}
-use Rattle.std.proofs.Common.{flat_map, sum_by}
+use Rattle.roman_top.proofs.Common.{◌≡◌, ℕ, List, [], map, length, IsTrue, filter, refl, sym, ap, ◌∙◌, subst, arith, cond-true, cond-false, length-map, slice_get_within, IsIn, below, Sys, Pair, IsSys, IsPair, pairs, is_allowed, is_related, outlook, by_test, in_map, from_map, from_flat_map, allowed_in, from_allowed, related_great, great_related}
+use Rattle.std.proofs.Common.{flat_map}
 use Rattle.std.proofs.lemmas.List.Concat.{length-flat_map}
 use Rattle.roman_model.specs.Lists.{HasNoRepeats}
 use Rattle.roman_model.specs.Offers.{offers, choice_count}
@@ -11,13 +11,7 @@ use Rattle.roman_top.specs.HeadlineResilience.{Serving, IsServing, AreServings, 
 -- The related pairs.
 
 pub related_all : (s : Sys) → IsSys s → AreRelated s (filter (is_related s) (pairs s))
-related_all s ok = record {
-  once = HasNoRepeats-filter (is_related s) (pairs s) (pairs_once s);
-  each = λ p. (
-    λ i. let (j, t) = filter_in (is_related s) p (pairs s) i in (from_pairs s p j, related_great s p ok (from_pairs s p j) t),
-    λ (pair, great). in_filter (is_related s) p (pairs s) (in_pairs s p pair) (great_related s p ok great),
-  );
-}
+related_all s ok = grind (arith, HasNoRepeats-filter, filter_in, from_pairs, great_related, in_filter, in_pairs, pairs_once, related_great)
 
 -- The cases in which a seat serves an action.
 
@@ -34,19 +28,10 @@ abbrev all_servings : Sys → List Serving
 all_servings s = flat_map (servings_at s) (pairs s)
 
 servings_counted : (s : Sys) → length (all_servings s) ≡ choice_count s
-servings_counted s =
-    length-flat_map (servings_at s) (pairs s)
-    ∙ sum_by_same (λ p. length (servings_at s p)) (λ p. sum_by (λ a. length (offers s p a)) (below s.env.actions)) (pairs s)
-    (λ p i. length-flat_map (servings_for s p) (below s.env.actions)
-    ∙ sum_by_same (λ a. length (servings_for s p a)) (λ a. length (offers s p a)) (below s.env.actions) (λ a j. length-map (offers s p a) (serving p a)))
+servings_counted s = grind (arith, length-flat_map, length-map, sum_by_same)
 
 offers_once : (s : Sys) (p : Pair) (a : ℕ) → HasNoRepeats (offers s p a)
-offers_once s p a = by_test (is_allowed s p a)
-    (λ t. subst HasNoRepeats (sym (cond-true (is_allowed s p a) ready [] t)) (HasNoRepeats-filter (λ k. not (is_beaten (arena s) (λ q. not (is_related s q)) p a k)) (below (length s.seats)) (HasNoRepeats-below (length s.seats))))
-    (λ f. subst HasNoRepeats (sym (cond-false (is_allowed s p a) ready [] f)) tt)
-  where
-    ready : List ℕ
-    ready = filter (λ k. not (is_beaten (arena s) (λ q. not (is_related s q)) p a k)) (below (length s.seats))
+offers_once s p a = grind (arith, HasNoRepeats-below, HasNoRepeats-filter, by_test, cond-false, cond-true)
 
 servings_once : (s : Sys) → HasNoRepeats (all_servings s)
 servings_once s =

@@ -1,5 +1,5 @@
 -- Writing depths as part of a run.
-use Rattle.roman_top.proofs.Common.{◌≡◌, ℕ, ◌<◌, List, Option, Result, refl, sym, ap, ◌∙◌, subst, Pair, sizes_of, count, pair_at, numbers_are_pairs, NamedSys, system_of, PlainLibrary, IsSeated, start_pair_of, Seated, Finishes, Writes, library_system, TellsShortestOf, Status}
+use Rattle.roman_top.proofs.Common.{◌≡◌, ℕ, ◌<◌, List, Option, Result, refl, sym, ap, ◌∙◌, subst, arith, Pair, sizes_of, count, pair_at, numbers_are_pairs, NamedSys, system_of, PlainLibrary, IsSeated, start_pair_of, Seated, Finishes, Writes, library_system, TellsShortestOf, Status}
 use Rattle.roman_rank.specs.DepthText.{PutsDepths}
 use Rattle.roman_top.specs.Run.{TellsShortest}
 use Rattle.roman_top.specs.declared.status.Status.TheVariants as status
@@ -26,9 +26,7 @@ begins_there library seated is =
 
 -- the depths of an opened document are those of its library
 pub shortened_is_run : (seated : Seated) (library : PlainLibrary) → IsSeated library seated → (text : List ℕ) (ends : Status) → TellsShortestOf (system_of seated.joint) (start_pair seated) text ends → TellsShortest library text ends
-shortened_is_run seated library is text ends tells =
-    subst (λ (p : Pair). TellsShortestOf (library_system library) p text ends) (begins_there library seated is)
-    (subst (λ (n : NamedSys). TellsShortestOf (system_of n) (start_pair seated) text ends) is.parts tells)
+shortened_is_run seated library is text ends tells = grind (arith, begins_there)
 
 -- the start pair is one of the system
 pub start_below : (library : PlainLibrary) (seated : Seated) → IsSeated library seated → seated.start < count (sizes_of (system_of seated.joint))

@@ -1,5 +1,5 @@
 -- Sessions of accepted documents begin in well-formed situations.
-use Rattle.roman_top.proofs.Common.{◌≡◌, ℕ, List, [], map, IsFalse, refl, sym, ap, ◌∙◌, subst, arith, both_ways, lt-ltb, length-map, Texts, IsIn, Pair, IsPair, IsSys, from_map, there_is, NamedSys, seat_of, system_of, cells, library_of, PlainLibrary, IsLibrary, Situation, Idle, parts_of, start_pair_of, IsStart, start_pair, IsKnownSituation, Accepted, document_opening, is_past_limit, libraries_known}
+use Rattle.roman_top.proofs.Common.{◌≡◌, ℕ, List, [], map, IsFalse, refl, sym, ap, ◌∙◌, subst, arith, both_ways, lt-ltb, length-map, Texts, IsIn, IsSys, from_map, there_is, seat_of, system_of, cells, library_of, PlainLibrary, IsLibrary, Situation, Idle, parts_of, start_pair_of, IsStart, start_pair, IsKnownSituation, Accepted, document_opening, is_past_limit, libraries_known}
 use Rattle.roman_model.specs.System.{IsBeh}
 use Rattle.roman_model.specs.System as model
 use Rattle.roman_model.proofs.CallerLemmas.{in_contains, order_goes_on}
@@ -7,12 +7,10 @@ use Rattle.roman_joint.specs.NamedSys.{IsNamedSys, beh_at}
 use Rattle.roman_joint.proofs.CallerLemmas.{beh_read}
 use Rattle.roman_library.specs.Library.{IsService}
 use Rattle.roman_library.specs.declared.library.Service.{Service}
-use Rattle.roman_session.specs.Situations.{IsPhase}
 use Rattle.roman_session.specs.Situations as situation
 use Rattle.roman_start.specs.Starts.{seat_of_service}
 use Rattle.roman_session.proofs.CallerLemmas.{is_within}
 use Rattle.roman_start.proofs.CallerLemmas.{behaviours_within, names_once}
-use Rattle.roman_hearing.specs.Known.{AreNamed}
 use Rattle.roman_top.specs.Accepted.{StartsAreKnown}
 use Rattle.roman_top.proofs.EndingLemmas.{accepted_is}
 use Rattle.roman_library.specs.Known.{IsKnownLibrary}
@@ -43,28 +41,20 @@ library_sys library is = record {
 }
 
 pub library_parts : (library : PlainLibrary) → IsLibrary library → IsFalse (is_past_limit library) → IsNamedSys (parts_of library)
-library_parts library is within = record {
-  system = library_sys library is;
-  fits = is_within (cells (system_of (parts_of library))) library.limit
-      (λ past. both_ways (is_past_limit library) within (lt-ltb library.limit (cells (system_of (parts_of library))) past));
+library_parts library is within =
+ record {
+  system = library_sys _ is;
+  fits = is_within _ _ (λ past. both_ways (is_past_limit library) within (lt-ltb library.limit (cells (system_of (parts_of library))) past));
   limit = is.limit;
-  behaviours = behaviours_within library is;
-  names = names_once library is;
+  behaviours = behaviours_within _ is;
+  names = names_once _ is;
   catalogue = λ k b l. ((is.catalogue.known k b l).env_states, (is.catalogue.known k b l).actions);
   target = (is.target.env_states, is.target.actions);
 }
 
 -- a session of a library within its limit starts in a well-formed situation
 pub start_known : (library : PlainLibrary) (s : Situation) → IsKnownLibrary library → IsFalse (is_past_limit library) → IsStart library s → IsKnownSituation s
-start_known library s is within start = record {
-  situation = record {
-    parts = subst IsNamedSys (sym start.parts) (library_parts library is.known within);
-    here = subst (λ (p : Pair). IsPair (situation.present_system s) p) (sym start.here) (subst (λ (n : NamedSys). IsPair (system_of n) (start_pair_of library)) (sym start.parts) (start_pair library is.known));
-    list = start.list;
-    phase = subst (IsPhase s) (sym start.phase) tt;
-  };
-  named = subst AreNamed (sym start.parts) (record { behaviours = is.known.catalogue.known; environment = is.states });
-}
+start_known library s is within start = grind (arith, library_parts, start_pair)
 
 pub starts_known : StartsAreKnown
 starts_known texts system library s accepted start =

@@ -1,5 +1,5 @@
 -- Writing reports as part of a run.
-use Rattle.roman_top.proofs.Common.{◌≡◌, ℕ, Bool, true, false, List, Option, Result, refl, sym, subst, both_ways, Puts, Pair, is_related, related_great, great_related, NamedSys, PlainLibrary, Situation, present_system, report_text, parts_of, IsStart, Finishes, IsSpoken, Reports, Writes, EndsBy, Synthesises, Status}
+use Rattle.roman_top.proofs.Common.{◌≡◌, ℕ, Bool, true, false, List, Option, Result, refl, sym, subst, arith, both_ways, Puts, is_related, related_great, great_related, PlainLibrary, Situation, present_system, report_text, IsStart, Finishes, IsSpoken, Reports, Writes, EndsBy, Synthesises, Status}
 use Rattle.roman_joint.specs.NamedSys as joint
 use Rattle.roman_session.specs.Situations.{IsSituation}
 use Rattle.roman_top.specs.Endings.{IsTold, status_of}
@@ -24,10 +24,7 @@ reported s related wanted result old new r known e is puts finishes =
 
 -- the report on the starting situation is that of the library
 pub reported_is_run : (s : Situation) (library : PlainLibrary) → IsStart library s → (text : List ℕ) (ends : Status) → Reports s text ends → Synthesises library text ends
-reported_is_run s library start text ends reports =
-    let of_parts : (text ≡ report_text (parts_of library) s.here) × EndsBy (joint.system_of (parts_of library)) s.here ends =
-    subst (λ (n : NamedSys). (text ≡ report_text n s.here) × EndsBy (joint.system_of n) s.here ends) start.parts reports in
-    subst (λ (p : Pair). (text ≡ report_text (parts_of library) p) × EndsBy (joint.system_of (parts_of library)) p ends) start.here of_parts
+reported_is_run s library start text ends reports = grind arith
 
 -- where a yes or a no was told, neither the shelf nor the input failed
 pub told_spoken : (old new : Option (List ℕ)) (result : Status) → IsTold result → IsSpoken old new result

@@ -1,5 +1,5 @@
 -- Sessions, as part of a run.
-use Rattle.roman_top.proofs.Common.{◌≡◌, ℕ, ◌+◌, ◌-◌, List, Option, None, Some, IfSome, Result, Ok, Err, IsTrue, IsFalse, inr, refl, sym, ◌∙◌, subst, cond-true, cond-false, Rose, Texts, shelf_text, rest_from, lines, ended_lines, MAX_SESSION_BYTES, by_test, Situation, IsStart, prefix_of, is_heard_out, ShelfCause, InputCause, SinkCause, Run, On, Accepts, Opens, IsFree, HasRunPrefix, AtShelfFault, IsOfTaken, EndsInput, document_opening, Talks, IsSessionText, HasRun, Served, ServedBeside, World, world, outputs, Status}
+use Rattle.roman_top.proofs.Common.{◌≡◌, ℕ, ◌+◌, ◌-◌, List, Option, None, Some, IfSome, Result, Ok, Err, IsTrue, IsFalse, refl, sym, ◌∙◌, subst, arith, cond-true, cond-false, Rose, Texts, rest_from, lines, ended_lines, MAX_SESSION_BYTES, by_test, Situation, IsStart, prefix_of, is_heard_out, ShelfCause, InputCause, SinkCause, Run, On, Accepts, Opens, IsFree, HasRunPrefix, AtShelfFault, IsOfTaken, EndsInput, document_opening, Talks, IsSessionText, HasRun, Served, ServedBeside, World, world, outputs, Status}
 use Rattle.std.proofs.Common.{OnOk, IsErrOf, ◌⊎◌}
 use Rattle.roman_io.specs.Source.{Had, IsAtEnd, GaveAtMost}
 use Rattle.roman_io.proofs.CallerLemmas.{Gave-told}
@@ -11,7 +11,7 @@ use Rattle.roman_hearing.specs.declared.hearing.HearError.{HearError}
 use Rattle.roman_hearing.specs.declared.hearing.HearError.TheVariants as hear
 use Rattle.roman_hearing.proofs.CallerLemmas.{short_out}
 use Rattle.roman_top.specs.Endings.{GoesOnFrom, HearsText, heard_status}
-use Rattle.roman_top.specs.Faults.{HasAnswered, HasAnsweredPrefix, HasAnsweredInput, HasPrefixOfTaken, IsOfSession, TakesInput}
+use Rattle.roman_top.specs.Faults.{HasAnswered, HasAnsweredInput, HasPrefixOfTaken, IsOfSession, TakesInput}
 use Rattle.roman_top.specs.Run.{Runs}
 use Rattle.roman_top.specs.declared.status.Status.TheVariants as status
 use Rattle.roman_top.proofs.EndingLemmas.{told_more, match_true, match_false, on_accepted}
@@ -263,27 +263,13 @@ shelf_given texts system name rest session had = sym had
 
 broken_shelf : (texts : Texts) (system name : List ℕ) (start now : Situation) (accepts : Accepts (document_opening texts system) (λ library. IsStart library start)) (old new : World) → old.texts ≡ Some texts →
     GoesOnFrom (stream_state start (rest_from (Some texts) name 0) old.written) (cursor now new.written) → AtShelfFault (Some (On system (Run (Some name)))) old new
-broken_shelf texts system name start now accepts old new told (has, goes) =
-    let (left, e, split) = Gave-told (shelf_text texts name) has goes.taken goes.gave in
-    inr (subst (λ (o : Option Texts). IfSome o (λ texts. HasAnsweredPrefix texts system name old new)) (sym told)
-    (record { taken = goes.taken; rest = left; split = split; answered = answered texts system start accepts old new now (rest_from (Some texts) name 0) has goes }))
+broken_shelf texts system name start now accepts old new told (has, goes) = grind (arith, Gave-told)
 
 heard_shelf : (system name : List ℕ) (start now : Situation) (told told_now : Option Texts) (shelf shelf_mid shelf_now : ℕ) (old new : Option (List ℕ)) (out out_mid out_now : ℕ) (heard : Result (Unit {0}) HearError) →
     IfSome told (λ texts. Accepts (document_opening texts system) (λ library. IsStart library start)) → AreBehaviours start.parts → told_now ≡ told → shelf_mid ≡ shelf → out_mid ≡ out →
     HearsText (stream_state start (rest_from told name 0) old) (cursor now new) heard → CausedBy hear.ReadFault shelf_mid shelf_now heard → CausedBy hear.WriteFault out_mid out_now heard →
     ServedBeside (Some (On system (Run (Some name)))) (outputs told shelf old out) (outputs told_now shelf_now new out_now) (heard_status status.ShelfFault heard)
-heard_shelf system name start now None told_now shelf shelf_mid shelf_now old new out out_mid out_now heard opens behaviours texts shelves outs h reads writes rest input = record {
-  run = λ free. tt;
-  shelf_fault = λ is. inr tt;
-  read_fault = λ is. absurd (never_input heard is);
-  write_fault = λ is. tt;
-  memory = λ is. absurd (never_memory_shelf heard is);
-  shelf = shelf_cause shelf shelf_mid shelf_now heard shelves reads;
-  input = input_stays input heard;
-  out = sink_cause out out_mid out_now status.ShelfFault heard outs writes (λ same. same);
-  ends = tt;
-  texts = texts;
-}
+heard_shelf system name start now None told_now shelf shelf_mid shelf_now old new out out_mid out_now heard opens behaviours texts shelves outs h reads writes rest input = grind (arith, input_stays, never_input, never_memory_shelf, shelf_cause, sink_cause)
 heard_shelf system name start now (Some held) told_now shelf shelf_mid shelf_now old new out out_mid out_now heard accepts behaviours texts shelves outs h reads writes rest input =
     let before = world (Some held) shelf rest input old out in
     let after = world told_now shelf_now rest input new out_now in

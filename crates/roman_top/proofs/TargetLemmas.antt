@@ -1,6 +1,7 @@
 -- A turn of a session on a document with several targets, target by target.
-use Rattle.roman_top.proofs.Common.{◌≡◌, ◌↔◌, ℕ, ◌<◌, List, [], length, Result, Ok, Some, IsTrue, inl, inr, slice_get, sym, ap, ◌∙◌, subst, arith, length-map, slice_get_within, get_or_from_slice_get, below, product_of, Sys, IsPair, length-below, there_is, LineShape, LineError, NamedSys, seat_of, system_of, PlainLibrary, PlainTargets, Situation, Idle, shown, IsKnownSituation, State, IsOpenGreat, TurnsInto, open_great, MeansTargets, IsTurnOfTargets}
+use Rattle.roman_top.proofs.Common.{◌≡◌, ◌↔◌, ℕ, ◌<◌, List, [], length, Result, Ok, Some, IsTrue, inl, inr, slice_get, sym, ap, ◌∙◌, subst, arith, length-map, slice_get_within, get_or_from_slice_get, below, product_of, Sys, IsPair, length-below, there_is, LineShape, LineError, NamedSys, seat_of, system_of, PlainLibrary, PlainTargets, Situation, Idle, shown, IsKnownSituation, State, TurnsInto, open_great, MeansTargets, IsTurnOfTargets}
 use Rattle.std.proofs.Common.{slice_set}
+use Rattle.roman_hearing.specs.States.{IsOpenGreat}
 use Rattle.std.proofs.lemmas.Option.{slice_get-get_or}
 use Rattle.roman_model.specs.Lists.{IsSublist}
 use Rattle.roman_model.specs.System.{Beh, has_move, TStep, SStep, Allows}

@@ -1,7 +1,6 @@
 -- Each answered line has its turn.
-use Rattle.roman_top.proofs.Common.{◌≡◌, ℕ, List, [], ◌∷◌, ◌++◌, Result, Ok, inl, inr, IsTrue, refl, sym, ap, ap₂, ◌∙◌, subst, false≢true, both_ways, cond-true, cond-false, flat_map, IsIn, Pair, by_test, NamedSys, PlainLibrary, Situation, IsStart, Step, LineShape, shape_of, LineError, parts_of, until_quit, Answers, shown, IsKnownSituation, State, start_state, IsState, IsOpenGreat, LinesAreRead, TurnsInto, open_great, Turn}
+use Rattle.roman_top.proofs.Common.{◌≡◌, ℕ, List, [], ◌∷◌, ◌++◌, Result, Ok, inl, inr, IsTrue, refl, sym, ap, ◌∙◌, subst, arith, false≢true, both_ways, cond-true, cond-false, flat_map, IsIn, by_test, NamedSys, PlainLibrary, Situation, IsStart, Step, LineShape, shape_of, LineError, parts_of, until_quit, Answers, shown, IsKnownSituation, State, start_state, IsState, LinesAreRead, TurnsInto, open_great, Turn}
 use Rattle.roman_session.specs.Steps.{is_quit}
-use Rattle.roman_session.specs.declared.phase.Phase.{Phase}
 use Rattle.roman_text.specs.Shapes.{quit}
 use Rattle.roman_hearing.proofs.CallerLemmas.{steps_known, steps_turns, line_keeps}
 use Rattle.roman_top.specs.HeadlineTurns.{AreTurns, after_turns}
@@ -12,19 +11,11 @@ IsFrom library s = s.parts ≡ record (parts_of library) { seats = s.parts.seats
 
 -- the state of a well-formed situation is well formed
 pub state_known : (library : PlainLibrary) (s : Situation) → IsFrom library s → IsKnownSituation s → IsState library (shown s)
-state_known library s from known = record {
-  parts = from;
-  names = known.situation.parts.names;
-  here = known.situation.here;
-  asked = λ a phase. subst (IsOpenGreat (shown s)) phase (open_great s known.situation);
-  handed = λ a k phase. subst (IsOpenGreat (shown s)) phase (open_great s known.situation);
-}
+state_known library s from known = grind (arith, open_great)
 
 -- the state of a starting situation
 pub start_seen : (library : PlainLibrary) (s : Situation) → IsStart library s → shown s ≡ start_state library
-start_seen library s start =
-    ap (λ (n : NamedSys). record { parts = n; here = s.here; phase = s.phase }) start.parts
-    ∙ ap₂ (λ (p : Pair) (phase : Phase). record { parts = parts_of library; here = p; phase = phase }) start.here start.phase
+start_seen library s start = grind arith
 
 pub start_from : (library : PlainLibrary) (s : Situation) → IsStart library s → IsFrom library s
 start_from library s start = subst (λ (n : NamedSys). n ≡ record (parts_of library) { seats = n.seats }) (sym start.parts) refl

@@ -1,7 +1,6 @@
 use Rattle.roman_top.proofs.Common.{ℕ, Err, refl, sym, ap, ◌∙◌, sizes_of, pair_at, system_of, Unrelated, TooMany, Told, advice_text, advised_by}
 use Rattle.roman_top.specs.declared.status.Status.TheVariants as status
 use Rattle.roman_top.proofs.AdviseLemmas.{told_related, advice_put, advised_unrelated, advised_many, advised_told, few_values}
-use Rattle.roman_top.proofs.EndingLemmas.{finished_spoken, finished_sink}
 use Rattle.roman_top.proofs.advise.tell_relation.Goals as goal
 
 pub returns-then-not-related-clause-writes : goal.returns-then-not-related-clause-writes
@@ -12,12 +11,6 @@ returns-then-not-related-clause-writes g c =
     let told = told_related s c.args.start _ c.known.ensures.system c.requires.start (c.if-not-related.ensures.great c.requires.relation.complete) in
     advice_put (advised_by n c.args.costs.now.listed c.args.requests.count p) Unrelated _ status.No _ _ c.finish.result c.put_unrelated.result
     (advised_unrelated n c.args.costs.now.listed c.args.requests.count p (sym told)) (refl, refl) c.put_unrelated.ensures.puts c.finish.ensures (λ w. w)
-
-pub returns-then-not-related-clause-spoken : goal.returns-then-not-related-clause-spoken
-returns-then-not-related-clause-spoken g c = finished_spoken status.No _ _ c.finish.result c.put_unrelated.result tt c.finish.ensures
-
-pub returns-then-not-related-clause-out : goal.returns-then-not-related-clause-out
-returns-then-not-related-clause-out g c = finished_sink status.No _ _ c.finish.result c.put_unrelated.result (λ e. e) c.finish.ensures c.put_unrelated.ensures.cause
 
 pub returns-in-Ok-clause-writes : goal.returns-in-Ok-clause-writes
 returns-in-Ok-clause-writes g c =

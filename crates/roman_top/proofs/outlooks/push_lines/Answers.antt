@@ -2,12 +2,6 @@ use Rattle.roman_top.proofs.Common.{refl, err_from_is_err_and, sizes_of, pair_at
 use Rattle.roman_top.proofs.OutlookLemmas.{both_lines}
 use Rattle.roman_top.proofs.outlooks.push_lines.Goals as goal
 
-pub left-frozen-requires : goal.left-frozen-requires
-left-frozen-requires g c = (c.args.joint.now, c.requires.losses, record { one = c.requires.first; later = c.requires.second })
-
-pub left-gone-requires : goal.left-gone-requires
-left-gone-requires g c = (c.args.joint.now, c.requires.losses, record { one = c.requires.first; later = c.requires.second })
-
 pub returns-in_err-push_line-clause-gathers : goal.returns-in_err-push_line-clause-gathers
 returns-in_err-push_line-clause-gathers g c =
     let n = c.args.joint.now in

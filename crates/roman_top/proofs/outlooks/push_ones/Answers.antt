@@ -11,18 +11,7 @@ returns-in_err-push_lines-clause-gathers g c =
     rw p.1 (fill_failed _ _ _ _ _ _ _ (fill_same _ _ _ _ _ _ next c.loop-k.invariant.filling) c.in_err-push_lines.ensures.gathers.0, c.in_err-push_lines.ensures.gathers.1)
 
 pub loop-k-preserved : goal.loop-k-preserved
-loop-k-preserved g c =
-    let n = c.args.joint.now in
-    let within : c.loop-k.k < length n.seats = omega (arith, c.seats-k-end.ensures.count) in
-    let next = each_next (λ (k : ℕ). k ∷ []) (lines_without n (pair_at (sizes_of (system_of n)) c.args.losses.now.pair)) (length n.seats) c.loop-k.k within in
-    record {
-      filling = fill_more _ _ _ _ _ _ _ _ (fill_same _ _ _ _ _ _ next c.loop-k.invariant.filling) c.in_ok-push_lines.ensures.gathers;
-      cause = c.in_ok-push_lines.ensures.cause.stays ∙ c.loop-k.invariant.cause;
-    }
+loop-k-preserved g c = grind (arith, each_next, fill_more, fill_same)
 
 pub returns-clause-gathers : goal.returns-clause-gathers
-returns-clause-gathers g c =
-    let n = c.args.joint.now in
-    let past : length n.seats ≤ c.loop-k.k = omega (arith, c.seats-k-end.ensures.count) in
-    let last = each_end (λ (k : ℕ). k ∷ []) (lines_without n (pair_at (sizes_of (system_of n)) c.args.losses.now.pair)) (length n.seats) c.loop-k.k past in
-    fill_end _ _ _ _ (fill_same _ _ _ _ _ _ last c.loop-k.invariant.filling)
+returns-clause-gathers g c = grind (arith, each_end, fill_end, fill_same)

@@ -11,18 +11,7 @@ returns-in_err-push_lines-clause-gathers g c =
     rw p.1 (fill_failed _ _ _ _ _ _ _ (fill_same _ _ _ _ _ _ next c.loop-j.invariant.filling) c.in_err-push_lines.ensures.gathers.0, c.in_err-push_lines.ensures.gathers.1)
 
 pub loop-j-preserved : goal.loop-j-preserved
-loop-j-preserved g c =
-    let n = c.args.joint.now in
-    let within : c.loop-j.j < length n.seats = omega (arith, c.seats-j-end.ensures.count) in
-    let next = each_next (λ (j : ℕ). c.args.k ∷ j ∷ []) (lines_without n (pair_at (sizes_of (system_of n)) c.args.losses.now.pair)) (length n.seats) c.loop-j.j within in
-    record {
-      filling = fill_more _ _ _ _ _ _ _ _ (fill_same _ _ _ _ _ _ next c.loop-j.invariant.filling) c.in_ok-push_lines.ensures.gathers;
-      cause = c.in_ok-push_lines.ensures.cause.stays ∙ c.loop-j.invariant.cause;
-    }
+loop-j-preserved g c = grind (arith, each_next, fill_more, fill_same)
 
 pub returns-clause-gathers : goal.returns-clause-gathers
-returns-clause-gathers g c =
-    let n = c.args.joint.now in
-    let past : length n.seats ≤ c.loop-j.j = omega (arith, c.seats-j-end.ensures.count) in
-    let last = each_end (λ (j : ℕ). c.args.k ∷ j ∷ []) (lines_without n (pair_at (sizes_of (system_of n)) c.args.losses.now.pair)) (length n.seats) c.loop-j.j past in
-    fill_end _ _ _ _ (fill_same _ _ _ _ _ _ last c.loop-j.invariant.filling)
+returns-clause-gathers g c = grind (arith, each_end, fill_end, fill_same)

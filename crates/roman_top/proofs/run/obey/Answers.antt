@@ -1,4 +1,4 @@
-use Rattle.roman_top.proofs.Common.{None, Some, ap, Synth, Run, Certify, Check, Shortest, Resilience, Advise, On, Make, command_as}
+use Rattle.roman_top.proofs.Common.{Some, ap, Synth, Run, Certify, Check, Shortest, Resilience, Advise, On, Make, command_as}
 use Rattle.roman_top.proofs.ServedLemmas.{served_as, made_served}
 use Rattle.roman_top.proofs.run.obey.Goals as goal
 
@@ -31,10 +31,6 @@ pub returns-in-Advise-clause-served : goal.returns-in-Advise-clause-served
 returns-in-Advise-clause-served g c =
     served_as _ (Some (On c.in-Advise.system.now (Advise c.in-Advise.costs.now c.in-Advise.requests.count))) _ _ c.advise.result (ap (λ command. Some (command_as command)) c.in-Advise.is)
     (c.advise.ensures.served (g.I.Source.rest c.args.input.now) (g.I.Source.faults c.args.input.now))
-
-pub returns-in-Run-clause-served : goal.returns-in-Run-clause-served
-returns-in-Run-clause-served g c =
-    served_as _ (Some (On c.in-Run.system.now (Run None))) _ _ c.talk_input.result (ap (λ command. Some (command_as command)) c.in-Run.is) c.talk_input.ensures.served
 
 pub returns-in-Shortest-clause-served : goal.returns-in-Shortest-clause-served
 returns-in-Shortest-clause-served g c =

@@ -12,22 +12,7 @@ returns-in-None-clause-served g c =
     served_as _ None _ _ c.finish.result (sym c.command_of.ensures ∙ ap (option_map command_as) c.in-None.is)
     (usage_served _ _ _ _ _ _ _ _ c.finish.result c.put_usage.result c.put_usage.ensures.puts c.finish.ensures c.put_usage.ensures.cause)
 
-pub returns-in-None-clause-headline : goal.returns-in-None-clause-headline
-returns-in-None-clause-headline g c =
-    has_headline _ _ _ c.finish.result c.lines_are_read.ensures.read c.greatest_is_complete.ensures.complete
-    (served_as _ None _ _ c.finish.result (sym c.command_of.ensures ∙ ap (option_map command_as) c.in-None.is)
-    (usage_served _ _ _ _ _ _ _ _ c.finish.result c.put_usage.result c.put_usage.ensures.puts c.finish.ensures c.put_usage.ensures.cause))
-
-pub returns-in-None-clause-complete : goal.returns-in-None-clause-complete
-returns-in-None-clause-complete g c =
-    completes _ _ _ c.finish.result
-    (served_as _ None _ _ c.finish.result (sym c.command_of.ensures ∙ ap (option_map command_as) c.in-None.is)
-    (usage_served _ _ _ _ _ _ _ _ c.finish.result c.put_usage.result c.put_usage.ensures.puts c.finish.ensures c.put_usage.ensures.cause))
-
 -- commands
-
-pub returns-in-Some-clause-served : goal.returns-in-Some-clause-served
-returns-in-Some-clause-served g c = served_as _ (Some (command_as c.in-Some.command)) _ _ c.obey.result (sym c.command_of.ensures ∙ ap (option_map command_as) c.in-Some.is) c.obey.ensures.served
 
 pub returns-in-Some-clause-headline : goal.returns-in-Some-clause-headline
 returns-in-Some-clause-headline g c =

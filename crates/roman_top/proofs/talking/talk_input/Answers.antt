@@ -20,6 +20,5 @@ returns g c =
       prefix = c.hear.ensures.prefix;
       taken = c.hear.ensures.taken;
       past = c.hear.ensures.past;
-    })
-    c.hear.ensures.reads c.hear.ensures.writes c.status_after.ensures in
+    }) c.hear.ensures.reads c.hear.ensures.writes c.status_after.ensures in
     record { served = served; input = inr took }
