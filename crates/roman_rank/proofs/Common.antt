@@ -4,7 +4,7 @@ pub use Rattle.std.proofs.Math.Seq.{take-length}
 pub use Rattle.std.proofs.lemmas.Bool.{both_ways, cases_eq, cases_lt, cond-false, cond-true, eq-eqb, eqb-true, ne_eqb, not_from_false}
 pub use Rattle.std.proofs.lemmas.List.{get_or_past}
 pub use Rattle.std.proofs.lemmas.Result.{err_from_is_err_and}
-pub use Rattle.std.specs.Prelude.{count_by, max}
+pub use Rattle.std.specs.Prelude.{count_by}
 pub use Rattle.roman_joint.specs.NamedSys.{system_of}
 pub use Rattle.roman_model.proofs.CallerLemmas.{by_test, last_is_steady, length-below, loses_up, lost_unrelated, numbered_loses, numbers_are_pairs, related_great}
 pub use Rattle.roman_model.specs.Arena.{Arena, loses}

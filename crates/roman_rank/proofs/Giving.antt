@@ -1,5 +1,5 @@
 -- The levels of a list, assigned to its nodes.
-use Rattle.roman_rank.proofs.Common.{◌≡◌, ◌≢◌, ℕ, zero, suc, ◌+◌, ◌-◌, ◌^◌, ◌<◌, ◌≤◌, ◌==◌, true, List, [], ◌∷◌, ◌++◌, length, take, slice_index, Some, IsTrue, IsFalse, inl, inr, refl, sym, ap, ◌∙◌, subst, arith, add-one, max, take-length, both_ways, eqb-true, eq-eqb, cases_eq, cases_lt, get_or_past, Arena, loses, by_test, last_is_steady, IsNumbered, numbered_arena, in_nodes, has_entry, IsRank, AreRanks, AreRanksBelow, GivesLevel, HoldsAllLost}
+use Rattle.roman_rank.proofs.Common.{◌≡◌, ◌≢◌, ℕ, zero, suc, ◌+◌, ◌-◌, ◌^◌, ◌<◌, ◌≤◌, ◌==◌, true, List, [], ◌∷◌, ◌++◌, length, take, slice_index, Some, IsTrue, IsFalse, inl, inr, refl, sym, ap, ◌∙◌, subst, arith, add-one, take-length, both_ways, eqb-true, eq-eqb, cases_eq, cases_lt, get_or_past, Arena, loses, by_test, last_is_steady, IsNumbered, numbered_arena, in_nodes, has_entry, IsRank, AreRanks, AreRanksBelow, GivesLevel, HoldsAllLost}
 use Rattle.std.proofs.Common.{set, slice_get}
 use Rattle.std.specs.Prelude.{min}
 use Rattle.std.specs.List.{IsDistinct}

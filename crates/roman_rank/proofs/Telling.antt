@@ -4,7 +4,6 @@ use Rattle.std.proofs.Common.{◌⊎◌, ◌↔◌, not, filter, flat_map, Optio
 use Rattle.std.specs.Prelude.{IfSome}
 use Rattle.std.proofs.lemmas.Bool.{cases_order, and_from, and_parts, not-true}
 use Rattle.std.proofs.Math.Seq.{drop-length}
-use Rattle.std.proofs.lemmas.List.{drop_all}
 use Rattle.std.proofs.lemmas.List.Sums.{length-filter}
 use Rattle.std.proofs.lemmas.Option.{none-some}
 use Rattle.roman_io.specs.Sink.{Puts}

@@ -1,4 +1,5 @@
-use Rattle.roman_rank.proofs.Common.{◌≤◌, max, GivesLevel}
+use Rattle.roman_rank.proofs.Common.{◌≤◌, GivesLevel}
+use Rattle.std.specs.Prelude.{max}
 use Rattle.roman_order.specs.Walks.{IsAhead}
 use Rattle.roman_rank.proofs.levels.give_depth.Given as goal
 
