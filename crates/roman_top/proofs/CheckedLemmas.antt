@@ -32,8 +32,7 @@ justified_from s before p (Act a) ok (allows, each) =
 
 order_from_valid : (s : Sys) (before : List Pair) (L : List (Entry Pair)) → IsSys s → AreValid s before L → IsOrderFrom (arena s) before L
 order_from_valid s before [] ok valid = tt
-order_from_valid s before (x ∷ L) ok valid =
- (
+order_from_valid s before (x ∷ L) ok valid = (
   by_test (is_among (arena s) before x.node)
       (λ t. let (q, i, same) = any_true (same_pair x.node) before t in absurd (valid.0 (subst (λ r. IsIn r before) (sym (same_is x.node q same)) i))) (λ f. f),
   justified_from s before x.node x.reason ok valid.1,

@@ -42,15 +42,15 @@ library_sys library is = record {
 
 pub library_parts : (library : PlainLibrary) → IsLibrary library → IsFalse (is_past_limit library) → IsNamedSys (parts_of library)
 library_parts library is within =
- record {
-  system = library_sys _ is;
-  fits = is_within _ _ (λ past. both_ways (is_past_limit library) within (lt-ltb library.limit (cells (system_of (parts_of library))) past));
-  limit = is.limit;
-  behaviours = behaviours_within _ is;
-  names = names_once _ is;
-  catalogue = λ k b l. ((is.catalogue.known k b l).env_states, (is.catalogue.known k b l).actions);
-  target = (is.target.env_states, is.target.actions);
-}
+    record {
+      system = library_sys _ is;
+      fits = is_within _ _ (λ past. both_ways (is_past_limit library) within (lt-ltb library.limit (cells (system_of (parts_of library))) past));
+      limit = is.limit;
+      behaviours = behaviours_within _ is;
+      names = names_once _ is;
+      catalogue = λ k b l. ((is.catalogue.known k b l).env_states, (is.catalogue.known k b l).actions);
+      target = (is.target.env_states, is.target.actions);
+    }
 
 -- a session of a library within its limit starts in a well-formed situation
 pub start_known : (library : PlainLibrary) (s : Situation) → IsKnownLibrary library → IsFalse (is_past_limit library) → IsStart library s → IsKnownSituation s
