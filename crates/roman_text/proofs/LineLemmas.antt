@@ -1,5 +1,5 @@
 -- The lines of a text that grows.
-use Rattle.std.proofs.Common.{◌≡◌, ◌≢◌, ℕ, zero, suc, ◌+◌, ◌-◌, ◌≤◌, ◌==◌, List, [], ◌∷◌, ◌++◌, length, take, drop, get_or, min, Bool, true, false, not, cond, ◌||◌, None, Some, refl, sym, ap, ap₂, ◌∙◌, subst, inl, inr, append_assoc, drop-cons, arith}
+use Rattle.std.proofs.Common.{◌≡◌, ◌≢◌, ℕ, zero, suc, ◌+◌, ◌≤◌, ◌==◌, List, [], ◌∷◌, ◌++◌, length, take, drop, get_or, min, Bool, true, false, not, cond, ◌||◌, None, Some, refl, sym, ap, ap₂, ◌∙◌, subst, inl, inr, append_assoc, drop-cons, arith}
 use borrow.Author.Tests.{eqb-true, ltb-true}
 use Rattle.std.proofs.Math.Dec.{ltb}
 use Rattle.std.proofs.lemmas.Bool.{both_ways, or_from}

@@ -1,12 +1,17 @@
 //! Splits a stream of bytes into lines.
-ghost use Rattle.std.specs.Prelude.{◌≡◌, ◌+◌, ◌≤◌, ◌++◌, [], length, position, nat_lt};
+ghost use Rattle.std.specs.Prelude.{◌≡◌, ◌+◌, ◌<◌, ◌≤◌, ◌++◌, [], Some, length, position, nat_lt};
+ghost use Rattle.roman_text.specs.declared.lines.TheConstants.{LANES};
 ghost use Rattle.roman_text.specs.Lines.{IsFirstLine, is_newline, kept};
 
 use roman_model::MAX_LINE_BYTES;
 use std::marker::Model;
+use std::simd::prelude::*;
 
 /// One byte more than the greatest length of a line, so that a longer line is recognised.
 const KEPT: usize = MAX_LINE_BYTES as usize + 1;
+
+/// The number of bytes that are searched together for a newline.
+const LANES: usize = 16;
 
 /// Holds the current line of a stream of bytes, whatever the pieces in which it comes. Contracts see
 /// the held bytes of the line: its first 257, which decide its shape.
@@ -35,11 +40,33 @@ pub fn split_line(bytes: &[u8]) -> Option<(&[u8], &[u8])>
     Some((&bytes[..end], &bytes[end + 1..]))
 }
 
-/// Returns the place of the first byte 10, or `None` where there is no byte 10.
+/// Returns the place of the first byte 10, or `None` where there is no byte 10. Searches the first
+/// bytes together, since most lines are short.
 fn newline(bytes: &[u8]) -> Option<usize>
     ensures { result ≡ position is_newline bytes.now }
 {
+    if bytes.len() >= LANES {
+        let place = newline_near(bytes);
+        if place < LANES {
+            return Some(place);
+        }
+    }
     bytes.iter().position(|&byte| byte == b'\n')
+}
+
+/// Returns the place of the first byte 10 among the first 16 bytes, or 16 where none of them is 10.
+#[inline(always)]
+fn newline_near(bytes: &[u8]) -> usize
+    requires { LANES ≤ length bytes.now }
+    ensures { result < LANES → position is_newline bytes.now ≡ Some result }
+{
+    let newlines = u8x16::from_slice(bytes)
+        .simd_eq(u8x16::splat(b'\n'))
+        .to_bitmask();
+    if newlines == 0 {
+        return LANES;
+    }
+    newlines.trailing_zeros() as usize
 }
 
 impl Splitter {

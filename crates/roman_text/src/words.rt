@@ -4,11 +4,11 @@ ghost use Rattle.std.specs.List.{position_or_len};
 ghost use Rattle.std.specs.Str.Lines.{strip_carriage_return};
 ghost use Rattle.roman_text.specs.Shapes.{IsFirstWord, is_blank, is_comment, is_part};
 
-/// Returns whether the byte separates words.
+/// Returns whether the byte separates words. Most bytes are greater than those that do.
 fn is_blank(byte: u8) -> bool
     ensures { result ≡ is_blank byte }
 {
-    byte == b' ' || byte == b'\t'
+    byte <= b' ' && (byte == b' ' || byte == b'\t')
 }
 
 /// Returns the place where the first word begins, or `None` where there is no word.

@@ -1,7 +1,7 @@
-//! Answers the events that have a single reply. Each event has its own function, because a reply is
+//! Answers the events whose reply is made first, and then pushed. Each event has its own function, because a reply is
 //! large and a function clears the places of all replies that it may hold.
 ghost use Rattle.roman_io.specs.Faults.{HasCause};
-ghost use Rattle.roman_text.specs.Shapes.{hand, saw, abort, jump, jump_env, freeze, thaw, die, join};
+ghost use Rattle.roman_text.specs.Shapes.{abort, jump, jump_env, freeze, thaw, die, join};
 ghost use Rattle.roman_session.specs.Answering.{DoneOn};
 
 use super::Session;
@@ -11,33 +11,6 @@ use std::sync::ledger::Ledger;
 
 #[tactic(auto, using(crate::proofs::AnswerLemmas::done))]
 impl Session {
-    /// Answers `use`, and pushes the reply on a page.
-    pub(super) fn answer_hand<O: Sink>(
-        &mut self,
-        service: &[u8],
-        page: &mut Page,
-        out: &mut O,
-    ) -> Result<(), Failed>
-        ensures step { DoneOn self.old (hand service.now) self.new (O.written out.old) (O.written out.new) page.old page.new result }
-        ensures cause { HasCause (O.faults out.old) (O.faults out.new) result }
-    {
-        page.push_reply(&self.hand(service), out)
-    }
-
-    /// Answers `saw`, and pushes the reply on a page.
-    pub(super) fn answer_sight<O: Sink>(
-        &mut self,
-        state: &[u8],
-        env: &[u8],
-        page: &mut Page,
-        out: &mut O,
-    ) -> Result<(), Failed>
-        ensures step { DoneOn self.old (saw state.now env.now) self.new (O.written out.old) (O.written out.new) page.old page.new result }
-        ensures cause { HasCause (O.faults out.old) (O.faults out.new) result }
-    {
-        page.push_reply(&self.see(state, env), out)
-    }
-
     /// Answers `abort`, and pushes the reply on a page.
     pub(super) fn answer_abort<O: Sink>(
         &mut self,

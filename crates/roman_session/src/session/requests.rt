@@ -1,16 +1,18 @@
 //! Requests, delegations and their outcomes.
 ghost use Rattle.std.specs.Prelude.{◌≡◌, MatchResult, Ok, Err};
+ghost use Rattle.roman_io.specs.Faults.{HasCause};
 ghost use Rattle.roman_text.specs.Replies.{reply_text};
 ghost use Rattle.roman_text.specs.Shapes.{hand, saw, abort};
 ghost use Rattle.roman_session.specs.Rulings.{asked};
 ghost use Rattle.roman_session.specs.Steps.{StepOn};
+ghost use Rattle.roman_session.specs.Answering.{DoneOn};
 
 use super::Session;
 use crate::events::Handing;
 use crate::phase::Phase;
 use roman_generator::next_target;
-use roman_read::Name;
-use roman_text::Reply;
+use roman_io::{Failed, Sink};
+use roman_text::{Page, Reply};
 
 impl Session {
     /// Applies `do A`, and returns the action for which services are now offered. A refusal changes
@@ -25,17 +27,24 @@ impl Session {
         Ok(a)
     }
 
-    /// Applies `use S`, and returns the reply. A refusal changes nothing.
-    pub(super) fn hand(&mut self, service: &[u8]) -> Reply
-        ensures { StepOn self.old (hand service.now) (reply_text result) self.new }
+    /// Answers `use S`, and pushes the reply on a page. A refusal changes nothing.
+    #[tactic(auto, using(crate::proofs::AnswerLemmas::done))]
+    pub(super) fn answer_hand<O: Sink>(
+        &mut self,
+        service: &[u8],
+        page: &mut Page,
+        out: &mut O,
+    ) -> Result<(), Failed>
+        ensures step { DoneOn self.old (hand service.now) self.new (O.written out.old) (O.written out.new) page.old page.new result }
+        ensures cause { HasCause (O.faults out.old) (O.faults out.new) result }
     {
         let Handing { action, seat } = match self.handed(service) {
             Ok(handing) => handing,
-            Err(refusal) => return refusal,
+            Err(refusal) => return page.push_reply(&refusal, out),
         };
-        let name = self.relation.joint.seat(seat).name;
+        let pushed = page.push_using(&self.relation.joint.seat(seat).name, out);
         self.set_phase(Phase::Delegated(action, seat));
-        Reply::Using(name)
+        pushed
     }
 
     /// Applies `abort`, and returns the reply. A refusal changes nothing.
@@ -49,23 +58,28 @@ impl Session {
         Reply::Aborted
     }
 
-    /// Applies `saw B E`, and returns the reply. A refusal changes nothing.
-    pub(super) fn see(&mut self, state: &[u8], env: &[u8]) -> Reply
-        ensures { StepOn self.old (saw state.now env.now) (reply_text result) self.new }
+    /// Answers `saw B E`, and pushes the reply on a page. A refusal changes nothing.
+    #[tactic(auto, using(crate::proofs::AnswerLemmas::done))]
+    pub(super) fn answer_sight<O: Sink>(
+        &mut self,
+        state: &[u8],
+        env: &[u8],
+        page: &mut Page,
+        out: &mut O,
+    ) -> Result<(), Failed>
+        ensures step { DoneOn self.old (saw state.now env.now) self.new (O.written out.old) (O.written out.new) page.old page.new result }
+        ensures cause { HasCause (O.faults out.old) (O.faults out.new) result }
     {
         let sight = match self.seen(state, env) {
             Ok(sight) => sight,
-            Err(refusal) => return refusal,
+            Err(refusal) => return page.push_reply(&refusal, out),
         };
         self.known();
         let joint = &self.relation.joint;
         let Some(to) = next_target(joint, self.target, self.env, &self.states, sight) else {
-            return Reply::Impossible;
+            return page.push_reply(&Reply::Impossible, out);
         };
         self.move_to(to, sight.env, sight.seat, sight.state);
-        Reply::Now {
-            target: *self.target_name(),
-            env: *self.env_name(),
-        }
+        page.push_now(self.target_name(), self.env_name(), out)
     }
 }

@@ -25,6 +25,33 @@ impl Page {
         Ok(())
     }
 
+    /// Appends the reply that names the service to which a request is delegated, as
+    /// [`Page::push_reply`] appends replies.
+    pub fn push_using<O: Sink>(&mut self, service: &Name, out: &mut O) -> Result<(), Failed>
+        ensures gathers { Gathers (O.written out.old) (O.written out.new) self.new (self.old ++ reply_text (reply.Using service.now)) result }
+        ensures cause { HasCause (O.faults out.old) (O.faults out.new) result }
+    {
+        self.make_room(out)?;
+        self.add_using(service);
+        Ok(())
+    }
+
+    /// Appends the reply that names the new states of the target and of the environment, as
+    /// [`Page::push_reply`] appends replies.
+    pub fn push_now<O: Sink>(
+        &mut self,
+        target: &Name,
+        env: &Name,
+        out: &mut O,
+    ) -> Result<(), Failed>
+        ensures gathers { Gathers (O.written out.old) (O.written out.new) self.new (self.old ++ reply_text (reply.Now target.now env.now)) result }
+        ensures cause { HasCause (O.faults out.old) (O.faults out.new) result }
+    {
+        self.make_room(out)?;
+        self.add_now(target, env);
+        Ok(())
+    }
+
     /// Adds a reply. Requires room for the longest reply.
     fn add_reply(&mut self, reply: &Reply)
         requires { length self.old + LONGEST ≤ PIECE_BYTES }
@@ -34,7 +61,7 @@ impl Page {
             Reply::Offer => self.add(b"offer"),
             Reply::Serves(service) => self.add_name(b" ", service, b""),
             Reply::Stop => self.add(b"\n"),
-            Reply::Using(service) => self.add_name(b"using ", service, b"\n"),
+            Reply::Using(service) => self.add_using(service),
             Reply::Now { target, env } => self.add_now(target, env),
             Reply::Aborted => self.add(b"aborted\n"),
             Reply::Kept { kept, added } => self.add_kept(*kept, *added),
@@ -55,6 +82,14 @@ impl Page {
             Reply::ErrorLimit => self.add(b"error limit\n"),
             Reply::ErrorRelated => self.add(b"error related\n"),
         }
+    }
+
+    /// Adds the line that names the service to which a request is delegated.
+    fn add_using(&mut self, service: &Name)
+        requires { length self.old + LONGEST ≤ PIECE_BYTES }
+        ensures { self.new ≡ self.old ++ reply_text (reply.Using service.now) }
+    {
+        self.add_name(b"using ", service, b"\n");
     }
 
     /// Adds the line that names the new states of the target and of the environment.

@@ -1,28 +1,39 @@
-use Rattle.roman_session.proofs.Common.{IsTrue, slice_get, sym, subst, arith, is_allowed, is_ready, Situation, present_system}
+use Rattle.std.proofs.Common.{ℕ, List, IsTrue, slice_get, slice_set, sym, subst}
+use Rattle.roman_model.specs.System.{SStep}
+use Rattle.roman_session.proofs.Common.{is_allowed, is_ready, Situation, present_system, HasMoved, situation_in}
 use Rattle.roman_session.proofs.RulingLemmas.{seen_is}
 use Rattle.roman_session.proofs.SituationLemmas.{delegated_is, delegate_ready, offered_within}
 use Rattle.roman_session.proofs.StepLemmas.{moved_pair}
-use Rattle.roman_session.proofs.session.Session.see.Goals as goal
+use Rattle.roman_session.proofs.session.Session.answer_sight.Goals as goal
 
 pub next_target-requires-clause-allowed : goal.next_target-requires-clause-allowed
-next_target-requires-clause-allowed c =
+next_target-requires-clause-allowed g c =
     let s = c.args.self.now in
     let x = c.in-Ok.sight in
     let phase = delegated_is s x.action x.seat c.known.ensures (seen_is s c.args.state.now c.args.env.now x (sym c.in-Ok.ensures)) in
     subst (λ (s : Situation). IsTrue (is_allowed (present_system s) s.here x.action)) (sym c.self.view_is) phase.0.1
 
 pub next_target-requires-clause-ready : goal.next_target-requires-clause-ready
-next_target-requires-clause-ready c =
+next_target-requires-clause-ready g c =
     let s = c.args.self.now in
     let x = c.in-Ok.sight in
     let phase = delegated_is s x.action x.seat c.known.ensures (seen_is s c.args.state.now c.args.env.now x (sym c.in-Ok.ensures)) in
     subst (λ (s : Situation). IsTrue (is_ready (slice_get (present_system s).seats x.seat))) (sym c.self.view_is) (delegate_ready s x.action x.seat c.known.ensures phase.1)
 
 pub move_to-requires-clause-pair : goal.move_to-requires-clause-pair
-move_to-requires-clause-pair c = grind (arith, moved_pair)
+move_to-requires-clause-pair g c =
+    let a = c.self.inside in
+    let s = situation_in a in
+    let x = c.in-Ok.sight in
+    let moves = c.in-Some.ensures.moves in
+    let there : HasMoved s x c.in-Some.to = record {
+      target = moves.0;
+      system = subst (λ (bs : List ℕ). SStep (present_system s) bs a.env x.action x.seat (slice_set bs x.seat x.state) x.env) c.deref.ensures.value moves.1;
+    } in
+    moved_pair c.args.self.now x c.in-Some.to c.known.ensures (subst (λ (s : Situation). HasMoved s x c.in-Some.to) c.self.view_is there)
 
 pub move_to-requires-clause-seat : goal.move_to-requires-clause-seat
-move_to-requires-clause-seat c =
+move_to-requires-clause-seat g c =
     let s = c.args.self.now in
     let x = c.in-Ok.sight in
     let phase = seen_is s c.args.state.now c.args.env.now x (sym c.in-Ok.ensures) in

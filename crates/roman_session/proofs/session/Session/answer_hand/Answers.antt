@@ -1,11 +1,15 @@
-use Rattle.roman_session.proofs.Common.{◌<◌, length, sym, subst, arith, offers, Situation, present_system}
+use Rattle.std.proofs.Common.{◌<◌, ◌++◌, ℕ, List, Result, codes, length, sym, ap, subst}
+use Rattle.roman_text.specs.Lines.{with_newline}
+use Rattle.roman_session.proofs.Common.{Reply, offers, Situation, present_system, Does, Handing}
 use Rattle.roman_model.proofs.CallerLemmas.{number_listed}
+use Rattle.roman_session.specs.Steps.{Hands}
+use Rattle.roman_session.proofs.AnswerLemmas.{done}
 use Rattle.roman_session.proofs.RulingLemmas.{handed_is}
 use Rattle.roman_session.proofs.SituationLemmas.{situation_known, parts_shown, offered_open, offered_within, service_named_at}
-use Rattle.roman_session.proofs.session.Session.hand.Goals as goal
+use Rattle.roman_session.proofs.session.Session.answer_hand.Goals as goal
 
 pub seat-requires : goal.seat-requires
-seat-requires c =
+seat-requires g c =
     let s = c.args.self.now in
     let a = c.self.inside in
     let x = c.in-Ok.handing in
@@ -14,12 +18,18 @@ seat-requires c =
     subst (λ (s : Situation). x.seat < length s.parts.seats) (sym c.self.view_is) within
 
 pub set_phase-requires-clause-phase : goal.set_phase-requires-clause-phase
-set_phase-requires-clause-phase c =
+set_phase-requires-clause-phase g c =
     let s = c.args.self.now in
     let a = c.self.inside in
     let x = c.in-Ok.handing in
     let handed = handed_is s c.args.service.now x (sym c.in-Ok.ensures) in
     (offered_open s x.action (situation_known a s c.self.invariant c.self.view_is) handed.phase, number_listed (offers (present_system s) s.here x.action) x.seat handed.offered)
 
-pub returns : goal.returns
-returns c = grind (arith, parts_shown, service_named_at)
+pub returns-clause-step : goal.returns-clause-step
+returns-clause-step g c =
+    let s = c.args.self.now in
+    let a = c.self.inside in
+    let name = service_named_at a.relation.joint s c.in-Ok.handing.seat c.seat.result.now (parts_shown a s c.self.view_is) c.seat.ensures in
+    let hands = subst (λ (r : Result Handing Reply). Does Hands s r (with_newline (codes "using " ++ c.seat.result.now.name)) c.set_phase.new.self) c.in-Ok.ensures
+    (ap (λ (name : List ℕ). with_newline (codes "using " ++ name)) name, c.set_phase.ensures) in
+    done _ _ _ _ _ _ _ _ _ c.push_using-pushed.ensures.gathers hands
