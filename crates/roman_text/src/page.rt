@@ -16,6 +16,7 @@ use roman_io::{Failed, Sink};
 use roman_model::{MAX_NAME_BYTES, PIECE_BYTES};
 use roman_read::Name;
 use std::marker::Model;
+use std::simd::prelude::*;
 
 /// The greatest number of decimal digits of a `u32`.
 const DIGITS: usize = 10;
@@ -233,7 +234,7 @@ impl Page {
         ensures len { length self.new ≤ length self.old + MAX_NAME_BYTES }
     {
         let end = self.len + NAME;
-        self.bytes[self.len..end].copy_from_slice(name.padded());
+        copy_name(name.padded(), &mut self.bytes[self.len..end]);
         self.len += name.bytes().len();
     }
 
@@ -259,6 +260,15 @@ impl Page {
         write_digits(u64::from(n), &mut self.bytes, end);
         self.len = end;
     }
+}
+
+/// Copies a padded name as one vector, which takes fewer steps than a copy of a slice.
+#[inline(always)]
+fn copy_name(name: &[u8; NAME], room: &mut [u8])
+    requires { length room.old ≡ NAME }
+    ensures { room.new ≡ name.now }
+{
+    u8x32::from_slice(name).copy_to_slice(room);
 }
 
 /// Returns the number of decimal digits of a number.
