@@ -1,5 +1,5 @@
 -- Bytes that are read one after another.
-use Rattle.roman_hearing.proofs.Common.{◌≡◌, ℕ, ◌+◌, ◌<◌, ◌≤◌, true, false, List, [], ◌∷◌, ◌++◌, length, take, nat_lt, Option, Result, Ok, Err, IsTrue, IsFalse, refl, sym, ap, ap₂, ◌∙◌, subst, arith, append_assoc, append-nil, ltb-false, cond-true, cond-false, kept-nil, lines_rest, lines_none, lines, ended_lines, by_test, unfinished, kept, shape_of, Situation, IsSituation, Step, Next, ends_session, has_quit, cursor, Tells, TellsPrefix, reader_state, IsHearing, StopsAtQuit, FallsShort, FailsIn, kept-again}
+use Rattle.roman_hearing.proofs.Common.{◌≡◌, ℕ, ◌+◌, ◌<◌, ◌≤◌, true, false, List, [], ◌∷◌, ◌++◌, length, take, nat_lt, Option, Result, Ok, Err, IsTrue, IsFalse, refl, sym, ap, ap₂, ◌∙◌, subst, arith, append_assoc, append-nil, ltb-false, cond-true, cond-false, kept-nil, lines_rest, lines_none, kept-again, lines, ended_lines, by_test, unfinished, kept, shape_of, Situation, IsSituation, Step, Next, ends_session, has_quit, cursor, Tells, TellsPrefix, reader_state, IsHearing, StopsAtQuit, FallsShort, FailsIn}
 use Rattle.std.proofs.Common.{min, IfOk}
 use Rattle.std.proofs.lemmas.List.{nil_from_length, take_all, take_min}
 use Rattle.roman_io.specs.Sink.{Wrote, WrotePrefix}

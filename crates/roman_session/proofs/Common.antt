@@ -1,5 +1,5 @@
 -- The names that several proof pages of this crate cite, passed on from one place. Declares nothing.
-pub use Rattle.std.proofs.Common.{Bool, Err, IfSome, IsFalse, IsTrue, List, Ok, Option, Result, Some, [], ap, ap₂, arith, drop, false, get_or, length, map, not, refl, slice_get, slice_index, slice_set, subst, sym, true, vec_capacity, ℕ, ◌++◌, ◌+◌, ◌<◌, ◌∙◌, ◌∷◌, ◌≡◌, ◌≤◌}
+pub use Rattle.std.proofs.Common.{Bool, Err, IfSome, IsFalse, IsTrue, List, Ok, Option, Result, Some, [], ap, ap₂, arith, codes, drop, false, get_or, length, map, not, refl, slice_get, slice_index, slice_set, subst, sym, true, vec_capacity, ℕ, ◌++◌, ◌+◌, ◌<◌, ◌∙◌, ◌∷◌, ◌≡◌, ◌≤◌}
 pub use Rattle.std.proofs.lemmas.Bool.{both_ways, cases_lt, cond-false, cond-true}
 pub use Rattle.std.proofs.lemmas.List.{length-map}
 pub use Rattle.std.proofs.lemmas.Option.{get_or_from_slice_get}
@@ -40,8 +40,9 @@ unfoldable pub use Rattle.roman_session.specs.Rulings.{asked, seen}
 pub use Rattle.roman_session.specs.Serving.{seats_set, served}
 unfoldable pub use Rattle.roman_session.specs.Serving.{served_text}
 pub use Rattle.roman_session.specs.Situations.{IsPhase, IsSituation, Situation, present_system}
-pub use Rattle.roman_session.specs.Steps.{Changes, Does, dying, freezing, service_at, thawing}
+pub use Rattle.roman_session.specs.Steps.{Changes, Does, HasMoved, dying, freezing, service_at, thawing}
 unfoldable pub use Rattle.roman_session.specs.Steps.{offer_text}
+pub use Rattle.roman_session.specs.declared.events.Handing.{Handing}
 pub use Rattle.roman_session.specs.declared.events.Joining.{Joining}
 pub use Rattle.roman_session.specs.declared.events.Jump.{Jump}
 pub use Rattle.roman_session.specs.declared.phase.Phase.{Phase}

@@ -1,9 +1,8 @@
 -- What holds where an event isn't refused.
-use Rattle.roman_session.proofs.Common.{◌≡◌, ℕ, ◌<◌, ◌≤◌, Bool, true, false, List, length, Result, Ok, Err, IsTrue, IsFalse, refl, ap₂, arith, has, is_allowed, is_related, offers, Join, MAX_SERVICES, Reply, seat_of, Situation, present_system, named, seat_at, asked, seen, with_room, Joining, Jump, Sight, Phase, Idle, Offered, Delegated}
+use Rattle.roman_session.proofs.Common.{◌≡◌, ℕ, ◌<◌, ◌≤◌, Bool, true, false, List, length, Result, Ok, Err, IsTrue, IsFalse, refl, ap₂, arith, has, is_allowed, is_related, offers, Join, MAX_SERVICES, Reply, seat_of, Situation, present_system, named, seat_at, asked, seen, with_room, Joining, Jump, Sight, Phase, Idle, Offered, Delegated, Handing}
 use Rattle.std.proofs.lemmas.Bool.{not-true, lt-ltb, le-leb}
 use Rattle.std.proofs.lemmas.Bool.Decides.{leb_tells}
 use Rattle.roman_session.specs.Rulings.{demand}
-use Rattle.roman_session.specs.declared.events.Handing.{Handing}
 use Rattle.roman_model.specs.Change.{after}
 use Rattle.roman_read.specs.Items.{◌>>=◌}
 use Rattle.roman_read.proofs.CallerLemmas.{bind_ok, same_ok}

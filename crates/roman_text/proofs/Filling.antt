@@ -1,9 +1,5 @@
 -- A page that is being filled: what it has taken so far, and what is left of a whole text.
-use Rattle.std.proofs.Common.{◌≡◌, ℕ, List, [], ◌++◌, Option, Result, Ok, Err, refl, sym, ap, ◌∙◌, subst, append_assoc}
-use Rattle.std.proofs.lemmas.List.{append-nil}
-use Rattle.roman_io.specs.Sink.{WrotePrefix, Puts}
-use Rattle.roman_io.proofs.CallerLemmas.{Wrote-nil, WrotePrefix-append}
-use Rattle.roman_text.specs.Pages.{Gathered, Gathers}
+use Rattle.roman_text.proofs.Common.{◌≡◌, ℕ, List, [], ◌++◌, Option, Result, Ok, Err, refl, sym, ap, ◌∙◌, subst, append_assoc, append-nil, WrotePrefix, Puts, Wrote-nil, WrotePrefix-append, Gathered, Gathers}
 use Rattle.roman_text.proofs.PageLemmas.{Gathered-then, WrotePrefix-gathered, Puts-after_Gathered}
 
 -- the page has taken a text, which together with the rest is the whole text

@@ -1,3 +1,4 @@
+pub mod Common
 pub mod LineLemmas
 mod WordLemmas
 pub mod ShapeLemmas

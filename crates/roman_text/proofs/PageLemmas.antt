@@ -1,9 +1,7 @@
 -- What a page writes and holds, over several calls.
-use Rattle.std.proofs.Common.{◌≡◌, ℕ, List, [], ◌++◌, Option, Result, Ok, Err, sym, ap, ◌∙◌, append_assoc}
-use Rattle.std.proofs.lemmas.List.{append-nil}
-use Rattle.roman_io.specs.Sink.{Wrote, WrotePrefix, Puts}
-use Rattle.roman_io.proofs.CallerLemmas.{Wrote-nil, Wrote-then, WrotePrefix-append, WrotePrefix-after, Puts-after}
-use Rattle.roman_text.specs.Pages.{Gathered, Gathers}
+use Rattle.roman_text.proofs.Common.{◌≡◌, ℕ, List, [], ◌++◌, Option, Result, Ok, Err, sym, ap, ◌∙◌, append_assoc, append-nil, WrotePrefix, Puts, Wrote-nil, WrotePrefix-append, Gathered, Gathers}
+use Rattle.roman_io.specs.Sink.{Wrote}
+use Rattle.roman_io.proofs.CallerLemmas.{Wrote-then, WrotePrefix-after, Puts-after}
 
 -- ---- for callers that fill a page: the beginning, one more text, a fault, and the end
 

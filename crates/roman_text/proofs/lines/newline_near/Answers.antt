@@ -1,11 +1,10 @@
-use Rattle.std.proofs.Common.{◌≡◌, ℕ, ◌+◌, ◌<◌, true, None, Some, nat_eq, get_or, length, map, sym, ap, ◌∙◌, subst, w8, arith}
-use Rattle.std.specs.List.{position, position_or_len}
+use Rattle.roman_text.proofs.Common.{◌≡◌, ℕ, ◌+◌, ◌<◌, true, None, Some, get_or, length, sym, ap, ◌∙◌, subst, arith, position, position_or_len, length-chunk, chunk, is_newline}
+use Rattle.std.proofs.Common.{nat_eq, map, w8}
 use Rattle.std.proofs.lemmas.List.Sums.{position_or_len_is}
-use Rattle.std.proofs.lemmas.Simd.{bitmask_splat, trailing_mask_l, run_in_chunk_fails, run_in_chunk_stops, length-chunk}
+use Rattle.std.proofs.lemmas.Simd.{bitmask_splat, trailing_mask_l, run_in_chunk_fails, run_in_chunk_stops}
 use Rattle.std.proofs.lemmas.Bool.{cond-true, lt-ltb}
 use lib.Count.{count_trailing_zeros}
-use lib.Lanes.{chunk, mask_l}
-use Rattle.roman_text.specs.Lines.{is_newline}
+use lib.Lanes.{mask_l}
 use Rattle.roman_text.proofs.lines.newline_near.Goals as goal
 
 pub returns : goal.returns

@@ -1,5 +1,4 @@
-use Rattle.std.proofs.Common.{◌+◌, ◌-◌, List, ℕ, ◌∷◌, ◌++◌, length, take, drop, sym, ap, ◌∙◌, arith, length-drop}
-use Rattle.std.proofs.lemmas.List.{take_all}
+use Rattle.roman_text.proofs.Common.{◌+◌, ◌-◌, List, ℕ, ◌∷◌, ◌++◌, length, take, drop, sym, ap, ◌∙◌, arith, length-drop, take_all}
 use Rattle.roman_text.proofs.LineLemmas.{no_newline, first_newline}
 use Rattle.roman_text.proofs.lines.split_line.Goals as goal
 

@@ -1,7 +1,5 @@
-use Rattle.std.proofs.Common.{◌∙◌, arith}
-use Rattle.std.proofs.lemmas.List.{take_all}
-use Rattle.std.proofs.lemmas.Simd.{length-chunk, put_chunk_whole}
-use lib.Lanes.{chunk}
+use Rattle.roman_text.proofs.Common.{◌∙◌, arith, take_all, length-chunk, chunk}
+use Rattle.std.proofs.lemmas.Simd.{put_chunk_whole}
 use Rattle.roman_text.proofs.page.copy_name.Goals as goal
 
 pub returns : goal.returns

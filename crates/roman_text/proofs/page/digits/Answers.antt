@@ -1,4 +1,5 @@
-use Rattle.std.proofs.Common.{◌/◌, arith}
+use Rattle.roman_text.proofs.Common.{arith}
+use Rattle.std.proofs.Common.{◌/◌}
 use Rattle.itoa.proofs.Decimal.{length_one, length_two, length_pair, length_four}
 use Rattle.roman_text.proofs.page.digits.Goals as goal
 

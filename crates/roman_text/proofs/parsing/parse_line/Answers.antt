@@ -1,4 +1,4 @@
-use Rattle.std.proofs.Common.{sym, ◌∙◌, arith}
+use Rattle.roman_text.proofs.Common.{sym, ◌∙◌, arith}
 use Rattle.roman_text.proofs.ShapeLemmas.{too_long, shape_of_blank, shape_of_comment, shape_of_event_line}
 use Rattle.roman_text.proofs.parsing.parse_line.Goals as goal
 

@@ -1,5 +1,4 @@
-use Rattle.std.proofs.Common.{◌≡◌, ◌-◌, length, take, drop, sym, ◌∙◌, arith, length-drop}
-use Rattle.std.proofs.lemmas.List.{take_all}
+use Rattle.roman_text.proofs.Common.{◌≡◌, ◌-◌, length, take, drop, sym, ◌∙◌, arith, length-drop, take_all}
 use Rattle.roman_text.proofs.WordLemmas.{no_words, word_first}
 use Rattle.roman_text.proofs.words.first_word.Goals as goal
 

@@ -1,4 +1,4 @@
-use Rattle.std.proofs.Common.{arith}
+use Rattle.roman_text.proofs.Common.{arith}
 use Rattle.roman_text.proofs.PageLemmas.{Puts-after_Gathered}
 use Rattle.roman_text.proofs.writing.put_reply.Goals as goal
 

@@ -1,6 +1,5 @@
-use Rattle.std.proofs.Common.{◌<◌, ◌++◌, ℕ, List, Result, codes, length, sym, ap, subst}
+use Rattle.roman_session.proofs.Common.{◌<◌, ◌++◌, ℕ, List, Result, codes, length, sym, ap, subst, Reply, offers, Situation, present_system, Does, Handing}
 use Rattle.roman_text.specs.Lines.{with_newline}
-use Rattle.roman_session.proofs.Common.{Reply, offers, Situation, present_system, Does, Handing}
 use Rattle.roman_model.proofs.CallerLemmas.{number_listed}
 use Rattle.roman_session.specs.Steps.{Hands}
 use Rattle.roman_session.proofs.AnswerLemmas.{done}

@@ -1,5 +1,6 @@
-use Rattle.std.proofs.Common.{◌≡◌, ℕ, ◌+◌, ◌≤◌, List, ◌++◌, length, take, take-add, length-take-le, ap, ap₂, ◌∙◌, arith}
-use Rattle.std.proofs.lemmas.List.{take_at, drop_at, length-take, take-append-le}
+use Rattle.roman_text.proofs.Common.{◌≡◌, ℕ, ◌+◌, ◌≤◌, List, ◌++◌, length, take, ap, ap₂, ◌∙◌, arith, length-take}
+use Rattle.std.proofs.Common.{take-add, length-take-le}
+use Rattle.std.proofs.lemmas.List.{take_at, drop_at, take-append-le}
 use Rattle.roman_text.proofs.page.Page.add_bare.Goals as goal
 
 -- bytes behind a beginning, of which some are kept

@@ -1,5 +1,4 @@
-use Rattle.std.proofs.Common.{ap, arith, length, length-append}
-use Rattle.std.proofs.lemmas.Fmt.{length-decimal-le}
+use Rattle.roman_text.proofs.Common.{ap, arith, length, length-append, length-decimal-le}
 use Rattle.roman_text.proofs.page.Page.add_counted.Goals as goal
 
 pub add_number-requires : goal.add_number-requires

@@ -1,9 +1,5 @@
-use Rattle.std.proofs.Common.{List, ℕ, ap, subst, decimal, arith, append_assoc, length, length-append}
-use Rattle.std.proofs.lemmas.Fmt.{length-decimal-le}
-use Rattle.std.proofs.lemmas.Result.{err_from_is_err_and}
-use Rattle.roman_io.specs.Sink.{WrotePrefix}
-use Rattle.roman_io.proofs.CallerLemmas.{WrotePrefix-append}
-use Rattle.roman_text.specs.Pages.{Gathers}
+use Rattle.roman_text.proofs.Common.{List, ℕ, ap, subst, arith, append_assoc, length, length-append, length-decimal-le, err_from_is_err_and, WrotePrefix, WrotePrefix-append, Gathers}
+use Rattle.std.proofs.Common.{decimal}
 use Rattle.roman_text.proofs.PageLemmas.{Gathers-after}
 use Rattle.roman_text.proofs.page.Page.push_number_then.Goals as goal
 

@@ -1,5 +1,4 @@
-use Rattle.std.proofs.Common.{arith}
-use Rattle.std.proofs.lemmas.Result.{err_from_is_err_and}
+use Rattle.roman_text.proofs.Common.{arith, err_from_is_err_and}
 use Rattle.roman_text.proofs.PageLemmas.{Gathers-failed}
 use Rattle.roman_text.proofs.page.Page.push_reply.Goals as goal
 
