@@ -66,12 +66,14 @@ class Connection:
         with contextlib.suppress(asyncio.TimeoutError):
             await asyncio.wait_for(self._agreed.wait(), FIRST_WAIT)
 
-    def publish(self, topic: str, value: Any, retain: bool = False) -> bool:
-        """Publishes JSON. False where there is no connection; then it isn't sent later either."""
+    def publish(
+        self, topic: str, value: Any, *, retain: bool = False, only_now: bool = False
+    ) -> bool:
+        """Publishes JSON. False where there is no connection; then it isn't sent later either. What is for
+        `only_now` isn't sent again after a connection was lost, nor kept for a listener that is away."""
         if not self.connected:
             return False
-        data = json.dumps(value, ensure_ascii=False)
-        sent = self._client.publish(topic, data, qos=1, retain=retain)
+        sent = self._client.publish(topic, json.dumps(value), qos=0 if only_now else 1, retain=retain)
         return bool(sent.rc == mqtt.MQTT_ERR_SUCCESS)
 
     async def open(self) -> None:

@@ -4,6 +4,7 @@ import http.client
 import json
 import os
 import random
+import signal
 import socket
 import subprocess
 import time
@@ -73,6 +74,10 @@ class Mosquitto:
     def _listens(self) -> bool:
         with socket.socket() as to:
             return to.connect_ex(("127.0.0.1", self.port)) == 0
+
+    def pause(self) -> None:
+        """Has it do nothing any more, and keep its connections, as one that has lost its network."""
+        self._process.send_signal(signal.SIGSTOP)
 
     def stop(self) -> None:
         """Ends it."""

@@ -277,6 +277,27 @@ class Deadlines(Devices):
         self.assertEqual(self.live.state()["counts"]["served"], 1)
 
 
+    def test_what_could_not_be_delivered_is_not_done_later(self) -> None:
+        self.broker.pause()
+        self.assertEqual(self.served("brighten")["served_by"], "ceiling")
+        self.broker.stop()
+        self.mqtt.subscribed.clear()
+        self.broker.start()
+        self.assertTrue(self.mqtt.subscribed.wait(PATIENCE))
+        self.back("window")
+        self.assertEqual(self.world.played, [("ceiling", "brighten")])
+
+    def test_what_is_kept_for_a_device_that_is_away_is_not_done_later(self) -> None:
+        """A device with a session that stays is given by the broker what it has missed."""
+        self.mqtt.close()
+        self.mqtt = MqttDevices(self.world, self.broker.port, ["window"], name="window")
+        self.mqtt.close()
+        self.assertEqual(self.served("brighten")["served_by"], "ceiling")
+        self.mqtt = MqttDevices(self.world, self.broker.port, ["window"], name="window")
+        self.back("window")
+        self.assertEqual(self.world.played, [("ceiling", "brighten")])
+
+
 class HttpDeadlines(Devices):
     """A device over HTTP that takes too long."""
 

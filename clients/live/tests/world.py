@@ -157,14 +157,15 @@ def _handler(world: World) -> type:
 
 
 class MqttDevices:
-    """Services of a world over MQTT, asked on `NAME/ask`, answering on `NAME/answer`."""
+    """Services of a world over MQTT, asked on `NAME/ask`, answering on `NAME/answer`. Those with a `name` have
+    a session that stays while they are away."""
 
-    def __init__(self, world: World, port: int, services: List[str]) -> None:
+    def __init__(self, world: World, port: int, services: List[str], name: str = "") -> None:
         self.world = world
         self.services = services
         self.subscribed = threading.Event()
         self.heard: List[Told] = []
-        self.client = mqtt.Client()
+        self.client = mqtt.Client(name, clean_session=not name)
         self.client.reconnect_delay_set(1, 1)
         self.client.on_connect = self._connected
         self.client.on_subscribe = lambda *words: self.subscribed.set()

@@ -46,12 +46,13 @@ class Mqtt(Reach):
         return await self._exchange(asked)
 
     async def _exchange(self, asked: Dict[str, Any]) -> Answer:
-        """Publishes what is asked, and waits for the answer with its id."""
+        """Publishes what is asked, and waits for the answer with its id. It is for now alone: an action that
+        is carried out long after its deadline may have been given to another device meanwhile."""
         number = asked["id"]
         answer: asyncio.Future[Answer] = asyncio.get_running_loop().create_future()
         self._waiting[number] = answer
         try:
-            if not self._broker.publish(self._entry.ask, asked):
+            if not self._broker.publish(self._entry.ask, asked, only_now=True):
                 raise DeviceFailed("the broker can't be reached")
             return await answer
         finally:
