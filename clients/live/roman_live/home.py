@@ -70,6 +70,9 @@ LONGEST_PAUSE = 60.0
 BETWEEN_STATES = 0.05
 """How many seconds there are at least between two states that listeners are sent."""
 
+TROUBLE = (RomanError, OSError)
+"""What may keep the home from something for a while: an OSError comes where the program can't be started, too."""
+
 Value = TypeVar("Value")
 
 
@@ -299,7 +302,7 @@ class Home:
             self._folder.cleanup()
 
     def _spawn(self, work: Coroutine[Any, Any, Value]) -> "asyncio.Task[Value]":
-        """Has something done beside."""
+        """Has something done beside. An error that nobody foresaw is logged, since nobody may wait for it."""
         task = asyncio.ensure_future(work)
         self._tasks.add(task)
         task.add_done_callback(self._done_with)
@@ -307,8 +310,9 @@ class Home:
 
     def _done_with(self, task: "asyncio.Task[Any]") -> None:
         self._tasks.discard(task)
-        if not task.cancelled():
-            task.exception()
+        error = None if task.cancelled() else task.exception()
+        if error is not None and not isinstance(error, TROUBLE):
+            LOG.error("something went wrong that wasn't foreseen", exc_info=error)
 
     # Requests.
 
@@ -588,7 +592,7 @@ class Home:
         except (Refusal, TypeError, ValueError) as error:
             self._known[service].last_error = f"says it is in {answer.state}: {error}"
             return False
-        except RomanError as error:
+        except TROUBLE as error:
             LOG.warning("%s can't be thawed: %s", service, error)
             return False
         self.events.add("back", f"{service} is back in {answer.state}", service=service, state=answer.state)
@@ -842,7 +846,7 @@ class Home:
                     self.events.send(Message("state", await self.state()))
                 if self.broker is not None:
                     self.broker.publish(self.broker.topic("state"), await self._summary(), retain=True)
-            except RomanError as error:
+            except TROUBLE as error:
                 LOG.warning("the state can't be had: %s", error)
             await asyncio.sleep(BETWEEN_STATES)
 

@@ -14,10 +14,10 @@ from typing import Any, Awaitable, Callable, Dict, Mapping, Optional, Tuple
 from urllib.parse import urlsplit
 
 from aiohttp import web
-from roman_client import InDoubt, NoComposition, NotAllowed, Refusal, RomanError, StoreFailed
+from roman_client import InDoubt, NoComposition, NotAllowed, Refusal, StoreFailed
 
 from .events import Message
-from .home import Busy, Home, NoDevice, UnknownAction
+from .home import TROUBLE, Busy, Home, NoDevice, UnknownAction
 from .homefile import Page, is_loopback
 from .pictures import picture
 from .states import explanation_to_json, failures_to_json
@@ -92,6 +92,8 @@ class Server:
             if error.status == HTTPStatus.REQUEST_ENTITY_TOO_LARGE:
                 error.text = f"a body has at most {LONGEST_BODY} bytes"
             response = _json({"error": error.text or error.reason}, error.status)
+        except TROUBLE as error:
+            response = _json({"error": str(error)}, HTTPStatus.SERVICE_UNAVAILABLE)
         if not response.prepared:
             response.headers.setdefault("Cache-Control", "no-store")
             response.headers["X-Content-Type-Options"] = "nosniff"
@@ -181,8 +183,8 @@ class Server:
                 if message is None:
                     break
                 await response.write(_sent(message))
-        except ConnectionError:
-            pass
+        except TROUBLE:
+            pass  # The listener is gone, or the state can't be had; the page connects again.
         finally:
             closing.cancel()
             self.home.events.leave(listener)
@@ -235,7 +237,7 @@ class Server:
             return _json({"error": str(error)}, HTTPStatus.CONFLICT)
         except (TypeError, ValueError) as error:
             return _json({"error": str(error)}, HTTPStatus.BAD_REQUEST)
-        except RomanError as error:
+        except TROUBLE as error:
             return _json({"error": str(error)}, HTTPStatus.SERVICE_UNAVAILABLE)
         return await self._state()
 
@@ -279,7 +281,7 @@ async def result(
         return HTTPStatus.CONFLICT, {"error": "in doubt", "text": str(error)}
     except StoreFailed as error:
         return HTTPStatus.SERVICE_UNAVAILABLE, {"error": f"the journal can't be written: {error}"}
-    except RomanError as error:
+    except TROUBLE as error:
         return HTTPStatus.SERVICE_UNAVAILABLE, {"error": str(error)}
 
 

@@ -1,6 +1,8 @@
 """A home in this process, with devices that are played: policies, pauses, and what moves by itself."""
 
 import asyncio
+import os
+import signal
 import tempfile
 import unittest
 from pathlib import Path
@@ -14,6 +16,7 @@ from roman_live import home as homes
 from roman_live.devices import Answer, Listener, Reach
 from roman_live.home import Home
 from roman_live.homefile import HomeFile, HomeFileError
+from roman_live.server import result
 
 HOME = ("window", "ceiling", "kettle")
 SERVICES = {"depot": ("belt", "drone", "van", "broom"), "home": HOME, "short/home": HOME}
@@ -202,6 +205,51 @@ class AskedBack(InProcess):
         self.assertEqual((await self.service("window"))["status"], "frozen")
         await home.thaw("window")
         self.assertEqual((await self.service("window"))["status"], "ready")
+
+
+class ProgramAway(InProcess):
+    """The program ends, and can't be started for a while, as where its package is replaced."""
+
+    async def asyncSetUp(self) -> None:
+        await super().asyncSetUp()
+        home = await self.begin("home")
+        self.states["window"] = "shut"
+        self.broken.add("window")
+        await home.request("brighten")
+        self.words = home._session.core.words
+        home._session.core.words = ("/nowhere",)
+        os.kill(home._session.pid, signal.SIGKILL)
+
+    def there(self) -> None:
+        """It is there again."""
+        self.home._session.core.words = self.words
+
+    async def test_a_device_that_is_back_is_asked_again(self) -> None:
+        self.broken.clear()
+        with self.assertLogs("roman_live", "WARNING") as logged:
+            self.home.late("window", "says something")
+            await self.until(lambda: any("can't be thawed" in each for each in logged.output))
+        self.there()
+        self.home.late("window", "says something")
+        await self.until(lambda: not self.home._known["window"].frozen)
+
+    async def test_requests_are_answered(self) -> None:
+        status, value = await result(self.home, "boil", None, True)
+        self.assertEqual((status, value), (503, {"error": "[Errno 2] No such file or directory: '/nowhere'"}))
+        self.there()
+        self.assertEqual((await result(self.home, "boil", None, True))[0], 200)
+
+    async def test_the_state_is_told_when_it_is_there_again(self) -> None:
+        listener = self.home.events.listen()
+        with self.assertLogs("roman_live", "WARNING") as logged:
+            self.home.late("kettle", "says something")
+            self.home._dirty.set()
+            await self.until(lambda: any("can't be had" in each for each in logged.output))
+        self.there()
+        await self.home.request("boil")
+        while (message := await asyncio.wait_for(listener.get(), 60)) is not None:
+            if message.name == "state" and message.value["target"]["state"] == "boiled":
+                break
 
 
 class MovedByItself(InProcess):
