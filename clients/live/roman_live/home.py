@@ -7,10 +7,11 @@ import contextlib
 import logging
 import tempfile
 import time
+from collections import defaultdict
 from dataclasses import dataclass, replace
 from datetime import datetime, timedelta, timezone
 from pathlib import Path
-from typing import Any, Coroutine, Dict, List, Mapping, Optional, Set, Tuple, TypeVar
+from typing import Any, Coroutine, DefaultDict, Dict, List, Mapping, Optional, Set, Tuple, TypeVar
 
 from roman_client import (
     NOT_DONE,
@@ -19,6 +20,7 @@ from roman_client import (
     Call,
     Changed,
     DeviceFailed,
+    DeviceTimeout,
     Document,
     DocumentError,
     Done,
@@ -67,6 +69,12 @@ FIRST_PAUSE = 1.0
 LONGEST_PAUSE = 60.0
 """The longest such pause."""
 
+FIRST_WORD = 10.0
+"""How many seconds a device has at most to say where it is, where it may have moved while nobody listened."""
+
+COMPARED = 3
+"""How often it is asked that after the broker was gone: it may find its way to the broker later than the home."""
+
 BETWEEN_STATES = 0.05
 """How many seconds there are at least between two states that listeners are sent."""
 
@@ -104,7 +112,8 @@ async def pause_until(poke: asyncio.Event, seconds: Optional[float]) -> None:
 
 @dataclass
 class Known:
-    """What is known of a service. `failures` are those since it last served."""
+    """What is known of a service: among it how many `calls` it was given in this run, and its `failures` since
+    it last served."""
 
     behaviour: str
     state: str
@@ -112,6 +121,7 @@ class Known:
     since: str
     frozen: bool = False
     dead: bool = False
+    calls: int = 0
     failures: int = 0
     last_error: Optional[str] = None
     next_try: Optional[str] = None
@@ -165,7 +175,7 @@ class Home:
         self._moving = 0
         self._ready = False
         self._ending = False
-        self._thawing = asyncio.Lock()
+        self._turns: DefaultDict[str, asyncio.Lock] = defaultdict(asyncio.Lock)
         self._dirty = asyncio.Event()
         self._noticed = asyncio.Event()
         self._pokes: Dict[str, asyncio.Event] = {}
@@ -412,24 +422,34 @@ class Home:
 
     async def freeze(self, service: str) -> None:
         """Takes a service out of use, until `thaw`."""
-        try:
-            await self._dispatcher.freeze(service)
-        except AlreadyFrozen:
-            if service in self._kept.held:
-                raise
-        self._kept.hold(service)
-        self._stop_returning(service)
+        async with self._turns[service]:
+            try:
+                await self._dispatcher.freeze(service)
+            except AlreadyFrozen:
+                if service in self._kept.held:
+                    raise
+            self._kept.hold(service)
+            self._stop_returning(service)
 
     async def thaw(self, service: str) -> None:
         """Takes a service into use again: where its device tells, in its state."""
-        async with self._thawing:
-            answer = None
-            if service in self._known and self._known[service].frozen:
-                with contextlib.suppress(Exception):
-                    answer = await self._told(service)
-            await self._dispatcher.thaw(service, None if answer is None else answer.state)
-            self._kept.release([service])
-            self._stop_returning(service)
+        answer = None
+        if service in self._known and self._known[service].frozen:
+            with contextlib.suppress(Exception):
+                answer = await self._told(service)
+        async with self._turns[service]:
+            await self._thaw(service, answer)
+
+    async def _thaw(self, service: str, answer: Optional[Answer]) -> None:
+        """Thaws a service, with what its device says of itself and of the environment."""
+        state = environment = None
+        if answer is not None:
+            state, environment = answer.state, answer.environment
+        if environment is not None and environment != self._environment:
+            await self.jump_environment(environment)
+        await self._dispatcher.thaw(service, state)
+        self._kept.release([service])
+        self._stop_returning(service)
 
     async def die(self, service: str) -> None:
         """A service is gone for good."""
@@ -513,32 +533,47 @@ class Home:
     def _broker_changed(self, connected: bool, text: str) -> None:
         self.events.add("broker", text, connected=connected)
         self._dirty.set()
-        if connected:
-            for poke in self._pokes.values():
-                poke.set()
+        if not connected or not self._ready:
+            return
+        for poke in self._pokes.values():
+            poke.set()
+        for name in self._present():
+            if self._devices[name].reach.by_broker:
+                self._spawn(self._compare(name, COMPARED))
 
     # Asking back.
 
-    async def _told(self, service: str) -> Optional[Answer]:
-        """Where a device says that it is now."""
+    async def _told(self, service: str, most: Optional[float] = None) -> Optional[Answer]:
+        """Where a device says that it is now. Raises an exception where it doesn't, by its deadline or within
+        so many seconds."""
         device = self._devices[service]
-        return await asyncio.wait_for(device.reach.tell(None), device.timeout)
-
-    async def _compare(self, service: str) -> None:
-        """Asks a device where it is, since it may have moved while nobody listened."""
-        if self._known[service].frozen:
-            return
+        limit = device.timeout if most is None else min(most, device.timeout or most)
         try:
-            answer = await self._told(service)
-        except Exception as error:
-            self._known[service].last_error = str(error) or type(error).__name__
+            return await asyncio.wait_for(device.reach.tell(None), limit)
+        except asyncio.TimeoutError:
+            raise DeviceTimeout(f"no answer within {limit} seconds") from None
+
+    async def _compare(self, service: str, times: int = 1) -> None:
+        """Asks a device where it is, since it may have moved while nobody listened. What it says counts for
+        nothing where it is given a call meanwhile, whose answer is newer."""
+        known = self._known[service]
+        calls = known.calls
+        for _ in range(times):
+            if known.frozen or known.dead or known.calls != calls or service == self._chosen:
+                return
+            try:
+                answer = await self._told(service, FIRST_WORD)
+            except Exception as error:
+                known.last_error = str(error) or type(error).__name__
+                continue
+            if answer is not None and known.calls == calls and service != self._chosen:
+                self._place(service, answer)
             return
-        if answer is not None:
-            self._place(service, answer)
 
     def _let_return(self, service: str, at_once: bool = False) -> None:
         """Asks a service again and again until it is back."""
-        if service in self._returning or self.simulate:
+        task = self._returning.get(service)
+        if self.simulate or task is not None and not task.done():
             return
         self._pokes[service] = asyncio.Event()
         if at_once:
@@ -579,16 +614,13 @@ class Home:
             pause = min(LONGEST_PAUSE, 2 * (pause or FIRST_PAUSE))
 
     async def _back(self, service: str, answer: Answer) -> bool:
-        """A service that was frozen is back: it is thawed, unless that was done meanwhile. False where that
-        can't be."""
+        """A service that was frozen is back: it is thawed, unless that was done meanwhile, or it was frozen by
+        hand. False where that can't be."""
         try:
-            async with self._thawing:
-                if not self._known[service].frozen:
+            async with self._turns[service]:
+                if not self._known[service].frozen or service in self._kept.held:
                     return True
-                if answer.environment is not None and answer.environment != self._environment:
-                    await self._dispatcher.jumpenv(answer.environment)
-                await self._dispatcher.thaw(service, answer.state)
-                self._stop_returning(service)
+                await self._thaw(service, answer)
         except (Refusal, TypeError, ValueError) as error:
             self._known[service].last_error = f"says it is in {answer.state}: {error}"
             return False
@@ -620,6 +652,7 @@ class Home:
 
     def _asked(self, call: Call) -> None:
         self._call = (call, now())
+        self._known[call.service].calls += 1
         self.metrics.asked.labels(call.service).inc()
         self.events.add(
             "asked",

@@ -172,6 +172,15 @@ class Serving(Devices):
         self.assertEqual(self.world.wrong, [])
         self.assertTrue(self.live.state()["broker"])
 
+    def test_what_moves_while_the_broker_is_down_is_asked_for(self) -> None:
+        self.broker.stop()
+        until(lambda: not self.live.state()["broker"], "the end of the broker")
+        self.world.states["window"] = "ajar"
+        self.mqtt.subscribed.clear()
+        self.broker.start()
+        until(lambda: self.live.service("window")["state"] == "ajar", "where it is now")
+        self.assertEqual(self.live.service("window")["status"], "ready")
+
     def test_requests_and_the_environment_over_mqtt(self) -> None:
         answers: List[Any] = []
         heard = threading.Event()

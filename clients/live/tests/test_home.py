@@ -49,14 +49,19 @@ class Played(Reach):
 
     async def tell(self, number: Optional[int]) -> Optional[Answer]:
         self.test.told.append(self.service)
+        waited = self.test.mute.get(self.service)
+        if waited is not None:
+            await waited.wait()
         if self.service in self.test.broken:
             raise DeviceFailed("broken")
         state = self.test.states.get(self.service)
-        return None if state is None else Answer(state)
+        return None if state is None else Answer(state, self.test.environment)
 
 
 class InProcess(unittest.IsolatedAsyncioTestCase):
     """Homes of a sample."""
+
+    seconds = 10.0
 
     async def asyncSetUp(self) -> None:
         asyncio.get_running_loop().slow_callback_duration = 60
@@ -67,12 +72,15 @@ class InProcess(unittest.IsolatedAsyncioTestCase):
         self.told: List[str] = []
         self.broken: set[str] = set()
         self.states: Dict[str, str] = {}
+        self.environment: Optional[str] = None
         self.gates: Dict[str, asyncio.Event] = {}
+        self.mute: Dict[str, asyncio.Event] = {}
         self.home: Home
 
     async def begin(self, name: str, more: str = "") -> Home:
         devices = "".join(
-            f'[devices.{each}]\nreach = "http"\nurl = "http://x"\n' for each in SERVICES[name]
+            f'[devices.{each}]\nreach = "http"\nurl = "http://x"\nseconds = {self.seconds}\n'
+            for each in SERVICES[name]
         )
         file = self.folder / "home.toml"
         head = f'document = "{sample(name)}.json"\nprogram = "{PROGRAM}"\n'
@@ -194,6 +202,48 @@ class AskedBack(InProcess):
         self.assertEqual(pauses[:9], [1, 2, 4, 8, 16, 32, 60, 60, 60])
         self.assertEqual((await self.service("window"))["state"], "ajar")
 
+    async def test_one_that_is_frozen_by_hand_meanwhile_stays_so(self) -> None:
+        home = await self.begin("home")
+        self.broken.add("window")
+        await home.request("brighten")
+        self.gates["kettle"] = asyncio.Event()
+        boiling = asyncio.ensure_future(home.request("boil"))
+        await self.until(lambda: "kettle" in self.asked)
+        freezing = asyncio.ensure_future(home.freeze("window"))
+        await asyncio.sleep(0.01)
+        home.moved("window", Answer("shut"))
+        await asyncio.sleep(0.01)
+        self.gates["kettle"].set()
+        await asyncio.gather(boiling, freezing)
+        await home.request("pour")
+        shown = await self.service("window")
+        self.assertEqual((shown["status"], shown["by_hand"]), ("frozen", True))
+
+    async def test_one_that_does_not_tell_keeps_no_other_from_coming_back(self) -> None:
+        self.seconds = 3600.0
+        home = await self.begin("home")
+        self.broken.add("window")
+        await home.request("brighten")
+        await home.freeze("kettle")
+        self.broken.clear()
+        self.mute["kettle"] = asyncio.Event()
+        thawing = asyncio.ensure_future(home.thaw("kettle"))
+        await self.until(lambda: self.told[-1] == "kettle")
+        home.moved("window", Answer("ajar"))
+        await self.until(lambda: home._known["window"].state == "ajar")
+        self.assertEqual((await self.service("window"))["status"], "ready")
+        self.mute["kettle"].set()
+        await thawing
+        self.assertEqual((await self.service("kettle"))["status"], "ready")
+
+    async def test_one_that_is_thawed_by_hand_tells_the_environment_too(self) -> None:
+        home = await self.begin("home")
+        await home.freeze("window")
+        self.states["window"], self.environment = "ajar", "dusk"
+        await home.thaw("window")
+        self.assertEqual((await self.service("window"))["state"], "ajar")
+        self.assertEqual((await home.state())["environment"], "dusk")
+
     async def test_one_that_cannot_tell_stays_frozen(self) -> None:
         home = await self.begin("home")
         self.broken.add("window")
@@ -258,6 +308,26 @@ class MovedByItself(InProcess):
         home = await self.begin("home")
         await self.until(lambda: home._known["window"].state == "ajar")
         self.assertEqual((await home.request("brighten"))["state"], "open")
+
+    async def test_the_beginning_does_not_wait_for_one_that_does_not_tell(self) -> None:
+        self.mute["window"] = asyncio.Event()
+        self.seconds = 3600.0
+        with mock.patch.object(homes, "FIRST_WORD", 0.1):
+            await asyncio.wait_for(self.begin("home"), 60)
+        self.assertEqual((await self.service("window"))["last_error"], "no answer within 0.1 seconds")
+
+    async def test_what_is_told_counts_for_nothing_where_it_is_asked_meanwhile(self) -> None:
+        home = await self.begin("home")
+        self.states["window"] = "ajar"
+        self.mute["window"] = asyncio.Event()
+        comparing = asyncio.ensure_future(home._compare("window"))
+        await self.until(lambda: self.told.count("window") == 2)
+        self.assertEqual((await home.request("brighten"))["state"], "open")
+        self.states["window"] = "ajar"  # What it said before it was asked.
+        self.mute["window"].set()
+        await comparing
+        await home.request("boil")
+        self.assertEqual((await self.service("window"))["state"], "open")
 
     async def test_what_is_said_before_the_answer_is_older_than_it(self) -> None:
         home = await self.begin("home")

@@ -42,10 +42,10 @@ class Listener(Protocol):
 
 
 class Reach:
-    """How a service is reached. `waits` says that it may take any time, since a person plays it."""
+    """How a service is reached. `by_broker` says that what it says unasked is lost while the broker is gone."""
 
     reached = ""
-    waits = False
+    by_broker = False
 
     def __init__(self, service: str, listener: Listener) -> None:
         self.service = service

@@ -21,6 +21,7 @@ class Mqtt(Reach):
     """
 
     reached = "mqtt"
+    by_broker = True
 
     def __init__(
         self, service: str, listener: Listener, entry: MqttReach, broker: Connection

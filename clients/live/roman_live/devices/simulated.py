@@ -14,7 +14,6 @@ class Simulated(Reach):
     """A device that waits for its outcome to be said. Asked for its state it says the present one."""
 
     reached = "simulated"
-    waits = True
 
     def __init__(self, service: str, listener: Listener, present: Callable[[str], str]) -> None:
         super().__init__(service, listener)
