@@ -378,7 +378,6 @@ class Home:
                 if error.done is None:
                     raise
                 self.events.add("journal", f"{error}; {action} was served, and is written later")
-                self._noted(error.done)
                 return error.done
 
     async def _choose(self, choice: Choice) -> str:
@@ -461,10 +460,9 @@ class Home:
         """A new service joins. Raises NoDevice where the home file doesn't say how it is reached."""
         device = self._devices.get(service)
         if device is None:
-            device = self._make_device(service)
+            device = self._devices[service] = self._make_device(service)
             await device.reach.open()
         await self._dispatcher.join(service, behaviour, state, device, loose=loose)
-        self._devices[service] = device
 
     async def jump(self, service: str, state: str) -> None:
         """A service is in that state now."""

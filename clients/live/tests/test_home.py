@@ -230,8 +230,7 @@ class AskedBack(InProcess):
         thawing = asyncio.ensure_future(home.thaw("kettle"))
         await self.until(lambda: self.told[-1] == "kettle")
         home.moved("window", Answer("ajar"))
-        await self.until(lambda: home._known["window"].state == "ajar")
-        self.assertEqual((await self.service("window"))["status"], "ready")
+        await self.until(lambda: not home._known["window"].frozen)
         self.mute["kettle"].set()
         await thawing
         self.assertEqual((await self.service("kettle"))["status"], "ready")

@@ -302,6 +302,10 @@ class Dispatching(Generic[DeviceKind]):
         except SessionOver as over:
             over.action = over.action or action
             raise
+        except StoreFailed as error:
+            if error.done is not None:
+                yield Notify(error.done)
+            raise
         yield Notify(result)
         yield from self._rotate_if_due()
         return result
@@ -320,7 +324,10 @@ class Dispatching(Generic[DeviceKind]):
                 yield from self._fail(CallFailed(error, None))
                 return None
             except BaseException as error:
-                yield from self._enter(CallDoubted())
+                try:
+                    yield from self._enter(CallDoubted())
+                except StoreFailed as trouble:
+                    LOG.warning("it is written later that %s is in doubt: %s", action, trouble)
                 yield Notify(Failure(service, action, error, None))
                 raise
             outcome = _outcome(answer)
@@ -350,13 +357,23 @@ class Dispatching(Generic[DeviceKind]):
 
     def _answer(self, outcome: Outcome) -> Steps[Optional[Done]]:
         """A device has answered. None where that can't be so."""
-        result: Optional[Done] = yield from self._enter(CallAnswered(outcome))
+        try:
+            result: Optional[Done] = yield from self._enter(CallAnswered(outcome))
+        except StoreFailed as error:
+            if error.done is None:
+                yield from self._failed()
+            raise
         if result is None:
             yield from self._failed()
         return result
 
     def _fail(self, entry: CallFailed) -> Steps[None]:
-        yield from self._enter(entry)
+        """A device has failed."""
+        try:
+            yield from self._enter(entry)
+        except StoreFailed:
+            yield from self._failed()
+            raise
         yield from self._failed()
 
     def _failed(self) -> Steps[None]:
@@ -418,8 +435,11 @@ class Dispatching(Generic[DeviceKind]):
             raise
         self.calls = call.number
         done = self._done(call, outcome, move)
-        yield from self._store(CallBegun(call, False), CallAnswered(outcome))
-        yield Notify(done)
+        try:
+            yield from self._store(done, CallBegun(call, False), CallAnswered(outcome))
+        except StoreFailed as error:
+            error.done = done
+            raise
         return done
 
     # Changes.
@@ -431,8 +451,7 @@ class Dispatching(Generic[DeviceKind]):
         value = yield from self._surely(event)
         if event.changes:
             self._note(event.words)
-            yield from self._store(ChangeMade(event.words))
-            yield Notify(Changed(event.words))
+            yield from self._store(Changed(event.words), ChangeMade(event.words))
             yield from self._rotate_if_due()
         return value
 
@@ -446,7 +465,11 @@ class Dispatching(Generic[DeviceKind]):
         self, service: str, behaviour: str, state: str, loose: bool, device: DeviceKind
     ) -> Steps[Repair]:
         """A new service joins."""
-        repair = yield from self.event(protocol.join(service, behaviour, state, loose=loose))
+        try:
+            repair = yield from self.event(protocol.join(service, behaviour, state, loose=loose))
+        except StoreFailed:
+            self.devices[service] = device  # It has joined, and that is written later.
+            raise
         self.devices[service] = device
         return repair
 
@@ -497,10 +520,15 @@ class Dispatching(Generic[DeviceKind]):
             raise trouble
         return result
 
-    def _store(self, *entries: Entry) -> Steps[None]:
-        """Writes what has had its effect."""
-        if self._journal is not None:
-            yield Append(entries, True)
+    def _store(self, notice: Notice, *entries: Entry) -> Steps[None]:
+        """Writes what has had its effect, and tells whoever watches, even where it can only be written later."""
+        try:
+            if self._journal is not None:
+                yield Append(entries, True)
+        except StoreFailed:
+            yield Notify(notice)
+            raise
+        yield Notify(notice)
 
     def _applied(self, entry: Entry) -> Steps[Any]:
         """The effect of the newest event. Where the program ends under it, another one goes on from the

@@ -488,6 +488,51 @@ class FullDisk(Stores):
         with self.dispatcher() as dispatcher:
             self.assertEqual(dispatcher.report(), report)
 
+    def test_whoever_watches_is_told_what_happened_all_the_same(self) -> None:
+        notices: List[Any] = []
+        with self.dispatcher(watch=notices.append) as dispatcher:
+            dispatcher.freeze("kettle")
+            notices.clear()
+            with self.full(more=10), self.assertRaises(roman.StoreFailed):
+                dispatcher.thaw("kettle")
+            self.assertEqual(notices.pop(), roman.Changed(("thaw", "kettle")))
+            with self.full(more=200), self.assertRaises(roman.StoreFailed) as caught:
+                dispatcher.request("brighten")
+            self.assertEqual(notices.pop(), caught.exception.done)
+            with self.full(more=10), self.assertRaises(roman.StoreFailed) as caught:
+                dispatcher.record("boil", "kettle", "hot", "dusk")
+            self.assertEqual(notices.pop(), caught.exception.done)
+            self.assertEqual(dispatcher.served, 2)
+
+    def test_one_that_fails_meanwhile(self) -> None:
+        failures: List[roman.Failure] = []
+        for answer in (roman.DeviceFailed("stuck"), ("hot", "day")):
+            with self.subTest(answer):
+                self.store.unlink(missing_ok=True)
+                serve = mock.Mock(side_effect=[answer])
+                with mock.patch.object(self.devices["window"], "serve", serve):
+                    with self.dispatcher(on_failure=failures.append) as dispatcher:
+                        with self.full(more=150), self.assertRaises(roman.StoreFailed):
+                            dispatcher.request("brighten")
+                        self.assertEqual(failures.pop().service, "window")
+                        self.assertEqual(dispatcher.failed, {"window"})
+                        self.assertEqual(dispatcher.request("brighten").service, "ceiling")
+
+    def test_one_that_joins_meanwhile_has_its_device(self) -> None:
+        with self.dispatcher() as dispatcher:
+            dispatcher.freeze("window")
+            with self.full(more=10), self.assertRaises(roman.StoreFailed):
+                dispatcher.join("blind", "blind", "shut", Home())
+            dispatcher.die("ceiling")
+            self.assertEqual(dispatcher.core.devices.keys(), {"window", "kettle", "blind"})
+
+    def test_an_interrupt_meanwhile(self) -> None:
+        with self.dispatcher() as dispatcher:
+            with mock.patch.object(self.devices["window"], "serve", side_effect=KeyboardInterrupt):
+                with self.full(more=130), self.assertRaises(KeyboardInterrupt):
+                    dispatcher.request("brighten")
+            self.assertEqual(dispatcher.request("brighten").service, "ceiling")
+
     def test_where_it_would_begin_anew(self) -> None:
         with self.dispatcher() as dispatcher, mock.patch.object(dispatching, "ROTATE_AFTER", 2):
             with mock.patch("os.rename", side_effect=OSError(28, "No space left on device")):
