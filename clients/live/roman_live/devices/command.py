@@ -12,7 +12,7 @@ from typing import Optional, Set, Tuple
 from roman_client import Call, DeviceFailed
 
 from ..homefile import CommandReach
-from .base import LONGEST_ANSWER, STATE_WORD, Answer, Listener, Reach, short
+from .base import LONGEST_ANSWER, STATE_WORD, Answer, Listener, Reach, read, short
 
 
 class Command(Reach):
@@ -34,8 +34,10 @@ class Command(Reach):
     async def _run(self, word: str, number: Optional[int]) -> Answer:
         """Runs the command once. What is still running when this is cancelled is ended."""
         process = await _start(self._entry, (word,), number)
+        assert process.stdout is not None and process.stderr is not None
         try:
-            output, errors = await process.communicate()
+            output, errors = await asyncio.gather(read(process.stdout), _last(process.stderr))
+            await process.wait()
         finally:
             await _end(process)
         if process.returncode != 0:
@@ -207,6 +209,14 @@ async def _end(process: asyncio.subprocess.Process) -> None:
         with contextlib.suppress(ProcessLookupError):
             os.killpg(process.pid, signal.SIGKILL)
         await process.wait()
+
+
+async def _last(stream: asyncio.StreamReader) -> bytes:
+    """The last that a stream gives."""
+    data = b""
+    while part := await stream.read(LONGEST_ANSWER):
+        data = (data + part)[-LONGEST_ANSWER:]
+    return data
 
 
 def _answer(data: bytes) -> Answer:

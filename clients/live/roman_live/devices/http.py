@@ -4,29 +4,34 @@ from __future__ import annotations
 
 import json
 from typing import Any, Optional
+from urllib.parse import urlsplit
 
 import aiohttp
 from roman_client import Call, DeviceFailed
 
 from ..homefile import HttpReach
-from .base import LONGEST_ANSWER, Answer, Listener, Reach, answer_of, json_of, short
+from .base import Answer, Listener, Reach, answer_of, json_of, read, short
 
 
 class Http(Reach):
     """A device that carries out what is posted to its URL, and tells its state to GET. Each call has a
-    connection of its own answer, so that a late one can't be taken for another's."""
+    connection of its own, so that a late answer can't be taken for another's, and no call is lost on one that
+    the device has left."""
 
     reached = "http"
 
     def __init__(self, service: str, listener: Listener, entry: HttpReach) -> None:
         super().__init__(service, listener)
         self._url = entry.url
+        self._shown = _without_secrets(entry.url)
         self._client: Optional[aiohttp.ClientSession] = None
 
     async def open(self) -> None:
         # The dispatcher has the deadline; redirects, proxies and cookies aren't for devices.
         self._client = aiohttp.ClientSession(
-            timeout=aiohttp.ClientTimeout(total=None), cookie_jar=aiohttp.DummyCookieJar()
+            connector=aiohttp.TCPConnector(force_close=True),
+            timeout=aiohttp.ClientTimeout(total=None),
+            cookie_jar=aiohttp.DummyCookieJar(),
         )
 
     async def close(self) -> None:
@@ -52,21 +57,17 @@ class Http(Reach):
             async with self._client.request(
                 method, self._url, params=query, data=body, headers=headers, allow_redirects=False
             ) as response:
-                data = await _read(response)
+                data = await read(response.content)
                 status = response.status
         except aiohttp.ClientError as error:
-            raise DeviceFailed(f"{self._url}: {error or type(error).__name__}") from None
+            raise DeviceFailed(f"{self._shown}: {error or type(error).__name__}") from None
         if status != 200:
-            raise DeviceFailed(f"{self._url}: status {status}: {short(data)}")
+            raise DeviceFailed(f"{self._shown}: status {status}: {short(data)}")
         return json_of(data)
 
 
-async def _read(response: aiohttp.ClientResponse) -> bytes:
-    """The body of an answer, unless it is too long."""
-    data = b""
-    async for part in response.content.iter_any():
-        data += part
-        if len(data) > LONGEST_ANSWER:
-            response.close()
-            raise DeviceFailed(f"answered more than {LONGEST_ANSWER} bytes")
-    return data
+def _without_secrets(url: str) -> str:
+    """A URL as it may be shown on the page: without a name, a password, and what stands behind a question
+    mark."""
+    place = urlsplit(url)
+    return place._replace(netloc=place.netloc.rpartition("@")[2], query="", fragment="").geturl()

@@ -26,20 +26,55 @@ class PythonDevice(Reach):
     def __init__(self, service: str, listener: Listener, entry: PythonReach) -> None:
         super().__init__(service, listener)
         self._device = _load(entry)
+        self._at_work = False
 
     async def ask(self, number: int, call: Call) -> Answer:
         if isinstance(self._device, (roman_client.Device, aio.Device)):
-            value = await _value(self._device.serve, call)
+            value = await self._value(self._device.serve, call)
         else:
-            value = await _value(self._device, call.request)
+            value = await self._value(self._device, call.request)
         return _answer(value)
 
     async def tell(self, number: Optional[int]) -> Optional[Answer]:
         present = getattr(self._device, "present", None)
         if present is None:
             return None
-        value = await _value(present)
+        value = await self._value(present)
         return None if value is None else _answer(value)
+
+    async def _value(self, call: Callable[..., Any], *words: Any) -> Any:
+        """The value of a call: of a coroutine function here, and of another one in a thread. Raises DeviceFailed
+        while an earlier call in a thread hasn't come to its end, so that none pile up."""
+        if inspect.iscoroutinefunction(call):
+            return await call(*words)
+        if self._at_work:
+            raise roman_client.DeviceFailed("is still at work on an earlier call")
+        loop = asyncio.get_running_loop()
+        answer: asyncio.Future[Any] = loop.create_future()
+
+        def settle(value: Any, error: Optional[BaseException]) -> None:
+            self._at_work = False
+            if answer.done():
+                return
+            if error is None:
+                answer.set_result(value)
+            else:
+                answer.set_exception(error)
+
+        def work() -> None:
+            value, failure = None, None
+            try:
+                value = call(*words)
+            except BaseException as error:
+                failure = error
+            if not loop.is_closed():
+                loop.call_soon_threadsafe(settle, value, failure)
+
+        self._at_work = True
+        # A daemon, since one that hangs must not keep the home from its end.
+        threading.Thread(target=work, daemon=True).start()
+        value = await answer
+        return await value if inspect.isawaitable(value) else value
 
 
 def _load(entry: PythonReach) -> Any:
@@ -56,34 +91,6 @@ def _load(entry: PythonReach) -> Any:
     if not callable(found) and not isinstance(found, (roman_client.Device, aio.Device)):
         raise HomeFileError(f"{entry.module}:{entry.name} is neither a function nor a device")
     return found
-
-
-async def _value(call: Callable[..., Any], *words: Any) -> Any:
-    """The value of a call: of a coroutine function here, and of another one in a thread."""
-    if inspect.iscoroutinefunction(call):
-        return await call(*words)
-    answer: asyncio.Future[Any] = asyncio.get_running_loop().create_future()
-
-    def settle(value: Any, error: Optional[BaseException]) -> None:
-        if answer.done():
-            return
-        if error is None:
-            answer.set_result(value)
-        else:
-            answer.set_exception(error)
-
-    def work(loop: asyncio.AbstractEventLoop) -> None:
-        value, failure = None, None
-        try:
-            value = call(*words)
-        except BaseException as error:
-            failure = error
-        if not loop.is_closed():
-            loop.call_soon_threadsafe(settle, value, failure)
-
-    # A daemon, since one that hangs must not keep the home from its end.
-    threading.Thread(target=work, args=(asyncio.get_running_loop(),), daemon=True).start()
-    return await answer
 
 
 def _answer(value: Any) -> Answer:
