@@ -6,7 +6,7 @@ import asyncio
 import contextlib
 import json
 import logging
-from typing import Any, Callable, Dict, List, Optional, Set
+from typing import Any, Callable, Dict, List, Optional
 
 import paho.mqtt.client as mqtt  # type: ignore[import]
 
@@ -17,6 +17,9 @@ LOG = logging.getLogger("roman_live.broker")
 KEEPALIVE = 15
 """After how many seconds of silence the broker is asked whether it is there."""
 
+REFUSED = 128
+"""What a broker answers, in place of a level, where it refuses a subscription."""
+
 FIRST_WAIT = 5.0
 """How many seconds are waited at the beginning for the broker, and then for its word that it knows what is
 listened to."""
@@ -26,14 +29,14 @@ class Connection:
     """A connection that is made again whenever it is lost, with its subscriptions."""
 
     def __init__(self, broker: Broker, changed: Callable[[bool, str], None]) -> None:
-        """`changed` is told whether there is a connection, and in words what happened to it."""
+        """`changed` is told whether all is well with the connection, and in words what happened to it."""
         self.broker = broker
         self.connected = False
         self._changed = changed
         self._topics: Dict[str, List[Callable[[bytes, bool], None]]] = {}
         self._loop: Optional[asyncio.AbstractEventLoop] = None
         self._first = asyncio.Event()
-        self._asked: Set[int] = set()
+        self._asked: Dict[int, str] = {}
         self._agreed = asyncio.Event()
         self._agreed.set()
         self._client = mqtt.Client()
@@ -58,7 +61,7 @@ class Connection:
     def _subscribe(self, topic: str) -> None:
         sent, number = self._client.subscribe(topic, qos=1)
         if sent == mqtt.MQTT_ERR_SUCCESS:
-            self._asked.add(number)
+            self._asked[number] = topic
             self._agreed.clear()
 
     async def agreed(self) -> None:
@@ -104,7 +107,7 @@ class Connection:
         self._soon(self._disconnected, code)
 
     def _on_subscribe(self, client: Any, data: Any, number: int, levels: Any) -> None:
-        self._soon(self._subscribed, number)
+        self._soon(self._subscribed, number, REFUSED in levels)
 
     def _on_message(self, client: Any, data: Any, message: Any) -> None:
         self._soon(self._message, message.topic, message.payload, bool(message.retain))
@@ -128,8 +131,10 @@ class Connection:
             self.connected = False
             self._changed(False, "the broker is gone")
 
-    def _subscribed(self, number: int) -> None:
-        self._asked.discard(number)
+    def _subscribed(self, number: int, refused: bool) -> None:
+        topic = self._asked.pop(number, None)
+        if refused and topic is not None:
+            self._changed(False, f"the broker doesn't let this home listen to {topic}")
         if not self._asked:
             self._agreed.set()
 

@@ -3,11 +3,14 @@
 from __future__ import annotations
 
 import asyncio
+import logging
 import time
 from collections import deque
 from dataclasses import dataclass, field
 from datetime import datetime, timezone
 from typing import Any, Deque, Dict, List, Mapping, Optional, Set
+
+LOG = logging.getLogger("roman_live")
 
 KEPT = 200
 """How many events are kept."""
@@ -65,6 +68,7 @@ class EventLog:
 
     def add(self, kind: str, text: str, **details: Any) -> Event:
         """Something happened."""
+        LOG.info("%s", text)
         event = Event(self._next, now(), kind, text, details)
         self._next += 1
         self._kept.append(event)

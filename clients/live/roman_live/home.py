@@ -195,7 +195,12 @@ class Home:
             raise HomeFileError(f"{self.file.path}: document: {error}") from None
         program = self._program()
         self._session = aio.Session(self.file.document.name, program=program, folder=folder)
-        await self._session.begin()
+        try:
+            await self._session.begin()
+        except OSError as error:
+            raise HomeFileError(
+                f"{self.file.path}: program is {program!r}, which can't be started: {error.strerror}"
+            ) from None
         try:
             policy = Policy() if self.simulate else self.file.policy
             self._policy = make_policy(policy, self._session, program)
@@ -279,6 +284,9 @@ class Home:
             raise HomeFileError(f"{self.file.path}: {error}") from None
         self._report = await self._dispatcher.report()
         self._take(self._report)
+        for name, known in self._known.items():
+            if known.dead:
+                self._missing(name)
         self._ready = True
         if not self.simulate:
             await asyncio.gather(*(self._compare(name) for name in self._present()))
@@ -286,6 +294,12 @@ class Home:
             if self._known[name].frozen and name not in self._kept.held:
                 self._let_return(name, at_once=True)
         self.events.add("begun", f"{self.file.document.name} runs")
+
+    def _missing(self, service: str) -> None:
+        """A service stands in the document and isn't there by the journal."""
+        text = f"{service} isn't there by the journal: it is gone, or new in the document; then let it join"
+        LOG.warning("%s", text)
+        self.events.add("missing", text, service=service)
 
     async def settle(self, seconds: float) -> bool:
         """Takes no more requests, and waits so long for those that are open. Whether they came to their
@@ -530,6 +544,8 @@ class Home:
 
     def _broker_changed(self, connected: bool, text: str) -> None:
         self.events.add("broker", text, connected=connected)
+        if not connected:
+            LOG.warning("%s", text)
         self._dirty.set()
         if not connected or not self._ready:
             return

@@ -104,7 +104,10 @@ class Server:
         """Without a token only names of this machine are taken, so that no other page can use one of its
         own that leads here."""
         if self.page.token is None:
-            host = urlsplit(f"//{request.headers.get('Host', '')}").hostname
+            try:
+                host = urlsplit(f"//{request.headers.get('Host', '')}").hostname
+            except ValueError:
+                host = None
             if host is None or not (is_loopback(host) or host == self.page.host):
                 raise web.HTTPForbidden(text="another name than that of this machine was called")
 
@@ -132,7 +135,7 @@ class Server:
         origin = request.headers.get("Origin")
         site = request.headers.get("Sec-Fetch-Site", "none")
         own = request.headers.get("Host", "")
-        foreign = origin is not None and urlsplit(origin).netloc != own
+        foreign = origin is not None and origin.partition("://")[2] != own
         if foreign or site not in ("same-origin", "none"):
             raise web.HTTPForbidden(text="only this home's own page may change it")
 
@@ -286,7 +289,8 @@ async def result(
 
 
 def _same(shown: str, token: str) -> bool:
-    return hmac.compare_digest(shown.encode(), token.encode())
+    # Headers are read with what isn't UTF-8 in them kept.
+    return hmac.compare_digest(shown.encode(errors="surrogateescape"), token.encode())
 
 
 def _json(value: Any, status: int = HTTPStatus.OK) -> web.Response:

@@ -145,6 +145,34 @@ class Policies(InProcess):
             await self.begin("depot", '[policy]\nchoose = "least cost"\ncosts = "none"')
 
 
+class Beginning(InProcess):
+    """What is said where a home begins otherwise than it was meant."""
+
+    async def test_a_program_that_is_not_there(self) -> None:
+        with self.assertRaisesRegex(HomeFileError, "program is '/nowhere', which can't be started: No such file"):
+            with mock.patch(f"{__name__}.PROGRAM", "/nowhere"):
+                await self.begin("home")
+
+    async def test_a_service_that_is_new_in_the_document(self) -> None:
+        journal = '[journal]\npath = "journal"'
+        home = await self.begin("home", journal)
+        await home.die("ceiling")
+        await home.close()
+        with self.assertLogs("roman_live", "WARNING") as logged:
+            home = await self.begin("home", journal)
+        self.assertEqual(len(logged.output), 1)
+        self.assertIn("ceiling isn't there by the journal", logged.output[0])
+        self.assertIn("missing", [each.kind for each in home.events.after(-1)])
+
+    async def test_each_event_is_logged(self) -> None:
+        home = await self.begin("home")
+        with self.assertLogs("roman_live", "INFO") as logged:
+            await home.request("brighten")
+            home.late("kettle", "says something")
+        self.assertIn("INFO:roman_live:window is asked to brighten", logged.output)
+        self.assertIn("INFO:roman_live:kettle says something", logged.output)
+
+
 class ShortForm(InProcess):
     """A home whose document is in the short form."""
 

@@ -129,6 +129,8 @@ class Api(Served):
             {"Sec-Fetch-Site": "cross-site"},
             {"Sec-Fetch-Site": "same-site"},
             {"Host": "evil.example"},
+            {"Host": "["},
+            {"Origin": "http://["},
         ):
             with self.subTest(headers):
                 self.assertEqual(call(url, body, headers)[0], 403)
@@ -204,6 +206,7 @@ class Token(Served):
         self.assertEqual(self.status({"Authorization": "Bearer open sesame"}), 200)
         self.assertEqual(self.status({"Authorization": "Bearer open"}), 401)
         self.assertEqual(self.status({"Authorization": "Basic open sesame"}), 401)
+        self.assertEqual(self.status({"Authorization": "Bearer \xff"}), 401)
         self.assertEqual(self.status({"Cookie": "roman_live_token=wrong"}), 401)
         self.assertEqual(self.status({}, "/?token=wrong"), 401)
         self.assertEqual(self.status({}, "/events"), 401)
