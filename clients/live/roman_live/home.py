@@ -290,9 +290,7 @@ class Home:
         self._ready = True
         if not self.simulate:
             await asyncio.gather(*(self._compare(name) for name in self._present()))
-        for name in self._present():
-            if self._known[name].frozen and name not in self._kept.held:
-                self._let_return(name, at_once=True)
+        self._let_all_return(at_once=True)
         self.events.add("begun", f"{self.file.document.name} runs")
 
     def _missing(self, service: str) -> None:
@@ -584,6 +582,12 @@ class Home:
                 self._place(service, answer)
             return
 
+    def _let_all_return(self, at_once: bool = False) -> None:
+        """Asks all services again that are frozen, and weren't frozen by hand."""
+        for name in self._present():
+            if self._known[name].frozen and name not in self._kept.held:
+                self._let_return(name, at_once)
+
     def _let_return(self, service: str, at_once: bool = False) -> None:
         """Asks a service again and again until it is back."""
         task = self._returning.get(service)
@@ -661,6 +665,7 @@ class Home:
         elif isinstance(notice, Restarted):
             self.metrics.restarts.inc()
             self.events.add("restarted", f"the program was started again: {notice.why}")
+            self._spawn(self._refresh())
         self._noticed.set()
         self._dirty.set()
 
@@ -757,6 +762,12 @@ class Home:
         if known.state != state:
             known.state, known.since = state, now()
 
+    async def _refresh(self) -> None:
+        """Takes all states as the program has them."""
+        self._take(await self._session.report())
+        self._let_all_return()
+        self._dirty.set()
+
     def _take(self, report: Report) -> None:
         """Takes all states from a report."""
         self._environment = report.environment
@@ -764,9 +775,9 @@ class Home:
         for name, service in present.items():
             if name not in self._known:
                 self._learn(name, service.behaviour, service.state, service.loose)
+            self._now_in(name, service.state)
             known = self._known[name]
-            known.state, known.frozen = service.state, service.frozen
-            known.behaviour, known.loose = service.behaviour, service.loose
+            known.frozen, known.behaviour, known.loose = service.frozen, service.behaviour, service.loose
         for name, known in self._known.items():
             known.dead = name not in present
 

@@ -316,6 +316,21 @@ class ProgramAway(InProcess):
         self.there()
         self.assertEqual((await result(self.home, "boil", None, True))[0], 200)
 
+    async def test_what_a_device_did_meanwhile_counts(self) -> None:
+        self.there()
+        self.gates["kettle"] = asyncio.Event()
+        self.environment = "dusk"
+        boiling = asyncio.ensure_future(result(self.home, "boil", None, True))
+        await self.until(lambda: "kettle" in self.asked)
+        self.home._session.core.words = ("/nowhere",)
+        os.kill(self.home._session.pid, signal.SIGKILL)
+        self.gates["kettle"].set()
+        self.assertEqual((await boiling)[0], 503)
+        self.there()
+        self.assertEqual((await result(self.home, "dim", None, True))[1]["error"], "not allowed")
+        await self.until(lambda: self.home._known["kettle"].state == "warm")
+        self.assertEqual((await result(self.home, "pour", None, True))[0], 200)
+
     async def test_the_state_is_told_when_it_is_there_again(self) -> None:
         listener = self.home.events.listen()
         with self.assertLogs("roman_live", "WARNING") as logged:

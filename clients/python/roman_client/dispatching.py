@@ -230,6 +230,7 @@ class Dispatching(Generic[DeviceKind]):
         if self._journal is not None:
             yield Reread()
             yield from self._replay_surely()
+            yield Notify(Restarted("it was interrupted"))
             if self.under_way is not None:
                 yield from self._recover(self.under_way)
         else:

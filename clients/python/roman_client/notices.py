@@ -59,7 +59,8 @@ class Recovery:
 
 @dataclass(frozen=True)
 class Restarted:
-    """The program had ended, and another one went on from the store."""
+    """The program had ended, and another one went on from the store. What happened just before may not have been
+    told; a report tells where all are now."""
 
     why: str
 
