@@ -114,6 +114,10 @@ class Terminal(unittest.TestCase):
         os.write(self.leader, b"quit\n")
         self.assertEqual(self.running.wait(timeout=120), 0)
 
+    def test_a_key_that_writes_no_letter_does_not_end_it(self) -> None:
+        self.assertIn("is no word of a line", self.say("do \x16\x01clean"))
+        self.assertEqual(self.say("do clean"), "offer arm1 arm3")
+
     def test_names_are_completed(self) -> None:
         os.write(self.leader, b"do cl\t")
         self.assertIn("do clean ", self.until("clean "))

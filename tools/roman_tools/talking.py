@@ -211,6 +211,8 @@ class Talk:
             return refusal.reply
         except Refusal as refusal:
             return refusal.reply + self.unknown(event, given)
+        except ValueError as error:
+            return str(error)  # A key that writes no letter was pressed.
 
     def unknown(self, event: str, given: Sequence[str]) -> str:
         """Behind a refusal the word that isn't known, and those that are."""
