@@ -4,6 +4,7 @@ from __future__ import annotations
 
 import argparse
 import asyncio
+import contextlib
 import logging
 import os
 import signal
@@ -25,6 +26,9 @@ LOG = logging.getLogger("roman_live")
 DONE, NO, USAGE, FAILED = 0, 1, 2, 3
 """The statuses: all is well; the request wasn't served; the words or the home file are wrong; it couldn't
 be begun, or nobody was there to ask."""
+
+INTERRUPTED = 130
+"""The status of `ask` on Ctrl-C."""
 
 PATIENCE = 20.0
 """How many seconds an open request has to come to its end, before the home ends as if it were killed."""
@@ -69,6 +73,23 @@ def main(words: Sequence[str]) -> int:
     except (ClientError, OSError, RomanError) as error:
         print(f"roman-live: {error}", file=sys.stderr)
         return FAILED
+    except KeyboardInterrupt:
+        return INTERRUPTED  # Whoever asked waits no more; the request goes on.
+
+
+async def begun(home: Home, ending: asyncio.Event) -> bool:
+    """Begins a home. False where it was to end before that was done, since a device takes its time."""
+    beginning = asyncio.ensure_future(home.begin())
+    ended = asyncio.ensure_future(ending.wait())
+    await asyncio.wait({beginning, ended}, return_when=asyncio.FIRST_COMPLETED)
+    ended.cancel()
+    if not beginning.done():
+        beginning.cancel()
+        with contextlib.suppress(asyncio.CancelledError):
+            await beginning
+        return False
+    await beginning
+    return True
 
 
 async def run(file: HomeFile, simulate: bool) -> None:
@@ -78,7 +99,8 @@ async def run(file: HomeFile, simulate: bool) -> None:
         asyncio.get_running_loop().add_signal_handler(each, ending.set)
     home = Home(file, simulate=simulate)
     server = Server(home, file.page)
-    await home.begin()
+    if not await begun(home, ending):
+        return
     try:
         await Requests(home).begin()
         await server.begin()

@@ -1,5 +1,6 @@
 """Devices over MQTT, HTTP and commands: that serve, die, hang, answer late, twice and wrongly."""
 
+import http.client
 import json
 import sys
 import tempfile
@@ -222,6 +223,26 @@ class Serving(Devices):
         self.live.start()
         self.assertEqual(self.live.state()["counts"]["served"], 1)
         self.assertEqual(self.live.service("window")["status"], "ready")
+
+    def test_it_ends_while_it_still_begins(self) -> None:
+        """It asks a device what became of a call, which may take as long as an action."""
+        self.world.manners["window"] = "late"
+        asking = threading.Thread(target=self.ask_in_vain, daemon=True)
+        asking.start()
+        until(lambda: self.world.asked, "the call")
+        self.live.kill()
+        asking.join(PATIENCE)
+        self.world.mute.add("window")
+        self.live.start(wait=False)
+        until(lambda: self.mqtt.heard[-1].get("about"), "the question")
+        self.live.process.terminate()
+        self.assertEqual(self.live.process.wait(PATIENCE / 2), 0)
+        self.world.release.set()
+
+    def ask_in_vain(self) -> None:
+        """Asks one that is killed before it answers."""
+        with self.assertRaises((OSError, http.client.HTTPException)):
+            self.request("brighten")
 
     def test_a_second_one_on_the_journal_is_refused(self) -> None:
         second = Live(self.folder, self.home())
