@@ -100,6 +100,10 @@ class Ending(RomanError):
     """The home is about to end, and takes no requests any more."""
 
 
+class NoProgram(RomanError):
+    """The program can't be started."""
+
+
 class NoDevice(RomanError):
     """The home file doesn't say how a service is reached."""
 
@@ -198,7 +202,7 @@ class Home:
         try:
             await self._session.begin()
         except OSError as error:
-            raise HomeFileError(
+            raise NoProgram(
                 f"{self.file.path}: program is {program!r}, which can't be started: {error.strerror}"
             ) from None
         try:

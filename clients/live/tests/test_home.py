@@ -149,7 +149,7 @@ class Beginning(InProcess):
     """What is said where a home begins otherwise than it was meant."""
 
     async def test_a_program_that_is_not_there(self) -> None:
-        with self.assertRaisesRegex(HomeFileError, "program is '/nowhere', which can't be started: No such file"):
+        with self.assertRaisesRegex(homes.NoProgram, "program is '/nowhere', which can't be started: No such file"):
             with mock.patch(f"{__name__}.PROGRAM", "/nowhere"):
                 await self.begin("home")
 
