@@ -2,6 +2,7 @@
 
 from __future__ import annotations
 
+from html import escape
 from typing import Sequence
 
 from . import need
@@ -45,7 +46,7 @@ def svg(picture: "graphviz.Digraph") -> str:
 
 def html(text: str) -> str:
     """A text inside of a label with marks."""
-    return text.replace("&", "&amp;").replace("<", "&lt;").replace(">", "&gt;")
+    return escape(text, quote=False)
 
 
 def coloured(text: str, colour: str, small: bool = False) -> str:
