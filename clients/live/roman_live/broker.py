@@ -91,6 +91,7 @@ class Connection:
 
     async def close(self) -> None:
         """Disconnects."""
+        self.connected = False  # So that it isn't told as a loss.
         self._client.disconnect()
         await asyncio.to_thread(self._client.loop_stop)
 
