@@ -17,6 +17,9 @@ LOG = logging.getLogger("roman_live.broker")
 KEEPALIVE = 15
 """After how many seconds of silence the broker is asked whether it is there."""
 
+MOST_WAITING = 1000
+"""How many messages may wait for a connection."""
+
 REFUSED = 128
 """What a broker answers, in place of a level, where it refuses a subscription."""
 
@@ -45,6 +48,7 @@ class Connection:
         self._client.on_message = self._on_message
         self._client.on_subscribe = self._on_subscribe
         self._client.reconnect_delay_set(1, 30)
+        self._client.max_queued_messages_set(MOST_WAITING)
         if broker.username is not None:
             self._client.username_pw_set(broker.username, broker.password)
 
@@ -69,14 +73,16 @@ class Connection:
         with contextlib.suppress(asyncio.TimeoutError):
             await asyncio.wait_for(self._agreed.wait(), FIRST_WAIT)
 
-    def publish(
-        self, topic: str, value: Any, *, retain: bool = False, only_now: bool = False
-    ) -> bool:
-        """Publishes JSON. False where there is no connection; then it isn't sent later either. What is for
-        `only_now` isn't sent again after a connection was lost, nor kept for a listener that is away."""
+    def publish(self, topic: str, value: Any) -> None:
+        """Publishes JSON, where there is no connection as soon as there is one."""
+        self._client.publish(topic, json.dumps(value), qos=1)
+
+    def publish_now(self, topic: str, value: Any, retain: bool = False) -> bool:
+        """Publishes JSON at once, or not at all. False where there is no connection. It isn't sent again after
+        a connection was lost, nor kept by the broker for a listener that is away."""
         if not self.connected:
             return False
-        sent = self._client.publish(topic, json.dumps(value), qos=0 if only_now else 1, retain=retain)
+        sent = self._client.publish(topic, json.dumps(value), qos=0, retain=retain)
         return bool(sent.rc == mqtt.MQTT_ERR_SUCCESS)
 
     async def open(self) -> None:

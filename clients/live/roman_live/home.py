@@ -907,7 +907,7 @@ class Home:
                 if self.events.listeners:
                     self.events.send(Message("state", await self.state()))
                 if self.broker is not None:
-                    self.broker.publish(self.broker.topic("state"), await self._summary(), retain=True)
+                    self.broker.publish_now(self.broker.topic("state"), await self._summary(), retain=True)
             except TROUBLE as error:
                 LOG.warning("the state can't be had: %s", error)
             await asyncio.sleep(BETWEEN_STATES)

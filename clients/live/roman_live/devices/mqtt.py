@@ -53,7 +53,7 @@ class Mqtt(Reach):
         answer: asyncio.Future[Answer] = asyncio.get_running_loop().create_future()
         self._waiting[number] = answer
         try:
-            if not self._broker.publish(self._entry.ask, asked, only_now=True):
+            if not self._broker.publish_now(self._entry.ask, asked):
                 raise DeviceFailed("the broker can't be reached")
             return await answer
         finally:
