@@ -4,6 +4,7 @@ from __future__ import annotations
 
 import json
 import os
+import signal
 import subprocess
 import sys
 import tempfile
@@ -61,10 +62,10 @@ class Running:
             refusal.close()
         return True
 
-    def end(self) -> None:
-        """Ends it."""
+    def end(self, by: int = signal.SIGTERM) -> None:
+        """Ends it by a signal."""
         if self._process is not None:
-            self._process.terminate()
+            self._process.send_signal(by)
             self._process.wait(PATIENCE)
             self._process = None
 

@@ -5,6 +5,7 @@ from __future__ import annotations
 import json
 import re
 import shlex
+import signal
 import threading
 import time
 import unittest
@@ -46,6 +47,14 @@ class Messages(unittest.TestCase):
         answer = answers.heard[0]
         self.assertEqual((answer["id"], answer["status"], answer["action"]), (1, 200, "brighten"))
         wait_until(lambda: home.state()["environment"] == "dusk", "dusk")
+
+    def test_all_ends_where_the_terminal_is_closed(self) -> None:
+        home = Demonstrated()
+        self.addCleanup(home.close)
+        home.begin(0)
+        home.end(signal.SIGHUP)
+        with self.assertRaises(ConnectionRefusedError):
+            publish.single("demo/requests", "", hostname="127.0.0.1", port=home.broker)
 
     def publish(self, home: Demonstrated, topic: str, message: str) -> bool:
         """Publishes a message, and waits a little: nobody may listen yet. Gives False: it isn't answered."""
