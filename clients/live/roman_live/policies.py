@@ -8,7 +8,7 @@ import tempfile
 from pathlib import Path
 from typing import Awaitable, Callable, Dict, List, Mapping, Optional, Tuple
 
-from roman_client import LeastCost, Report, RomanError, aio, first_offered
+from roman_client import Document, LeastCost, Report, RomanError, aio, first_offered
 from roman_client.policies import Choice
 
 from .homefile import HomeFileError, Policy, PolicyName
@@ -22,19 +22,31 @@ Choose = Callable[[Choice], Awaitable[str]]
 
 
 def make_policy(policy: Policy, session: aio.Session, program: str) -> Choose:
-    """The policy of a home. Raises HomeFileError where its costs can't be read."""
+    """The policy of a home. Raises HomeFileError where its costs can't be read, or name what the document hasn't:
+    that would count as free."""
     if policy.choose is PolicyName.ROUND_ROBIN:
         return RoundRobin()
     if policy.choose is PolicyName.FIRST:
         return _at_once(first_offered)
     assert policy.costs is not None
+    assert session.core.document is not None
     try:
         least = LeastCost.read(policy.costs)
+        _look_up(least, session.core.document)
     except (OSError, ValueError) as error:
         raise HomeFileError(f"policy.costs is {str(policy.costs)!r}: {error}") from None
     if policy.choose is PolicyName.LEAST_COST:
         return _at_once(least)
     return LeastWorst(policy, session, program, least)
+
+
+def _look_up(least: LeastCost, document: Document) -> None:
+    """Raises ValueError for a name that the document hasn't."""
+    for behaviour, action in least.costs:
+        if behaviour not in document.behaviours:
+            raise ValueError(f"{behaviour} is no behaviour of the document")
+        if action not in document.actions:
+            raise ValueError(f"{action} is no action that may be requested")
 
 
 def _at_once(choose: Callable[[Choice], str]) -> Choose:

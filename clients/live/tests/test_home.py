@@ -144,6 +144,14 @@ class Policies(InProcess):
         with self.assertRaisesRegex(HomeFileError, "policy.costs is"):
             await self.begin("depot", '[policy]\nchoose = "least cost"\ncosts = "none"')
 
+    async def test_costs_of_what_is_not_there(self) -> None:
+        costs = self.folder / "costs"
+        for text, wrong in (('["dron", "ship", 1]', "dron is no behaviour"), ('["drone", "shp", 1]', "shp is no action")):
+            costs.write_text(f'[["van", "ship", 1], {text}]', encoding="utf-8")
+            for choose in ("least cost", "least worst"):
+                with self.subTest(choose=choose, text=text), self.assertRaisesRegex(HomeFileError, wrong):
+                    await self.begin("depot", f'[policy]\nchoose = "{choose}"\ncosts = "{costs}"')
+
 
 class Beginning(InProcess):
     """What is said where a home begins otherwise than it was meant."""

@@ -43,7 +43,8 @@ class LeastCost:
         """From a table of items `[behaviour, action, cost]`, the names and a whole number from 0 to
         1,000,000. Raises ValueError for an item of another form, and for a second one with both names,
         as `advise` refuses them. Names aren't looked up in a document."""
-        self._costs: Dict[Tuple[str, str], int] = {}
+        self.costs: Dict[Tuple[str, str], int] = {}
+        """What the table says of a behaviour and an action."""
         for item in costs:
             if not isinstance(item, Sequence):
                 raise ValueError(f"{item!r} isn't [behaviour, action, cost]")
@@ -52,9 +53,9 @@ class LeastCost:
                 raise ValueError(f"{behaviour!r} and {action!r} aren't both names")
             if type(cost) is not int or not 0 <= cost <= GREATEST_COST:
                 raise ValueError(f"{cost!r} isn't a whole number from 0 to {GREATEST_COST:,}")
-            if (behaviour, action) in self._costs:
+            if (behaviour, action) in self.costs:
                 raise ValueError(f"{behaviour} has two costs of {action}")
-            self._costs[behaviour, action] = cost
+            self.costs[behaviour, action] = cost
 
     @classmethod
     def read(cls, file: PathLike) -> LeastCost:
@@ -67,6 +68,6 @@ class LeastCost:
 
     def __call__(self, choice: Choice) -> str:
         def cost(service: str) -> int:
-            return self._costs.get((choice.behaviours[service], choice.action), 0)
+            return self.costs.get((choice.behaviours[service], choice.action), 0)
 
         return min(choice.offered, key=cost)
