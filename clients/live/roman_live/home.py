@@ -70,7 +70,7 @@ LONGEST_PAUSE = 60.0
 """The longest such pause."""
 
 FIRST_WORD = 10.0
-"""How many seconds a device has at most to say where it is, where it may have moved while nobody listened."""
+"""How many seconds the beginning waits for devices to say where they are. Those that take longer say it later."""
 
 COMPARED = 3
 """How often it is asked that after the broker was gone: it may find its way to the broker later than the home."""
@@ -293,7 +293,7 @@ class Home:
                 self._missing(name)
         self._ready = True
         if not self.simulate:
-            await asyncio.gather(*(self._compare(name) for name in self._present()))
+            await self._compare_all()
         self._let_all_return(at_once=True)
         self.events.add("begun", f"{self.file.document.name} runs")
 
@@ -559,15 +559,19 @@ class Home:
 
     # Asking back.
 
-    async def _told(self, service: str, most: Optional[float] = None) -> Optional[Answer]:
-        """Where a device says that it is now. Raises an exception where it doesn't, by its deadline or within
-        so many seconds."""
+    async def _told(self, service: str) -> Optional[Answer]:
+        """Where a device says that it is now. Raises an exception where it doesn't by its deadline."""
         device = self._devices[service]
-        limit = device.timeout if most is None else min(most, device.timeout or most)
         try:
-            return await asyncio.wait_for(device.reach.tell(None), limit)
+            return await asyncio.wait_for(device.reach.tell(None), device.timeout)
         except asyncio.TimeoutError:
-            raise DeviceTimeout(f"no answer within {limit} seconds") from None
+            raise DeviceTimeout(f"no answer within {device.timeout} seconds") from None
+
+    async def _compare_all(self) -> None:
+        """Asks all devices where they are, and waits a little for that."""
+        comparing = [self._spawn(self._compare(name)) for name in self._present()]
+        if comparing:
+            await asyncio.wait(comparing, timeout=FIRST_WORD)
 
     async def _compare(self, service: str, times: int = 1) -> None:
         """Asks a device where it is, since it may have moved while nobody listened. What it says counts for
@@ -578,7 +582,7 @@ class Home:
             if known.frozen or known.dead or known.calls != calls or service == self._chosen:
                 return
             try:
-                answer = await self._told(service, FIRST_WORD)
+                answer = await self._told(service)
             except Exception as error:
                 known.last_error = str(error) or type(error).__name__
                 continue

@@ -363,7 +363,15 @@ class MovedByItself(InProcess):
         self.mute["window"] = asyncio.Event()
         self.seconds = 3600.0
         with mock.patch.object(homes, "FIRST_WORD", 0.1):
-            await asyncio.wait_for(self.begin("home"), 60)
+            home = await asyncio.wait_for(self.begin("home"), 60)
+        self.states["window"] = "ajar"
+        self.mute["window"].set()
+        await self.until(lambda: home._known["window"].state == "ajar")
+
+    async def test_one_that_does_not_tell_in_time(self) -> None:
+        self.mute["window"] = asyncio.Event()
+        self.seconds = 0.1
+        await self.begin("home")
         self.assertEqual((await self.service("window"))["last_error"], "no answer within 0.1 seconds")
 
     async def test_what_is_told_counts_for_nothing_where_it_is_asked_meanwhile(self) -> None:
