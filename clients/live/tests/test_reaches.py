@@ -7,6 +7,7 @@ import asyncio
 import sys
 import tempfile
 import threading
+import time
 import unittest
 from pathlib import Path
 from typing import Any, Optional
@@ -28,6 +29,12 @@ class Commands(unittest.IsolatedAsyncioTestCase):
     async def run_one(self, script: str) -> Optional[Answer]:
         entry = CommandReach((sys.executable, "-c", script), False, Path.cwd())
         return await asyncio.wait_for(Command("lamp", Heard(), entry).tell(None), PATIENCE)
+
+    async def test_one_that_leaves_something_running(self) -> None:
+        script = "import subprocess; subprocess.Popen(['sleep', '20']); print('on day')"
+        began = time.monotonic()
+        self.assertEqual(await self.run_one(script), Answer("on", "day"))
+        self.assertLess(time.monotonic() - began, 15)
 
     async def test_one_that_never_ends_its_answer(self) -> None:
         with self.assertRaisesRegex(DeviceFailed, "answered more than 65536 bytes"):

@@ -90,23 +90,6 @@ def json_of(data: bytes) -> Any:
         raise DeviceFailed(f"answered {short(data)}, which is no JSON") from None
 
 
-class Stream(Protocol):
-    """What an answer is read from."""
-
-    async def read(self, n: int = -1) -> bytes:
-        """Some bytes, at most so many; none at the end."""
-
-
-async def read(stream: Stream) -> bytes:
-    """All that a stream gives. Raises DeviceFailed where that is too long for an answer."""
-    data = b""
-    while part := await stream.read(LONGEST_ANSWER):
-        data += part
-        if len(data) > LONGEST_ANSWER:
-            raise DeviceFailed(f"answered more than {LONGEST_ANSWER} bytes")
-    return data
-
-
 def short(value: Any) -> str:
     """A value in a few letters."""
     text = value.decode(errors="replace") if isinstance(value, bytes) else repr(value)

@@ -7,12 +7,17 @@ import contextlib
 import os
 import re
 import signal
-from typing import Optional, Set, Tuple
+from typing import Any, Dict, Iterator, Optional, Set, Tuple
 
 from roman_client import Call, DeviceFailed
 
 from ..homefile import CommandReach
-from .base import LONGEST_ANSWER, STATE_WORD, Answer, Listener, Reach, read, short
+from .base import LONGEST_ANSWER, STATE_WORD, Answer, Listener, Reach, short
+
+
+REST = 0.5
+"""How many seconds are waited for the rest of what a command wrote that has ended. What it left running may keep
+its output open."""
 
 
 class Command(Reach):
@@ -33,17 +38,51 @@ class Command(Reach):
 
     async def _run(self, word: str, number: Optional[int]) -> Answer:
         """Runs the command once. What is still running when this is cancelled is ended."""
-        process = await _start(self._entry, (word,), number)
-        assert process.stdout is not None and process.stderr is not None
+        loop = asyncio.get_running_loop()
+        with _naming(self._entry):
+            transport, written = await loop.subprocess_exec(
+                Written, *self._entry.command, word, stdin=asyncio.subprocess.DEVNULL, **_around(self._entry, number)
+            )
         try:
-            output, errors = await asyncio.gather(read(process.stdout), _last(process.stderr))
-            await process.wait()
+            await written.ended
+            await asyncio.wait({written.closed}, timeout=REST)
         finally:
-            await _end(process)
-        if process.returncode != 0:
-            last = errors.decode(errors="replace").strip().splitlines()[-1:]
-            raise DeviceFailed(f"ended with status {process.returncode}: {''.join(last)}".rstrip(": "))
-        return _answer(output)
+            if transport.get_returncode() is None:
+                _kill(transport.get_pid())
+            transport.close()
+            await asyncio.wait({written.closed})
+        status = transport.get_returncode()
+        if status != 0:
+            last = written.errors.decode(errors="replace").strip().splitlines()[-1:]
+            raise DeviceFailed(f"ended with status {status}: {''.join(last)}".rstrip(": "))
+        return _answer(bytes(written.output))
+
+
+class Written(asyncio.SubprocessProtocol):
+    """What a command writes that runs once: its `output`, and the last of its `errors`. `ended` is done when it
+    has ended, or has written too much, and `closed` when nobody can write any more."""
+
+    def __init__(self) -> None:
+        loop = asyncio.get_running_loop()
+        self.output, self.errors = bytearray(), bytearray()
+        self.ended: asyncio.Future[None] = loop.create_future()
+        self.closed: asyncio.Future[None] = loop.create_future()
+
+    def pipe_data_received(self, fd: int, data: bytes) -> None:
+        if fd == 2:
+            self.errors += data
+            del self.errors[:-LONGEST_ANSWER]
+        elif len(self.output) <= LONGEST_ANSWER:
+            self.output += data
+            if len(self.output) > LONGEST_ANSWER and not self.ended.done():
+                self.ended.set_exception(DeviceFailed(f"answered more than {LONGEST_ANSWER} bytes"))
+
+    def process_exited(self) -> None:
+        if not self.ended.done():
+            self.ended.set_result(None)
+
+    def connection_lost(self, error: Optional[Exception]) -> None:
+        self.closed.set_result(None)
 
 
 class KeptCommand(Reach):
@@ -105,7 +144,7 @@ class KeptCommand(Reach):
     async def _running(self) -> asyncio.subprocess.Process:
         """The command, which is started where it doesn't run."""
         if self._process is None or self._process.returncode is not None:
-            self._process = await _start(self._entry, (), None)
+            self._process = await _start(self._entry)
             listening = asyncio.ensure_future(self._listen(self._process))
             self._listening.add(listening)
             listening.add_done_callback(self._listening.discard)
@@ -180,43 +219,45 @@ class KeptCommand(Reach):
         await _end(process)
 
 
-async def _start(
-    entry: CommandReach, more: tuple[str, ...], number: Optional[int]
-) -> asyncio.subprocess.Process:
-    """Starts a command in a group of its own, beside the home file. The number of the call is in its
+def _around(entry: CommandReach, number: Optional[int]) -> Dict[str, Any]:
+    """What a command runs in: a group of its own, beside the home file. The number of a call is in its
     environment."""
     known = {} if number is None else {"ROMAN_CALL": str(number)}
-    kept = entry.lines
+    return {"cwd": entry.folder, "env": {**os.environ, **known}, "start_new_session": True}
+
+
+@contextlib.contextmanager
+def _naming(entry: CommandReach) -> Iterator[None]:
+    """Raises DeviceFailed, with the name of a command, where it can't be started."""
     try:
-        return await asyncio.create_subprocess_exec(
-            *entry.command,
-            *more,
-            stdin=asyncio.subprocess.PIPE if kept else asyncio.subprocess.DEVNULL,
-            stdout=asyncio.subprocess.PIPE,
-            stderr=None if kept else asyncio.subprocess.PIPE,
-            cwd=entry.folder,
-            env={**os.environ, **known},
-            start_new_session=True,
-            limit=LONGEST_ANSWER,
-        )
+        yield
     except OSError as error:
         raise DeviceFailed(f"{entry.command[0]} can't be started: {error.strerror}") from None
+
+
+async def _start(entry: CommandReach) -> asyncio.subprocess.Process:
+    """Starts a command that is kept."""
+    with _naming(entry):
+        return await asyncio.create_subprocess_exec(
+            *entry.command,
+            stdin=asyncio.subprocess.PIPE,
+            stdout=asyncio.subprocess.PIPE,
+            limit=LONGEST_ANSWER,
+            **_around(entry, None),
+        )
 
 
 async def _end(process: asyncio.subprocess.Process) -> None:
     """Ends a command with all that it started, where it is still running."""
     if process.returncode is None:
-        with contextlib.suppress(ProcessLookupError):
-            os.killpg(process.pid, signal.SIGKILL)
+        _kill(process.pid)
         await process.wait()
 
 
-async def _last(stream: asyncio.StreamReader) -> bytes:
-    """The last that a stream gives."""
-    data = b""
-    while part := await stream.read(LONGEST_ANSWER):
-        data = (data + part)[-LONGEST_ANSWER:]
-    return data
+def _kill(group: int) -> None:
+    """Ends all processes of a group."""
+    with contextlib.suppress(ProcessLookupError):
+        os.killpg(group, signal.SIGKILL)
 
 
 def _answer(data: bytes) -> Answer:

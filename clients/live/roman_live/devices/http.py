@@ -10,7 +10,7 @@ import aiohttp
 from roman_client import Call, DeviceFailed
 
 from ..homefile import HttpReach
-from .base import Answer, Listener, Reach, answer_of, json_of, read, short
+from .base import LONGEST_ANSWER, Answer, Listener, Reach, answer_of, json_of, short
 
 
 class Http(Reach):
@@ -57,7 +57,7 @@ class Http(Reach):
             async with self._client.request(
                 method, self._url, params=query, data=body, headers=headers, allow_redirects=False
             ) as response:
-                data = await read(response.content)
+                data = await _read(response)
                 status = response.status
         except aiohttp.ClientError as error:
             raise DeviceFailed(f"{self._shown}: {error or type(error).__name__}") from None
@@ -71,3 +71,14 @@ def _without_secrets(url: str) -> str:
     mark."""
     place = urlsplit(url)
     return place._replace(netloc=place.netloc.rpartition("@")[2], query="", fragment="").geturl()
+
+
+async def _read(response: aiohttp.ClientResponse) -> bytes:
+    """The body of an answer, unless it is too long."""
+    data = b""
+    async for part in response.content.iter_any():
+        data += part
+        if len(data) > LONGEST_ANSWER:
+            response.close()
+            raise DeviceFailed(f"answered more than {LONGEST_ANSWER} bytes")
+    return data
