@@ -6,7 +6,8 @@ import asyncio
 import contextlib
 import json
 import logging
-from typing import Any, Callable, Dict, List, Optional
+import sys
+from typing import Any, Callable, Dict, Iterator, List, Optional
 
 import paho.mqtt.client as mqtt  # type: ignore[import]
 
@@ -28,6 +29,33 @@ FIRST_WAIT = 5.0
 listened to."""
 
 
+class Client(mqtt.Client):  # type: ignore[misc]
+    """A client of paho that outlasts every end of its connection. Its thread would end at errors that aren't a
+    ConnectionError, as those of TLS and of a network that is gone: they are told to `failed`, and become one."""
+
+    def __init__(self, failed: Callable[[OSError], None]) -> None:
+        super().__init__()
+        self._failed = failed
+
+    def _sock_recv(self, size: int) -> Any:
+        with self._lost():
+            return super()._sock_recv(size)
+
+    def _sock_send(self, data: Any) -> Any:
+        with self._lost():
+            return super()._sock_send(data)
+
+    @contextlib.contextmanager
+    def _lost(self) -> Iterator[None]:
+        try:
+            yield
+        except (BlockingIOError, ConnectionError):
+            raise
+        except OSError as error:
+            self._failed(error)
+            raise ConnectionError(str(error)) from error
+
+
 class Connection:
     """A connection that is made again whenever it is lost, with its subscriptions."""
 
@@ -36,14 +64,16 @@ class Connection:
         self.broker = broker
         self.connected = False
         self._changed = changed
+        self._why: Optional[str] = None
         self._topics: Dict[str, List[Callable[[bytes, bool], None]]] = {}
         self._loop: Optional[asyncio.AbstractEventLoop] = None
         self._first = asyncio.Event()
         self._asked: Dict[int, str] = {}
         self._agreed = asyncio.Event()
         self._agreed.set()
-        self._client = mqtt.Client()
+        self._client = Client(self._on_error)
         self._client.on_connect = self._on_connect
+        self._client.on_connect_fail = self._on_connect_fail
         self._client.on_disconnect = self._on_disconnect
         self._client.on_message = self._on_message
         self._client.on_subscribe = self._on_subscribe
@@ -51,6 +81,8 @@ class Connection:
         self._client.max_queued_messages_set(MOST_WAITING)
         if broker.username is not None:
             self._client.username_pw_set(broker.username, broker.password)
+        if broker.tls is not None:
+            self._client.tls_set_context(broker.tls.context())
 
     def topic(self, name: str) -> str:
         """A topic of this home."""
@@ -93,7 +125,11 @@ class Connection:
         try:
             await asyncio.wait_for(self._first.wait(), FIRST_WAIT)
         except asyncio.TimeoutError:
-            self._changed(False, f"the broker at {self.broker.host}:{self.broker.port} can't be reached")
+            if self._why is None:
+                self._changed(False, self._unreached())
+
+    def _unreached(self) -> str:
+        return f"the broker at {self.broker.host}:{self.broker.port} can't be reached"
 
     async def close(self) -> None:
         """Disconnects."""
@@ -109,6 +145,14 @@ class Connection:
 
     def _on_connect(self, client: Any, data: Any, flags: Any, code: int) -> None:
         self._soon(self._connected, code)
+
+    def _on_connect_fail(self, client: Any, data: Any) -> None:
+        error = sys.exc_info()[1]  # It is called where this is handled.
+        if isinstance(error, OSError):
+            self._on_error(error)
+
+    def _on_error(self, error: OSError) -> None:
+        self._soon(self._failed, error.strerror or str(error))
 
     def _on_disconnect(self, client: Any, data: Any, code: int) -> None:
         self._soon(self._disconnected, code)
@@ -126,10 +170,17 @@ class Connection:
             self._changed(False, f"the broker refuses: {mqtt.connack_string(code)}")
             return
         self.connected = True
+        self._why = None
         for topic in self._topics:
             self._subscribe(topic)
         self._first.set()
         self._changed(True, "the broker is there")
+
+    def _failed(self, why: str) -> None:
+        """There is no connection. It is tried again and again, and said once for each reason."""
+        if why != self._why:
+            self._why = why
+            self._changed(False, f"{self._unreached()}: {why}")
 
     def _disconnected(self, code: int) -> None:
         self._asked.clear()

@@ -4,6 +4,7 @@ from __future__ import annotations
 
 import ipaddress
 import os
+import ssl
 import tomllib
 from dataclasses import dataclass, field
 from enum import Enum
@@ -49,6 +50,23 @@ class Page:
 
 
 @dataclass(frozen=True)
+class Tls:
+    """How a connection is encrypted: whose certificates are believed, None for those that this machine believes
+    anyway, and the certificate of this home with its key, where the broker wants one."""
+
+    ca: Optional[Path] = None
+    certificate: Optional[Path] = None
+    key: Optional[Path] = None
+
+    def context(self) -> ssl.SSLContext:
+        """What a connection is made with. Raises OSError where one of the files is none, or can't be read."""
+        context = ssl.create_default_context(cafile=self.ca)
+        if self.certificate is not None:
+            context.load_cert_chain(self.certificate, self.key, password="")
+        return context
+
+
+@dataclass(frozen=True)
 class Broker:
     """The MQTT broker, and what the topics of this home begin with."""
 
@@ -57,6 +75,7 @@ class Broker:
     username: Optional[str] = None
     password: Optional[str] = None
     prefix: str = "roman"
+    tls: Optional[Tls] = None
 
 
 @dataclass(frozen=True)
@@ -344,15 +363,34 @@ def _page(table: Optional[Table], folder: Path) -> Page:
 def _broker(table: Optional[Table], folder: Path) -> Optional[Broker]:
     if table is None:
         return None
+    tls = _tls(table.table("tls"), folder)
     broker = Broker(
         table.take("host", text, "127.0.0.1"),
-        table.take("port", whole(1, 65535), 1883),
+        table.take("port", whole(1, 65535), 1883 if tls is None else 8883),
         table.take("username", text, None),
         _secret(table, "password_file", folder),
         table.take("prefix", topic, "roman"),
+        tls,
     )
     table.end()
     return broker
+
+
+def _tls(table: Optional[Table], folder: Path) -> Optional[Tls]:
+    if table is None:
+        return None
+    names = ("ca_file", "certificate_file", "key_file")
+    given = {name: table.take(name, text, None) for name in names}
+    table.end()
+    if given["key_file"] is not None and given["certificate_file"] is None:
+        raise table.wrong("certificate_file", "is missing, whose key key_file is")
+    tls = Tls(*(None if file is None else folder / file for file in given.values()))
+    for name, part in (("ca_file", Tls(tls.ca)), ("certificate_file", tls)):
+        try:
+            part.context()
+        except OSError as error:
+            raise table.wrong(name, f"is {given[name]!r}, which can't be used: {error}") from None
+    return tls
 
 
 def _secret(table: Table, key: str, folder: Path) -> Optional[str]:

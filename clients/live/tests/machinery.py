@@ -51,13 +51,13 @@ def until(
 
 
 class Mosquitto:
-    """A broker of its own, on a free port."""
+    """A broker of its own, on a free port. `more` is what else its file says."""
 
-    def __init__(self, folder: Path) -> None:
+    def __init__(self, folder: Path, more: str = "") -> None:
         self.port = free_port()
         self._file = folder / "mosquitto.conf"
         self._file.write_text(
-            f"listener {self.port} 127.0.0.1\nallow_anonymous true\npersistence false\n",
+            f"listener {self.port} 127.0.0.1\nallow_anonymous true\npersistence false\n{more}",
             encoding="utf-8",
         )
         self.start()

@@ -1,7 +1,8 @@
-"""The connection to a broker: what is published before there is one, and topics that it refuses."""
+"""The connection to a broker: what is published before there is one, topics that it refuses, and over TLS."""
 
 import asyncio
 import json
+import subprocess
 import tempfile
 import unittest
 from pathlib import Path
@@ -10,7 +11,7 @@ from typing import List, Tuple
 import paho.mqtt.client as mqtt  # type: ignore[import]
 
 from roman_live.broker import REFUSED, Connection
-from roman_live.homefile import Broker
+from roman_live.homefile import Broker, Tls
 
 from .machinery import PATIENCE, Mosquitto
 
@@ -58,6 +59,58 @@ class Refused(unittest.IsolatedAsyncioTestCase):
         connection._on_subscribe(None, None, 2, [1])
         await connection.agreed()
         self.assertEqual(said, [(False, "the broker doesn't let this home listen to home/window/answer")])
+
+
+class Encrypted(unittest.IsolatedAsyncioTestCase):
+    """A broker that wants to see a certificate, and shows one."""
+
+    def setUp(self) -> None:
+        folder = tempfile.TemporaryDirectory()
+        self.addCleanup(folder.cleanup)
+        self.folder = Path(folder.name)
+        self.openssl("req -x509 -newkey rsa:2048 -nodes -keyout ca.key -out ca.pem -days 2 -subj /CN=home")
+        (self.folder / "names").write_text("subjectAltName = IP:127.0.0.1\n", encoding="ascii")
+        for name in ("broker", "live"):
+            self.openssl(f"req -newkey rsa:2048 -nodes -keyout {name}.key -out {name}.asked -subj /CN={name}")
+            self.openssl(
+                f"x509 -req -in {name}.asked -CA ca.pem -CAkey ca.key -CAcreateserial -days 2 -extfile names -out {name}.pem"
+            )
+        files = (("cafile", "ca.pem"), ("certfile", "broker.pem"), ("keyfile", "broker.key"))
+        more = "".join(f"{word} {self.folder / file}\n" for word, file in files)
+        self.broker = Mosquitto(self.folder, f"user root\n{more}require_certificate true\n")
+        self.addCleanup(self.broker.stop)
+        self.said: List[Tuple[bool, str]] = []
+
+    def openssl(self, words: str) -> None:
+        """Makes a key or a certificate."""
+        subprocess.run(["/usr/bin/openssl", *words.split()], cwd=self.folder, check=True, capture_output=True)
+
+    async def connection(self, tls: Tls) -> Connection:
+        broker = Broker(port=self.broker.port, tls=tls)
+        connection = Connection(broker, lambda connected, text: self.said.append((connected, text)))
+        await connection.open()
+        self.addAsyncCleanup(connection.close)
+        return connection
+
+    async def test_it_is_there(self) -> None:
+        tls = Tls(*(self.folder / name for name in ("ca.pem", "live.pem", "live.key")))
+        self.assertTrue((await self.connection(tls)).connected)
+        self.assertEqual(self.said, [(True, "the broker is there")])
+
+    async def test_a_broker_that_is_not_believed(self) -> None:
+        connection = await self.connection(Tls())
+        self.assertFalse(connection.connected)
+        ((connected, text),) = self.said
+        self.assertFalse(connected)
+        self.assertRegex(text, "^the broker at 127.0.0.1:[0-9]+ can't be reached: .*certificate verify failed")
+
+    async def test_a_home_that_shows_no_certificate(self) -> None:
+        connection = await self.connection(Tls(self.folder / "ca.pem"))
+        self.assertFalse(connection.connected)
+        ((_, text),) = self.said
+        self.assertRegex(text, "can't be reached: .*certificate required")
+        assert connection._client._thread is not None
+        self.assertTrue(connection._client._thread.is_alive(), "so that it tries again")
 
 
 if __name__ == "__main__":

@@ -12,6 +12,7 @@ from roman_live.homefile import (
     MqttReach,
     PolicyName,
     PythonReach,
+    Tls,
 )
 
 GOOD = """
@@ -69,6 +70,12 @@ WRONG = (
     ('document = "h"\n[journal]', "journal.path is missing"),
     ('document = "h"\njournal = "x"', "journal isn't a table"),
     ('document = "h"\n[mqtt]\nprefix = "a/#"', "mqtt.prefix is 'a/#', and not a topic"),
+    ('document = "h"\n[mqtt]\ntls = true', "mqtt.tls isn't a table"),
+    ('document = "h"\n[mqtt.tls]\nca_file = "none"', "mqtt.tls.ca_file is 'none', which can't be used: [Errno 2]"),
+    ('document = "h"\n[mqtt.tls]\nca_file = "token"', "mqtt.tls.ca_file is 'token', which can't be used"),
+    ('document = "h"\n[mqtt.tls]\nkey_file = "token"', "mqtt.tls.certificate_file is missing"),
+    ('document = "h"\n[mqtt.tls]\ncertificate_file = "none"', "mqtt.tls.certificate_file is 'none', which can't"),
+    ('document = "h"\n[mqtt.tls]\nca = "x"', "mqtt.tls.ca isn't known; known are ca_file, certificate_file"),
     ('document = "h"\n[devices]\nfan = 1', "devices.fan isn't a table"),
     ('document = "h"\n[devices.fan]', 'devices.fan.reach is missing, as in reach = "mqtt" or "http"'),
     (f'{DEVICE}"radio"', "devices.fan.reach is 'radio', and not one of 'mqtt', 'http'"),
@@ -121,6 +128,11 @@ class HomeFiles(unittest.TestCase):
         window, fan = home.devices["window"], home.devices["fan"]
         self.assertEqual((window.seconds, window.repeat, window.reached), (2.5, True, "mqtt"))
         self.assertEqual((fan.seconds, fan.repeat), (10.0, False))
+
+    def test_a_broker_over_tls(self) -> None:
+        home = self.read('document = "h"\n[mqtt]\nhost = "broker"\ntls = {}')
+        assert home.mqtt is not None
+        self.assertEqual((home.mqtt.port, home.mqtt.tls), (8883, Tls()))
 
     def test_what_is_wrong_is_named(self) -> None:
         for text, expected in WRONG:
