@@ -24,6 +24,9 @@ MOST_WAITING = 1000
 REFUSED = 128
 """What a broker answers, in place of a level, where it refuses a subscription."""
 
+GONE = {"gone": True}
+"""What stands in place of the state of a home that doesn't run, as a device says it that is gone."""
+
 FIRST_WAIT = 5.0
 """How many seconds are waited at the beginning for the broker, and then for its word that it knows what is
 listened to."""
@@ -57,12 +60,14 @@ class Client(mqtt.Client):  # type: ignore[misc]
 
 
 class Connection:
-    """A connection that is made again whenever it is lost, with its subscriptions."""
+    """A connection that is made again whenever it is lost, with its subscriptions. Its end is told on the topic
+    of the home's state: by `close`, or by the broker where it ends otherwise."""
 
     def __init__(self, broker: Broker, changed: Callable[[bool, str], None]) -> None:
         """`changed` is told whether all is well with the connection, and in words what happened to it."""
         self.broker = broker
         self.connected = False
+        self.state_topic = self.topic("state")
         self._changed = changed
         self._why: Optional[str] = None
         self._topics: Dict[str, List[Callable[[bytes, bool], None]]] = {}
@@ -83,6 +88,7 @@ class Connection:
             self._client.username_pw_set(broker.username, broker.password)
         if broker.tls is not None:
             self._client.tls_set_context(broker.tls.context())
+        self._client.will_set(self.state_topic, json.dumps(GONE), qos=1, retain=True)
 
     def topic(self, name: str) -> str:
         """A topic of this home."""
@@ -132,7 +138,8 @@ class Connection:
         return f"the broker at {self.broker.host}:{self.broker.port} can't be reached"
 
     async def close(self) -> None:
-        """Disconnects."""
+        """Disconnects, and says so: the broker keeps its last will from those who disconnect."""
+        self.publish_now(self.state_topic, GONE, retain=True)
         self.connected = False  # So that it isn't told as a loss.
         self._client.disconnect()
         await asyncio.to_thread(self._client.loop_stop)

@@ -4,6 +4,7 @@ from __future__ import annotations
 
 import asyncio
 import contextlib
+import json
 import logging
 import tempfile
 import time
@@ -43,7 +44,7 @@ from roman_client.devices import Outcome, Told
 from roman_client.policies import Choice
 from roman_client.protocol import Event
 
-from .broker import Connection
+from .broker import GONE, Connection
 from .devices import Answer, Reach, Simulated
 from .devices.making import make_reach
 from .events import EventLog, Message, now
@@ -213,6 +214,8 @@ class Home:
         except BaseException:
             await self.close()
             raise
+        if self.broker is not None:
+            self.broker.subscribe(self.broker.state_topic, self._hear_state)
         self._spawn(self._publish())
 
     def _plain_folder(self) -> Path:
@@ -911,10 +914,17 @@ class Home:
                 if self.events.listeners:
                     self.events.send(Message("state", await self.state()))
                 if self.broker is not None:
-                    self.broker.publish_now(self.broker.topic("state"), await self._summary(), retain=True)
+                    self.broker.publish_now(self.broker.state_topic, await self._summary(), retain=True)
             except TROUBLE as error:
                 LOG.warning("the state can't be had: %s", error)
             await asyncio.sleep(BETWEEN_STATES)
+
+    def _hear_state(self, payload: bytes, retained: bool) -> None:
+        """What stands for the state on the broker. It is said anew where it is that the home is gone: so says a
+        connection that the broker found lost late, or another start of this home that came to nothing."""
+        with contextlib.suppress(ValueError, RecursionError):
+            if json.loads(payload) == GONE:
+                self._dirty.set()
 
     async def _summary(self) -> Dict[str, Any]:
         """The state in short, for others on the broker."""

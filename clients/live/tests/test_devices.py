@@ -264,6 +264,17 @@ class Serving(Devices):
         until(lambda: states[-1]["services"]["window"] == now, "the new state")
         self.assertEqual(states[-1]["target"], "bright")
         self.assertEqual(states[-1]["offers"], {"boil": ["kettle"]})
+        self.live.kill()
+        until(lambda: states[-1] == {"gone": True}, "the last will")
+        self.live.start()
+        until(lambda: states[-1].get("target") == "bright", "the state after a kill")
+        second = Live(self.folder, self.home())
+        second.start(wait=False)
+        self.assertEqual(second.process.wait(PATIENCE), 3)
+        until(lambda: {"gone": True} in states[-2:], "the end of a second one")
+        until(lambda: states[-1].get("target") == "bright", "the state of the first one")
+        self.assertEqual(self.live.stop(), 0)
+        until(lambda: states[-1] == {"gone": True}, "the end")
 
 
 class OneCallEach(Devices):
