@@ -12,7 +12,7 @@ from collections import defaultdict
 from dataclasses import dataclass, replace
 from datetime import datetime, timedelta, timezone
 from pathlib import Path
-from typing import Any, Coroutine, DefaultDict, Dict, List, Mapping, Optional, Set, Tuple, TypeVar
+from typing import Any, Awaitable, Coroutine, DefaultDict, Dict, List, Mapping, Optional, Set, Tuple, TypeVar
 
 from roman_client import (
     NOT_DONE,
@@ -28,6 +28,7 @@ from roman_client import (
     Explanation,
     Failure,
     NoComposition,
+    NoReply,
     Notice,
     Recovery,
     Refusal,
@@ -102,7 +103,7 @@ class Ending(RomanError):
 
 
 class NoProgram(RomanError):
-    """The program can't be started."""
+    """The program can't be started, or says nothing."""
 
 
 class NoDevice(RomanError):
@@ -199,16 +200,21 @@ class Home:
         except DocumentError as error:
             raise HomeFileError(f"{self.file.path}: document: {error}") from None
         program = self._program()
-        self._session = aio.Session(self.file.document.name, program=program, folder=folder)
+        seconds = self.file.program_seconds
+        self._session = aio.Session(self.file.document.name, program=program, folder=folder, timeout=seconds)
         try:
             await self._session.begin()
+        except NoReply as error:
+            raise NoProgram(
+                f"{self.file.path}: program is {program!r}, which gave {error}; program_seconds gives it more"
+            ) from None
         except OSError as error:
             raise NoProgram(
                 f"{self.file.path}: program is {program!r}, which can't be started: {error.strerror}"
             ) from None
         try:
             policy = Policy() if self.simulate else self.file.policy
-            self._policy = make_policy(policy, self._session, program)
+            self._policy = make_policy(policy, self._session, program, seconds)
             await self._open_devices()
             await self._begin_dispatcher()
         except BaseException:
@@ -775,7 +781,7 @@ class Home:
 
     async def _refresh(self) -> None:
         """Takes all states as the program has them."""
-        self._take(await self._session.report())
+        self._take(await self._reply(self._session.report()))
         self._let_all_return()
         self._dirty.set()
 
@@ -841,11 +847,20 @@ class Home:
     async def _present_report(self) -> Report:
         """The newest report. While the program is started again it may be the one before."""
         try:
-            self._report = await self._session.report()
+            self._report = await self._reply(self._session.report())
         except SessionOver:
             if not self._open:
                 self._report = await self._dispatcher.report()
         return self._report
+
+    async def _reply(self, reply: Awaitable[Value]) -> Value:
+        """A reply of the program. Where it doesn't come the program was ended, which is told: whoever needs it
+        next starts it again, and only sees that it has ended."""
+        try:
+            return await reply
+        except NoReply as error:
+            self.events.add("hung", f"the program was ended: {error}")
+            raise
 
     async def _explanation(self, report: Report) -> Optional[Explanation]:
         """Why there is no composition, where there is none and no request is open."""
@@ -853,7 +868,7 @@ class Home:
             return None
         if self._explained is None or self._explained[0] != report:
             try:
-                explanation: Optional[Explanation] = await self._session.explain()
+                explanation: Optional[Explanation] = await self._reply(self._session.explain())
             except RomanError:
                 return None
             self._explained = (report, explanation)

@@ -140,7 +140,7 @@ class DeviceEntry:
 
 @dataclass(frozen=True)
 class HomeFile:
-    """What a home file says. All paths are whole."""
+    """What a home file says. All paths are whole. A reply of the program may take `program_seconds`."""
 
     path: Path
     document: Path
@@ -150,6 +150,7 @@ class HomeFile:
     page: Page = field(default_factory=Page)
     mqtt: Optional[Broker] = None
     devices: Mapping[str, DeviceEntry] = field(default_factory=dict)
+    program_seconds: float = 120.0
 
     @classmethod
     def read(cls, path: Union[str, "os.PathLike[str]"]) -> HomeFile:
@@ -316,6 +317,7 @@ def _home_file(path: Path, table: Table) -> HomeFile:
         _page(table.table("page"), folder),
         _broker(table.table("mqtt"), folder),
         _devices(table.table("devices"), folder),
+        table.take("program_seconds", seconds, 120.0),
     )
     table.end()
     if home.mqtt is None:

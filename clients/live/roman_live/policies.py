@@ -21,9 +21,9 @@ REMEMBERED = 4096
 Choose = Callable[[Choice], Awaitable[str]]
 
 
-def make_policy(policy: Policy, session: aio.Session, program: str) -> Choose:
-    """The policy of a home. Raises HomeFileError where its costs can't be read, or name what the document hasn't:
-    that would count as free."""
+def make_policy(policy: Policy, session: aio.Session, program: str, seconds: float) -> Choose:
+    """The policy of a home, for which the program may take so many seconds. Raises HomeFileError where its costs
+    can't be read, or name what the document hasn't: that would count as free."""
     if policy.choose is PolicyName.ROUND_ROBIN:
         return RoundRobin()
     if policy.choose is PolicyName.FIRST:
@@ -37,7 +37,7 @@ def make_policy(policy: Policy, session: aio.Session, program: str) -> Choose:
         raise HomeFileError(f"policy.costs is {str(policy.costs)!r}: {error}") from None
     if policy.choose is PolicyName.LEAST_COST:
         return _at_once(least)
-    return LeastWorst(policy, session, program, least)
+    return LeastWorst(policy, session, program, seconds, least)
 
 
 def _look_up(least: LeastCost, document: Document) -> None:
@@ -75,11 +75,12 @@ class LeastWorst:
     no advice, the service that costs least now is taken."""
 
     def __init__(
-        self, policy: Policy, session: aio.Session, program: str, otherwise: LeastCost
+        self, policy: Policy, session: aio.Session, program: str, seconds: float, otherwise: LeastCost
     ) -> None:
         self._policy = policy
         self._session = session
         self._program = program
+        self._seconds = seconds
         self._otherwise = otherwise
         self._known: Dict[Tuple[str, ...], Mapping[str, str]] = {}
 
@@ -118,7 +119,10 @@ class LeastWorst:
                 stderr=asyncio.subprocess.PIPE,
             )
             try:
-                output, errors = await process.communicate()
+                output, errors = await asyncio.wait_for(process.communicate(), self._seconds)
+            except asyncio.TimeoutError:
+                LOG.warning("advise gave nothing within %s seconds", self._seconds)
+                return {}
             finally:
                 if process.returncode is None:
                     process.kill()

@@ -292,6 +292,51 @@ class AskedBack(InProcess):
         self.assertEqual((await self.service("window"))["status"], "ready")
 
 
+class ProgramHangs(InProcess):
+    """The program is there, and says nothing any more."""
+
+    def kinds(self) -> Dict[str, str]:
+        """The newest text of each kind of event."""
+        return {each.kind: each.text for each in self.home.events.after(-1)}
+
+    async def test_a_request_goes_on_with_another_program(self) -> None:
+        home = await self.begin("home", "program_seconds = 3")
+        os.kill(home._session.pid, signal.SIGSTOP)
+        self.assertEqual((await asyncio.wait_for(home.request("brighten"), 60))["served_by"], "window")
+        self.assertEqual(self.kinds()["restarted"], "the program was started again: no whole reply within 3.0 seconds")
+
+    async def test_the_state_comes_from_another_program(self) -> None:
+        home = await self.begin("home", "program_seconds = 3")
+        os.kill(home._session.pid, signal.SIGSTOP)
+        self.assertTrue((await asyncio.wait_for(home.state(), 60))["composes"])
+        self.assertEqual(self.kinds()["hung"], "the program was ended: no whole reply within 3.0 seconds")
+        self.assertIn("restarted", self.kinds())
+
+    def program(self, hangs: str) -> Any:
+        """Has another program run, which hangs where it is called so."""
+        program = self.folder / "program"
+        program.write_text(f'#!/bin/sh\n[ "$1" != {hangs} ] || exec sleep 3600\nexec {PROGRAM} "$@"\n', encoding="utf-8")
+        program.chmod(0o755)
+        return mock.patch(f"{__name__}.PROGRAM", str(program))
+
+    async def test_at_the_beginning(self) -> None:
+        wrong = "gave no whole reply within 0.2 seconds; program_seconds gives it more"
+        with self.program("run"), self.assertRaisesRegex(homes.NoProgram, wrong):
+            await asyncio.wait_for(self.begin("home", "program_seconds = 0.2"), 60)
+
+    async def test_its_advice(self) -> None:
+        costs = self.folder / "costs"
+        costs.write_text('[["drone", "ship", 3], ["van", "ship", 2]]', encoding="utf-8")
+        more = f'program_seconds = 3\n[policy]\nchoose = "least worst"\ncosts = "{costs}"'
+        with self.program("advise"):
+            home = await self.begin("depot", more)
+        await home.request("load")
+        with self.assertLogs("roman_live", "WARNING") as logged:
+            done = await asyncio.wait_for(home.request("ship"), 60)
+        self.assertEqual(done["served_by"], "van")
+        self.assertEqual(logged.output, ["WARNING:roman_live:advise gave nothing within 3.0 seconds"])
+
+
 class ProgramAway(InProcess):
     """The program ends, and can't be started for a while, as where its package is replaced."""
 

@@ -18,6 +18,7 @@ from roman_live.homefile import (
 GOOD = """
 document = "home.json"
 program = "/opt/roman"
+program_seconds = 30
 [policy]
 choose = "least worst"
 costs = "home.costs"
@@ -59,6 +60,7 @@ WRONG = (
     ("document = =", "at line 1, column 12"),
     ('documents = "h"', 'document is missing, as in document = "home.json"'),
     ("document = 5", "document is 5, and not a text"),
+    ('document = "h"\nprogram_seconds = 0', "program_seconds is 0, and not a number of seconds"),
     ('document = "h"\nextra = 1', "extra isn't known; known are document, program, policy"),
     ('document = "h"\n[policy]\nchoose = "best"', "policy.choose is 'best', and not one of 'first'"),
     ('document = "h"\n[policy]\nchoose = "least cost"', "policy.costs is missing"),
@@ -107,7 +109,7 @@ class HomeFiles(unittest.TestCase):
     def test_what_it_says(self) -> None:
         home = self.read(GOOD)
         self.assertEqual(home.document, self.folder / "home.json")
-        self.assertEqual(home.program, "/opt/roman")
+        self.assertEqual((home.program, home.program_seconds), ("/opt/roman", 30.0))
         self.assertEqual(home.policy.choose, PolicyName.LEAST_WORST)
         self.assertEqual(home.policy.costs, self.folder / "home.costs")
         self.assertEqual(home.policy.requests, 12)

@@ -4,7 +4,7 @@ from __future__ import annotations
 
 import asyncio
 from collections import deque
-from typing import Any, Awaitable, Callable, Deque, List, Optional
+from typing import Any, Awaitable, Callable, Coroutine, Deque, List, Optional
 
 from ..errors import NoReply, ProgramEnded
 from ..protocol import Effect, Exchange, Start, Steps, Value, is_farewell
@@ -51,13 +51,27 @@ class Streams:
         if self._ended is not None:
             raise self._ended.again()
         try:
-            return await asyncio.wait_for(self._exchange(exchange), self._timeout)
-        except asyncio.TimeoutError:
-            await self.stop()
-            raise NoReply(f"no whole reply within {self._timeout} seconds") from None
+            return await self._in_time(self._exchange(exchange))
         except BaseException:
             await self.stop()
             raise
+
+    async def _in_time(self, reply: Coroutine[Any, Any, List[str]]) -> List[str]:
+        """A reply within the timeout. Whoever is cancelled just when it comes is cancelled, which
+        asyncio.wait_for forgets before Python 3.12."""
+        if self._timeout is None:
+            return await reply
+        task = asyncio.ensure_future(reply)
+        try:
+            await asyncio.wait({task}, timeout=self._timeout)
+        finally:
+            if not task.done():
+                task.cancel()
+            elif not task.cancelled():
+                task.exception()  # So that nobody misses it.
+        if not task.done():
+            raise NoReply(f"no whole reply within {self._timeout} seconds")
+        return task.result()
 
     async def _exchange(self, exchange: Exchange) -> List[str]:
         assert self.process.stdin is not None
