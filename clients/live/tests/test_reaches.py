@@ -11,10 +11,11 @@ import time
 import unittest
 from pathlib import Path
 from typing import Any, Optional
+from unittest import mock
 
 from roman_client import Call, DeviceFailed
-from roman_live.devices import Answer
-from roman_live.devices.command import Command
+from roman_live.devices import Answer, Reach
+from roman_live.devices.command import Command, KeptCommand
 from roman_live.devices.http import Http
 from roman_live.devices.python import PythonDevice
 from roman_live.homefile import CommandReach, HttpReach, PythonReach
@@ -44,6 +45,49 @@ class Commands(unittest.IsolatedAsyncioTestCase):
         script = "import sys; print('no' * 9_000_000, file=sys.stderr); print('stuck', file=sys.stderr); sys.exit(1)"
         with self.assertRaisesRegex(DeviceFailed, "^ended with status 1: stuck$"):
             await self.run_one(script)
+
+
+class Unended(unittest.IsolatedAsyncioTestCase):
+    """Commands that run for another user, as by sudo, so that no signal reaches them."""
+
+    async def asyncSetUp(self) -> None:
+        folder = tempfile.TemporaryDirectory()
+        self.addCleanup(folder.cleanup)
+        self.folder = Path(folder.name)
+        for name in ("os.kill", "os.killpg"):
+            patch = mock.patch(name, side_effect=PermissionError(1, "Operation not permitted"))
+            patch.start()
+            self.addCleanup(patch.stop)
+
+    def entry(self, lines: bool) -> CommandReach:
+        """One that answers once there is a file `go`."""
+        script = "import pathlib, sys, time\n"
+        script += "for _ in sys.stdin if len(sys.argv) == 1 else '?':\n"
+        script += "    while not pathlib.Path('go').exists(): time.sleep(0.01)\n"
+        script += "    print('on', flush=True)\n"
+        return CommandReach((sys.executable, "-c", script), lines, self.folder)
+
+    async def given_up(self, device: Reach) -> None:
+        """It is given up, and asked again before and after it has ended."""
+        with self.assertRaises(asyncio.TimeoutError):
+            await asyncio.wait_for(device.ask(1, CALL), 0.2)
+        with self.assertRaisesRegex(DeviceFailed, "^is still at work on an earlier call.*for another user$"):
+            await device.ask(2, CALL)
+        (self.folder / "go").touch()
+        while True:
+            try:
+                self.assertEqual(await asyncio.wait_for(device.ask(3, CALL), PATIENCE), Answer("on"))
+                break
+            except DeviceFailed:
+                await asyncio.sleep(0.01)
+
+    async def test_one_call_each(self) -> None:
+        await self.given_up(Command("lamp", Heard(), self.entry(False)))
+
+    async def test_one_that_is_kept(self) -> None:
+        device = KeptCommand("lamp", Heard(), self.entry(True))
+        await self.given_up(device)
+        await asyncio.wait_for(device.close(), PATIENCE)
 
 
 class HttpDevices(unittest.IsolatedAsyncioTestCase):

@@ -14,10 +14,12 @@ from roman_client import Call, DeviceFailed
 from ..homefile import CommandReach
 from .base import LONGEST_ANSWER, STATE_WORD, Answer, Listener, Reach, short
 
-
 REST = 0.5
 """How many seconds are waited for the rest of what a command wrote that has ended. What it left running may keep
 its output open."""
+
+STILL = "is still at work on an earlier call, and this home may not end it: it runs for another user"
+"""What is said of a command that was given up and runs on, as one that is called by sudo."""
 
 
 class Command(Reach):
@@ -29,6 +31,7 @@ class Command(Reach):
     def __init__(self, service: str, listener: Listener, entry: CommandReach) -> None:
         super().__init__(service, listener)
         self._entry = entry
+        self._left: Optional[asyncio.SubprocessTransport] = None
 
     async def ask(self, number: int, call: Call) -> Answer:
         return await self._run(call.action, number)
@@ -38,6 +41,8 @@ class Command(Reach):
 
     async def _run(self, word: str, number: Optional[int]) -> Answer:
         """Runs the command once. What is still running when this is cancelled is ended."""
+        if self._left is not None and self._left.get_returncode() is None:
+            raise DeviceFailed(STILL)
         loop = asyncio.get_running_loop()
         with _naming(self._entry):
             transport, written = await loop.subprocess_exec(
@@ -47,10 +52,13 @@ class Command(Reach):
             await written.ended
             await asyncio.wait({written.closed}, timeout=REST)
         finally:
-            if transport.get_returncode() is None:
-                _kill(transport.get_pid())
-            transport.close()
-            await asyncio.wait({written.closed})
+            ends = transport.get_returncode() is not None or _kill(transport.get_pid())
+            with contextlib.suppress(PermissionError):  # It would end the command, too.
+                transport.close()
+            if ends:
+                await asyncio.wait({written.closed})
+            else:
+                self._left = transport
         status = transport.get_returncode()
         if status != 0:
             last = written.errors.decode(errors="replace").strip().splitlines()[-1:]
@@ -101,6 +109,7 @@ class KeptCommand(Reach):
         super().__init__(service, listener)
         self._entry = entry
         self._process: Optional[asyncio.subprocess.Process] = None
+        self._left: Optional[asyncio.subprocess.Process] = None
         self._listening: Set[asyncio.Task[None]] = set()
         self._waiting: Optional[Tuple[int, asyncio.Future[Answer]]] = None
         self._last = 0
@@ -110,7 +119,9 @@ class KeptCommand(Reach):
         if self._process is not None:
             await self._drop(self._process)
         if self._listening:
-            await asyncio.wait(self._listening)
+            _, deaf = await asyncio.wait(self._listening, timeout=REST)
+            for task in deaf:
+                task.cancel()
 
     async def ask(self, number: int, call: Call) -> Answer:
         return await self._exchange(number, call.action)
@@ -143,6 +154,8 @@ class KeptCommand(Reach):
 
     async def _running(self) -> asyncio.subprocess.Process:
         """The command, which is started where it doesn't run."""
+        if self._left is not None and self._left.returncode is None:
+            raise DeviceFailed(STILL)
         if self._process is None or self._process.returncode is not None:
             self._process = await _start(self._entry)
             listening = asyncio.ensure_future(self._listen(self._process))
@@ -216,7 +229,14 @@ class KeptCommand(Reach):
         """Ends the command. What it wrote is heard no more."""
         if process is self._process:
             self._process = None
-        await _end(process)
+        if process.returncode is not None:
+            return
+        if _kill(process.pid):
+            await process.wait()
+        else:
+            assert process.stdin is not None
+            process.stdin.close()  # It ends by that, where it does what it should.
+            self._left = process
 
 
 def _around(entry: CommandReach, number: Optional[int]) -> Dict[str, Any]:
@@ -247,17 +267,14 @@ async def _start(entry: CommandReach) -> asyncio.subprocess.Process:
         )
 
 
-async def _end(process: asyncio.subprocess.Process) -> None:
-    """Ends a command with all that it started, where it is still running."""
-    if process.returncode is None:
-        _kill(process.pid)
-        await process.wait()
-
-
-def _kill(group: int) -> None:
-    """Ends all processes of a group."""
-    with contextlib.suppress(ProcessLookupError):
-        os.killpg(group, signal.SIGKILL)
+def _kill(group: int) -> bool:
+    """Ends all processes of a group. False where none of them may be ended from here."""
+    try:
+        with contextlib.suppress(ProcessLookupError):
+            os.killpg(group, signal.SIGKILL)
+    except PermissionError:
+        return False
+    return True
 
 
 def _answer(data: bytes) -> Answer:
