@@ -191,7 +191,9 @@ class Systems(unittest.TestCase):
             drawing = parsed(Path(out).read_text(encoding="utf-8"))
             self.assertEqual(len(titles(drawing, "cluster")), 4)
             self.assertIn("b0 off", titles(drawing, "node"))
-
+            done = draw("samples/lamp.json", "-o", os.path.join(folder, "gone", "lamp.svg"))
+            self.assertEqual(done.returncode, 7)
+            self.assertIn("lamp.svg can't be written: No such file or directory", done.stderr)
 
     def test_the_locale_does_not_matter(self) -> None:
         """What is written is UTF-8, whatever the locale says; nor is a home needed."""

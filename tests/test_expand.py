@@ -416,7 +416,10 @@ class Command(Folder):
         self.assertEqual((done.returncode, done.stdout), (3, ""))
         self.assertIn("s.json:1:1: error: ", done.stderr)
         self.assertEqual(self.expand_file("gone.json").returncode, 5)
-        self.assertEqual(self.expand_file(str(SHORT / "home.json"), "-o", "gone/plain.json").returncode, 5)
+        for option in ("-o", "--map"):
+            done = self.expand_file(str(SHORT / "home.json"), option, "gone/plain.json")
+            self.assertEqual(done.returncode, 7)
+            self.assertEqual(done.stderr, "roman-expand: gone/plain.json can't be written: No such file or directory\n")
         self.assertEqual(self.expand_file().returncode, 2)
 
     def test_the_linter_and_the_program_take_either_form(self) -> None:

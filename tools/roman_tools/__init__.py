@@ -30,7 +30,8 @@ def finished(main: Callable[[], int]) -> int:
         return status
     except OSError as error:
         if not isinstance(error, BrokenPipeError):
-            print(f"{Path(sys.argv[0]).name}: what it writes can't be written: {error.strerror}", file=sys.stderr)
+            what = "what it writes" if error.filename is None else error.filename
+            print(f"{Path(sys.argv[0]).name}: {what} can't be written: {error.strerror}", file=sys.stderr)
         # What is still in the buffer would be written once more at the end.
         os.dup2(os.open(os.devnull, os.O_WRONLY), sys.stdout.fileno())
         return UNWRITTEN

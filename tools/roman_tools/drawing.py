@@ -91,17 +91,17 @@ def main(arguments: Optional[Sequence[str]] = None) -> int:
     asked = words.parse_args(arguments)
     try:
         data = drawn(asked).encode("utf-8", "replace")
-        if asked.out is None:
-            sys.stdout.buffer.write(data)
-            sys.stdout.flush()
-        else:
-            Path(asked.out).write_bytes(data)
     except OSError as error:
         if error.filename is None:
-            raise  # What it writes can't be written.
+            raise  # What it gives the program can't be written.
         print(f"tools/draw: {error.filename}: {error.strerror}", file=sys.stderr)
         return 1
     except Wrong as error:
         print(f"tools/draw: {error}".encode("ascii", "backslashreplace").decode(), file=sys.stderr)
         return 1
+    if asked.out is None:
+        sys.stdout.buffer.write(data)
+        sys.stdout.flush()
+    else:
+        Path(asked.out).write_bytes(data)
     return 0

@@ -2,7 +2,8 @@
 
 The plain document is of the least version, and says everything in the shortest way; expanding it again gives
 the same text. Mistakes are shown where they stand in the short one. The status is 3 where there are some, 5
-where the file can't be read, and 0 otherwise. Part files are put in place.
+where the file can't be read, 7 where what it writes can't be written, and 0 otherwise. Part files are put in
+place.
 """
 
 from __future__ import annotations
@@ -29,21 +30,19 @@ def main(arguments: Optional[Sequence[str]] = None) -> int:
     asked = words.parse_args(arguments)
     try:
         checker = read(asked.file)
-        if checker.system is None:
-            for each in in_order(checker.findings):
-                print(*each.shown(), sep="\n", file=sys.stderr)
-            return WRONG
-        document = written(checker.system)
-        if asked.map is not None:
-            places = {pointer: str(span) for pointer, span in document.places.items()}
-            Path(asked.map).write_text(json.dumps(places, indent=1) + "\n", encoding="utf-8")
-        if asked.out is None:
-            sys.stdout.write(document.text)
-        else:
-            Path(asked.out).write_text(document.text, encoding="utf-8")
     except OSError as error:
-        if error.filename is None:
-            raise  # What it writes can't be written.
         print(f"roman-expand: {error.filename}: {error.strerror}", file=sys.stderr)
         return UNREADABLE
+    if checker.system is None:
+        for each in in_order(checker.findings):
+            print(*each.shown(), sep="\n", file=sys.stderr)
+        return WRONG
+    document = written(checker.system)
+    if asked.map is not None:
+        places = {pointer: str(span) for pointer, span in document.places.items()}
+        Path(asked.map).write_text(json.dumps(places, indent=1) + "\n", encoding="utf-8")
+    if asked.out is None:
+        sys.stdout.write(document.text)
+    else:
+        Path(asked.out).write_text(document.text, encoding="utf-8")
     return CLEAN
