@@ -333,11 +333,16 @@ def _policy(table: Optional[Table], folder: Path) -> Policy:
     names = [each.value for each in PolicyName]
     choose = PolicyName(table.take("choose", one_of(names), PolicyName.FIRST.value))
     costs = table.take("costs", text, None)
-    requests = table.take("requests", whole(1, LONGEST_HORIZON), 8)
+    requests = table.take("requests", whole(1, LONGEST_HORIZON), None)
     table.end()
-    if choose in (PolicyName.LEAST_COST, PolicyName.LEAST_WORST) and costs is None:
-        raise table.wrong("costs", f"is missing, which {choose.value!r} needs: a file of costs")
-    return Policy(choose, None if costs is None else folder / costs, requests)
+    if choose in (PolicyName.LEAST_COST, PolicyName.LEAST_WORST):
+        if costs is None:
+            raise table.wrong("costs", f"is missing, which {choose.value!r} needs: a file of costs")
+    elif costs is not None:
+        raise table.wrong("costs", f"is there, and policy.choose is {choose.value!r}, which takes none")
+    if requests is not None and choose is not PolicyName.LEAST_WORST:
+        raise table.wrong("requests", f"is there, and policy.choose is {choose.value!r}, which doesn't look ahead")
+    return Policy(choose, None if costs is None else folder / costs, 8 if requests is None else requests)
 
 
 def _journal(table: Optional[Table], folder: Path) -> Optional[Path]:
