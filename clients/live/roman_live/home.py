@@ -106,6 +106,10 @@ class NoProgram(RomanError):
     """The program can't be started, or says nothing."""
 
 
+class Nowhere(RomanError):
+    """A device says that it, or the environment, is in a state that the document hasn't."""
+
+
 class NoDevice(RomanError):
     """The home file doesn't say how a service is reached."""
 
@@ -465,15 +469,27 @@ class Home:
             await self._thaw(service, answer)
 
     async def _thaw(self, service: str, answer: Optional[Answer]) -> None:
-        """Thaws a service, with what its device says of itself and of the environment."""
+        """Thaws a service, with what its device says of itself and of the environment. Raises Nowhere."""
         state = environment = None
         if answer is not None:
             state, environment = answer.state, answer.environment
+            self._check_place(service, answer)
         if environment is not None and environment != self._environment:
             await self.jump_environment(environment)
         await self._dispatcher.thaw(service, state)
         self._kept.release([service])
         self._stop_returning(service)
+
+    def _check_place(self, service: str, answer: Answer) -> None:
+        """Raises Nowhere where a device names a state that the document hasn't."""
+        behaviour = self.document.behaviours[self._known[service].behaviour]
+        environment = self.document.environment
+        if answer.state not in behaviour.states:
+            known = f"none of {behaviour.name}'s states: {', '.join(behaviour.states)}"
+            raise Nowhere(f"{service} says it is in {answer.state}, which is {known}")
+        if answer.environment is not None and answer.environment not in environment.states:
+            known = f"none of its states: {', '.join(environment.states)}"
+            raise Nowhere(f"{service} says the environment is in {answer.environment}, which is {known}")
 
     async def die(self, service: str) -> None:
         """A service is gone for good."""
@@ -656,6 +672,9 @@ class Home:
                 if not self._known[service].frozen or service in self._kept.held:
                     return True
                 await self._thaw(service, answer)
+        except Nowhere as error:
+            self._known[service].last_error = str(error)
+            return False
         except (Refusal, TypeError, ValueError) as error:
             self._known[service].last_error = f"says it is in {answer.state}: {error}"
             return False

@@ -17,7 +17,7 @@ from aiohttp import web
 from roman_client import InDoubt, NoComposition, NotAllowed, Refusal, StoreFailed
 
 from .events import Message
-from .home import TROUBLE, Busy, Home, NoDevice, UnknownAction
+from .home import TROUBLE, Busy, Home, NoDevice, Nowhere, UnknownAction
 from .homefile import Page, is_loopback
 from .pictures import picture
 from .states import explanation_to_json, failures_to_json
@@ -236,7 +236,7 @@ class Server:
             await asyncio.shield(asyncio.ensure_future(change))
         except Refusal as refusal:
             return _json({"error": refusal.reply}, HTTPStatus.CONFLICT)
-        except NoDevice as error:
+        except (NoDevice, Nowhere) as error:
             return _json({"error": str(error)}, HTTPStatus.CONFLICT)
         except (TypeError, ValueError) as error:
             return _json({"error": str(error)}, HTTPStatus.BAD_REQUEST)

@@ -279,6 +279,22 @@ class AskedBack(InProcess):
         self.assertEqual((await self.service("window"))["state"], "ajar")
         self.assertEqual((await home.state())["environment"], "dusk")
 
+    async def test_one_that_is_nowhere_stays_frozen(self) -> None:
+        home = await self.begin("home")
+        await home.freeze("window")
+        for state, environment, wrong in (
+            ("stuck", None, "window says it is in stuck, which is none of blind's states: shut, ajar, open"),
+            ("ajar", "noon", "window says the environment is in noon, which is none of its states: day, dusk"),
+        ):
+            self.states["window"], self.environment = state, environment
+            with self.assertRaisesRegex(homes.Nowhere, f"^{wrong}$"):
+                await home.thaw("window")
+        self.assertEqual((await self.service("window"))["status"], "frozen")
+        self.states["window"], self.environment = "stuck", None
+        home._kept.release(["window"])
+        self.assertFalse(await home._back("window", Answer("stuck")))
+        self.assertIn("none of blind's states", (await self.service("window"))["last_error"])
+
     async def test_one_that_cannot_tell_stays_frozen(self) -> None:
         home = await self.begin("home")
         self.broken.add("window")
