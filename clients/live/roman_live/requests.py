@@ -14,7 +14,10 @@ from .server import result
 class Requests:
     """Serves the requests on the topic PREFIX/requests, `{"id": X, "action": A, "key": K}`; id and key may
     be missing. What came of each is on PREFIX/answers, with its id and the status that the HTTP API has. On
-    PREFIX/environment `{"state": E}` says that the environment is in that state by itself."""
+    PREFIX/environment `{"state": E}` says that the environment is in that state by itself.
+
+    MQTT may bring a request twice, and no mark of the second one comes through the broker: the key alone
+    keeps it from being served twice."""
 
     def __init__(self, home: Home) -> None:
         self._home = home

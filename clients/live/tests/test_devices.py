@@ -202,6 +202,10 @@ class Serving(Devices):
         until(answered, "the answer")
         self.assertIn(b'"served_by": "window"', answers[0])
         self.assertIn(b'"id": "x"', answers[0])
+        # It is sent again by one who doesn't know that it has come.
+        heard.clear()
+        self.assertTrue(answered())
+        self.assertEqual(json.loads(answers[-1]), json.loads(answers[0]))
         self.world.environment = "dusk"
         client.publish("roman/environment", '{"state": "dusk"}', qos=1)
         until(lambda: self.live.state()["environment"] == "dusk", "dusk")
