@@ -28,13 +28,13 @@ sys.path[:0] = [str(HERE), str(HERE.parent / "python")]
 from roman_client import NOT_DONE, Call, DeviceFailed, Document, NoComposition, aio
 from roman_client.devices import Told
 
-import roman_live.home
+import roman_live.returning
 from roman_live.home import Home
 from roman_live.homefile import HomeFile
 
 FAILURES = 0.001
 
-roman_live.home.FIRST_PAUSE = 0.001
+roman_live.returning.FIRST_PAUSE = 0.001
 
 
 class World:
@@ -141,12 +141,12 @@ async def soak(requests: int, folder: Path) -> List[str]:
     home = Home(HomeFile.read(home_file))
     await home.begin()
     begun = time.monotonic()
-    pids: Set[Optional[int]] = {home._session.pid}
+    pids: Set[Optional[int]] = {home.session.pid}
     watching = asyncio.ensure_future(watch(home, pids))
     try:
         refused = await serve(home, requests)
         seconds = time.monotonic() - begun
-        count = (await home.state())["counts"]["served"]
+        count = (await home.shown.state())["counts"]["served"]
         if (count, WORLD.acted) != (requests, requests):
             raise AssertionError(f"{requests} requests, {count} counted, {WORLD.acted} carried out")
     finally:
@@ -168,7 +168,7 @@ async def watch(home: Home, pids: Set[Optional[int]]) -> None:
     """Notes which programs there are."""
     while True:
         await asyncio.sleep(0.1)
-        pids.add(home._session.pid)
+        pids.add(home.session.pid)
 
 
 def main() -> int:

@@ -4,15 +4,13 @@ from __future__ import annotations
 
 import asyncio
 import contextlib
-import json
 import logging
 import tempfile
 import time
 from collections import defaultdict
-from dataclasses import dataclass, replace
-from datetime import datetime, timedelta, timezone
+from dataclasses import replace
 from pathlib import Path
-from typing import Any, Awaitable, Coroutine, DefaultDict, Dict, List, Mapping, Optional, Set, Tuple, TypeVar
+from typing import Any, Awaitable, Coroutine, DefaultDict, Dict, List, Optional, Set, Tuple, TypeVar
 
 from roman_client import (
     NOT_DONE,
@@ -25,17 +23,13 @@ from roman_client import (
     Document,
     DocumentError,
     Done,
-    Explanation,
     Failure,
     NoComposition,
     NoReply,
     Notice,
     Recovery,
     Refusal,
-    Report,
     Restarted,
-    RomanError,
-    SessionOver,
     StoreFailed,
     Verdict,
     aio,
@@ -45,31 +39,22 @@ from roman_client.devices import Outcome, Told
 from roman_client.policies import Choice
 from roman_client.protocol import Event
 
-from .broker import GONE, Connection
+from .broker import Connection
 from .devices import Answer, Reach, Simulated
 from .devices.making import make_reach
-from .events import EventLog, Message, now
+from .events import EventLog, now
 from .homefile import HomeFile, HomeFileError, Policy
 from .kept import Kept
+from .known import Knowledge
 from .metrics import Metrics
 from .policies import Choose, make_policy
+from .returning import Returning
 from .short_form import is_short, plain_text
-from .states import (
-    actions_to_json,
-    done_to_json,
-    error_of,
-    explanation_to_json,
-    failures_to_json,
-    target_to_json,
-)
+from .shown import Shown
+from .states import done_to_json, error_of
+from .troubles import TROUBLE, Busy, Ending, Moved, NoDevice, NoProgram, Nowhere, UnknownAction
 
 LOG = logging.getLogger("roman_live")
-
-FIRST_PAUSE = 1.0
-"""After how many seconds a device that failed is asked again. Each pause is twice the one before."""
-
-LONGEST_PAUSE = 60.0
-"""The longest such pause."""
 
 FIRST_WORD = 10.0
 """How many seconds the beginning waits for devices to say where they are. Those that take longer say it later."""
@@ -77,64 +62,7 @@ FIRST_WORD = 10.0
 COMPARED = 3
 """How often it is asked that after the broker was gone: it may find its way to the broker later than the home."""
 
-BETWEEN_STATES = 0.05
-"""How many seconds there are at least between two states that listeners are sent."""
-
-TROUBLE = (RomanError, OSError)
-"""What may keep the home from something for a while: an OSError comes where the program can't be started, too."""
-
 Value = TypeVar("Value")
-
-
-class Busy(RomanError):
-    """A request is open."""
-
-
-class UnknownAction(RomanError):
-    """No action with that name may be requested."""
-
-
-class Moved(RomanError):
-    """Something moved by itself while a service was chosen."""
-
-
-class Ending(RomanError):
-    """The home is about to end, and takes no requests any more."""
-
-
-class NoProgram(RomanError):
-    """The program can't be started, or says nothing."""
-
-
-class Nowhere(RomanError):
-    """A device says that it, or the environment, is in a state that the document hasn't."""
-
-
-class NoDevice(RomanError):
-    """The home file doesn't say how a service is reached."""
-
-
-async def pause_until(poke: asyncio.Event, seconds: Optional[float]) -> None:
-    """Waits so long, None for ever, or until somebody pokes."""
-    with contextlib.suppress(asyncio.TimeoutError):
-        await asyncio.wait_for(poke.wait(), seconds)
-
-
-@dataclass
-class Known:
-    """What is known of a service: among it how many `calls` it was given in this run, and its `failures` since
-    it last served."""
-
-    behaviour: str
-    state: str
-    loose: bool
-    since: str
-    frozen: bool = False
-    dead: bool = False
-    calls: int = 0
-    failures: int = 0
-    last_error: Optional[str] = None
-    next_try: Optional[str] = None
 
 
 class HomeDevice(aio.Device):
@@ -168,28 +96,27 @@ class Home:
         self.metrics = Metrics()
         self.document: Document
         self.broker: Optional[Connection] = None
-        self._known: Dict[str, Known] = {}
-        self._environment = ""
-        self._devices: Dict[str, HomeDevice] = {}
+        self.known = Knowledge()
+        self.devices: Dict[str, HomeDevice] = {}
         self._policy: Choose
-        self._kept: Kept
-        self._session: aio.Session
-        self._dispatcher: aio.Dispatcher
-        self._report: Report
-        self._explained: Optional[Tuple[Report, Optional[Explanation]]] = None
+        self.kept: Kept
+        self.session: aio.Session
+        self.dispatcher: aio.Dispatcher
         self._chosen: Optional[str] = None
-        self._call: Optional[Tuple[Call, str]] = None
+        self.call: Optional[Tuple[Call, str]] = None
         self._last: Tuple[Optional[Done], int] = (None, 0)
         self._failures: List[Failure] = []
-        self._open = 0
+        self.open = 0
         self._moving = 0
         self._ready = False
         self._ending = False
         self._turns: DefaultDict[str, asyncio.Lock] = defaultdict(asyncio.Lock)
-        self._dirty = asyncio.Event()
+        self.dirty = asyncio.Event()
         self._noticed = asyncio.Event()
-        self._pokes: Dict[str, asyncio.Event] = {}
-        self._returning: Dict[str, asyncio.Task[None]] = {}
+        self.shown = Shown(self)
+        self._returning = Returning(
+            self.known, lambda: self.kept.held, self._told, self._back, self.dirty.set, by_hand=simulate
+        )
         self._tasks: Set[asyncio.Task[Any]] = set()
         self._folder: Optional[tempfile.TemporaryDirectory[str]] = None
 
@@ -205,9 +132,9 @@ class Home:
             raise HomeFileError(f"{self.file.path}: document: {error}") from None
         program = self._program()
         seconds = self.file.program_seconds
-        self._session = aio.Session(self.file.document.name, program=program, folder=folder, timeout=seconds)
+        self.session = aio.Session(self.file.document.name, program=program, folder=folder, timeout=seconds)
         try:
-            await self._session.begin()
+            await self.session.begin()
         except NoReply as error:
             raise NoProgram(
                 f"{self.file.path}: program is {program!r}, which gave {error}; program_seconds gives it more"
@@ -218,15 +145,15 @@ class Home:
             ) from None
         try:
             policy = Policy() if self.simulate else self.file.policy
-            self._policy = make_policy(policy, self._session, program, seconds)
+            self._policy = make_policy(policy, self.session, program, seconds)
             await self._open_devices()
             await self._begin_dispatcher()
         except BaseException:
             await self.close()
             raise
         if self.broker is not None:
-            self.broker.subscribe(self.broker.state_topic, self._hear_state)
-        self._spawn(self._publish())
+            self.broker.subscribe(self.broker.state_topic, self.shown.hear_state)
+        self._spawn(self.shown.publish())
 
     def _plain_folder(self) -> Path:
         """The folder in which the document stands in its plain form, under its own name. Raises
@@ -252,10 +179,10 @@ class Home:
 
     async def _open_devices(self) -> None:
         """Makes what each service is reached by, and opens it."""
-        opening = self._session.opening
-        self._environment = opening.environment
+        opening = self.session.opening
+        self.known.environment = opening.environment
         for service in self.document.services:
-            self._learn(service.name, service.behaviour, service.state, service.loose)
+            self.known.learn(service.name, service.behaviour, service.state, service.loose)
         if self.simulate:
             names = [each.name for each in self.document.services]
         else:
@@ -268,16 +195,16 @@ class Home:
             if self.file.mqtt is not None:
                 self.broker = Connection(self.file.mqtt, self._broker_changed)
         for name in names:
-            self._devices[name] = self._make_device(name)
+            self.devices[name] = self._make_device(name)
         if self.broker is not None:
             await self.broker.open()
-        for device in self._devices.values():
+        for device in self.devices.values():
             await device.reach.open()
 
     def _make_device(self, service: str) -> HomeDevice:
         """The device of a service. Raises NoDevice where the home file has none."""
         if self.simulate:
-            reach: Reach = Simulated(service, self, lambda name: self._known[name].state)
+            reach: Reach = Simulated(service, self, lambda name: self.known[name].state)
             return HomeDevice(self, reach, None, False)
         entry = self.file.devices.get(service)
         if entry is None:
@@ -291,23 +218,24 @@ class Home:
         if journal is None or self.simulate:
             # The program may end without the home: a journal for this run alone lets it go on.
             journal = self._own_folder() / "journal"
-        self._kept = Kept(journal)
-        self._dispatcher = aio.Dispatcher(
-            self._session, self._devices, policy=self._choose, store=journal, watch=self._watch
+        self.kept = Kept(journal)
+        self.dispatcher = aio.Dispatcher(
+            self.session, self.devices, policy=self._choose, store=journal, watch=self._watch
         )
         try:
-            await self._dispatcher.begin()
+            await self.dispatcher.begin()
         except ValueError as error:
             raise HomeFileError(f"{self.file.path}: {error}") from None
-        self._report = await self._dispatcher.report()
-        self._take(self._report)
-        for name, known in self._known.items():
+        report = await self.dispatcher.report()
+        self.known.take(report)
+        self.shown.begin(report)
+        for name, known in self.known.items():
             if known.dead:
                 self._missing(name)
         self._ready = True
         if not self.simulate:
             await self._compare_all()
-        self._let_all_return(at_once=True)
+        self._returning.let_all(at_once=True)
         self.events.add("begun", f"{self.file.document.name} runs")
 
     def _missing(self, service: str) -> None:
@@ -321,22 +249,23 @@ class Home:
         end."""
         self._ending = True
         end = time.monotonic() + seconds
-        while self._open and time.monotonic() < end:
+        while self.open and time.monotonic() < end:
             await asyncio.sleep(0.05)
-        return not self._open
+        return not self.open
 
     async def close(self) -> None:
         """Lets go of everything. A request that is open is dropped, and its service is frozen."""
-        for task in (*self._tasks, *self._returning.values()):
+        tasks = (*self._tasks, *self._returning.tasks.values())
+        for task in tasks:
             task.cancel()
-        await asyncio.gather(*self._tasks, *self._returning.values(), return_exceptions=True)
-        if hasattr(self, "_dispatcher"):
-            await self._dispatcher.close()
-        for device in self._devices.values():
+        await asyncio.gather(*tasks, return_exceptions=True)
+        if hasattr(self, "dispatcher"):
+            await self.dispatcher.close()
+        for device in self.devices.values():
             await device.reach.close()
         if self.broker is not None:
             await self.broker.close()
-        await self._session.close()
+        await self.session.close()
         if self._folder is not None:
             self._folder.cleanup()
 
@@ -362,10 +291,10 @@ class Home:
             raise UnknownAction(f"{action} is no action that may be requested")
         if self._ending:
             raise Ending("the home is about to end")
-        if self._open and not wait:
+        if self.open and not wait:
             self.metrics.requests.labels("busy").inc()
             raise Busy("a request is open")
-        self._open += 1
+        self.open += 1
         return await asyncio.shield(self._spawn(self._served(action, key)))
 
     async def _served(self, action: str, key: Optional[str]) -> Dict[str, Any]:
@@ -384,18 +313,18 @@ class Home:
             self.events.add("error", f"{action}: {error}", action=action, error=str(error))
             raise
         finally:
-            self._open -= 1
-            if not self._open:
-                self._chosen = self._call = None
+            self.open -= 1
+            if not self.open:
+                self._chosen = self.call = None
             self.metrics.requests.labels(result).inc()
-            self._dirty.set()
+            self.dirty.set()
 
     async def _request(self, action: str, key: Optional[str]) -> Done:
         """Has an action served; again where something moved by itself before a device was asked."""
         failures: List[Failure] = []
         while True:
             try:
-                done = await self._dispatcher.request(action, key)
+                done = await self.dispatcher.request(action, key)
                 return done if not failures else replace(done, failures=(*failures, *done.failures))
             except Moved:
                 failures += self._failures
@@ -419,18 +348,27 @@ class Home:
         self._chosen = service
         return service
 
+    async def reply(self, reply: Awaitable[Value]) -> Value:
+        """A reply of the program. Where it doesn't come the program was ended, which is told: whoever needs it
+        next starts it again, and only sees that it has ended."""
+        try:
+            return await reply
+        except NoReply as error:
+            self.events.add("hung", f"the program was ended: {error}")
+            raise
+
     def number(self, call: Call) -> int:
         """The number of a call for its device, which no other call has, nor one of another journal."""
-        return self._kept.first + call.number
+        return self.kept.first + call.number
 
     def outcome(self, call: Call, answer: Answer) -> Outcome:
         """The outcome that an answer means. Where it doesn't say the environment, that is as it was; or as
         it must be, where it can't stay. Raises DeviceFailed where that leaves a choice."""
         if answer.environment is not None:
             return answer.state, answer.environment
-        possible = self.document.environment.after(self._environment, call.action)
-        if self._environment in possible:
-            return answer.state, self._environment
+        possible = self.document.environment.after(self.known.environment, call.action)
+        if self.known.environment in possible:
+            return answer.state, self.known.environment
         if len(possible) != 1:
             raise DeviceFailed(f"didn't say the environment, which may be {' or '.join(possible)}")
         return answer.state, possible[0]
@@ -438,7 +376,7 @@ class Home:
     async def answer(self, service: str, outcome: Optional[Outcome]) -> None:
         """Says what came of the call that is under way at a simulated device; with None, that it failed.
         Raises LookupError where none is."""
-        device = self._devices.get(service)
+        device = self.devices.get(service)
         reach = None if device is None else device.reach
         if not isinstance(reach, Simulated) or not reach.waiting:
             raise LookupError(f"nothing is under way at {service}")
@@ -452,17 +390,17 @@ class Home:
         """Takes a service out of use, until `thaw`."""
         async with self._turns[service]:
             try:
-                await self._dispatcher.freeze(service)
+                await self.dispatcher.freeze(service)
             except AlreadyFrozen:
-                if service in self._kept.held:
+                if service in self.kept.held:
                     raise
-            self._kept.hold(service)
-            self._stop_returning(service)
+            self.kept.hold(service)
+            self._returning.stop(service)
 
     async def thaw(self, service: str) -> None:
         """Takes a service into use again: where its device tells, in its state."""
         answer = None
-        if service in self._known and self._known[service].frozen:
+        if service in self.known and self.known[service].frozen:
             with contextlib.suppress(Exception):
                 answer = await self._told(service)
         async with self._turns[service]:
@@ -474,15 +412,15 @@ class Home:
         if answer is not None:
             state, environment = answer.state, answer.environment
             self._check_place(service, answer)
-        if environment is not None and environment != self._environment:
+        if environment is not None and environment != self.known.environment:
             await self.jump_environment(environment)
-        await self._dispatcher.thaw(service, state)
-        self._kept.release([service])
-        self._stop_returning(service)
+        await self.dispatcher.thaw(service, state)
+        self.kept.release([service])
+        self._returning.stop(service)
 
     def _check_place(self, service: str, answer: Answer) -> None:
         """Raises Nowhere where a device names a state that the document hasn't."""
-        behaviour = self.document.behaviours[self._known[service].behaviour]
+        behaviour = self.document.behaviours[self.known[service].behaviour]
         environment = self.document.environment
         if answer.state not in behaviour.states:
             known = f"none of {behaviour.name}'s states: {', '.join(behaviour.states)}"
@@ -493,33 +431,33 @@ class Home:
 
     async def die(self, service: str) -> None:
         """A service is gone for good."""
-        await self._dispatcher.die(service)
-        self._kept.release([service])
-        self._stop_returning(service)
+        await self.dispatcher.die(service)
+        self.kept.release([service])
+        self._returning.stop(service)
 
     async def join(self, service: str, behaviour: str, state: str, loose: bool) -> None:
         """A new service joins. Raises NoDevice where the home file doesn't say how it is reached."""
-        device = self._devices.get(service)
+        device = self.devices.get(service)
         if device is None:
-            device = self._devices[service] = self._make_device(service)
+            device = self.devices[service] = self._make_device(service)
             await device.reach.open()
-        await self._dispatcher.join(service, behaviour, state, device, loose=loose)
+        await self.dispatcher.join(service, behaviour, state, device, loose=loose)
 
     async def jump(self, service: str, state: str) -> None:
         """A service is in that state now."""
-        await self._dispatcher.jump(service, state)
+        await self.dispatcher.jump(service, state)
 
     async def jump_environment(self, state: str) -> None:
         """The environment is in that state now."""
-        await self._dispatcher.jumpenv(state)
+        await self.dispatcher.jumpenv(state)
 
     # What devices say unasked.
 
     def moved(self, service: str, answer: Answer) -> None:
-        known = self._known.get(service)
+        known = self.known.get(service)
         if known is None or known.dead or not self._ready:
             return
-        if known.frozen and service not in self._kept.held:
+        if known.frozen and service not in self.kept.held:
             self._spawn(self._back(service, answer))
             return
         if service == self._chosen:
@@ -531,7 +469,7 @@ class Home:
             self._chosen = None
 
     def gone(self, service: str) -> None:
-        known = self._known.get(service)
+        known = self.known.get(service)
         if known is None or known.dead or known.frozen or not self._ready:
             return
         known.last_error = "is gone"
@@ -541,25 +479,24 @@ class Home:
 
     def late(self, service: str, text: str) -> None:
         self.events.add("late", f"{service} {text}", service=service)
-        if service in self._pokes:
-            self._pokes[service].set()
+        self._returning.poke(service)
 
     def environment_moved(self, state: str) -> None:
         """The environment is in that state by itself."""
-        if state != self._environment or self._moving:
+        if state != self.known.environment or self._moving:
             self._post(protocol.jumpenv(state))
 
     def _place(self, service: str, answer: Answer) -> None:
         """A service is there now by itself."""
         if answer.environment is not None:
             self.environment_moved(answer.environment)
-        if answer.state != self._known[service].state or self._moving:
+        if answer.state != self.known[service].state or self._moving:
             self._post(protocol.jump(service, answer.state))
 
     def _post(self, event: Event[Any]) -> None:
         """Has a change made in its turn. Until it is made no service is chosen."""
         self._moving += 1
-        future = self._dispatcher.post(event)
+        future = self.dispatcher.post(event)
 
         def made(future: "asyncio.Future[Any]") -> None:
             self._moving -= 1
@@ -573,20 +510,19 @@ class Home:
         self.events.add("broker", text, connected=connected)
         if not connected:
             LOG.warning("%s", text)
-        self._dirty.set()
+        self.dirty.set()
         if not connected or not self._ready:
             return
-        for poke in self._pokes.values():
-            poke.set()
-        for name in self._present():
-            if self._devices[name].reach.by_broker:
+        self._returning.poke_all()
+        for name in self.known.present():
+            if self.devices[name].reach.by_broker:
                 self._spawn(self._compare(name, COMPARED))
 
     # Asking back.
 
     async def _told(self, service: str) -> Optional[Answer]:
         """Where a device says that it is now. Raises an exception where it doesn't by its deadline."""
-        device = self._devices[service]
+        device = self.devices[service]
         try:
             return await asyncio.wait_for(device.reach.tell(None), device.timeout)
         except asyncio.TimeoutError:
@@ -594,14 +530,14 @@ class Home:
 
     async def _compare_all(self) -> None:
         """Asks all devices where they are, and waits a little for that."""
-        comparing = [self._spawn(self._compare(name)) for name in self._present()]
+        comparing = [self._spawn(self._compare(name)) for name in self.known.present()]
         if comparing:
             await asyncio.wait(comparing, timeout=FIRST_WORD)
 
     async def _compare(self, service: str, times: int = 1) -> None:
         """Asks a device where it is, since it may have moved while nobody listened. What it says counts for
         nothing where it is given a call meanwhile, whose answer is newer."""
-        known = self._known[service]
+        known = self.known[service]
         calls = known.calls
         for _ in range(times):
             if known.frozen or known.dead or known.calls != calls or service == self._chosen:
@@ -615,68 +551,19 @@ class Home:
                 self._place(service, answer)
             return
 
-    def _let_all_return(self, at_once: bool = False) -> None:
-        """Asks all services again that are frozen, and weren't frozen by hand."""
-        for name in self._present():
-            if self._known[name].frozen and name not in self._kept.held:
-                self._let_return(name, at_once)
-
-    def _let_return(self, service: str, at_once: bool = False) -> None:
-        """Asks a service again and again until it is back."""
-        task = self._returning.get(service)
-        if self.simulate or task is not None and not task.done():
-            return
-        self._pokes[service] = asyncio.Event()
-        if at_once:
-            self._pokes[service].set()
-        task = asyncio.ensure_future(self._return(service))
-        self._returning[service] = task
-
-    def _stop_returning(self, service: str) -> None:
-        task = self._returning.pop(service, None)
-        self._pokes.pop(service, None)
-        if service in self._known:
-            self._known[service].next_try = None
-        if task is not None and task is not asyncio.current_task():
-            task.cancel()
-
-    async def _return(self, service: str) -> None:
-        """Asks a service with growing pauses, and at once where it said something, until it is back."""
-        known, poke = self._known[service], self._pokes[service]
-        pause: Optional[float] = min(LONGEST_PAUSE, FIRST_PAUSE * 2 ** min(max(known.failures, 1) - 1, 16))
-        while True:
-            if pause is not None:
-                due = datetime.now(timezone.utc) + timedelta(seconds=pause)
-                known.next_try = due.isoformat(timespec="milliseconds")
-            self._dirty.set()
-            await pause_until(poke, pause)
-            poke.clear()
-            known.next_try = None
-            try:
-                answer = await self._told(service)
-            except Exception as error:
-                known.last_error = str(error) or type(error).__name__
-            else:
-                if answer is None:
-                    pause = None  # It can't tell, so that only a person knows when it is back.
-                    continue
-                if await self._back(service, answer):
-                    return
-            pause = min(LONGEST_PAUSE, 2 * (pause or FIRST_PAUSE))
-
     async def _back(self, service: str, answer: Answer) -> bool:
         """A service that was frozen is back: it is thawed, unless that was done meanwhile, or it was frozen by
         hand. False where that can't be."""
         try:
             async with self._turns[service]:
-                if not self._known[service].frozen or service in self._kept.held:
+                if not self.known[service].frozen or service in self.kept.held:
                     return True
                 await self._thaw(service, answer)
         except Nowhere as error:
-            self._known[service].last_error = str(error)
+            self.known[service].last_error = str(error)
             return False
         except (Refusal, TypeError, ValueError) as error:
-            self._known[service].last_error = f"says it is in {answer.state}: {error}"
+            self.known[service].last_error = f"says it is in {answer.state}: {error}"
             return False
         except TROUBLE as error:
             LOG.warning("%s can't be thawed: %s", service, error)
@@ -703,11 +590,11 @@ class Home:
             self.events.add("restarted", f"the program was started again: {notice.why}")
             self._spawn(self._refresh())
         self._noticed.set()
-        self._dirty.set()
+        self.dirty.set()
 
     def _asked(self, call: Call) -> None:
-        self._call = (call, now())
-        self._known[call.service].calls += 1
+        self.call = (call, now())
+        self.known[call.service].calls += 1
         self.metrics.asked.labels(call.service).inc()
         self.events.add(
             "asked",
@@ -719,13 +606,13 @@ class Home:
 
     def _noted(self, done: Done) -> None:
         """A request was served."""
-        self._call = self._chosen = None
+        self.call = self._chosen = None
         self._failures.clear()
-        self._last = (done, self._kept.first + self._dispatcher.core.calls)
-        self._environment = done.environment
-        known = self._known[done.service]
+        self._last = (done, self.kept.first + self.dispatcher.core.calls)
+        self.known.environment = done.environment
+        known = self.known[done.service]
         known.failures, known.last_error = 0, None
-        self._now_in(done.service, done.state)
+        self.known.now_in(done.service, done.state)
         self.events.add(
             "served",
             f"{done.service} served {done.action}, and is {done.state}",
@@ -736,11 +623,11 @@ class Home:
         )
 
     def _failed(self, failure: Failure) -> None:
-        self._call = self._chosen = None
+        self.call = self._chosen = None
         self._failures.append(failure)
         self.metrics.failures.labels(failure.service).inc()
         error = error_of(failure)
-        known = self._known[failure.service]
+        known = self.known[failure.service]
         known.failures += 1
         known.last_error = error
         known.frozen, known.since = True, now()
@@ -752,224 +639,44 @@ class Home:
             error=error,
         )
         if self._ready:
-            self._let_return(failure.service)
+            self._returning.let(failure.service)
 
     def _changed(self, words: Tuple[str, ...]) -> None:
         """A change was made, by hand or by itself."""
         word, *rest = words
         if word == "jumpenv":
-            self._environment = rest[0]
+            self.known.environment = rest[0]
             self.events.add("changed", f"the environment is {rest[0]} now", change=list(words))
             return
         service = rest[0]
         if word == "join":
-            self._learn(service, rest[1], rest[2], len(rest) == 4)
+            self.known.learn(service, rest[1], rest[2], len(rest) == 4)
         elif word == "jump":
-            self._now_in(service, rest[1])
-        known = self._known[service]
+            self.known.now_in(service, rest[1])
+        known = self.known[service]
         if word in ("freeze", "thaw"):
             known.frozen, known.since = word == "freeze", now()
         if word == "die":
             known.dead, known.since = True, now()
         if word == "freeze" and known.last_error == "is gone":
-            self._let_return(service)
+            self._returning.let(service)
         self.events.add("changed", " ".join(words), service=service, change=list(words))
 
     def _recovered(self, recovery: Recovery) -> None:
         call, verdict = recovery.call, recovery.verdict
         if recovery.done is not None:
-            self._environment = recovery.done.environment
-            self._now_in(call.service, recovery.done.state)
+            self.known.environment = recovery.done.environment
+            self.known.now_in(call.service, recovery.done.state)
         text = f"{call.service} was under way at {call.request}: {verdict.value}"
         if verdict is Verdict.IN_DOUBT:
-            self._known[call.service].last_error = "it isn't known whether it did what it was asked"
-            self._known[call.service].frozen = True
+            self.known[call.service].last_error = "it isn't known whether it did what it was asked"
+            self.known[call.service].frozen = True
         self.events.add(
             "recovered", text, service=call.service, action=call.request, verdict=verdict.value
         )
 
-    def _learn(self, name: str, behaviour: str, state: str, loose: bool) -> None:
-        """A service is there."""
-        self._known[name] = Known(behaviour, state, loose, now())
-
-    def _now_in(self, service: str, state: str) -> None:
-        """A service is in that state."""
-        known = self._known[service]
-        if known.state != state:
-            known.state, known.since = state, now()
-
     async def _refresh(self) -> None:
         """Takes all states as the program has them."""
-        self._take(await self._reply(self._session.report()))
-        self._let_all_return()
-        self._dirty.set()
-
-    def _take(self, report: Report) -> None:
-        """Takes all states from a report."""
-        self._environment = report.environment
-        present = {each.name: each for each in report.services}
-        for name, service in present.items():
-            if name not in self._known:
-                self._learn(name, service.behaviour, service.state, service.loose)
-            self._now_in(name, service.state)
-            known = self._known[name]
-            known.frozen, known.behaviour, known.loose = service.frozen, service.behaviour, service.loose
-        for name, known in self._known.items():
-            known.dead = name not in present
-
-    def _present(self) -> List[str]:
-        return [name for name, known in self._known.items() if not known.dead]
-
-    # What is shown.
-
-    async def state(self) -> Dict[str, Any]:
-        """The present state as JSON."""
-        report = await self._present_report()
-        explanation = await self._explanation(report)
-        services = [self._service_to_json(name) for name in self._known]
-        return {
-            "document": self.file.document.name,
-            "time": now(),
-            "simulated": self.simulate,
-            "target": target_to_json(self.document, report),
-            "environment": report.environment,
-            "environments": list(self.document.environment.states),
-            "composes": report.composition,
-            "actions": actions_to_json(self.document, report),
-            "services": services,
-            "behaviours": {
-                each.name: list(each.states) for each in self.document.behaviours.values()
-            },
-            "request": self._request_to_json(report),
-            "explanation": None if explanation is None else explanation_to_json(explanation),
-            "counts": {
-                "served": self._dispatcher.served,
-                "waiting": max(0, self._open - 1),
-                "frozen": sum(each["status"] == "frozen" for each in services),
-                "dead": sum(each["status"] == "dead" for each in services),
-            },
-            "broker": None if self.broker is None else self.broker.connected,
-        }
-
-    async def figures(self) -> bytes:
-        """The figures for Prometheus."""
-        report = await self._present_report()
-        services = [(name, self._status(name)) for name in self._known]
-        self.metrics.show(self._dispatcher.served, report.composition, services)
-        return self.metrics.text()
-
-    async def allowed(self) -> List[str]:
-        """The actions that are offered now."""
-        report = await self._present_report()
-        return list(report.offers)
-
-    async def _present_report(self) -> Report:
-        """The newest report. While the program is started again it may be the one before."""
-        try:
-            self._report = await self._reply(self._session.report())
-        except SessionOver:
-            if not self._open:
-                self._report = await self._dispatcher.report()
-        return self._report
-
-    async def _reply(self, reply: Awaitable[Value]) -> Value:
-        """A reply of the program. Where it doesn't come the program was ended, which is told: whoever needs it
-        next starts it again, and only sees that it has ended."""
-        try:
-            return await reply
-        except NoReply as error:
-            self.events.add("hung", f"the program was ended: {error}")
-            raise
-
-    async def _explanation(self, report: Report) -> Optional[Explanation]:
-        """Why there is no composition, where there is none and no request is open."""
-        if report.composition or self._open:
-            return None
-        if self._explained is None or self._explained[0] != report:
-            try:
-                explanation: Optional[Explanation] = await self._reply(self._session.explain())
-            except RomanError:
-                return None
-            self._explained = (report, explanation)
-        return self._explained[1]
-
-    def _status(self, service: str) -> str:
-        known = self._known[service]
-        if known.dead:
-            return "dead"
-        if self._call is not None and self._call[0].service == service:
-            return "under way"
-        return "frozen" if known.frozen else "ready"
-
-    def _service_to_json(self, name: str) -> Dict[str, Any]:
-        known = self._known[name]
-        device = self._devices.get(name)
-        return {
-            "name": name,
-            "behaviour": known.behaviour,
-            "state": known.state,
-            "states": list(self.document.behaviours[known.behaviour].states),
-            "status": self._status(name),
-            "by_hand": known.frozen and name in self._kept.held,
-            "loose": known.loose,
-            "reached": None if device is None else device.reach.reached,
-            "since": known.since,
-            "last_error": known.last_error,
-            "next_try": known.next_try,
-        }
-
-    def _request_to_json(self, report: Report) -> Optional[Dict[str, Any]]:
-        """What is under way; with simulated devices the possible outcomes, too."""
-        if self._call is None:
-            return None
-        call, since = self._call
-        shown: Dict[str, Any] = {
-            "id": self.number(call),
-            "action": call.request,
-            "service": call.service,
-            "since": since,
-        }
-        if self.simulate:
-            known = self._known[call.service]
-            shown["outcomes"] = [
-                {"state": state, "environment": environment}
-                for state, environment in self.document.outcomes(
-                    known.behaviour, known.state, report.environment, call.request
-                )
-            ]
-        return shown
-
-    async def _publish(self) -> None:
-        """Sends listeners and the broker the state whenever it has changed."""
-        while True:
-            await self._dirty.wait()
-            self._dirty.clear()
-            try:
-                if self.events.listeners:
-                    self.events.send(Message("state", await self.state()))
-                if self.broker is not None:
-                    self.broker.publish_now(self.broker.state_topic, await self._summary(), retain=True)
-            except TROUBLE as error:
-                LOG.warning("the state can't be had: %s", error)
-            await asyncio.sleep(BETWEEN_STATES)
-
-    def _hear_state(self, payload: bytes, retained: bool) -> None:
-        """What stands for the state on the broker. It is said anew where it is that the home is gone: so says a
-        connection that the broker found lost late, or another start of this home that came to nothing."""
-        with contextlib.suppress(ValueError, RecursionError):
-            if json.loads(payload) == GONE:
-                self._dirty.set()
-
-    async def _summary(self) -> Dict[str, Any]:
-        """The state in short, for others on the broker."""
-        report = await self._present_report()
-        return {
-            "target": report.target,
-            "environment": report.environment,
-            "composes": report.composition,
-            "offers": {action: list(services) for action, services in report.offers.items()},
-            "services": {
-                name: {"state": known.state, "status": self._status(name)}
-                for name, known in self._known.items()
-            },
-        }
+        self.known.take(await self.reply(self.session.report()))
+        self._returning.let_all()
+        self.dirty.set()

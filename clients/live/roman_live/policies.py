@@ -6,7 +6,7 @@ import asyncio
 import logging
 import tempfile
 from pathlib import Path
-from typing import Awaitable, Callable, Dict, List, Mapping, Optional, Tuple
+from typing import Awaitable, Callable, Dict, List, Mapping, Tuple
 
 from roman_client import Document, LeastCost, Report, RomanError, aio, first_offered
 from roman_client.policies import Choice

@@ -17,10 +17,11 @@ from aiohttp import web
 from roman_client import InDoubt, NoComposition, NotAllowed, Refusal, StoreFailed
 
 from .events import Message
-from .home import TROUBLE, Busy, Home, NoDevice, Nowhere, UnknownAction
+from .home import Home
 from .homefile import Page, is_loopback
 from .pictures import picture
 from .states import explanation_to_json, failures_to_json
+from .troubles import TROUBLE, Busy, NoDevice, Nowhere, UnknownAction
 
 LONGEST_BODY = 65_536
 """The most bytes of a body."""
@@ -157,7 +158,7 @@ class Server:
         return await self._state()
 
     async def _get_metrics(self, request: web.Request) -> web.Response:
-        text = await self.home.figures()
+        text = await self.home.shown.figures()
         return web.Response(body=text, headers={"Content-Type": "text/plain; version=0.0.4"})
 
     async def _get_events(self, request: web.Request) -> web.StreamResponse:
@@ -172,7 +173,7 @@ class Server:
         try:
             for event in self.home.events.after(int(last) if last.isdecimal() else -1):
                 await response.write(_sent(Message("event", event.to_json(), event.number)))
-            await response.write(_sent(Message("state", await self.home.state())))
+            await response.write(_sent(Message("state", await self.home.shown.state())))
             while not self._closing.is_set():
                 waiting = asyncio.ensure_future(listener.get())
                 await asyncio.wait(
@@ -245,7 +246,7 @@ class Server:
         return await self._state()
 
     async def _state(self) -> web.Response:
-        return _json(await self.home.state())
+        return _json(await self.home.shown.state())
 
 
 async def answer(home: Home, action: str, key: Optional[str], wait: bool) -> web.Response:
@@ -277,7 +278,7 @@ async def result(
         return HTTPStatus.CONFLICT, {
             "error": refusal.reply,
             "explanation": None,
-            "allowed": await home.allowed(),
+            "allowed": await home.shown.allowed(),
             "failures": [],
         }
     except InDoubt as error:

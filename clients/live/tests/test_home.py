@@ -13,6 +13,7 @@ from . import PROGRAM, sample
 
 from roman_client import Call, DeviceFailed
 from roman_live import home as homes
+from roman_live import returning, troubles
 from roman_live.devices import Answer, Listener, Reach
 from roman_live.home import Home
 from roman_live.homefile import HomeFile, HomeFileError
@@ -39,9 +40,9 @@ class Played(Reach):
         if waited is not None:
             await waited.wait()
         home = self.test.home
-        known = home._known[self.service]
+        known = home.known[self.service]
         outcomes = home.document.outcomes(
-            known.behaviour, known.state, home._environment, call.request
+            known.behaviour, known.state, home.known.environment, call.request
         )
         state, environment = next(iter(outcomes))
         self.test.states[self.service] = state
@@ -103,7 +104,7 @@ class InProcess(unittest.IsolatedAsyncioTestCase):
         self.fail("it didn't come")
 
     async def service(self, name: str) -> Dict[str, Any]:
-        (found,) = (each for each in (await self.home.state())["services"] if each["name"] == name)
+        (found,) = (each for each in (await self.home.shown.state())["services"] if each["name"] == name)
         return dict(found)
 
 
@@ -157,7 +158,7 @@ class Beginning(InProcess):
     """What is said where a home begins otherwise than it was meant."""
 
     async def test_a_program_that_is_not_there(self) -> None:
-        with self.assertRaisesRegex(homes.NoProgram, "program is '/nowhere', which can't be started: No such file"):
+        with self.assertRaisesRegex(troubles.NoProgram, "program is '/nowhere', which can't be started: No such file"):
             with mock.patch(f"{__name__}.PROGRAM", "/nowhere"):
                 await self.begin("home")
 
@@ -192,7 +193,7 @@ class ShortForm(InProcess):
             [(await home.request(each))["served_by"] for each in cycle],
             ["window", "kettle", "kettle", "window"],
         )
-        self.assertEqual((await home.state())["document"], "home.json")
+        self.assertEqual((await home.shown.state())["document"], "home.json")
 
     async def test_its_journal_is_taken_up(self) -> None:
         journal = '[journal]\npath = "journal"'
@@ -226,7 +227,7 @@ class AskedBack(InProcess):
         home = await self.begin("home")
         self.states["window"] = "shut"
         self.broken.add("window")
-        with mock.patch.object(homes, "pause_until", quick):
+        with mock.patch.object(returning, "pause_until", quick):
             done = await home.request("brighten")
             self.assertEqual(done["failures"], [{"service": "window", "error": "broken"}])
             await self.until(lambda: len(pauses) >= 9)
@@ -234,7 +235,7 @@ class AskedBack(InProcess):
             self.assertEqual((shown["status"], shown["last_error"]), ("frozen", "broken"))
             self.broken.clear()
             self.states["window"] = "ajar"
-            await self.until(lambda: not home._known["window"].frozen)
+            await self.until(lambda: not home.known["window"].frozen)
         self.assertEqual(pauses[:9], [1, 2, 4, 8, 16, 32, 60, 60, 60])
         self.assertEqual((await self.service("window"))["state"], "ajar")
 
@@ -266,7 +267,7 @@ class AskedBack(InProcess):
         thawing = asyncio.ensure_future(home.thaw("kettle"))
         await self.until(lambda: self.told[-1] == "kettle")
         home.moved("window", Answer("ajar"))
-        await self.until(lambda: not home._known["window"].frozen)
+        await self.until(lambda: not home.known["window"].frozen)
         self.mute["kettle"].set()
         await thawing
         self.assertEqual((await self.service("kettle"))["status"], "ready")
@@ -277,7 +278,7 @@ class AskedBack(InProcess):
         self.states["window"], self.environment = "ajar", "dusk"
         await home.thaw("window")
         self.assertEqual((await self.service("window"))["state"], "ajar")
-        self.assertEqual((await home.state())["environment"], "dusk")
+        self.assertEqual((await home.shown.state())["environment"], "dusk")
 
     async def test_one_that_is_nowhere_stays_frozen(self) -> None:
         home = await self.begin("home")
@@ -287,11 +288,11 @@ class AskedBack(InProcess):
             ("ajar", "noon", "window says the environment is in noon, which is none of its states: day, dusk"),
         ):
             self.states["window"], self.environment = state, environment
-            with self.assertRaisesRegex(homes.Nowhere, f"^{wrong}$"):
+            with self.assertRaisesRegex(troubles.Nowhere, f"^{wrong}$"):
                 await home.thaw("window")
         self.assertEqual((await self.service("window"))["status"], "frozen")
         self.states["window"], self.environment = "stuck", None
-        home._kept.release(["window"])
+        home.kept.release(["window"])
         self.assertFalse(await home._back("window", Answer("stuck")))
         self.assertIn("none of blind's states", (await self.service("window"))["last_error"])
 
@@ -317,14 +318,14 @@ class ProgramHangs(InProcess):
 
     async def test_a_request_goes_on_with_another_program(self) -> None:
         home = await self.begin("home", "program_seconds = 3")
-        os.kill(home._session.pid, signal.SIGSTOP)
+        os.kill(home.session.pid, signal.SIGSTOP)
         self.assertEqual((await asyncio.wait_for(home.request("brighten"), 60))["served_by"], "window")
         self.assertEqual(self.kinds()["restarted"], "the program was started again: no whole reply within 3.0 seconds")
 
     async def test_the_state_comes_from_another_program(self) -> None:
         home = await self.begin("home", "program_seconds = 3")
-        os.kill(home._session.pid, signal.SIGSTOP)
-        self.assertTrue((await asyncio.wait_for(home.state(), 60))["composes"])
+        os.kill(home.session.pid, signal.SIGSTOP)
+        self.assertTrue((await asyncio.wait_for(home.shown.state(), 60))["composes"])
         self.assertEqual(self.kinds()["hung"], "the program was ended: no whole reply within 3.0 seconds")
         self.assertIn("restarted", self.kinds())
 
@@ -337,7 +338,7 @@ class ProgramHangs(InProcess):
 
     async def test_at_the_beginning(self) -> None:
         wrong = "gave no whole reply within 0.2 seconds; program_seconds gives it more"
-        with self.program("run"), self.assertRaisesRegex(homes.NoProgram, wrong):
+        with self.program("run"), self.assertRaisesRegex(troubles.NoProgram, wrong):
             await asyncio.wait_for(self.begin("home", "program_seconds = 0.2"), 60)
 
     async def test_its_advice(self) -> None:
@@ -362,13 +363,13 @@ class ProgramAway(InProcess):
         self.states["window"] = "shut"
         self.broken.add("window")
         await home.request("brighten")
-        self.words = home._session.core.words
-        home._session.core.words = ("/nowhere",)
-        os.kill(home._session.pid, signal.SIGKILL)
+        self.words = home.session.core.words
+        home.session.core.words = ("/nowhere",)
+        os.kill(home.session.pid, signal.SIGKILL)
 
     def there(self) -> None:
         """It is there again."""
-        self.home._session.core.words = self.words
+        self.home.session.core.words = self.words
 
     async def test_a_device_that_is_back_is_asked_again(self) -> None:
         self.broken.clear()
@@ -377,7 +378,7 @@ class ProgramAway(InProcess):
             await self.until(lambda: any("can't be thawed" in each for each in logged.output))
         self.there()
         self.home.late("window", "says something")
-        await self.until(lambda: not self.home._known["window"].frozen)
+        await self.until(lambda: not self.home.known["window"].frozen)
 
     async def test_requests_are_answered(self) -> None:
         status, value = await result(self.home, "boil", None, True)
@@ -391,20 +392,20 @@ class ProgramAway(InProcess):
         self.environment = "dusk"
         boiling = asyncio.ensure_future(result(self.home, "boil", None, True))
         await self.until(lambda: "kettle" in self.asked)
-        self.home._session.core.words = ("/nowhere",)
-        os.kill(self.home._session.pid, signal.SIGKILL)
+        self.home.session.core.words = ("/nowhere",)
+        os.kill(self.home.session.pid, signal.SIGKILL)
         self.gates["kettle"].set()
         self.assertEqual((await boiling)[0], 503)
         self.there()
         self.assertEqual((await result(self.home, "dim", None, True))[1]["error"], "not allowed")
-        await self.until(lambda: self.home._known["kettle"].state == "warm")
+        await self.until(lambda: self.home.known["kettle"].state == "warm")
         self.assertEqual((await result(self.home, "pour", None, True))[0], 200)
 
     async def test_the_state_is_told_when_it_is_there_again(self) -> None:
         listener = self.home.events.listen()
         with self.assertLogs("roman_live", "WARNING") as logged:
             self.home.late("kettle", "says something")
-            self.home._dirty.set()
+            self.home.dirty.set()
             await self.until(lambda: any("can't be had" in each for each in logged.output))
         self.there()
         await self.home.request("boil")
@@ -417,7 +418,7 @@ class MovedByItself(InProcess):
     async def test_at_the_beginning(self) -> None:
         self.states["window"] = "ajar"
         home = await self.begin("home")
-        await self.until(lambda: home._known["window"].state == "ajar")
+        await self.until(lambda: home.known["window"].state == "ajar")
         self.assertEqual((await home.request("brighten"))["state"], "open")
 
     async def test_the_beginning_does_not_wait_for_one_that_does_not_tell(self) -> None:
@@ -427,7 +428,7 @@ class MovedByItself(InProcess):
             home = await asyncio.wait_for(self.begin("home"), 60)
         self.states["window"] = "ajar"
         self.mute["window"].set()
-        await self.until(lambda: home._known["window"].state == "ajar")
+        await self.until(lambda: home.known["window"].state == "ajar")
 
     async def test_one_that_does_not_tell_in_time(self) -> None:
         self.mute["window"] = asyncio.Event()
@@ -457,7 +458,7 @@ class MovedByItself(InProcess):
         home.moved("ceiling", Answer("on"))
         self.gates["window"].set()
         self.assertEqual((await request)["state"], "open")
-        await self.until(lambda: home._known["ceiling"].state == "on")
+        await self.until(lambda: home.known["ceiling"].state == "on")
         self.assertEqual((await self.service("window"))["state"], "open")
 
     async def test_what_moves_while_a_service_is_chosen_is_heeded(self) -> None:
@@ -480,7 +481,7 @@ class MovedByItself(InProcess):
         self.gates["window"] = asyncio.Event()
         first = asyncio.ensure_future(home.request("brighten"))
         await self.until(lambda: self.asked)
-        with self.assertRaises(homes.Busy):
+        with self.assertRaises(troubles.Busy):
             await home.request("boil", wait=False)
         second = asyncio.ensure_future(home.request("boil"))
         self.assertEqual((await self.service("window"))["status"], "under way")
