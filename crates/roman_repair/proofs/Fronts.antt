@@ -229,7 +229,7 @@ pub record IsAfter (A : Arena ℕ) (kept new all left : List (Entry ℕ)) : Type
   pub list : with_replay A new left ≡ with_replay A kept all
   pub candidates : AreCandidates A new left
 
-after_part : (A : Arena ℕ) (kept new all front left : List (Entry ℕ)) → AreCandidates A kept all → all ≡ front ++ left → with_replay A kept front ≡ new → IsAfter A kept new all left
+pub after_part : (A : Arena ℕ) (kept new all front left : List (Entry ℕ)) → AreCandidates A kept all → all ≡ front ++ left → with_replay A kept front ≡ new → IsAfter A kept new all left
 after_part A kept new all front left are parts is = record {
   list = ap (λ K. with_replay A K left) (sym is) ∙ sym (with_replay_append A kept front left) ∙ ap (with_replay A kept) (sym parts);
   candidates = subst (λ K. AreCandidates A K left) is (candidates_replayed A kept front left (subst (AreCandidates A kept) parts are));
@@ -243,7 +243,7 @@ entries_cut n x word front rest reason parts =
     ap (map (λ lane. as_entry (x * n + lane, reason))) parts ∙ map-append (λ lane. as_entry (x * n + lane, reason)) (set_lanes front) (set_lanes rest)
 
 -- a property of the pairs of some lanes is one of their entries
-entries_by : (n x word : ℕ) (reason : Reason) (P : Entry ℕ → Type 0) → ((lane : ℕ) → lane < 64 → is_on word lane ≡ true → P (as_entry (x * n + lane, reason))) →
+pub entries_by : (n x word : ℕ) (reason : Reason) (P : Entry ℕ → Type 0) → ((lane : ℕ) → lane < 64 → is_on word lane ≡ true → P (as_entry (x * n + lane, reason))) →
     (y : Entry ℕ) → IsIn y (entries_in n x word reason) → P y
 entries_by n x word reason P each y i = grind (arith, from_map, in_lanes)
 
@@ -289,7 +289,7 @@ entries_more A n x word front rest reason parts =
 
 -- the removed lanes pay for one question
 pub one_less : (A : Arena ℕ) (n x word off from front rest reading : ℕ) (reason : Reason) → set_lanes word ≡ set_lanes off ++ set_lanes from → set_lanes from ≡ set_lanes front ++ set_lanes rest →
-    (0 < length (set_lanes off)) ⊎ (0 < length (set_lanes front)) → ((lane : ℕ) → lane < 64 → is_on word lane ≡ true → reading ≡ readings_of_reason A (x * n + lane) reason) →
+    (0 < length (set_lanes off)) ⊎ (0 < length (set_lanes front)) → ((lane : ℕ) → lane < 64 → is_on word lane ≡ true → reading ≤ readings_of_reason A (x * n + lane) reason) →
     ((lane : ℕ) → is_on off lane ≡ true → is_on word lane ≡ true) → ((lane : ℕ) → is_on front lane ≡ true → is_on word lane ≡ true) →
     reading + readings_of_entries A (entries_in n x rest reason) ≤ readings_of_entries A (entries_in n x word reason)
 one_less A n x word off from front rest reading reason parts more some each of_off of_front =

@@ -1,10 +1,13 @@
 -- The replay of a row's entries that stand for several pairs each, part by part.
-use Rattle.roman_repair.proofs.Common.{◌≡◌, ℕ, suc, ◌+◌, ◌-◌, ◌*◌, ◌/◌, ◌<◌, ◌≤◌, Bool, true, false, ◌||◌, append-nil, List, [], ◌∷◌, ◌++◌, map, flat_map, filter, cond, refl, sym, ap, ap₂, ◌∙◌, subst, arith, bit_or, mul-le-mul_left, map-append, flat_map-append, sum_by-append, below, Arena, Entry, grown_numbers, Reason, filter_below_more, is_on, on_or, readings_of_reason, as_entry, set_lanes, entries_in, entries_from, AreCandidates, AreSlices, with_replay, readings_of_entries}
+use Rattle.std.proofs.Common.{◌≡◌, ℕ, suc, ◌+◌, ◌-◌, ◌*◌, ◌/◌, ◌<◌, ◌≤◌, Bool, true, false, ◌||◌, append-nil, List, [], ◌∷◌, ◌++◌, map, flat_map, filter, cond, Option, refl, sym, ap, ap₂, ◌∙◌, subst, arith, bit_or}
+use Rattle.roman_repair.proofs.Common.{mul-le-mul_left, map-append, flat_map-append, sum_by-append, below, Arena, Entry, grown_numbers, Reason, filter_below_more, is_on, on_or, readings_of_reason, as_entry, set_lanes, entries_in, entries_from, AreCandidates, AreSlices, with_replay, readings_of_entries}
 use Rattle.std.proofs.lemmas.Nat.{div-mul-add}
 use Rattle.roman_repair.proofs.Keeping.{candidates_left, candidates_replayed}
 use Rattle.roman_repair.proofs.Joined.{positive, grown_part}
 use Rattle.roman_repair.proofs.DeathParts.{part_word, part_in}
 use Rattle.roman_repair.proofs.DeathEntries.{entries_below, row_begin, row_next, row_whole, lanes_below}
+use Rattle.roman_repair.specs.Alone.{MayAskAlone, IsIntact}
+use Rattle.roman_repair.proofs.JudgedAlone.{may_first, may_rest}
 use Rattle.roman_repair.proofs.Fronts.{cut_lanes, filter_split, false_else}
 
 -- ---- spread lanes
@@ -95,21 +98,37 @@ part_entries n lanes states slices many x word i width grown reason is wide spre
     grown_part n slices many states lanes x i grown reason (filter (is_on part) (below slices)) is.whole is.parts (spread ∙ ap (spread_below part slices) wide)
     ∙ ap (λ L. flat_map (grown_numbers states) (map (λ lane. as_entry (x * lanes + i * slices + lane, reason)) L)) (lanes_below part slices is.few (λ lane on. (part_in word (i * slices) slices lane is.few on).0))
 
+-- what all entries stand for, split after a part
+part_split : (states lanes x word bound : ℕ) (reason : Reason) → bound ≤ lanes → (rest : List (Entry ℕ)) × (grown_below states lanes x word lanes reason ≡ grown_below states lanes x word bound reason ++ rest)
+part_split states lanes x word bound reason end =
+    let f = λ (lane : ℕ). as_entry (x * lanes + lane, reason) in
+    let whole : lanes ≡ bound + (lanes - bound) = omega (arith, end) in
+    let after = map (λ a. bound + a) (filter (λ a. is_on word (bound + a)) (below (lanes - bound))) in (
+      flat_map (grown_numbers states) (map f after),
+      ap (λ b. flat_map (grown_numbers states) (map f (filter (is_on word) (below b)))) whole
+          ∙ ap (λ L. flat_map (grown_numbers states) (map f L)) (filter_split (is_on word) bound (lanes - bound))
+          ∙ ap (flat_map (grown_numbers states)) (map-append f (filter (is_on word) (below bound)) after)
+          ∙ flat_map-append (grown_numbers states) (entries_below lanes x word bound reason) (map f after),
+    )
+
 -- the candidates of the next part
 pub part_candidates : (A : Arena ℕ) (kept : List (Entry ℕ)) (states lanes x word i m : ℕ) (reason : Reason) → m ≤ 64 → (i + 1) * m ≤ lanes → AreCandidates A kept (grown_below states lanes x word lanes reason) →
     AreCandidates A (with_replay A kept (grown_below states lanes x word (i * m) reason)) (grown_from states (x * lanes + i * m) (part_word word (i * m) m) reason)
 part_candidates A kept states lanes x word i m reason few end are =
-    let f = λ (lane : ℕ). as_entry (x * lanes + lane, reason) in
-    let whole : lanes ≡ (i + 1) * m + (lanes - (i + 1) * m) = omega (arith, end) in
-    let after = map (λ a. (i + 1) * m + a) (filter (λ a. is_on word ((i + 1) * m + a)) (below (lanes - (i + 1) * m))) in
-    let split : grown_below states lanes x word lanes reason ≡ grown_below states lanes x word ((i + 1) * m) reason ++ flat_map (grown_numbers states) (map f after) =
-    ap (λ b. flat_map (grown_numbers states) (map f (filter (is_on word) (below b)))) whole
-    ∙ ap (λ L. flat_map (grown_numbers states) (map f L)) (filter_split (is_on word) ((i + 1) * m) (lanes - (i + 1) * m))
-    ∙ ap (flat_map (grown_numbers states)) (map-append f (filter (is_on word) (below ((i + 1) * m))) after)
-    ∙ flat_map-append (grown_numbers states) (entries_below lanes x word ((i + 1) * m) reason) (map f after) in
+    let (rest, split) = part_split states lanes x word ((i + 1) * m) reason end in
     candidates_replayed A kept (grown_below states lanes x word (i * m) reason) (grown_from states (x * lanes + i * m) (part_word word (i * m) m) reason)
     (subst (AreCandidates A kept) (sym (grown_next states lanes x word i m reason few))
-    (candidates_left A kept (grown_below states lanes x word ((i + 1) * m) reason) (flat_map (grown_numbers states) (map f after)) (subst (AreCandidates A kept) split are)))
+    (candidates_left A kept (grown_below states lanes x word ((i + 1) * m) reason) rest (subst (AreCandidates A kept) split are)))
+
+-- the next part may be asked of the seat alone
+pub part_alone : (A : Arena ℕ) (old new : Option ℕ) (kept now : List (Entry ℕ)) (states lanes x word i m : ℕ) (reason : Reason) → m ≤ 64 → (i + 1) * m ≤ lanes →
+    MayAskAlone A old kept (grown_below states lanes x word lanes reason) → IsIntact old new (kept ++ grown_below states lanes x word (i * m) reason) now →
+    MayAskAlone A new now (grown_from states (x * lanes + i * m) (part_word word (i * m) m) reason)
+part_alone A old new kept now states lanes x word i m reason few end may intact =
+    let (rest, split) = part_split states lanes x word ((i + 1) * m) reason end in
+    may_rest A old new kept now (grown_below states lanes x word (i * m) reason) (grown_from states (x * lanes + i * m) (part_word word (i * m) m) reason)
+    (subst (MayAskAlone A old kept) (sym (grown_next states lanes x word i m reason few))
+    (may_first A old kept (grown_below states lanes x word ((i + 1) * m) reason) rest (subst (MayAskAlone A old kept) split may))) intact
 
 -- readings of both
 pub readings_both : (A : Arena ℕ) (L M : List (Entry ℕ)) → readings_of_entries A (L ++ M) ≡ readings_of_entries A L + readings_of_entries A M

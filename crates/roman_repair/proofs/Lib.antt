@@ -11,3 +11,5 @@ pub mod Fronts
 pub mod Growing
 pub mod BandAnswers
 pub mod Gathering
+pub mod JudgedAlone
+pub mod OtherSeats

@@ -1,4 +1,5 @@
 pub mod Repairs
 pub mod Replays
 pub mod Deaths
+pub mod Alone
 pub mod AskedBands

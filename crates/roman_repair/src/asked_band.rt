@@ -24,6 +24,8 @@ const BAND: usize = 64;
 /// about again, in its row alone.
 #[derive(Clone, Copy)]
 pub(crate) struct AskedBand {
+    /// The seat that is asked alone. `None` where all seats are asked.
+    pub(crate) alone: Option<u8>,
     /// The row that was asked by itself last.
     row: Asked,
     /// The first row of the band that was asked last.
@@ -82,10 +84,12 @@ fn ask_band<J: Rules, L: Ledger>(
 
 impl AskedBand {
     /// Returns a row and a band of which nothing is known.
-    pub(crate) fn nothing() -> AskedBand
-        ensures { (A : Arena ℕ) (lanes : ℕ) (gone : ℕ → Bool) → HoldsInBand A lanes gone result }
+    pub(crate) fn nothing(alone: Option<u8>) -> AskedBand
+        ensures alone { result.alone ≡ alone }
+        ensures known { (A : Arena ℕ) (lanes : ℕ) (gone : ℕ → Bool) → HoldsInBand A lanes gone result }
     {
         AskedBand {
+            alone,
             row: Asked::nothing(),
             first: 0,
             reason: Reason::Final,
@@ -128,6 +132,7 @@ impl AskedBand {
         ensures known { let A = J.arena joint.now in let lanes = J.lanes joint.now in
             (gone : ℕ → Bool) → AreRows lanes (λ q. not (gone q)) words.now →
             HoldsInBand A lanes gone self.old → HoldsInBand A lanes gone self.new }
+        ensures alone { self.new.alone ≡ self.old.alone }
         ensures cost { let A = J.arena joint.now in
             (p : ℕ) → IsTrue (is_possible A p reason) → steps.new ≡ steps.old + readings_of_reason A p reason }
     {
@@ -164,6 +169,7 @@ impl AskedBand {
         ensures known { let A = J.arena joint.now in let lanes = J.lanes joint.now in
             (gone : ℕ → Bool) → AreRows lanes (λ q. not (gone q)) words.now →
             HoldsInBand A lanes gone self.old → HoldsInBand A lanes gone self.new }
+        ensures alone { self.new.alone ≡ self.old.alone }
         ensures cost { let A = J.arena joint.now in let lanes = J.lanes joint.now in
             (lane : ℕ) → lane < lanes → IsTrue (is_possible A (x * lanes + lane) reason) →
             steps.new ≡ steps.old + readings_of_reason A (x * lanes + lane) reason }

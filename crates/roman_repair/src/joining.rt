@@ -48,10 +48,11 @@ pub fn join<L: Ledger>(
     let shape = relation.joint.shape();
     shape.known();
     let lanes = shape.lanes();
+    let k = relation.joint.seats();
     relation.joint.push_seat(seat)?;
     relation.joint.known();
     reopen(relation);
-    Ok(replay_and_settle_on(relation, states, lanes, steps))
+    Ok(replay_and_settle_on(relation, k, states, lanes, steps))
 }
 
 /// Returns the number of states of the service's behaviour.

@@ -1,10 +1,11 @@
 //! Completes and counts the list, at the end of each repair.
-ghost use Rattle.std.specs.Prelude.{◌≡◌, ◌+◌, ◌≤◌, length};
+ghost use Rattle.std.specs.Prelude.{◌≡◌, ◌+◌, ◌≤◌, length, Some};
 ghost use Rattle.roman_model.specs.Arena.{replay as replay_of};
 ghost use Rattle.roman_joint.specs.NamedSys.{system_of};
 ghost use Rattle.roman_joint.specs.Rows.{lanes_in};
 ghost use Rattle.roman_relation.specs.Settled.{Begins};
 ghost use Rattle.roman_relation.specs.Greatest.{arena_of, IsRelation};
+ghost use Rattle.roman_repair.specs.Alone.{MayAskAlone};
 ghost use Rattle.roman_repair.specs.Repairs.{IsBegun, IsWithinReading, fall_of};
 ghost use Rattle.roman_repair.specs.Replays.{candidates, AreSlices, IsReplayable};
 
@@ -39,11 +40,13 @@ pub(crate) fn settle_on<L: Ledger>(relation: &mut Relation, steps: &mut Steps<L>
 /// pairs plus the number of delegations of an allowed action to a ready service.
 pub(crate) fn replay_and_settle_on<L: Ledger>(
     relation: &mut Relation,
+    k: u8,
     states: u8,
     lanes: u32,
     steps: &mut Steps<L>,
 ) -> Tally
     requires replayable { IsReplayable relation.old.joint states relation.old.order }
+    requires may { MayAskAlone (arena_of relation.old.joint) (Some k) relation.old.order.list (candidates states relation.old.order) }
     requires slices { AreSlices (lanes_in (system_of relation.old.joint)) lanes states }
     requires lanes { relation.old.order.waiting_lanes ≡ lanes }
     ensures joint { relation.new.joint ≡ relation.old.joint }
@@ -54,7 +57,14 @@ pub(crate) fn replay_and_settle_on<L: Ledger>(
     ensures cost { IsWithinReading relation.new.joint relation.new.order result steps.old steps.new }
 {
     relation.joint.known();
-    replay(&relation.joint, &mut relation.order, states, lanes, steps);
+    replay(
+        &relation.joint,
+        &mut relation.order,
+        k,
+        states,
+        lanes,
+        steps,
+    );
     settle_on(relation, steps)
 }
 
@@ -63,9 +73,11 @@ pub(crate) fn replay_and_settle_on<L: Ledger>(
 /// number of delegations of an allowed action to a ready service.
 pub(crate) fn replay_events_and_settle_on<L: Ledger>(
     relation: &mut Relation,
+    k: u8,
     steps: &mut Steps<L>,
 ) -> Tally
     requires replayable { IsReplayable relation.old.joint 1 relation.old.order }
+    requires may { MayAskAlone (arena_of relation.old.joint) (Some k) relation.old.order.list (candidates 1 relation.old.order) }
     requires same_rows { relation.old.order.waiting_lanes ≡ lanes_in (system_of relation.old.joint) }
     ensures joint { relation.new.joint ≡ relation.old.joint }
     ensures relation { IsRelation relation.new.joint relation.new.order }
@@ -75,6 +87,6 @@ pub(crate) fn replay_events_and_settle_on<L: Ledger>(
     ensures cost { IsWithinReading relation.new.joint relation.new.order result steps.old steps.new }
 {
     relation.joint.known();
-    replay_events(&relation.joint, &mut relation.order, steps);
+    replay_events(&relation.joint, &mut relation.order, k, steps);
     settle_on(relation, steps)
 }

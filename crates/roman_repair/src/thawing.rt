@@ -32,5 +32,5 @@ pub fn thaw<L: Ledger>(relation: &mut Relation, k: u8, steps: &mut Steps<L>) -> 
     relation.order.known();
     relation.joint.set_frozen(k, false);
     reopen(relation);
-    replay_events_and_settle_on(relation, steps)
+    replay_events_and_settle_on(relation, k, steps)
 }

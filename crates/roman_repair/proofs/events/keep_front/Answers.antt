@@ -1,4 +1,5 @@
-use Rattle.roman_repair.proofs.Common.{◌≡◌, ℕ, ◌-◌, ◌<◌, ◌++◌, true, length, inl, inr, sym, ap, ◌∙◌, subst, arith, rules, length-append, is_listed, is_on, Board, set_lanes, entries_in, AreCandidates, with_replay}
+use Rattle.std.proofs.Common.{◌≡◌, ℕ, ◌-◌, ◌<◌, ◌++◌, true, length, inl, inr, refl, sym, ap, ◌∙◌, subst, arith, rules, length-append}
+use Rattle.roman_repair.proofs.Common.{is_listed, is_on, Board, set_lanes, entries_in, AreCandidates, with_replay}
 use Rattle.roman_relation.proofs.CallerLemmas.{words_rows}
 use Rattle.roman_repair.proofs.Fronts.{first_lane, in_row, lane_alive, front_kept, front_dropped, lane_possible, shorter, either_front, one_less, entries_more, on_not_off}
 use Rattle.roman_repair.proofs.BandAnswers.{known_on}
@@ -35,6 +36,7 @@ returns-then-front-ne0 g c =
       within = λ lane on. c.requires.within lane (c.split_lanes-front.ensures.back lane on);
       fewer = shorter c.args.lanes front rest parts (c.split_lanes-front.ensures.any c.if-front-ne0.true);
       known = known_on A n c.args.asked.now L c.push_lanes.new.self.list (entries_in n c.args.x front c.args.reason) new c.requires.known;
+      alone = refl;
       rest = search rules;
       cost = omega (arith, entries_more A n c.args.x c.args.lanes front rest c.args.reason parts);
     }
@@ -92,6 +94,7 @@ returns g c =
         | inr s ↦ omega (arith, shorter from front rest more s, ap length parts, length-append (set_lanes off) (set_lanes from))
       ];
       known = known_on A n c.ask-held.new.self L c.push_lanes-2.new.self.list (entries_in n c.args.x front c.args.reason) new (c.ask-held.ensures.known (is_listed A L) rows c.requires.known);
+      alone = c.ask-held.ensures.alone;
       rest = search rules;
       cost = omega (arith, paid);
     }

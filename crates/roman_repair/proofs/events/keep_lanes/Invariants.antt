@@ -1,4 +1,6 @@
-use Rattle.roman_repair.proofs.Common.{◌≡◌, ℕ, ◌+◌, ◌<◌, ◌≤◌, true, length, is_on, is_listed, HoldsInBand, set_lanes, entries_in, AreCandidates, with_replay, readings_of_entries}
+use Rattle.std.proofs.Common.{◌≡◌, ℕ, ◌+◌, ◌<◌, ◌≤◌, ◌++◌, true, length}
+use Rattle.roman_repair.proofs.Common.{is_on, is_listed, HoldsInBand, set_lanes, entries_in, AreCandidates, with_replay, readings_of_entries}
+use Rattle.roman_repair.specs.Alone.{MayAskAlone, IsIntact}
 use Rattle.roman_repair.proofs.events.keep_lanes.Given as goal
 
 -- the entries for the remaining lanes are left
@@ -10,6 +12,8 @@ invariant-left g l =
       list : with_replay A l.order.list (entries_in n l.x l.left l.reason) ≡ with_replay A l.fn.order.list (entries_in n l.x l.lanes l.reason);
       candidates : AreCandidates A l.order.list (entries_in n l.x l.left l.reason);
       within : (lane : ℕ) → is_on l.left lane ≡ true → lane < n;
+      may : MayAskAlone A l.asked.alone l.order.list (entries_in n l.x l.left l.reason);
+      intact : IsIntact l.fn.asked.alone l.asked.alone (l.fn.order.list ++ entries_in n l.x l.lanes l.reason) (l.order.list ++ entries_in n l.x l.left l.reason);
       known : HoldsInBand A n (is_listed A l.order.list) l.asked;
       rest : l.order ≡ record l.fn.order { list = l.order.list };
       cost : l.steps + readings_of_entries A (entries_in n l.x l.left l.reason) ≤ l.fn.steps + readings_of_entries A (entries_in n l.x l.lanes l.reason);

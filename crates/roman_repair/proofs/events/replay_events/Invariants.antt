@@ -1,4 +1,6 @@
-use Rattle.roman_repair.proofs.Common.{◌+◌, ◌≤◌, length, is_listed, HoldsInBand, readings_of_entries}
+use Rattle.std.proofs.Common.{◌+◌, ◌≤◌, length}
+use Rattle.roman_repair.proofs.Common.{is_listed, HoldsInBand, readings_of_entries}
+use Rattle.roman_repair.specs.Alone.{MayAskAlone}
 use Rattle.roman_repair.proofs.Keeping.{IsReplaying}
 use Rattle.roman_repair.proofs.events.replay_events.Given as goal
 
@@ -8,6 +10,7 @@ invariant-replay g l =
     let A = g.J.Rules.arena l.joint in
     record {
       replaying : IsReplaying A l.fn.order l.order l.fn.order.waiting l.order.waiting;
+      may : MayAskAlone A l.asked.alone l.order.list l.order.waiting;
       known : HoldsInBand A (g.J.Rules.lanes l.joint) (is_listed A l.order.list) l.asked;
       cost : l.steps + readings_of_entries A l.order.waiting ≤ l.fn.steps + readings_of_entries A l.fn.order.waiting;
     }

@@ -1,7 +1,10 @@
-use Rattle.roman_repair.proofs.Common.{◌≡◌, flat_map, sym, ap, ◌∙◌, subst, Seat, Join, after, Sizes, AreSizes, lanes_of, AreSlices, grown_numbers, NamedSys, system_of, seat_of, lanes_in}
+use Rattle.std.proofs.Common.{◌≡◌, [], Some, flat_map, sym, ap, ◌∙◌, subst}
+use Rattle.roman_repair.proofs.Common.{length-map, Sys, numbered, candidates, Seat, Join, after, Sizes, AreSizes, lanes_of, AreSlices, grown_numbers, NamedSys, system_of, seat_of, lanes_in}
 use Rattle.roman_repair.proofs.Repairing.{relation_replays}
 use Rattle.roman_repair.proofs.Waiting.{IsReopened, relation_candidates, replayable, reopened_repaired}
 use Rattle.roman_repair.proofs.Joined.{joined_can, joined_candidates, joined_lanes}
+use Rattle.roman_repair.specs.Alone.{MayAskAlone}
+use Rattle.roman_repair.proofs.OtherSeats.{may_reopened, join_alone}
 use Rattle.roman_repair.proofs.joining.join.Goals as goal
 
 pub replay_and_settle_on-requires-clause-replayable : goal.replay_and_settle_on-requires-clause-replayable
@@ -17,6 +20,17 @@ replay_and_settle_on-requires-clause-replayable g c =
     } in
     replayable _ _ _ _ _ _ is (joined_candidates _ _ _ (relation_candidates _ _ c.known.ensures c.requires.relation c.known-2.ensures.in_range) is.replays)
     c.reopen.ensures.list c.reopen.ensures.shaped c.reopen.ensures.caps
+
+pub replay_and_settle_on-requires-clause-may : goal.replay_and_settle_on-requires-clause-may
+replay_and_settle_on-requires-clause-may g c =
+    let n = c.args.relation.now.joint in
+    let old = c.args.relation.now.order in
+    let seat : Seat = seat_of n.catalogue c.args.seat in
+    let new = c.reopen.new.relation.order in
+    subst (λ (t : Sys). MayAskAlone (numbered t) (Some c.seats-k.result) new.list (candidates c.states_of-states.result new)) (sym (ap system_of c.reopen.ensures.joint ∙ c.in_ok-push_seat.ensures.system))
+    (may_reopened (numbered (after (Join seat) (system_of n))) c.seats-k.result c.states_of-states.result old.list new c.reopen.ensures.list c.reopen.ensures.waiting
+    (subst (λ m. MayAskAlone (numbered (after (Join seat) (system_of n))) (Some c.seats-k.result) [] (flat_map (grown_numbers m) old.list)) (sym c.states_of-states.ensures)
+    (join_alone n old seat c.seats-k.result c.known.ensures c.requires.relation c.known-2.ensures.in_range c.requires.ready (c.seats-k.ensures.count ∙ sym (length-map n.seats (seat_of n.catalogue))))))
 
 pub replay_and_settle_on-requires-clause-slices : goal.replay_and_settle_on-requires-clause-slices
 replay_and_settle_on-requires-clause-slices g c =

@@ -1,11 +1,15 @@
-use Rattle.roman_repair.proofs.Common.{◌≡◌, ◌++◌, flat_map, refl, ap, ◌∙◌, arith, is_listed, grown_numbers, Board, entries_in}
+use Rattle.std.proofs.Common.{◌≡◌, ◌++◌, flat_map, refl, sym, ap, ◌∙◌, subst, arith}
+use Rattle.roman_repair.proofs.Common.{flat_map-append, is_listed, grown_numbers, Board, entries_in}
 use Rattle.roman_repair.proofs.Keeping.{candidates_left, grown_first, grown_turn, grown_cost}
+use Rattle.roman_repair.specs.Alone.{MayAskAlone}
+use Rattle.roman_repair.proofs.JudgedAlone.{may_first, may_rest, waits_alone}
 use Rattle.roman_repair.proofs.replaying.replay.Goals as goal
 
 pub replay-init : goal.replay-init
 replay-init g c = record {
   replaying = record { candidates = c.requires.candidates; list = refl; rest = refl };
-  known = c.nothing-asked.ensures (g.J.Rules.arena c.args.joint.now) (g.J.Rules.lanes c.args.joint.now) (is_listed (g.J.Rules.arena c.args.joint.now) c.args.order.now.list);
+  may = subst (λ o. MayAskAlone (g.J.Rules.arena c.args.joint.now) o c.args.order.now.list (flat_map (grown_numbers c.args.states) c.args.order.now.waiting)) (sym c.nothing-asked.ensures.alone) c.requires.may;
+  known = c.nothing-asked.ensures.known (g.J.Rules.arena c.args.joint.now) (g.J.Rules.lanes c.args.joint.now) (is_listed (g.J.Rules.arena c.args.joint.now) c.args.order.now.list);
   cost = omega arith;
 }
 
@@ -21,9 +25,22 @@ keep_grown-requires-clause-candidates g c =
     candidates_left A next.list (flat_map (grown_numbers c.args.states) part) (flat_map (grown_numbers c.args.states) next.waiting)
     (grown_first A c.args.order.now c.replay.order next c.args.states all part c.replay.invariant.replaying first c.next_waiting_event.ensures.rest).candidates
 
+pub keep_grown-requires-clause-may : goal.keep_grown-requires-clause-may
+keep_grown-requires-clause-may g c =
+    let A = g.J.Rules.arena c.args.joint.now in
+    let f = grown_numbers c.args.states in
+    let e = c.in-Some.event in
+    let next = c.next_waiting_event.new.self in
+    let wide = ap (λ (b : Board). b.waiting_lanes) c.replay.invariant.replaying.rest ∙ c.requires.lanes in
+    let part = entries_in c.args.lanes e.row e.lanes e.reason in
+    let first : c.replay.order.waiting ≡ part ++ next.waiting = c.in-Some.ensures.first ∙ ap (λ m. entries_in m e.row e.lanes e.reason ++ next.waiting) wide in
+    may_first A c.replay.asked.alone next.list (flat_map f part) (flat_map f next.waiting)
+    (waits_alone A c.replay.asked.alone c.replay.order next (flat_map f c.replay.order.waiting) (flat_map f part ++ flat_map f next.waiting) c.replay.invariant.may (ap (flat_map f) first ∙ flat_map-append f part next.waiting) c.next_waiting_event.ensures.rest)
+
 pub replay-preserved : goal.replay-preserved
 replay-preserved g c =
     let A = g.J.Rules.arena c.args.joint.now in
+    let f = grown_numbers c.args.states in
     let e = c.in-Some.event in
     let next = c.next_waiting_event.new.self in
     let new = c.keep_grown.new.order in
@@ -34,6 +51,9 @@ replay-preserved g c =
     record {
       replaying = grown_turn A c.args.order.now c.replay.order next new c.args.states all part c.replay.invariant.replaying first c.next_waiting_event.ensures.rest
           c.keep_grown.ensures.list c.keep_grown.ensures.rest;
+      may = subst (λ W. MayAskAlone A c.keep_grown.new.asked.alone new.list (flat_map f W)) (sym (ap (λ (b : Board). b.waiting) c.keep_grown.ensures.rest))
+          (may_rest A c.replay.asked.alone c.keep_grown.new.asked.alone next.list new.list (flat_map f part) (flat_map f next.waiting)
+          (waits_alone A c.replay.asked.alone c.replay.order next (flat_map f c.replay.order.waiting) (flat_map f part ++ flat_map f next.waiting) c.replay.invariant.may (ap (flat_map f) first ∙ flat_map-append f part next.waiting) c.next_waiting_event.ensures.rest) c.keep_grown.ensures.intact);
       known = c.keep_grown.ensures.known;
       cost = omega (arith, grown_cost A c.replay.order next new c.args.states part first c.keep_grown.ensures.rest, c.keep_grown.ensures.cost, c.replay.invariant.cost);
     }

@@ -1,4 +1,6 @@
-use Rattle.roman_repair.proofs.Common.{◌+◌, ◌≤◌, flat_map, length, is_listed, grown_numbers, HoldsInBand, readings_of_entries}
+use Rattle.std.proofs.Common.{◌+◌, ◌≤◌, flat_map, length}
+use Rattle.roman_repair.proofs.Common.{is_listed, grown_numbers, HoldsInBand, readings_of_entries}
+use Rattle.roman_repair.specs.Alone.{MayAskAlone}
 use Rattle.roman_repair.proofs.Keeping.{IsReplaying}
 use Rattle.roman_repair.proofs.replaying.replay.Given as goal
 
@@ -10,6 +12,7 @@ invariant-replay g l =
     let left = flat_map (grown_numbers l.states) l.order.waiting in
     record {
       replaying : IsReplaying A l.fn.order l.order all left;
+      may : MayAskAlone A l.asked.alone l.order.list left;
       known : HoldsInBand A (g.J.Rules.lanes l.joint) (is_listed A l.order.list) l.asked;
       cost : l.steps + readings_of_entries A left ≤ l.fn.steps + readings_of_entries A all;
     }

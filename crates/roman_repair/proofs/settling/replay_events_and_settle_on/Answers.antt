@@ -1,4 +1,6 @@
-use Rattle.roman_repair.proofs.Common.{◌≡◌, [], length, sym, ap, ◌∙◌, subst, arith, rules, replay, readings, NamedSys, joint_numbered, Begins, arena_of, candidates, with_replay, readings_of_entries}
+use Rattle.std.proofs.Common.{◌≡◌, [], length, Some, sym, ap, ◌∙◌, subst, arith, rules}
+use Rattle.roman_repair.proofs.Common.{replay, readings, NamedSys, joint_numbered, Begins, arena_of, AreCandidates, candidates, with_replay, readings_of_entries}
+use Rattle.roman_repair.specs.Alone.{MayAskAlone}
 use Rattle.roman_repair.proofs.Keeping.{candidates_readings}
 use Rattle.roman_repair.proofs.Repairing.{replayed_begun}
 use Rattle.roman_repair.proofs.Waiting.{grown_by_one}
@@ -6,6 +8,11 @@ use Rattle.roman_repair.proofs.settling.replay_events_and_settle_on.Goals as goa
 
 pub replay_events-requires-clause-candidates : goal.replay_events-requires-clause-candidates
 replay_events-requires-clause-candidates g c = grind (arith, grown_by_one)
+
+pub replay_events-requires-clause-may : goal.replay_events-requires-clause-may
+replay_events-requires-clause-may g c =
+    let old = c.args.relation.now.order in
+    subst (MayAskAlone (arena_of c.args.relation.now.joint) (Some c.args.k) old.list) (grown_by_one old.waiting) c.requires.may
 
 pub settle_on-requires : goal.settle_on-requires
 settle_on-requires g c = grind (arith, grown_by_one, replayed_begun)

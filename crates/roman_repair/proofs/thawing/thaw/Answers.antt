@@ -1,8 +1,11 @@
-use Rattle.roman_repair.proofs.Common.{◌<◌, false, flat_map, length, sym, ap, ◌∙◌, arith, length-map, grown_numbers, NamedSys, system_of, seat_of, lanes_in}
+use Rattle.std.proofs.Common.{◌<◌, false, flat_map, length, Some, sym, ap, ◌∙◌, subst, arith}
+use Rattle.roman_repair.proofs.Common.{length-map, turned, Sys, numbered, candidates, grown_numbers, NamedSys, system_of, seat_of, lanes_in}
 use Rattle.roman_model.specs.Change.{Thaw}
 use Rattle.roman_repair.proofs.Repairing.{relation_replays}
 use Rattle.roman_repair.proofs.Whole.{shaped_turned}
 use Rattle.roman_repair.proofs.Waiting.{IsReopened, relation_candidates, turned_candidates, replayable, reopened_repaired, grown_by_one}
+use Rattle.roman_repair.specs.Alone.{MayAskAlone}
+use Rattle.roman_repair.proofs.OtherSeats.{may_reopened, thaw_alone}
 use Rattle.roman_repair.proofs.thawing.thaw.Goals as goal
 
 pub replay_events_and_settle_on-requires-clause-replayable : goal.replay_events_and_settle_on-requires-clause-replayable
@@ -23,6 +26,15 @@ replay_events_and_settle_on-requires-clause-same_rows g c =
     let n = c.args.relation.now.joint in
     c.reopen.ensures.wide ∙ (shaped_turned (system_of n) c.args.k false c.args.relation.now.order c.requires.relation.shaped).lanes
     ∙ sym (ap (λ (m : NamedSys). lanes_in (system_of m)) c.reopen.ensures.joint ∙ ap lanes_in c.set_frozen.ensures.system)
+
+pub replay_events_and_settle_on-requires-clause-may : goal.replay_events_and_settle_on-requires-clause-may
+replay_events_and_settle_on-requires-clause-may g c =
+    let n = c.args.relation.now.joint in
+    let old = c.args.relation.now.order in
+    let place : c.args.k < length (system_of n).seats = omega (arith, c.requires.place, length-map n.seats (seat_of n.catalogue)) in
+    subst (λ (t : Sys). MayAskAlone (numbered t) (Some c.args.k) c.reopen.new.relation.order.list (candidates 1 c.reopen.new.relation.order)) (sym (ap system_of c.reopen.ensures.joint ∙ c.set_frozen.ensures.system))
+    (may_reopened (numbered (turned (system_of n) c.args.k false)) c.args.k 1 old.list c.reopen.new.relation.order c.reopen.ensures.list c.reopen.ensures.waiting
+    (thaw_alone n old c.args.k c.known.ensures c.requires.relation c.known-2.ensures.in_range place))
 
 pub returns-clause-repaired : goal.returns-clause-repaired
 returns-clause-repaired g c =

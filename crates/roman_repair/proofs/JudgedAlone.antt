@@ -1,0 +1,146 @@
+-- Entries that are judged by one seat.
+use Rattle.std.proofs.Common.{◌≡◌, ℕ, zero, suc, ◌+◌, ◌*◌, ◌^◌, ◌<◌, ◌≤◌, ◌==◌, Bool, true, false, not, cond, if◌then◌else◌, ◌||◌, List, [], ◌∷◌, ◌++◌, length, Option, None, Some, IsTrue, IsFalse, count_by, inl, inr, refl, sym, ap, ◌∙◌, subst, arith, add-one, append-nil, append_assoc}
+use Rattle.roman_repair.proofs.Common.{both_ways, or_left, eqb-true, false_from_ne_true, IsIn, below, Arena, Entry, is_listed, is_justified, Reason, Final, Act, listed_append, is_on, on_zero, bit_not, w64, readings_of_reason, readings_of_entries, readings_of-allowed, Board, set_lanes, entries_in, set_lanes-zero, is_possible, AreCandidates, with_replay}
+use Rattle.std.specs.List.{list_any}
+use Rattle.std.proofs.lemmas.Bool.{and_from, cases_eq, or_cases, or_right, false≢true}
+use Rattle.roman_model.specs.Arena.{is_beaten}
+use Rattle.roman_model.specs.Lists.{all_below, is_empty}
+use Rattle.roman_model.proofs.CallerLemmas.{all_below_from, any_from, any_true, by_test, justified_is}
+use Rattle.roman_lanes.proofs.CallerLemmas.{on_not}
+use Rattle.roman_rules.proofs.CallerLemmas.{count_below_more}
+use Rattle.roman_repair.specs.Alone.{without_seat, AreKept, MayAskAlone, IsIntact, lets_hold, questions_of}
+use Rattle.roman_repair.proofs.Keeping.{with_replay_step}
+use Rattle.roman_repair.proofs.Fronts.{IsFirst, IsAfter, after_part, entries_cut, entries_by, with_replay_none, one_less, lane_possible}
+
+-- ---- entries that are kept
+
+pub kept_split : {N : Type 0} (A : Arena N) (kept L M : List (Entry N)) → AreKept A kept (L ++ M) → AreKept A kept L × AreKept A (kept ++ L) M
+kept_split A kept [] M are = (tt, subst (λ K. AreKept A K M) (sym (append-nil kept)) are)
+kept_split A kept (x ∷ L) M are =
+    let (front, rest) = kept_split A (kept ++ x ∷ []) L M are.1 in
+    ((are.0, front), subst (λ K. AreKept A K M) (append_assoc kept (x ∷ []) L) rest)
+
+-- the first candidates may be asked of the seat alone
+pub may_first : (A : Arena ℕ) (alone : Option ℕ) (kept L M : List (Entry ℕ)) → MayAskAlone A alone kept (L ++ M) → MayAskAlone A alone kept L
+may_first A None kept L M may = tt
+may_first A (Some k) kept L M may = (may.0, may.1, (kept_split (without_seat A k) kept L M may.2).0)
+
+-- and so may the others, where the first ones were kept
+pub may_rest : (A : Arena ℕ) (old new : Option ℕ) (kept now L M : List (Entry ℕ)) → MayAskAlone A old kept (L ++ M) → IsIntact old new (kept ++ L) now → MayAskAlone A new now M
+may_rest A old None kept now L M may intact = tt
+may_rest A old (Some k) kept now L M may intact =
+    let (same, is) = intact k refl in
+    let still : MayAskAlone A (Some k) kept (L ++ M) = subst (λ o. MayAskAlone A o kept (L ++ M)) same may in
+    (still.0, still.1, subst (λ K. AreKept (without_seat A k) K M) (sym is) (kept_split (without_seat A k) kept L M still.2).1)
+
+-- the candidates of the pending entries, where one event is taken from them
+pub waits_alone : (A : Arena ℕ) (alone : Option ℕ) (now next : Board) (L M : List (Entry ℕ)) → MayAskAlone A alone now.list L → L ≡ M → next ≡ record now { waiting = next.waiting } → MayAskAlone A alone next.list M
+waits_alone A alone now next L M may same rest = subst (λ K. MayAskAlone A alone K M) (sym (ap (λ (b : Board). b.list) rest)) (subst (MayAskAlone A alone now.list) same may)
+
+-- ---- one seat
+
+-- a reason that holds without a seat's outcomes holds where the seat lets it
+both_justified : (A : Arena ℕ) (gone : ℕ → Bool) (k p : ℕ) (reason : Reason) → IsTrue (is_justified (without_seat A k) gone p reason) → IsTrue (lets_hold A gone k p reason) →
+    IsTrue (is_justified A gone p reason)
+both_justified A gone k p Final others lets = others
+both_justified A gone k p (Act a) others lets =
+    let (allowed, each) = justified_is (without_seat A k) gone p a others in
+    and_from (A.allows p a) (all_below (is_beaten A gone p a) A.seats) allowed
+    (all_below_from (is_beaten A gone p a) A.seats (λ j l. by_test (j == k)
+    (λ t. subst (λ i. IsTrue (is_beaten A gone p a i)) (sym (eqb-true j k t)) lets)
+    (λ f. subst (λ b. IsTrue (is_empty (if b then [] else A.outcomes p a j) || list_any gone (if b then [] else A.outcomes p a j))) f (each j l))))
+
+lets_more : (A : Arena ℕ) (gone more : ℕ → Bool) (k p : ℕ) (reason : Reason) → ((q : ℕ) → IsTrue (gone q) → IsTrue (more q)) → IsTrue (lets_hold A gone k p reason) → IsTrue (lets_hold A more k p reason)
+lets_more A gone more k p Final within lets = lets
+lets_more A gone more k p (Act a) within lets = elim (or_cases (is_empty (A.outcomes p a k)) (list_any gone (A.outcomes p a k)) lets) [
+  | inl none ↦ or_left (is_empty (A.outcomes p a k)) (list_any more (A.outcomes p a k)) none
+  | inr some ↦
+      let (q, i, t) = any_true gone (A.outcomes p a k) some in
+      or_right (is_empty (A.outcomes p a k)) (list_any more (A.outcomes p a k)) (any_from more q (A.outcomes p a k) i (within q t))
+]
+
+-- a reason doesn't hold where a seat keeps it from holding
+pub unlet : (A : Arena ℕ) (gone : ℕ → Bool) (k p : ℕ) (reason : Reason) → k < A.seats → IsFalse (lets_hold A gone k p reason) → IsFalse (is_justified A gone p reason)
+unlet A gone k p Final l off = absurd (false≢true (sym off))
+unlet A gone k p (Act a) l off = false_from_ne_true (is_justified A gone p (Act a)) (λ t. both_ways (is_beaten A gone p a k) off ((justified_is A gone p a t).1 k l))
+
+-- entries that would be kept without the seat's outcomes are kept where the seat lets them
+kept_alone : (A : Arena ℕ) (k : ℕ) (kept L : List (Entry ℕ)) → AreKept (without_seat A k) kept L → ((x : Entry ℕ) → IsIn x L → IsTrue (lets_hold A (is_listed A kept) k x.node x.reason)) →
+    with_replay A kept L ≡ kept ++ L
+kept_alone A k kept [] are lets = refl
+kept_alone A k kept (x ∷ L) are lets =
+    with_replay_step A kept x L
+    ∙ ap (λ b. with_replay A (cond b (kept ++ x ∷ []) kept) L) (both_justified A (is_listed A kept) k x.node x.reason are.0 (lets x (inl refl)))
+    ∙ kept_alone A k (kept ++ x ∷ []) L are.1 (λ y i. lets_more A (is_listed A kept) (is_listed A (kept ++ x ∷ [])) k y.node y.reason
+    (λ q t. listed_append A kept (x ∷ []) q ∙ or_left (is_listed A kept q) (is_listed A (x ∷ []) q) t) (lets y (inr i)))
+    ∙ append_assoc kept (x ∷ []) L
+
+-- a front of lanes at which the seat lets the reason hold is listed
+pub front_alone : (A : Arena ℕ) (kept : List (Entry ℕ)) (k n x word front rest : ℕ) (reason : Reason) → AreCandidates A kept (entries_in n x word reason) → MayAskAlone A (Some k) kept (entries_in n x word reason) →
+    set_lanes word ≡ set_lanes front ++ set_lanes rest →
+    ((lane : ℕ) → lane < 64 → is_on front lane ≡ true → IsTrue (lets_hold A (is_listed A kept) k (x * n + lane) reason)) →
+    IsAfter A kept (kept ++ entries_in n x front reason) (entries_in n x word reason) (entries_in n x rest reason)
+front_alone A kept k n x word front rest reason are may parts lets =
+    let cut = entries_cut n x word front rest reason parts in
+    after_part A kept (kept ++ entries_in n x front reason) (entries_in n x word reason) (entries_in n x front reason) (entries_in n x rest reason) are cut
+    (kept_alone A k kept (entries_in n x front reason)
+    (may_first A (Some k) kept (entries_in n x front reason) (entries_in n x rest reason) (subst (MayAskAlone A (Some k) kept) cut may)).2
+    (entries_by n x front reason (λ y. IsTrue (lets_hold A (is_listed A kept) k y.node y.reason)) lets))
+
+-- ---- the cost
+
+some_counted : (f : ℕ → Bool) (n k : ℕ) → k < n → IsTrue (f k) → 0 < count_by f (below n)
+some_counted f zero k l t = absurd (omega arith)
+some_counted f (suc n) k l t =
+    let last : count_by f (below (suc n)) ≡ count_by f (below n) + cond (f n) 1 0 = ap (λ m. count_by f (below m)) (sym (add-one n)) ∙ count_below_more f n in
+    elim (cases_eq k n) [
+      | inl e ↦ omega (arith, last, one_if (f n) (subst (λ i. IsTrue (f i)) e t))
+      | inr ne ↦ (let before : 0 < count_by f (below n) = some_counted f n k (omega arith) t in omega (arith, last, before))
+    ]
+  where
+    one_if : (b : Bool) → IsTrue b → cond b 1 0 ≡ suc 0
+    one_if b t = ap (λ c. cond c 1 0) t
+
+-- one question is at most as many as those to all ready seats
+pub one_question : (A : Arena ℕ) (k p : ℕ) (reason : Reason) → k < A.seats → IsTrue (A.ready k) → IsTrue (is_possible A p reason) → questions_of reason ≤ readings_of_reason A p reason
+one_question A k p Final l ready possible = omega arith
+one_question A k p (Act a) l ready possible =
+    let some : 0 < count_by A.ready (below A.seats) = some_counted A.ready A.seats k l ready in
+    omega (arith, some, readings_of-allowed A p a possible)
+
+-- the removed lanes pay for one question
+pub alone_paid : (A : Arena ℕ) (kept : List (Entry ℕ)) (k n x word off rest : ℕ) (reason : Reason) → AreCandidates A kept (entries_in n x word reason) → MayAskAlone A (Some k) kept (entries_in n x word reason) →
+    set_lanes word ≡ set_lanes off ++ set_lanes rest → 0 < length (set_lanes off) → ((lane : ℕ) → is_on off lane ≡ true → is_on word lane ≡ true) →
+    questions_of reason + readings_of_entries A (entries_in n x rest reason) ≤ readings_of_entries A (entries_in n x word reason)
+alone_paid A kept k n x word off rest reason are may parts some of_off =
+    one_less A n x word off rest 0 rest (questions_of reason) reason parts (ap (λ ls. ls ++ set_lanes rest) (sym set_lanes-zero)) (inl some)
+    (λ lane l on. one_question A k (x * n + lane) reason may.0 may.1 (lane_possible A kept n x word lane reason are l on)) of_off
+    (λ lane on. absurd (both_ways (is_on 0 lane) (on_zero lane) on))
+
+-- ---- lanes before the first one at which the seat doesn't serve
+
+pub let_there : (b : Bool) → not b ≡ false → IsTrue b
+let_there true off = refl
+let_there false off = sym off
+
+pub unlet_there : (b : Bool) → not b ≡ true → IsFalse b
+unlet_there true on = sym on
+unlet_there false on = refl
+
+-- there are some, where no lane comes before the first one at which it serves
+pub some_dropped : (word served off lane : ℕ) → served < 2 ^ 64 → IsFirst word lane →
+    ((lane : ℕ) → lane < 64 → is_on word lane ≡ true → ((bit : ℕ) → bit < lane → is_on word bit ≡ false) → is_on served lane ≡ false → 0 < length (set_lanes 0)) →
+    ((lane : ℕ) → lane < 64 → is_on word lane ≡ true → ((bit : ℕ) → bit < lane → is_on word bit ≡ false) → is_on (bit_not w64 served) lane ≡ false → 0 < length (set_lanes off)) →
+    0 < length (set_lanes off)
+some_dropped word served off lane fits first keeps drops = by_test (is_on served lane)
+    (λ t. drops lane first.low first.on first.before (on_not served lane fits first.low ∙ ap not t))
+    (λ f. absurd (let some : 0 < length (set_lanes 0) = keeps lane first.low first.on first.before f in omega (arith, some, ap length set_lanes-zero)))
+
+-- lanes at which the seat serves are dropped
+pub front_unlet : (A : Arena ℕ) (kept : List (Entry ℕ)) (k n x word off rest : ℕ) (reason : Reason) → AreCandidates A kept (entries_in n x word reason) → k < A.seats →
+    set_lanes word ≡ set_lanes off ++ set_lanes rest → ((lane : ℕ) → lane < 64 → is_on off lane ≡ true → IsFalse (lets_hold A (is_listed A kept) k (x * n + lane) reason)) →
+    IsAfter A kept kept (entries_in n x word reason) (entries_in n x rest reason)
+front_unlet A kept k n x word off rest reason are l parts serves =
+    after_part A kept kept (entries_in n x word reason) (entries_in n x off reason) (entries_in n x rest reason) are (entries_cut n x word off rest reason parts)
+    (with_replay_none A kept (entries_in n x off reason) (entries_by n x off reason (λ y. IsFalse (is_justified A (is_listed A kept) y.node y.reason))
+    (λ lane h on. unlet A (is_listed A kept) k (x * n + lane) reason l (serves lane h on))))

@@ -1,0 +1,244 @@
+-- After a thaw or a join each entry of the old list would be kept if the changed seat had no outcomes.
+use Rattle.std.proofs.Common.{◌≡◌, ℕ, zero, suc, ◌+◌, ◌*◌, ◌%◌, ◌<◌, ◌==◌, Bool, true, false, not, ◌&&◌, ◌||◌, List, [], ◌∷◌, ◌++◌, map, flat_map, length, Some, IsTrue, IsFalse, if◌then◌else◌, slice_get, slice_index, slice_set, inl, inr, refl, sym, ap, ◌∙◌, subst, arith, append-nil, append_assoc}
+use Rattle.roman_repair.proofs.Common.{both_ways, eqb-true, or_left, IsIn, below, Arena, Entry, IsOrder, is_listed, is_justified, Reason, Final, Act, length-map, product_of, Sys, Seat, IsSys, is_final, Sizes, sizes_of, count, pair_at, numbered, turned, sizes-turned, grown_numbers, in_map, from_map, AreNumbers, NamedSys, system_of, IsNamedSys, Board, pairs_of, has_entry, IsRelation, listed_numbers, candidates, in_below, justified_more, listed_append, map-map}
+use Rattle.std.specs.List.{list_any}
+use Rattle.std.proofs.lemmas.Bool.{and_from, and_parts, eq-eqb, or_cases, or_right}
+use Rattle.std.proofs.lemmas.List.{length_push}
+use Rattle.roman_model.specs.Arena.{is_among, IsOrderFrom}
+use Rattle.roman_model.specs.Change.{grown, set_frozen}
+use Rattle.roman_model.specs.Lists.{all_below, is_empty}
+use Rattle.roman_model.specs.Numbers.{number}
+use Rattle.roman_model.specs.System.{Pair, all_final}
+use Rattle.roman_model.specs.SystemArena.{beh_next, env_next, is_fine, is_ready, outcomes, outcomes_by, seat_next}
+use Rattle.roman_model.proofs.CallerLemmas.{all_below_from, any_from, any_true, by_test, flat_map_same, from_below, IsPairOf-from, justified_is, length-set_frozen, length-states_at, map-flat_map, number-grown, number_allows-turned, numbers_are_pairs, outcome_pair, pair_at-grown, sizes-joined}
+use Rattle.roman_repair.specs.Alone.{without_seat, AreKept, MayAskAlone}
+use Rattle.roman_repair.proofs.Repairing.{numbers_order}
+use Rattle.roman_repair.proofs.Joined.{map_as, possible-joined}
+
+-- ---- entries that are kept
+
+kept_append : (A : Arena ℕ) (kept L M : List (Entry ℕ)) → AreKept A kept L → AreKept A (kept ++ L) M → AreKept A kept (L ++ M)
+kept_append A kept [] M front rest = subst (λ K. AreKept A K M) (append-nil kept) rest
+kept_append A kept (x ∷ L) M front rest = (front.0, kept_append A (kept ++ x ∷ []) L M front.1 (subst (λ K. AreKept A K M) (sym (append_assoc kept (x ∷ []) L)) rest))
+
+kept_all : (A : Arena ℕ) (kept L : List (Entry ℕ)) → ((x : Entry ℕ) → IsIn x L → IsTrue (is_justified A (is_listed A kept) x.node x.reason)) → AreKept A kept L
+kept_all A kept [] all = tt
+kept_all A kept (x ∷ L) all = (
+  all x (inl refl),
+  kept_all A (kept ++ x ∷ []) L (λ y i. justified_more A (is_listed A kept) (is_listed A (kept ++ x ∷ [])) y.node y.reason
+      (λ a k q j t. listed_append A kept (x ∷ []) q ∙ or_left (is_listed A kept q) (is_listed A (x ∷ []) q) t) (all y (inr i))),
+)
+
+-- ---- a system whose other seats have the outcomes of an old system, with a state of a new seat
+
+-- pair p of the system s becomes the pairs p * m + b of the system t, and there the seats other than k have the outcomes that they had
+pub record CarriesOver (s t : Sys) (k m : ℕ) : Type 0 where
+  pub fine : (p b : ℕ) → p < count (sizes_of s) → b < m → IsTrue (not ((numbered s).fine p)) → IsTrue (not ((numbered t).fine (p * m + b)))
+  pub allows : (p b a : ℕ) → p < count (sizes_of s) → b < m → IsTrue ((numbered s).allows p a) → IsTrue ((numbered t).allows (p * m + b) a)
+  pub seat : (j : ℕ) → j < (numbered t).seats → (j ≡ k → ⊥) → j < (numbered s).seats
+  pub outcomes : (p b a j : ℕ) → p < count (sizes_of s) → b < m → j < (numbered t).seats → (j ≡ k → ⊥) →
+      (numbered t).outcomes (p * m + b) a j ≡ map (λ q. q * m + b) ((numbered s).outcomes p a j)
+
+beaten_map : (f : ℕ → ℕ) (gone lost : ℕ → Bool) (qs : List ℕ) → ((q : ℕ) → IsTrue (gone q) → IsTrue (lost (f q))) → IsTrue (is_empty qs || list_any gone qs) →
+    IsTrue (is_empty (map f qs) || list_any lost (map f qs))
+beaten_map f gone lost [] carry h = refl
+beaten_map f gone lost (x ∷ qs) carry h = let (q, i, t) = any_true gone (x ∷ qs) h in any_from lost (f q) (map f (x ∷ qs)) (in_map f q (x ∷ qs) i) (carry q t)
+
+carried_justified : (s t : Sys) (k m : ℕ) → CarriesOver s t k m → (p b : ℕ) → p < count (sizes_of s) → b < m → (gone lost : ℕ → Bool) → ((q : ℕ) → IsTrue (gone q) → IsTrue (lost (q * m + b))) →
+    (reason : Reason) → IsTrue (is_justified (numbered s) gone p reason) → IsTrue (is_justified (without_seat (numbered t) k) lost (p * m + b) reason)
+carried_justified s t k m over p b l h gone lost carry Final j = over.fine p b l h j
+carried_justified s t k m over p b l h gone lost carry (Act a) j =
+    let (allowed, each) = justified_is (numbered s) gone p a j in
+    let B = without_seat (numbered t) k in
+    let blank : ℕ → Bool → Bool = λ i none. is_empty (if none then [] else (numbered t).outcomes (p * m + b) a i) || list_any lost (if none then [] else (numbered t).outcomes (p * m + b) a i) in
+    and_from (B.allows (p * m + b) a) (all_below (λ i. blank i (i == k)) B.seats) (over.allows p b a l h allowed)
+    (all_below_from (λ i. blank i (i == k)) B.seats (λ i below_i. by_test (i == k)
+    (λ same. subst (λ none. IsTrue (blank i none)) (sym same) refl)
+    (λ other.
+    let ne : i ≡ k → ⊥ = λ e. both_ways (i == k) other (eq-eqb i k e) in
+    subst (λ none. IsTrue (blank i none)) (sym other)
+    (subst (λ qs. IsTrue (is_empty qs || list_any lost qs)) (sym (over.outcomes p b a i l h below_i ne))
+    (beaten_map (λ q. q * m + b) gone lost ((numbered s).outcomes p a i) carry (each i (over.seat i below_i ne)))))))
+
+-- each entry that a removal list of the old system stands for would be kept
+carried_kept : (s t : Sys) (k m : ℕ) → CarriesOver s t k m → (before : List ℕ) (kept L : List (Entry ℕ)) → ((x : Entry ℕ) → IsIn x L → x.node < count (sizes_of s)) →
+    ((q b : ℕ) → b < m → IsTrue (is_among (numbered s) before q) → IsTrue (is_listed (numbered t) kept (q * m + b))) → IsOrderFrom (numbered s) before L →
+    AreKept (without_seat (numbered t) k) kept (flat_map (grown_numbers m) L)
+carried_kept s t k m over before kept [] are carry order = tt
+carried_kept s t k m over before kept (x ∷ L) are carry order =
+    kept_append B kept (grown_numbers m x) (flat_map (grown_numbers m) L)
+    (kept_all B kept (grown_numbers m x) (λ y i.
+    let (b, j, e) = from_map (λ b. record { node = x.node * m + b; reason = x.reason }) y (below m) i in
+    let h : b < m = from_below m b j in
+    subst (λ (z : Entry ℕ). IsTrue (is_justified B (is_listed B kept) z.node z.reason)) (sym e)
+    (carried_justified s t k m over x.node b (are x (inl refl)) h (is_among (numbered s) before) (is_listed B kept) (λ q. carry q b h) x.reason order.1)))
+    (carried_kept s t k m over (x.node ∷ before) (kept ++ grown_numbers m x) L (λ y i. are y (inr i)) next order.2)
+  where
+    B : Arena ℕ
+    B = without_seat (numbered t) k
+
+    next : (q b : ℕ) → b < m → IsTrue (is_among (numbered s) (x.node ∷ before) q) → IsTrue (is_listed (numbered t) (kept ++ grown_numbers m x) (q * m + b))
+    next q b h h_among = listed_append (numbered t) kept (grown_numbers m x) (q * m + b) ∙ elim (or_cases (q == x.node) (is_among (numbered s) before q) h_among) [
+      | inl here ↦ or_right (is_listed (numbered t) kept (q * m + b)) (is_listed (numbered t) (grown_numbers m x) (q * m + b))
+          (any_from (λ (y : Entry ℕ). q * m + b == y.node) (record { node = x.node * m + b; reason = x.reason }) (grown_numbers m x)
+          (in_map (λ b. record { node = x.node * m + b; reason = x.reason }) b (below m) (in_below m b h)) (eq-eqb (q * m + b) (x.node * m + b) (ap (λ i. i * m + b) (eqb-true q x.node here))))
+      | inr rest ↦ or_left (is_listed (numbered t) kept (q * m + b)) (is_listed (numbered t) (grown_numbers m x) (q * m + b)) (carry q b h rest)
+    ]
+
+pub order_kept : (s t : Sys) (k m : ℕ) → CarriesOver s t k m → (L : List (Entry ℕ)) → ((x : Entry ℕ) → IsIn x L → x.node < count (sizes_of s)) → IsOrder (numbered s) L →
+    AreKept (without_seat (numbered t) k) [] (flat_map (grown_numbers m) L)
+order_kept s t k m over L are order = carried_kept s t k m over [] [] L are (λ q b h none. none) order
+
+-- ---- a thaw
+
+other_seat : (seats : List Seat) (k j : ℕ) (frozen : Bool) → (j ≡ k → ⊥) → slice_get (set_frozen seats k frozen) j ≡ slice_get seats j
+other_seat [] k j frozen ne = refl
+other_seat (seat ∷ seats) zero zero frozen ne = absurd (ne refl)
+other_seat (seat ∷ seats) zero (suc j) frozen ne = refl
+other_seat (seat ∷ seats) (suc k) zero frozen ne = refl
+other_seat (seat ∷ seats) (suc k) (suc j) frozen ne = other_seat seats k j frozen (λ e. ne (ap suc e))
+
+still_final : (seats : List Seat) (k : ℕ) (frozen : Bool) (bs : List ℕ) → all_final (set_frozen seats k frozen) bs ≡ all_final seats bs
+still_final [] k frozen bs = refl
+still_final (seat ∷ seats) zero frozen [] = refl
+still_final (seat ∷ seats) zero frozen (b ∷ bs) = refl
+still_final (seat ∷ seats) (suc k) frozen [] = refl
+still_final (seat ∷ seats) (suc k) frozen (b ∷ bs) = ap (λ x. (not seat.rests || is_final seat.beh b) && x) (still_final seats k frozen bs)
+
+-- a pair is its own only pair after a thaw
+same_place : (p b : ℕ) → b < 1 → p * 1 + b ≡ p
+same_place p b h = omega arith
+
+map_itself : (b : ℕ) → b < 1 → (qs : List ℕ) → qs ≡ map (λ q. q * 1 + b) qs
+map_itself b h [] = refl
+map_itself b h (q ∷ qs) = λ i. sym (same_place q b h) i ∷ map_itself b h qs i
+
+pub thaw_carries : (s : Sys) (k : ℕ) → CarriesOver s (turned s k false) k 1
+thaw_carries s k = record {
+  fine = λ p b l h f. ap not (ap (λ i. is_fine t (pair_at (sizes_of t) i)) (same_place p b h) ∙ ap (λ n. is_fine t (pair_at n p)) (sizes-turned s k false)
+      ∙ ap (λ x. not (is_final s.target (pair_at (sizes_of s) p).t) || x) (still_final s.seats k false (pair_at (sizes_of s) p).bs)) ∙ f;
+  allows = λ p b a l h f. ap (λ i. (numbered t).allows i a) (same_place p b h) ∙ number_allows-turned s k false p a ∙ f;
+  seat = λ j l ne. subst (λ n. j < n) (length-set_frozen s.seats k false) l;
+  outcomes = λ p b a j l h below_j ne.
+      ap (λ i. (numbered t).outcomes i a j) (same_place p b h)
+      ∙ ap (λ n. map (number n) (outcomes t (pair_at n p) a j)) (sizes-turned s k false)
+      ∙ ap (λ o. map (number (sizes_of s)) (outcomes_by s (pair_at (sizes_of s) p) a j (seat_next o (slice_index (pair_at (sizes_of s) p).bs j) (pair_at (sizes_of s) p).e a))) (other_seat s.seats k j false ne)
+      ∙ map_itself b h ((numbered s).outcomes p a j);
+}
+  where
+    t : Sys
+    t = turned s k false
+
+-- ---- a join
+
+get_before : {X : Type 0} (xs : List X) (x : X) (j : ℕ) → j < length xs → slice_get (xs ++ x ∷ []) j ≡ slice_get xs j
+get_before [] x j l = absurd (omega arith)
+get_before (y ∷ xs) x zero l = refl
+get_before (y ∷ xs) x (suc j) l = get_before xs x j (omega arith)
+
+index_before : (bs : List ℕ) (b j : ℕ) → j < length bs → slice_index (bs ++ b ∷ []) j ≡ slice_index bs j
+index_before [] b j l = absurd (omega arith)
+index_before (c ∷ bs) b zero l = refl
+index_before (c ∷ bs) b (suc j) l = index_before bs b j (omega arith)
+
+set_before : (bs : List ℕ) (b j c : ℕ) → j < length bs → slice_set (bs ++ b ∷ []) j c ≡ slice_set bs j c ++ b ∷ []
+set_before [] b j c l = absurd (omega arith)
+set_before (d ∷ bs) b zero c l = refl
+set_before (d ∷ bs) b (suc j) c l = ap (λ cs. d ∷ cs) (set_before bs b j c (omega arith))
+
+-- a pair that isn't final for the seats isn't final for one seat more
+final_fewer : (seats : List Seat) (seat : Seat) (bs : List ℕ) (b : ℕ) → IsTrue (all_final (seats ++ seat ∷ []) (bs ++ b ∷ [])) → length bs ≡ length seats → IsTrue (all_final seats bs)
+final_fewer [] seat bs b f long = refl
+final_fewer (x ∷ seats) seat [] b f long = absurd (omega arith)
+final_fewer (x ∷ seats) seat (c ∷ bs) b f long =
+    let (first, rest) = and_parts (not x.rests || is_final x.beh c) (all_final (seats ++ seat ∷ []) (bs ++ b ∷ [])) f in
+    and_from (not x.rests || is_final x.beh c) (all_final seats bs) first (final_fewer seats seat bs b rest (omega arith))
+
+-- the system with a new last seat
+abbrev pub with_last : Sys → Seat → Sys
+with_last s seat = record { env = s.env; target = s.target; seats = s.seats ++ seat ∷ [] }
+
+moved_grown : (s : Sys) (seat : Seat) (p : Pair) (b a j : ℕ) (states : List ℕ) → j < length p.bs → outcomes_by (with_last s seat) (grown p b) a j states ≡ map (λ q. grown q b) (outcomes_by s p a j states)
+moved_grown s seat p b a j states l =
+    flat_map_same (λ e'. flat_map (λ t'. map (λ c. record { t = t'; e = e'; bs = slice_set (p.bs ++ b ∷ []) j c }) states) (beh_next s.target p.t p.e a))
+    (λ e'. map (λ q. grown q b) (flat_map (λ t'. map (λ c. record { t = t'; e = e'; bs = slice_set p.bs j c }) states) (beh_next s.target p.t p.e a))) (env_next s.env p.e a)
+    (λ e'. flat_map_same (λ t'. map (λ c. record { t = t'; e = e'; bs = slice_set (p.bs ++ b ∷ []) j c }) states)
+    (λ t'. map (λ q. grown q b) (map (λ c. record { t = t'; e = e'; bs = slice_set p.bs j c }) states)) (beh_next s.target p.t p.e a)
+    (λ t'. map_as (λ c. record { t = t'; e = e'; bs = slice_set (p.bs ++ b ∷ []) j c }) (λ c. grown (record { t = t'; e = e'; bs = slice_set p.bs j c }) b) states
+    (λ c i. ap (λ bs. record { t = t'; e = e'; bs = bs }) (set_before p.bs b j c l))
+    ∙ sym (map-map (λ q. grown q b) (λ c. record { t = t'; e = e'; bs = slice_set p.bs j c }) states))
+    ∙ sym (map-flat_map (λ q. grown q b) (λ t'. map (λ c. record { t = t'; e = e'; bs = slice_set p.bs j c }) states) (beh_next s.target p.t p.e a)))
+    ∙ sym (map-flat_map (λ q. grown q b) (λ e'. flat_map (λ t'. map (λ c. record { t = t'; e = e'; bs = slice_set p.bs j c }) states) (beh_next s.target p.t p.e a)) (env_next s.env p.e a))
+
+-- the outcomes of the old seats
+outcomes_grown : (s : Sys) (seat : Seat) (p : Pair) (b a j : ℕ) → length p.bs ≡ length s.seats → j < length s.seats → outcomes (with_last s seat) (grown p b) a j ≡ map (λ q. grown q b) (outcomes s p a j)
+outcomes_grown s seat p b a j long l =
+    ap (λ o. outcomes_by (with_last s seat) (grown p b) a j (seat_next o (slice_index (p.bs ++ b ∷ []) j) p.e a)) (get_before s.seats seat j l)
+    ∙ ap (λ c. outcomes_by (with_last s seat) (grown p b) a j (seat_next (slice_get s.seats j) c p.e a)) (index_before p.bs b j (omega (arith, l, long)))
+    ∙ moved_grown s seat p b a j (seat_next (slice_get s.seats j) (slice_index p.bs j) p.e a) (omega (arith, l, long))
+
+pub join_carries : (s : Sys) (seat : Seat) → IsSys s → CarriesOver s (with_last s seat) (length s.seats) seat.beh.states
+join_carries s seat ok = record {
+  fine = λ p b l h f. ap (λ q. not (is_fine t q)) (place p b l h) ∙ still_unfine (is_final s.target (pair_at n p).t) (all_final s.seats (pair_at n p).bs) (all_final t.seats ((pair_at n p).bs ++ b ∷ []))
+      (λ every. final_fewer s.seats seat (pair_at n p).bs b every (long p)) f;
+  allows = λ p b a l h f. possible-joined s seat p b (Act a) l h ∙ f;
+  seat = λ j l ne. (let total : length (s.seats ++ seat ∷ []) ≡ length s.seats + 1 = length_push s.seats seat in omega (arith, l, total, ne));
+  outcomes = λ p b a j l h below_j ne.
+      let inner : j < length s.seats = (let total : length (s.seats ++ seat ∷ []) ≡ length s.seats + 1 = length_push s.seats seat in omega (arith, below_j, total, ne)) in
+      ap (λ q. map (number (sizes_of t)) (outcomes t q a j)) (place p b l h)
+      ∙ ap (map (number (sizes_of t))) (outcomes_grown s seat (pair_at n p) b a j (long p) inner)
+      ∙ map-map (number (sizes_of t)) (λ q. grown q b) (outcomes s (pair_at n p) a j)
+      ∙ map_as (λ q. number (sizes_of t) (grown q b)) (λ q. number n q * seat.beh.states + b) (outcomes s (pair_at n p) a j)
+      (λ q i. ap (λ m. number m (grown q b)) (sizes-joined s seat) ∙ number-grown n q seat.beh.states b (IsPairOf-from s q (outcome_pair s (pair_at n p) a j q ok ((numbers_are_pairs s).pair p l) i)))
+      ∙ sym (map-map (λ q. q * seat.beh.states + b) (number n) (outcomes s (pair_at n p) a j));
+}
+  where
+    t : Sys
+    t = with_last s seat
+
+    n : Sizes
+    n = sizes_of s
+
+    place : (p b : ℕ) → p < count n → b < seat.beh.states → pair_at (sizes_of t) (p * seat.beh.states + b) ≡ grown (pair_at n p) b
+    place p b l h = ap (λ m. pair_at m (p * seat.beh.states + b)) (sizes-joined s seat) ∙ pair_at-grown n seat.beh.states p b l h
+
+    long : (p : ℕ) → length (pair_at n p).bs ≡ length s.seats
+    long p = length-states_at n.seats (p % product_of n.seats) ∙ length-map s.seats (λ (x : Seat). x.beh.states)
+
+    still_unfine : (final all more : Bool) → (IsTrue more → IsTrue all) → IsTrue (not (not final || all)) → IsTrue (not (not final || more))
+    still_unfine final all true fewer f = subst (λ x. IsTrue (not (not final || x))) (fewer refl) f
+    still_unfine true all false fewer f = refl
+    still_unfine false all false fewer f = f
+
+-- ---- the changed seat may be asked alone
+
+thawed_ready : (seats : List Seat) (k : ℕ) → k < length seats → IsTrue (is_ready (slice_get (set_frozen seats k false) k))
+thawed_ready [] k l = absurd (omega arith)
+thawed_ready (seat ∷ seats) zero l = refl
+thawed_ready (seat ∷ seats) (suc k) l = thawed_ready seats k (omega arith)
+
+last_ready : (seats : List Seat) (seat : Seat) → IsFalse seat.frozen → IsTrue (is_ready (slice_get (seats ++ seat ∷ []) (length seats)))
+last_ready [] seat thawed = ap not thawed
+last_ready (x ∷ seats) seat thawed = last_ready seats seat thawed
+
+pub thaw_alone : (joint : NamedSys) (old : Board) (k : ℕ) → IsNamedSys joint → IsRelation joint old → ((p : ℕ) → has_entry old.list p ≡ true → p < pairs_of old) → k < length (system_of joint).seats →
+    MayAskAlone (numbered (turned (system_of joint) k false)) (Some k) [] (flat_map (grown_numbers 1) old.list)
+thaw_alone joint old k known relation in_range l =
+    let s = system_of joint in
+    let are : AreNumbers s old.list = listed_numbers s old relation.shaped.pairs in_range in
+    (subst (λ n. k < n) (sym (length-set_frozen s.seats k false)) l, thawed_ready s.seats k l, order_kept s (turned s k false) k 1 (thaw_carries s k) old.list are (numbers_order s old.list known.system are relation.complete.list))
+
+pub join_alone : (joint : NamedSys) (old : Board) (seat : Seat) (k : ℕ) → IsNamedSys joint → IsRelation joint old → ((p : ℕ) → has_entry old.list p ≡ true → p < pairs_of old) → IsFalse seat.frozen →
+    k ≡ length (system_of joint).seats → MayAskAlone (numbered (with_last (system_of joint) seat)) (Some k) [] (flat_map (grown_numbers seat.beh.states) old.list)
+join_alone joint old seat k known relation in_range thawed is =
+    let s = system_of joint in
+    let are : AreNumbers s old.list = listed_numbers s old relation.shaped.pairs in_range in
+    let more : length (s.seats ++ seat ∷ []) ≡ length s.seats + 1 = length_push s.seats seat in
+    subst (λ j. MayAskAlone (numbered (with_last s seat)) (Some j) [] (flat_map (grown_numbers seat.beh.states) old.list)) (sym is)
+    (omega (arith, more), last_ready s.seats seat thawed, order_kept s (with_last s seat) (length s.seats) seat.beh.states (join_carries s seat known.system) old.list are (numbers_order s old.list known.system are relation.complete.list))
+
+-- in the reopened order
+pub may_reopened : (A : Arena ℕ) (k states : ℕ) (old : List (Entry ℕ)) (reopened : Board) → reopened.list ≡ [] → reopened.waiting ≡ old → MayAskAlone A (Some k) [] (flat_map (grown_numbers states) old) →
+    MayAskAlone A (Some k) reopened.list (candidates states reopened)
+may_reopened A k states old reopened empty waiting may =
+    subst (λ K. MayAskAlone A (Some k) K (candidates states reopened)) (sym empty) (subst (λ W. MayAskAlone A (Some k) [] (flat_map (grown_numbers states) W)) (sym waiting) may)
