@@ -320,6 +320,31 @@ impl Joint {
         clear_served(self, words, row, &turn, a, left);
     }
 
+    /// Clears, in `left`, the pairs of a band at which the service `k` serves the action `a`. `row` is
+    /// the first row of the band. `left` has one word for each row of the band. `words` has, row by
+    /// row, the bits of the pairs that aren't gone.
+    pub fn clear_good(&self, row: &Row, words: &[u64], a: u8, k: u8, left: &mut [u64])
+        requires row { (y : ℕ) × IsRow (system_of self.now) (y * band_in (system_of self.now)) row.now }
+        requires action { a < (system_of self.now).env.actions }
+        requires seat { k < length self.now.seats }
+        requires room { length words.now * lanes_in (system_of self.now) ≡ count (sizes_of (system_of self.now)) }
+        requires long { length left.old ≡ band_in (system_of self.now) }
+        ensures long { length left.new ≡ length left.old }
+        ensures left { let s = system_of self.now in
+            (y : ℕ) (gone : ℕ → Bool) → IsRow s (y * band_in s) row.now →
+            AreRows (lanes_in s) (λ q. not (gone q)) words.now →
+            Keeps (lanes_in s) (y * band_in s) (band_in s) (λ p. is_beaten (numbered s) gone p a k) left.old left.new }
+    {
+        self.known();
+        let Some(turn) = target_move_of(self, row, a) else {
+            return;
+        };
+        let mut alive = [0; BAND];
+        alive_each(self, words, &turn, &mut alive);
+        let mut all = [0; BAND];
+        clear_seat(self, words, row, &turn, &alive, a, k, &mut all, left);
+    }
+
     /// Returns the number of choices of a service for the action `a` at all pairs of a band together,
     /// at most 131,072: the sum, over the pairs, of the number of services that serve it. `row` is the
     /// first row of the band. `words` has, row by row, the bits of the pairs that aren't gone.

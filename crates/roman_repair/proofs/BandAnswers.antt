@@ -1,9 +1,12 @@
 -- The answers of a band of rows.
-use Rattle.roman_repair.proofs.Common.{◌≡◌, ℕ, ◌+◌, ◌-◌, ◌*◌, ◌/◌, ◌^◌, ◌<◌, ◌≤◌, Bool, true, ◌&&◌, List, ◌++◌, drop, length, slice_index, IsTrue, inl, inr, sym, ap, ◌∙◌, subst, arith, cases_lt, both_ways, or_left, get_or-replicate, div-add-mod', mul-le-mul_left, is_on, on_full, on_zero, Arena, Entry, is_listed, is_justified, justified_more, listed_append, HoldsInBand}
-use Rattle.std.proofs.Common.{get_or, replicate}
+use Rattle.std.proofs.Common.{◌≡◌, ℕ, ◌+◌, ◌-◌, ◌*◌, ◌/◌, ◌^◌, ◌<◌, ◌≤◌, Bool, true, false, not, ◌&&◌, List, ◌++◌, drop, length, get_or, replicate, slice_index, None, Some, IsTrue, inl, inr, refl, sym, ap, ◌∙◌, subst, arith}
+use Rattle.roman_repair.proofs.Common.{cases_lt, both_ways, or_left, get_or-replicate, div-add-mod', mul-le-mul_left, is_on, on_full, on_zero, Arena, Entry, Reason, is_listed, is_justified, justified_more, listed_append, HoldsInBand}
 use Rattle.std.proofs.lemmas.List.{get_or-append_right, get_or-drop, get_or_append_left}
 use Rattle.roman_rules.proofs.CallerLemmas.{known_more}
 use Rattle.roman_rules.specs.Asked.{HoldsWhereKept}
+use Rattle.std.proofs.lemmas.Option.{none-some, same_Some}
+use Rattle.roman_repair.specs.Alone.{lets_hold}
+use Rattle.roman_repair.proofs.JudgedAlone.{lets_more}
 use Rattle.roman_repair.specs.declared.asked_band.AskedBand.{AskedBand}
 
 -- a word that is full of lanes has each of them
@@ -42,13 +45,26 @@ pub row_held : (held rest : List ℕ) (i lane : ℕ) (is : Bool) → i < length 
 row_held held rest i lane is l same = ap (λ w. is_on w lane) (get_or_append_left held rest 0 i l) ∙ same
 
 -- what was answered of a whole band is known
-pub known_whole : (A : Arena ℕ) (n band first : ℕ) (gone : ℕ → Bool) (asked : AskedBand) (held : List ℕ) → HoldsWhereKept A n gone asked.row → asked.words ≡ held ++ drop band (replicate 64 0) → asked.first ≡ first → length held ≡ band →
+pub known_whole : (A : Arena ℕ) (n band first : ℕ) (gone : ℕ → Bool) (asked : AskedBand) (held : List ℕ) → asked.alone ≡ None → HoldsWhereKept A n gone asked.row → asked.words ≡ held ++ drop band (replicate 64 0) → asked.first ≡ first → length held ≡ band →
     ((i lane : ℕ) → i < band → lane < n → is_on (slice_index held i) lane ≡ is_justified A gone ((first + i) * n + lane) asked.reason) → HoldsInBand A n gone asked
-known_whole A n band first gone asked held row words same long is = record {
+known_whole A n band first gone asked held all row words same long is = record {
   row = row;
-  each = λ i lane h l on.
+  each = λ none i lane h l on.
       let (m, there) = held_in_band held band i lane long h (ap (λ ws. is_on (slice_index ws i) lane) (sym words) ∙ on) in
       subst (λ f. IsTrue (is_justified A gone ((f + i) * n + lane) asked.reason)) (sym same) (sym (is i lane m l) ∙ there);
+  lets = λ k e. absurd (none-some k (sym all ∙ e));
+}
+
+-- what was answered of a whole band by one seat is known
+pub let_whole : (A : Arena ℕ) (n band first k : ℕ) (gone : ℕ → Bool) (asked : AskedBand) (held : List ℕ) → asked.alone ≡ Some k → HoldsWhereKept A n gone asked.row → asked.words ≡ held ++ drop band (replicate 64 0) → asked.first ≡ first → length held ≡ band →
+    ((i lane : ℕ) → i < band → lane < n → is_on (slice_index held i) lane ≡ lets_hold A gone k ((first + i) * n + lane) asked.reason) → HoldsInBand A n gone asked
+let_whole A n band first k gone asked held one row words same long is = record {
+  row = row;
+  each = λ none. absurd (none-some k (sym none ∙ one));
+  lets = λ j e i lane h l on.
+      let (m, there) = held_in_band held band i lane long h (ap (λ ws. is_on (slice_index ws i) lane) (sym words) ∙ on) in
+      subst (λ j. IsTrue (lets_hold A gone j ((asked.first + i) * n + lane) asked.reason)) (same_Some k j (sym one ∙ e))
+      (subst (λ f. IsTrue (lets_hold A gone k ((f + i) * n + lane) asked.reason)) (sym same) (sym (is i lane m l) ∙ there));
 }
 
 -- known reasons stay known when more entries are listed
@@ -57,6 +73,25 @@ known_on A lanes asked kept new M is known =
     let more : (q : ℕ) → IsTrue (is_listed A kept q) → IsTrue (is_listed A (kept ++ M) q) = λ q t. listed_append A kept M q ∙ or_left (is_listed A kept q) (is_listed A M q) t in
     subst (λ L. HoldsInBand A lanes (is_listed A L) asked) (sym is) (record {
       row = known_more A lanes (is_listed A kept) (is_listed A (kept ++ M)) asked.row more known.row;
-      each = λ i lane h l on. justified_more A (is_listed A kept) (is_listed A (kept ++ M)) ((asked.first + i) * lanes + lane) asked.reason
-          (λ a k q j. more q) (known.each i lane h l on);
+      each = λ none i lane h l on. justified_more A (is_listed A kept) (is_listed A (kept ++ M)) ((asked.first + i) * lanes + lane) asked.reason
+          (λ a k q j. more q) (known.each none i lane h l on);
+      lets = λ k e i lane h l on. lets_more A (is_listed A kept) (is_listed A (kept ++ M)) k ((asked.first + i) * lanes + lane) asked.reason more (known.lets k e i lane h l on);
     })
+
+-- the lanes of a row that the words of the band have
+pub known_in : (A : Arena ℕ) (lanes : ℕ) (gone : ℕ → Bool) (asked : AskedBand) (x i lane : ℕ) (reason : Reason) → HoldsInBand A lanes gone asked → asked.alone ≡ None → i < 64 → x ≡ asked.first + i → reason ≡ asked.reason →
+    lane < lanes → is_on (slice_index asked.words i) lane ≡ true → IsTrue (is_justified A gone (x * lanes + lane) reason)
+known_in A lanes gone asked x i lane reason known all h place same l on =
+    subst (λ y. IsTrue (is_justified A gone (y * lanes + lane) reason)) (sym place)
+    (subst (λ r. IsTrue (is_justified A gone ((asked.first + i) * lanes + lane) r)) (sym same) (known.each all i lane h l on))
+
+pub let_in : (A : Arena ℕ) (lanes : ℕ) (gone : ℕ → Bool) (asked : AskedBand) (k x i lane : ℕ) (reason : Reason) → HoldsInBand A lanes gone asked → asked.alone ≡ Some k → i < 64 → x ≡ asked.first + i → reason ≡ asked.reason →
+    lane < lanes → is_on (slice_index asked.words i) lane ≡ true → IsTrue (lets_hold A gone k (x * lanes + lane) reason)
+let_in A lanes gone asked k x i lane reason known one h place same l on =
+    subst (λ y. IsTrue (lets_hold A gone k (y * lanes + lane) reason)) (sym place)
+    (subst (λ r. IsTrue (lets_hold A gone k ((asked.first + i) * lanes + lane) r)) (sym same) (known.lets k one i lane h l on))
+
+-- a lane at which a seat doesn't keep a reason from holding
+pub not_twice : (b : Bool) → not (not b) ≡ b
+not_twice true = refl
+not_twice false = refl

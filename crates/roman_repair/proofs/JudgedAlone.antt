@@ -50,7 +50,7 @@ both_justified A gone k p (Act a) others lets =
     (λ t. subst (λ i. IsTrue (is_beaten A gone p a i)) (sym (eqb-true j k t)) lets)
     (λ f. subst (λ b. IsTrue (is_empty (if b then [] else A.outcomes p a j) || list_any gone (if b then [] else A.outcomes p a j))) f (each j l))))
 
-lets_more : (A : Arena ℕ) (gone more : ℕ → Bool) (k p : ℕ) (reason : Reason) → ((q : ℕ) → IsTrue (gone q) → IsTrue (more q)) → IsTrue (lets_hold A gone k p reason) → IsTrue (lets_hold A more k p reason)
+pub lets_more : (A : Arena ℕ) (gone more : ℕ → Bool) (k p : ℕ) (reason : Reason) → ((q : ℕ) → IsTrue (gone q) → IsTrue (more q)) → IsTrue (lets_hold A gone k p reason) → IsTrue (lets_hold A more k p reason)
 lets_more A gone more k p Final within lets = lets
 lets_more A gone more k p (Act a) within lets = elim (or_cases (is_empty (A.outcomes p a k)) (list_any gone (A.outcomes p a k)) lets) [
   | inl none ↦ or_left (is_empty (A.outcomes p a k)) (list_any more (A.outcomes p a k)) none
@@ -119,22 +119,14 @@ alone_paid A kept k n x word off rest reason are may parts some of_off =
 
 -- ---- lanes before the first one at which the seat doesn't serve
 
-pub let_there : (b : Bool) → not b ≡ false → IsTrue b
-let_there true off = refl
-let_there false off = sym off
-
-pub unlet_there : (b : Bool) → not b ≡ true → IsFalse b
-unlet_there true on = sym on
-unlet_there false on = refl
-
 -- there are some, where no lane comes before the first one at which it serves
-pub some_dropped : (word served off lane : ℕ) → served < 2 ^ 64 → IsFirst word lane →
-    ((lane : ℕ) → lane < 64 → is_on word lane ≡ true → ((bit : ℕ) → bit < lane → is_on word bit ≡ false) → is_on served lane ≡ false → 0 < length (set_lanes 0)) →
-    ((lane : ℕ) → lane < 64 → is_on word lane ≡ true → ((bit : ℕ) → bit < lane → is_on word bit ≡ false) → is_on (bit_not w64 served) lane ≡ false → 0 < length (set_lanes off)) →
+pub some_dropped : (word held off lane : ℕ) → held < 2 ^ 64 → IsFirst word lane →
+    ((lane : ℕ) → lane < 64 → is_on word lane ≡ true → ((bit : ℕ) → bit < lane → is_on word bit ≡ false) → is_on (bit_not w64 held) lane ≡ false → 0 < length (set_lanes 0)) →
+    ((lane : ℕ) → lane < 64 → is_on word lane ≡ true → ((bit : ℕ) → bit < lane → is_on word bit ≡ false) → is_on held lane ≡ false → 0 < length (set_lanes off)) →
     0 < length (set_lanes off)
-some_dropped word served off lane fits first keeps drops = by_test (is_on served lane)
-    (λ t. drops lane first.low first.on first.before (on_not served lane fits first.low ∙ ap not t))
-    (λ f. absurd (let some : 0 < length (set_lanes 0) = keeps lane first.low first.on first.before f in omega (arith, some, ap length set_lanes-zero)))
+some_dropped word held off lane fits first keeps drops = by_test (is_on held lane)
+    (λ t. absurd (let some : 0 < length (set_lanes 0) = keeps lane first.low first.on first.before (on_not held lane fits first.low ∙ ap not t) in omega (arith, some, ap length set_lanes-zero)))
+    (λ f. drops lane first.low first.on first.before f)
 
 -- lanes at which the seat serves are dropped
 pub front_unlet : (A : Arena ℕ) (kept : List (Entry ℕ)) (k n x word off rest : ℕ) (reason : Reason) → AreCandidates A kept (entries_in n x word reason) → k < A.seats →

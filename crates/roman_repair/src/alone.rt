@@ -2,11 +2,10 @@
 //! until an entry is dropped.
 ghost use Rattle.std.specs.Prelude.{◌≡◌, ◌≢◌, ℕ, ◌+◌, ◌*◌, ◌<◌, ◌≤◌, ◌++◌, Bool, true, not, length, Some};
 ghost use Rattle.roman_model.specs.Arena.{is_beaten, is_listed};
-ghost use Rattle.roman_lanes.specs.Rows.{is_on, HasLanes, AreRows};
+ghost use Rattle.roman_lanes.specs.Rows.{is_on, HasLanes, AreRows, Keeps};
 ghost use Rattle.roman_order.specs.Board.{set_lanes, entries_in};
 ghost use Rattle.roman_relation.specs.Shaped.{IsShaped};
-ghost use Rattle.roman_rules.specs.Asked.{IsReasonOf};
-ghost use Rattle.roman_repair.specs.Alone.{MayAskAlone, IsIntact, lets_hold, questions_of};
+ghost use Rattle.roman_repair.specs.Alone.{MayAskAlone, IsIntact};
 ghost use Rattle.roman_repair.specs.AskedBands.{HoldsInBand};
 ghost use Rattle.roman_repair.specs.Replays.{AreCandidates, with_replay, readings_of_entries};
 
@@ -31,40 +30,28 @@ pub(crate) trait OneSeat: Rules {
         ensures { (x : ℕ) (gone : ℕ → Bool) → Self.is_row self.now x row.now →
             AreRows (Self.lanes self.now) (λ q. not (gone q)) words.now →
             HasLanes (Self.lanes self.now) x (λ p. not (is_beaten (Self.arena self.now) gone p a k)) result };
+
+    /// Clears, in `left`, the pairs of a band at which the seat `k` serves the action `a`. `left` has one
+    /// word for each row of the band. `words` has, row by row, the bits of the pairs that aren't gone.
+    fn clear_served(&self, row: &Self::Row, words: &[u64], a: u8, k: u8, left: &mut [u64])
+        requires row { (y : ℕ) × Self.is_row self.now (y * Self.band self.now) row.now }
+        requires action { a < (Self.arena self.now).actions }
+        requires seat { k < (Self.arena self.now).seats }
+        requires room { length words.now * Self.lanes self.now ≡ length (Self.arena self.now).nodes }
+        requires long { length left.old ≡ Self.band self.now }
+        ensures long { length left.new ≡ length left.old }
+        ensures left { (y : ℕ) (gone : ℕ → Bool) → Self.is_row self.now (y * Self.band self.now) row.now →
+            AreRows (Self.lanes self.now) (λ q. not (gone q)) words.now →
+            Keeps (Self.lanes self.now) (y * Self.band self.now) (Self.band self.now) (λ p. is_beaten (Self.arena self.now) gone p a k) left.old left.new };
 }
 
 impl OneSeat for Joint {
     fn served(&self, row: &Row, words: &[u64], a: u8, k: u8) -> u64 {
         self.good(row, words, a, k)
     }
-}
 
-/// Returns the lanes of the row `x` at which the seat `k` keeps a reason from holding. Counts a step
-/// where the reason is an action.
-fn ask_alone<J: OneSeat, L: Ledger>(
-    joint: &J,
-    words: &[u64],
-    x: u32,
-    reason: Reason,
-    k: u8,
-    steps: &mut Steps<L>,
-) -> u64
-    requires row { x * J.lanes joint.now < length (J.arena joint.now).nodes }
-    requires reason { IsReasonOf (J.arena joint.now) reason }
-    requires seat { k < (J.arena joint.now).seats }
-    requires room { length words.now * J.lanes joint.now ≡ length (J.arena joint.now).nodes }
-    ensures served { let A = J.arena joint.now in let lanes = J.lanes joint.now in
-        (gone : ℕ → Bool) → AreRows lanes (λ q. not (gone q)) words.now →
-        (lane : ℕ) → lane < lanes → is_on result lane ≡ not (lets_hold A gone k (x * lanes + lane) reason) }
-    ensures cost { steps.new ≡ steps.old + questions_of reason }
-{
-    match reason {
-        Reason::Final => 0,
-        Reason::Act(a) => {
-            steps.tick();
-            let row = joint.row(x);
-            joint.served(&row, words, a, k)
-        }
+    fn clear_served(&self, row: &Row, words: &[u64], a: u8, k: u8, left: &mut [u64]) {
+        self.clear_good(row, words, a, k, left);
     }
 }
 
@@ -104,13 +91,19 @@ pub(crate) fn keep_alone<J: OneSeat, L: Ledger>(
 {
     joint.known();
     order.known();
-    let served = ask_alone(joint, order.words(), x, reason, k, steps);
-    let (front, rest) = split_lanes(lanes, served);
+    let known = asked.lanes_at(x, reason);
+    let (known_front, after) = split_lanes(lanes, !known);
+    if known_front != 0 {
+        order.push_lanes(x, known_front, reason);
+        return after;
+    }
+    let held = asked.ask_alone(joint, order.words(), x, reason, k, steps);
+    let (front, rest) = split_lanes(lanes, !held);
     if front != 0 {
         order.push_lanes(x, front, reason);
         return rest;
     }
-    asked.alone = None;
-    let (_, rest) = split_lanes(lanes, !served);
+    *asked = AskedBand::nothing(None);
+    let (_, rest) = split_lanes(lanes, held);
     rest
 }

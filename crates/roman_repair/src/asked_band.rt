@@ -1,12 +1,14 @@
 //! Bands of rows that are asked about a reason.
-ghost use Rattle.std.specs.Prelude.{◌≡◌, ℕ, ◌+◌, ◌*◌, ◌/◌, ◌<◌, ◌≤◌, Bool, true, not, length, slice_index, count_by, IsTrue};
+ghost use Rattle.std.specs.Prelude.{◌≡◌, ℕ, ◌+◌, ◌*◌, ◌/◌, ◌<◌, ◌≤◌, Bool, true, not, length, None, Some, slice_index, count_by, IsTrue};
 ghost use Rattle.roman_model.specs.Lists.{below};
 ghost use Rattle.roman_model.specs.Arena.{Arena, is_justified};
 ghost use Rattle.roman_lanes.specs.Rows.{is_on, AreRows};
 ghost use Rattle.roman_rules.specs.Asked.{IsReasonOf, readings_of_reason};
+ghost use Rattle.roman_repair.specs.Alone.{lets_hold, questions_of};
 ghost use Rattle.roman_repair.specs.AskedBands.{HoldsInBand};
 ghost use Rattle.roman_repair.specs.Replays.{is_possible};
 
+use crate::alone::OneSeat;
 use roman_io::Steps;
 use roman_model::Reason;
 use roman_rules::{Asked, Rules};
@@ -82,6 +84,70 @@ fn ask_band<J: Rules, L: Ledger>(
     }
 }
 
+/// Returns the lanes of the row `x` at which the seat `k` keeps a reason from holding. Counts a step
+/// where the reason is an action.
+fn ask_row_alone<J: OneSeat, L: Ledger>(
+    joint: &J,
+    words: &[u64],
+    x: u32,
+    reason: Reason,
+    k: u8,
+    steps: &mut Steps<L>,
+) -> u64
+    requires row { x * J.lanes joint.now < length (J.arena joint.now).nodes }
+    requires reason { IsReasonOf (J.arena joint.now) reason }
+    requires seat { k < (J.arena joint.now).seats }
+    requires room { length words.now * J.lanes joint.now ≡ length (J.arena joint.now).nodes }
+    ensures served { let A = J.arena joint.now in let lanes = J.lanes joint.now in
+        (gone : ℕ → Bool) → AreRows lanes (λ q. not (gone q)) words.now →
+        (lane : ℕ) → lane < lanes → is_on result lane ≡ not (lets_hold A gone k (x * lanes + lane) reason) }
+    ensures cost { steps.new ≡ steps.old + questions_of reason }
+{
+    match reason {
+        Reason::Final => 0,
+        Reason::Act(a) => {
+            steps.tick();
+            let row = joint.row(x);
+            joint.served(&row, words, a, k)
+        }
+    }
+}
+
+/// Sets, for each row of the band `y`, the lanes at which the seat `k` lets a reason hold. `words` has
+/// the bits of the pairs that aren't gone. Counts a step where the reason is an action.
+fn let_band<J: OneSeat, L: Ledger>(
+    joint: &J,
+    words: &[u64],
+    y: u32,
+    reason: Reason,
+    k: u8,
+    held: &mut [u64],
+    steps: &mut Steps<L>,
+)
+    requires band { y * J.band joint.now * J.lanes joint.now < length (J.arena joint.now).nodes }
+    requires reason { IsReasonOf (J.arena joint.now) reason }
+    requires seat { k < (J.arena joint.now).seats }
+    requires room { length words.now * J.lanes joint.now ≡ length (J.arena joint.now).nodes }
+    requires long { length held.old ≡ J.band joint.now }
+    ensures long { length held.new ≡ J.band joint.now }
+    ensures lets { let A = J.arena joint.now in let lanes = J.lanes joint.now in
+        (gone : ℕ → Bool) → AreRows lanes (λ q. not (gone q)) words.now →
+        (i lane : ℕ) → i < J.band joint.now → lane < lanes →
+        is_on (slice_index held.new i) lane ≡ lets_hold A gone k ((y * J.band joint.now + i) * lanes + lane) reason }
+    ensures cost { steps.new ≡ steps.old + questions_of reason }
+{
+    joint.known();
+    held.fill(u64::MAX >> (64 - joint.lanes()));
+    match reason {
+        Reason::Final => {}
+        Reason::Act(a) => {
+            steps.tick();
+            let row = joint.first_row(y);
+            joint.clear_served(&row, words, a, k, held);
+        }
+    }
+}
+
 impl AskedBand {
     /// Returns a row and a band of which nothing is known.
     pub(crate) fn nothing(alone: Option<u8>) -> AskedBand
@@ -100,6 +166,7 @@ impl AskedBand {
     /// Returns the lanes of the row `x` at which the reason is known to hold: none where another row
     /// and another band were asked, or about another reason.
     pub(crate) fn known_at(&self, x: u32, reason: Reason) -> u64
+        requires { self.now.alone ≡ None }
         ensures { (A : Arena ℕ) (lanes : ℕ) (gone : ℕ → Bool) → HoldsInBand A lanes gone self.now →
             (lane : ℕ) → lane < lanes → is_on result lane ≡ true → IsTrue (is_justified A gone (x * lanes + lane) reason) }
     {
@@ -107,6 +174,15 @@ impl AskedBand {
         if lanes != 0 {
             return lanes;
         }
+        self.lanes_at(x, reason)
+    }
+
+    /// Returns the lanes that are known of the row `x` as a row of the band: none where another band
+    /// was asked, or about another reason.
+    pub(crate) fn lanes_at(&self, x: u32, reason: Reason) -> u64
+        ensures { (lane : ℕ) → is_on result lane ≡ true →
+            (i : ℕ) × (i < 64) × (x ≡ self.now.first + i) × (reason ≡ self.now.reason) × (is_on (slice_index self.now.words i) lane ≡ true) }
+    {
         if x < self.first || self.reason != reason {
             return 0;
         }
@@ -126,6 +202,7 @@ impl AskedBand {
         requires row { x * J.lanes joint.now < length (J.arena joint.now).nodes }
         requires reason { IsReasonOf (J.arena joint.now) reason }
         requires room { length words.now * J.lanes joint.now ≡ length (J.arena joint.now).nodes }
+        requires alone { self.old.alone ≡ None }
         ensures holds { let A = J.arena joint.now in let lanes = J.lanes joint.now in
             (gone : ℕ → Bool) → AreRows lanes (λ q. not (gone q)) words.now →
             (lane : ℕ) → lane < lanes → is_on result lane ≡ is_justified A gone (x * lanes + lane) reason }
@@ -146,6 +223,90 @@ impl AskedBand {
         self.words[(x % band) as usize]
     }
 
+    /// Asks the seat `k` alone about a reason, in all rows of the band of the row `x`. Returns the lanes
+    /// of the row at which the seat lets the reason hold. Counts a step where the reason is an action.
+    fn ask_whole_alone<J: OneSeat, L: Ledger>(
+        &mut self,
+        joint: &J,
+        words: &[u64],
+        x: u32,
+        reason: Reason,
+        k: u8,
+        steps: &mut Steps<L>,
+    ) -> u64
+        requires row { x * J.lanes joint.now < length (J.arena joint.now).nodes }
+        requires reason { IsReasonOf (J.arena joint.now) reason }
+        requires seat { k < (J.arena joint.now).seats }
+        requires room { length words.now * J.lanes joint.now ≡ length (J.arena joint.now).nodes }
+        requires alone { self.old.alone ≡ Some k }
+        ensures lets { let A = J.arena joint.now in let lanes = J.lanes joint.now in
+            (gone : ℕ → Bool) → AreRows lanes (λ q. not (gone q)) words.now →
+            (lane : ℕ) → lane < lanes → is_on result lane ≡ lets_hold A gone k (x * lanes + lane) reason }
+        ensures known { let A = J.arena joint.now in let lanes = J.lanes joint.now in
+            (gone : ℕ → Bool) → AreRows lanes (λ q. not (gone q)) words.now →
+            HoldsInBand A lanes gone self.old → HoldsInBand A lanes gone self.new }
+        ensures alone { self.new.alone ≡ self.old.alone }
+        ensures cost { steps.new ≡ steps.old + questions_of reason }
+    {
+        joint.known();
+        let band = joint.band();
+        self.first = x - x % band;
+        self.reason = reason;
+        self.words = [0; BAND];
+        let held = &mut self.words[..band as usize];
+        let_band(joint, words, x / band, reason, k, held, steps);
+        self.words[(x % band) as usize]
+    }
+
+    /// Returns whether the whole band of the row `x` is to be asked: another of its rows was asked about
+    /// the reason just before, and the band wasn't.
+    fn is_band_due<J: Rules>(&self, joint: &J, x: u32, reason: Reason) -> bool {
+        let y = x / joint.band();
+        let is_second = self.row.reason == reason
+            && self.row.row != x
+            && self.row.row / joint.band() == y;
+        let is_asked = self.reason == reason && self.first / joint.band() == y;
+        is_second && !is_asked
+    }
+
+    /// Asks the seat `k` alone about a reason, in the row `x`, or in the whole band where another of its
+    /// rows was asked just before. Returns the lanes of the row at which the seat lets the reason hold.
+    /// Counts a step where the reason is an action.
+    pub(crate) fn ask_alone<J: OneSeat, L: Ledger>(
+        &mut self,
+        joint: &J,
+        words: &[u64],
+        x: u32,
+        reason: Reason,
+        k: u8,
+        steps: &mut Steps<L>,
+    ) -> u64
+        requires row { x * J.lanes joint.now < length (J.arena joint.now).nodes }
+        requires reason { IsReasonOf (J.arena joint.now) reason }
+        requires seat { k < (J.arena joint.now).seats }
+        requires room { length words.now * J.lanes joint.now ≡ length (J.arena joint.now).nodes }
+        requires alone { self.old.alone ≡ Some k }
+        ensures lets { let A = J.arena joint.now in let lanes = J.lanes joint.now in
+            (gone : ℕ → Bool) → AreRows lanes (λ q. not (gone q)) words.now →
+            (lane : ℕ) → lane < lanes → is_on result lane ≡ lets_hold A gone k (x * lanes + lane) reason }
+        ensures known { let A = J.arena joint.now in let lanes = J.lanes joint.now in
+            (gone : ℕ → Bool) → AreRows lanes (λ q. not (gone q)) words.now →
+            HoldsInBand A lanes gone self.old → HoldsInBand A lanes gone self.new }
+        ensures alone { self.new.alone ≡ self.old.alone }
+        ensures cost { steps.new ≡ steps.old + questions_of reason }
+    {
+        joint.known();
+        if self.is_band_due(joint, x, reason) {
+            return self.ask_whole_alone(joint, words, x, reason, k, steps);
+        }
+        self.row = Asked {
+            row: x,
+            reason,
+            lanes: 0,
+        };
+        !ask_row_alone(joint, words, x, reason, k, steps)
+    }
+
     /// Asks the row `x` about a reason, together with the whole band where another of its rows was
     /// asked just before. Returns the lanes of the row at which the reason holds. `words` has the bits
     /// of the pairs that aren't gone. The action of the reason, if it has one, must be one of the
@@ -163,6 +324,7 @@ impl AskedBand {
         requires row { x * J.lanes joint.now < length (J.arena joint.now).nodes }
         requires reason { IsReasonOf (J.arena joint.now) reason }
         requires room { length words.now * J.lanes joint.now ≡ length (J.arena joint.now).nodes }
+        requires alone { self.old.alone ≡ None }
         ensures holds { let A = J.arena joint.now in let lanes = J.lanes joint.now in
             (gone : ℕ → Bool) → AreRows lanes (λ q. not (gone q)) words.now →
             (lane : ℕ) → lane < lanes → is_on result lane ≡ is_justified A gone (x * lanes + lane) reason }
@@ -175,12 +337,7 @@ impl AskedBand {
             steps.new ≡ steps.old + readings_of_reason A (x * lanes + lane) reason }
     {
         joint.known();
-        let y = x / joint.band();
-        let is_second = self.row.reason == reason
-            && self.row.row != x
-            && self.row.row / joint.band() == y;
-        let is_asked = self.reason == reason && self.first / joint.band() == y;
-        if is_second && !is_asked {
+        if self.is_band_due(joint, x, reason) {
             return self.ask_whole(joint, words, x, reason, steps);
         }
         self.row.ask(joint, words, x, reason, steps)

@@ -1,6 +1,6 @@
 //! Replays events. An event is a run of pending entries of one row with one reason. An entry is
 //! kept where the entries kept before it justify it.
-ghost use Rattle.std.specs.Prelude.{◌≡◌, ◌≢◌, ℕ, ◌+◌, ◌<◌, ◌≤◌, true, [], ◌++◌, length, Some};
+ghost use Rattle.std.specs.Prelude.{◌≡◌, ◌≢◌, ℕ, ◌+◌, ◌<◌, ◌≤◌, true, [], ◌++◌, length, None, Some};
 ghost use Rattle.roman_lanes.specs.Rows.{is_on};
 ghost use Rattle.roman_model.specs.Arena.{is_listed};
 ghost use Rattle.roman_repair.specs.Alone.{MayAskAlone, IsIntact};
@@ -35,6 +35,7 @@ fn keep_front<J: Rules, L: Ledger>(
     requires some { lanes ≢ 0 }
     requires within { (lane : ℕ) → is_on lanes lane ≡ true → lane < J.lanes joint.now }
     requires candidates { AreCandidates (J.arena joint.now) order.old.list (entries_in (J.lanes joint.now) x lanes reason) }
+    requires alone { asked.old.alone ≡ None }
     requires known { HoldsInBand (J.arena joint.now) (J.lanes joint.now) (is_listed (J.arena joint.now) order.old.list) asked.old }
     ensures list { let A = J.arena joint.now in let n = J.lanes joint.now in
         with_replay A order.new.list (entries_in n x result reason) ≡ with_replay A order.old.list (entries_in n x lanes reason) }

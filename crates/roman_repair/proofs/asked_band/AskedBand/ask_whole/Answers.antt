@@ -25,5 +25,5 @@ returns-clause-known g c gone words known =
     let w = g.J.Rules.band c.args.joint.now in
     let b = c.band-band.result in
     let first : c.args.x - c.args.x % b ≡ c.args.x / b * w = omega (arith, div-add-mod' c.args.x b, ap (λ m. c.args.x / b * m) c.band-band.ensures.value) in
-    known_whole (g.J.Rules.arena c.args.joint.now) (g.J.Rules.lanes c.args.joint.now) b (c.args.x / b * w) gone _ c.ask_band.new.held known.row refl first (c.ask_band.ensures.long ∙ sym c.band-band.ensures.value)
+    known_whole (g.J.Rules.arena c.args.joint.now) (g.J.Rules.lanes c.args.joint.now) b (c.args.x / b * w) gone _ c.ask_band.new.held c.requires.alone known.row refl first (c.ask_band.ensures.long ∙ sym c.band-band.ensures.value)
     (λ i lane m l. c.ask_band.ensures.holds gone words i lane (omega (arith, m, c.band-band.ensures.value)) l)

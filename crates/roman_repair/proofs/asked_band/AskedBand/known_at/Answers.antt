@@ -1,8 +1,7 @@
-use Rattle.roman_repair.proofs.Common.{both_ways, is_on, on_zero}
+use Rattle.roman_repair.proofs.BandAnswers.{known_in}
 use Rattle.roman_repair.proofs.asked_band.AskedBand.known_at.Goals as goal
 
-pub returns-then-x-self : goal.returns-then-x-self
-returns-then-x-self c A lanes gone known lane l on = absurd (both_ways (is_on 0 lane) (on_zero lane) on)
-
-pub returns-else-i-lt-BAND : goal.returns-else-i-lt-BAND
-returns-else-i-lt-BAND c A lanes gone known lane l on = absurd (both_ways (is_on 0 lane) (on_zero lane) on)
+pub returns : goal.returns
+returns c A lanes gone known lane l on =
+    let (i, h, place, same, there) = c.lanes_at.ensures lane on in
+    known_in A lanes gone c.args.self.now c.args.x i lane c.args.reason known c.requires h place same l there

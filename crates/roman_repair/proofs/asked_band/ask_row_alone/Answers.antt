@@ -1,7 +1,7 @@
 use Rattle.std.proofs.Common.{◌+◌, ◌*◌, not, sym, ap, ◌∙◌}
 use Rattle.roman_repair.proofs.Common.{on_zero}
 use Rattle.roman_repair.specs.Alone.{lets_hold}
-use Rattle.roman_repair.proofs.alone.ask_alone.Goals as goal
+use Rattle.roman_repair.proofs.asked_band.ask_row_alone.Goals as goal
 
 pub returns-in-Final-clause-served : goal.returns-in-Final-clause-served
 returns-in-Final-clause-served g c gone words lane l =

@@ -1,0 +1,34 @@
+use Rattle.std.proofs.Common.{◌+◌, ◌*◌, not, sym, ap, ◌∙◌, arith}
+use Rattle.roman_joint.proofs.Common.{is_beaten, numbered, on_zero, sizes_of, row_sizes, lanes_few, system_of, band_in}
+use Rattle.roman_joint.proofs.ArenaFacts.{joint_numbered}
+use Rattle.roman_joint.proofs.SplitLemmas.{joint_sizes}
+use Rattle.roman_joint.proofs.AllowedLemmas.{unopened}
+use Rattle.roman_joint.proofs.BandLemmas.{row_in, in_band, keeps_all}
+use Rattle.roman_joint.proofs.joint.Joint.clear_good.Goals as goal
+
+-- an action that isn't allowed at the band's pairs
+pub returns-in_default-clause-left : goal.returns-in_default-clause-left
+returns-in_default-clause-left c y gone ok rows =
+    let n = c.args.self.now in
+    let s = system_of n in
+    let x = y * band_in s in
+    keeps_all s x (band_in s) (λ p. is_beaten (numbered s) gone p c.args.a c.args.k) c.args.left.now (λ i l. record {
+      each = λ lane m. on_zero lane ∙ sym (ap not (unopened s (row_in s (x + i) c.args.row.now) (x + i) c.args.a c.args.k lane gone (joint_numbered n c.known.ensures)
+          (in_band s y i c.args.row.now (joint_sizes n c.known.ensures) ok l).looked m c.in_default.ensures));
+      rest = λ lane m. on_zero lane;
+    })
+
+pub alive_each-requires-clause-turn : goal.alive_each-requires-clause-turn
+alive_each-requires-clause-turn c = (c.requires.row.0, c.args.row.now, c.args.a, c.requires.row.1, c.in-Some.ensures)
+
+pub alive_each-requires-clause-long : goal.alive_each-requires-clause-long
+alive_each-requires-clause-long c = lanes_few (row_sizes (sizes_of (system_of c.args.self.now))).seats
+
+pub clear_seat-requires-clause-alive : goal.clear_seat-requires-clause-alive
+clear_seat-requires-clause-alive c = omega (arith, c.alive_each.ensures.long, lanes_few (row_sizes (sizes_of (system_of c.args.self.now))).seats)
+
+pub returns-clause-left : goal.returns-clause-left
+returns-clause-left c y gone ok rows = c.clear_seat.ensures.left y gone ok rows (c.alive_each.ensures.alive gone rows)
+
+pub clear_seat-requires-clause-all : goal.clear_seat-requires-clause-all
+clear_seat-requires-clause-all c = lanes_few (row_sizes (sizes_of (system_of c.args.self.now))).seats
