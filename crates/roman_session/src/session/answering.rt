@@ -5,7 +5,7 @@ ghost use Rattle.roman_text.specs.Pages.{Gathers};
 ghost use Rattle.roman_model.specs.Explanation.{explain_text};
 ghost use Rattle.roman_model.specs.Offers.{is_related};
 ghost use Rattle.roman_joint.specs.Names.{names_in};
-ghost use Rattle.roman_text.specs.Shapes.{ask, explain, shape_of_event};
+ghost use Rattle.roman_text.specs.Shapes.{explain, shape_of_event};
 ghost use Rattle.roman_session.specs.Situations.{present_system, IsPhase};
 ghost use Rattle.roman_session.specs.Answering.{Answered, AnsweredOn, DoneOn, NamesSome, SeenStaysRelated, next_after, next_of};
 
@@ -116,22 +116,6 @@ impl Session {
                 loose,
             } => self.answer_join(service, behaviour, state, loose, page, out, steps),
             Event::Explain => self.answer_question(page, out, steps),
-        }
-    }
-
-    /// Answers `do`, and pushes the reply on a page.
-    fn answer_request<O: Sink>(
-        &mut self,
-        action: &[u8],
-        page: &mut Page,
-        out: &mut O,
-    ) -> Result<(), Failed>
-        ensures step { DoneOn self.old (ask action.now) self.new (O.written out.old) (O.written out.new) page.old page.new result }
-        ensures cause { HasCause (O.faults out.old) (O.faults out.new) result }
-    {
-        match self.ask(action) {
-            Ok(a) => self.push_offered(a, page, out),
-            Err(refusal) => page.push_reply(&refusal, out),
         }
     }
 

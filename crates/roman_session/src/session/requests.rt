@@ -1,9 +1,8 @@
 //! Requests, delegations and their outcomes.
-ghost use Rattle.std.specs.Prelude.{◌≡◌, MatchResult, Ok, Err};
+ghost use Rattle.std.specs.Prelude.{◌≡◌};
 ghost use Rattle.roman_io.specs.Faults.{HasCause};
 ghost use Rattle.roman_text.specs.Replies.{reply_text};
-ghost use Rattle.roman_text.specs.Shapes.{hand, saw, abort};
-ghost use Rattle.roman_session.specs.Rulings.{asked};
+ghost use Rattle.roman_text.specs.Shapes.{ask, hand, saw, abort};
 ghost use Rattle.roman_session.specs.Steps.{StepOn};
 ghost use Rattle.roman_session.specs.Answering.{DoneOn};
 
@@ -15,16 +14,23 @@ use roman_io::{Failed, Sink};
 use roman_text::{Page, Reply};
 
 impl Session {
-    /// Applies `do A`, and returns the action for which services are now offered. A refusal changes
-    /// nothing.
-    pub(super) fn ask(&mut self, action: &[u8]) -> Result<u8, Reply>
-        ensures { MatchResult result
-            (λ a. (asked self.old action.now ≡ Ok a) × (self.new ≡ record self.old { phase = Phase.Offered a }))
-            (λ refusal. (asked self.old action.now ≡ Err refusal) × (self.new ≡ self.old)) }
+    /// Answers `do A`, and pushes the reply on a page. A refusal changes nothing.
+    #[tactic(auto, using(crate::proofs::AnswerLemmas::done))]
+    pub(super) fn answer_request<O: Sink>(
+        &mut self,
+        action: &[u8],
+        page: &mut Page,
+        out: &mut O,
+    ) -> Result<(), Failed>
+        ensures step { DoneOn self.old (ask action.now) self.new (O.written out.old) (O.written out.new) page.old page.new result }
+        ensures cause { HasCause (O.faults out.old) (O.faults out.new) result }
     {
-        let a = self.asked(action)?;
+        let a = match self.asked(action) {
+            Ok(a) => a,
+            Err(refusal) => return page.push_reply(&refusal, out),
+        };
         self.offer(a);
-        Ok(a)
+        self.push_offered(a, page, out)
     }
 
     /// Answers `use S`, and pushes the reply on a page. A refusal changes nothing.
