@@ -61,6 +61,7 @@ impl Page {
     /// Appends bytes to the held bytes. Writes the held bytes first where the new ones have no room. A
     /// failed call leaves the page empty, and a prefix of all these bytes in the sink.
     #[inline]
+    #[tactic(auto, using(crate::proofs::PageLemmas::gathers_failed, std::proofs::lemmas::Result::err_from_is_err_and))]
     pub fn push<O: Sink>(&mut self, bytes: &[u8], out: &mut O) -> Result<(), Failed>
         ensures gathers { Gathers (O.written out.old) (O.written out.new) self.new (self.old ++ bytes.now) result }
         ensures cause { HasCause (O.faults out.old) (O.faults out.new) result }
@@ -140,6 +141,7 @@ impl Page {
     /// Appends a byte and a name after it, as [`Page::push`] appends bytes. Writes the held bytes first
     /// where fewer than 128 bytes of the page are free.
     #[inline]
+    #[tactic(auto, using(crate::proofs::PageLemmas::gathers_failed, std::proofs::lemmas::Result::err_from_is_err_and))]
     pub fn push_name<O: Sink>(&mut self, before: u8, name: &Name, out: &mut O) -> Result<(), Failed>
         ensures gathers { Gathers (O.written out.old) (O.written out.new) self.new
             (self.old ++ (before ∷ name.now)) result }

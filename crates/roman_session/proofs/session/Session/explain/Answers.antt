@@ -1,6 +1,6 @@
 use Rattle.roman_session.proofs.Common.{◌≡◌, ℕ, List, sym, ap, ◌∙◌, subst, arith, err_from_is_err_and, sizes_of, number, Puts, names_in, Situation, present_system, situation_in}
 use Rattle.roman_model.specs.Explanation.{explain_text}
-use Rattle.roman_text.proofs.CallerLemmas.{Gathers-flushed, Gathers-failed}
+use Rattle.roman_text.proofs.CallerLemmas.{Gathers-flushed, gathers_failed}
 use Rattle.roman_session.proofs.AnswerLemmas.{puts_gathered}
 use Rattle.roman_session.proofs.SituationLemmas.{situation_known, parts_shown, here_pair, unrelated_there}
 use Rattle.roman_session.proofs.session.Session.explain.Goals as goal
@@ -12,7 +12,7 @@ write_slice-requires-clause-unrelated g c =
     unrelated_there s a.relation.joint c.here-here.result (situation_known a s c.self.invariant c.self.view_is) (parts_shown a s c.self.view_is) c.here-here.ensures.number c.requires
 
 pub returns-in_err-flush-clause-gathers : goal.returns-in_err-flush-clause-gathers
-returns-in_err-flush-clause-gathers g c = grind (arith, Gathers-failed, err_from_is_err_and)
+returns-in_err-flush-clause-gathers g c = grind (arith, gathers_failed, err_from_is_err_and)
 
 pub returns-clause-gathers : goal.returns-clause-gathers
 returns-clause-gathers g c =

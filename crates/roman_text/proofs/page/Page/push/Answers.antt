@@ -1,9 +1,5 @@
-use Rattle.roman_text.proofs.Common.{arith, err_from_is_err_and}
-use Rattle.roman_text.proofs.PageLemmas.{Gathers-flushed, Gathers-failed}
+use Rattle.roman_text.proofs.PageLemmas.{Gathers-flushed}
 use Rattle.roman_text.proofs.page.Page.push.Goals as goal
-
-pub returns-in_err-flush-clause-gathers : goal.returns-in_err-flush-clause-gathers
-returns-in_err-flush-clause-gathers g c = grind (arith, Gathers-failed, err_from_is_err_and)
 
 pub returns-clause-gathers : goal.returns-clause-gathers
 returns-clause-gathers g c =
