@@ -1,11 +1,9 @@
 -- The answers of a band of rows.
-use Rattle.std.proofs.Common.{◌≡◌, ℕ, ◌+◌, ◌-◌, ◌*◌, ◌/◌, ◌^◌, ◌<◌, ◌≤◌, Bool, true, false, not, ◌&&◌, List, ◌++◌, drop, length, get_or, replicate, slice_index, None, Some, IsTrue, inl, inr, refl, sym, ap, ◌∙◌, subst, arith}
-use Rattle.roman_repair.proofs.Common.{cases_lt, both_ways, or_left, get_or-replicate, div-add-mod', mul-le-mul_left, is_on, on_full, on_zero, Arena, Entry, Reason, is_listed, is_justified, justified_more, listed_append, HoldsInBand}
+use Rattle.roman_repair.proofs.Common.{◌≡◌, ℕ, ◌+◌, ◌-◌, ◌*◌, ◌/◌, ◌^◌, ◌<◌, ◌≤◌, Bool, true, false, not, ◌&&◌, List, ◌++◌, drop, length, slice_index, None, Some, IsTrue, inl, inr, refl, sym, ap, ◌∙◌, subst, arith, cases_lt, both_ways, or_left, get_or-replicate, div-add-mod', mul-le-mul_left, is_on, on_full, on_zero, Arena, Entry, is_listed, is_justified, Reason, justified_more, listed_append, HoldsInBand, none-some, same_Some, lets_hold}
+use Rattle.std.proofs.Common.{get_or, replicate}
 use Rattle.std.proofs.lemmas.List.{get_or-append_right, get_or-drop, get_or_append_left}
 use Rattle.roman_rules.proofs.CallerLemmas.{known_more}
 use Rattle.roman_rules.specs.Asked.{HoldsWhereKept}
-use Rattle.std.proofs.lemmas.Option.{none-some, same_Some}
-use Rattle.roman_repair.specs.Alone.{lets_hold}
 use Rattle.roman_repair.proofs.JudgedAlone.{lets_more}
 use Rattle.roman_repair.specs.declared.asked_band.AskedBand.{AskedBand}
 

@@ -1,8 +1,8 @@
 -- The parts of rows that stay together when a service dies.
-use Rattle.roman_repair.proofs.Common.{◌≡◌, ℕ, zero, suc, ◌+◌, ◌-◌, ◌*◌, ◌/◌, ◌%◌, ◌^◌, ◌<◌, ◌≤◌, Bool, true, false, ◌&&◌, List, [], ◌∷◌, map, length, drop, filter, eqb, remove, slice_index, inl, inr, refl, sym, ap, ap₂, ◌∙◌, subst, arith, bit_and, bit_at, mul-le-mul_left, cases_lt, both_ways, div-add-mod', bit_at_cat_high, below, product_of, Sizes, count, pair_at, number_without, is_on, on_and, on_full, on_full_past, AreSizes, IsSizes, low_of, lanes_of, row_mod, lanes_few, set_lanes, IsPart}
+use Rattle.roman_repair.proofs.Common.{◌≡◌, ℕ, zero, suc, ◌+◌, ◌-◌, ◌*◌, ◌/◌, ◌%◌, ◌^◌, ◌<◌, ◌≤◌, Bool, true, false, ◌&&◌, List, [], ◌∷◌, map, length, drop, filter, eqb, remove, slice_index, inl, inr, refl, sym, ap, ap₂, ◌∙◌, subst, arith, bit_and, bit_at, mul-le-mul_left, cases_lt, both_ways, div-add-mod', bit_at_cat_high, below, product_of, Sizes, count, pair_at, number_without, is_on, on_and, on_full, on_full_past, AreSizes, IsSizes, low_of, lanes_of, row_mod, lanes_few, set_lanes, IsPart, by_test}
 use Rattle.std.proofs.lemmas.Nat.{shr-shr, pow_pos, mul-le}
 use Rattle.std.proofs.lemmas.Nat.Bits.{bit_at-zero, bit_at_cat_low, shr_and_one}
-use Rattle.roman_model.proofs.CallerLemmas.{by_test, part_at}
+use Rattle.roman_model.proofs.CallerLemmas.{part_at}
 use Rattle.roman_radix.proofs.CallerLemmas.{tails_from, row_div, row_below, rows_are, lanes_positive}
 use Rattle.roman_repair.proofs.Joined.{positive, grown_within, whole_row, shorter_row, few_behind, part_of_more}
 use Rattle.roman_repair.proofs.Fronts.{moved_so_far, same_so_far, only_so_far}

@@ -1,13 +1,11 @@
 -- The front of a word's lanes, and the front of a replay.
-use Rattle.roman_repair.proofs.Common.{◌≡◌, ◌≢◌, ℕ, zero, suc, ◌+◌, ◌-◌, ◌*◌, ◌/◌, ◌%◌, ◌^◌, ◌<◌, ◌≤◌, Bool, true, false, not, ◌&&◌, ◌⊎◌, List, [], ◌∷◌, ◌++◌, map, length, filter, cond, IsTrue, IsFalse, inl, inr, refl, sym, ap, ap₂, ◌∙◌, subst, arith, append-nil, append_assoc, bit_and, eqb, length-append, bit_at, leading_zeros, trailing_zeros, w64, cases_lt, both_ways, and_parts, or_left, map-append, sum_by-cons, sum_by-append, bit_at_cat_high, mul-le-mul_left, IsIn, below, Arena, Entry, is_listed, is_justified, Reason, filter_below_more, from_map, in_map, in_below, justified_more, listed_append, is_on, on_and, on_full, on_full_past, IsNumbered, IsReasonOf, readings_of_reason, Board, as_entry, set_lanes, entries_in, has_entry, in_lanes, IsShaped, is_possible, AreCandidates, with_replay, readings_of_entries}
-use Rattle.std.specs.Int.{bit_not}
+use Rattle.roman_repair.proofs.Common.{◌≡◌, ◌≢◌, ℕ, zero, suc, ◌+◌, ◌-◌, ◌*◌, ◌/◌, ◌%◌, ◌^◌, ◌<◌, ◌≤◌, Bool, true, false, not, ◌&&◌, ◌⊎◌, List, [], ◌∷◌, ◌++◌, map, length, filter, cond, IsTrue, IsFalse, inl, inr, refl, sym, ap, ap₂, ◌∙◌, subst, arith, append-nil, append_assoc, bit_and, eqb, length-append, bit_at, leading_zeros, trailing_zeros, w64, cases_lt, both_ways, and_parts, or_left, map-append, sum_by-cons, sum_by-append, bit_at_cat_high, mul-le-mul_left, IsIn, below, Arena, Entry, is_listed, is_justified, Reason, filter_below_more, from_map, in_map, in_below, justified_more, listed_append, is_on, on_and, on_full, on_full_past, IsNumbered, IsReasonOf, readings_of_reason, Board, as_entry, set_lanes, entries_in, has_entry, in_lanes, IsShaped, is_possible, AreCandidates, with_replay, readings_of_entries, bit_not, cases_eq, eq-eqb, on_not}
 use Rattle.roman_lanes.proofs.CallerLemmas.{on_less}
 use Rattle.std.proofs.Math.Pow.{pow-lt}
-use Rattle.std.proofs.lemmas.Bool.{cases_eq, eq-eqb}
 use Rattle.std.proofs.lemmas.Nat.{and_le_l, and_le_r, leading_top}
 use Rattle.std.proofs.lemmas.Nat.Bits.{bit_at_above, bit_at-trailing_zeros}
 use Rattle.roman_model.proofs.CallerLemmas.{in_filter}
-use Rattle.roman_lanes.proofs.CallerLemmas.{on_ones, on_ones_above, on_not}
+use Rattle.roman_lanes.proofs.CallerLemmas.{on_ones, on_ones_above}
 use Rattle.roman_repair.proofs.Keeping.{with_replay_step, with_replay_append, candidates_replayed, possible_reason, IsReplaying, replaying_still, replaying_part}
 
 -- ---- the lanes of a word, split in two

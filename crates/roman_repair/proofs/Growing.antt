@@ -1,12 +1,10 @@
 -- The replay of a row's entries that stand for several pairs each, part by part.
-use Rattle.std.proofs.Common.{◌≡◌, ℕ, suc, ◌+◌, ◌-◌, ◌*◌, ◌/◌, ◌<◌, ◌≤◌, Bool, true, false, ◌||◌, append-nil, List, [], ◌∷◌, ◌++◌, map, flat_map, filter, cond, Option, refl, sym, ap, ap₂, ◌∙◌, subst, arith, bit_or}
-use Rattle.roman_repair.proofs.Common.{mul-le-mul_left, map-append, flat_map-append, sum_by-append, below, Arena, Entry, grown_numbers, Reason, filter_below_more, is_on, on_or, readings_of_reason, as_entry, set_lanes, entries_in, entries_from, AreCandidates, AreSlices, with_replay, readings_of_entries}
+use Rattle.roman_repair.proofs.Common.{◌≡◌, ℕ, suc, ◌+◌, ◌-◌, ◌*◌, ◌/◌, ◌<◌, ◌≤◌, Bool, true, false, ◌||◌, append-nil, List, [], ◌∷◌, ◌++◌, map, flat_map, filter, cond, Option, refl, sym, ap, ap₂, ◌∙◌, subst, arith, bit_or, mul-le-mul_left, map-append, flat_map-append, sum_by-append, below, Arena, Entry, grown_numbers, Reason, filter_below_more, is_on, on_or, readings_of_reason, as_entry, set_lanes, entries_in, entries_from, AreCandidates, AreSlices, with_replay, readings_of_entries, MayAskAlone, IsIntact}
 use Rattle.std.proofs.lemmas.Nat.{div-mul-add}
 use Rattle.roman_repair.proofs.Keeping.{candidates_left, candidates_replayed}
 use Rattle.roman_repair.proofs.Joined.{positive, grown_part}
 use Rattle.roman_repair.proofs.DeathParts.{part_word, part_in}
 use Rattle.roman_repair.proofs.DeathEntries.{entries_below, row_begin, row_next, row_whole, lanes_below}
-use Rattle.roman_repair.specs.Alone.{MayAskAlone, IsIntact}
 use Rattle.roman_repair.proofs.JudgedAlone.{may_first, may_rest}
 use Rattle.roman_repair.proofs.Fronts.{cut_lanes, filter_split, false_else}
 

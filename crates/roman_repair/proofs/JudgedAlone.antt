@@ -1,14 +1,9 @@
 -- Entries that are judged by one seat.
-use Rattle.std.proofs.Common.{◌≡◌, ℕ, zero, suc, ◌+◌, ◌*◌, ◌^◌, ◌<◌, ◌≤◌, ◌==◌, Bool, true, false, not, cond, if◌then◌else◌, ◌||◌, List, [], ◌∷◌, ◌++◌, length, Option, None, Some, IsTrue, IsFalse, count_by, inl, inr, refl, sym, ap, ◌∙◌, subst, arith, add-one, append-nil, append_assoc}
-use Rattle.roman_repair.proofs.Common.{both_ways, or_left, eqb-true, false_from_ne_true, IsIn, below, Arena, Entry, is_listed, is_justified, Reason, Final, Act, listed_append, is_on, on_zero, bit_not, w64, readings_of_reason, readings_of_entries, readings_of-allowed, Board, set_lanes, entries_in, set_lanes-zero, is_possible, AreCandidates, with_replay}
-use Rattle.std.specs.List.{list_any}
-use Rattle.std.proofs.lemmas.Bool.{and_from, cases_eq, or_cases, or_right, false≢true}
+use Rattle.roman_repair.proofs.Common.{◌≡◌, ℕ, zero, suc, ◌+◌, ◌*◌, ◌^◌, ◌<◌, ◌≤◌, ◌==◌, Bool, true, false, not, cond, if◌then◌else◌, ◌||◌, List, [], ◌∷◌, ◌++◌, length, Option, None, Some, IsTrue, IsFalse, count_by, inl, inr, refl, sym, ap, ◌∙◌, subst, arith, append-nil, append_assoc, both_ways, or_left, eqb-true, false_from_ne_true, IsIn, below, Arena, Entry, is_listed, is_justified, Reason, Final, Act, listed_append, is_on, on_zero, bit_not, w64, readings_of_reason, readings_of_entries, is_possible, AreCandidates, with_replay, readings_of-allowed, Board, set_lanes, entries_in, set_lanes-zero, list_any, and_from, cases_eq, or_cases, or_right, false≢true, all_below, is_empty, all_below_from, any_from, any_true, by_test, justified_is, on_not, without_seat, AreKept, MayAskAlone, IsIntact, lets_hold}
+use Rattle.std.proofs.Common.{add-one}
 use Rattle.roman_model.specs.Arena.{is_beaten}
-use Rattle.roman_model.specs.Lists.{all_below, is_empty}
-use Rattle.roman_model.proofs.CallerLemmas.{all_below_from, any_from, any_true, by_test, justified_is}
-use Rattle.roman_lanes.proofs.CallerLemmas.{on_not}
 use Rattle.roman_rules.proofs.CallerLemmas.{count_below_more}
-use Rattle.roman_repair.specs.Alone.{without_seat, AreKept, MayAskAlone, IsIntact, lets_hold, questions_of}
+use Rattle.roman_repair.specs.Alone.{questions_of}
 use Rattle.roman_repair.proofs.Keeping.{with_replay_step}
 use Rattle.roman_repair.proofs.Fronts.{IsFirst, IsAfter, after_part, entries_cut, entries_by, with_replay_none, one_less, lane_possible}
 

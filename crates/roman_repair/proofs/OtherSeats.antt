@@ -1,17 +1,11 @@
 -- After a thaw or a join each entry of the old list would be kept if the changed seat had no outcomes.
-use Rattle.std.proofs.Common.{◌≡◌, ℕ, zero, suc, ◌+◌, ◌*◌, ◌%◌, ◌<◌, ◌==◌, Bool, true, false, not, ◌&&◌, ◌||◌, List, [], ◌∷◌, ◌++◌, map, flat_map, length, Some, IsTrue, IsFalse, if◌then◌else◌, slice_get, slice_index, slice_set, inl, inr, refl, sym, ap, ◌∙◌, subst, arith, append-nil, append_assoc}
-use Rattle.roman_repair.proofs.Common.{both_ways, eqb-true, or_left, IsIn, below, Arena, Entry, IsOrder, is_listed, is_justified, Reason, Final, Act, length-map, product_of, Sys, Seat, IsSys, is_final, Sizes, sizes_of, count, pair_at, numbered, turned, sizes-turned, grown_numbers, in_map, from_map, AreNumbers, NamedSys, system_of, IsNamedSys, Board, pairs_of, has_entry, IsRelation, listed_numbers, candidates, in_below, justified_more, listed_append, map-map}
-use Rattle.std.specs.List.{list_any}
-use Rattle.std.proofs.lemmas.Bool.{and_from, and_parts, eq-eqb, or_cases, or_right}
-use Rattle.std.proofs.lemmas.List.{length_push}
-use Rattle.roman_model.specs.Arena.{is_among, IsOrderFrom}
+use Rattle.roman_repair.proofs.Common.{◌≡◌, ℕ, zero, suc, ◌+◌, ◌*◌, ◌%◌, ◌<◌, ◌==◌, Bool, true, false, not, ◌&&◌, ◌||◌, List, [], ◌∷◌, ◌++◌, map, flat_map, length, Some, IsTrue, IsFalse, if◌then◌else◌, slice_get, slice_index, inl, inr, refl, sym, ap, ◌∙◌, subst, arith, append-nil, append_assoc, both_ways, eqb-true, or_left, IsIn, below, product_of, Arena, Entry, IsOrder, is_listed, is_justified, Reason, Final, Act, length-map, Sys, Seat, IsSys, is_final, Sizes, sizes_of, count, pair_at, numbered, turned, sizes-turned, in_map, from_map, AreNumbers, in_below, justified_more, listed_append, map-map, grown_numbers, NamedSys, system_of, IsNamedSys, Board, pairs_of, has_entry, IsRelation, listed_numbers, candidates, list_any, and_from, and_parts, eq-eqb, or_cases, or_right, length_push, is_among, all_below, is_empty, number, is_ready, all_below_from, any_from, any_true, by_test, flat_map_same, from_below, justified_is, map-flat_map, number_allows-turned, pair_at-grown, sizes-joined, without_seat, AreKept, MayAskAlone}
+use Rattle.std.proofs.Common.{slice_set}
+use Rattle.roman_model.specs.Arena.{IsOrderFrom}
 use Rattle.roman_model.specs.Change.{grown, set_frozen}
-use Rattle.roman_model.specs.Lists.{all_below, is_empty}
-use Rattle.roman_model.specs.Numbers.{number}
 use Rattle.roman_model.specs.System.{Pair, all_final}
-use Rattle.roman_model.specs.SystemArena.{beh_next, env_next, is_fine, is_ready, outcomes, outcomes_by, seat_next}
-use Rattle.roman_model.proofs.CallerLemmas.{all_below_from, any_from, any_true, by_test, flat_map_same, from_below, IsPairOf-from, justified_is, length-set_frozen, length-states_at, map-flat_map, number-grown, number_allows-turned, numbers_are_pairs, outcome_pair, pair_at-grown, sizes-joined}
-use Rattle.roman_repair.specs.Alone.{without_seat, AreKept, MayAskAlone}
+use Rattle.roman_model.specs.SystemArena.{beh_next, env_next, is_fine, outcomes, outcomes_by, seat_next}
+use Rattle.roman_model.proofs.CallerLemmas.{IsPairOf-from, length-set_frozen, length-states_at, number-grown, numbers_are_pairs, outcome_pair}
 use Rattle.roman_repair.proofs.Repairing.{numbers_order}
 use Rattle.roman_repair.proofs.Joined.{map_as, possible-joined}
 

@@ -1,7 +1,5 @@
 -- Changes that keep the whole renamed list: a freeze or a death.
-use Rattle.roman_repair.proofs.Common.{◌≡◌, ℕ, zero, suc, ◌<◌, Bool, List, [], ◌∷◌, length, IsTrue, slice_get, sym, ◌∙◌, arith, Sys, Seat, Entry, Change, after, sizes_of, numbered, rename_numbers, turned, sizes-turned, NumbersReplay, NamedSys, system_of, lanes_in, Board, IsShaped, arena_of, HasCaps, IsBegun}
-use Rattle.std.proofs.lemmas.Bool.{false≢true}
-use Rattle.roman_model.specs.SystemArena.{is_ready}
+use Rattle.roman_repair.proofs.Common.{◌≡◌, ℕ, zero, suc, ◌<◌, Bool, List, [], ◌∷◌, length, IsTrue, slice_get, sym, ◌∙◌, arith, Sys, Seat, Entry, Change, after, sizes_of, numbered, rename_numbers, turned, sizes-turned, NumbersReplay, NamedSys, system_of, lanes_in, Board, IsShaped, arena_of, HasCaps, IsBegun, false≢true, is_ready}
 use Rattle.roman_model.specs.Change.{KeepsAll}
 use Rattle.roman_joint.specs.declared.seat.Seat as joint
 use Rattle.roman_repair.proofs.Repairing.{numbers_replayed, caps_kept}

@@ -1,8 +1,4 @@
-use Rattle.std.proofs.Common.{◌≡◌, ◌<◌, ◌++◌, length, Some, refl, sym, ap, ◌∙◌, subst, arith, rules, append_assoc}
-use Rattle.roman_repair.proofs.Common.{is_listed, Board, set_lanes, entries_in, AreCandidates, with_replay}
-use Rattle.std.proofs.lemmas.Option.{none-some}
-use Rattle.roman_relation.proofs.CallerLemmas.{words_rows}
-use Rattle.roman_repair.specs.Alone.{MayAskAlone}
+use Rattle.roman_repair.proofs.Common.{◌≡◌, ◌<◌, ◌++◌, length, Some, refl, sym, ap, ◌∙◌, subst, arith, rules, append_assoc, is_listed, Board, set_lanes, entries_in, AreCandidates, with_replay, none-some, words_rows, MayAskAlone}
 use Rattle.roman_repair.proofs.Fronts.{entries_cut, entries_more, first_lane, in_row, lane_alive, shorter, on_not_off}
 use Rattle.roman_repair.proofs.BandAnswers.{known_on, let_in}
 use Rattle.roman_repair.proofs.JudgedAlone.{may_rest, front_alone, alone_paid, some_dropped, front_unlet}

@@ -1,6 +1,4 @@
-use Rattle.std.proofs.Common.{◌+◌, ◌*◌, not, sym, ap, ◌∙◌}
-use Rattle.roman_repair.proofs.Common.{on_zero}
-use Rattle.roman_repair.specs.Alone.{lets_hold}
+use Rattle.roman_repair.proofs.Common.{◌+◌, ◌*◌, not, sym, ap, ◌∙◌, on_zero, lets_hold}
 use Rattle.roman_repair.proofs.asked_band.ask_row_alone.Goals as goal
 
 pub returns-in-Final-clause-served : goal.returns-in-Final-clause-served

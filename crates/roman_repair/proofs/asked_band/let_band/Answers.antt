@@ -1,5 +1,4 @@
-use Rattle.std.proofs.Common.{◌+◌, ◌*◌, length, sym, ap, ◌∙◌, arith}
-use Rattle.roman_repair.specs.Alone.{lets_hold}
+use Rattle.roman_repair.proofs.Common.{◌+◌, ◌*◌, length, sym, ap, ◌∙◌, arith, lets_hold}
 use Rattle.roman_repair.proofs.BandAnswers.{full_lane, kept_of_all}
 use Rattle.roman_repair.proofs.asked_band.let_band.Goals as goal
 

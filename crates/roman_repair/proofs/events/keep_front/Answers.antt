@@ -1,6 +1,4 @@
-use Rattle.std.proofs.Common.{◌≡◌, ℕ, ◌-◌, ◌<◌, ◌++◌, true, length, inl, inr, refl, sym, ap, ◌∙◌, subst, arith, rules, length-append}
-use Rattle.roman_repair.proofs.Common.{is_listed, is_on, Board, set_lanes, entries_in, AreCandidates, with_replay}
-use Rattle.roman_relation.proofs.CallerLemmas.{words_rows}
+use Rattle.roman_repair.proofs.Common.{◌≡◌, ℕ, ◌-◌, ◌<◌, ◌++◌, true, length, inl, inr, refl, sym, ap, ◌∙◌, subst, arith, rules, length-append, is_listed, is_on, Board, set_lanes, entries_in, AreCandidates, with_replay, words_rows}
 use Rattle.roman_repair.proofs.Fronts.{first_lane, in_row, lane_alive, front_kept, front_dropped, lane_possible, shorter, either_front, one_less, entries_more, on_not_off}
 use Rattle.roman_repair.proofs.BandAnswers.{known_on}
 use Rattle.roman_repair.proofs.events.keep_front.Goals as goal

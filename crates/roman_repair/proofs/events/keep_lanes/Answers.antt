@@ -1,5 +1,4 @@
-use Rattle.std.proofs.Common.{◌≡◌, ◌+◌, ◌*◌, [], ◌++◌, map, sym, ap, ◌∙◌, append-nil}
-use Rattle.roman_repair.proofs.Common.{as_entry, entries_in, set_lanes-zero, with_replay}
+use Rattle.roman_repair.proofs.Common.{◌≡◌, ◌+◌, ◌*◌, [], ◌++◌, map, sym, ap, ◌∙◌, append-nil, as_entry, entries_in, set_lanes-zero, with_replay}
 use Rattle.roman_repair.proofs.events.keep_lanes.Goals as goal
 
 pub returns-clause-list : goal.returns-clause-list

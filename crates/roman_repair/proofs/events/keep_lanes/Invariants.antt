@@ -1,6 +1,4 @@
-use Rattle.std.proofs.Common.{◌≡◌, ℕ, ◌+◌, ◌<◌, ◌≤◌, ◌++◌, true, length}
-use Rattle.roman_repair.proofs.Common.{is_on, is_listed, HoldsInBand, set_lanes, entries_in, AreCandidates, with_replay, readings_of_entries}
-use Rattle.roman_repair.specs.Alone.{MayAskAlone, IsIntact}
+use Rattle.roman_repair.proofs.Common.{◌≡◌, ℕ, ◌+◌, ◌<◌, ◌≤◌, ◌++◌, true, length, is_on, is_listed, HoldsInBand, set_lanes, entries_in, AreCandidates, with_replay, readings_of_entries, MayAskAlone, IsIntact}
 use Rattle.roman_repair.proofs.events.keep_lanes.Given as goal
 
 -- the entries for the remaining lanes are left

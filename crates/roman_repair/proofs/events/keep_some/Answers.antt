@@ -1,7 +1,4 @@
-use Rattle.std.proofs.Common.{sym, ◌∙◌, subst}
-use Rattle.std.proofs.lemmas.Option.{none-some}
-use Rattle.roman_repair.proofs.Common.{entries_in}
-use Rattle.roman_repair.specs.Alone.{MayAskAlone}
+use Rattle.roman_repair.proofs.Common.{sym, ◌∙◌, subst, none-some, entries_in, MayAskAlone}
 use Rattle.roman_repair.proofs.events.keep_some.Goals as goal
 
 pub keep_alone-requires-clause-may : goal.keep_alone-requires-clause-may

@@ -1,7 +1,5 @@
-use Rattle.std.proofs.Common.{◌≡◌, ◌++◌, refl, sym, ap, ◌∙◌, subst, arith}
-use Rattle.roman_repair.proofs.Common.{is_listed, Board, entries_in}
+use Rattle.roman_repair.proofs.Common.{◌≡◌, ◌++◌, refl, sym, ap, ◌∙◌, subst, arith, is_listed, Board, entries_in, MayAskAlone}
 use Rattle.roman_repair.proofs.Keeping.{candidates_left}
-use Rattle.roman_repair.specs.Alone.{MayAskAlone}
 use Rattle.roman_repair.proofs.JudgedAlone.{may_first, may_rest, waits_alone}
 use Rattle.roman_repair.proofs.Fronts.{part_first, part_turn, part_cost}
 use Rattle.roman_repair.proofs.events.replay_events.Goals as goal

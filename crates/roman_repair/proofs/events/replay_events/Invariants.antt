@@ -1,6 +1,4 @@
-use Rattle.std.proofs.Common.{◌+◌, ◌≤◌, length}
-use Rattle.roman_repair.proofs.Common.{is_listed, HoldsInBand, readings_of_entries}
-use Rattle.roman_repair.specs.Alone.{MayAskAlone}
+use Rattle.roman_repair.proofs.Common.{◌+◌, ◌≤◌, length, is_listed, HoldsInBand, readings_of_entries, MayAskAlone}
 use Rattle.roman_repair.proofs.Keeping.{IsReplaying}
 use Rattle.roman_repair.proofs.events.replay_events.Given as goal
 

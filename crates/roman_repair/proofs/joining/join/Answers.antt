@@ -1,9 +1,7 @@
-use Rattle.std.proofs.Common.{◌≡◌, [], Some, flat_map, sym, ap, ◌∙◌, subst}
-use Rattle.roman_repair.proofs.Common.{length-map, Sys, numbered, candidates, Seat, Join, after, Sizes, AreSizes, lanes_of, AreSlices, grown_numbers, NamedSys, system_of, seat_of, lanes_in}
+use Rattle.roman_repair.proofs.Common.{◌≡◌, [], Some, flat_map, sym, ap, ◌∙◌, subst, length-map, Sys, Seat, numbered, Sizes, candidates, AreSlices, Join, after, AreSizes, lanes_of, grown_numbers, NamedSys, system_of, seat_of, lanes_in, MayAskAlone}
 use Rattle.roman_repair.proofs.Repairing.{relation_replays}
 use Rattle.roman_repair.proofs.Waiting.{IsReopened, relation_candidates, replayable, reopened_repaired}
 use Rattle.roman_repair.proofs.Joined.{joined_can, joined_candidates, joined_lanes}
-use Rattle.roman_repair.specs.Alone.{MayAskAlone}
 use Rattle.roman_repair.proofs.OtherSeats.{may_reopened, join_alone}
 use Rattle.roman_repair.proofs.joining.join.Goals as goal
 

@@ -1,6 +1,4 @@
-use Rattle.std.proofs.Common.{◌≡◌, ◌+◌, ◌*◌, ◌≤◌, ◌++◌}
-use Rattle.roman_repair.proofs.Common.{is_listed, HoldsInBand, with_replay, readings_of_entries}
-use Rattle.roman_repair.specs.Alone.{IsIntact}
+use Rattle.roman_repair.proofs.Common.{◌≡◌, ◌+◌, ◌*◌, ◌≤◌, ◌++◌, is_listed, HoldsInBand, with_replay, readings_of_entries, IsIntact}
 use Rattle.roman_repair.proofs.Growing.{grown_below}
 use Rattle.roman_repair.proofs.replaying.keep_grown.Given as goal
 

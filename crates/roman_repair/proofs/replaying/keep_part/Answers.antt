@@ -1,5 +1,4 @@
-use Rattle.std.proofs.Common.{◌≡◌, ◌+◌, ◌*◌, [], ◌++◌, map, sym, ap, ◌∙◌, arith, append-nil}
-use Rattle.roman_repair.proofs.Common.{as_entry, entries_in, set_lanes-zero, with_replay}
+use Rattle.roman_repair.proofs.Common.{◌≡◌, ◌+◌, ◌*◌, [], ◌++◌, map, sym, ap, ◌∙◌, arith, append-nil, as_entry, entries_in, set_lanes-zero, with_replay}
 use Rattle.roman_repair.proofs.Fronts.{row_few}
 use Rattle.roman_repair.proofs.replaying.keep_part.Goals as goal
 

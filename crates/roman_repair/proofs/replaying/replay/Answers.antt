@@ -1,7 +1,5 @@
-use Rattle.std.proofs.Common.{◌≡◌, ◌++◌, flat_map, refl, sym, ap, ◌∙◌, subst, arith}
-use Rattle.roman_repair.proofs.Common.{flat_map-append, is_listed, grown_numbers, Board, entries_in}
+use Rattle.roman_repair.proofs.Common.{◌≡◌, ◌++◌, flat_map, refl, sym, ap, ◌∙◌, subst, arith, flat_map-append, is_listed, grown_numbers, Board, entries_in, MayAskAlone}
 use Rattle.roman_repair.proofs.Keeping.{candidates_left, grown_first, grown_turn, grown_cost}
-use Rattle.roman_repair.specs.Alone.{MayAskAlone}
 use Rattle.roman_repair.proofs.JudgedAlone.{may_first, may_rest, waits_alone}
 use Rattle.roman_repair.proofs.replaying.replay.Goals as goal
 

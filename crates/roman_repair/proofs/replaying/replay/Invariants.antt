@@ -1,6 +1,4 @@
-use Rattle.std.proofs.Common.{◌+◌, ◌≤◌, flat_map, length}
-use Rattle.roman_repair.proofs.Common.{is_listed, grown_numbers, HoldsInBand, readings_of_entries}
-use Rattle.roman_repair.specs.Alone.{MayAskAlone}
+use Rattle.roman_repair.proofs.Common.{◌+◌, ◌≤◌, flat_map, length, is_listed, grown_numbers, HoldsInBand, readings_of_entries, MayAskAlone}
 use Rattle.roman_repair.proofs.Keeping.{IsReplaying}
 use Rattle.roman_repair.proofs.replaying.replay.Given as goal
 

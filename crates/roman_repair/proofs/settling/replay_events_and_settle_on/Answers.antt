@@ -1,6 +1,4 @@
-use Rattle.std.proofs.Common.{◌≡◌, [], length, Some, sym, ap, ◌∙◌, subst, arith, rules}
-use Rattle.roman_repair.proofs.Common.{replay, readings, NamedSys, joint_numbered, Begins, arena_of, AreCandidates, candidates, with_replay, readings_of_entries}
-use Rattle.roman_repair.specs.Alone.{MayAskAlone}
+use Rattle.roman_repair.proofs.Common.{◌≡◌, [], length, Some, sym, ap, ◌∙◌, subst, arith, rules, replay, readings, NamedSys, joint_numbered, Begins, arena_of, candidates, with_replay, readings_of_entries, MayAskAlone}
 use Rattle.roman_repair.proofs.Keeping.{candidates_readings}
 use Rattle.roman_repair.proofs.Repairing.{replayed_begun}
 use Rattle.roman_repair.proofs.Waiting.{grown_by_one}

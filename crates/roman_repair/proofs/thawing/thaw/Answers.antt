@@ -1,10 +1,8 @@
-use Rattle.std.proofs.Common.{◌<◌, false, flat_map, length, Some, sym, ap, ◌∙◌, subst, arith}
-use Rattle.roman_repair.proofs.Common.{length-map, turned, Sys, numbered, candidates, grown_numbers, NamedSys, system_of, seat_of, lanes_in}
+use Rattle.roman_repair.proofs.Common.{◌<◌, false, flat_map, length, Some, sym, ap, ◌∙◌, subst, arith, length-map, turned, Sys, numbered, candidates, grown_numbers, NamedSys, system_of, seat_of, lanes_in, MayAskAlone}
 use Rattle.roman_model.specs.Change.{Thaw}
 use Rattle.roman_repair.proofs.Repairing.{relation_replays}
 use Rattle.roman_repair.proofs.Whole.{shaped_turned}
 use Rattle.roman_repair.proofs.Waiting.{IsReopened, relation_candidates, turned_candidates, replayable, reopened_repaired, grown_by_one}
-use Rattle.roman_repair.specs.Alone.{MayAskAlone}
 use Rattle.roman_repair.proofs.OtherSeats.{may_reopened, thaw_alone}
 use Rattle.roman_repair.proofs.thawing.thaw.Goals as goal
 

@@ -1,5 +1,4 @@
-use Rattle.std.proofs.Common.{◌+◌, ◌*◌, not, sym, ap, ◌∙◌, arith}
-use Rattle.roman_joint.proofs.Common.{is_beaten, numbered, on_zero, sizes_of, row_sizes, lanes_few, system_of, band_in}
+use Rattle.roman_joint.proofs.Common.{◌+◌, ◌*◌, not, sym, ap, ◌∙◌, arith, is_beaten, numbered, sizes_of, on_zero, row_sizes, lanes_few, system_of, band_in}
 use Rattle.roman_joint.proofs.ArenaFacts.{joint_numbered}
 use Rattle.roman_joint.proofs.SplitLemmas.{joint_sizes}
 use Rattle.roman_joint.proofs.AllowedLemmas.{unopened}

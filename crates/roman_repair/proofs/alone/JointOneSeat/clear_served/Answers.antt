@@ -1,5 +1,4 @@
-use Rattle.std.proofs.Common.{◌∙◌}
-use Rattle.roman_repair.proofs.Common.{count, length-below, sizes_of, system_of}
+use Rattle.roman_repair.proofs.Common.{◌∙◌, count, sizes_of, length-below, system_of}
 use Rattle.roman_repair.proofs.alone.JointOneSeat.clear_served.Goals as goal
 
 pub clear_good-requires-clause-room : goal.clear_good-requires-clause-room

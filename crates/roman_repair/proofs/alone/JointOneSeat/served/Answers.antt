@@ -1,5 +1,4 @@
-use Rattle.std.proofs.Common.{◌∙◌}
-use Rattle.roman_repair.proofs.Common.{count, length-below, sizes_of, system_of}
+use Rattle.roman_repair.proofs.Common.{◌∙◌, count, sizes_of, length-below, system_of}
 use Rattle.roman_repair.proofs.alone.JointOneSeat.served.Goals as goal
 
 pub good-requires-clause-room : goal.good-requires-clause-room

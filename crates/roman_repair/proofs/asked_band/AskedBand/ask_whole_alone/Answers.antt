@@ -1,6 +1,4 @@
-use Rattle.std.proofs.Common.{◌≡◌, ◌+◌, ◌*◌, ◌/◌, ◌%◌, ◌-◌, ◌<◌, refl, sym, ap, ◌∙◌, arith}
-use Rattle.roman_repair.proofs.Common.{div-add-mod', mod_below}
-use Rattle.roman_repair.specs.Alone.{lets_hold}
+use Rattle.roman_repair.proofs.Common.{◌≡◌, ◌+◌, ◌*◌, ◌/◌, ◌%◌, ◌-◌, ◌<◌, refl, sym, ap, ◌∙◌, arith, div-add-mod', mod_below, lets_hold}
 use Rattle.roman_repair.proofs.BandAnswers.{band_before, row_held, let_whole}
 use Rattle.roman_repair.proofs.asked_band.AskedBand.ask_whole_alone.Goals as goal
 
