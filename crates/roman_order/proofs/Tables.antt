@@ -1,12 +1,11 @@
 -- The contents of an order's tables, and the room in them.
-use Rattle.roman_order.proofs.Common.{◌≡◌, ℕ, ◌+◌, ◌-◌, ◌*◌, ◌/◌, ◌^◌, ◌<◌, ◌≤◌, true, false, not, [], ◌∷◌, ◌++◌, map, length, drop, get_or, replicate, vec_capacity, count_ones, sym, ◌∙◌, subst, arith, bit_and, length-append, w64, bit_not, set, length-map, length-replicate, get_or-replicate, Reason, is_on, AreRows, full_word, Board, as_entry, set_lanes, entries_in, has_entry, entries_of, board_of, IsPlaced, CanWait, IsSized, IsSound, Event, Inside}
+use Rattle.roman_order.proofs.Common.{◌≡◌, ℕ, ◌+◌, ◌-◌, ◌*◌, ◌/◌, ◌^◌, ◌<◌, ◌≤◌, true, false, not, [], ◌∷◌, ◌++◌, map, length, drop, get_or, replicate, vec_capacity, sym, ◌∙◌, subst, arith, bit_and, length-append, w64, bit_not, set, length-map, length-replicate, get_or-replicate, Reason, is_on, AreRows, full_word, Board, as_entry, set_lanes, entries_in, has_entry, entries_of, board_of, IsPlaced, CanWait, IsSized, IsSound, Event, Inside}
 use Rattle.std.proofs.Common.{ap₂}
 use Rattle.std.proofs.Math.Nat.{mul-le-mul_left}
 use Rattle.roman_order.specs.Sound.{removal_list}
 use Rattle.roman_order.proofs.Lanes.{AreRows-full, AreRows-pushed, in_lanes, lanes_once}
 use Rattle.roman_order.proofs.Places.{IsPlaced-nil, length-le_from_apart}
 use Rattle.roman_order.proofs.Events.{few_events, length-firsts_of, entries_of-push, AreCounted-push, AreCounted-nil}
-use Rattle.roman_order.proofs.Ones.{ones_of}
 use Rattle.roman_order.proofs.Pushes.{pair_below, IsPlaced-lanes}
 
 -- the list has at most as many entries as there are pairs
@@ -75,7 +74,7 @@ pushed_placed a x lost reason sound free =
 pub record HasRoom (a : Inside) (lost : ℕ) : Type 0 where
   pub events : length a.events.items < a.room
   pub firsts : length a.firsts.items < a.room
-  pub count : a.count + count_ones lost < 2 ^ 32
+  pub count : a.count + length (set_lanes lost) < 2 ^ 32
 
 pub room-row : (a : Inside) (x lost : ℕ) (reason : Reason) → IsSound a → IsFree (board_of a) x lost → lost < 2 ^ 64 → 0 < length (set_lanes lost) → HasRoom a lost
 room-row a x lost reason sound free fits some =
@@ -89,11 +88,11 @@ room-row a x lost reason sound free fits some =
       sound.counted.count,
       sound.sized.room,
     ) in
-    grind (arith, few, ones_of)
+    grind (arith, few)
 
 -- an order is sound after entries for unlisted pairs of a row were added
 pub pushed_sound : (a b : Inside) (x lost : ℕ) (reason : Reason) → IsSound a → IsFree (board_of a) x lost → lost < 2 ^ 64 → 0 < length (set_lanes lost) → b.rows ≡ a.rows →
-    b.lanes ≡ a.lanes → CanWait b.waiting_lanes (drop b.next b.waiting.items) → b.count ≡ a.count + count_ones lost → b.firsts.items ≡ a.firsts.items ++ a.count ∷ [] →
+    b.lanes ≡ a.lanes → CanWait b.waiting_lanes (drop b.next b.waiting.items) → b.count ≡ a.count + length (set_lanes lost) → b.firsts.items ≡ a.firsts.items ++ a.count ∷ [] →
     b.events.items ≡ a.events.items ++ record { row = x; reason = reason; lanes = lost } ∷ [] →
     b.words.items ≡ set a.words.items x (bit_and (get_or a.words.items x 0) (bit_not w64 lost)) → b.stamps.items ≡ [] → IsSized b → IsSound b
 pushed_sound a b x lost reason sound free fits some rows lanes waits count firsts events words stamps sized =
@@ -102,7 +101,7 @@ pushed_sound a b x lost reason sound free fits some rows lanes waits count first
     record {
       placed = subst (λ n. IsPlaced n (removal_list b)) (sym (ap₂ (λ m n. m * n) rows lanes))
           (subst (IsPlaced (a.rows * a.lanes)) (sym list) (pushed_placed _ _ _ _ sound free));
-      counted = rw (lanes, firsts, events, count, ones_of _ fits) (AreCounted-push _ _ _ _ _ sound.counted (record { some = some; within = free.within }));
+      counted = rw (lanes, firsts, events, count) (AreCounted-push _ _ _ _ _ sound.counted (record { some = some; within = free.within }));
       waits = waits;
       stamped = rw stamps (λ p h. absurd (omega arith));
       alive = subst (λ n. AreRows n (λ p. not (has_entry (removal_list b) p)) b.words.items) (sym lanes)

@@ -1,7 +1,7 @@
 -- The answers of a band of rows.
-use Rattle.roman_repair.proofs.Common.{◌≡◌, ℕ, ◌+◌, ◌-◌, ◌*◌, ◌/◌, ◌^◌, ◌<◌, ◌≤◌, Bool, true, false, not, ◌&&◌, List, ◌++◌, drop, length, slice_index, None, Some, IsTrue, inl, inr, refl, sym, ap, ◌∙◌, subst, arith, cases_lt, both_ways, or_left, get_or-replicate, div-add-mod', mul-le-mul_left, is_on, on_full, on_zero, Arena, Entry, is_listed, is_justified, Reason, justified_more, listed_append, HoldsInBand, none-some, same_Some, lets_hold}
-use Rattle.std.proofs.Common.{get_or, replicate}
-use Rattle.std.proofs.lemmas.List.{get_or-append_right, get_or-drop, get_or_append_left}
+use Rattle.roman_repair.proofs.Common.{◌≡◌, ℕ, ◌+◌, ◌-◌, ◌*◌, ◌/◌, ◌^◌, ◌<◌, ◌≤◌, Bool, true, false, not, ◌&&◌, List, ◌++◌, length, slice_index, None, Some, IsTrue, refl, sym, ap, ◌∙◌, subst, arith, or_left, get_or-replicate, div-add-mod', mul-le-mul_left, is_on, on_full, Arena, Entry, is_listed, is_justified, Reason, justified_more, listed_append, HoldsInBand, none-some, same_Some, lets_hold}
+use Rattle.std.proofs.Common.{replicate}
+use Rattle.std.proofs.lemmas.List.{get_or_append_left}
 use Rattle.roman_rules.proofs.CallerLemmas.{known_more}
 use Rattle.roman_rules.specs.Asked.{HoldsWhereKept}
 use Rattle.roman_repair.proofs.JudgedAlone.{lets_more}
@@ -23,46 +23,31 @@ band_before lanes band x nodes l =
     let pairs : lanes * (x / band * band) ≤ lanes * x = mul-le-mul_left lanes first in
     omega (arith, pairs, l)
 
--- the words past a band have no lanes
-held_in_band : (held : List ℕ) (band i lane : ℕ) → length held ≡ band → i < 64 → is_on (slice_index (held ++ drop band (replicate 64 0)) i) lane ≡ true → (i < band) × (is_on (slice_index held i) lane ≡ true)
-held_in_band held band i lane long h on = elim (cases_lt i band) [
-  | inl l ↦ (l, ap (λ w. is_on w lane) (sym (get_or_append_left held (drop band (replicate 64 0)) 0 i (omega (arith, l, long)))) ∙ on)
-  | inr past ↦ absurd (both_ways (is_on 0 lane) (on_zero lane) (ap (λ w. is_on w lane) (sym (blank past)) ∙ on))
-]
-  where
-    blank : band ≤ i → get_or (held ++ drop band (replicate 64 0)) i 0 ≡ 0
-    blank past =
-        let same : band + (i - band) ≡ i = omega arith in
-        get_or-append_right held (drop band (replicate 64 0)) band i 0 long past
-        ∙ get_or-drop band (replicate 64 0) (i - band) 0
-        ∙ ap (λ j. get_or (replicate 64 0) j 0) same
-        ∙ get_or-replicate 64 i 0 0 h
-
 -- a row of the band is read as it was answered
-pub row_held : (held rest : List ℕ) (i lane : ℕ) (is : Bool) → i < length held → is_on (slice_index held i) lane ≡ is → is_on (slice_index (held ++ rest) i) lane ≡ is
-row_held held rest i lane is l same = ap (λ w. is_on w lane) (get_or_append_left held rest 0 i l) ∙ same
+pub row_held : (held rest : List ℕ) (i lane : ℕ) → i < length held → is_on (slice_index (held ++ rest) i) lane ≡ is_on (slice_index held i) lane
+row_held held rest i lane l = ap (λ w. is_on w lane) (get_or_append_left held rest 0 i l)
 
 -- what was answered of a whole band is known
-pub known_whole : (A : Arena ℕ) (n band first : ℕ) (gone : ℕ → Bool) (asked : AskedBand) (held : List ℕ) → asked.alone ≡ None → HoldsWhereKept A n gone asked.row → asked.words ≡ held ++ drop band (replicate 64 0) → asked.first ≡ first → length held ≡ band →
-    ((i lane : ℕ) → i < band → lane < n → is_on (slice_index held i) lane ≡ is_justified A gone ((first + i) * n + lane) asked.reason) → HoldsInBand A n gone asked
-known_whole A n band first gone asked held all row words same long is = record {
+pub known_whole : (A : Arena ℕ) (n first : ℕ) (gone : ℕ → Bool) (asked : AskedBand) (held rest : List ℕ) → asked.alone ≡ None → HoldsWhereKept A n gone asked.row → asked.words ≡ held ++ rest → asked.first ≡ first → length held ≡ asked.rows →
+    ((i lane : ℕ) → i < asked.rows → lane < n → is_on (slice_index held i) lane ≡ is_justified A gone ((first + i) * n + lane) asked.reason) → HoldsInBand A n gone asked
+known_whole A n first gone asked held rest all row words same long is = record {
   row = row;
   each = λ none i lane h l on.
-      let (m, there) = held_in_band held band i lane long h (ap (λ ws. is_on (slice_index ws i) lane) (sym words) ∙ on) in
-      subst (λ f. IsTrue (is_justified A gone ((f + i) * n + lane) asked.reason)) (sym same) (sym (is i lane m l) ∙ there);
+      let there = sym (row_held held rest i lane (omega (arith, h, long))) ∙ (ap (λ ws. is_on (slice_index ws i) lane) (sym words) ∙ on) in
+      subst (λ f. IsTrue (is_justified A gone ((f + i) * n + lane) asked.reason)) (sym same) (sym (is i lane h l) ∙ there);
   lets = λ k e. absurd (none-some k (sym all ∙ e));
 }
 
 -- what was answered of a whole band by one seat is known
-pub let_whole : (A : Arena ℕ) (n band first k : ℕ) (gone : ℕ → Bool) (asked : AskedBand) (held : List ℕ) → asked.alone ≡ Some k → HoldsWhereKept A n gone asked.row → asked.words ≡ held ++ drop band (replicate 64 0) → asked.first ≡ first → length held ≡ band →
-    ((i lane : ℕ) → i < band → lane < n → is_on (slice_index held i) lane ≡ lets_hold A gone k ((first + i) * n + lane) asked.reason) → HoldsInBand A n gone asked
-let_whole A n band first k gone asked held one row words same long is = record {
+pub let_whole : (A : Arena ℕ) (n first k : ℕ) (gone : ℕ → Bool) (asked : AskedBand) (held rest : List ℕ) → asked.alone ≡ Some k → HoldsWhereKept A n gone asked.row → asked.words ≡ held ++ rest → asked.first ≡ first → length held ≡ asked.rows →
+    ((i lane : ℕ) → i < asked.rows → lane < n → is_on (slice_index held i) lane ≡ lets_hold A gone k ((first + i) * n + lane) asked.reason) → HoldsInBand A n gone asked
+let_whole A n first k gone asked held rest one row words same long is = record {
   row = row;
   each = λ none. absurd (none-some k (sym none ∙ one));
   lets = λ j e i lane h l on.
-      let (m, there) = held_in_band held band i lane long h (ap (λ ws. is_on (slice_index ws i) lane) (sym words) ∙ on) in
+      let there = sym (row_held held rest i lane (omega (arith, h, long))) ∙ (ap (λ ws. is_on (slice_index ws i) lane) (sym words) ∙ on) in
       subst (λ j. IsTrue (lets_hold A gone j ((asked.first + i) * n + lane) asked.reason)) (same_Some k j (sym one ∙ e))
-      (subst (λ f. IsTrue (lets_hold A gone k ((f + i) * n + lane) asked.reason)) (sym same) (sym (is i lane m l) ∙ there));
+      (subst (λ f. IsTrue (lets_hold A gone k ((f + i) * n + lane) asked.reason)) (sym same) (sym (is i lane h l) ∙ there));
 }
 
 -- known reasons stay known when more entries are listed
@@ -77,13 +62,13 @@ known_on A lanes asked kept new M is known =
     })
 
 -- the lanes of a row that the words of the band have
-pub known_in : (A : Arena ℕ) (lanes : ℕ) (gone : ℕ → Bool) (asked : AskedBand) (x i lane : ℕ) (reason : Reason) → HoldsInBand A lanes gone asked → asked.alone ≡ None → i < 64 → x ≡ asked.first + i → reason ≡ asked.reason →
+pub known_in : (A : Arena ℕ) (lanes : ℕ) (gone : ℕ → Bool) (asked : AskedBand) (x i lane : ℕ) (reason : Reason) → HoldsInBand A lanes gone asked → asked.alone ≡ None → i < asked.rows → x ≡ asked.first + i → reason ≡ asked.reason →
     lane < lanes → is_on (slice_index asked.words i) lane ≡ true → IsTrue (is_justified A gone (x * lanes + lane) reason)
 known_in A lanes gone asked x i lane reason known all h place same l on =
     subst (λ y. IsTrue (is_justified A gone (y * lanes + lane) reason)) (sym place)
     (subst (λ r. IsTrue (is_justified A gone ((asked.first + i) * lanes + lane) r)) (sym same) (known.each all i lane h l on))
 
-pub let_in : (A : Arena ℕ) (lanes : ℕ) (gone : ℕ → Bool) (asked : AskedBand) (k x i lane : ℕ) (reason : Reason) → HoldsInBand A lanes gone asked → asked.alone ≡ Some k → i < 64 → x ≡ asked.first + i → reason ≡ asked.reason →
+pub let_in : (A : Arena ℕ) (lanes : ℕ) (gone : ℕ → Bool) (asked : AskedBand) (k x i lane : ℕ) (reason : Reason) → HoldsInBand A lanes gone asked → asked.alone ≡ Some k → i < asked.rows → x ≡ asked.first + i → reason ≡ asked.reason →
     lane < lanes → is_on (slice_index asked.words i) lane ≡ true → IsTrue (lets_hold A gone k (x * lanes + lane) reason)
 let_in A lanes gone asked k x i lane reason known one h place same l on =
     subst (λ y. IsTrue (lets_hold A gone k (y * lanes + lane) reason)) (sym place)

@@ -161,7 +161,7 @@ pub only_so_far : (q : ℕ → Bool) (b m : ℕ) → ((i : ℕ) → i < m → q 
 only_so_far q b m off = filter_split q b m ∙ ap (λ M. filter q (below b) ++ map (λ i. b + i) M) (none_so_far (λ i. q (b + i)) m off) ∙ append-nil (filter q (below b))
 
 -- exactly the numbers below s pass
-first_so_far : (p : ℕ → Bool) (s m : ℕ) → s ≤ m → ((i : ℕ) → i < s → p i ≡ true) → ((i : ℕ) → s ≤ i → i < m → p i ≡ false) → filter p (below m) ≡ below s
+pub first_so_far : (p : ℕ → Bool) (s m : ℕ) → s ≤ m → ((i : ℕ) → i < s → p i ≡ true) → ((i : ℕ) → s ≤ i → i < m → p i ≡ false) → filter p (below m) ≡ below s
 first_so_far p s zero l on off = let none : s ≡ 0 = omega arith in ap below (sym none)
 first_so_far p s (suc m) l on off = elim (cases_eq s (suc m)) [
   | inl e ↦

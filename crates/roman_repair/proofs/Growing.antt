@@ -1,12 +1,13 @@
 -- The replay of a row's entries that stand for several pairs each, part by part.
-use Rattle.roman_repair.proofs.Common.{◌≡◌, ℕ, suc, ◌+◌, ◌-◌, ◌*◌, ◌/◌, ◌<◌, ◌≤◌, Bool, true, false, ◌||◌, append-nil, List, [], ◌∷◌, ◌++◌, map, flat_map, filter, cond, Option, refl, sym, ap, ap₂, ◌∙◌, subst, arith, bit_or, mul-le-mul_left, map-append, flat_map-append, sum_by-append, below, Arena, Entry, grown_numbers, Reason, filter_below_more, is_on, on_or, readings_of_reason, as_entry, set_lanes, entries_in, entries_from, AreCandidates, AreSlices, with_replay, readings_of_entries, MayAskAlone, IsIntact}
+use Rattle.roman_repair.proofs.Common.{◌≡◌, ℕ, zero, suc, ◌+◌, ◌-◌, ◌*◌, ◌/◌, ◌<◌, ◌≤◌, Bool, true, false, ◌||◌, append-nil, List, [], ◌∷◌, ◌++◌, map, flat_map, filter, cond, Option, refl, sym, ap, ap₂, ◌∙◌, subst, arith, append_assoc, map-map, bit_or, not, ◌^◌, inl, inr, bit_not, w64, cases_eq, both_ways, on_not, mul-le-mul_left, map-append, flat_map-append, sum_by-append, below, Arena, Entry, grown_numbers, Reason, filter_below_more, is_on, on_or, readings_of_reason, as_entry, set_lanes, entries_in, entries_from, AreCandidates, AreSlices, with_replay, readings_of_entries, MayAskAlone, IsIntact}
 use Rattle.std.proofs.lemmas.Nat.{div-mul-add}
+use Rattle.roman_repair.proofs.BandAnswers.{not_twice}
 use Rattle.roman_repair.proofs.Keeping.{candidates_left, candidates_replayed}
 use Rattle.roman_repair.proofs.Joined.{positive, grown_part}
 use Rattle.roman_repair.proofs.DeathParts.{part_word, part_in}
 use Rattle.roman_repair.proofs.DeathEntries.{entries_below, row_begin, row_next, row_whole, lanes_below}
 use Rattle.roman_repair.proofs.JudgedAlone.{may_first, may_rest}
-use Rattle.roman_repair.proofs.Fronts.{cut_lanes, filter_split, false_else}
+use Rattle.roman_repair.proofs.Fronts.{cut_lanes, filter_split, false_else, first_so_far, only_so_far}
 
 -- ---- spread lanes
 
@@ -44,6 +45,57 @@ spread_more word lane width =
     by_answer : (b : Bool) → flat_map (λ l. map (λ i. l * width + i) (below width)) (cond b (lane ∷ []) []) ≡ cond b (map (λ i. lane * width + i) (below width)) []
     by_answer true = append-nil (map (λ i. lane * width + i) (below width))
     by_answer false = refl
+
+-- the first lane that isn't the word's ends a run of lanes that are
+pub run_lanes : (word lane end : ℕ) → word < 2 ^ 64 → end ≤ 64 → ((l : ℕ) → lane ≤ l → l < end → is_on (bit_not w64 word) l ≡ false) → (l : ℕ) → lane ≤ l → l < end → is_on word l ≡ true
+run_lanes word lane end fits few off l past less = sym (not_twice (is_on word l)) ∙ ap not (sym (on_not word l fits (omega (arith, less, few))) ∙ off l past less)
+
+pub run_some : (word lane end lanes : ℕ) → word < 2 ^ 64 → lanes ≤ 64 → lane < lanes → lane ≤ end → is_on word lane ≡ true → (end < lanes → is_on (bit_not w64 word) end ≡ true) → lane < end
+run_some word lane end lanes fits few less past here next = elim (cases_eq end lane) [
+  | inl e ↦ absurd (both_ways (is_on (bit_not w64 word) lane) (on_not word lane fits (omega (arith, less, few)) ∙ ap not here) (ap (is_on (bit_not w64 word)) (sym e) ∙ next (omega (arith, e, less))))
+  | inr ne ↦ omega (arith, ne, past)
+]
+
+-- lanes that aren't the word's add nothing
+pub spread_skip : (word lane next width : ℕ) → lane ≤ next → ((l : ℕ) → lane ≤ l → l < next → is_on word l ≡ false) → spread_below word next width ≡ spread_below word lane width
+spread_skip word lane next width less off =
+    let place : next ≡ lane + (next - lane) = omega (arith, less) in
+    ap (flat_map (λ l. map (λ i. l * width + i) (below width)))
+    (ap (λ n. filter (is_on word) (below n)) place ∙ only_so_far (is_on word) lane (next - lane) (λ i l. off (lane + i) (omega arith) (omega (arith, l, less))))
+
+below_add : (a b : ℕ) → below (a + b) ≡ below a ++ map (λ i. a + i) (below b)
+below_add a b = sym (all (a + b)) ∙ filter_split (λ i. true) a b ∙ ap₂ (λ L M. L ++ map (λ i. a + i) M) (all a) (all b)
+  where
+    all : (n : ℕ) → filter (λ i. true) (below n) ≡ below n
+    all n = first_so_far (λ i. true) n n (omega arith) (λ i l. refl) (λ i l k. absurd (omega (arith, l, k)))
+
+-- a run of the word's lanes is spread to a run
+run_more : (word lane n width : ℕ) → ((l : ℕ) → lane ≤ l → l < lane + n → is_on word l ≡ true) →
+    spread_below word (lane + n) width ≡ spread_below word lane width ++ map (λ i. lane * width + i) (below (n * width))
+run_more word lane zero width on =
+    let same : lane + 0 ≡ lane = omega arith in
+    let none : 0 * width ≡ 0 = omega arith in
+    ap (λ m. spread_below word m width) same ∙ sym (append-nil (spread_below word lane width)) ∙ ap (λ n. spread_below word lane width ++ map (λ i. lane * width + i) (below n)) (sym none)
+run_more word lane (suc n) width on =
+    let so_far = spread_below word lane width in
+    let f = λ (i : ℕ). lane * width + i in
+    let next : lane + suc n ≡ lane + n + 1 = omega arith in
+    let wide : suc n * width ≡ n * width + width = omega arith in
+    let place : (i : ℕ) → (lane + n) * width + i ≡ lane * width + (n * width + i) = λ i. omega arith in
+    ap (λ m. spread_below word m width) next ∙ sym (spread_more word (lane + n) width)
+    ∙ ap₂ (λ L b. L ++ cond b (map (λ i. (lane + n) * width + i) (below width)) []) (run_more word lane n width (λ l h m. on l h (omega (arith, m)))) (on (lane + n) (omega arith) (omega arith))
+    ∙ append_assoc so_far (map f (below (n * width))) (map (λ i. (lane + n) * width + i) (below width))
+    ∙ ap (λ L. so_far ++ (map f (below (n * width)) ++ L)) ((λ j. map (λ (i : ℕ). place i j) (below width)) ∙ sym (map-map f (λ i. n * width + i) (below width)))
+    ∙ ap (λ L. so_far ++ L) (sym (map-append f (below (n * width)) (map (λ i. n * width + i) (below width))) ∙ ap (map f) (sym (below_add (n * width) width) ∙ ap below (sym wide)))
+
+pub spread_run : (word lane end width : ℕ) → lane ≤ end → ((l : ℕ) → lane ≤ l → l < end → is_on word l ≡ true) →
+    spread_below word lane width ++ map (λ i. lane * width + i) (below (end * width - lane * width)) ≡ spread_below word end width
+spread_run word lane end width less on =
+    let place : end ≡ lane + (end - lane) = omega (arith, less) in
+    let both : end * width ≡ lane * width + (end - lane) * width = ap (λ m. m * width) place ∙ omega arith in
+    let wide : end * width - lane * width ≡ (end - lane) * width = omega (arith, both) in
+    ap (λ n. spread_below word lane width ++ map (λ i. lane * width + i) (below n)) wide
+    ∙ sym (run_more word lane (end - lane) width (λ l h m. on l h (omega (arith, m, less)))) ∙ ap (λ m. spread_below word m width) (sym place)
 
 -- ---- parts of a row
 

@@ -32,9 +32,12 @@ pub(crate) struct AskedBand {
     row: Asked,
     /// The first row of the band that was asked last.
     first: u32,
+    /// The number of rows of that band. 0 where no band was asked yet.
+    rows: u32,
     /// The reason about which the band was asked.
     reason: Reason,
-    /// For each row of the band, the lanes of the pairs at which the reason is known to hold.
+    /// For each row of the band, the lanes of the pairs at which the reason is known to hold. Words past
+    /// the band have no meaning.
     words: [u64; BAND],
 }
 
@@ -158,6 +161,7 @@ impl AskedBand {
             alone,
             row: Asked::nothing(),
             first: 0,
+            rows: 0,
             reason: Reason::Final,
             words: [0; BAND],
         }
@@ -181,13 +185,17 @@ impl AskedBand {
     /// was asked, or about another reason.
     pub(crate) fn lanes_at(&self, x: u32, reason: Reason) -> u64
         ensures { (lane : ℕ) → is_on result lane ≡ true →
-            (i : ℕ) × (i < 64) × (x ≡ self.now.first + i) × (reason ≡ self.now.reason) × (is_on (slice_index self.now.words i) lane ≡ true) }
+            (i : ℕ) × (i < self.now.rows) × (x ≡ self.now.first + i) × (reason ≡ self.now.reason) × (is_on (slice_index self.now.words i) lane ≡ true) }
     {
         if x < self.first || self.reason != reason {
             return 0;
         }
-        let i = (x - self.first) as usize;
-        if i < BAND { self.words[i] } else { 0 }
+        let i = x - self.first;
+        if i < self.rows && i < BAND as u32 {
+            self.words[i as usize]
+        } else {
+            0
+        }
     }
 
     /// Asks all rows of the band of the row `x`. Returns the lanes of the row at which the reason holds.
@@ -216,8 +224,8 @@ impl AskedBand {
         joint.known();
         let band = joint.band();
         self.first = x - x % band;
+        self.rows = band;
         self.reason = reason;
-        self.words = [0; BAND];
         let held = &mut self.words[..band as usize];
         ask_band(joint, words, x / band, reason, held, steps);
         self.words[(x % band) as usize]
@@ -251,8 +259,8 @@ impl AskedBand {
         joint.known();
         let band = joint.band();
         self.first = x - x % band;
+        self.rows = band;
         self.reason = reason;
-        self.words = [0; BAND];
         let held = &mut self.words[..band as usize];
         let_band(joint, words, x / band, reason, k, held, steps);
         self.words[(x % band) as usize]
@@ -261,12 +269,13 @@ impl AskedBand {
     /// Returns whether the whole band of the row `x` is to be asked: another of its rows was asked about
     /// the reason just before, and the band wasn't.
     fn is_band_due<J: Rules>(&self, joint: &J, x: u32, reason: Reason) -> bool {
-        let y = x / joint.band();
-        let is_second = self.row.reason == reason
-            && self.row.row != x
-            && self.row.row / joint.band() == y;
-        let is_asked = self.reason == reason && self.first / joint.band() == y;
-        is_second && !is_asked
+        if self.row.row == x || self.row.reason != reason {
+            return false;
+        }
+        let band = joint.band();
+        let first = x - x % band;
+        let is_second = first <= self.row.row && self.row.row - first < band;
+        is_second && (self.first != first || self.reason != reason)
     }
 
     /// Asks the seat `k` alone about a reason, in the row `x`, or in the whole band where another of its

@@ -34,28 +34,33 @@ pub(crate) fn lanes_between(begin: u32, end: u32) -> u64
     (u64::MAX >> (64 - end)) & !((1 << begin) - 1)
 }
 
-/// Where a lane is one of a word's, the word of as many neighbours as `width` from the place on to which
-/// it is spread; else a word of none.
-fn spread_lane(word: u64, lane: u32, width: u32) -> u64
-    requires { (0 < width) × (lane * width + width ≤ 64) }
-    ensures lanes { set_lanes result ≡ cond (is_on word lane) (map (λ i. lane * width + i) (below width)) [] }
-    ensures within { (bit : ℕ) → is_on result bit ≡ true → (lane * width ≤ bit) × (bit < lane * width + width) }
+/// Returns the first of the word's lanes from `from` on, or `end` where it has none before `end`. Requires
+/// `from` at most `end`, and `end` at most 64.
+fn next_lane(word: u64, from: u32, end: u32) -> u32
+    requires { (from ≤ end) × (end ≤ 64) }
+    ensures range { (from ≤ result) × (result ≤ end) }
+    ensures off { (lane : ℕ) → from ≤ lane → lane < result → is_on word lane ≡ false }
+    ensures on { result < end → is_on word result ≡ true }
 {
-    if (word >> lane) & 1 == 0 {
-        return 0;
+    if from == end {
+        return end;
     }
-    lanes_between(lane * width, lane * width + width)
+    (from + (word >> from).trailing_zeros()).min(end)
 }
 
-/// The first lanes of a word, each spread to as many neighbours as `width`.
+/// Returns the first `lanes` lanes of a word, each spread to as many neighbours as `width`. Takes a
+/// turn for each run of neighbouring lanes.
 pub(crate) fn spread_lanes(word: u64, lanes: u32, width: u32) -> u64
     requires { (0 < width) × (lanes * width ≤ 64) }
     ensures lanes { set_lanes result ≡ flat_map (λ lane. map (λ i. lane * width + i) (below width)) (filter (is_on word) (below lanes)) }
     ensures within { (bit : ℕ) → is_on result bit ≡ true → bit < lanes * width }
 {
     let mut spread = 0;
-    for lane in 0..lanes {
-        spread |= spread_lane(word, lane, width);
+    let mut lane = next_lane(word, 0, lanes);
+    'lane: while lane < lanes {
+        let end = next_lane(!word, lane, lanes);
+        spread |= lanes_between(lane * width, end * width);
+        lane = next_lane(word, end, lanes);
     }
     spread
 }

@@ -5,6 +5,7 @@ ghost use Rattle.roman_order.specs.Board.{pairs_of, as_entry, entries_in, entrie
 
 use super::Order;
 use crate::event::Event;
+use crate::flags::lanes_in;
 use roman_model::Reason;
 
 impl Order {
@@ -49,7 +50,7 @@ impl Order {
             reason,
             lanes: lost,
         });
-        self.count += lost.count_ones();
+        self.count += lanes_in(lost);
     }
 
     /// Adds entries for pairs of neighbouring rows, from the row `x` on, row by row, all for one

@@ -18,12 +18,12 @@ returns-clause-holds g c gone words lane l =
     let i = c.args.x % b in
     let h : i < w = omega (arith, mod_below c.args.x b c.band-band.ensures.few.0, c.band-band.ensures.value) in
     let x : c.args.x / b * w + i ≡ c.args.x = ap (λ m. c.args.x / b * m + i) (sym c.band-band.ensures.value) ∙ div-add-mod' c.args.x b in
-    row_held c.ask_band.new.held _ i lane _ (omega (arith, h, c.ask_band.ensures.long)) (c.ask_band.ensures.holds gone words i lane h l ∙ ap (λ m. is_justified A gone (m * n + lane) c.args.reason) x)
+    row_held c.ask_band.new.held _ i lane (omega (arith, h, c.ask_band.ensures.long)) ∙ (c.ask_band.ensures.holds gone words i lane h l ∙ ap (λ m. is_justified A gone (m * n + lane) c.args.reason) x)
 
 pub returns-clause-known : goal.returns-clause-known
 returns-clause-known g c gone words known =
     let w = g.J.Rules.band c.args.joint.now in
     let b = c.band-band.result in
     let first : c.args.x - c.args.x % b ≡ c.args.x / b * w = omega (arith, div-add-mod' c.args.x b, ap (λ m. c.args.x / b * m) c.band-band.ensures.value) in
-    known_whole (g.J.Rules.arena c.args.joint.now) (g.J.Rules.lanes c.args.joint.now) b (c.args.x / b * w) gone _ c.ask_band.new.held c.requires.alone known.row refl first (c.ask_band.ensures.long ∙ sym c.band-band.ensures.value)
+    known_whole (g.J.Rules.arena c.args.joint.now) (g.J.Rules.lanes c.args.joint.now) (c.args.x / b * w) gone _ c.ask_band.new.held _ c.requires.alone known.row refl first (c.ask_band.ensures.long ∙ sym c.band-band.ensures.value)
     (λ i lane m l. c.ask_band.ensures.holds gone words i lane (omega (arith, m, c.band-band.ensures.value)) l)
