@@ -1,12 +1,13 @@
 -- The number of lanes of a word.
-use Rattle.roman_order.proofs.Common.{◌≡◌, ◌≢◌, ℕ, zero, suc, ◌+◌, ◌*◌, ◌/◌, refl, w64, ◌%◌, ◌^◌, ◌<◌, cond, filter, length, count_ones, inl, inr, sym, ap, ◌∙◌, arith, bit_at, cases_eq, eq-eqb, ne_eqb, sum_by_push, below, sum_by_same, is_on, set_lanes}
-use Rattle.std.proofs.Common.{ap₂, sum_by}
+use Rattle.roman_order.proofs.Common.{◌≡◌, ◌≢◌, ℕ, zero, suc, ◌+◌, ◌*◌, ◌/◌, refl, ◌%◌, ◌^◌, ◌<◌, cond, filter, length, inl, inr, sym, ap, ◌∙◌, arith, w64, bit_at, cases_eq, eq-eqb, ne_eqb, sum_by_push, below, sum_by_same, is_on, set_lanes, ap₂, div-add-mod', mod_below, bit_at-trailing_zeros}
+use Rattle.std.proofs.Common.{count_ones}
+use Rattle.std.proofs.Common.{sum_by}
 use Rattle.std.proofs.Math.Pow.{pow_pos}
 use Rattle.std.proofs.lemmas.Bool.{cond-true, cond-false}
 use Rattle.std.proofs.lemmas.List.Sums.{length-filter}
 use Rattle.std.specs.Int.{trailing_zeros}
-use Rattle.std.proofs.lemmas.Nat.{div-add-mod', mod_below, ones_cat, ones_le_self, zero_from_ones, mod-pow-add}
-use Rattle.std.proofs.lemmas.Nat.Bits.{bit_at-lt, bit_at-trailing_zeros}
+use Rattle.std.proofs.lemmas.Nat.{ones_cat, ones_le_self, zero_from_ones, mod-pow-add}
+use Rattle.std.proofs.lemmas.Nat.Bits.{bit_at-lt}
 
 bit_ones : (b : ℕ) → b < 2 → count_ones b ≡ b
 bit_ones b l = elim (cases_eq (count_ones b) 0) [ inl e ↦ e ∙ sym (zero_from_ones b e) | inr some ↦ omega (arith, ones_le_self b) ]

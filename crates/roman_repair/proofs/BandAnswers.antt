@@ -1,5 +1,6 @@
 -- The answers of a band of rows.
-use Rattle.roman_repair.proofs.Common.{◌≡◌, ℕ, ◌+◌, ◌-◌, ◌*◌, ◌/◌, ◌^◌, ◌<◌, ◌≤◌, Bool, true, false, not, ◌&&◌, List, ◌++◌, length, slice_index, None, Some, IsTrue, refl, sym, ap, ◌∙◌, subst, arith, or_left, get_or-replicate, div-add-mod', mul-le-mul_left, is_on, on_full, Arena, Entry, is_listed, is_justified, Reason, justified_more, listed_append, HoldsInBand, none-some, same_Some, lets_hold}
+use Rattle.roman_repair.proofs.Common.{◌≡◌, ℕ, ◌+◌, ◌-◌, ◌*◌, ◌/◌, ◌^◌, ◌<◌, ◌≤◌, Bool, true, false, not, ◌&&◌, List, ◌++◌, length, slice_index, None, Some, IsTrue, refl, sym, ap, ◌∙◌, subst, arith, or_left, div-add-mod', mul-le-mul_left, is_on, on_full, Arena, Entry, is_listed, is_justified, Reason, justified_more, listed_append, HoldsInBand, none-some, same_Some, lets_hold}
+use Rattle.std.proofs.lemmas.List.{get_or-replicate}
 use Rattle.std.proofs.Common.{replicate}
 use Rattle.std.proofs.lemmas.List.{get_or_append_left}
 use Rattle.roman_rules.proofs.CallerLemmas.{known_more}

@@ -2,7 +2,7 @@
 pub use Rattle.std.proofs.Common.{Bool, IsFalse, IsTrue, List, None, Option, Some, [], ap, append-nil, append_assoc, ap₂, arith, bit_and, bit_or, cond, count_by, drop, eqb, false, filter, flat_map, if◌then◌else◌, inl, inr, length, length-append, map, not, refl, remove, rules, slice_get, slice_index, subst, suc, sym, true, zero, ℕ, ◌%◌, ◌&&◌, ◌*◌, ◌++◌, ◌+◌, ◌-◌, ◌/◌, ◌<◌, ◌==◌, ◌^◌, ◌||◌, ◌∙◌, ◌∷◌, ◌≡◌, ◌≢◌, ◌≤◌, ◌⊎◌}
 pub use Rattle.std.proofs.Math.Nat.{mul-le-mul_left}
 pub use Rattle.std.proofs.lemmas.Bool.{and_from, and_parts, both_ways, cases_eq, cases_lt, eq-eqb, eqb-true, false_from_ne_true, false≢true, or_cases, or_left, or_right}
-pub use Rattle.std.proofs.lemmas.List.{get_or-replicate, length-map, length_push, map-append}
+pub use Rattle.std.proofs.lemmas.List.{length-map, length_push, map-append}
 pub use Rattle.std.proofs.lemmas.List.Concat.{flat_map-append}
 pub use Rattle.std.proofs.lemmas.List.Folds.{list_any-append}
 pub use Rattle.std.proofs.lemmas.List.Sums.{sum_by-append, sum_by-cons}

@@ -1,5 +1,5 @@
 -- The entries of a removal list after a death.
-use Rattle.roman_repair.proofs.Common.{◌≡◌, ℕ, ◌+◌, ◌-◌, ◌*◌, ◌/◌, ◌%◌, ◌^◌, ◌<◌, ◌≤◌, Bool, true, false, not, ◌||◌, if◌then◌else◌, cond, List, [], ◌∷◌, ◌++◌, map, length, filter, remove, slice_index, IsFalse, inl, inr, refl, sym, ap, ap₂, ◌∙◌, subst, arith, append-nil, append_assoc, bit_and, cases_lt, both_ways, and_parts, eqb-true, false_from_ne_true, div-add-mod', mod_below, map-append, list_any-append, mul-le-mul_left, IsIn, HasNoRepeats, below, Seat, Sys, is_final, Entry, Sizes, sizes_of, sizes_without, count, pair_at, numbered, number_without, Reason, in_map, in_append_left, in_append_right, map-map, list_any-map, length-below, is_on, HasLanes, on_and, IsSizes, lanes_of, NamedSys, system_of, lanes_in, Board, as_entry, pairs_of, has_entry, nodes_of, set_lanes, entries_in, entries_at, Event, in_lanes, set_lanes-zero, IsShaped, list_with, entries_from, IsPart, ◌==◌, list_any}
+use Rattle.roman_repair.proofs.Common.{◌≡◌, ℕ, ◌+◌, ◌-◌, ◌*◌, ◌/◌, ◌%◌, ◌^◌, ◌<◌, ◌≤◌, Bool, true, false, not, ◌||◌, if◌then◌else◌, cond, List, [], ◌∷◌, ◌++◌, map, length, filter, remove, slice_index, IsFalse, inl, inr, refl, sym, ap, ap₂, ◌∙◌, subst, arith, append-nil, append_assoc, bit_and, ◌==◌, cases_lt, both_ways, and_parts, eqb-true, false_from_ne_true, div-add-mod', mod_below, map-append, list_any-append, mul-le-mul_left, IsIn, HasNoRepeats, below, Seat, Sys, is_final, Entry, Sizes, sizes_of, sizes_without, count, pair_at, numbered, number_without, Reason, in_map, in_append_left, in_append_right, map-map, list_any-map, length-below, is_on, HasLanes, on_and, IsSizes, lanes_of, NamedSys, system_of, lanes_in, Board, as_entry, pairs_of, has_entry, nodes_of, set_lanes, entries_in, entries_at, Event, in_lanes, set_lanes-zero, IsShaped, list_with, entries_from, IsPart, list_any}
 use Rattle.std.proofs.lemmas.List.Elements.{filter-append}
 use Rattle.roman_model.specs.Change.{may_go}
 use Rattle.roman_model.specs.NumberedChange.{number_entry_without, first_numbers}

@@ -1,5 +1,5 @@
 -- The replay of a row's entries that stand for several pairs each, part by part.
-use Rattle.roman_repair.proofs.Common.{◌≡◌, ℕ, zero, suc, ◌+◌, ◌-◌, ◌*◌, ◌/◌, ◌<◌, ◌≤◌, Bool, true, false, ◌||◌, append-nil, List, [], ◌∷◌, ◌++◌, map, flat_map, filter, cond, Option, refl, sym, ap, ap₂, ◌∙◌, subst, arith, append_assoc, map-map, bit_or, not, ◌^◌, inl, inr, bit_not, w64, cases_eq, both_ways, on_not, mul-le-mul_left, map-append, flat_map-append, sum_by-append, below, Arena, Entry, grown_numbers, Reason, filter_below_more, is_on, on_or, readings_of_reason, as_entry, set_lanes, entries_in, entries_from, AreCandidates, AreSlices, with_replay, readings_of_entries, MayAskAlone, IsIntact}
+use Rattle.roman_repair.proofs.Common.{◌≡◌, ℕ, zero, suc, ◌+◌, ◌-◌, ◌*◌, ◌/◌, ◌<◌, ◌≤◌, Bool, true, false, ◌||◌, append-nil, List, [], ◌∷◌, ◌++◌, map, flat_map, filter, cond, Option, refl, sym, ap, ap₂, ◌∙◌, subst, arith, append_assoc, bit_or, not, ◌^◌, inl, inr, map-map, filter_below_more, bit_not, w64, cases_eq, both_ways, on_not, on_or, mul-le-mul_left, map-append, flat_map-append, sum_by-append, below, Arena, Entry, grown_numbers, Reason, is_on, readings_of_reason, as_entry, set_lanes, entries_in, entries_from, AreCandidates, AreSlices, with_replay, readings_of_entries, MayAskAlone, IsIntact}
 use Rattle.std.proofs.lemmas.Nat.{div-mul-add}
 use Rattle.roman_repair.proofs.BandAnswers.{not_twice}
 use Rattle.roman_repair.proofs.Keeping.{candidates_left, candidates_replayed}

@@ -1,5 +1,5 @@
 -- Entries that are judged by one seat.
-use Rattle.roman_repair.proofs.Common.{◌≡◌, ℕ, zero, suc, ◌+◌, ◌*◌, ◌^◌, ◌<◌, ◌≤◌, ◌==◌, Bool, true, false, not, cond, if◌then◌else◌, ◌||◌, List, [], ◌∷◌, ◌++◌, length, Option, None, Some, IsTrue, IsFalse, count_by, inl, inr, refl, sym, ap, ◌∙◌, subst, arith, append-nil, append_assoc, both_ways, or_left, eqb-true, false_from_ne_true, IsIn, below, Arena, Entry, is_listed, is_justified, Reason, Final, Act, listed_append, is_on, on_zero, bit_not, w64, readings_of_reason, readings_of_entries, is_possible, AreCandidates, with_replay, readings_of-allowed, Board, set_lanes, entries_in, set_lanes-zero, list_any, and_from, cases_eq, or_cases, or_right, false≢true, all_below, is_empty, all_below_from, any_from, any_true, by_test, justified_is, on_not, without_seat, AreKept, MayAskAlone, IsIntact, lets_hold}
+use Rattle.roman_repair.proofs.Common.{◌≡◌, ℕ, zero, suc, ◌+◌, ◌*◌, ◌^◌, ◌<◌, ◌≤◌, ◌==◌, Bool, true, false, not, cond, if◌then◌else◌, ◌||◌, List, [], ◌∷◌, ◌++◌, length, Option, None, Some, IsTrue, IsFalse, count_by, inl, inr, refl, sym, ap, ◌∙◌, subst, arith, append-nil, append_assoc, both_ways, or_left, eqb-true, false_from_ne_true, and_from, cases_eq, or_cases, or_right, false≢true, IsIn, below, all_below, is_empty, Arena, Entry, is_listed, is_justified, Reason, Final, Act, listed_append, all_below_from, any_from, any_true, by_test, justified_is, is_on, on_zero, on_not, bit_not, w64, readings_of_reason, readings_of_entries, is_possible, AreCandidates, with_replay, readings_of-allowed, Board, set_lanes, entries_in, set_lanes-zero, list_any, without_seat, AreKept, MayAskAlone, IsIntact, lets_hold}
 use Rattle.std.proofs.Common.{add-one}
 use Rattle.roman_model.specs.Arena.{is_beaten}
 use Rattle.roman_rules.proofs.CallerLemmas.{count_below_more}

@@ -1,5 +1,5 @@
 -- What a replay keeps, candidate by candidate.
-use Rattle.roman_repair.proofs.Common.{◌≡◌, ℕ, ◌+◌, ◌*◌, ◌<◌, ◌≤◌, Bool, true, false, if◌then◌else◌, ◌&&◌, List, [], ◌∷◌, ◌++◌, flat_map, length, IsTrue, count_by, inl, inr, refl, sym, ap, ◌∙◌, subst, arith, append-nil, append_assoc, false_from_ne_true, eqb-true, map-append, sum_by-cons, sum_by-append, flat_map-append, list_any-append, IsIn, HasNoRepeats, below, Arena, Entry, is_listed, is_justified, readings, Reason, Final, Act, grown_numbers, in_map, from_map, in_append_left, in_below, IsNumbered, IsReasonOf, readings_of_reason, readings_of-allowed, Board, nodes_of, is_possible, AreCandidates, with_replay, readings_of_entries, is_among}
+use Rattle.roman_repair.proofs.Common.{◌≡◌, ℕ, ◌+◌, ◌*◌, ◌<◌, ◌≤◌, Bool, true, false, if◌then◌else◌, ◌&&◌, List, [], ◌∷◌, ◌++◌, flat_map, length, IsTrue, count_by, inl, inr, refl, sym, ap, ◌∙◌, subst, arith, append-nil, append_assoc, false_from_ne_true, eqb-true, map-append, sum_by-cons, sum_by-append, flat_map-append, list_any-append, IsIn, HasNoRepeats, below, Arena, Entry, is_listed, is_justified, readings, is_among, Reason, Final, Act, grown_numbers, in_map, from_map, in_append_left, in_below, IsNumbered, IsReasonOf, readings_of_reason, readings_of-allowed, Board, nodes_of, is_possible, AreCandidates, with_replay, readings_of_entries}
 use Rattle.std.proofs.Common.{sum_by}
 use Rattle.std.proofs.lemmas.Bool.{or_from}
 use Rattle.roman_model.specs.Arena.{replay_from}

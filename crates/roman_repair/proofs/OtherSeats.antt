@@ -1,5 +1,5 @@
 -- After a thaw or a join each entry of the old list would be kept if the changed seat had no outcomes.
-use Rattle.roman_repair.proofs.Common.{◌≡◌, ℕ, zero, suc, ◌+◌, ◌*◌, ◌%◌, ◌<◌, ◌==◌, Bool, true, false, not, ◌&&◌, ◌||◌, List, [], ◌∷◌, ◌++◌, map, flat_map, length, Some, IsTrue, IsFalse, if◌then◌else◌, slice_get, slice_index, inl, inr, refl, sym, ap, ◌∙◌, subst, arith, append-nil, append_assoc, both_ways, eqb-true, or_left, IsIn, below, product_of, Arena, Entry, IsOrder, is_listed, is_justified, Reason, Final, Act, length-map, Sys, Seat, IsSys, is_final, Sizes, sizes_of, count, pair_at, numbered, turned, sizes-turned, in_map, from_map, AreNumbers, in_below, justified_more, listed_append, map-map, grown_numbers, NamedSys, system_of, IsNamedSys, Board, pairs_of, has_entry, IsRelation, listed_numbers, candidates, list_any, and_from, and_parts, eq-eqb, or_cases, or_right, length_push, is_among, all_below, is_empty, number, is_ready, all_below_from, any_from, any_true, by_test, flat_map_same, from_below, justified_is, map-flat_map, number_allows-turned, pair_at-grown, sizes-joined, without_seat, AreKept, MayAskAlone}
+use Rattle.roman_repair.proofs.Common.{◌≡◌, ℕ, zero, suc, ◌+◌, ◌*◌, ◌%◌, ◌<◌, ◌==◌, Bool, true, false, not, ◌&&◌, ◌||◌, List, [], ◌∷◌, ◌++◌, map, flat_map, length, Some, IsTrue, IsFalse, if◌then◌else◌, slice_get, slice_index, inl, inr, refl, sym, ap, ◌∙◌, subst, arith, append-nil, append_assoc, both_ways, eqb-true, or_left, and_from, and_parts, eq-eqb, or_cases, or_right, IsIn, below, product_of, all_below, is_empty, Arena, Entry, IsOrder, is_listed, is_justified, is_among, Reason, Final, Act, length-map, length_push, Sys, Seat, IsSys, is_final, Sizes, sizes_of, count, pair_at, numbered, number, turned, sizes-turned, in_map, from_map, AreNumbers, in_below, justified_more, listed_append, map-map, all_below_from, any_from, any_true, by_test, flat_map_same, from_below, justified_is, map-flat_map, number_allows-turned, pair_at-grown, sizes-joined, grown_numbers, NamedSys, system_of, IsNamedSys, Board, pairs_of, has_entry, IsRelation, listed_numbers, candidates, list_any, is_ready, without_seat, AreKept, MayAskAlone}
 use Rattle.std.proofs.Common.{slice_set}
 use Rattle.roman_model.specs.Arena.{IsOrderFrom}
 use Rattle.roman_model.specs.Change.{grown, set_frozen}

@@ -4,7 +4,6 @@ pub use Rattle.std.proofs.Math.Dec.{ltb}
 pub use Rattle.std.proofs.lemmas.Fmt.{length-decimal-le}
 pub use Rattle.std.proofs.lemmas.List.{append-nil, length-take, take_all}
 pub use Rattle.std.proofs.lemmas.List.Sums.{passes_at_first}
-pub use Rattle.std.proofs.lemmas.Result.{err_from_is_err_and}
 pub use Rattle.std.proofs.lemmas.Simd.{length-chunk}
 pub use Rattle.std.specs.List.{position, position_or_len}
 pub use Rattle.roman_io.proofs.CallerLemmas.{Wrote-nil, WrotePrefix-append}

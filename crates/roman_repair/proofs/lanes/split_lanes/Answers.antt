@@ -1,4 +1,4 @@
-use Rattle.roman_repair.proofs.Common.{◌≡◌, ◌++◌, true, bit_and, sym, ap, ◌∙◌, inl, inr, append-nil, arith, trailing_zeros, w64, cases_lt, both_ways, and_parts, is_on, on_and, on_zero, set_lanes, set_lanes-zero, and_from}
+use Rattle.roman_repair.proofs.Common.{◌≡◌, ◌++◌, true, bit_and, sym, ap, ◌∙◌, inl, inr, append-nil, arith, trailing_zeros, w64, cases_lt, both_ways, and_parts, and_from, is_on, on_and, on_zero, set_lanes, set_lanes-zero}
 use Rattle.roman_order.proofs.CallerLemmas.{some_lane}
 use Rattle.roman_repair.proofs.Fronts.{first_lane, is_cut, cut_lanes, front_fits, front_off, front_some, on_in, in_some, false_else, both_fit}
 use Rattle.roman_repair.proofs.lanes.split_lanes.Goals as goal

@@ -1,4 +1,4 @@
-use Rattle.roman_repair.proofs.Common.{◌<◌, ap, not, ◌∙◌, arith, on_not, both_ways, is_on, on_zero}
+use Rattle.roman_repair.proofs.Common.{◌<◌, ap, not, ◌∙◌, arith, on_not, on_zero, both_ways, is_on}
 use Rattle.roman_repair.proofs.BandAnswers.{not_twice}
 use Rattle.roman_repair.proofs.asked_band.AskedBand.ask_alone.Goals as goal
 
