@@ -1,10 +1,12 @@
 -- Bands of rows: runs of neighbouring rows, which differ only in the states of the last seats before the lanes.
 use Rattle.std.specs.Prelude.{◌≡◌, ℕ, ◌+◌, ◌*◌, ◌^◌, ◌<◌, ◌≤◌, ◌&&◌, All, Bool, false, List, length, slice_index}
 use Rattle.roman_model.specs.System.{Sys}
-use Rattle.roman_model.specs.Numbers.{sizes_of}
+use Rattle.roman_model.specs.Arena.{is_beaten}
+use Rattle.roman_model.specs.Numbers.{sizes_of, numbered}
 use Rattle.roman_radix.specs.Rows.{low_of, lanes_of, row_sizes}
-use Rattle.roman_lanes.specs.Rows.{is_on}
-use Rattle.roman_joint.specs.Rows.{lanes_in, AreAlive}
+use Rattle.roman_lanes.specs.Rows.{is_on, Keeps}
+use Rattle.roman_joint.specs.Rows.{lanes_in, lane_state_of, AreAlive, IsRow, IsTargetMove}
+use Rattle.roman_joint.specs.declared.row.Row.{Row}
 use Rattle.roman_joint.specs.declared.turn.TargetMove.{TargetMove}
 
 -- the number of seats before a band's own
@@ -33,3 +35,15 @@ pub record KeepsWhere (s : Sys) (x : ℕ) (meant : ℕ → Type 0) (test : ℕ �
   pub each : (i lane : ℕ) → i < band_in s → lane < lanes_in s → meant i → is_on (slice_index new i) lane ≡ (is_on (slice_index old i) lane && test ((x + i) * lanes_in s + lane))
   pub others : (i : ℕ) → (meant i → ⊥) → slice_index new i ≡ slice_index old i
   pub none : (i lane : ℕ) → is_on (slice_index old i) lane ≡ false → is_on (slice_index new i) lane ≡ false
+
+-- in the band that the row begins, the pairs stay at which seat k doesn't serve the action; `alive` has the alive lanes of each row's turn
+abbrev pub ClearsServed : Sys → Row → List ℕ → ℕ → ℕ → List ℕ → List ℕ → Type 0
+ClearsServed s row alive a k old new =
+    (y : ℕ) (gone : ℕ → Bool) (turn : TargetMove) → IsRow s (y * band_in s) row → IsTargetMove s row a turn → AllAlive s gone turn alive →
+    Keeps (lanes_in s) (y * band_in s) (band_in s) (λ p. is_beaten (numbered s) gone p a k) old new
+
+-- the same in the rows in which the seat is in state b
+abbrev pub ClearsServedIn : Sys → Row → List ℕ → ℕ → ℕ → ℕ → List ℕ → List ℕ → Type 0
+ClearsServedIn s row alive a k b old new =
+    (y : ℕ) (gone : ℕ → Bool) (turn : TargetMove) → IsRow s (y * band_in s) row → IsTargetMove s row a turn → AllAlive s gone turn alive →
+    KeepsWhere s (y * band_in s) (λ i. lane_state_of (row_sizes (sizes_of s)) k i ≡ b) (λ p. is_beaten (numbered s) gone p a k) old new

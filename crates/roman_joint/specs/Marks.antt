@@ -1,18 +1,20 @@
 -- Marks on the bands from which a band can be reached.
-use Rattle.std.specs.Prelude.{◌≡◌, ℕ, ◌+◌, ◌*◌, ◌/◌, ◌<◌, List, length, slice_get, slice_index, IsTrue}
+use Rattle.std.specs.Prelude.{◌≡◌, ℕ, ◌+◌, ◌*◌, ◌/◌, ◌<◌, List, true, length, slice_get, slice_index, IsTrue}
 use Rattle.std.specs.List.{flat_map}
 use Rattle.roman_model.specs.Lists.{IsIn, below}
 use Rattle.roman_model.specs.System.{Sys, Pair}
 use Rattle.roman_model.specs.SystemArena.{env_prev, beh_prev}
 use Rattle.roman_model.specs.Arena.{Delegation}
-use Rattle.roman_model.specs.Numbers.{sizes_of}
+use Rattle.roman_model.specs.Numbers.{sizes_of, count, numbered}
 use Rattle.roman_radix.specs.Radix.{stride_of}
 use Rattle.roman_radix.specs.Rows.{env_rows_of, target_rows_of}
 use Rattle.roman_lanes.specs.Flags.{has_flag}
 use Rattle.roman_joint.specs.Backward.{seat_prev, from_seat}
-use Rattle.roman_joint.specs.Rows.{lanes_in}
+use Rattle.roman_joint.specs.NamedSys.{system_of}
+use Rattle.roman_joint.specs.Rows.{lanes_in, IsRow}
 use Rattle.roman_joint.specs.Bands.{mid_in, band_in}
 use Rattle.roman_joint.specs.declared.row.Row.{Row}
+use Rattle.roman_joint.specs.declared.marks.Arrival.{Arrival}
 
 -- the band is marked, if the table has a place for it
 abbrev pub IsMarked : List ℕ → ℕ → Type 0
@@ -26,6 +28,12 @@ pub record Grows (old new : List ℕ) : Type 0 where
 -- the row at the target's t and the environment's e, with the row's states of the seats before the lanes
 abbrev pub row_at : Sys → Row → ℕ → ℕ → ℕ
 row_at s row e t = t * target_rows_of (sizes_of s) + e * env_rows_of (sizes_of s) + row.part
+
+-- the row, the environment's state and the action are those of the joint
+pub record IsArrival (by : Arrival) : Type 0 where
+  pub row : (x : ℕ) × IsRow (system_of by.joint.now) x by.row.now
+  pub env : by.env < (system_of by.joint.now).env.states
+  pub action : by.action < (system_of by.joint.now).env.actions
 
 -- the bands are marked from which seat k goes by a, in environment state e, to its state in the row; `base` is the earlier row with the seat unmoved, u its stride in rows
 pub record MarksSeat (s : Sys) (row : Row) (marks : List ℕ) (a e base k : ℕ) : Type 0 where
@@ -44,6 +52,12 @@ pub record MarksEnv (s : Sys) (row : Row) (marks : List ℕ) (a e : ℕ) : Type 
 -- the bands from which a leads to the row's band are marked
 pub record MarksAction (s : Sys) (row : Row) (marks : List ℕ) (a : ℕ) : Type 0 where
   pub envs : (e : ℕ) → IsIn e (env_prev s.env row.env a) → MarksEnv s row marks a e
+
+-- the bands are marked with a pair that has a pair of the row's band as an outcome
+abbrev pub MarksBefore : Sys → Row → List ℕ → Type 0
+MarksBefore s row marks =
+    (y i lane p a k : ℕ) → IsRow s (y * band_in s) row → i < band_in s → lane < lanes_in s → p < count (sizes_of s) →
+    IsIn ((y * band_in s + i) * lanes_in s + lane) ((numbered s).outcomes p a k) → has_flag marks (p / lanes_in s / band_in s) ≡ true
 
 -- the pair has the states that all pairs of the row's band share
 pub record IsAt (s : Sys) (row : Row) (q : Pair) : Type 0 where

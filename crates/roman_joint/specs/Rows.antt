@@ -1,5 +1,5 @@
 -- Rows of a system's pairs.
-use Rattle.std.specs.Prelude.{◌≡◌, ℕ, ◌+◌, ◌*◌, ◌/◌, ◌%◌, ◌<◌, ◌≤◌, ◌==◌, ◌&&◌, ◌||◌, ltb, Bool, true, not, Option, None, Some, [], ◌∷◌, length, slice_index, IsFalse}
+use Rattle.std.specs.Prelude.{◌≡◌, ℕ, ◌+◌, ◌*◌, ◌/◌, ◌%◌, ◌<◌, ◌≤◌, ◌==◌, ◌&&◌, ◌||◌, ltb, Bool, true, not, List, Option, None, Some, [], ◌∷◌, length, slice_index, IsFalse}
 use Rattle.std.specs.List.{list_any}
 use Rattle.roman_model.specs.Lists.{is_empty}
 use Rattle.roman_model.specs.System.{Sys, Seat, is_final}
@@ -7,7 +7,7 @@ use Rattle.roman_model.specs.SystemArena.{env_next, beh_next}
 use Rattle.roman_model.specs.Numbers.{Sizes, sizes_of, count, pair_at}
 use Rattle.roman_radix.specs.Radix.{stride_of}
 use Rattle.roman_radix.specs.Rows.{low_of, lanes_of, row_sizes, env_rows_of, target_rows_of}
-use Rattle.roman_lanes.specs.Rows.{is_on}
+use Rattle.roman_lanes.specs.Rows.{is_on, AreRows}
 use Rattle.roman_joint.specs.TargetViews.{ArePermitted, AreLeading}
 use Rattle.roman_joint.specs.declared.layout.Rows.{Rows}
 use Rattle.roman_joint.specs.declared.row.Row.{Row}
@@ -72,6 +72,10 @@ pub record IsTargetMove (s : Sys) (row : Row) (a : ℕ) (turn : TargetMove) : Ty
 -- these are the alive lanes of the turn: those at which it leads to no pair that is gone, in any state of the environment
 pub record AreAlive (s : Sys) (gone : ℕ → Bool) (turn : TargetMove) (alive : ℕ) : Type 0 where
   pub each : (lane : ℕ) → lane < lanes_in s → is_on alive lane ≡ not (list_any (λ e. gone ((turn.base + e * env_rows_of (sizes_of s)) * lanes_in s + lane)) turn.envs.now)
+
+-- the words have, row by row, the bits of the pairs that aren't gone
+abbrev pub HasAlive : Sys → (ℕ → Bool) → List ℕ → Type 0
+HasAlive s gone words = AreRows (lanes_in s) (λ q. not (gone q)) words
 
 -- the seat may rest in state b: the state is final, or the seat needn't rest
 abbrev pub may_rest : Option Seat → ℕ → Bool

@@ -4,13 +4,11 @@ ghost use Rattle.roman_model.specs.Lists.{all_below, below};
 ghost use Rattle.roman_model.specs.Arena.{is_beaten, is_justified, mask as mask_of};
 ghost use Rattle.roman_model.specs.Numbers.{sizes_of, count, numbered};
 ghost use Rattle.roman_model.specs.declared.reason.Reason.TheVariants.{Act};
-ghost use Rattle.roman_radix.specs.Rows.{row_sizes};
-ghost use Rattle.roman_lanes.specs.Rows.{AreRows, Keeps};
+ghost use Rattle.roman_lanes.specs.Rows.{Keeps};
 ghost use Rattle.roman_joint.specs.NamedSys.{system_of};
-ghost use Rattle.roman_joint.specs.Rows.{lanes_in, low_in, lane_state_of, IsRow, IsTargetMove};
-ghost use Rattle.roman_joint.specs.Bands.{mid_in, band_in, AllAlive, KeepsWhere};
+ghost use Rattle.roman_joint.specs.Rows.{lanes_in, low_in, HasAlive, IsRow, IsTargetMove};
+ghost use Rattle.roman_joint.specs.Bands.{mid_in, band_in, AllAlive, ClearsServed, ClearsServedIn};
 ghost use Rattle.roman_joint.specs.declared.row.Row.{Row};
-ghost use Rattle.roman_joint.specs.declared.turn.TargetMove.{TargetMove};
 
 use crate::joint::Joint;
 use crate::moving::clear_moving;
@@ -45,8 +43,7 @@ pub(crate) fn clear_before(
     ensures all { length all.new ≡ length all.old }
     ensures long { length left.new ≡ length left.old }
     ensures left { let s = system_of joint.now in
-        (y : ℕ) (gone : ℕ → Bool) → IsRow s (y * band_in s) row.now →
-        AreRows (lanes_in s) (λ q. not (gone q)) words.now →
+        (y : ℕ) (gone : ℕ → Bool) → IsRow s (y * band_in s) row.now → HasAlive s gone words.now →
         Keeps (lanes_in s) (y * band_in s) (band_in s) (λ p. is_beaten (numbered s) gone p a k) left.old left.new }
 {
     let rows = joint.layout();
@@ -79,7 +76,7 @@ fn alive_each(joint: &Joint, words: &[u64], turn: &TargetMove<'_>, alive: &mut [
     requires room { length words.now * lanes_in (system_of joint.now) ≡ count (sizes_of (system_of joint.now)) }
     requires long { band_in (system_of joint.now) ≤ length alive.old }
     ensures long { length alive.new ≡ length alive.old }
-    ensures alive { (gone : ℕ → Bool) → AreRows (lanes_in (system_of joint.now)) (λ q. not (gone q)) words.now →
+    ensures alive { (gone : ℕ → Bool) → HasAlive (system_of joint.now) gone words.now →
         AllAlive (system_of joint.now) gone turn.now alive.new }
 {
     let rows = joint.layout();
@@ -99,10 +96,7 @@ fn clear_own_state(joint: &Joint, row: &Row, alive: &[u64], a: u8, k: u8, b: u8,
     requires alive { band_in (system_of joint.now) ≤ length alive.now }
     requires long { length left.old ≡ band_in (system_of joint.now) }
     ensures long { length left.new ≡ length left.old }
-    ensures left { let s = system_of joint.now in
-        (y : ℕ) (gone : ℕ → Bool) (turn : TargetMove) → IsRow s (y * band_in s) row.now →
-        IsTargetMove s row.now a turn → AllAlive s gone turn alive.now →
-        KeepsWhere s (y * band_in s) (λ i. lane_state_of (row_sizes (sizes_of s)) k i ≡ b) (λ p. is_beaten (numbered s) gone p a k) left.old left.new }
+    ensures left { ClearsServedIn (system_of joint.now) row.now alive.now a k b left.old left.new }
 {
     let rows = joint.layout();
     let states = next_states(joint, k, b, row.env, a);
@@ -125,10 +119,7 @@ fn clear_own(joint: &Joint, row: &Row, alive: &[u64], a: u8, k: u8, left: &mut [
     requires alive { band_in (system_of joint.now) ≤ length alive.now }
     requires long { length left.old ≡ band_in (system_of joint.now) }
     ensures long { length left.new ≡ length left.old }
-    ensures left { let s = system_of joint.now in
-        (y : ℕ) (gone : ℕ → Bool) (turn : TargetMove) → IsRow s (y * band_in s) row.now →
-        IsTargetMove s row.now a turn → AllAlive s gone turn alive.now →
-        Keeps (lanes_in s) (y * band_in s) (band_in s) (λ p. is_beaten (numbered s) gone p a k) left.old left.new }
+    ensures left { ClearsServed (system_of joint.now) row.now alive.now a k left.old left.new }
 {
     let rows = joint.layout();
     for b in 0..rows.sizes[k as usize] {
@@ -146,10 +137,7 @@ fn clear_within(joint: &Joint, row: &Row, alive: &[u64], a: u8, k: u8, left: &mu
     requires alive { band_in (system_of joint.now) ≤ length alive.now }
     requires long { length left.old ≡ band_in (system_of joint.now) }
     ensures long { length left.new ≡ length left.old }
-    ensures left { let s = system_of joint.now in
-        (y : ℕ) (gone : ℕ → Bool) (turn : TargetMove) → IsRow s (y * band_in s) row.now →
-        IsTargetMove s row.now a turn → AllAlive s gone turn alive.now →
-        Keeps (lanes_in s) (y * band_in s) (band_in s) (λ p. is_beaten (numbered s) gone p a k) left.old left.new }
+    ensures left { ClearsServed (system_of joint.now) row.now alive.now a k left.old left.new }
 {
     joint.layout();
     if joint.seat(k).frozen {
@@ -169,10 +157,7 @@ fn clear_behind(joint: &Joint, row: &Row, alive: &[u64], a: u8, k: u8, left: &mu
     requires alive { band_in (system_of joint.now) ≤ length alive.now }
     requires long { length left.old ≡ band_in (system_of joint.now) }
     ensures long { length left.new ≡ length left.old }
-    ensures left { let s = system_of joint.now in
-        (y : ℕ) (gone : ℕ → Bool) (turn : TargetMove) → IsRow s (y * band_in s) row.now →
-        IsTargetMove s row.now a turn → AllAlive s gone turn alive.now →
-        Keeps (lanes_in s) (y * band_in s) (band_in s) (λ p. is_beaten (numbered s) gone p a k) left.old left.new }
+    ensures left { ClearsServed (system_of joint.now) row.now alive.now a k left.old left.new }
 {
     if k < joint.layout().low {
         clear_own(joint, row, alive, a, k, left);
@@ -197,8 +182,7 @@ fn clear_served(
     requires long { length left.old ≡ band_in (system_of joint.now) }
     ensures long { length left.new ≡ length left.old }
     ensures left { let s = system_of joint.now in
-        (y : ℕ) (gone : ℕ → Bool) → IsRow s (y * band_in s) row.now →
-        AreRows (lanes_in s) (λ q. not (gone q)) words.now →
+        (y : ℕ) (gone : ℕ → Bool) → IsRow s (y * band_in s) row.now → HasAlive s gone words.now →
         Keeps (lanes_in s) (y * band_in s) (band_in s) (λ p. all_below (is_beaten (numbered s) gone p a) (length s.seats)) left.old left.new }
 {
     let rows = joint.layout();
@@ -242,7 +226,7 @@ fn clear_seat(
     ensures long { length left.new ≡ length left.old }
     ensures left { let s = system_of joint.now in
         (y : ℕ) (gone : ℕ → Bool) → IsRow s (y * band_in s) row.now →
-        AreRows (lanes_in s) (λ q. not (gone q)) words.now → AllAlive s gone turn.now alive.now →
+        HasAlive s gone words.now → AllAlive s gone turn.now alive.now →
         Keeps (lanes_in s) (y * band_in s) (band_in s) (λ p. is_beaten (numbered s) gone p a k) left.old left.new }
 {
     if k < joint.layout().mid {
@@ -278,7 +262,7 @@ fn served_by(
     ensures long { length left.new ≡ length left.old }
     ensures counted { let s = system_of joint.now in
         (y : ℕ) (gone : ℕ → Bool) → IsRow s (y * band_in s) row.now →
-        AreRows (lanes_in s) (λ q. not (gone q)) words.now → AllAlive s gone turn.now alive.now →
+        HasAlive s gone words.now → AllAlive s gone turn.now alive.now →
         result ≡ sum_by (λ i. count_by (λ lane. not (is_beaten (numbered s) gone ((y * band_in s + i) * lanes_in s + lane) a k)) (below (lanes_in s))) (below (band_in s)) }
     ensures few { result ≤ 4096 }
 {
@@ -304,8 +288,7 @@ impl Joint {
         requires long { length left.old ≡ band_in (system_of self.now) }
         ensures long { length left.new ≡ length left.old }
         ensures lost { let s = system_of self.now in
-            (y : ℕ) (gone : ℕ → Bool) → IsRow s (y * band_in s) row.now →
-            AreRows (lanes_in s) (λ q. not (gone q)) words.now →
+            (y : ℕ) (gone : ℕ → Bool) → IsRow s (y * band_in s) row.now → HasAlive s gone words.now →
             Keeps (lanes_in s) (y * band_in s) (band_in s) (λ p. is_justified (numbered s) gone p (Act a)) left.old left.new }
     {
         self.known();
@@ -331,8 +314,7 @@ impl Joint {
         requires long { length left.old ≡ band_in (system_of self.now) }
         ensures long { length left.new ≡ length left.old }
         ensures left { let s = system_of self.now in
-            (y : ℕ) (gone : ℕ → Bool) → IsRow s (y * band_in s) row.now →
-            AreRows (lanes_in s) (λ q. not (gone q)) words.now →
+            (y : ℕ) (gone : ℕ → Bool) → IsRow s (y * band_in s) row.now → HasAlive s gone words.now →
             Keeps (lanes_in s) (y * band_in s) (band_in s) (λ p. is_beaten (numbered s) gone p a k) left.old left.new }
     {
         self.known();
@@ -353,8 +335,7 @@ impl Joint {
         requires action { a < (system_of self.now).env.actions }
         requires room { length words.now * lanes_in (system_of self.now) ≡ count (sizes_of (system_of self.now)) }
         ensures counted { let s = system_of self.now in
-            (y : ℕ) (gone : ℕ → Bool) → IsRow s (y * band_in s) row.now →
-            AreRows (lanes_in s) (λ q. not (gone q)) words.now →
+            (y : ℕ) (gone : ℕ → Bool) → IsRow s (y * band_in s) row.now → HasAlive s gone words.now →
             result ≡ sum_by (λ i. sum_by (λ lane. length (mask_of (numbered s) gone ((y * band_in s + i) * lanes_in s + lane) a))
             (below (lanes_in s))) (below (band_in s)) }
         ensures few { result ≤ 131072 }

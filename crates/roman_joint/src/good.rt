@@ -5,10 +5,10 @@ ghost use Rattle.roman_model.specs.System.{has};
 ghost use Rattle.roman_model.specs.Arena.{is_beaten, is_justified, mask as mask_of};
 ghost use Rattle.roman_model.specs.Numbers.{sizes_of, count, numbered};
 ghost use Rattle.roman_model.specs.declared.reason.Reason.TheVariants.{Act};
-ghost use Rattle.roman_lanes.specs.Rows.{is_on, HasLanes, AreRows};
+ghost use Rattle.roman_lanes.specs.Rows.{is_on, HasLanes};
 ghost use Rattle.roman_rules.specs.Bits.{HasBits};
 ghost use Rattle.roman_joint.specs.NamedSys.{system_of};
-ghost use Rattle.roman_joint.specs.Rows.{lanes_in, low_in, IsRow, IsTargetMove, AreAlive};
+ghost use Rattle.roman_joint.specs.Rows.{lanes_in, low_in, HasAlive, IsRow, IsTargetMove, AreAlive};
 ghost use Rattle.roman_joint.specs.declared.row.Row.{Row};
 ghost use Rattle.roman_joint.specs.declared.turn.TargetMove.{TargetMove};
 
@@ -28,8 +28,7 @@ fn good_before(joint: &Joint, words: &[u64], row: &Row, turn: &TargetMove<'_>, a
     requires room { length words.now * lanes_in (system_of joint.now) ≡ count (sizes_of (system_of joint.now)) }
     requires seat { k < low_in (system_of joint.now) }
     ensures { let s = system_of joint.now in
-        (x : ℕ) (gone : ℕ → Bool) → IsRow s x row.now →
-        AreRows (lanes_in s) (λ q. not (gone q)) words.now →
+        (x : ℕ) (gone : ℕ → Bool) → IsRow s x row.now → HasAlive s gone words.now →
         HasLanes (lanes_in s) x (λ p. not (is_beaten (numbered s) gone p a k)) result }
 {
     let rows = joint.layout();
@@ -56,7 +55,7 @@ fn good_before(joint: &Joint, words: &[u64], row: &Row, turn: &TargetMove<'_>, a
 fn alive_on(joint: &Joint, words: &[u64], turn: &TargetMove<'_>) -> u64
     requires turn { (x : ℕ) × (row : Row) × (a : ℕ) × IsRow (system_of joint.now) x row × IsTargetMove (system_of joint.now) row a turn.now }
     requires room { length words.now * lanes_in (system_of joint.now) ≡ count (sizes_of (system_of joint.now)) }
-    ensures { (gone : ℕ → Bool) → AreRows (lanes_in (system_of joint.now)) (λ q. not (gone q)) words.now →
+    ensures { (gone : ℕ → Bool) → HasAlive (system_of joint.now) gone words.now →
         AreAlive (system_of joint.now) gone turn.now result }
 {
     let rows = joint.layout();
@@ -102,7 +101,7 @@ fn good_on(
     requires seat { k < length joint.now.seats }
     ensures { let s = system_of joint.now in
         (x : ℕ) (gone : ℕ → Bool) → IsRow s x row.now →
-        AreRows (lanes_in s) (λ q. not (gone q)) words.now → AreAlive s gone turn.now alive →
+        HasAlive s gone words.now → AreAlive s gone turn.now alive →
         HasLanes (lanes_in s) x (λ p. not (is_beaten (numbered s) gone p a k)) result }
 {
     if k < joint.layout().low {
@@ -135,8 +134,7 @@ impl Joint {
         requires seat { k < length self.now.seats }
         requires room { length words.now * lanes_in (system_of self.now) ≡ count (sizes_of (system_of self.now)) }
         ensures { let s = system_of self.now in
-            (x : ℕ) (gone : ℕ → Bool) → IsRow s x row.now →
-            AreRows (lanes_in s) (λ q. not (gone q)) words.now →
+            (x : ℕ) (gone : ℕ → Bool) → IsRow s x row.now → HasAlive s gone words.now →
             HasLanes (lanes_in s) x (λ p. not (is_beaten (numbered s) gone p a k)) result }
     {
         self.known();
@@ -156,8 +154,7 @@ impl Joint {
         requires lane { lane < lanes_in (system_of self.now) }
         requires room { length words.now * lanes_in (system_of self.now) ≡ count (sizes_of (system_of self.now)) }
         ensures { let s = system_of self.now in
-            (x : ℕ) (gone : ℕ → Bool) → IsRow s x row.now →
-            AreRows (lanes_in s) (λ q. not (gone q)) words.now →
+            (x : ℕ) (gone : ℕ → Bool) → IsRow s x row.now → HasAlive s gone words.now →
             HasBits result (has (mask_of (numbered s) gone (x * lanes_in s + lane) a)) }
     {
         self.known();
@@ -181,8 +178,7 @@ impl Joint {
         requires action { a < (system_of self.now).env.actions }
         requires room { length words.now * lanes_in (system_of self.now) ≡ count (sizes_of (system_of self.now)) }
         ensures lost { let s = system_of self.now in
-            (x : ℕ) (gone : ℕ → Bool) → IsRow s x row.now →
-            AreRows (lanes_in s) (λ q. not (gone q)) words.now →
+            (x : ℕ) (gone : ℕ → Bool) → IsRow s x row.now → HasAlive s gone words.now →
             (lane : ℕ) → lane < lanes_in s →
             is_on result lane ≡ (is_on wanted lane && is_justified (numbered s) gone (x * lanes_in s + lane) (Act a)) }
         ensures within { (lane : ℕ) → is_on wanted lane ≡ false → is_on result lane ≡ false }

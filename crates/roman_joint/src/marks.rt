@@ -1,6 +1,5 @@
 //! Marking the bands from which a band can be reached.
 ghost use Rattle.std.specs.Prelude.{◌≡◌, ℕ, ◌+◌, ◌*◌, ◌/◌, ◌^◌, ◌<◌, ◌≤◌, true, length, count_by, ltb};
-ghost use Rattle.roman_model.specs.Lists.{IsIn};
 ghost use Rattle.roman_model.specs.System.{Pair};
 ghost use Rattle.roman_model.specs.Arena.{back};
 ghost use Rattle.roman_model.specs.Numbers.{sizes_of, count, numbered};
@@ -9,7 +8,7 @@ ghost use Rattle.roman_joint.specs.NamedSys.{system_of};
 ghost use Rattle.roman_joint.specs.Backward.{from_seat};
 ghost use Rattle.roman_joint.specs.Rows.{lanes_in, IsRow};
 ghost use Rattle.roman_joint.specs.Bands.{mid_in, band_in};
-ghost use Rattle.roman_joint.specs.Marks.{IsMarked, Grows, MarksSeat, MarksTurn, MarksEnv, MarksAction, IsAt, front_target, front_env, front_action};
+ghost use Rattle.roman_joint.specs.Marks.{IsMarked, Grows, IsArrival, MarksSeat, MarksTurn, MarksEnv, MarksAction, MarksBefore, IsAt, front_target, front_env, front_action};
 
 use crate::joint::Joint;
 use crate::row::Row;
@@ -53,31 +52,31 @@ fn mark_moved(marks: &mut [u64], base: u64, b: u8, stride: u32, taken: u64, band
     mark(marks, (whole - taken) / u64::from(band));
 }
 
+/// An action in a state of the environment, by which pairs can lead to the band of a row.
+#[derive(Clone, Copy)]
+struct Arrival<'a> {
+    joint: &'a Joint,
+    row: &'a Row,
+    env: u8,
+    action: u8,
+}
+
 /// Marks the bands from which the seat `k`, before the band's own, goes to its state in the row.
 /// `base` is the earlier row if the seat kept its state.
-fn mark_seat<L: Ledger>(
-    joint: &Joint,
-    row: &Row,
-    marks: &mut [u64],
-    base: u64,
-    e: u8,
-    a: u8,
-    k: u8,
-    steps: &mut Steps<L>,
-)
-    requires row { (x : ℕ) × IsRow (system_of joint.now) x row.now }
+fn mark_seat<L: Ledger>(by: &Arrival<'_>, marks: &mut [u64], base: u64, k: u8, steps: &mut Steps<L>)
+    requires arrival { IsArrival by.now }
     requires base { base < 2 ^ 50 }
-    requires env { e < (system_of joint.now).env.states }
-    requires action { a < (system_of joint.now).env.actions }
-    requires seat { k < mid_in (system_of joint.now) }
+    requires seat { k < mid_in (system_of by.now.joint.now) }
     ensures grows { Grows marks.old marks.new }
-    ensures marks { MarksSeat (system_of joint.now) row.now marks.new a e base k }
-    ensures steps { (q : Pair) (t : ℕ) → IsAt (system_of joint.now) row.now q → steps.new ≡ steps.old + length (from_seat (system_of joint.now) q a e t k) }
+    ensures marks { MarksSeat (system_of by.now.joint.now) by.now.row.now marks.new by.now.action by.now.env base k }
+    ensures steps { let s = system_of by.now.joint.now in
+        (q : Pair) (t : ℕ) → IsAt s by.now.row.now q →
+        steps.new ≡ steps.old + length (from_seat s q by.now.action by.now.env t k) }
 {
-    joint.known();
-    let rows = joint.layout();
-    let own = row.states[k as usize];
-    let states = prev_states(joint, k, own, e, a);
+    by.joint.known();
+    let rows = by.joint.layout();
+    let own = by.row.states[k as usize];
+    let states = prev_states(by.joint, k, own, by.env, by.action);
     let stride = rows.strides[k as usize];
     let taken = times(own, stride);
     for b in states {
@@ -86,54 +85,38 @@ fn mark_seat<L: Ledger>(
     }
 }
 
-/// Marks the bands at the target's state `t` and the environment's state `e` from which the action
-/// leads to the row's band. For a seat that isn't before the band's own, that is the band with the
-/// same states of the seats before.
-fn mark_turn<L: Ledger>(
-    joint: &Joint,
-    row: &Row,
-    marks: &mut [u64],
-    e: u8,
-    t: u8,
-    a: u8,
-    steps: &mut Steps<L>,
-)
-    requires row { (x : ℕ) × IsRow (system_of joint.now) x row.now }
-    requires env { e < (system_of joint.now).env.states }
-    requires action { a < (system_of joint.now).env.actions }
+/// Marks the bands at the target's state `t` from which the action leads to the row's band. For a seat
+/// that isn't before the band's own, that is the band with the same states of the seats before.
+fn mark_turn<L: Ledger>(by: &Arrival<'_>, marks: &mut [u64], t: u8, steps: &mut Steps<L>)
+    requires { IsArrival by.now }
     ensures grows { Grows marks.old marks.new }
-    ensures marks { MarksTurn (system_of joint.now) row.now marks.new a e t }
-    ensures steps { (q : Pair) → IsAt (system_of joint.now) row.now q → steps.new ≡ steps.old + length (front_target (system_of joint.now) q a e t) }
+    ensures marks { MarksTurn (system_of by.now.joint.now) by.now.row.now marks.new by.now.action by.now.env t }
+    ensures steps { let s = system_of by.now.joint.now in
+        (q : Pair) → IsAt s by.now.row.now q →
+        steps.new ≡ steps.old + length (front_target s q by.now.action by.now.env t) }
 {
-    joint.known();
-    let rows = joint.layout();
-    let base = times(t, rows.target_rows) + times(e, rows.env_rows) + u64::from(row.part);
+    by.joint.known();
+    let rows = by.joint.layout();
+    let base = times(t, rows.target_rows) + times(by.env, rows.env_rows) + u64::from(by.row.part);
     mark(marks, base / u64::from(rows.band));
     for k in 0..rows.mid {
-        mark_seat(joint, row, marks, base, e, a, k, steps);
+        mark_seat(by, marks, base, k, steps);
     }
 }
 
-/// Marks the bands at the environment's state `e` from which the action leads to the row's band.
-fn mark_env<L: Ledger>(
-    joint: &Joint,
-    row: &Row,
-    marks: &mut [u64],
-    e: u8,
-    a: u8,
-    steps: &mut Steps<L>,
-)
-    requires row { (x : ℕ) × IsRow (system_of joint.now) x row.now }
-    requires env { e < (system_of joint.now).env.states }
-    requires action { a < (system_of joint.now).env.actions }
+/// Marks the bands from which the action leads to the row's band in the state of the environment.
+fn mark_env<L: Ledger>(by: &Arrival<'_>, marks: &mut [u64], steps: &mut Steps<L>)
+    requires { IsArrival by.now }
     ensures grows { Grows marks.old marks.new }
-    ensures marks { MarksEnv (system_of joint.now) row.now marks.new a e }
-    ensures steps { (q : Pair) → IsAt (system_of joint.now) row.now q → steps.new ≡ steps.old + length (front_env (system_of joint.now) q a e) }
+    ensures marks { MarksEnv (system_of by.now.joint.now) by.now.row.now marks.new by.now.action by.now.env }
+    ensures steps { let s = system_of by.now.joint.now in
+        (q : Pair) → IsAt s by.now.row.now q →
+        steps.new ≡ steps.old + length (front_env s q by.now.action by.now.env) }
 {
-    joint.known();
-    let targets = joint.target().into(row.target, e, a);
+    by.joint.known();
+    let targets = by.joint.target().into(by.row.target, by.env, by.action);
     for t in targets {
-        mark_turn(joint, row, marks, e, *t, a, steps);
+        mark_turn(by, marks, *t, steps);
     }
 }
 
@@ -151,7 +134,13 @@ fn mark_action<L: Ledger>(joint: &Joint, row: &Row, marks: &mut [u64], a: u8, st
     }
     let envs = joint.environment().prev(row.env, a);
     for e in envs {
-        mark_env(joint, row, marks, *e, a, steps);
+        let by = Arrival {
+            joint,
+            row,
+            env: *e,
+            action: a,
+        };
+        mark_env(&by, marks, steps);
     }
 }
 
@@ -166,10 +155,7 @@ impl Joint {
         requires row { (y : ℕ) × IsRow (system_of self.now) (y * band_in (system_of self.now)) row.now }
         requires room { count (sizes_of (system_of self.now)) ≤ 64 * length marks.old * band_in (system_of self.now) * lanes_in (system_of self.now) }
         ensures long { length marks.new ≡ length marks.old }
-        ensures marked { let s = system_of self.now in
-            (y i lane p a k : ℕ) → IsRow s (y * band_in s) row.now → i < band_in s → lane < lanes_in s →
-            p < count (sizes_of s) → IsIn ((y * band_in s + i) * lanes_in s + lane) ((numbered s).outcomes p a k) →
-            has_flag marks.new (p / lanes_in s / band_in s) ≡ true }
+        ensures marked { MarksBefore (system_of self.now) row.now marks.new }
         ensures still { (y : ℕ) → has_flag marks.old y ≡ true → has_flag marks.new y ≡ true }
         ensures steps { let s = system_of self.now in
             (y i lane : ℕ) → IsRow s (y * band_in s) row.now → i < band_in s → lane < lanes_in s →

@@ -4,8 +4,8 @@ use Rattle.roman_joint.proofs.marks.mark_env.Goals as goal
 
 pub loop-t-preserved : goal.loop-t-preserved
 loop-t-preserved g c =
-    let s = system_of c.args.joint.now in
-    let row = c.args.row.now in
+    let s = system_of c.args.by.now.joint.now in
+    let row = c.args.by.now.row.now in
     let ts = c.into-targets.result.now in
     let i = c.loop-t.invariant in
     let old = c.loop-t.marks in
@@ -13,14 +13,14 @@ loop-t-preserved g c =
     let more = c.mark_turn.ensures.grows in
     record {
       grows = grows_on c.args.marks.now old new i.grows more;
-      turns = more_below c.loop-t.t-index (λ (j : ℕ). MarksTurn s row new c.args.a c.args.e (get_or ts j 0))
-          (λ j l. turn_on s row old new c.args.a c.args.e (get_or ts j 0) more (i.turns j l)) c.mark_turn.ensures.marks;
-      steps = λ q at. omega (arith, i.steps q at, c.mark_turn.ensures.steps q at, count_more (front_target s q c.args.a c.args.e) ts c.loop-t.t-index (omega arith));
+      turns = more_below c.loop-t.t-index (λ (j : ℕ). MarksTurn s row new c.args.by.now.action c.args.by.now.env (get_or ts j 0))
+          (λ j l. turn_on s row old new c.args.by.now.action c.args.by.now.env (get_or ts j 0) more (i.turns j l)) c.mark_turn.ensures.marks;
+      steps = λ q at. omega (arith, i.steps q at, c.mark_turn.ensures.steps q at, count_more (front_target s q c.args.by.now.action c.args.by.now.env) ts c.loop-t.t-index (omega arith));
     }
 
 pub returns-clause-marks : goal.returns-clause-marks
 returns-clause-marks g c = record {
-  turns = λ t i. each_in c.into-targets.result.now (λ (u : ℕ). MarksTurn (system_of c.args.joint.now) c.args.row.now c.loop-t.marks c.args.a c.args.e u)
+  turns = λ t i. each_in c.into-targets.result.now (λ (u : ℕ). MarksTurn (system_of c.args.by.now.joint.now) c.args.by.now.row.now c.loop-t.marks c.args.by.now.action c.args.by.now.env u)
       (λ j l. c.loop-t.invariant.turns j (omega (arith, c.loop-t-test.false))) t (rw (c.into-targets.ensures.prev, c.target.ensures) i);
 }
 

@@ -5,6 +5,6 @@ use Rattle.roman_joint.proofs.marks.mark_env.Given as goal
 abbrev pub invariant-loop-t : goal.invariant-loop-t
 invariant-loop-t g l = record {
   grows : Grows l.fn.marks l.marks;
-  turns : (j : ℕ) → j < l.t-index → MarksTurn (system_of l.joint) l.row l.marks l.a l.e (get_or l.targets j 0);
-  steps : (q : Pair) → IsAt (system_of l.joint) l.row q → l.steps ≡ l.fn.steps + length (flat_map (front_target (system_of l.joint) q l.a l.e) (take l.t-index l.targets));
+  turns : (j : ℕ) → j < l.t-index → MarksTurn (system_of l.by.joint.now) l.by.row.now l.marks l.by.action l.by.env (get_or l.targets j 0);
+  steps : (q : Pair) → IsAt (system_of l.by.joint.now) l.by.row.now q → l.steps ≡ l.fn.steps + length (flat_map (front_target (system_of l.by.joint.now) q l.by.action l.by.env) (take l.t-index l.targets));
 }

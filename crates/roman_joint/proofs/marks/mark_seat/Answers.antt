@@ -5,17 +5,17 @@ use Rattle.roman_joint.proofs.BandLemmas.{mid_low, first_in}
 use Rattle.roman_joint.proofs.MarkLemmas.{each_in, grows_on, marked_on, count_seat}
 use Rattle.roman_joint.proofs.marks.mark_seat.Goals as goal
 
-pub bounds-row-k : goal.bounds-row-k
-bounds-row-k g c = (low_few c.args.joint.now c.args.k c.layout-rows.ensures.known (mid_low (system_of c.args.joint.now) c.args.k c.requires.seat)).0
+pub bounds-by-k : goal.bounds-by-k
+bounds-by-k g c = (low_few c.args.by.now.joint.now c.args.k c.layout-rows.ensures.known (mid_low (system_of c.args.by.now.joint.now) c.args.k c.requires.seat)).0
 
 pub bounds-rows-k : goal.bounds-rows-k
-bounds-rows-k g c = (low_few c.args.joint.now c.args.k c.layout-rows.ensures.known (mid_low (system_of c.args.joint.now) c.args.k c.requires.seat)).0
+bounds-rows-k g c = (low_few c.args.by.now.joint.now c.args.k c.layout-rows.ensures.known (mid_low (system_of c.args.by.now.joint.now) c.args.k c.requires.seat)).0
 
 pub prev_states-states-requires-clause-seat : goal.prev_states-states-requires-clause-seat
-prev_states-states-requires-clause-seat g c = (low_few c.args.joint.now c.args.k c.layout-rows.ensures.known (mid_low (system_of c.args.joint.now) c.args.k c.requires.seat)).1
+prev_states-states-requires-clause-seat g c = (low_few c.args.by.now.joint.now c.args.k c.layout-rows.ensures.known (mid_low (system_of c.args.by.now.joint.now) c.args.k c.requires.seat)).1
 
 pub prev_states-states-requires-clause-state : goal.prev_states-states-requires-clause-state
-prev_states-states-requires-clause-state g c = c.requires.row.1.state_range c.args.k (mid_low (system_of c.args.joint.now) c.args.k c.requires.seat)
+prev_states-states-requires-clause-state g c = c.requires.arrival.row.1.state_range c.args.k (mid_low (system_of c.args.by.now.joint.now) c.args.k c.requires.seat)
 
 pub loop-b-preserved : goal.loop-b-preserved
 loop-b-preserved g c =
@@ -37,11 +37,11 @@ loop-b-preserved g c =
 
 pub returns-clause-marks : goal.returns-clause-marks
 returns-clause-marks g c =
-    let n = c.args.joint.now in
+    let n = c.args.by.now.joint.now in
     let s = system_of n in
     let r = c.layout-rows.result.now in
     let v = slice_index r.strides c.args.k in
-    let own = slice_index c.args.row.now.states c.args.k in
+    let own = slice_index c.args.by.now.row.now.states c.args.k in
     let new = c.loop-b.marks in
     record {
       moved = λ u b x h i is.
@@ -54,8 +54,8 @@ returns-clause-marks g c =
 
 pub returns-clause-steps : goal.returns-clause-steps
 returns-clause-steps g c q t at =
-    let s = system_of c.args.joint.now in
-    omega (arith, count_seat s q c.args.a c.args.e t c.args.k c.args.row.now at c.requires.seat, ap length c.prev_states-states.ensures.prev, c.loop-b.invariant.steps, c.loop-b-test.false, c.loop-b.auto.b-index-end)
+    let s = system_of c.args.by.now.joint.now in
+    omega (arith, count_seat s q c.args.by.now.action c.args.by.now.env t c.args.k c.args.by.now.row.now at c.requires.seat, ap length c.prev_states-states.ensures.prev, c.loop-b.invariant.steps, c.loop-b-test.false, c.loop-b.auto.b-index-end)
 
 pub mark_moved-requires-clause-band : goal.mark_moved-requires-clause-band
-mark_moved-requires-clause-band g c = omega (arith, c.layout-rows.ensures.rows.band, first_in (system_of c.args.joint.now) (joint_sizes c.args.joint.now c.layout-rows.ensures.known))
+mark_moved-requires-clause-band g c = omega (arith, c.layout-rows.ensures.rows.band, first_in (system_of c.args.by.now.joint.now) (joint_sizes c.args.by.now.joint.now c.layout-rows.ensures.known))
