@@ -1,5 +1,6 @@
 -- Bands of rows: runs of neighbouring rows, which differ only in the states of the last seats before the lanes.
-use Rattle.std.specs.Prelude.{◌≡◌, ℕ, ◌+◌, ◌*◌, ◌^◌, ◌<◌, ◌≤◌, ◌&&◌, All, Bool, false, List, length, slice_index}
+use Rattle.std.specs.Prelude.{◌≡◌, ℕ, ◌+◌, ◌*◌, ◌^◌, ◌<◌, ◌≤◌, ◌&&◌, not, All, Bool, false, List, length, slice_index}
+use Rattle.std.specs.List.{list_any}
 use Rattle.roman_model.specs.System.{Sys}
 use Rattle.roman_model.specs.Arena.{is_beaten}
 use Rattle.roman_model.specs.Numbers.{sizes_of, numbered}
@@ -7,6 +8,7 @@ use Rattle.roman_radix.specs.Rows.{low_of, lanes_of, row_sizes}
 use Rattle.roman_lanes.specs.Rows.{is_on, Keeps}
 use Rattle.roman_joint.specs.Rows.{lanes_in, lane_state_of, AreAlive, IsRow, IsTargetMove}
 use Rattle.roman_joint.specs.declared.row.Row.{Row}
+use Rattle.roman_joint.specs.declared.runs.Run.{Run}
 use Rattle.roman_joint.specs.declared.turn.TargetMove.{TargetMove}
 
 -- the number of seats before a band's own
@@ -25,10 +27,22 @@ turn_at turn i = record { base = turn.base + i; envs = turn.envs }
 pub record AllAlive (s : Sys) (gone : ℕ → Bool) (turn : TargetMove) (alive : List ℕ) : Type 0 where
   pub each : (i : ℕ) → i < band_in s → AreAlive s gone (turn_at turn i) (slice_index alive i)
 
--- `alive` has, for each of the states, the words of `many` neighbouring rows; the words of state 0 begin at place `from`
-pub record SuitsRun (alive states : List ℕ) (from stride many : ℕ) : Type 0 where
-  pub few : from + many < 2 ^ 32
-  pub within : All (λ b. from + many + b * stride ≤ length alive) states
+-- the run's `alive` has, for each of its states, the words of `many` neighbouring rows; the words of state 0 begin at place `from`
+pub record SuitsRun (run : Run) (many : ℕ) : Type 0 where
+  pub few : run.from + many < 2 ^ 64
+  pub within : All (λ b. run.from + many + b * run.stride ≤ length run.alive.now) run.states.now
+
+-- the new word at place i is the old one without those lanes of `full` that are set in the words of all states of the run
+abbrev pub LosesRun : Run → ℕ → ℕ → ℕ → Type 0
+LosesRun run i old new = (lane : ℕ) → is_on new lane
+    ≡ (is_on old lane && not (is_on run.full lane && not (list_any (λ b. not (is_on (slice_index run.alive.now (run.from + i + b * run.stride)) lane)) run.states.now)))
+
+-- a component of this size and stride, within a band, is in state b and can go to these states
+pub record CanGo (size stride b : ℕ) (states : List ℕ) : Type 0 where
+  pub step : size * stride ≤ 64
+  pub stride_some : 0 < stride
+  pub state : b < size
+  pub states_below : All (λ c. c < size) states
 
 -- in the meant rows of the band that begins at row x, exactly the set lanes whose pairs pass the test stay set; no lane is newly set, and other rows stay
 pub record KeepsWhere (s : Sys) (x : ℕ) (meant : ℕ → Type 0) (test : ℕ → Bool) (old new : List ℕ) : Type 0 where

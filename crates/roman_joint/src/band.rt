@@ -12,8 +12,9 @@ ghost use Rattle.roman_joint.specs.declared.row.Row.{Row};
 
 use crate::joint::Joint;
 use crate::moving::clear_moving;
+use crate::outcomes::Outcomes;
 use crate::row::Row;
-use crate::runs::{all_alive_each, clear, clear_state, is_clear, rows_alive_each, set_first};
+use crate::runs::{Run, all_alive_each, clear, clear_state, is_clear, rows_alive_each, set_first};
 use crate::states::next_states;
 use crate::turn::{TargetMove, target_move_of};
 use crate::words::less;
@@ -53,19 +54,16 @@ pub(crate) fn clear_before(
         return;
     }
     let stride = rows.strides[k as usize];
-    let base = turn.base - u32::from(b) * stride;
-    let many = left.len();
-    set_first(all, many, rows.full);
-    all_alive_each(
-        all,
-        many,
-        words,
-        base,
-        turn.envs,
-        rows.env_rows,
+    let to = Outcomes {
+        base: turn.base - u32::from(b) * stride,
+        envs: turn.envs,
+        env_stride: rows.env_rows,
         states,
         stride,
-    );
+    };
+    let many = left.len();
+    set_first(all, many, rows.full);
+    all_alive_each(all, many, words, &to);
     roman_lanes::less(left, all);
 }
 
@@ -106,7 +104,14 @@ fn clear_own_state(joint: &Joint, row: &Row, alive: &[u64], a: u8, k: u8, b: u8,
     let size = rows.sizes[k as usize];
     let stride = rows.strides[k as usize];
     let blocks = rows.band / (u32::from(size) * stride);
-    clear_state(left, alive, states, b, size, stride, blocks, rows.full);
+    let run = Run {
+        alive,
+        from: 0,
+        states,
+        stride: stride as usize,
+        full: rows.full,
+    };
+    clear_state(left, &run, b, size, blocks as usize);
 }
 
 /// Clears, in `left`, the pairs of a band at which the seat `k` serves the action. The seat is one of

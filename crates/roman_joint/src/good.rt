@@ -13,6 +13,7 @@ ghost use Rattle.roman_joint.specs.declared.row.Row.{Row};
 ghost use Rattle.roman_joint.specs.declared.turn.TargetMove.{TargetMove};
 
 use crate::joint::Joint;
+use crate::outcomes::Outcomes;
 use crate::row::Row;
 use crate::states::next_states;
 use crate::turn::{TargetMove, target_move_of};
@@ -38,16 +39,14 @@ fn good_before(joint: &Joint, words: &[u64], row: &Row, turn: &TargetMove<'_>, a
         return 0;
     }
     let stride = rows.strides[k as usize];
-    let base = turn.base - u32::from(b) * stride;
-    all_alive(
-        words,
-        base,
-        turn.envs,
-        rows.env_rows,
+    let to = Outcomes {
+        base: turn.base - u32::from(b) * stride,
+        envs: turn.envs,
+        env_stride: rows.env_rows,
         states,
         stride,
-        rows.full,
-    )
+    };
+    all_alive(words, &to, rows.full)
 }
 
 /// Returns the alive lanes of a turn: those at which it leads to no pair that is gone, in any state of

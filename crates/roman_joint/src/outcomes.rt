@@ -29,16 +29,31 @@ impl Outcomes<'_> {
     {
         self.base + u32::from(env) * self.env_stride + u32::from(state) * self.stride
     }
+
+    /// Returns the first states of the environment and the service whose pair isn't alive, ordered by
+    /// the environment's.
+    pub(crate) fn first_gone<A: Fn(u32) -> bool>(&self, alive: &A) -> Option<(u8, u8)>
+        requires envs { All (λ e. self.now.base + e * self.now.env_stride < 2 ^ 32) self.now.envs.now }
+        requires fits { All (λ e. All (λ b. outcome_number self.now e b < 2 ^ 32) self.now.states.now) self.now.envs.now }
+        requires callable { All (λ e. All (λ b. A.pre alive.now (outcome_number self.now e b)) self.now.states.now) self.now.envs.now }
+        ensures among { IfSome result (λ x. IsIn x.0 self.now.envs.now × IsIn x.1 self.now.states.now) }
+        ensures first { let number = outcome_number self.now in
+            (gone : ℕ → Bool) → All (λ e. All (λ b. (r : Bool) → A.post alive.now (number e b) r → r ≡ not (gone (number e b))) self.now.states.now) self.now.envs.now
+            → result ≡ find (λ x. gone (number x.0 x.1)) (flat_map (λ e. map (λ b. (e, b)) self.now.states.now) self.now.envs.now) }
+    {
+        for env in self.envs {
+            let row = self.base + u32::from(*env) * self.env_stride;
+            if let Some(state) = state_gone(alive, row, self.states, self.stride) {
+                return Some((*env, state));
+            }
+        }
+        None
+    }
 }
 
 /// Returns the first of a service's states whose pair isn't alive. The pair with state b has the
 /// number `row + b * stride`.
-pub(crate) fn state_gone<A: Fn(u32) -> bool>(
-    alive: &A,
-    row: u32,
-    states: &[u8],
-    stride: u32,
-) -> Option<u8>
+fn state_gone<A: Fn(u32) -> bool>(alive: &A, row: u32, states: &[u8], stride: u32) -> Option<u8>
     requires fits { All (λ b. row + b * stride < 2 ^ 32) states.now }
     requires callable { All (λ b. A.pre alive.now (row + b * stride)) states.now }
     ensures among { IfSome result (λ b. IsIn b states.now) }
@@ -49,35 +64,6 @@ pub(crate) fn state_gone<A: Fn(u32) -> bool>(
     for state in states {
         if !alive(row + u32::from(*state) * stride) {
             return Some(*state);
-        }
-    }
-    None
-}
-
-/// Returns the first states of the environment and a service whose pair isn't alive, ordered by the
-/// environment's. The pair with the states e and b has the number
-/// `base + e * env_stride + b * stride`.
-pub(crate) fn outcome_gone<A: Fn(u32) -> bool>(
-    alive: &A,
-    base: u32,
-    envs: &[u8],
-    env_stride: u32,
-    states: &[u8],
-    stride: u32,
-) -> Option<(u8, u8)>
-    requires envs { All (λ e. base + e * env_stride < 2 ^ 32) envs.now }
-    requires fits { All (λ e. All (λ b. base + e * env_stride + b * stride < 2 ^ 32) states.now) envs.now }
-    requires callable { All (λ e. All (λ b. A.pre alive.now (base + e * env_stride + b * stride)) states.now) envs.now }
-    ensures among { IfSome result (λ x. IsIn x.0 envs.now × IsIn x.1 states.now) }
-    ensures first { (gone : ℕ → Bool)
-        → All (λ e. All (λ b. (r : Bool) → A.post alive.now (base + e * env_stride + b * stride) r
-        → r ≡ not (gone (base + e * env_stride + b * stride))) states.now) envs.now
-        → result ≡ find (λ x. gone (base + x.0 * env_stride + x.1 * stride)) (flat_map (λ e. map (λ b. (e, b)) states.now) envs.now) }
-{
-    for env in envs {
-        let row = base + u32::from(*env) * env_stride;
-        if let Some(state) = state_gone(alive, row, states, stride) {
-            return Some((*env, state));
         }
     }
     None

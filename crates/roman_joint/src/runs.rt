@@ -2,10 +2,11 @@
 ghost use Rattle.std.specs.Prelude.{◌≡◌, ◌≢◌, ◌↔◌, IsTrue, ℕ, ◌+◌, ◌-◌, ◌*◌, ◌/◌, ◌%◌, ◌^◌, ◌<◌, ◌≤◌, not, ◌&&◌, false, All, length, slice_index, bit_and};
 ghost use Rattle.std.specs.List.{list_any};
 ghost use Rattle.roman_lanes.specs.Rows.{is_on};
-ghost use Rattle.roman_joint.specs.Bands.{SuitsRun};
+ghost use Rattle.roman_joint.specs.Outcomes.{outcome_number};
+ghost use Rattle.roman_joint.specs.Bands.{SuitsRun, LosesRun, CanGo};
 
-use crate::words::each_rows_alive;
-use roman_lanes::{Change, ChangeOf, both, change_each, first_set, without};
+use crate::outcomes::Outcomes;
+use roman_lanes::{Change, ChangeOf, both, change_each, first_set, load, without};
 use std::simd::prelude::*;
 
 /// Returns whether all words are 0.
@@ -72,137 +73,91 @@ pub(crate) fn rows_alive_each(
 }
 
 /// Clears, in the first `many` words, the lanes that aren't set in all rows of the word: the rows of
-/// word i are `base + i + e * env_stride + b * stride`, for each state e of the environment and each
-/// state b.
-pub(crate) fn all_alive_each(
-    all: &mut [u64],
-    many: usize,
-    words: &[u64],
-    base: u32,
-    envs: &[u8],
-    env_stride: u32,
-    states: &[u8],
-    stride: u32,
-)
+/// word i have the numbers of `rows`, raised by i.
+pub(crate) fn all_alive_each(all: &mut [u64], many: usize, words: &[u64], rows: &Outcomes<'_>)
     requires all { many ≤ length all.old }
-    requires envs { All (λ e. base + e * env_stride < 2 ^ 32) envs.now }
-    requires fits { All (λ e. All (λ b. base + e * env_stride + b * stride < 2 ^ 32) states.now) envs.now }
-    requires within { All (λ e. All (λ b. base + e * env_stride + b * stride + many ≤ length words.now) states.now) envs.now }
+    requires envs { All (λ e. rows.now.base + e * rows.now.env_stride < 2 ^ 32) rows.now.envs.now }
+    requires fits { All (λ e. All (λ b. outcome_number rows.now e b < 2 ^ 32) rows.now.states.now) rows.now.envs.now }
+    requires within { All (λ e. All (λ b. outcome_number rows.now e b + many ≤ length words.now) rows.now.states.now) rows.now.envs.now }
     ensures long { length all.new ≡ length all.old }
-    ensures each { (i lane : ℕ) → i < many → is_on (slice_index all.new i) lane
-        ≡ (is_on (slice_index all.old i) lane && not (list_any (λ e. list_any (λ b. not (is_on (slice_index words.now (base + i + e * env_stride + b * stride)) lane)) states.now) envs.now)) }
+    ensures each { let states = rows.now.states.now in
+        (i lane : ℕ) → i < many → is_on (slice_index all.new i) lane ≡ (is_on (slice_index all.old i) lane
+        && not (list_any (λ e. list_any (λ b. not (is_on (slice_index words.now (rows.now.base + i + e * rows.now.env_stride + b * rows.now.stride)) lane)) states) rows.now.envs.now)) }
 {
-    for env in envs {
-        let from = base + u32::from(*env) * env_stride;
-        rows_alive_each(all, many, words, from, states, stride);
+    for env in rows.envs {
+        let from = rows.base + u32::from(*env) * rows.env_stride;
+        rows_alive_each(all, many, words, from, rows.states, rows.stride);
     }
 }
 
 /// Clears, in the word at place i, the lanes of `full` that are set in all words
 /// `from + i + b * stride` of `alive`, for each state b.
 #[derive(Clone, Copy)]
-struct Run<'a> {
-    alive: &'a [u64],
-    from: usize,
-    states: &'a [u8],
-    stride: usize,
-    full: u64,
+pub(crate) struct Run<'a> {
+    pub(crate) alive: &'a [u64],
+    pub(crate) from: usize,
+    pub(crate) states: &'a [u8],
+    pub(crate) stride: usize,
+    pub(crate) full: u64,
 }
 
 impl Change for Run<'_> {
-    ghost use Rattle.std.specs.Prelude.{◌≡◌, ℕ, ◌+◌, ◌*◌, not, ◌&&◌, slice_index};
-    ghost use Rattle.std.specs.List.{list_any};
-    ghost use Rattle.roman_lanes.specs.Rows.{is_on};
-    ghost use Rattle.roman_joint.specs.Bands.{SuitsRun};
+    ghost use Rattle.roman_joint.specs.Bands.{SuitsRun, LosesRun};
 
-    ghost suits = { λ run many. SuitsRun run.alive.now run.states.now run.from run.stride many };
+    ghost suits = { SuitsRun };
 
-    ghost makes = { λ run i old new. (lane : ℕ) → is_on new lane
-        ≡ (is_on old lane && not (is_on run.full lane && not (list_any (λ b. not (is_on (slice_index run.alive.now (run.from + i + b * run.stride)) lane)) run.states.now))) };
+    ghost makes = { LosesRun };
 }
 
 impl<const N: usize> ChangeOf<N> for Run<'_> {
     #[inline(always)]
     fn changed(&self, words: Simd<u64, N>, at: usize) -> Simd<u64, N>
-        requires { (many : ℕ) × (at + N ≤ many) × SuitsRun self.now.alive.now self.now.states.now self.now.from self.now.stride many }
+        requires { (many : ℕ) × (at + N ≤ many) × SuitsRun self.now many }
         ensures long { length result ≡ N }
-        ensures each { (i : ℕ) → i < N → (lane : ℕ) → is_on (slice_index result i) lane
-            ≡ (is_on (slice_index words.entry i) lane && not (is_on self.now.full lane && not (list_any (λ b. not (is_on (slice_index self.now.alive.now (self.now.from + (at + i) + b * self.now.stride)) lane)) self.now.states.now))) }
+        ensures each { (i : ℕ) → i < N → LosesRun self.now (at + i) (slice_index words.entry i) (slice_index result i) }
     {
-        let good = each_rows_alive::<N>(
-            self.alive,
-            self.from + at,
-            self.states,
-            self.stride,
-            self.full,
-        );
+        let mut good = Simd::<u64, N>::splat(self.full);
+        for b in self.states {
+            good &= load::<N>(self.alive, self.from + at + usize::from(*b) * self.stride);
+        }
         without(words, good)
     }
 }
 
-/// Clears, in the words of `left` from place `to` on, the lanes of `full` that are set in all words
-/// `from + j + b * stride` of `alive`, for word j of the run and each state b. The run has `stride`
-/// words.
-fn clear_run(
-    left: &mut [u64],
-    to: u32,
-    alive: &[u64],
-    from: u32,
-    states: &[u8],
-    stride: u32,
-    full: u64,
-)
-    requires to { to + stride ≤ length left.old }
-    requires few { (to + stride < 2 ^ 32) × (from + stride < 2 ^ 32) }
-    requires fits { All (λ b. from + stride + b * stride < 2 ^ 32) states.now }
-    requires within { All (λ b. from + stride + b * stride ≤ length alive.now) states.now }
+/// Makes the change of a run in as many words of `left` as its stride, from place `to` on.
+fn clear_run(left: &mut [u64], to: usize, run: &Run<'_>)
+    requires to { to + run.now.stride ≤ length left.old }
+    requires suits { SuitsRun run.now run.now.stride }
     ensures long { length left.new ≡ length left.old }
-    ensures each { (j lane : ℕ) → j < stride → is_on (slice_index left.new (to + j)) lane
-        ≡ (is_on (slice_index left.old (to + j)) lane && not (is_on full lane && not (list_any (λ b. not (is_on (slice_index alive.now (from + j + b * stride)) lane)) states.now))) }
+    ensures each { (j : ℕ) → j < run.now.stride → LosesRun run.now j (slice_index left.old (to + j)) (slice_index left.new (to + j)) }
     ensures below { (i : ℕ) → i < to → slice_index left.new i ≡ slice_index left.old i }
-    ensures above { (i : ℕ) → to + stride ≤ i → slice_index left.new i ≡ slice_index left.old i }
+    ensures above { (i : ℕ) → to + run.now.stride ≤ i → slice_index left.new i ≡ slice_index left.old i }
     ensures none { (i lane : ℕ) → is_on (slice_index left.old i) lane ≡ false → is_on (slice_index left.new i) lane ≡ false }
 {
-    let run = Run {
-        alive,
-        from: from as usize,
-        states,
-        stride: stride as usize,
-        full,
-    };
-    change_each(&run, &mut left[to as usize..(to + stride) as usize]);
+    change_each(run, &mut left[to..to + run.stride]);
 }
 
-/// Clears, in the words of `left` in which a component is in state `b`, the lanes of `full` that are
-/// set in all words of `alive` in which the component is in one of `states` instead. One more state
-/// adds `stride` to a word's place. The words are `blocks` blocks, each of all `size` states.
-pub(crate) fn clear_state(
-    left: &mut [u64],
-    alive: &[u64],
-    states: &[u8],
-    b: u8,
-    size: u8,
-    stride: u32,
-    blocks: u32,
-    full: u64,
-)
-    requires blocks { length left.old ≡ blocks * (size * stride) }
-    requires few { length left.old ≤ 64 }
-    requires alive { length left.old ≤ length alive.now }
-    requires step { size * stride ≤ 64 }
-    requires state { b < size }
-    requires states { All (λ c. c < size) states.now }
-    requires stride { 0 < stride }
+/// Makes the change of a run in the words of `left` in which a component is in state `b`, of `size`
+/// states. The words are `blocks` blocks, each of all states. The run is that of the first block, and
+/// leads to the words in which the component is in one of its states instead.
+pub(crate) fn clear_state(left: &mut [u64], run: &Run<'_>, b: u8, size: u8, blocks: usize)
+    requires blocks { length left.old ≡ blocks * (size * run.now.stride) }
+    requires alive { run.now.from + length left.old ≤ length run.now.alive.now }
+    requires component { CanGo size run.now.stride b run.now.states.now }
     ensures long { length left.new ≡ length left.old }
-    ensures each { (i lane : ℕ) → i < length left.old → i / stride % size ≡ b → is_on (slice_index left.new i) lane
-        ≡ (is_on (slice_index left.old i) lane && not (is_on full lane && not (list_any (λ c. not (is_on (slice_index alive.now (i - b * stride + c * stride)) lane)) states.now))) }
-    ensures others { (i : ℕ) → i / stride % size ≢ b → slice_index left.new i ≡ slice_index left.old i }
+    ensures each { (i : ℕ) → i < length left.old → i / run.now.stride % size ≡ b →
+        LosesRun run.now (i - b * run.now.stride) (slice_index left.old i) (slice_index left.new i) }
+    ensures others { (i : ℕ) → i / run.now.stride % size ≢ b → slice_index left.new i ≡ slice_index left.old i }
     ensures none { (i lane : ℕ) → is_on (slice_index left.old i) lane ≡ false → is_on (slice_index left.new i) lane ≡ false }
 {
-    let step = u32::from(size) * stride;
-    let own = u32::from(b) * stride;
+    let step = usize::from(size) * run.stride;
+    let own = usize::from(b) * run.stride;
     for block in 0..blocks {
-        let from = block * step;
-        clear_run(left, from + own, alive, from, states, stride, full);
+        let first = block * step;
+        let moved = Run {
+            from: run.from + first,
+            ..*run
+        };
+        clear_run(left, first + own, &moved);
     }
 }

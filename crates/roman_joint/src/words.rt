@@ -3,10 +3,11 @@ ghost use Rattle.std.specs.Prelude.{◌≡◌, ℕ, ◌+◌, ◌-◌, ◌*◌, �
 ghost use Rattle.std.specs.List.{list_any};
 ghost use Rattle.roman_model.specs.Lists.{IsIn};
 ghost use Rattle.roman_lanes.specs.Rows.{is_on};
+ghost use Rattle.roman_joint.specs.Outcomes.{outcome_number};
 ghost use Rattle.roman_joint.specs.declared.moves.Move.{Move};
 
 use crate::moves::Move;
-use roman_lanes::load;
+use crate::outcomes::Outcomes;
 use std::simd::prelude::*;
 
 /// Returns the lanes of `good` that are set in all rows `base + b * stride`, for each state b.
@@ -23,55 +24,19 @@ pub(crate) fn rows_alive(words: &[u64], base: u32, states: &[u8], stride: u32, g
     alive
 }
 
-/// Returns, for each i below N, the lanes of `good` that are set in all rows `base + i + b * stride`,
-/// for each state b.
+/// Returns the lanes of `good` that are set in all rows whose numbers `rows` has.
 #[inline(always)]
-pub(crate) fn each_rows_alive<const N: usize>(
-    words: &[u64],
-    base: usize,
-    states: &[u8],
-    stride: usize,
-    good: u64,
-) -> Simd<u64, N>
-    requires within { All (λ b. base + N + b * stride ≤ length words.now) states.now }
-    ensures long { length result ≡ N }
-    ensures each { (i lane : ℕ) → i < N → is_on (slice_index result i) lane
-        ≡ (is_on good lane && not (list_any (λ b. not (is_on (slice_index words.now (base + i + b * stride)) lane)) states.now)) }
-{
-    let mut alive = Simd::<u64, N>::splat(good);
-    for b in states {
-        alive &= load::<N>(words, base + usize::from(*b) * stride);
-    }
-    alive
-}
-
-/// Returns the lanes of `good` that are set in all rows `base + e * env_stride + b * stride`, for each
-/// state e of the environment and each state b.
-#[inline(always)]
-pub(crate) fn all_alive(
-    words: &[u64],
-    base: u32,
-    envs: &[u8],
-    env_stride: u32,
-    states: &[u8],
-    stride: u32,
-    good: u64,
-) -> u64
-    requires envs { All (λ e. base + e * env_stride < 2 ^ 32) envs.now }
-    requires fits { All (λ e. All (λ b. base + e * env_stride + b * stride < 2 ^ 32) states.now) envs.now }
-    requires within { All (λ e. All (λ b. base + e * env_stride + b * stride < length words.now) states.now) envs.now }
+pub(crate) fn all_alive(words: &[u64], rows: &Outcomes<'_>, good: u64) -> u64
+    requires envs { All (λ e. rows.now.base + e * rows.now.env_stride < 2 ^ 32) rows.now.envs.now }
+    requires fits { All (λ e. All (λ b. outcome_number rows.now e b < 2 ^ 32) rows.now.states.now) rows.now.envs.now }
+    requires within { All (λ e. All (λ b. outcome_number rows.now e b < length words.now) rows.now.states.now) rows.now.envs.now }
     ensures { (lane : ℕ) → is_on result lane
-        ≡ (is_on good lane && not (list_any (λ e. list_any (λ b. not (is_on (slice_index words.now (base + e * env_stride + b * stride)) lane)) states.now) envs.now)) }
+        ≡ (is_on good lane && not (list_any (λ e. list_any (λ b. not (is_on (slice_index words.now (outcome_number rows.now e b)) lane)) rows.now.states.now) rows.now.envs.now)) }
 {
     let mut alive = good;
-    for env in envs {
-        alive = rows_alive(
-            words,
-            base + u32::from(*env) * env_stride,
-            states,
-            stride,
-            alive,
-        );
+    for env in rows.envs {
+        let base = rows.base + u32::from(*env) * rows.env_stride;
+        alive = rows_alive(words, base, rows.states, rows.stride, alive);
     }
     alive
 }

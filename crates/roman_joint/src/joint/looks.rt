@@ -11,7 +11,7 @@ ghost use Rattle.roman_rules.specs.Finding.{HasFinding};
 ghost use Rattle.roman_joint.specs.Outcomes.{outcome_number, outcome_numbers, IsPairWith};
 
 use super::Joint;
-use crate::outcomes::{Outcomes, outcome_gone};
+use crate::outcomes::Outcomes;
 use crate::seats::are_final;
 use crate::target_view::TargetView;
 use roman_io::Steps;
@@ -81,14 +81,7 @@ impl Joint {
         if outcomes.states.is_empty() {
             return Finding::NoOutcome;
         }
-        let Outcomes {
-            base,
-            envs,
-            env_stride,
-            states,
-            stride,
-        } = outcomes;
-        match outcome_gone(alive, base, envs, env_stride, states, stride) {
+        match outcomes.first_gone(alive) {
             None => Finding::Good,
             Some((env, state)) => Finding::Leaves {
                 env,

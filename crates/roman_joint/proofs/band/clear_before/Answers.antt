@@ -32,11 +32,11 @@ rows_to c i l =
 some_row : (c : After-from) → 0 < band_in (system_of c.args.joint.now)
 some_row c = first_in (system_of c.args.joint.now) (joint_sizes c.args.joint.now c.layout-rows.ensures.known)
 
-pub overflow_mul-base : goal.overflow_mul-base
-overflow_mul-base c = let at = (goal.at.overflow_mul-base c).After-from in let to = rows_to at 0 (some_row at) in omega (arith, to.taken, to.inside, to.few)
+pub overflow_mul-to : goal.overflow_mul-to
+overflow_mul-to c = let at = (goal.at.overflow_mul-to c).After-from in let to = rows_to at 0 (some_row at) in omega (arith, to.taken, to.inside, to.few)
 
-pub overflow_sub-base : goal.overflow_sub-base
-overflow_sub-base c = let at = (goal.at.overflow_sub-base c).After-from in (rows_to at 0 (some_row at)).taken
+pub overflow_sub-to : goal.overflow_sub-to
+overflow_sub-to c = let at = (goal.at.overflow_sub-to c).After-from in (rows_to at 0 (some_row at)).taken
 
 pub all_alive_each-requires-clause-envs : goal.all_alive_each-requires-clause-envs
 all_alive_each-requires-clause-envs c i d l =

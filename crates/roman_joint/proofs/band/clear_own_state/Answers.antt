@@ -1,4 +1,4 @@
-use Rattle.roman_joint.proofs.Common.{◌≡◌, ℕ, ◌+◌, ◌*◌, ◌/◌, ◌%◌, ◌<◌, true, not, ◌&&◌, slice_index, IsFalse, refl, sym, ap, ap₂, ◌∙◌, arith, is_empty, is_beaten, sizes_of, numbered, empty_is, row_sizes, lanes_few, is_on, on_zero, system_of, lanes_in, lane_state_of, band_in}
+use Rattle.roman_joint.proofs.Common.{◌≡◌, ℕ, ◌+◌, ◌-◌, ◌*◌, ◌/◌, ◌%◌, ◌<◌, true, not, ◌&&◌, slice_index, IsFalse, refl, sym, ap, ap₂, ◌∙◌, arith, is_empty, is_beaten, sizes_of, numbered, empty_is, row_sizes, is_on, on_zero, list_any, system_of, lanes_in, lane_state_of, band_in}
 use Rattle.roman_joint.proofs.SeatLemmas.{len_empty}
 use Rattle.roman_joint.proofs.SplitLemmas.{joint_sizes}
 use Rattle.roman_joint.proofs.WordLemmas.{not_not, all_pass}
@@ -52,14 +52,16 @@ clear_state-requires-clause-blocks c =
     let all = slice_index c.layout-rows.result.now.sizes c.args.k * slice_index c.layout-rows.result.now.strides c.args.k in
     c.requires.long ∙ (sym (blocks (goal.at.clear_state-requires-clause-blocks c).After-layout-rows).whole ∙ sym (ap₂ (λ v z. v / z * all) c.layout-rows.ensures.rows.band (step (goal.at.clear_state-requires-clause-blocks c).After-from)))
 
-pub clear_state-requires-clause-few : goal.clear_state-requires-clause-few
-clear_state-requires-clause-few c = omega (arith, c.requires.long, lanes_few (row_sizes (sizes_of (system_of c.args.joint.now))).seats)
-
-pub clear_state-requires-clause-step : goal.clear_state-requires-clause-step
-clear_state-requires-clause-step c = (blocks (goal.at.clear_state-requires-clause-step c).After-layout-rows).few
-
-pub clear_state-requires-clause-stride : goal.clear_state-requires-clause-stride
-clear_state-requires-clause-stride c = (own (goal.at.clear_state-requires-clause-stride c).After-layout-rows).stride_some
+pub clear_state-requires-clause-component : goal.clear_state-requires-clause-component
+clear_state-requires-clause-component c =
+    let at = (goal.at.clear_state-requires-clause-component c).After-layout-rows in
+    let here = own at in
+    record {
+      step = (blocks at).few;
+      stride_some = here.stride_some;
+      state = omega (arith, c.requires.state, here.size, here.same);
+      states_below = λ j d l. omega (arith, c.next_states-states.ensures.below j d l, here.size, here.same);
+    }
 
 pub returns-clause-left : goal.returns-clause-left
 returns-clause-left c y gone turn ok turns living =
@@ -74,7 +76,12 @@ returns-clause-left c y gone turn ok turns living =
           let test = is_beaten (numbered s) gone ((y * band_in s + i) * lanes_in s + lane) c.args.a c.args.k in
           let served = own_served s c.layout-rows.result.now y c.args.a c.args.row.now turn h c.layout-rows.ensures.rows turns i c.args.k c.args.b lane states c.args.alive.now gone l c.requires.within c.requires.seat (row_of at i l is)
           c.next_states-states.ensures.next some living m in
-          c.clear_state.ensures.each i lane (omega (arith, l, c.requires.long)) (digit at i ∙ is) ∙ ap (λ q. is_on (slice_index c.args.left.now i) lane && q) (ap not served ∙ sym (not_not test));
+          let u = slice_index c.layout-rows.result.now.strides c.args.k in
+          let first : 0 + (i - c.args.b * u) ≡ i - c.args.b * u = omega arith in
+          c.clear_state.ensures.each i (omega (arith, l, c.requires.long)) (digit at i ∙ is) lane
+          ∙ ap (λ q. is_on (slice_index c.args.left.now i) lane && not q)
+          (ap (λ z. is_on c.layout-rows.result.now.full lane && not (list_any (λ d. not (is_on (slice_index c.args.alive.now (z + d * u)) lane)) states)) first ∙ served)
+          ∙ ap (λ q. is_on (slice_index c.args.left.now i) lane && q) (sym (not_not test));
       others = λ i other. c.clear_state.ensures.others i (λ e. other (sym (digit at i) ∙ e));
       none = λ i lane off. c.clear_state.ensures.none i lane off;
     }

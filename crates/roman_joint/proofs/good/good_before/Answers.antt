@@ -30,11 +30,11 @@ rows_to c =
     rows_before (system_of n) r x c.args.a c.args.k c.from.result (length c.args.words.now) c.args.row.now c.args.turn.now c.next_states-states.result.now
     (known n x c.args.row.now c.layout-rows.ensures.known ok) c.layout-rows.ensures.rows c.requires.turn c.requires.seat c.requires.room c.next_states-states.ensures.next c.from.ensures
 
-pub overflow_mul-base : goal.overflow_mul-base
-overflow_mul-base c = let to = rows_to (goal.at.overflow_mul-base c).After-from in omega (arith, to.taken, to.turn_rows.inside, to.turn_rows.few)
+pub overflow_mul-to : goal.overflow_mul-to
+overflow_mul-to c = let to = rows_to (goal.at.overflow_mul-to c).After-from in omega (arith, to.taken, to.turn_rows.inside, to.turn_rows.few)
 
-pub overflow_sub-base : goal.overflow_sub-base
-overflow_sub-base c = (rows_to (goal.at.overflow_sub-base c).After-from).taken
+pub overflow_sub-to : goal.overflow_sub-to
+overflow_sub-to c = (rows_to (goal.at.overflow_sub-to c).After-from).taken
 
 pub all_alive-requires-clause-envs : goal.all_alive-requires-clause-envs
 all_alive-requires-clause-envs c i d l =

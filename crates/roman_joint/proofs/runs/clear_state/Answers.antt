@@ -7,33 +7,34 @@ loop-block-preserved c =
     let block = c.loop-block.block in
     let b = c.args.b in
     let size = c.args.size in
-    let stride = c.args.stride in
+    let run = c.args.run.now in
+    let stride = run.stride in
     let now = c.loop-block.left in
     let before = c.loop-block.invariant in
     let step : block * (c.from.result * stride) ≡ block * (size * stride) = ap (λ z. block * (z * stride)) c.from.ensures in
     let own : c.from-2.result * stride ≡ b * stride = ap (λ z. z * stride) c.from-2.ensures in
     let to = block * (c.from.result * stride) + c.from-2.result * stride in
-    let room = (in_block block (block + 1) size stride b (omega arith) c.requires.state).0 in
+    let room = (in_block block (block + 1) size stride b (omega arith) c.requires.component.state).0 in
     let next : (block + 1) * (size * stride) ≡ block * (size * stride) + size * stride = omega arith in
     record {
       long = c.clear_run.ensures.long ∙ before.long;
-      each = λ i lane l is. elim (cases_lt i (block * (size * stride))) [
-        | inl low ↦ ap (λ z. is_on z lane) (c.clear_run.ensures.below i (omega (arith, low, step))) ∙ before.each i lane low is
+      each = λ i l is lane. elim (cases_lt i (block * (size * stride))) [
+        | inl low ↦ ap (λ z. is_on z lane) (c.clear_run.ensures.below i (omega (arith, low, step))) ∙ before.each i low is lane
         | inr past ↦
-            let place = place_of i block b size stride c.requires.stride (omega (arith, c.requires.state)) is past l in
-            let m : i % stride < stride = mod_below i stride c.requires.stride in
+            let place = place_of i block b size stride c.requires.component.stride_some (omega (arith, c.requires.component.state)) is past l in
+            let m : i % stride < stride = mod_below i stride c.requires.component.stride_some in
             let at : to + i % stride ≡ i = omega (arith, place, step, own) in
-            let base : block * (c.from.result * stride) + i % stride ≡ i - b * stride = omega (arith, place, step) in
-            ap (λ z. is_on (slice_index c.clear_run.new.left z) lane) (sym at) ∙ (c.clear_run.ensures.each (i % stride) lane m
-            ∙ ap₂ (λ p q. p && not (is_on c.args.full lane && not q)) (ap (λ z. is_on (slice_index now z) lane) at ∙ ap (λ z. is_on z lane) (before.above i past))
-            (ap (λ z. list_any (λ d. not (is_on (slice_index c.args.alive.now (z + d * stride)) lane)) c.args.states.now) base))
+            let base : run.from + block * (c.from.result * stride) + i % stride ≡ run.from + (i - b * stride) = omega (arith, place, step) in
+            ap (λ z. is_on (slice_index c.clear_run.new.left z) lane) (sym at) ∙ (c.clear_run.ensures.each (i % stride) m lane
+            ∙ ap₂ (λ p q. p && not (is_on run.full lane && not q)) (ap (λ z. is_on (slice_index now z) lane) at ∙ ap (λ z. is_on z lane) (before.above i past))
+            (ap (λ z. list_any (λ d. not (is_on (slice_index run.alive.now (z + d * stride)) lane)) run.states.now) base))
       ];
       others = λ i other. elim (cases_lt i to) [
         | inl low ↦ c.clear_run.ensures.below i low ∙ before.others i other
         | inr past ↦ elim (cases_lt i (to + stride)) [
           | inl inside ↦
               let place : i ≡ block * (size * stride) + b * stride + (i - to) = omega (arith, past, step, own) in
-              absurd (other (ap (λ z. z / stride % size) place ∙ state_at block b size stride (i - to) c.requires.state (omega (arith, past, inside))))
+              absurd (other (ap (λ z. z / stride % size) place ∙ state_at block b size stride (i - to) c.requires.component.state (omega (arith, past, inside))))
           | inr high ↦ c.clear_run.ensures.above i high ∙ before.others i other
         ]
       ];

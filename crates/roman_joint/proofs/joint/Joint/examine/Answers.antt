@@ -8,8 +8,8 @@ returns-then-is_empty-clause-finding g c = λ gone told.
     let o = c.outcomes-outcomes.result in
     record { is = c.outcomes-outcomes.ensures.numbers ∙ no_numbers (outcome_number o) o.envs.now o.states.now (none_there o.states.now c.is_empty.result c.is_empty.ensures c.if-is_empty.true) }
 
-pub outcome_gone-requires : goal.outcome_gone-requires
-outcome_gone-requires g c =
+pub first_gone-requires : goal.first_gone-requires
+first_gone-requires g c =
     let o = c.outcomes-outcomes.result in
     let to = c.outcomes-outcomes.ensures in
     let some = some_there o.states.now c.is_empty.result c.is_empty.ensures c.if-is_empty.false in
@@ -21,7 +21,7 @@ outcome_gone-requires g c =
 
 pub number-requires : goal.number-requires
 number-requires g c =
-    let among = if_some c.outcome_gone.result (c.in-Some.env, c.in-Some.state) _ c.in-Some.is c.outcome_gone.ensures.among in
+    let among = if_some c.first_gone.result (c.in-Some.env, c.in-Some.state) _ c.in-Some.is c.first_gone.ensures.among in
     omega (arith, (c.outcomes-outcomes.ensures.places c.in-Some.env c.in-Some.state among.0 among.1).below, c.outcomes-outcomes.ensures.few)
 
 pub returns-in-None-clause-finding : goal.returns-in-None-clause-finding
@@ -29,7 +29,7 @@ returns-in-None-clause-finding g c = λ gone told.
     let o = c.outcomes-outcomes.result in
     let to = c.outcomes-outcomes.ensures in
     let some = in_at o.states.now 0 0 (some_there o.states.now c.is_empty.result c.is_empty.ensures c.if-is_empty.false) in
-    let first = c.outcome_gone.ensures.first gone (λ i d l j e m r post.
+    let first = c.first_gone.ensures.first gone (λ i d l j e m r post.
     told (outcome_number o (get_or o.envs.now i d) (get_or o.states.now j e)) r (to.places (get_or o.envs.now i d) (get_or o.states.now j e) (in_at o.envs.now i d l) (in_at o.states.now j e m)).below post) in
     record {
       is = (
@@ -43,8 +43,8 @@ returns-in-Some-clause-finding g c = λ gone told.
     let o = c.outcomes-outcomes.result in
     let to = c.outcomes-outcomes.ensures in
     let n = sizes_of (system_of c.args.self.now) in
-    let among = if_some c.outcome_gone.result (c.in-Some.env, c.in-Some.state) _ c.in-Some.is c.outcome_gone.ensures.among in
-    let first = c.outcome_gone.ensures.first gone (λ i d l j e m r post.
+    let among = if_some c.first_gone.result (c.in-Some.env, c.in-Some.state) _ c.in-Some.is c.first_gone.ensures.among in
+    let first = c.first_gone.ensures.first gone (λ i d l j e m r post.
     told (outcome_number o (get_or o.envs.now i d) (get_or o.states.now j e)) r (to.places (get_or o.envs.now i d) (get_or o.states.now j e) (in_at o.envs.now i d l) (in_at o.states.now j e m)).below post) in
     let found = find_numbers (outcome_number o) gone o.envs.now o.states.now (Some (c.in-Some.env, c.in-Some.state)) (sym c.in-Some.is ∙ first) in
     let at : IsPairWith n c.args.k c.number.result c.in-Some.env c.in-Some.state =
