@@ -12,6 +12,7 @@ use Rattle.roman_joint.specs.TargetViews.{ArePermitted, AreLeading}
 use Rattle.roman_joint.specs.declared.layout.Rows.{Rows}
 use Rattle.roman_joint.specs.declared.row.Row.{Row}
 use Rattle.roman_joint.specs.declared.turn.TargetMove.{TargetMove}
+use Rattle.roman_joint.specs.declared.turn.Turn.{Turn}
 
 -- the number of pairs in a row of the system
 abbrev pub lanes_in : Sys → ℕ
@@ -81,3 +82,10 @@ HasAlive s gone words = AreRows (lanes_in s) (λ q. not (gone q)) words
 abbrev pub may_rest : Option Seat → ℕ → Bool
 may_rest None b = true
 may_rest (Some seat) b = not seat.rests || is_final seat.beh b
+
+-- the turn is that of an action of the system at row x, and has a word for each row
+pub record IsTurn (s : Sys) (x : ℕ) (turn : Turn) : Type 0 where
+  pub row : IsRow s x turn.row.now
+  pub to : IsTargetMove s turn.row.now turn.action turn.to
+  pub action : turn.action < s.env.actions
+  pub room : length turn.words.now * lanes_in s ≡ count (sizes_of s)

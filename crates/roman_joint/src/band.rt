@@ -6,9 +6,8 @@ ghost use Rattle.roman_model.specs.Numbers.{sizes_of, count, numbered};
 ghost use Rattle.roman_model.specs.declared.reason.Reason.TheVariants.{Act};
 ghost use Rattle.roman_lanes.specs.Rows.{Keeps};
 ghost use Rattle.roman_joint.specs.NamedSys.{system_of};
-ghost use Rattle.roman_joint.specs.Rows.{lanes_in, low_in, HasAlive, IsRow, IsTargetMove};
+ghost use Rattle.roman_joint.specs.Rows.{lanes_in, low_in, HasAlive, IsRow, IsTurn};
 ghost use Rattle.roman_joint.specs.Bands.{mid_in, band_in, AllAlive, ClearsServed, ClearsServedIn};
-ghost use Rattle.roman_joint.specs.declared.row.Row.{Row};
 
 use crate::joint::Joint;
 use crate::moving::clear_moving;
@@ -16,7 +15,7 @@ use crate::outcomes::Outcomes;
 use crate::row::Row;
 use crate::runs::{Run, all_alive_each, clear, clear_state, is_clear, rows_alive_each, set_first};
 use crate::states::next_states;
-use crate::turn::{TargetMove, target_move_of};
+use crate::turn::{Turn, target_move_of};
 use crate::words::less;
 
 /// The greatest number of rows in a band.
@@ -24,63 +23,51 @@ const BAND: usize = 64;
 
 /// Clears, in `left`, the pairs of a band at which the seat `k` serves the action. The seat stands
 /// before the band's own. `all` is scratch space, and its contents don't matter.
-pub(crate) fn clear_before(
-    joint: &Joint,
-    words: &[u64],
-    row: &Row,
-    turn: &TargetMove<'_>,
-    a: u8,
-    k: u8,
-    all: &mut [u64],
-    left: &mut [u64],
-)
-    requires row { (y : ℕ) × IsRow (system_of joint.now) (y * band_in (system_of joint.now)) row.now }
-    requires turn { IsTargetMove (system_of joint.now) row.now a turn.now }
-    requires action { a < (system_of joint.now).env.actions }
-    requires room { length words.now * lanes_in (system_of joint.now) ≡ count (sizes_of (system_of joint.now)) }
+fn clear_before(joint: &Joint, turn: &Turn<'_>, k: u8, all: &mut [u64], left: &mut [u64])
+    requires turn { (y : ℕ) × IsTurn (system_of joint.now) (y * band_in (system_of joint.now)) turn.now }
     requires seat { k < mid_in (system_of joint.now) }
     requires all { band_in (system_of joint.now) ≤ length all.old }
     requires long { length left.old ≡ band_in (system_of joint.now) }
     ensures all { length all.new ≡ length all.old }
     ensures long { length left.new ≡ length left.old }
     ensures left { let s = system_of joint.now in
-        (y : ℕ) (gone : ℕ → Bool) → IsRow s (y * band_in s) row.now → HasAlive s gone words.now →
-        Keeps (lanes_in s) (y * band_in s) (band_in s) (λ p. is_beaten (numbered s) gone p a k) left.old left.new }
+        (y : ℕ) (gone : ℕ → Bool) → IsRow s (y * band_in s) turn.now.row.now → HasAlive s gone turn.now.words.now →
+        Keeps (lanes_in s) (y * band_in s) (band_in s) (λ p. is_beaten (numbered s) gone p turn.now.action k) left.old left.new }
 {
     let rows = joint.layout();
-    let b = row.states[k as usize];
-    let states = next_states(joint, k, b, row.env, a);
+    let b = turn.row.states[k as usize];
+    let states = next_states(joint, k, b, turn.row.env, turn.action);
     if states.is_empty() {
         return;
     }
     let stride = rows.strides[k as usize];
     let to = Outcomes {
-        base: turn.base - u32::from(b) * stride,
-        envs: turn.envs,
+        base: turn.to.base - u32::from(b) * stride,
+        envs: turn.to.envs,
         env_stride: rows.env_rows,
         states,
         stride,
     };
     let many = left.len();
     set_first(all, many, rows.full);
-    all_alive_each(all, many, words, &to);
+    all_alive_each(all, many, turn.words, &to);
     roman_lanes::less(left, all);
 }
 
 /// Writes, for each row of a band, the alive lanes of its turn: those at which it leads to no pair
 /// that is gone, in any state of the environment.
-fn alive_each(joint: &Joint, words: &[u64], turn: &TargetMove<'_>, alive: &mut [u64])
-    requires turn { (y : ℕ) × (row : Row) × (a : ℕ) × IsRow (system_of joint.now) (y * band_in (system_of joint.now)) row × IsTargetMove (system_of joint.now) row a turn.now }
-    requires room { length words.now * lanes_in (system_of joint.now) ≡ count (sizes_of (system_of joint.now)) }
+fn alive_each(joint: &Joint, turn: &Turn<'_>, alive: &mut [u64])
+    requires turn { (y : ℕ) × IsTurn (system_of joint.now) (y * band_in (system_of joint.now)) turn.now }
     requires long { band_in (system_of joint.now) ≤ length alive.old }
     ensures long { length alive.new ≡ length alive.old }
-    ensures alive { (gone : ℕ → Bool) → HasAlive (system_of joint.now) gone words.now →
-        AllAlive (system_of joint.now) gone turn.now alive.new }
+    ensures alive { (gone : ℕ → Bool) → HasAlive (system_of joint.now) gone turn.now.words.now →
+        AllAlive (system_of joint.now) gone turn.now.to alive.new }
 {
     let rows = joint.layout();
     let many = rows.band as usize;
     set_first(alive, many, rows.full);
-    rows_alive_each(alive, many, words, turn.base, turn.envs, rows.env_rows);
+    let to = &turn.to;
+    rows_alive_each(alive, many, turn.words, to.base, to.envs, rows.env_rows);
 }
 
 /// Clears, in `left`, the pairs of a band at which the seat `k` is in state `b` and serves the action.
@@ -172,23 +159,13 @@ fn clear_behind(joint: &Joint, row: &Row, alive: &[u64], a: u8, k: u8, left: &mu
 }
 
 /// Clears, in `left`, the pairs of a band at which some seat serves the action.
-fn clear_served(
-    joint: &Joint,
-    words: &[u64],
-    row: &Row,
-    turn: &TargetMove<'_>,
-    a: u8,
-    left: &mut [u64],
-)
-    requires row { (y : ℕ) × IsRow (system_of joint.now) (y * band_in (system_of joint.now)) row.now }
-    requires turn { IsTargetMove (system_of joint.now) row.now a turn.now }
-    requires action { a < (system_of joint.now).env.actions }
-    requires room { length words.now * lanes_in (system_of joint.now) ≡ count (sizes_of (system_of joint.now)) }
+fn clear_served(joint: &Joint, turn: &Turn<'_>, left: &mut [u64])
+    requires turn { (y : ℕ) × IsTurn (system_of joint.now) (y * band_in (system_of joint.now)) turn.now }
     requires long { length left.old ≡ band_in (system_of joint.now) }
     ensures long { length left.new ≡ length left.old }
     ensures left { let s = system_of joint.now in
-        (y : ℕ) (gone : ℕ → Bool) → IsRow s (y * band_in s) row.now → HasAlive s gone words.now →
-        Keeps (lanes_in s) (y * band_in s) (band_in s) (λ p. all_below (is_beaten (numbered s) gone p a) (length s.seats)) left.old left.new }
+        (y : ℕ) (gone : ℕ → Bool) → IsRow s (y * band_in s) turn.now.row.now → HasAlive s gone turn.now.words.now →
+        Keeps (lanes_in s) (y * band_in s) (band_in s) (λ p. all_below (is_beaten (numbered s) gone p turn.now.action) (length s.seats)) left.old left.new }
 {
     let rows = joint.layout();
     let mut alive = [0; BAND];
@@ -196,85 +173,56 @@ fn clear_served(
         if is_clear(left) {
             return;
         }
-        clear_before(joint, words, row, turn, a, k, &mut alive, left);
+        clear_before(joint, turn, k, &mut alive, left);
     }
-    alive_each(joint, words, turn, &mut alive);
+    alive_each(joint, turn, &mut alive);
     for seat in rows.mid..joint.seats() {
         if is_clear(left) {
             return;
         }
-        clear_behind(joint, row, &alive, a, seat, left);
+        clear_behind(joint, turn.row, &alive, turn.action, seat, left);
     }
 }
 
 /// Clears, in `left`, the pairs of a band at which the seat `k` serves the action. `alive` holds the
-/// alive lanes of each row's turn. `all` is scratch space, and its contents don't matter.
-fn clear_seat(
-    joint: &Joint,
-    words: &[u64],
-    row: &Row,
-    turn: &TargetMove<'_>,
-    alive: &[u64],
-    a: u8,
-    k: u8,
-    all: &mut [u64],
-    left: &mut [u64],
-)
-    requires row { (y : ℕ) × IsRow (system_of joint.now) (y * band_in (system_of joint.now)) row.now }
-    requires turn { IsTargetMove (system_of joint.now) row.now a turn.now }
-    requires action { a < (system_of joint.now).env.actions }
-    requires room { length words.now * lanes_in (system_of joint.now) ≡ count (sizes_of (system_of joint.now)) }
+/// alive lanes of each row's turn.
+fn clear_seat(joint: &Joint, turn: &Turn<'_>, alive: &[u64], k: u8, left: &mut [u64])
+    requires turn { (y : ℕ) × IsTurn (system_of joint.now) (y * band_in (system_of joint.now)) turn.now }
     requires seat { k < length joint.now.seats }
     requires alive { band_in (system_of joint.now) ≤ length alive.now }
-    requires all { band_in (system_of joint.now) ≤ length all.old }
     requires long { length left.old ≡ band_in (system_of joint.now) }
     ensures long { length left.new ≡ length left.old }
     ensures left { let s = system_of joint.now in
-        (y : ℕ) (gone : ℕ → Bool) → IsRow s (y * band_in s) row.now →
-        HasAlive s gone words.now → AllAlive s gone turn.now alive.now →
-        Keeps (lanes_in s) (y * band_in s) (band_in s) (λ p. is_beaten (numbered s) gone p a k) left.old left.new }
+        (y : ℕ) (gone : ℕ → Bool) → IsRow s (y * band_in s) turn.now.row.now → HasAlive s gone turn.now.words.now →
+        AllAlive s gone turn.now.to alive.now →
+        Keeps (lanes_in s) (y * band_in s) (band_in s) (λ p. is_beaten (numbered s) gone p turn.now.action k) left.old left.new }
 {
     if k < joint.layout().mid {
-        clear_before(joint, words, row, turn, a, k, all, left);
+        let mut all = [0; BAND];
+        clear_before(joint, turn, k, &mut all, left);
     } else {
-        clear_behind(joint, row, alive, a, k, left);
+        clear_behind(joint, turn.row, alive, turn.action, k, left);
     }
 }
 
 /// Returns the number of pairs of a band at which the seat `k` serves the action. `alive` holds the
-/// alive lanes of each row's turn. `all` and `left` are scratch space, and their contents don't
-/// matter.
-fn served_by(
-    joint: &Joint,
-    words: &[u64],
-    row: &Row,
-    turn: &TargetMove<'_>,
-    alive: &[u64],
-    a: u8,
-    k: u8,
-    all: &mut [u64],
-    left: &mut [u64],
-) -> u32
-    requires row { (y : ℕ) × IsRow (system_of joint.now) (y * band_in (system_of joint.now)) row.now }
-    requires turn { IsTargetMove (system_of joint.now) row.now a turn.now }
-    requires action { a < (system_of joint.now).env.actions }
-    requires room { length words.now * lanes_in (system_of joint.now) ≡ count (sizes_of (system_of joint.now)) }
+/// alive lanes of each row's turn.
+fn served_by(joint: &Joint, turn: &Turn<'_>, alive: &[u64], k: u8) -> u32
+    requires turn { (y : ℕ) × IsTurn (system_of joint.now) (y * band_in (system_of joint.now)) turn.now }
     requires seat { k < length joint.now.seats }
     requires alive { band_in (system_of joint.now) ≤ length alive.now }
-    requires all { band_in (system_of joint.now) ≤ length all.old }
-    requires long { length left.old ≡ band_in (system_of joint.now) }
-    ensures all { length all.new ≡ length all.old }
-    ensures long { length left.new ≡ length left.old }
     ensures counted { let s = system_of joint.now in
-        (y : ℕ) (gone : ℕ → Bool) → IsRow s (y * band_in s) row.now →
-        HasAlive s gone words.now → AllAlive s gone turn.now alive.now →
-        result ≡ sum_by (λ i. count_by (λ lane. not (is_beaten (numbered s) gone ((y * band_in s + i) * lanes_in s + lane) a k)) (below (lanes_in s))) (below (band_in s)) }
+        (y : ℕ) (gone : ℕ → Bool) → IsRow s (y * band_in s) turn.now.row.now → HasAlive s gone turn.now.words.now →
+        AllAlive s gone turn.now.to alive.now → result
+        ≡ sum_by (λ i. count_by (λ lane. not (is_beaten (numbered s) gone ((y * band_in s + i) * lanes_in s + lane) turn.now.action k)) (below (lanes_in s))) (below (band_in s)) }
     ensures few { result ≤ 4096 }
 {
     let rows = joint.layout();
     let many = joint.band() as usize;
+    let mut room = [0; BAND];
+    let left = &mut room[..many];
     set_first(left, many, rows.full);
-    clear_seat(joint, words, row, turn, alive, a, k, all, left);
+    clear_seat(joint, turn, alive, k, left);
     let mut count = 0;
     for i in 0..many {
         count += less(rows.full, left[i]).count_ones();
@@ -301,11 +249,17 @@ impl Joint {
             left[0] = self.unserved(row, words, a, left[0]);
             return;
         }
-        let Some(turn) = target_move_of(self, row, a) else {
+        let Some(to) = target_move_of(self, row, a) else {
             clear(left);
             return;
         };
-        clear_served(self, words, row, &turn, a, left);
+        let turn = Turn {
+            words,
+            row,
+            action: a,
+            to,
+        };
+        clear_served(self, &turn, left);
     }
 
     /// Clears, in `left`, the pairs of a band at which the service `k` serves the action `a`. `row` is
@@ -323,13 +277,18 @@ impl Joint {
             Keeps (lanes_in s) (y * band_in s) (band_in s) (λ p. is_beaten (numbered s) gone p a k) left.old left.new }
     {
         self.known();
-        let Some(turn) = target_move_of(self, row, a) else {
+        let Some(to) = target_move_of(self, row, a) else {
             return;
         };
+        let turn = Turn {
+            words,
+            row,
+            action: a,
+            to,
+        };
         let mut alive = [0; BAND];
-        alive_each(self, words, &turn, &mut alive);
-        let mut all = [0; BAND];
-        clear_seat(self, words, row, &turn, &alive, a, k, &mut all, left);
+        alive_each(self, &turn, &mut alive);
+        clear_seat(self, &turn, &alive, k, left);
     }
 
     /// Returns the number of choices of a service for the action `a` at all pairs of a band together,
@@ -346,17 +305,20 @@ impl Joint {
         ensures few { result ≤ 131072 }
     {
         self.known();
-        let Some(turn) = target_move_of(self, row, a) else {
+        let Some(to) = target_move_of(self, row, a) else {
             return 0;
         };
+        let turn = Turn {
+            words,
+            row,
+            action: a,
+            to,
+        };
         let mut alive = [0; BAND];
-        alive_each(self, words, &turn, &mut alive);
-        let mut all = [0; BAND];
-        let mut room = [0; BAND];
-        let left = &mut room[..self.band() as usize];
+        alive_each(self, &turn, &mut alive);
         let mut count = 0;
         for k in 0..self.seats() {
-            count += served_by(self, words, row, &turn, &alive, a, k, &mut all, left);
+            count += served_by(self, &turn, &alive, k);
         }
         count
     }

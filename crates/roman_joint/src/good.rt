@@ -8,57 +8,53 @@ ghost use Rattle.roman_model.specs.declared.reason.Reason.TheVariants.{Act};
 ghost use Rattle.roman_lanes.specs.Rows.{is_on, HasLanes};
 ghost use Rattle.roman_rules.specs.Bits.{HasBits};
 ghost use Rattle.roman_joint.specs.NamedSys.{system_of};
-ghost use Rattle.roman_joint.specs.Rows.{lanes_in, low_in, HasAlive, IsRow, IsTargetMove, AreAlive};
-ghost use Rattle.roman_joint.specs.declared.row.Row.{Row};
+ghost use Rattle.roman_joint.specs.Rows.{lanes_in, low_in, HasAlive, IsRow, IsTargetMove, IsTurn, AreAlive};
 ghost use Rattle.roman_joint.specs.declared.turn.TargetMove.{TargetMove};
 
 use crate::joint::Joint;
 use crate::outcomes::Outcomes;
 use crate::row::Row;
 use crate::states::next_states;
-use crate::turn::{TargetMove, target_move_of};
+use crate::turn::{Turn, target_move_of};
 use crate::words::{all_alive, less, moves_alive, rows_alive};
 use roman_rules::SeatSet;
 
 /// Returns the lanes at which a seat before the lanes serves the action.
 #[inline(always)]
-fn good_before(joint: &Joint, words: &[u64], row: &Row, turn: &TargetMove<'_>, a: u8, k: u8) -> u64
-    requires row { (x : ℕ) × IsRow (system_of joint.now) x row.now }
-    requires turn { IsTargetMove (system_of joint.now) row.now a turn.now }
-    requires action { a < (system_of joint.now).env.actions }
-    requires room { length words.now * lanes_in (system_of joint.now) ≡ count (sizes_of (system_of joint.now)) }
+fn good_before(joint: &Joint, turn: &Turn<'_>, k: u8) -> u64
+    requires turn { (x : ℕ) × IsTurn (system_of joint.now) x turn.now }
     requires seat { k < low_in (system_of joint.now) }
     ensures { let s = system_of joint.now in
-        (x : ℕ) (gone : ℕ → Bool) → IsRow s x row.now → HasAlive s gone words.now →
-        HasLanes (lanes_in s) x (λ p. not (is_beaten (numbered s) gone p a k)) result }
+        (x : ℕ) (gone : ℕ → Bool) → IsRow s x turn.now.row.now → HasAlive s gone turn.now.words.now →
+        HasLanes (lanes_in s) x (λ p. not (is_beaten (numbered s) gone p turn.now.action k)) result }
 {
     let rows = joint.layout();
-    let b = row.states[k as usize];
-    let states = next_states(joint, k, b, row.env, a);
+    let b = turn.row.states[k as usize];
+    let states = next_states(joint, k, b, turn.row.env, turn.action);
     if states.is_empty() {
         return 0;
     }
     let stride = rows.strides[k as usize];
     let to = Outcomes {
-        base: turn.base - u32::from(b) * stride,
-        envs: turn.envs,
+        base: turn.to.base - u32::from(b) * stride,
+        envs: turn.to.envs,
         env_stride: rows.env_rows,
         states,
         stride,
     };
-    all_alive(words, &to, rows.full)
+    all_alive(turn.words, &to, rows.full)
 }
 
 /// Returns the alive lanes of a turn: those at which it leads to no pair that is gone, in any state of
 /// the environment.
-fn alive_on(joint: &Joint, words: &[u64], turn: &TargetMove<'_>) -> u64
-    requires turn { (x : ℕ) × (row : Row) × (a : ℕ) × IsRow (system_of joint.now) x row × IsTargetMove (system_of joint.now) row a turn.now }
-    requires room { length words.now * lanes_in (system_of joint.now) ≡ count (sizes_of (system_of joint.now)) }
-    ensures { (gone : ℕ → Bool) → HasAlive (system_of joint.now) gone words.now →
-        AreAlive (system_of joint.now) gone turn.now result }
+fn alive_on(joint: &Joint, turn: &Turn<'_>) -> u64
+    requires { (x : ℕ) × IsTurn (system_of joint.now) x turn.now }
+    ensures { (gone : ℕ → Bool) → HasAlive (system_of joint.now) gone turn.now.words.now →
+        AreAlive (system_of joint.now) gone turn.now.to result }
 {
     let rows = joint.layout();
-    rows_alive(words, turn.base, turn.envs, rows.env_rows, rows.full)
+    let to = &turn.to;
+    rows_alive(turn.words, to.base, to.envs, rows.env_rows, rows.full)
 }
 
 /// Returns the lanes at which a seat within the lanes serves the action. `alive` holds the alive lanes
@@ -84,29 +80,18 @@ fn good_within(joint: &Joint, row: &Row, alive: u64, a: u8, k: u8) -> u64
 
 /// Returns the lanes at which a seat serves the action. `alive` holds the alive lanes of the turn.
 #[inline(always)]
-fn good_on(
-    joint: &Joint,
-    words: &[u64],
-    row: &Row,
-    turn: &TargetMove<'_>,
-    alive: u64,
-    a: u8,
-    k: u8,
-) -> u64
-    requires row { (x : ℕ) × IsRow (system_of joint.now) x row.now }
-    requires turn { IsTargetMove (system_of joint.now) row.now a turn.now }
-    requires action { a < (system_of joint.now).env.actions }
-    requires room { length words.now * lanes_in (system_of joint.now) ≡ count (sizes_of (system_of joint.now)) }
+fn good_on(joint: &Joint, turn: &Turn<'_>, alive: u64, k: u8) -> u64
+    requires turn { (x : ℕ) × IsTurn (system_of joint.now) x turn.now }
     requires seat { k < length joint.now.seats }
     ensures { let s = system_of joint.now in
-        (x : ℕ) (gone : ℕ → Bool) → IsRow s x row.now →
-        HasAlive s gone words.now → AreAlive s gone turn.now alive →
-        HasLanes (lanes_in s) x (λ p. not (is_beaten (numbered s) gone p a k)) result }
+        (x : ℕ) (gone : ℕ → Bool) → IsRow s x turn.now.row.now → HasAlive s gone turn.now.words.now →
+        AreAlive s gone turn.now.to alive →
+        HasLanes (lanes_in s) x (λ p. not (is_beaten (numbered s) gone p turn.now.action k)) result }
 {
     if k < joint.layout().low {
-        good_before(joint, words, row, turn, a, k)
+        good_before(joint, turn, k)
     } else {
-        good_within(joint, row, alive, a, k)
+        good_within(joint, turn.row, alive, turn.action, k)
     }
 }
 
@@ -137,11 +122,17 @@ impl Joint {
             HasLanes (lanes_in s) x (λ p. not (is_beaten (numbered s) gone p a k)) result }
     {
         self.known();
-        let Some(turn) = target_move_of(self, row, a) else {
+        let Some(to) = target_move_of(self, row, a) else {
             return 0;
         };
-        let alive = alive_on(self, words, &turn);
-        good_on(self, words, row, &turn, alive, a, k)
+        let turn = Turn {
+            words,
+            row,
+            action: a,
+            to,
+        };
+        let alive = alive_on(self, &turn);
+        good_on(self, &turn, alive, k)
     }
 
     /// Returns the mask of the action `a` at the pair at a lane of a row: the services that are ready
@@ -157,13 +148,19 @@ impl Joint {
             HasBits result (has (mask_of (numbered s) gone (x * lanes_in s + lane) a)) }
     {
         self.known();
-        let Some(turn) = target_move_of(self, row, a) else {
+        let Some(to) = target_move_of(self, row, a) else {
             return SeatSet::EMPTY;
         };
-        let alive = alive_on(self, words, &turn);
+        let turn = Turn {
+            words,
+            row,
+            action: a,
+            to,
+        };
+        let alive = alive_on(self, &turn);
         let mut mask = SeatSet::EMPTY;
         for k in 0..serving(self, alive) {
-            let good = good_on(self, words, row, &turn, alive, a, k);
+            let good = good_on(self, &turn, alive, k);
             mask = mask.with(k, (good >> lane) & 1 == 1);
         }
         mask
@@ -183,16 +180,22 @@ impl Joint {
         ensures within { (lane : ℕ) → is_on wanted lane ≡ false → is_on result lane ≡ false }
     {
         self.known();
-        let Some(turn) = target_move_of(self, row, a) else {
+        let Some(to) = target_move_of(self, row, a) else {
             return 0;
         };
-        let alive = alive_on(self, words, &turn);
+        let turn = Turn {
+            words,
+            row,
+            action: a,
+            to,
+        };
+        let alive = alive_on(self, &turn);
         let mut left = wanted;
         for k in 0..serving(self, alive) {
             if left == 0 {
                 return 0;
             }
-            let good = good_on(self, words, row, &turn, alive, a, k);
+            let good = good_on(self, &turn, alive, k);
             left = less(left, good);
         }
         left

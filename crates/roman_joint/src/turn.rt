@@ -16,8 +16,18 @@ pub(crate) struct TargetMove<'a> {
     pub(crate) envs: &'a [u8],
 }
 
-/// Returns the turn of the action `a` from a row, or `None` exactly where the action isn't allowed
-/// there.
+/// An action at a row, or at the rows of a band: the states to which it leads, and the words of the
+/// pairs that aren't gone.
+#[derive(Clone, Copy)]
+pub(crate) struct Turn<'a> {
+    pub(crate) words: &'a [u64],
+    pub(crate) row: &'a Row,
+    pub(crate) action: u8,
+    pub(crate) to: TargetMove<'a>,
+}
+
+/// Returns the states to which the action `a` leads from a row, or `None` exactly where the action
+/// isn't allowed there.
 #[tactic(auto, using(roman_rules::proofs::CallerLemmas::bit_off, std::proofs::lemmas::Nat::Bits::shr_and_one, crate::proofs::GoodLemmas::turn_fits))]
 pub(crate) fn target_move_of<'a>(joint: &'a Joint, row: &Row, a: u8) -> Option<TargetMove<'a>>
     requires row { (x : ℕ) × IsRow (system_of joint.now) x row.now }

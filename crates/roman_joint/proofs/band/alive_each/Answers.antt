@@ -6,15 +6,17 @@ use Rattle.roman_joint.proofs.BandLemmas.{row_in, first_in, known_at, turned}
 use Rattle.roman_joint.proofs.band.alive_each.Goals as goal
 use Rattle.roman_joint.proofs.band.alive_each.Goals.{After-layout-rows}
 
-there : (c : After-layout-rows) (i : ℕ) → i < band_in (system_of c.args.joint.now) → RowsThere c.layout-rows.result.now (turn_at c.args.turn.now i) (length c.args.words.now)
+there : (c : After-layout-rows) (i : ℕ) → i < band_in (system_of c.args.joint.now) → RowsThere c.layout-rows.result.now (turn_at c.args.turn.now.to i) (length c.args.turn.now.words.now)
 there c i l =
-    let (y, row, a, ok, turn) = c.requires.turn in
+    let (y, is) = c.requires.turn in
+    let row = c.args.turn.now.row.now in
+    let a = c.args.turn.now.action in
     let n = c.args.joint.now in
     let s = system_of n in
     let r = c.layout-rows.result.now in
-    let h = known n (y * band_in s) row c.layout-rows.ensures.known ok in
-    rows_there s r (y * band_in s + i) a (length c.args.words.now) (row_in s (y * band_in s + i) row) (turn_at c.args.turn.now i) (known_at s r y a row c.args.turn.now h c.layout-rows.ensures.rows turn i l)
-    c.layout-rows.ensures.rows (turned s r y a row c.args.turn.now h c.layout-rows.ensures.rows turn i l) c.requires.room
+    let h = known n (y * band_in s) row c.layout-rows.ensures.known is.row in
+    rows_there s r (y * band_in s + i) a (length c.args.turn.now.words.now) (row_in s (y * band_in s + i) row) (turn_at c.args.turn.now.to i) (known_at s r y a row c.args.turn.now.to h c.layout-rows.ensures.rows is.to i l)
+    c.layout-rows.ensures.rows (turned s r y a row c.args.turn.now.to h c.layout-rows.ensures.rows is.to i l) is.room
 
 some_row : (c : After-layout-rows) → 0 < band_in (system_of c.args.joint.now)
 some_row c = first_in (system_of c.args.joint.now) (joint_sizes c.args.joint.now c.layout-rows.ensures.known)
@@ -23,28 +25,30 @@ pub rows_alive_each-requires-clause-fits : goal.rows_alive_each-requires-clause-
 rows_alive_each-requires-clause-fits c i d l =
     let at = (goal.at.rows_alive_each-requires-clause-fits c).After-layout-rows in
     let all = there at 0 (some_row at) in
-    omega (arith, all.there (get_or c.args.turn.now.envs.now i d) (in_at c.args.turn.now.envs.now i d l), all.few)
+    omega (arith, all.there (get_or c.args.turn.now.to.envs.now i d) (in_at c.args.turn.now.to.envs.now i d l), all.few)
 
 pub rows_alive_each-requires-clause-within : goal.rows_alive_each-requires-clause-within
 rows_alive_each-requires-clause-within c i d l =
     let at = (goal.at.rows_alive_each-requires-clause-within c).After-layout-rows in
     let some = some_row at in
     let last = band_in (system_of c.args.joint.now) - 1 in
-    omega (arith, some, c.layout-rows.ensures.rows.band, (there at last (omega (arith, some))).there (get_or c.args.turn.now.envs.now i d) (in_at c.args.turn.now.envs.now i d l))
+    omega (arith, some, c.layout-rows.ensures.rows.band, (there at last (omega (arith, some))).there (get_or c.args.turn.now.to.envs.now i d) (in_at c.args.turn.now.to.envs.now i d l))
 
 pub returns-clause-alive : goal.returns-clause-alive
 returns-clause-alive c gone rows =
     let n = c.args.joint.now in
     let s = system_of n in
     let r = c.layout-rows.result.now in
-    let turn = c.args.turn.now in
-    let (y, row, a, ok, turns) = c.requires.turn in
-    let h = known n (y * band_in s) row c.layout-rows.ensures.known ok in
+    let turn = c.args.turn.now.to in
+    let (y, is) = c.requires.turn in
+    let row = c.args.turn.now.row.now in
+    let a = c.args.turn.now.action in
+    let h = known n (y * band_in s) row c.layout-rows.ensures.known is.row in
     record {
       each = λ i l.
           let many : i < r.band = omega (arith, l, c.layout-rows.ensures.rows.band) in
-          alive_there s r (y * band_in s + i) a (slice_index c.rows_alive_each.new.all i) (row_in s (y * band_in s + i) row) (turn_at turn i) c.args.words.now gone (known_at s r y a row turn h c.layout-rows.ensures.rows turns i l)
-          c.layout-rows.ensures.rows (turned s r y a row turn h c.layout-rows.ensures.rows turns i l) c.requires.room rows
+          alive_there s r (y * band_in s + i) a (slice_index c.rows_alive_each.new.all i) (row_in s (y * band_in s + i) row) (turn_at turn i) c.args.turn.now.words.now gone (known_at s r y a row turn h c.layout-rows.ensures.rows is.to i l)
+          c.layout-rows.ensures.rows (turned s r y a row turn h c.layout-rows.ensures.rows is.to i l) is.room rows
           (λ lane. c.rows_alive_each.ensures.each i lane many
-          ∙ ap (λ z. is_on z lane && not (list_any (λ e. not (is_on (slice_index c.args.words.now (turn.base + i + e * r.env_rows)) lane)) turn.envs.now)) (c.set_first.ensures.each i many));
+          ∙ ap (λ z. is_on z lane && not (list_any (λ e. not (is_on (slice_index c.args.turn.now.words.now (turn.base + i + e * r.env_rows)) lane)) turn.envs.now)) (c.set_first.ensures.each i many));
     }

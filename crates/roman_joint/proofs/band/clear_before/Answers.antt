@@ -7,26 +7,26 @@ use Rattle.roman_joint.proofs.BandLemmas.{mid_low, first_in, BandBefore, before_
 use Rattle.roman_joint.proofs.band.clear_before.Goals as goal
 use Rattle.roman_joint.proofs.band.clear_before.Goals.{After-from}
 
-pub bounds-row-k : goal.bounds-row-k
-bounds-row-k c = (low_few c.args.joint.now c.args.k c.layout-rows.ensures.known (mid_low (system_of c.args.joint.now) c.args.k c.requires.seat)).0
+pub bounds-turn-k : goal.bounds-turn-k
+bounds-turn-k c = (low_few c.args.joint.now c.args.k c.layout-rows.ensures.known (mid_low (system_of c.args.joint.now) c.args.k c.requires.seat)).0
 
 pub next_states-states-requires-clause-seat : goal.next_states-states-requires-clause-seat
 next_states-states-requires-clause-seat c = (low_few c.args.joint.now c.args.k c.layout-rows.ensures.known (mid_low (system_of c.args.joint.now) c.args.k c.requires.seat)).1
 
 pub next_states-states-requires-clause-state : goal.next_states-states-requires-clause-state
-next_states-states-requires-clause-state c = c.requires.row.1.state_range c.args.k (mid_low (system_of c.args.joint.now) c.args.k c.requires.seat)
+next_states-states-requires-clause-state c = c.requires.turn.1.row.state_range c.args.k (mid_low (system_of c.args.joint.now) c.args.k c.requires.seat)
 
 pub bounds-rows-k : goal.bounds-rows-k
 bounds-rows-k c = (low_few c.args.joint.now c.args.k c.layout-rows.ensures.known (mid_low (system_of c.args.joint.now) c.args.k c.requires.seat)).0
 
 -- the rows to which the seat goes from a row of the band
 rows_to : (c : After-from) (i : ℕ) → i < band_in (system_of c.args.joint.now) →
-    BandBefore (system_of c.args.joint.now) c.layout-rows.result.now c.args.turn.now c.args.k c.from.result i (length c.args.words.now) c.next_states-states.result.now
+    BandBefore (system_of c.args.joint.now) c.layout-rows.result.now c.args.turn.now.to c.args.k c.from.result i (length c.args.turn.now.words.now) c.next_states-states.result.now
 rows_to c i l =
     let n = c.args.joint.now in
-    let (y, ok) = c.requires.row in
-    before_at (system_of n) c.layout-rows.result.now y c.args.a c.args.row.now c.args.turn.now (known n (y * band_in (system_of n)) c.args.row.now c.layout-rows.ensures.known ok) c.layout-rows.ensures.rows c.requires.turn
-    i c.args.k c.from.result (length c.args.words.now) c.next_states-states.result.now l c.requires.seat c.requires.room c.next_states-states.ensures.next c.from.ensures
+    let (y, is) = c.requires.turn in
+    before_at (system_of n) c.layout-rows.result.now y c.args.turn.now.action c.args.turn.now.row.now c.args.turn.now.to (known n (y * band_in (system_of n)) c.args.turn.now.row.now c.layout-rows.ensures.known is.row) c.layout-rows.ensures.rows is.to
+    i c.args.k c.from.result (length c.args.turn.now.words.now) c.next_states-states.result.now l c.requires.seat is.room c.next_states-states.ensures.next c.from.ensures
 
 -- a band has a row
 some_row : (c : After-from) → 0 < band_in (system_of c.args.joint.now)
@@ -44,7 +44,7 @@ all_alive_each-requires-clause-envs c i d l =
     let to = rows_to at 0 (some_row at) in
     let states = c.next_states-states.result.now in
     let (b, j) = not_empty_in states (sym (len_empty states) ∙ (sym c.is_empty.ensures ∙ c.if-is_empty.false)) in
-    omega (arith, to.there (get_or c.args.turn.now.envs.now i d) b (in_at c.args.turn.now.envs.now i d l) j, to.few)
+    omega (arith, to.there (get_or c.args.turn.now.to.envs.now i d) b (in_at c.args.turn.now.to.envs.now i d l) j, to.few)
 
 pub all_alive_each-requires-clause-within : goal.all_alive_each-requires-clause-within
 all_alive_each-requires-clause-within c i d l j e m =
@@ -52,23 +52,23 @@ all_alive_each-requires-clause-within c i d l j e m =
     let states = c.next_states-states.result.now in
     let some = some_row at in
     let last = band_in (system_of c.args.joint.now) - 1 in
-    omega (arith, c.requires.long, some, (rows_to at last (omega (arith, some))).there (get_or c.args.turn.now.envs.now i d) (get_or states j e) (in_at c.args.turn.now.envs.now i d l) (in_at states j e m))
+    omega (arith, c.requires.long, some, (rows_to at last (omega (arith, some))).there (get_or c.args.turn.now.to.envs.now i d) (get_or states j e) (in_at c.args.turn.now.to.envs.now i d l) (in_at states j e m))
 
 pub all_alive_each-requires-clause-fits : goal.all_alive_each-requires-clause-fits
 all_alive_each-requires-clause-fits c i d l j e m =
     let at = (goal.at.all_alive_each-requires-clause-fits c).After-from in
     let states = c.next_states-states.result.now in
     let to = rows_to at 0 (some_row at) in
-    omega (arith, to.there (get_or c.args.turn.now.envs.now i d) (get_or states j e) (in_at c.args.turn.now.envs.now i d l) (in_at states j e m), to.few)
+    omega (arith, to.there (get_or c.args.turn.now.to.envs.now i d) (get_or states j e) (in_at c.args.turn.now.to.envs.now i d l) (in_at states j e m), to.few)
 
 pub returns-then-is_empty-clause-left : goal.returns-then-is_empty-clause-left
 returns-then-is_empty-clause-left c y gone ok rows =
     let n = c.args.joint.now in
     let s = system_of n in
     let states = c.next_states-states.result.now in
-    let h = known n (y * band_in s) c.args.row.now c.layout-rows.ensures.known ok in
-    keeps_all s (y * band_in s) (band_in s) (λ p. is_beaten (numbered s) gone p c.args.a c.args.k) c.args.left.now
-    (λ i l. beaten_band s c.layout-rows.result.now y c.args.a c.args.row.now c.args.turn.now h c.layout-rows.ensures.rows c.requires.turn i c.args.k states gone l c.requires.seat c.next_states-states.ensures.next
+    let h = known n (y * band_in s) c.args.turn.now.row.now c.layout-rows.ensures.known ok in
+    keeps_all s (y * band_in s) (band_in s) (λ p. is_beaten (numbered s) gone p c.args.turn.now.action c.args.k) c.args.left.now
+    (λ i l. beaten_band s c.layout-rows.result.now y c.args.turn.now.action c.args.turn.now.row.now c.args.turn.now.to h c.layout-rows.ensures.rows c.requires.turn.1.to i c.args.k states gone l c.requires.seat c.next_states-states.ensures.next
     (empty_is states (sym (len_empty states) ∙ (sym c.is_empty.ensures ∙ c.if-is_empty.true))))
 
 pub returns-clause-left : goal.returns-clause-left
@@ -78,16 +78,16 @@ returns-clause-left c y gone ok rows =
     let r = c.layout-rows.result.now in
     let u = slice_index r.strides c.args.k in
     let states = c.next_states-states.result.now in
-    let h = known n (y * band_in s) c.args.row.now c.layout-rows.ensures.known ok in
+    let h = known n (y * band_in s) c.args.turn.now.row.now c.layout-rows.ensures.known ok in
     let some : IsFalse (is_empty states) = sym (len_empty states) ∙ (sym c.is_empty.ensures ∙ c.if-is_empty.false) in
-    keeps_clear s (y * band_in s) (band_in s) (λ p. is_beaten (numbered s) gone p c.args.a c.args.k) c.args.left.now c.less.new.words c.requires.long c.less.ensures.long
+    keeps_clear s (y * band_in s) (band_in s) (λ p. is_beaten (numbered s) gone p c.args.turn.now.action c.args.k) c.args.left.now c.less.new.words c.requires.long c.less.ensures.long
     (λ i l.
     let many : i < length c.args.left.now = omega (arith, l, c.requires.long) in (
       slice_index c.all_alive_each.new.all i,
-      serves_band s r y c.args.a c.args.row.now c.args.turn.now h c.layout-rows.ensures.rows c.requires.turn i c.args.k c.from.result (c.args.turn.now.base - c.from.result * u + i) (slice_index c.all_alive_each.new.all i)
-          states c.args.words.now gone l c.requires.seat c.requires.room c.next_states-states.ensures.next c.from.ensures some rows refl (λ lane.
+      serves_band s r y c.args.turn.now.action c.args.turn.now.row.now c.args.turn.now.to h c.layout-rows.ensures.rows c.requires.turn.1.to i c.args.k c.from.result (c.args.turn.now.to.base - c.from.result * u + i) (slice_index c.all_alive_each.new.all i)
+          states c.args.turn.now.words.now gone l c.requires.seat c.requires.turn.1.room c.next_states-states.ensures.next c.from.ensures some rows refl (λ lane.
           c.all_alive_each.ensures.each i lane many
-          ∙ ap (λ z. is_on z lane && not (list_any (λ e. list_any (λ b. not (is_on (slice_index c.args.words.now (c.args.turn.now.base - c.from.result * u + i + e * r.env_rows + b * u)) lane)) states) c.args.turn.now.envs.now))
+          ∙ ap (λ z. is_on z lane && not (list_any (λ e. list_any (λ b. not (is_on (slice_index c.args.turn.now.words.now (c.args.turn.now.to.base - c.from.result * u + i + e * r.env_rows + b * u)) lane)) states) c.args.turn.now.to.envs.now))
           (c.set_first.ensures.each i many)),
       λ lane. c.less.ensures.each i lane many,
     ))

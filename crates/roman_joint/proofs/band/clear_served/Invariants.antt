@@ -6,13 +6,13 @@ abbrev pub invariant-loop-k : goal.invariant-loop-k
 invariant-loop-k l = record {
   wide : length l.alive ≡ 64;
   long : length l.left ≡ length l.fn.left;
-  left : (y : ℕ) (gone : ℕ → Bool) → IsRow (system_of l.joint) (y * band_in (system_of l.joint)) l.row → AreRows (lanes_in (system_of l.joint)) (λ q. not (gone q)) l.words →
-      Keeps (lanes_in (system_of l.joint)) (y * band_in (system_of l.joint)) (band_in (system_of l.joint)) (λ p. all_below (is_beaten (numbered (system_of l.joint)) gone p l.a) l.k) l.fn.left l.left;
+  left : (y : ℕ) (gone : ℕ → Bool) → IsRow (system_of l.joint) (y * band_in (system_of l.joint)) l.turn.row.now → AreRows (lanes_in (system_of l.joint)) (λ q. not (gone q)) l.turn.words.now →
+      Keeps (lanes_in (system_of l.joint)) (y * band_in (system_of l.joint)) (band_in (system_of l.joint)) (λ p. all_below (is_beaten (numbered (system_of l.joint)) gone p l.turn.action) l.k) l.fn.left l.left;
 }
 
 abbrev pub invariant-loop-seat : goal.invariant-loop-seat
 invariant-loop-seat l = record {
   long : length l.left ≡ length l.fn.left;
-  left : (y : ℕ) (gone : ℕ → Bool) → IsRow (system_of l.joint) (y * band_in (system_of l.joint)) l.row → AreRows (lanes_in (system_of l.joint)) (λ q. not (gone q)) l.words →
-      Keeps (lanes_in (system_of l.joint)) (y * band_in (system_of l.joint)) (band_in (system_of l.joint)) (λ p. all_below (is_beaten (numbered (system_of l.joint)) gone p l.a) l.seat) l.fn.left l.left;
+  left : (y : ℕ) (gone : ℕ → Bool) → IsRow (system_of l.joint) (y * band_in (system_of l.joint)) l.turn.row.now → AreRows (lanes_in (system_of l.joint)) (λ q. not (gone q)) l.turn.words.now →
+      Keeps (lanes_in (system_of l.joint)) (y * band_in (system_of l.joint)) (band_in (system_of l.joint)) (λ p. all_below (is_beaten (numbered (system_of l.joint)) gone p l.turn.action) l.seat) l.fn.left l.left;
 }

@@ -16,9 +16,6 @@ returns-in_default-clause-counted c y gone ok rows =
     let here = in_band s y i c.args.row.now (joint_sizes c.args.self.now c.known.ensures) ok l in
     sym (none_chosen (numbered s) gone (lanes_in s) (x + i) c.args.a (λ lane m. open_here s (row_in s (x + i) c.args.row.now) (x + i) c.args.a lane here.looked m ∙ c.in_default.ensures)))
 
-pub alive_each-requires-clause-turn : goal.alive_each-requires-clause-turn
-alive_each-requires-clause-turn c = (c.requires.row.0, c.args.row.now, c.args.a, c.requires.row.1, c.in-Some.ensures)
-
 pub alive_each-requires-clause-long : goal.alive_each-requires-clause-long
 alive_each-requires-clause-long c = lanes_few (row_sizes (sizes_of (system_of c.args.self.now))).seats
 

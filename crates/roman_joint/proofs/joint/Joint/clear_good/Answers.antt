@@ -17,9 +17,6 @@ returns-in_default-clause-left c y gone ok rows =
       rest = λ lane m. on_zero lane;
     })
 
-pub alive_each-requires-clause-turn : goal.alive_each-requires-clause-turn
-alive_each-requires-clause-turn c = (c.requires.row.0, c.args.row.now, c.args.a, c.requires.row.1, c.in-Some.ensures)
-
 pub alive_each-requires-clause-long : goal.alive_each-requires-clause-long
 alive_each-requires-clause-long c = lanes_few (row_sizes (sizes_of (system_of c.args.self.now))).seats
 
@@ -28,6 +25,3 @@ clear_seat-requires-clause-alive c = omega (arith, c.alive_each.ensures.long, la
 
 pub returns-clause-left : goal.returns-clause-left
 returns-clause-left c y gone ok rows = c.clear_seat.ensures.left y gone ok rows (c.alive_each.ensures.alive gone rows)
-
-pub clear_seat-requires-clause-all : goal.clear_seat-requires-clause-all
-clear_seat-requires-clause-all c = lanes_few (row_sizes (sizes_of (system_of c.args.self.now))).seats

@@ -38,5 +38,5 @@ returns c x gone ok rows =
     let p = x * lanes_in s + c.args.lane in
     subst (λ bits. HasBits bits (has (mask (numbered s) gone p c.args.a))) (sym c.mask.view_is) (mask_all _ (joint_numbered _ c.known.ensures) _ _ _ _ _ (λ k past l.
     let (within, dead) = c.serving-k-end.ensures.rest k (omega arith) (omega (arith, seats)) in
-    beaten_dead _ _ _ _ _ _ _ _ h c.in-Some.ensures within l (subst (AreAlive s gone c.in-Some.turn) dead living) c.requires.lane)
+    beaten_dead _ _ _ _ _ _ _ _ h c.in-Some.ensures within l (subst (AreAlive s gone c.in-Some.to) dead living) c.requires.lane)
     (c.loop-k.invariant.bits x gone ok rows) c.loop-k.invariant.rest)

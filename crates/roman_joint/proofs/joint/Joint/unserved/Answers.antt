@@ -10,9 +10,6 @@ one_more p k wanted = rw add-one (grind arith)
 pub returns-in_default-clause-lost : goal.returns-in_default-clause-lost
 returns-in_default-clause-lost c x gone ok rows lane l = grind (arith, and_nothing, on_zero, refused)
 
-pub alive_on-alive-requires-clause-turn : goal.alive_on-alive-requires-clause-turn
-alive_on-alive-requires-clause-turn c = (c.requires.row.0, c.args.row.now, c.args.a, c.requires.row.1, c.in-Some.ensures)
-
 pub loop-k-init : goal.loop-k-init
 loop-k-init c = record { lost = λ x gone ok rows lane l. all_pass (is_on c.args.wanted lane); within = λ lane off. off }
 
@@ -22,7 +19,7 @@ returns-then-left-eq0-clause-lost c x gone ok rows lane l =
     let beaten = is_beaten (numbered s) gone (x * lanes_in s + lane) c.args.a in
     let none : (is_on c.args.wanted lane && all_below beaten c.loop-k.k) ≡ false = sym (c.loop-k.invariant.lost x gone ok rows lane l) ∙ (ap (λ w. is_on w lane) c.if-left-eq0.true ∙ on_zero lane) in
     on_zero lane ∙ (sym (cut_off beaten c.loop-k.k (length s.seats) (is_on c.args.wanted lane) (omega (arith, length-map c.args.self.now.seats (seat_of c.args.self.now.catalogue), c.serving-k-end.ensures.few)) none)
-    ∙ ap (λ b. is_on c.args.wanted lane && b) (judged s c.args.row.now x c.args.a lane gone ok l (turn_open s c.args.row.now c.args.a c.in-Some.turn c.in-Some.ensures)))
+    ∙ ap (λ b. is_on c.args.wanted lane && b) (judged s c.args.row.now x c.args.a lane gone ok l (turn_open s c.args.row.now c.args.a c.in-Some.to c.in-Some.ensures)))
 
 pub loop-k-preserved : goal.loop-k-preserved
 loop-k-preserved c = record {
@@ -44,9 +41,9 @@ returns-clause-lost c x gone ok rows lane l =
     let all : all_below beaten c.loop-k.k ≡ all_below beaten (length s.seats) =
     all_further beaten c.loop-k.k (length s.seats) (omega (arith, seats, c.serving-k-end.ensures.few)) (λ k past m.
     let (within, dead) = c.serving-k-end.ensures.rest k (omega arith) (omega (arith, seats)) in
-    beaten_dead s x c.args.a k lane c.args.row.now c.in-Some.turn gone h c.in-Some.ensures within m (subst (AreAlive s gone c.in-Some.turn) dead living) l) in
+    beaten_dead s x c.args.a k lane c.args.row.now c.in-Some.to gone h c.in-Some.ensures within m (subst (AreAlive s gone c.in-Some.to) dead living) l) in
     c.loop-k.invariant.lost x gone ok rows lane l
-    ∙ ap (λ b. is_on c.args.wanted lane && b) (all ∙ judged s c.args.row.now x c.args.a lane gone ok l (turn_open s c.args.row.now c.args.a c.in-Some.turn c.in-Some.ensures))
+    ∙ ap (λ b. is_on c.args.wanted lane && b) (all ∙ judged s c.args.row.now x c.args.a lane gone ok l (turn_open s c.args.row.now c.args.a c.in-Some.to c.in-Some.ensures))
 
 pub returns-in_default-clause-within : goal.returns-in_default-clause-within
 returns-in_default-clause-within c lane off = on_zero lane

@@ -24,4 +24,4 @@ returns-clause-lost c y gone ok rows =
     let s = system_of c.args.self.now in
     keeps_same s (y * band_in s) (band_in s) (λ p. all_below (is_beaten (numbered s) gone p c.args.a) (length s.seats)) (λ p. is_justified (numbered s) gone p (Act c.args.a)) c.args.left.now c.clear_served.new.left
     (λ i lane l m. judged s (row_in s (y * band_in s + i) c.args.row.now) (y * band_in s + i) c.args.a lane gone (in_band s y i c.args.row.now (joint_sizes c.args.self.now c.known.ensures) ok l).looked m
-    (turn_open s c.args.row.now c.args.a c.in-Some.turn c.in-Some.ensures)) (c.clear_served.ensures.left y gone ok rows)
+    (turn_open s c.args.row.now c.args.a c.in-Some.to c.in-Some.ensures)) (c.clear_served.ensures.left y gone ok rows)
