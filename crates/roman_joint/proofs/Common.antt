@@ -38,13 +38,13 @@ pub use Rattle.roman_rules.proofs.CallerLemmas.{served_by, sum_below_more}
 pub use Rattle.roman_rules.specs.Bits.{HasBits, bit_of}
 pub use Rattle.roman_rules.specs.Numbered.{IsNumbered}
 pub use Rattle.roman_joint.specs.Backward.{from_action, from_all, from_env, from_seat, from_states, from_target, seat_prev}
-pub use Rattle.roman_joint.specs.Bands.{AllAlive, KeepsWhere, LosesRun, band_in, mid_in, turn_at}
+pub use Rattle.roman_joint.specs.Bands.{AllAlive, KeepsWhere, band_in, mid_in, turn_at}
 pub use Rattle.roman_joint.specs.Behaviours.{IsSeatBehaviour}
 pub use Rattle.roman_joint.specs.Changes.{with_frozen}
 pub use Rattle.roman_joint.specs.Layout.{named_sys_in}
 pub use Rattle.roman_joint.specs.Marks.{Grows, IsAt, IsMarked, MarksAction, MarksEnv, MarksSeat, MarksTurn, front_action, front_env, front_target, row_at}
 pub use Rattle.roman_joint.specs.Moves.{AreSeatsOf, HoldsMoves, HoldsSpans, IsKept, lane_moves_from, ways_room}
-pub use Rattle.roman_joint.specs.NamedSys.{IsNamedSys, IsOverEnv, NamedSys, beh_at, cells, named_parts, seat_of, system_of}
+pub use Rattle.roman_joint.specs.NamedSys.{IsNamedSys, IsOverEnv, NamedSys, beh_at, cells, seat_of, system_of}
 pub use Rattle.roman_joint.specs.Outcomes.{IsPairWith}
 pub use Rattle.roman_joint.specs.Own.{is_own}
 pub use Rattle.roman_joint.specs.Parts.{HasSameParts}

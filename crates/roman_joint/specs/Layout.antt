@@ -1,12 +1,14 @@
--- The fields of a joint.
+-- The fields of a joint, and its tables.
 use Rattle.std.specs.Prelude.{◌≡◌, ◌≤◌, vec_capacity}
-use Rattle.roman_model.specs.Numbers.{sizes_of}
+use Rattle.roman_model.specs.Numbers.{Sizes, sizes_of}
 use Rattle.roman_model.specs.declared.limits.TheConstants.{MAX_SERVICES}
 use Rattle.roman_joint.specs.declared.joint.Joint.TheInside.{Inside}
+use Rattle.roman_joint.specs.declared.parts.Parts.{Parts}
+use Rattle.roman_joint.specs.declared.tables.Tables.{Tables}
 use Rattle.roman_joint.specs.NamedSys.{NamedSys, system_of, IsNamedSys}
 use Rattle.roman_joint.specs.TargetViews.{AreTargetViews}
 use Rattle.roman_joint.specs.Rows.{AreRowsOf}
-use Rattle.roman_joint.specs.Moves.{HoldsMoves, HasRoom}
+use Rattle.roman_joint.specs.Moves.{AreSeatsIn, HoldsMoves, HasRoom}
 
 -- the system with its names that the fields hold
 abbrev pub named_sys_in : Inside → NamedSys
@@ -27,3 +29,12 @@ pub record IsJoint (a : Inside) : Type 0 where
   pub moves_room : HasRoom a.moves
   pub target_views : AreTargetViews a.environment.env a.target.beh a.target_views.items
   pub room : MAX_SERVICES ≤ vec_capacity a.seats
+
+-- the tables are those of the parts and the sizes, and there is room for the greatest number of services
+pub record AreTables (parts : Parts) (sizes : Sizes) (tables : Tables) : Type 0 where
+  pub places : tables.places.items ≡ parts.seats.now
+  pub room : MAX_SERVICES ≤ vec_capacity tables.places
+  pub target_views : AreTargetViews parts.environment.now.env parts.target.now.beh tables.target_views.items
+  pub rows : AreRowsOf sizes tables.rows
+  pub moves : (n : NamedSys) → AreSeatsIn n parts sizes → HoldsMoves (system_of n) tables.moves
+  pub moves_room : HasRoom tables.moves

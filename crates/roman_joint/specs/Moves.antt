@@ -1,20 +1,22 @@
 -- Moves of services within the lanes.
-use Rattle.std.specs.Prelude.{◌≡◌, ℕ, ◌+◌, ◌-◌, ◌*◌, ◌/◌, ◌%◌, ◌<◌, ◌≤◌, ◌==◌, ◌&&◌, true, false, not, List, [], ◌∷◌, Some, map, length, slice_get, slice_index, slice_index_or, slice_range, ◌++◌, vec_capacity}
+use Rattle.std.specs.Prelude.{◌≡◌, ℕ, ◌+◌, ◌-◌, ◌*◌, ◌/◌, ◌%◌, ◌^◌, ◌<◌, ◌≤◌, ◌==◌, ◌&&◌, true, false, not, List, [], ◌∷◌, Some, map, length, slice_get, slice_index, slice_index_or, slice_range, ◌++◌, vec_capacity}
 use Rattle.std.specs.List.{list_any, filter}
 use Rattle.roman_model.specs.Lists.{IsIn, is_empty, below}
 use Rattle.roman_model.specs.System.{Sys, Beh, Seat}
 use Rattle.roman_model.specs.SystemArena.{beh_next}
 use Rattle.roman_model.specs.Numbers.{Sizes, sizes_of}
 use Rattle.roman_radix.specs.Radix.{stride_of}
-use Rattle.roman_radix.specs.Rows.{lanes_of}
+use Rattle.roman_radix.specs.Rows.{low_of, lanes_of}
 use Rattle.roman_lanes.specs.Rows.{is_on}
 use Rattle.roman_parts.specs.Named.{NamedBeh}
 use Rattle.roman_joint.specs.NamedSys.{NamedSys, system_of, IsNamedSys}
-use Rattle.roman_joint.specs.Rows.{low_in, lane_state_of}
+use Rattle.roman_joint.specs.Rows.{low_in, lane_state_of, AreRowsOf}
+use Rattle.roman_joint.specs.declared.layout.Rows.{Rows}
 use Rattle.roman_joint.specs.declared.seat.Seat as declared
 use Rattle.roman_joint.specs.declared.moves.Move.{Move}
 use Rattle.roman_joint.specs.declared.moves.Span.{Span}
 use Rattle.roman_joint.specs.declared.moves.Moves.{Moves}
+use Rattle.roman_joint.specs.declared.parts.Parts.{Parts}
 use Rattle.roman_joint.specs.declared.ways.Ways.{Ways}
 
 -- by the move, the lane goes to the lane of state b
@@ -44,6 +46,16 @@ pub record LosesMoving (some : ℕ) (moves : List Move) (alive old new : ℕ) : 
       is_on good lane ≡ (is_on some lane && not (list_any (λ move. is_on move.lanes lane && not (is_on alive (lane + move.to - move.from))) moves))
   pub within : (lane : ℕ) → is_on some lane ≡ false → is_on good lane ≡ false
   pub left : (lane : ℕ) → is_on new lane ≡ (is_on old lane && not (is_on good lane))
+
+-- the rows are those of the sizes, seat k is within the lanes and has the behaviour, and e and a are a state of its environment and an action
+pub record SuitsWays (n : Sizes) (rows : Rows) (k : ℕ) (behaviour : NamedBeh) (e a : ℕ) : Type 0 where
+  pub laid : AreRowsOf n rows
+  pub within : low_of n.seats ≤ k
+  pub seat : k < length n.seats
+  pub states : behaviour.beh.states ≡ slice_index n.seats k
+  pub few : behaviour.beh.states ≤ 64
+  pub env : e < behaviour.env_states
+  pub action : a < behaviour.actions
 
 -- the lanes of each way are those of seat k with the behaviour on a in environment state e; way j leads j + 1 - n states up, of n states
 pub record AreWays (n : Sizes) (k : ℕ) (beh : Beh) (e a : ℕ) (ways : Ways) : Type 0 where
@@ -108,6 +120,22 @@ pub record AreSeatsOf (n : NamedSys) (catalogue : List NamedBeh) (seats : List d
   pub sizes_are : sizes ≡ sizes_of (system_of n)
   pub envs_are : envs ≡ n.environment.env.states
   pub actions_are : actions ≡ n.environment.env.actions
+
+-- the parts and the sizes are those of a system
+abbrev pub AreSeatsIn : NamedSys → Parts → Sizes → Type 0
+AreSeatsIn n parts sizes = AreSeatsOf n parts.catalogue.now parts.seats.now sizes parts.environment.now.env.states parts.environment.now.env.actions
+
+-- there is room for the spans and the moves of one more turn, and places of moves are small
+pub record HasTurnRoom (table : Moves) : Type 0 where
+  pub few : length table.moves.items + 160 ≤ vec_capacity table.moves
+  pub place : length table.spans.items + 32 ≤ vec_capacity table.spans
+  pub small : vec_capacity table.moves < 2 ^ 31
+
+-- the spans and the moves of one more turn of this many services are added
+pub record IsTurnAdded (services : ℕ) (old new : Moves) : Type 0 where
+  pub long : length new.spans.items ≡ length old.spans.items + services
+  pub few : length new.moves.items ≤ length old.moves.items + 160
+  pub kept : IsKept old new
 
 -- one more span, with its moves, is added at the end
 pub record IsAdded (n : Sizes) (k : ℕ) (beh : Beh) (e a : ℕ) (old new : Moves) : Type 0 where

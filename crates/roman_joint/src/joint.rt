@@ -19,6 +19,7 @@ mod walks;
 use crate::error::JointError;
 use crate::layout::Rows;
 use crate::moves::{Move, Moves, part};
+use crate::parts::Parts;
 use crate::seat::Seat;
 use crate::seats::shape_of;
 use crate::tables::tables_of;
@@ -89,12 +90,16 @@ impl Joint {
         ensures limit { (result ≡ Err JointError.Limit)
             ↔ (limit < cells (system_of (named_parts environment catalogue.items target seats.items limit))) }
     {
-        let shape = shape_of(&environment, &catalogue, &target, &seats, limit);
-        let Some(shape) = shape else {
+        let parts = Parts {
+            environment: &environment,
+            catalogue: &catalogue,
+            target: &target,
+            seats: &seats,
+        };
+        let Some(shape) = shape_of(&parts, limit) else {
             return Err(JointError::Limit);
         };
-        let tables = tables_of(alloc, &environment, &catalogue, &target, &seats, &shape);
-        let Ok(tables) = tables else {
+        let Ok(tables) = tables_of(alloc, &parts, &shape) else {
             return Err(JointError::Memory);
         };
         Ok(Joint {

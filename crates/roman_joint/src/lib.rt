@@ -19,6 +19,7 @@ mod moves;
 mod moving;
 mod numbered;
 mod outcomes;
+mod parts;
 mod row;
 mod runs;
 mod seat;

@@ -5,13 +5,13 @@ ghost use Rattle.std.specs.Prelude.{◌≡◌, ◌+◌, ◌-◌, ◌*◌, ◌<�
 ghost use Rattle.roman_radix.specs.Rows.{low_of};
 ghost use Rattle.roman_joint.specs.NamedSys.{NamedSys, system_of};
 ghost use Rattle.roman_joint.specs.Rows.{AreRowsOf};
-ghost use Rattle.roman_joint.specs.Moves.{lane_moves_from, AreSeatsOf, HoldsSpans, HoldsMoves, HasRoom, IsAdded, IsKept};
+ghost use Rattle.roman_joint.specs.Moves.{lane_moves_from, AreSeatsOf, AreSeatsIn, SuitsWays, HoldsSpans, HoldsMoves, HasRoom, HasTurnRoom, IsAdded, IsTurnAdded, IsKept};
 
 use crate::layout::Rows;
-use crate::seat::Seat;
+use crate::parts::Parts;
 use crate::ways::{Ways, ways_of};
 use roman_model::MAX_SERVICES;
-use roman_parts::{Behaviour, Environment};
+use roman_parts::Behaviour;
 use roman_radix::Shape;
 use std::alloc::{AllocError, Global};
 
@@ -122,13 +122,7 @@ impl Moves {
 
     /// Adds the moves of a service on an action in a state of the environment.
     fn add(&mut self, shape: &Shape, rows: &Rows, behaviour: &Behaviour, k: u8, e: u8, a: u8)
-        requires rows { AreRowsOf shape.now rows.now }
-        requires within { low_of shape.now.seats ≤ k }
-        requires seat { k < length shape.now.seats }
-        requires states { behaviour.now.beh.states ≡ slice_index shape.now.seats k }
-        requires few { behaviour.now.beh.states ≤ 64 }
-        requires env { e < behaviour.now.env_states }
-        requires action { a < behaviour.now.actions }
+        requires ways { SuitsWays shape.now rows.now k behaviour.now e a }
         requires room { vec_len self.old.moves + (2 * slice_index shape.now.seats k - 1) ≤ vec_capacity self.old.moves }
         requires small { vec_capacity self.old.moves < 2 ^ 31 }
         requires place { vec_len self.old.spans < vec_capacity self.old.spans }
@@ -148,30 +142,20 @@ impl Moves {
     }
 
     /// Adds the moves of all services within the lanes on an action in a state of the environment.
-    fn fill_turn(
-        &mut self,
-        catalogue: &[Behaviour],
-        seats: &[Seat],
-        shape: &Shape,
-        rows: &Rows,
-        e: u8,
-        a: u8,
-    )
-        requires seats { (n : NamedSys) × AreSeatsOf n catalogue.now seats.now shape.now self.old.envs self.old.actions }
+    fn fill_turn(&mut self, parts: &Parts<'_>, shape: &Shape, rows: &Rows, e: u8, a: u8)
+        requires seats { (n : NamedSys) × AreSeatsOf n parts.now.catalogue.now parts.now.seats.now shape.now self.old.envs self.old.actions }
         requires rows { AreRowsOf shape.now rows.now }
         requires env { e < self.old.envs }
         requires action { a < self.old.actions }
-        requires long { length self.old.spans.items ≡ (e * self.old.actions + a) * (length seats.now - low_of shape.now.seats) }
-        requires few { length self.old.moves.items + 160 ≤ vec_capacity self.old.moves }
-        requires place { length self.old.spans.items + 32 ≤ vec_capacity self.old.spans }
-        requires small { vec_capacity self.old.moves < 2 ^ 31 }
-        requires spans { (n : NamedSys) → AreSeatsOf n catalogue.now seats.now shape.now self.old.envs self.old.actions → HoldsSpans (system_of n) self.old.spans.items self.old.moves.items }
-        ensures long { length self.new.spans.items ≡ length self.old.spans.items + (length seats.now - low_of shape.now.seats) }
-        ensures few { length self.new.moves.items ≤ length self.old.moves.items + 160 }
-        ensures spans { (n : NamedSys) → AreSeatsOf n catalogue.now seats.now shape.now self.old.envs self.old.actions → HoldsSpans (system_of n) self.new.spans.items self.new.moves.items }
-        ensures kept { IsKept self.old self.new }
+        requires long { length self.old.spans.items ≡ (e * self.old.actions + a) * (length parts.now.seats.now - low_of shape.now.seats) }
+        requires room { HasTurnRoom self.old }
+        requires spans { (n : NamedSys) → AreSeatsOf n parts.now.catalogue.now parts.now.seats.now shape.now self.old.envs self.old.actions → HoldsSpans (system_of n) self.old.spans.items self.old.moves.items }
+        ensures added { IsTurnAdded (length parts.now.seats.now - low_of shape.now.seats) self.old self.new }
+        ensures spans { (n : NamedSys) → AreSeatsOf n parts.now.catalogue.now parts.now.seats.now shape.now self.old.envs self.old.actions → HoldsSpans (system_of n) self.new.spans.items self.new.moves.items }
     {
         shape.known();
+        let seats = parts.seats;
+        let catalogue = parts.catalogue;
         for k in rows.low..seats.len() as u8 {
             let behaviour = &catalogue[seats[k as usize].behaviour as usize];
             self.add(shape, rows, behaviour, k, e, a);
@@ -179,17 +163,11 @@ impl Moves {
     }
 
     /// Replaces all moves by those of all services within the lanes.
-    pub(crate) fn fill(
-        &mut self,
-        catalogue: &[Behaviour],
-        seats: &[Seat],
-        shape: &Shape,
-        rows: &Rows,
-    )
-        requires seats { (n : NamedSys) × AreSeatsOf n catalogue.now seats.now shape.now self.old.envs self.old.actions }
+    pub(crate) fn fill(&mut self, parts: &Parts<'_>, shape: &Shape, rows: &Rows)
+        requires seats { (n : NamedSys) × AreSeatsOf n parts.now.catalogue.now parts.now.seats.now shape.now self.old.envs self.old.actions }
         requires rows { AreRowsOf shape.now rows.now }
         requires room { HasRoom self.old }
-        ensures moves { (n : NamedSys) → AreSeatsOf n catalogue.now seats.now shape.now self.old.envs self.old.actions → HoldsMoves (system_of n) self.new }
+        ensures moves { (n : NamedSys) → AreSeatsOf n parts.now.catalogue.now parts.now.seats.now shape.now self.old.envs self.old.actions → HoldsMoves (system_of n) self.new }
         ensures kept { IsKept self.old self.new }
     {
         self.spans.clear();
@@ -197,7 +175,7 @@ impl Moves {
         for turn in 0..self.envs * self.actions {
             let e = (turn / self.actions) as u8;
             let a = (turn % self.actions) as u8;
-            self.fill_turn(catalogue, seats, shape, rows, e, a);
+            self.fill_turn(parts, shape, rows, e, a);
         }
     }
 }
@@ -206,20 +184,18 @@ impl Moves {
 /// only when out of memory.
 pub(crate) fn moves_of(
     alloc: Global,
-    environment: &Environment,
-    catalogue: &[Behaviour],
-    seats: &[Seat],
+    parts: &Parts<'_>,
     shape: &Shape,
     rows: &Rows,
 ) -> Result<Moves, AllocError>
-    requires seats { (n : NamedSys) × AreSeatsOf n catalogue.now seats.now shape.now environment.now.env.states environment.now.env.actions }
+    requires seats { (n : NamedSys) × AreSeatsIn n parts.now shape.now }
     requires rows { AreRowsOf shape.now rows.now }
-    ensures moves { IfOk result (λ moves. (n : NamedSys) → AreSeatsOf n catalogue.now seats.now shape.now environment.now.env.states environment.now.env.actions → HoldsMoves (system_of n) moves) }
+    ensures moves { IfOk result (λ moves. (n : NamedSys) → AreSeatsIn n parts.now shape.now → HoldsMoves (system_of n) moves) }
     ensures room { IfOk result HasRoom }
 {
-    let envs = environment.states().len();
-    let actions = environment.actions().len();
+    let envs = parts.environment.states().len();
+    let actions = parts.environment.actions().len();
     let mut moves = Moves::reserve(alloc, envs, actions)?;
-    moves.fill(catalogue, seats, shape, rows);
+    moves.fill(parts, shape, rows);
     Ok(moves)
 }

@@ -7,11 +7,13 @@ ghost use Rattle.roman_model.specs.System.{IsSys, IsBeh, is_final, all_final};
 ghost use Rattle.roman_model.specs.Numbers.{sizes_of, count, pair_at};
 ghost use Rattle.roman_model.specs.declared.limits.TheConstants.{MAX_SERVICES};
 ghost use Rattle.roman_parts.specs.Named.{NamedEnv};
-ghost use Rattle.roman_joint.specs.NamedSys.{named_parts, beh_at, seat_of, system_of, cells, IsOverEnv, TargetIsOverEnv};
+ghost use Rattle.roman_joint.specs.NamedSys.{beh_at, seat_of, system_of, cells, IsOverEnv, TargetIsOverEnv};
+ghost use Rattle.roman_joint.specs.Parts.{named_in};
 
+use crate::parts::Parts;
 use crate::seat::{PLACES, Seat};
 use roman_model::MAX_SERVICES;
-use roman_parts::{Behaviour, Environment, Target};
+use roman_parts::Behaviour;
 use roman_radix::Shape;
 use std::alloc::{AllocError, Global};
 
@@ -42,29 +44,21 @@ pub(crate) fn sizes_of_seats(catalogue: &[Behaviour], seats: &[Seat]) -> [u8; PL
 
 /// Returns the numbering of the system's pairs, or `None` exactly where the system has more cells than
 /// the limit.
-pub(crate) fn shape_of(
-    environment: &Environment,
-    catalogue: &[Behaviour],
-    target: &Target,
-    seats: &[Seat],
-    limit: u32,
-) -> Option<Shape>
-    requires catalogue { All (IsOverEnv environment.now) catalogue.now }
-    requires target { TargetIsOverEnv environment.now target.now }
-    requires few { length seats.now ≤ MAX_SERVICES }
-    requires behaviours { All (λ seat. seat.behaviour < length catalogue.now) seats.now }
-    ensures system { IsSys (system_of (named_parts environment.now catalogue.now target.now seats.now limit)) }
-    ensures fits { IsSome result
-        ↔ (cells (system_of (named_parts environment.now catalogue.now target.now seats.now limit)) ≤ limit) }
-    ensures shape { IfSome result (λ shape. shape
-        ≡ sizes_of (system_of (named_parts environment.now catalogue.now target.now seats.now limit))) }
+pub(crate) fn shape_of(parts: &Parts<'_>, limit: u32) -> Option<Shape>
+    requires catalogue { All (IsOverEnv parts.now.environment.now) parts.now.catalogue.now }
+    requires target { TargetIsOverEnv parts.now.environment.now parts.now.target.now }
+    requires few { length parts.now.seats.now ≤ MAX_SERVICES }
+    requires behaviours { All (λ seat. seat.behaviour < length parts.now.catalogue.now) parts.now.seats.now }
+    ensures system { IsSys (system_of (named_in parts.now limit)) }
+    ensures fits { IsSome result ↔ (cells (system_of (named_in parts.now limit)) ≤ limit) }
+    ensures shape { IfSome result (λ shape. shape ≡ sizes_of (system_of (named_in parts.now limit))) }
 {
-    let sizes = sizes_of_seats(catalogue, seats);
+    let sizes = sizes_of_seats(parts.catalogue, parts.seats);
     Shape::new(
-        target.states().len() as u8,
-        environment.states().len() as u8,
-        &sizes[..seats.len()],
-        limit / environment.actions().len(),
+        parts.target.states().len() as u8,
+        parts.environment.states().len() as u8,
+        &sizes[..parts.seats.len()],
+        limit / parts.environment.actions().len(),
     )
 }
 

@@ -1,10 +1,8 @@
 //! The ways in which a service within the lanes moves, on one action in one state of the environment.
 ghost use Rattle.std.specs.Prelude.{◌≡◌, ℕ, ◌+◌, ◌<◌, ◌≤◌, ◌==◌, ◌&&◌, ◌||◌, All, length, slice_index};
 ghost use Rattle.std.specs.List.{list_any};
-ghost use Rattle.roman_radix.specs.Rows.{low_of};
 ghost use Rattle.roman_lanes.specs.Rows.{is_on};
-ghost use Rattle.roman_joint.specs.Rows.{AreRowsOf};
-ghost use Rattle.roman_joint.specs.Moves.{AreWays};
+ghost use Rattle.roman_joint.specs.Moves.{SuitsWays, AreWays};
 
 use crate::layout::Rows;
 use crate::states::state_lanes;
@@ -46,13 +44,7 @@ pub(crate) fn ways_of(
     e: u8,
     a: u8,
 ) -> Ways
-    requires rows { AreRowsOf shape.now rows.now }
-    requires within { low_of shape.now.seats ≤ k }
-    requires seat { k < length shape.now.seats }
-    requires states { behaviour.now.beh.states ≡ slice_index shape.now.seats k }
-    requires few { behaviour.now.beh.states ≤ 64 }
-    requires env { e < behaviour.now.env_states }
-    requires action { a < behaviour.now.actions }
+    requires { SuitsWays shape.now rows.now k behaviour.now e a }
     ensures { AreWays shape.now k behaviour.now.beh e a result }
 {
     shape.known();

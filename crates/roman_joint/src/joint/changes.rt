@@ -12,6 +12,7 @@ ghost use Rattle.roman_joint.specs.Changes.{with_frozen};
 use super::Joint;
 use crate::error::SeatError;
 use crate::layout::rows_of;
+use crate::parts::Parts;
 use crate::seat::Seat;
 use roman_model::MAX_SERVICES;
 use roman_radix::Shape;
@@ -37,8 +38,13 @@ impl Joint {
         let _seat = self.seats.remove(k as usize);
         self.shape = self.shape.shrink(k);
         self.rows = rows_of(&self.shape);
-        self.moves
-            .fill(&self.catalogue, &self.seats, &self.shape, &self.rows);
+        let parts = Parts {
+            environment: &self.environment,
+            catalogue: &self.catalogue,
+            target: &self.target,
+            seats: &self.seats,
+        };
+        self.moves.fill(&parts, &self.shape, &self.rows);
     }
 
     /// Adds a service at the last place. Requires a new name, and a behaviour that is a place of the
@@ -66,8 +72,13 @@ impl Joint {
         self.rows = rows_of(&shape);
         self.shape = shape;
         self.seats.push_reserved(seat);
-        self.moves
-            .fill(&self.catalogue, &self.seats, &self.shape, &self.rows);
+        let parts = Parts {
+            environment: &self.environment,
+            catalogue: &self.catalogue,
+            target: &self.target,
+            seats: &self.seats,
+        };
+        self.moves.fill(&parts, &self.shape, &self.rows);
         Ok(())
     }
 

@@ -4,6 +4,7 @@ ghost use Rattle.roman_joint.specs.Parts.{HasSameParts};
 
 use super::Joint;
 use crate::moves::moves_of;
+use crate::parts::Parts;
 use crate::seat::Seat;
 use crate::seats::copy_seats;
 use roman_parts::Behaviour;
@@ -16,16 +17,15 @@ impl Joint {
     pub fn copy(&self, alloc: Global) -> Result<Joint, AllocError>
         ensures same { IfOk result (λ copy. copy ≡ self.now) }
     {
+        let parts = Parts {
+            environment: &self.environment,
+            catalogue: &self.catalogue,
+            target: &self.target,
+            seats: &self.seats,
+        };
         // Each `?` drops the copies before it, so the copies that are cheapest to drop come first.
         Ok(Joint {
-            moves: moves_of(
-                alloc,
-                &self.environment,
-                &self.catalogue,
-                &self.seats,
-                &self.shape,
-                &self.rows,
-            )?,
+            moves: moves_of(alloc, &parts, &self.shape, &self.rows)?,
             target_views: Vec::from_slice(alloc, &self.target_views)?,
             seats: copy_seats(alloc, &self.seats)?,
             target: self.target.copy(alloc)?,
@@ -46,8 +46,13 @@ impl Joint {
         put_seats(&mut self.seats, &from.seats);
         self.shape = from.shape;
         self.rows = from.rows;
-        self.moves
-            .fill(&self.catalogue, &self.seats, &self.shape, &self.rows);
+        let parts = Parts {
+            environment: &self.environment,
+            catalogue: &self.catalogue,
+            target: &self.target,
+            seats: &self.seats,
+        };
+        self.moves.fill(&parts, &self.shape, &self.rows);
     }
 }
 

@@ -1,35 +1,36 @@
-use Rattle.roman_joint.proofs.Common.{◌≡◌, ◌/◌, ◌<◌, ◌≤◌, ◌↔◌, All, take, length, sym, ap, ◌∙◌, subst, arith, le-div_iff_mul-le, Sizes, sizes_of, count, named_parts, system_of, cells}
+use Rattle.roman_joint.proofs.Common.{◌≡◌, ◌/◌, ◌<◌, ◌≤◌, ◌↔◌, All, take, length, sym, ap, ◌∙◌, subst, arith, le-div_iff_mul-le, Sizes, sizes_of, count, system_of, cells}
 use Rattle.std.proofs.Common.{IfSome}
+use Rattle.roman_joint.specs.Parts.{named_in}
 use Rattle.roman_joint.proofs.SeatLemmas.{sizes_counted, makes_system, positive_sizes}
 use Rattle.roman_joint.proofs.seats.shape_of.Goals as goal
 
 pub new-requires-clause-target : goal.new-requires-clause-target
 new-requires-clause-target c =
-    let n = named_parts c.args.environment.now c.args.catalogue.now c.args.target.now c.args.seats.now c.args.limit in
+    let n = named_in c.args.parts.now c.args.limit in
     let beh = c.states.ensures.known n.environment.env (sym c.requires.target.0) (sym c.requires.target.1) in
     omega (arith, beh.states.0, c.len.ensures.len, ap length c.states.ensures.names, c.states.ensures.count)
 
 pub overflow_cast-len : goal.overflow_cast-len
 overflow_cast-len c =
-    let n = named_parts c.args.environment.now c.args.catalogue.now c.args.target.now c.args.seats.now c.args.limit in
+    let n = named_in c.args.parts.now c.args.limit in
     let beh = c.states.ensures.known n.environment.env (sym c.requires.target.0) (sym c.requires.target.1) in
     omega (arith, beh.states.1, c.len.ensures.len, ap length c.states.ensures.names, c.states.ensures.count)
 
 pub new-requires-clause-sizes : goal.new-requires-clause-sizes
 new-requires-clause-sizes c =
-    let n = named_parts c.args.environment.now c.args.catalogue.now c.args.target.now c.args.seats.now c.args.limit in
+    let n = named_in c.args.parts.now c.args.limit in
     let seats = c.sizes_of_seats-sizes.ensures.known n.environment c.requires.catalogue in
     subst (All (λ size. 0 < size)) (sym c.sizes_of_seats-sizes.ensures.sizes) (positive_sizes n.catalogue n.seats n.environment.env seats)
 
 pub returns-clause-system : goal.returns-clause-system
 returns-clause-system c =
-    let n = named_parts c.args.environment.now c.args.catalogue.now c.args.target.now c.args.seats.now c.args.limit in
+    let n = named_in c.args.parts.now c.args.limit in
     let seats = c.sizes_of_seats-sizes.ensures.known n.environment c.requires.catalogue in
     makes_system n c.states-2.ensures.known (c.states.ensures.known n.environment.env (sym c.requires.target.0) (sym c.requires.target.1)) c.states.ensures.single seats c.requires.few
 
 pub returns-clause-fits : goal.returns-clause-fits
 returns-clause-fits c =
-    let n = named_parts c.args.environment.now c.args.catalogue.now c.args.target.now c.args.seats.now c.args.limit in
+    let n = named_in c.args.parts.now c.args.limit in
     let t : c.len.result ≡ n.target.beh.states = c.len.ensures.len ∙ (ap length c.states.ensures.names ∙ c.states.ensures.count) in
     let e : c.len-2.result ≡ n.environment.env.states = c.len-2.ensures.len ∙ (ap length c.states-2.ensures.names ∙ c.states-2.ensures.count) in
     let same : ◌≡◌ {A = Sizes} (record { target = c.len.result; env = c.len-2.result; seats = take (length n.seats) c.sizes_of_seats-sizes.result }) (sizes_of (system_of n)) =
@@ -43,7 +44,7 @@ returns-clause-fits c =
 
 pub returns-clause-shape : goal.returns-clause-shape
 returns-clause-shape c =
-    let n = named_parts c.args.environment.now c.args.catalogue.now c.args.target.now c.args.seats.now c.args.limit in
+    let n = named_in c.args.parts.now c.args.limit in
     let t : c.len.result ≡ n.target.beh.states = c.len.ensures.len ∙ (ap length c.states.ensures.names ∙ c.states.ensures.count) in
     let e : c.len-2.result ≡ n.environment.env.states = c.len-2.ensures.len ∙ (ap length c.states-2.ensures.names ∙ c.states-2.ensures.count) in
     let same : ◌≡◌ {A = Sizes} (record { target = c.len.result; env = c.len-2.result; seats = take (length n.seats) c.sizes_of_seats-sizes.result }) (sizes_of (system_of n)) =

@@ -38,7 +38,7 @@ loop-d-preserved c =
     let digit = λ (lane : ℕ). lane_state_of n k lane in
     let beh = c.args.behaviour.now.beh in
     let states = c.out-states.result.now in
-    let own = c.requires.rows.sizes k c.requires.seat in
+    let own = c.requires.laid.sizes k c.requires.seat in
     let in_size : d < size = omega (arith, own) in
     let next = λ (m : ℕ). beh_next beh m c.args.e c.args.a in
     let some = λ (m : ℕ). not (is_empty (next m)) in
@@ -68,7 +68,7 @@ returns c =
     let size = slice_index n.seats k in
     let digit = λ (lane : ℕ). lane_state_of n k lane in
     let beh = c.args.behaviour.now.beh in
-    let own = c.requires.rows.sizes k c.requires.seat in
+    let own = c.requires.laid.sizes k c.requires.seat in
     let all : (lane : ℕ) → ltb (digit lane) c.loop-d.d ≡ true = λ lane.
     let less = mod_below (lane / stride_of n k) size (AreSizes-index n.seats k c.known.ensures.seats c.requires.seat).0 in
     lt-ltb (digit lane) c.loop-d.d (omega (arith, less, own)) in

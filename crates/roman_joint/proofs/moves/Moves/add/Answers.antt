@@ -6,7 +6,7 @@ use Rattle.roman_joint.proofs.moves.Moves.add.Goals.{After-known}
 
 -- the service has at least one state
 own : (c : After-known) → (slice_index c.args.rows.now.sizes c.args.k ≡ slice_index c.args.shape.now.seats c.args.k) × (0 < slice_index c.args.shape.now.seats c.args.k)
-own c = (c.requires.rows.sizes c.args.k c.requires.seat, (AreSizes-index c.args.shape.now.seats c.args.k c.known.ensures.seats c.requires.seat).0)
+own c = (c.requires.ways.laid.sizes c.args.k c.requires.ways.seat, (AreSizes-index c.args.shape.now.seats c.args.k c.known.ensures.seats c.requires.ways.seat).0)
 
 pub overflow_sub-last : goal.overflow_sub-last
 overflow_sub-last c = omega (arith, own (goal.at.overflow_sub-last c).After-known)
@@ -18,7 +18,7 @@ pub push_ways-requires-clause-small : goal.push_ways-requires-clause-small
 push_ways-requires-clause-small c = grind (arith, own, state_below)
 
 pub push_ways-requires-clause-few : goal.push_ways-requires-clause-few
-push_ways-requires-clause-few c = omega (arith, c.requires.rows.sizes c.args.k c.requires.seat, c.requires.states, c.requires.few)
+push_ways-requires-clause-few c = omega (arith, c.requires.ways.laid.sizes c.args.k c.requires.ways.seat, c.requires.ways.states, c.requires.ways.few)
 
 pub returns : goal.returns
 returns c = grind (arith, moves_made, own, ways_few)
