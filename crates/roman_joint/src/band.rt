@@ -49,8 +49,9 @@ fn clear_before(joint: &Joint, turn: &Turn<'_>, k: u8, all: &mut [u64], left: &m
         stride,
     };
     let many = left.len();
+    let all = &mut all[..many];
     set_first(all, many, rows.full);
-    all_alive_each(all, many, turn.words, &to);
+    all_alive_each(all, turn.words, &to);
     roman_lanes::less(left, all);
 }
 
@@ -65,9 +66,10 @@ fn alive_each(joint: &Joint, turn: &Turn<'_>, alive: &mut [u64])
 {
     let rows = joint.layout();
     let many = rows.band as usize;
+    let alive = &mut alive[..many];
     set_first(alive, many, rows.full);
     let to = &turn.to;
-    rows_alive_each(alive, many, turn.words, to.base, to.envs, rows.env_rows);
+    rows_alive_each(alive, turn.words, to.base, to.envs, rows.env_rows);
 }
 
 /// Clears, in `left`, the pairs of a band at which the seat `k` is in state `b` and serves the action.

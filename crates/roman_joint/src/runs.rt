@@ -38,55 +38,44 @@ pub(crate) fn set_first(to: &mut [u64], many: usize, word: u64)
     }
 }
 
-/// Clears, in the first `many` words, the lanes that aren't set in the words of `with` from place
-/// `from` on.
-pub(crate) fn and_from(to: &mut [u64], many: usize, with: &[u64], from: usize)
-    requires to { many ≤ length to.old }
-    requires with { from + many ≤ length with.now }
+/// Clears, in each word, the lanes that aren't set in the words of `with` from place `from` on.
+fn and_from(to: &mut [u64], with: &[u64], from: usize)
+    requires { from + length to.old ≤ length with.now }
     ensures long { length to.new ≡ length to.old }
-    ensures each { (i : ℕ) → i < many → slice_index to.new i ≡ bit_and (slice_index to.old i) (slice_index with.now (from + i)) }
+    ensures each { (i : ℕ) → i < length to.old → slice_index to.new i ≡ bit_and (slice_index to.old i) (slice_index with.now (from + i)) }
 {
-    both(&mut to[..many], &with[from..]);
+    both(to, &with[from..]);
 }
 
-/// Clears, in the first `many` words, the lanes that aren't set in all rows of the word: the rows of
+/// Clears, in each word, the lanes that aren't set in all rows of the word: the rows of
 /// word i are `base + i + b * stride`, for each state b.
-pub(crate) fn rows_alive_each(
-    all: &mut [u64],
-    many: usize,
-    words: &[u64],
-    base: u32,
-    states: &[u8],
-    stride: u32,
-)
-    requires all { many ≤ length all.old }
+pub(crate) fn rows_alive_each(all: &mut [u64], words: &[u64], base: u32, states: &[u8], stride: u32)
     requires fits { All (λ b. base + b * stride < 2 ^ 32) states.now }
-    requires within { All (λ b. base + b * stride + many ≤ length words.now) states.now }
+    requires within { All (λ b. base + b * stride + length all.old ≤ length words.now) states.now }
     ensures long { length all.new ≡ length all.old }
-    ensures each { (i lane : ℕ) → i < many → is_on (slice_index all.new i) lane
+    ensures each { (i lane : ℕ) → i < length all.old → is_on (slice_index all.new i) lane
         ≡ (is_on (slice_index all.old i) lane && not (list_any (λ b. not (is_on (slice_index words.now (base + i + b * stride)) lane)) states.now)) }
 {
     for state in states {
         let from = (base + u32::from(*state) * stride) as usize;
-        and_from(all, many, words, from);
+        and_from(all, words, from);
     }
 }
 
-/// Clears, in the first `many` words, the lanes that aren't set in all rows of the word: the rows of
+/// Clears, in each word, the lanes that aren't set in all rows of the word: the rows of
 /// word i have the numbers of `rows`, raised by i.
-pub(crate) fn all_alive_each(all: &mut [u64], many: usize, words: &[u64], rows: &Outcomes<'_>)
-    requires all { many ≤ length all.old }
+pub(crate) fn all_alive_each(all: &mut [u64], words: &[u64], rows: &Outcomes<'_>)
     requires envs { All (λ e. rows.now.base + e * rows.now.env_stride < 2 ^ 32) rows.now.envs.now }
     requires fits { All (λ e. All (λ b. outcome_number rows.now e b < 2 ^ 32) rows.now.states.now) rows.now.envs.now }
-    requires within { All (λ e. All (λ b. outcome_number rows.now e b + many ≤ length words.now) rows.now.states.now) rows.now.envs.now }
+    requires within { All (λ e. All (λ b. outcome_number rows.now e b + length all.old ≤ length words.now) rows.now.states.now) rows.now.envs.now }
     ensures long { length all.new ≡ length all.old }
     ensures each { let states = rows.now.states.now in
-        (i lane : ℕ) → i < many → is_on (slice_index all.new i) lane ≡ (is_on (slice_index all.old i) lane
+        (i lane : ℕ) → i < length all.old → is_on (slice_index all.new i) lane ≡ (is_on (slice_index all.old i) lane
         && not (list_any (λ e. list_any (λ b. not (is_on (slice_index words.now (rows.now.base + i + e * rows.now.env_stride + b * rows.now.stride)) lane)) states) rows.now.envs.now)) }
 {
     for env in rows.envs {
         let from = rows.base + u32::from(*env) * rows.env_stride;
-        rows_alive_each(all, many, words, from, rows.states, rows.stride);
+        rows_alive_each(all, words, from, rows.states, rows.stride);
     }
 }
 

@@ -1,4 +1,5 @@
-use Rattle.roman_joint.proofs.Common.{ℕ, ◌+◌, ◌-◌, ◌*◌, ◌<◌, ◌∙◌, not, ◌&&◌, ap, get_or, length, slice_index, arith, list_any, is_on, system_of, band_in, turn_at}
+use Rattle.roman_joint.proofs.Common.{ℕ, ◌+◌, ◌-◌, ◌*◌, ◌<◌, ◌∙◌, not, ◌&&◌, ap, drop, get_or, get_or_append_left, length, slice_index, arith, list_any, is_on, system_of, band_in, turn_at}
+use Rattle.std.proofs.lemmas.List.{length-take}
 use Rattle.roman_joint.proofs.Finds.{in_at}
 use Rattle.roman_joint.proofs.SplitLemmas.{joint_sizes}
 use Rattle.roman_joint.proofs.GoodLemmas.{known, RowsThere, rows_there, alive_there}
@@ -32,7 +33,7 @@ rows_alive_each-requires-clause-within c i d l =
     let at = (goal.at.rows_alive_each-requires-clause-within c).After-layout-rows in
     let some = some_row at in
     let last = band_in (system_of c.args.joint.now) - 1 in
-    omega (arith, some, c.layout-rows.ensures.rows.band, (there at last (omega (arith, some))).there (get_or c.args.turn.now.to.envs.now i d) (in_at c.args.turn.now.to.envs.now i d l))
+    omega (arith, some, c.layout-rows.ensures.rows.band, c.set_first.ensures.long, length-take c.layout-rows.result.now.band c.args.alive.now, c.requires.long, (there at last (omega (arith, some))).there (get_or c.args.turn.now.to.envs.now i d) (in_at c.args.turn.now.to.envs.now i d l))
 
 pub returns-clause-alive : goal.returns-clause-alive
 returns-clause-alive c gone rows =
@@ -47,8 +48,10 @@ returns-clause-alive c gone rows =
     record {
       each = λ i l.
           let many : i < r.band = omega (arith, l, c.layout-rows.ensures.rows.band) in
-          alive_there s r (y * band_in s + i) a (slice_index c.rows_alive_each.new.all i) (row_in s (y * band_in s + i) row) (turn_at turn i) c.args.turn.now.words.now gone (known_at s r y a row turn h c.layout-rows.ensures.rows is.to i l)
+          let within : i < length c.set_first.new.to = omega (arith, many, c.set_first.ensures.long, length-take r.band c.args.alive.now, c.layout-rows.ensures.rows.band, c.requires.long) in
+          alive_there s r (y * band_in s + i) a _ (row_in s (y * band_in s + i) row) (turn_at turn i) c.args.turn.now.words.now gone (known_at s r y a row turn h c.layout-rows.ensures.rows is.to i l)
           c.layout-rows.ensures.rows (turned s r y a row turn h c.layout-rows.ensures.rows is.to i l) is.room rows
-          (λ lane. c.rows_alive_each.ensures.each i lane many
+          (λ lane. ap (λ z. is_on z lane) (get_or_append_left c.rows_alive_each.new.all (drop r.band c.args.alive.now) 0 i (omega (arith, within, c.rows_alive_each.ensures.long)))
+          ∙ c.rows_alive_each.ensures.each i lane within
           ∙ ap (λ z. is_on z lane && not (list_any (λ e. not (is_on (slice_index c.args.turn.now.words.now (turn.base + i + e * r.env_rows)) lane)) turn.envs.now)) (c.set_first.ensures.each i many));
     }

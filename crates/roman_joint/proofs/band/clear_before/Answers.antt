@@ -1,4 +1,5 @@
 use Rattle.roman_joint.proofs.Common.{ℕ, ◌+◌, ◌-◌, ◌*◌, ◌<◌, not, ◌&&◌, get_or, length, slice_index, IsFalse, refl, sym, ap, ◌∙◌, arith, list_any, is_on, is_beaten, numbered, is_empty, not_empty_in, empty_is, system_of, band_in}
+use Rattle.std.proofs.lemmas.List.{length-take}
 use Rattle.roman_joint.proofs.Finds.{in_at}
 use Rattle.roman_joint.proofs.SeatLemmas.{len_empty}
 use Rattle.roman_joint.proofs.SplitLemmas.{joint_sizes}
@@ -52,7 +53,7 @@ all_alive_each-requires-clause-within c i d l j e m =
     let states = c.next_states-states.result.now in
     let some = some_row at in
     let last = band_in (system_of c.args.joint.now) - 1 in
-    omega (arith, c.requires.long, some, (rows_to at last (omega (arith, some))).there (get_or c.args.turn.now.to.envs.now i d) (get_or states j e) (in_at c.args.turn.now.to.envs.now i d l) (in_at states j e m))
+    omega (arith, c.requires.long, c.requires.all, c.set_first.ensures.long, length-take (length c.args.left.now) c.args.all.now, some, (rows_to at last (omega (arith, some))).there (get_or c.args.turn.now.to.envs.now i d) (get_or states j e) (in_at c.args.turn.now.to.envs.now i d l) (in_at states j e m))
 
 pub all_alive_each-requires-clause-fits : goal.all_alive_each-requires-clause-fits
 all_alive_each-requires-clause-fits c i d l j e m =
@@ -82,11 +83,12 @@ returns-clause-left c y gone ok rows =
     let some : IsFalse (is_empty states) = sym (len_empty states) ∙ (sym c.is_empty.ensures ∙ c.if-is_empty.false) in
     keeps_clear s (y * band_in s) (band_in s) (λ p. is_beaten (numbered s) gone p c.args.turn.now.action c.args.k) c.args.left.now c.less.new.words c.requires.long c.less.ensures.long
     (λ i l.
-    let many : i < length c.args.left.now = omega (arith, l, c.requires.long) in (
+    let many : i < length c.args.left.now = omega (arith, l, c.requires.long) in
+    let within : i < length c.set_first.new.to = omega (arith, many, c.set_first.ensures.long, length-take (length c.args.left.now) c.args.all.now, c.requires.long, c.requires.all) in (
       slice_index c.all_alive_each.new.all i,
       serves_band s r y c.args.turn.now.action c.args.turn.now.row.now c.args.turn.now.to h c.layout-rows.ensures.rows c.requires.turn.1.to i c.args.k c.from.result (c.args.turn.now.to.base - c.from.result * u + i) (slice_index c.all_alive_each.new.all i)
           states c.args.turn.now.words.now gone l c.requires.seat c.requires.turn.1.room c.next_states-states.ensures.next c.from.ensures some rows refl (λ lane.
-          c.all_alive_each.ensures.each i lane many
+          c.all_alive_each.ensures.each i lane within
           ∙ ap (λ z. is_on z lane && not (list_any (λ e. list_any (λ b. not (is_on (slice_index c.args.turn.now.words.now (c.args.turn.now.to.base - c.from.result * u + i + e * r.env_rows + b * u)) lane)) states) c.args.turn.now.to.envs.now))
           (c.set_first.ensures.each i many)),
       λ lane. c.less.ensures.each i lane many,

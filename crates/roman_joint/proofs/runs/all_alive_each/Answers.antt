@@ -11,5 +11,5 @@ loop-env-preserved c = record {
       let at : c.args.rows.now.base + c.from.result * c.args.rows.now.env_stride + i ≡ c.args.rows.now.base + i + c.from.result * c.args.rows.now.env_stride = omega arith in
       none_after by_env c.args.rows.now.envs.now c.loop-env.env-index 0 (is_on (slice_index c.args.all.now i) lane) (is_on (slice_index c.loop-env.all i) lane) (is_on (slice_index c.rows_alive_each.new.all i) lane)
       (omega arith) (c.loop-env.invariant.each i lane l)
-      (c.rows_alive_each.ensures.each i lane l ∙ ap (λ m. is_on (slice_index c.loop-env.all i) lane && not (test m)) at ∙ ap (λ e. is_on (slice_index c.loop-env.all i) lane && not (by_env e)) c.from.ensures);
+      (c.rows_alive_each.ensures.each i lane (omega (arith, l, c.loop-env.invariant.long)) ∙ ap (λ m. is_on (slice_index c.loop-env.all i) lane && not (test m)) at ∙ ap (λ e. is_on (slice_index c.loop-env.all i) lane && not (by_env e)) c.from.ensures);
 }

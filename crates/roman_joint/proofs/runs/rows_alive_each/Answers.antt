@@ -9,7 +9,7 @@ loop-state-preserved c = record {
       let words = c.args.words.now in
       let word = λ (b : ℕ). is_on (slice_index words (c.args.base + i + b * c.args.stride)) lane in
       let at : c.args.base + c.from.result * c.args.stride + i ≡ c.args.base + i + c.from.result * c.args.stride = omega arith in
-      ap (λ z. is_on z lane) (c.and_from.ensures.each i l ∙ ap (λ z. bit_and (slice_index c.loop-state.all i) (slice_index words z)) at)
+      ap (λ z. is_on z lane) (c.and_from.ensures.each i (omega (arith, l, c.loop-state.invariant.long)) ∙ ap (λ z. bit_and (slice_index c.loop-state.all i) (slice_index words z)) at)
       ∙ alive_more (λ (b : ℕ). not (word b)) c.args.states.now c.loop-state.state-index 0 (slice_index c.args.all.now i) (slice_index c.loop-state.all i) (slice_index words (c.args.base + i + c.from.result * c.args.stride)) lane
       (omega arith) (c.loop-state.invariant.each i lane l) (ap word c.from.ensures ∙ not_not _);
 }

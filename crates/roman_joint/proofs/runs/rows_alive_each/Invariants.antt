@@ -5,6 +5,6 @@ use Rattle.roman_joint.proofs.runs.rows_alive_each.Given as goal
 abbrev pub invariant-loop-state : goal.invariant-loop-state
 invariant-loop-state l = record {
   long : length l.all ≡ length l.fn.all;
-  each : (i lane : ℕ) → i < l.many → is_on (slice_index l.all i) lane
+  each : (i lane : ℕ) → i < length l.fn.all → is_on (slice_index l.all i) lane
       ≡ (is_on (slice_index l.fn.all i) lane && not (list_any (λ b. not (is_on (slice_index l.words (l.base + i + b * l.stride)) lane)) (take l.state-index l.states)));
 }
