@@ -1,12 +1,15 @@
 -- The rule that forbids the targets to be combined.
-use Rattle.roman_multi.proofs.Common.{◌≡◌, ℕ, ◌<◌, ◌≤◌, List, [], ◌∷◌, map, length, Some, None, Err, IsTrue, IsFalse, refl, ap, ap₂, ◌∙◌, arith, ltb-false, length-map, below, product_of, target_sizes, combined_env, combined_target, count, MAX_STATES, MAX_ACTIONS, Request, length-below, NamedEnv, NamedBeh, machines, requests_in, has_many_states, has_bad_count, has_long_name, has_one_name, forbidding, combined_behaviour, flat, Named}
+use Rattle.roman_multi.proofs.Common.{All, IsTarget, ◌≡◌, ℕ, ◌<◌, ◌≤◌, List, [], ◌∷◌, map, length, Some, None, Err, IsTrue, IsFalse, refl, sym, subst, ap, ap₂, ◌∙◌, arith, ltb-false, length-map, below, product_of, target_sizes, count, MAX_STATES, MAX_ACTIONS, Request, length-below, NamedEnv, NamedBeh, machines, requests_in, has_many_states, has_bad_count, has_long_name, has_one_name, forbidding, combined_behaviour, flat, Named}
 use Rattle.std.proofs.lemmas.Bool.{lt-ltb, le-ltb, true≢false}
 use Rattle.roman_parts.specs.Named.{NamedTarget}
 use Rattle.roman_multi.specs.Combining.{PlainCombined, combined_state_names, request_names, KeepsRules, combined_parts}
 use Rattle.roman_multi.specs.Lists.{AreCombinedNames}
 use Rattle.roman_multi.specs.declared.error.CombineError.{CombineError}
 use Rattle.roman_multi.specs.declared.error.CombineError.TheVariants as error
+use Rattle.roman_multi.specs.Merges.{IsMerge, combined_environment, one_target}
+use Rattle.roman_multi.specs.declared.merge.Merge.{Merge}
 use Rattle.roman_multi.proofs.FlatLemmas.{fits_within}
+use Rattle.roman_multi.proofs.MoveLemmas.{requests_in_range}
 
 pub forbids_states : (env : NamedEnv) (targets : List Named) → IsTrue (has_many_states targets) → forbidding env targets ≡ Some error.States
 unfolding forbidding
@@ -69,19 +72,30 @@ state_count targets = length-map (below (product_of (target_sizes (machines targ
 pub request_count : (env : NamedEnv) (targets : List Named) → length (request_names env targets) ≡ length (requests_in env targets)
 request_count env targets = length-map (requests_in env targets) _
 
-same_env : (a b : NamedEnv) → a.states ≡ b.states → a.actions ≡ b.actions → a.env ≡ b.env → a ≡ b
+pub same_env : (a b : NamedEnv) → a.states ≡ b.states → a.actions ≡ b.actions → a.env ≡ b.env → a ≡ b
 same_env a b s k e = ap₂ (λ x y. record { states = x; actions = y; env = a.env }) s k ∙ ap (λ x. record { states = b.states; actions = b.actions; env = x }) e
 
-same_target : (a b : NamedTarget) → a.states ≡ b.states → a.env_states ≡ b.env_states → a.actions ≡ b.actions → a.beh ≡ b.beh → a ≡ b
+pub same_target : (a b : NamedTarget) → a.states ≡ b.states → a.env_states ≡ b.env_states → a.actions ≡ b.actions → a.beh ≡ b.beh → a ≡ b
 same_target a b s n k t =
     ap₂ (λ x y. record { states = x; env_states = y; actions = a.actions; beh = a.beh }) s n ∙ ap₂ (λ x y. record { states = b.states; env_states = b.env_states; actions = x; beh = y }) k t
 
 -- parts with these names and records are the combined parts
 pub parts_are : (env : NamedEnv) (catalogue : List NamedBeh) (targets : List Named) (requests : List Request) (states actions : List (List ℕ)) (environment : NamedEnv) (made : List NamedBeh) (target : NamedTarget) →
     requests ≡ requests_in env targets → states ≡ combined_state_names targets → actions ≡ request_names env targets →
-    environment.env ≡ combined_env requests env.env → (environment.states ≡ env.states) × (environment.actions ≡ actions) →
-    made ≡ map (combined_behaviour env requests) catalogue →
-    target.states ≡ states → (target.env_states ≡ env.env.states) × (target.actions ≡ length requests) → target.beh ≡ combined_target env.env.states requests (machines targets) →
+    environment ≡ combined_environment env requests actions → made ≡ map (combined_behaviour env requests) catalogue → target ≡ one_target env requests targets states →
     ◌≡◌ {A = PlainCombined} (record { environment = environment; catalogue = made; target = target }) (combined_parts env catalogue targets)
 unfolding combined_parts
-parts_are env catalogue targets requests states actions environment made target asked named called world names behaviours kept over goes = grind (arith, same_env, same_target)
+parts_are env catalogue targets requests states actions environment made target asked named called world behaviours goes = grind arith
+
+-- the targets and their requests are a merge where the counts are good
+pub merge_is : (m : Merge) (sizes : List ℕ) → (2 ≤ length m.targets.now) × (length m.targets.now ≤ 4) → All (λ named. IsTarget m.env.now named.target) m.targets.now → m.shape.now ≡ flat sizes →
+    sizes ≡ target_sizes (machines m.targets.now) → m.requests.now ≡ requests_in m.env.now m.targets.now → HasGoodCounts m.env.now m.targets.now → IsMerge m
+merge_is m sizes some known shape same asked counts = record {
+  count = (omega arith, some.1);
+  known = known;
+  shape = shape ∙ ap flat same;
+  few = counts.few;
+  requests = asked;
+  some = subst (λ (xs : List Request). (0 < length xs) × (length xs ≤ MAX_ACTIONS)) (sym asked) counts.some;
+  in_range = requests_in_range m.env.now m.targets.now m.requests.now asked;
+}

@@ -1,8 +1,11 @@
 -- The steps that the loops list are the steps of the combined target.
-use Rattle.roman_multi.proofs.Common.{◌≡◌, ℕ, zero, suc, ◌^◌, ◌&&◌, ◌++◌, ◌<◌, ◌≤◌, Bool, drop, filter, All, List, [], ◌∷◌, length, Option, Some, None, IsTrue, slice_get, slice_index, slice_set, refl, sym, ap, ap₂, ◌∙◌, subst, arith, none-some, same_Some, IsIn, below, product_of, Beh, has, has_move, is_final, beh_next, normal_beh, states_number, states_at, Several, are_final, target_sizes, combined_target, combined, IsSeveral, Request, listed_beh, AreMoves, moves_in, listed_moves, next_of_all, same_test, in_map, from_map, in_beh_next, from_beh_next, beh_from_same, get_in, listed_number, number_listed, has_filter}
+use Rattle.roman_multi.proofs.Common.{◌≡◌, ℕ, zero, suc, ◌^◌, ◌&&◌, ◌++◌, ◌<◌, ◌≤◌, Bool, drop, filter, All, List, [], ◌∷◌, length, Option, Some, None, IsTrue, slice_get, slice_index, slice_set, refl, sym, ap, ap₂, ◌∙◌, subst, arith, none-some, same_Some, IsIn, below, product_of, Beh, has, has_move, is_final, beh_next, normal_beh, states_number, states_at, Several, are_final, target_sizes, combined_target, combined, IsSeveral, Request, listed_beh, AreMoves, moves_in, listed_moves, same_test, in_map, from_map, in_beh_next, from_beh_next, beh_from_same, get_in, listed_number, number_listed, has_filter, IsEnv, machines, MAX_ACTIONS}
+use Rattle.roman_multi.specs.Merges.{IsMerge, next_in, state_total}
+use Rattle.roman_multi.specs.declared.merge.Merge.{Merge}
+use Rattle.roman_multi.proofs.KnownLemmas.{several, several_is}
 use Rattle.std.proofs.lemmas.List.{append-nil}
 use Rattle.roman_model.specs.Combined.{combined_start, targets_go, all_requests}
-use Rattle.roman_multi.specs.Lists.{member_next}
+use Rattle.roman_multi.specs.Lists.{member_next, next_of_all}
 use Rattle.roman_model.proofs.CallerLemmas.{states_number-at, from_made_move, made_move, IsMemberStep, from_combined_target, combined_target_goes}
 use Rattle.roman_multi.proofs.MoveLemmas.{listed_moves_made, moves_in_range, passing_below}
 
@@ -78,15 +81,15 @@ combined_target_is w fins ok few ends =
 -- ---- one step at a time
 
 -- there is no step where the target has no next state
-pub no_step : (targets : List Beh) (ts : List ℕ) (t n e : ℕ) (r : Request) (target : Beh) (state : ℕ) (old : List (ℕ × ℕ × ℕ × ℕ)) → slice_get targets r.target ≡ Some target →
-    state ≡ slice_index ts r.target → beh_next target state e r.action ≡ [] → old ≡ old ++ moves_in t n e (next_of_all targets ts e (Some r))
-no_step targets ts t n e r target state old at is none = grind (arith, append-nil)
+pub no_step : (targets : List Beh) (ts : List ℕ) (t n e : ℕ) (o : Option Request) (r : Request) (target : Beh) (state : ℕ) (old : List (ℕ × ℕ × ℕ × ℕ)) → o ≡ Some r → slice_get targets r.target ≡ Some target →
+    state ≡ slice_index ts r.target → beh_next target state e r.action ≡ [] → old ≡ old ++ moves_in t n e (next_of_all targets ts e o)
+no_step targets ts t n e o r target state old asks at is none = grind (arith, append-nil)
 
 -- there is one step where the target has a next state
-pub one_step : (targets : List Beh) (ts : List ℕ) (t n e : ℕ) (r : Request) (target : Beh) (state to next word : ℕ) (old new : List (ℕ × ℕ × ℕ × ℕ)) → slice_get targets r.target ≡ Some target →
+pub one_step : (targets : List Beh) (ts : List ℕ) (t n e : ℕ) (o : Option Request) (r : Request) (target : Beh) (state to next word : ℕ) (old new : List (ℕ × ℕ × ℕ × ℕ)) → o ≡ Some r → slice_get targets r.target ≡ Some target →
     state ≡ slice_index ts r.target → beh_next target state e r.action ≡ to ∷ [] → next ≡ states_number (target_sizes targets) (slice_set ts r.target to) → word ≡ 2 ^ e →
-    new ≡ old ++ (t, word, n, next) ∷ [] → new ≡ old ++ moves_in t n e (next_of_all targets ts e (Some r))
-one_step targets ts t n e r target state to next word old new at is one there bits step = grind arith
+    new ≡ old ++ (t, word, n, next) ∷ [] → new ≡ old ++ moves_in t n e (next_of_all targets ts e o)
+one_step targets ts t n e o r target state to next word old new asks at is one there bits step = grind arith
 
 -- the states from a place on are final
 pub final_drop : (targets : List Beh) (ts : List ℕ) (i : ℕ) (target : Beh) (t : ℕ) → slice_get targets i ≡ Some target → i < length ts → t ≡ slice_index ts i →
@@ -104,6 +107,19 @@ pub record AreListsOf (w : Several) (size begin : ℕ) (ends : List ℕ) (moves 
   pub finals : ends ≡ filter (λ t. are_final w.targets (states_at (target_sizes w.targets) t)) (below (product_of (target_sizes w.targets)))
   pub steps : moves ≡ listed_moves w.env.states (length (all_requests w)) (product_of (target_sizes w.targets))
       (λ t n e. next_of_all w.targets (states_at (target_sizes w.targets) t) e (slice_get (all_requests w) n))
+
+-- the lists made for a merge are those of its targets
+pub merge_lists : (m : Merge) (size begin : ℕ) (ends : List ℕ) (moves : List (ℕ × ℕ × ℕ × ℕ)) → IsEnv m.env.now.env → IsMerge m → size ≡ state_total m → begin ≡ combined_start (machines m.targets.now) →
+    ends ≡ filter (λ t. are_final (machines m.targets.now) (states_at (target_sizes (machines m.targets.now)) t)) (below (state_total m)) →
+    moves ≡ listed_moves m.env.now.env.states (length m.requests.now) (state_total m) (next_in m) → AreListsOf (several m.env.now m.targets.now) size begin ends moves
+merge_lists m size begin ends moves world is s b f l = record {
+  several = several_is _ _ world is.known is.few (subst (λ (xs : List Request). (0 < length xs) × (length xs ≤ MAX_ACTIONS)) is.requests is.some);
+  count = s;
+  start = b;
+  finals = f;
+  steps = l ∙ ap (λ (xs : List Request). listed_moves m.env.now.env.states (length xs) (state_total m)
+      (λ t n e. next_of_all (machines m.targets.now) (states_at (target_sizes (machines m.targets.now)) t) e (slice_get xs n))) is.requests;
+}
 
 pub made_target_is : (w : Several) (count start : ℕ) (finals : List ℕ) (steps : List (ℕ × ℕ × ℕ × ℕ)) (env_states actions : ℕ) → AreListsOf w count start finals steps →
     env_states ≡ w.env.states → actions ≡ length (all_requests w) → normal_beh env_states actions (listed_beh count start finals steps) ≡ combined_target w.env.states (all_requests w) w.targets

@@ -1,3 +1,4 @@
 pub mod Combining
 pub mod Errors
 pub mod Lists
+pub mod Merges

@@ -1,13 +1,13 @@
 //! Behaviours over the combined actions.
-ghost use Rattle.std.specs.Prelude.{◌≡◌, ◌<◌, ◌≤◌, ◌++◌, length, map, slice_get, All, IfOk};
+ghost use Rattle.std.specs.Prelude.{◌≡◌, ◌<◌, ◌++◌, length, map, All, IfOk};
 ghost use Rattle.std.specs.List.{filter};
 ghost use Rattle.roman_model.specs.Lists.{below};
-ghost use Rattle.roman_model.specs.SystemArena.{beh_next};
 ghost use Rattle.roman_model.specs.System.{is_final};
-ghost use Rattle.roman_model.specs.declared.limits.TheConstants.{MAX_ACTIONS, MAX_STATES};
 ghost use Rattle.roman_multi.specs.Combining.{IsBehaviourOf, combined_behaviour};
-ghost use Rattle.roman_multi.specs.Lists.{listed_moves, moves_by, moves_from, moves_in, moves_on};
+ghost use Rattle.roman_multi.specs.Lists.{listed_moves, moves_by, moves_from, moves_in};
+ghost use Rattle.roman_multi.specs.Merges.{IsMember, IsMerge, IsOverMerge, next_of_member};
 
+use crate::merge::Merge;
 use roman_guard::StateSet;
 use roman_model::Request;
 use roman_parts::{Behaviour, Environment};
@@ -15,6 +15,14 @@ use std::alloc::{AllocError, Global};
 
 /// A step (b, G, n, b') by combined action n.
 pub(crate) type Move = (u8, StateSet, u8, u8);
+
+/// A behaviour, the environment that it is over, and the combined actions.
+#[derive(Clone, Copy)]
+pub(crate) struct Member<'a> {
+    env: &'a Environment,
+    requests: &'a [Request],
+    behaviour: &'a Behaviour,
+}
 
 /// Appends the steps from `b` by combined action `n` in environment state `e` to the states `next`.
 fn push_moves(steps: &mut Vec<Move>, b: u8, e: u8, n: u8, next: &[u8]) -> Result<(), AllocError>
@@ -27,67 +35,48 @@ fn push_moves(steps: &mut Vec<Move>, b: u8, e: u8, n: u8, next: &[u8]) -> Result
     Ok(())
 }
 
-/// Appends the steps from `b` by combined action `n`, which is action `a` of the environment.
-fn push_action(
-    steps: &mut Vec<Move>,
-    behaviour: &Behaviour,
-    env_states: u8,
-    b: u8,
-    n: u8,
-    a: u8,
-) -> Result<(), AllocError>
-    requires few { env_states ≤ MAX_STATES }
-    requires states { env_states ≡ behaviour.now.env_states }
-    requires state { b < behaviour.now.beh.states }
-    requires action { a < behaviour.now.actions }
+/// Appends the steps from `b` by combined action `n`.
+#[tactic(auto, using(crate::proofs::ListLemmas::flat_map_pushed))]
+fn push_action(steps: &mut Vec<Move>, member: &Member, b: u8, n: u8) -> Result<(), AllocError>
+    requires member { IsMember member.now }
+    requires state { b < member.now.behaviour.now.beh.states }
+    requires action { n < length member.now.requests.now }
     ensures { IfOk result (λ _. steps.new.items
-        ≡ steps.old.items ++ moves_by env_states (λ e. beh_next behaviour.now.beh b e a) b n) }
+        ≡ steps.old.items ++ moves_by member.now.env.now.env.states (next_of_member member.now b n) b n) }
 {
-    for e in 0..env_states {
-        push_moves(steps, b, e, n, behaviour.out(b, e, a))?;
+    let a = member.requests[n as usize].action;
+    for e in 0..member.env.states().len() as u8 {
+        push_moves(steps, b, e, n, member.behaviour.out(b, e, a))?;
     }
     Ok(())
 }
 
 /// Appends the steps from `b`.
-fn push_state(
-    steps: &mut Vec<Move>,
-    behaviour: &Behaviour,
-    requests: &[Request],
-    env_states: u8,
-    b: u8,
-) -> Result<(), AllocError>
-    requires few { env_states ≤ MAX_STATES }
-    requires states { env_states ≡ behaviour.now.env_states }
-    requires state { b < behaviour.now.beh.states }
-    requires some { length requests.now ≤ MAX_ACTIONS }
-    requires actions { All (λ r. r.action < behaviour.now.actions) requests.now }
+#[tactic(auto, using(crate::proofs::ListLemmas::flat_map_pushed))]
+fn push_state(steps: &mut Vec<Move>, member: &Member, b: u8) -> Result<(), AllocError>
+    requires member { IsMember member.now }
+    requires state { b < member.now.behaviour.now.beh.states }
     ensures { IfOk result (λ _. steps.new.items ≡ steps.old.items
-        ++ moves_from env_states (length requests.now) (λ n e. moves_on behaviour.now.beh b e (slice_get requests.now n)) b) }
+        ++ moves_from member.now.env.now.env.states (length member.now.requests.now) (next_of_member member.now b) b) }
 {
-    for n in 0..requests.len() {
-        push_action(steps, behaviour, env_states, b, n as u8, requests[n].action)?;
+    for n in 0..member.requests.len() as u8 {
+        push_action(steps, member, b, n)?;
     }
     Ok(())
 }
 
 /// Returns the steps by the combined actions.
-fn moves_of(
-    alloc: Global,
-    behaviour: &Behaviour,
-    requests: &[Request],
-    env_states: u8,
-) -> Result<Vec<Move>, AllocError>
-    requires few { env_states ≤ MAX_STATES }
-    requires states { env_states ≡ behaviour.now.env_states }
-    requires some { length requests.now ≤ MAX_ACTIONS }
-    requires actions { All (λ r. r.action < behaviour.now.actions) requests.now }
-    ensures { IfOk result (λ steps. steps.items ≡ listed_moves env_states (length requests.now) behaviour.now.beh.states
-        (λ b n e. moves_on behaviour.now.beh b e (slice_get requests.now n))) }
+#[tactic(auto, using(crate::proofs::ListLemmas::flat_map_begun))]
+fn moves_of(alloc: Global, member: &Member) -> Result<Vec<Move>, AllocError>
+    requires { IsMember member.now }
+    ensures { IfOk result (λ steps. steps.items ≡ listed_moves member.now.env.now.env.states (length member.now.requests.now)
+        member.now.behaviour.now.beh.states (next_of_member member.now)) }
 {
+    let behaviour = member.behaviour;
+    behaviour.known();
     let mut steps = Vec::new(alloc);
     for b in 0..behaviour.states().len() as u8 {
-        push_state(&mut steps, behaviour, requests, env_states, b)?;
+        push_state(&mut steps, member, b)?;
     }
     Ok(steps)
 }
@@ -109,20 +98,24 @@ fn finals_of(alloc: Global, behaviour: &Behaviour) -> Result<Vec<u8>, AllocError
 /// Returns the behaviour over the combined actions, which are the actions of the environment `over`.
 fn combine_behaviour(
     alloc: Global,
-    env: &Environment,
+    merge: &Merge,
     behaviour: &Behaviour,
-    requests: &[Request],
     over: &Environment,
 ) -> Result<Behaviour, AllocError>
-    requires of { IsBehaviourOf env.now behaviour.now }
-    requires over { (over.now.env.states ≡ env.now.env.states) × (over.now.env.actions ≡ length requests.now) }
-    requires few { length requests.now ≤ MAX_ACTIONS }
-    requires actions { All (λ r. r.action < env.now.env.actions) requests.now }
-    ensures { IfOk result (λ made. made ≡ combined_behaviour env.now requests.now behaviour.now) }
+    requires merge { IsMerge merge.now }
+    requires of { IsBehaviourOf merge.now.env.now behaviour.now }
+    requires over { IsOverMerge merge.now over.now }
+    ensures { IfOk result (λ made. made ≡ combined_behaviour merge.now.env.now merge.now.requests.now behaviour.now) }
 {
-    let env_states = env.states().len() as u8;
+    let (env, requests) = (merge.env, merge.requests);
+    env.known();
     let finals = finals_of(alloc, behaviour)?;
-    let steps = moves_of(alloc, behaviour, requests, env_states)?;
+    let member = Member {
+        env,
+        requests,
+        behaviour,
+    };
+    let steps = moves_of(alloc, &member)?;
     let states = behaviour.states().copy(alloc)?;
     Behaviour::from_lists(
         alloc,
@@ -138,20 +131,18 @@ fn combine_behaviour(
 /// Returns the behaviours over the combined actions, in the same order.
 pub(crate) fn combine_catalogue(
     alloc: Global,
-    env: &Environment,
+    merge: &Merge,
     catalogue: &[Behaviour],
-    requests: &[Request],
     over: &Environment,
 ) -> Result<Vec<Behaviour>, AllocError>
-    requires of { All (IsBehaviourOf env.now) catalogue.now }
-    requires over { (over.now.env.states ≡ env.now.env.states) × (over.now.env.actions ≡ length requests.now) }
-    requires few { length requests.now ≤ MAX_ACTIONS }
-    requires actions { All (λ r. r.action < env.now.env.actions) requests.now }
-    ensures { IfOk result (λ made. made.items ≡ map (combined_behaviour env.now requests.now) catalogue.now) }
+    requires merge { IsMerge merge.now }
+    requires of { All (IsBehaviourOf merge.now.env.now) catalogue.now }
+    requires over { IsOverMerge merge.now over.now }
+    ensures { IfOk result (λ made. made.items ≡ map (combined_behaviour merge.now.env.now merge.now.requests.now) catalogue.now) }
 {
     let mut made = Vec::with_capacity(alloc, catalogue.len())?;
     for behaviour in catalogue {
-        made.push(combine_behaviour(alloc, env, behaviour, requests, over)?)?;
+        made.push(combine_behaviour(alloc, merge, behaviour, over)?)?;
     }
     Ok(made)
 }

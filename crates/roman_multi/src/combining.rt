@@ -1,15 +1,14 @@
 //! The combination of several targets.
-ghost use Rattle.std.specs.Prelude.{◌≡◌, ◌<◌, ◌≤◌, length, All, IfOk};
-ghost use Rattle.roman_parts.specs.Named.{IsTarget};
-ghost use Rattle.roman_multi.specs.Combining.{IsBehaviourOf, IsOf, KeepsRules, combined_parts, forbidding, has_bad_count, machines, plain_combined, request_names, requests_in, combined_state_names};
-ghost use Rattle.roman_multi.specs.Lists.{AreCombinedNames, flat};
-ghost use Rattle.roman_model.specs.Combined.{target_sizes};
-ghost use Rattle.roman_model.specs.Lists.{product_of};
+ghost use Rattle.std.specs.Prelude.{◌≡◌, ◌≤◌, length, All, IfOk, Ok};
+ghost use Rattle.roman_multi.specs.Combining.{IsBehaviourOf, IsOf, KeepsRules, combined_parts, forbidding, has_bad_count, plain_combined};
+ghost use Rattle.roman_multi.specs.Lists.{AreCombinedNames};
+ghost use Rattle.roman_multi.specs.Merges.{IsMerge};
 
 use crate::asking::requests;
 use crate::behaviours::combine_catalogue;
 use crate::environment::combine_environment;
 use crate::error::CombineError;
+use crate::merge::Merge;
 use crate::parts::{Combined, Named};
 use crate::sizes::sizes_of;
 use crate::tables::table_of;
@@ -49,10 +48,14 @@ pub fn combine(
     if has_bad_count(&requests) {
         return Err(CombineError::Actions);
     }
-    let (states, actions) = names_of(alloc, env, targets, &shape, &requests)?;
-    let made = combine_parts(
-        alloc, env, catalogue, targets, &shape, &requests, states, actions,
-    )?;
+    let merge = Merge {
+        env,
+        targets,
+        shape: &shape,
+        requests: &requests,
+    };
+    let names = names_of(alloc, &merge)?;
+    let made = combine_parts(alloc, &merge, catalogue, names)?;
     Ok(made)
 }
 
@@ -63,31 +66,22 @@ fn has_bad_count(requests: &[Request]) -> bool
     requests.is_empty() || requests.len() > MAX_ACTIONS as usize
 }
 
-/// Returns the combined parts over the requests, with the given names.
+/// Returns the combined parts, with the given names of the combined states and actions.
 fn combine_parts(
     alloc: Global,
-    env: &Environment,
+    merge: &Merge,
     catalogue: &[Behaviour],
-    targets: &[Named],
-    shape: &Shape,
-    requests: &[Request],
-    states: NameTable,
-    actions: NameTable,
+    names: (NameTable, NameTable),
 ) -> Result<Combined, AllocError>
-    requires count { length targets.now ≤ 4 }
-    requires catalogue { All (IsBehaviourOf env.now) catalogue.now }
-    requires known { All (λ named. IsTarget env.now named.target) targets.now }
-    requires shape { shape.now ≡ flat (target_sizes (machines targets.now)) }
-    requires few { product_of (target_sizes (machines targets.now)) ≤ MAX_STATES }
-    requires requests { requests.now ≡ requests_in env.now targets.now }
-    requires some { (0 < length requests.now) × (length requests.now ≤ MAX_ACTIONS) }
-    requires states { states ≡ combined_state_names targets.now }
-    requires actions { actions ≡ request_names env.now targets.now }
-    ensures { IfOk result (λ made. plain_combined made ≡ combined_parts env.now catalogue.now targets.now) }
+    requires merge { IsMerge merge.now }
+    requires catalogue { All (IsBehaviourOf merge.now.env.now) catalogue.now }
+    requires names { AreCombinedNames merge.now.env.now merge.now.targets.now (Ok names) }
+    ensures { IfOk result (λ made. plain_combined made ≡ combined_parts merge.now.env.now catalogue.now merge.now.targets.now) }
 {
-    let environment = combine_environment(alloc, env, requests, actions)?;
-    let catalogue = combine_catalogue(alloc, env, catalogue, requests, &environment)?;
-    let target = combine_target(alloc, env, targets, shape, requests, states, &environment)?;
+    let (states, actions) = names;
+    let environment = combine_environment(alloc, merge, actions)?;
+    let catalogue = combine_catalogue(alloc, merge, catalogue, &environment)?;
+    let target = combine_target(alloc, merge, states, &environment)?;
     Ok(Combined {
         environment,
         catalogue,
@@ -96,22 +90,12 @@ fn combine_parts(
 }
 
 /// Returns the names of the combined states and actions.
-fn names_of(
-    alloc: Global,
-    env: &Environment,
-    targets: &[Named],
-    shape: &Shape,
-    requests: &[Request],
-) -> Result<(NameTable, NameTable), CombineError>
-    requires count { (0 < length targets.now) × (length targets.now ≤ 4) }
-    requires shape { shape.now ≡ flat (target_sizes (machines targets.now)) }
-    requires states { product_of (target_sizes (machines targets.now)) ≤ MAX_STATES }
-    requires requests { requests.now ≡ requests_in env.now targets.now }
-    requires actions { length requests.now ≤ MAX_ACTIONS }
-    ensures { AreCombinedNames env.now targets.now result }
+fn names_of(alloc: Global, merge: &Merge) -> Result<(NameTable, NameTable), CombineError>
+    requires { IsMerge merge.now }
+    ensures { AreCombinedNames merge.now.env.now merge.now.targets.now result }
 {
-    let states = state_words(alloc, targets, shape)?;
-    let actions = request_words(alloc, env, targets, requests)?;
+    let states = state_words(alloc, merge)?;
+    let actions = request_words(alloc, merge)?;
     if has_long(&states) || has_long(&actions) {
         return Err(CombineError::LongName);
     }

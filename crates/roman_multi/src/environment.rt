@@ -1,10 +1,10 @@
 //! The environment over the combined actions.
 ghost use Rattle.std.specs.Prelude.{◌≡◌, ◌<◌, ◌≤◌, ◌++◌, length, map, All, IfOk};
-ghost use Rattle.roman_model.specs.SystemArena.{env_next};
-ghost use Rattle.roman_model.specs.Combined.{combined_env};
 ghost use Rattle.roman_model.specs.declared.limits.TheConstants.{MAX_ACTIONS};
 ghost use Rattle.roman_multi.specs.Lists.{listed_triples, triples_by};
+ghost use Rattle.roman_multi.specs.Merges.{IsMerge, combined_environment};
 
+use crate::merge::Merge;
 use roman_model::Request;
 use roman_parts::Environment;
 use roman_read::NameTable;
@@ -23,22 +23,6 @@ fn push_triples(steps: &mut Vec<Triple>, e: u8, n: u8, next: &[u8]) -> Result<()
     Ok(())
 }
 
-/// Appends the steps from `e` by combined action `n`, which is the given request.
-fn push_request(
-    steps: &mut Vec<Triple>,
-    env: &Environment,
-    e: u8,
-    n: u8,
-    request: &Request,
-) -> Result<(), AllocError>
-    requires state { e < env.now.env.states }
-    requires action { request.now.action < env.now.env.actions }
-    ensures { IfOk result
-        (λ _. steps.new.items ≡ steps.old.items ++ map (λ to. (e, n, to)) (env_next env.now.env e request.now.action)) }
-{
-    push_triples(steps, e, n, env.next(e, request.action))
-}
-
 /// Appends the steps from `e`.
 fn push_row(
     steps: &mut Vec<Triple>,
@@ -52,7 +36,7 @@ fn push_row(
     ensures { IfOk result (λ _. steps.new.items ≡ steps.old.items ++ triples_by env.now.env requests.now e) }
 {
     for n in 0..requests.len() {
-        push_request(steps, env, e, n as u8, &requests[n])?;
+        push_triples(steps, e, n as u8, env.next(e, requests[n].action))?;
     }
     Ok(())
 }
@@ -77,17 +61,15 @@ fn triples_of(
 /// Returns the environment with the combined actions, which have the given names.
 pub(crate) fn combine_environment(
     alloc: Global,
-    env: &Environment,
-    requests: &[Request],
+    merge: &Merge,
     names: NameTable,
 ) -> Result<Environment, AllocError>
-    requires few { (0 < length requests.now) × (length requests.now ≤ MAX_ACTIONS) }
-    requires names { length names ≡ length requests.now }
-    requires actions { All (λ r. r.action < env.now.env.actions) requests.now }
-    ensures env { IfOk result (λ made. made.env ≡ combined_env requests.now env.now.env) }
-    ensures names { IfOk result (λ made. (made.states ≡ env.now.states) × (made.actions ≡ names)) }
+    requires merge { IsMerge merge.now }
+    requires names { length names ≡ length merge.now.requests.now }
+    ensures { IfOk result (λ made. made ≡ combined_environment merge.now.env.now merge.now.requests.now names) }
 {
-    let steps = triples_of(alloc, env, requests)?;
+    let env = merge.env;
+    let steps = triples_of(alloc, env, merge.requests)?;
     let states = env.states().copy(alloc)?;
     Environment::from_lists(alloc, states, names, env.start(), &steps)
 }

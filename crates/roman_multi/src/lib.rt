@@ -12,6 +12,7 @@ mod behaviours;
 mod combining;
 mod environment;
 mod error;
+mod merge;
 mod parts;
 mod sizes;
 mod tables;

@@ -1,19 +1,19 @@
 //! The combined target, over the combined actions.
-ghost use Rattle.std.specs.Prelude.{◌≡◌, ◌<◌, ◌≤◌, ◌++◌, length, slice_get, All, IfOk, Some};
+ghost use Rattle.std.specs.Prelude.{◌≡◌, ◌<◌, ◌≤◌, ◌++◌, length, IfOk};
 ghost use Rattle.std.specs.List.{filter};
 ghost use Rattle.roman_model.specs.Lists.{below, product_of};
 ghost use Rattle.roman_model.specs.Numbers.{states_at};
 ghost use Rattle.roman_model.specs.Several.{are_final};
-ghost use Rattle.roman_model.specs.Combined.{target_sizes, combined_start, combined_target};
-ghost use Rattle.roman_model.specs.declared.limits.TheConstants.{MAX_ACTIONS, MAX_STATES};
-ghost use Rattle.roman_parts.specs.Named.{IsTarget};
-ghost use Rattle.roman_multi.specs.Combining.{machines, requests_in};
-ghost use Rattle.roman_multi.specs.Lists.{flat, listed_moves, moves_by, moves_from, moves_in, next_of_all};
+ghost use Rattle.roman_model.specs.Combined.{target_sizes, combined_start};
+ghost use Rattle.roman_model.specs.declared.limits.TheConstants.{MAX_STATES};
+ghost use Rattle.roman_multi.specs.Combining.{machines};
+ghost use Rattle.roman_multi.specs.Lists.{flat, listed_moves, moves_by, moves_from, moves_in};
+ghost use Rattle.roman_multi.specs.Merges.{IsMerge, IsOverMerge, next_in, one_target, state_total};
 
 use crate::behaviours::Move;
+use crate::merge::Merge;
 use crate::parts::Named;
 use roman_guard::StateSet;
-use roman_model::Request;
 use roman_parts::{Environment, Target};
 use roman_radix::Shape;
 use roman_read::NameTable;
@@ -21,27 +21,16 @@ use std::alloc::{AllocError, Global};
 
 /// Appends the step from `t` by combined action `n` in environment state `e`, if the requesting
 /// target has a step there.
-fn push_move(
-    steps: &mut Vec<Move>,
-    env: &Environment,
-    targets: &[Named],
-    shape: &Shape,
-    t: u8,
-    n: u8,
-    e: u8,
-    request: &Request,
-) -> Result<(), AllocError>
-    requires known { All (λ named. IsTarget env.now named.target) targets.now }
-    requires shape { shape.now ≡ flat (target_sizes (machines targets.now)) }
-    requires few { product_of (target_sizes (machines targets.now)) ≤ MAX_STATES }
-    requires state { t < product_of (target_sizes (machines targets.now)) }
-    requires env_state { e < env.now.env.states }
-    requires target { request.now.target < length targets.now }
-    requires action { request.now.action < env.now.env.actions }
-    ensures { IfOk result (λ _. steps.new.items ≡ steps.old.items
-        ++ moves_in t n e (next_of_all (machines targets.now) (states_at (target_sizes (machines targets.now)) t) e (Some request.now))) }
+fn push_move(steps: &mut Vec<Move>, merge: &Merge, t: u8, n: u8, e: u8) -> Result<(), AllocError>
+    requires merge { IsMerge merge.now }
+    requires state { t < state_total merge.now }
+    requires action { n < length merge.now.requests.now }
+    requires env_state { e < merge.now.env.now.env.states }
+    ensures { IfOk result (λ _. steps.new.items ≡ steps.old.items ++ moves_in t n e (next_in merge.now t n e)) }
 {
-    env.known();
+    merge.env.known();
+    let (targets, shape) = (merge.targets, merge.shape);
+    let request = &merge.requests[n as usize];
     let member = &targets[request.target as usize].target;
     let state = shape.part_of(u32::from(t), request.target);
     match member.step(state, e, request.action) {
@@ -54,79 +43,45 @@ fn push_move(
     }
 }
 
-/// Appends the steps from `t` by combined action `n`, which is the given request.
+/// Appends the steps from `t` by combined action `n`.
 #[tactic(auto, using(crate::proofs::ListLemmas::flat_map_pushed))]
-fn push_request(
-    steps: &mut Vec<Move>,
-    env: &Environment,
-    targets: &[Named],
-    shape: &Shape,
-    t: u8,
-    n: u8,
-    request: &Request,
-) -> Result<(), AllocError>
-    requires known { All (λ named. IsTarget env.now named.target) targets.now }
-    requires shape { shape.now ≡ flat (target_sizes (machines targets.now)) }
-    requires few { product_of (target_sizes (machines targets.now)) ≤ MAX_STATES }
-    requires state { t < product_of (target_sizes (machines targets.now)) }
-    requires target { request.now.target < length targets.now }
-    requires action { request.now.action < env.now.env.actions }
-    ensures { IfOk result (λ _. steps.new.items ≡ steps.old.items
-        ++ moves_by env.now.env.states (λ e. next_of_all (machines targets.now) (states_at (target_sizes (machines targets.now)) t) e (Some request.now)) t n) }
+fn push_action(steps: &mut Vec<Move>, merge: &Merge, t: u8, n: u8) -> Result<(), AllocError>
+    requires merge { IsMerge merge.now }
+    requires state { t < state_total merge.now }
+    requires action { n < length merge.now.requests.now }
+    ensures { IfOk result (λ _. steps.new.items
+        ≡ steps.old.items ++ moves_by merge.now.env.now.env.states (next_in merge.now t n) t n) }
 {
-    for e in 0..env.states().len() as u8 {
-        push_move(steps, env, targets, shape, t, n, e, request)?;
+    for e in 0..merge.env.states().len() as u8 {
+        push_move(steps, merge, t, n, e)?;
     }
     Ok(())
 }
 
 /// Appends the steps from `t`.
-fn push_state(
-    steps: &mut Vec<Move>,
-    env: &Environment,
-    targets: &[Named],
-    shape: &Shape,
-    requests: &[Request],
-    t: u8,
-) -> Result<(), AllocError>
-    requires known { All (λ named. IsTarget env.now named.target) targets.now }
-    requires shape { shape.now ≡ flat (target_sizes (machines targets.now)) }
-    requires few { product_of (target_sizes (machines targets.now)) ≤ MAX_STATES }
-    requires state { t < product_of (target_sizes (machines targets.now)) }
-    requires some { length requests.now ≤ MAX_ACTIONS }
-    requires targets { All (λ r. r.target < length targets.now) requests.now }
-    requires actions { All (λ r. r.action < env.now.env.actions) requests.now }
+#[tactic(auto, using(crate::proofs::ListLemmas::flat_map_pushed))]
+fn push_state(steps: &mut Vec<Move>, merge: &Merge, t: u8) -> Result<(), AllocError>
+    requires merge { IsMerge merge.now }
+    requires state { t < state_total merge.now }
     ensures { IfOk result (λ _. steps.new.items ≡ steps.old.items
-        ++ moves_from env.now.env.states (length requests.now)
-        (λ n e. next_of_all (machines targets.now) (states_at (target_sizes (machines targets.now)) t) e (slice_get requests.now n)) t) }
+        ++ moves_from merge.now.env.now.env.states (length merge.now.requests.now) (next_in merge.now t) t) }
 {
-    for n in 0..requests.len() {
-        push_request(steps, env, targets, shape, t, n as u8, &requests[n])?;
+    for n in 0..merge.requests.len() as u8 {
+        push_action(steps, merge, t, n)?;
     }
     Ok(())
 }
 
 /// Returns the steps by the combined actions.
-fn moves_of(
-    alloc: Global,
-    env: &Environment,
-    targets: &[Named],
-    shape: &Shape,
-    requests: &[Request],
-) -> Result<Vec<Move>, AllocError>
-    requires known { All (λ named. IsTarget env.now named.target) targets.now }
-    requires shape { shape.now ≡ flat (target_sizes (machines targets.now)) }
-    requires few { product_of (target_sizes (machines targets.now)) ≤ MAX_STATES }
-    requires some { length requests.now ≤ MAX_ACTIONS }
-    requires targets { All (λ r. r.target < length targets.now) requests.now }
-    requires actions { All (λ r. r.action < env.now.env.actions) requests.now }
+#[tactic(auto, using(crate::proofs::ListLemmas::flat_map_begun))]
+fn moves_of(alloc: Global, merge: &Merge) -> Result<Vec<Move>, AllocError>
+    requires { IsMerge merge.now }
     ensures { IfOk result (λ steps. steps.items
-        ≡ listed_moves env.now.env.states (length requests.now) (product_of (target_sizes (machines targets.now)))
-        (λ t n e. next_of_all (machines targets.now) (states_at (target_sizes (machines targets.now)) t) e (slice_get requests.now n))) }
+        ≡ listed_moves merge.now.env.now.env.states (length merge.now.requests.now) (state_total merge.now) (next_in merge.now)) }
 {
     let mut steps = Vec::new(alloc);
-    for t in 0..shape.pairs() as u8 {
-        push_state(&mut steps, env, targets, shape, requests, t)?;
+    for t in 0..merge.shape.pairs() as u8 {
+        push_state(&mut steps, merge, t)?;
     }
     Ok(steps)
 }
@@ -166,51 +121,32 @@ fn finals_of(alloc: Global, targets: &[Named], shape: &Shape) -> Result<Vec<u8>,
 }
 
 /// Returns the combined state in which each target is in its start state.
-fn start_of(
-    alloc: Global,
-    env: &Environment,
-    targets: &[Named],
-    shape: &Shape,
-) -> Result<u8, AllocError>
-    requires known { All (λ named. IsTarget env.now named.target) targets.now }
-    requires shape { shape.now ≡ flat (target_sizes (machines targets.now)) }
-    requires few { product_of (target_sizes (machines targets.now)) ≤ MAX_STATES }
-    ensures { IfOk result (λ start. start ≡ combined_start (machines targets.now)) }
+fn start_of(alloc: Global, merge: &Merge) -> Result<u8, AllocError>
+    requires { IsMerge merge.now }
+    ensures { IfOk result (λ start. start ≡ combined_start (machines merge.now.targets.now)) }
 {
-    let mut starts = Vec::with_capacity(alloc, targets.len())?;
-    for named in targets {
+    let mut starts = Vec::with_capacity(alloc, merge.targets.len())?;
+    for named in merge.targets {
         starts.push(named.target.start())?;
     }
-    Ok(shape.number(0, 0, &starts) as u8)
+    Ok(merge.shape.number(0, 0, &starts) as u8)
 }
 
 /// Returns the combined target over the environment `over`, whose actions are the combined actions.
 pub(crate) fn combine_target(
     alloc: Global,
-    env: &Environment,
-    targets: &[Named],
-    shape: &Shape,
-    requests: &[Request],
+    merge: &Merge,
     states: NameTable,
     over: &Environment,
 ) -> Result<Target, AllocError>
-    requires count { length targets.now ≤ 4 }
-    requires known { All (λ named. IsTarget env.now named.target) targets.now }
-    requires shape { shape.now ≡ flat (target_sizes (machines targets.now)) }
-    requires few { product_of (target_sizes (machines targets.now)) ≤ MAX_STATES }
-    requires requests { requests.now ≡ requests_in env.now targets.now }
-    requires some { (0 < length requests.now) × (length requests.now ≤ MAX_ACTIONS) }
-    requires states { length states ≡ product_of (target_sizes (machines targets.now)) }
-    requires over { (over.now.env.states ≡ env.now.env.states) × (over.now.env.actions ≡ length requests.now) }
-    ensures names { IfOk result (λ made. made.states ≡ states) }
-    ensures over { IfOk result
-        (λ made. (made.env_states ≡ env.now.env.states) × (made.actions ≡ length requests.now)) }
-    ensures target { IfOk result
-        (λ made. made.beh ≡ combined_target env.now.env.states requests.now (machines targets.now)) }
+    requires merge { IsMerge merge.now }
+    requires states { length states ≡ state_total merge.now }
+    requires over { IsOverMerge merge.now over.now }
+    ensures { IfOk result (λ made. made ≡ one_target merge.now.env.now merge.now.requests.now merge.now.targets.now states) }
 {
-    env.known();
-    let finals = finals_of(alloc, targets, shape)?;
-    let start = start_of(alloc, env, targets, shape)?;
-    let steps = moves_of(alloc, env, targets, shape, requests)?;
+    merge.env.known();
+    let finals = finals_of(alloc, merge.targets, merge.shape)?;
+    let start = start_of(alloc, merge)?;
+    let steps = moves_of(alloc, merge)?;
     Target::from_lists(alloc, states, start, &finals, &steps, over)
 }

@@ -2,16 +2,16 @@
 ghost use Rattle.std.specs.Prelude.{◌≡◌, ◌<◌, ◌≤◌, ◌++◌, ◌∷◌, length, map, All, IfOk, IsTrue, if◌then◌else◌};
 ghost use Rattle.std.specs.List.{list_any, list_all};
 ghost use Rattle.roman_model.specs.Combined.{target_sizes};
-ghost use Rattle.roman_model.specs.Lists.{product_of};
 ghost use Rattle.roman_model.specs.Numbers.{states_at};
 ghost use Rattle.roman_read.specs.Names.{is_name_byte};
-ghost use Rattle.roman_multi.specs.Combining.{is_long, joined, machines, names_at, request_name, combined_state_names};
-ghost use Rattle.roman_multi.specs.Lists.{flat, is_word};
+ghost use Rattle.roman_multi.specs.Combining.{is_long, joined, machines, names_at, request_name, request_names, combined_state_names};
+ghost use Rattle.roman_multi.specs.Lists.{is_word};
+ghost use Rattle.roman_multi.specs.Merges.{IsMerge, state_total};
 
+use crate::merge::Merge;
 use crate::parts::Named;
 use roman_model::{MAX_NAME_BYTES, Request};
 use roman_parts::Environment;
-use roman_radix::Shape;
 use roman_read::Name;
 use std::alloc::{AllocError, Global};
 
@@ -31,19 +31,14 @@ fn push_name(word: &mut Vec<u8>, name: &Name, first: bool) -> Result<(), AllocEr
 }
 
 /// Returns the name of combined state `t`.
-fn state_word(
-    alloc: Global,
-    targets: &[Named],
-    shape: &Shape,
-    t: u32,
-) -> Result<Vec<u8>, AllocError>
-    requires some { (0 < length targets.now) × (length targets.now ≤ 4) }
-    requires shape { shape.now ≡ flat (target_sizes (machines targets.now)) }
-    requires state { t < product_of (target_sizes (machines targets.now)) }
-    ensures word { IfOk result
-        (λ word. word.items ≡ joined (names_at targets.now (states_at (target_sizes (machines targets.now)) t))) }
+fn state_word(alloc: Global, merge: &Merge, t: u32) -> Result<Vec<u8>, AllocError>
+    requires merge { IsMerge merge.now }
+    requires state { t < state_total merge.now }
+    ensures word { let targets = merge.now.targets.now in
+        IfOk result (λ word. word.items ≡ joined (names_at targets (states_at (target_sizes (machines targets)) t))) }
     ensures bytes { IfOk result (λ word. IsTrue (is_word word.items)) }
 {
+    let (targets, shape) = (merge.targets, merge.shape);
     let mut word = Vec::new(alloc);
     for i in 0..targets.len() {
         let names = targets[i].target.states();
@@ -54,19 +49,14 @@ fn state_word(
 }
 
 /// Returns the names of the combined states.
-pub(crate) fn state_words(
-    alloc: Global,
-    targets: &[Named],
-    shape: &Shape,
-) -> Result<Vec<Vec<u8>>, AllocError>
-    requires some { (0 < length targets.now) × (length targets.now ≤ 4) }
-    requires shape { shape.now ≡ flat (target_sizes (machines targets.now)) }
-    ensures words { IfOk result (λ words. map (λ word. word.items) words.items ≡ combined_state_names targets.now) }
+pub(crate) fn state_words(alloc: Global, merge: &Merge) -> Result<Vec<Vec<u8>>, AllocError>
+    requires { IsMerge merge.now }
+    ensures words { IfOk result (λ words. map (λ word. word.items) words.items ≡ combined_state_names merge.now.targets.now) }
     ensures bytes { IfOk result (λ words. All (λ word. IsTrue (is_word word.items)) words.items) }
 {
     let mut words = Vec::new(alloc);
-    for t in 0..shape.pairs() {
-        words.push(state_word(alloc, targets, shape, t)?)?;
+    for t in 0..merge.shape.pairs() {
+        words.push(state_word(alloc, merge, t)?)?;
     }
     Ok(words)
 }
@@ -91,21 +81,15 @@ fn request_word(
 }
 
 /// Returns the names of the combined actions.
-pub(crate) fn request_words(
-    alloc: Global,
-    env: &Environment,
-    targets: &[Named],
-    requests: &[Request],
-) -> Result<Vec<Vec<u8>>, AllocError>
-    requires targets { All (λ r. r.target < length targets.now) requests.now }
-    requires actions { All (λ r. r.action < env.now.env.actions) requests.now }
+pub(crate) fn request_words(alloc: Global, merge: &Merge) -> Result<Vec<Vec<u8>>, AllocError>
+    requires { IsMerge merge.now }
     ensures words { IfOk result
-        (λ words. map (λ word. word.items) words.items ≡ map (request_name env.now.actions targets.now) requests.now) }
+        (λ words. map (λ word. word.items) words.items ≡ request_names merge.now.env.now merge.now.targets.now) }
     ensures bytes { IfOk result (λ words. All (λ word. IsTrue (is_word word.items)) words.items) }
 {
     let mut words = Vec::new(alloc);
-    for request in requests {
-        words.push(request_word(alloc, env, targets, request)?)?;
+    for request in merge.requests {
+        words.push(request_word(alloc, merge.env, merge.targets, request)?)?;
     }
     Ok(words)
 }

@@ -7,27 +7,27 @@ use Rattle.roman_multi.proofs.words.state_word.Goals as goal
 
 pub at-requires : goal.at-requires
 at-requires c =
-    let named = get_or c.args.targets.now c.loop-i.i c.index-targets-i.result in
+    let named = get_or c.args.merge.now.targets.now c.loop-i.i c.index-targets-i.result in
     let below : c.part_of-state.result < named.target.beh.states =
-    part_below c.args.targets.now c.args.shape.now c.loop-i.i c.part_of-state.result c.index-targets-i.result c.requires.shape c.loop-i-test.true c.part_of-state.ensures.below in
+    part_below c.args.merge.now.targets.now c.args.merge.now.shape.now c.loop-i.i c.part_of-state.result c.index-targets-i.result c.requires.merge.shape c.loop-i-test.true c.part_of-state.ensures.below in
     let count : length c.states-names.result.now ≡ named.target.beh.states = ap length c.states-names.ensures.names ∙ c.states-names.ensures.count in
     subst (λ n. n < length c.states-names.result.now) (sym c.from.ensures) (subst (λ n. c.part_of-state.result < n) (sym count) below)
 
 pub loop-i-preserved : goal.loop-i-preserved
 loop-i-preserved c =
-    let sizes = target_sizes (machines c.args.targets.now) in
-    let names = names_at c.args.targets.now (states_at sizes c.args.t) in
-    let named = get_or c.args.targets.now c.loop-i.i c.index-targets-i.result in
-    let count : length (states_at sizes c.args.t) ≡ length c.args.targets.now = length-states_at sizes c.args.t ∙ sizes_length c.args.targets.now in
+    let sizes = target_sizes (machines c.args.merge.now.targets.now) in
+    let names = names_at c.args.merge.now.targets.now (states_at sizes c.args.t) in
+    let named = get_or c.args.merge.now.targets.now c.loop-i.i c.index-targets-i.result in
+    let count : length (states_at sizes c.args.t) ≡ length c.args.merge.now.targets.now = length-states_at sizes c.args.t ∙ sizes_length c.args.merge.now.targets.now in
     let there : get_or names c.loop-i.i [] ≡ slice_index_or named.target.states (slice_index (states_at sizes c.args.t) c.loop-i.i) [] =
-    names_at_get c.args.targets.now (states_at sizes c.args.t) c.loop-i.i c.index-targets-i.result c.loop-i-test.true (omega arith) in
+    names_at_get c.args.merge.now.targets.now (states_at sizes c.args.t) c.loop-i.i c.index-targets-i.result c.loop-i-test.true (omega arith) in
     let state : c.from.result ≡ slice_index (states_at sizes c.args.t) c.loop-i.i =
-    c.from.ensures ∙ part_is sizes c.args.shape.now c.args.t c.loop-i.i c.part_of-state.result c.requires.shape c.requires.state c.part_of-state.ensures.value in
+    c.from.ensures ∙ part_is sizes c.args.merge.now.shape.now c.args.t c.loop-i.i c.part_of-state.result c.requires.merge.shape c.requires.state c.part_of-state.ensures.value in
     let name : slice_index_or named.target.states (slice_index (states_at sizes c.args.t) c.loop-i.i) [] ≡ c.at.result.now =
     sym (ap₂ (λ (xs : List (List ℕ)) (n : ℕ). slice_index_or xs n []) c.states-names.ensures.names state) ∙ get_or_from_slice_get c.states-names.result.now c.from.result c.at.result.now [] c.at.ensures.name in
     record {
       word = c.in_ok-push_name.ensures.word ∙ ap (λ xs. xs ++ (if c.loop-i.i == 0 then c.at.result.now else 45 ∷ c.at.result.now)) c.loop-i.invariant.word
-          ∙ sym (joined_more names c.loop-i.i c.at.result.now (subst (λ n. c.loop-i.i < n) (sym (names_at_length c.args.targets.now (states_at sizes c.args.t) count)) c.loop-i-test.true) (there ∙ name));
+          ∙ sym (joined_more names c.loop-i.i c.at.result.now (subst (λ n. c.loop-i.i < n) (sym (names_at_length c.args.merge.now.targets.now (states_at sizes c.args.t) count)) c.loop-i-test.true) (there ∙ name));
       bytes = c.in_ok-push_name.ensures.bytes;
       some = λ l. c.in_ok-push_name.ensures.some;
     }
