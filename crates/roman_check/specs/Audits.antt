@@ -1,14 +1,14 @@
 -- The state of a check after the lines read so far.
-use Rattle.std.specs.Prelude.{◌≡◌, ℕ, ◌*◌, ◌<◌, Bool, not, List, [], ◌∷◌, ◌++◌, drop, length, Option, None, Some, if◌then◌else◌}
-use Rattle.std.specs.List.{list_any}
+use Rattle.std.specs.Prelude.{◌≡◌, ℕ, ◌+◌, ◌*◌, ◌<◌, Bool, not, List, [], ◌∷◌, ◌++◌, drop, length, Option, None, Some, if◌then◌else◌}
+use Rattle.std.specs.List.{cons_option, list_any}
 use Rattle.std.specs.Option.{option_map}
 use Rattle.roman_model.specs.SystemArena.{same_numbers}
 use Rattle.roman_model.specs.Arena.{Arena, Entry, is_listed, is_justified}
-use Rattle.roman_model.specs.Certificate.{end_line, entries_on, line_fault}
+use Rattle.roman_model.specs.Certificate.{end_line, entries_on, entry_fault, line_fault}
 use Rattle.roman_model.specs.declared.reason.Reason.{Reason}
 use Rattle.roman_lanes.specs.Rows.{AreRows}
 use Rattle.roman_rules.specs.declared.asked.Asked.{Asked}
-use Rattle.roman_rules.specs.Asked.{HoldsWhereKept}
+use Rattle.roman_rules.specs.Asked.{HoldsWhereKept, IsReasonOf}
 use Rattle.roman_check.specs.declared.audit.Audit.{Audit}
 use Rattle.roman_check.specs.declared.audit.Due.{Due}
 use Rattle.roman_check.specs.declared.audit.Front.{Front}
@@ -42,10 +42,25 @@ pub record AnswersReason (A : Arena ℕ) (left : Remaining) (p : ℕ) (reason : 
   pub justified : (gone : ℕ → Bool) → AreRows left.lanes (λ q. not (gone q)) left.words.items → HoldsWhereKept A left.lanes gone old → result ≡ is_justified A gone p reason
   pub known : (gone : ℕ → Bool) → AreRows left.lanes (λ q. not (gone q)) left.words.items → HoldsWhereKept A left.lanes gone old → HoldsWhereKept A left.lanes gone new
 
+-- the place is a row and a lane of the table, and the reason is one of the system
+pub record CanAsk (A : Arena ℕ) (width : ℕ) (left : Remaining) (place : ℕ × ℕ) (asked : Reason) : Type 0 where
+  pub lanes : left.lanes ≡ width
+  pub room : length left.words.items * width ≡ length A.nodes
+  pub pair : place.0 * left.lanes + place.1 < length A.nodes
+  pub lane : place.1 < left.lanes
+  pub reason : IsReasonOf A asked
+
 -- the entries read so far are those of the list
 pub record HasListed (A : Arena ℕ) (L : List (Entry ℕ)) (audit : Audit) : Type 0 where
   pub left : Remain (length A.nodes) (is_listed A L) audit.left
   pub known : HoldsWhereKept A audit.left.lanes (is_listed A L) audit.asked
+
+-- the entry is judged after those of the list, and added to it where it has no fault; the table keeps its rows, and the same line stays due
+pub record TakesEntry (A : Arena ℕ) (lanes : ℕ) (old new : Audit) (entry : Option (Entry ℕ)) (result : Option Why) : Type 0 where
+  pub fault : (L : List (Entry ℕ)) → HasListed A L old → option_map fault_of result ≡ entry_fault A L entry
+  pub list : (L : List (Entry ℕ)) → HasListed A L old → result ≡ None → HasListed A (L ++ cons_option entry []) new
+  pub shaped : IsInRows lanes (length A.nodes) new
+  pub due : new.due ≡ old.due
 
 -- the lines read so far are those of the text
 pub record HasRead (A : Arena ℕ) (text : List (List ℕ)) (audit : Audit) : Type 0 where

@@ -3,11 +3,11 @@ ghost use Rattle.std.specs.Prelude.{◌≡◌, ℕ, ◌+◌, ◌*◌, ◌<◌, �
 ghost use Rattle.std.specs.Option.{option_map};
 ghost use Rattle.roman_model.specs.SystemArena.{same_numbers};
 ghost use Rattle.roman_model.specs.Arena.{Arena, Entry, is_listed};
-ghost use Rattle.roman_model.specs.Certificate.{end_line, entry_of, entries_on, entry_fault, body_fault};
+ghost use Rattle.roman_model.specs.Certificate.{end_line, entry_of, entries_on, body_fault};
 ghost use Rattle.roman_rules.specs.Asked.{IsReasonOf};
 ghost use Rattle.roman_check.specs.Readings.{entry_with};
 ghost use Rattle.roman_check.specs.Verdicts.{fault_of};
-ghost use Rattle.roman_check.specs.Audits.{IsInRows, IsFront, AnswersReason, HasListed, Judges};
+ghost use Rattle.roman_check.specs.Audits.{IsInRows, IsFront, AnswersReason, CanAsk, HasListed, Judges, TakesEntry};
 
 use crate::entries::{entry, is_count, is_end, is_head};
 use crate::missing::first_missing;
@@ -66,11 +66,7 @@ fn ask<J: Rules, L: Ledger>(
     reason: Reason,
     steps: &mut Steps<L>,
 ) -> bool
-    requires lanes { left.now.lanes ≡ J.lanes joint.now }
-    requires room { length left.now.words.items * J.lanes joint.now ≡ length (J.arena joint.now).nodes }
-    requires pair { place.0 * left.now.lanes + place.1 < length (J.arena joint.now).nodes }
-    requires lane { place.1 < left.now.lanes }
-    requires reason { IsReasonOf (J.arena joint.now) reason }
+    requires { CanAsk (J.arena joint.now) (J.lanes joint.now) left.now place reason }
     ensures { AnswersReason (J.arena joint.now) left.now (place.0 * left.now.lanes + place.1) reason asked.old asked.new result }
 {
     let (row, lane) = place;
@@ -88,11 +84,7 @@ fn holds<J: Rules, L: Ledger>(
     reason: Reason,
     steps: &mut Steps<L>,
 ) -> bool
-    requires lanes { left.now.lanes ≡ J.lanes joint.now }
-    requires room { length left.now.words.items * J.lanes joint.now ≡ length (J.arena joint.now).nodes }
-    requires pair { place.0 * left.now.lanes + place.1 < length (J.arena joint.now).nodes }
-    requires lane { place.1 < left.now.lanes }
-    requires reason { IsReasonOf (J.arena joint.now) reason }
+    requires { CanAsk (J.arena joint.now) (J.lanes joint.now) left.now place reason }
     ensures { AnswersReason (J.arena joint.now) left.now (place.0 * left.now.lanes + place.1) reason asked.old asked.new result }
 {
     let (row, lane) = place;
@@ -141,14 +133,8 @@ impl Audit {
         steps: &mut Steps<L>,
     ) -> Option<Why>
         requires shaped { IsInRows (J.lanes joint.now) (length (J.arena joint.now).nodes) self.old }
-        requires pair { pair < length (J.arena joint.now).nodes }
-        requires reason { IsReasonOf (J.arena joint.now) reason }
-        ensures fault { let A = J.arena joint.now in
-            (L : List (Entry ℕ)) → HasListed A L self.old → option_map fault_of result ≡ entry_fault A L (Some (entry_with (pair, reason))) }
-        ensures list { let A = J.arena joint.now in
-            (L : List (Entry ℕ)) → HasListed A L self.old → result ≡ None → HasListed A (L ++ entry_with (pair, reason) ∷ []) self.new }
-        ensures shaped { IsInRows (J.lanes joint.now) (length (J.arena joint.now).nodes) self.new }
-        ensures due { self.new.due ≡ self.old.due }
+        requires entry { (pair < length (J.arena joint.now).nodes) × IsReasonOf (J.arena joint.now) reason }
+        ensures { TakesEntry (J.arena joint.now) (J.lanes joint.now) self.old self.new (Some (entry_with (pair, reason))) result }
     {
         joint.known();
         let (row, lane) = self.left.place(self.asked.row, pair);
@@ -186,10 +172,8 @@ impl Audit {
         requires shaped { IsInRows (J.lanes joint.now) (length (J.arena joint.now).nodes) self.old }
         requires front { IsFront self.old front }
         ensures pair { IsTrue result → pair < length (J.arena joint.now).nodes }
-        ensures fault { let A = J.arena joint.now in
-            IsTrue result → (L : List (Entry ℕ)) → HasListed A L self.old → None ≡ entry_fault A L (Some (entry_with (pair, self.old.asked.reason))) }
-        ensures list { let A = J.arena joint.now in
-            IsTrue result → (L : List (Entry ℕ)) → HasListed A L self.old → HasListed A (L ++ entry_with (pair, self.old.asked.reason) ∷ []) self.new }
+        ensures taken { let x = entry_with (pair, self.old.asked.reason) in
+            IsTrue result → TakesEntry (J.arena joint.now) (J.lanes joint.now) self.old self.new (Some x) None }
         ensures untaken { result ≡ false → self.new ≡ self.old }
         ensures shaped { IsInRows (J.lanes joint.now) (length (J.arena joint.now).nodes) self.new }
         ensures due { self.new.due ≡ self.old.due }
@@ -214,13 +198,8 @@ impl Audit {
         steps: &mut Steps<L>,
     ) -> Option<Why>
         requires shaped { IsInRows (J.lanes joint.now) (length (J.arena joint.now).nodes) self.old }
-        ensures fault { let A = J.arena joint.now in
-            (L : List (Entry ℕ)) → HasListed A L self.old →
-            option_map fault_of result ≡ entry_fault A L (entry_of (length A.nodes) A.actions line.now) }
-        ensures list { let A = J.arena joint.now in
-            (L : List (Entry ℕ)) → HasListed A L self.old → result ≡ None → HasListed A (L ++ entries_on A (line.now ∷ [])) self.new }
-        ensures shaped { IsInRows (J.lanes joint.now) (length (J.arena joint.now).nodes) self.new }
-        ensures due { self.new.due ≡ self.old.due }
+        ensures { let A = J.arena joint.now in
+            TakesEntry A (J.lanes joint.now) self.old self.new (entry_of (length A.nodes) A.actions line.now) result }
     {
         match entry(line, joint.pairs(), joint.actions()) {
             Some((pair, reason)) => self.take_entry(joint, pair, reason, steps),

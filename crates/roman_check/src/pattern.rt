@@ -129,6 +129,9 @@ impl Shape {
     }
 }
 
+/// The pair and the reason of an entry, and the length of its line.
+pub(crate) type EntryLine = (u32, Reason, usize);
+
 impl Pattern {
     /// Returns the pattern with the line of pair 10,000 and clause 2.
     #[tactic(auto, using(crate::proofs::PatternLemmas::first_number))]
@@ -174,7 +177,7 @@ impl Pattern {
     /// Reads the first line of the bytes without the pattern. Returns its entry and its length, and
     /// makes it the pattern where it fits. May return `None` for a valid entry.
     #[inline(never)]
-    fn read_anew(&mut self, bytes: &[u8], pairs: u32, actions: u8) -> Option<(u32, Reason, usize)>
+    fn read_anew(&mut self, bytes: &[u8], pairs: u32, actions: u8) -> Option<EntryLine>
         requires pattern { IsPattern self.old.text self.old.shape }
         requires reason { IsIn self.old.shape.reason (reasons actions) }
         ensures pattern { IsPattern self.new.text self.new.shape }
@@ -189,12 +192,7 @@ impl Pattern {
     /// Reads the first line of the bytes. Returns its entry and its length, and makes it the pattern
     /// where it fits. May return `None` for a valid entry.
     #[inline(always)]
-    pub(crate) fn read(
-        &mut self,
-        bytes: &[u8],
-        pairs: u32,
-        actions: u8,
-    ) -> Option<(u32, Reason, usize)>
+    pub(crate) fn read(&mut self, bytes: &[u8], pairs: u32, actions: u8) -> Option<EntryLine>
         requires pattern { IsPattern self.old.text self.old.shape }
         requires reason { IsIn self.old.shape.reason (reasons actions) }
         ensures pattern { IsPattern self.new.text self.new.shape }

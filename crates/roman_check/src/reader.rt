@@ -3,13 +3,12 @@ ghost use Rattle.std.specs.Prelude.{◌≡◌, ℕ, ◌+◌, ◌-◌, ◌*◌, �
 ghost use Rattle.roman_model.specs.Lists.{IsIn};
 ghost use Rattle.roman_model.specs.Lines.{lines, IsLine};
 ghost use Rattle.roman_model.specs.Arena.{Arena};
-ghost use Rattle.roman_model.specs.Certificate.{cert_verdict, reasons};
+ghost use Rattle.roman_model.specs.Certificate.{reasons};
 ghost use Rattle.roman_rules.specs.Numbered.{IsNumbered};
-ghost use Rattle.roman_check.specs.Verdicts.{verdict_of};
 ghost use Rattle.roman_check.specs.Lines.{Holds};
 ghost use Rattle.roman_check.specs.Audits.{IsInRows, Judges};
 ghost use Rattle.roman_check.specs.Patterns.{IsPattern};
-ghost use Rattle.roman_check.specs.Readers.{IsReading, HasLines, IsReadTo, Feeds, Closes};
+ghost use Rattle.roman_check.specs.Readers.{IsReading, HasLines, IsReadTo, JudgesLast, Feeds, ReadsPiece, Closes, Decides};
 
 use crate::audit::{Audit, Due};
 use crate::entries::ROOM;
@@ -87,8 +86,7 @@ impl Reader {
         steps: &mut Steps<L>,
     ) -> Option<Why>
         requires shaped { IsInRows (J.lanes joint.now) (length (J.arena joint.now).nodes) self.old.audit }
-        ensures judged { (bytes : List ℕ) → Holds self.old.line bytes →
-            Judges (J.arena joint.now) self.old.audit self.new.audit (bytes ++ last.now) result }
+        ensures judged { JudgesLast (J.arena joint.now) self.old self.new last.now result }
         ensures shaped { IsInRows (J.lanes joint.now) (length (J.arena joint.now).nodes) self.new.audit }
         ensures lines { self.new.lines ≡ self.old.lines }
     {
@@ -109,9 +107,7 @@ impl Reader {
         requires shaped { IsInRows (J.lanes joint.now) (length (J.arena joint.now).nodes) self.old.audit }
         requires line { IsLine last.now }
         requires room { self.old.lines < MAX_CERTIFICATE_BYTES }
-        ensures fed { Feeds (J.arena joint.now) self.old self.new (last.now ++ 10 ∷ []) result }
-        ensures shaped { IsInRows (J.lanes joint.now) (length (J.arena joint.now).nodes) self.new.audit }
-        ensures lines { self.new.lines ≤ self.old.lines + 1 }
+        ensures { ReadsPiece (J.arena joint.now) (J.lanes joint.now) self.old self.new (last.now ++ 10 ∷ []) 1 result }
     {
         if let Some(why) = self.judge_end(joint, last, steps) {
             return Some(why);
@@ -218,9 +214,7 @@ impl Reader {
     ) -> Option<Why>
         requires shaped { IsInRows (J.lanes joint.now) (length (J.arena joint.now).nodes) self.old.audit }
         requires room { self.old.lines + length piece.now ≤ MAX_CERTIFICATE_BYTES }
-        ensures fed { Feeds (J.arena joint.now) self.old self.new piece.now result }
-        ensures shaped { IsInRows (J.lanes joint.now) (length (J.arena joint.now).nodes) self.new.audit }
-        ensures lines { self.new.lines ≤ self.old.lines + length piece.now }
+        ensures { ReadsPiece (J.arena joint.now) (J.lanes joint.now) self.old self.new piece.now (length piece.now) result }
     {
         let mut from = 0;
         'lines: loop {
@@ -262,8 +256,7 @@ impl Reader {
     fn conclude(&self, start: u32) -> Verdict
         requires start { start < length self.now.audit.left.words.items * self.now.audit.left.lanes }
         requires room { self.now.lines ≤ MAX_CERTIFICATE_BYTES + 1 }
-        ensures { (A : Arena ℕ) (bytes : List ℕ) → IsNumbered A → HasLines A (lines bytes) self.now →
-            length bytes ≤ MAX_CERTIFICATE_BYTES → cert_verdict A start bytes ≡ verdict_of result }
+        ensures { (A : Arena ℕ) → IsNumbered A → Decides A start (λ bytes. HasLines A (lines bytes) self.now) result }
     {
         match self.audit.due {
             Due::Nothing => Verdict::Greatest {
@@ -287,8 +280,7 @@ impl Reader {
         requires shaped { IsInRows (J.lanes joint.now) (length (J.arena joint.now).nodes) self.old.audit }
         requires room { self.old.lines ≤ MAX_CERTIFICATE_BYTES }
         requires start { start < length (J.arena joint.now).nodes }
-        ensures { (bytes : List ℕ) → IsReading (J.arena joint.now) bytes self.old →
-            length bytes ≤ MAX_CERTIFICATE_BYTES → cert_verdict (J.arena joint.now) start bytes ≡ verdict_of result }
+        ensures { Decides (J.arena joint.now) start (λ bytes. IsReading (J.arena joint.now) bytes self.old) result }
     {
         joint.known();
         if let Some(why) = self.close(joint, steps) {

@@ -48,8 +48,7 @@ impl Remaining {
         lanes: u32,
         pairs: u32,
     ) -> Result<Remaining, AllocError>
-        requires some { 0 < lanes }
-        requires few { lanes ≤ 64 }
+        requires lanes { (0 < lanes) × (lanes ≤ 64) }
         requires pairs { rows * lanes ≡ pairs }
         ensures shaped { IfOk result (λ left. (left.lanes ≡ lanes) × (length left.words.items ≡ rows)) }
         ensures all { IfOk result (Remain pairs (λ _. false)) }

@@ -24,8 +24,8 @@ loop-start-preserved g c =
     let (ended, is) = parts_entry (length A.nodes) A.actions bytes c.in-Some-fit.pair (shape.place + 2) shape.len shape.reason few ok.few_nodes c.in-Some-fit.ensures.pair (c.take_known.ensures.pair c.if-not-take_known.false) c.requires.reason in
     let (low, below, newline, line, judged) = entry_in_piece A ok mid new piece start shape.len (length A.nodes) A.actions x None refl refl ended is c.loop-start.invariant.due
     (λ bytes held. c.requires.alone bytes (subst (λ line. Holds line bytes) c.loop-start.invariant.line held))
-    (λ L has. subst (λ r. None ≡ entry_fault A L (Some (entry_with (c.in-Some-fit.pair, r)))) asked (c.take_known.ensures.fault c.if-not-take_known.false L has))
-    (λ L has none. subst (λ r. HasListed A (L ++ entry_with (c.in-Some-fit.pair, r) ∷ []) c.take_known.new.self) asked (c.take_known.ensures.list c.if-not-take_known.false L has)) c.take_known.ensures.due in
+    (λ L has. subst (λ r. None ≡ entry_fault A L (Some (entry_with (c.in-Some-fit.pair, r)))) asked ((c.take_known.ensures.taken c.if-not-take_known.false).fault L has))
+    (λ L has none. subst (λ r. HasListed A (L ++ entry_with (c.in-Some-fit.pair, r) ∷ []) c.take_known.new.self) asked ((c.take_known.ensures.taken c.if-not-take_known.false).list L has refl)) c.take_known.ensures.due in
     let end : start + shape.len + 1 ≡ start + (shape.len + 1) = omega arith in
     record {
       pattern = c.fit.ensures.pattern;

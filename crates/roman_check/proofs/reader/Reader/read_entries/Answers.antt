@@ -3,18 +3,12 @@ use Rattle.roman_check.proofs.AuditLemmas.{entry_given, reason_given}
 use Rattle.roman_check.proofs.ReaderLemmas.{entry_in_piece, read_line, stop_line, read_more, stop_in_piece}
 use Rattle.roman_check.proofs.reader.Reader.read_entries.Goals as goal
 
-pub take_entry-requires-clause-pair : goal.take_entry-requires-clause-pair
-take_entry-requires-clause-pair g c =
+pub take_entry-requires-clause-entry : goal.take_entry-requires-clause-entry
+take_entry-requires-clause-entry g c =
     let A = g.J.Rules.arena c.args.joint.now in
     let line = take c.in-Some.len (take (length c.args.piece.now - c.loop-pair.start) (drop c.loop-pair.start c.args.piece.now)) in
-    (entry_given (length A.nodes) A.actions line (entry_with (c.in-Some.pair, c.in-Some.reason)) (sym c.in-Some.ensures.read.1 ∙ ap₂ (λ p a. entry_of p a line) c.pairs-pairs.ensures c.actions-actions.ensures)).0
-
-pub take_entry-requires-clause-reason : goal.take_entry-requires-clause-reason
-take_entry-requires-clause-reason g c =
-    let A = g.J.Rules.arena c.args.joint.now in
-    let line = take c.in-Some.len (take (length c.args.piece.now - c.loop-pair.start) (drop c.loop-pair.start c.args.piece.now)) in
-    reason_given A c.in-Some.reason
-    (entry_given (length A.nodes) A.actions line (entry_with (c.in-Some.pair, c.in-Some.reason)) (sym c.in-Some.ensures.read.1 ∙ ap₂ (λ p a. entry_of p a line) c.pairs-pairs.ensures c.actions-actions.ensures)).1
+    let (inside, given) = entry_given (length A.nodes) A.actions line (entry_with (c.in-Some.pair, c.in-Some.reason)) (sym c.in-Some.ensures.read.1 ∙ ap₂ (λ p a. entry_of p a line) c.pairs-pairs.ensures c.actions-actions.ensures) in
+    (inside, reason_given A c.in-Some.reason given)
 
 pub returns-in-Some-take_entry-clause-fault : goal.returns-in-Some-take_entry-clause-fault
 returns-in-Some-take_entry-clause-fault g c before so_far =
