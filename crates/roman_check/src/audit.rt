@@ -215,11 +215,8 @@ impl Audit {
         steps: &mut Steps<L>,
     ) -> Option<Why>
         requires shaped { IsInRows (J.lanes joint.now) (length (J.arena joint.now).nodes) self.old }
-        ensures fault { let A = J.arena joint.now in
-            (L : List (Entry ℕ)) → HasListed A L self.old → option_map fault_of result ≡ body_fault A L (Some line.now) }
-        ensures list { let A = J.arena joint.now in
-            (L : List (Entry ℕ)) → HasListed A L self.old → result ≡ None → HasListed A (L ++ entries_on A (line.now ∷ [])) self.new }
-        ensures due { self.new.due ≡ (if same_numbers end_line line.now then Due.Nothing else self.old.due) }
+        requires due { self.old.due ≡ Due.Body }
+        ensures judged { Judges (J.arena joint.now) self.old self.new line.now result }
         ensures shaped { IsInRows (J.lanes joint.now) (length (J.arena joint.now).nodes) self.new }
     {
         joint.known();
