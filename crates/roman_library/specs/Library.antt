@@ -5,6 +5,7 @@ use Rattle.roman_model.specs.System.{IsEnv}
 use Rattle.roman_model.specs.declared.limits.TheConstants.{MAX_BEHAVIOURS, MAX_SERVICES, MAX_CELLS}
 use Rattle.roman_parts.specs.Named.{NamedEnv, NamedBeh, NamedTarget, IsBehaviour, IsTarget}
 use Rattle.roman_multi.specs.Combining.{PlainCombined}
+use Rattle.roman_multi.specs.declared.parts.Named.{Named}
 use Rattle.roman_library.specs.declared.library.Library.{Library}
 use Rattle.roman_library.specs.declared.library.Service.{Service}
 
@@ -43,6 +44,16 @@ pub record IsService (catalogue : List NamedBeh) (service : Service) : Type 0 wh
 pub record IsCatalogue (environment : NamedEnv) (catalogue : List NamedBeh) : Type 0 where
   pub known : All (IsBehaviour environment) catalogue
   pub names : HasNoRepeats (map behaviour_name catalogue)
+
+-- a catalogue of at most 32 behaviours
+pub record IsSmallCatalogue (environment : NamedEnv) (catalogue : List NamedBeh) : Type 0 where
+  pub known : IsCatalogue environment catalogue
+  pub few : length catalogue ≤ MAX_BEHAVIOURS
+
+-- two to four targets are over the environment
+pub record AreTargets (environment : NamedEnv) (targets : List Named) : Type 0 where
+  pub known : All (λ named. IsTarget environment named.target) targets
+  pub count : (2 ≤ length targets) × (length targets ≤ 4)
 
 -- the services' numbers are in range, and no two services have the same name
 pub record AreServices (catalogue : List NamedBeh) (services : List Service) : Type 0 where

@@ -1,6 +1,7 @@
 -- Refusals: the first broken rule of a document, and the results that state it.
-use Rattle.std.specs.Prelude.{◌≡◌, ℕ, List, Result, Ok, Err}
+use Rattle.std.specs.Prelude.{◌≡◌, ℕ, List, Option, Result, Ok, Err, IfSome}
 use Rattle.roman_io.specs.Faults.{Rose}
+use Rattle.roman_io.specs.Shelf.{Texts}
 use Rattle.roman_read.specs.declared.rules.Kind.TheVariants.{Form}
 use Rattle.roman_parts.specs.declared.error.List.TheVariants.{Whole}
 use Rattle.roman_parts.specs.declared.error.PartError.{PartError}
@@ -41,6 +42,15 @@ IsCause old new error.Memory = new ≡ old
 abbrev pub CausesLoad : {T : Type 0} → ℕ → ℕ → Result T LoadError → Type 0
 CausesLoad old new (Ok x) = new ≡ old
 CausesLoad old new (Err e) = IsCause old new e
+
+-- where the shelf tells its texts, the code returns or refuses what the definition gives on them
+abbrev pub LoadsFrom : {X Y : Type 0} → Option Texts → (X → Y) → Result X LoadError → (Texts → Result Y Refusal) → Type 0
+LoadsFrom told view result reading = IfSome told (λ texts. Loads view result (reading texts))
+
+-- the shelf's texts are as before, and its count of faults rose where the result is a fault
+pub record LeavesShelf {T : Type 0} (told now : Option Texts) (old new : ℕ) (result : Result T LoadError) : Type 0 where
+  pub texts : now ≡ told
+  pub cause : CausesLoad old new result
 
 -- the error is the refusal, unless memory runs out
 abbrev pub IsRefusal : Refusal → LoadError → Type 0

@@ -1,9 +1,9 @@
 //! The behaviours of a document, each written in place or in a file.
-ghost use Rattle.std.specs.Prelude.{◌≡◌, ◌≤◌, vec_len, IfOk, IfSome};
+ghost use Rattle.std.specs.Prelude.{IfOk};
 ghost use Rattle.serde_json.specs.View.{view};
 ghost use Rattle.roman_library.specs.Documents.{catalogue_in};
-ghost use Rattle.roman_library.specs.Library.{IsCatalogue};
-ghost use Rattle.roman_library.specs.Refusals.{Loads, CausesLoad};
+ghost use Rattle.roman_library.specs.Library.{IsSmallCatalogue};
+ghost use Rattle.roman_library.specs.Refusals.{LoadsFrom, LeavesShelf};
 
 use crate::listing::{Listed, load_items};
 use crate::looks::refused;
@@ -28,12 +28,9 @@ pub(crate) fn load_catalogue<F: Shelf>(
     v: &Value,
     environment: &Environment,
 ) -> Result<Vec<Behaviour>, LoadError>
-    ensures catalogue { IfSome (F.texts shelf.old)
-        (λ texts. Loads (λ x. x.items) result (catalogue_in texts document.now environment.now (view v.now))) }
-    ensures known { IfOk result (λ catalogue. IsCatalogue environment.now catalogue.items) }
-    ensures few { IfOk result (λ catalogue. vec_len catalogue ≤ MAX_BEHAVIOURS) }
-    ensures texts { F.texts shelf.new ≡ F.texts shelf.old }
-    ensures cause { CausesLoad (F.faults shelf.old) (F.faults shelf.new) result }
+    ensures catalogue { LoadsFrom (F.texts shelf.old) (λ x. x.items) result (λ texts. catalogue_in texts document.now environment.now (view v.now)) }
+    ensures known { IfOk result (λ catalogue. IsSmallCatalogue environment.now catalogue.items) }
+    ensures shelf { LeavesShelf (F.texts shelf.old) (F.texts shelf.new) (F.faults shelf.old) (F.faults shelf.new) result }
 {
     let items = counted_member(v, "behaviours", List::Behaviours, 0, MAX_BEHAVIOURS as u32);
     let items = placed(alloc, document, Part::System, items)?;

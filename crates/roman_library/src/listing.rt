@@ -1,11 +1,11 @@
 //! Parts that a document lists, each written in place or in a file.
-ghost use Rattle.std.specs.Prelude.{◌≡◌, ◌^◌, ◌<◌, List, [], ◌∷◌, ◌++◌, length, vec_len, IfOk, IfSome};
+ghost use Rattle.std.specs.Prelude.{◌≡◌, ◌^◌, ◌<◌, List, [], ◌∷◌, ◌++◌, length, IfOk};
 ghost use Rattle.serde_json.specs.View.{view, items_view};
 ghost use Rattle.roman_read.specs.Items.{each_item};
 ghost use Rattle.roman_parts.specs.Named.{NamedEnv};
 ghost use Rattle.roman_parts.specs.Reading.{Gives};
 ghost use Rattle.roman_library.specs.Documents.{PartAt, ReadAfter, listed_in, listed_step};
-ghost use Rattle.roman_library.specs.Refusals.{Loads, CausesLoad};
+ghost use Rattle.roman_library.specs.Refusals.{LoadsFrom, LeavesShelf};
 
 use crate::part_file::{file_of, value_at};
 use crate::placing::placed;
@@ -51,12 +51,11 @@ pub(crate) fn load_items<P: Listed, F: Shelf>(
 ) -> Result<Vec<P>, LoadError>
     requires few { length items.now < 2 ^ 32 }
     requires none { P.are_known environment.now [] }
-    ensures parts { IfSome (F.texts shelf.old)
-        (λ texts. Loads (λ x. x.items) result (each_item (listed_step P.part_at P.meaning texts document.now environment.now) 0 [] (items_view items.now))) }
+    ensures parts { LoadsFrom (F.texts shelf.old) (λ x. x.items) result
+        (λ texts. each_item (listed_step P.part_at P.meaning texts document.now environment.now) 0 [] (items_view items.now)) }
     ensures known { IfOk result (λ parts. P.are_known environment.now parts.items) }
-    ensures count { IfOk result (λ parts. vec_len parts ≡ length items.now) }
-    ensures texts { F.texts shelf.new ≡ F.texts shelf.old }
-    ensures cause { CausesLoad (F.faults shelf.old) (F.faults shelf.new) result }
+    ensures count { IfOk result (λ parts. length parts.items ≡ length items.now) }
+    ensures shelf { LeavesShelf (F.texts shelf.old) (F.texts shelf.new) (F.faults shelf.old) (F.faults shelf.new) result }
 {
     let mut parts = Vec::with_capacity(alloc, items.len())?;
     for (i, item) in items.iter().enumerate() {
@@ -78,11 +77,10 @@ fn load_item<P: Listed, F: Shelf>(
     environment: &Environment,
     before: &[P],
 ) -> Result<P, LoadError>
-    ensures part { IfSome (F.texts shelf.old)
-        (λ texts. Loads (λ x. x) result (listed_in P.part_at P.meaning texts document.now environment.now before.now number (view v.now))) }
+    ensures part { LoadsFrom (F.texts shelf.old) (λ x. x) result
+        (λ texts. listed_in P.part_at P.meaning texts document.now environment.now before.now number (view v.now)) }
     ensures known { IfOk result (λ x. P.are_known environment.now before.now → P.are_known environment.now (before.now ++ x ∷ [])) }
-    ensures texts { F.texts shelf.new ≡ F.texts shelf.old }
-    ensures cause { CausesLoad (F.faults shelf.old) (F.faults shelf.new) result }
+    ensures shelf { LeavesShelf (F.texts shelf.old) (F.texts shelf.new) (F.faults shelf.old) (F.faults shelf.new) result }
 {
     let part = P::part(number);
     match placed(alloc, document, part, file_of(v))? {

@@ -50,7 +50,6 @@ fn load_library<F: Shelf>(
     let version = placed(alloc, document, Part::System, read_version(v))?;
     let limit = placed(alloc, document, Part::System, read_limit(v))?;
     let environment = load_environment(alloc, shelf, document, v)?;
-    environment.known();
     let catalogue = load_catalogue(alloc, shelf, document, v, &environment)?;
     let services = read_services(alloc, document, v, version, &catalogue)?;
     let parts = load_parts(alloc, shelf, document, v, version, environment, catalogue)?;

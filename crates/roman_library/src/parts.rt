@@ -1,11 +1,11 @@
 //! The environment and the target of a document, each written in place or in a file.
-ghost use Rattle.std.specs.Prelude.{◌≡◌, IfOk, IfSome};
+ghost use Rattle.std.specs.Prelude.{IfOk};
 ghost use Rattle.serde_json.specs.View.{view};
 ghost use Rattle.roman_parts.specs.Parts.{target_of};
 ghost use Rattle.roman_parts.specs.Reading.{Gives};
 ghost use Rattle.roman_library.specs.Documents.{environment_in, target_in};
 ghost use Rattle.roman_parts.specs.Named.{IsTarget};
-ghost use Rattle.roman_library.specs.Refusals.{Loads, CausesLoad};
+ghost use Rattle.roman_library.specs.Refusals.{LoadsFrom, LeavesShelf};
 
 use crate::looks::member_at;
 use crate::part_file::{file_of, value_at};
@@ -24,10 +24,8 @@ pub(crate) fn load_environment<F: Shelf>(
     document: &str,
     v: &Value,
 ) -> Result<Environment, LoadError>
-    ensures environment { IfSome (F.texts shelf.old)
-        (λ texts. Loads (λ x. x) result (environment_in texts document.now (view v.now))) }
-    ensures texts { F.texts shelf.new ≡ F.texts shelf.old }
-    ensures cause { CausesLoad (F.faults shelf.old) (F.faults shelf.new) result }
+    ensures environment { LoadsFrom (F.texts shelf.old) (λ x. x) result (λ texts. environment_in texts document.now (view v.now)) }
+    ensures shelf { LeavesShelf (F.texts shelf.old) (F.texts shelf.new) (F.faults shelf.old) (F.faults shelf.new) result }
 {
     let part = Part::Environment;
     let member = member_at(v, "environment", List::Whole);
@@ -50,11 +48,9 @@ pub(crate) fn load_target<F: Shelf>(
     v: &Value,
     environment: &Environment,
 ) -> Result<Target, LoadError>
-    ensures target { IfSome (F.texts shelf.old)
-        (λ texts. Loads (λ x. x) result (target_in texts document.now environment.now (view v.now))) }
+    ensures target { LoadsFrom (F.texts shelf.old) (λ x. x) result (λ texts. target_in texts document.now environment.now (view v.now)) }
     ensures known { IfOk result (λ target. IsTarget environment.now target) }
-    ensures texts { F.texts shelf.new ≡ F.texts shelf.old }
-    ensures cause { CausesLoad (F.faults shelf.old) (F.faults shelf.new) result }
+    ensures shelf { LeavesShelf (F.texts shelf.old) (F.texts shelf.new) (F.faults shelf.old) (F.faults shelf.new) result }
 {
     let part = Part::Target(0);
     let member = member_at(v, "target", List::Whole);

@@ -1,13 +1,11 @@
 //! The parts of a document with one target, or with several.
-ghost use Rattle.std.specs.Prelude.{◌≡◌, ◌≤◌, length, vec_len, All, IfOk, IfSome};
+ghost use Rattle.std.specs.Prelude.{◌≡◌, IfOk};
 ghost use Rattle.serde_json.specs.View.{view};
-ghost use Rattle.roman_model.specs.System.{IsEnv};
 ghost use Rattle.roman_parts.specs.Reading.{Gives};
 ghost use Rattle.roman_multi.specs.Combining as combining;
 ghost use Rattle.roman_library.specs.Documents.{broken_rule, combined_of, parts_in, targets_in};
-ghost use Rattle.roman_parts.specs.Named.{IsTarget};
-ghost use Rattle.roman_library.specs.Library.{ArePartsOf, IsCatalogue};
-ghost use Rattle.roman_library.specs.Refusals.{Loads, CausesLoad};
+ghost use Rattle.roman_library.specs.Library.{ArePartsOf, AreTargets, IsCatalogue};
+ghost use Rattle.roman_library.specs.Refusals.{LoadsFrom, LeavesShelf};
 
 use crate::listing::{Listed, load_items};
 use crate::looks::refused;
@@ -43,14 +41,13 @@ pub(crate) fn load_parts<F: Shelf>(
     environment: Environment,
     catalogue: Vec<Behaviour>,
 ) -> Result<Combined, LoadError>
-    requires environment { IsEnv environment.env }
     requires catalogue { IsCatalogue environment catalogue.items }
-    ensures parts { IfSome (F.texts shelf.old)
-        (λ texts. Loads combining.plain_combined result (parts_in texts document.now version environment catalogue.items (view v.now))) }
+    ensures parts { LoadsFrom (F.texts shelf.old) combining.plain_combined result
+        (λ texts. parts_in texts document.now version environment catalogue.items (view v.now)) }
     ensures known { IfOk result (λ made. ArePartsOf catalogue.items (combining.plain_combined made)) }
-    ensures texts { F.texts shelf.new ≡ F.texts shelf.old }
-    ensures cause { CausesLoad (F.faults shelf.old) (F.faults shelf.new) result }
+    ensures shelf { LeavesShelf (F.texts shelf.old) (F.texts shelf.new) (F.faults shelf.old) (F.faults shelf.new) result }
 {
+    environment.known();
     if version == SEVERAL {
         let targets = load_targets(alloc, shelf, document, v, &environment)?;
         let made = combine_targets(alloc, &environment, &catalogue, &targets);
@@ -73,12 +70,9 @@ fn load_targets<F: Shelf>(
     v: &Value,
     environment: &Environment,
 ) -> Result<Vec<Named>, LoadError>
-    ensures targets { IfSome (F.texts shelf.old)
-        (λ texts. Loads (λ x. x.items) result (targets_in texts document.now environment.now (view v.now))) }
-    ensures known { IfOk result (λ targets. All (λ named. IsTarget environment.now named.target) targets.items) }
-    ensures count { IfOk result (λ targets. (2 ≤ vec_len targets) × (vec_len targets ≤ 4)) }
-    ensures texts { F.texts shelf.new ≡ F.texts shelf.old }
-    ensures cause { CausesLoad (F.faults shelf.old) (F.faults shelf.new) result }
+    ensures targets { LoadsFrom (F.texts shelf.old) (λ x. x.items) result (λ texts. targets_in texts document.now environment.now (view v.now)) }
+    ensures known { IfOk result (λ targets. AreTargets environment.now targets.items) }
+    ensures shelf { LeavesShelf (F.texts shelf.old) (F.texts shelf.new) (F.faults shelf.old) (F.faults shelf.new) result }
 {
     let items = counted_member(v, "targets", List::Targets, FEWEST, MOST);
     let items = placed(alloc, document, Part::System, items)?;
@@ -128,13 +122,12 @@ fn combine_targets(
     catalogue: &[Behaviour],
     targets: &[Named],
 ) -> Result<Combined, PartError>
-    requires environment { IsEnv environment.now.env }
     requires catalogue { IsCatalogue environment.now catalogue.now }
-    requires targets { All (λ named. IsTarget environment.now named.target) targets.now }
-    requires count { (2 ≤ length targets.now) × (length targets.now ≤ 4) }
+    requires targets { AreTargets environment.now targets.now }
     ensures parts { Gives combining.plain_combined result (combined_of environment.now catalogue.now targets.now) }
     ensures known { IfOk result (λ made. ArePartsOf catalogue.now (combining.plain_combined made)) }
 {
+    environment.known();
     match combine(alloc, environment, catalogue, targets) {
         Ok(made) => Ok(made),
         Err(error) => Err(broken_rule(error)),

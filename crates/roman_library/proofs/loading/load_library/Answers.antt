@@ -14,7 +14,7 @@ returns-in_err-catalogue-clause-meaning g c =
     let versioned = placed_ok (λ (x : ℕ). x) document part.System c.read_version.result (version_of d) c.in_ok-version.version c.read_version.ensures c.in_ok-version.ensures in
     let limited = placed_ok (λ (x : ℕ). x) document part.System c.read_limit.result (limit_of d) c.in_ok-limit.limit c.read_limit.ensures.limit c.in_ok-limit.ensures in
     let stops : IfSome (g.F.Shelf.texts c.args.shelf.now) (λ texts. Stops why (catalogue_in texts document env d)) =
-    subst (λ (o : Option Texts). IfSome o (λ texts. Stops why (catalogue_in texts document env d))) c.in_ok-environment.ensures.texts c.in_err-catalogue.ensures.catalogue in
+    subst (λ (o : Option Texts). IfSome o (λ texts. Stops why (catalogue_in texts document env d))) c.in_ok-environment.ensures.shelf.texts c.in_err-catalogue.ensures.catalogue in
     rw (p.1, p.2) (catalogue_stops document d c.in_ok-version.version c.in_ok-limit.limit env why versioned limited (g.F.Shelf.texts c.args.shelf.now) c.in_ok-environment.ensures.environment stops)
 
 pub returns-in_err-services-clause-meaning : goal.returns-in_err-services-clause-meaning
@@ -28,7 +28,7 @@ returns-in_err-services-clause-meaning g c =
     let versioned = placed_ok (λ (x : ℕ). x) document part.System c.read_version.result (version_of d) c.in_ok-version.version c.read_version.ensures c.in_ok-version.ensures in
     let limited = placed_ok (λ (x : ℕ). x) document part.System c.read_limit.result (limit_of d) c.in_ok-limit.limit c.read_limit.ensures.limit c.in_ok-limit.ensures in
     let behaviours : IfSome (g.F.Shelf.texts c.args.shelf.now) (λ texts. catalogue_in texts document env d ≡ Ok catalogue) =
-    subst (λ (o : Option Texts). IfSome o (λ texts. catalogue_in texts document env d ≡ Ok catalogue)) c.in_ok-environment.ensures.texts c.in_ok-catalogue.ensures.catalogue in
+    subst (λ (o : Option Texts). IfSome o (λ texts. catalogue_in texts document env d ≡ Ok catalogue)) c.in_ok-environment.ensures.shelf.texts c.in_ok-catalogue.ensures.catalogue in
     let stops : Stops why (services_of document c.in_ok-version.version catalogue d) =
     subst (λ (xs : List NamedBeh). Stops why (services_of document c.in_ok-version.version xs d)) c.deref.ensures.value c.in_err-services.ensures.services in
     rw (p.1, p.2) (services_stop_all document d c.in_ok-version.version c.in_ok-limit.limit env why versioned limited (g.F.Shelf.texts c.args.shelf.now) catalogue c.in_ok-environment.ensures.environment behaviours stops)
@@ -45,11 +45,11 @@ returns-in_err-parts-clause-meaning g c =
     let versioned = placed_ok (λ (x : ℕ). x) document part.System c.read_version.result (version_of d) c.in_ok-version.version c.read_version.ensures c.in_ok-version.ensures in
     let limited = placed_ok (λ (x : ℕ). x) document part.System c.read_limit.result (limit_of d) c.in_ok-limit.limit c.read_limit.ensures.limit c.in_ok-limit.ensures in
     let behaviours : IfSome (g.F.Shelf.texts c.args.shelf.now) (λ texts. catalogue_in texts document env d ≡ Ok catalogue) =
-    subst (λ (o : Option Texts). IfSome o (λ texts. catalogue_in texts document env d ≡ Ok catalogue)) c.in_ok-environment.ensures.texts c.in_ok-catalogue.ensures.catalogue in
+    subst (λ (o : Option Texts). IfSome o (λ texts. catalogue_in texts document env d ≡ Ok catalogue)) c.in_ok-environment.ensures.shelf.texts c.in_ok-catalogue.ensures.catalogue in
     let served : services_of document c.in_ok-version.version catalogue d ≡ Ok services =
     subst (λ (xs : List NamedBeh). services_of document c.in_ok-version.version xs d ≡ Ok services) c.deref.ensures.value c.in_ok-services.ensures.services in
     let stops : IfSome (g.F.Shelf.texts c.args.shelf.now) (λ texts. Stops why (parts_in texts document c.in_ok-version.version env catalogue d)) =
-    subst (λ (o : Option Texts). IfSome o (λ texts. Stops why (parts_in texts document c.in_ok-version.version env catalogue d))) (c.in_ok-catalogue.ensures.texts ∙ c.in_ok-environment.ensures.texts) c.in_err-parts.ensures.parts in
+    subst (λ (o : Option Texts). IfSome o (λ texts. Stops why (parts_in texts document c.in_ok-version.version env catalogue d))) (c.in_ok-catalogue.ensures.shelf.texts ∙ c.in_ok-environment.ensures.shelf.texts) c.in_err-parts.ensures.parts in
     rw (p.1, p.2) (parts_stop document d c.in_ok-version.version c.in_ok-limit.limit env why versioned limited (g.F.Shelf.texts c.args.shelf.now) catalogue services c.in_ok-environment.ensures.environment behaviours served stops)
 
 pub returns-clause-known : goal.returns-clause-known

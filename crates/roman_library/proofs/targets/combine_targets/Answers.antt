@@ -7,7 +7,7 @@ pub returns-in-Ok : goal.returns-in-Ok
 returns-in-Ok c = record {
   parts = made_gives c.args.environment.now c.args.catalogue.now c.args.targets.now c.in-Ok.made c.in-Ok.ensures.parts c.in-Ok.ensures.rules;
   known = subst (ArePartsOf c.args.catalogue.now) (sym c.in-Ok.ensures.parts)
-      (combined_parts_known c.args.environment.now c.args.catalogue.now c.args.targets.now c.requires.environment c.requires.catalogue c.requires.targets c.in-Ok.ensures.rules);
+      (combined_parts_known c.args.environment.now c.args.catalogue.now c.args.targets.now c.known.ensures.known c.requires.catalogue c.requires.targets.known c.in-Ok.ensures.rules);
 }
 
 pub returns-in-Err : goal.returns-in-Err
