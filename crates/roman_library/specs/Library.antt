@@ -60,6 +60,11 @@ pub record AreServices (catalogue : List NamedBeh) (services : List Service) : T
   pub known : All (IsService catalogue) services
   pub names : HasNoRepeats (map service_name services)
 
+-- at most 32 services of a catalogue
+pub record AreFewServices (catalogue : List NamedBeh) (services : List Service) : Type 0 where
+  pub known : AreServices catalogue services
+  pub few : length services ≤ MAX_SERVICES
+
 -- the parts made from a catalogue are parts of a library, and services of the catalogue are services of the made catalogue
 pub record ArePartsOf (behaviours : List NamedBeh) (made : PlainCombined) : Type 0 where
   pub environment : IsEnv made.environment.env

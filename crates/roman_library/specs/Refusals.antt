@@ -76,3 +76,8 @@ IsQuiet (Ok x) = Unit {0}
 IsQuiet (Err error.Fault) = ⊥
 IsQuiet (Err (error.Refused refusal)) = Unit {0}
 IsQuiet (Err error.Memory) = Unit {0}
+
+-- the code returns or refuses what the definition gives, without a fault
+pub record LoadsQuietly {X Y : Type 0} (view : X → Y) (result : Result X LoadError) (reading : Result Y Refusal) : Type 0 where
+  pub loads : Loads view result reading
+  pub quiet : IsQuiet result

@@ -1,13 +1,12 @@
 //! The services of a document.
-ghost use Rattle.std.specs.Prelude.{◌≡◌, ◌<◌, ◌≤◌, [], length, map, vec_len, None, IfOk};
+ghost use Rattle.std.specs.Prelude.{◌≡◌, ◌<◌, ◌≤◌, [], length, map, None, IfOk};
 ghost use Rattle.serde_json.specs.View.{view, items_view};
 ghost use Rattle.roman_read.specs.Items.{each_item};
 ghost use Rattle.roman_read.specs.Names.{place_of};
 ghost use Rattle.roman_parts.specs.Reading.{Gives};
-ghost use Rattle.roman_library.specs.Library.{IsService, AreServices, service_name};
+ghost use Rattle.roman_library.specs.Library.{IsService, AreFewServices, service_name};
 ghost use Rattle.roman_library.specs.Documents.{behaviour_place, state_of, frozen_of, rests_of, service_of, service_step, services_of};
-ghost use Rattle.roman_library.specs.Refusals.{Loads, IsQuiet, placed};
-ghost use Rattle.roman_library.specs.declared.refusal.Part.TheVariants as part;
+ghost use Rattle.roman_library.specs.Refusals.{LoadsQuietly};
 
 use crate::library::Service;
 use crate::looks::{member_at, refused, text_at, truth_at};
@@ -30,10 +29,8 @@ pub(crate) fn read_services(
     catalogue: &[Behaviour],
 ) -> Result<Vec<Service>, LoadError>
     requires { length catalogue.now ≤ MAX_BEHAVIOURS }
-    ensures services { Loads (λ x. x.items) result (services_of document.now version catalogue.now (view v.now)) }
-    ensures known { IfOk result (λ services. AreServices catalogue.now services.items) }
-    ensures few { IfOk result (λ services. vec_len services ≤ MAX_SERVICES) }
-    ensures quiet { IsQuiet result }
+    ensures services { LoadsQuietly (λ x. x.items) result (services_of document.now version catalogue.now (view v.now)) }
+    ensures known { IfOk result (λ services. AreFewServices catalogue.now services.items) }
 {
     let items = counted_member(v, "services", List::Services, 0, MAX_SERVICES as u32);
     let items = placed(alloc, document, Part::System, items)?;
@@ -50,41 +47,17 @@ fn read_items(
 ) -> Result<Vec<Service>, LoadError>
     requires items { length items.now ≤ MAX_SERVICES }
     requires catalogue { length catalogue.now ≤ MAX_BEHAVIOURS }
-    ensures services { Loads (λ x. x.items) result
+    ensures services { LoadsQuietly (λ x. x.items) result
         (each_item (service_step document.now version catalogue.now) 0 [] (items_view items.now)) }
-    ensures known { IfOk result (λ services. AreServices catalogue.now services.items) }
-    ensures few { IfOk result (λ services. vec_len services ≤ MAX_SERVICES) }
-    ensures quiet { IsQuiet result }
+    ensures known { IfOk result (λ services. AreFewServices catalogue.now services.items) }
 {
     let mut services = Vec::with_capacity(alloc, items.len())?;
     for (i, item) in items.iter().enumerate() {
-        let service = service_at(
-            alloc, document, i as u32, item, version, catalogue, &services,
-        )?;
+        let read = read_service(item, version, catalogue, &services);
+        let service = placed(alloc, document, Part::Service(i as u32), read)?;
         services.push(service)?;
     }
     Ok(services)
-}
-
-/// Reads one service. A refusal names its place.
-fn service_at(
-    alloc: Global,
-    document: &str,
-    number: u32,
-    v: &Value,
-    version: u64,
-    catalogue: &[Behaviour],
-    before: &[Service],
-) -> Result<Service, LoadError>
-    requires { length catalogue.now ≤ MAX_BEHAVIOURS }
-    ensures service { Loads (λ x. x) result
-        (placed document.now (part.Service number) (service_of version catalogue.now before.now (view v.now))) }
-    ensures known { IfOk result (λ service. IsService catalogue.now service) }
-    ensures new { IfOk result (λ service. place_of (map service_name before.now) service.name ≡ None) }
-    ensures quiet { IsQuiet result }
-{
-    let service = read_service(v, version, catalogue, before);
-    placed(alloc, document, Part::Service(number), service)
 }
 
 #[tactic(auto, unfolding(crate::specs::Documents::behaviour_place, roman_parts::specs::Lists::place_in))]

@@ -30,7 +30,7 @@ returns-in_err-services-clause-meaning g c =
     let behaviours : IfSome (g.F.Shelf.texts c.args.shelf.now) (λ texts. catalogue_in texts document env d ≡ Ok catalogue) =
     subst (λ (o : Option Texts). IfSome o (λ texts. catalogue_in texts document env d ≡ Ok catalogue)) c.in_ok-environment.ensures.shelf.texts c.in_ok-catalogue.ensures.catalogue in
     let stops : Stops why (services_of document c.in_ok-version.version catalogue d) =
-    subst (λ (xs : List NamedBeh). Stops why (services_of document c.in_ok-version.version xs d)) c.deref.ensures.value c.in_err-services.ensures.services in
+    subst (λ (xs : List NamedBeh). Stops why (services_of document c.in_ok-version.version xs d)) c.deref.ensures.value c.in_err-services.ensures.services.loads in
     rw (p.1, p.2) (services_stop_all document d c.in_ok-version.version c.in_ok-limit.limit env why versioned limited (g.F.Shelf.texts c.args.shelf.now) catalogue c.in_ok-environment.ensures.environment behaviours stops)
 
 pub returns-in_err-parts-clause-meaning : goal.returns-in_err-parts-clause-meaning
@@ -47,7 +47,7 @@ returns-in_err-parts-clause-meaning g c =
     let behaviours : IfSome (g.F.Shelf.texts c.args.shelf.now) (λ texts. catalogue_in texts document env d ≡ Ok catalogue) =
     subst (λ (o : Option Texts). IfSome o (λ texts. catalogue_in texts document env d ≡ Ok catalogue)) c.in_ok-environment.ensures.shelf.texts c.in_ok-catalogue.ensures.catalogue in
     let served : services_of document c.in_ok-version.version catalogue d ≡ Ok services =
-    subst (λ (xs : List NamedBeh). services_of document c.in_ok-version.version xs d ≡ Ok services) c.deref.ensures.value c.in_ok-services.ensures.services in
+    subst (λ (xs : List NamedBeh). services_of document c.in_ok-version.version xs d ≡ Ok services) c.deref.ensures.value c.in_ok-services.ensures.services.loads in
     let stops : IfSome (g.F.Shelf.texts c.args.shelf.now) (λ texts. Stops why (parts_in texts document c.in_ok-version.version env catalogue d)) =
     subst (λ (o : Option Texts). IfSome o (λ texts. Stops why (parts_in texts document c.in_ok-version.version env catalogue d))) (c.in_ok-catalogue.ensures.shelf.texts ∙ c.in_ok-environment.ensures.shelf.texts) c.in_err-parts.ensures.parts in
     rw (p.1, p.2) (parts_stop document d c.in_ok-version.version c.in_ok-limit.limit env why versioned limited (g.F.Shelf.texts c.args.shelf.now) catalogue services c.in_ok-environment.ensures.environment behaviours served stops)
@@ -60,7 +60,7 @@ returns-clause-known g c =
       environment = is.environment;
       catalogue = is.catalogue;
       few_behaviours = subst (λ (n : ℕ). n ≤ MAX_BEHAVIOURS) (sym is.count) few;
-      services = is.services c.in_ok-services.services.items (subst (λ (xs : List NamedBeh). AreServices xs c.in_ok-services.services.items) c.deref.ensures.value c.in_ok-services.ensures.known);
+      services = is.services c.in_ok-services.services.items (subst (λ (xs : List NamedBeh). AreServices xs c.in_ok-services.services.items) c.deref.ensures.value c.in_ok-services.ensures.known.known);
       few_services = search rules;
       target = is.target;
       limit = placed_keeps (λ (n : ℕ). (0 < n) × (n ≤ MAX_CELLS)) c.args.document.now part.System c.read_limit.result c.in_ok-limit.limit c.read_limit.ensures.within c.in_ok-limit.ensures;
