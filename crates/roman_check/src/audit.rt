@@ -1,12 +1,9 @@
 //! Judges each line of a certificate by the lines read before it.
-ghost use Rattle.std.specs.Prelude.{◌≡◌, ℕ, ◌+◌, ◌*◌, ◌<◌, ◌++◌, false, not, IsTrue, List, [], ◌∷◌, None, Some, length, IfOk, IfSome, if◌then◌else◌};
-ghost use Rattle.std.specs.Option.{option_map};
-ghost use Rattle.roman_model.specs.SystemArena.{same_numbers};
+ghost use Rattle.std.specs.Prelude.{◌≡◌, ℕ, ◌+◌, ◌*◌, ◌<◌, false, not, IsTrue, List, [], None, Some, length, IfOk, IfSome, if◌then◌else◌};
 ghost use Rattle.roman_model.specs.Arena.{Arena, Entry, is_listed};
-ghost use Rattle.roman_model.specs.Certificate.{end_line, entry_of, entries_on, body_fault};
+ghost use Rattle.roman_model.specs.Certificate.{entry_of};
 ghost use Rattle.roman_rules.specs.Asked.{IsReasonOf};
 ghost use Rattle.roman_check.specs.Readings.{entry_with};
-ghost use Rattle.roman_check.specs.Verdicts.{fault_of};
 ghost use Rattle.roman_check.specs.Audits.{IsInRows, IsFront, AnswersReason, CanAsk, HasListed, Judges, TakesEntry};
 
 use crate::entries::{entry, is_count, is_end, is_head};
