@@ -228,7 +228,7 @@ clean_front A text more clean i l = ap₂ (line_fault A) (take_front text more i
 pub clean_push : (A : Arena ℕ) (text : List (List ℕ)) (line : List ℕ) → IsClean A text (length text) → line_fault A text (Some line) ≡ None → IsClean A (text ++ line ∷ []) (length (text ++ line ∷ []))
 clean_push A text line clean none i l = grind (arith, cases_lt, clean_front, get_after, take_at, length-append)
 
--- the fault of the line that follows, or of there being none
+-- the fault of the line that follows, or the fault that none follows
 pub fault_next : (A : Arena ℕ) (text more : List (List ℕ)) (line : List ℕ) → line_fault A (take (length text) (text ++ line ∷ more)) (slice_get (text ++ line ∷ more) (length text)) ≡ line_fault A text (Some line)
 fault_next A text more line = ap₂ (line_fault A) (take_at text (line ∷ more) (length text) refl) (get_after text line more)
 

@@ -85,7 +85,7 @@ abbrev pub unless_over : Option (List ℕ) → Option Why
 unless_over None = None
 unless_over (Some line) = Some Form
 
--- no fault where the entry's pair isn't listed yet and its reason holds, the listed pairs being removed
+-- no fault where the entry's pair isn't listed yet and its reason holds with the listed pairs removed
 abbrev pub entry_fault : Arena ℕ → List (Entry ℕ) → Option (Entry ℕ) → Option Why
 entry_fault A L None = Some Form
 entry_fault A L (Some x) =
@@ -105,7 +105,7 @@ abbrev pub body_fault : Arena ℕ → List (Entry ℕ) → Option (List ℕ) →
 body_fault A L None = Some Form
 body_fault A L (Some line) = if same_numbers end_line line then end_fault A L else entry_fault A L (entry_of (length A.nodes) A.actions line)
 
--- the fault of the line that follows the given ones, or of there being none
+-- the fault of the line that follows the given lines, or the fault that no line follows
 abbrev pub line_fault : Arena ℕ → List (List ℕ) → Option (List ℕ) → Option Why
 line_fault A [] line = unless_is head_line line
 line_fault A (head ∷ []) line = unless_is (count_line (length A.nodes)) line

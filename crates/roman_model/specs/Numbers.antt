@@ -21,7 +21,7 @@ sizes_of s = record { target = s.target.states; env = s.env.states; seats = map 
 abbrev pub AreBelow : List ℕ → List ℕ → Type 0
 AreBelow sizes bs = AllZip (λ size b. b < size) sizes bs
 
--- each number of the pair is below its size
+-- each state of the pair is below its size, and there is one for each seat
 pub record IsPairOf (n : Sizes) (p : Pair) : Type 0 where
   pub t : p.t < n.target
   pub e : p.e < n.env

@@ -48,8 +48,7 @@ pub fn plans_cost_least()
     ensures least { PlansCostLeast }
 {}
 
-/// A system that lacks one or two of its seats, gone or frozen, equals the system after as many
-/// changes.
+/// A system with one or two of its seats frozen or gone equals the system after that many changes.
 #[tactic(auto, using(crate::proofs::WithoutLemmas::without_changes))]
 pub fn without_by_changes()
     ensures there { WithoutByChanges }

@@ -9,11 +9,12 @@
 //! over any set of nodes, `SystemArena` a system as such a set, and `CompleteLists` complete removal
 //! lists. `Numbers` has the numbers of pairs. `Change` has removal lists after a change of the
 //! services, and `NumberedChange` the same over numbers. `Play` has the opponent's game. `Certificate`
-//! and `Explanation` have their texts. `Plans` has the worst-case costs of delegations, and `Without`
-//! systems that lack some of their seats. `Several` has the simulations of several targets, and
-//! `Combined` the one system that combines them. `Lists` and `Lines` have definitions on lists,
-//! numbers and texts. `Laws` has the laws on settled removal lists. Each law is the contract of a
-//! function with an empty body. Laws that only readers need are in `roman_laws`.
+//! has the text of a certificate, and `Explanation` that of an explanation. `Plans` has the worst-case
+//! costs of delegations, and `Without` systems that lack some of their seats. `Several` has the
+//! simulations of several targets, and `Combined` the one system that combines them. `Lists` and
+//! `Lines` have definitions on lists, numbers and texts. `Laws` has the laws on settled removal lists.
+//! Each law is the contract of a function with an empty body. Laws that only readers need are in
+//! `roman_laws`.
 #![tactic(auto)]
 
 mod certificates;

@@ -6,7 +6,7 @@ pub enum Reason {
     /// Clause 2 of an ND-simulation fails: the target is in a final state, and some service that
     /// rests isn't.
     Final,
-    /// The target allows this action at the pair, and each service has no outcome on it, or an
-    /// outcome whose pair was removed before.
+    /// The target allows this action at the pair, and each service has no outcome on it, or has one
+    /// that was removed before.
     Act(u8),
 }
