@@ -61,9 +61,10 @@ abbrev pub since : List Choice → List Choice → List Choice
 since h [] = h
 since h (m ∷ ms) = since (m ∷ h) ms
 
--- the controllers that realise the target from a pair: there is one exactly where the pair is related; they are exactly those that take
--- offers, and stay at related pairs; each wish is fulfilled by one of them wherever it is offered; each run that takes offers is a history
--- of one of them; and the visible part of the history is enough for each
+-- the controllers that realise the target from a pair: there is one exactly where the pair is related;
+-- they are exactly those that take offers, and stay at related pairs; for any controller, one of them
+-- chooses the same seat wherever that seat is offered; each run that takes offers is a history of one of
+-- them; and the visible part of the history is enough for each
 pub record RealisersTakeOffers (s : Sys) (p : Pair) : Type 0 where
   pub some : Great s p ↔ ((P : Controller) × Realises s P p)
   pub takers : (P : Controller) → Realises s P p ↔ (Great s p × TakesOffers s P p)

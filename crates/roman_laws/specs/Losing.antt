@@ -22,9 +22,10 @@ ArePart K J = (k : ℕ) → IsIn k K → IsIn k J
 abbrev pub MayGoAt : Sys → Pair → ℕ → Type 0
 MayGoAt s p k = (seat : Seat) × (slice_get s.seats k ≡ Some seat) × IsTrue (may_go k seat p)
 
--- freezing one seat, more seats or any seats relates no further pair, and neither does the death of seats that may go. (A seat that rests
--- outside a final state keeps the pair unrelated, also where it is frozen, and its death may help.) Where the target is final, each seat of
--- a related pair may go.
+-- a pair that is related with more seats frozen is related with fewer or none, and the same holds for
+-- deaths of seats that may go. (A seat that rests outside a final state keeps the pair unrelated, also
+-- where it is frozen, and its death may help.) Where the target is final, each seat of a related pair
+-- may go.
 pub record LossNeverHelps (s : Sys) (p : Pair) : Type 0 where
   pub one_frozen : (k : ℕ) → Great (after (change.Freeze k) s) p → Great s p
   pub more_frozen : (K J : List ℕ) → ArePart K J → GreatWithout way.Freeze s p J → GreatWithout way.Freeze s p K

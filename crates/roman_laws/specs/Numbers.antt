@@ -1,4 +1,4 @@
--- The numbers of pairs, those of a system's pairs and those of any sizes, within the limits of documents or not.
+-- The numbers of a system's pairs, and of the pairs of any sizes, within the limits of documents or not.
 use Rattle.std.specs.Prelude.{◌≡◌, ℕ, ◌<◌, List}
 use Rattle.roman_model.specs.Lists.{product_of}
 use Rattle.roman_model.specs.System.{Sys, Pair, IsSys}

@@ -47,8 +47,8 @@ pub fn following_stays()
 
 /// The allowed actions, the outcomes and clause 2 agree with the steps of the system. An action is
 /// allowed exactly where a target step by it exists. A pair is an outcome exactly where a target step
-/// and a system step lead to it. Clause 2 asks each seat that rests. The tests of triples, steps and
-/// final states are membership in their lists.
+/// and a system step lead to it. Clause 2 requires a final state of each seat that rests, where the
+/// target is in one. The tests of triples, steps and final states are membership in their lists.
 pub fn outcomes_are_steps()
     ensures outcomes { OutcomesAreSteps }
     ensures listed { TestsAreMembership }

@@ -25,8 +25,8 @@ pub use definitions::{
 };
 
 /// Some controller realises the target from a pair exactly where the pair is related. The controllers
-/// that realise it are exactly those that take offers. Each wish that is offered is fulfilled by one
-/// of them, and none needs to see the target's state.
+/// that realise it are exactly those that take offers. For any controller, one of them chooses the
+/// same service wherever that service is offered. None needs to see the target's state.
 #[tactic(auto, using(crate::proofs::ControllerLemmas::generator_all))]
 pub fn controllers_take_offers()
     ensures controllers { ControllersTakeOffers }
