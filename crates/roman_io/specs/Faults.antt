@@ -9,7 +9,7 @@ one_more n = min (n + 1) (2 ^ 64 - 1)
 abbrev pub Rose : ℕ → ℕ → Type 0
 Rose before now = one_more before ≤ now
 
--- the count of a call never falls, stays the same at an Ok, and rises at an Err
+-- the count of faults never falls in a call: it stays the same at an Ok, and rises at an Err
 pub record HasCause {T E : Type 0} (before now : ℕ) (result : Result T E) : Type 0 where
   pub later : before ≤ now
   pub stays : OnOk result (now ≡ before)

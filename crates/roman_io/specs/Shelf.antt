@@ -15,7 +15,8 @@ text_at (t ∷ ts) name = if bytes_eq t.0 name then Some t.1 else text_at ts nam
 abbrev pub shelf_text : Texts → List ℕ → List ℕ
 shelf_text ts name = unwrap_or (text_at ts name) []
 
--- the text is shorter than 2^63 bytes, the first n bytes of `into` are those of the text from `at` on, and where `into` has a place n is 0 exactly at or past the end of the text
+-- the text is shorter than 2^63 bytes, the first n bytes of `into` are those of the text from `at` on,
+-- and for a non-empty `into`, n is 0 exactly at or past the end of the text
 pub record Fetches (text : List ℕ) (at : ℕ) (into : List ℕ) (n : ℕ) : Type 0 where
   pub short : length text < 2 ^ 63
   pub within : n ≤ length (drop at text)

@@ -3,8 +3,8 @@ ghost use Rattle.std.specs.Prelude.{◌≡◌, ℕ, ◌+◌, ◌/◌, ◌⊎◌,
 ghost use Rattle.roman_io.specs.Memory.{texts_of};
 ghost use Rattle.roman_io.specs.Shelf.{Fetches, text_at};
 
-/// Copies as many bytes as `into` has room for from the beginning of `from` to the beginning of
-/// `into`. Returns their number.
+/// Copies bytes from the beginning of `from` to the beginning of `into`, until either ends. Returns
+/// their number.
 pub fn copy_prefix(from: &[u8], into: &mut [u8]) -> usize
     ensures count { result ≡ min (length from.now) (length into.new) }
     ensures bytes { take result into.new ≡ take result from.now }
@@ -14,8 +14,8 @@ pub fn copy_prefix(from: &[u8], into: &mut [u8]) -> usize
     count
 }
 
-/// Copies as many bytes as `into` has room for from place `at` of a text to the beginning of `into`.
-/// Returns their number, which is 0 at or past the end of the text.
+/// Copies bytes of a text from place `at` on to the beginning of `into`, until either ends. Returns
+/// their number, which is 0 at or past the end of the text.
 pub fn copy_from(text: &[u8], at: u64, into: &mut [u8]) -> usize
     requires { length text.now < 2 ^ 63 }
     ensures count { result ≡ min (length (drop at text.now)) (length into.new) }
@@ -41,7 +41,8 @@ pub fn find_text<'a>(files: &'a [(String, Vec<u8>)], name: &str) -> Option<&'a [
     None
 }
 
-/// Copies as many bytes as `into` has room for, from place `at` on. Returns their number.
+/// Copies bytes from place `at` on to the beginning of `into`, until either ends. Returns their
+/// number.
 pub fn copy_rest(bytes: &[u8], at: usize, into: &mut [u8]) -> usize
     requires { at ≤ length bytes.now }
     ensures count { result ≡ min (length (drop at bytes.now)) (length into.new) }
@@ -51,7 +52,7 @@ pub fn copy_rest(bytes: &[u8], at: usize, into: &mut [u8]) -> usize
     copy_prefix(&bytes[at..], into)
 }
 
-/// Copies at most `piece` bytes, and at most as many as `into` has room for, from place `at` on.
+/// Copies at most `piece` bytes from place `at` on to the beginning of `into`, until either ends.
 /// Returns their number.
 pub fn copy_piece(bytes: &[u8], at: usize, piece: usize, into: &mut [u8]) -> usize
     requires { at ≤ length bytes.now }
@@ -63,7 +64,7 @@ pub fn copy_piece(bytes: &[u8], at: usize, piece: usize, into: &mut [u8]) -> usi
     copy_rest(bytes, at, &mut into[..room])
 }
 
-/// Appends the first half of a piece, rounded down. Appends nothing where memory is refused.
+/// Appends the first half of a piece, rounded down. Appends nothing when out of memory.
 pub fn append_half(written: &mut Vec<u8>, piece: &[u8])
     ensures half { (written.new.items ≡ written.old.items) ⊎ (written.new.items ≡ written.old.items ++ take (length piece.now / 2) piece.now) }
     ensures prefix { (n : ℕ) × (written.new.items ≡ written.old.items ++ take n piece.now) }

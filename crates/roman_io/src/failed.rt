@@ -2,7 +2,7 @@
 use std::error::Error;
 use std::fmt;
 
-/// The error of a shelf, a source or a sink that failed. Its count of faults rose in the call.
+/// The error of a call to a shelf, a source or a sink. The call counted a fault.
 #[derive(Clone, Copy, Debug, PartialEq, Eq)]
 pub struct Failed;
 

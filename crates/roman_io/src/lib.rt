@@ -1,8 +1,8 @@
 //! The interface of the engine to the outside as traits, with objects in memory that implement them.
 //!
 //! A [`Shelf`] has texts by name, a [`Source`] gives bytes, and a [`Sink`] takes bytes. Each object
-//! counts its faults. A call returns [`Failed`] exactly when it raises that count, and a full counter
-//! stays full. Contracts can speak of the content of an object only if its type exposes it. The
+//! counts its faults. The count rises exactly in the calls that return [`Failed`], until it reaches
+//! `u64::MAX`. Contracts can speak of the content of an object only if its type exposes it. The
 //! objects in memory do, and adapters to a file or a terminal can't. [`Words`] has the words of a
 //! command. [`Steps`] counts work, for contracts alone. `specs/` states what each call gives and
 //! takes.

@@ -38,7 +38,7 @@ impl MemSink {
         }
     }
 
-    /// Returns the bytes that were written, with those of failed calls.
+    /// Returns the bytes that were written, including those of failed calls.
     pub fn bytes(&self) -> &[u8]
         ensures { result.now ≡ self.now.written }
     {

@@ -13,8 +13,8 @@ pub trait Shelf {
     /// counts.
     ghost texts: { Self → Option Texts };
 
-    /// The number of faults so far, at most `u64::MAX`. The count never falls. It rises exactly in
-    /// the calls that return [`Failed`], and a full counter stays full.
+    /// The number of faults so far. The count never falls. It rises exactly in the calls that
+    /// return [`Failed`], until it reaches `u64::MAX`.
     ghost faults: { Self → ℕ };
 
     /// Copies bytes of the text `name`, from byte `at` on, counted from 0, to the beginning of

@@ -11,8 +11,8 @@ pub trait Sink {
     /// The bytes that were written, if the type exposes them.
     ghost written: { Self → Option (List ℕ) };
 
-    /// The number of faults so far, at most `u64::MAX`. The count never falls. It rises exactly in
-    /// the calls that return [`Failed`], and a full counter stays full.
+    /// The number of faults so far. The count never falls. It rises exactly in the calls that
+    /// return [`Failed`], until it reaches `u64::MAX`.
     ghost faults: { Self → ℕ };
 
     /// Appends the whole piece, which may have any length. Fails only where the count of faults

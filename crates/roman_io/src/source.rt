@@ -12,8 +12,8 @@ pub trait Source {
     /// The bytes that the source hasn't given yet, if the type exposes them.
     ghost rest: { Self → Option (List ℕ) };
 
-    /// The number of faults so far, at most `u64::MAX`. The count never falls. It rises exactly in
-    /// the calls that return [`Failed`], and a full counter stays full.
+    /// The number of faults so far. The count never falls. It rises exactly in the calls that
+    /// return [`Failed`], until it reaches `u64::MAX`.
     ghost faults: { Self → ℕ };
 
     /// The name, in proofs, of the borrow through which the source reads, or 0 where it borrows

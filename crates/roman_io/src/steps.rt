@@ -21,8 +21,8 @@ impl<L: Ledger> Model for Steps<L> {
 }
 
 impl<L: Ledger> Steps<L> {
-    /// Returns a counter at 0 on its own ledger. Requires a blank with as many parts as the ledger
-    /// `L`.
+    /// Returns a counter at 0 on its own ledger. Requires a blank with the name of the ledger `L`
+    /// and as many parts, at least one.
     pub fn new(blank: Blank) -> Steps<L>
         requires name { blank.name ≡ L.name }
         requires parts { blank.parts ≡ L.parts }
