@@ -2,8 +2,8 @@
 //!
 //! A [`Name`] is a short word that is kept in place. A [`NameTable`] numbers names in the order in
 //! which they were added. [`parse`] reads a text. [`member`], [`text`], [`list`], [`number`] and
-//! [`truth`] look into its value, and return the broken rule where they find nothing. [`Kind`] names
-//! all rules of a document. `specs/Names` defines names, and `specs/Json` the content of values.
+//! [`truth`] look into its value, and return the broken rule where they fail. [`Kind`] names all
+//! rules of a document. `specs/Names` defines names, and `specs/Json` the content of values.
 #![tactic(auto)]
 
 mod looks;

@@ -1,11 +1,11 @@
-//! Looks into a value. They take no memory.
+//! Look-ups in a JSON value. They take no memory.
 ghost use Rattle.serde_json.specs.View.{view, items_view};
 ghost use Rattle.roman_read.specs.Json.{Finds, member_of, text_of, list_of, number_of, truth_of};
 
 use crate::rules::Miss;
 use serde_json::Value;
 
-/// Returns the member of an object with this name. Fails with `Form` exactly where the value isn't an
+/// Returns the object's member with this name. Fails with `Form` exactly where the value isn't an
 /// object, and with `Missing` exactly where it is an object without such a member.
 pub fn member<'a>(v: &'a Value, name: &str) -> Result<&'a Value, Miss>
     ensures member { Finds (λ x. view x.now) result (member_of (view v.now) name.now) }

@@ -64,8 +64,8 @@ impl Name {
         &self.bytes[..self.len as usize]
     }
 
-    /// Returns the bytes of the name, padded with zeros to 32 bytes. A copy of all of them takes a
-    /// processor a few steps, whatever the length of the name is.
+    /// Returns the bytes of the name, padded with zeros to 32 bytes. Copying all 32 takes a
+    /// processor only a few steps, whatever the length of the name.
     #[inline]
     pub fn padded(&self) -> &[u8; LONGEST]
         ensures { take (length self.now) result.now ≡ self.now }

@@ -57,13 +57,13 @@ impl Kind {
     }
 }
 
-/// The error of a look into a value.
+/// Why a look-up in a value failed.
 #[derive(Clone, Copy, Debug, PartialEq, Eq, Error)]
 pub enum Miss {
     /// The member is missing.
     #[error("a member is missing")]
     Missing,
-    /// The value has another shape.
+    /// The value has the wrong shape.
     #[error("a value has the wrong shape")]
     Form,
 }

@@ -9,7 +9,7 @@ use std::alloc::{AllocError, Global};
 use std::marker::Model;
 use thiserror::Error;
 
-/// The greatest number of names that are searched one by one, which is faster than hashing.
+/// A table of at most this many names is searched name by name, which is faster than hashing.
 const FEW: usize = 8;
 
 /// A list of distinct names, numbered from 0 in the order in which they were added. Contracts see the
