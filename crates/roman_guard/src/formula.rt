@@ -12,7 +12,7 @@ pub enum Guard {
     Never,
     /// Holds in the listed states.
     Among(Vec<u8>),
-    /// Holds where the guard doesn't hold.
+    /// Holds where the inner guard doesn't hold.
     Not(Box<Guard>),
     /// Holds where each of the guards holds. An empty list holds everywhere.
     Both(Vec<Guard>),
