@@ -11,7 +11,7 @@ pub record HasLanes (lanes row : ℕ) (test : ℕ → Bool) (word : ℕ) : Type 
   pub each : (lane : ℕ) → lane < lanes → is_on word lane ≡ test (row * lanes + lane)
   pub rest : (lane : ℕ) → lanes ≤ lane → is_on word lane ≡ false
 
--- in each word exactly the bits of those numbers of its row are set that pass the test
+-- in each word, exactly the bits of the numbers of its row that pass the test are set
 pub record AreRows (lanes : ℕ) (test : ℕ → Bool) (words : List ℕ) : Type 0 where
   pub each : (row : ℕ) → row < length words → HasLanes lanes row test (slice_index words row)
 

@@ -16,8 +16,8 @@ pub fn count_equal(values: &[u32], value: u32) -> usize
     count + equal_cells(&values[blocks * LANES..], value)
 }
 
-/// Returns how many of the numbers are `value`, by a plain loop. Counts the numbers after the last
-/// whole block.
+/// Returns how many of the numbers are `value`, by a plain loop. [`count_equal`] uses it for the
+/// numbers after the last whole block.
 fn equal_cells(values: &[u32], value: u32) -> usize
     ensures counted { result ≡ count_by (λ x. x == value) values.now }
     ensures bound { result ≤ length values.now }

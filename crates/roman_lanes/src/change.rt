@@ -54,7 +54,7 @@ fn change_if_any<const N: usize, C: ChangeOf<N>>(change: &C, words: &mut [u64], 
     }
 }
 
-/// Makes the change to all words from `at` on. These are fewer than eight.
+/// Makes the change to all words from `at` on. Requires fewer than eight of them.
 #[inline(always)]
 fn change_rest<C: ChangeOf<4> + ChangeOf<2> + ChangeOf<1>>(change: &C, words: &mut [u64], at: usize)
     requires at { at ≤ length words.old }
@@ -68,7 +68,7 @@ fn change_rest<C: ChangeOf<4> + ChangeOf<2> + ChangeOf<1>>(change: &C, words: &m
 }
 
 /// Makes the change to each word of the slice: to eight words at a time, and then to four, two and one
-/// of the rest. A slice of a single word, as the shortest runs are, is changed without these steps.
+/// of the rest. A slice of a single word is changed at once.
 #[inline(always)]
 pub fn change_each<C: ChangeOf<8> + ChangeOf<4> + ChangeOf<2> + ChangeOf<1>>(
     change: &C,

@@ -31,7 +31,7 @@ impl<const N: usize> ChangeOf<N> for Meeting<'_> {
     }
 }
 
-/// Returns, for each word of `words`, its lanes without the lanes of the word of `other` at its place.
+/// Returns each word of `words` without the lanes set in the word of `other` at the same place.
 #[inline(always)]
 pub fn without<const N: usize>(words: Simd<u64, N>, other: Simd<u64, N>) -> Simd<u64, N>
     ensures long { length result ≡ N }
@@ -66,8 +66,8 @@ impl<const N: usize> ChangeOf<N> for Taking<'_> {
     }
 }
 
-/// Clears, in each word, the bits that aren't set in the word of `with` at its place. `with` can be the
-/// longer slice.
+/// Clears, in each word, the bits that aren't set in the word of `with` at the same place. `with` can
+/// be the longer slice.
 pub fn both(words: &mut [u64], with: &[u64])
     requires { length words.old ≤ length with.now }
     ensures long { length words.new ≡ length words.old }
@@ -76,8 +76,8 @@ pub fn both(words: &mut [u64], with: &[u64])
     change_each(&Meeting { with }, words);
 }
 
-/// Clears, in each word, the lanes that are set in the word of `other` at its place. `other` can be the
-/// longer slice.
+/// Clears, in each word, the lanes that are set in the word of `other` at the same place. `other` can
+/// be the longer slice.
 pub fn less(words: &mut [u64], other: &[u64])
     requires { length words.old ≤ length other.now }
     ensures long { length words.new ≡ length words.old }

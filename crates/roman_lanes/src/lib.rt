@@ -1,4 +1,4 @@
-//! Kernels over large slices of words and numbers, and the definitions by which words are rows of
+//! Kernels over large slices of words and numbers, and the definitions that read words as rows of
 //! flags.
 //!
 //! Each kernel goes over the slice block by block, by `std::simd`, and then over the rest one by one.
