@@ -22,8 +22,8 @@ const MAX_LANES: u32 = 64;
 /// A pair has the target's state t, the environment's state e and the states b1, b2, .. of the
 /// components. Its number is `((t * E + e) * s1 + b1) * s2 + b2` and so on, where E is the
 /// environment's size and s1, s2, .. are the sizes of the components. A shape also keeps strides: the
-/// stride of a part is what one more of its states adds to a number. So one product changes a state in
-/// a pair's number.
+/// stride of a part is what one more of its states adds to a number. So changing one state of a pair
+/// takes one multiplication.
 ///
 /// A shape is `Copy`, and no call takes memory. Numbers that are passed must be in range: pairs below
 /// [`pairs`](Shape::pairs), components below [`components`](Shape::components), and states below their
@@ -91,9 +91,10 @@ impl Shape {
         let _pairs = &self.pairs;
     }
 
-    /// Returns the number of components before the lanes. The lanes are the last components, as many
-    /// of them as have sizes whose product is at most 64. At all pairs of a row the target, the
-    /// environment and each component before the lanes have the same state.
+    /// Returns the number of components before the lanes. The components within the lanes are the
+    /// last ones, as many of them as have sizes whose product is at most 64. They give a pair's
+    /// lane. At all pairs of a row the target, the environment and each component before the lanes
+    /// have the same state.
     pub fn low(&self) -> u8
         ensures value { result ≡ low_of self.now.seats }
         ensures within { result ≤ length self.now.seats }
@@ -258,8 +259,8 @@ impl Shape {
     }
 
     /// Returns the shape with one more component of the given size, at the end. Requires a size of at
-    /// least 1, and fewer than 32 components before. Returns `None` exactly where there would be more
-    /// than `cap` pairs.
+    /// least 1, and a shape with fewer than 32 components. Returns `None` exactly where there would
+    /// be more than `cap` pairs.
     pub fn grow(&self, size: u8, cap: u32) -> Option<Shape>
         requires size { 0 < size }
         requires few { length self.now.seats < MAX_SERVICES }
@@ -286,8 +287,8 @@ impl Shape {
     }
 
     /// Returns the number of pair `p` after a component of the given size is added at the end, in
-    /// state `b`. Requires fewer than 32 components before, and that the number of grown pairs fits in
-    /// 32 bits.
+    /// state `b`. Requires a shape with fewer than 32 components, and at most 2^32 - 1 pairs of the
+    /// grown shape.
     pub fn grown(&self, p: u32, size: u8, b: u8) -> u32
         requires pair { p < count self.now }
         requires state { b < size }
@@ -328,7 +329,7 @@ fn quotient(n: u32, size: u8) -> u32
     }
 }
 
-/// Returns the quotient and the remainder of `n` by `size`.
+/// Returns the quotient and the remainder of `n` divided by `size`.
 fn divided(n: u32, size: u8) -> (u32, u8)
     requires { 0 < size }
     ensures whole { result.0 ≡ n / size }
