@@ -7,7 +7,7 @@ use Rattle.roman_model.specs.declared.reason.Reason.{Reason}
 use Rattle.roman_model.specs.declared.reason.Reason.TheVariants.{Final, Act}
 use Rattle.roman_rules.specs.declared.asked.Asked.{Asked}
 
--- with these pairs gone, the reason holds at each pair of the row whose lane is kept
+-- with these pairs gone, the reason holds at each pair of the row whose lane is recorded as known
 pub record HoldsWhereKept (A : Arena ℕ) (lanes : ℕ) (gone : ℕ → Bool) (asked : Asked) : Type 0 where
   pub each : (lane : ℕ) → lane < lanes → is_on asked.lanes lane ≡ true → IsTrue (is_justified A gone (asked.row * lanes + lane) asked.reason)
 

@@ -126,7 +126,7 @@ impl Asked {
     }
 
     /// Returns the lanes of the row `x` at which the reason is known to hold. Returns no lane where
-    /// another row was asked last, or about another reason.
+    /// the last question was about another row or another reason.
     #[tactic(auto, using(std::proofs::lemmas::Bool::both_ways, roman_lanes::proofs::CallerLemmas::on_zero))]
     pub fn known_at(&self, x: u32, reason: Reason) -> u64
         ensures { (A : Arena ℕ) (lanes : ℕ) (gone : ℕ → Bool) → HoldsWhereKept A lanes gone self.now →
@@ -209,8 +209,8 @@ impl Asked {
     /// that aren't gone. Requires that the reason's action, if any, is an action of the system, and
     /// that each pair that was gone when the row was asked is still gone.
     ///
-    /// Asks nothing where the answer is known: the pair lies in the row that was asked last, about the
-    /// same reason, and the reason held at the pair. Afterwards, `row` is the row of the pair.
+    /// Asks nothing where the answer is known: where the last question was about the pair's row and
+    /// the same reason, and the reason held at the pair. Afterwards, `row` is the row of the pair.
     ///
     /// Counts a step for each ready seat where the row is asked about an action that is allowed there,
     /// and otherwise none.

@@ -1,14 +1,14 @@
 //! The result of examining the outcomes of a delegation.
 
-/// The result of examining the outcomes of a delegation: the pairs to which an action can lead that is
-/// delegated to a service.
+/// The result of examining the outcomes of a delegation: the pairs to which the delegated action can
+/// lead.
 #[derive(Clone, Copy, Debug, PartialEq, Eq)]
 pub enum Finding {
-    /// There is an outcome, and the pair of each outcome is alive.
+    /// There is an outcome, and each outcome is alive.
     Good,
     /// There is no outcome.
     NoOutcome,
-    /// The pair of some outcome isn't alive. This is the first such outcome, ordered by the
+    /// Some outcome isn't alive. The fields describe the first such outcome, ordered by the
     /// environment's state and then by the service's.
     Leaves {
         /// The environment's state in that outcome.

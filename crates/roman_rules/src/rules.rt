@@ -181,8 +181,8 @@ pub trait Rules {
     /// Marks each band with a pair that has a pair of the given band as an outcome. It can mark other
     /// bands as well. `marks` has one flag for each band, 64 to a word. Flags that are set stay set.
     ///
-    /// Counts as many steps as delegations to seats before the band's own lead to one pair of the
-    /// band. That number is the same for each pair of the band.
+    /// Counts one step for each delegation to a seat before the band's own that leads to a given
+    /// pair of the band. That number is the same for each pair of the band.
     fn mark_before<L: Ledger>(&self, row: &Self::Row, marks: &mut [u64], steps: &mut Steps<L>)
         requires row { (y : ℕ) × is_row self.now (y * band self.now) row.now }
         requires room { length (arena self.now).nodes ≤ 64 * length marks.old * band self.now * lanes self.now }
@@ -195,7 +195,7 @@ pub trait Rules {
             steps.new ≡ steps.old + count_by (λ d. ltb d.seat (mid self.now)) (predecessors (arena self.now) ((y * band self.now + i) * lanes self.now + lane)) };
 
     /// Examines the outcomes of the action `a` at the pair `p`, delegated to seat `k`, and finds the
-    /// first whose pair isn't alive. Requires that the action is allowed at the pair, that the seat is
+    /// first that isn't alive. Requires that the action is allowed at the pair, that the seat is
     /// ready, and that `alive` can be called at every pair. Counts exactly one step.
     fn examine<F: Fn(u32) -> bool, L: Ledger>(
         &self,
