@@ -13,16 +13,16 @@ use Rattle.roman_parts.specs.declared.error.List.{List as Place}
 use Rattle.roman_parts.specs.declared.error.PartError.{PartError}
 use Rattle.roman_parts.specs.declared.error.PartError.TheVariants.{Refused, Memory}
 
--- the value that a look finds, and the refusal at the place where it misses
+-- the value that a look-up finds, or the refusal of its miss, with the place
 abbrev pub looked : {X : Type 0} → Place → ℕ → Result X Miss → Result X PartError
 looked list i (Ok x) = Ok x
 looked list i (Err miss) = Err (Refused (kind_of miss) list i)
 
--- the value, and the refusal where there is none
+-- the value, or the refusal where there is none
 abbrev pub found : {X : Type 0} → Kind → Place → ℕ → Option X → Result X PartError
 found rule list i there = ok_or there (Refused rule list i)
 
--- the value where it keeps the rule, and the refusal where it doesn't
+-- the value where it keeps the rule, or the refusal where it doesn't
 abbrev pub check : {X : Type 0} → Bool → Kind → Place → ℕ → X → Result X PartError
 check keeps rule list i x = if keeps then Ok x else Err (Refused rule list i)
 

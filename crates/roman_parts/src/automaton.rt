@@ -13,7 +13,7 @@ use roman_model::{MAX_ACTIONS, MAX_STATES};
 use std::alloc::{AllocError, Global};
 use std::marker::Model;
 
-/// Finite sets of states and final states, a start state and guarded steps. Contracts see the record
+/// A finite set of states, a start state, final states and guarded steps. Contracts see the record
 /// in normal form, and the numbers of states and actions of its environment.
 #[derive(Drop)]
 pub(crate) struct Automaton {

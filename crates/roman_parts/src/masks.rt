@@ -41,7 +41,7 @@ impl Cells {
         self.states * self.env_states * self.actions
     }
 
-    /// Returns the cell of a state, an environment state and an action.
+    /// Returns the number of the cell of a state, an environment state and an action.
     pub(crate) fn at(&self, b: u8, e: u8, a: u8) -> usize
         requires state { b < self.now.states }
         requires env_state { e < self.now.env_states }
@@ -53,7 +53,7 @@ impl Cells {
     }
 }
 
-/// Returns for each state and action the states to which the steps lead.
+/// Returns, for each state and action, the states to which the steps lead.
 pub(crate) fn next_masks(
     alloc: Global,
     states: usize,
@@ -73,7 +73,7 @@ pub(crate) fn next_masks(
     Ok(masks)
 }
 
-/// Returns for each state and action the states from which the steps lead there.
+/// Returns, for each state and action, the states from which the steps lead to that state.
 pub(crate) fn prev_masks(
     alloc: Global,
     states: usize,
@@ -93,7 +93,7 @@ pub(crate) fn prev_masks(
     Ok(masks)
 }
 
-/// Returns for each state, environment state and action the states to which the steps go.
+/// Returns, for each state, environment state and action, the states to which the steps go.
 pub(crate) fn out_masks(
     alloc: Global,
     cells: Cells,
@@ -110,7 +110,8 @@ pub(crate) fn out_masks(
     Ok(masks)
 }
 
-/// Returns for each state, environment state and action the states from which the steps go there.
+/// Returns, for each state, environment state and action, the states from which the steps go to that
+/// state.
 pub(crate) fn into_masks(
     alloc: Global,
     cells: Cells,

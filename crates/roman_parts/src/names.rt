@@ -62,8 +62,8 @@ pub(crate) fn name_in(v: &Value, place: List, index: u32) -> Result<Name, PartEr
 }
 
 /// Returns the place of the name in a value, among at most 64 names. Fails with `Refused` exactly
-/// where the value isn't a text, or is none of the names. The refusal names item `index` of the list
-/// `place`. Takes no memory.
+/// where the value isn't a text, or isn't one of the names. The refusal names item `index` of the
+/// list `place`. Takes no memory.
 #[tactic(auto, unfolding(crate::specs::Lists::place_in))]
 pub fn place_in(names: &NameTable, v: &Value, place: List, index: u32) -> Result<u8, PartError>
     requires few { length names.now ≤ 64 }

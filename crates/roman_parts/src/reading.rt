@@ -1,4 +1,4 @@
-//! Looks into a part. Each refusal states its place.
+//! Look-ups in a part of a document. Each refusal states its place.
 ghost use Rattle.std.specs.Prelude.{◌≡◌, ◌≤◌, length, IfOk};
 ghost use Rattle.serde_json.specs.View.{view, items_view};
 ghost use Rattle.roman_read.specs.Json.{list_of};
