@@ -11,13 +11,13 @@ use roman_model::Reason;
 pub struct Ahead {
     // the rest of an event
     pub(crate) event: Event,
-    // a guess of the place of the next event among all; a wrong one costs a search
+    // a guess of the place of the next event; a wrong guess costs a search
     pub(crate) next: usize,
 }
 
 impl Ahead {
     /// Returns an `Ahead` without entries, for any list. The walk first looks for its next entries in
-    /// the event at place `next` of all. If they aren't there, it searches for them.
+    /// the event at place `next`. If they aren't there, it searches for them.
     pub fn nothing(next: usize) -> Ahead
         ensures { (order : Board) (i : ℕ) → IsAhead order i result }
     {

@@ -28,8 +28,8 @@ const PIECE: usize = 256;
 /// for, each pair's place in the list.
 ///
 /// An order is shaped for a number of rows and lanes: pair p is lane `p % lanes` of row `p / lanes`.
-/// Pairs and rows that are passed must be in range for this shape. Nothing is refused as long as there
-/// are at most as many pairs as the order has room for.
+/// Pairs and rows that are passed must be in range for this shape. The shape has at most as many pairs
+/// as the order has room for, so no call runs out of room.
 #[derive(Drop)]
 pub struct Order {
     // the greatest number of pairs
@@ -38,7 +38,8 @@ pub struct Order {
     lanes: u32,
     // the number of entries of the list
     count: u32,
-    // the waiting entries are those of the events from here on, of rows with this many lanes
+    // the first event of `waiting` that still waits, and the number of lanes in the rows of these
+    // events
     next: usize,
     waiting_lanes: u32,
     // where the search for marks continues
@@ -137,8 +138,8 @@ impl Order {
         })
     }
 
-    /// Makes this order equal to `from`, in one pass over the contents of its tables, however much
-    /// they have room for. Requires that `from` has the same room and no waiting entries. Takes no
+    /// Makes this order equal to `from`, in one pass over the contents of its tables, whatever
+    /// their capacity. Requires that `from` has the same room and no waiting entries. Takes no
     /// memory.
     pub fn reset_to(&mut self, from: &Order)
         requires room { self.old.cap_pairs ≡ from.now.cap_pairs }

@@ -4,8 +4,8 @@ ghost use Rattle.std.specs.Prelude.{◌≡◌, ◌≤◌, [], ◌∷◌, ◌++�
 use super::Order;
 
 impl Order {
-    /// Ends a level at the present end of the list. Requires at most as many levels as the order has
-    /// room for pairs.
+    /// Ends a level at the present end of the list. Requires at most as many levels before as the
+    /// order has room for pairs.
     pub fn end_level(&mut self)
         requires { length self.old.levels ≤ self.old.cap_pairs }
         ensures { self.new ≡ record self.old { levels = self.old.levels ++ length self.old.list ∷ [] } }

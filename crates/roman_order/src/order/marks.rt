@@ -38,10 +38,11 @@ impl Order {
         flags::set_front(&mut self.marks, end);
     }
 
-    /// Clears one mark, and returns its number. Returns `None` only where no number below `end` is
-    /// marked, and exactly there if `end` is a multiple of 64. The search continues where the last mark
-    /// was found, and goes round once, so marks are returned in turns, not in order of size. It reads
-    /// the words of the numbers below `end`, and can also find a mark next to them in the last word.
+    /// Clears one mark, and returns its number. Searches the words with the flags of the numbers below
+    /// `end`. If `end` isn't a multiple of 64, the last of these words also has flags of higher
+    /// numbers, and the search can find those. Returns `None` exactly where none of these words has a
+    /// set flag. The search continues at the word of the last mark found, and goes round once, so the
+    /// numbers don't come in rising order.
     pub fn next_marked(&mut self, end: u32) -> Option<u32>
         requires { end ≤ pairs_of self.old }
         ensures none { IfNone result ((p : ℕ) → p < end → is_marked self.old p ≡ false) }

@@ -43,7 +43,7 @@ impl Order {
     }
 }
 
-/// Returns the place of the pair `p`, searched for from the first event on.
+/// Returns the place of the pair `p`. Searches the events from the first one on.
 fn place_in(events: &[Event], lanes: u32, p: u32) -> Option<u32>
     requires lanes { (0 < lanes) × (lanes ≤ 64) }
     requires each { AllByRecursion (IsEvent lanes) events.now }

@@ -20,8 +20,8 @@ impl Order {
     }
 
     /// Returns the entries from place `i` of the list on, up to the end of their event: the whole
-    /// event, or its last entries. If `near` is the place of that event among all, the event is found
-    /// at once. Otherwise it is searched for. Any number is allowed as `near`.
+    /// event, or its last entries. `near` is a guess of the event's place among all events, and can
+    /// be any number. A wrong guess costs a search.
     pub fn event_at(&self, i: u32, near: usize) -> Event
         requires { i < length self.now.list }
         ensures entries { drop i self.now.list
