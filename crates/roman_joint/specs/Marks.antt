@@ -53,7 +53,7 @@ pub record MarksEnv (s : Sys) (row : Row) (marks : List ℕ) (a e : ℕ) : Type 
 pub record MarksAction (s : Sys) (row : Row) (marks : List ℕ) (a : ℕ) : Type 0 where
   pub envs : (e : ℕ) → IsIn e (env_prev s.env row.env a) → MarksEnv s row marks a e
 
--- the bands are marked with a pair that has a pair of the row's band as an outcome
+-- each band with a pair that has a pair of the row's band as an outcome is marked
 abbrev pub MarksBefore : Sys → Row → List ℕ → Type 0
 MarksBefore s row marks =
     (y i lane p a k : ℕ) → IsRow s (y * band_in s) row → i < band_in s → lane < lanes_in s → p < count (sizes_of s) →

@@ -67,7 +67,7 @@ pub record AreWays (n : Sizes) (k : ℕ) (beh : Beh) (e a : ℕ) (ways : Ways) :
 abbrev pub lane_move : List ℕ → ℕ → ℕ → ℕ → Move
 lane_move lanes last stride j = record { lanes = slice_index lanes j; from = (last - j) * stride; to = (j - last) * stride }
 
--- the moves of the first `count` ways, without the ways that no lane goes
+-- the moves of the first `count` ways, without the ways in which no lane moves
 abbrev pub lane_moves_from : List ℕ → ℕ → ℕ → ℕ → List Move
 lane_moves_from lanes last stride count = map (lane_move lanes last stride) (filter (λ j. not (slice_index lanes j == 0)) (below count))
 

@@ -78,7 +78,7 @@ pub record AreAlive (s : Sys) (gone : ℕ → Bool) (turn : TargetMove) (alive :
 abbrev pub HasAlive : Sys → (ℕ → Bool) → List ℕ → Type 0
 HasAlive s gone words = AreRows (lanes_in s) (λ q. not (gone q)) words
 
--- the seat may rest in state b: the state is final, or the seat needn't rest
+-- the seat may rest in state b: the state is final, or the seat is loose
 abbrev pub may_rest : Option Seat → ℕ → Bool
 may_rest None b = true
 may_rest (Some seat) b = not seat.rests || is_final seat.beh b

@@ -66,7 +66,7 @@ fn rests_unless_own(joint: &Joint, row: &Row, k: u8) -> u64
     rows.full
 }
 
-/// Returns the lanes of a band's rows at which all seats may rest that aren't the band's own.
+/// Returns the lanes of a band's rows at which all seats but the band's own may rest.
 fn others_rest(joint: &Joint, row: &Row) -> u64
     requires row { (y : ℕ) × IsRow (system_of joint.now) (y * band_in (system_of joint.now)) row.now }
     ensures { let s = system_of joint.now in
@@ -102,7 +102,7 @@ fn rests_in(joint: &Joint, i: u32, k: u8) -> u64
 }
 
 /// Returns the lanes of row `i` of a band at which all seats may rest. `others` has the lanes at which
-/// those may rest that aren't the band's own.
+/// all seats but the band's own may rest.
 fn all_rest_in(joint: &Joint, i: u32, others: u64) -> u64
     requires within { i < band_in (system_of joint.now) }
     ensures { let s = system_of joint.now in

@@ -95,8 +95,8 @@ fn good_on(joint: &Joint, turn: &Turn<'_>, alive: u64, k: u8) -> u64
     }
 }
 
-/// Returns how many of the first seats can serve an action. Without an alive lane, the seats within
-/// the lanes serve at no pair.
+/// Returns how many of the first seats have to be tried for an action. Without an alive lane these
+/// are the seats before the lanes, since the others serve at no pair.
 fn serving(joint: &Joint, alive: u64) -> u8
     ensures few { result ≤ length joint.now.seats }
     ensures rest { (k : ℕ) → result ≤ k → k < length joint.now.seats → (low_in (system_of joint.now) ≤ k) × (alive ≡ 0) }

@@ -86,7 +86,8 @@ fn mark_seat<L: Ledger>(by: &Arrival<'_>, marks: &mut [u64], base: u64, k: u8, s
 }
 
 /// Marks the bands at the target's state `t` from which the action leads to the row's band. For a seat
-/// that isn't before the band's own, that is the band with the same states of the seats before.
+/// that isn't before the band's own, that is the band in which the seats before the band's own have
+/// the same states.
 fn mark_turn<L: Ledger>(by: &Arrival<'_>, marks: &mut [u64], t: u8, steps: &mut Steps<L>)
     requires { IsArrival by.now }
     ensures grows { Grows marks.old marks.new }
@@ -149,8 +150,8 @@ impl Joint {
     /// bands as well. `row` is the first row of the given band. `marks` has one flag for each band, 64
     /// to a word. Flags that are set stay set.
     ///
-    /// Counts as many steps as delegations to services before the band's own lead to one pair of the
-    /// band. That number is the same for each pair of the band.
+    /// Counts one step for each delegation to a service before the band's own that leads to a given
+    /// pair of the band. That number is the same for each pair of the band.
     pub fn mark_before<L: Ledger>(&self, row: &Row, marks: &mut [u64], steps: &mut Steps<L>)
         requires row { (y : ℕ) × IsRow (system_of self.now) (y * band_in (system_of self.now)) row.now }
         requires room { count (sizes_of (system_of self.now)) ≤ 64 * length marks.old * band_in (system_of self.now) * lanes_in (system_of self.now) }

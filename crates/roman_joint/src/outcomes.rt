@@ -4,7 +4,7 @@ ghost use Rattle.std.specs.List.{find, flat_map};
 ghost use Rattle.roman_model.specs.Lists.{IsIn};
 ghost use Rattle.roman_joint.specs.Outcomes.{outcome_number};
 
-/// The pairs to which an action can lead that is delegated to a service. For each state e of `envs`
+/// The pairs to which an action that is delegated to a service can lead. For each state e of `envs`
 /// and each state b of `states` it is the pair with the number `base + e * env_stride + b * stride`.
 /// There is no pair where `states` is empty.
 #[derive(Clone, Copy)]
@@ -31,7 +31,7 @@ impl Outcomes<'_> {
     }
 
     /// Returns the first states of the environment and the service whose pair isn't alive, ordered by
-    /// the environment's.
+    /// the environment's state and then by the service's.
     pub(crate) fn first_gone<A: Fn(u32) -> bool>(&self, alive: &A) -> Option<(u8, u8)>
         requires envs { All (λ e. self.now.base + e * self.now.env_stride < 2 ^ 32) self.now.envs.now }
         requires fits { All (λ e. All (λ b. outcome_number self.now e b < 2 ^ 32) self.now.states.now) self.now.envs.now }

@@ -1,4 +1,4 @@
-//! The parts of a system, as they are passed around.
+//! The parts of a system, borrowed together.
 
 use crate::seat::Seat;
 use roman_parts::{Behaviour, Environment, Target};

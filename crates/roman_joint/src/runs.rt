@@ -1,4 +1,4 @@
-//! Runs of words, one for each of neighbouring rows, which are combined word by word.
+//! Runs of words: the words of neighbouring rows, combined word by word.
 ghost use Rattle.std.specs.Prelude.{◌≡◌, ◌≢◌, ◌↔◌, IsTrue, ℕ, ◌+◌, ◌-◌, ◌*◌, ◌/◌, ◌%◌, ◌^◌, ◌<◌, ◌≤◌, not, ◌&&◌, false, All, length, slice_index, bit_and};
 ghost use Rattle.std.specs.List.{list_any};
 ghost use Rattle.roman_lanes.specs.Rows.{is_on};
@@ -62,8 +62,8 @@ pub(crate) fn rows_alive_each(all: &mut [u64], words: &[u64], base: u32, states:
     }
 }
 
-/// Clears, in each word, the lanes that aren't set in all rows of the word: the rows of
-/// word i have the numbers of `rows`, raised by i.
+/// Clears, in each word, the lanes that aren't set in all rows of the word: the rows of word i are
+/// the numbers of `rows`, each plus i.
 pub(crate) fn all_alive_each(all: &mut [u64], words: &[u64], rows: &Outcomes<'_>)
     requires envs { All (λ e. rows.now.base + e * rows.now.env_stride < 2 ^ 32) rows.now.envs.now }
     requires fits { All (λ e. All (λ b. outcome_number rows.now e b < 2 ^ 32) rows.now.states.now) rows.now.envs.now }
@@ -127,8 +127,8 @@ fn clear_run(left: &mut [u64], to: usize, run: &Run<'_>)
 }
 
 /// Makes the change of a run in the words of `left` in which a component is in state `b`, of `size`
-/// states. The words are `blocks` blocks, each of all states. The run is that of the first block, and
-/// leads to the words in which the component is in one of its states instead.
+/// states. The words are `blocks` blocks, each with the words of all states. `run` is the run of the
+/// first block, and its states are those to which the component goes.
 pub(crate) fn clear_state(left: &mut [u64], run: &Run<'_>, b: u8, size: u8, blocks: usize)
     requires blocks { length left.old ≡ blocks * (size * run.now.stride) }
     requires alive { run.now.from + length left.old ≤ length run.now.alive.now }

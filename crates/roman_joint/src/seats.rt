@@ -96,7 +96,7 @@ fn split(shape: &Shape, k: u8, rest: u32) -> (u8, u32)
     ((rest / stride) as u8, rest % stride)
 }
 
-/// Returns whether a service may rest in a state: the state is final, or the service needn't rest.
+/// Returns whether a service may rest in a state: the state is final, or the service is loose.
 #[tactic(auto, using(crate::proofs::SeatLemmas::seat_beh_read))]
 fn may_rest(catalogue: &[Behaviour], seat: &Seat, state: u8) -> bool
     requires behaviour { seat.now.behaviour < length catalogue.now }

@@ -69,7 +69,7 @@ pub(crate) fn prev_states<'a>(joint: &'a Joint, k: u8, b: u8, e: u8, a: u8) -> &
     behaviour.into(b, e, a)
 }
 
-/// Returns whether a service may rest in a state: the state is final, or the service needn't rest.
+/// Returns whether a service may rest in a state: the state is final, or the service is loose.
 pub(crate) fn may_rest(joint: &Joint, k: u8, b: u8) -> bool
     requires seat { k < length joint.now.seats }
     requires state { b < slice_index (sizes_of (system_of joint.now)).seats k }

@@ -21,8 +21,8 @@ pub(crate) struct TargetView {
     pub(crate) leading: u32,
 }
 
-/// Makes all target views, ordered by the target's state and then by the environment's. Fails only when out
-/// of memory.
+/// Makes all target views, ordered by the target's state and then by the environment's. Fails only
+/// when out of memory.
 pub(crate) fn all_target_views(
     alloc: Global,
     environment: &Environment,

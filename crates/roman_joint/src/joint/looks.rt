@@ -32,7 +32,8 @@ impl Joint {
         self.target.allows(&self.environment, t, e, a)
     }
 
-    // Returns the target view of a pair: its states of the target and the environment, and their actions.
+    // Returns the target view of a pair: its states of the target and the environment, and their
+    // actions.
     #[tactic(auto, using(crate::proofs::Shown::Shows, std::proofs::lemmas::Nat::div_below, crate::proofs::SplitLemmas::positive_of, crate::proofs::Shown::shown))]
     pub(super) fn target_view_at(&self, p: u32) -> TargetView
         requires { p < count (sizes_of (system_of self.now)) }
@@ -55,10 +56,10 @@ impl Joint {
     }
 
     /// Examines the outcomes of the action `a` at the pair `p`, delegated to the service `k`, and
-    /// finds the first whose pair isn't alive. Outcomes are ordered by the environment's next state
-    /// and then by the service's. Requires that the action is allowed at the pair, that the service is
-    /// ready, and that `alive` can be called at every pair. Counts exactly one step, however many
-    /// outcomes there are.
+    /// finds the first that isn't alive. Outcomes are ordered by the environment's next state and then
+    /// by the service's. Requires that the action is allowed at the pair, that the service is ready,
+    /// and that `alive` can be called at every pair. Counts exactly one step, however many outcomes
+    /// there are.
     pub fn examine<A: Fn(u32) -> bool, L: Ledger>(
         &self,
         alive: &A,

@@ -15,8 +15,8 @@ use roman_model::MAX_STATES;
 use std::sync::ledger::Ledger;
 
 impl Joint {
-    /// Begins a walk backwards from the pair `p2`. The walk has each delegation once that can lead to
-    /// `p2`: of an action, at a pair at which it is allowed, to a ready service.
+    /// Begins a walk backwards from the pair `p2`. The walk takes each delegation that can lead to
+    /// `p2` exactly once. Its action is allowed at its pair, and its service is ready.
     pub fn walk(&self, p2: u32) -> Walk
         requires { p2 < count (sizes_of (system_of self.now)) }
         ensures walk { IsWalk (system_of self.now) result }
