@@ -1,4 +1,4 @@
-//! Masks, and the number of seats in all of them.
+//! Masks, and the number of seats in all masks together.
 ghost use Rattle.std.specs.Prelude.{◌≡◌, ◌+◌, ◌*◌, ◌<◌, ◌≤◌, length, sum_by};
 ghost use Rattle.roman_model.specs.Lists.{below};
 ghost use Rattle.roman_model.specs.System.{has};

@@ -35,14 +35,14 @@ pub fn begin_rounds<J: Rules>(joint: &J, order: &mut Order)
 }
 
 /// Plays one round, after [`begin_rounds`] or another round. Lists each pair at which some allowed
-/// action is served by no service, with the least such action. A service serves an action if it has an
-/// outcome there, and only outcomes that weren't listed before the round. Judges only the pairs of
-/// marked bands, and then marks the bands that the next round has to judge. The list is complete when
-/// a round adds nothing.
+/// action is served by no service, with the least such action. A service serves an action if it has
+/// an outcome there, and only outcomes that weren't listed before the round. Judges only the pairs
+/// of marked bands, and then marks the bands that the next round has to judge. The list is complete
+/// when a round adds nothing.
 ///
-/// For each band in which pairs were added, counts as many steps as delegations to services before the
-/// band's own lead to one of its pairs. These are at most as many as delegations lead to the added
-/// pairs.
+/// For each band in which pairs were added, counts one step for each delegation to a service before
+/// the band's own that leads to a given one of its pairs. These are at most as many steps as
+/// delegations lead to the added pairs.
 pub fn play_round<J: Rules, L: Ledger>(joint: &J, order: &mut Order, steps: &mut Steps<L>)
     requires ready { AwaitsRound (J.arena joint.now) (J.lanes joint.now) (J.band joint.now) order.old }
     ensures ready { AwaitsRound (J.arena joint.now) (J.lanes joint.now) (J.band joint.now) order.new }

@@ -64,8 +64,8 @@ fn judge_if<J: Rules>(joint: &J, order: &mut Order, y: u32, is_band: bool, left:
     }
 }
 
-/// Judges the band `y`: lists each of its pairs at which some action is a reason, with the least such
-/// action.
+/// Judges the band `y`: lists each of its pairs at which some action is a reason for removal, with
+/// the least such action.
 fn judge<J: Rules>(joint: &J, order: &mut Order, y: u32, left: &mut [u64])
     requires shaped { IsShaped (J.arena joint.now) (J.lanes joint.now) order.old }
     requires round { (start : ℕ) × InRound (J.arena joint.now) (J.lanes joint.now) start order.old }
