@@ -9,10 +9,10 @@ ghost use Rattle.roman_generator.specs.Moves.{CanMove, Becomes, IsServed};
 use crate::sight::Sight;
 use roman_joint::Joint;
 
-/// Returns the number of the pair after the service `k` has served the action `a` at the pair `p`, and
-/// is in state `b2` then, with the environment in state `e2`. Requires that the action is allowed at
-/// the pair, and that the service is ready. The two states can be any numbers: returns `None` exactly
-/// where no step of the system leads there. Takes no memory.
+/// Returns the number of the pair that follows the pair `p` where the service `k` serves the action
+/// `a` and goes to state `b2`, and the environment goes to state `e2`. Requires that the action is
+/// allowed at the pair, and that the service is ready. The two states can be any numbers: returns
+/// `None` exactly where no step of the system leads there. Takes no memory.
 pub fn next_pair(joint: &Joint, p: u32, a: u8, k: u8, b2: u8, e2: u8) -> Option<u32>
     requires pair { p < count (sizes_of (system_of joint.now)) }
     requires allowed { IsTrue (is_allowed (system_of joint.now) (pair_at (sizes_of (system_of joint.now)) p) a) }
