@@ -162,8 +162,8 @@ impl Audit {
         })
     }
 
-    /// Removes a pair for the reason that was asked about last, where the pair lies in the row that was
-    /// asked and the reason is known to hold there. Returns whether it did. Changes nothing otherwise.
+    /// Removes a pair that remains, if it lies in the row that was asked last and the reason asked
+    /// about is known to hold there. Returns whether it did, and changes nothing otherwise.
     #[inline(always)]
     pub(crate) fn take_known<J: Rules>(&mut self, joint: &J, front: Front, pair: u64) -> bool
         requires shaped { IsInRows (J.lanes joint.now) (length (J.arena joint.now).nodes) self.old }

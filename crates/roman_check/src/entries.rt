@@ -44,7 +44,7 @@ fn is_final(text: &[u8]) -> bool
     text == b"f".as_slice()
 }
 
-/// Returns the reason that has this text, or `None` where none of the `actions` actions has it.
+/// Returns the reason with this text, or `None` where there is none for `actions` actions.
 fn reason(text: &[u8], actions: u8) -> Option<Reason>
     ensures { ReadsOff (reasons actions) reason_text text.now result }
 {
@@ -65,7 +65,7 @@ pub(crate) fn entry(line: &[u8], pairs: u32, actions: u8) -> Option<(u32, Reason
     Some((pair, reason))
 }
 
-/// Returns the reason that has this byte as its text, or `None` where there is none among the actions.
+/// Returns the reason with this byte as its text, or `None` where there is none for `actions` actions.
 #[inline]
 fn reason_of(byte: u8, actions: u8) -> Option<Reason>
     ensures { IfSome result (λ reason. IsIn reason (reasons actions) × (reason_text reason ≡ byte ∷ [])) }

@@ -28,8 +28,8 @@ pub(crate) struct Shape {
 /// The line of an entry, with its newline. Other last two digits of the pair make it the line of
 /// another entry with the same reason.
 ///
-/// Neighbouring lines of a certificate mostly differ only in these two digits. Two comparisons of four or
-/// eight bytes each then replace reading the rest of the line.
+/// Neighbouring lines of a certificate mostly differ only in these two digits. Two comparisons of
+/// four or eight bytes each then replace reading the rest of the line.
 #[derive(Drop)]
 pub(crate) struct Pattern {
     pub(crate) text: [u8; WIDTH],
@@ -152,9 +152,9 @@ impl Pattern {
         }
     }
 
-    /// Makes the first line of the bytes the pattern. Changes nothing where the line is too short or
-    /// too long. Requires that the line is the entry of the pair and the reason, whose number of the
-    /// pair ends at `space`.
+    /// Makes the first line of the bytes the pattern. Changes nothing where the pair has fewer than
+    /// three digits or the line is too long. Requires that the line is the entry of the pair and the
+    /// reason, has `len` bytes, and has its space at place `space`.
     fn learn(&mut self, bytes: &[u8], pair: u32, reason: Reason, space: usize, len: usize)
         requires pattern { IsPattern self.old.text self.old.shape }
         requires room { 16 ≤ length bytes.now }

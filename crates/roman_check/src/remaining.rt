@@ -89,7 +89,7 @@ impl Remaining {
         has_lane(self.words[row as usize], lane)
     }
 
-    /// Returns whether the pair at this row and lane remains, and its bit is set among the lanes `known`.
+    /// Returns whether the pair at this row and lane remains, and its lane is among `known`.
     #[inline(always)]
     #[tactic(auto, using(roman_lanes::proofs::CallerLemmas::on_and))]
     pub(crate) fn has_known(&self, row: u32, lane: u32, known: u64) -> bool
