@@ -1,4 +1,5 @@
--- Marks that are set from the end of a removal list: each entry on which p's entry rests is marked before it is reached.
+-- Marks that are set from the end of a removal list: each entry on which p's entry depends is marked
+-- before it is reached.
 use Rattle.roman_cert.proofs.Common.{◌≡◌, ℕ, ◌+◌, ◌<◌, ◌≤◌, Bool, true, false, ◌||◌, ◌⊎◌, List, [], ◌∷◌, ◌++◌, length, take, drop, Option, Some, IsTrue, IsFalse, filter, refl, sym, ap, ap₂, ◌∙◌, subst, inl, inr, arith, append_assoc, take-append-drop, list_any, slice_get, or-false, cond-true, cond-false, list_any-append, slice_get_within, IsIn, below, Arena, Entry, is_listed, IsOrder, entries_before, answer, rests_on, Act, any_from, by_test, IsSame, order_middle, before_is, IsNumbered, Board, is_marked}
 use Rattle.std.proofs.Common.{◌≢◌, ◌-◌, ◌&&◌, length-append, length-take}
 use Rattle.std.specs.Option.{option_to_list}
@@ -9,11 +10,11 @@ use Rattle.roman_model.proofs.CallerLemmas.{same_test, any_true, any_within, in_
 use Rattle.roman_cert.proofs.Texts.{drop_at, some_at}
 use Rattle.roman_cert.proofs.Answering.{entries_at, unready_answer}
 
--- p's entry rests on that of x, and q is a defeating answer to x
+-- p's entry depends on that of x, and q is a defeating answer to x
 abbrev pub leads_to : {N : Type 0} → Arena N → List (Entry N) → N → N → Entry N → Bool
 leads_to A L p q x = rests_on A L (length L) p x.node && is_among A (answers A L x.node x.reason) q
 
--- q is p, or an answer to an entry from place i on, on which p's entry rests
+-- q is p, or an answer to an entry from place i on, on which p's entry depends
 abbrev pub rests_from : {N : Type 0} → Arena N → List (Entry N) → N → ℕ → N → Bool
 rests_from A L p i q = A.same q p || list_any (leads_to A L p q) (drop i L)
 
@@ -36,7 +37,7 @@ module _ {N : Type 0} (A : Arena N) (same : IsSame A) (L : List (Entry N)) (orde
       let short : length (take (i + 1) L) ≡ length (before ++ y ∷ after) = ap length cut in
       omega (arith, length-take i L, length-take (i + 1) L, length-append before (y ∷ after))
 
-  -- so the entries after x's decide whether p's entry rests on x's
+  -- so the entries after x's decide whether p's entry depends on x's
   pub rests_settled : (i : ℕ) (x : Entry N) → slice_get L i ≡ Some x → rests_from A L p (i + 1) x.node ≡ rests_on A L (length L) p x.node
   rests_settled i x e = same_test (rests_from A L p (i + 1) x.node) (rests_on A L (length L) p x.node)
       (λ t. rests_is A L p x.node same ∙ back (or_cases (A.same x.node p) (list_any (leads_to A L p x.node) (drop (i + 1) L)) t))

@@ -1,4 +1,4 @@
-//! Finds the answers that defeat the seats: the entries on which an entry rests.
+//! Finds the answers that defeat the seats: the entries on which an entry depends.
 ghost use Rattle.std.specs.Prelude.{◌≡◌, ◌<◌, length, take, slice_get, Some, IfSome};
 ghost use Rattle.roman_model.specs.Arena.{IsOrder};
 ghost use Rattle.roman_model.specs.Explanation.{answer as answer_of};

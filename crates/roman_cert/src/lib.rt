@@ -2,7 +2,8 @@
 //!
 //! [`write_order`] writes the certificate of a relation: its removal list. A checker needs only the
 //! transitions of the system to check that the list is complete. [`write_slice`] explains why a pair
-//! isn't related: it writes the part of the list on which the pair's entry rests. No call takes memory.
+//! isn't related: it writes the part of the list on which the pair's entry depends. No call takes
+//! memory.
 #![tactic(auto)]
 
 mod answers;

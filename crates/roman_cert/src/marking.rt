@@ -1,4 +1,4 @@
-//! Marks the pairs of the entries on which an entry rests.
+//! Marks the pairs of the entries on which an entry depends.
 ghost use Rattle.std.specs.Prelude.{◌≡◌, ℕ, ◌<◌, ◌&&◌, ◌||◌, length, slice_get, Some};
 ghost use Rattle.roman_model.specs.Arena.{Entry, is_among, IsOrder};
 ghost use Rattle.roman_model.specs.Explanation.{answers, rests_on};
@@ -11,7 +11,7 @@ use roman_order::Order;
 use roman_rules::Rules;
 use std::sync::ledger::Ledger;
 
-/// Marks exactly the entries on which the entry of the pair `p` rests, which include that entry. Each
+/// Marks exactly the entries on which the entry of the pair `p` depends, that entry included. Each
 /// answer to an entry stands before it, so one pass from the end of the list is enough.
 pub(crate) fn mark_slice<J: Rules, L: Ledger>(
     joint: &J,

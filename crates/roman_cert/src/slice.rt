@@ -27,9 +27,9 @@ use roman_rules::Rules;
 use roman_text::Page;
 use std::sync::ledger::Ledger;
 
-/// Writes the explanation of the pair `p`: the part of the removal list on which its entry rests, each
-/// entry with the answers that defeat the services. Requires a complete list, and a pair that isn't
-/// related.
+/// Writes the explanation of the pair `p`: the part of the removal list on which its entry depends,
+/// each entry with the answers that defeat the services. Requires a complete list, and a pair that
+/// isn't related.
 ///
 /// The written entries are a removal list by themselves, and end with the entry of `p`. An opponent who
 /// plays by them wins within as many requests as there are entries. Changes at most the marks of the
