@@ -25,8 +25,8 @@ abbrev pub went_on : (Pair → Option ℕ) → Option Pair → Option ℕ
 went_on rest None = None
 went_on rest (Some q) = option_map suc (rest q)
 
--- The number of requests that the opponent makes from p until it has won, playing by the list against the seats in turn. None where it
--- hasn't won. The last argument is the reason of p's entry.
+-- The number of requests that the opponent makes from p until it has won, playing by the list, where the
+-- given seats serve in turn. None where it hasn't won. The last argument is the reason of p's entry.
 abbrev pub play_at : Sys → List (Entry Pair) → List ℕ → Pair → Option Reason → Option ℕ
 play_at s L ks p None = None
 play_at s L ks p (Some Final) = Some 0
@@ -36,7 +36,7 @@ play_at s L (k ∷ ks) p (Some (Act a)) =
     else (if is_empty (outcomes s p a k) then Some 1
     else went_on (λ q. play_at s L ks q (reason_of s L q)) (answer (arena s) L p a k))
 
--- the play from p by the list, against the seats in turn
+-- the play from p by the list, where the given seats serve in turn
 abbrev pub play : Sys → List (Entry Pair) → Pair → List ℕ → Option ℕ
 play s L p ks = play_at s L ks p (reason_of s L p)
 
@@ -81,7 +81,7 @@ depth_play_at s (k ∷ ks) p (Some (suc d)) (Some a) =
     else (if is_empty (outcomes s p a k) then Some 1
     else went_on (λ q. depth_play_at s ks q (depth (arena s) q) (request_at s q (depth (arena s) q))) (find (loses (arena s) d) (outcomes s p a k)))
 
--- the play from p by depth, against the seats in turn
+-- the play from p by depth, where the given seats serve in turn
 abbrev pub depth_play : Sys → Pair → List ℕ → Option ℕ
 depth_play s p ks = depth_play_at s ks p (depth (arena s) p) (request_at s p (depth (arena s) p))
 

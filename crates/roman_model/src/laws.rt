@@ -6,8 +6,8 @@ ghost use Rattle.roman_model.specs.Plans.{PlansCostLeast};
 ghost use Rattle.roman_model.specs.Play.{DepthIsLeast, DepthWins, OrderWins};
 ghost use Rattle.roman_model.specs.Without.{WithoutByChanges};
 
-/// A removal list is complete where every unlisted pair meets clause 2 and each allowed action has a
-/// seat left there.
+/// A removal list is complete where every unlisted pair meets clause 2 and has a seat in the mask of
+/// each allowed action.
 #[tactic(auto, using(crate::proofs::CompositionLemmas::order_completed))]
 pub fn order_completes()
     ensures complete { OrderCompletes }
