@@ -52,7 +52,8 @@ impl Sink for MemSink {
     ghost faults = { λ s. s.calls.faults };
 
     /// Appends the piece. A call that is to fail still appends the first half of its piece, rounded
-    /// down. A call that runs out of memory fails, and leaves the bytes as they were.
+    /// down, unless it runs out of memory. Any other call that runs out of memory fails, and leaves
+    /// the bytes as they were.
     fn put(&mut self, bytes: &[u8]) -> Result<(), Failed>
         ensures puts { Puts (Some self.old.written) (Some self.new.written) bytes.now result }
         ensures cause { HasCause self.old.calls.faults self.new.calls.faults result }

@@ -8,7 +8,8 @@ use crate::failed::Failed;
 use crate::source::Source;
 use std::marker::Model;
 
-/// A source in memory that never fails. Each take fills its piece as far as bytes are left.
+/// A source in memory that never fails. Each take fills its whole piece, unless fewer bytes are
+/// left.
 #[derive(Drop)]
 pub struct QuietSource {
     bytes: Vec<u8>,
