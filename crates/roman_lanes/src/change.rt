@@ -1,4 +1,4 @@
-//! Changes of each word of a slice by itself, made to some neighbouring words at once.
+//! Changes that are made to each word of a slice by itself, to some neighbouring words at once.
 //!
 //! A change has its own type, which says what becomes of a word (`Change`) and computes it for N
 //! words at once (`ChangeOf`). `change_each` goes over the slice.
