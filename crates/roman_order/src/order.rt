@@ -49,7 +49,7 @@ pub struct Order {
     // the place of each event's first entry
     firsts: Vec<u32>,
     waiting: Vec<Event>,
-    // each pair's place in the list, or `u32::MAX`; empty where places weren't asked for
+    // each pair's place in the list, or `u32::MAX`; empty unless `place_all` has filled it
     stamps: Vec<u32>,
     // a word for each row, with the bits of its pairs that aren't listed
     words: Vec<u64>,
@@ -252,8 +252,8 @@ impl Order {
         Some((pair, event.reason))
     }
 
-    /// Takes the first waiting entries together, as far as they are one event: an event of the shape
-    /// before the order was reopened. Returns `None` exactly where no entry waits.
+    /// Takes the waiting entries of the first event together, as an event of the shape before the
+    /// order was reopened. Returns `None` exactly where no entry waits.
     pub fn next_waiting_event(&mut self) -> Option<Event>
         ensures none { IfNone result ((self.old.waiting ≡ []) × (self.new ≡ self.old)) }
         ensures first { IfSome result (λ e. self.old.waiting ≡ entries_at self.old.waiting_lanes e ++ self.new.waiting) }
