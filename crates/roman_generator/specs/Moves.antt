@@ -16,7 +16,7 @@ pub record Becomes (s : Sys) (p : Pair) (a k b e q : ℕ) : Type 0 where
   pub below : q < count (sizes_of s)
   pub pair : pair_at (sizes_of s) q ≡ record { t = to; e = e; bs = slice_set p.bs k b }
 
--- the service is ready and goes from state b to the state seen, and the environment goes from state e to its own
+-- the service is ready, and goes from state b, as the environment does from state e, to the states seen
 pub record IsServed (s : Sys) (e b : ℕ) (x : Sight) : Type 0 where
   pub seat : Seat
   pub seated : slice_get s.seats x.seat ≡ Some seat
