@@ -138,9 +138,9 @@ impl Asked {
         0
     }
 
-    /// Asks the row `x` about a reason, and returns the lanes at which it holds. `words` has, row by
-    /// row, the bits of the pairs that aren't gone. Requires that the reason's action, if any, is an
-    /// action of the system.
+    /// Asks the row `x` about a reason. Remembers the lanes at which it holds, and returns them.
+    /// `words` has, row by row, the bits of the pairs that aren't gone. Requires that the reason's
+    /// action, if any, is an action of the system.
     ///
     /// Counts a step for each ready seat where the reason is an action that is allowed in the row, and
     /// otherwise none.
@@ -206,8 +206,8 @@ impl Asked {
     }
 
     /// Returns whether a reason holds at the pair `p`. `words` has, row by row, the bits of the pairs
-    /// that aren't gone. Requires that the reason's action, if any, is an action of the system, and
-    /// that each pair that was gone when the row was asked is still gone.
+    /// that aren't gone. Requires that the reason's action, if any, is an action of the system. The
+    /// answer is right if each pair that was gone when the row was asked is still gone.
     ///
     /// Asks nothing where the answer is known: where the last question was about the pair's row and
     /// the same reason, and the reason held at the pair. Afterwards, `row` is the row of the pair.
