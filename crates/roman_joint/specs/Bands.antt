@@ -50,8 +50,8 @@ pub record KeepsWhere (s : Sys) (x : ℕ) (meant : ℕ → Type 0) (test : ℕ �
   pub others : (i : ℕ) → (meant i → ⊥) → slice_index new i ≡ slice_index old i
   pub none : (i lane : ℕ) → is_on (slice_index old i) lane ≡ false → is_on (slice_index new i) lane ≡ false
 
--- in the band that the row begins, exactly the pairs at which seat k serves the action are cleared; `alive` has the alive lanes of each row's
--- turn
+-- in the band that the row begins, exactly the pairs at which seat k serves the action are cleared;
+-- `alive` has the alive lanes of each row's turn
 abbrev pub ClearsServed : Sys → Row → List ℕ → ℕ → ℕ → List ℕ → List ℕ → Type 0
 ClearsServed s row alive a k old new =
     (y : ℕ) (gone : ℕ → Bool) (turn : TargetMove) → IsRow s (y * band_in s) row → IsTargetMove s row a turn → AllAlive s gone turn alive →
