@@ -8,7 +8,7 @@ use Rattle.roman_cert.proofs.Texts.{text_of_lines-append}
 
 -- What is printed
 
--- where exactly the entries on which p's entry depends are marked, the marked entries are p's explanation
+-- where exactly the entries on which p's entry depends are marked, the marked ones are p's explanation
 marked_explanation : (n : NamedSys) (board : Board) (L : List (Entry ℕ)) (p : ℕ) → board.list ≡ L → ((q : ℕ) → is_marked board q ≡ rests_on (arena_of n) L (length L) p q) → marked_entries board ≡ explanation (arena_of n) L p
 unfolding marked_entries
 marked_explanation n board L p same marked =
