@@ -23,7 +23,7 @@ pub record IsSplit (bytes : List ℕ) (lines : List (List ℕ)) (rest : List ℕ
   pub each : AreLines lines
   pub last : IsLine rest
 
--- the first line of some bytes and the bytes after its newline, or none where the bytes have no newline
+-- the first line of some bytes and the bytes after its newline, or none if the bytes have no newline
 abbrev pub IsFirstLine : List ℕ → Option (Bor (List ℕ) × Bor (List ℕ)) → Type 0
 IsFirstLine bytes None = IsLine bytes
 IsFirstLine bytes (Some first) = IsLine first.0.now × (bytes ≡ first.0.now ++ 10 ∷ first.1.now)

@@ -8,7 +8,7 @@ pub record Gathered (old new : Option (List ℕ)) (held text : List ℕ) : Type 
   pub wrote : Wrote old new prefix
   pub rest : text ≡ prefix ++ held
 
--- on success a prefix of the text was written and the page holds the rest; on failure a prefix was written and the page is empty
+-- on success a prefix of the text was written, and the page holds the rest; on failure a prefix was written, and the page is empty
 abbrev pub Gathers : {T E : Type 0} → Option (List ℕ) → Option (List ℕ) → List ℕ → List ℕ → Result T E → Type 0
 Gathers old new held text (Ok x) = Gathered old new held text
 Gathers old new held text (Err e) = WrotePrefix old new text × (held ≡ [])

@@ -137,12 +137,12 @@ shape_of_event event.Report = report
 shape_of_event event.Explain = explain
 shape_of_event event.Quit = quit
 
--- the parsed event or error is this shape
+-- the parsed event has this shape, or the error is the same
 abbrev pub Shapes : Result LineShape LineError → Result Event LineError → Type 0
 Shapes shape (Ok e) = shape ≡ Ok (shape_of_event e)
 Shapes shape (Err why) = shape ≡ Err why
 
--- the first word of a line and what follows it, or none where the line has no word
+-- the first word of a line and what follows it, or none if the line has no word
 abbrev pub IsFirstWord : List ℕ → Option (Bor (List ℕ) × Bor (List ℕ)) → Type 0
 IsFirstWord line None = words_of line ≡ []
 IsFirstWord line (Some first) = words_of line ≡ first.0.now ∷ words_of first.1.now

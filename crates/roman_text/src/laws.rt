@@ -1,4 +1,4 @@
-//! Laws over the definitions of lines and shapes, each the contract of a function with no body.
+//! Laws over the definitions of lines and shapes. Each is the contract of a function with an empty body.
 ghost use Rattle.std.specs.Prelude.{◌≡◌, ◌≢◌, ℕ, List};
 ghost use Rattle.roman_model.specs.Lines.{ended_lines};
 ghost use Rattle.roman_text.specs.Lines.{IsSplit, unfinished, kept};
@@ -13,9 +13,9 @@ pub fn split_lines()
     ensures only { (bytes : List ℕ) (lines : List (List ℕ)) (rest : List ℕ) → IsSplit bytes lines rest → (lines ≡ ended_lines bytes) × (rest ≡ unfinished bytes) }
 {}
 
-/// The spelling of an event parses as that event. An event has no other words, except for the event
-/// that gets no reply, which comments are too. Words that fail to parse aren't the spelling of any
-/// event.
+/// The spelling of an event parses as that event, and no other words do. The exception is the event
+/// that gets no reply, as which comments parse too. Words that fail to parse aren't the spelling of
+/// any event.
 #[tactic(auto, using(crate::proofs::ShapeLemmas::spelling_only))]
 pub fn spell_events()
     ensures read { (event : LineShape) → shape_of_words (spelling event) ≡ Ok event }

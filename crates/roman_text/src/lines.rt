@@ -10,10 +10,10 @@ use std::simd::prelude::*;
 /// One byte more than the greatest length of a line, so that a longer line is recognised.
 const KEPT: usize = MAX_LINE_BYTES as usize + 1;
 
-/// The number of bytes that are searched together for a newline.
+/// The number of bytes that are searched at once for a newline.
 const LANES: usize = 16;
 
-/// Holds the current line of a stream of bytes, whatever the pieces in which it comes. Contracts see
+/// Holds the current line of a stream of bytes, however the stream is split into pieces. Contracts see
 /// the held bytes of the line: its first 257, which decide its shape.
 #[derive(Drop)]
 pub struct Splitter {
@@ -31,7 +31,7 @@ impl Model for Splitter {
     ghost invariant = { λ s. s.len ≤ 257 };
 }
 
-/// Returns the bytes before the first byte 10 and the bytes after it. Returns `None` exactly where there
+/// Returns the bytes before the first byte 10 and the bytes after it. Returns `None` exactly when there
 /// is no byte 10.
 pub fn split_line(bytes: &[u8]) -> Option<(&[u8], &[u8])>
     ensures { IsFirstLine bytes.now result }
@@ -40,8 +40,8 @@ pub fn split_line(bytes: &[u8]) -> Option<(&[u8], &[u8])>
     Some((&bytes[..end], &bytes[end + 1..]))
 }
 
-/// Returns the place of the first byte 10, or `None` where there is no byte 10. Searches the first
-/// bytes together, since most lines are short.
+/// Returns the place of the first byte 10, or `None` if there is no byte 10. Searches the first 16
+/// bytes at once, since most lines are short.
 fn newline(bytes: &[u8]) -> Option<usize>
     ensures { result ≡ position is_newline bytes.now }
 {
@@ -54,7 +54,7 @@ fn newline(bytes: &[u8]) -> Option<usize>
     bytes.iter().position(|&byte| byte == b'\n')
 }
 
-/// Returns the place of the first byte 10 among the first 16 bytes, or 16 where none of them is 10.
+/// Returns the place of the first byte 10 among the first 16 bytes, or 16 if none of them is 10.
 #[inline(always)]
 fn newline_near(bytes: &[u8]) -> usize
     requires { LANES ≤ length bytes.now }
@@ -106,7 +106,7 @@ impl Splitter {
         self.len = end;
     }
 
-    /// Returns the first 257 bytes of the current line, or all of them where it has fewer.
+    /// Returns the first 257 bytes of the current line, or all of them if it has fewer.
     pub fn line(&self) -> &[u8]
         ensures line { result.now ≡ self.now }
     {

@@ -28,7 +28,7 @@ const NAME: usize = MAX_NAME_BYTES as usize;
 pub const SHORT: usize = 16;
 
 /// A buffer of 4,096 bytes before a sink, so that many short texts are written as one piece. Contracts
-/// see the held bytes; the sink has the bytes before them. A call fails only where the sink's count of
+/// see the held bytes; the sink has the bytes before them. A call fails only when the sink's count of
 /// faults rose.
 #[derive(Drop)]
 pub struct Page {
@@ -58,8 +58,8 @@ impl Page {
         }
     }
 
-    /// Appends bytes to the held bytes. Writes the held bytes first where the new ones have no room. A
-    /// failed call leaves the page empty, and a prefix of all these bytes in the sink.
+    /// Appends bytes to the held bytes. Writes the held bytes first if there is no room for the new
+    /// ones. A failed call leaves the page empty, and a prefix of all these bytes in the sink.
     #[inline]
     #[tactic(auto, using(crate::proofs::PageLemmas::gathers_failed, std::proofs::lemmas::Result::err_from_is_err_and))]
     pub fn push<O: Sink>(&mut self, bytes: &[u8], out: &mut O) -> Result<(), Failed>
@@ -74,8 +74,8 @@ impl Page {
         self.begin(bytes, out)
     }
 
-    /// Writes the held bytes, as one piece, and leaves the page empty. Writes nothing where no bytes
-    /// are held. Where the sink fails, the page is empty too, and a prefix of the piece was written.
+    /// Writes the held bytes, as one piece, and leaves the page empty. Writes nothing if no bytes
+    /// are held. If the sink fails, the page is empty too, and a prefix of the piece was written.
     pub fn flush<O: Sink>(&mut self, out: &mut O) -> Result<(), Failed>
         ensures puts { Puts (O.written out.old) (O.written out.new) self.old result }
         ensures empty { self.new ≡ [] }
@@ -119,7 +119,7 @@ impl Page {
     }
 
     /// Appends the first `len` bytes of an array, as [`Page::push`] appends bytes. Copies the whole
-    /// array where it has room.
+    /// array if there is room for it.
     #[inline(always)]
     pub fn push_short<O: Sink>(
         &mut self,
@@ -139,7 +139,7 @@ impl Page {
     }
 
     /// Appends a byte and a name after it, as [`Page::push`] appends bytes. Writes the held bytes first
-    /// where fewer than 128 bytes of the page are free.
+    /// if fewer than 128 bytes of the page are free.
     #[inline]
     #[tactic(auto, using(crate::proofs::PageLemmas::gathers_failed, std::proofs::lemmas::Result::err_from_is_err_and))]
     pub fn push_name<O: Sink>(&mut self, before: u8, name: &Name, out: &mut O) -> Result<(), Failed>
@@ -165,7 +165,7 @@ impl Page {
         self.push(report_piece(line).bytes(), out)
     }
 
-    /// Adds bytes to an empty page. Writes them to the sink at once where the page is too small.
+    /// Adds bytes to an empty page. Writes them to the sink at once if the page is too small.
     /// Requires an empty page.
     fn begin<O: Sink>(&mut self, bytes: &[u8], out: &mut O) -> Result<(), Failed>
         requires { self.old ≡ [] }
@@ -179,7 +179,7 @@ impl Page {
         Ok(())
     }
 
-    /// Writes the held bytes where the longest reply has no room after them.
+    /// Writes the held bytes if there is no room after them for the longest reply.
     fn make_room<O: Sink>(&mut self, out: &mut O) -> Result<(), Failed>
         ensures gathers { Gathers (O.written out.old) (O.written out.new) self.new self.old result }
         ensures room { OnOk result (length self.new + LONGEST ≤ PIECE_BYTES) }

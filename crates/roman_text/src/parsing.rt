@@ -15,7 +15,7 @@ use roman_model::MAX_LINE_BYTES;
 /// Ignores one byte 13 at the end of the line. Words are separated by spaces and tabs. A line without
 /// words, and a line whose first word begins with `#`, are [`Event::Nothing`].
 ///
-/// Fails with `TooLong` exactly where the line has more than 256 bytes. Fails with `Form` exactly where
+/// Fails with `TooLong` exactly when the line has more than 256 bytes. Fails with `Form` exactly when
 /// it has at most 256 bytes and its words aren't those of an event.
 #[inline(always)]
 pub fn parse_line(line: &[u8]) -> Result<Event<'_>, LineError>
@@ -57,7 +57,7 @@ fn by_words<'a>(word: &[u8], rest: &'a [u8]) -> Result<Event<'a>, LineError>
     Err(LineError::Form)
 }
 
-/// Returns whether a word is this text.
+/// Returns whether a word equals the text.
 #[inline(always)]
 fn is(word: &[u8], text: &str) -> bool
     ensures { result ≡ bytes_eq word.now text.now }

@@ -4,28 +4,28 @@ ghost use Rattle.std.specs.List.{position_or_len};
 ghost use Rattle.std.specs.Str.Lines.{strip_carriage_return};
 ghost use Rattle.roman_text.specs.Shapes.{IsFirstWord, is_blank, is_comment, is_part};
 
-/// Returns whether the byte separates words. Most bytes are greater than those that do.
+/// Returns whether the byte separates words. Most bytes are greater than the two that do.
 fn is_blank(byte: u8) -> bool
     ensures { result ≡ is_blank byte }
 {
     byte <= b' ' && (byte == b' ' || byte == b'\t')
 }
 
-/// Returns the place where the first word begins, or `None` where there is no word.
+/// Returns the place where the first word begins, or `None` if there is no word.
 fn word_start(line: &[u8]) -> Option<usize>
     ensures { result ≡ position is_part line.now }
 {
     line.iter().position(|&byte| !is_blank(byte))
 }
 
-/// Returns the place of the first blank, or `None` where there is no blank.
+/// Returns the place of the first blank, or `None` if there is no blank.
 fn first_blank(line: &[u8]) -> Option<usize>
     ensures { result ≡ position is_blank line.now }
 {
     line.iter().position(|&byte| is_blank(byte))
 }
 
-/// Returns the place of the first blank, or the length of the line where there is no blank. A word at
+/// Returns the place of the first blank, or the length of the line if there is no blank. A word at
 /// the start of the line ends there.
 #[tactic(auto, using(crate::proofs::WordLemmas::places))]
 fn word_end(line: &[u8]) -> usize
@@ -35,7 +35,7 @@ fn word_end(line: &[u8]) -> usize
     first_blank(line).unwrap_or(line.len())
 }
 
-/// Returns the first word of a line and the rest of the line after it. Returns `None` exactly where the
+/// Returns the first word of a line and the rest of the line after it. Returns `None` exactly when the
 /// line has no word. Words are separated by spaces and tabs.
 #[inline(always)]
 pub fn first_word(line: &[u8]) -> Option<(&[u8], &[u8])>
@@ -53,7 +53,7 @@ pub fn is_comment(word: &[u8]) -> bool
     word.starts_with(b"#")
 }
 
-/// Returns the line without the last byte, where that is byte 13, and the whole line otherwise.
+/// Returns the line without its last byte if that is byte 13, and the whole line otherwise.
 pub fn without_return(line: &[u8]) -> &[u8]
     ensures { result.now ≡ strip_carriage_return line.now }
 {

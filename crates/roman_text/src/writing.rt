@@ -9,7 +9,7 @@ use crate::replies::Reply;
 use crate::report::{ReportLine, report_piece};
 use roman_io::{Failed, Sink};
 
-/// Writes a reply, as one piece. Fails only where the sink's count of faults rose; a prefix of the
+/// Writes a reply, as one piece. Fails only when the sink's count of faults rose; a prefix of the
 /// reply was then written.
 pub fn put_reply<O: Sink>(out: &mut O, reply: &Reply) -> Result<(), Failed>
     ensures puts { Puts (O.written out.old) (O.written out.new) (reply_text reply.now) result }
@@ -20,7 +20,7 @@ pub fn put_reply<O: Sink>(out: &mut O, reply: &Reply) -> Result<(), Failed>
     page.flush(out)
 }
 
-/// Writes a report line, as one piece. Fails only where the sink's count of faults rose; a prefix of
+/// Writes a report line, as one piece. Fails only when the sink's count of faults rose; a prefix of
 /// the line was then written.
 pub fn put_report_line<O: Sink>(out: &mut O, line: &ReportLine) -> Result<(), Failed>
     ensures puts { Puts (O.written out.old) (O.written out.new) (line_text line.now) result }

@@ -1,4 +1,4 @@
-//! Pushes replies on a page.
+//! Pushes replies onto a page.
 ghost use Rattle.std.specs.Prelude.{◌≡◌, ◌+◌, ◌≤◌, ◌++◌, length, decimal};
 ghost use Rattle.roman_io.specs.Faults.{HasCause};
 ghost use Rattle.roman_model.specs.declared.limits.TheConstants.{PIECE_BYTES};
@@ -15,7 +15,7 @@ use roman_read::Name;
 
 #[tactic(auto, using(crate::proofs::PageLemmas::gathers_failed, std::proofs::lemmas::Result::err_from_is_err_and))]
 impl Page {
-    /// Appends a reply, as [`Page::push`] appends bytes. Writes the held bytes first where fewer than
+    /// Appends a reply, as [`Page::push`] appends bytes. Writes the held bytes first if fewer than
     /// 128 bytes of the page are free.
     pub fn push_reply<O: Sink>(&mut self, reply: &Reply, out: &mut O) -> Result<(), Failed>
         ensures gathers { Gathers (O.written out.old) (O.written out.new) self.new (self.old ++ reply_text reply.now) result }
