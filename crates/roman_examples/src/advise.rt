@@ -11,8 +11,8 @@ use std::marker::Brand;
 use std::sync::ledger::{Blank, Ledger};
 use std::test::Fail;
 
-/// What a request for advice shows, the document, on the shelf as `s.json`, the text of the costs, there
-/// as `c.json`, the words behind `advise`, and what it must come to.
+/// What a request for advice shows, the document (on the shelf as `s.json`), the text of the costs (on
+/// the shelf as `c.json`), the words after `advise`, and the expected outcome.
 type Asked = (
     &'static str,
     Text,
@@ -21,7 +21,7 @@ type Asked = (
     Outcome,
 );
 
-/// Requests for advice whose costs are there.
+/// Requests for advice with costs on the shelf.
 static ASKED: [Asked; 11] = [
     (
         "three requests of a lamp",
@@ -142,7 +142,7 @@ static ASKED: [Asked; 11] = [
     ),
 ];
 
-/// Requests that end before costs are read.
+/// Requests for advice that end before the costs are read.
 static BEFORE_COSTS: [Asked; 5] = [
     (
         "the document before its costs",
@@ -181,12 +181,12 @@ static BEFORE_COSTS: [Asked; 5] = [
     ),
 ];
 
-/// Words that are no number of requests.
+/// Words that aren't a number of requests.
 static NO_NUMBERS: [&str; 13] = [
     "0", "65", "01", "+1", "", "-1", "00", "064", "1.0", "1e1", " 1", "99", "100",
 ];
 
-/// Texts of costs, and what their refusals say.
+/// Texts of costs, and what their refusal lines say.
 static TEXTS: [(&str, &str); 17] = [
     ("", "notjson costs 0 whole 0"),
     ("[", "notjson costs 0 whole 0"),
@@ -219,7 +219,7 @@ static TEXTS: [(&str, &str); 17] = [
     (r#"[["l1","on",1]]"#, "unknown costs 0 steps 0"),
 ];
 
-/// Items that are refused wherever they stand, and the rules that they break.
+/// Items that are refused at every place of a list, and the rules that they break.
 static ITEMS: [(&str, &str); 20] = [
     ("1", "form"),
     ("null", "form"),
@@ -243,10 +243,10 @@ static ITEMS: [(&str, &str); 20] = [
     (r#"["spare","off",18446744073709551615]"#, "count"),
 ];
 
-/// Items that are taken.
+/// Items that are accepted.
 static GOOD: [&str; 2] = [r#"["lamp","on",1]"#, r#"["lamp","off",1]"#];
 
-/// The status of `advise` and these words on those texts; what is written goes to a sink.
+/// Runs `advise` with these words on these texts, writes to the sink, and returns the status.
 fn advise<O: Sink, L: Ledger>(
     alloc: Global,
     system: Text,
@@ -267,8 +267,8 @@ fn advise<O: Sink, L: Ledger>(
     Ok(serve(alloc, &all, &mut shelf, &mut input, out, steps))
 }
 
-/// What a request for advice comes to where that isn't what it must, with its name; nothing where it
-/// is.
+/// Returns the name, the status and the output of a request for advice with a wrong outcome. Returns an
+/// empty text if it has its expected outcome.
 fn unadvised<L: Ledger>(
     alloc: Global,
     name: &str,
@@ -283,8 +283,8 @@ fn unadvised<L: Ledger>(
     told(alloc, name, comes_to, status, out.bytes())
 }
 
-/// What the first request comes to that doesn't come to what it must, with its name; nothing where
-/// each one does.
+/// Returns the name, the status and the output of the first request with a wrong outcome. Returns an
+/// empty text if each request has its expected outcome.
 fn first_wrong<L: Ledger>(alloc: Global, rows: &[Asked], blank: Blank) -> Result<String, AllocError>
     requires name { blank.name ≡ L.name }
     requires parts { blank.parts ≡ L.parts }
@@ -310,7 +310,8 @@ fn advice_is_given(rt: HostRuntime) -> Result<(), Fail> {
     Ok(())
 }
 
-/// What the first of the words that are no numbers comes to that isn't answered by the usage line.
+/// Returns the first word of `NO_NUMBERS` that isn't answered by the usage line, with the status and the
+/// output. Returns an empty text if each is.
 fn first_number<L: Ledger>(alloc: Global, blank: Blank) -> Result<String, AllocError>
     requires name { blank.name ≡ L.name }
     requires parts { blank.parts ≡ L.parts }
@@ -335,7 +336,8 @@ fn requests_are_counted_in_plain_digits(rt: HostRuntime) -> Result<(), Fail> {
     Ok(())
 }
 
-/// What a text of costs comes to where that isn't its refusal: nothing where it is.
+/// Returns the status and the output for a text of costs that isn't refused by this rule, and an empty
+/// text if it is.
 fn unrefused<L: Ledger>(
     alloc: Global,
     costs: Vec<u8>,
@@ -353,7 +355,8 @@ fn unrefused<L: Ledger>(
     format!(in alloc; "not {}: status {}\n{}", rule, status.number(), written)
 }
 
-/// What the first of the texts comes to that isn't refused by its rule.
+/// Returns the status and the output for the first of the texts that isn't refused by its rule, and an
+/// empty text if each is.
 fn first_text<L: Ledger>(alloc: Global, blank: Blank) -> Result<String, AllocError>
     requires name { blank.name ≡ L.name }
     requires parts { blank.parts ≡ L.parts }
@@ -370,7 +373,7 @@ fn first_text<L: Ledger>(alloc: Global, blank: Blank) -> Result<String, AllocErr
     Ok(String::new(alloc))
 }
 
-/// The text of three items, the one at that place being this one.
+/// Returns the text of three items, of which this item is at the given place.
 fn items_with(alloc: Global, place: usize, item: &str) -> Result<Vec<u8>, AllocError> {
     let [first, second] = GOOD;
     let text = match place {
@@ -381,8 +384,8 @@ fn items_with(alloc: Global, place: usize, item: &str) -> Result<Vec<u8>, AllocE
     Vec::from_slice(alloc, text.as_bytes())
 }
 
-/// What the first of the items comes to that isn't refused by its rule, at the first place, in the
-/// middle or at the last.
+/// Returns the status and the output for the first of the items that isn't refused by its rule, at the
+/// first, the middle or the last place. Returns an empty text if each is.
 fn first_item<L: Ledger>(alloc: Global, blank: Blank) -> Result<String, AllocError>
     requires name { blank.name ≡ L.name }
     requires parts { blank.parts ≡ L.parts }
@@ -411,7 +414,7 @@ fn costs_are_refused_by_their_first_rule(rt: HostRuntime) -> Result<(), Fail> {
     Ok(())
 }
 
-/// A list of so many items, all the same.
+/// Returns the text of a list of `count` equal items.
 fn same_items(alloc: Global, count: u32) -> Result<Vec<u8>, AllocError> {
     let mut text = Vec::from_slice(alloc, br#"[["lamp","on",1]"#)?;
     for _ in 1..count {
@@ -421,8 +424,8 @@ fn same_items(alloc: Global, count: u32) -> Result<Vec<u8>, AllocError> {
     Ok(text)
 }
 
-/// What is written of lists of 1,024 and of 1,025 items, and of texts of 1,048,576 bytes and of one more,
-/// where it isn't what it must be.
+/// Tries lists of 1,024 and of 1,025 items, and texts of 1,048,576 and of 1,048,577 bytes. Returns the
+/// status and the output for the first that isn't refused by its rule, and an empty text if each is.
 fn past_limits<L: Ledger>(alloc: Global, blank: Blank) -> Result<String, AllocError>
     requires name { blank.name ≡ L.name }
     requires parts { blank.parts ≡ L.parts }
@@ -465,7 +468,7 @@ fn costs_have_limits(rt: HostRuntime) -> Result<(), Fail> {
     Ok(())
 }
 
-/// The status of advice that has just as many values as there may be.
+/// Returns the status of advice with the greatest number of values.
 fn most_values<L: Ledger>(alloc: Global, blank: Blank) -> Result<Status, AllocError>
     requires name { blank.name ≡ L.name }
     requires parts { blank.parts ≡ L.parts }

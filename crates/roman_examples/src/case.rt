@@ -1,4 +1,4 @@
-//! Runs over objects in memory, and what they must come to.
+//! Runs over objects in memory, and the outcomes that they must have.
 ghost use Rattle.std.specs.Prelude.{◌≡◌, ◌<◌};
 
 use crate::texts::Text;
@@ -7,11 +7,11 @@ use roman_top::{Status, serve};
 use std::alloc::{AllocError, Global};
 use std::sync::ledger::{Blank, Ledger};
 
-/// The line that is written where the words have no shape.
+/// The line that is written if the words are no command.
 pub(crate) const USAGE: &str =
     "usage: roman synth SYSTEM | run SYSTEM [SESSION] | certify SYSTEM | check SYSTEM CERT | make N | resilience SYSTEM | shortest SYSTEM | advise SYSTEM COSTS H";
 
-/// What comes of a lamp, and of a target that is one.
+/// The lines of the report on one lamp, with a target that is a lamp.
 pub(crate) const LAMP_LINES: &[&str] = &[
     "pairs 4",
     "related 2",
@@ -23,35 +23,35 @@ pub(crate) const LAMP_LINES: &[&str] = &[
     "end",
 ];
 
-/// The same as a text.
+/// The report `LAMP_LINES` as bytes.
 pub(crate) const LAMP_REPORT: &[u8] =
     b"pairs 4\nrelated 2\nenvironment e\ntarget off final\nservice l1 lamp off ready\nanswer composition\noffer on: l1\nend\n";
 
-/// A text with its name.
+/// The name of a text on the shelf, and the text.
 pub(crate) type File = (&'static str, Text);
 
-/// What a run must come to.
+/// The expected outcome of a run.
 #[derive(Clone, Copy)]
 pub(crate) enum Outcome {
-    /// These lines are written, and all is done. A line `tally N` stands for any line `kept K added M`
-    /// with K and M that add up to N.
+    /// These lines are written, and the status is `Done`. A line `tally N` stands for any line
+    /// `kept K added M` in which K and M add up to N.
     Done(&'static [&'static str]),
-    /// These lines are written and then those of a report, and all is done.
+    /// These lines and then those of a report are written, and the status is `Done`.
     Reports(&'static [&'static str], &'static [&'static str]),
-    /// These lines are written, and the answer is no.
+    /// These lines are written, and the status is `No`.
     No(&'static [&'static str]),
-    /// A text is refused: which one, and by which rule.
+    /// A text is refused. The value is the refusal line after its first word.
     Refused(&'static str),
-    /// There are more cells than this limit.
+    /// The system has more cells than this limit.
     Limit(&'static str),
-    /// The words have no shape.
+    /// The words are no command.
     Usage,
-    /// A text is not there, and nothing is written.
+    /// A text isn't on the shelf, and nothing is written.
     Gone,
 }
 
 impl Outcome {
-    /// Whether a run that ends so, with that text written, comes to this.
+    /// Returns whether a run that ended with this status and wrote this text has this outcome.
     pub(crate) fn is(self, status: Status, text: &str) -> bool {
         match self {
             Outcome::Done(lines) => status == Status::Done && has_lines(text, lines, &[]),
@@ -67,7 +67,7 @@ impl Outcome {
     }
 }
 
-/// One run, and what it must come to.
+/// One run, and its expected outcome.
 #[derive(Clone, Copy)]
 pub(crate) struct Case<'a> {
     /// What the run shows.
@@ -76,13 +76,13 @@ pub(crate) struct Case<'a> {
     pub(crate) files: &'a [File],
     /// The words after the program's name.
     pub(crate) words: &'a [&'a str],
-    /// The lines that come in.
+    /// The lines of the input.
     pub(crate) input: &'a [&'a str],
-    /// What the run must come to.
+    /// The expected outcome.
     pub(crate) comes_to: Outcome,
 }
 
-/// What a run shows, the text in which it differs from others, and what it must come to.
+/// What a run shows, the text in which it differs from other runs, and its expected outcome.
 pub(crate) type Row = (&'static str, Text, Outcome);
 
 /// Runs that differ in one text.
@@ -90,7 +90,7 @@ pub(crate) type Row = (&'static str, Text, Outcome);
 pub(crate) struct Runs<'a> {
     /// The words after the program's name.
     pub(crate) words: &'a [&'a str],
-    /// The name of the text in which they differ.
+    /// The name of the text in which the runs differ.
     pub(crate) file: &'static str,
     /// The other texts on the shelf.
     pub(crate) beside: &'a [File],
@@ -106,11 +106,11 @@ pub(crate) const SYNTH: Runs<'static> = Runs {
     rows: &[],
 };
 
-/// What a session shows, its document, the lines that come in, and what it must come to.
+/// What a session shows, its document, the lines of the input, and its expected outcome.
 pub(crate) type Talk = (&'static str, Text, &'static [&'static str], Outcome);
 
-/// What the first run comes to that doesn't come to what it must, with its name; nothing where each
-/// one does.
+/// Returns the name, the status and the output of the first run with a wrong outcome. Returns an empty
+/// text if each run has its expected outcome.
 pub(crate) fn first_wrong<L: Ledger>(
     alloc: Global,
     cases: &[Case<'_>],
@@ -130,7 +130,7 @@ pub(crate) fn first_wrong<L: Ledger>(
     Ok(String::new(alloc))
 }
 
-/// The same, of runs that differ in one text.
+/// Does the same as `first_wrong` for runs that differ in one text.
 pub(crate) fn first_row<L: Ledger>(
     alloc: Global,
     runs: &Runs<'_>,
@@ -159,7 +159,7 @@ pub(crate) fn first_row<L: Ledger>(
     Ok(String::new(alloc))
 }
 
-/// The same, of sessions.
+/// Does the same as `first_wrong` for sessions.
 pub(crate) fn first_talk<L: Ledger>(
     alloc: Global,
     talks: &[Talk],
@@ -187,7 +187,8 @@ pub(crate) fn first_talk<L: Ledger>(
     Ok(String::new(alloc))
 }
 
-/// What a run comes to where that isn't what it must, with its name; nothing where it is.
+/// Returns the name, the status and the output of the run if its outcome is wrong, and an empty text
+/// otherwise.
 fn wrong<L: Ledger>(
     alloc: Global,
     case: &Case<'_>,
@@ -199,8 +200,8 @@ fn wrong<L: Ledger>(
     told(alloc, case.name, case.comes_to, status, out.bytes())
 }
 
-/// How a run ends and what it writes where that isn't what it must be, with its name; nothing where it
-/// is.
+/// Returns the name of a run, its status and what it wrote, unless they make the expected outcome.
+/// Returns an empty text if they do.
 pub(crate) fn told(
     alloc: Global,
     name: &str,
@@ -215,7 +216,7 @@ pub(crate) fn told(
     format!(in alloc; "{}: status {}\n{}", name, status.number(), written)
 }
 
-/// A run over those files.
+/// Runs the program on these files, and returns the status.
 pub(crate) fn run<I: Source, O: Sink, L: Ledger>(
     alloc: Global,
     files: &[File],
@@ -229,7 +230,7 @@ pub(crate) fn run<I: Source, O: Sink, L: Ledger>(
     Ok(serve(alloc, &words, &mut shelf, input, out, steps))
 }
 
-/// The files of a shelf.
+/// Returns the files with their bytes, as a shelf takes them.
 pub(crate) fn files_of(
     alloc: Global,
     files: &[File],
@@ -242,7 +243,7 @@ pub(crate) fn files_of(
     Ok(all)
 }
 
-/// Those words.
+/// Returns these words as the program takes them.
 pub(crate) fn words_of(alloc: Global, words: &[&str]) -> Result<Words, AllocError> {
     let mut all = Words::new(alloc);
     for word in words {
@@ -251,7 +252,7 @@ pub(crate) fn words_of(alloc: Global, words: &[&str]) -> Result<Words, AllocErro
     Ok(all)
 }
 
-/// A text of those lines.
+/// Returns the text of these lines, each with its newline.
 pub(crate) fn text_of(alloc: Global, lines: &[&str]) -> Result<Vec<u8>, AllocError> {
     let mut text = Vec::new(alloc);
     for line in lines {
@@ -261,7 +262,7 @@ pub(crate) fn text_of(alloc: Global, lines: &[&str]) -> Result<Vec<u8>, AllocErr
     Ok(text)
 }
 
-/// Whether the text has just the lines that are wanted, and then those of a report.
+/// Returns whether the text is just the wanted lines, followed by those of a report.
 fn has_lines(text: &str, wanted: &[&str], report: &[&str]) -> bool {
     let mut lines = text.split('\n');
     for wanted in wanted.iter().chain(report) {
@@ -273,7 +274,7 @@ fn has_lines(text: &str, wanted: &[&str], report: &[&str]) -> bool {
     lines.next() == Some("") && lines.next().is_none()
 }
 
-/// Whether the text is just the line of those two parts.
+/// Returns whether the text is just the line that joins these two parts.
 fn is_line(text: &str, first: &str, rest: &str) -> bool {
     match text.strip_prefix(first) {
         Some(text) => text.strip_suffix("\n") == Some(rest),
@@ -281,7 +282,7 @@ fn is_line(text: &str, first: &str, rest: &str) -> bool {
     }
 }
 
-/// Whether the two numbers of a reply to a change add up to what is wanted.
+/// Returns whether the two numbers of a reply to a change add up to the wanted number.
 fn has_tally(line: &str, wanted: &str) -> bool {
     match (tally_of(line), wanted.strip_prefix("tally ")) {
         (Some(tally), Some(wanted)) => wanted.parse() == Ok(tally),
@@ -289,7 +290,7 @@ fn has_tally(line: &str, wanted: &str) -> bool {
     }
 }
 
-/// The sum of the two numbers of a reply to a change.
+/// Returns the sum of the two numbers of a reply to a change, or `None` for any other line.
 fn tally_of(line: &str) -> Option<u32> {
     let (kept, added) = line.strip_prefix("kept ")?.split_once(" added ")?;
     kept.parse::<u32>().ok()?.checked_add(added.parse().ok()?)

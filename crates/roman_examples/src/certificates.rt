@@ -51,7 +51,8 @@ fn certificates_are_checked(rt: HostRuntime) -> Result<(), Fail> {
     Ok(())
 }
 
-/// The status of `check` on the certificate that `certify` writes for the lamp, and what is written.
+/// Runs `check` on the certificate that `certify` writes for the lamp. Returns the status, and the sink
+/// with what was written.
 fn checked<L: Ledger>(alloc: Global, blank: Blank) -> Result<(Status, MemSink), AllocError>
     requires name { blank.name ≡ L.name }
     requires parts { blank.parts ≡ L.parts }

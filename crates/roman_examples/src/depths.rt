@@ -1,4 +1,4 @@
-//! Within how many requests pairs are lost.
+//! Depths: within how many requests the opponent wins.
 
 use crate::case::Outcome::{Done, Gone, Limit, Usage};
 use crate::case::{Case, first_wrong};

@@ -13,7 +13,7 @@ use std::marker::Brand;
 use std::sync::ledger::{Blank, Ledger};
 use std::test::Fail;
 
-/// Documents that are composed or refused.
+/// Documents that are accepted or refused.
 static ROWS: [Row; 20] = [
     (
         "choice",
@@ -117,7 +117,7 @@ static TARGETS: [Row; 3] = [
     ),
 ];
 
-/// A document that is not there.
+/// A document that isn't on the shelf.
 static CASES: [Case; 1] = [Case {
     name: "a document that is not there",
     files: &[("lamp.json", Text::Lamp)],
@@ -147,7 +147,7 @@ fn documents_are_read(rt: HostRuntime) -> Result<(), Fail> {
     Ok(())
 }
 
-/// The status of `synth` on that text, and what is written.
+/// Runs `synth` on this text. Returns the status, and the sink with what was written.
 fn synth<L: Ledger>(
     alloc: Global,
     text: Vec<u8>,
@@ -163,8 +163,8 @@ fn synth<L: Ledger>(
     Ok((status, out))
 }
 
-/// The length of the first part of the lamp's text, cut after fewer than all its bytes, that isn't
-/// refused.
+/// Returns the least length to which the lamp's text can be cut without being refused, or `None` if each
+/// shorter text is refused.
 fn first_read<L: Ledger>(alloc: Global, blank: Blank) -> Result<Option<usize>, AllocError>
     requires name { blank.name ≡ L.name }
     requires parts { blank.parts ≡ L.parts }
@@ -190,8 +190,8 @@ fn a_cut_document_is_refused(rt: HostRuntime) -> Result<(), Fail> {
     Ok(())
 }
 
-/// The status of `synth` on the lamp's text with spaces behind it, up to so many bytes, and what is
-/// written.
+/// Runs `synth` on the lamp's text, with spaces after it up to `len` bytes. Returns the status, and the
+/// sink with what was written.
 fn padded<L: Ledger>(
     alloc: Global,
     len: usize,

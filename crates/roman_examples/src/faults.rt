@@ -10,7 +10,7 @@ use std::marker::Brand;
 use std::sync::ledger::{Blank, Ledger};
 use std::test::Fail;
 
-/// The session.
+/// The lines of the session.
 static LINES: [&str; 6] = [
     "do on",
     "use l1",
@@ -20,22 +20,24 @@ static LINES: [&str; 6] = [
     "saw off e",
 ];
 
-/// How many bytes of the session there are up to the end of each line.
+/// The number of bytes of the session up to the end of each line.
 static LINE_ENDS: [u64; 6] = [6, 13, 22, 29, 36, 46];
 
-/// What is written.
+/// The replies to the whole session.
 const REPLIES: &[u8] = b"offer l1\nusing l1\nnow on e\noffer l1\nusing l1\nnow off e\n";
 
-/// How many bytes of the replies there are before each line and up to the last one's end.
+/// The number of bytes of the replies before each line, and of all replies.
 static REPLY_ENDS: [usize; 7] = [0, 9, 18, 27, 36, 45, 55];
 
-/// How many there are up to the middle of each line: a put that fails appends the first half.
+/// The number of bytes of the replies up to the middle of each line. A put that fails appends the first
+/// half of its bytes.
 static REPLY_MIDDLES: [usize; 6] = [4, 13, 22, 31, 40, 50];
 
-/// How many there are where each fetch fails: nothing before the session is read to its end.
+/// The number of bytes of the replies that are written when each fetch fails. Nothing is written before
+/// the whole session was fetched.
 static FETCH_ENDS: [usize; 4] = [0, 0, 0, 55];
 
-/// A call that is to fail.
+/// The kind of a call that fails.
 #[derive(Clone, Copy, PartialEq, Eq)]
 enum Fault {
     /// A take from the input.
@@ -47,7 +49,7 @@ enum Fault {
 }
 
 impl Fault {
-    /// The numbers of the calls of this kind that fail, where call `i` of a kind is to fail.
+    /// Returns the numbers of the calls of this kind that fail, when call `i` of the kind `fault` fails.
     fn calls(self, alloc: Global, fault: Fault, i: u64) -> Result<Vec<u64>, AllocError> {
         let mut calls = Vec::new(alloc);
         if self == fault {
@@ -56,7 +58,8 @@ impl Fault {
         Ok(calls)
     }
 
-    /// The words of the run, in which the session comes from the shelf where a fetch is to fail.
+    /// Returns the words of the run. Its session comes from the shelf if a fetch fails, and from the
+    /// input otherwise.
     fn words(self) -> &'static [&'static str] {
         match self {
             Fault::Fetch => &["run", "lamp.json", "s.txt"],
@@ -64,19 +67,19 @@ impl Fault {
         }
     }
 
-    /// How many calls of this kind the run makes, the session's bytes coming one by one.
+    /// Returns the number of calls of this kind in a run whose input gives one byte at a time.
     fn count(self) -> u64 {
         match self {
-            // Each byte, and the end.
+            // One for each byte, and one at the end.
             Fault::Take => 47,
-            // Each reply.
+            // One for each reply.
             Fault::Put => 6,
-            // The document and its end, the session and its end.
+            // One for the document, one at its end, and as many for the session.
             Fault::Fetch => 4,
         }
     }
 
-    /// Whether just those replies stand in the sink that must where call `i` of this kind fails.
+    /// Returns whether the text has exactly the bytes that are written when call `i` of this kind fails.
     fn writes(self, i: u64, text: &[u8]) -> bool {
         let end = match self {
             Fault::Take => REPLY_ENDS.get(LINE_ENDS.iter().filter(|end| **end <= i).count()),
@@ -89,7 +92,7 @@ impl Fault {
         }
     }
 
-    /// How the run ends where such a call fails.
+    /// Returns the status of a run in which a call of this kind fails.
     fn status(self) -> Status {
         match self {
             Fault::Take => Status::ReadFault,
@@ -99,14 +102,14 @@ impl Fault {
     }
 }
 
-/// Whether a text is so many bytes of the replies.
+/// Returns whether a text is the first `len` bytes of the replies.
 fn has_first(text: &[u8], len: usize) -> bool {
     let replies = REPLIES;
     len <= replies.len() && text == &replies[..len]
 }
 
-/// The status of the session in pieces of so many bytes, with call `i` of that kind failing, and what
-/// is written.
+/// Runs the session with an input in pieces of `piece` bytes, in which call `i` of this kind fails.
+/// Returns the status, and the sink with what was written.
 fn run_with<L: Ledger>(
     alloc: Global,
     fault: Fault,
@@ -130,9 +133,10 @@ fn run_with<L: Ledger>(
     Ok((status, out))
 }
 
-/// Lets each call of that kind fail in turn, and then none. Gives the number of the first call at which
-/// the run doesn't end as it must: with the kind's status, and with just those of the replies that are
-/// due before the call; and with all of them where no call fails.
+/// Runs the session once for each call of this kind, which fails, and once without a failure. A run with
+/// a failure must end with the status of the kind, and write exactly the replies that are due before the
+/// call. The run without a failure must write all replies. Returns the number of the first call at which
+/// a run ends otherwise.
 fn first_wrong<L: Ledger>(
     alloc: Global,
     fault: Fault,
@@ -177,7 +181,7 @@ fn each_fetch_fails_in_turn(rt: HostRuntime) -> Result<(), Fail> {
     Ok(())
 }
 
-/// What is written where the third take of eight bytes fails.
+/// Runs the session with an input in pieces of eight bytes, of which the third take fails.
 fn third_take<L: Ledger>(alloc: Global, blank: Blank) -> Result<(Status, MemSink), AllocError>
     requires name { blank.name ≡ L.name }
     requires parts { blank.parts ≡ L.parts }
@@ -195,7 +199,7 @@ fn whole_lines_are_answered_before_a_fault(rt: HostRuntime) -> Result<(), Fail> 
     Ok(())
 }
 
-/// What is written of the lamp's report where the first put fails.
+/// Runs `synth` on the lamp with a sink whose first put fails.
 fn first_put<L: Ledger>(alloc: Global, blank: Blank) -> Result<(Status, MemSink), AllocError>
     requires name { blank.name ≡ L.name }
     requires parts { blank.parts ≡ L.parts }

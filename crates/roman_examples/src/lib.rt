@@ -1,5 +1,5 @@
-//! The worked examples: whole runs of the program over objects in memory, with what they must write
-//! and how they must end.
+//! Worked examples: whole runs of the program over objects in memory, with what each must write and the
+//! status with which it must end.
 #![tactic(auto)]
 
 #[cfg(test)]

@@ -1,4 +1,4 @@
-//! Systems that are made from a number.
+//! Systems made from a number.
 
 use crate::case::Outcome::{Done, Usage};
 use crate::case::{Case, first_wrong};

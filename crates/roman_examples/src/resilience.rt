@@ -1,4 +1,4 @@
-//! What is left where services fail.
+//! What remains when services fail.
 ghost use Rattle.std.specs.Prelude.{◌≡◌, ◌<◌};
 
 use crate::case::Outcome::{Done, Limit, Refused};
@@ -11,7 +11,7 @@ use std::marker::Brand;
 use std::sync::ledger::{Blank, Ledger};
 use std::test::Fail;
 
-/// What is left of a lamp beside a loose service.
+/// The lines for a lamp beside a loose service.
 const LOOSE_LINES: &[&str] = &[
     "services 2",
     "start composition related 4 choices 4",
@@ -24,7 +24,7 @@ const LOOSE_LINES: &[&str] = &[
     "end",
 ];
 
-/// Systems, and what is left of each.
+/// Systems, and what remains of each.
 static ROWS: [Row; 9] = [
     (
         "lamp",
@@ -109,8 +109,8 @@ fn services_fail(rt: HostRuntime) -> Result<(), Fail> {
     Ok(())
 }
 
-/// Adds the two lines of services that fail: a lamp, and dots that nothing needs. Nothing goes without
-/// the lamp.
+/// Appends the two lines for services that fail. Only the lamp is needed: without it no composition
+/// exists.
 fn push_lines(text: &mut String, names: &str, has_lamp: bool) -> Result<(), AllocError> {
     for way in ["freeze", "die"] {
         text.push_str("without ")?;
@@ -126,7 +126,7 @@ fn push_lines(text: &mut String, names: &str, has_lamp: bool) -> Result<(), Allo
     Ok(())
 }
 
-/// The name of the service at a place, behind the lamp the dots.
+/// Returns the name of the service at place `k`. The lamp has place 0, and the dots follow.
 fn name_of(alloc: Global, k: u8) -> Result<String, AllocError> {
     if k == 0 {
         String::from_str(alloc, "l1")
@@ -135,7 +135,7 @@ fn name_of(alloc: Global, k: u8) -> Result<String, AllocError> {
     }
 }
 
-/// What is left of a lamp and thirty-one dots, where each service fails and each two of them.
+/// Returns the text of `resilience` for a lamp and thirty-one dots.
 fn full_text(alloc: Global) -> Result<String, AllocError> {
     let mut text = String::from_str(
         alloc,
@@ -157,7 +157,7 @@ fn full_text(alloc: Global) -> Result<String, AllocError> {
     Ok(text)
 }
 
-/// Whether that is written of it.
+/// Returns whether `resilience` writes that text for a lamp and thirty-one dots.
 fn full_fails<L: Ledger>(alloc: Global, blank: Blank) -> Result<bool, AllocError>
     requires name { blank.name ≡ L.name }
     requires parts { blank.parts ≡ L.parts }

@@ -426,7 +426,7 @@ fn sessions_are_answered(rt: HostRuntime) -> Result<(), Fail> {
     Ok(())
 }
 
-/// The status of a session with the lamp, and what is written.
+/// Runs a session with the lamp. Returns the status, and the sink with what was written.
 fn lamp_session<I: Source, L: Ledger>(
     alloc: Global,
     input: &mut I,

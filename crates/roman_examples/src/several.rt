@@ -7,7 +7,7 @@ use std::marker::Brand;
 use std::sync::ledger::Blank;
 use std::test::Fail;
 
-/// What comes of two lamps and two targets that are lamps.
+/// The report on two lamps with two targets that are lamps.
 const TWO_LINES: &[&str] = &[
     "pairs 16",
     "related 6",
@@ -21,7 +21,7 @@ const TWO_LINES: &[&str] = &[
     "end",
 ];
 
-/// Documents of version 3, and what is said of several targets in others.
+/// Documents of version 3, and documents of other versions that name several targets.
 static ROWS: [Row; 32] = [
     ("two targets", Text::Two, Done(TWO_LINES)),
     (
@@ -236,7 +236,7 @@ static TARGETS: [Row; 3] = [
     ),
 ];
 
-/// Requests of two targets.
+/// Sessions with requests of two targets.
 static TALKS: [Talk; 2] = [
     (
         "two targets in a session",

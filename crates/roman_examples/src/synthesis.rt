@@ -7,7 +7,7 @@ use std::marker::Brand;
 use std::sync::ledger::Blank;
 use std::test::Fail;
 
-/// What comes of a lamp that isn't asked for anything.
+/// The report on a lamp from which nothing is requested.
 const UNASKED_LINES: &[&str] = &[
     "pairs 4",
     "related 2",
@@ -18,7 +18,7 @@ const UNASKED_LINES: &[&str] = &[
     "end",
 ];
 
-/// Systems with a composition, or with none.
+/// Systems with a composition and without one.
 static ROWS: [Row; 15] = [
     ("lamp", Text::Lamp, Done(LAMP_LINES)),
     (
@@ -150,7 +150,7 @@ static ROWS: [Row; 15] = [
     ),
 ];
 
-/// Words that are no command, and parts in files.
+/// Words that aren't a command, and parts in files.
 static CASES: [Case; 4] = [
     Case {
         name: "no system",

@@ -1,5 +1,5 @@
-//! The texts of the examples, each as the pieces that it is made of: what a text changes stands on a line
-//! of its own.
+//! The texts of the examples, each as the pieces of which it is made. What differs from other texts
+//! stands on a line of its own.
 use std::alloc::{AllocError, Global};
 
 /// The beginning of a document of version 1.
@@ -11,53 +11,53 @@ const VERSION_2: &[u8] = br#"{"roman":2"#;
 /// The beginning of a document of version 3.
 const VERSION_3: &[u8] = br#"{"roman":3"#;
 
-/// One state, in which both actions stay.
+/// An environment with one state, which both actions keep.
 const ENVIRONMENT: &[u8] =
     br#","environment":{"states":["e"],"start":"e","actions":["on","off"],"steps":[["e","on","e"],["e","off","e"]]}"#;
 
-/// One state without steps.
+/// An environment with one state, one action and no steps.
 const ONE_ACTION: &[u8] =
     br#","environment":{"states":["e"],"start":"e","actions":["on"],"steps":[]}"#;
 
-/// Three states, in each of which both actions stay.
+/// An environment with three states, each of which both actions keep.
 const THREE_STATES: &[u8] =
     br#","environment":{"states":["e1","e2","e3"],"start":"e1","actions":["on","off"],"steps":[["e1","on","e1"],["e2","on","e2"],["e3","on","e3"],["e1","off","e1"],["e2","off","e2"],["e3","off","e3"]]}"#;
 
-/// Up to the first behaviour.
+/// What stands before the first behaviour.
 const BEHAVIOURS: &[u8] = br#","behaviours":["#;
 
-/// A lamp, which may be left only when it is off.
+/// The behaviour of a lamp. Its only final state is `off`.
 const LAMP: &[u8] =
     br#"{"name":"lamp","states":["off","on"],"start":"off","final":["off"],"steps":[["off",true,"on","on"],["on",true,"off","off"]]}"#;
 
-/// A lamp that may get stuck when it is switched on.
+/// The behaviour of a lamp that may get stuck when it is switched on.
 const FLAKY: &[u8] =
     br#",{"name":"flaky","states":["off","on","stuck"],"start":"off","final":["off","stuck"],"steps":[["off",true,"on","on"],["off",true,"on","stuck"],["on",true,"off","off"]]}"#;
 
-/// What does nothing, but has a state that isn't final.
+/// A behaviour without steps that has a state that isn't final.
 const X: &[u8] = br#",{"name":"x","states":["ok","bad"],"start":"ok","final":["ok"],"steps":[]}"#;
 
-/// One state.
+/// A behaviour with one state and no steps.
 const DOT: &[u8] = br#",{"name":"dot","states":["d"],"start":"d","final":["d"],"steps":[]}"#;
 
-/// Sixty-four states without steps.
+/// A behaviour with sixty-four states and no steps.
 const WIDE: &[u8] =
     br#",{"name":"wide","states":["s0","s1","s2","s3","s4","s5","s6","s7","s8","s9","s10","s11","s12","s13","s14","s15","s16","s17","s18","s19","s20","s21","s22","s23","s24","s25","s26","s27","s28","s29","s30","s31","s32","s33","s34","s35","s36","s37","s38","s39","s40","s41","s42","s43","s44","s45","s46","s47","s48","s49","s50","s51","s52","s53","s54","s55","s56","s57","s58","s59","s60","s61","s62","s63"],"start":"s0","final":[],"steps":[]}"#;
 
-/// Up to the first service.
+/// What stands before the first service.
 const SERVICES: &[u8] = br#"],"services":["#;
 
-/// A lamp.
+/// The first service, a lamp.
 const FIRST_LAMP: &[u8] = br#"{"name":"l1","behaviour":"lamp"}"#;
 
-/// A second lamp.
+/// The second service, a lamp.
 const SECOND_LAMP: &[u8] = br#",{"name":"l2","behaviour":"lamp"}"#;
 
-/// Sixteen more.
+/// Sixteen more lamps.
 const THIRD_TO_EIGHTEENTH: &[u8] =
     br#",{"name":"l3","behaviour":"lamp"},{"name":"l4","behaviour":"lamp"},{"name":"l5","behaviour":"lamp"},{"name":"l6","behaviour":"lamp"},{"name":"l7","behaviour":"lamp"},{"name":"l8","behaviour":"lamp"},{"name":"l9","behaviour":"lamp"},{"name":"l10","behaviour":"lamp"},{"name":"l11","behaviour":"lamp"},{"name":"l12","behaviour":"lamp"},{"name":"l13","behaviour":"lamp"},{"name":"l14","behaviour":"lamp"},{"name":"l15","behaviour":"lamp"},{"name":"l16","behaviour":"lamp"},{"name":"l17","behaviour":"lamp"},{"name":"l18","behaviour":"lamp"}"#;
 
-/// And four.
+/// Four more lamps.
 const NINETEENTH_TO_LAST: &[u8] =
     br#",{"name":"l19","behaviour":"lamp"},{"name":"l20","behaviour":"lamp"},{"name":"l21","behaviour":"lamp"},{"name":"l22","behaviour":"lamp"}"#;
 
@@ -69,7 +69,7 @@ const D1_TO_D31: &[u8] =
 const W1_TO_W16: &[u8] =
     br#",{"name":"w1","behaviour":"wide"},{"name":"w2","behaviour":"wide"},{"name":"w3","behaviour":"wide"},{"name":"w4","behaviour":"wide"},{"name":"w5","behaviour":"wide"},{"name":"w6","behaviour":"wide"},{"name":"w7","behaviour":"wide"},{"name":"w8","behaviour":"wide"},{"name":"w9","behaviour":"wide"},{"name":"w10","behaviour":"wide"},{"name":"w11","behaviour":"wide"},{"name":"w12","behaviour":"wide"},{"name":"w13","behaviour":"wide"},{"name":"w14","behaviour":"wide"},{"name":"w15","behaviour":"wide"},{"name":"w16","behaviour":"wide"}"#;
 
-/// Fifteen more.
+/// Fifteen more services of sixty-four states.
 const W17_TO_W31: &[u8] =
     br#",{"name":"w17","behaviour":"wide"},{"name":"w18","behaviour":"wide"},{"name":"w19","behaviour":"wide"},{"name":"w20","behaviour":"wide"},{"name":"w21","behaviour":"wide"},{"name":"w22","behaviour":"wide"},{"name":"w23","behaviour":"wide"},{"name":"w24","behaviour":"wide"},{"name":"w25","behaviour":"wide"},{"name":"w26","behaviour":"wide"},{"name":"w27","behaviour":"wide"},{"name":"w28","behaviour":"wide"},{"name":"w29","behaviour":"wide"},{"name":"w30","behaviour":"wide"},{"name":"w31","behaviour":"wide"}"#;
 
@@ -77,42 +77,42 @@ const W17_TO_W31: &[u8] =
 const A_TO_N: &[u8] =
     br#"{"name":"a","behaviour":"two"},{"name":"b","behaviour":"two"},{"name":"c","behaviour":"two"},{"name":"d","behaviour":"two"},{"name":"e","behaviour":"two"},{"name":"f","behaviour":"two"},{"name":"g","behaviour":"two"},{"name":"h","behaviour":"two"},{"name":"i","behaviour":"two"},{"name":"j","behaviour":"two"},{"name":"k","behaviour":"two"},{"name":"l","behaviour":"two"},{"name":"m","behaviour":"two"},{"name":"n","behaviour":"two"}"#;
 
-/// Up to the target.
+/// What stands before the target.
 const TARGET: &[u8] = br#"],"target":"#;
 
 /// A target that is a lamp.
 const SWITCHED: &[u8] =
     br#"{"states":["off","on"],"start":"off","final":["off"],"steps":[["off",true,"on","on"],["on",true,"off","off"]]}"#;
 
-/// The same, up to the guard of its first step.
+/// The beginning of that target, up to the guard of its first step.
 const SWITCHED_UP_TO_GUARD: &[u8] =
     br#"{"states":["off","on"],"start":"off","final":["off"],"steps":[["off","#;
 
-/// And from behind that guard on.
+/// The rest of that target, after the guard.
 const SWITCHED_FROM_GUARD: &[u8] = br#","on","on"],["on",true,"off","off"]]}"#;
 
-/// Twenty guards that are turned.
+/// The beginning of twenty nested guards `not`.
 const NOT_20: &[u8] =
     br#"{"not":{"not":{"not":{"not":{"not":{"not":{"not":{"not":{"not":{"not":{"not":{"not":{"not":{"not":{"not":{"not":{"not":{"not":{"not":{"not":"#;
 
-/// Their ends.
+/// The end of these guards.
 const END_20: &[u8] = br#"}}}}}}}}}}}}}}}}}}}}"#;
 
 /// The end of a document.
 const END: &[u8] = br#"}"#;
 
-/// Up to the first of several targets.
+/// What stands before the first of several targets.
 const TARGETS: &[u8] = br#"],"targets":["#;
 
-/// A target that is a lamp, by its name.
+/// A target named `a` that is a lamp.
 const TARGET_A: &[u8] =
     br#"{"name":"a","states":["off","on"],"start":"off","final":["off"],"steps":[["off",true,"on","on"],["on",true,"off","off"]]}"#;
 
-/// Another one.
+/// A target named `b` that is a lamp.
 const TARGET_B: &[u8] =
     br#"{"name":"b","states":["off","on"],"start":"off","final":["off"],"steps":[["off",true,"on","on"],["on",true,"off","off"]]}"#;
 
-/// Between two targets.
+/// What stands between two targets.
 const NEXT: &[u8] = br#","#;
 
 /// The end of several targets, and of the document.
@@ -121,46 +121,46 @@ const END_TARGETS: &[u8] = br#"]}"#;
 /// The beginning of a certificate for FLAKY.
 const ORDER: &[u8] = b"roman-order 1\npairs 6\n";
 
-/// Pieces of a text, one behind another.
+/// Pieces of a text, one after another.
 type Pieces = &'static [&'static [u8]];
 
-/// One state and a lamp.
+/// The environment with one state, and the behaviour of a lamp.
 const LAMP_HERE: Pieces = &[ENVIRONMENT, BEHAVIOURS, LAMP];
 
-/// The same, and what does nothing.
+/// The same, and the behaviour `x`.
 const LAMP_AND_X: Pieces = &[ENVIRONMENT, BEHAVIOURS, LAMP, X];
 
-/// The same, and what has sixty-four states.
+/// The same as `LAMP_HERE`, and the behaviour with sixty-four states.
 const LAMP_AND_WIDE: Pieces = &[ENVIRONMENT, BEHAVIOURS, LAMP, WIDE];
 
-/// The same, and a dot.
+/// The same as `LAMP_HERE`, and the behaviour with one state.
 const LAMP_AND_DOT: Pieces = &[ENVIRONMENT, BEHAVIOURS, LAMP, DOT];
 
-/// Three states and a lamp.
+/// The environment with three states, and the behaviour of a lamp.
 const LAMP_IN_THREE: Pieces = &[THREE_STATES, BEHAVIOURS, LAMP];
 
-/// The service of one lamp.
+/// One lamp as the services.
 const ONE_LAMP: Pieces = &[SERVICES, FIRST_LAMP];
 
-/// The services of two lamps.
+/// Two lamps as the services.
 const BOTH_LAMPS: Pieces = &[SERVICES, FIRST_LAMP, SECOND_LAMP];
 
-/// No services.
+/// An empty list of services.
 const NO_SERVICES: Pieces = &[SERVICES];
 
-/// Fourteen services of two states.
+/// Fourteen services of two states, after the word for services.
 const FOURTEEN: Pieces = &[SERVICES, A_TO_N];
 
-/// A target that is a lamp, and the end.
+/// A target that is a lamp, and the end of the document.
 const SWITCH: Pieces = &[TARGET, SWITCHED, END];
 
-/// Two of them.
+/// Two targets that are lamps, and the end of the document.
 const TWO_SWITCHES: Pieces = &[TARGETS, TARGET_A, NEXT, TARGET_B, END_TARGETS];
 
 /// A document of version 1 up to its services, with a lamp.
 const LAMP_1: Pieces = &[VERSION_1, ENVIRONMENT, BEHAVIOURS, LAMP];
 
-/// The same up to its target, with one lamp.
+/// A document of version 1 up to its target, with one lamp.
 const ONE_LAMP_1: Pieces = &[
     VERSION_1,
     ENVIRONMENT,
@@ -181,7 +181,7 @@ const BOTH_LAMPS_3: Pieces = &[
     SECOND_LAMP,
 ];
 
-/// The same, with what opens the targets.
+/// The same, with what stands before the first target.
 const BOTH_TO_TARGETS: Pieces = &[
     VERSION_3,
     ENVIRONMENT,
@@ -193,52 +193,52 @@ const BOTH_TO_TARGETS: Pieces = &[
     TARGETS,
 ];
 
-/// A text.
+/// The texts, by name.
 #[derive(Clone, Copy)]
 pub(crate) enum Text {
     /// One lamp, and a target that is a lamp.
     Lamp,
-    /// A flaky lamp, which may get stuck when it is switched on.
+    /// One lamp that may get stuck when it is switched on, and a target that is a lamp.
     Flaky,
     /// Three robot arms, and a target that cleans, dips and paints blocks.
     Workshop,
-    /// No services, and a target that asks for nothing.
+    /// No services, and a target that requests nothing.
     Bare,
-    /// LAMP in an environment that `on` leads nowhere.
+    /// LAMP with an environment that has no step by `on`.
     NoOn,
-    /// LAMP, its lamp switched on.
+    /// LAMP with its lamp switched on.
     LampOn,
-    /// LAMP, its lamp frozen.
+    /// LAMP with its lamp frozen.
     LampFrozen,
-    /// Eighteen lamps, and the greatest limit.
+    /// LAMP with eighteen lamps and the greatest limit.
     Lamps18,
-    /// Twenty-two lamps, and one less than the greatest limit.
+    /// LAMP with twenty-two lamps and a limit one below the greatest.
     Lamps22,
     /// LAMP with a limit below its cells.
     Limit7,
-    /// LAMP with a limit that its cells just meet.
+    /// LAMP with a limit equal to the number of its cells.
     Limit8,
     /// LAMP with the limit 0.
     Limit0,
-    /// LAMP with a limit past the greatest.
+    /// LAMP with a limit one above the greatest.
     LimitGreater,
-    /// LAMP with a limit that is no u64.
+    /// LAMP with a limit that doesn't fit in a `u64`.
     LimitHuge,
     /// Thirty-two services of 64 states each.
     Wide32,
     /// LAMP with sixteen more services of 64 states each.
     Wide16,
-    /// LAMP with a second service, which does nothing, but has a state that isn't final.
+    /// LAMP with a second service, which has no steps and a state that isn't final.
     LampAndX,
-    /// The same in version 2, its second service loose and in that state.
+    /// The same in version 2, with its second service loose and in that state.
     LampAndLooseX,
     /// The same, with a number for `rests`.
     Rests1,
-    /// The same in version 1.
+    /// The same in version 1, where `rests` is ignored.
     RestsIgnored,
-    /// LAMP with as many services as there may be.
+    /// LAMP with the greatest number of services.
     Full,
-    /// LAMP with one service more.
+    /// LAMP with one service too many.
     Overfull,
     /// LAMP with a second lamp.
     TwoLamps,
@@ -252,21 +252,21 @@ pub(crate) enum Text {
     Target,
     /// LAMP's target with an unknown action.
     TargetDim,
-    /// A part file that names another.
+    /// A part file that names another part file.
     FileAgain,
-    /// LAMP with its target in a file that isn't there.
+    /// LAMP with its target in a file that isn't on the shelf.
     TargetGone,
     /// The same with the limit 0.
     TargetGoneLimit0,
-    /// LAMP in a version that isn't there.
+    /// LAMP in version 9, which doesn't exist.
     Roman9,
     /// LAMP in version 2.
     Roman2,
-    /// LAMP with an action twice.
+    /// LAMP with an action named twice.
     OnTwice,
     /// LAMP without a target.
     NoTarget,
-    /// LAMP with a list of names where a list of guards is due.
+    /// LAMP with a list of names where the format wants a list of guards.
     NoGuard,
     /// LAMP with a guard of a hundred levels.
     Not100,
@@ -274,11 +274,11 @@ pub(crate) enum Text {
     Not200,
     /// LAMP with the byte 255 in place of its last byte.
     Lamp255,
-    /// LAMP with a final state twice.
+    /// LAMP with a final state of its target named twice.
     FinalTwice,
     /// LAMP with no behaviours.
     NoBehaviours,
-    /// LAMP with guards that mean all states, or none, in other words.
+    /// LAMP with guards that mean all states or none, written in other ways.
     OtherGuards,
     /// LAMP with a guard that means no state.
     FalseGuard,
@@ -290,15 +290,15 @@ pub(crate) enum Text {
     Behaviour,
     /// LAMP with a second service that is both frozen and loose.
     FrozenAndLoose,
-    /// A certificate for FLAKY: accepted.
+    /// A certificate for FLAKY that is accepted.
     Order,
-    /// A certificate for FLAKY: two entries exchanged.
+    /// A certificate for FLAKY with two entries exchanged.
     OrderExchanged,
-    /// A certificate for FLAKY: an entry missing.
+    /// A certificate for FLAKY without its last entry.
     OrderShort,
-    /// A certificate for FLAKY: no end.
+    /// A certificate for FLAKY without its last line, `end`.
     OrderUnended,
-    /// A certificate for FLAKY: an entry twice.
+    /// A certificate for FLAKY with an entry listed twice.
     OrderTwice,
     /// Two lamps, and two targets that are lamps.
     Two,
@@ -308,35 +308,35 @@ pub(crate) enum Text {
     OneOfTwo,
     /// No targets in a list.
     NoneOfTwo,
-    /// Five targets, the first in a file that is not there.
+    /// Five targets, the first in a file that isn't on the shelf.
     FiveTargets,
-    /// No list of targets in version 3.
+    /// A document of version 3 without `targets`.
     TargetsGone,
-    /// An object for the targets.
+    /// An object in place of the list of targets.
     TargetsNoList,
-    /// The second target by file.
+    /// Two targets, the second in a file.
     SecondByFile,
-    /// A target with its name.
+    /// The target named `b`, as a part file.
     TargetB,
     /// The first target without a name.
     NamelessFirst,
-    /// A number for the name of the second target.
+    /// A number in place of the name of the second target.
     NumberName,
-    /// A bad name, before a file that is not there.
+    /// A first target whose name has a space, before a file that isn't on the shelf.
     BadNameFirst,
-    /// Two targets of one name.
+    /// Two targets with the same name.
     SameName,
-    /// A number for the second target.
+    /// A number in place of the second target.
     NoTargetObject,
-    /// A repeated name, and no states.
+    /// A second target with a repeated name and without states.
     NameBeforeStates,
-    /// Targets of 13 and of 5 states.
+    /// Targets of 13 and of 5 states, which make 65 combined states.
     States65,
-    /// Targets of 16 and of 4 states, and no services.
+    /// Targets of 16 and of 4 states, which make 64 combined states, and no services.
     States64,
     /// Targets of 17 and of 16 actions.
     Actions33,
-    /// Targets of 16 and of 16 actions, which never happen.
+    /// Targets of 16 and of 16 actions, none of which the environment allows.
     Actions32,
     /// Targets without steps.
     Actions0,
@@ -348,37 +348,37 @@ pub(crate) enum Text {
     LongAction,
     /// Combined names of 32 bytes.
     Long32,
-    /// Two combined states of one name.
+    /// Two combined states with the same name.
     SameStates,
-    /// Two combined actions of one name.
+    /// Two combined actions with the same name.
     SameActions,
     /// Too many combined states, none of whose actions is used, with names too long and repeated.
     AllFour,
     /// Names too long and repeated.
     LongAndSame,
-    /// A choice in the last target, of too many combined states.
+    /// Targets with too many combined states, the last of which has a choice.
     ChoiceLast,
-    /// A number for the target in version 3.
+    /// A document of version 3 with a number for `target`.
     TwoWithTarget,
-    /// A number for the targets in version 1.
+    /// A document of version 1 with a number for `targets`.
     LampWithTargets,
-    /// One of two lamps is loose, and on.
+    /// Two lamps and two targets, where one lamp is loose and on.
     TwoLoose,
-    /// The version 4.
+    /// A document of version 4, which doesn't exist.
     Roman4,
-    /// A certificate for FLAKY: empty.
+    /// An empty text.
     Nothing,
     /// LAMP with a further behaviour, the same machine, and a second service of it.
     Spare,
-    /// Fourteen services of two states, and a target that asks for nothing: 16,384 related pairs with
-    /// the target state `a`, and with `b`, which is final, none.
+    /// Fourteen services of two states, and a target that requests nothing. Of the pairs with the target
+    /// state `a` 16,384 are related, and of those with `b`, which is final, none.
     Many,
-    /// The same, with one related pair more: that with `b` in which all services are final.
+    /// The same with one more related pair: that with `b` in which all services are final.
     OneMore,
 }
 
 impl Text {
-    /// Its bytes.
+    /// Returns the bytes of the text.
     pub(crate) fn bytes(self, alloc: Global) -> Result<Vec<u8>, AllocError> {
         let mut bytes = Vec::new(alloc);
         for pieces in self.parts() {
@@ -387,8 +387,8 @@ impl Text {
         Ok(bytes)
     }
 
-    /// What it is made of: of a document the version, with its limit if it has one, the environment with
-    /// the behaviours, the services, and the target.
+    /// Returns the parts of which the text is made. Those of a document are the version with its limit,
+    /// the environment with the behaviours, the services, and the target.
     fn parts(self) -> &'static [Pieces] {
         match self {
             Text::Lamp => &[ONE_LAMP_1, SWITCH],
@@ -943,7 +943,7 @@ impl Text {
     }
 }
 
-/// Adds pieces to a text.
+/// Appends pieces to a text.
 fn push(text: &mut Vec<u8>, pieces: &[&[u8]]) -> Result<(), AllocError> {
     for piece in pieces {
         text.extend_from_slice(piece)?;
