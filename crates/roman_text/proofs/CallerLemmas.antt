@@ -1,4 +1,4 @@
--- What the proofs of other crates may cite of this one. All else in proofs/ can be renamed freely.
+-- The lemmas of this crate that proofs of other crates may cite. All else in proofs/ can be renamed freely.
 
 -- The lines of a text that grows.
 pub use Rattle.roman_text.proofs.LineLemmas.{ended_lines-append, ended_lines-newline, ended_lines-part, kept-again, kept-append, kept-nil, lines_are, lines_none, lines_only}

@@ -142,7 +142,7 @@ pub length-kept : (line : List ℕ) → length (kept line) ≡ min 257 (length l
 unfolding kept
 length-kept line = length-take 257 line
 
--- where no bytes are kept, the line is empty
+-- if no bytes are kept, the line is empty
 pub kept-empty : (line : List ℕ) → length (kept line) ≡ 0 → line ≡ []
 unfolding kept
 kept-empty [] h = refl
@@ -166,7 +166,7 @@ hold_room held bytes n room e full = go 257 held full where
 lines_are_ended : (bytes : List ℕ) → lines bytes ≡ ended_lines bytes ++ lines (unfinished bytes)
 lines_are_ended bytes = ap lines (lines_are bytes).whole ∙ lines-text (ended_lines bytes) (unfinished bytes) (lines_are bytes).each
 
--- where some bytes of the last line are held, it is a line
+-- if some bytes of the last line are held, it is a line
 pub lines_rest : (bytes : List ℕ) → ltb 0 (length (kept (unfinished bytes))) ≡ true → lines bytes ≡ ended_lines bytes ++ unfinished bytes ∷ []
 lines_rest bytes h =
     lines_are_ended bytes ∙ ap (λ more. ended_lines bytes ++ more) (lines_last (unfinished bytes) (lines_are bytes).last some)
@@ -176,6 +176,6 @@ lines_rest bytes h =
         let held = ltb-true 0 (length (kept (unfinished bytes))) h in
         omega (arith, length-kept (unfinished bytes), ap length e)
 
--- where no bytes are held, there is no other line
+-- if no bytes are held, there is no other line
 pub lines_none : (bytes : List ℕ) → ltb 0 (length (kept (unfinished bytes))) ≡ false → lines bytes ≡ ended_lines bytes
 lines_none bytes h = grind (arith, append-nil, kept-empty, lines_are_ended)

@@ -47,6 +47,6 @@ pub Gathers-flushed : {T E : Type 0} (old mid new : Option (List ℕ)) (held aft
 Gathers-flushed old mid new held after more result wrote h =
     Gathers-after old mid new [] after held more result (Gathered-put old mid held wrote) h
 
--- where writing the held bytes failed, a prefix of them and of the bytes after them was written
+-- if writing the held bytes failed, a prefix of them and of the bytes after them was written
 pub gathers_failed : (old new : Option (List ℕ)) (held after more : List ℕ) → WrotePrefix old new held → after ≡ [] → WrotePrefix old new (held ++ more) × (after ≡ [])
 gathers_failed old new held after more wrote empty = (WrotePrefix-append old new held more wrote, empty)

@@ -34,7 +34,7 @@ some_step : (b : Bool) (m n i : ℕ) → ltb m n ≡ b → cond b (Some m) None 
 some_step true m n i e h = (cc, ltb-true m n e)
 some_step false m n i e h = absurd (cc)
 
--- the place of the first element that passes, where there is one
+-- the place of the first element that passes, if there is one
 pub none_at : {X : Type 0} (p : X → Bool) (xs : List X) → position p xs ≡ None → length xs ≤ position_or_len p xs
 none_at p xs h = none_step (ltb (position_or_len p xs) (length xs)) (position_or_len p xs) (length xs) refl h
 

@@ -1,4 +1,4 @@
-//! Pushes replies onto a page.
+//! Pushes replies on a page.
 ghost use Rattle.std.specs.Prelude.{◌≡◌, ◌+◌, ◌≤◌, ◌++◌, length, decimal};
 ghost use Rattle.roman_io.specs.Faults.{HasCause};
 ghost use Rattle.roman_model.specs.declared.limits.TheConstants.{PIECE_BYTES};

@@ -3,7 +3,7 @@ use Rattle.std.proofs.Common.{take-add, length-take-le}
 use Rattle.std.proofs.lemmas.List.{take_at, drop_at, take-append-le}
 use Rattle.roman_text.proofs.page.Page.add_bare.Goals as goal
 
--- bytes behind a beginning, of which some are kept
+-- bytes after a beginning, of which some are kept
 behind : (held bytes rest : List ℕ) (len n : ℕ) → length held ≡ len → n ≤ length bytes → take (len + n) (held ++ (bytes ++ rest)) ≡ held ++ take n bytes
 behind held bytes rest len n long few =
     take-add len n (held ++ (bytes ++ rest)) ∙ ap₂ ◌++◌ (take_at held (bytes ++ rest) len long) (ap (take n) (drop_at held (bytes ++ rest) len long) ∙ take-append-le n bytes rest few)
