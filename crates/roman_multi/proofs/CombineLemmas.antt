@@ -61,7 +61,7 @@ pub record HasGoodCounts (env : NamedEnv) (targets : List Named) : Type 0 where
   pub actions : IsFalse (has_bad_count (requests_in env targets))
   pub some : (0 < length (requests_in env targets)) × (length (requests_in env targets) ≤ MAX_ACTIONS)
 
--- the counts are good where their shape fits and the count of the requests isn't bad
+-- the counts are good if their shape fits and the count of the requests isn't bad
 pub good_counts : (env : NamedEnv) (targets : List Named) (sizes : List ℕ) (cap : ℕ) (requests : List Request) → sizes ≡ target_sizes (machines targets) → cap ≡ MAX_STATES → count (flat sizes) ≤ cap →
     requests ≡ requests_in env targets → IsFalse (has_bad_count requests) → HasGoodCounts env targets
 good_counts env targets sizes cap requests same is fits asked good = grind (arith, few_states, fits_within, good_count)
@@ -87,7 +87,7 @@ pub parts_are : (env : NamedEnv) (catalogue : List NamedBeh) (targets : List Nam
 unfolding combined_parts
 parts_are env catalogue targets requests states actions environment made target asked named called world behaviours goes = grind arith
 
--- the targets and their requests are a merge where the counts are good
+-- the targets and their requests are a merge if the counts are good
 pub merge_is : (m : Merge) (sizes : List ℕ) → (2 ≤ length m.targets.now) × (length m.targets.now ≤ 4) → All (λ named. IsTarget m.env.now named.target) m.targets.now → m.shape.now ≡ flat sizes →
     sizes ≡ target_sizes (machines m.targets.now) → m.requests.now ≡ requests_in m.env.now m.targets.now → HasGoodCounts m.env.now m.targets.now → IsMerge m
 merge_is m sizes some known shape same asked counts = record {

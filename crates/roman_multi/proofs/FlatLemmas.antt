@@ -51,7 +51,7 @@ starts_pair env targets shape starts known same is =
       bs = subst (λ xs. AllZip (λ size b. b < size) (target_sizes (machines targets)) xs) (sym is) (starts_below env.env (machines targets) (machines_known env targets known));
     })
 
--- a shape fits exactly where there are few enough combined states
+-- a shape fits exactly when there are few enough combined states
 pub fits_within : (sizes others : List ℕ) (cap : ℕ) → sizes ≡ others → cap ≡ MAX_STATES → count (flat sizes) ≤ cap → product_of others ≤ MAX_STATES
 fits_within sizes others cap same is fits = subst (λ n. n ≤ MAX_STATES) (count-flat sizes ∙ ap product_of same) (subst (λ n. count (flat sizes) ≤ n) is fits)
 

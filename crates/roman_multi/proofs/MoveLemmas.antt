@@ -18,7 +18,7 @@ in_moves : (env_states actions states : ℕ) (next : ℕ → ℕ → ℕ → Lis
 in_moves env_states actions states next b e n to hb he hn i =
     in_flat_map _ _ _ _ (in_below _ _ hb) (in_flat_map _ _ _ _ (in_below _ _ hn) (in_flat_map _ _ _ _ (in_below _ _ he) (in_map _ _ _ i)))
 
--- the listed steps are in range, where the next states are
+-- the listed steps are in range if the next states are
 pub moves_in_range : (env_states actions states : ℕ) (next : ℕ → ℕ → ℕ → List ℕ) →
     ((b n e to : ℕ) → b < states → n < actions → e < env_states → IsIn to (next b n e) → to < states) → AreMoves states actions (listed_moves env_states actions states next)
 moves_in_range env_states actions states next within k d l =

@@ -80,12 +80,12 @@ combined_target_is w fins ok few ends =
 
 -- ---- one step at a time
 
--- there is no step where the target has no next state
+-- there is no step if the target has no next state
 pub no_step : (targets : List Beh) (ts : List ℕ) (t n e : ℕ) (o : Option Request) (r : Request) (target : Beh) (state : ℕ) (old : List (ℕ × ℕ × ℕ × ℕ)) → o ≡ Some r → slice_get targets r.target ≡ Some target →
     state ≡ slice_index ts r.target → beh_next target state e r.action ≡ [] → old ≡ old ++ moves_in t n e (next_of_all targets ts e o)
 no_step targets ts t n e o r target state old asks at is none = grind (arith, append-nil)
 
--- there is one step where the target has a next state
+-- there is one step if the target has a next state
 pub one_step : (targets : List Beh) (ts : List ℕ) (t n e : ℕ) (o : Option Request) (r : Request) (target : Beh) (state to next word : ℕ) (old new : List (ℕ × ℕ × ℕ × ℕ)) → o ≡ Some r → slice_get targets r.target ≡ Some target →
     state ≡ slice_index ts r.target → beh_next target state e r.action ≡ to ∷ [] → next ≡ states_number (target_sizes targets) (slice_set ts r.target to) → word ≡ 2 ^ e →
     new ≡ old ++ (t, word, n, next) ∷ [] → new ≡ old ++ moves_in t n e (next_of_all targets ts e o)

@@ -26,7 +26,7 @@ flat sizes = record { target = 1; env = 1; seats = sizes }
 abbrev pub used_by : ℕ → ℕ → Beh → ℕ → List Request
 used_by env_states actions target place = map (λ a. record { target = place; action = a }) (filter (uses env_states target) (below actions))
 
--- the requests of the target at the place, or none where there is no target
+-- the requests of the target at the place, or none if there is no target
 abbrev pub used_at : ℕ → ℕ → Option Beh → ℕ → List Request
 used_at env_states actions None place = []
 used_at env_states actions (Some target) place = used_by env_states actions target place
@@ -65,7 +65,7 @@ abbrev pub moves_on : Beh → ℕ → ℕ → Option Request → List ℕ
 moves_on beh b e None = []
 moves_on beh b e (Some r) = beh_next beh b e r.action
 
--- a target's next states by an action, or none where there is no target
+-- a target's next states by an action, or none if there is no target
 abbrev pub member_next : Option Beh → ℕ → ℕ → ℕ → List ℕ
 member_next None t e a = []
 member_next (Some target) t e a = beh_next target t e a

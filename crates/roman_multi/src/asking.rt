@@ -42,7 +42,7 @@ fn uses(target: &Target, env_states: u8, a: u8) -> bool
     false
 }
 
-/// Appends the requests of the target at a place.
+/// Appends the requests of the target at the given place.
 fn push_requests(
     requests: &mut Vec<Request>,
     target: &Target,

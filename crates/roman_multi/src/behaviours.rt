@@ -24,7 +24,7 @@ pub(crate) struct Member<'a> {
     behaviour: &'a Behaviour,
 }
 
-/// Appends the steps from `b` by combined action `n` in environment state `e` to the states `next`.
+/// Appends the steps from `b` to the states `next`, by combined action `n` in environment state `e`.
 fn push_moves(steps: &mut Vec<Move>, b: u8, e: u8, n: u8, next: &[u8]) -> Result<(), AllocError>
     requires { e < 64 }
     ensures { IfOk result (λ _. steps.new.items ≡ steps.old.items ++ moves_in b n e next.now) }

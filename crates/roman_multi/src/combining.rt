@@ -23,10 +23,10 @@ use std::alloc::{AllocError, Global};
 /// Combines 2 to 4 targets into one, with the environment and the catalogue over its actions.
 /// Requires targets and a catalogue over `env`. The combined actions are, target by target, the
 /// actions that occur in some step of the target. Each is named by the action, a dash and the target.
-/// The combined states are the lists of one state for each target, where the last target's state
-/// changes fastest. Their names join the names of these states by dashes.
+/// The combined states are the lists of one state for each target, in the order in which the last
+/// target's state changes fastest. Their names join the names of these states by dashes.
 ///
-/// Fails with `States`, `Actions`, `LongName` or `Repeated` exactly where the rule is broken, with
+/// Fails with `States`, `Actions`, `LongName` or `Repeated` exactly when the rule is broken, with
 /// the first broken rule in this order, and with `Memory` only when out of memory.
 pub fn combine(
     alloc: Global,

@@ -13,7 +13,7 @@ use std::alloc::{AllocError, Global};
 /// A step (e, n, e') by combined action n.
 type Triple = (u8, u8, u8);
 
-/// Appends the steps from `e` by combined action `n` to the states `next`.
+/// Appends the steps from `e` to the states `next`, by combined action `n`.
 fn push_triples(steps: &mut Vec<Triple>, e: u8, n: u8, next: &[u8]) -> Result<(), AllocError>
     ensures { IfOk result (λ _. steps.new.items ≡ steps.old.items ++ map (λ to. (e, n, to)) next.now) }
 {

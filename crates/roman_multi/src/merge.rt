@@ -1,4 +1,4 @@
-//! What is combined.
+//! The targets that are combined, with their numbers of states and their actions.
 
 use crate::parts::Named;
 use roman_model::Request;

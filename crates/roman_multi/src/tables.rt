@@ -8,7 +8,7 @@ use crate::error::CombineError;
 use roman_read::{AddError, Name, NameTable};
 use std::alloc::Global;
 
-/// Returns the table of the words as names, in order. Fails with `Repeated` exactly where two are
+/// Returns the table of the words as names, in order. Fails with `Repeated` exactly when two are
 /// equal.
 pub(crate) fn table_of(alloc: Global, words: &[Vec<u8>]) -> Result<NameTable, CombineError>
     requires few { length words.now ≤ 64 }
