@@ -33,7 +33,7 @@ module _ {X : Type 0} (at : PartAt) (read : ReadAfter X) (document : List ℕ) (
   parts_stop (Some texts) i before (error.Refused refusal) x h e stops left = ends (step texts) items i before x refusal _ h e (rw stops) left.told
   parts_stop (Some texts) i before error.Memory x h e stops left = tt
 
-  -- the parts are the result where none remains
+  -- the parts are the result if none remains
   pub parts_done : (o : Option Texts) (i : ℕ) (before : List X) → length items ≤ i → PartsLeft o step items i before
       → IfSome o (λ texts. each_item (step texts) 0 [] (items_view items) ≡ Ok before)
   parts_done None i before h left = tt
@@ -63,7 +63,7 @@ module _ (document : List ℕ) (version : ℕ) (catalogue : List NamedBeh) (item
       ends (service_step document version catalogue) items i before x refusal _ h e (rw stops) left.left
   services_stop i before error.Memory x h e stops left = tt
 
-  -- the services are the result where none remains
+  -- the services are the result if none remains
   pub services_done : (i : ℕ) (before : List Service) → length items ≤ i → ServicesLeft document version catalogue items i before
       → each_item (service_step document version catalogue) 0 [] (items_view items) ≡ Ok before
   services_done i before h left = is_done (service_step document version catalogue) items i before _ h left.left

@@ -29,7 +29,7 @@ use Rattle.roman_library.specs.declared.refusal.Part.{Part}
 use Rattle.roman_library.specs.declared.refusal.Part.TheVariants as part
 use Rattle.roman_library.specs.declared.refusal.Refusal.{Refusal}
 
--- the value read from a member, or the default where the member is missing
+-- the value read from a member, or the default if the member is missing
 abbrev pub optional : {X : Type 0} → (Data → Result X PartError) → X → Result Data Miss → Result X PartError
 optional read absent (Ok member) = read member
 optional read absent (Err miss) = Ok absent
@@ -62,7 +62,7 @@ file_in d = do
   name ← looked list.File 0 (text_of d)
   check (nat_le 1 (length name) && nat_le (length name) MAX_FILE_NAME_BYTES) kind.BadName list.File 0 (Some name)
 
--- the name of the file that has a part, or none where the part is written in place
+-- the name of the file that has a part, or none if the part is written in place
 unfoldable pub file_of : Data → Result (Option (List ℕ)) PartError
 file_of d = optional file_in None (member_of d (codes "file"))
 
@@ -103,7 +103,7 @@ listed_step at read texts document env i before d = listed_in at read texts docu
 
 -- ---- the environment, the behaviours and the target
 
--- the name of a behaviour, a target or a service, where no earlier one has it
+-- the name of a behaviour, a target or a service, if no earlier one has it
 unfoldable pub new_name_of : List (List ℕ) → Data → Result (List ℕ) PartError
 new_name_of before d = do
   whole ← check (is_some (as_object d)) kind.Form list.Whole 0 d
@@ -169,7 +169,7 @@ broken_rule combine.LongName = Refused kind.BadName list.Targets 3
 broken_rule combine.Repeated = Refused kind.Repeated list.Targets 4
 broken_rule combine.Memory = Memory
 
--- the value where no rule is broken, and the refusal otherwise
+-- the value if no rule is broken, and the refusal otherwise
 abbrev pub unless_broken : {X : Type 0} → Option CombineError → X → Result X PartError
 unless_broken None x = Ok x
 unless_broken (Some rule) x = Err (broken_rule rule)

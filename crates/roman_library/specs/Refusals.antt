@@ -32,22 +32,22 @@ abbrev pub Loads : {X Y : Type 0} → (X → Y) → Result X LoadError → Resul
 Loads view (Ok x) reading = reading ≡ Ok (view x)
 Loads view (Err e) reading = Stops e reading
 
--- the count of faults rose where the error is a fault, and stayed the same otherwise
+-- the count of faults rose if the error is a fault, and stayed the same otherwise
 abbrev pub IsCause : ℕ → ℕ → LoadError → Type 0
 IsCause old new error.Fault = Rose old new
 IsCause old new (error.Refused refusal) = new ≡ old
 IsCause old new error.Memory = new ≡ old
 
--- the count of faults rose where the result is a fault, and stayed the same otherwise
+-- the count of faults rose if the result is a fault, and stayed the same otherwise
 abbrev pub CausesLoad : {T : Type 0} → ℕ → ℕ → Result T LoadError → Type 0
 CausesLoad old new (Ok x) = new ≡ old
 CausesLoad old new (Err e) = IsCause old new e
 
--- where the shelf tells its texts, the code returns or refuses what the definition gives on them
+-- if the shelf's texts are known, the code returns or refuses what the definition gives on them
 abbrev pub LoadsFrom : {X Y : Type 0} → Option Texts → (X → Y) → Result X LoadError → (Texts → Result Y Refusal) → Type 0
 LoadsFrom told view result reading = IfSome told (λ texts. Loads view result (reading texts))
 
--- the shelf's texts are as before, and its count of faults rose where the result is a fault
+-- the shelf's texts are as before, and its count of faults rose if the result is a fault
 pub record LeavesShelf {T : Type 0} (told now : Option Texts) (old new : ℕ) (result : Result T LoadError) : Type 0 where
   pub texts : now ≡ told
   pub cause : CausesLoad old new result

@@ -17,7 +17,7 @@ doc_error_number error.TooLong = 2
 doc_error_number error.NotJson = 3
 doc_error_number error.Memory = 4
 
--- the count of faults rose where the result is a fault, and stayed the same otherwise
+-- the count of faults rose if the result is a fault, and stayed the same otherwise
 abbrev pub Caused : {T : Type 0} → ℕ → ℕ → Result T DocError → Type 0
 Caused old new (Ok x) = new ≡ old
 Caused old new (Err error.Fault) = Rose old new

@@ -32,7 +32,7 @@ pub(crate) fn read_version(v: &Value) -> Result<u64, PartError>
 }
 
 #[tactic(auto, unfolding(crate::specs::Documents::limit_of))]
-/// Reads the limit on cells, or returns the default where the document has none.
+/// Reads the limit on cells, or returns the default if the document has none.
 pub(crate) fn read_limit(v: &Value) -> Result<u32, PartError>
     ensures limit { Gives (λ x. x) result (limit_of (view v.now)) }
     ensures within { IfOk result (λ limit. (0 < limit) × (limit ≤ MAX_CELLS)) }

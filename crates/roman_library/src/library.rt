@@ -15,7 +15,7 @@ pub struct Library {
     pub services: Vec<Service>,
     /// The target to be composed from the services.
     pub target: Target,
-    /// The greatest number of cells, which are pairs times actions, of the system: 1 to 16,777,216.
+    /// The greatest allowed number of cells (pairs times actions) of the system, from 1 to 16,777,216.
     pub limit: u32,
 }
 
@@ -30,7 +30,7 @@ pub struct Service {
     pub state: u8,
     /// Whether the service is frozen at first, so that it takes no delegations.
     pub frozen: bool,
-    /// Whether the service must be in a final state where the target is. Otherwise the service is
-    /// loose.
+    /// Whether the service must be in a final state when the target is in one. Otherwise the service
+    /// is loose.
     pub rests: bool,
 }

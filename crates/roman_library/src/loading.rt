@@ -21,9 +21,9 @@ use std::alloc::Global;
 #[tactic(auto, unfolding(crate::specs::Documents::library_of))]
 /// Loads the library of the system document with this name, with the part files that it names.
 ///
-/// Fails with `Refused` exactly where the document breaks a rule, with the first broken rule in the
-/// order of the format. Fails with `Fault` only where the shelf failed and its count of faults rose,
-/// and with `Memory` when out of memory. Keeps the texts of the shelf as they are.
+/// Fails with `Refused` exactly when the document breaks a rule, and names the first broken one in the
+/// order of the format. Fails with `Fault` only when the shelf failed and its count of faults rose.
+/// Fails with `Memory` only when out of memory. Leaves the texts of the shelf unchanged.
 pub fn load<F: Shelf>(alloc: Global, shelf: &mut F, name: &str) -> Result<Library, LoadError>
     ensures meaning { IfSome (F.texts shelf.old) (λ texts. Loads plain result (library_of texts name.now)) }
     ensures known { IfOk result (λ library. IsLibrary (plain library)) }

@@ -1,4 +1,4 @@
-//! Looks into a value. Each miss becomes a refusal.
+//! Reads the members and items of a value. Each miss becomes a refusal.
 ghost use Rattle.std.specs.Prelude.{◌≡◌};
 ghost use Rattle.serde_json.specs.View.{view};
 ghost use Rattle.roman_read.specs.Json.{member_of, text_of, number_of, truth_of};
@@ -10,7 +10,7 @@ use roman_parts::{List, PartError};
 use roman_read::{Kind, Miss, member, number, text, truth};
 use serde_json::Value;
 
-/// Returns the refusal of a member.
+/// Returns the refusal that names this rule and this member.
 pub(crate) fn refused(kind: Kind, place: List) -> PartError
     ensures { result ≡ Refused kind place 0 }
 {

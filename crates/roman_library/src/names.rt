@@ -8,7 +8,7 @@ use crate::library::Service;
 use roman_multi::Named;
 use roman_parts::Behaviour;
 
-/// Returns the place in a catalogue of the behaviour with this name, or `None` exactly where no
+/// Returns the place in a catalogue of the behaviour with this name, or `None` exactly when no
 /// behaviour has it. Takes no memory.
 pub fn place_of_behaviour(catalogue: &[Behaviour], name: &[u8]) -> Option<usize>
     ensures place { result ≡ place_of (map behaviour_name catalogue.now) name.now }

@@ -17,7 +17,7 @@ use serde_json::Value;
 use std::alloc::Global;
 
 #[tactic(auto, unfolding(crate::specs::Documents::file_of))]
-/// Returns the name of the file that has a part, or `None` where the part is written in place.
+/// Returns the name of the file that has a part, or `None` if the part is written in place.
 pub(crate) fn file_of(v: &Value) -> Result<Option<&str>, PartError>
     ensures { Gives (λ x. option_map (λ file. file.now) x) result (file_of (view v.now)) }
 {

@@ -19,9 +19,9 @@ pub enum Part {
     Behaviour(u32),
     /// The service with this number, from 0.
     Service(u32),
-    /// The target with this number, from 0. The number is 0 also where there is only one target.
+    /// The target with this number, from 0. The number is 0 also when there is only one target.
     Target(u32),
-    /// The costs for advice, which are in a text of their own.
+    /// The costs for advice, which have a text of their own.
     Costs,
 }
 

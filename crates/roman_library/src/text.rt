@@ -53,9 +53,9 @@ impl From<AllocError> for DocError {
 /// Returns the JSON value (RFC 8259) of the text with this name. Fetches the text in pieces of 4,096
 /// bytes, to its end or just past the greatest size of a document.
 ///
-/// Fails with `Fault` only where the shelf failed and its count of faults rose, with `TooLong`
-/// exactly where the text gave byte 1,048,577, with `NotJson` exactly where it was read to its end
-/// and `serde_json` reads no value from it, and with `Memory` only when out of memory.
+/// Fails with `Fault` only when the shelf failed and its count of faults rose. Fails with `TooLong`
+/// exactly when the text gave byte 1,048,577. Fails with `NotJson` exactly when the text was read to
+/// its end and `serde_json` reads no value from it. Fails with `Memory` only when out of memory.
 pub fn document<F: Shelf>(alloc: Global, shelf: &mut F, name: &str) -> Result<Value, DocError>
     ensures value { IsValueOf (F.texts shelf.old) name.now result }
     ensures texts { F.texts shelf.new ≡ F.texts shelf.old }
