@@ -13,7 +13,7 @@ ghost use Rattle.roman_document_laws.specs.Normals.{NormalFormsAreNormal, Normal
 ghost use Rattle.roman_document_laws.specs.PartReads.{ListsAreRead};
 ghost use Rattle.roman_document_laws.specs.PartWriter.{PartsAreSaid};
 
-/// In a normal form triples, steps, final states and guards rise without repeats, and no guard is
+/// In a normal form the triples, steps, final states and guards rise without repeats, and no guard is
 /// empty. Its numbers, steps and final states are those of the original record.
 pub fn normal_forms_are_normal()
     ensures normal { NormalFormsAreNormal }
@@ -24,27 +24,27 @@ pub fn normal_forms_are_unique()
     ensures unique { NormalFormsAreUnique }
 {}
 
-/// Lists of names, final states and steps are read exactly where each item is valid, in their order.
-/// The refusal is that of the list, or that of the first faulty item by the first rule that it
+/// A list of names, final states or steps is read exactly when each of its items is valid, and in its
+/// order. The refusal is that of the list, or that of the first faulty item by the first rule that it
 /// breaks.
 pub fn lists_are_read()
     ensures read { ListsAreRead }
 {}
 
 /// Each environment, behaviour and target within the limits of documents is the meaning of some JSON
-/// value: of the value that the writer gives, which is only a definition.
+/// value: of the value that the definition of a writer gives.
 pub fn parts_are_said()
     ensures said { PartsAreSaid }
 {}
 
-/// Services and behaviours are read exactly where each item of their list is valid, in their order.
-/// The refusal is that of the list, or that of the first faulty item.
+/// The services or behaviours of a document are read exactly when each item of their list is valid,
+/// and in its order. The refusal is that of the list, or that of the first faulty item.
 pub fn document_lists_are_read()
     ensures read { DocumentListsAreRead }
 {}
 
 /// Each library within the limits of documents is the meaning of some JSON value: of the value that
-/// the writer gives, which is only a definition.
+/// the definition of a writer gives.
 pub fn libraries_are_said()
     ensures said { LibrariesAreSaid }
 {}
