@@ -12,7 +12,7 @@ use Rattle.roman_make.specs.Made.{number_in, floor, worker, worker_names, idle_w
 
 -- ---- distinct names
 
--- names are distinct where their numbers are
+-- names are distinct if their numbers are
 once_from_map : {X Y : Type 0} (f : X → Y) (xs : List X) → HasNoRepeats (map f xs) → HasNoRepeats xs
 once_from_map f [] once = tt
 once_from_map f (x ∷ xs) once = (λ i. once.0 (in_map f x xs i), once_from_map f xs once.1)

@@ -8,7 +8,7 @@ use Rattle.roman_read.specs.Names.{place_of}
 use Rattle.roman_library.specs.Library.{PlainLibrary}
 use Rattle.roman_library.specs.declared.library.Service.{Service}
 
--- the place of the name among the names, or a number out of range where it isn't one of them
+-- the place of the name among the names, or a number out of range if it isn't one of them
 abbrev pub number_in : List (List ℕ) → List ℕ → ℕ
 number_in names name = unwrap_or (place_of names name) (length names)
 
@@ -62,7 +62,7 @@ machine states finals rows = normal_beh 1 5 (record {
 abbrev pub worker_states : List (List ℕ)
 worker_states = codes "idle" ∷ codes "busy" ∷ codes "worn" ∷ []
 
--- the transitions of a worker, who may be idle or worn when stopped
+-- the transitions of a worker, who becomes idle or worn when stopped
 abbrev pub worker_rows : List Row
 worker_rows =
     (codes "idle", codes "start", codes "busy") ∷
@@ -89,7 +89,7 @@ abbrev pub worker_names : List (List ℕ)
 worker_names =
     codes "w1" ∷ codes "w2" ∷ codes "w3" ∷ codes "w4" ∷ codes "w5" ∷ codes "w6" ∷ codes "w7" ∷ codes "w8" ∷ codes "w9" ∷ codes "w10" ∷ []
 
--- a worker that is idle and ready, and rests
+-- a worker that is idle, isn't frozen and isn't loose
 abbrev pub idle_worker : List ℕ → Service
 idle_worker name = record { name = name; behaviour = 0; state = 0; frozen = false; rests = true }
 

@@ -19,8 +19,8 @@ static LINES: [&[u8]; 13] = [
     b"saw idle floor",
 ];
 
-/// Returns line `i` of the session for the made systems, from 0, without its newline. Returns `None`
-/// exactly where `i` is 13 or more.
+/// Returns line `i` of the session for the made systems, counted from 0, without its newline. Returns
+/// `None` exactly when `i` is 13 or more.
 pub fn script(i: u8) -> Option<&'static [u8]>
     ensures line { IfSome result (λ line. slice_get script_lines i ≡ Some line.now) }
     ensures end { IsNone result ↔ (13 ≤ i) }

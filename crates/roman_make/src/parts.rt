@@ -97,7 +97,7 @@ fn idle_workers(alloc: Global, names: &[&[u8]], n: u8) -> Result<Vec<Service>, A
     Ok(services)
 }
 
-/// Makes a worker that is idle and ready, and rests.
+/// Makes a worker that is idle, isn't frozen and isn't loose.
 fn idle_worker(name: &[u8]) -> Service
     requires { IsTrue (is_name name.now) }
     ensures { result ≡ idle_worker name.now }

@@ -14,8 +14,8 @@ const MOST: u8 = 10;
 /// The limit on cells, which is enough for ten workers.
 const LIMIT: u32 = 4_194_304;
 
-/// Makes the system with `n` workers, for `n` from 1 to 10. Fails with `Range` exactly for any other
-/// number, and with `Memory` only when out of memory.
+/// Makes the system with `n` workers, for `n` from 1 to 10. Fails with `Range` exactly when `n` is any
+/// other number, and with `Memory` only when out of memory.
 pub fn make(alloc: Global, n: u8) -> Result<Library, MakeError>
     ensures library { IfOk result (λ library. plain library ≡ made n) }
     ensures known { IfOk result (λ library. IsLibrary (plain library)) }
