@@ -20,7 +20,7 @@ pub record IsSeated (library : PlainLibrary) (seated : Seated) : Type 0 where
   pub below : seated.start < count (sizes_of (system_of (parts_of library)))
   pub room : MAX_SERVICES ≤ vec_capacity seated.states
 
--- `Limit` is returned exactly where the cells exceed the limit, if there is memory
+-- the error is `Limit` exactly when the cells exceed the limit, unless memory runs out
 abbrev pub IsWithinLimit : {T : Type 0} → NamedSys → Result T JointError → Type 0
 IsWithinLimit parts (Ok x) = cells (system_of parts) ≤ parts.limit
 IsWithinLimit parts (Err Limit) = parts.limit < cells (system_of parts)

@@ -18,16 +18,16 @@ use std::alloc::{AllocError, Global};
 pub struct Seated {
     /// The system. Its services are those of the library, in the same order.
     pub joint: Joint,
-    /// The states in which the services start. Has room for the states of the greatest number of
-    /// services.
+    /// The states in which the services start. The vector has room for the states of the greatest
+    /// number of services.
     pub states: Vec<u8>,
     /// The number of the start pair.
     pub start: u32,
 }
 
-/// Builds the system of a library, with its start pair. Fails with `Limit` exactly where the system
-/// has more cells, which are pairs times actions, than the limit of the library, and with `Memory`
-/// only when out of memory.
+/// Builds the system of a library, with its start pair. Fails with `Limit` exactly when the system
+/// has more cells (pairs times actions) than the limit of the library. Fails with `Memory` only when
+/// out of memory.
 pub fn seat_library(alloc: Global, library: Library) -> Result<Seated, JointError>
     requires { IsLibrary (plain library) }
     ensures seated { IfOk result (IsSeated (plain library)) }
