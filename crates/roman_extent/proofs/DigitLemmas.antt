@@ -41,7 +41,7 @@ all_digits_push (b ∷ bs) c h l = (h.0, all_digits_push bs c h.1 l)
 pub glyph_value : (d : ℕ) → d < 10 → digit_value (48 + d) ≡ d
 glyph_value d l = omega (arith, digit_value_digit (48 + d) (omega arith, omega arith))
 
--- the digit at place i comes after the text of the digits behind it
+-- the text of the digits from place i on is the text of the digits after place i, followed by digit i
 pub text_step : (ds bs : List ℕ) (i d other : ℕ) → i < length ds → d ≡ get_or ds i other → d < 10 → digits_value 10 bs * 10 ^ (i + 1) + number_with_digits (take (i + 1) ds) ≡ number_with_digits ds →
     digits_value 10 (bs ++ (48 + d) ∷ []) * 10 ^ i + number_with_digits (take i ds) ≡ number_with_digits ds
 text_step ds bs i d other l at low h =
