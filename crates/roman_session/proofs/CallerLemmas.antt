@@ -1,6 +1,6 @@
--- What the proofs of other crates may cite of this one. All else in proofs/ can be renamed freely.
+-- The lemmas of this crate that proofs of other crates may cite. All else in proofs/ can be renamed freely.
 
--- What holds where an event isn't refused.
+-- What holds if an event isn't refused.
 pub use Rattle.roman_session.proofs.RulingLemmas.{asked_is, cells_with, checked, died_is, env_jumped_is, frozen_is, handed_is, joining_idle}
 pub use Rattle.roman_session.proofs.RulingLemmas.{jumped_is, seen_is, thawed_is}
 -- What follows from offers and outcomes.

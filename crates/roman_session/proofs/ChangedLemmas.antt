@@ -23,11 +23,11 @@ seat_is s k l =
     let (x, there) = there_is seats k (omega (arith, l, length-map s.parts.seats (joint.seat_of s.parts.catalogue))) in
     there ∙ ap Some (sym (get_or_from_slice_get seats k x _ there))
 
--- a seat is ready where it isn't frozen
+-- a seat is ready if it isn't frozen
 pub seat_ready : (s : Situation) (k : ℕ) → k < length s.parts.seats → IsFalse (seat_at s k).frozen → IsTrue (is_ready (slice_get (present_system s).seats k))
 seat_ready s k l ready = ap is_ready (seat_is s k l) ∙ ap not ready
 
--- a seat isn't ready where it is frozen
+-- a seat isn't ready if it is frozen
 pub seat_unready : (s : Situation) (k : ℕ) → k < length s.parts.seats → IsTrue (seat_at s k).frozen → IsFalse (is_ready (slice_get (present_system s).seats k))
 seat_unready s k l frozen = ap is_ready (seat_is s k l) ∙ ap not frozen
 
@@ -49,7 +49,7 @@ begins_with : (a b : Inside) (x : Changing) (tally : Tally) → IsRepaired x.cha
 begins_with a b x tally repaired =
     subst (λ (s : Sys). take tally.kept (map (entry_at s) b.relation.order.list) ≡ replay (arena s) (rename x.change (list_of a))) (sym repaired.system) repaired.list.begins
 
--- no service is offered where no request is open
+-- no service is offered if no request is open
 none_offered : {X : Type 0} (phase : Phase) (action : ℕ) → phase ≡ Idle → phase ≡ Offered action → X
 none_offered phase action idle offered = absurd (let h : ⊥ = cc in h)
 
@@ -99,7 +99,7 @@ changed a b x tally ok old_idle new_idle parts here repaired known pair counted 
       };
     }
 
--- the fields with another relation, where a service froze or thawed
+-- the fields with another relation, after a service froze or thawed
 abbrev pub turned_fields : Inside → Relation → Inside
 turned_fields a relation = record { relation = relation; target = a.target; env = a.env; states = a.states; number = a.number; phase = a.phase; mask = a.mask }
 
@@ -127,7 +127,7 @@ thawed_now a relation k tally ok idle parts repaired known =
     let (pair, counted) = turned_pair a relation k false ok repaired.system in
     changed a (turned_fields a relation) (thawing (situation_in a) k) tally ok idle idle parts refl repaired known pair counted ok.room
 
--- the fields with another relation and other states, where a service joined or died
+-- the fields with another relation and other states, after a service joined or died
 abbrev pub moved_fields : Inside → Relation → Vec ℕ Global → ℕ → Inside
 moved_fields a relation states n = record { relation = relation; target = a.target; env = a.env; states = states; number = n; phase = a.phase; mask = a.mask }
 
@@ -174,7 +174,7 @@ died_now a relation states n k tally ok idle l parts repaired known items counte
     changed a (moved_fields a relation states n) (dying s k) tally ok idle idle parts (ap (with_states a) items) (repaired (seat_at s k) (seat_is s k l)) known
     (died_pair a relation states.items k tally ok l repaired items) counted room
 
--- there is a place for a service where the number of services isn't the greatest one
+-- there is a place for a service if the number of services isn't the greatest one
 pub has_place : (a : Inside) → IsSession a → (length a.relation.joint.seats ≡ MAX_SERVICES → ⊥) → length a.relation.joint.seats < MAX_SERVICES
 has_place a ok not_full = omega (arith, not_full, ok.known.parts.system.few, length-map a.relation.joint.seats (joint.seat_of a.relation.joint.catalogue))
 

@@ -102,13 +102,13 @@ unfolding lines_from
 no_offer parts p a l =
     ap (λ (xs : List ℕ). lines_text (flat_map (offer_line parts p) (filter (is_allowed (system_of parts) p) xs))) (from_end (system_of parts).env.actions a l) ∙ lines-nil
 
--- where the pair is related the lines are those of all actions from 0 on
+-- if the pair is related the lines are those of all actions from 0 on
 pub offers_begin : (parts : NamedSys) (p : Pair) → IsTrue (is_related (system_of parts) p) → lines_from parts p 0 ≡ lines_text (offer_lines parts p)
 unfolding lines_from
 offers_begin parts p related =
     ap lines_text (sym (cond-true (is_related (system_of parts) p) (flat_map (offer_line parts p) (filter (is_allowed (system_of parts) p) (below (system_of parts).env.actions))) [] related))
 
--- where the pair isn't related there are no such lines
+-- if the pair isn't related there are no such lines
 pub no_offers : (parts : NamedSys) (p : Pair) → IsFalse (is_related (system_of parts) p) → [] ≡ lines_text (offer_lines parts p)
 no_offers parts p unrelated =
     sym (ap lines_text (cond-false (is_related (system_of parts) p) (flat_map (offer_line parts p) (filter (is_allowed (system_of parts) p) (below (system_of parts).env.actions))) [] unrelated) ∙ lines-nil)

@@ -1,4 +1,4 @@
--- What holds where an event isn't refused.
+-- What holds if an event isn't refused.
 use Rattle.roman_session.proofs.Common.{◌≡◌, ℕ, ◌<◌, ◌≤◌, Bool, true, false, List, length, Result, Ok, Err, IsTrue, IsFalse, refl, ap₂, arith, has, is_allowed, is_related, offers, Join, MAX_SERVICES, Reply, seat_of, Situation, present_system, named, seat_at, asked, seen, with_room, Joining, Jump, Sight, Phase, Idle, Offered, Delegated, Handing}
 use Rattle.std.proofs.lemmas.Bool.{not-true, lt-ltb, le-leb}
 use Rattle.std.proofs.lemmas.Bool.Decides.{leb_tells}
@@ -16,7 +16,7 @@ pub checked : {Y : Type 0} (test : Bool) (refusal : Reply) (f : Unit {0} → Res
 checked true refusal f y h = (refl, h)
 checked false refusal f y h = cc
 
--- where a request isn't refused, the current pair is related and the action is allowed
+-- if a request isn't refused, the current pair is related and the action is allowed
 pub record IsAsked (s : Situation) (action : List ℕ) (a : ℕ) : Type 0 where
   pub named : named s.parts.environment.actions action ≡ Ok a
   pub idle : IsTrue (is_idle s.phase)
@@ -27,7 +27,7 @@ pub asked_is : (s : Situation) (action : List ℕ) (a : ℕ) → asked s action 
 unfolding asked
 asked_is s action a h = grind (arith, bind_ok, checked)
 
--- the present delegation, where there is one
+-- the present delegation, if there is one
 delegation_is : (phase : Phase) (d : Handing) → delegation phase ≡ Ok d → phase ≡ Delegated d.action d.seat
 delegation_is Idle d h = cc
 delegation_is (Offered a) d h = cc
@@ -38,7 +38,7 @@ pub seen_is : (s : Situation) (state env : List ℕ) (x : Sight) → seen s stat
 unfolding seen
 seen_is s state env x h = grind (arith, bind_ok, delegation_is)
 
--- the action for which services were offered, where some were
+-- the action for which services were offered, if some were
 offered_is : (phase : Phase) (a : ℕ) → offered_action phase ≡ Ok a → phase ≡ Offered a
 offered_is Idle a h = cc
 offered_is (Offered b) a h = cc
@@ -59,7 +59,7 @@ idle_is Idle h = refl
 idle_is (Offered a) h = cc
 idle_is (Delegated a k) h = cc
 
--- a jump that isn't refused names a service and one of its states, where no request is open
+-- a jump that isn't refused names a service and one of its states, if no request is open
 pub record IsJumping (s : Situation) (service name : List ℕ) (x : Jump) : Type 0 where
   pub seat : service_named s service ≡ Ok x.seat
   pub state : state_named s x.seat name ≡ Ok x.state
@@ -69,7 +69,7 @@ pub jumped_is : (s : Situation) (service state : List ℕ) (x : Jump) → jumped
 unfolding jumped
 jumped_is s service state x h = grind (arith, bind_ok, checked, idle_is, same_ok)
 
--- a jump of the environment that isn't refused names one of its states, where no request is open
+-- a jump of the environment that isn't refused names one of its states, if no request is open
 pub record IsEnvJumping (s : Situation) (env : List ℕ) (e : ℕ) : Type 0 where
   pub named : named s.parts.environment.states env ≡ Ok e
   pub idle : s.phase ≡ Idle
@@ -109,7 +109,7 @@ pub died_is : (s : Situation) (service : List ℕ) (k : ℕ) → died s service 
 unfolding died
 died_is s service k h = grind (arith, bind_ok, checked, idle_is)
 
--- services join where no request is open
+-- services join if no request is open
 pub joining_idle : (s : Situation) (service behaviour state : List ℕ) (loose : Bool) (x : Joining) → joining s service behaviour state loose ≡ Ok x → s.phase ≡ Idle
 unfolding joining
 joining_idle s service behaviour state loose x h = grind (arith, bind_ok, checked, idle_is)
@@ -122,12 +122,12 @@ room_by x few fits = demand few reply.ErrorFull >>= (λ _. demand fits reply.Err
 abbrev pub cells_with : Situation → Joining → ℕ
 cells_with s x = cells (after (Join (seat_of s.parts.catalogue x.seat)) (present_system s))
 
--- where there is room a service joins
+-- if there is room a service joins
 pub with_room_is : (s : Situation) (x : Joining) → length s.parts.seats < MAX_SERVICES → cells_with s x ≤ s.parts.limit → with_room s x ≡ Ok x
 unfolding room_by
 with_room_is s x few fits = ap₂ (room_by x) (lt-ltb (length s.parts.seats) MAX_SERVICES few) (le-leb (cells_with s x) s.parts.limit fits)
 
--- where the cells exceed the limit a service doesn't join
+-- if the cells exceed the limit a service doesn't join
 pub no_room_is : (s : Situation) (x : Joining) → length s.parts.seats < MAX_SERVICES → s.parts.limit < cells_with s x → with_room s x ≡ Err reply.ErrorLimit
 unfolding room_by
 no_room_is s x few more = grind (arith, leb_tells, lt-ltb, room_by)

@@ -5,7 +5,7 @@ use Rattle.roman_model.proofs.CallerLemmas.{related_offers, outcome_in, outcome_
 use Rattle.roman_session.specs.Steps.{Moves, pair_after}
 use Rattle.roman_session.proofs.RulingLemmas.{asked_is, seen_is}
 
--- the current pair is related where the test holds
+-- the current pair is related if the test holds
 here_great : (s : Situation) → IsSituation s → IsTrue (is_related (present_system s) s.here) → Great (present_system s) s.here
 here_great s is related = related_great (present_system s) s.here is.parts.system is.here related
 

@@ -12,21 +12,21 @@ use Rattle.roman_generator.specs.declared.sight.Sight.{Sight}
 use Rattle.roman_session.specs.declared.next.Next.{Next}
 use Rattle.roman_session.specs.declared.next.Next.TheVariants.{More, Quit}
 
--- the session made one step, and the step's text was written, or a prefix of it where the sink failed
+-- the session made one step, and the step's text was written, or a prefix of it if the sink failed
 pub record Answered {T E : Type 0} (old : Situation) (line : List ℕ) (new : Situation) (before after : Option (List ℕ)) (result : Result T E) : Type 0 where
   pub text : List ℕ
   pub step : Step old line text new
   pub puts : Puts before after text result
 
--- the session made one step, and the step's text was pushed behind the bytes that a page held; where the sink failed a prefix of both
+-- the session made one step, and the step's text was pushed after the bytes that a page held; if the sink failed, a prefix of both
 -- was written
 pub record AnsweredOn {T E : Type 0} (old : Situation) (line : List ℕ) (new : Situation) (before after : Option (List ℕ)) (held holds : List ℕ) (result : Result T E) : Type 0 where
   pub text : List ℕ
   pub step : Step old line text new
   pub gathers : Gathers before after holds (held ++ text) result
 
--- the session made the step of an event of this shape, and the step's text was pushed behind the bytes that a page held; where the sink
--- failed a prefix of both was written
+-- the session made the step of an event of this shape, and the step's text was pushed after the bytes that a page held; if the sink
+-- failed, a prefix of both was written
 pub record DoneOn {T E : Type 0} (old : Situation) (shape : LineShape) (new : Situation) (before after : Option (List ℕ)) (held holds : List ℕ) (result : Result T E) : Type 0 where
   pub text : List ℕ
   pub step : StepOn old shape text new

@@ -31,7 +31,7 @@ offer_line parts p a =
     line.Offer (name_at parts.environment.actions a)
     ∷ (map (λ k. line.Serves (name_at (map seat_name parts.seats) k)) (offers (system_of parts) p a) ++ line.Stop ∷ [])
 
--- a line for each action that the target allows, where the pair is related; no lines where it isn't
+-- a line for each action that the target allows, if the pair is related; no lines if it isn't
 abbrev pub offer_lines : NamedSys → Pair → List ReportLine
 offer_lines parts p =
     if is_related (system_of parts) p

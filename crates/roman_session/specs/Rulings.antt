@@ -24,7 +24,7 @@ use Rattle.roman_session.specs.declared.phase.Phase.TheVariants.{Idle, Offered, 
 
 -- ---- words
 
--- the number of a name in a list, or `error name` where the list lacks it
+-- the number of a name in a list, or `error name` if the list lacks it
 abbrev pub named : List (List ℕ) → List ℕ → Result ℕ Reply
 named names name = ok_or (place_of names name) reply.ErrorName
 
@@ -38,21 +38,21 @@ state_named s k name = named (seat_names (names_in s.parts) k).states name
 
 -- ---- tests
 
--- succeeds where the test holds, and gives the refusal where it doesn't
+-- a success if the test holds, and the refusal if it doesn't
 abbrev pub demand : Bool → Reply → Result (Unit {0}) Reply
 demand test refusal = if test then Ok tt else Err refusal
 
--- succeeds where no request is open, and gives `error busy` where one is
+-- a success if no request is open, and `error busy` if one is
 abbrev pub check_idle : Phase → Result (Unit {0}) Reply
 check_idle phase = demand (is_idle phase) reply.ErrorBusy
 
--- the action for which services were offered, or `error idle` where none were
+-- the action for which services were offered, or `error idle` if none were
 abbrev pub offered_action : Phase → Result ℕ Reply
 offered_action Idle = Err reply.ErrorIdle
 offered_action (Offered a) = Ok a
 offered_action (Delegated a k) = Err reply.ErrorIdle
 
--- the action and the service of the present delegation, or `error idle` where there is none
+-- the action and the service of the present delegation, or `error idle` if there is none
 abbrev pub delegation : Phase → Result Handing Reply
 delegation Idle = Err reply.ErrorIdle
 delegation (Offered a) = Err reply.ErrorIdle
@@ -85,7 +85,7 @@ seen s state env = do
   e ← named s.parts.environment.states env
   Ok (record { action = d.action; seat = d.seat; state = b; env = e })
 
--- abort: succeeds where a request is open
+-- abort: succeeds if a request is open
 unfoldable pub aborted : Situation → Result (Unit {0}) Reply
 aborted s = demand (not (is_idle s.phase)) reply.ErrorIdle
 
@@ -145,7 +145,7 @@ joining s service behaviour state loose = do
   _ ← demand (is_none (place_of (map seat_name s.parts.seats) service)) reply.ErrorTaken
   Ok (record { seat = record { name = service; behaviour = i; frozen = false; rests = not loose }; state = b })
 
--- the service that joins, or the refusal where there are too many services or cells
+-- the service that joins, or the refusal if there are too many services or cells
 abbrev pub with_room : Situation → Joining → Result Joining Reply
 with_room s x = do
   _ ← demand (nat_lt (length s.parts.seats) MAX_SERVICES) reply.ErrorFull
@@ -158,6 +158,6 @@ join_of s service behaviour state loose = joining s service behaviour state loos
 
 -- ---- questions
 
--- explain: succeeds where the current pair isn't related
+-- explain: succeeds if the current pair isn't related
 unfoldable pub unexplained : Situation → Result (Unit {0}) Reply
 unexplained s = demand (not (is_related (present_system s) s.here)) reply.ErrorRelated

@@ -1,4 +1,4 @@
--- What a session knows between two lines.
+-- The situation of a session between two lines.
 use Rattle.std.specs.Prelude.{ℕ, Bool, true, false, List, IsTrue}
 use Rattle.roman_model.specs.Lists.{IsIn}
 use Rattle.roman_model.specs.System.{Sys, Pair, IsPair}

@@ -27,7 +27,7 @@ use Rattle.roman_session.specs.declared.events.Jump.{Jump}
 use Rattle.roman_generator.specs.declared.sight.Sight.{Sight}
 use Rattle.roman_session.specs.declared.phase.Phase.TheVariants.{Idle, Offered, Delegated}
 
--- ---- what each event does, where it isn't refused
+-- ---- what each event does, if it isn't refused
 
 -- the name of the service at place k
 abbrev pub service_at : Situation → ℕ → List ℕ

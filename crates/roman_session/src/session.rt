@@ -43,7 +43,7 @@ pub struct Session {
     // the number of the current pair
     number: u32,
     phase: Phase,
-    // the offered services, where an open request has no delegate yet
+    // the offered services, while an open request has no delegate
     mask: SeatSet,
 }
 
@@ -89,8 +89,8 @@ impl Session {
         self.relation.related(self.here())
     }
 
-    /// Returns the phase. Where a request is open, the current pair is related and the target allows
-    /// the action there. A delegate is one of the services that are offered for the action.
+    /// Returns the phase. While a request is open, the current pair is related, and the target allows
+    /// the action there. The delegate is one of the services that are offered for the action.
     pub fn phase(&self) -> Phase
         ensures phase { result ≡ self.now.phase }
         ensures holds { IsPhase self.now result }

@@ -27,11 +27,11 @@ fn next_after(event: Event<'_>) -> Next
 }
 
 impl Session {
-    /// Answers a line, given without its newline. Changes the session by the line's event, and writes
-    /// the whole reply before it returns. Any bytes are a line. A refused line changes nothing.
-    /// Returns `Quit` exactly for a line `quit`. Takes no memory.
+    /// Answers a line, given without its newline: any bytes. Changes the session by the line's event,
+    /// and writes the whole reply before it returns. A refused line changes nothing. Returns `Quit`
+    /// exactly when the line is `quit`. Takes no memory.
     ///
-    /// Fails only where the sink's count of faults rose. The session has then changed all the same,
+    /// Fails only when the sink's count of faults rose. The session has then changed all the same,
     /// and a prefix of the reply was written.
     pub fn answer<O: Sink, L: Ledger>(
         &mut self,
@@ -57,10 +57,10 @@ impl Session {
         Ok(next)
     }
 
-    /// Answers a line as [`Session::answer`] does, but pushes the reply on a page. Writes out what the
-    /// page has no room for. Takes no memory.
+    /// Answers a line as [`Session::answer`] does, but pushes the reply on a page. Writes to the sink
+    /// what the page has no room for. Takes no memory.
     ///
-    /// Fails only where the sink's count of faults rose. The session has then changed all the same. A
+    /// Fails only when the sink's count of faults rose. The session has then changed all the same. A
     /// prefix of the page's bytes and the reply was written, and the page is empty.
     pub fn answer_on<O: Sink, L: Ledger>(
         &mut self,

@@ -19,7 +19,7 @@ use std::sync::ledger::Ledger;
 impl Session {
     /// Begins a session of a library, in its starting states. No other call of a session takes memory.
     ///
-    /// Fails with `Limit` exactly where the system has more cells, pairs times actions, than the
+    /// Fails with `Limit` exactly when the system has more cells (pairs times actions) than the
     /// library's limit. Fails with `Memory` only when out of memory.
     pub fn build<L: Ledger>(
         alloc: Global,

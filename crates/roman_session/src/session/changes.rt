@@ -111,7 +111,7 @@ impl Session {
         kept(tally)
     }
 
-    /// Adds a service, or returns the refusal where there are too many services or cells. Requires
+    /// Adds a service, or returns the refusal if there are too many services or cells. Requires
     /// the phase `Idle`.
     fn join_seat<L: Ledger>(&mut self, joining: Joining, steps: &mut Steps<L>) -> Reply
         requires idle { self.old.phase ≡ Phase.Idle }

@@ -1,4 +1,4 @@
-//! Finds what names stand for.
+//! Looks up names.
 ghost use Rattle.std.specs.Prelude.{◌≡◌, ◌<◌, ◌≤◌, length, IfOk, IfSome, slice_get};
 ghost use Rattle.std.specs.Str.{bytes_eq};
 ghost use Rattle.roman_session.specs.Situations.{present_system};
@@ -9,7 +9,7 @@ use super::Session;
 use roman_read::NameTable;
 use roman_text::Reply;
 
-/// Returns the number of a name in the table, or `ErrorName` where the table lacks it.
+/// Returns the number of a name in the table, or `ErrorName` if the table lacks it.
 pub(super) fn place(names: &NameTable, name: &[u8]) -> Result<u8, Reply>
     requires { length names.now ≤ 64 }
     ensures place { result ≡ named names.now name.now }
@@ -22,7 +22,7 @@ pub(super) fn place(names: &NameTable, name: &[u8]) -> Result<u8, Reply>
 }
 
 impl Session {
-    /// Returns the number of the environment state with this name, or `ErrorName` where there is
+    /// Returns the number of the environment state with this name, or `ErrorName` if there is
     /// none.
     pub(super) fn env_place(&self, name: &[u8]) -> Result<u8, Reply>
         ensures place { result ≡ named self.now.parts.environment.states name.now }
@@ -40,7 +40,7 @@ impl Session {
         name == self.relation.joint.seat(k).name.bytes()
     }
 
-    /// Returns the place of the present service with this name, or `ErrorName` where there is none.
+    /// Returns the place of the present service with this name, or `ErrorName` if there is none.
     pub(super) fn service_place(&self, name: &[u8]) -> Result<u8, Reply>
         ensures place { result ≡ service_named self.now name.now }
         ensures within { IfOk result (λ k. k < length self.now.parts.seats) }
@@ -54,7 +54,7 @@ impl Session {
     }
 
     /// Returns the number of the state with this name of the service at place `k`, or `ErrorName`
-    /// where there is none.
+    /// if there is none.
     pub(super) fn state_place(&self, k: u8, name: &[u8]) -> Result<u8, Reply>
         requires { k < length self.now.parts.seats }
         ensures place { result ≡ state_named self.now k name.now }

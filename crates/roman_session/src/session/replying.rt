@@ -1,5 +1,5 @@
-//! Answers the events whose reply is made first, and then pushed. Each event has its own function, because a reply is
-//! large and a function clears the places of all replies that it may hold.
+//! Answers the events whose reply is made first and then pushed. Each event has its own function: a
+//! reply is large, and a function clears the places of all replies that it may hold.
 ghost use Rattle.roman_io.specs.Faults.{HasCause};
 ghost use Rattle.roman_text.specs.Shapes.{abort, jump, jump_env, freeze, thaw, die, join};
 ghost use Rattle.roman_session.specs.Answering.{DoneOn};

@@ -15,7 +15,7 @@ use roman_text::{Page, ReportLine};
 
 impl Session {
     /// Writes the report: the numbers of pairs and of related pairs, the services now present, the
-    /// present states, and the services that can be offered for each action. Fails only where the
+    /// present states, and the services that can be offered for each action. Fails only when the
     /// sink's count of faults rose. A prefix of the report was then written.
     pub fn report<O: Sink>(&self, out: &mut O) -> Result<(), Failed>
         ensures report { Puts (O.written out.old) (O.written out.new) (report_text self.now.parts self.now.here) result }
@@ -86,7 +86,7 @@ impl Session {
         Ok(())
     }
 
-    /// Pushes a line for each action that the target allows, where the current pair is related.
+    /// Pushes a line for each action that the target allows, if the current pair is related.
     /// Pushes nothing for any other pair.
     fn push_offers<O: Sink>(&self, page: &mut Page, out: &mut O) -> Result<(), Failed>
         ensures gathers { Gathers (O.written out.old) (O.written out.new) page.new (page.old ++ lines_text (offer_lines self.now.parts self.now.here)) result }

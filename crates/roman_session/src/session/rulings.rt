@@ -67,7 +67,7 @@ impl Session {
         })
     }
 
-    /// Succeeds where a request is open that `abort` gives up, and returns the refusal otherwise.
+    /// Succeeds if a request is open, which `abort` gives up. Returns the refusal otherwise.
     #[tactic(auto, unfolding(crate::specs::Rulings::aborted))]
     pub(super) fn aborted(&self) -> Result<(), Reply>
         ensures { result ≡ aborted self.now }
