@@ -1,4 +1,4 @@
--- What the proofs of other crates may cite of this one. All else in proofs/ can be renamed freely.
+-- The lemmas of this crate that proofs of other crates may cite. All else in proofs/ can be renamed freely.
 
 -- Steps lead from well-formed situations to well-formed ones.
 pub use Rattle.roman_hearing.proofs.KnownLemmas.{steps_known}

@@ -52,7 +52,7 @@ takes_failed old mid new ls line more before wrote now page quitless takes step 
   known = known;
 }
 
--- all was written where a page holds nothing
+-- all was written if the page holds nothing
 pub whole_told : (old new : Cursor) (ls : List (List ℕ)) → TellsOnPage old ls new [] → Tells old ls new
 whole_told old new ls takes = record {
   text = takes.text;

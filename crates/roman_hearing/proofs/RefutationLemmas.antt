@@ -32,7 +32,7 @@ pairs_same s = record {
 
 -- Losing more
 
--- a pair that is lost where some pairs are gone is lost where more pairs are gone
+-- a pair that is lost when some pairs are gone is lost when more pairs are gone
 lost_more : (s : Sys) (Gone More : Pair → Type 0) (answers : ℕ → Option Pair) (p : Pair) (r : Reason) → ((q : Pair) → Gone q → More q) → IsLost s Gone answers p r → IsLost s More answers p r
 lost_more s Gone More answers p Final more lost = lost
 lost_more s Gone More answers p (Act a) more lost = grind arith

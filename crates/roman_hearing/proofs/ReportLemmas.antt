@@ -1,4 +1,4 @@
--- The report of a session equals the report of the library that begins where the session stands.
+-- The report of a session equals the report of the library that begins in the present states of the session.
 use Rattle.roman_hearing.proofs.Common.{◌≡◌, ℕ, ◌<◌, List, [], ◌∷◌, map, refl, ap, arith, NamedBeh, NamedSys, seat_of, system_of, Beh, IsBeh, IsSys, IsPair, Situation, IsSituation, lines_text, report_text, afresh, shown, Seat}
 use Rattle.std.specs.List.{AllZip}
 use Rattle.roman_model.specs.System.{Env}
@@ -55,6 +55,6 @@ begun_known s is =
       few = sys.few;
     }
 
--- the library that begins where the session stands has a well-formed system, and its start pair is one of the system
+-- the library that begins in the present states of the session has a well-formed system, and its start pair is one of the system
 pub afresh_known : (s : Situation) → IsSituation s → IsSys (system_of (parts_of (afresh (shown s)))) × IsPair (system_of (parts_of (afresh (shown s)))) (start_pair_of (afresh (shown s)))
 afresh_known s is = grind (arith, begun_known, seats_again, states_again)

@@ -66,7 +66,7 @@ join_in_turn : (s : Situation) (service behaviour state : List ℕ) (loose : Boo
 unfolding joining
 join_in_turn s service behaviour state loose = grind (arith, behaviour_in_turn)
 
--- a service isn't ready exactly where it is frozen
+-- a service isn't ready exactly when it is frozen
 ready_tells : (s : Situation) (k : ℕ) → k < length s.parts.seats → IsReady (shown s) k → IsFalse (seat_at s k).frozen
 ready_tells s k l (seat, there, ready) = subst (λ (seat : Seat). IsFalse seat.frozen) (same_Some seat (seat_at s k) (sym there ∙ seat_is s k l)) ready
 

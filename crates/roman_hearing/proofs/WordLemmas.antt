@@ -130,7 +130,7 @@ reports_great s text sys pair says =
       says = says ∙ report_says s;
     }
 
--- the report of the library that begins where the session stands is right too
+-- the report of the library that begins in the present states of the session is right too
 pub reports_both : (s : Situation) (text : List ℕ) → IsSituation s → text ≡ report_text s.parts s.here → ReportsGreat (shown s) text × ReportsGreat (start_state (afresh (shown s))) text
 reports_both s text is says =
     let (sys, pair) = afresh_known s is in

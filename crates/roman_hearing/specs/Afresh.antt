@@ -1,4 +1,4 @@
--- The library that begins where a session stands.
+-- The library that has a session's present services and begins in its present states.
 use Rattle.std.specs.Prelude.{ℕ, List, [], ◌∷◌}
 use Rattle.roman_joint.specs.declared.seat.Seat.{Seat}
 use Rattle.roman_library.specs.Library.{PlainLibrary}

@@ -9,8 +9,8 @@ use Rattle.roman_text.specs.declared.errors.LineError.{LineError}
 abbrev pub IsComment : List (List ℕ) → Type 0
 IsComment words = (word : List ℕ) × (more : List (List ℕ)) × (words ≡ word ∷ more) × IsTrue (starts_with nat_eq word (codes "#"))
 
--- a line is read as an event where it has the event's words, as no event where it has no words or is a comment, and as an error where
--- it is neither or has more than 256 bytes
+-- a line is read as an event if it has the event's words, as no event if it has no words or is a comment, and as an error if
+-- neither holds or it has more than 256 bytes
 abbrev pub Reads : List ℕ → Result LineShape LineError → Type 0
 Reads line (Err why) =
     (256 < length line)

@@ -45,7 +45,7 @@ pub record GaveQuit (most : ℕ) (before now : Option (List ℕ)) : Type 0 where
 
 -- ---- a session, its source and its sink
 
--- the situation of a session, and what was written by then, where that is known
+-- the situation of a session, and what was written by then, if that is known
 pub record Cursor : Type 0 where
   pub situation : Situation
   pub written : Option (List ℕ)
@@ -54,7 +54,7 @@ pub record Cursor : Type 0 where
 abbrev pub cursor : Situation → Option (List ℕ) → Cursor
 cursor situation written = record { situation = situation; written = written }
 
--- the situation of a session, what was written by then, and what its source has left, where these are known
+-- the situation of a session, what was written by then, and what its source has left, if these are known
 pub record StreamState : Type 0 where
   pub cursor : Cursor
   pub rest : Option (List ℕ)
@@ -120,7 +120,7 @@ pub record TellsPrefixOfAll (old : StreamState) (now : Option (List ℕ)) : Type
   pub last : Situation
   pub tells : TellsPrefix old.cursor (heard_lines session) (cursor last now)
 
--- a count of faults rose where this error is returned, and stayed the same otherwise
+-- a count of faults rose if this error is returned, and stayed the same otherwise
 pub record CausedBy {T : Type 0} (fault : HearError) (old new : ℕ) (result : Result T HearError) : Type 0 where
   pub rose : IsErrOf result fault → Rose old new
   pub stayed : result ≢ Err fault → new ≡ old

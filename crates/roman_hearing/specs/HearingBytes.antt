@@ -62,7 +62,7 @@ HearsBytes old taken bytes new (Ok More) = IsHearing old (taken ++ bytes) new
 HearsBytes old taken bytes new (Ok Quit) = StopsAtQuit old taken bytes new.cursor new.page
 HearsBytes old taken bytes new (Err failed) = FailsIn old (taken ++ bytes) new.cursor
 
--- the first `room` bytes of a piece were read; where it has more bytes, the session is too long
+-- the first `room` bytes of a piece were read; if it has more bytes, the session is too long
 abbrev pub HearsPiece : ℕ → Cursor → List ℕ → List ℕ → ReaderState → Result Next HearError → Type 0
 HearsPiece room old taken piece new (Ok More) = IsHearing old (taken ++ piece) new × (length piece ≤ room)
 HearsPiece room old taken piece new (Ok Quit) = StopsAtQuit old taken (take room piece) new.cursor new.page

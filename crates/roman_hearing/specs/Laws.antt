@@ -30,7 +30,7 @@ abbrev pub NotOfferedFails : Type 0
 NotOfferedFails = (s : Sys) (p : Pair) (a k : ℕ) → k < length s.seats → IsTrue (is_allowed s p a) → (IsIn k (offers s p a) → ⊥) →
     (outcomes s p a k ≡ []) ⊎ ((q : Pair) × IsIn q (outcomes s p a k) × IsFalse (is_related s q))
 
--- the report equals the report of the library that begins where the session stands
+-- the report equals the report of the library that has the present services and begins in the present states
 abbrev pub ReportsAreAfresh : Type 0
 ReportsAreAfresh =
     (s : Situation) → IsSituation s → report_text s.parts s.here ≡ report_text (parts_of (afresh (shown s))) (start_pair_of (afresh (shown s)))

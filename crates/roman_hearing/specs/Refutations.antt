@@ -18,14 +18,14 @@ abbrev pub IsLost : Sys → (Pair → Type 0) → (ℕ → Option Pair) → Pair
 IsLost s Gone answers p Final = IsTrue (is_final s.target p.t) × IsFalse (all_final s.seats p.bs)
 IsLost s Gone answers p (Act a) = Allows s p.t p.e a × ((k : ℕ) → k < length s.seats → MayAnswer s Gone p a k (answers k))
 
--- a removal list: its pairs are distinct, and each is lost where the pairs before it are gone
+-- a removal list: its pairs are distinct, and each is lost when the pairs before it are gone
 abbrev pub AreLost : Sys → (Entry Pair → ℕ → Option Pair) → List Pair → List (Entry Pair) → Type 0
 AreLost s answers before [] = Unit {0}
 AreLost s answers before (x ∷ entries) =
     (IsIn x.node before → ⊥) × IsLost s (λ q. IsIn q before) (answers x) x.node x.reason × AreLost s answers (x.node ∷ before) entries
 
--- the opponent wins from p by at most n entries: where the entry of p says `final` it has won, and otherwise it makes the entry's
--- request; each seat then has no answer, or may go to a pair from which the opponent wins by one entry less
+-- the opponent wins from p by at most n entries: if the entry of p says `final`, it has won; otherwise it makes the entry's request,
+-- and each seat then has no answer, or may go to a pair from which the opponent wins by one entry less
 abbrev pub WinsBy : Sys → (Entry Pair → ℕ → Option Pair) → List (Entry Pair) → ℕ → Pair → Type 0
 WinsBy s answers entries zero p = ⊥
 WinsBy s answers entries (suc n) p =

@@ -19,7 +19,7 @@ use Rattle.roman_hearing.specs.Told.{Told}
 abbrev pub several_with : PlainTargets → List Seat → Several
 several_with said seats = record { env = said.environment.env; targets = machines said.targets; seats = map (seat_of said.catalogue) seats }
 
--- the targets and services are in range, the system of the parts is the combined system, and a pair of it is related exactly where it
+-- the targets and services are in range, the system of the parts is the combined system, and a pair of it is related exactly when it
 -- belongs to some simulation of all targets
 pub record MeansAll (said : PlainTargets) (parts : NamedSys) : Type 0 where
   pub known : IsSeveral (several_with said parts.seats)

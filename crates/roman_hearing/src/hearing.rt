@@ -38,7 +38,7 @@ pub enum HearError {
 /// that end in them before it takes more. The last line may lack its newline.
 ///
 /// The source may split its bytes in any way, and may have no end: at most [`MAX_SESSION_BYTES`] bytes
-/// are read as lines. Takes no memory. Fails as [`HearError`] says. Where the source's bytes aren't
+/// are read as lines. Takes no memory. Fails as [`HearError`] says. If the source's bytes aren't
 /// known, the clauses hold for some bytes that it may have had.
 pub fn hear<S: Source, O: Sink, L: Ledger>(
     session: &mut Session,
@@ -96,7 +96,7 @@ pub fn hear<S: Source, O: Sink, L: Ledger>(
 }
 
 /// Reads the first `room` bytes of a piece, and writes the replies to all lines that end in them.
-/// Fails with `TooLong` where the piece has more bytes and no line `quit` ends in the first ones.
+/// Fails with `TooLong` if the piece has more bytes and no line `quit` ends in the first ones.
 /// Requires an empty page, and leaves it empty.
 fn hear_piece<O: Sink, L: Ledger>(
     session: &mut Session,
@@ -151,8 +151,8 @@ fn hear_bytes<O: Sink, L: Ledger>(
     Ok(Next::More)
 }
 
-/// Reads the last bytes of a line and its newline. Pushes the reply to the line on the page. A line of
-/// which no bytes were held isn't copied.
+/// Reads the last bytes of a line and its newline. Pushes the reply to the line on the page. Copies the
+/// bytes only if others of the line are held.
 fn hear_ended<O: Sink, L: Ledger>(
     session: &mut Session,
     splitter: &mut Splitter,
@@ -175,7 +175,7 @@ fn hear_ended<O: Sink, L: Ledger>(
     heard
 }
 
-/// Answers a last line that has no newline, and writes the reply. Does nothing where no bytes are
+/// Answers a last line that has no newline, and writes the reply. Does nothing if no bytes are
 /// held. Requires an empty page.
 fn hear_rest<O: Sink, L: Ledger>(
     session: &mut Session,

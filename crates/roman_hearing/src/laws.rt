@@ -1,4 +1,4 @@
-//! Laws over the definitions of sessions. Each is the contract of a function that does nothing.
+//! Laws over the definitions of sessions. Each is the contract of a function with an empty body.
 ghost use Rattle.roman_hearing.specs.Events.{LinesAreRead};
 ghost use Rattle.roman_hearing.specs.Known.{StepsStayKnown};
 ghost use Rattle.roman_hearing.specs.Laws.{RequestsAreOffered, OutcomesAreRelated, NotOfferedFails, ReportsAreAfresh, StepsAreTurns, OpenIsGreat};
@@ -35,7 +35,7 @@ pub fn steps_stay_known()
     ensures known { StepsStayKnown }
 {}
 
-/// A line is read as the event that its words spell. It is read as no event where it has no words or
+/// A line is read as the event that its words spell. It is read as no event if it has no words or
 /// is a comment. Every other line, and every line of more than 256 bytes, is read as an error.
 #[tactic(auto, using(crate::proofs::EventLemmas::lines_read))]
 pub fn lines_are_read()
@@ -58,7 +58,7 @@ pub fn open_is_great()
     ensures great { OpenIsGreat }
 {}
 
-/// In a session of a document with several targets a pair is related exactly where it belongs to some
+/// In a session of a document with several targets a pair is related exactly when it belongs to some
 /// ND-simulation of all targets by the services now present.
 pub fn several_are_served()
     ensures served { SeveralAreServed }
