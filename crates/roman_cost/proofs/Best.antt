@@ -32,7 +32,7 @@ best_of-passed f p k best fails before =
 pub filter_has : (q : ℕ → Bool) (n : ℕ) → filter (has (filter q (below n))) (below n) ≡ filter q (below n)
 filter_has q n = grind (arith, filter_in, filter_same, in_filter, listed_number, number_listed, same_test)
 
--- the least is the same where the values agree on the list
+-- the least is the same if the values agree on the list
 least_from_same : (f g : ℕ → ℕ) (x : ℕ) (xs : List ℕ) → f x ≡ g x → ((y : ℕ) → IsIn y xs → f y ≡ g y) → least_from f x xs ≡ least_from g x xs
 least_from_same f g x [] here same = refl
 least_from_same f g x (y ∷ ys) here same =

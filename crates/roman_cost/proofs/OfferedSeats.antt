@@ -67,7 +67,7 @@ best_is_choice s C ranks row p a h ok l are is =
 pub offers_among : (s : Sys) (P : Pair) (a : ℕ) → IsTrue (is_allowed s P a) → filter (has (offers s P a)) (below (length s.seats)) ≡ offers s P a
 offers_among s P a allowed = grind (arith, cond-true, filter_has)
 
--- where a delegation has outcomes, the seat goes to some state
+-- if a delegation has outcomes, the seat goes to some state
 pub states_some : (g : ℕ → ℕ → ℕ) (envs states : List ℕ) → flat_map (λ e. map (g e) states) envs ≢ [] → 0 < length states
 states_some g envs [] some = absurd (some (none envs))
   where

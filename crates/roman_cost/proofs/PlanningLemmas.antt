@@ -157,7 +157,7 @@ choice_cheapest s C h p a ok pair great allows =
           (costs_once s C (least s C h) p a j (through s C (least s C h) p a j) other (through_costs s C (least s C h) p a j ok pair allowed offered) costs) (is.best j offered);
     }
 
--- costs are the same where each pair costs the same
+-- costs are the same if each pair costs the same
 costs_same : (s : Sys) (C : Costs) (rest other : Pair → ℕ) (p : Pair) (a k cost : ℕ) → IsSys s → IsPair s p → ((q : Pair) → IsPair s q → rest q ≡ other q) →
     CostsBy s C rest p a k cost → CostsBy s C other p a k cost
 costs_same s C rest other p a k cost ok pair same costs = grind (arith, moves_in, outcome_pair)

@@ -13,7 +13,7 @@ abbrev pub place_of_rule : Bool → Place
 place_of_rule true = list.Whole
 place_of_rule false = list.Steps
 
--- a refusal is the one that the definition gives; a fault and running out of memory say nothing of the text
+-- a refusal is the one that the definition gives; a fault and running out of memory state nothing
 abbrev pub IsRefusedBy : {Y : Type 0} → CostError → Result Y PartError → Type 0
 IsRefusedBy error.Fault reading = Unit {0}
 IsRefusedBy (error.Refused kind whole index) reading = reading ≡ Err (part_error.Refused kind (place_of_rule whole) index)
@@ -24,13 +24,13 @@ abbrev pub ReadsAs : {X Y : Type 0} → (X → Y) → Result X CostError → Res
 ReadsAs view (Ok x) reading = reading ≡ Ok (view x)
 ReadsAs view (Err e) reading = IsRefusedBy e reading
 
--- the count of faults rose if the error is a fault, and stayed otherwise
+-- the count of faults rose if the error is a fault, and stayed the same otherwise
 abbrev pub IsCostCause : ℕ → ℕ → CostError → Type 0
 IsCostCause old new error.Fault = Rose old new
 IsCostCause old new (error.Refused kind whole index) = new ≡ old
 IsCostCause old new error.Memory = new ≡ old
 
--- the count of faults rose if the result is a fault, and stayed otherwise
+-- the count of faults rose if the result is a fault, and stayed the same otherwise
 abbrev pub HasCostCause : {T : Type 0} → ℕ → ℕ → Result T CostError → Type 0
 HasCostCause old new (Ok x) = new ≡ old
 HasCostCause old new (Err e) = IsCostCause old new e

@@ -19,7 +19,7 @@ abbrev pub listed_cost : List Listed → ℕ → ℕ → Option ℕ
 listed_cost [] behaviour action = None
 listed_cost (x ∷ listed) behaviour action = if x.behaviour == behaviour && x.action == action then Some x.cost else listed_cost listed behaviour action
 
--- the cost of a behaviour for an action: the listed cost, or 0 where none is listed
+-- the cost of a behaviour for an action: the listed cost, or 0 if none is listed
 abbrev pub cost_of : List Listed → ℕ → ℕ → ℕ
 cost_of listed behaviour action = unwrap_or (listed_cost listed behaviour action) 0
 

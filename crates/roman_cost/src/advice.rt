@@ -1,4 +1,4 @@
-//! Computes advice: the least that requests cost at worst.
+//! Computes advice: the least worst-case costs of requests.
 ghost use Rattle.std.specs.Prelude.{◌≡◌, ◌+◌, ◌-◌, ◌*◌, ◌<◌, ◌≤◌, ◌↔◌, map, length, Err, IfOk, IsTrue};
 ghost use Rattle.roman_model.specs.Lists.{IsIn};
 ghost use Rattle.roman_model.specs.System.{Sys};
@@ -31,7 +31,7 @@ use std::marker::Model;
 pub struct Advice {
     requests: u8,
     pairs: Vec<u32>,
-    // For each pair of the system, the number of related pairs before it.
+    // for each pair of the system, the number of related pairs before it
     ranks: Vec<u32>,
     values: Vec<u32>,
 }
@@ -118,9 +118,9 @@ impl Advice {
         &self.pairs
     }
 
-    /// Returns the least that `h` requests cost at worst at the related pair `p`: the minimum over
-    /// all plans for them of the maximum over all requests of the target and all outcomes. Requires
-    /// `h` from 0 to the number of requests for which the advice was built.
+    /// Returns the least worst-case cost of `h` requests at the related pair `p`: the minimum over all
+    /// plans for them of the maximum over all requests of the target and all outcomes. Requires `h`
+    /// from 0 to the number of requests for which the advice was built.
     pub fn value(&self, h: u8, p: u32) -> u32
         requires requests { h ≤ self.now.requests }
         requires related { IsIn p self.now.pairs }

@@ -25,7 +25,7 @@ pub struct Costs {
     behaviours: usize,
     actions: usize,
     listed: Vec<Listed>,
-    // By behaviour and then by action: the cost plus 1, or 0 where no cost is listed.
+    // By behaviour and then by action: the cost plus 1, or 0 if no cost is listed.
     cells: Vec<u32>,
 }
 
@@ -102,7 +102,7 @@ impl Costs {
     }
 
     /// Returns the cost of a behaviour, given by its place in the catalogue, for the action `a`:
-    /// the listed cost, or 0 where none is listed.
+    /// the listed cost, or 0 if none is listed.
     pub fn cost(&self, behaviour: u8, a: u8) -> u32
         requires behaviour { behaviour < self.now.behaviours }
         requires action { a < self.now.actions }

@@ -16,7 +16,7 @@ use crate::terms::{Term, push_pair, work_out};
 use roman_relation::Relation;
 use std::alloc::{AllocError, Global};
 
-/// The approximate number of terms that are kept from row to row.
+/// The approximate limit on the terms that are kept from row to row.
 const MAX_TERMS: usize = 1_048_576;
 
 /// Returns the related pairs, in rising order, and for each pair of the system the number of
@@ -71,7 +71,7 @@ pub(crate) fn first_terms(
 }
 
 /// Appends to `values` the next row, for `h + 1` requests. `terms` has the terms of the first
-/// `told` pairs. Makes the terms of the other pairs again, on `spare`. Fails only when out of
+/// `told` pairs. Computes the terms of the other pairs again, in `spare`. Fails only when out of
 /// memory.
 pub(crate) fn push_row(
     values: &mut Vec<u32>,

@@ -1,5 +1,5 @@
-//! States laws on the definitions of advice. Each law is the contract of a function that does
-//! nothing.
+//! States laws on the definitions of advice. Each law is the contract of a function with an empty
+//! body.
 ghost use Rattle.roman_cost.specs.Laws.{AdviceIsLeast};
 
 /// Each value of the text of advice is the least worst-case cost of that number of requests, over

@@ -1,11 +1,12 @@
 //! Computes what delegations cost, and the cheapest of them.
 //!
 //! [`read_costs`] reads from a text on a shelf what behaviours cost for actions. [`Advice`] has,
-//! for each related pair, the least that a number of requests costs there at worst, whatever the
-//! target requests and whichever outcomes follow. It also gives the service to which the next
-//! request is best delegated. [`put_advice`] writes all these values as a text, with the service to
-//! take for each request that can come first. `specs/Costs` says what a text of costs means,
-//! `specs/AdviceText` what the text of advice is, and `specs/Laws` what it says of plans.
+//! for each related pair and each number of requests, the least worst-case cost: the least that the
+//! requests cost at worst, whatever the target requests and whichever outcomes follow. It also gives
+//! the service to which the next request is best delegated. [`put_advice`] writes all these values as
+//! a text, with the service to take for each request that can come first. `specs/Costs` says what a
+//! text of costs means, `specs/AdviceText` what the text of advice is, and `specs/Laws` what it says
+//! of plans.
 #![tactic(auto)]
 
 mod advice;

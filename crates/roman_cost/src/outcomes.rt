@@ -13,7 +13,7 @@ pub(crate) fn greater(a: u32, b: u32) -> u32
     if a < b { b } else { a }
 }
 
-/// Returns the greatest value of the outcomes, or 0 where there are none.
+/// Returns the greatest value of the outcomes, or 0 if there are none.
 pub(crate) fn greatest_outcome(ranks: &[u32], row: &[u32], outcomes: Outcomes<'_>) -> u32
     requires envs { All (λ e. outcomes.base + e * outcomes.env_stride < 2 ^ 32) outcomes.envs.now }
     requires ranked { All (λ e. All (λ b. IsRanked ranks.now row.now (outcome_number outcomes e b)) outcomes.states.now) outcomes.envs.now }
@@ -37,7 +37,7 @@ pub(crate) fn greatest_outcome(ranks: &[u32], row: &[u32], outcomes: Outcomes<'_
 }
 
 /// Returns the greatest value of the outcomes with one environment state, over the states of the
-/// service, or 0 where there are none.
+/// service, or 0 if there are none.
 fn greatest_state(ranks: &[u32], row: &[u32], from: u32, states: &[u8], stride: u32) -> u32
     requires ranked { All (λ b. IsRanked ranks.now row.now (from + b * stride)) states.now }
     requires fits { All (λ b. from + b * stride < 2 ^ 32) states.now }
