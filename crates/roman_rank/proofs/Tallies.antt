@@ -24,13 +24,13 @@ pub count_places : (xs : List ℕ) (p q : ℕ → Bool) (n : ℕ) → length xs 
 count_places xs p q n long same =
     ap (count_by p) (sym (take-length xs) ∙ ap (λ m. take m xs) long) ∙ count_front xs p q n (omega (arith, long)) same
 
--- where an element passes the test, the count is positive
+-- if an element passes the test, the count is positive
 pub count_there : (p : ℕ → Bool) (xs : List ℕ) (i : ℕ) → i < length xs → IsTrue (p (get_or xs i 0)) → 0 < count_by p xs
 count_there p [] i l t = absurd (omega arith)
 count_there p (x ∷ xs) zero l t = let one : one_if (p x) ≡ 1 = cond-true (p x) 1 0 t in omega (arith, sum_by-cons (λ y. cond (p y) 1 0) x xs, one)
 count_there p (x ∷ xs) (suc i) l t = let rest : 0 < count_by p xs = count_there p xs i (omega arith) t in omega (arith, sum_by-cons (λ y. cond (p y) 1 0) x xs, rest)
 
--- where the count is positive, an element passes the test
+-- if the count is positive, an element passes the test
 pub count_place : (p : ℕ → Bool) (xs : List ℕ) → 0 < count_by p xs → (i : ℕ) × (i < length xs) × IsTrue (p (get_or xs i 0))
 count_place p [] l = (let none : ⊥ = omega arith in absurd none)
 count_place p (x ∷ xs) l = by_test (p x)

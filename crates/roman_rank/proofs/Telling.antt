@@ -131,13 +131,13 @@ last_greatest s table counts are ranking some =
       ]);
     }
 
--- where there is a greatest depth some pair isn't related
+-- if there is a greatest depth some pair isn't related
 pub greatest_unrelated : (s : Sys) (n : ℕ) → IsSys s → IsGreatest s n → ((p : Pair) → IsPair s p → Great s p) → ⊥
 greatest_unrelated s n ok greatest all = let (p, pair, least) = greatest.some in least_unrelated s p n ok least (all p pair)
 
 -- ---- shortest refutations
 
--- where the opponent doesn't win within n requests, some way of delegating holds out
+-- if the opponent doesn't win within n requests, some way of delegating holds out
 pub holds_out : (s : Sys) (n : ℕ) (p : Pair) → IsSys s → IsPair s p → IsFalse (loses (arena s) n p) → HoldsOut s n p
 holds_out s zero p ok pair f = (depth_least s ok p pair).final 0 f
 holds_out s (suc n) p ok pair f = (

@@ -30,7 +30,7 @@ pub record IsGreatest (s : Sys) (n : ℕ) : Type 0 where
   pub some : (p : Pair) × IsPair s p × IsLeast s p n
   pub all : (p : Pair) → IsPair s p → Great s p ⊎ IsTrue (loses (arena s) n p)
 
--- n is the greatest depth, or None where every pair is related
+-- n is the greatest depth, or None if every pair is related
 abbrev pub IsDeepest : Sys → Option ℕ → Type 0
 IsDeepest s None = (p : Pair) → IsPair s p → Great s p
 IsDeepest s (Some n) = IsGreatest s n

@@ -36,7 +36,7 @@ pub record IsRanking (table counts : List ℕ) : Type 0 where
 
 -- ---- over any arena
 
--- d is the least number of requests within which the opponent wins at p, or the greatest number where the opponent never wins
+-- d is the least number of requests within which the opponent wins at p, or the greatest number if the opponent never wins
 abbrev pub IsRank : Arena ℕ → ℕ → ℕ → Type 0
 IsRank A p d =
     ((d < 2 ^ 32 - 1) × IsTrue (loses A d p) × ((m : ℕ) → m < d → IsFalse (loses A m p)))

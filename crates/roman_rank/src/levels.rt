@@ -41,8 +41,9 @@ pub(crate) fn depths_by<J: Rules>(
     Ok(depths)
 }
 
-/// Sets the depth of the pairs of the entries from `start` up to `end` to `n`. Looks for the first
-/// entry at the event at place `near` before other places. Returns that place for the next level.
+/// Sets the depth of the pairs of the entries from `start` up to `end` to `n`. Looks for the first of
+/// these entries in the event at place `near`, and then elsewhere. Returns the place of the event in
+/// which the search for the next level begins.
 fn give_depth(order: &Order, depths: &mut [u32], start: u32, end: u32, n: u32, near: usize) -> usize
     requires pairs { length depths.old ≡ pairs_of order.now }
     requires within { end ≤ length order.now.list }

@@ -45,7 +45,7 @@ impl Model for Ranks {
 
 impl Ranks {
     /// Returns the depths of a relation's system. Requires a complete list. Takes one pass over the
-    /// removal list where that list has its levels. Runs the rounds anew otherwise, on a list that is
+    /// removal list if that list has its levels. Otherwise runs the rounds anew, on a list that is
     /// dropped at the end. Fails only when out of memory. No other call takes memory.
     pub fn build<L: Ledger>(
         alloc: Global,
@@ -70,7 +70,7 @@ impl Ranks {
     }
 
     /// Returns the least number of requests within which the opponent wins from the pair `p`. This is 0
-    /// where clause 2 of an ND-simulation fails at the pair. Returns `None` exactly where the pair is
+    /// if clause 2 of an ND-simulation fails at the pair. Returns `None` exactly when the pair is
     /// related.
     #[tactic(auto, using(crate::proofs::Telling::depth_is_none, std::proofs::lemmas::List::get_or_read, crate::proofs::Telling::some_depth))]
     pub fn depth(&self, p: u32) -> Option<u32>
@@ -83,7 +83,7 @@ impl Ranks {
         if depth == u32::MAX { None } else { Some(depth) }
     }
 
-    /// Returns the greatest depth, or `None` exactly where every pair is related.
+    /// Returns the greatest depth, or `None` exactly when every pair is related.
     pub fn deepest(&self) -> Option<u32>
         ensures greatest { (s : Sys) → AreDepths s self.now → IfSome result (IsGreatest s) }
         ensures related { (s : Sys) → AreDepths s self.now →

@@ -12,7 +12,7 @@ use roman_io::{Failed, Sink};
 use roman_text::{Page, Piece};
 
 /// Writes the number of pairs, the number of related pairs, the number of pairs of each depth, and the
-/// depth of the start pair `p`. Fails only where the sink's count of faults rose; a prefix of the text
+/// depth of the start pair `p`. Fails only when the sink's count of faults rose; a prefix of the text
 /// was then written.
 pub fn write_depths<O: Sink>(ranks: &Ranks, p: u32, out: &mut O) -> Result<(), Failed>
     requires { p < length ranks.now }
