@@ -297,7 +297,7 @@ leave_same : {X : Type 0} (k : ℕ) (K : List ℕ) (xs : List X) → suc k < len
 leave_same k K xs w same gone left =
     ap (leave_out (has K)) (sym (swapped_same k xs w same)) ∙ leave-swapped (has K) k xs w gone left ∙ ap (λ t. leave_out t xs) (λ i j. has-other k K j i)
 
--- the outlook is the same where the seat at place k + 1 fails in place of its equal at place k
+-- the outlook is the same if the seat at place k + 1 fails in place of its equal at place k
 pub moved_on : (way : Way) (k : ℕ) (K : List ℕ) (s : Sys) (p : Pair) → suc k < length s.seats → suc k < length p.bs → slice_get s.seats k ≡ slice_get s.seats (suc k) →
     slice_get p.bs k ≡ slice_get p.bs (suc k) → has K k ≡ true → has K (suc k) ≡ false →
     outlook (system_without way (map (other k) K) s) (pair_without way (map (other k) K) p) ≡ outlook (system_without way K s) (pair_without way K p)

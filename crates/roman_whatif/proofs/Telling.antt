@@ -14,7 +14,7 @@ told_there table i j o same l = ap (told_at (set table i o)) same ∙ ap told (g
 pub told_elsewhere : (table : List declared.Outlook) (i j : ℕ) (o : declared.Outlook) → j ≢ i → told_at (set table i o) j ≡ told_at table j
 told_elsewhere table i j o other = ap told (get_or-set_other table i j o (record { composes = false; related = 0; choices = 0 }) other)
 
--- the earlier outlooks stay where the earlier places do
+-- the earlier outlooks stay if the earlier places do
 pub told_still : (parts : NamedSys) (p : ℕ) (way : Way) (i m : ℕ) (table new : List declared.Outlook) → i < 32 → i < m → ((x : ℕ) → x < 32 * m → told_at new x ≡ told_at table x) →
     IsToldOf parts p way i table → IsToldOf parts p way i new
 told_still parts p way i m table new few l same told_of = grind arith

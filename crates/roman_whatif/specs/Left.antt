@@ -1,4 +1,4 @@
--- What remains where services fail.
+-- What remains when services fail.
 use Rattle.std.specs.Prelude.{◌≡◌, ℕ, ◌<◌, List, [], ◌∷◌, Option, None, Some}
 use Rattle.roman_model.specs.Numbers.{sizes_of, count, pair_at}
 use Rattle.roman_model.specs.Without.{system_without, pair_without}

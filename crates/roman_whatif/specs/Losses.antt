@@ -1,4 +1,4 @@
--- What remains where services fail: each of them alone, and each two.
+-- What remains when services fail: each of them alone, and each two.
 use Rattle.std.specs.Prelude.{◌≡◌, ℕ, ◌+◌, ◌*◌, ◌<◌, ◌≤◌, false, List, [], ◌∷◌, length, get_or, Option, IfSome}
 use Rattle.roman_model.specs.Numbers.{sizes_of, count, pair_at}
 use Rattle.roman_model.specs.Without.{Outlook, outlook, system_without, pair_without}
@@ -13,7 +13,7 @@ use Rattle.roman_whatif.specs.declared.losses.Losses.{Losses}
 abbrev pub told_at : List declared.Outlook → ℕ → Outlook
 told_at table i = told (get_or table i (record { composes = false; related = 0; choices = 0 }))
 
--- the outlook of the pair with the number p where the seats at the places K fail
+-- the outlook of the pair with the number p after the seats at the places K fail
 abbrev pub left_of : NamedSys → ℕ → Way → List ℕ → Outlook
 left_of parts p way K = outlook (system_without way K (system_of parts)) (pair_without way K (pair_at (sizes_of (system_of parts)) p))
 
@@ -22,12 +22,12 @@ pub record MayFail (parts : NamedSys) (first : ℕ) (second : Option ℕ) : Type
   pub one : first < length parts.seats
   pub later : IfSome second (λ j. (first < j) × (j < length parts.seats))
 
--- the table has the outlooks where the seat at place j fails, alone or together with each earlier one
+-- the table has the outlooks after the seat at place j fails, alone or together with each earlier one
 pub record IsToldOf (parts : NamedSys) (p : ℕ) (way : Way) (j : ℕ) (table : List declared.Outlook) : Type 0 where
   pub alone : told_at table (32 * j + j) ≡ left_of parts p way (j ∷ [])
   pub two : (k : ℕ) → k < j → told_at table (32 * j + k) ≡ left_of parts p way (k ∷ j ∷ [])
 
--- the table has the outlooks where each seat fails, and each two
+-- the table has the outlooks after each seat fails, and after each two fail
 pub record AreTold (parts : NamedSys) (p : ℕ) (way : Way) (table : List declared.Outlook) : Type 0 where
   pub few : length parts.seats ≤ 32
   pub room : length table ≡ 32 * length parts.seats

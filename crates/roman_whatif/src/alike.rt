@@ -6,9 +6,9 @@ ghost use Rattle.roman_whatif.specs.Alike.{IsRepeated};
 
 use roman_relation::Relation;
 
-/// Returns whether the service at place `k` is like the one before: the two have the same behaviour,
-/// are in the same state at the pair `p`, and both are frozen or neither is, and both rest or neither
-/// does. Only their names differ.
+/// Returns whether the service at place `k` and the one before are alike: they have the same behaviour,
+/// are in the same state at the pair `p`, are both frozen or both ready, and are both loose or neither.
+/// Only their names differ.
 pub(crate) fn is_repeated(base: &Relation, p: u32, k: u8) -> bool
     requires pair { p < count (sizes_of (system_of base.now.joint)) }
     requires place { k < length base.now.joint.seats }

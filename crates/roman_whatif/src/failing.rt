@@ -16,8 +16,8 @@ use roman_repair::freeze;
 use std::sync::ledger::Ledger;
 
 /// Returns the outlook after the service at place `first` of `base` fails, or those at the places
-/// `first` and `second`: the outlook of the pair that remains of the pair `p` in the system that
-/// remains. A frozen service stays frozen when it freezes.
+/// `first` and `second`: the outlook of the pair that remains of the pair `p`, in the system that
+/// remains. The freeze of a frozen service changes nothing.
 ///
 /// Tries the failure on `scratch`, which was made from `base`, and leaves `base` unchanged.
 /// Requires a complete list of `base`, and `second` greater than `first`. Allocates no memory.

@@ -4,9 +4,9 @@
 //! many pairs are related, and how many services the masks of all pairs and actions have.
 //! [`without`] returns the outlook after one or two services freeze or die. It tries the failure on
 //! a scratch, which is a copy of the relation, and leaves the relation unchanged. [`Losses`] tries
-//! the failures of each service and of each two services, and keeps the outlooks in two tables. Where
+//! the failures of each service and of each two services, and keeps the outlooks in two tables. If
 //! neighbouring services are alike, it tries the failure of one of them and copies the outlook.
-//! `specs/Left` says which system and which pair remain then.
+//! `specs/Left` says which system and which pair remain after a failure.
 #![tactic(auto)]
 
 mod alike;

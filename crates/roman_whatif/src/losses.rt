@@ -32,8 +32,8 @@ const NOTHING: Outlook = Outlook {
 pub struct Losses {
     /// The number of the pair in the relation from which the losses were built.
     pub pair: u32,
-    /// The outlooks after services freeze. The outlook for the services at the places `k` and `j`,
-    /// where `k` is less than `j`, is at `32 * j + k`. The outlook for the service at place `j`
+    /// The outlooks after services freeze. The outlook without the services at the places `k` and
+    /// `j`, with `k` less than `j`, is at `32 * j + k`. The outlook without the service at place `j`
     /// alone is at `32 * j + j`.
     pub frozen: Vec<Outlook>,
     /// The outlooks after services die, at the same places as in `frozen`.
@@ -42,9 +42,9 @@ pub struct Losses {
 
 impl Losses {
     /// Tries the failures of each service and of each two services on two copies of `base`, and
-    /// keeps the outlook of its pair `p` after each. Of neighbouring services that are equal but for
-    /// their names, it tries one failure, and copies the outlook. Requires a complete list of `base`.
-    /// Fails only when out of memory.
+    /// keeps the outlook of its pair `p` after each. If neighbouring services are alike, it tries the
+    /// failure of one of them, and copies the outlook. Requires a complete list of `base`. Fails only
+    /// when out of memory.
     pub fn build<L: Ledger>(
         alloc: Global,
         base: &Relation,
@@ -95,7 +95,7 @@ impl Trials {
     }
 }
 
-/// Returns the outlook that a table has for the services at these places.
+/// Returns the outlook of a table without the services at these places.
 fn entry(table: &[Outlook], first: u8, second: Option<u8>) -> Outlook
     requires { (parts : NamedSys) × (p : ℕ) × (way : Way) × AreTold parts p way table.now × MayFail parts first second }
     ensures { (parts : NamedSys) (p : ℕ) (way : Way) → AreTold parts p way table.now → MayFail parts first second →
@@ -158,7 +158,7 @@ fn try_all<L: Ledger>(
 }
 
 /// Fills the row of the service at place `j` of the table, whose earlier rows are filled. Copies the
-/// row before where the service and the two before are alike, since then the same failures are told.
+/// row before if the service and the two before are alike, since both rows then have the same outlooks.
 fn fill_row<L: Ledger>(
     base: &Relation,
     p: u32,
@@ -186,8 +186,9 @@ fn fill_row<L: Ledger>(
     try_with(base, p, j, way, trials, table, steps);
 }
 
-/// Copies the row of the service at place `before` to the row after it. The outlook for the service
-/// itself, alone, goes one place on, and that for it with the service before stands twice.
+/// Fills the row after that of the service at place `before` with copies from that row. The outlook
+/// without that service alone goes one place further on. The outlook without it and the service before
+/// it is copied twice.
 fn repeat_row(table: &mut [Outlook], before: u8)
     requires some { (0 < before) × (before < 31) }
     requires room { 32 * before + 64 ≤ length table.old }
@@ -236,8 +237,8 @@ fn try_with<L: Ledger>(
 }
 
 /// Returns the outlook after the services at the places `k` and `j` fail. The middle is without the
-/// service at place `j`, and `left` remains of the pair `p` there. Where the service at place `k` is
-/// like the one before, the row of `j` in the table has the outlook already.
+/// service at place `j`, and `left` is what remains of the pair `p` there. If the service at place `k`
+/// and the one before are alike, the row of `j` in the table has the outlook already.
 fn try_second<L: Ledger>(
     base: &Relation,
     p: u32,
