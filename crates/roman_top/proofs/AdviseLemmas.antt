@@ -34,7 +34,7 @@ advised_many n listed h p related many = grind (arith, cond-true, lt-ltb)
 pub advised_told : (n : NamedSys) (listed : List Listed) (h : ℕ) (p : Pair) → IsTrue (is_related (system_of n) p) → related_count (system_of n) * h ≤ MAX_VALUES → advised_by n listed h p ≡ Told (advice_text n listed h p)
 advised_told n listed h p related few = grind (arith, cond-false, cond-true, le-ltb)
 
--- there are few enough values where the limit isn't reported
+-- there are few enough values if the limit isn't reported
 pub few_values : {X : Type 0} (s : Sys) (h : ℕ) (built : Result X AdviceError) → (built ≡ Err advice_error.Limit → ⊥) → ((built ≡ Err advice_error.Limit) ↔ (MAX_VALUES < related_count s * h)) → related_count s * h ≤ MAX_VALUES
 few_values s h built other limit = grind (arith, cases_lt)
 
@@ -120,6 +120,6 @@ advising_answered (Told told) text result few says = subst IsAnswered (sym says.
 few_advised : (n : NamedSys) (listed : List Listed) (h : ℕ) (p : Pair) → related_count (system_of n) * h ≤ MAX_VALUES → advised_by n listed h p ≢ TooMany
 few_advised n listed h p few many = grind (arith, advised_told, advised_unrelated, by_test)
 
--- where the costs are accepted and the values are few, advice is answered
+-- if the costs are accepted and the values are few, advice is answered
 pub advice_answered : (name : List ℕ) (requests : ℕ) (texts : Texts) (library : PlainLibrary) (text : List ℕ) (result : Status) → Affords name requests texts library → GivesAdvice name requests texts library text result → IsAnswered result
 advice_answered name requests texts library text result affords gives = grind (arith, advising_answered, few_advised)

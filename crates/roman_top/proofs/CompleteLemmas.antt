@@ -50,7 +50,7 @@ answered (Some (On system job)) texts old new result run (library, accepted, eno
     job_answered job texts system old.rest run.session run.text library result run.given enough (work_of (JobDoes job texts run.session) (document_opening texts system) library run.text result accepted run.run)
 answered (Some (Make n)) texts old new result run can = is_done result run.run.1
 
--- where no count of faults rose, a command that has what it needs is answered
+-- if no count of faults rose, a command that has what it needs is answered
 by_status : (asked : Option Command) (old new : World) (result : Status) → Served asked old new result → IsUndisturbed old new → IfSome (texts_for asked old.texts) (λ texts. CanAnswer asked texts old.rest → IsAnswered result)
 by_status asked old new status.ShelfFault served quiet = absurd (quiet.shelf served.shelf)
 by_status asked old new status.ReadFault served quiet = absurd (quiet.input served.input)

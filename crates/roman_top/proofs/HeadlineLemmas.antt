@@ -75,7 +75,7 @@ keeps_promise (Some (On system (Run name))) old new result read served free =
     (answered_lines (λ x. Unit {0}) texts system name library old new result read (λ s mid line said from known onward next turn. tt) means run).0)
 keeps_promise _ old new result read served free = tt
 
--- where a document names several targets, a run keeps the promise target by target
+-- if a document names several targets, a run keeps the promise target by target
 keeps_targets : (asked : Option Command) (old new : World) (result : Status) → LinesAreRead → Served asked old new result → IsFree result → KeepsTargets asked old new
 keeps_targets (Some (On system Synth)) old new result read served free =
     told_more old.texts (λ texts. HasRun (Some (On system Synth)) texts old new result)

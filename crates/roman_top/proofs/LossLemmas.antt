@@ -1,4 +1,4 @@
--- The system and the pair that are left where one or two services fail, and what `resilience` writes of them.
+-- The system and the pair that are left after one or two services fail, and what `resilience` writes of them.
 use Rattle.roman_top.proofs.Common.{◌≡◌, ℕ, zero, suc, ◌+◌, ◌<◌, ◌≤◌, true, List, [], ◌∷◌, map, length, drop, Some, slice_get, inl, inr, refl, sym, subst, arith, cases_lt, length-map, IsIn, below, Sys, Pair, IsSys, IsPair, outlook, system_without, pair_without, Way, from_map, from_flat_map, from_place, from_end, there_is, NamedSys, seat_of, system_of, TellsLosses, lines_without, outlook_text}
 use Rattle.std.proofs.Common.{remove}
 use Rattle.roman_model.specs.System.{Seat}

@@ -14,7 +14,7 @@ served_as asked other old new result same served = subst (λ (a : Option Command
 
 -- By the status
 
--- the whole text was written where neither a fault nor running out of memory ended the run
+-- the whole text was written if neither a fault nor running out of memory ended the run
 pub free_text : (IsRun : List ℕ → Status → Type 0) (old new : Option (List ℕ)) (result : Status) → IsFree result → Writes IsRun old new result → WritesText IsRun old new result
 free_text IsRun old new status.ShelfFault free w = absurd free
 free_text IsRun old new status.ReadFault free w = absurd free
@@ -35,7 +35,7 @@ input_stays old new n _ stops = refl
 
 -- By the job
 
--- a session from the input isn't Done where its document isn't opened
+-- a session from the input isn't Done if its document isn't opened
 ends_away : (system : List ℕ) (old new : World) (result : Status) → IsAway result → EndsInput (Some (On system (Run None))) old new result
 ends_away system old new status.Done away = absurd away
 ends_away system old new _ away = tt
@@ -174,7 +174,7 @@ made_served n told shelf rest input old new out out_now result writes spoken cau
   texts = refl;
 }
 
--- Words without a shape
+-- Words that form no command
 
 pub usage_served : {T E : Type 0} (told : Option Texts) (shelf : ℕ) (rest : Option (List ℕ)) (input : ℕ) (old new : Option (List ℕ)) (out out_now : ℕ) (result : Status) (r : Result T E) →
     Puts old new usage_line r → Finishes r status.Usage result → HasCause out out_now r → Served None (world told shelf rest input old out) (world told shelf rest input new out_now) result

@@ -26,7 +26,7 @@ reported s related wanted result old new r known e is puts finishes =
 pub reported_is_run : (s : Situation) (library : PlainLibrary) → IsStart library s → (text : List ℕ) (ends : Status) → Reports s text ends → Synthesises library text ends
 reported_is_run s library start text ends reports = grind arith
 
--- where a yes or a no was told, neither the shelf nor the input failed
+-- if a yes or a no was told, neither the shelf nor the input failed
 pub told_spoken : (old new : Option (List ℕ)) (result : Status) → IsTold result → IsSpoken old new result
 told_spoken old new status.Done told = tt
 told_spoken old new status.No told = tt

@@ -88,7 +88,7 @@ module _ (texts : Texts) (system : List ℕ) (start : Situation) (accepts : Acce
           wrote = h.tells.wrote;
         })
 
-    -- it is a run, where no fault ended it
+    -- it is a run, if no fault ended it
     heard_runs : (fault : Status) (heard : Result (Unit {0}) HearError) → (IsFree fault → ⊥) → OnOk heard (IsHeardOut (stream_state start from old.written) (cursor now new.written)) →
         (IsErrOf heard hear.TooLong → IsCutOff (stream_state start from old.written) (cursor now new.written)) → IsFree (heard_status fault heard) → HasRun (Some (On system (Run name))) texts old new (heard_status fault heard)
     heard_runs fault (Ok x) is_fault out long free = runs_out out

@@ -19,7 +19,7 @@ abbrev pub SinkCause : ℕ → ℕ → Status → Type 0
 SinkCause old new status.WriteFault = Rose old new
 SinkCause old new _ = new ≡ old
 
--- the count stayed the same where a value is returned; a returned status says whether it rose
+-- the count stayed the same if a value is returned; a returned status says whether it rose
 abbrev pub CauseIn : {X : Type 0} → (ℕ → ℕ → Status → Type 0) → ℕ → ℕ → Result X Status → Type 0
 CauseIn Cause old new (Ok x) = new ≡ old
 CauseIn Cause old new (Err result) = Cause old new result

@@ -46,7 +46,7 @@ command_with_three word name other third =
     if bytes_eq word (codes "advise") then option_map (λ requests. On name (Advise other requests)) (request_count_of third)
     else None
 
--- the command that the words form, if they have the shape of one
+-- the command that the words form, if they form one
 abbrev pub command_of : List (List ℕ) → Option Command
 command_of [] = None
 command_of (word ∷ []) = None
@@ -55,7 +55,7 @@ command_of (word ∷ name ∷ other ∷ []) = command_with_two word name other
 command_of (word ∷ name ∷ other ∷ third ∷ []) = command_with_three word name other third
 command_of (word ∷ name ∷ other ∷ third ∷ another ∷ more) = None
 
--- the line that is written for words without a shape
+-- the line that is written for words that form no command
 abbrev pub usage_line : List ℕ
 usage_line = codes "usage: roman synth SYSTEM | run SYSTEM [SESSION] | certify SYSTEM | check SYSTEM CERT | make N | resilience SYSTEM | shortest SYSTEM | advise SYSTEM COSTS H\n"
 

@@ -56,6 +56,6 @@ pub record IsUndisturbed (old new : World) : Type 0 where
   pub input : Rose old.input_faults new.input_faults → ⊥
   pub out : Rose old.out_faults new.out_faults → ⊥
 
--- where no count of faults rises, a command that has what it needs is answered, or runs out of memory
+-- if no count of faults rises, a command that has what it needs is answered or runs out of memory
 abbrev pub AnswersWherePossible : Option Command → World → World → Status → Type 0
 AnswersWherePossible asked old new result = IsUndisturbed old new → WithTexts asked old.texts (λ texts. CanAnswer asked texts old.rest → IsAnswered result)

@@ -38,7 +38,7 @@ pub record WritesPrefix (IsRun : List ℕ → Status → Type 0) (old new : Opti
   pub run : IsRun text ends
   pub wrote : WrotePrefix old new text
 
--- the text of such a run was written, or a prefix of one where the sink failed; of other faults and running out of memory nothing is said
+-- the text of such a run was written, or a prefix of one if the sink failed; of other faults and running out of memory nothing is said
 abbrev pub Writes : (List ℕ → Status → Type 0) → Option (List ℕ) → Option (List ℕ) → Status → Type 0
 Writes IsRun old new status.ShelfFault = Unit {0}
 Writes IsRun old new status.ReadFault = Unit {0}
@@ -84,7 +84,7 @@ abbrev pub ReadsTo : {X : Type 0} → (X → PlainLibrary) → Texts → List �
 ReadsTo view texts name old new (Ok x) = library_of texts name ≡ Ok (view x)
 ReadsTo view texts name old new (Err result) = Writes (TurnsAway (document_opening texts name)) old new result
 
--- nothing was written where a value is returned, nor at a fault of the shelf or out of memory
+-- nothing was written if a value is returned, nor at a fault of the shelf or out of memory
 abbrev pub StopsIn : {X : Type 0} → Option (List ℕ) → Option (List ℕ) → Result X Status → Type 0
 StopsIn old new (Ok x) = new ≡ old
 StopsIn old new (Err result) = EndsBare old new result
@@ -118,7 +118,7 @@ pub record OpensLibrary {X : Type 0} (view : X → PlainLibrary) (name : List �
 
 -- ---- single steps
 
--- the status after a put: `ends` where it succeeded, WriteFault where it failed
+-- the status after a put: `ends` if it succeeded, WriteFault if it failed
 abbrev pub Finishes : {T E : Type 0} → Result T E → Status → Status → Type 0
 Finishes (Ok x) ends result = result ≡ ends
 Finishes (Err e) ends result = result ≡ status.WriteFault
@@ -178,7 +178,7 @@ FindsVerdict A start certificate (Err check.Fault) = Unit {0}
 FindsVerdict A start certificate (Err check.TooLong) = cert_verdict A start certificate ≡ TooLong
 FindsVerdict A start certificate (Err check.Memory) = Unit {0}
 
--- a count of faults rose where the check ended in a fault, and stayed the same otherwise
+-- a count of faults rose if the check ended in a fault, and stayed the same otherwise
 abbrev pub CheckCause : {X : Type 0} → ℕ → ℕ → Result X CheckError → Type 0
 CheckCause old new (Ok x) = new ≡ old
 CheckCause old new (Err check.Fault) = Rose old new

@@ -39,7 +39,8 @@ pub record HasAnsweredPrefix (texts : Texts) (system name : List ℕ) (old new :
   pub split : shelf_text texts name ≡ taken ++ rest
   pub answered : HasAnswered texts system taken old new
 
--- at a fault of the shelf: replies of a session on the shelf were written, and nothing else; `make` and words without a shape never end so
+-- at a fault of the shelf: replies of a session on the shelf were written, and nothing else; `make` and words that form no command never
+-- end so
 abbrev pub AtShelfFault : Option Command → World → World → Type 0
 AtShelfFault (Some (On system (Run (Some name)))) old new = IsUnwritten old new ⊎ IfSome old.texts (λ texts. HasAnsweredPrefix texts system name old new)
 AtShelfFault (Some (On system job)) old new = IsUnwritten old new

@@ -22,7 +22,7 @@ use Rattle.roman_top.specs.RefusalLine.{refusal_line}
 use Rattle.roman_top.specs.declared.status.Status.{Status}
 use Rattle.roman_top.specs.declared.status.Status.TheVariants as status
 
--- what is written by accepted costs: `answer none` where the pair isn't related; the line of the limit where the related pairs times
+-- what is written by accepted costs: `answer none` if the pair isn't related; the line of the limit if the related pairs times
 -- the requests are too many; and otherwise the least worst cost of the requests
 pub record AdvisesBy (n : NamedSys) (listed : List Listed) (requests : ℕ) (p : Pair) (text : List ℕ) (result : Status) : Type 0 where
   pub pairs : List Pair

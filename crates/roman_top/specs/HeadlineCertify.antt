@@ -15,14 +15,14 @@ use Rattle.roman_top.specs.Opening.{library_system}
 use Rattle.roman_top.specs.declared.status.Status.{Status}
 use Rattle.roman_top.specs.declared.status.Status.TheVariants as status
 
--- the reason holds at the pair: the target is final and the system isn't; or the target allows the action, and each seat either can't
--- serve it or may lead to a pair that is gone
+-- the reason holds at the pair: the target is final and the system isn't; or the target allows the action, and each seat has no outcome
+-- on it or one that is gone
 abbrev pub HoldsReason : Sys → (Pair → Type 0) → Pair → Reason → Type 0
 HoldsReason s Gone p Final = IsTrue (is_final s.target p.t) × (IsTrue (all_final s.seats p.bs) → ⊥)
 HoldsReason s Gone p (Act a) =
     Allows s p.t p.e a × ((k : ℕ) → k < length s.seats → ((q : Pair) → LeadsTo s p a k q → ⊥) ⊎ ((q : Pair) × LeadsTo s p a k q × Gone q))
 
--- no pair repeats, and each reason holds where the pairs before it are gone
+-- no pair repeats, and each reason holds when the pairs before its own are gone
 abbrev pub AreValid : Sys → List Pair → List (Entry Pair) → Type 0
 AreValid s before [] = Unit {0}
 AreValid s before (x ∷ entries) = (IsIn x.node before → ⊥) × HoldsReason s (λ q. IsIn q before) x.node x.reason × AreValid s (x.node ∷ before) entries

@@ -23,7 +23,8 @@ KeepsJob (Advise costs requests) texts library text result = KeepsAdvice costs r
 KeepsJob Resilience texts library text result = KeepsResilience library text result
 KeepsJob _ texts library text result = Unit {0}
 
--- the text that was written keeps its promise, for an accepted document within its limit where the texts are known, and for `make`
+-- the text that was written keeps its promise: that of a job, for an accepted document within its limit if the texts are known, and
+-- that of `make`
 abbrev pub KeepsText : Option Command → World → World → Status → Type 0
 KeepsText (Some (On system job)) old new result =
     IfSome old.texts (λ texts. (library : PlainLibrary) → document_opening texts system ≡ Accepted library → WritesText (KeepsJob job texts library) old.written new.written result)

@@ -47,7 +47,7 @@ pub record IsRightOutlook (s : Sys) (p : Pair) (told : Outlook) : Type 0 where
 abbrev pub AreFailing : ℕ → List ℕ → Type 0
 AreFailing n K = IsIn K (ones n) ⊎ IsIn K (twos n)
 
--- the lines with the outlooks where the services at the places K freeze, and where they die
+-- the lines with the outlooks after the services at the places K freeze, and after they die
 abbrev pub loss_lines : NamedSys → (Way → List ℕ → Outlook) → List ℕ → List ℕ
 loss_lines parts left K = line_without parts K Freeze (left Freeze K) ++ line_without parts K Die (left Die K)
 

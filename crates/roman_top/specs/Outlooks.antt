@@ -1,4 +1,4 @@
--- The text of `resilience`: the outlook of the starting states, and their outlook where services fail.
+-- The text of `resilience`: the outlook of the starting states, and their outlook after services fail.
 use Rattle.std.specs.Prelude.{ℕ, ◌+◌, List, [], ◌∷◌, ◌++◌, map, length, drop, if◌then◌else◌, codes, decimal}
 use Rattle.std.specs.List.{flat_map}
 use Rattle.roman_model.specs.Lists.{below}
@@ -24,11 +24,11 @@ way_word Die = codes " die"
 abbrev pub service_names : NamedSys → List ℕ → List ℕ
 service_names parts K = flat_map (λ k. codes " " ++ name_at (map seat_name parts.seats) k) K
 
--- the line with the outlook where the services at the places K fail in that way
+-- the line with the outlook after the services at the places K fail in that way
 abbrev pub line_without : NamedSys → List ℕ → Way → Outlook → List ℕ
 line_without parts K way left = codes "without" ++ service_names parts K ++ way_word way ++ outlook_words left
 
--- the lines with the outlooks where the services at the places K freeze, and where they die
+-- the lines with the outlooks after the services at the places K freeze, and after they die
 unfoldable pub lines_without : NamedSys → Pair → List ℕ → List ℕ
 lines_without parts p K =
     let left = λ (way : Way). outlook (system_without way K (system_of parts)) (pair_without way K p) in

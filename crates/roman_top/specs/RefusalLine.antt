@@ -30,7 +30,7 @@ part_word (part.Service i) = codes "service"
 part_word (part.Target i) = codes "target"
 part_word part.Costs = codes "costs"
 
--- the number of a part, 0 where there is only one
+-- the number of a part, or 0 if there is only one
 abbrev pub part_number : Part → ℕ
 part_number part.System = 0
 part_number part.Environment = 0

@@ -27,7 +27,7 @@ use Rattle.roman_top.specs.declared.status.Status.TheVariants as status
 
 -- ---- what each command does; a job has an accepted document within its limit
 
--- the status is Done where the pair is related, and No where it isn't
+-- the status is Done if the pair is related, and No if it isn't
 abbrev pub EndsBy : Sys → Pair → Status → Type 0
 EndsBy s p status.Done = Great s p
 EndsBy s p status.No = Great s p → ⊥
@@ -69,7 +69,7 @@ TellsShortestOf s p out result = TellsDepths s p out × (result ≡ status.Done)
 abbrev pub TellsShortest : PlainLibrary → List ℕ → Status → Type 0
 TellsShortest library out result = TellsShortestOf (library_system library) (start_pair_of library) out result
 
--- resilience: the outlook of the starting states, and their outlook where services fail
+-- resilience: the outlook of the starting states, and their outlook after services fail
 abbrev pub Foresees : PlainLibrary → List ℕ → Status → Type 0
 Foresees library out result = EndsSaying (outlook_text (parts_of library) (start_pair_of library)) status.Done out result
 
@@ -96,7 +96,7 @@ JobDoes Resilience texts session = Foresees
 
 -- ---- runs
 
--- the text and status of a run, for a command or for words without a shape
+-- the text and status of a run, for a command or for words that form none
 abbrev pub Runs : Option Command → Texts → List ℕ → List ℕ → Status → Type 0
 Runs None texts session out result = EndsSaying usage_line status.Usage out result
 Runs (Some (On system job)) texts session out result = OnOpening (JobDoes job texts session) (document_opening texts system) out result
@@ -108,12 +108,12 @@ IsSessionText (Some (On system (Run (Some name)))) texts before session = sessio
 IsSessionText (Some (On system (Run None))) texts before session = Had before session
 IsSessionText _ texts before session = Unit {0}
 
--- the texts that a call asks the shelf for, where they are known; `make` and words without a shape ask for none
+-- the texts that a call asks the shelf for, if they are known; `make` and words that form no command ask for none
 abbrev pub texts_for : Option Command → Option Texts → Option Texts
 texts_for (Some (On system job)) told = told
 texts_for _ told = Some []
 
--- the property holds of the texts that a call asks for, where they are known
+-- the property holds of the texts that a call asks for, if they are known
 abbrev pub WithTexts : Option Command → Option Texts → (Texts → Type 0) → Type 0
 WithTexts asked told Holds = IfSome (texts_for asked told) Holds
 

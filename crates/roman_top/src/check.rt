@@ -69,7 +69,7 @@ fn tell_verdict<O: Sink>(verdict: Verdict, out: &mut O) -> Status
     }
 }
 
-/// Returns the verdict on the certificate that stands on the shelf under `name`.
+/// Returns the verdict on the certificate named `name` on the shelf.
 fn verdict_on<F: Shelf, L: Ledger>(
     alloc: Global,
     seated: &Seated,

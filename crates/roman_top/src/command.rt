@@ -40,7 +40,7 @@ pub(crate) enum Command<'a> {
         /// The number of requests.
         requests: Requests,
     },
-    /// `resilience SYSTEM`: the outlook of the start pair, and its outlook where services fail.
+    /// `resilience SYSTEM`: the outlook of the start pair, and its outlook after services fail.
     Resilience(&'a str),
     /// `make N`: a summary of the script's session on a system of N workers.
     Make(Workers),
@@ -48,7 +48,7 @@ pub(crate) enum Command<'a> {
 
 ghost use Rattle.roman_top.specs.Command.{command_as, command_of, command_with_one, command_with_two, command_with_three};
 
-/// Returns the command that the words form, or `None` where they have the shape of no command.
+/// Returns the command that the words form, or `None` if they form none.
 pub(crate) fn command_of(words: &Words) -> Option<Command<'_>>
     ensures { option_map command_as result ≡ command_of words.now }
 {

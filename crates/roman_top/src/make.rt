@@ -15,7 +15,7 @@ use roman_session::{BuildError, Session};
 use std::alloc::Global;
 use std::sync::ledger::Ledger;
 
-/// Makes a system of that many workers, runs the script on it, and writes the summary.
+/// Makes a system of that many workers, runs the script on a session of it, and writes the summary.
 pub(crate) fn summarise<O: Sink, L: Ledger>(
     alloc: Global,
     workers: Workers,

@@ -19,8 +19,9 @@ use roman_start::{Seated, seat_library};
 use std::alloc::Global;
 use std::sync::ledger::Ledger;
 
-/// Loads the document `name`, and builds the joint of its system with the start pair. Returns the
-/// status that ends the run where it can't. Writes the line of a refusal or of an exceeded limit.
+/// Loads the document `name`, and builds the joint of its system with the start pair. If that fails,
+/// returns the status with which the run ends, and writes the line of a refusal or of an exceeded
+/// limit.
 pub(crate) fn open_system<F: Shelf, O: Sink>(
     alloc: Global,
     name: &str,
@@ -45,8 +46,8 @@ pub(crate) fn open_system<F: Shelf, O: Sink>(
     }
 }
 
-/// Loads the document `name`, and begins a session of its system. Returns the status that ends the
-/// run where it can't. Writes the line of a refusal or of an exceeded limit.
+/// Loads the document `name`, and begins a session of its system. If that fails, returns the status
+/// with which the run ends, and writes the line of a refusal or of an exceeded limit.
 pub(crate) fn open_session<F: Shelf, O: Sink, L: Ledger>(
     alloc: Global,
     name: &str,
@@ -71,8 +72,8 @@ pub(crate) fn open_session<F: Shelf, O: Sink, L: Ledger>(
     }
 }
 
-/// Loads the library of the document `name`. Returns the status that ends the run where it can't.
-/// Writes the line of a refusal.
+/// Loads the library of the document `name`. If that fails, returns the status with which the run
+/// ends, and writes the line of a refusal.
 fn read_library<F: Shelf, O: Sink>(
     alloc: Global,
     name: &str,

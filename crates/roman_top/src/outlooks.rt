@@ -111,7 +111,7 @@ fn push_twos_with<O: Sink>(
     Ok(())
 }
 
-/// Pushes two lines for one or two services: the outlook where they freeze, and where they die.
+/// Pushes two lines for one or two services: the outlook after they freeze, and after they die.
 fn push_lines<O: Sink>(
     joint: &Joint,
     losses: &Losses,

@@ -10,7 +10,7 @@ use roman_parts::List;
 use roman_read::Kind;
 use roman_text::{Page, Piece};
 
-/// Writes `refused DOCUMENT KIND PART NUMBER LIST INDEX` and a newline. For a choice the number of
+/// Writes `refused DOCUMENT KIND PART NUMBER LIST INDEX` and a newline. For a choice, the number of
 /// the earlier transition and the name of the environment state stand before the newline.
 pub(crate) fn put_refusal<O: Sink>(refusal: &Refusal, out: &mut O) -> Result<(), Failed>
     ensures puts { Puts (O.written out.old) (O.written out.new) (refusal_line refusal.now) result }

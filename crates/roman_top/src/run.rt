@@ -39,16 +39,16 @@ use std::sync::ledger::Ledger;
 ///   start, after each of the script's first four lines, and at its end. It asks the shelf for nothing.
 /// - `resilience SYSTEM` writes the number of services and the outlook of the start pair. An outlook
 ///   says whether the pair is related, how many pairs are related, and how many services can serve an
-///   action, summed over all actions and all pairs, related or not. Then it writes the outlook where
-///   each one and each two of the services freeze, and where they die.
+///   action, summed over all actions and all pairs, related or not. Then it writes the outlook after
+///   each one and each two of the services freeze, and after they die.
 /// - `shortest SYSTEM` writes how many pairs there are, how many are related, and how many have each
 ///   depth. It writes the depth of the start pair, or that it is related. The depth of a pair is the
 ///   least number of requests within which the opponent wins from it.
 /// - `advise SYSTEM COSTS H`, for H from 1 to 64, writes the least worst cost of H requests by the
 ///   costs on the shelf. For each action that is allowed at the start pair it writes the service to
 ///   use, and the worst cost of the H requests then. For each related pair it writes the least worst
-///   cost of 1 to H requests. It writes `answer none` where the start pair isn't related. It writes
-///   `limit 1048576` where there are more values, related pairs times H, than 1,048,576.
+///   cost of 1 to H requests. It writes `answer none` if the start pair isn't related. It writes
+///   `limit 1048576` if there are more values, related pairs times H, than 1,048,576.
 ///
 /// Returns on every input. Takes bytes from `input` for `run SYSTEM` alone.
 pub fn serve<F: Shelf, I: Source, O: Sink, L: Ledger>(
@@ -72,7 +72,7 @@ pub fn serve<F: Shelf, I: Source, O: Sink, L: Ledger>(
         (world (F.texts shelf.old) (F.faults shelf.old) (I.rest input.old) (I.faults input.old) (O.written out.old) (O.faults out.old))
         (world (F.texts shelf.new) (F.faults shelf.new) (I.rest input.new) (I.faults input.new) (O.written out.new) (O.faults out.new)) result }
 
-    // Where no count of faults rises, a command is answered or runs out of memory. It needs an accepted
+    // If no count of faults rises, a command is answered or runs out of memory. It needs an accepted
     // document within its limit, and a session or certificate that isn't too long. `advise` also needs
     // costs that are accepted, and no more than 1,048,576 values.
     ensures complete { AnswersWherePossible (command_of words.now)

@@ -1,4 +1,4 @@
-//! What the summary of `make` says of a session at one stage.
+//! The stages of the summary of `make`.
 ghost use Rattle.std.specs.Prelude.{◌≤◌, length};
 
 /// The figures of a session at its start, or after some lines of its script.

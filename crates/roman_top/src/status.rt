@@ -15,7 +15,7 @@ pub enum Status {
     /// 1: The start pair isn't related, and the report (`synth`) or the line `answer none` (`advise`)
     /// was written. Or the certificate is rejected, and the line that says so was written (`check`).
     No,
-    /// 2: The words have the shape of no command. The usage line was written, and nothing was read.
+    /// 2: The words form no command. The usage line was written, and nothing was read.
     Usage,
     /// 3: The document or the text of costs is refused. The line of the first rule that it breaks was
     /// written.
@@ -24,7 +24,7 @@ pub enum Status {
     /// pairs times H, exceed 1,048,576. The line `limit` with that limit was written.
     Limit,
     /// 5: A call of the shelf failed, and its count of faults rose. Never returned for `make` or for
-    /// words without a shape. For a session on the shelf the replies to all lines that were read
+    /// words that form no command. For a session on the shelf the replies to all lines that were read
     /// whole were written. Otherwise nothing was written. Nothing was taken from the input.
     ShelfFault,
     /// 6: A take from the input failed, and its count of faults rose. Returned for `run SYSTEM`
@@ -36,8 +36,8 @@ pub enum Status {
     /// lines that end within these bytes were written. Or the certificate has more than 268,435,456
     /// bytes before a line at fault ends, and nothing was written.
     TooLong,
-    /// 9: Out of memory. Never returned for words without a shape. Nothing was written, and nothing
-    /// was taken from the input.
+    /// 9: Out of memory. Never returned for words that form no command. Nothing was written, and
+    /// nothing was taken from the input.
     Memory,
 }
 
@@ -61,7 +61,7 @@ impl Status {
     }
 }
 
-/// Returns `status` where the text was put, and `WriteFault` where the sink failed.
+/// Returns `status` if the text was put, and `WriteFault` if the sink failed.
 pub(crate) fn finish(put: Result<(), Failed>, status: Status) -> Status
     ensures { Finishes put status result }
 {

@@ -62,7 +62,7 @@ pub(crate) fn talk_shelf<F: Shelf, O: Sink, L: Ledger>(
     )
 }
 
-/// Returns the status of a run whose session ended so. `fault` is the status of a failed read.
+/// Returns the status of a run whose session had this result. `fault` is the status of a failed read.
 fn status_after(heard: Result<(), HearError>, fault: Status) -> Status
     ensures { result ≡ heard_status fault heard }
 {
@@ -74,7 +74,7 @@ fn status_after(heard: Result<(), HearError>, fault: Status) -> Status
     }
 }
 
-/// Answers the lines of the text that stands on the shelf under `name`.
+/// Answers the lines of the text named `name` on the shelf.
 fn hear_text<F: Shelf, O: Sink, L: Ledger>(
     session: &mut Session,
     name: &str,

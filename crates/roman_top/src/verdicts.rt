@@ -43,7 +43,7 @@ pub(crate) fn put_rejected<O: Sink>(line: u32, why: Why, out: &mut O) -> Result<
     out.put(line.bytes())
 }
 
-/// Returns the word of a fault. For a pair that is missing the pair's number follows.
+/// Returns the word of a fault, followed by the number of the pair if a pair is missing.
 fn why_piece(why: Why) -> Piece
     ensures text { result ≡ why_text (fault_of why) }
     ensures short { length result ≤ 32 }
