@@ -24,7 +24,7 @@ use Rattle.roman_hearing.specs.Refutations.{AreLost, WinsBy}
 abbrev pub Replies : Reply → List ℕ → Type 0
 Replies said text = text ≡ reply_text said
 
--- so many pairs of the system are as said
+-- n is the number of pairs of the system that have the property
 pub record Counts (s : Sys) (IsAsSaid : Pair → Type 0) (n : ℕ) : Type 0 where
   pub pairs : List Pair
   pub once : HasNoRepeats pairs
@@ -46,7 +46,7 @@ pub record OffersServing (s : State) (a : ℕ) (text : List ℕ) : Type 0 where
 
 -- ---- changes
 
--- kept and added entries are together as many as there are pairs that aren't related
+-- the numbers of kept and of added entries add up to the number of pairs that aren't related
 pub record CountsLost (s : State) (text : List ℕ) : Type 0 where
   pub kept : ℕ
   pub added : ℕ
@@ -55,8 +55,8 @@ pub record CountsLost (s : State) (text : List ℕ) : Type 0 where
 
 -- ---- reports
 
--- the report tells how many pairs are related, whether the current one is, and there, for each action that the target may ask
--- for, the services that serve it
+-- the report tells how many pairs are related and whether the current one is; if it is, also the services that serve each action
+-- that the target allows
 pub record ReportsGreat (s : State) (text : List ℕ) : Type 0 where
   pub related : ℕ
   pub counted : Counts (system_of s.parts) (Great (system_of s.parts)) related
@@ -85,13 +85,13 @@ pub record ReportsGreat (s : State) (text : List ℕ) : Type 0 where
 abbrev pub IsReady : State → ℕ → Type 0
 IsReady s k = (seat : Seat) × (slice_get (system_of s.parts).seats k ≡ Some seat) × IsFalse seat.frozen
 
--- a line for the answer of each of those services, where the reason is a request
+-- if the reason is a request, a line for the answer of each of these services; no lines if it is `final`
 abbrev pub lines_of_answers : Names → (ℕ → Option Pair) → List ℕ → Reason → List (List ℕ)
 lines_of_answers names answers ks Final = []
 lines_of_answers names answers ks (Act a) = map (λ k. answer_line names k (answers k)) ks
 
--- the text tells a removal list that ends with the current pair, with the answers of the services that are ready, and the opponent
--- who plays by it wins
+-- the text gives a removal list that ends with the current pair, with the answers of the services that are ready; the opponent who
+-- plays by it wins
 pub record Refutes (s : State) (text : List ℕ) : Type 0 where
   pub entries : List (Entry Pair)
   pub answers : Entry Pair → ℕ → Option Pair

@@ -37,7 +37,7 @@ targets_now said s = several_with said s.parts.seats
 abbrev pub couple_now : PlainTargets → State → CoupleAll
 couple_now said s = couple_all (targets_now said s) s.here
 
--- some ND-simulation of all targets holds the current states
+-- some ND-simulation of all targets contains the current states
 abbrev pub IsGreatAll : PlainTargets → State → Type 0
 IsGreatAll said s = GreatAll (targets_now said s) (couple_now said s)
 
@@ -108,14 +108,14 @@ TellsTarget said s (Ok (saw state env)) text new =
     MovesOne said s n asks e (slice_set s.here.bs k b) env text new))))
 TellsTarget said s _ text new = Unit {0}
 
--- action n asks one of the targets: it may be asked for where that target allows its action, and the services that serve it are those that
--- serve it for all targets
+-- action n asks one of the targets: the session allows it exactly when that target allows its action, and the services that serve it are
+-- exactly those that serve it for all targets
 pub record MeansOne (said : PlainTargets) (s : State) (n : ℕ) : Type 0 where
   pub asks : TargetAction said s n
   pub may : MayAsk s n ↔ MayAskOne said s n asks
   pub serves : (k : ℕ) → ServesHere s n k ↔ ServesAllHere said s n asks k
 
--- a pair of the state's system is related where some ND-simulation of all targets holds it, and each action asks one of the targets
+-- a pair of the state's system is related exactly when some ND-simulation of all targets contains it; each action asks one of the targets
 pub record MeansTargets (said : PlainTargets) (s : State) : Type 0 where
   pub great : (p : Pair) → IsPair (system_of s.parts) p → Great (system_of s.parts) p ↔ GreatAll (targets_now said s) (couple_all (targets_now said s) p)
   pub actions : (n : ℕ) → n < length s.parts.environment.actions → MeansOne said s n
@@ -133,7 +133,7 @@ pub record HasAnsweredTargets (asked : Option Command) (library : PlainLibrary) 
   pub answered : HasAnsweredLines asked library texts old new
   pub each : (x : Turn) → IsIn x answered.turns → IsTurnOfTargets said x
 
--- what is promised of a session, and what the report of a synthesis speaks of, where the document names several targets
+-- what is promised of a session, and of the state on which a synthesis reports, if the document names several targets
 abbrev pub KeepsTargets : Option Command → World → World → Type 0
 KeepsTargets (Some (On system (Run name))) old new =
     IfSome old.texts (λ texts. (library : PlainLibrary) (said : PlainTargets) → Means texts system library → NamesTargets texts system said →
