@@ -1,7 +1,7 @@
 -- The lines of the session for the made systems.
 use Rattle.std.specs.Prelude.{ℕ, List, [], ◌∷◌, codes}
 
--- a worker is frozen, thawed and lost, and a spare worker works a whole shift in its place
+-- a worker freezes, thaws and dies, and a spare worker works a whole shift in its place
 abbrev pub script_lines : List (List ℕ)
 script_lines =
     codes "freeze w1" ∷

@@ -2,7 +2,8 @@
 //!
 //! [`make`] makes a system of up to ten workers, who wear out and are mended, with a target that
 //! requests the shift of one worker. `specs/Made` defines the systems. [`script`] returns the lines
-//! of a session in which a worker is frozen, thawed and lost, and a spare worker works a shift.
+//! of a session in which a worker freezes, thaws and dies, and a spare worker works a whole shift in
+//! its place.
 #![tactic(auto)]
 
 mod error;
