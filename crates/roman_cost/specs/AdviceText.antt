@@ -21,7 +21,7 @@ worst_line value = codes "worst " ++ decimal value ++ codes "\n"
 abbrev pub service_text : List ℕ → List ℕ → ℕ → List ℕ
 service_text action service cost = codes "for " ++ action ++ codes ": " ++ service ++ codes " " ++ decimal cost ++ codes "\n"
 
--- the line of an action at a pair: the service to take, and the cost through it where h requests follow
+-- the line of an action at a pair: the service to take, and the cost through it if h requests follow
 abbrev pub choice_line : NamedSys → Costs → ℕ → Pair → ℕ → List ℕ
 choice_line n C h p a =
     let k = choice (system_of n) C h p a in
@@ -42,7 +42,7 @@ value_tail p value = (decimal p ++ codes " ") ++ (decimal value ++ codes "\n")
 abbrev pub value_lines : Sys → Costs → ℕ → List ℕ
 value_lines s C h = flat_map (λ p. value_line h p (least_at s C h p)) (related_pairs s)
 
--- the certificate: the values for 1 to `requests` requests
+-- the lines of the values for 1 to `requests` requests, at each related pair
 abbrev pub certificate_text : Sys → Costs → ℕ → List ℕ
 certificate_text s C requests = flat_map (λ h. value_lines s C (suc h)) (below requests)
 

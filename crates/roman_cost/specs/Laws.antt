@@ -14,9 +14,8 @@ use Rattle.roman_cost.specs.ServingPlans.{IsLeastCost, IsCheapest}
 use Rattle.roman_cost.specs.Tables.{seat_costs}
 use Rattle.roman_cost.specs.declared.costs.Listed.{Listed}
 
--- a text names the value of the pair itself, then for each action that the target allows the cheapest seat and its cost, where
--- the values of one request fewer follow, and then all values at the related pairs, in rising order of their numbers; the values
--- are least costs
+-- a text gives the value of the pair itself; then for each action that the target allows the cheapest seat and its cost, by the values
+-- for one request fewer; and then all values at the related pairs, in rising order of their numbers; the values are least costs
 pub record TellsLeast (n : NamedSys) (C : Costs) (requests : ℕ) (p : Pair) (text : List ℕ) : Type 0 where
   pub value : ℕ → ℕ → ℕ
   pub pairs : List ℕ

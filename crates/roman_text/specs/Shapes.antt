@@ -97,7 +97,7 @@ abbrev pub shape_of_words : List (List ℕ) → Result LineShape LineError
 shape_of_words [] = Ok nothing
 shape_of_words (word ∷ more) = if is_comment word then Ok nothing else by_words word more
 
--- the event of a line of at most 256 bytes, where one byte 13 at its end is ignored
+-- the event of a line of at most 256 bytes; one byte 13 at its end is ignored
 unfoldable pub shape_of : List ℕ → Result LineShape LineError
 shape_of line =
     if nat_lt 256 (length line) then Err TooLong else shape_of_words (words_of (strip_carriage_return line))

@@ -8,8 +8,8 @@ use Rattle.roman_top.specs.World.{World, Outputs, beside}
 use Rattle.roman_top.specs.declared.status.Status.{Status}
 use Rattle.roman_top.specs.declared.status.Status.TheVariants as status
 
--- unless a fault or running out of memory ended it, the call is a run; for each such end, what was written; which counts of faults rose;
--- where the input stands after a session from it; and the shelf's texts are the same
+-- unless a fault or running out of memory ended it, the call is a run; after each such end, what was written; which counts of faults
+-- rose; what the input has left after a session from it; and that the shelf's texts are the same
 pub record Served (asked : Option Command) (old new : World) (result : Status) : Type 0 where
   pub run : IsFree result → WithTexts asked old.texts (λ texts. HasRun asked texts old new result)
   pub shelf_fault : result ≡ status.ShelfFault → AtShelfFault asked old new
