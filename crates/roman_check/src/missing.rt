@@ -21,7 +21,6 @@ fn missing_among<J: Rules>(joint: &J, row: &J::Row, words: &[u64], left: u64) ->
         is_on result lane ≡ (is_on left lane && list_any (is_justified A gone (x * lanes + lane)) (reasons A.actions)) }
     ensures within { (lane : ℕ) → is_on left lane ≡ false → is_on result lane ≡ false }
 {
-    joint.known();
     let mut missing = joint.unfine(row) & left;
     for a in 0..joint.actions() {
         missing |= joint.unserved(row, words, a, left);

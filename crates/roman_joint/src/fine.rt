@@ -73,7 +73,6 @@ fn others_rest(joint: &Joint, row: &Row) -> u64
         (y i lane : ℕ) → IsRow s (y * band_in s) row.now → i < band_in s → lane < lanes_in s → is_on result lane
         ≡ all_below (λ k. is_own s k || may_rest_in (slice_get s.seats k) (slice_index (pair_at (sizes_of s) ((y * band_in s + i) * lanes_in s + lane)).bs k)) (length s.seats) }
 {
-    joint.known();
     let mut rests = joint.layout().full;
     for k in 0..joint.seats() {
         if rests == 0 {

@@ -5,7 +5,7 @@ use Rattle.std.specs.List.{list_any, AllZip}
 use Rattle.roman_model.specs.Lists.{IsIn}
 use Rattle.roman_model.specs.declared.limits.TheConstants.{MAX_STATES, MAX_ACTIONS, MAX_SERVICES}
 
--- the environment goes from a state by an action to a state
+-- a transition of an environment: from a state, by an action, to a state
 pub record Triple : Type 0 where
   pub from : ℕ
   pub action : ℕ
@@ -18,7 +18,7 @@ pub record Env : Type 0 where
   pub start : ℕ
   pub triples : List Triple
 
--- a behaviour goes from a state by an action to a state, where the environment is in one of the guard's states
+-- a step of a behaviour: from a state, by an action, to a state, while the environment is in a state of the guard
 pub record Move : Type 0 where
   pub from : ℕ
   pub guard : List ℕ
@@ -77,7 +77,7 @@ pub record IsBeh (env : Env) (beh : Beh) : Type 0 where
   pub steps : (m : Move) → IsIn m beh.steps → (m.from < beh.states) × (m.action < env.actions) × (m.to < beh.states)
   pub guards : (m : Move) → IsIn m beh.steps → (e : ℕ) → IsIn e m.guard → e < env.states
 
--- no state, environment state and action have two successors
+-- in each state of the environment, each state has at most one successor by each action
 abbrev pub IsDeterministic : Beh → Type 0
 IsDeterministic beh = (b e a b1 b2 : ℕ) → IsTrue (has_move beh b e a b1) → IsTrue (has_move beh b e a b2) → b1 ≡ b2
 
@@ -89,7 +89,7 @@ pub record IsSys (s : Sys) : Type 0 where
   pub seats : (x : Seat) → IsIn x s.seats → IsBeh s.env x.beh
   pub few : length s.seats ≤ MAX_SERVICES
 
--- each number of the pair is below that of its states
+-- each state of the pair is in range, and there is one for each seat
 pub record IsPair (s : Sys) (p : Pair) : Type 0 where
   pub t : p.t < s.target.states
   pub e : p.e < s.env.states
