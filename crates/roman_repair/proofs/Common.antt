@@ -37,7 +37,6 @@ pub use Rattle.roman_radix.specs.Radix.{AreSizes, IsSizes}
 pub use Rattle.roman_radix.specs.Rows.{lanes_of, low_of}
 pub use Rattle.roman_relation.proofs.CallerLemmas.{listed_numbers, words_rows}
 pub use Rattle.roman_relation.specs.Greatest.{HasCaps, IsRelation, arena_of}
-pub use Rattle.roman_relation.specs.Settled.{Begins}
 pub use Rattle.roman_relation.specs.Shaped.{IsShaped}
 pub use Rattle.roman_rules.proofs.CallerLemmas.{readings_of-allowed}
 pub use Rattle.roman_rules.specs.Asked.{IsReasonOf, readings_of_reason}
@@ -45,6 +44,6 @@ pub use Rattle.roman_rules.specs.Numbered.{IsNumbered}
 pub use Rattle.roman_repair.specs.Alone.{AreKept, IsIntact, MayAskAlone, lets_hold, without_seat}
 pub use Rattle.roman_repair.specs.AskedBands.{HoldsInBand}
 pub use Rattle.roman_repair.specs.Deaths.{IsGathered, IsPart, entries_from, list_and, list_with}
-pub use Rattle.roman_repair.specs.Repairs.{IsBegun, IsRepaired}
+pub use Rattle.roman_repair.specs.Repairs.{IsBegun, IsRepaired, IsSettledOn}
 pub use Rattle.roman_repair.specs.Replays.{AreCandidates, AreSlices, IsReplayable, candidates, is_possible, readings_of_entries, with_replay}
 pub use Rattle.roman_repair.specs.declared.tally.Tally.{Tally}

@@ -1,6 +1,7 @@
 -- The front of a word's lanes, and the front of a replay.
-use Rattle.roman_repair.proofs.Common.{◌≡◌, ◌≢◌, ℕ, zero, suc, ◌+◌, ◌-◌, ◌*◌, ◌/◌, ◌%◌, ◌^◌, ◌<◌, ◌≤◌, Bool, true, false, not, ◌&&◌, ◌⊎◌, List, [], ◌∷◌, ◌++◌, map, length, filter, cond, IsTrue, IsFalse, inl, inr, refl, sym, ap, ap₂, ◌∙◌, subst, arith, append-nil, append_assoc, bit_and, eqb, length-append, bit_at, leading_zeros, trailing_zeros, w64, bit_not, cases_lt, both_ways, and_parts, or_left, cases_eq, eq-eqb, map-append, sum_by-cons, sum_by-append, bit_at_cat_high, mul-le-mul_left, IsIn, below, Arena, Entry, is_listed, is_justified, Reason, filter_below_more, from_map, in_map, in_below, justified_more, listed_append, is_on, on_and, on_full, on_full_past, on_not, IsNumbered, IsReasonOf, readings_of_reason, Board, as_entry, set_lanes, entries_in, has_entry, in_lanes, IsShaped, is_possible, AreCandidates, with_replay, readings_of_entries}
+use Rattle.roman_repair.proofs.Common.{◌≡◌, ◌≢◌, ℕ, zero, suc, ◌+◌, ◌-◌, ◌*◌, ◌/◌, ◌%◌, ◌^◌, ◌<◌, ◌≤◌, Bool, true, false, not, ◌&&◌, ◌⊎◌, List, [], ◌∷◌, ◌++◌, map, length, filter, cond, IsTrue, IsFalse, inl, inr, refl, sym, ap, ap₂, ◌∙◌, subst, arith, append-nil, append_assoc, bit_and, eqb, length-append, bit_at, leading_zeros, trailing_zeros, w64, bit_not, cases_lt, both_ways, and_parts, or_left, cases_eq, eq-eqb, map-append, sum_by-cons, sum_by-append, bit_at_cat_high, mul-le-mul_left, IsIn, below, Arena, Entry, is_listed, is_justified, Reason, filter_below_more, from_map, in_map, in_below, justified_more, listed_append, is_on, on_and, on_full, on_full_past, on_not, IsNumbered, IsReasonOf, readings_of_reason, Board, as_entry, set_lanes, set_lanes-zero, entries_in, has_entry, in_lanes, IsShaped, is_possible, AreCandidates, with_replay, readings_of_entries}
 use Rattle.roman_lanes.proofs.CallerLemmas.{on_less}
+use Rattle.std.proofs.Math.Nat.{pow-suc, pow-le-pow_right}
 use Rattle.std.proofs.Math.Pow.{pow-lt}
 use Rattle.std.proofs.lemmas.Nat.{and_le_l, and_le_r, leading_top}
 use Rattle.std.proofs.lemmas.Nat.Bits.{bit_at_above, bit_at-trailing_zeros}
@@ -22,6 +23,11 @@ first_lane word some fits =
     let h = bit_at-trailing_zeros w64 word (omega arith) fits in
     record { low = h.0; on = eq-eqb _ 1 h.1; before = λ bit l. ap (λ n. eqb n 1) (h.2 bit l) }
 
+top_bit : (word j : ℕ) → 2 ^ j ≤ word → word < 2 ^ suc j → bit_at word j ≡ 1
+top_bit word j low high =
+    ap (λ n. bit_at n j) (let parts : word ≡ 1 * 2 ^ j + (word - 2 ^ j) = omega (arith, low) in parts)
+    ∙ bit_at_cat_high 1 j (word - 2 ^ j) j (omega (arith, low, high)) (omega arith) ∙ ap (bit_at 1) (let none : j - j ≡ 0 = omega arith in none)
+
 -- the last lane of a word
 pub record IsLast (word lane : ℕ) : Type 0 where
   pub on : is_on word lane ≡ true
@@ -32,15 +38,28 @@ unfolding is_on
 last_lane word some fits =
     let (j, place, low, high) = leading_top 64 word (omega arith) fits in
     let here : 63 - leading_zeros w64 word ≡ j = omega (arith, place) in
-    let top : bit_at word j ≡ 1 = ap (λ n. bit_at n j) (let parts : word ≡ 1 * 2 ^ j + (word - 2 ^ j) = omega (arith, low) in parts)
-    ∙ bit_at_cat_high 1 j (word - 2 ^ j) j (omega (arith, low, high)) (omega arith) ∙ ap (bit_at 1) (let none : j - j ≡ 0 = omega arith in none) in
     subst (IsLast word) (sym here) record {
-      on = eq-eqb _ 1 top;
+      on = eq-eqb _ 1 (top_bit word j low high);
       past = λ bit on. elim (cases_lt j bit) [
         | inl more ↦ absurd (both_ways (is_on word bit) (ap (λ n. eqb n 1) (bit_at_above word (suc j) bit high (omega (arith, more)))) on)
         | inr few ↦ few
       ];
     }
+
+below_power : (n : ℕ) → n < 2 ^ n
+below_power zero = omega arith
+below_power (suc n) = omega (arith, below_power n, pow-suc 2 n)
+
+-- a word with no lane from 64 on fits
+pub word_fits : (word n : ℕ) → n ≤ 64 → ((lane : ℕ) → is_on word lane ≡ true → lane < n) → word < 2 ^ 64
+unfolding is_on
+word_fits zero n few within = omega arith
+word_fits (suc word) n few within =
+    let (j, place, low, high) = leading_top (suc word) (suc word) (omega arith) (below_power (suc word)) in
+    let l : j < n = within j (eq-eqb _ 1 (top_bit (suc word) j low high)) in
+    let end : suc j ≤ 64 = omega (arith, l, few) in
+    let two : 0 < 2 = omega arith in
+    omega (arith, high, pow-le-pow_right two end)
 
 pub false_else : (b : Bool) → (b ≡ true → ⊥) → b ≡ false
 false_else true never = absurd (never refl)
@@ -337,10 +356,23 @@ in_row A ok board n x word reason shaped are some fits =
     }
 
 -- the number of the row is small
-pub row_few : (A : Arena ℕ) → IsNumbered A → (board : Board) (n x word : ℕ) (reason : Reason) → IsShaped A n board → AreCandidates A board.list (entries_in n x word reason) → word ≢ 0 → word < 2 ^ 64 → 0 < n → x < 2 ^ 32
+row_few : (A : Arena ℕ) → IsNumbered A → (board : Board) (n x word : ℕ) (reason : Reason) → IsShaped A n board → AreCandidates A board.list (entries_in n x word reason) → word ≢ 0 → word < 2 ^ 64 → 0 < n → x < 2 ^ 32
 row_few A ok board n x word reason shaped are some fits wide =
     let less : x * 1 ≤ x * n = mul-le-mul_left x wide in
     omega (arith, (in_row A ok board n x word reason shaped are some fits).node, less, ok.few_nodes)
+
+-- so it doesn't wrap, and where no entry is for it, it may
+pub wrapped_row : (A : Arena ℕ) → IsNumbered A → (board : Board) (n x many i word : ℕ) (reason : Reason) → IsShaped A n board → AreCandidates A board.list (entries_in n (x * many + i) word reason) → word < 2 ^ 64 → 0 < n →
+    entries_in n ((x * many % 2 ^ 32 + i) % 2 ^ 32) word reason ≡ entries_in n (x * many + i) word reason
+wrapped_row A ok board n x many i word reason shaped are fits wide = elim (cases_eq word 0) [
+  | inl e ↦ none e _ ∙ sym (none e _)
+  | inr some ↦
+      let same : (x * many % 2 ^ 32 + i) % 2 ^ 32 ≡ x * many + i = omega (arith, row_few A ok board n (x * many + i) word reason shaped are some fits wide) in
+      ap (λ y. entries_in n y word reason) same
+]
+  where
+    none : word ≡ 0 → (y : ℕ) → entries_in n y word reason ≡ []
+    none e y = ap (λ w. entries_in n y w reason) e ∙ ap (map (λ lane. as_entry (y * n + lane, reason))) set_lanes-zero
 
 -- none of them is listed
 pub lane_alive : (A : Arena ℕ) (kept : List (Entry ℕ)) (n wide x word lane : ℕ) (reason : Reason) → AreCandidates A kept (entries_in n x word reason) → wide ≡ n → lane < 64 → is_on word lane ≡ true →

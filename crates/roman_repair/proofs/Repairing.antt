@@ -1,10 +1,11 @@
 -- The end of a repair, in numbers of pairs.
-use Rattle.roman_repair.proofs.Common.{◌≡◌, ℕ, ◌+◌, ◌<◌, true, List, [], length, arith, length-map, Sys, IsSys, Entry, IsOrder, replay, Change, after, CanChange, sizes_of, pair_at, numbered, rename_numbers, NumbersReplay, AreNumbers, NamedSys, system_of, IsNamedSys, Board, pairs_of, has_entry, Begins, arena_of, HasCaps, IsRelation, listed_numbers, Tally, IsRepaired, IsBegun, candidates, with_replay, IsReplayable}
+use Rattle.roman_repair.proofs.Common.{◌≡◌, ℕ, ◌+◌, ◌<◌, true, List, [], length, ap, ◌∙◌, arith, length-map, Sys, IsSys, Entry, IsOrder, replay, Change, after, CanChange, sizes_of, pair_at, numbered, rename_numbers, NumbersReplay, AreNumbers, NamedSys, system_of, IsNamedSys, Board, pairs_of, has_entry, arena_of, HasCaps, IsRelation, listed_numbers, Tally, IsRepaired, IsSettledOn, IsBegun, candidates, with_replay, IsReplayable}
 use Rattle.std.proofs.lemmas.List.{take-map}
 use Rattle.roman_model.specs.SystemArena.{arena}
 use Rattle.roman_model.specs.Numbers.{IsCompleteList}
 use Rattle.roman_model.proofs.CallerLemmas.{order_named, numbers_replay, IsNumber, numbers_rename}
 use Rattle.roman_joint.specs.declared.seat.Seat.{Seat}
+use Rattle.roman_relation.specs.Settled.{Begins}
 use Rattle.roman_repair.specs.Repairs.{GoesOnFromReplay}
 
 -- the replay of the renamed old list, in numbers
@@ -28,14 +29,13 @@ relation_replays change joint order known relation in_range can =
     let are : AreNumbers s order.list = listed_numbers s order relation.shaped.pairs in_range in
     numbers_replay change s order.list known.system can are (numbers_order s order.list known.system are relation.complete.list)
 
--- a new relation whose list begins with that replay is what the repair should end in
-pub repaired_from : (change : Change) (old_joint : NamedSys) (old : Board) (start : List (Entry ℕ)) (new_joint : NamedSys) (new : Board) (tally : Tally) → NumbersReplay change (system_of old_joint) old.list →
-    start ≡ numbers_replayed change (system_of old_joint) old.list → system_of new_joint ≡ after change (system_of old_joint) → IsRelation new_joint new → Begins start new.list →
-    tally.kept ≡ length start → tally.kept + tally.added ≡ length new.list → IsRepaired change old_joint old new_joint new tally
-repaired_from change old_joint old start new_joint new tally replays is system relation begins kept added = record {
-  system = system;
-  relation = relation;
-  list = goes_on_from change (system_of old_joint) old.list start new.list tally replays is begins kept added;
+-- a relation that was completed from that replay is what the repair should end in
+pub repaired_from : (change : Change) (old_joint : NamedSys) (old : Board) (start : List (Entry ℕ)) (mid joint : NamedSys) (new : Board) (tally : Tally) → NumbersReplay change (system_of old_joint) old.list →
+    start ≡ numbers_replayed change (system_of old_joint) old.list → system_of mid ≡ after change (system_of old_joint) → IsSettledOn mid start joint new tally → IsRepaired change old_joint old joint new tally
+repaired_from change old_joint old start mid joint new tally replays is system settled = record {
+  system = ap system_of settled.joint ∙ system;
+  relation = settled.relation;
+  list = goes_on_from change (system_of old_joint) old.list start new.list tally replays is settled.begins settled.kept settled.added;
 }
 
 -- an order keeps its room where only the seats of the joint change

@@ -1,5 +1,5 @@
 -- Orders that are reopened for a changed system, and their replay.
-use Rattle.roman_repair.proofs.Common.{◌≡◌, ℕ, ◌+◌, ◌*◌, ◌<◌, ◌≤◌, Bool, true, List, [], ◌∷◌, ◌++◌, flat_map, length, IsTrue, refl, ap, ap₂, ◌∙◌, arith, below, Sys, Arena, Entry, is_justified, IsOrder, replay, Change, after, Sizes, sizes_of, count, numbered, Reason, Final, Act, grown_numbers, rename_numbers, length-below, turned, AreNumbers, sizes-turned, NumbersReplay, justified_is, number_allows-turned, lanes_of, NamedSys, system_of, IsNamedSys, lanes_in, Board, pairs_of, has_entry, IsShaped, arena_of, HasCaps, IsRelation, listed_numbers, Begins, Tally, IsRepaired, is_possible, AreCandidates, candidates, IsReplayable}
+use Rattle.roman_repair.proofs.Common.{◌≡◌, ℕ, ◌*◌, ◌<◌, ◌≤◌, Bool, true, List, [], ◌∷◌, ◌++◌, flat_map, length, IsTrue, refl, ap, ap₂, ◌∙◌, arith, below, Sys, Arena, Entry, is_justified, IsOrder, replay, Change, after, Sizes, sizes_of, count, numbered, Reason, Final, Act, grown_numbers, rename_numbers, length-below, turned, AreNumbers, sizes-turned, NumbersReplay, justified_is, number_allows-turned, lanes_of, NamedSys, system_of, IsNamedSys, lanes_in, Board, pairs_of, has_entry, IsShaped, arena_of, HasCaps, IsRelation, listed_numbers, Tally, IsRepaired, IsSettledOn, is_possible, AreCandidates, candidates, IsReplayable}
 use Rattle.roman_model.proofs.CallerLemmas.{order_new, new_once, order_justified, numbered_is_same}
 use Rattle.roman_relation.proofs.CallerLemmas.{room_for_pairs}
 use Rattle.roman_repair.proofs.Keeping.{grown_once}
@@ -67,12 +67,9 @@ pub replayable : (change : Change) (s : Sys) (joint : NamedSys) (states : ℕ) (
 replayable change s joint states old reopened is may empty shaped caps = grind (arith, numbers_replayed, replay_renamed)
 
 -- the replayed and completed list is what the repair should end in
-pub reopened_repaired : (change : Change) (n mid joint : NamedSys) (states : ℕ) (old reopened new : Board) (tally : Tally) →
-    IsReopened change (system_of n) mid states old.list reopened → joint ≡ mid → IsRelation joint new →
-    Begins (replay (arena_of mid) (candidates states reopened)) new.list → tally.kept ≡ length
-    (replay (arena_of mid) (candidates states reopened)) → tally.kept + tally.added ≡ length new.list → IsRepaired change n old joint new tally
-reopened_repaired change n mid joint states old reopened new tally is same relation begins kept added =
-    repaired_from _ _ _ _ _ _ _ is.replays (replay_renamed _ _ _ _ _ _ is) (ap system_of same ∙ is.system) relation begins kept added
+pub reopened_repaired : (change : Change) (n mid joint : NamedSys) (states : ℕ) (old reopened new : Board) (tally : Tally) → IsReopened change (system_of n) mid states old.list reopened →
+    IsSettledOn mid (replay (arena_of mid) (candidates states reopened)) joint new tally → IsRepaired change n old joint new tally
+reopened_repaired change n mid joint states old reopened new tally is settled = repaired_from _ _ _ _ _ _ _ _ is.replays (replay_renamed _ _ _ _ _ _ is) is.system settled
 
 -- an entry grown by one state stands for its own pair
 pub grown_by_one : (L : List (Entry ℕ)) → flat_map (grown_numbers 1) L ≡ L

@@ -3,3 +3,5 @@ pub mod Replays
 pub mod Deaths
 pub mod Alone
 pub mod AskedBands
+pub mod Judging
+pub mod Growing

@@ -10,6 +10,7 @@ use Rattle.roman_joint.specs.Rows.{lanes_in}
 use Rattle.roman_order.specs.Board.{Board}
 use Rattle.roman_relation.specs.Shaped.{IsShaped}
 use Rattle.roman_relation.specs.Greatest.{arena_of, HasCaps, IsRelation}
+use Rattle.roman_relation.specs.Settled.{Begins}
 use Rattle.roman_repair.specs.declared.tally.Tally.{Tally}
 
 -- the replay of the renamed old list, in the system after the change
@@ -34,6 +35,14 @@ pub record IsBegun (joint : NamedSys) (order : Board) : Type 0 where
   pub shaped : IsShaped (arena_of joint) (lanes_in (system_of joint)) order
   pub caps : HasCaps joint order
   pub idle : order.waiting ≡ []
+
+-- the list, which began as `begun`, is complete, the joint is as before, and the tally counts both parts of the list
+pub record IsSettledOn (old : NamedSys) (begun : List (Entry ℕ)) (new : NamedSys) (order : Board) (tally : Tally) : Type 0 where
+  pub joint : new ≡ old
+  pub relation : IsRelation new order
+  pub begins : Begins begun order.list
+  pub kept : tally.kept ≡ length begun
+  pub added : tally.kept + tally.added ≡ length order.list
 
 -- the fall of a repair: the number of delegations that lead to the pairs that it added
 abbrev pub fall_of : NamedSys → Board → Tally → ℕ

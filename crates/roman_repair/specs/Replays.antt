@@ -36,13 +36,17 @@ readings_of_entries A L = sum_by (λ x. readings_of_reason A x.node x.reason) L
 abbrev pub candidates : ℕ → Board → List (Entry ℕ)
 candidates states board = flat_map (grown_numbers states) board.waiting
 
+-- the replay of these candidates in the joint's system
+abbrev pub pending_replay : NamedSys → ℕ → Board → List (Entry ℕ)
+pending_replay joint states board = replay (arena_of joint) (candidates states board)
+
 -- the whole list is pending in an empty order for the changed system, the order has room, and the replay of the candidates is a removal list
 pub record IsReplayable (joint : NamedSys) (states : ℕ) (board : Board) : Type 0 where
   pub shaped : IsShaped (arena_of joint) (lanes_in (system_of joint)) board
   pub caps : HasCaps joint board
   pub empty : board.list ≡ []
   pub may : AreCandidates (arena_of joint) [] (candidates states board)
-  pub valid : IsOrder (arena_of joint) (replay (arena_of joint) (candidates states board))
+  pub valid : IsOrder (arena_of joint) (pending_replay joint states board)
 
 -- a row has whole slices of so many states, and one of so many lanes becomes whole rows where each lane becomes a slice
 pub record AreSlices (row lanes states : ℕ) : Type 0 where

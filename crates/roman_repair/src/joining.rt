@@ -8,6 +8,7 @@ ghost use Rattle.roman_relation.specs.Greatest.{IsRelation};
 ghost use Rattle.roman_repair.specs.Repairs.{IsRepaired, IsWithinReading};
 
 use crate::reopening::reopen;
+use crate::replaying::Newcomer;
 use crate::settling::replay_and_settle_on;
 use crate::tally::Tally;
 use roman_io::Steps;
@@ -16,7 +17,7 @@ use roman_relation::Relation;
 use std::sync::ledger::Ledger;
 
 /// Adds the service `seat` at the last place. The service must be ready, its name new, and its
-/// behaviour a place of the catalogue. Grows each entry of the old list into one entry for each
+/// behaviour a place of the catalogue. RowsGrow each entry of the old list into one entry for each
 /// state of the newcomer, and replays these: keeps an entry exactly where the entries kept before
 /// it justify it. Allocates no memory. The number of steps is at most the number of delegations
 /// that lead to added pairs plus the number of delegations of an allowed action to a ready service
@@ -49,10 +50,11 @@ pub fn join<L: Ledger>(
     shape.known();
     let lanes = shape.lanes();
     let k = relation.joint.seats();
+    let newcomer = Newcomer { k, states, lanes };
     relation.joint.push_seat(seat)?;
     relation.joint.known();
     reopen(relation);
-    Ok(replay_and_settle_on(relation, k, states, lanes, steps))
+    Ok(replay_and_settle_on(relation, newcomer, steps))
 }
 
 /// Returns the number of states of the service's behaviour.

@@ -1,125 +1,76 @@
 //! Replays entries that stand for several pairs each.
-ghost use Rattle.std.specs.Prelude.{◌≡◌, ℕ, ◌+◌, ◌*◌, ◌<◌, ◌≤◌, true, [], ◌++◌, flat_map, Some};
-ghost use Rattle.roman_model.specs.Arena.{is_listed};
+ghost use Rattle.std.specs.Prelude.{flat_map};
 ghost use Rattle.roman_model.specs.NumberedChange.{grown_numbers};
-ghost use Rattle.roman_lanes.specs.Rows.{is_on};
-ghost use Rattle.roman_repair.specs.Alone.{MayAskAlone, IsIntact};
-ghost use Rattle.roman_repair.specs.AskedBands.{HoldsInBand};
-ghost use Rattle.roman_order.specs.Board.{entries_in};
-ghost use Rattle.roman_relation.specs.Shaped.{IsShaped};
-ghost use Rattle.roman_repair.specs.Replays.{AreCandidates, AreSlices, with_replay, readings_of_entries};
+ghost use Rattle.roman_order.specs.Events.{entries_at};
+ghost use Rattle.roman_repair.specs.Judging.{HasReplayed, CanReplayAll, HasReplayedAll};
+ghost use Rattle.roman_repair.specs.Growing.{RowsGrow, CanGrow};
+ghost use Rattle.roman_repair.specs.Replays.{candidates};
 
 use crate::alone::OneSeat;
 use crate::asked_band::AskedBand;
 use crate::events::keep_lanes;
 use crate::lanes::{filled_parts, spread_lanes};
 use roman_io::Steps;
-use roman_model::Reason;
-use roman_order::Order;
+use roman_order::{Event, Order};
 use std::sync::ledger::Ledger;
 
-/// Replays the entries for some lanes of one of the rows that row `x` becomes: of `many` rows the one
-/// at place `i`.
-fn keep_part<J: OneSeat, L: Ledger>(
-    joint: &J,
-    order: &mut Order,
-    asked: &mut AskedBand,
-    x: u32,
-    many: u32,
-    i: u32,
-    word: u64,
-    reason: Reason,
-    steps: &mut Steps<L>,
-)
-    requires shaped { IsShaped (J.arena joint.now) (J.lanes joint.now) order.old }
-    requires within { (lane : ℕ) → is_on word lane ≡ true → lane < J.lanes joint.now }
-    requires candidates { AreCandidates (J.arena joint.now) order.old.list (entries_in (J.lanes joint.now) (x * many + i) word reason) }
-    requires may { MayAskAlone (J.arena joint.now) asked.old.alone order.old.list (entries_in (J.lanes joint.now) (x * many + i) word reason) }
-    requires known { HoldsInBand (J.arena joint.now) (J.lanes joint.now) (is_listed (J.arena joint.now) order.old.list) asked.old }
-    ensures list { order.new.list ≡ with_replay (J.arena joint.now) order.old.list (entries_in (J.lanes joint.now) (x * many + i) word reason) }
-    ensures intact { IsIntact asked.old.alone asked.new.alone (order.old.list ++ entries_in (J.lanes joint.now) (x * many + i) word reason) order.new.list }
-    ensures known { HoldsInBand (J.arena joint.now) (J.lanes joint.now) (is_listed (J.arena joint.now) order.new.list) asked.new }
-    ensures rest { order.new ≡ record order.old { list = order.new.list } }
-    ensures cost { steps.new ≤ steps.old + readings_of_entries (J.arena joint.now) (entries_in (J.lanes joint.now) (x * many + i) word reason) }
-{
-    joint.known();
-    if word == 0 {
-        return;
-    }
-    keep_lanes(joint, order, asked, x * many + i, word, reason, steps);
+/// A service that joins at the last place.
+#[derive(Clone, Copy)]
+pub(crate) struct Newcomer {
+    /// Its place.
+    pub(crate) k: u8,
+    /// The number of its states. Each lane of a row becomes as many neighbours.
+    pub(crate) states: u8,
+    /// The number of lanes of a row before it joined.
+    pub(crate) lanes: u32,
 }
 
-/// Replays the pairs for which the entries for some lanes of row `x` stand, where a row had `lanes`
-/// lanes. The row becomes one or more whole rows. Each of its lanes becomes `states` neighbours: the
-/// number of states of the new last service.
+/// Replays the pairs for which the entries of the event stand. Its row becomes one or more whole rows.
 fn keep_grown<J: OneSeat, L: Ledger>(
     joint: &J,
     order: &mut Order,
     asked: &mut AskedBand,
-    states: u8,
-    lanes: u32,
-    x: u32,
-    word: u64,
-    reason: Reason,
+    newcomer: Newcomer,
+    event: Event,
     steps: &mut Steps<L>,
 )
-    requires shaped { IsShaped (J.arena joint.now) (J.lanes joint.now) order.old }
-    requires slices { AreSlices (J.lanes joint.now) lanes states }
-    requires within { (lane : ℕ) → is_on word lane ≡ true → lane < lanes }
-    requires candidates { AreCandidates (J.arena joint.now) order.old.list (flat_map (grown_numbers states) (entries_in lanes x word reason)) }
-    requires may { MayAskAlone (J.arena joint.now) asked.old.alone order.old.list (flat_map (grown_numbers states) (entries_in lanes x word reason)) }
-    requires known { HoldsInBand (J.arena joint.now) (J.lanes joint.now) (is_listed (J.arena joint.now) order.old.list) asked.old }
-    ensures list { order.new.list ≡ with_replay (J.arena joint.now) order.old.list (flat_map (grown_numbers states) (entries_in lanes x word reason)) }
-    ensures intact { IsIntact asked.old.alone asked.new.alone (order.old.list ++ flat_map (grown_numbers states) (entries_in lanes x word reason)) order.new.list }
-    ensures known { HoldsInBand (J.arena joint.now) (J.lanes joint.now) (is_listed (J.arena joint.now) order.new.list) asked.new }
-    ensures rest { order.new ≡ record order.old { list = order.new.list } }
-    ensures cost { steps.new ≤ steps.old + readings_of_entries (J.arena joint.now) (flat_map (grown_numbers states) (entries_in lanes x word reason)) }
+    requires { CanGrow (J.arena joint.now) (J.lanes joint.now) newcomer event order.old asked.old }
+    ensures { HasReplayed (J.arena joint.now) (J.lanes joint.now) (flat_map (grown_numbers newcomer.states) (entries_at newcomer.lanes event))
+        order.old order.new asked.old asked.new steps.old steps.new }
 {
     joint.known();
-    let width = u32::from(states);
+    let width = u32::from(newcomer.states);
     let slices = joint.lanes() / width;
-    let many = lanes / slices;
-    let (begin, end) = filled_parts(word, slices, many);
+    let many = newcomer.lanes / slices;
+    let (begin, end) = filled_parts(event.lanes, slices, many);
     for i in begin..end {
-        let part = (word >> (i * slices)) & (u64::MAX >> (64 - slices));
-        let grown = spread_lanes(part, slices, width);
-        keep_part(joint, order, asked, x, many, i, grown, reason, steps);
+        let part = (event.lanes >> (i * slices)) & (u64::MAX >> (64 - slices));
+        // a part with no lanes may lie past the last row
+        let grown = Event {
+            row: event.row.wrapping_mul(many).wrapping_add(i),
+            reason: event.reason,
+            lanes: spread_lanes(part, slices, width),
+        };
+        keep_lanes(joint, order, asked, grown, steps);
     }
 }
 
-/// Replays the pending entries of rows of `lanes` lanes, and appends those that it keeps to the list.
-/// Each entry stands for `states` pairs: its own pair with each state of a new last service. Asks the
-/// seat `k` alone until an entry is dropped: no other seat keeps an entry from being justified.
+/// Replays the pending entries, and appends those that it keeps to the list. Each entry stands for its
+/// own pair with each state of the newcomer. Asks the newcomer alone until an entry is dropped: no other
+/// seat keeps an entry from being justified.
 pub(crate) fn replay<J: OneSeat, L: Ledger>(
     joint: &J,
     order: &mut Order,
-    k: u8,
-    states: u8,
-    lanes: u32,
+    newcomer: Newcomer,
     steps: &mut Steps<L>,
 )
-    requires shaped { IsShaped (J.arena joint.now) (J.lanes joint.now) order.old }
-    requires slices { AreSlices (J.lanes joint.now) lanes states }
-    requires lanes { order.old.waiting_lanes ≡ lanes }
-    requires candidates { AreCandidates (J.arena joint.now) order.old.list (flat_map (grown_numbers states) order.old.waiting) }
-    requires may { MayAskAlone (J.arena joint.now) (Some k) order.old.list (flat_map (grown_numbers states) order.old.waiting) }
-    ensures list { order.new.list ≡ with_replay (J.arena joint.now) order.old.list (flat_map (grown_numbers states) order.old.waiting) }
-    ensures rest { order.new ≡ record order.old { list = order.new.list; waiting = [] } }
-    ensures cost { steps.new ≤ steps.old + readings_of_entries (J.arena joint.now) (flat_map (grown_numbers states) order.old.waiting) }
+    requires grows { RowsGrow (J.lanes joint.now) newcomer order.old }
+    requires ready { CanReplayAll (J.arena joint.now) (J.lanes joint.now) newcomer.k order.old (candidates newcomer.states order.old) }
+    ensures { HasReplayedAll (J.arena joint.now) (candidates newcomer.states order.old) order.old order.new steps.old steps.new }
 {
     joint.known();
-    let mut asked = AskedBand::nothing(Some(k));
+    let mut asked = AskedBand::nothing(Some(newcomer.k));
     'replay: while let Some(event) = order.next_waiting_event() {
-        keep_grown(
-            joint,
-            order,
-            &mut asked,
-            states,
-            lanes,
-            event.row,
-            event.lanes,
-            event.reason,
-            steps,
-        );
+        keep_grown(joint, order, &mut asked, newcomer, event, steps);
     }
 }

@@ -1,16 +1,15 @@
 //! Completes and counts the list, at the end of each repair.
-ghost use Rattle.std.specs.Prelude.{◌≡◌, ◌+◌, ◌≤◌, length, Some};
-ghost use Rattle.roman_model.specs.Arena.{replay as replay_of};
+ghost use Rattle.std.specs.Prelude.{◌≡◌, ◌+◌, ◌≤◌, Some};
 ghost use Rattle.roman_joint.specs.NamedSys.{system_of};
 ghost use Rattle.roman_joint.specs.Rows.{lanes_in};
-ghost use Rattle.roman_relation.specs.Settled.{Begins};
-ghost use Rattle.roman_relation.specs.Greatest.{arena_of, IsRelation};
+ghost use Rattle.roman_relation.specs.Greatest.{arena_of};
 ghost use Rattle.roman_repair.specs.Alone.{MayAskAlone};
-ghost use Rattle.roman_repair.specs.Repairs.{IsBegun, IsWithinReading, fall_of};
-ghost use Rattle.roman_repair.specs.Replays.{candidates, AreSlices, IsReplayable};
+ghost use Rattle.roman_repair.specs.Growing.{RowsGrow};
+ghost use Rattle.roman_repair.specs.Repairs.{IsBegun, IsSettledOn, IsWithinReading, fall_of};
+ghost use Rattle.roman_repair.specs.Replays.{candidates, pending_replay, IsReplayable};
 
 use crate::events::replay_events;
-use crate::replaying::replay;
+use crate::replaying::{Newcomer, replay};
 use crate::tally::Tally;
 use roman_io::Steps;
 use roman_relation::Relation;
@@ -20,11 +19,7 @@ use std::sync::ledger::Ledger;
 /// entries.
 pub(crate) fn settle_on<L: Ledger>(relation: &mut Relation, steps: &mut Steps<L>) -> Tally
     requires { IsBegun relation.old.joint relation.old.order }
-    ensures joint { relation.new.joint ≡ relation.old.joint }
-    ensures relation { IsRelation relation.new.joint relation.new.order }
-    ensures begins { Begins relation.old.order.list relation.new.order.list }
-    ensures kept { result.kept ≡ length relation.old.order.list }
-    ensures added { result.kept + result.added ≡ length relation.new.order.list }
+    ensures settled { IsSettledOn relation.old.joint relation.old.order.list relation.new.joint relation.new.order result }
     ensures cost { steps.new ≤ steps.old + fall_of relation.new.joint relation.new.order result }
 {
     let kept = relation.order.len();
@@ -35,36 +30,22 @@ pub(crate) fn settle_on<L: Ledger>(relation: &mut Relation, steps: &mut Steps<L>
     }
 }
 
-/// Replays the pending list of rows of `lanes` lanes, each entry for `states` neighbouring pairs, and
-/// completes the list. The number of steps is at most the number of delegations that lead to added
+/// Replays the pending list, each entry for its pair with each state of the newcomer, and completes the
+/// list. The number of steps is at most the number of delegations that lead to added
 /// pairs plus the number of delegations of an allowed action to a ready service.
 pub(crate) fn replay_and_settle_on<L: Ledger>(
     relation: &mut Relation,
-    k: u8,
-    states: u8,
-    lanes: u32,
+    newcomer: Newcomer,
     steps: &mut Steps<L>,
 ) -> Tally
-    requires replayable { IsReplayable relation.old.joint states relation.old.order }
-    requires may { MayAskAlone (arena_of relation.old.joint) (Some k) relation.old.order.list (candidates states relation.old.order) }
-    requires slices { AreSlices (lanes_in (system_of relation.old.joint)) lanes states }
-    requires lanes { relation.old.order.waiting_lanes ≡ lanes }
-    ensures joint { relation.new.joint ≡ relation.old.joint }
-    ensures relation { IsRelation relation.new.joint relation.new.order }
-    ensures begins { Begins (replay_of (arena_of relation.old.joint) (candidates states relation.old.order)) relation.new.order.list }
-    ensures kept { result.kept ≡ length (replay_of (arena_of relation.old.joint) (candidates states relation.old.order)) }
-    ensures added { result.kept + result.added ≡ length relation.new.order.list }
+    requires replayable { IsReplayable relation.old.joint newcomer.states relation.old.order }
+    requires may { MayAskAlone (arena_of relation.old.joint) (Some newcomer.k) relation.old.order.list (candidates newcomer.states relation.old.order) }
+    requires grows { RowsGrow (lanes_in (system_of relation.old.joint)) newcomer relation.old.order }
+    ensures settled { IsSettledOn relation.old.joint (pending_replay relation.old.joint newcomer.states relation.old.order) relation.new.joint relation.new.order result }
     ensures cost { IsWithinReading relation.new.joint relation.new.order result steps.old steps.new }
 {
     relation.joint.known();
-    replay(
-        &relation.joint,
-        &mut relation.order,
-        k,
-        states,
-        lanes,
-        steps,
-    );
+    replay(&relation.joint, &mut relation.order, newcomer, steps);
     settle_on(relation, steps)
 }
 
@@ -79,11 +60,7 @@ pub(crate) fn replay_events_and_settle_on<L: Ledger>(
     requires replayable { IsReplayable relation.old.joint 1 relation.old.order }
     requires may { MayAskAlone (arena_of relation.old.joint) (Some k) relation.old.order.list (candidates 1 relation.old.order) }
     requires same_rows { relation.old.order.waiting_lanes ≡ lanes_in (system_of relation.old.joint) }
-    ensures joint { relation.new.joint ≡ relation.old.joint }
-    ensures relation { IsRelation relation.new.joint relation.new.order }
-    ensures begins { Begins (replay_of (arena_of relation.old.joint) (candidates 1 relation.old.order)) relation.new.order.list }
-    ensures kept { result.kept ≡ length (replay_of (arena_of relation.old.joint) (candidates 1 relation.old.order)) }
-    ensures added { result.kept + result.added ≡ length relation.new.order.list }
+    ensures settled { IsSettledOn relation.old.joint (pending_replay relation.old.joint 1 relation.old.order) relation.new.joint relation.new.order result }
     ensures cost { IsWithinReading relation.new.joint relation.new.order result steps.old steps.new }
 {
     relation.joint.known();

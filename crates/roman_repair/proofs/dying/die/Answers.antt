@@ -1,4 +1,4 @@
-use Rattle.roman_repair.proofs.Common.{sym, ap, ◌∙◌, subst, remove, Sys, Die, numbered, system_of, lanes_in, IsShaped}
+use Rattle.roman_repair.proofs.Common.{sym, subst, remove, Sys, Die, numbered, system_of, lanes_in, IsShaped}
 use Rattle.roman_repair.proofs.Repairing.{relation_replays, repaired_from}
 use Rattle.roman_repair.proofs.DeathStates.{seat_there}
 use Rattle.roman_repair.proofs.DeathEntries.{left_shaped}
@@ -24,6 +24,5 @@ returns-clause-repaired g c seat seated =
     let new = c.rename_list.new.order in
     let last = c.settle_on in
     let replays = relation_replays (Die c.args.k seat) n old c.known.ensures c.requires.relation c.known-2.ensures.in_range seated in
-    repaired_from (Die c.args.k seat) n old new.list last.new.relation.joint last.new.relation.order last.result replays
-    (whole_replay (Die c.args.k seat) (system_of n) old.list new.list replays tt (c.rename_list.ensures.list seat seated)) (ap system_of last.ensures.joint ∙ c.drop_seat.ensures.system seat)
-    last.ensures.relation last.ensures.begins last.ensures.kept last.ensures.added
+    repaired_from (Die c.args.k seat) n old new.list _ last.new.relation.joint last.new.relation.order last.result replays
+    (whole_replay (Die c.args.k seat) (system_of n) old.list new.list replays tt (c.rename_list.ensures.list seat seated)) (c.drop_seat.ensures.system seat) last.ensures.settled

@@ -7,14 +7,14 @@ invariant-left g l =
     let A = g.J.Rules.arena l.joint in
     let n = g.J.Rules.lanes l.joint in
     record {
-      list : with_replay A l.order.list (entries_in n l.x l.left l.reason) ≡ with_replay A l.fn.order.list (entries_in n l.x l.lanes l.reason);
-      candidates : AreCandidates A l.order.list (entries_in n l.x l.left l.reason);
+      list : with_replay A l.order.list (entries_in n l.event.row l.left l.event.reason) ≡ with_replay A l.fn.order.list (entries_in n l.event.row l.event.lanes l.event.reason);
+      candidates : AreCandidates A l.order.list (entries_in n l.event.row l.left l.event.reason);
       within : (lane : ℕ) → is_on l.left lane ≡ true → lane < n;
-      may : MayAskAlone A l.asked.alone l.order.list (entries_in n l.x l.left l.reason);
-      intact : IsIntact l.fn.asked.alone l.asked.alone (l.fn.order.list ++ entries_in n l.x l.lanes l.reason) (l.order.list ++ entries_in n l.x l.left l.reason);
+      may : MayAskAlone A l.asked.alone l.order.list (entries_in n l.event.row l.left l.event.reason);
+      intact : IsIntact l.fn.asked.alone l.asked.alone (l.fn.order.list ++ entries_in n l.event.row l.event.lanes l.event.reason) (l.order.list ++ entries_in n l.event.row l.left l.event.reason);
       known : HoldsInBand A n (is_listed A l.order.list) l.asked;
       rest : l.order ≡ record l.fn.order { list = l.order.list };
-      cost : l.steps + readings_of_entries A (entries_in n l.x l.left l.reason) ≤ l.fn.steps + readings_of_entries A (entries_in n l.x l.lanes l.reason);
+      cost : l.steps + readings_of_entries A (entries_in n l.event.row l.left l.event.reason) ≤ l.fn.steps + readings_of_entries A (entries_in n l.event.row l.event.lanes l.event.reason);
     }
 
 -- each turn takes at least one lane

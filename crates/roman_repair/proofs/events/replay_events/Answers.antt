@@ -6,31 +6,27 @@ use Rattle.roman_repair.proofs.events.replay_events.Goals as goal
 
 pub replay-init : goal.replay-init
 replay-init g c = record {
-  replaying = record { candidates = c.requires.candidates; list = refl; rest = refl };
-  may = subst (λ o. MayAskAlone (g.J.Rules.arena c.args.joint.now) o c.args.order.now.list c.args.order.now.waiting) (sym c.nothing-asked.ensures.alone) c.requires.may;
+  replaying = record { candidates = c.requires.ready.candidates; list = refl; rest = refl };
+  may = subst (λ o. MayAskAlone (g.J.Rules.arena c.args.joint.now) o c.args.order.now.list c.args.order.now.waiting) (sym c.nothing-asked.ensures.alone) c.requires.ready.may;
   known = c.nothing-asked.ensures.known (g.J.Rules.arena c.args.joint.now) (g.J.Rules.lanes c.args.joint.now) (is_listed (g.J.Rules.arena c.args.joint.now) c.args.order.now.list);
   cost = omega arith;
 }
 
-pub keep_lanes-requires-clause-candidates : goal.keep_lanes-requires-clause-candidates
-keep_lanes-requires-clause-candidates g c =
+pub keep_lanes-requires : goal.keep_lanes-requires
+keep_lanes-requires g c =
     let A = g.J.Rules.arena c.args.joint.now in
     let e = c.in-Some.event in
     let next = c.next_waiting_event.new.self in
     let wide = ap (λ (b : Board). b.waiting_lanes) c.replay.invariant.replaying.rest ∙ c.requires.same_rows in
     let part = entries_in (g.J.Rules.lanes c.args.joint.now) e.row e.lanes e.reason in
     let first : c.replay.order.waiting ≡ part ++ next.waiting = c.in-Some.ensures.first ∙ ap (λ m. entries_in m e.row e.lanes e.reason ++ next.waiting) wide in
-    candidates_left A next.list part next.waiting (part_first A c.args.order.now c.replay.order next c.args.order.now.waiting part c.replay.invariant.replaying first c.next_waiting_event.ensures.rest).candidates
-
-pub keep_lanes-requires-clause-may : goal.keep_lanes-requires-clause-may
-keep_lanes-requires-clause-may g c =
-    let A = g.J.Rules.arena c.args.joint.now in
-    let e = c.in-Some.event in
-    let next = c.next_waiting_event.new.self in
-    let wide = ap (λ (b : Board). b.waiting_lanes) c.replay.invariant.replaying.rest ∙ c.requires.same_rows in
-    let part = entries_in (g.J.Rules.lanes c.args.joint.now) e.row e.lanes e.reason in
-    let first : c.replay.order.waiting ≡ part ++ next.waiting = c.in-Some.ensures.first ∙ ap (λ m. entries_in m e.row e.lanes e.reason ++ next.waiting) wide in
-    may_first A c.replay.asked.alone next.list part next.waiting (waits_alone A c.replay.asked.alone c.replay.order next c.replay.order.waiting (part ++ next.waiting) c.replay.invariant.may first c.next_waiting_event.ensures.rest)
+    record {
+      shaped = grind arith;
+      within = λ lane on. grind arith;
+      candidates = candidates_left A next.list part next.waiting (part_first A c.args.order.now c.replay.order next c.args.order.now.waiting part c.replay.invariant.replaying first c.next_waiting_event.ensures.rest).candidates;
+      may = may_first A c.replay.asked.alone next.list part next.waiting (waits_alone A c.replay.asked.alone c.replay.order next c.replay.order.waiting (part ++ next.waiting) c.replay.invariant.may first c.next_waiting_event.ensures.rest);
+      known = grind arith;
+    }
 
 pub replay-preserved : goal.replay-preserved
 replay-preserved g c =

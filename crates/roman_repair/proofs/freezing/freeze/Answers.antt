@@ -1,4 +1,4 @@
-use Rattle.roman_repair.proofs.Common.{true, refl, sym, ap, ◌∙◌, subst, Sys, numbered, system_of, lanes_in, IsShaped}
+use Rattle.roman_repair.proofs.Common.{true, refl, sym, subst, Sys, numbered, system_of, lanes_in, IsShaped}
 use Rattle.roman_model.specs.Change.{Freeze}
 use Rattle.roman_joint.specs.Changes.{with_frozen}
 use Rattle.roman_repair.proofs.Repairing.{relation_replays, repaired_from}
@@ -21,5 +21,4 @@ returns-clause-repaired g c =
     let old = c.args.relation.now.order in
     let replays = relation_replays _ _ _ c.known.ensures c.requires.relation c.known-2.ensures.in_range
     (ready_there _ _ c.requires.ready) in
-    repaired_from _ _ _ _ _ _ _ replays (whole_replay _ _ _ _ replays tt refl) (ap system_of c.settle_on.ensures.joint ∙ c.set_frozen.ensures.system)
-    c.settle_on.ensures.relation c.settle_on.ensures.begins c.settle_on.ensures.kept c.settle_on.ensures.added
+    repaired_from _ _ _ _ _ _ _ _ replays (whole_replay _ _ _ _ replays tt refl) c.set_frozen.ensures.system c.settle_on.ensures.settled

@@ -30,22 +30,21 @@ replay_and_settle_on-requires-clause-may g c =
     (subst (λ m. MayAskAlone (numbered (after (Join seat) (system_of n))) (Some c.seats-k.result) [] (flat_map (grown_numbers m) old.list)) (sym c.states_of-states.ensures)
     (join_alone n old seat c.seats-k.result c.known.ensures c.requires.relation c.known-2.ensures.in_range c.requires.ready (c.seats-k.ensures.count ∙ sym (length-map n.seats (seat_of n.catalogue))))))
 
-pub replay_and_settle_on-requires-clause-slices : goal.replay_and_settle_on-requires-clause-slices
-replay_and_settle_on-requires-clause-slices g c =
+pub replay_and_settle_on-requires-clause-grows : goal.replay_and_settle_on-requires-clause-grows
+replay_and_settle_on-requires-clause-grows g c =
     let n = c.args.relation.now.joint in
     let seat : Seat = seat_of n.catalogue c.args.seat in
     let can = joined_can c.push_seat.new.self (system_of n) seat c.known-4.ensures c.in_ok-push_seat.ensures.system in
     let wide : c.lanes-lanes.result ≡ lanes_in (system_of n) = c.lanes-lanes.ensures.value ∙ ap (λ (m : Sizes). lanes_of m.seats) c.shape-shape.ensures in
     let row : lanes_in (system_of c.reopen.new.relation.joint) ≡ lanes_in (after (Join seat) (system_of n)) =
     ap (λ (j : NamedSys). lanes_in (system_of j)) c.reopen.ensures.joint ∙ ap lanes_in c.in_ok-push_seat.ensures.system in
-    subst (λ r. AreSlices r c.lanes-lanes.result c.states_of-states.result) (sym row)
-    (subst (λ l. AreSlices (lanes_in (after (Join seat) (system_of n))) l c.states_of-states.result) (sym wide)
-    (subst (AreSlices (lanes_in (after (Join seat) (system_of n))) (lanes_in (system_of n))) (sym c.states_of-states.ensures)
-    (joined_lanes (system_of n) seat can (subst (λ (m : Sizes). AreSizes m.seats) c.shape-shape.ensures c.known-3.ensures.seats))))
-
-pub replay_and_settle_on-requires-clause-lanes : goal.replay_and_settle_on-requires-clause-lanes
-replay_and_settle_on-requires-clause-lanes g c =
-    c.reopen.ensures.wide ∙ c.requires.relation.shaped.lanes ∙ sym (c.lanes-lanes.ensures.value ∙ ap (λ (m : Sizes). lanes_of m.seats) c.shape-shape.ensures)
+    record {
+      slices = subst (λ r. AreSlices r c.lanes-lanes.result c.states_of-states.result) (sym row)
+          (subst (λ l. AreSlices (lanes_in (after (Join seat) (system_of n))) l c.states_of-states.result) (sym wide)
+          (subst (AreSlices (lanes_in (after (Join seat) (system_of n))) (lanes_in (system_of n))) (sym c.states_of-states.ensures)
+          (joined_lanes (system_of n) seat can (subst (λ (m : Sizes). AreSizes m.seats) c.shape-shape.ensures c.known-3.ensures.seats))));
+      lanes = c.reopen.ensures.wide ∙ c.requires.relation.shaped.lanes ∙ sym wide;
+    }
 
 pub returns-clause-repaired : goal.returns-clause-repaired
 returns-clause-repaired g c =
@@ -59,4 +58,4 @@ returns-clause-repaired g c =
       replays = relation_replays (Join seat) n old c.known.ensures c.requires.relation c.known-2.ensures.in_range can;
       system = ap system_of c.reopen.ensures.joint ∙ c.in_ok-push_seat.ensures.system;
       those = ap (flat_map (grown_numbers c.states_of-states.result)) c.reopen.ensures.waiting ∙ ap (λ m. flat_map (grown_numbers m) old.list) c.states_of-states.ensures;
-    }) new.ensures.joint new.ensures.relation new.ensures.begins new.ensures.kept new.ensures.added
+    }) new.ensures.settled

@@ -5,53 +5,50 @@ use Rattle.roman_repair.proofs.replaying.replay.Goals as goal
 
 pub replay-init : goal.replay-init
 replay-init g c = record {
-  replaying = record { candidates = c.requires.candidates; list = refl; rest = refl };
-  may = subst (λ o. MayAskAlone (g.J.Rules.arena c.args.joint.now) o c.args.order.now.list (flat_map (grown_numbers c.args.states) c.args.order.now.waiting)) (sym c.nothing-asked.ensures.alone) c.requires.may;
+  replaying = record { candidates = c.requires.ready.candidates; list = refl; rest = refl };
+  may = subst (λ o. MayAskAlone (g.J.Rules.arena c.args.joint.now) o c.args.order.now.list (flat_map (grown_numbers c.args.newcomer.states) c.args.order.now.waiting)) (sym c.nothing-asked.ensures.alone) c.requires.ready.may;
   known = c.nothing-asked.ensures.known (g.J.Rules.arena c.args.joint.now) (g.J.Rules.lanes c.args.joint.now) (is_listed (g.J.Rules.arena c.args.joint.now) c.args.order.now.list);
   cost = omega arith;
 }
 
-pub keep_grown-requires-clause-candidates : goal.keep_grown-requires-clause-candidates
-keep_grown-requires-clause-candidates g c =
+pub keep_grown-requires : goal.keep_grown-requires
+keep_grown-requires g c =
     let A = g.J.Rules.arena c.args.joint.now in
+    let f = grown_numbers c.args.newcomer.states in
     let e = c.in-Some.event in
     let next = c.next_waiting_event.new.self in
-    let all = flat_map (grown_numbers c.args.states) c.args.order.now.waiting in
-    let wide = ap (λ (b : Board). b.waiting_lanes) c.replay.invariant.replaying.rest ∙ c.requires.lanes in
-    let part = entries_in c.args.lanes e.row e.lanes e.reason in
+    let all = flat_map f c.args.order.now.waiting in
+    let wide = ap (λ (b : Board). b.waiting_lanes) c.replay.invariant.replaying.rest ∙ c.requires.grows.lanes in
+    let part = entries_in c.args.newcomer.lanes e.row e.lanes e.reason in
     let first : c.replay.order.waiting ≡ part ++ next.waiting = c.in-Some.ensures.first ∙ ap (λ m. entries_in m e.row e.lanes e.reason ++ next.waiting) wide in
-    candidates_left A next.list (flat_map (grown_numbers c.args.states) part) (flat_map (grown_numbers c.args.states) next.waiting)
-    (grown_first A c.args.order.now c.replay.order next c.args.states all part c.replay.invariant.replaying first c.next_waiting_event.ensures.rest).candidates
-
-pub keep_grown-requires-clause-may : goal.keep_grown-requires-clause-may
-keep_grown-requires-clause-may g c =
-    let A = g.J.Rules.arena c.args.joint.now in
-    let f = grown_numbers c.args.states in
-    let e = c.in-Some.event in
-    let next = c.next_waiting_event.new.self in
-    let wide = ap (λ (b : Board). b.waiting_lanes) c.replay.invariant.replaying.rest ∙ c.requires.lanes in
-    let part = entries_in c.args.lanes e.row e.lanes e.reason in
-    let first : c.replay.order.waiting ≡ part ++ next.waiting = c.in-Some.ensures.first ∙ ap (λ m. entries_in m e.row e.lanes e.reason ++ next.waiting) wide in
-    may_first A c.replay.asked.alone next.list (flat_map f part) (flat_map f next.waiting)
-    (waits_alone A c.replay.asked.alone c.replay.order next (flat_map f c.replay.order.waiting) (flat_map f part ++ flat_map f next.waiting) c.replay.invariant.may (ap (flat_map f) first ∙ flat_map-append f part next.waiting) c.next_waiting_event.ensures.rest)
+    record {
+      shaped = grind arith;
+      slices = c.requires.grows.slices;
+      within = λ lane on. grind arith;
+      candidates = candidates_left A next.list (flat_map f part) (flat_map f next.waiting)
+          (grown_first A c.args.order.now c.replay.order next c.args.newcomer.states all part c.replay.invariant.replaying first c.next_waiting_event.ensures.rest).candidates;
+      may = may_first A c.replay.asked.alone next.list (flat_map f part) (flat_map f next.waiting)
+          (waits_alone A c.replay.asked.alone c.replay.order next (flat_map f c.replay.order.waiting) (flat_map f part ++ flat_map f next.waiting) c.replay.invariant.may (ap (flat_map f) first ∙ flat_map-append f part next.waiting) c.next_waiting_event.ensures.rest);
+      known = grind arith;
+    }
 
 pub replay-preserved : goal.replay-preserved
 replay-preserved g c =
     let A = g.J.Rules.arena c.args.joint.now in
-    let f = grown_numbers c.args.states in
+    let f = grown_numbers c.args.newcomer.states in
     let e = c.in-Some.event in
     let next = c.next_waiting_event.new.self in
     let new = c.keep_grown.new.order in
-    let all = flat_map (grown_numbers c.args.states) c.args.order.now.waiting in
-    let wide = ap (λ (b : Board). b.waiting_lanes) c.replay.invariant.replaying.rest ∙ c.requires.lanes in
-    let part = entries_in c.args.lanes e.row e.lanes e.reason in
+    let all = flat_map (grown_numbers c.args.newcomer.states) c.args.order.now.waiting in
+    let wide = ap (λ (b : Board). b.waiting_lanes) c.replay.invariant.replaying.rest ∙ c.requires.grows.lanes in
+    let part = entries_in c.args.newcomer.lanes e.row e.lanes e.reason in
     let first : c.replay.order.waiting ≡ part ++ next.waiting = c.in-Some.ensures.first ∙ ap (λ m. entries_in m e.row e.lanes e.reason ++ next.waiting) wide in
     record {
-      replaying = grown_turn A c.args.order.now c.replay.order next new c.args.states all part c.replay.invariant.replaying first c.next_waiting_event.ensures.rest
+      replaying = grown_turn A c.args.order.now c.replay.order next new c.args.newcomer.states all part c.replay.invariant.replaying first c.next_waiting_event.ensures.rest
           c.keep_grown.ensures.list c.keep_grown.ensures.rest;
       may = subst (λ W. MayAskAlone A c.keep_grown.new.asked.alone new.list (flat_map f W)) (sym (ap (λ (b : Board). b.waiting) c.keep_grown.ensures.rest))
           (may_rest A c.replay.asked.alone c.keep_grown.new.asked.alone next.list new.list (flat_map f part) (flat_map f next.waiting)
           (waits_alone A c.replay.asked.alone c.replay.order next (flat_map f c.replay.order.waiting) (flat_map f part ++ flat_map f next.waiting) c.replay.invariant.may (ap (flat_map f) first ∙ flat_map-append f part next.waiting) c.next_waiting_event.ensures.rest) c.keep_grown.ensures.intact);
       known = c.keep_grown.ensures.known;
-      cost = omega (arith, grown_cost A c.replay.order next new c.args.states part first c.keep_grown.ensures.rest, c.keep_grown.ensures.cost, c.replay.invariant.cost);
+      cost = omega (arith, grown_cost A c.replay.order next new c.args.newcomer.states part first c.keep_grown.ensures.rest, c.keep_grown.ensures.cost, c.replay.invariant.cost);
     }

@@ -6,8 +6,8 @@ use Rattle.roman_repair.proofs.replaying.replay.Given as goal
 abbrev pub invariant-replay : goal.invariant-replay
 invariant-replay g l =
     let A = g.J.Rules.arena l.joint in
-    let all = flat_map (grown_numbers l.states) l.fn.order.waiting in
-    let left = flat_map (grown_numbers l.states) l.order.waiting in
+    let all = flat_map (grown_numbers l.newcomer.states) l.fn.order.waiting in
+    let left = flat_map (grown_numbers l.newcomer.states) l.order.waiting in
     record {
       replaying : IsReplaying A l.fn.order l.order all left;
       may : MayAskAlone A l.asked.alone l.order.list left;

@@ -44,4 +44,4 @@ returns-clause-repaired g c =
       replays = relation_replays (Thaw c.args.k) n old c.known.ensures c.requires.relation c.known-2.ensures.in_range place;
       system = ap system_of c.reopen.ensures.joint ∙ c.set_frozen.ensures.system;
       those = ap (flat_map (grown_numbers 1)) c.reopen.ensures.waiting ∙ grown_by_one old.list;
-    }) new.ensures.joint new.ensures.relation new.ensures.begins new.ensures.kept new.ensures.added
+    }) new.ensures.settled
