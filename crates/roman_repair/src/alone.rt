@@ -73,7 +73,7 @@ pub(crate) fn keep_alone<J: OneSeat, L: Ledger>(
         order.push_lanes(event.row, known_front, event.reason);
         return after;
     }
-    let held = asked.ask_alone(joint, order.words(), event.row, event.reason, k, steps);
+    let held = asked.ask_alone(joint, order.words(), event, k, steps);
     let (front, rest) = split_lanes(event.lanes, !held);
     if front != 0 {
         order.push_lanes(event.row, front, event.reason);

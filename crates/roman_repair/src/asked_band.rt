@@ -5,12 +5,13 @@ ghost use Rattle.roman_model.specs.Arena.{Arena, is_justified};
 ghost use Rattle.roman_lanes.specs.Rows.{is_on, AreRows};
 ghost use Rattle.roman_rules.specs.Asked.{IsReasonOf, readings_of_reason};
 ghost use Rattle.roman_repair.specs.Alone.{lets_hold, questions_of};
-ghost use Rattle.roman_repair.specs.AskedBands.{HoldsInBand};
+ghost use Rattle.roman_repair.specs.AskedBands.{HoldsInBand, CanAsk, CanAskSeat, IsAnswer, HasAsked, HasAskedSeat};
 ghost use Rattle.roman_repair.specs.Replays.{is_possible};
 
 use crate::alone::OneSeat;
 use roman_io::Steps;
 use roman_model::Reason;
+use roman_order::Event;
 use roman_rules::{Asked, Rules};
 use std::sync::ledger::Ledger;
 
@@ -87,30 +88,24 @@ fn ask_band<J: Rules, L: Ledger>(
     }
 }
 
-/// Returns the lanes of the row `x` at which the seat `k` keeps a reason from holding. Counts a step
+/// Returns the lanes of the event's row at which the seat `k` keeps its reason from holding. Counts a step
 /// where the reason is an action.
 fn ask_row_alone<J: OneSeat, L: Ledger>(
     joint: &J,
     words: &[u64],
-    x: u32,
-    reason: Reason,
+    event: Event,
     k: u8,
     steps: &mut Steps<L>,
 ) -> u64
-    requires row { x * J.lanes joint.now < length (J.arena joint.now).nodes }
-    requires reason { IsReasonOf (J.arena joint.now) reason }
-    requires seat { k < (J.arena joint.now).seats }
-    requires room { length words.now * J.lanes joint.now ≡ length (J.arena joint.now).nodes }
-    ensures served { let A = J.arena joint.now in let lanes = J.lanes joint.now in
-        (gone : ℕ → Bool) → AreRows lanes (λ q. not (gone q)) words.now →
-        (lane : ℕ) → lane < lanes → is_on result lane ≡ not (lets_hold A gone k (x * lanes + lane) reason) }
-    ensures cost { steps.new ≡ steps.old + questions_of reason }
+    requires { CanAskSeat (J.arena joint.now) (J.lanes joint.now) k words.now event }
+    ensures served { IsAnswer (J.lanes joint.now) words.now event.row (λ gone p. not (lets_hold (J.arena joint.now) gone k p event.reason)) result }
+    ensures cost { steps.new ≡ steps.old + questions_of event.reason }
 {
-    match reason {
+    match event.reason {
         Reason::Final => 0,
         Reason::Act(a) => {
             steps.tick();
-            let row = joint.row(x);
+            let row = joint.row(event.row);
             joint.served(&row, words, a, k)
         }
     }
@@ -198,72 +193,50 @@ impl AskedBand {
         }
     }
 
-    /// Asks all rows of the band of the row `x`. Returns the lanes of the row at which the reason holds.
+    /// Asks all rows of the band of the event's row. Returns the lanes of the row at which the reason holds.
     fn ask_whole<J: Rules, L: Ledger>(
         &mut self,
         joint: &J,
         words: &[u64],
-        x: u32,
-        reason: Reason,
+        event: Event,
         steps: &mut Steps<L>,
     ) -> u64
-        requires row { x * J.lanes joint.now < length (J.arena joint.now).nodes }
-        requires reason { IsReasonOf (J.arena joint.now) reason }
-        requires room { length words.now * J.lanes joint.now ≡ length (J.arena joint.now).nodes }
+        requires ask { CanAsk (J.arena joint.now) (J.lanes joint.now) words.now event }
         requires alone { self.old.alone ≡ None }
-        ensures holds { let A = J.arena joint.now in let lanes = J.lanes joint.now in
-            (gone : ℕ → Bool) → AreRows lanes (λ q. not (gone q)) words.now →
-            (lane : ℕ) → lane < lanes → is_on result lane ≡ is_justified A gone (x * lanes + lane) reason }
-        ensures known { let A = J.arena joint.now in let lanes = J.lanes joint.now in
-            (gone : ℕ → Bool) → AreRows lanes (λ q. not (gone q)) words.now →
-            HoldsInBand A lanes gone self.old → HoldsInBand A lanes gone self.new }
-        ensures alone { self.new.alone ≡ self.old.alone }
-        ensures cost { let A = J.arena joint.now in
-            (p : ℕ) → IsTrue (is_possible A p reason) → steps.new ≡ steps.old + readings_of_reason A p reason }
+        ensures { HasAsked (J.arena joint.now) (J.lanes joint.now) words.now event self.old self.new result steps.old steps.new }
     {
         joint.known();
         let band = joint.band();
-        self.first = x - x % band;
+        self.first = event.row - event.row % band;
         self.rows = band;
-        self.reason = reason;
+        self.reason = event.reason;
         let held = &mut self.words[..band as usize];
-        ask_band(joint, words, x / band, reason, held, steps);
-        self.words[(x % band) as usize]
+        ask_band(joint, words, event.row / band, event.reason, held, steps);
+        self.words[(event.row % band) as usize]
     }
 
-    /// Asks the seat `k` alone about a reason, in all rows of the band of the row `x`. Returns the lanes
-    /// of the row at which the seat lets the reason hold. Counts a step where the reason is an action.
+    /// Asks the seat `k` alone about the event's reason, in all rows of the band of its row. Returns the
+    /// lanes of the row at which the seat lets the reason hold. Counts a step where the reason is an
+    /// action.
     fn ask_whole_alone<J: OneSeat, L: Ledger>(
         &mut self,
         joint: &J,
         words: &[u64],
-        x: u32,
-        reason: Reason,
+        event: Event,
         k: u8,
         steps: &mut Steps<L>,
     ) -> u64
-        requires row { x * J.lanes joint.now < length (J.arena joint.now).nodes }
-        requires reason { IsReasonOf (J.arena joint.now) reason }
-        requires seat { k < (J.arena joint.now).seats }
-        requires room { length words.now * J.lanes joint.now ≡ length (J.arena joint.now).nodes }
-        requires alone { self.old.alone ≡ Some k }
-        ensures lets { let A = J.arena joint.now in let lanes = J.lanes joint.now in
-            (gone : ℕ → Bool) → AreRows lanes (λ q. not (gone q)) words.now →
-            (lane : ℕ) → lane < lanes → is_on result lane ≡ lets_hold A gone k (x * lanes + lane) reason }
-        ensures known { let A = J.arena joint.now in let lanes = J.lanes joint.now in
-            (gone : ℕ → Bool) → AreRows lanes (λ q. not (gone q)) words.now →
-            HoldsInBand A lanes gone self.old → HoldsInBand A lanes gone self.new }
-        ensures alone { self.new.alone ≡ self.old.alone }
-        ensures cost { steps.new ≡ steps.old + questions_of reason }
+        requires { CanAskSeat (J.arena joint.now) (J.lanes joint.now) k words.now event }
+        ensures { HasAskedSeat (J.arena joint.now) (J.lanes joint.now) k words.now event self.old self.new result steps.old steps.new }
     {
         joint.known();
         let band = joint.band();
-        self.first = x - x % band;
+        self.first = event.row - event.row % band;
         self.rows = band;
-        self.reason = reason;
+        self.reason = event.reason;
         let held = &mut self.words[..band as usize];
-        let_band(joint, words, x / band, reason, k, held, steps);
-        self.words[(x % band) as usize]
+        let_band(joint, words, event.row / band, event.reason, k, held, steps);
+        self.words[(event.row % band) as usize]
     }
 
     /// Returns whether the whole band of the row `x` is to be asked: another of its rows was asked about
@@ -278,45 +251,33 @@ impl AskedBand {
         is_second && (self.first != first || self.reason != reason)
     }
 
-    /// Asks the seat `k` alone about a reason, in the row `x`, or in the whole band where another of its
-    /// rows was asked just before. Returns the lanes of the row at which the seat lets the reason hold.
-    /// Counts a step where the reason is an action.
+    /// Asks the seat `k` alone about the event's reason, in its row, or in the whole band where another
+    /// of its rows was asked just before. Returns the lanes of the row at which the seat lets the reason
+    /// hold. Counts a step where the reason is an action.
     pub(crate) fn ask_alone<J: OneSeat, L: Ledger>(
         &mut self,
         joint: &J,
         words: &[u64],
-        x: u32,
-        reason: Reason,
+        event: Event,
         k: u8,
         steps: &mut Steps<L>,
     ) -> u64
-        requires row { x * J.lanes joint.now < length (J.arena joint.now).nodes }
-        requires reason { IsReasonOf (J.arena joint.now) reason }
-        requires seat { k < (J.arena joint.now).seats }
-        requires room { length words.now * J.lanes joint.now ≡ length (J.arena joint.now).nodes }
-        requires alone { self.old.alone ≡ Some k }
-        ensures lets { let A = J.arena joint.now in let lanes = J.lanes joint.now in
-            (gone : ℕ → Bool) → AreRows lanes (λ q. not (gone q)) words.now →
-            (lane : ℕ) → lane < lanes → is_on result lane ≡ lets_hold A gone k (x * lanes + lane) reason }
-        ensures known { let A = J.arena joint.now in let lanes = J.lanes joint.now in
-            (gone : ℕ → Bool) → AreRows lanes (λ q. not (gone q)) words.now →
-            HoldsInBand A lanes gone self.old → HoldsInBand A lanes gone self.new }
-        ensures alone { self.new.alone ≡ self.old.alone }
-        ensures cost { steps.new ≡ steps.old + questions_of reason }
+        requires { CanAskSeat (J.arena joint.now) (J.lanes joint.now) k words.now event }
+        ensures { HasAskedSeat (J.arena joint.now) (J.lanes joint.now) k words.now event self.old self.new result steps.old steps.new }
     {
         joint.known();
-        if self.is_band_due(joint, x, reason) {
-            return self.ask_whole_alone(joint, words, x, reason, k, steps);
+        if self.is_band_due(joint, event.row, event.reason) {
+            return self.ask_whole_alone(joint, words, event, k, steps);
         }
         self.row = Asked {
-            row: x,
-            reason,
+            row: event.row,
+            reason: event.reason,
             lanes: 0,
         };
-        !ask_row_alone(joint, words, x, reason, k, steps)
+        !ask_row_alone(joint, words, event, k, steps)
     }
 
-    /// Asks the row `x` about a reason, together with the whole band where another of its rows was
+    /// Asks the event's row about its reason, together with the whole band where another of its rows was
     /// asked just before. Returns the lanes of the row at which the reason holds. `words` has the bits
     /// of the pairs that aren't gone. The action of the reason, if it has one, must be one of the
     /// system.
@@ -326,29 +287,17 @@ impl AskedBand {
         &mut self,
         joint: &J,
         words: &[u64],
-        x: u32,
-        reason: Reason,
+        event: Event,
         steps: &mut Steps<L>,
     ) -> u64
-        requires row { x * J.lanes joint.now < length (J.arena joint.now).nodes }
-        requires reason { IsReasonOf (J.arena joint.now) reason }
-        requires room { length words.now * J.lanes joint.now ≡ length (J.arena joint.now).nodes }
+        requires ask { CanAsk (J.arena joint.now) (J.lanes joint.now) words.now event }
         requires alone { self.old.alone ≡ None }
-        ensures holds { let A = J.arena joint.now in let lanes = J.lanes joint.now in
-            (gone : ℕ → Bool) → AreRows lanes (λ q. not (gone q)) words.now →
-            (lane : ℕ) → lane < lanes → is_on result lane ≡ is_justified A gone (x * lanes + lane) reason }
-        ensures known { let A = J.arena joint.now in let lanes = J.lanes joint.now in
-            (gone : ℕ → Bool) → AreRows lanes (λ q. not (gone q)) words.now →
-            HoldsInBand A lanes gone self.old → HoldsInBand A lanes gone self.new }
-        ensures alone { self.new.alone ≡ self.old.alone }
-        ensures cost { let A = J.arena joint.now in let lanes = J.lanes joint.now in
-            (lane : ℕ) → lane < lanes → IsTrue (is_possible A (x * lanes + lane) reason) →
-            steps.new ≡ steps.old + readings_of_reason A (x * lanes + lane) reason }
+        ensures { HasAsked (J.arena joint.now) (J.lanes joint.now) words.now event self.old self.new result steps.old steps.new }
     {
         joint.known();
-        if self.is_band_due(joint, x, reason) {
-            return self.ask_whole(joint, words, x, reason, steps);
+        if self.is_band_due(joint, event.row, event.reason) {
+            return self.ask_whole(joint, words, event, steps);
         }
-        self.row.ask(joint, words, x, reason, steps)
+        self.row.ask(joint, words, event.row, event.reason, steps)
     }
 }

@@ -33,7 +33,7 @@ fn keep_front<J: Rules, L: Ledger>(
         order.push_lanes(event.row, front, event.reason);
         return rest;
     }
-    let held = asked.ask(joint, order.words(), event.row, event.reason, steps);
+    let held = asked.ask(joint, order.words(), event, steps);
     let (_, from_held) = split_lanes(event.lanes, held);
     let (front, rest) = split_lanes(from_held, !held);
     order.push_lanes(event.row, front, event.reason);

@@ -15,13 +15,10 @@ push_lanes-requires-clause-alive g c lane on =
     let l : lane < 64 = omega (arith, c.requires.within lane here, few) in
     lane_alive _ c.args.order.now.list _ c.args.order.now.lanes c.args.event.row c.args.event.lanes lane c.args.event.reason c.requires.candidates c.requires.shaped.lanes l here
 
-pub ask_alone-held-requires-clause-row : goal.ask_alone-held-requires-clause-row
-ask_alone-held-requires-clause-row g c =
-    (in_row _ c.known.ensures.numbered c.args.order.now _ c.args.event.row c.args.event.lanes c.args.event.reason c.requires.shaped c.requires.candidates c.requires.some (word_fits _ _ c.known.ensures.lanes.1 c.requires.within)).node
-
-pub ask_alone-held-requires-clause-reason : goal.ask_alone-held-requires-clause-reason
-ask_alone-held-requires-clause-reason g c =
-    (in_row _ c.known.ensures.numbered c.args.order.now _ c.args.event.row c.args.event.lanes c.args.event.reason c.requires.shaped c.requires.candidates c.requires.some (word_fits _ _ c.known.ensures.lanes.1 c.requires.within)).action
+pub ask_alone-held-requires : goal.ask_alone-held-requires
+ask_alone-held-requires g c =
+    let in_it = in_row _ c.known.ensures.numbered c.args.order.now _ c.args.event.row c.args.event.lanes c.args.event.reason c.requires.shaped c.requires.candidates c.requires.some (word_fits _ _ c.known.ensures.lanes.1 c.requires.within) in
+    record { seat = c.requires.may.0; row = in_it.node; reason = in_it.action; room = grind arith }
 
 pub push_lanes-requires-then-front-ne0-clause-row : goal.push_lanes-requires-then-front-ne0-clause-row
 push_lanes-requires-then-front-ne0-clause-row g c =
@@ -89,7 +86,7 @@ returns-then-front-ne0 g c =
       may = subst (λ o. MayAskAlone A o new_list (entries_in n c.args.event.row rest c.args.event.reason)) (sym (c.ask_alone-held.ensures.alone ∙ c.requires.alone))
           (may_rest A (Some c.args.k) (Some c.args.k) L new_list (entries_in n c.args.event.row front c.args.event.reason) (entries_in n c.args.event.row rest c.args.event.reason) (subst (MayAskAlone A (Some c.args.k) L) cut c.requires.may) (λ j e. (e, new)));
       intact = λ j e. (sym (c.ask_alone-held.ensures.alone) ∙ e, ap (λ K. K ++ entries_in n c.args.event.row rest c.args.event.reason) new ∙ append_assoc L (entries_in n c.args.event.row front c.args.event.reason) (entries_in n c.args.event.row rest c.args.event.reason) ∙ ap (λ M. L ++ M) (sym cut));
-      known = known_on A n c.ask_alone-held.new.self L new_list (entries_in n c.args.event.row front c.args.event.reason) new (c.ask_alone-held.ensures.known (is_listed A L) rows c.requires.known);
+      known = known_on A n c.ask_alone-held.new.self L new_list (entries_in n c.args.event.row front c.args.event.reason) new (c.ask_alone-held.ensures.known c.requires.alone (is_listed A L) rows c.requires.known);
       rest = search rules;
       cost = omega (arith, c.ask_alone-held.ensures.cost, alone_paid A L c.args.k n c.args.event.row c.args.event.lanes front rest c.args.event.reason c.requires.candidates c.requires.may parts (c.split_lanes-front.ensures.any c.if-front-ne0.true) of_front);
     }

@@ -40,13 +40,10 @@ returns-then-front-ne0 g c =
       cost = omega (arith, entries_more A n c.args.event.row c.args.event.lanes front rest c.args.event.reason parts);
     }
 
-pub ask-held-requires-clause-row : goal.ask-held-requires-clause-row
-ask-held-requires-clause-row g c =
-    (in_row _ c.known.ensures.numbered c.args.order.now _ c.args.event.row c.args.event.lanes c.args.event.reason c.requires.shaped c.requires.candidates c.requires.some (word_fits _ _ c.known.ensures.lanes.1 c.requires.within)).node
-
-pub ask-held-requires-clause-reason : goal.ask-held-requires-clause-reason
-ask-held-requires-clause-reason g c =
-    (in_row _ c.known.ensures.numbered c.args.order.now _ c.args.event.row c.args.event.lanes c.args.event.reason c.requires.shaped c.requires.candidates c.requires.some (word_fits _ _ c.known.ensures.lanes.1 c.requires.within)).action
+pub ask-held-requires-clause-ask : goal.ask-held-requires-clause-ask
+ask-held-requires-clause-ask g c =
+    let in_it = in_row _ c.known.ensures.numbered c.args.order.now _ c.args.event.row c.args.event.lanes c.args.event.reason c.requires.shaped c.requires.candidates c.requires.some (word_fits _ _ c.known.ensures.lanes.1 c.requires.within) in
+    record { row = in_it.node; reason = in_it.action; room = grind arith }
 
 pub push_lanes-requires-2-clause-row : goal.push_lanes-requires-2-clause-row
 push_lanes-requires-2-clause-row g c =
