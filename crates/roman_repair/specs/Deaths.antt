@@ -1,18 +1,21 @@
 -- The entries of a removal list after a service's death.
-use Rattle.std.specs.Prelude.{◌≡◌, ◌≢◌, ℕ, ◌+◌, ◌*◌, ◌<◌, true, false, List, ◌++◌, map, drop}
+use Rattle.std.specs.Prelude.{◌≡◌, ◌≢◌, ℕ, ◌+◌, ◌*◌, ◌<◌, true, false, List, ◌++◌, map, drop, length}
 use Rattle.std.specs.List.{filter, remove}
 use Rattle.roman_model.specs.Lists.{product_of}
-use Rattle.roman_model.specs.System.{Seat}
+use Rattle.roman_model.specs.System.{Sys, Seat}
 use Rattle.roman_model.specs.Arena.{Entry}
-use Rattle.roman_model.specs.Change.{may_go}
-use Rattle.roman_model.specs.Numbers.{Sizes, pair_at}
+use Rattle.roman_model.specs.Change.{Die, CanChange, may_go}
+use Rattle.roman_model.specs.Numbers.{Sizes, sizes_of, sizes_without, count, pair_at}
 use Rattle.roman_model.specs.NumberedChange.{number_entry_without, first_numbers}
 use Rattle.roman_model.specs.declared.reason.Reason.{Reason}
 use Rattle.roman_radix.specs.Rows.{lanes_of}
 use Rattle.roman_lanes.specs.Rows.{is_on}
-use Rattle.roman_order.specs.Board.{Board, as_entry, nodes_of, set_lanes, has_entry}
+use Rattle.roman_joint.specs.NamedSys.{NamedSys, system_of}
+use Rattle.roman_joint.specs.Rows.{lanes_in}
+use Rattle.roman_order.specs.Board.{Board, as_entry, pairs_of, nodes_of, set_lanes, has_entry}
 use Rattle.roman_order.specs.Events.{entries_at}
 use Rattle.roman_order.specs.declared.event.Event.{Event}
+use Rattle.roman_repair.specs.declared.dying.renaming.Leaver.{Leaver}
 
 -- the renamed entries, of those in which seat k may leave its state behind
 abbrev pub entries_left : Sizes → ℕ → Seat → List (Entry ℕ) → List (Entry ℕ)
@@ -41,3 +44,21 @@ pub record IsGathered (board : Board) (e : Event) : Type 0 where
   pub row : e.lanes ≢ 0 → e.row < board.rows
   pub within : (lane : ℕ) → is_on e.lanes lane ≡ true → lane < board.lanes
   pub alive : (lane : ℕ) → is_on e.lanes lane ≡ true → has_entry board.list (e.row * board.lanes + lane) ≡ false
+
+-- the order has the shape of the system without the service that dies, and the gathered entries can go after its list
+pub record CanRename (joint : NamedSys) (leaver : Leaver) (order : Board) (e : Event) : Type 0 where
+  pub seat : leaver.k < length joint.seats
+  pub shaped : pairs_of order ≡ count (sizes_without leaver.k (sizes_of (system_of joint)))
+  pub lanes : (leaver.lanes ≡ order.lanes) × (order.lanes ≡ lanes_of (sizes_without leaver.k (sizes_of (system_of joint))).seats)
+  pub gathered : IsGathered order e
+
+-- the row of the event and its entries are in the system
+pub record IsWithin (s : Sys) (e : Event) : Type 0 where
+  pub each : (lane : ℕ) → is_on e.lanes lane ≡ true → (lane < lanes_in s) × (e.row * lanes_in s + lane < count (sizes_of s))
+  pub row : e.row * lanes_in s < count (sizes_of s)
+
+-- the entries are renamed, and their first ones are gathered after the list
+pub record HasRenamed (s : Sys) (k : ℕ) (L : List (Entry ℕ)) (old new : Board) (e now : Event) : Type 0 where
+  pub list : (seat : Seat) → CanChange (Die k seat) s → list_and new now ≡ list_with (sizes_of s) k seat (list_and old e) L
+  pub gathered : IsGathered new now
+  pub rest : new ≡ record old { list = new.list }

@@ -1,7 +1,7 @@
 -- What a replay of grown entries goes on from.
-use Rattle.std.specs.Prelude.{◌≡◌, ℕ, ◌<◌, true, flat_map}
+use Rattle.std.specs.Prelude.{◌≡◌, ℕ, ◌<◌, true, List, flat_map}
 use Rattle.roman_lanes.specs.Rows.{is_on}
-use Rattle.roman_model.specs.Arena.{Arena, is_listed}
+use Rattle.roman_model.specs.Arena.{Arena, Entry, is_listed}
 use Rattle.roman_model.specs.NumberedChange.{grown_numbers}
 use Rattle.roman_order.specs.Board.{Board}
 use Rattle.roman_order.specs.Events.{entries_at}
@@ -18,11 +18,15 @@ pub record RowsGrow (row : ℕ) (newcomer : Newcomer) (order : Board) : Type 0 w
   pub slices : AreSlices row newcomer.lanes newcomer.states
   pub lanes : order.waiting_lanes ≡ newcomer.lanes
 
+-- what the entries of an event from before the newcomer grow to
+abbrev pub entries_grown : Newcomer → Event → List (Entry ℕ)
+entries_grown newcomer e = flat_map (grown_numbers newcomer.states) (entries_at newcomer.lanes e)
+
 -- what the entries of an event grow to can be replayed, and its lanes are those of a row from before the newcomer
 pub record CanGrow (A : Arena ℕ) (row : ℕ) (newcomer : Newcomer) (e : Event) (order : Board) (asked : AskedBand) : Type 0 where
   pub shaped : IsShaped A row order
   pub slices : AreSlices row newcomer.lanes newcomer.states
   pub within : (lane : ℕ) → is_on e.lanes lane ≡ true → lane < newcomer.lanes
-  pub candidates : AreCandidates A order.list (flat_map (grown_numbers newcomer.states) (entries_at newcomer.lanes e))
-  pub may : MayAskAlone A asked.alone order.list (flat_map (grown_numbers newcomer.states) (entries_at newcomer.lanes e))
+  pub candidates : AreCandidates A order.list (entries_grown newcomer e)
+  pub may : MayAskAlone A asked.alone order.list (entries_grown newcomer e)
   pub known : HoldsInBand A row (is_listed A order.list) asked

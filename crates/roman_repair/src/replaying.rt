@@ -1,9 +1,6 @@
 //! Replays entries that stand for several pairs each.
-ghost use Rattle.std.specs.Prelude.{flat_map};
-ghost use Rattle.roman_model.specs.NumberedChange.{grown_numbers};
-ghost use Rattle.roman_order.specs.Events.{entries_at};
 ghost use Rattle.roman_repair.specs.Judging.{HasReplayed, CanReplayAll, HasReplayedAll};
-ghost use Rattle.roman_repair.specs.Growing.{RowsGrow, CanGrow};
+ghost use Rattle.roman_repair.specs.Growing.{RowsGrow, CanGrow, entries_grown};
 ghost use Rattle.roman_repair.specs.Replays.{candidates};
 
 use crate::alone::OneSeat;
@@ -35,8 +32,7 @@ fn keep_grown<J: OneSeat, L: Ledger>(
     steps: &mut Steps<L>,
 )
     requires { CanGrow (J.arena joint.now) (J.lanes joint.now) newcomer event order.old asked.old }
-    ensures { HasReplayed (J.arena joint.now) (J.lanes joint.now) (flat_map (grown_numbers newcomer.states) (entries_at newcomer.lanes event))
-        order.old order.new asked.old asked.new steps.old steps.new }
+    ensures { HasReplayed (J.arena joint.now) (J.lanes joint.now) (entries_grown newcomer event) order.old order.new asked.old asked.new steps.old steps.new }
 {
     joint.known();
     let width = u32::from(newcomer.states);

@@ -8,9 +8,10 @@ ghost use Rattle.roman_model.specs.NumberedChange.{rename_numbers};
 ghost use Rattle.roman_radix.specs.Rows.{lanes_of};
 ghost use Rattle.roman_joint.specs.NamedSys.{system_of};
 ghost use Rattle.roman_joint.specs.Rows.{lanes_in};
-ghost use Rattle.roman_order.specs.Board.{pairs_of, entries_in};
+ghost use Rattle.roman_order.specs.Board.{pairs_of};
+ghost use Rattle.roman_order.specs.Events.{entries_at};
 ghost use Rattle.roman_relation.specs.Shaped.{IsShaped};
-ghost use Rattle.roman_repair.specs.Deaths.{list_and, list_with, entries_from, IsGathered, IsPart};
+ghost use Rattle.roman_repair.specs.Deaths.{CanRename, HasRenamed, IsPart, IsWithin, entries_from};
 
 use super::gathering::{gather, push_gathered, unlisted};
 use super::states::may_go;
@@ -35,31 +36,32 @@ fn part_width(shape: &Shape, k: u8) -> u32
     shape.stride(k)
 }
 
+/// A service that dies.
+#[derive(Clone, Copy)]
+pub(crate) struct Leaver {
+    /// Its place.
+    pub(crate) k: u8,
+    /// The number of lanes of a row without it.
+    pub(crate) lanes: u32,
+}
+
 /// Renames the entries for pairs of one part, and gathers them after the list: one for each renamed
-/// pair of which there is no entry yet. Gathers nothing where the service `k` may not leave its state
-/// behind. The bits of `word` give the pairs, counted from `first`. `lanes` is the number of lanes
-/// of a row without the service.
+/// pair of which there is no entry yet. Gathers nothing where the service may not leave its state
+/// behind. The bits of `word` give the pairs, counted from `first`.
 fn rename_part(
     joint: &Joint,
     order: &mut Order,
     gathered: &mut Event,
-    k: u8,
-    lanes: u32,
+    leaver: Leaver,
     first: u32,
     word: u64,
     reason: Reason,
 )
-    requires seat { k < length joint.now.seats }
+    requires ready { CanRename joint.now leaver order.old gathered.old }
     requires first { first < count (sizes_of (system_of joint.now)) }
     requires pair { (i : ℕ) → is_on word i ≡ true → first + i < count (sizes_of (system_of joint.now)) }
-    requires part { (width : ℕ) × (j : ℕ) × IsPart (sizes_of (system_of joint.now)).seats k width × (first ≡ j * width) × ((i : ℕ) → is_on word i ≡ true → i < width) }
-    requires shaped { pairs_of order.old ≡ count (sizes_without k (sizes_of (system_of joint.now))) }
-    requires lanes { (lanes ≡ order.old.lanes) × (order.old.lanes ≡ lanes_of (sizes_without k (sizes_of (system_of joint.now))).seats) }
-    requires gathered { IsGathered order.old gathered.old }
-    ensures list { (seat : Seat) → CanChange (Die k seat) (system_of joint.now) →
-        list_and order.new gathered.new ≡ list_with (sizes_of (system_of joint.now)) k seat (list_and order.old gathered.old) (entries_from first word reason) }
-    ensures gathered { IsGathered order.new gathered.new }
-    ensures rest { order.new ≡ record order.old { list = order.new.list } }
+    requires part { (width : ℕ) × (j : ℕ) × IsPart (sizes_of (system_of joint.now)).seats leaver.k width × (first ≡ j * width) × ((i : ℕ) → is_on word i ≡ true → i < width) }
+    ensures { HasRenamed (system_of joint.now) leaver.k (entries_from first word reason) order.old order.new gathered.old gathered.new }
 {
     joint.known();
     order.known();
@@ -67,58 +69,39 @@ fn rename_part(
     if word == 0 {
         return;
     }
-    if !may_go(joint, k, shape.part_of(first, k)) {
+    if !may_go(joint, leaver.k, shape.part_of(first, leaver.k)) {
         return;
     }
-    let left = shape.without(first, k);
-    let x = left / lanes;
-    let lost = (word << (left % lanes)) & unlisted(order, gathered, x);
+    let left = shape.without(first, leaver.k);
+    let x = left / leaver.lanes;
+    let lost = (word << (left % leaver.lanes)) & unlisted(order, gathered, x);
     gather(order, gathered, x, lost, reason);
 }
 
-/// Renames the entries for the lanes `word` of the row `x`, part by part, and gathers them after the
-/// list: for each renamed pair of which there is no entry yet, the first entry in which the service `k`
-/// may leave its state behind. `lanes` is the number of lanes of a row without the service.
-fn rename_row(
-    joint: &Joint,
-    order: &mut Order,
-    gathered: &mut Event,
-    k: u8,
-    lanes: u32,
-    x: u32,
-    word: u64,
-    reason: Reason,
-)
-    requires seat { k < length joint.now.seats }
-    requires within { (lane : ℕ) → is_on word lane ≡ true →
-        (lane < lanes_in (system_of joint.now)) × (x * lanes_in (system_of joint.now) + lane < count (sizes_of (system_of joint.now))) }
-    requires some { x * lanes_in (system_of joint.now) < count (sizes_of (system_of joint.now)) }
-    requires shaped { pairs_of order.old ≡ count (sizes_without k (sizes_of (system_of joint.now))) }
-    requires lanes { (lanes ≡ order.old.lanes) × (order.old.lanes ≡ lanes_of (sizes_without k (sizes_of (system_of joint.now))).seats) }
-    requires gathered { IsGathered order.old gathered.old }
-    ensures list { (seat : Seat) → CanChange (Die k seat) (system_of joint.now) →
-        list_and order.new gathered.new ≡ list_with (sizes_of (system_of joint.now)) k seat (list_and order.old gathered.old) (entries_in (lanes_in (system_of joint.now)) x word reason) }
-    ensures gathered { IsGathered order.new gathered.new }
-    ensures rest { order.new ≡ record order.old { list = order.new.list } }
+/// Renames the entries of the event, part by part, and gathers them after the list: for each renamed pair
+/// of which there is no entry yet, the first entry in which the service may leave its state behind.
+fn rename_row(joint: &Joint, order: &mut Order, gathered: &mut Event, leaver: Leaver, event: Event)
+    requires ready { CanRename joint.now leaver order.old gathered.old }
+    requires within { IsWithin (system_of joint.now) event }
+    ensures { HasRenamed (system_of joint.now) leaver.k (entries_at (lanes_in (system_of joint.now)) event) order.old order.new gathered.old gathered.new }
 {
     joint.known();
     let shape = joint.shape();
     shape.known();
-    let width = part_width(shape, k);
+    let width = part_width(shape, leaver.k);
     let wide = shape.lanes();
-    let first = x * wide;
-    let (begin, end) = filled_parts(word, width, wide / width);
+    let first = event.row * wide;
+    let (begin, end) = filled_parts(event.lanes, width, wide / width);
     for i in begin..end {
-        let part = (word >> (i * width)) & (u64::MAX >> (64 - width));
+        let part = (event.lanes >> (i * width)) & (u64::MAX >> (64 - width));
         rename_part(
             joint,
             order,
             gathered,
-            k,
-            lanes,
+            leaver,
             first + i * width,
             part,
-            reason,
+            event.reason,
         );
     }
 }
@@ -142,6 +125,7 @@ pub(crate) fn rename_list(joint: &Joint, order: &mut Order, k: u8)
     order.known();
     let small = shape.shrink(k);
     let lanes = small.lanes();
+    let leaver = Leaver { k, lanes };
     order.reopen(small.rows(), lanes);
     let mut gathered = Event {
         row: 0,
@@ -149,16 +133,7 @@ pub(crate) fn rename_list(joint: &Joint, order: &mut Order, k: u8)
         lanes: 0,
     };
     'waiting: while let Some(event) = order.next_waiting_event() {
-        rename_row(
-            joint,
-            order,
-            &mut gathered,
-            k,
-            lanes,
-            event.row,
-            event.lanes,
-            event.reason,
-        );
+        rename_row(joint, order, &mut gathered, leaver, event);
     }
     push_gathered(order, &gathered);
 }

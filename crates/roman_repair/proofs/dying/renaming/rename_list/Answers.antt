@@ -17,21 +17,20 @@ waiting-init c =
       rest = refl;
     }
 
--- the facts about the event
 pub rename_row-requires-clause-within : goal.rename_row-requires-clause-within
 rename_row-requires-clause-within c =
     let wide = ap (λ (b : Board). b.waiting_lanes) c.waiting.invariant.rest ∙ ap (λ (b : Board). b.waiting_lanes) c.reopen.ensures.moved ∙ c.requires.shaped.lanes in
-    (event_in_range c.waiting.order.waiting_lanes (lanes_in (system_of c.args.joint.now)) (count (sizes_of (system_of c.args.joint.now))) c.waiting.order.waiting c.next_waiting_event.new.self.waiting
-    c.in-Some.event wide (omega (arith, c.known-3.ensures.lanes.1, c.requires.shaped.lanes)) c.in-Some.ensures.first c.in-Some.ensures.event c.waiting.invariant.waiting).within
+    let is = event_in_range c.waiting.order.waiting_lanes (lanes_in (system_of c.args.joint.now)) (count (sizes_of (system_of c.args.joint.now))) c.waiting.order.waiting c.next_waiting_event.new.self.waiting
+    c.in-Some.event wide (omega (arith, c.known-3.ensures.lanes.1, c.requires.shaped.lanes)) c.in-Some.ensures.first c.in-Some.ensures.event c.waiting.invariant.waiting in
+    record { each = is.within; row = is.row }
 
-pub rename_row-requires-clause-some : goal.rename_row-requires-clause-some
-rename_row-requires-clause-some c =
-    let wide = ap (λ (b : Board). b.waiting_lanes) c.waiting.invariant.rest ∙ ap (λ (b : Board). b.waiting_lanes) c.reopen.ensures.moved ∙ c.requires.shaped.lanes in
-    (event_in_range c.waiting.order.waiting_lanes (lanes_in (system_of c.args.joint.now)) (count (sizes_of (system_of c.args.joint.now))) c.waiting.order.waiting c.next_waiting_event.new.self.waiting
-    c.in-Some.event wide (omega (arith, c.known-3.ensures.lanes.1, c.requires.shaped.lanes)) c.in-Some.ensures.first c.in-Some.ensures.event c.waiting.invariant.waiting).row
-
-pub rename_row-requires-clause-gathered : goal.rename_row-requires-clause-gathered
-rename_row-requires-clause-gathered c = still_gathered c.waiting.order c.next_waiting_event.new.self c.waiting.gathered c.next_waiting_event.ensures.rest c.waiting.invariant.gathered
+pub rename_row-requires-clause-ready : goal.rename_row-requires-clause-ready
+rename_row-requires-clause-ready c = record {
+  seat = c.requires.seat;
+  shaped = grind arith;
+  lanes = grind arith;
+  gathered = still_gathered c.waiting.order c.next_waiting_event.new.self c.waiting.gathered c.next_waiting_event.ensures.rest c.waiting.invariant.gathered;
+}
 
 pub waiting-preserved : goal.waiting-preserved
 waiting-preserved c =

@@ -7,15 +7,15 @@ use Rattle.roman_repair.proofs.dying.renaming.rename_row.Goals as goal
 pub overflow_mul-first : goal.overflow_mul-first
 overflow_mul-first c =
     let shape = c.shape-shape.result.now in
-    let wide = ap (λ m. c.args.x * m) (c.lanes-wide.ensures.value ∙ ap (λ (m : Sizes). lanes_of m.seats) c.shape-shape.ensures) in
-    omega (arith, wide, c.requires.some, ap count c.shape-shape.ensures, c.known-2.ensures.counted)
+    let wide = ap (λ m. c.args.event.row * m) (c.lanes-wide.ensures.value ∙ ap (λ (m : Sizes). lanes_of m.seats) c.shape-shape.ensures) in
+    omega (arith, wide, c.requires.within.row, ap count c.shape-shape.ensures, c.known-2.ensures.counted)
 
 pub overflow_add-first : goal.overflow_add-first
 overflow_add-first c =
     let shape = c.shape-shape.result.now in
-    let wide = ap (λ m. c.args.x * m) c.lanes-wide.ensures.value in
-    let more = ap (λ (m : Sizes). c.args.x * lanes_of m.seats) c.shape-shape.ensures in
-    let end = row_end shape c.args.x c.known-2.ensures (omega (arith, more, c.requires.some, ap count c.shape-shape.ensures)) in
+    let wide = ap (λ m. c.args.event.row * m) c.lanes-wide.ensures.value in
+    let more = ap (λ (m : Sizes). c.args.event.row * lanes_of m.seats) c.shape-shape.ensures in
+    let end = row_end shape c.args.event.row c.known-2.ensures (omega (arith, more, c.requires.within.row, ap count c.shape-shape.ensures)) in
     omega (arith, wide, end, part_end c.loop-i.i c.part_width-width.result c.lanes-wide.result (omega (arith, c.loop-i-test.true, c.filled_parts-begin.ensures.ordered.1)), c.lanes-wide.ensures.value, c.known-2.ensures.counted)
 
 pub filled_parts-begin-requires-clause-within : goal.filled_parts-begin-requires-clause-within
@@ -24,20 +24,20 @@ filled_parts-begin-requires-clause-within c lane on = grind (arith, exact)
 pub loop-i-init : goal.loop-i-init
 loop-i-init c =
     let n = sizes_of (system_of c.args.joint.now) in
-    let none = row_begin (lanes_in (system_of c.args.joint.now)) c.args.x c.args.word (c.filled_parts-begin.result.0 * c.part_width-width.result) c.args.reason c.filled_parts-begin.ensures.first in
+    let none = row_begin (lanes_in (system_of c.args.joint.now)) c.args.event.row c.args.event.lanes (c.filled_parts-begin.result.0 * c.part_width-width.result) c.args.event.reason c.filled_parts-begin.ensures.first in
     let L = list_and c.args.order.now c.args.gathered.now in
     record {
-      list = λ seat seated. sym (append-nil L) ∙ ap (list_with n c.args.k seat L) (sym none);
-      gathered = c.requires.gathered;
+      list = λ seat seated. sym (append-nil L) ∙ ap (list_with n c.args.leaver.k seat L) (sym none);
+      gathered = c.requires.ready.gathered;
       rest = refl;
     }
 
 pub rename_part-requires-clause-first : goal.rename_part-requires-clause-first
 rename_part-requires-clause-first c =
     let shape = c.shape-shape.result.now in
-    let wide = ap (λ m. c.args.x * m) c.lanes-wide.ensures.value in
-    let more = ap (λ (m : Sizes). c.args.x * lanes_of m.seats) c.shape-shape.ensures in
-    let end = row_end shape c.args.x c.known-2.ensures (omega (arith, more, c.requires.some, ap count c.shape-shape.ensures)) in
+    let wide = ap (λ m. c.args.event.row * m) c.lanes-wide.ensures.value in
+    let more = ap (λ (m : Sizes). c.args.event.row * lanes_of m.seats) c.shape-shape.ensures in
+    let end = row_end shape c.args.event.row c.known-2.ensures (omega (arith, more, c.requires.within.row, ap count c.shape-shape.ensures)) in
     omega (arith, wide, end, part_end c.loop-i.i c.part_width-width.result c.lanes-wide.result (omega (arith, c.loop-i-test.true, c.filled_parts-begin.ensures.ordered.1)), c.lanes-wide.ensures.value, c.part_width-width.ensures.few.0, ap count c.shape-shape.ensures)
 
 pub rename_part-requires-clause-pair : goal.rename_part-requires-clause-pair
@@ -46,13 +46,13 @@ rename_part-requires-clause-pair c i on = grind (arith, part_in)
 pub rename_part-requires-clause-part : goal.rename_part-requires-clause-part
 rename_part-requires-clause-part c =
     let w = c.part_width-width.result in
-    let part = subst (λ (m : Sizes). IsPart m.seats c.args.k w) c.shape-shape.ensures c.part_width-width.ensures.part in
+    let part = subst (λ (m : Sizes). IsPart m.seats c.args.leaver.k w) c.shape-shape.ensures c.part_width-width.ensures.part in
     let (d, is) = c.part_width-width.ensures.part.lanes in (
       w,
-      c.args.x * d + c.loop-i.i,
+      c.args.event.row * d + c.loop-i.i,
       part,
-      part_begins c.args.x c.lanes-wide.result d w c.loop-i.i (c.lanes-wide.ensures.value ∙ is),
-      λ i on. (part_in c.args.word (c.loop-i.i * w) w i c.part_width-width.ensures.few.1 on).0,
+      part_begins c.args.event.row c.lanes-wide.result d w c.loop-i.i (c.lanes-wide.ensures.value ∙ is),
+      λ i on. (part_in c.args.event.lanes (c.loop-i.i * w) w i c.part_width-width.ensures.few.1 on).0,
     )
 
 pub loop-i-preserved : goal.loop-i-preserved
@@ -63,17 +63,21 @@ loop-i-preserved c =
     let i = c.loop-i.i in
     let new = c.rename_part.new.order in
     let wide = c.lanes-wide.ensures.value ∙ ap (λ (m : Sizes). lanes_of m.seats) c.shape-shape.ensures in
-    let part = part_word c.args.word (i * w) w in
+    let part = part_word c.args.event.lanes (i * w) w in
     let L = list_and c.args.order.now c.args.gathered.now in
     record {
       list = λ seat seated. c.rename_part.ensures.list seat seated
-          ∙ ap (λ M. list_with n c.args.k seat M (entries_from (c.args.x * c.lanes-wide.result + i * w) part c.args.reason)) (c.loop-i.invariant.list seat seated)
-          ∙ ap (λ m. list_with n c.args.k seat (list_with n c.args.k seat L (entries_below lanes c.args.x c.args.word (i * w) c.args.reason)) (entries_from (c.args.x * m + i * w) part c.args.reason)) wide
-          ∙ sym (list_with_append n c.args.k seat L (entries_below lanes c.args.x c.args.word (i * w) c.args.reason) (entries_from (c.args.x * lanes + i * w) part c.args.reason))
-          ∙ ap (list_with n c.args.k seat L) (row_next lanes c.args.x c.args.word i w c.args.reason c.part_width-width.ensures.few.1);
+          ∙ ap (λ M. list_with n c.args.leaver.k seat M (entries_from (c.args.event.row * c.lanes-wide.result + i * w) part c.args.event.reason)) (c.loop-i.invariant.list seat seated)
+          ∙ ap (λ m. list_with n c.args.leaver.k seat (list_with n c.args.leaver.k seat L (entries_below lanes c.args.event.row c.args.event.lanes (i * w) c.args.event.reason)) (entries_from (c.args.event.row * m + i * w) part c.args.event.reason)) wide
+          ∙ sym (list_with_append n c.args.leaver.k seat L (entries_below lanes c.args.event.row c.args.event.lanes (i * w) c.args.event.reason) (entries_from (c.args.event.row * lanes + i * w) part c.args.event.reason))
+          ∙ ap (list_with n c.args.leaver.k seat L) (row_next lanes c.args.event.row c.args.event.lanes i w c.args.event.reason c.part_width-width.ensures.few.1);
       gathered = c.rename_part.ensures.gathered;
       rest = c.rename_part.ensures.rest ∙ ap (λ (b : Board). record b { list = new.list }) c.loop-i.invariant.rest;
     }
 
-pub returns-clause-list : goal.returns-clause-list
-returns-clause-list c seat seated = grind (arith, entries_below, parts_fit, row_whole)
+pub returns : goal.returns
+returns c = record {
+  list = λ seat seated. grind (arith, entries_below, parts_fit, row_whole);
+  gathered = c.loop-i.invariant.gathered;
+  rest = c.loop-i.invariant.rest;
+}
