@@ -242,10 +242,10 @@ impl AskedBand {
     /// Returns whether the whole band of the row `x` is to be asked: another of its rows was asked about
     /// the reason just before, and the band wasn't.
     fn is_band_due<J: Rules>(&self, joint: &J, x: u32, reason: Reason) -> bool {
-        if self.row.row == x || self.row.reason != reason {
+        let band = joint.band();
+        if band == 1 || self.row.row == x || self.row.reason != reason {
             return false;
         }
-        let band = joint.band();
         let first = x - x % band;
         let is_second = first <= self.row.row && self.row.row - first < band;
         is_second && (self.first != first || self.reason != reason)
