@@ -1,7 +1,6 @@
 -- Lines that are judged by those that were read.
-use Rattle.roman_check.proofs.Common.{◌≡◌, ℕ, ◌+◌, ◌*◌, ◌<◌, ◌==◌, Bool, true, false, not, ◌||◌, List, [], ◌∷◌, ◌++◌, length, Option, Some, None, IsTrue, IsFalse, option_map, find, refl, sym, ap, ◌∙◌, subst, arith, append-nil, mul-le, list_any, cons_option, or-false, cond-true, cond-false, not-true, list_any-append, IsIn, same_numbers, Arena, Entry, is_listed, is_justified, head_line, count_line, reasons, entry_of, entries_on, could_be_listed, entry_fault, same_numbers_is, AreFew, from_possible, possible_small, entry_of-is, entry_of_other, fault_in_body, fault_after_end, Reason, Final, Act, AreRows, HoldsWhereKept, IsNumbered, Audit, Body, Nothing, Why, Form, fault_of, Remain, IsInRows, HasListed, Judges}
+use Rattle.roman_check.proofs.Common.{◌≡◌, ℕ, ◌+◌, ◌*◌, ◌<◌, ◌==◌, Bool, true, false, not, ◌||◌, List, [], ◌∷◌, ◌++◌, length, Option, Some, None, IsTrue, IsFalse, option_map, find, refl, sym, ap, ◌∙◌, subst, arith, append-nil, mul-le, list_any, cons_option, or-false, cond-true, cond-false, not-true, list_any-append, IsIn, same_numbers, Arena, Entry, is_listed, is_justified, head_line, count_line, reasons, entry_of, entries_on, could_be_listed, entry_fault, same_numbers_is, AreFew, from_possible, possible_small, entry_of-is, entry_of_other, fault_in_body, fault_after_end, Reason, Final, Act, AreRows, HoldsWhereKept, IsNumbered, Audit, Body, Nothing, Why, Form, fault_of, Remain, IsInRows, HasListed, Judges, end_line}
 use Rattle.std.proofs.Common.{if◌then◌else◌}
-use Rattle.roman_model.specs.Certificate.{end_line}
 use Rattle.std.proofs.lemmas.Bool.{not-false}
 use Rattle.std.proofs.lemmas.List.Elements.{filter_map-append}
 use Rattle.roman_model.specs.Certificate as text

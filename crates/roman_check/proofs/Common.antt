@@ -17,7 +17,7 @@ pub use Rattle.roman_lanes.specs.Rows.{AreRows}
 unfoldable pub use Rattle.roman_lanes.specs.Rows.{is_on}
 pub use Rattle.roman_model.proofs.CallerLemmas.{AreFew, act_reason, by_test, entry_of-is, entry_of_none, entry_of_other, fault_after_end, fault_in_body, from_below, from_map, from_possible, possible_small, same_numbers_is, same_numbers_itself}
 pub use Rattle.roman_model.specs.Arena.{Arena, Entry, is_justified, is_listed}
-pub use Rattle.roman_model.specs.Certificate.{could_be_listed, count_line, entries_on, entry_fault, entry_line, entry_of, head_line, line_fault, reason_text, reasons}
+pub use Rattle.roman_model.specs.Certificate.{could_be_listed, count_line, end_line, entries_on, entry_fault, entry_line, entry_of, head_line, line_fault, reason_text, reasons}
 pub use Rattle.roman_model.specs.Lines.{IsLine, lines, text_of_lines}
 pub use Rattle.roman_model.specs.Lists.{IsIn, below}
 pub use Rattle.roman_model.specs.System.{has}

@@ -43,7 +43,7 @@ pub record AnswersReason (A : Arena ℕ) (left : Remaining) (p : ℕ) (reason : 
   pub known : (gone : ℕ → Bool) → AreRows left.lanes (λ q. not (gone q)) left.words.items → HoldsWhereKept A left.lanes gone old → HoldsWhereKept A left.lanes gone new
 
 -- the place is a row and a lane of the table, and the reason is one of the system
-pub record CanAsk (A : Arena ℕ) (width : ℕ) (left : Remaining) (place : ℕ × ℕ) (asked : Reason) : Type 0 where
+pub record IsQuestion (A : Arena ℕ) (width : ℕ) (left : Remaining) (place : ℕ × ℕ) (asked : Reason) : Type 0 where
   pub lanes : left.lanes ≡ width
   pub room : length left.words.items * width ≡ length A.nodes
   pub pair : place.0 * left.lanes + place.1 < length A.nodes

@@ -4,7 +4,7 @@ ghost use Rattle.roman_model.specs.Arena.{Arena, Entry, is_listed};
 ghost use Rattle.roman_model.specs.Certificate.{entry_of};
 ghost use Rattle.roman_rules.specs.Asked.{IsReasonOf};
 ghost use Rattle.roman_check.specs.Readings.{entry_with};
-ghost use Rattle.roman_check.specs.Audits.{IsInRows, IsFront, AnswersReason, CanAsk, HasListed, Judges, TakesEntry};
+ghost use Rattle.roman_check.specs.Audits.{IsInRows, IsFront, AnswersReason, IsQuestion, HasListed, Judges, TakesEntry};
 
 use crate::entries::{entry, is_count, is_end, is_head};
 use crate::missing::first_missing;
@@ -63,7 +63,7 @@ fn ask<J: Rules, L: Ledger>(
     reason: Reason,
     steps: &mut Steps<L>,
 ) -> bool
-    requires { CanAsk (J.arena joint.now) (J.lanes joint.now) left.now place reason }
+    requires { IsQuestion (J.arena joint.now) (J.lanes joint.now) left.now place reason }
     ensures { AnswersReason (J.arena joint.now) left.now (place.0 * left.now.lanes + place.1) reason asked.old asked.new result }
 {
     let (row, lane) = place;
@@ -81,7 +81,7 @@ fn holds<J: Rules, L: Ledger>(
     reason: Reason,
     steps: &mut Steps<L>,
 ) -> bool
-    requires { CanAsk (J.arena joint.now) (J.lanes joint.now) left.now place reason }
+    requires { IsQuestion (J.arena joint.now) (J.lanes joint.now) left.now place reason }
     ensures { AnswersReason (J.arena joint.now) left.now (place.0 * left.now.lanes + place.1) reason asked.old asked.new result }
 {
     let (row, lane) = place;

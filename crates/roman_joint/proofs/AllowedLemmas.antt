@@ -1,5 +1,5 @@
 -- Allowed actions and clause 2 at the pairs of a row.
-use Rattle.roman_joint.proofs.Common.{◌≡◌, ℕ, ◌+◌, ◌*◌, ◌<◌, ◌≤◌, Bool, true, false, not, ◌&&◌, ◌||◌, length, refl, sym, ap, ap₂, ◌∙◌, arith, zero, suc, eqb, List, [], ◌∷◌, inl, inr, slice_get, slice_index, both_ways, cases_eq, is_empty, all_below, by_test, AreBelow-length, IsPairOf-at, Sys, Seat, is_final, all_final, is_allowed, env_next, beh_next, is_beaten, is_justified, Act, sizes_of, pair_at, numbered, IsNumbered, lanes_in, IsRow, IsTargetMove, may_rest, Row, TargetMove, and-true, and_assoc, nat_tests, length-map, all_below_at, all_below_from}
+use Rattle.roman_joint.proofs.Common.{◌≡◌, ℕ, ◌+◌, ◌*◌, ◌<◌, ◌≤◌, Bool, true, false, not, ◌&&◌, ◌||◌, length, refl, sym, ap, ap₂, ◌∙◌, arith, zero, suc, eqb, List, [], ◌∷◌, inl, inr, slice_get, slice_index, both_ways, cases_eq, is_empty, all_below, by_test, AreBelow-length, IsPairOf-at, all_below_at, all_below_from, Sys, Seat, is_final, all_final, is_allowed, env_next, beh_next, is_beaten, is_justified, Act, sizes_of, pair_at, numbered, IsNumbered, lanes_in, IsRow, IsTargetMove, may_rest, Row, TargetMove, and-true, and_assoc, nat_tests, length-map}
 use Rattle.roman_joint.proofs.ArenaFacts.{beaten_where}
 use Rattle.roman_joint.specs.Rows.{is_open}
 

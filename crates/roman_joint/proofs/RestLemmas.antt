@@ -1,5 +1,5 @@
 -- The seats of a band's own, and the seats that may rest.
-use Rattle.roman_joint.proofs.Common.{◌≡◌, ℕ, ◌<◌, ◌≤◌, Bool, true, false, not, ◌&&◌, ◌||◌, ltb, length, IsTrue, ap, ap₂, ◌∙◌, sym, arith, and_parts, all_below_at, all_below_from, both_ways, lt-ltb, le-ltb, nat_tests, length-map, low_of-le, length_rows, row_sizes, same_test, by_test, all_below, Sys, Seat, sizes_of, low_in, mid_in, is_own}
+use Rattle.roman_joint.proofs.Common.{◌≡◌, ℕ, ◌<◌, ◌≤◌, Bool, true, false, not, ◌&&◌, ◌||◌, ltb, length, IsTrue, ap, ap₂, ◌∙◌, sym, arith, and_parts, both_ways, lt-ltb, le-ltb, all_below_at, all_below_from, same_test, by_test, nat_tests, length-map, low_of-le, length_rows, row_sizes, all_below, Sys, Seat, sizes_of, low_in, mid_in, is_own}
 use Rattle.std.proofs.lemmas.Bool.{or_right}
 use Rattle.roman_joint.proofs.BandLemmas.{mid_low}
 

@@ -23,5 +23,6 @@ pub use Rattle.roman_read.specs.Names.{is_name, is_name_byte}
 pub use Rattle.roman_multi.specs.Combining.{combined_behaviour, has_bad_count, has_long_name, has_many_states, has_one_name, is_long, joined, machines, names_at, requests_in, stands_before}
 unfoldable pub use Rattle.roman_multi.specs.Combining.{forbidding}
 pub use Rattle.roman_multi.specs.Lists.{flat, is_word, listed_moves, moves_by, moves_from, moves_in, moves_on, next_on, used_at}
-pub use Rattle.roman_multi.specs.Merges.{next_in, next_of_member}
+pub use Rattle.roman_multi.specs.Merges.{IsMerge, next_in, next_of_member}
+pub use Rattle.roman_multi.specs.declared.merge.Merge.{Merge}
 pub use Rattle.roman_multi.specs.declared.parts.Named.{Named}

@@ -44,6 +44,7 @@ pub use Rattle.roman_rules.specs.Numbered.{IsNumbered}
 pub use Rattle.roman_repair.specs.Alone.{AreKept, IsIntact, MayAskAlone, lets_hold, without_seat}
 pub use Rattle.roman_repair.specs.AskedBands.{HoldsInBand}
 pub use Rattle.roman_repair.specs.Deaths.{IsGathered, IsPart, entries_from, list_and, list_with}
+pub use Rattle.roman_repair.specs.Judging.{HasReplayed}
 pub use Rattle.roman_repair.specs.Repairs.{IsBegun, IsRepaired, IsSettledOn}
 pub use Rattle.roman_repair.specs.Replays.{AreCandidates, AreSlices, IsReplayable, candidates, is_possible, readings_of_entries, with_replay}
 pub use Rattle.roman_repair.specs.declared.tally.Tally.{Tally}

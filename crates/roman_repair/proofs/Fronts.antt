@@ -1,5 +1,5 @@
 -- The front of a word's lanes, and the front of a replay.
-use Rattle.roman_repair.proofs.Common.{◌≡◌, ◌≢◌, ℕ, zero, suc, ◌+◌, ◌-◌, ◌*◌, ◌/◌, ◌%◌, ◌^◌, ◌<◌, ◌≤◌, Bool, true, false, not, ◌&&◌, ◌⊎◌, List, [], ◌∷◌, ◌++◌, map, length, filter, cond, IsTrue, IsFalse, inl, inr, refl, sym, ap, ap₂, ◌∙◌, subst, arith, append-nil, append_assoc, bit_and, eqb, length-append, bit_at, leading_zeros, trailing_zeros, w64, bit_not, cases_lt, both_ways, and_parts, or_left, cases_eq, eq-eqb, map-append, sum_by-cons, sum_by-append, bit_at_cat_high, mul-le-mul_left, IsIn, below, Arena, Entry, is_listed, is_justified, Reason, filter_below_more, from_map, in_map, in_below, justified_more, listed_append, is_on, on_and, on_full, on_full_past, on_not, IsNumbered, IsReasonOf, readings_of_reason, Board, as_entry, set_lanes, set_lanes-zero, entries_in, has_entry, in_lanes, IsShaped, is_possible, AreCandidates, with_replay, readings_of_entries}
+use Rattle.roman_repair.proofs.Common.{◌≡◌, ◌≢◌, ℕ, zero, suc, ◌+◌, ◌-◌, ◌*◌, ◌/◌, ◌%◌, ◌^◌, ◌<◌, ◌≤◌, Bool, true, false, not, ◌&&◌, ◌⊎◌, List, [], ◌∷◌, ◌++◌, map, length, filter, cond, IsTrue, IsFalse, inl, inr, refl, sym, ap, ap₂, ◌∙◌, subst, arith, append-nil, append_assoc, bit_and, eqb, length-append, bit_at, leading_zeros, trailing_zeros, w64, bit_not, cases_lt, both_ways, and_parts, or_left, cases_eq, eq-eqb, map-append, sum_by-cons, sum_by-append, bit_at_cat_high, mul-le-mul_left, IsIn, below, Arena, Entry, is_listed, is_justified, Reason, filter_below_more, from_map, in_map, in_below, justified_more, listed_append, is_on, on_and, on_full, on_full_past, on_not, IsNumbered, IsReasonOf, readings_of_reason, Board, as_entry, set_lanes, entries_in, has_entry, set_lanes-zero, in_lanes, IsShaped, is_possible, AreCandidates, with_replay, readings_of_entries}
 use Rattle.roman_lanes.proofs.CallerLemmas.{on_less}
 use Rattle.std.proofs.Math.Nat.{pow-suc, pow-le-pow_right}
 use Rattle.std.proofs.Math.Pow.{pow-lt}

@@ -1,5 +1,4 @@
-use Rattle.roman_joint.proofs.Common.{ℕ, ◌+◌, ◌-◌, ◌*◌, ◌<◌, ◌∙◌, not, ◌&&◌, ap, drop, get_or, get_or_append_left, length, slice_index, arith, list_any, is_on, system_of, band_in, turn_at}
-use Rattle.std.proofs.lemmas.List.{length-take}
+use Rattle.roman_joint.proofs.Common.{ℕ, ◌+◌, ◌-◌, ◌*◌, ◌<◌, ◌∙◌, not, ◌&&◌, ap, drop, get_or, length, slice_index, arith, get_or_append_left, list_any, is_on, system_of, band_in, turn_at, length-take}
 use Rattle.roman_joint.proofs.Finds.{in_at}
 use Rattle.roman_joint.proofs.SplitLemmas.{joint_sizes}
 use Rattle.roman_joint.proofs.GoodLemmas.{known, RowsThere, rows_there, alive_there}

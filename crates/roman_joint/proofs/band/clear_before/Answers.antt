@@ -1,5 +1,4 @@
-use Rattle.roman_joint.proofs.Common.{ℕ, ◌+◌, ◌-◌, ◌*◌, ◌<◌, not, ◌&&◌, get_or, length, slice_index, IsFalse, refl, sym, ap, ◌∙◌, arith, list_any, is_on, is_beaten, numbered, is_empty, not_empty_in, empty_is, system_of, band_in}
-use Rattle.std.proofs.lemmas.List.{length-take}
+use Rattle.roman_joint.proofs.Common.{ℕ, ◌+◌, ◌-◌, ◌*◌, ◌<◌, not, ◌&&◌, get_or, length, slice_index, IsFalse, refl, sym, ap, ◌∙◌, arith, list_any, is_on, is_beaten, numbered, is_empty, not_empty_in, empty_is, system_of, band_in, length-take}
 use Rattle.roman_joint.proofs.Finds.{in_at}
 use Rattle.roman_joint.proofs.SeatLemmas.{len_empty}
 use Rattle.roman_joint.proofs.SplitLemmas.{joint_sizes}

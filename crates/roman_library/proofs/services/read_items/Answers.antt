@@ -1,5 +1,5 @@
 -- A service that is read is appended to those before it, and a service that isn't gives the result of all services.
-use Rattle.roman_library.proofs.Common.{◌≡◌, List, Ok, subst, arith, rules, err_from_is_err_and, view, service_of, placed, Service, IsService, map, None, place_of, service_name}
+use Rattle.roman_library.proofs.Common.{◌≡◌, List, Ok, subst, arith, rules, map, None, err_from_is_err_and, view, service_of, placed, Service, IsService, service_name, place_of}
 use Rattle.roman_library.proofs.PlacedLemmas.{placed_keeps, placed_loads, placed_ok}
 use Rattle.roman_library.specs.declared.refusal.Part.TheVariants as part
 use Rattle.roman_library.proofs.LibraryLemmas.{AreServices-push}

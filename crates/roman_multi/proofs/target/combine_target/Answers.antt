@@ -1,4 +1,4 @@
-use Rattle.roman_multi.proofs.Common.{◌<◌, ◌≤◌, ap, sym, ◌∙◌, length, subst, product_of, target_sizes, combined_target, MAX_STATES, Request, List, IsDeterministic, combined_system, machines}
+use Rattle.roman_multi.proofs.Common.{◌<◌, ◌≤◌, ap, sym, ◌∙◌, length, subst, List, product_of, target_sizes, combined_target, MAX_STATES, Request, IsDeterministic, combined_system, machines}
 use Rattle.roman_multi.proofs.CombineLemmas.{same_target}
 use Rattle.roman_multi.proofs.PartLemmas.{if_ok_three}
 use Rattle.roman_multi.proofs.TargetLemmas.{merge_lists, made_target_is, made_steps_in_range, made_finals_below}

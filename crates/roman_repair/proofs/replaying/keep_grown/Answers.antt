@@ -1,6 +1,5 @@
-use Rattle.roman_repair.proofs.Common.{◌≡◌, ◌+◌, ◌*◌, ◌/◌, ◌≤◌, List, ◌++◌, ℕ, refl, sym, ap, ap₂, ◌∙◌, subst, arith, append-nil, append_assoc, Entry, Board, IsShaped, AreCandidates, with_replay, readings_of_entries, MayAskAlone}
+use Rattle.roman_repair.proofs.Common.{◌≡◌, ◌+◌, ◌*◌, ◌/◌, ◌≤◌, List, ◌++◌, ℕ, refl, sym, ap, ap₂, ◌∙◌, subst, arith, append-nil, append_assoc, Entry, Board, IsShaped, AreCandidates, with_replay, readings_of_entries, MayAskAlone, HasReplayed}
 use Rattle.roman_repair.proofs.Keeping.{with_replay_append}
-use Rattle.roman_repair.specs.Judging.{HasReplayed}
 use Rattle.roman_repair.proofs.Fronts.{wrapped_row}
 use Rattle.roman_repair.proofs.DeathParts.{part_word, part_end, parts_fit}
 use Rattle.roman_repair.proofs.Growing.{sliced, grown_begin, grown_below, grown_from, grown_next, grown_whole, part_entries, part_candidates, part_alone, readings_both}

@@ -1,5 +1,4 @@
-use Rattle.roman_repair.proofs.Common.{◌*◌}
-use Rattle.roman_repair.specs.Judging.{HasReplayed}
+use Rattle.roman_repair.proofs.Common.{◌*◌, HasReplayed}
 use Rattle.roman_repair.proofs.Growing.{grown_below}
 use Rattle.roman_repair.proofs.replaying.keep_grown.Given as goal
 

@@ -1,6 +1,5 @@
-use Rattle.roman_check.proofs.Common.{◌*◌, List, ℕ, length, ap, ◌∙◌, sym, subst, arith, cond-false, cond-true, same_numbers, Nothing, HasListed, fault_of}
+use Rattle.roman_check.proofs.Common.{◌*◌, List, ℕ, length, ap, ◌∙◌, sym, subst, arith, cond-false, cond-true, same_numbers, Nothing, HasListed, fault_of, end_line}
 use Rattle.std.specs.Option.{option_map}
-use Rattle.roman_model.specs.Certificate.{end_line}
 use Rattle.roman_check.proofs.AuditLemmas.{end_judged, entry_judged, ended_list, judged_body, listed_rows}
 use Rattle.roman_check.proofs.audit.Audit.judge_body.Goals as goal
 
