@@ -8,7 +8,8 @@ use Rattle.roman_repair.specs.Alone.{lets_hold, questions_of}
 use Rattle.roman_repair.specs.Replays.{is_possible}
 use Rattle.roman_repair.specs.declared.asked_band.AskedBand.{AskedBand}
 
--- the reasons hold at each pair of the row and of the band of which the words say that they are known to hold; where a seat is asked alone, it is known of the band that the seat lets them hold
+-- what is known holds: the row's reason at its known lanes, and the band's reason at each lane that its words have;
+-- if seat k is asked alone, the words have the lanes at which that seat lets the reason hold
 pub record HoldsInBand (A : Arena ℕ) (lanes : ℕ) (gone : ℕ → Bool) (asked : AskedBand) : Type 0 where
   pub row : HoldsWhereKept A lanes gone asked.row
   pub each : asked.alone ≡ None → (i lane : ℕ) → i < asked.rows → lane < lanes → is_on (slice_index asked.words i) lane ≡ true → IsTrue (is_justified A gone ((asked.first + i) * lanes + lane) asked.reason)
@@ -20,14 +21,14 @@ pub record CanAsk (A : Arena ℕ) (lanes : ℕ) (words : List ℕ) (e : Event) :
   pub reason : IsReasonOf A e.reason
   pub room : length words * lanes ≡ length A.nodes
 
--- and so can seat k alone
+-- seat k alone can be asked about the event's reason in its row
 pub record CanAskSeat (A : Arena ℕ) (lanes k : ℕ) (words : List ℕ) (e : Event) : Type 0 where
   pub seat : k < A.seats
   pub row : e.row * lanes < length A.nodes
   pub reason : IsReasonOf A e.reason
   pub room : length words * lanes ≡ length A.nodes
 
--- the answer has the lanes of the row at which it is so, where the words have the bits of the pairs that aren't gone
+-- the answer has exactly the lanes of the row whose pairs pass the test, if the words have the bits of the pairs that aren't gone
 abbrev pub IsAnswer : ℕ → List ℕ → ℕ → ((ℕ → Bool) → ℕ → Bool) → ℕ → Type 0
 IsAnswer lanes words row is answer = (gone : ℕ → Bool) → AreRows lanes (λ q. not (gone q)) words → (lane : ℕ) → lane < lanes → is_on answer lane ≡ is gone (row * lanes + lane)
 

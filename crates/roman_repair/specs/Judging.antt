@@ -49,13 +49,13 @@ pub record HasReplayed (A : Arena ℕ) (lanes : ℕ) (L : List (Entry ℕ)) (old
   pub rest : new ≡ record old { list = new.list }
   pub cost : after ≤ before + readings_of_entries A L
 
--- the entries can be kept after the list, and seat k may be asked alone
+-- the entries can be replayed after those of the list, and seat k may be asked alone
 pub record CanReplayAll (A : Arena ℕ) (lanes k : ℕ) (order : Board) (L : List (Entry ℕ)) : Type 0 where
   pub shaped : IsShaped A lanes order
   pub candidates : AreCandidates A order.list L
   pub may : MayAskAlone A (Some k) order.list L
 
--- all pending entries, which stand for these, were replayed
+-- all pending entries were replayed, each as the entries that it stands for
 pub record HasReplayedAll (A : Arena ℕ) (L : List (Entry ℕ)) (old new : Board) (before after : ℕ) : Type 0 where
   pub list : new.list ≡ with_replay A old.list L
   pub rest : new ≡ record old { list = new.list; waiting = [] }
