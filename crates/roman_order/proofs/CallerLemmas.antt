@@ -9,5 +9,6 @@ pub use Rattle.roman_order.proofs.Lent.{rewritten_whole}
 -- Events and their entries.
 pub use Rattle.roman_order.proofs.Lanes.{no_lane, set_lanes-zero, some_lane}
 pub use Rattle.roman_order.proofs.Events.{length-entries_at}
-pub use Rattle.roman_order.proofs.Reading.{get_first}
+pub use Rattle.roman_order.proofs.Reading.{drop_next, get_first}
+pub use Rattle.roman_order.proofs.Kept.{apart_words}
 pub use Rattle.roman_order.proofs.Stamps.{has_entry-event}

@@ -1,6 +1,5 @@
 -- Marks that were lent.
-use Rattle.roman_order.proofs.Common.{◌≡◌, ℕ, List, ◌++◌, length, take, drop, sym, ap, ◌∙◌}
-use Rattle.std.proofs.Math.Seq.{take-append_seam}
+use Rattle.roman_order.proofs.Common.{◌≡◌, ℕ, List, ◌++◌, length, take, drop, sym, ap, ◌∙◌, take-append_seam}
 use Rattle.roman_order.specs.Lending.{rewritten}
 
 -- new words of the same number as the marks replace all of them

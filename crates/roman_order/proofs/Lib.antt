@@ -11,4 +11,5 @@ pub mod Tables
 pub mod Waiting
 pub mod Reading
 pub mod Stamps
+pub mod Kept
 pub mod CallerLemmas

@@ -1,11 +1,10 @@
 -- The number of lanes of a word.
-use Rattle.roman_order.proofs.Common.{◌≡◌, ◌≢◌, ℕ, zero, suc, ◌+◌, ◌*◌, ◌/◌, refl, ◌%◌, ◌^◌, ◌<◌, cond, filter, length, inl, inr, sym, ap, ◌∙◌, arith, w64, bit_at, cases_eq, eq-eqb, ne_eqb, sum_by_push, below, sum_by_same, is_on, set_lanes, ap₂, div-add-mod', mod_below, bit_at-trailing_zeros}
+use Rattle.roman_order.proofs.Common.{◌≡◌, ℕ, zero, suc, ◌%◌, ◌^◌, ◌<◌, cond, filter, length, inl, inr, sym, ap, ◌∙◌, arith, bit_at, cases_eq, eq-eqb, ne_eqb, sum_by_push, below, sum_by_same, is_on, set_lanes}
 use Rattle.std.proofs.Common.{count_ones}
 use Rattle.std.proofs.Common.{sum_by}
 use Rattle.std.proofs.Math.Pow.{pow_pos}
 use Rattle.std.proofs.lemmas.Bool.{cond-true, cond-false}
 use Rattle.std.proofs.lemmas.List.Sums.{length-filter}
-use Rattle.std.specs.Int.{trailing_zeros}
 use Rattle.std.proofs.lemmas.Nat.{ones_cat, ones_le_self, zero_from_ones, mod-pow-add}
 use Rattle.std.proofs.lemmas.Nat.Bits.{bit_at-lt}
 
@@ -31,16 +30,3 @@ ones_of word fits =
 -- the number of lanes below a lane
 pub ones_before : (word lane : ℕ) → count_ones (word % 2 ^ lane) ≡ length (filter (is_on word) (below lane))
 ones_before word lane = low_ones word lane ∙ (sum_by_same (bit_at word) (λ l. cond (is_on word l) 1 0) (below lane) (λ l i. bit_is word l) ∙ sym (length-filter (is_on word) (below lane)))
-
-no_ones : (f : ℕ → ℕ) (n : ℕ) → ((i : ℕ) → i < n → f i ≡ 0) → sum_by f (below n) ≡ 0
-no_ones f zero none = refl
-no_ones f (suc n) none = sum_by_push f (below n) n ∙ omega (arith, no_ones f n (λ i l. none i (omega (arith, l))), none n (omega arith))
-
--- a word that is 1 when its lowest one is moved to the end has one lane
-pub one_lane : (word : ℕ) → word < 2 ^ 64 → word ≢ 0 → word / 2 ^ trailing_zeros w64 word ≡ 1 → 1 ≡ length (set_lanes word)
-one_lane word fits some alone =
-    let t = trailing_zeros w64 word in
-    let low = (bit_at-trailing_zeros w64 word (omega (arith, some)) fits).2 in
-    let none : count_ones (word % 2 ^ t) ≡ 0 = low_ones word t ∙ no_ones (bit_at word) t low in
-    let parts : 1 * 2 ^ t + word % 2 ^ t ≡ word = ap (λ q. q * 2 ^ t + word % 2 ^ t) (sym alone) ∙ div-add-mod' word (2 ^ t) in
-    sym (ap₂ (λ a b. a + b) (bit_ones 1 (omega arith)) none) ∙ sym (ones_cat t 1 (word % 2 ^ t) (mod_below word (2 ^ t) (pow_pos t))) ∙ ap count_ones parts ∙ ones_of word fits

@@ -1,9 +1,8 @@
 -- The entries from a place of the list on.
-use Rattle.roman_order.proofs.Common.{◌≡◌, ℕ, zero, suc, ◌+◌, ◌-◌, ◌*◌, ◌<◌, ◌≤◌, true, List, [], ◌∷◌, ◌++◌, map, length, get_or, take, drop, Some, slice_get, inl, inr, refl, sym, ap, ◌∙◌, subst, arith, eqb, length-append, AllByRecursion, drop-cons, cases_lt, eq-eqb, or_left, or_right, length-drop, list_any-append, flat_map-append, Entry, Board, as_entry, set_lanes, has_entry, IsEvent, entries_at, entries_of, board_of, firsts_of, AreCounted, IsSound, Event, Inside}
+use Rattle.roman_order.proofs.Common.{◌≡◌, ℕ, zero, suc, ◌+◌, ◌-◌, ◌*◌, ◌<◌, ◌≤◌, true, List, [], ◌∷◌, ◌++◌, map, length, get_or, take, drop, Some, slice_get, inl, inr, refl, sym, ap, ◌∙◌, subst, arith, eqb, length-append, AllByRecursion, drop-cons, cases_lt, eq-eqb, or_left, or_right, length-drop, list_any-append, flat_map-append, Entry, Board, as_entry, set_lanes, has_entry, IsEvent, entries_at, entries_of, board_of, firsts_of, AreCounted, IsSound, Event, Inside, lt_of_mul-lt-mul_right, drop-append_seam, take-append-drop}
 use Rattle.std.proofs.Math.ListN.{drop_of_length-le}
-use Rattle.std.proofs.Math.Nat.{lt_of_mul-lt-mul_right}
-use Rattle.std.proofs.Math.Seq.{drop-append_seam, drop-append-add}
-use Rattle.std.proofs.lemmas.List.{take-append-drop, take_more, drop-append-le, drop-map}
+use Rattle.std.proofs.Math.Seq.{drop-append-add}
+use Rattle.std.proofs.lemmas.List.{take_more, drop-append-le, drop-map}
 use Rattle.roman_order.proofs.Tables.{few}
 use Rattle.roman_order.proofs.Events.{later, length-entries_at, entries_of-push}
 
@@ -29,7 +28,7 @@ all_at P (x ∷ xs) (suc i) d all h = all_at P xs i d all.1 (omega arith)
 
 -- ---- the event of an entry
 
-firsts_at : (lanes n : ℕ) (es : List Event) (j : ℕ) → j < length es → get_or (firsts_of n es) j 0 ≡ n + length (entries_of lanes (take j es))
+pub firsts_at : (lanes n : ℕ) (es : List Event) (j : ℕ) → j < length es → get_or (firsts_of n es) j 0 ≡ n + length (entries_of lanes (take j es))
 firsts_at lanes n [] j h = absurd (omega arith)
 firsts_at lanes n (e ∷ es) zero h = omega arith
 firsts_at lanes n (e ∷ es) (suc j) h = grind (arith, length-entries_at, length-append, (firsts_at lanes (n + length (set_lanes e.lanes)) es j (omega arith)))

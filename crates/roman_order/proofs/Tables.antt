@@ -1,5 +1,5 @@
 -- The contents of an order's tables, and the room in them.
-use Rattle.roman_order.proofs.Common.{◌≡◌, ℕ, ◌+◌, ◌-◌, ◌*◌, ◌/◌, ◌^◌, ◌<◌, ◌≤◌, true, false, not, [], ◌∷◌, ◌++◌, map, length, drop, get_or, replicate, vec_capacity, sym, ◌∙◌, subst, arith, bit_and, length-append, w64, bit_not, set, length-map, length-replicate, get_or-replicate, Reason, is_on, AreRows, full_word, Board, as_entry, set_lanes, entries_in, has_entry, entries_of, board_of, IsPlaced, CanWait, IsSized, IsSound, Event, Inside, ap₂}
+use Rattle.roman_order.proofs.Common.{◌≡◌, ℕ, ◌+◌, ◌-◌, ◌*◌, ◌/◌, ◌^◌, ◌<◌, ◌≤◌, true, false, not, [], ◌∷◌, ◌++◌, map, length, drop, get_or, replicate, vec_capacity, sym, ◌∙◌, subst, arith, bit_and, length-append, ap₂, w64, bit_not, set, length-map, length-replicate, get_or-replicate, Reason, is_on, AreRows, full_word, Board, as_entry, set_lanes, entries_in, has_entry, entries_of, board_of, IsPlaced, CanWait, IsSized, IsSound, Event, Inside}
 use Rattle.std.proofs.Math.Nat.{mul-le-mul_left}
 use Rattle.roman_order.specs.Sound.{removal_list}
 use Rattle.roman_order.proofs.Lanes.{AreRows-full, AreRows-pushed, in_lanes, lanes_once}

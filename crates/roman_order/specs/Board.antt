@@ -1,5 +1,5 @@
 -- What callers see of an order: the removal list, the waiting entries, and the tables beside them.
-use Rattle.std.specs.Prelude.{ℕ, ◌+◌, ◌*◌, ◌==◌, Bool, List, Option, map, flat_map, slice_index}
+use Rattle.std.specs.Prelude.{ℕ, ◌+◌, ◌*◌, ◌/◌, ◌%◌, ◌==◌, Bool, List, Option, map, flat_map, slice_index}
 use Rattle.std.specs.List.{list_any, position_from, filter}
 use Rattle.roman_model.specs.Lists.{below}
 use Rattle.roman_model.specs.Arena.{Entry}
@@ -33,6 +33,10 @@ pairs_of board = board.rows * board.lanes
 -- the number is marked
 abbrev pub is_marked : Board → ℕ → Bool
 is_marked board p = has_flag board.marks p
+
+-- the pair has a bit in the kept words
+abbrev pub is_kept : Board → ℕ → Bool
+is_kept board p = is_on (slice_index board.before (p / board.lanes)) (p % board.lanes)
 
 -- the entry of a pair and a reason
 abbrev pub as_entry : ℕ × Reason → Entry ℕ

@@ -1,5 +1,5 @@
 -- The entries of events.
-use Rattle.std.specs.Prelude.{◌≡◌, ℕ, ◌<◌, true, List, length, flat_map}
+use Rattle.std.specs.Prelude.{◌≡◌, ℕ, ◌<◌, true, false, List, length, flat_map, slice_index}
 use Rattle.roman_model.specs.Arena.{Entry}
 use Rattle.roman_lanes.specs.Rows.{is_on}
 use Rattle.roman_order.specs.Board.{set_lanes, entries_in}
@@ -17,3 +17,7 @@ entries_at lanes e = entries_in lanes e.row e.lanes e.reason
 -- the entries of events, in order
 abbrev pub entries_of : ℕ → List Event → List (Entry ℕ)
 entries_of lanes es = flat_map (entries_at lanes) es
+
+-- the word of an event's row has none of the event's lanes
+abbrev pub IsApart : List ℕ → Event → Type 0
+IsApart words e = (lane : ℕ) → is_on e.lanes lane ≡ true → is_on (slice_index words e.row) lane ≡ false

@@ -1,7 +1,9 @@
 -- Walks through the list of an order.
-use Rattle.std.specs.Prelude.{◌≡◌, ℕ, ◌+◌, ◌<◌, ◌++◌, true, length, drop}
+use Rattle.std.specs.Prelude.{◌≡◌, ℕ, ◌+◌, ◌-◌, ◌<◌, ◌≤◌, ◌++◌, true, false, length, take, drop}
+use Rattle.roman_model.specs.Arena.{Entry}
+use Rattle.roman_model.specs.Lists.{IsIn}
 use Rattle.roman_lanes.specs.Rows.{is_on}
-use Rattle.roman_order.specs.Board.{Board, set_lanes}
+use Rattle.roman_order.specs.Board.{Board, is_kept, set_lanes}
 use Rattle.roman_order.specs.Events.{entries_at}
 use Rattle.roman_order.specs.declared.ahead.Ahead.{Ahead}
 
@@ -9,3 +11,9 @@ use Rattle.roman_order.specs.declared.ahead.Ahead.{Ahead}
 pub record IsAhead (order : Board) (i : ℕ) (ahead : Ahead) : Type 0 where
   pub entries : drop i order.list ≡ entries_at order.lanes ahead.event ++ drop (i + length (set_lanes ahead.event.lanes)) order.list
   pub within : (lane : ℕ) → is_on ahead.event.lanes lane ≡ true → (ahead.event.row < order.rows) × (lane < order.lanes)
+
+-- the pairs of the entries from place i up to place j of the list have no bits in the kept words
+pub record AreUnkept (order : Board) (i j : ℕ) : Type 0 where
+  pub from : i ≤ j
+  pub to : j ≤ length order.list
+  pub unkept : (x : Entry ℕ) → IsIn x (take (j - i) (drop i order.list)) → is_kept order x.node ≡ false

@@ -1,5 +1,5 @@
 //! Flags, 64 to a word.
-ghost use Rattle.std.specs.Prelude.{◌≡◌, ◌≢◌, ℕ, ◌+◌, ◌*◌, ◌/◌, ◌^◌, ◌<◌, ◌≤◌, true, false, nat_lt, length, slice_index, IfSome, IfNone};
+ghost use Rattle.std.specs.Prelude.{◌≡◌, ◌≢◌, ℕ, ◌+◌, ◌*◌, ◌/◌, ◌^◌, ◌<◌, ◌≤◌, true, false, nat_lt, length, replicate, slice_index, IfSome, IfNone};
 ghost use Rattle.roman_lanes.specs.Rows.{is_on};
 ghost use Rattle.roman_lanes.specs.Flags.{has_flag};
 ghost use Rattle.roman_order.specs.Board.{set_lanes};
@@ -30,12 +30,12 @@ pub(crate) fn set(words: &mut [u64], p: u32)
     words[(p / 64) as usize] |= 1 << (p % 64);
 }
 
-/// Sets the flags below `end`, and clears all others.
+/// Sets the flags below `end`. Requires that no flag is set.
 pub(crate) fn set_front(words: &mut [u64], end: u32)
-    requires { end ≤ 64 * length words.old }
+    requires clear { words.old ≡ replicate (length words.old) 0 }
+    requires end { end ≤ 64 * length words.old }
     ensures { (p : ℕ) → has_flag words.new p ≡ nat_lt p end }
 {
-    words.fill(0);
     let whole = (end / 64) as usize;
     words[..whole].fill(u64::MAX);
     if end % 64 != 0 {
@@ -68,14 +68,10 @@ pub(crate) fn lowest(word: u64) -> u32
     word.trailing_zeros()
 }
 
-/// Returns the number of lanes of a word: of its set bits. It takes less work to see that a word has
-/// one lane, as most words of a long list have, than to count.
+/// Returns the number of lanes of a word: of its set bits.
 pub(crate) fn lanes_in(word: u64) -> u32
     ensures { result ≡ length (set_lanes word) }
 {
-    if word != 0 && word >> word.trailing_zeros() == 1 {
-        return 1;
-    }
     word.count_ones()
 }
 

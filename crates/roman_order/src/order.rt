@@ -21,7 +21,7 @@ use std::alloc::{AllocError, Global};
 use std::marker::Model;
 use std::mem;
 
-/// The number of items of a table that are copied at once.
+/// The number of items of a table that are written at once.
 const PIECE: usize = 256;
 
 /// The removal list of a system's pairs, the pairs that aren't listed as words, marks, and, if asked
@@ -334,14 +334,19 @@ fn rewrite<T: Copy + Drop>(table: &mut Vec<T>, items: &[T])
     }
 }
 
-/// Replaces the items of a table by `n` copies of a value. Requires room for them.
+/// Replaces the items of a table by `n` copies of a value. Requires room for them. Writes them piece
+/// by piece, since long runs of zeros are written byte by byte on some machines.
 fn refill<T: Copy + Drop>(table: &mut Vec<T>, n: usize, value: T)
     requires { n ≤ vec_capacity table.old }
     ensures items { table.new.items ≡ replicate n value }
     ensures room { vec_capacity table.old ≤ vec_capacity table.new }
 {
     table.clear();
-    let Ok(()) = table.resize(n, value) else {
-        unreachable!()
-    };
+    let mut done = 0;
+    'pieces: while done < n {
+        done += (n - done).min(PIECE);
+        let Ok(()) = table.resize(done, value) else {
+            unreachable!()
+        };
+    }
 }

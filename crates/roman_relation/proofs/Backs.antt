@@ -1,12 +1,16 @@
 -- The bands that were noted in a round.
-use Rattle.roman_relation.proofs.Common.{◌≡◌, ℕ, zero, suc, ◌+◌, ◌*◌, ◌/◌, ◌<◌, ◌≤◌, Bool, true, false, cond, ◌||◌, ◌==◌, List, [], ◌∷◌, ◌++◌, length, take, drop, IsTrue, IsFalse, inl, inr, refl, sym, ap, ◌∙◌, subst, arith, take-append-drop, append_assoc, sum_by, take-append_seam, take-length, cases_eq, both_ways, or_right, or_parts, false_from_ne_true, not_from_true, eq-eqb, ne_eqb, take-take, length-take-le, list_any-append, sum_by_push, IsIn, below, Arena, Entry, is_listed, IsOrder, by_test, sum_by_same, from_below, any_from, from_map, in_map, listed_append, is_on, Board, as_entry, set_lanes, IsEvent, entries_at, Event, in_lanes, AreGoneBack, moves_to_all, on_at}
+use Rattle.roman_relation.proofs.Common.{◌≡◌, ℕ, zero, suc, ◌+◌, ◌-◌, ◌*◌, ◌/◌, ◌%◌, ◌<◌, ◌≤◌, Bool, true, false, cond, ◌||◌, ◌==◌, List, [], ◌∷◌, ◌++◌, length, take, drop, slice_index, IsTrue, IsFalse, inl, inr, refl, sym, ap, ◌∙◌, subst, arith, take-append-drop, append_assoc, sum_by, take-append_seam, take-length, cases_eq, both_ways, eqb-true, or_left, or_right, or_parts, false_from_ne_true, not_from_true, eq-eqb, ne_eqb, take-take, length-take-le, list_any-append, sum_by_push, IsIn, below, Arena, Entry, is_listed, IsOrder, fall, IsNumbered, by_test, sum_by_same, from_below, any_from, from_map, in_map, listed_append, is_on, Board, as_entry, set_lanes, has_entry, IsEvent, entries_at, Event, in_lanes, IsMarking, moves_to_all, on_at, any_true, pairs_of, IsShaped}
+use Rattle.roman_relation.specs.Rounds.{AreGoneBack}
+use Rattle.std.proofs.Common.{length-drop}
+use Rattle.std.proofs.lemmas.Bool.{cases_Bool}
 use Rattle.std.proofs.Math.Bool.{or-false}
 use Rattle.std.proofs.Math.Seq.{take-append-add, drop-append_seam}
-use Rattle.roman_model.proofs.CallerLemmas.{none_from, split_at, order_middle}
+use Rattle.roman_model.proofs.CallerLemmas.{in_append_left, in_append_right, none_from, split_at, order_middle}
 use Rattle.roman_relation.specs.Rounds.{has_band, moves_to}
 use Rattle.roman_relation.proofs.Beginnings.{take_listed}
 use Rattle.roman_relation.proofs.Lanes.{lane_place}
-use Rattle.roman_relation.proofs.Losses.{lane_in}
+use Rattle.roman_order.specs.Walks.{AreUnkept}
+use Rattle.roman_relation.proofs.Losses.{fall_entries, lane_in, noted_entries}
 use Rattle.roman_relation.proofs.Marks.{IsNoted, noted_own, noted_other}
 
 -- ---- sums
@@ -66,20 +70,34 @@ pub band_is_old : (A : Arena ℕ) (n w start row lane : ℕ) (M : List (Entry �
     on_at n b.before (row * n + lane) ≡ false → IsFalse (is_listed A (take start b.list) (row * n + lane)) → has_band n w M (row / w) ≡ true
 band_is_old A n w start row lane M b back l inside off fresh = grind (arith, both_ways, by_test, lane_place)
 
--- one more event of a noted band changes nothing
-pub back_again : (A : Arena ℕ) (n w mid start : ℕ) (M : List (Entry ℕ)) (e : Event) (b : Board) → IsEvent n e → has_band n w M (e.row / w) ≡ true → AreGoneBack A n w start M b →
-    AreGoneBack A n w start (M ++ entries_at n e) b × (moves_to_all A n w mid b.rows (M ++ entries_at n e) ≡ moves_to_all A n w mid b.rows M)
-back_again A n w mid start M e b is old back = (
+-- more entries of noted bands change nothing
+pub back_over : (A : Arena ℕ) (n w mid start : ℕ) (M N : List (Entry ℕ)) (b : Board) → ((x : Entry ℕ) → IsIn x N → has_band n w M (x.node / n / w) ≡ true) → AreGoneBack A n w start M b →
+    AreGoneBack A n w start (M ++ N) b × (moves_to_all A n w mid b.rows (M ++ N) ≡ moves_to_all A n w mid b.rows M)
+back_over A n w mid start M N b old back = (
   record { fresh = λ p l off new. back.fresh p l (sym (same (p / n / w)) ∙ off) new; gone = λ p l on listed. back.gone p l (sym (same (p / n / w)) ∙ on) listed },
-  sum_by_same (λ z. cond (has_band n w (M ++ entries_at n e) z) (moves_to A n w mid z) 0) (λ z. cond (has_band n w M z) (moves_to A n w mid z) 0) (below b.rows)
+  sum_by_same (λ z. cond (has_band n w (M ++ N) z) (moves_to A n w mid z) 0) (λ z. cond (has_band n w M z) (moves_to A n w mid z) 0) (below b.rows)
       (λ z i. ap (λ t. cond t (moves_to A n w mid z) 0) (same z)),
 )
   where
-    same : (z : ℕ) → has_band n w (M ++ entries_at n e) z ≡ has_band n w M z
-    same z = elim (cases_eq z (e.row / w)) [
-      | inl h ↦ ap (has_band n w (M ++ entries_at n e)) h ∙ (own_more n w M e is ∙ sym (ap (has_band n w M) h ∙ old))
-      | inr ne ↦ other_more n w z M e is ne
+    same : (z : ℕ) → has_band n w (M ++ N) z ≡ has_band n w M z
+    same z = band_more n w z M N ∙ elim (cases_Bool (has_band n w N z)) [
+      | inl on ↦
+          let (x, i, e) = any_true (λ (x : Entry ℕ). z == x.node / n / w) N on in
+          let noted : has_band n w M z ≡ true = ap (has_band n w M) (eqb-true z (x.node / n / w) e) ∙ old x i in
+          or_left (has_band n w M z) (has_band n w N z) noted ∙ sym noted
+      | inr off ↦ ap (λ t. has_band n w M z || t) off ∙ or-false (has_band n w M z)
     ]
+
+-- one more event of a noted band changes nothing
+pub back_again : (A : Arena ℕ) (n w mid start : ℕ) (M : List (Entry ℕ)) (e : Event) (b : Board) → IsEvent n e → has_band n w M (e.row / w) ≡ true → AreGoneBack A n w start M b →
+    AreGoneBack A n w start (M ++ entries_at n e) b × (moves_to_all A n w mid b.rows (M ++ entries_at n e) ≡ moves_to_all A n w mid b.rows M)
+back_again A n w mid start M e b is old back = back_over A n w mid start M (entries_at n e) b own back
+  where
+    own : (x : Entry ℕ) → IsIn x (entries_at n e) → has_band n w M (x.node / n / w) ≡ true
+    own x i =
+        let (lane, among, same) = from_map (λ (l : ℕ). as_entry (e.row * n + l, e.reason)) x (set_lanes e.lanes) i in
+        let place = lane_place n e.row lane (is.within lane (in_lanes e.lanes lane among).1) in
+        ap (has_band n w M) (ap (λ (y : Entry ℕ). y.node / n / w) same ∙ ap (λ r. r / w) place.0) ∙ old
 
 -- one more event of another band, which is then noted
 pub back_now : (A : Arena ℕ) (n w mid start : ℕ) (M : List (Entry ℕ)) (e : Event) (b c : Board) → IsEvent n e → has_band n w M (e.row / w) ≡ false → e.row / w < b.rows → c.rows ≡ b.rows →
@@ -109,20 +127,58 @@ take_entries L i E R within rest =
     let long : length (take i L) + length E ≡ i + length E = omega (arith, length-take-le i L within) in
     ap (take (i + length E)) (sym parts) ∙ (ap (λ k. take k (take i L ++ (E ++ R))) (sym long) ∙ (take-append-add (take i L) (E ++ R) (length E) ∙ ap (λ M. take i L ++ M) (take-append_seam E R)))
 
--- the entries before the round don't list the pairs of an event of the round
+-- the entries before the round don't list the pair of an entry of the round
+pub entry_new : (A : Arena ℕ) (L M R : List (Entry ℕ)) (start i : ℕ) (x : Entry ℕ) → IsOrder A L → start ≤ i → drop i L ≡ M ++ R → IsIn x M → IsFalse (is_listed A (take start L) x.node)
+entry_new A L M R start i x order first rest inside =
+    let p = x.node in
+    let (B, C, same) = split_at x M inside in
+    let T : List (Entry ℕ) = take i L in
+    let tail : (B ++ x ∷ C) ++ R ≡ B ++ x ∷ (C ++ R) = append_assoc B (x ∷ C) R in
+    let whole : L ≡ (T ++ B) ++ x ∷ (C ++ R) = sym (take-append-drop i L) ∙ (ap (λ N. T ++ N) (rest ∙ (ap (λ N. N ++ R) same ∙ tail)) ∙ sym (append_assoc T B (x ∷ (C ++ R)))) in
+    let before = (order_middle A (T ++ B) (C ++ R) x (subst (IsOrder A) whole order)).0 in
+    let off = (or_parts (is_listed A T p) (is_listed A B p) (sym (listed_append A T B p) ∙ before)).0 in
+    false_from_ne_true (is_listed A (take start L) p) (λ t. both_ways (is_listed A T p) off (take_listed A start T p (subst (λ N. IsTrue (is_listed A N p)) (sym (take-take start i L first)) t)))
+
 pub event_new : (A : Arena ℕ) (n : ℕ) (L R : List (Entry ℕ)) (start i : ℕ) (e : Event) (lane : ℕ) → IsOrder A L → start ≤ i → drop i L ≡ entries_at n e ++ R → lane < 64 → is_on e.lanes lane ≡ true →
     IsFalse (is_listed A (take start L) (e.row * n + lane))
 event_new A n L R start i e lane order first rest low on =
     let f = λ (l : ℕ). as_entry (e.row * n + l, e.reason) in
-    let p : ℕ = e.row * n + lane in
-    let (B, C, same) = split_at (f lane) (entries_at n e) (in_map f lane (set_lanes e.lanes) (lane_in e.lanes lane low on)) in
-    let T : List (Entry ℕ) = take i L in
-    let tail : (B ++ f lane ∷ C) ++ R ≡ B ++ f lane ∷ (C ++ R) = append_assoc B (f lane ∷ C) R in
-    let whole : L ≡ (T ++ B) ++ f lane ∷ (C ++ R) =
-    sym (take-append-drop i L) ∙ (ap (λ M. T ++ M) (rest ∙ (ap (λ M. M ++ R) same ∙ tail)) ∙ sym (append_assoc T B (f lane ∷ (C ++ R)))) in
-    let before = (order_middle A (T ++ B) (C ++ R) (f lane) (subst (IsOrder A) whole order)).0 in
-    let off = (or_parts (is_listed A T p) (is_listed A B p) (sym (listed_append A T B p) ∙ before)).0 in
-    false_from_ne_true (is_listed A (take start L) p) (λ t. both_ways (is_listed A T p) off (take_listed A start T p (subst (λ M. IsTrue (is_listed A M p)) (sym (take-take start i L first)) t)))
+    entry_new A L (entries_at n e) R start i (f lane) order first rest (in_map f lane (set_lanes e.lanes) (lane_in e.lanes lane low on))
+
+-- ---- the entries that were passed so far
+
+-- in a round, the first i entries of the list are noted, of which L are the entries of the round
+pub record IsReached (A : Arena ℕ) (n w mid start i : ℕ) (L : List (Entry ℕ)) (b : Board) : Type 0 where
+  pub marking : IsMarking A n w start i b
+  pub parts : take i b.list ≡ take start b.list ++ L
+  pub back : AreGoneBack A n w start L b
+  pub cost : moves_to_all A n w mid b.rows L + fall A (take start b.list) ≤ fall A (take i b.list)
+
+-- entries without bits in the kept words are passed over
+pub passed_unkept : (A : Arena ℕ) → IsNumbered A → (n w mid start i j : ℕ) (L : List (Entry ℕ)) (b : Board) → IsOrder A b.list → IsShaped A n b →
+    ((p : ℕ) → has_entry b.list p ≡ true → p < pairs_of b) → start ≤ i → AreUnkept b i j → IsReached A n w mid start i L b →
+    (M : List (Entry ℕ)) × IsReached A n w mid start j M b × (moves_to_all A n w mid b.rows M ≡ moves_to_all A n w mid b.rows L)
+passed_unkept A ok n w mid start i j L b order shaped in_range first over is =
+    let N : List (Entry ℕ) = take (j - i) (drop i b.list) in
+    let R : List (Entry ℕ) = drop (j - i) (drop i b.list) in
+    let rest : drop i b.list ≡ N ++ R = sym (take-append-drop (j - i) (drop i b.list)) in
+    let whole : b.list ≡ take i b.list ++ (N ++ R) = sym (take-append-drop i b.list) ∙ ap (λ M. take i b.list ++ M) rest in
+    let long : i + length N ≡ j = omega (arith, over.from, over.to, length-take-le (j - i) (drop i b.list) (omega (arith, over.to, length-drop i b.list))) in
+    let off = λ (x : Entry ℕ) (inside : IsIn x N). subst (λ m. is_on (slice_index b.before (x.node / m)) (x.node % m) ≡ false) shaped.lanes (over.unkept x inside) in
+    let low = λ (x : Entry ℕ) (inside : IsIn x N).
+    in_range x.node (any_from (λ (y : Entry ℕ). x.node == y.node) x b.list (subst (IsIn x) (sym whole) (in_append_right x (take i b.list) (N ++ R) (in_append_left x N R inside))) (eq-eqb x.node x.node refl)) in
+    let old = λ (x : Entry ℕ) (inside : IsIn x N). by_test (has_band n w L (x.node / n / w)) (λ on. on)
+    (λ none. absurd (both_ways (on_at n b.before x.node) (off x inside) (is.back.fresh x.node (omega (arith, low x inside, shaped.pairs)) none (entry_new A b.list N R start i x order first rest inside)))) in
+    let (back, sum) = back_over A n w mid start L N b old is.back in (
+      L ++ N,
+      record {
+        marking = subst (λ k. IsMarking A n w start k b) long (noted_entries A ok n w start i b N R rest off is.marking);
+        parts = ap (λ k. take k b.list) (sym long) ∙ (take_entries b.list i N R (omega (arith, over.from, over.to)) rest ∙ (ap (λ M. M ++ N) is.parts ∙ append_assoc (take start b.list) L N));
+        back = back;
+        cost = omega (arith, is.cost, sum, fall_entries A b.list i N R rest, ap (λ k. fall A (take k b.list)) long);
+      },
+      sum,
+    )
 
 -- at the beginning, no band was noted
 pub none_back : (A : Arena ℕ) (n w start : ℕ) (b : Board) → ((p : ℕ) → p < length A.nodes → IsFalse (is_listed A (take start b.list) p) → on_at n b.before p ≡ true) → AreGoneBack A n w start [] b

@@ -1,7 +1,7 @@
 -- The names that several proof pages of this crate cite, passed on from one place. Declares nothing.
 pub use Rattle.std.proofs.Common.{Bool, IsFalse, IsTrue, List, Some, [], ap, append_assoc, ap₂, arith, cond, drop, false, inl, inr, length, not, refl, rules, slice_get, slice_index, subst, suc, sum_by, sym, take, take-append-drop, true, zero, ℕ, ◌%◌, ◌&&◌, ◌*◌, ◌++◌, ◌+◌, ◌-◌, ◌/◌, ◌<◌, ◌==◌, ◌||◌, ◌∙◌, ◌∷◌, ◌≡◌, ◌≢◌, ◌≤◌, ◌⊎◌}
 pub use Rattle.std.proofs.Math.Seq.{take-append_seam, take-length}
-pub use Rattle.std.proofs.lemmas.Bool.{and_from, and_parts, both_ways, cases_eq, cases_lt, eq-eqb, eqb-true, false_from_ne_true, lt-ltb, ne_eqb, not-true, not_from_false, not_from_true, or_cases, or_left, or_parts, or_right}
+pub use Rattle.std.proofs.lemmas.Bool.{and_parts, both_ways, cases_eq, cases_lt, eq-eqb, eqb-true, false_from_ne_true, lt-ltb, ne_eqb, not-true, not_from_false, not_from_true, or_cases, or_left, or_parts, or_right}
 pub use Rattle.std.proofs.lemmas.List.{get_or-take, get_or_past, length-take-le, length_push, take-take}
 pub use Rattle.std.proofs.lemmas.List.Folds.{list_any-append}
 pub use Rattle.std.proofs.lemmas.List.Sums.{sum_by_push}
@@ -13,7 +13,7 @@ pub use Rattle.roman_lanes.proofs.CallerLemmas.{on_zero}
 unfoldable pub use Rattle.roman_lanes.specs.Flags.{has_flag}
 pub use Rattle.roman_lanes.specs.Rows.{HasLanes, Keeps}
 unfoldable pub use Rattle.roman_lanes.specs.Rows.{is_on}
-pub use Rattle.roman_model.proofs.CallerLemmas.{any_from, any_same, by_test, fall_append, from_below, from_map, in_below, in_listed, in_map, length-below, listed_append, listed_push, sum_by_same}
+pub use Rattle.roman_model.proofs.CallerLemmas.{any_from, any_same, any_true, by_test, fall_append, from_below, from_map, in_below, in_listed, in_map, length-below, listed_append, listed_push, sum_by_same}
 pub use Rattle.roman_model.specs.Arena.{Arena, Entry, IsOrder, back, fall, is_justified, is_listed, mask}
 pub use Rattle.roman_model.specs.Lists.{IsIn, below}
 pub use Rattle.roman_model.specs.Numbers.{count, sizes_of}
@@ -27,6 +27,6 @@ pub use Rattle.roman_order.specs.declared.event.Event.{Event}
 pub use Rattle.roman_rules.proofs.CallerLemmas.{numbered_same, sum_below_more}
 pub use Rattle.roman_rules.specs.Numbered.{IsNumbered}
 pub use Rattle.roman_relation.specs.Greatest.{arena_of}
-pub use Rattle.roman_relation.specs.Rounds.{AreGoneBack, AreUnlisted, AwaitsRound, InRound, IsJudged, IsMarking, IsPairJudged, moves_to_all, on_at}
+pub use Rattle.roman_relation.specs.Rounds.{AreUnlisted, AwaitsRound, InRound, IsJudged, IsMarking, IsPairJudged, moves_to_all, on_at}
 pub use Rattle.roman_relation.specs.Settled.{AreLevels, Begins, HoldsLost, IsSettled, RisesByDepth, SettlesOn}
 pub use Rattle.roman_relation.specs.Shaped.{IsShaped}

@@ -1,26 +1,15 @@
 -- Noting the entries of an event together.
-use Rattle.roman_relation.proofs.Common.{◌≡◌, ◌≢◌, ℕ, zero, suc, ◌+◌, ◌*◌, ◌<◌, ◌≤◌, true, false, ◌&&◌, List, [], ◌∷◌, ◌++◌, length, take, drop, slice_index, IsTrue, inl, inr, refl, sym, ap, ap₂, ◌∙◌, subst, arith, take-append-drop, ◌==◌, both_ways, false_from_ne_true, and_from, and_parts, or_left, or_right, eq-eqb, list_any-append, IsIn, below, Arena, Entry, is_listed, back, fall, in_map, from_map, in_below, is_on, on_zero, IsNumbered, Board, as_entry, set_lanes, has_entry, IsEvent, entries_at, Event, in_lanes, IsMarking, on_at}
+use Rattle.roman_relation.proofs.Common.{◌≡◌, ◌≢◌, ℕ, suc, ◌+◌, ◌*◌, ◌<◌, ◌≤◌, true, false, ◌&&◌, List, [], ◌∷◌, ◌++◌, length, take, drop, IsTrue, inl, inr, refl, sym, ap, ◌∙◌, subst, arith, take-append-drop, ◌==◌, and_parts, or_left, or_right, eq-eqb, list_any-append, IsIn, below, Arena, Entry, is_listed, back, fall, in_map, from_map, in_below, is_on, IsNumbered, Board, as_entry, set_lanes, has_entry, IsEvent, entries_at, Event, in_lanes, IsMarking, on_at}
 use Rattle.std.proofs.Common.{◌^◌, bit_and}
 use Rattle.std.proofs.lemmas.Nat.{and_le_l}
 use Rattle.std.proofs.lemmas.List.Sums.{sum_by-cons}
 use Rattle.roman_model.proofs.CallerLemmas.{sum_by_within, in_filter}
 use Rattle.roman_lanes.proofs.CallerLemmas.{on_and}
-use Rattle.roman_order.proofs.CallerLemmas.{some_lane, get_first, has_entry-event}
+use Rattle.roman_order.proofs.CallerLemmas.{some_lane, drop_next, get_first, has_entry-event}
 use Rattle.roman_relation.proofs.Beginnings.{listed_is}
-use Rattle.roman_relation.proofs.Lanes.{lane_place}
 use Rattle.roman_relation.proofs.Marks.{noted_more, fall_more}
 
-drop_next : {X : Type 0} (xs : List X) (i : ℕ) (x : X) (ys : List X) → drop i xs ≡ x ∷ ys → drop (i + 1) xs ≡ ys
-drop_next [] zero x ys e = cc
-drop_next [] (suc i) x ys e = cc
-drop_next (y ∷ xs) zero x ys e = cc
-drop_next (y ∷ xs) (suc i) x ys e = let same : suc i + 1 ≡ suc (i + 1) = omega arith in ap (λ j. drop j (y ∷ xs)) same ∙ drop_next xs i x ys e
-
 -- ---- words that meet
-
-pub apart_words : (word other lane : ℕ) → bit_and word other ≡ 0 → is_on other lane ≡ true → is_on word lane ≡ false
-apart_words word other lane none on =
-    false_from_ne_true (is_on word lane) (λ t. both_ways (is_on (bit_and word other) lane) (ap (λ w. is_on w lane) none ∙ on_zero lane) (on_and word other lane ∙ and_from (is_on word lane) (is_on other lane) t on))
 
 pub meeting_words : (word other : ℕ) → word < 2 ^ 64 → bit_and word other ≢ 0 → (lane : ℕ) × (is_on word lane ≡ true) × (is_on other lane ≡ true)
 meeting_words word other fits some = first (set_lanes (bit_and word other)) (some_lane (bit_and word other) some (omega (arith, and_le_l word other))) (λ lane i. (in_lanes (bit_and word other) lane i).1)
@@ -78,7 +67,3 @@ fall_entries A L i (x ∷ M) R rest =
 -- where the bits of an event's lanes are cleared, so are the bits of its entries
 pub entries_off : (n : ℕ) (words : List ℕ) (e : Event) → ((lane : ℕ) → is_on e.lanes lane ≡ true → on_at n words (e.row * n + lane) ≡ false) → (x : Entry ℕ) → IsIn x (entries_at n e) → on_at n words x.node ≡ false
 entries_off n words e off x i = grind (arith, from_map, in_lanes)
-
--- the bit of a pair, by its row and its lane
-pub on_lane : (n : ℕ) (words : List ℕ) (row lane : ℕ) → lane < n → on_at n words (row * n + lane) ≡ is_on (slice_index words row) lane
-on_lane n words row lane l = let h = lane_place n row lane l in ap₂ (λ y k. is_on (slice_index words y) k) h.0 h.1

@@ -1,5 +1,6 @@
 -- Lists with entries for the lanes of a row.
-use Rattle.roman_relation.proofs.Common.{◌≡◌, ℕ, zero, suc, ◌+◌, ◌*◌, ◌/◌, ◌<◌, ◌≤◌, ◌⊎◌, Bool, true, false, not, ◌&&◌, ◌||◌, List, [], ◌∷◌, ◌++◌, length, take, slice_index, IsTrue, IsFalse, inl, inr, refl, sym, ap, ◌∙◌, subst, arith, append_assoc, both_ways, cases_lt, cases_eq, false_from_ne_true, or_cases, or_parts, or_left, and_parts, and_from, not_from_false, not-true, ne_eqb, get_or_past, IsIn, below, Arena, Entry, is_listed, is_justified, IsOrder, Reason, Act, from_map, any_from, in_below, listed_append, listed_push, is_on, Keeps, on_zero, IsNumbered, numbered_same, Board, as_entry, entries_in_rows, has_entry, in_lanes, Begins, AreUnlisted, InRound, IsJudged}
+use Rattle.roman_relation.proofs.Common.{◌≡◌, ℕ, zero, suc, ◌+◌, ◌*◌, ◌/◌, ◌<◌, ◌≤◌, ◌⊎◌, Bool, true, false, not, ◌&&◌, ◌||◌, List, [], ◌∷◌, ◌++◌, length, take, slice_index, IsTrue, IsFalse, inl, inr, refl, sym, ap, ◌∙◌, subst, arith, append_assoc, both_ways, cases_lt, cases_eq, false_from_ne_true, or_cases, or_parts, or_left, and_parts, not_from_false, not-true, ne_eqb, get_or_past, IsIn, below, Arena, Entry, is_listed, is_justified, IsOrder, Reason, Act, from_map, any_from, in_below, listed_append, listed_push, is_on, Keeps, on_zero, IsNumbered, numbered_same, Board, as_entry, entries_in_rows, has_entry, in_lanes, Begins, AreUnlisted, InRound, IsJudged}
+use Rattle.std.proofs.lemmas.Bool.{and_from}
 use Rattle.std.proofs.Common.{map, length-append}
 use Rattle.std.proofs.lemmas.Bool.{or_from}
 use Rattle.std.proofs.lemmas.List.{append-nil, take-append-le}

@@ -4,7 +4,7 @@ ghost use Rattle.std.specs.Borrow.{sem};
 ghost use Rattle.roman_order.specs.Board.{pairs_of, is_marked};
 ghost use Rattle.roman_order.specs.Lending.{LendsMarks};
 
-use super::Order;
+use super::{Order, refill};
 use crate::flags;
 
 impl Order {
@@ -35,6 +35,8 @@ impl Order {
         ensures long { length self.new.marks ≡ length self.old.marks }
         ensures rest { self.new ≡ record self.old { marks = self.new.marks } }
     {
+        let many = self.marks.len();
+        refill(&mut self.marks, many, 0);
         flags::set_front(&mut self.marks, end);
     }
 
@@ -72,11 +74,13 @@ impl Order {
     }
 
     /// Clears all marks, in one pass over their words.
+    #[tactic(auto, using(crate::proofs::Words::no_flags))]
     pub fn clear_marks(&mut self)
         ensures unmarked { (p : ℕ) → is_marked self.new p ≡ false }
         ensures long { length self.new.marks ≡ length self.old.marks }
         ensures rest { self.new ≡ record self.old { marks = self.new.marks } }
     {
-        flags::set_front(&mut self.marks, 0);
+        let many = self.marks.len();
+        refill(&mut self.marks, many, 0);
     }
 }

@@ -1,9 +1,12 @@
 //! Reading the list.
-ghost use Rattle.std.specs.Prelude.{◌≡◌, ℕ, ◌+◌, ◌<◌, ◌≤◌, true, ◌++◌, length, drop, slice_get, slice_index, Some};
+ghost use Rattle.std.specs.Prelude.{◌≡◌, ℕ, ◌+◌, ◌-◌, ◌<◌, ◌≤◌, true, false, ◌++◌, length, take, drop, slice_get, slice_index, Some};
 ghost use Rattle.std.specs.List.{AllByRecursion};
 ghost use Rattle.roman_lanes.specs.Rows.{is_on};
+ghost use Rattle.roman_model.specs.Lists.{IsIn};
 ghost use Rattle.roman_order.specs.Board.{as_entry, set_lanes};
-ghost use Rattle.roman_order.specs.Events.{IsEvent, entries_at, entries_of};
+ghost use Rattle.roman_order.specs.Events.{IsApart, IsEvent, entries_at, entries_of};
+ghost use Rattle.roman_order.specs.Walks.{AreUnkept};
+ghost use Rattle.roman_order.specs.declared.event.Event.{Event};
 
 use super::Order;
 use crate::event::Event;
@@ -38,6 +41,21 @@ impl Order {
             reason: event.reason,
             lanes,
         }
+    }
+
+    /// Passes over entries from place `i` of the list on whose pairs have no bit in the kept words,
+    /// event by event, and returns the place after them, at most the length of the list, with a guess
+    /// of its event. `near` is a guess of the event of place `i`. After a wrong guess no entry is
+    /// passed over.
+    pub fn past_unkept(&self, i: u32, near: usize) -> (u32, usize)
+        requires { i ≤ length self.now.list }
+        ensures { AreUnkept self.now i result.0 }
+    {
+        if near >= self.firsts.len() || self.firsts[near] != i {
+            return (i, near);
+        }
+        let next = next_kept(&self.events, &self.before, near);
+        (first_of(&self.firsts, next, self.count), next)
     }
 
     /// Returns the entry at place `i` of the list, from 0: the pair and the reason. Finds its event by
@@ -76,6 +94,42 @@ fn place_of(firsts: &[u32], i: u32, near: usize) -> usize
         }
     }
     low
+}
+
+/// Returns the place of the first entry of event `j`. After the last event it is `count`, the length of
+/// the list.
+fn first_of(firsts: &[u32], j: usize, count: u32) -> u32
+    ensures at { j < length firsts.now → result ≡ slice_index firsts.now j }
+    ensures end { length firsts.now ≤ j → result ≡ count }
+{
+    if j < firsts.len() { firsts[j] } else { count }
+}
+
+/// Returns the place of the first event from place `from` on of which some lane is in the word of its
+/// row, or the number of events.
+fn next_kept(events: &[Event], words: &[u64], from: usize) -> usize
+    requires from { from ≤ length events.now }
+    requires rows { AllByRecursion (λ e. e.row < length words.now) events.now }
+    ensures within { (from ≤ result) × (result ≤ length events.now) }
+    ensures apart { (e : Event) → IsIn e (take (result - from) (drop from events.now)) → IsApart words.now e }
+{
+    let mut j = from;
+    'events: while j < events.len() {
+        let event = events[j];
+        if !is_apart(words[event.row as usize], event.lanes) {
+            return j;
+        }
+        j += 1;
+    }
+    j
+}
+
+// Returns whether two words have no lane in common.
+#[tactic(auto, using(crate::proofs::Kept::apart_words))]
+fn is_apart(word: u64, other: u64) -> bool
+    ensures { result ≡ true → (lane : ℕ) → is_on other lane ≡ true → is_on word lane ≡ false }
+{
+    word & other == 0
 }
 
 /// Returns the word without its `n` lowest lanes.

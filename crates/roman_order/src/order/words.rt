@@ -3,7 +3,7 @@ ghost use Rattle.std.specs.Prelude.{◌≡◌, ◌≢◌, ℕ, ◌+◌, ◌<◌,
 ghost use Rattle.roman_lanes.specs.Rows.{HasLanes, AreRows};
 ghost use Rattle.roman_order.specs.Board.{has_entry};
 
-use super::Order;
+use super::{Order, rewrite};
 
 impl Order {
     /// Returns the pairs that aren't listed: one word for each row, with bit l for the pair at lane l.
@@ -28,7 +28,7 @@ impl Order {
         ensures long { length self.new.before ≡ self.old.rows }
         ensures rest { self.new ≡ record self.old { before = self.new.before } }
     {
-        self.before.copy_from_slice(&self.words);
+        rewrite(&mut self.before, &self.words);
     }
 
     /// Keeps the present word of the row `x`. The kept words of other rows stay.

@@ -4,6 +4,7 @@ ghost use Rattle.std.specs.Prelude.{length, take, drop, IsTrue, IsFalse};
 ghost use Rattle.roman_lanes.specs.Rows.{is_on};
 ghost use Rattle.roman_model.specs.Arena.{Entry, is_listed, IsOrder, fall};
 ghost use Rattle.roman_order.specs.Events.{IsEvent, entries_at};
+ghost use Rattle.roman_order.specs.Walks.{AreUnkept};
 ghost use Rattle.roman_relation.specs.Shaped.{IsShaped};
 ghost use Rattle.roman_relation.specs.Rounds.{IsMarking, AreGoneBack, moves_to_all, on_at};
 
@@ -40,9 +41,23 @@ pub(crate) fn mark_losses<J: Rules, L: Ledger>(
     'losses: while i < end {
         let event = order.event_at(i, guess);
         mark_event(joint, order, event, steps);
-        i += event.len();
-        guess = guess.wrapping_add(1);
+        let (next, near) = next_loss(joint, order, i + event.len(), guess.wrapping_add(1));
+        i = next;
+        guess = near;
     }
+}
+
+/// Passes over entries from place `i` of the list on whose bands are noted, and returns the place after
+/// them, with a guess of its event. `near` is a guess of the event of place `i`. A band of one row has
+/// few events in a round, so none is passed over there.
+fn next_loss<J: Rules>(joint: &J, order: &Order, i: u32, near: usize) -> (u32, usize)
+    requires { i ≤ length order.now.list }
+    ensures { AreUnkept order.now i result.0 }
+{
+    if joint.band() == 1 {
+        return (i, near);
+    }
+    order.past_unkept(i, near)
 }
 
 /// Marks the bands that lead to the band of an event, and keeps the words of the event's band. Does
@@ -81,7 +96,7 @@ fn mark_event<J: Rules, L: Ledger>(joint: &J, order: &mut Order, event: Event, s
 }
 
 // Returns whether a word has some lane of another.
-#[tactic(auto, using(crate::proofs::Losses::apart_words, std::proofs::lemmas::Bool::both_ways, crate::proofs::Losses::meeting_words))]
+#[tactic(auto, using(roman_order::proofs::CallerLemmas::apart_words, std::proofs::lemmas::Bool::both_ways, crate::proofs::Losses::meeting_words))]
 fn meets(word: u64, other: u64) -> bool
     ensures none { result ≡ false → (lane : ℕ) → is_on other lane ≡ true → is_on word lane ≡ false }
     ensures some { result ≡ true → (lane : ℕ) × (is_on word lane ≡ true) × (is_on other lane ≡ true) }

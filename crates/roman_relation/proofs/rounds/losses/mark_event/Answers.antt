@@ -5,9 +5,9 @@ use Rattle.roman_model.specs.Arena.{is_listed, Delegation, back as back_of}
 use Rattle.roman_order.proofs.CallerLemmas.{rewritten_whole}
 use Rattle.roman_relation.proofs.Backs.{back_again, back_now, band_is_new, band_is_old, event_lane}
 use Rattle.roman_relation.proofs.Bands.{band_begins, in_band, outside_band, pair_in, pair_inside, row_band, row_of_band}
-use Rattle.roman_relation.proofs.Lanes.{unlisted_row, lane_place, shaped_pairs}
+use Rattle.roman_relation.proofs.Lanes.{on_lane, unlisted_row, lane_place, shaped_pairs}
 use Rattle.roman_relation.proofs.Marks.{IsNoted, noted_own, noted_marking}
-use Rattle.roman_relation.proofs.Losses.{fall_one, on_lane}
+use Rattle.roman_relation.proofs.Losses.{fall_one}
 use Rattle.roman_relation.proofs.rounds.losses.mark_event.Goals as goal
 
 pub returns-then-not-meets-clause-noted : goal.returns-then-not-meets-clause-noted
@@ -23,7 +23,7 @@ returns-then-not-meets-clause-back g c start M back fresh =
     let e = c.args.event in
     let (lane, low, on) = event_lane n e c.requires.event in
     let l = c.requires.event.within lane on in
-    let off : on_at n b.before (e.row * n + lane) ≡ false = on_lane n b.before e.row lane l ∙ (ap (λ ws. is_on (slice_index ws e.row) lane) (sym c.before-2.ensures.value) ∙ c.meets.ensures.none c.if-not-meets.true lane on) in
+    let off : on_at n b.before (e.row * n + lane) ≡ false = on_lane n e.row lane b.before l ∙ (ap (λ ws. is_on (slice_index ws e.row) lane) (sym c.before-2.ensures.value) ∙ c.meets.ensures.none c.if-not-meets.true lane on) in
     let old = band_is_old A n w start e.row lane M b back l (pair_inside A n e.row lane b c.requires.shaped c.requires.row l) off (fresh lane on) in
     let (after, sum) = back_again A n w mid start M e b c.requires.event old back in
     (after, omega (arith, sum))
@@ -102,7 +102,7 @@ returns g c =
       rest = search rules;
       cost = omega (arith, spent, less, all, ap (λ q. length (back_of A q)) place);
       back = λ start M back fresh.
-          let on_lane_before : on_at n b.before (x * n + lane) ≡ true = on_lane n b.before x lane l ∙ (ap (λ ws. is_on (slice_index ws x) lane) (sym c.before-2.ensures.value) ∙ was) in
+          let on_lane_before : on_at n b.before (x * n + lane) ≡ true = on_lane n x lane b.before l ∙ (ap (λ ws. is_on (slice_index ws x) lane) (sym c.before-2.ensures.value) ∙ was) in
           let inside = pair_inside A n x lane b c.requires.shaped c.requires.row l in
           let new = band_is_new A n w start x lane M b back l inside on_lane_before (c.requires.listed lane on) in
           let is_w : IsNoted A n w (x / w) b d = subst (λ z. IsNoted A n w z b d) (sym own) is in
