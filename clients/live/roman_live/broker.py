@@ -25,7 +25,7 @@ REFUSED = 128
 """What a broker answers, in place of a level, where it refuses a subscription."""
 
 GONE = {"gone": True}
-"""What stands in place of the state of a home that doesn't run, as a device says it that is gone."""
+"""The state that is published for a home that no longer runs, in the same form as for a device that is gone."""
 
 FIRST_WAIT = 5.0
 """How many seconds are waited at the beginning for the broker, and then for its word that it knows what is
