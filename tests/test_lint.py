@@ -1,7 +1,5 @@
 """tools/roman-lint: each refusal at its place, the warnings, and random faults beside the program's word."""
 
-import contextlib
-import io
 import json
 import os
 import random
@@ -20,7 +18,7 @@ sys.path[:0] = [str(TOP / "tools"), str(TOP / "clients" / "python")]
 
 from roman_tools.documents import read  # noqa: E402
 from roman_tools.findings import Finding, Level  # noqa: E402
-from roman_tools.linting import all_findings, lint, main  # noqa: E402
+from roman_tools.linting import all_findings, lint  # noqa: E402
 
 Row = Tuple[str, str, str]
 """A refusal without its document, a text of the sample, and what stands in its place: the faulty word between
@@ -520,19 +518,6 @@ class Command(Folder):
                 done = self.lint("s.json")
                 self.assertEqual((done.returncode, done.stderr), (3, ""))
                 self.assertEqual(self.lint("--json", "s.json").returncode, 3)
-
-
-class Readme(Folder):
-    def test_the_example(self) -> None:
-        """What the README shows of a home with two mistakes."""
-        lamp, ceiling = '["off", true, "brighten", "on"]', '"ceiling", "behaviour": "lamp"'
-        home = sample("home").replace(lamp, lamp.replace("true", '["night"]')).replace(ceiling, ceiling + ', "rest": false')
-        self.write("mine.json", home)
-        with contextlib.redirect_stdout(io.StringIO()) as out:
-            self.assertEqual(main(["--program", PROGRAM, "mine.json"]), 3)
-        readme = (TOP / "README.md").read_text(encoding="utf-8")
-        (shown,) = re.findall(r"^    \$ tools/roman-lint mine\.json\n((?:    .*\n)+)", readme, re.M)
-        self.assertEqual(out.getvalue(), re.sub("^    ", "", shown, flags=re.M))
 
 
 class Random(Folder):
