@@ -13,7 +13,7 @@ use Rattle.roman_repair.specs.Replays.{AreCandidates, AreSlices}
 use Rattle.roman_repair.specs.declared.asked_band.AskedBand.{AskedBand}
 use Rattle.roman_repair.specs.declared.replaying.Newcomer.{Newcomer}
 
--- the pending entries are of rows from before the newcomer, which grow to whole rows of `row` lanes
+-- the waiting entries are of rows from before the newcomer, which grow to whole rows of `row` lanes
 pub record RowsGrow (row : ℕ) (newcomer : Newcomer) (order : Board) : Type 0 where
   pub slices : AreSlices row newcomer.lanes newcomer.states
   pub lanes : order.waiting_lanes ≡ newcomer.lanes

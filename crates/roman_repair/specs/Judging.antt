@@ -55,7 +55,7 @@ pub record CanReplayAll (A : Arena ℕ) (lanes k : ℕ) (order : Board) (L : Lis
   pub candidates : AreCandidates A order.list L
   pub may : MayAskAlone A (Some k) order.list L
 
--- all pending entries were replayed, each as the entries that it stands for
+-- all waiting entries were replayed, each as the entries that it stands for
 pub record HasReplayedAll (A : Arena ℕ) (L : List (Entry ℕ)) (old new : Board) (before after : ℕ) : Type 0 where
   pub list : new.list ≡ with_replay A old.list L
   pub rest : new ≡ record old { list = new.list; waiting = [] }

@@ -29,7 +29,7 @@ pub record IsRepaired (change : Change) (old_joint : NamedSys) (old : Board) (ne
   pub relation : IsRelation new_joint new
   pub list : GoesOnFromReplay change (system_of old_joint) old.list new.list tally
 
--- a removal list of the joint's system, in an order that is shaped for it, has room and has no pending entries
+-- a removal list of the joint's system, in an order that is shaped for it, has room and has no waiting entries
 pub record IsBegun (joint : NamedSys) (order : Board) : Type 0 where
   pub valid : IsOrder (arena_of joint) order.list
   pub shaped : IsShaped (arena_of joint) (lanes_in (system_of joint)) order

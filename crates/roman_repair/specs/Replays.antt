@@ -32,7 +32,7 @@ with_replay A kept L = kept ++ replay_from A (nodes_of kept) L
 abbrev pub readings_of_entries : Arena ℕ → List (Entry ℕ) → ℕ
 readings_of_entries A L = sum_by (λ x. readings_of_reason A x.node x.reason) L
 
--- the candidates for which the pending entries stand: for each entry its pair with each of the states
+-- the candidates for which the waiting entries stand: for each entry its pair with each of the states
 abbrev pub candidates : ℕ → Board → List (Entry ℕ)
 candidates states board = flat_map (grown_numbers states) board.waiting
 
@@ -40,7 +40,7 @@ candidates states board = flat_map (grown_numbers states) board.waiting
 abbrev pub pending_replay : NamedSys → ℕ → Board → List (Entry ℕ)
 pending_replay joint states board = replay (arena_of joint) (candidates states board)
 
--- the whole list is pending in an empty order for the changed system, the order has room, and the replay of the candidates is a removal list
+-- the whole list waits in an empty order for the changed system, the order has room, and the replay of the candidates is a removal list
 pub record IsReplayable (joint : NamedSys) (states : ℕ) (board : Board) : Type 0 where
   pub shaped : IsShaped (arena_of joint) (lanes_in (system_of joint)) board
   pub caps : HasCaps joint board

@@ -1,4 +1,4 @@
-//! Replays events. An event is a run of pending entries of one row with one reason. An entry is
+//! Replays events. An event is a run of waiting entries of one row with one reason. An entry is
 //! kept where the entries kept before it justify it.
 ghost use Rattle.std.specs.Prelude.{◌≡◌, None};
 ghost use Rattle.roman_order.specs.Events.{entries_at};
@@ -83,7 +83,7 @@ pub(crate) fn keep_lanes<J: OneSeat, L: Ledger>(
     }
 }
 
-/// Replays the pending entries, and appends those that it keeps to the list. Requires rows of as
+/// Replays the waiting entries, and appends those that it keeps to the list. Requires rows of as
 /// many lanes as when the entries were listed, so that each event lies in one row. Asks the seat `k`
 /// alone until an entry is dropped: no other seat keeps an entry from being justified.
 pub(crate) fn replay_events<J: OneSeat, L: Ledger>(

@@ -17,7 +17,7 @@ use roman_relation::Relation;
 use std::sync::ledger::Ledger;
 
 /// Adds the service `seat` at the last place. The service must be ready, its name new, and its
-/// behaviour a place of the catalogue. RowsGrow each entry of the old list into one entry for each
+/// behaviour a place of the catalogue. Grows each entry of the old list into one entry for each
 /// state of the newcomer, and replays these: keeps an entry exactly where the entries kept before
 /// it justify it. Allocates no memory. The number of steps is at most the number of delegations
 /// that lead to added pairs plus the number of delegations of an allowed action to a ready service

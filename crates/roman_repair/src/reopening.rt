@@ -7,8 +7,8 @@ ghost use Rattle.roman_relation.specs.Greatest.{arena_of, HasCaps};
 
 use roman_relation::Relation;
 
-/// Moves the whole list to the pending entries, and begins an empty list for the pairs of the
-/// changed joint. Requires an empty pending list.
+/// Makes all entries of the list wait, and begins an empty list for the pairs of the changed joint.
+/// Requires that no entry waits.
 pub(crate) fn reopen(relation: &mut Relation)
     requires caps { HasCaps relation.old.joint relation.old.order }
     requires idle { relation.old.order.waiting ≡ [] }

@@ -51,7 +51,7 @@ fn keep_grown<J: OneSeat, L: Ledger>(
     }
 }
 
-/// Replays the pending entries, and appends those that it keeps to the list. Each entry stands for its
+/// Replays the waiting entries, and appends those that it keeps to the list. Each entry stands for its
 /// own pair with each state of the newcomer. Asks the newcomer alone until an entry is dropped: no other
 /// seat keeps an entry from being justified.
 pub(crate) fn replay<J: OneSeat, L: Ledger>(

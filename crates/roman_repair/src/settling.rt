@@ -30,7 +30,7 @@ pub(crate) fn settle_on<L: Ledger>(relation: &mut Relation, steps: &mut Steps<L>
     }
 }
 
-/// Replays the pending list, each entry for its pair with each state of the newcomer, and completes the
+/// Replays the waiting entries, each for its pair with each state of the newcomer, and completes the
 /// list. The number of steps is at most the number of delegations that lead to added
 /// pairs plus the number of delegations of an allowed action to a ready service.
 pub(crate) fn replay_and_settle_on<L: Ledger>(
@@ -49,7 +49,7 @@ pub(crate) fn replay_and_settle_on<L: Ledger>(
     settle_on(relation, steps)
 }
 
-/// Replays the pending list, whose rows are those of the changed system, and completes the list.
+/// Replays the waiting entries, whose rows are those of the changed system, and completes the list.
 /// The number of steps is at most the number of delegations that lead to added pairs plus the
 /// number of delegations of an allowed action to a ready service.
 pub(crate) fn replay_events_and_settle_on<L: Ledger>(

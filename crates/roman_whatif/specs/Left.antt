@@ -18,7 +18,7 @@ pub record IsScratchOf (base joint : NamedSys) (order : Board) : Type 0 where
   pub parts : HasSameParts joint base
   pub caps : HasCaps joint order
 
--- changes of the base can be tried on this relation, and it has no pending entries
+-- changes of the base can be tried on this relation, and it has no waiting entries
 pub record IsIdleScratchOf (base joint : NamedSys) (order : Board) : Type 0 where
   pub scratch : IsScratchOf base joint order
   pub idle : order.waiting ≡ []

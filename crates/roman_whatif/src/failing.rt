@@ -58,7 +58,7 @@ pub fn without<L: Ledger>(
 
 /// Makes `scratch` the relation `from` after the failure of its service at place `k`. Overwrites
 /// what `scratch` held, and leaves `from` unchanged. Returns the pair that remains of `p`. Requires
-/// an empty pending list of `scratch`.
+/// that no entry of `scratch` waits.
 pub(crate) fn fail_on<L: Ledger>(
     scratch: &mut Relation,
     from: &Relation,
@@ -116,7 +116,7 @@ fn freeze_seat<L: Ledger>(relation: &mut Relation, p: u32, k: u8, steps: &mut St
 
 /// Removes the service at place `k`, and returns the pair that remains of `p`. Builds the list
 /// anew, whatever it was: that costs less than a repair, because the remaining system is smaller.
-/// Requires an empty pending list.
+/// Requires that no entry waits.
 fn lose_seat<L: Ledger>(relation: &mut Relation, p: u32, k: u8, steps: &mut Steps<L>) -> u32
     requires caps { HasCaps relation.old.joint relation.old.order }
     requires idle { relation.old.order.waiting ≡ [] }

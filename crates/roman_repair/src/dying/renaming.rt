@@ -107,7 +107,7 @@ fn rename_row(joint: &Joint, order: &mut Order, gathered: &mut Event, leaver: Le
 }
 
 /// Renames the list to the pairs without the service `k`, and shapes the order for them. Requires
-/// an empty pending list.
+/// that no entry waits.
 pub(crate) fn rename_list(joint: &Joint, order: &mut Order, k: u8)
     requires shaped { IsShaped (numbered (system_of joint.now)) (lanes_in (system_of joint.now)) order.old }
     requires seat { k < length joint.now.seats }
