@@ -1,4 +1,4 @@
--- Turns of a session: the state to which an event leads and its answer, by the greatest ND-simulation, by steps and by names.
+-- Turns of a session: the state to which an event leads and its answer, in terms of the greatest ND-simulation, steps and names.
 use Rattle.std.specs.Prelude.{◌≡◌, ℕ, ◌<◌, ◌≤◌, ◌⊎◌, true, false, not, List, [], ◌∷◌, ◌++◌, map, length, Result, Ok, Err, Some, IsTrue, slice_get, slice_set}
 use Rattle.std.specs.List.{remove}
 use Rattle.roman_model.specs.Lists.{IsIn}

@@ -1,4 +1,4 @@
--- What a session's answers say, by the greatest ND-simulation, by steps and by names.
+-- What a session's answers say, in terms of the greatest ND-simulation, steps and names.
 use Rattle.std.specs.Prelude.{◌≡◌, ℕ, ◌+◌, ◌<◌, Bool, List, [], ◌∷◌, ◌++◌, map, length, codes, Option, Some, IsTrue, IsFalse, ◌↔◌, slice_get}
 use Rattle.std.specs.List.{flat_map}
 use Rattle.roman_model.specs.Lists.{IsIn, IsSublist, HasNoRepeats, below}

@@ -45,7 +45,7 @@ pub fn lines_are_read()
 }
 
 /// Each step is a turn: it leads to the state of its event, and its text answers that event. State
-/// and text are defined by the greatest ND-simulation, by steps and by names, without the removal
+/// and text are defined in terms of the greatest ND-simulation, steps and names, without the removal
 /// list.
 #[tactic(auto, using(crate::proofs::TurnLemmas::steps_turns))]
 pub fn steps_are_turns()

@@ -1,4 +1,4 @@
--- The headline: what the answers of a session say, by the greatest ND-simulation, by steps and by texts alone.
+-- The headline: what the answers of a session say, in terms of the greatest ND-simulation, steps and texts alone.
 use Rattle.std.specs.Prelude.{ℕ, List, Option, Some, IfSome}
 use Rattle.roman_io.specs.Sink.{Wrote}
 use Rattle.roman_library.specs.Library.{PlainLibrary}
@@ -26,6 +26,7 @@ KeepsPromise (Some (On system (Run name))) old new =
 KeepsPromise (Some (On system Synth)) old new = IfSome old.texts (λ texts. (library : PlainLibrary) → Means texts system library → HasReported library old new)
 KeepsPromise _ old new = Unit {0}
 
--- unless a fault or running out of memory ended the run, the promise is kept, also target by target, and so is that of each other command
+-- unless a fault or running out of memory ended the run, the promise is kept, also target by target, and so is that of each other command;
+-- the status of `run` and of `synth` is left to `Runs`
 abbrev pub HasHeadline : Option Command → World → World → Status → Type 0
 HasHeadline asked old new result = IsFree result → KeepsPromise asked old new × KeepsTargets asked old new × KeepsText asked old new result

@@ -1,4 +1,4 @@
--- What `advise` writes: the least worst costs of plans by services that serve.
+-- What `advise` writes: the least worst costs of plans in which each action goes to a service that serves it.
 use Rattle.std.specs.Prelude.{◌≡◌, ℕ, ◌<◌, ◌≤◌, ◌*◌, false, List, length, Ok, Err}
 use Rattle.roman_io.specs.Shelf.{Texts}
 use Rattle.roman_model.specs.System.{Pair}
@@ -22,7 +22,7 @@ use Rattle.roman_top.specs.RefusalLine.{refusal_line}
 use Rattle.roman_top.specs.declared.status.Status.{Status}
 use Rattle.roman_top.specs.declared.status.Status.TheVariants as status
 
--- what is written by accepted costs: `answer none` if the pair isn't related; the line of the limit if the related pairs times
+-- what is written with accepted costs: `answer none` if the pair isn't related; the line of the limit if the related pairs times
 -- the requests are too many; and otherwise the least worst cost of the requests
 pub record AdvisesBy (n : NamedSys) (listed : List Listed) (requests : ℕ) (p : Pair) (text : List ℕ) (result : Status) : Type 0 where
   pub pairs : List Pair

@@ -1,4 +1,4 @@
--- What `check` writes of a certificate: `greatest` exactly when it validly lists all pairs that aren't related, and no others.
+-- What `check` writes of a certificate: `greatest` only if it validly lists all pairs that aren't related, and no others.
 use Rattle.std.specs.Prelude.{◌≡◌, ◌⊎◌, ◌↔◌, ℕ, Bool, List, [], map, length, IsTrue}
 use Rattle.std.specs.List.{filter_map}
 use Rattle.roman_model.specs.Lines.{lines}
@@ -30,7 +30,7 @@ abbrev pub certified_entries : Sys → List ℕ → List (Entry Pair)
 certified_entries s certificate = map (entry_at s) (filter_map (entry_of (length (pairs s)) s.env.actions) (lines certificate))
 
 -- the verdict on a certificate: if it is accepted, its entries list exactly the pairs that aren't related, and the text counts the
--- related ones; each text that certifies the system in this way is accepted; every other text is rejected at a line, or too long
+-- related ones; the certificate of each such list is accepted; a certificate that isn't accepted is rejected at a line, or too long
 pub record JudgesCertificate (s : Sys) (p : Pair) (certificate text : List ℕ) (result : Status) : Type 0 where
   pub accepted : result ≡ status.Done → ListsUnrelated s (certified_entries s certificate) × TellsGreatest s p text
   pub accepts : CertifiesUnrelated s certificate → result ≡ status.Done

@@ -1,4 +1,4 @@
--- What `make` writes: the figures of a session of the made system at each stage, by the greatest ND-simulation.
+-- What `make` writes: the figures of a session of the made system at each stage, in terms of the greatest ND-simulation.
 use Rattle.std.specs.Prelude.{◌≡◌, ◌↔◌, ℕ, Bool, List, [], ◌∷◌, ◌++◌, length, codes, IsTrue}
 use Rattle.roman_model.specs.System.{Pair}
 use Rattle.roman_model.specs.Numbers.{sizes_of, count}

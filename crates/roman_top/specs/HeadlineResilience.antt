@@ -1,4 +1,4 @@
--- What `resilience` writes, by the greatest ND-simulations of the system and of the systems without one or two of its services.
+-- What `resilience` writes, in terms of the greatest ND-simulations of the system and of the systems without one or two of its services.
 use Rattle.std.specs.Prelude.{◌≡◌, ◌⊎◌, ◌↔◌, ℕ, List, ◌++◌, length, codes, IsTrue}
 use Rattle.std.specs.List.{flat_map}
 use Rattle.roman_model.specs.Lists.{IsIn, HasNoRepeats}

@@ -1,5 +1,5 @@
 -- Sessions of documents with several targets, target by target: what is asked of which target, which services serve all targets, and
--- which target moves, by the greatest ND-simulation of all targets, by steps and by texts alone.
+-- which target moves, in terms of the greatest ND-simulation of all targets, steps and texts alone.
 use Rattle.std.specs.Prelude.{◌≡◌, ◌↔◌, ℕ, ◌<◌, ◌++◌, List, map, length, codes, Option, Some, IfSome, Result, Ok, IsTrue, slice_get, slice_index, slice_set}
 use Rattle.std.specs.List.{flat_map}
 use Rattle.roman_io.specs.Shelf.{Texts}

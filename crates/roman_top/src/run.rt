@@ -65,9 +65,10 @@ pub fn serve<F: Shelf, I: Source, O: Sink, L: Ledger>(
         (world (F.texts shelf.old) (F.faults shelf.old) (I.rest input.old) (I.faults input.old) (O.written out.old) (O.faults out.old))
         (world (F.texts shelf.new) (F.faults shelf.new) (I.rest input.new) (I.faults input.new) (O.written out.new) (O.faults out.new)) result }
 
-    // Unless a fault or running out of memory ended the run, a session is a list of turns. Each turn
-    // leads to the state of its line's event, and its text answers that event. These texts, the report
-    // of `synth` and the texts of the other commands are right by the greatest ND-simulation.
+    // The same for readers, unless a fault or running out of memory ended the run: a session has a turn
+    // for each line, which leads to the state of the line's event, and whose text answers that event.
+    // `HasHeadline` says in terms of the greatest ND-simulation what these texts, the report of `synth`
+    // and the texts of the other commands mean.
     ensures headline { HasHeadline (command_of words.now)
         (world (F.texts shelf.old) (F.faults shelf.old) (I.rest input.old) (I.faults input.old) (O.written out.old) (O.faults out.old))
         (world (F.texts shelf.new) (F.faults shelf.new) (I.rest input.new) (I.faults input.new) (O.written out.new) (O.faults out.new)) result }
