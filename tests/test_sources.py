@@ -39,8 +39,10 @@ NOT_IN_HEADLINE = {"is_related", "offers", "related_count", "choice_count", "is_
 PROMISES = {"served": "Served", "headline": "HasHeadline", "complete": "AnswersWherePossible", "input": ""}
 """The public clauses of `serve`, each with the definition that it begins with. None of them asks for anything."""
 PAGES = TOP / "tests" / "pages.sha256"
-"""Digests of the pages on which the headline stands. Where one has to change, this renews them:
+"""Digests of the pages of the headline. Where one has to change, this renews them:
 `sha256sum $(cut -c67- tests/pages.sha256) > pages && mv pages tests/pages.sha256`."""
+HEADLINE = ["System", "Composition", "Several", "Outcomes", "States", "Events", "Refutations", "Turns", "Words", "Afresh",
+            "HeadlineTurns", "HeadlineTargets", "HeadlineJobs", "Headline"]
 
 
 def sources(part: str, ending: str) -> Iterator[Path]:
@@ -96,7 +98,8 @@ def rests_on(root: Definition, named: Dict[Definition, Set[Definition]]) -> Set[
 
 
 class Promises(unittest.TestCase):
-    """What the program promises can only be weakened by an edit of this file, or of the digests beside it."""
+    """The clauses of `serve`, and the pages of the headline that say what a session answers, change only together with
+    this file, or with the digests beside it. What a document means is no part of this: its definitions are many."""
 
     def test_the_clauses_of_serve(self) -> None:
         heads = [found[0] for file in sources("src", ".rt")
@@ -107,7 +110,7 @@ class Promises(unittest.TestCase):
 
     def test_the_pages_of_the_headline(self) -> None:
         lines = PAGES.read_text(encoding="utf-8").splitlines()
-        self.assertEqual([line.rpartition("/")[2] for line in lines], ["System.antt", "Composition.antt", "Words.antt", "HeadlineTurns.antt", "HeadlineTargets.antt", "Headline.antt"])
+        self.assertEqual([line.rpartition("/")[2][:-5] for line in lines], HEADLINE)
         for line in lines:
             digest, page = line.split("  ")
             with self.subTest(page):
