@@ -1,6 +1,7 @@
 //! Splits a stream of bytes into lines.
-ghost use Rattle.std.specs.Prelude.{◌≡◌, ◌+◌, ◌<◌, ◌≤◌, ◌++◌, [], Some, length, position, nat_lt};
+ghost use Rattle.std.specs.Prelude.{◌≡◌, ◌+◌, ◌<◌, ◌≤◌, ◌++◌, ◌∷◌, [], Some, length, position, nat_lt};
 ghost use Rattle.roman_text.specs.declared.lines.TheConstants.{LANES};
+ghost use Rattle.std.specs.Bool.{OnTrue, OnFalse};
 ghost use Rattle.roman_text.specs.Lines.{IsFirstLine, is_newline, kept};
 
 use roman_model::MAX_LINE_BYTES;
@@ -78,6 +79,20 @@ impl Splitter {
             bytes: [0; KEPT],
             len: 0,
         }
+    }
+
+    /// Takes the next byte of the stream. Returns whether it ended the line: whether it is byte 10. The
+    /// ended line is held, without that byte, until [`Splitter::clear`]. Call that before the next byte.
+    pub fn push(&mut self, byte: u8) -> bool
+        ensures ends { result ≡ is_newline byte }
+        ensures whole { OnTrue result (self.new ≡ self.old) }
+        ensures goes_on { OnFalse result (self.new ≡ kept (self.old ++ byte ∷ [])) }
+    {
+        if byte == b'\n' {
+            return true;
+        }
+        self.hold(&[byte]);
+        false
     }
 
     /// Takes the next bytes of the current line.

@@ -43,6 +43,9 @@ fn reads_lines(rt: HostRuntime) {
     assert_eq!(rt; splitter.line(), b"qu".as_slice());
     splitter.hold(&[b'x'; 300]);
     assert_eq!(rt; splitter.line().len(), 257);
+    assert!(rt; !splitter.push(b'x'));
+    assert!(rt; splitter.push(b'\n'));
+    assert_eq!(rt; splitter.line().len(), 257);
 }
 
 #[test]
