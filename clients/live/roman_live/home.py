@@ -265,6 +265,8 @@ class Home:
             await device.reach.close()
         if self.broker is not None:
             await self.broker.close()
+        if hasattr(self, "kept"):
+            self.kept.catch_up()
         await self.session.close()
         if self._folder is not None:
             self._folder.cleanup()
@@ -394,8 +396,15 @@ class Home:
             except AlreadyFrozen:
                 if service in self.kept.held:
                     raise
-            self.kept.hold(service)
-            self._returning.stop(service)
+            except StoreFailed:
+                self._hold(service)  # It is frozen, and that is written later.
+                raise
+            self._hold(service)
+
+    def _hold(self, service: str) -> None:
+        """A service that was frozen by hand isn't asked back."""
+        self.kept.hold(service)
+        self._returning.stop(service)
 
     async def thaw(self, service: str) -> None:
         """Takes a service into use again: where its device tells, in its state."""
@@ -413,10 +422,9 @@ class Home:
             state, environment = answer.state, answer.environment
             self._check_place(service, answer)
         if environment is not None and environment != self.known.environment:
-            await self.jump_environment(environment)
+            with contextlib.suppress(StoreFailed):  # It is written with what follows, or that says why not.
+                await self.jump_environment(environment)
         await self.dispatcher.thaw(service, state)
-        self.kept.release([service])
-        self._returning.stop(service)
 
     def _check_place(self, service: str, answer: Answer) -> None:
         """Raises Nowhere where a device names a state that the document hasn't."""
@@ -432,8 +440,6 @@ class Home:
     async def die(self, service: str) -> None:
         """A service is gone for good."""
         await self.dispatcher.die(service)
-        self.kept.release([service])
-        self._returning.stop(service)
 
     async def join(self, service: str, behaviour: str, state: str, loose: bool) -> None:
         """A new service joins. Raises NoDevice where the home file doesn't say how it is reached."""
@@ -608,6 +614,7 @@ class Home:
         """A request was served."""
         self.call = self._chosen = None
         self._failures.clear()
+        self.kept.catch_up()
         self._last = (done, self.kept.first + self.dispatcher.core.calls)
         self.known.environment = done.environment
         known = self.known[done.service]
@@ -658,6 +665,9 @@ class Home:
             known.frozen, known.since = word == "freeze", now()
         if word == "die":
             known.dead, known.since = True, now()
+        if word in ("thaw", "die"):
+            self.kept.release([service])
+            self._returning.stop(service)
         if word == "freeze" and known.last_error == "is gone":
             self._returning.let(service)
         self.events.add("changed", " ".join(words), service=service, change=list(words))

@@ -10,6 +10,7 @@ from pathlib import Path
 from typing import Iterable, Set
 
 from .homefile import HomeFileError
+from .troubles import NoRoom
 
 LOG = logging.getLogger("roman_live")
 
@@ -21,16 +22,22 @@ class Kept:
     """A small file beside the journal. It is made anew with each journal."""
 
     def __init__(self, journal: Path) -> None:
-        """Raises HomeFileError where the file can't be read or written."""
+        """Raises HomeFileError where the file can't be what it should be, and NoRoom where it can't be read or
+        written now."""
         self._path = journal.with_name(f"{journal.name}.live")
         self.first = int(time.time()) * NUMBERS_A_SECOND
         self.held: Set[str] = set()
+        self._written = True
+        if not journal.parent.is_dir():
+            raise HomeFileError(f"journal.path is {str(journal)!r}, and there is no folder {journal.parent}")
         try:
             if journal.exists() and self._path.exists():
                 self._read()
             else:
                 self._write()
-        except (OSError, ValueError, KeyError, TypeError) as error:
+        except OSError as error:
+            raise NoRoom(f"{self._path}: {error.strerror}") from None
+        except (ValueError, KeyError, TypeError) as error:
             raise HomeFileError(f"{self._path}: {error}") from None
 
     def hold(self, service: str) -> None:
@@ -42,13 +49,21 @@ class Kept:
         self._change(self.held - set(services))
 
     def _change(self, held: Set[str]) -> None:
-        """Keeps what has changed; where it can't be written, until the next change."""
+        """Keeps what has changed."""
         if held != self.held:
             self.held = held
-            try:
-                self._write()
-            except OSError as error:
-                LOG.warning("%s: %s", self._path, error.strerror)
+            self._written = False
+            self.catch_up()
+
+    def catch_up(self) -> None:
+        """Writes what couldn't be written so far. Where it still can't be, it is written later."""
+        if self._written:
+            return
+        try:
+            self._write()
+            self._written = True
+        except OSError as error:
+            LOG.warning("%s: %s", self._path, error.strerror)
 
     def _read(self) -> None:
         value = json.loads(self._path.read_text(encoding="utf-8"))

@@ -241,6 +241,9 @@ class Server:
             return _json({"error": str(error)}, HTTPStatus.CONFLICT)
         except (TypeError, ValueError) as error:
             return _json({"error": str(error)}, HTTPStatus.BAD_REQUEST)
+        except StoreFailed as error:
+            text = f"it was done, and is written later, since the journal can't be written: {error}"
+            return _json({"error": text}, HTTPStatus.SERVICE_UNAVAILABLE)
         except TROUBLE as error:
             return _json({"error": str(error)}, HTTPStatus.SERVICE_UNAVAILABLE)
         return await self._state()

@@ -7,6 +7,7 @@ from unittest import mock
 
 from roman_live.homefile import HomeFileError
 from roman_live.kept import Kept
+from roman_live.troubles import NoRoom
 
 
 class KeptBesideTheJournal(unittest.TestCase):
@@ -42,6 +43,26 @@ class KeptBesideTheJournal(unittest.TestCase):
         self.journal.with_name("journal.live").write_text("{}", encoding="utf-8")
         with self.assertRaisesRegex(HomeFileError, "journal.live"):
             self.begin(1000)
+
+    def test_a_full_disk_is_no_mistake_of_the_file(self) -> None:
+        """systemd starts the home again then, and doesn't where its file is wrong."""
+        full = OSError(28, "No space left on device")
+        with mock.patch("os.fsync", side_effect=full), self.assertRaisesRegex(NoRoom, "journal.live: No space"):
+            self.begin(1000)
+
+    def test_a_folder_that_is_not_there(self) -> None:
+        self.journal = self.journal.parent / "none" / "journal"
+        with self.assertRaisesRegex(HomeFileError, "journal.path is .*, and there is no folder"):
+            self.begin(1000)
+
+    def test_what_could_not_be_written_is_written_later(self) -> None:
+        kept = self.begin(1000)
+        full = OSError(28, "No space left on device")
+        with mock.patch("os.fsync", side_effect=full), self.assertLogs("roman_live", "WARNING"):
+            kept.hold("window")
+        self.assertEqual(self.begin(2000).held, set())
+        kept.catch_up()
+        self.assertEqual(self.begin(2000).held, {"window"})
 
 
 if __name__ == "__main__":

@@ -245,7 +245,9 @@ class FullDisk(Served):
         self.assertIn("journal", value["error"])
         self.assertEqual(self.live.service("kettle")["state"], "empty")
         self.assertEqual(self.live.state()["request"], None)
-        self.assertEqual(self.live.post("/services/window/freeze", {})[0], 503)
+        status, value = self.live.post("/services/window/freeze", {})
+        self.assertEqual(status, 503)
+        self.assertIn("it was done, and is written later", value["error"])
         self.assertEqual(self.live.service("window")["status"], "frozen")
         self.limit(resource.RLIM_INFINITY)
         self.assertEqual(self.live.post("/services/window/thaw", {})[0], 200)
@@ -254,6 +256,22 @@ class FullDisk(Served):
         self.live.start()
         self.assertEqual(self.live.state()["target"]["state"], "boiled")
         self.assertEqual(self.live.state()["counts"]["served"], 2)
+
+    def test_what_a_person_does_meanwhile_counts(self) -> None:
+        """One that is frozen by hand stays frozen after the next start, and one that is thawed by hand is held no
+        more."""
+        self.assertEqual(self.live.post("/services/window/freeze", {})[0], 200)
+        self.limit(0)
+        self.assertEqual(self.live.post("/services/ceiling/freeze", {})[0], 503)
+        self.assertEqual(self.live.post("/services/window/thaw", {})[0], 503)
+        by_hand = {"window": False, "ceiling": True}
+        self.assertEqual({each: self.live.service(each)["by_hand"] for each in by_hand}, by_hand)
+        self.limit(resource.RLIM_INFINITY)
+        self.assertEqual(self.live.post("/requests", {"action": "brighten"})[0], 200)
+        self.live.kill()
+        self.live.start()
+        self.assertEqual({each: self.live.service(each)["by_hand"] for each in by_hand}, by_hand)
+        self.assertEqual(self.live.service("ceiling")["status"], "frozen")
 
 
 if __name__ == "__main__":

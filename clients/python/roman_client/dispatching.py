@@ -6,6 +6,7 @@ came of it; `Dispatcher` and `aio.Dispatcher` do it.
 
 from __future__ import annotations
 
+import contextlib
 import logging
 from collections import deque
 from dataclasses import dataclass
@@ -459,7 +460,8 @@ class Dispatching(Generic[DeviceKind]):
     def thaw(self, service: str, state: Optional[str]) -> Steps[Repair]:
         """A frozen service is back."""
         if state is not None:
-            yield from self.event(protocol.jump(service, state))
+            with contextlib.suppress(StoreFailed):  # It is written with the next line, or that says why not.
+                yield from self.event(protocol.jump(service, state))
         return (yield from self.event(protocol.thaw(service)))
 
     def join(

@@ -488,6 +488,18 @@ class FullDisk(Stores):
         with self.dispatcher() as dispatcher:
             self.assertEqual(dispatcher.report(), report)
 
+    def test_one_that_is_back_elsewhere_is_thawed_all_the_same(self) -> None:
+        with self.dispatcher() as dispatcher:
+            dispatcher.freeze("window")
+            with self.full(more=10), self.assertRaises(roman.StoreFailed):
+                dispatcher.thaw("window", "open")
+            dispatcher.jumpenv("dusk")
+            report = dispatcher.report()
+            window = report.services[0]
+            self.assertEqual((window.name, window.state, window.frozen), ("window", "open", False))
+        with self.dispatcher() as dispatcher:
+            self.assertEqual(dispatcher.report(), report)
+
     def test_whoever_watches_is_told_what_happened_all_the_same(self) -> None:
         notices: List[Any] = []
         with self.dispatcher(watch=notices.append) as dispatcher:
