@@ -27,10 +27,13 @@ from roman_client import (
     NoComposition,
     NoReply,
     Notice,
+    ProgramEnded,
     Recovery,
     Refusal,
     Restarted,
+    StoreBroken,
     StoreFailed,
+    StoreLocked,
     Verdict,
     aio,
     protocol,
@@ -61,6 +64,9 @@ FIRST_WORD = 10.0
 
 COMPARED = 3
 """How often it is asked that after the broker was gone: it may find its way to the broker later than the home."""
+
+REFUSED = (3, 4)
+"""The statuses of the program for a document that it refuses, or that is too large."""
 
 Value = TypeVar("Value")
 
@@ -135,6 +141,11 @@ class Home:
         self.session = aio.Session(self.file.document.name, program=program, folder=folder, timeout=seconds)
         try:
             await self.session.begin()
+        except ProgramEnded as error:
+            if error.status not in REFUSED:
+                raise
+            hint = f"roman-lint {self.file.document} says where"
+            raise HomeFileError(f"{self.file.path}: document: {error}; {hint}") from None
         except NoReply as error:
             raise NoProgram(
                 f"{self.file.path}: program is {program!r}, which gave {error}; program_seconds gives it more"
@@ -224,8 +235,13 @@ class Home:
         )
         try:
             await self.dispatcher.begin()
+        except StoreLocked as error:
+            raise StoreLocked(f"{error}; does this home run already?") from None
+        except StoreBroken as error:
+            anew = "without it the home begins anew, with the states of the document"
+            raise HomeFileError(f"{self.file.path}: journal.path: {error}; {anew}") from None
         except ValueError as error:
-            raise HomeFileError(f"{self.file.path}: {error}") from None
+            raise HomeFileError(f"{self.file.path}: {error}, which the journal has") from None
         report = await self.dispatcher.report()
         self.known.take(report)
         self.shown.begin(report)

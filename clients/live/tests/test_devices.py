@@ -254,6 +254,7 @@ class Serving(Devices):
         second.start(wait=False)
         self.assertEqual(second.process.wait(PATIENCE), 3)
         self.assertIn("another dispatcher is at work on", second.text())
+        self.assertIn("does this home run already?", second.text())
 
     def test_the_state_is_on_the_broker(self) -> None:
         states: List[Dict[str, Any]] = []

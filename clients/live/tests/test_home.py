@@ -162,6 +162,29 @@ class Beginning(InProcess):
             with mock.patch(f"{__name__}.PROGRAM", "/nowhere"):
                 await self.begin("home")
 
+    async def test_a_document_that_is_refused(self) -> None:
+        text = Path(sample("home.json")).read_text(encoding="utf-8")
+        wrong = text.replace('["dusk", "brighten", "dusk"]', '["dusk", "brighten", "night"]')
+        (self.folder / "mine.json").write_text(wrong, encoding="utf-8")
+        (self.folder / "home.toml").write_text(f'document = "mine.json"\nprogram = "{PROGRAM}"\n', encoding="utf-8")
+        with self.assertRaisesRegex(HomeFileError, "home.toml: document: .* refused .*; roman-lint /.*/mine.json says"):
+            await Home(HomeFile.read(self.folder / "home.toml")).begin()
+
+    async def test_a_journal_of_another_document(self) -> None:
+        journal = '[journal]\npath = "journal"'
+        await (await self.begin("home", journal)).close()
+        with self.assertRaisesRegex(HomeFileError, "journal.path: .* of another document, .* begins anew"):
+            await self.begin("depot", journal)
+
+    async def test_a_table_that_the_journal_needs(self) -> None:
+        journal = '[journal]\npath = "journal"'
+        with mock.patch.dict(SERVICES, home=(*HOME, "spare")):
+            home = await self.begin("home", journal)
+        await home.join("spare", "lamp", "off", False)
+        await home.close()
+        with self.assertRaisesRegex(HomeFileError, "no device for the service spare, which the journal has"):
+            await self.begin("home", journal)
+
     async def test_a_service_that_is_new_in_the_document(self) -> None:
         journal = '[journal]\npath = "journal"'
         home = await self.begin("home", journal)

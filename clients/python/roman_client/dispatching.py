@@ -269,7 +269,7 @@ class Dispatching(Generic[DeviceKind]):
         if self.document is None:
             self.document = head.snapshot.document
         if not self.document.has_same_machines(head.snapshot.document):
-            raise StoreBroken(f"{journal.path} is the journal of another document")
+            raise StoreBroken(f"{journal.path} is the journal of another document, or of this one before an edit")
         yield from self._replay_surely()
         self._take_services((yield from self._surely(protocol.report())))
         LOG.info("%s: goes on after %s requests", journal.path, self.served)
