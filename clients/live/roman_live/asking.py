@@ -2,27 +2,40 @@
 
 from __future__ import annotations
 
+import os
 import sys
 from typing import Any, Mapping, Optional
 
 import aiohttp
 
 from .homefile import HomeFile
+from .troubles import Nobody
 
 SERVED, NOT_SERVED = 0, 1
 
 
 async def ask(file: HomeFile, action: str, key: Optional[str]) -> int:
-    """Asks for an action, and says what came of it. Gives the status."""
+    """Asks for an action, and says what came of it. Gives the status. Raises Nobody where no home answers."""
     page = file.page
     host = {"0.0.0.0": "127.0.0.1", "::": "::1"}.get(page.host, page.host)
     url = f"http://[{host}]:{page.port}" if ":" in host else f"http://{host}:{page.port}"
     headers = {} if page.token is None else {"Authorization": f"Bearer {page.token}"}
     body = {"action": action, "wait": True, "key": key}
     timeout = aiohttp.ClientTimeout(total=None)
-    async with aiohttp.ClientSession(headers=headers, timeout=timeout) as client:
-        async with client.post(f"{url}/requests", json=body) as response:
-            value = await response.json()
+    try:
+        async with aiohttp.ClientSession(headers=headers, timeout=timeout) as client:
+            async with client.post(f"{url}/requests", json=body) as response:
+                value = await response.json()
+    except aiohttp.ClientConnectorError as error:
+        number = error.os_error.errno
+        why = os.strerror(number) if number else error.os_error
+        raise Nobody(f"nobody is at {url}: {why}; does {file.path} run?") from None
+    except (aiohttp.ContentTypeError, ValueError):
+        value = None
+    except aiohttp.ClientError as error:
+        raise Nobody(f"{url} didn't answer to its end, and {action} may be served: {error}") from None
+    if not isinstance(value, dict) or not ("served_by" in value or "error" in value):
+        raise Nobody(f"what is at {url} is no home: it answered with status {response.status}")
     for failure in value.get("failures", ()):
         print(f"{failure['service']} failed: {failure['error']}", file=sys.stderr)
     if response.status == 200:

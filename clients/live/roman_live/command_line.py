@@ -11,7 +11,6 @@ import signal
 import sys
 from typing import Sequence
 
-from aiohttp import ClientError
 from roman_client import RomanError
 
 from .asking import ask
@@ -70,7 +69,7 @@ def main(words: Sequence[str]) -> int:
     except HomeFileError as error:
         print(f"roman-live: {error}", file=sys.stderr)
         return USAGE
-    except (ClientError, OSError, RomanError) as error:
+    except (OSError, RomanError) as error:
         print(f"roman-live: {error}", file=sys.stderr)
         return FAILED
     except KeyboardInterrupt:
@@ -93,9 +92,12 @@ async def begun(home: Home, ending: asyncio.Event) -> bool:
 
 
 async def run(file: HomeFile, simulate: bool) -> None:
-    """Runs a home until it is ended by SIGTERM or SIGINT."""
+    """Runs a home until it is ended: by SIGTERM, by SIGINT, or by SIGHUP, where its terminal is closed."""
     ending = asyncio.Event()
-    for each in (signal.SIGTERM, signal.SIGINT):
+    ends = [signal.SIGTERM, signal.SIGINT]
+    if signal.getsignal(signal.SIGHUP) != signal.SIG_IGN:  # It is below nohup.
+        ends.append(signal.SIGHUP)
+    for each in ends:
         asyncio.get_running_loop().add_signal_handler(each, ending.set)
     home = Home(file, simulate=simulate)
     server = Server(home, file.page)
@@ -109,6 +111,8 @@ async def run(file: HomeFile, simulate: bool) -> None:
         print(f"{file.document.name} is at {server.url}/", flush=True)
         await supervisor.watch(ending)
         supervisor.stopping()
+        if not simulate and home.open:
+            LOG.warning("a device is at work, and has %g seconds to come to its end", PATIENCE)
         if not simulate and not await home.settle(PATIENCE):
             LOG.warning("a device is still at work; the next start finds out what came of it")
             logging.shutdown()

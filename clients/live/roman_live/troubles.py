@@ -28,6 +28,10 @@ class NoProgram(RomanError):
     """The program can't be started, or says nothing."""
 
 
+class Nobody(RomanError):
+    """No home answers."""
+
+
 class NoRoom(RomanError):
     """A file that the home needs can't be read or written now, as on a full disk."""
 

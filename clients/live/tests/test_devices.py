@@ -224,7 +224,7 @@ class Serving(Devices):
         asking.join(PATIENCE)
         self.assertEqual(answers[0][0], 200)
         self.assertEqual(self.live.process.wait(PATIENCE), 0)
-        self.assertEqual(self.live.text(), "")
+        self.assertEqual(self.live.text(), "roman_live: a device is at work, and has 20 seconds to come to its end\n")
         self.live.start()
         self.assertEqual(self.live.state()["counts"]["served"], 1)
         self.assertEqual(self.live.service("window")["status"], "ready")

@@ -2,10 +2,13 @@
 
 import json
 import resource
+import signal
 import subprocess
 import tempfile
+import threading
 import unittest
 import urllib.request
+from http.server import BaseHTTPRequestHandler, HTTPServer
 from pathlib import Path
 from typing import Any, Dict, List
 
@@ -186,7 +189,18 @@ class Api(Served):
         self.assertEqual((done.returncode, done.stdout), (1, ""))
         self.assertEqual(done.stderr, "brighten: not allowed\nallowed: boil\n")
         self.assertEqual(self.live.stop(), 0)
-        self.assertEqual(ask("boil").returncode, 3)
+        done = ask("boil")
+        self.assertEqual(done.returncode, 3)
+        self.assertRegex(done.stderr, f"nobody is at {self.live.url}: .*refused; does /.*/home.toml run")
+        with HTTPServer(("127.0.0.1", self.live.port), BaseHTTPRequestHandler) as other:
+            threading.Thread(target=other.handle_request, daemon=True).start()
+            done = ask("boil")
+        self.assertEqual(done.returncode, 3)
+        self.assertIn(f"what is at {self.live.url} is no home: it answered with status 501", done.stderr)
+
+    def test_it_ends_where_its_terminal_is_closed(self) -> None:
+        self.live.process.send_signal(signal.SIGHUP)
+        self.assertEqual(self.live.process.wait(PATIENCE), 0)
 
 
 class Token(Served):
