@@ -38,7 +38,8 @@ class Device:
         self.file = Path(f"{name}.state")
         self.state, self.last = self.remembered()
         self.asks, self.answers = f"demo/{name}/ask", f"demo/{name}/answer"
-        self.client = mqtt.Client()
+        paho2 = getattr(mqtt, "CallbackAPIVersion", None)
+        self.client = mqtt.Client(paho2.VERSION2) if paho2 else mqtt.Client()
         self.client.will_set(self.answers, json.dumps({"gone": True}), qos=1)
         self.client.on_connect = self.connected
         self.client.on_message = self.asked
@@ -54,7 +55,7 @@ class Device:
     def say(self, **answer: Any) -> None:
         self.client.publish(self.answers, json.dumps(answer), qos=1)
 
-    def connected(self, client: Any, data: Any, flags: Any, code: int) -> None:
+    def connected(self, client: Any, data: Any, flags: Any, code: Any, *more: Any) -> None:
         """Listens, and says where it is without being asked."""
         client.subscribe(self.asks, qos=1)
         self.say(state=self.state)

@@ -37,7 +37,7 @@ class Client(mqtt.Client):  # type: ignore[misc]
     ConnectionError, as those of TLS and of a network that is gone: they are told to `failed`, and become one."""
 
     def __init__(self, failed: Callable[[OSError], None]) -> None:
-        super().__init__()
+        super().__init__(*_called_as_before())
         self._failed = failed
 
     def _sock_recv(self, size: int) -> Any:
@@ -57,6 +57,12 @@ class Client(mqtt.Client):  # type: ignore[misc]
         except OSError as error:
             self._failed(error)
             raise ConnectionError(str(error)) from error
+
+
+def _called_as_before() -> List[Any]:
+    """What paho 2 is told, so that it calls back as paho 1 does, which knows no such word."""
+    versions = getattr(mqtt, "CallbackAPIVersion", None)
+    return [] if versions is None else [versions.VERSION1]
 
 
 class Connection:

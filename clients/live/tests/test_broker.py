@@ -7,10 +7,11 @@ import tempfile
 import unittest
 from pathlib import Path
 from typing import List, Tuple
+from unittest import mock
 
 import paho.mqtt.client as mqtt  # type: ignore[import]
 
-from roman_live.broker import REFUSED, Connection
+from roman_live.broker import REFUSED, Client, Connection
 from roman_live.homefile import Broker, Tls
 
 from .machinery import PATIENCE, Mosquitto
@@ -46,6 +47,23 @@ class Later(unittest.IsolatedAsyncioTestCase):
         )
         self.assertTrue(connection.publish_now("home/lamp/ask", {"id": 2}))
         self.assertEqual(await asyncio.wait_for(heard.get(), PATIENCE), ("home/lamp/ask", {"id": 2}))
+
+
+class Versions(unittest.TestCase):
+    def test_paho_2_calls_back_as_paho_1_does(self) -> None:
+        """Debian 12 has paho 1. The clients of paho 2 are made with a word more, in front of the others."""
+        begin = mqtt.Client.__init__
+        words: List[object] = []
+
+        def begun(client: mqtt.Client, *given: object) -> None:
+            words.append(given)
+            begin(client)
+
+        versions = mock.Mock(VERSION1="as paho 1")
+        with mock.patch.object(mqtt.Client, "__init__", begun):
+            with mock.patch.object(mqtt, "CallbackAPIVersion", versions, create=True):
+                Client(lambda error: None)
+        self.assertEqual(words, [("as paho 1",)])
 
 
 class Refused(unittest.IsolatedAsyncioTestCase):

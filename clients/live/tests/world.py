@@ -165,7 +165,7 @@ class MqttDevices:
         self.services = services
         self.subscribed = threading.Event()
         self.heard: List[Told] = []
-        self.client = mqtt.Client(name, clean_session=not name)
+        self.client = mqtt.Client(client_id=name, clean_session=not name)
         self.client.reconnect_delay_set(1, 1)
         self.client.on_connect = self._connected
         self.client.on_subscribe = lambda *words: self.subscribed.set()
