@@ -8,7 +8,6 @@ import contextlib
 import logging
 import os
 import signal
-import sys
 from typing import Sequence
 
 from roman_client import RomanError
@@ -18,7 +17,7 @@ from .home import Home
 from .homefile import HomeFile, HomeFileError
 from .requests import Requests
 from .server import Server
-from .service import Supervisor
+from .service import Supervisor, begin_log, complain
 
 LOG = logging.getLogger("roman_live")
 
@@ -62,15 +61,14 @@ def main(words: Sequence[str]) -> int:
             given = ask_parser().parse_args(words[1:])
             return asyncio.run(ask(HomeFile.read(given.home), given.action, given.key))
         given = parser().parse_args(words)
-        level = logging.INFO if given.verbose else logging.WARNING
-        logging.basicConfig(level=level, format="%(name)s: %(message)s", stream=sys.stderr)
+        begin_log(logging.INFO if given.verbose else logging.WARNING)
         asyncio.run(run(HomeFile.read(given.home), given.simulate))
         return DONE
     except HomeFileError as error:
-        print(f"roman-live: {error}", file=sys.stderr)
+        complain(error)
         return USAGE
     except (OSError, RomanError) as error:
-        print(f"roman-live: {error}", file=sys.stderr)
+        complain(error)
         return FAILED
     except KeyboardInterrupt:
         return INTERRUPTED  # Whoever asked waits no more; the request goes on.

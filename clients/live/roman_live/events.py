@@ -66,9 +66,9 @@ class EventLog:
         self._kept: Deque[Event] = deque(maxlen=KEPT)
         self._listeners: Set[Listener] = set()
 
-    def add(self, kind: str, text: str, **details: Any) -> Event:
-        """Something happened."""
-        LOG.info("%s", text)
+    def add(self, kind: str, text: str, *, level: int = logging.INFO, **details: Any) -> Event:
+        """Something happened, which is logged on that level."""
+        LOG.log(level, "%s", text)
         event = Event(self._next, now(), kind, text, details)
         self._next += 1
         self._kept.append(event)

@@ -252,13 +252,14 @@ class Home:
         if not self.simulate:
             await self._compare_all()
         self._returning.let_all(at_once=True)
-        self.events.add("begun", f"{self.file.document.name} runs")
+        served = self.dispatcher.served
+        since = f"; requests served so far: {served}" if served else ""
+        self.events.add("begun", f"{self.file.document.name} runs{since}")
 
     def _missing(self, service: str) -> None:
         """A service stands in the document and isn't there by the journal."""
         text = f"{service} isn't there by the journal: it is gone, or new in the document; then let it join"
-        LOG.warning("%s", text)
-        self.events.add("missing", text, service=service)
+        self.events.add("missing", text, level=logging.WARNING, service=service)
 
     async def settle(self, seconds: float) -> bool:
         """Takes no more requests, and waits so long for those that are open. Whether they came to their
@@ -529,9 +530,7 @@ class Home:
         future.add_done_callback(made)
 
     def _broker_changed(self, connected: bool, text: str) -> None:
-        self.events.add("broker", text, connected=connected)
-        if not connected:
-            LOG.warning("%s", text)
+        self.events.add("broker", text, level=logging.INFO if connected else logging.WARNING, connected=connected)
         self.dirty.set()
         if not connected or not self._ready:
             return

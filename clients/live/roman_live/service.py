@@ -1,11 +1,51 @@
-"""What systemd is told, where it started this: ready, still alive, stopping."""
+"""What systemd is told, where it started this: ready, still alive, stopping; and how its journal is written."""
 
 from __future__ import annotations
 
 import asyncio
+import logging
 import os
+import sys
 
 from systemd import daemon  # type: ignore[import]
+
+
+PRIORITIES = {logging.WARNING: 4, logging.ERROR: 3, logging.CRITICAL: 2}
+"""The priorities of syslog for the levels of messages. Other messages have that of an information, 6."""
+
+
+def in_journal() -> bool:
+    """Whether systemd's journal reads the standard error."""
+    try:
+        place = os.fstat(sys.stderr.fileno())
+    except (AttributeError, OSError, ValueError):
+        return False
+    return os.environ.get("JOURNAL_STREAM") == f"{place.st_dev}:{place.st_ino}"
+
+
+class Lines(logging.Formatter):
+    """Lines for the journal: each begins with the priority of its message."""
+
+    def format(self, record: logging.LogRecord) -> str:
+        mark = f"<{PRIORITIES.get(record.levelno, 6)}>"
+        return mark + super().format(record).replace("\n", f"\n{mark}")
+
+
+def begin_log(level: int) -> None:
+    """Has messages from that level on written to the standard error."""
+    handler = logging.StreamHandler(sys.stderr)
+    form = "%(name)s: %(message)s"
+    handler.setFormatter(Lines(form) if in_journal() else logging.Formatter(form))
+    logging.basicConfig(level=level, handlers=[handler])
+    # What the client tells of each request the home tells too.
+    logging.getLogger("roman_client").setLevel(logging.WARNING)
+
+
+def complain(error: Exception) -> None:
+    """Says on the standard error why it ends."""
+    mark = f"<{PRIORITIES[logging.ERROR]}>" if in_journal() else ""
+    text = str(error).replace("\n", f"\n{mark}")
+    print(f"{mark}roman-live: {text}", file=sys.stderr)
 
 
 class Supervisor:

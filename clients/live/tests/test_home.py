@@ -204,6 +204,22 @@ class Beginning(InProcess):
         self.assertIn("INFO:roman_live:window is asked to brighten", logged.output)
         self.assertIn("INFO:roman_live:kettle says something", logged.output)
 
+    async def test_each_event_is_logged_once(self) -> None:
+        home = await self.begin("home")
+        with self.assertLogs("roman_live", "INFO") as logged:
+            home._broker_changed(False, "the broker is gone")
+        self.assertEqual(logged.output, ["WARNING:roman_live:the broker is gone"])
+
+    async def test_what_is_known_by_the_journal_is_no_news(self) -> None:
+        journal = '[journal]\npath = "journal"'
+        home = await self.begin("home", journal)
+        await home.request("brighten")
+        await home.close()
+        with self.assertLogs(level="INFO") as logged:
+            await self.begin("home", journal)
+        self.assertFalse([each for each in logged.output if "window served" in each])
+        self.assertIn("INFO:roman_live:home.json runs; requests served so far: 1", logged.output)
+
 
 class ShortForm(InProcess):
     """A home whose document is in the short form."""

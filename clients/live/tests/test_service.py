@@ -1,5 +1,6 @@
-"""roman-live as systemd runs it: it says when it is ready, that it is alive, and that it ends."""
+"""roman-live as systemd runs it: it says when it is ready, that it is alive, that it ends, and what is how bad."""
 
+import logging
 import os
 import socket
 import tempfile
@@ -9,8 +10,10 @@ from pathlib import Path
 from typing import List
 from unittest import mock
 
+from roman_live.service import Lines
+
 from . import sample
-from .machinery import Live, until
+from .machinery import PATIENCE, Live, until
 
 
 class Systemd:
@@ -44,6 +47,27 @@ class Service(unittest.TestCase):
         until(lambda: systemd.heard[-1] == b"STOPPING=1", "its last word")
         self.assertEqual(systemd.heard[0], f"READY=1\nSTATUS=at {live.url}/".encode())
         self.assertEqual(set(systemd.heard[1:-1]), {b"WATCHDOG=1"})
+
+
+class Journal(unittest.TestCase):
+    """systemd's journal reads the priority of a line in front of it."""
+
+    def test_why_it_ends(self) -> None:
+        folder = tempfile.TemporaryDirectory()
+        self.addCleanup(folder.cleanup)
+        live = Live(Path(folder.name), 'document = "none.json"')
+        live.log.touch()
+        place = live.log.stat()
+        with mock.patch.dict(os.environ, JOURNAL_STREAM=f"{place.st_dev}:{place.st_ino}"):
+            live.start(wait=False)
+        self.assertEqual(live.process.wait(PATIENCE), 2)
+        self.assertRegex(live.text(), "^<3>roman-live: .*No such file")
+
+    def test_each_line_of_a_message(self) -> None:
+        lines = Lines("%(name)s: %(message)s")
+        for level, mark in ((logging.INFO, "<6>"), (logging.WARNING, "<4>"), (logging.ERROR, "<3>")):
+            record = logging.LogRecord("live", level, "", 0, "it fails\nand fails", (), None)
+            self.assertEqual(lines.format(record), f"{mark}live: it fails\n{mark}and fails")
 
 
 if __name__ == "__main__":

@@ -306,11 +306,16 @@ class Dispatching(Generic[DeviceKind]):
             raise
         except StoreFailed as error:
             if error.done is not None:
-                yield Notify(error.done)
+                yield from self._served(error.done)
             raise
-        yield Notify(result)
+        yield from self._served(result)
         yield from self._rotate_if_due()
         return result
+
+    def _served(self, done: Done) -> Steps[None]:
+        """Says that a request was served."""
+        LOG.info("%s served %s", done.service, done.action)
+        yield Notify(done)
 
     def _attempt(self, action: str, key: Optional[str]) -> Steps[Optional[Done]]:
         """Gives the request to one service. None where that failed."""
@@ -394,7 +399,7 @@ class Dispatching(Generic[DeviceKind]):
             report = yield from self._surely(protocol.report())
             refusal.frozen = tuple(each.name for each in report.services if each.frozen)
             refusal.failures = tuple(self._failures)
-            LOG.warning("%s has no composition; frozen: %s", action, ", ".join(refusal.frozen))
+            LOG.warning("%s has no composition; frozen: %s", action, ", ".join(refusal.frozen) or "none")
             raise
         self._open = True
         return offer
@@ -638,7 +643,6 @@ class Dispatching(Generic[DeviceKind]):
             call.request, call.service, outcome[0], move.target, move.environment, failures
         )
         self._keep(call, done)
-        LOG.info("%s served %s", call.service, call.request)
         return done
 
     def _keep(self, call: Call, done: Optional[Done] = None) -> None:
