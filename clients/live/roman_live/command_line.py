@@ -36,9 +36,10 @@ def parser() -> argparse.ArgumentParser:
     """The words of the command."""
     words = argparse.ArgumentParser(
         prog="roman-live",
-        usage="roman-live [--simulate] [--verbose] HOME.toml\n       roman-live ask [--key KEY] HOME.toml ACTION",
+        usage="roman-live [--check] [--simulate] [--verbose] HOME.toml\n       roman-live ask [--key KEY] HOME.toml ACTION",
         description="Runs the home that HOME.toml describes, until it is ended; or asks a running one for an action.",
     )
+    words.add_argument("--check", action="store_true", help="say what is wrong with the file, and ask no device")
     words.add_argument("--simulate", action="store_true", help="play all devices by hand, on the page")
     words.add_argument("--verbose", action="store_true", help="say each event")
     words.add_argument("home", metavar="HOME.toml")
@@ -62,6 +63,10 @@ def main(words: Sequence[str]) -> int:
             return asyncio.run(ask(HomeFile.read(given.home), given.action, given.key))
         given = parser().parse_args(words)
         begin_log(logging.INFO if given.verbose else logging.WARNING)
+        if given.check:
+            asyncio.run(Home(HomeFile.read(given.home), simulate=given.simulate).check())
+            print(f"{given.home}: nothing is wrong")
+            return DONE
         asyncio.run(run(HomeFile.read(given.home), given.simulate))
         return DONE
     except HomeFileError as error:

@@ -47,7 +47,7 @@ from .devices import Answer, Reach, Simulated
 from .devices.making import make_reach
 from .events import EventLog, now
 from .homefile import HomeFile, HomeFileError, Policy
-from .kept import Kept
+from .kept import Kept, check_journal
 from .known import Knowledge
 from .metrics import Metrics
 from .policies import Choose, make_policy
@@ -131,6 +131,34 @@ class Home:
     async def begin(self) -> None:
         """Starts the program, reaches for the devices, and goes on from the journal. Raises HomeFileError,
         or the errors of the client."""
+        await self._begin_session()
+        try:
+            self._make_devices()
+            await self._open_devices()
+            await self._begin_dispatcher()
+        except BaseException:
+            await self.close()
+            raise
+        if self.broker is not None:
+            self.broker.subscribe(self.broker.state_topic, self.shown.hear_state)
+        self._spawn(self.shown.publish())
+
+    async def check(self) -> None:
+        """Raises what `begin` would raise, as far as that is known without asking a broker or a device. It may be
+        called while the home runs."""
+        await self._begin_session()
+        try:
+            self._make_devices()
+            for service, device in self.devices.items():
+                if not device.reach.may_begin():
+                    raise HomeFileError(f"{self.file.path}: devices.{service}.command can't be run")
+            if self.file.journal is not None:
+                check_journal(self.file.journal, self.document)
+        finally:
+            await self.close()
+
+    async def _begin_session(self) -> None:
+        """Starts the program on the document."""
         try:
             folder = self._plain_folder()
             self.document = Document.load(self.file.document.name, folder)
@@ -154,17 +182,6 @@ class Home:
             raise NoProgram(
                 f"{self.file.path}: program is {program!r}, which can't be started: {error.strerror}"
             ) from None
-        try:
-            policy = Policy() if self.simulate else self.file.policy
-            self._policy = make_policy(policy, self.session, program, seconds)
-            await self._open_devices()
-            await self._begin_dispatcher()
-        except BaseException:
-            await self.close()
-            raise
-        if self.broker is not None:
-            self.broker.subscribe(self.broker.state_topic, self.shown.hear_state)
-        self._spawn(self.shown.publish())
 
     def _plain_folder(self) -> Path:
         """The folder in which the document stands in its plain form, under its own name. Raises
@@ -188,8 +205,10 @@ class Home:
         name = self.file.program
         return str(self.file.path.parent / name) if "/" in name else name
 
-    async def _open_devices(self) -> None:
-        """Makes what each service is reached by, and opens it."""
+    def _make_devices(self) -> None:
+        """Makes the policy, and what each service is reached by."""
+        policy = Policy() if self.simulate else self.file.policy
+        self._policy = make_policy(policy, self.session, self._program(), self.file.program_seconds)
         opening = self.session.opening
         self.known.environment = opening.environment
         for service in self.document.services:
@@ -207,6 +226,9 @@ class Home:
                 self.broker = Connection(self.file.mqtt, self._broker_changed)
         for name in names:
             self.devices[name] = self._make_device(name)
+
+    async def _open_devices(self) -> None:
+        """Opens what each service is reached by."""
         if self.broker is not None:
             await self.broker.open()
         for device in self.devices.values():

@@ -9,6 +9,9 @@ import time
 from pathlib import Path
 from typing import Iterable, Set
 
+from roman_client import Document
+from roman_client.journal import Head
+
 from .homefile import HomeFileError
 from .troubles import NoRoom
 
@@ -16,6 +19,26 @@ LOG = logging.getLogger("roman_live")
 
 NUMBERS_A_SECOND = 1_000_000
 """More calls than can be made in a second, so that the numbers of two journals are never the same."""
+
+
+def check_journal(journal: Path, document: Document) -> None:
+    """Raises HomeFileError where a journal isn't one of this document. It may be in use."""
+    _check_folder(journal)
+    try:
+        with journal.open("rb") as file:
+            head = Head.of_json(json.loads(file.readline()))
+    except FileNotFoundError:
+        return
+    except Exception as error:
+        raise HomeFileError(f"journal.path is {str(journal)!r}, which is no journal: {error!r}") from None
+    if not document.has_same_machines(head.snapshot.document):
+        raise HomeFileError(f"journal.path is {str(journal)!r}, the journal of another document, or of this one before an edit")
+
+
+def _check_folder(journal: Path) -> None:
+    """Raises HomeFileError where the folder of a journal isn't there."""
+    if not journal.parent.is_dir():
+        raise HomeFileError(f"journal.path is {str(journal)!r}, and there is no folder {journal.parent}")
 
 
 class Kept:
@@ -28,8 +51,7 @@ class Kept:
         self.first = int(time.time()) * NUMBERS_A_SECOND
         self.held: Set[str] = set()
         self._written = True
-        if not journal.parent.is_dir():
-            raise HomeFileError(f"journal.path is {str(journal)!r}, and there is no folder {journal.parent}")
+        _check_folder(journal)
         try:
             if journal.exists() and self._path.exists():
                 self._read()

@@ -221,6 +221,44 @@ class Beginning(InProcess):
         self.assertIn("INFO:roman_live:home.json runs; requests served so far: 1", logged.output)
 
 
+class Checked(InProcess):
+    """What `roman-live --check` finds, also while the home runs."""
+
+    async def check(self, more: str = "") -> None:
+        file = self.folder / "home.toml"
+        text = file.read_text(encoding="utf-8")
+        file.write_text(text + more, encoding="utf-8")
+        await Home(HomeFile.read(file)).check()
+
+    async def test_nothing_is_wrong_and_nobody_is_asked(self) -> None:
+        with self.assertLogs("roman_live", "WARNING"):  # There is no broker.
+            await self.begin("home", '[journal]\npath = "journal"\n[mqtt]\nport = 1')
+        written = (self.folder / "journal").read_bytes()
+        self.told.clear()
+        await self.check()
+        self.assertEqual((self.asked, self.told), ([], []))
+        self.assertEqual((self.folder / "journal").read_bytes(), written)
+
+    async def test_a_journal_of_another_document(self) -> None:
+        journal = '[journal]\npath = "journal"'
+        await (await self.begin("home", journal)).close()
+        with self.assertRaisesRegex(HomeFileError, "of another document"):
+            await self.begin("depot", journal)
+        with self.assertRaisesRegex(HomeFileError, "journal.path is '/.*/journal', the journal of another document"):
+            await self.check()
+        (self.folder / "journal").write_text("hello\n", encoding="utf-8")
+        with self.assertRaisesRegex(HomeFileError, "journal.path is '/.*/journal', which is no journal"):
+            await self.check()
+
+    async def test_a_command_that_is_not_there(self) -> None:
+        await (await self.begin("home")).close()
+        spare = '[devices.spare]\nreach = "command"\ncommand = ["./spare"]'
+        with self.assertRaisesRegex(HomeFileError, "home.toml: devices.spare.command can't be run"):
+            await self.check(spare)
+        (self.folder / "spare").touch(mode=0o755)
+        await self.check()
+
+
 class ShortForm(InProcess):
     """A home whose document is in the short form."""
 

@@ -51,6 +51,10 @@ class Reach:
         self.service = service
         self.listener = listener
 
+    def may_begin(self) -> bool:
+        """Whether what it is reached by is there, as far as that is known without asking it."""
+        return True
+
     async def open(self) -> None:
         """Makes it ready to be asked."""
 

@@ -6,6 +6,7 @@ import asyncio
 import contextlib
 import os
 import re
+import shutil
 import signal
 from typing import Any, Dict, Iterator, Optional, Set, Tuple
 
@@ -32,6 +33,9 @@ class Command(Reach):
         super().__init__(service, listener)
         self._entry = entry
         self._left: Optional[asyncio.SubprocessTransport] = None
+
+    def may_begin(self) -> bool:
+        return _is_there(self._entry)
 
     async def ask(self, number: int, call: Call) -> Answer:
         return await self._run(call.action, number)
@@ -114,6 +118,9 @@ class KeptCommand(Reach):
         self._waiting: Optional[Tuple[int, asyncio.Future[Answer]]] = None
         self._last = 0
         self._turn = asyncio.Lock()
+
+    def may_begin(self) -> bool:
+        return _is_there(self._entry)
 
     async def close(self) -> None:
         if self._process is not None:
@@ -244,6 +251,12 @@ def _around(entry: CommandReach, number: Optional[int]) -> Dict[str, Any]:
     environment."""
     known = {} if number is None else {"ROMAN_CALL": str(number)}
     return {"cwd": entry.folder, "env": {**os.environ, **known}, "start_new_session": True}
+
+
+def _is_there(entry: CommandReach) -> bool:
+    """Whether a command is there, and may be run."""
+    word = entry.command[0]
+    return shutil.which(str(entry.folder / word) if "/" in word else word) is not None
 
 
 @contextlib.contextmanager
