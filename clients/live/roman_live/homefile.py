@@ -320,11 +320,24 @@ def _home_file(path: Path, table: Table) -> HomeFile:
         table.take("program_seconds", seconds, 120.0),
     )
     table.end()
-    if home.mqtt is None:
-        for name, entry in home.devices.items():
-            if entry.reached == "mqtt":
-                raise HomeFileError(f"devices.{name}.reach is 'mqtt', and there is no table [mqtt]")
+    _check_topics(home)
     return home
+
+
+def _check_topics(home: HomeFile) -> None:
+    """Raises HomeFileError where a topic is named and there is no broker, or where it has two uses: then it can't
+    be told whose question or answer comes on it."""
+    own = ("requests", "answers", "environment", "state")
+    taken = {} if home.mqtt is None else {f"{home.mqtt.prefix}/{each}": "one of mqtt.prefix" for each in own}
+    for name, entry in home.devices.items():
+        if not isinstance(entry.reach, MqttReach):
+            continue
+        if home.mqtt is None:
+            raise HomeFileError(f"devices.{name}.reach is 'mqtt', and there is no table [mqtt]")
+        for key, topic in (("ask", entry.reach.ask), ("answer", entry.reach.answer)):
+            if topic in taken:
+                raise HomeFileError(f"devices.{name}.{key} is {topic!r}, and so is {taken[topic]}")
+            taken[topic] = f"devices.{name}.{key}"
 
 
 def _policy(table: Optional[Table], folder: Path) -> Policy:
@@ -380,6 +393,8 @@ def _broker(table: Optional[Table], folder: Path) -> Optional[Broker]:
         tls,
     )
     table.end()
+    if broker.password is not None and broker.username is None:
+        raise table.wrong("username", "is missing, whose password password_file has")
     return broker
 
 

@@ -86,6 +86,16 @@ WRONG = (
     (f'{DEVICE}"radio"', "devices.fan.reach is 'radio', and not one of 'mqtt', 'http'"),
     (f'{DEVICE}"mqtt"\nask = "a"', "devices.fan.answer is missing"),
     (f'{DEVICE}"mqtt"\nask = "a"\nanswer = "b"', "devices.fan.reach is 'mqtt', and there is no table [mqtt]"),
+    ('document = "h"\n[mqtt]\npassword_file = "token"', "mqtt.username is missing, whose password"),
+    (f'{DEVICE}"mqtt"\nask = "a"\nanswer = "a"\n[mqtt]', "devices.fan.answer is 'a', and so is devices.fan.ask"),
+    (
+        f'{DEVICE}"mqtt"\nask = "a"\nanswer = "b"\n[devices.lamp]\nreach = "mqtt"\nask = "c"\nanswer = "b"\n[mqtt]',
+        "devices.lamp.answer is 'b', and so is devices.fan.answer",
+    ),
+    (
+        f'{DEVICE}"mqtt"\nask = "roman/requests"\nanswer = "b"\n[mqtt]',
+        "devices.fan.ask is 'roman/requests', and so is one of mqtt.prefix",
+    ),
     (f'{DEVICE}"http"\nurl = "ftp://x"', "devices.fan.url is 'ftp://x', and not a URL"),
     (f'{DEVICE}"http"\nurl = "http://x"\nseconds = 0', "devices.fan.seconds is 0, and not a number"),
     (f'{DEVICE}"command"\ncommand = "./x"', "devices.fan.command is './x', and not a list"),
