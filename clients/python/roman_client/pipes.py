@@ -30,6 +30,7 @@ class Pipes:
             stderr=subprocess.PIPE,
             cwd=start.folder,
             bufsize=0,
+            start_new_session=True,  # Ctrl-C is for whoever talks to it.
         )
         assert self.process.stdin is not None
         os.set_blocking(self.process.stdin.fileno(), False)

@@ -51,6 +51,10 @@ async def played(code: str, timeout: Optional[float] = None) -> AsyncIterator[ai
 
 
 class Sessions(unittest.IsolatedAsyncioTestCase):
+    async def test_ctrl_c_does_not_reach_the_program(self) -> None:
+        async with lamp() as session:
+            self.assertEqual(os.getsid(session.pid), session.pid)
+
     async def test_the_events(self) -> None:
         async with home() as session:
             self.assertEqual(session.opening.target, "quiet")

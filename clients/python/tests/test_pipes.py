@@ -51,6 +51,11 @@ class Pipes(unittest.TestCase):
         self.assertEqual(caught.exception.status, status)
         return caught.exception
 
+    def test_ctrl_c_does_not_reach_the_program(self) -> None:
+        with session(f"time.sleep({LONG})") as talk:
+            self.assertEqual(os.getsid(talk.pid), talk.pid)
+            os.kill(talk.pid, signal.SIGKILL)
+
     def test_a_program_that_ends_at_once(self) -> None:
         with self.assertRaises(roman.ProgramEnded) as caught:
             Session("system", program=[sys.executable, "-c", "raise SystemExit(9)"])

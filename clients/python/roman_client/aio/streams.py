@@ -33,6 +33,7 @@ class Streams:
             stderr=asyncio.subprocess.PIPE,
             cwd=start.folder,
             limit=LONGEST_LINE,
+            start_new_session=True,  # Ctrl-C is for whoever talks to it.
         )
         return cls(process, timeout)
 
