@@ -1,5 +1,6 @@
 """roman-live as systemd runs it: it says when it is ready, that it is alive, that it ends, and what is how bad."""
 
+import configparser
 import logging
 import os
 import socket
@@ -10,9 +11,11 @@ from pathlib import Path
 from typing import List
 from unittest import mock
 
+from roman_live.command_line import PATIENCE as PATIENCE_OF_THE_HOME
+from roman_live.command_line import USAGE
 from roman_live.service import Lines
 
-from . import sample
+from . import LIVE, sample
 from .machinery import PATIENCE, Live, until
 
 
@@ -47,6 +50,17 @@ class Service(unittest.TestCase):
         until(lambda: systemd.heard[-1] == b"STOPPING=1", "its last word")
         self.assertEqual(systemd.heard[0], f"READY=1\nSTATUS=at {live.url}/".encode())
         self.assertEqual(set(systemd.heard[1:-1]), {b"WATCHDOG=1"})
+
+
+class Unit(unittest.TestCase):
+    def test_how_it_ends_and_is_started_again(self) -> None:
+        """What a device does isn't cut short by a stop, and a wrong file isn't tried for ever."""
+        unit = configparser.ConfigParser(strict=False, interpolation=None)
+        unit.read(LIVE / "roman-live.service", encoding="utf-8")
+        service = unit["Service"]
+        self.assertEqual(service["KillMode"], "mixed")
+        self.assertEqual(service["RestartPreventExitStatus"], str(USAGE))
+        self.assertGreater(90, PATIENCE_OF_THE_HOME)  # That of systemd, before it kills.
 
 
 class Journal(unittest.TestCase):
