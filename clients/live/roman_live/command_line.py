@@ -111,6 +111,9 @@ async def run(file: HomeFile, simulate: bool) -> None:
         await server.begin()
         supervisor = Supervisor()
         supervisor.ready(server.url)
+        if supervisor.listens:
+            home.shown.listener = supervisor.status
+            home.dirty.set()
         print(f"{file.document.name} is at {server.url}/", flush=True)
         await supervisor.watch(ending)
         supervisor.stopping()

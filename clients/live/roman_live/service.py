@@ -54,10 +54,20 @@ class Supervisor:
     def __init__(self) -> None:
         microseconds = os.environ.get("WATCHDOG_USEC", "")
         self._period = int(microseconds) / 2_000_000 if microseconds.isdecimal() else None
+        self.listens = "NOTIFY_SOCKET" in os.environ
+        self._url = ""
+        self._status = ""
 
     def ready(self, url: str) -> None:
         """The home runs, and its page is there."""
+        self._url = url
         daemon.notify(f"READY=1\nSTATUS=at {url}/")
+
+    def status(self, text: str) -> None:
+        """How it is with the home, which `systemctl status` shows."""
+        if self._url and text != self._status:
+            self._status = text
+            daemon.notify(f"STATUS=at {self._url}/: {text}")
 
     def stopping(self) -> None:
         """The home is about to end."""

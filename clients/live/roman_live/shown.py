@@ -6,7 +6,7 @@ import asyncio
 import contextlib
 import json
 import logging
-from typing import TYPE_CHECKING, Any, Dict, List, Optional, Tuple
+from typing import TYPE_CHECKING, Any, Callable, Dict, List, Optional, Tuple
 
 from roman_client import Explanation, Report, RomanError, SessionOver
 
@@ -29,6 +29,8 @@ class Shown:
 
     def __init__(self, home: Home) -> None:
         self._home = home
+        self.listener: Optional[Callable[[str], None]] = None
+        """Is told in a line how it is with the home, whenever that may have changed."""
         self._report: Report
         self._explained: Optional[Tuple[Report, Optional[Explanation]]] = None
 
@@ -154,9 +156,21 @@ class Shown:
                     self._home.events.send(Message("state", await self.state()))
                 if self._home.broker is not None:
                     self._home.broker.publish_now(self._home.broker.state_topic, await self._summary(), retain=True)
+                if self.listener is not None:
+                    self.listener(self._line(await self._present_report()))
             except TROUBLE as error:
                 LOG.warning("the state can't be had: %s", error)
             await asyncio.sleep(BETWEEN_STATES)
+
+    def _line(self, report: Report) -> str:
+        """How it is with the home, in a line."""
+        words = ["there is a composition" if report.composition else "there is no composition"]
+        frozen = [each.name for each in report.services if each.frozen]
+        if frozen:
+            words.append(f"frozen: {', '.join(frozen)}")
+        if self._home.broker is not None and not self._home.broker.connected:
+            words.append("the broker is away")
+        return "; ".join(words)
 
     def hear_state(self, payload: bytes, retained: bool) -> None:
         """What stands for the state on the broker. It is said anew where it is that the home is gone: so says a

@@ -45,11 +45,18 @@ class Service(unittest.TestCase):
         self.addCleanup(live.kill)
         until(lambda: systemd.heard, "its first word")
         self.assertEqual(live.get("/state")[0], 200)
-        until(lambda: len(systemd.heard) >= 3, "what says that it is alive")
+        until(lambda: b"WATCHDOG=1" in systemd.heard, "what says that it is alive")
+        for service in ("window", "ceiling"):
+            self.assertEqual(live.post(f"/services/{service}/freeze", {})[0], 200)
+        lines = [
+            f"STATUS=at {live.url}/: there is {text}".encode()
+            for text in ("a composition", "a composition; frozen: window", "no composition; frozen: window, ceiling")
+        ]
+        until(lambda: lines[-1] in systemd.heard, "how it is with the home")
         self.assertEqual(live.stop(), 0)
         until(lambda: systemd.heard[-1] == b"STOPPING=1", "its last word")
         self.assertEqual(systemd.heard[0], f"READY=1\nSTATUS=at {live.url}/".encode())
-        self.assertEqual(set(systemd.heard[1:-1]), {b"WATCHDOG=1"})
+        self.assertLessEqual(set(systemd.heard[1:-1]), {b"WATCHDOG=1", *lines})
 
 
 class Unit(unittest.TestCase):
