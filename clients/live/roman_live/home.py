@@ -47,7 +47,7 @@ from .devices import Answer, Reach, Simulated
 from .devices.making import make_reach
 from .events import EventLog, now
 from .homefile import HomeFile, HomeFileError, Policy
-from .kept import Kept, check_journal
+from .kept import ANEW, Kept, check_journal
 from .known import Knowledge
 from .metrics import Metrics
 from .policies import Choose, make_policy
@@ -260,8 +260,7 @@ class Home:
         except StoreLocked as error:
             raise StoreLocked(f"{error}; does this home run already?") from None
         except StoreBroken as error:
-            anew = "without it the home begins anew, with the states of the document"
-            raise HomeFileError(f"{self.file.path}: journal.path: {error}; {anew}") from None
+            raise HomeFileError(f"{self.file.path}: journal.path: {error}; {ANEW}") from None
         except ValueError as error:
             raise HomeFileError(f"{self.file.path}: {error}, which the journal has") from None
         report = await self.dispatcher.report()

@@ -21,6 +21,10 @@ NUMBERS_A_SECOND = 1_000_000
 """More calls than can be made in a second, so that the numbers of two journals are never the same."""
 
 
+ANEW = "without it the home begins anew, with the states of the document"
+"""What a person may do about a journal that can't be used."""
+
+
 def check_journal(journal: Path, document: Document) -> None:
     """Raises HomeFileError where a journal isn't one of this document. It may be in use."""
     _check_folder(journal)
@@ -32,7 +36,8 @@ def check_journal(journal: Path, document: Document) -> None:
     except Exception as error:
         raise HomeFileError(f"journal.path is {str(journal)!r}, which is no journal: {error!r}") from None
     if not document.has_same_machines(head.snapshot.document):
-        raise HomeFileError(f"journal.path is {str(journal)!r}, the journal of another document, or of this one before an edit")
+        other = "the journal of another document, or of this one before an edit"
+        raise HomeFileError(f"journal.path is {str(journal)!r}, {other}; {ANEW}")
 
 
 def _check_folder(journal: Path) -> None:
