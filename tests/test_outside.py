@@ -19,8 +19,8 @@ from . import PROGRAM, TOP
 Ended = "subprocess.CompletedProcess[str]"
 
 TOOLS = ("roman-lint", "roman-expand", "roman-talk", "roman-draw")
-NAMES = ("roman", *TOOLS)
-"""The commands that are installed, but for roman-live."""
+NAMES = ("roman", "roman-live", *TOOLS)
+"""The commands that are installed."""
 
 
 def run(*words: str, **options: Any) -> Ended:
@@ -628,7 +628,7 @@ class Manual(unittest.TestCase):
 
 class Completion(unittest.TestCase):
     def complete(self, *words: str) -> List[str]:
-        job = "_roman" if words[0] == "roman" else "_roman_tool"
+        job = {"roman": "_roman", "roman-live": "_roman_live"}.get(words[0], "_roman_tool")
         script = (
             f"source tools/roman.bash; COMP_WORDS=(\"$@\"); COMP_CWORD=$(($# - 1)); {job};"
             ' printf "%s\\n" "${COMPREPLY[@]}"'
@@ -661,8 +661,19 @@ class Completion(unittest.TestCase):
                 self.assertEqual(self.complete(tool, "samples/ho"), ["samples/home.json"])
         self.assertEqual(self.complete("roman-draw", "--explanation", "samples/home.s"), ["samples/home.session"])
 
+    def test_roman_live(self) -> None:
+        demo = "clients/live/demo/home.toml"
+        for words in ((), ("ask",)):
+            with self.subTest(words):
+                usage = run(str(TOP / "clients/live/roman-live"), *words, "--help").stdout
+                told = set(re.findall(r"(?m)^  (?:-h, )?(--[a-z]+)", usage))
+                self.assertEqual(set(self.complete("roman-live", *words, "-")), told)
+                self.assertEqual(self.complete("roman-live", *words, demo[:-5]), [demo])
+        self.assertEqual(self.complete("roman-live", "as"), ["ask"])
+        self.assertEqual(self.complete("roman-live", "ask", demo, ""), [])
+
     def test_it_is_registered(self) -> None:
-        done = run("bash", "-c", f"source tools/roman.bash; complete -p roman ./roman {' '.join(TOOLS)}", cwd=TOP)
+        done = run("bash", "-c", f"source tools/roman.bash; complete -p ./roman {' '.join(NAMES)}", cwd=TOP)
         self.assertEqual(done.returncode, 0, done.stderr)
 
 
@@ -683,7 +694,7 @@ class OtherShells(unittest.TestCase):
         try:
             setup = (
                 'PS1=; autoload -Uz compinit; compinit -u -D; bindkey "^I" complete-word;'
-                ' source tools/roman.zsh 2>/dev/null; compdef _roman roman roman-lint roman-talk; print REA""DY\n'
+                ' source tools/roman.zsh 2>/dev/null; compdef _roman roman roman-lint roman-live roman-talk; print REA""DY\n'
             )
             os.write(terminal, setup.encode())
             self.wait_for(terminal, "READY")
@@ -712,12 +723,17 @@ class OtherShells(unittest.TestCase):
         for tool in TOOLS:
             self.assertEqual(self.fish(f"{tool} samples/hom")[0], "samples/home.json")
         self.assertEqual(self.fish("roman-lint --st"), ["--strict"])
+        self.assertEqual(self.fish("roman-live as")[0], "ask")
+        self.assertEqual(self.fish("roman-live --ch"), ["--check"])
+        self.assertEqual(self.fish("roman-live ask --k"), ["--key"])
 
     def test_zsh(self) -> None:
         self.zsh("roman ce", "certify")
         self.zsh("roman ", *commands(run(PROGRAM).stdout))
         self.zsh("roman synth samples/hom", "samples/home.json")
         self.zsh("roman-lint --st", "--strict")
+        self.zsh("roman-live --ch", "--check")
+        self.zsh("roman-live ask clients/live/demo/hom", "home.toml")
         self.zsh("roman-talk samples/hom", "samples/home.json")
         self.zsh("roman run samples/home.json samples/hom", "samples/home.session")
 

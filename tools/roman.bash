@@ -40,5 +40,19 @@ _roman_tool() {
     esac
 }
 
+_roman_live() {
+    local word=${COMP_WORDS[COMP_CWORD]} before=${COMP_WORDS[COMP_CWORD - 1]}
+    local options="--check --simulate --verbose --help"
+    COMPREPLY=()
+    [ "$COMP_CWORD" = 1 ] && COMPREPLY=($(compgen -W ask -- "$word"))
+    [ "${COMP_WORDS[1]}" = ask ] && options="--key --help"
+    case $before:$word in
+        --key:* | *.toml:*) ;;
+        *:-*) COMPREPLY=($(compgen -W "$options" -- "$word")) ;;
+        *) _roman_files .toml ;;
+    esac
+}
+
 complete -F _roman roman ./roman
+complete -F _roman_live roman-live
 complete -F _roman_tool roman-lint roman-expand roman-draw roman-talk tools/draw tools/talk

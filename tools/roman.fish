@@ -41,3 +41,10 @@ complete -c roman-draw -l offers -d 'draw what can happen when offers are follow
 complete -c roman-draw -l all -d 'the whole game of an explanation'
 complete -c roman-draw -l text -d 'write the explanation in words'
 complete -c roman-draw -l dot -d 'write the text for Graphviz'
+
+complete -c roman-live -k -a '(__fish_complete_suffix .toml)'
+complete -c roman-live -n 'test (__roman_words) -eq 1' -a ask -d 'ask a running home for an action'
+complete -c roman-live -n 'not __fish_seen_subcommand_from ask' -l check -d 'say what is wrong with the file'
+complete -c roman-live -n 'not __fish_seen_subcommand_from ask' -l simulate -d 'play all devices by hand, on the page'
+complete -c roman-live -n 'not __fish_seen_subcommand_from ask' -l verbose -d 'say each event'
+complete -c roman-live -n '__fish_seen_subcommand_from ask' -l key -x -d 'a text that no other request has'

@@ -1,4 +1,4 @@
-#compdef roman roman-draw roman-lint roman-expand roman-talk
+#compdef roman roman-draw roman-lint roman-expand roman-live roman-talk
 # Completion of roman's commands, of its tools and of file names for zsh. It needs no other file.
 
 _roman_tool() {
@@ -23,8 +23,23 @@ _roman_tool() {
     _arguments $options ':system:_files -g "*.json"'
 }
 
+_roman_live() {
+    if [[ $words[2] == ask ]]; then
+        _arguments '1: :(ask)' '--key[a text that no other request has]:key:' '2:home:_files -g "*.toml"' '3:action:'
+    elif [[ $CURRENT == 2 && $words[2] == a* ]]; then
+        _values command ask
+    else
+        _arguments '--check[say what is wrong with the file]' '--simulate[play all devices by hand, on the page]' \
+            '--verbose[say each event]' ':home:_files -g "*.toml"'
+    fi
+}
+
 _roman() {
     local -a commands
+    if [[ $service == roman-live ]]; then
+        _roman_live
+        return
+    fi
     if [[ $service != roman ]]; then
         _roman_tool
         return
