@@ -2,14 +2,13 @@
 
 from __future__ import annotations
 
-import os
 import sys
 from typing import Any, Mapping, Optional
 
 import aiohttp
 
 from .homefile import HomeFile
-from .troubles import Nobody
+from .troubles import Nobody, unreached
 
 SERVED, NOT_SERVED = 0, 1
 
@@ -27,9 +26,7 @@ async def ask(file: HomeFile, action: str, key: Optional[str]) -> int:
             async with client.post(f"{url}/requests", json=body) as response:
                 value = await response.json()
     except aiohttp.ClientConnectorError as error:
-        number = error.os_error.errno
-        why = os.strerror(number) if number else error.os_error
-        raise Nobody(f"nobody is at {url}: {why}; does {file.path} run?") from None
+        raise Nobody(f"nobody is at {url}: {unreached(error)}; does {file.path} run?") from None
     except (aiohttp.ContentTypeError, ValueError):
         value = None
     except aiohttp.ClientError as error:

@@ -590,8 +590,11 @@ class Home:
                 known.last_error = str(error) or type(error).__name__
                 continue
             if answer is not None and known.calls == calls and service != self._chosen:
+                known.last_error = None
                 self._place(service, answer)
             return
+        text = f"{service} doesn't tell where it is: {known.last_error}"
+        self.events.add("silent", text, level=logging.WARNING, service=service)
 
     async def _back(self, service: str, answer: Answer) -> bool:
         """A service that was frozen is back: it is thawed, unless that was done meanwhile, or it was frozen by

@@ -2,6 +2,9 @@
 
 from __future__ import annotations
 
+import os
+
+from aiohttp import ClientConnectorError
 from roman_client import RomanError
 
 TROUBLE = (RomanError, OSError)
@@ -42,3 +45,9 @@ class Nowhere(RomanError):
 
 class NoDevice(RomanError):
     """The home file doesn't say how a service is reached."""
+
+
+def unreached(error: ClientConnectorError) -> str:
+    """Why there is no connection, in the words of the system."""
+    number = error.os_error.errno
+    return os.strerror(number) if number and number > 0 else str(error.os_error)

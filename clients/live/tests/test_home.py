@@ -510,8 +510,16 @@ class MovedByItself(InProcess):
     async def test_one_that_does_not_tell_in_time(self) -> None:
         self.mute["window"] = asyncio.Event()
         self.seconds = 0.1
-        await self.begin("home")
+        with self.assertLogs("roman_live", "WARNING") as logged:
+            home = await self.begin("home")
+        text = "window doesn't tell where it is: no answer within 0.1 seconds"
+        self.assertEqual(logged.output, [f"WARNING:roman_live:{text}"])
+        self.assertIn(text, [each.text for each in home.events.after(-1)])
         self.assertEqual((await self.service("window"))["last_error"], "no answer within 0.1 seconds")
+        self.mute["window"].set()
+        self.states["window"] = "shut"
+        await home._compare("window")
+        self.assertEqual((await self.service("window"))["last_error"], None)
 
     async def test_what_is_told_counts_for_nothing_where_it_is_asked_meanwhile(self) -> None:
         home = await self.begin("home")

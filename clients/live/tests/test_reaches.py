@@ -18,7 +18,7 @@ from roman_live.devices import Answer, Reach
 from roman_live.devices.command import Command, KeptCommand
 from roman_live.devices.http import Http
 from roman_live.devices.python import PythonDevice
-from roman_live.homefile import CommandReach, HttpReach, PythonReach
+from roman_live.homefile import CommandReach, HomeFileError, HttpReach, PythonReach
 
 from .machinery import PATIENCE, free_port
 from .test_commands import Heard
@@ -102,6 +102,7 @@ class HttpDevices(unittest.IsolatedAsyncioTestCase):
         with self.assertRaisesRegex(DeviceFailed, "http://127.0.0.1:[0-9]+/lamp: ") as raised:
             await device.tell(None)
         self.assertNotIn("secret", str(raised.exception))
+        self.assertTrue(str(raised.exception).endswith("/lamp: Connection refused"), str(raised.exception))
 
     async def test_each_call_has_its_connection(self) -> None:
         """The device answers once on a connection, and is silent on it from then on."""
@@ -128,6 +129,15 @@ class PythonDevices(unittest.IsolatedAsyncioTestCase):
             sys.modules[module.__name__] = module
             self.addCleanup(sys.modules.pop, module.__name__)
             return PythonDevice("lamp", Heard(), PythonReach(module.__name__, "lamp", Path(folder)))
+
+    async def test_one_that_cannot_be_loaded_is_named(self) -> None:
+        with tempfile.TemporaryDirectory() as folder:
+            (Path(folder) / "ends_of_a_test.py").write_text("raise SystemExit(0)\n", encoding="utf-8")
+            entry = PythonReach("ends_of_a_test", "lamp", Path(folder))
+            self.addCleanup(sys.path.remove, folder)
+            wrong = r"^devices.desk.call is 'ends_of_a_test:lamp', which can't be loaded: SystemExit\(0\)"
+            with self.assertRaisesRegex(HomeFileError, wrong):
+                PythonDevice("desk", Heard(), entry)
 
     async def test_one_that_hangs_is_not_called_again(self) -> None:
         go_on = threading.Event()

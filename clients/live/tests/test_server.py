@@ -42,6 +42,13 @@ DEVICES = "".join(
 )
 
 
+class Stranger(BaseHTTPRequestHandler):
+    """A server that is no home."""
+
+    def log_message(self, *words: Any) -> None:
+        pass
+
+
 class Served(unittest.TestCase):
     """A home with devices in Python."""
 
@@ -192,7 +199,7 @@ class Api(Served):
         done = ask("boil")
         self.assertEqual(done.returncode, 3)
         self.assertRegex(done.stderr, f"nobody is at {self.live.url}: .*refused; does /.*/home.toml run")
-        with HTTPServer(("127.0.0.1", self.live.port), BaseHTTPRequestHandler) as other:
+        with HTTPServer(("127.0.0.1", self.live.port), Stranger) as other:
             threading.Thread(target=other.handle_request, daemon=True).start()
             done = ask("boil")
         self.assertEqual(done.returncode, 3)

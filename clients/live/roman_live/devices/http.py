@@ -10,6 +10,7 @@ import aiohttp
 from roman_client import Call, DeviceFailed
 
 from ..homefile import HttpReach
+from ..troubles import unreached
 from .base import LONGEST_ANSWER, Answer, Listener, Reach, answer_of, json_of, short
 
 
@@ -59,6 +60,8 @@ class Http(Reach):
             ) as response:
                 data = await _read(response)
                 status = response.status
+        except aiohttp.ClientConnectorError as error:
+            raise DeviceFailed(f"{self._shown}: {unreached(error)}") from None
         except aiohttp.ClientError as error:
             raise DeviceFailed(f"{self._shown}: {error or type(error).__name__}") from None
         if status != 200:

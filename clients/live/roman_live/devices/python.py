@@ -25,7 +25,7 @@ class PythonDevice(Reach):
 
     def __init__(self, service: str, listener: Listener, entry: PythonReach) -> None:
         super().__init__(service, listener)
-        self._device = _load(entry)
+        self._device = _load(entry, f"devices.{service}.call is '{entry.module}:{entry.name}', which")
         self._at_work = False
 
     async def ask(self, number: int, call: Call) -> Answer:
@@ -77,19 +77,20 @@ class PythonDevice(Reach):
         return await value if inspect.isawaitable(value) else value
 
 
-def _load(entry: PythonReach) -> Any:
-    """The device that an entry names, looked for beside the home file first."""
+def _load(entry: PythonReach, which: str) -> Any:
+    """The device that an entry names, looked for beside the home file first. Raises HomeFileError, which begins
+    with those words."""
     folder = str(entry.folder)
     if folder not in sys.path:
         sys.path.insert(0, folder)
     try:
         found = getattr(importlib.import_module(entry.module), entry.name)
-    except Exception as error:
-        raise HomeFileError(f"{entry.module}:{entry.name} can't be loaded: {error!r}") from None
+    except (Exception, SystemExit) as error:
+        raise HomeFileError(f"{which} can't be loaded: {error!r}") from None
     if inspect.isclass(found):
         found = found()
     if not callable(found) and not isinstance(found, (roman_client.Device, aio.Device)):
-        raise HomeFileError(f"{entry.module}:{entry.name} is neither a function nor a device")
+        raise HomeFileError(f"{which} is neither a function nor a device")
     return found
 
 
