@@ -180,7 +180,7 @@ class Connection:
 
     def _connected(self, code: int) -> None:
         if code != 0:
-            self._changed(False, f"the broker refuses: {mqtt.connack_string(code)}")
+            self._miss(f"the broker refuses: {mqtt.connack_string(code)}")
             return
         self.connected = True
         self._why = None
@@ -190,10 +190,14 @@ class Connection:
         self._changed(True, "the broker is there")
 
     def _failed(self, why: str) -> None:
-        """There is no connection. It is tried again and again, and said once for each reason."""
+        """There is no connection."""
+        self._miss(f"{self._unreached()}: {why}")
+
+    def _miss(self, why: str) -> None:
+        """There is none for that reason. It is tried again and again, and said once for each reason."""
         if why != self._why:
             self._why = why
-            self._changed(False, f"{self._unreached()}: {why}")
+            self._changed(False, why)
 
     def _disconnected(self, code: int) -> None:
         self._asked.clear()

@@ -593,6 +593,8 @@ class Home:
                 known.last_error = None
                 self._place(service, answer)
             return
+        if self.devices[service].reach.by_broker and self.broker is not None and not self.broker.connected:
+            return  # That has been said.
         text = f"{service} doesn't tell where it is: {known.last_error}"
         self.events.add("silent", text, level=logging.WARNING, service=service)
 

@@ -79,6 +79,30 @@ class Refused(unittest.IsolatedAsyncioTestCase):
         self.assertEqual(said, [(False, "the broker doesn't let this home listen to home/window/answer")])
 
 
+class Unknown(unittest.IsolatedAsyncioTestCase):
+    """A broker that wants to know who is there."""
+
+    async def test_it_is_said_once_that_it_refuses(self) -> None:
+        folder = tempfile.TemporaryDirectory()
+        self.addCleanup(folder.cleanup)
+        broker = Mosquitto(Path(folder.name), "allow_anonymous false\n")
+        self.addCleanup(broker.stop)
+        said: List[str] = []
+        connection = Connection(Broker(port=broker.port), lambda connected, text: said.append(text))
+        refused = connection._on_connect
+        times: List[int] = []
+
+        def counted(client: object, data: object, flags: object, code: int) -> None:
+            times.append(code)
+            refused(client, data, flags, code)
+
+        connection._client.on_connect = counted
+        await connection.open()
+        self.addAsyncCleanup(connection.close)
+        self.assertGreater(len(times), 1)
+        self.assertEqual(said, ["the broker refuses: Connection Refused: not authorised."])
+
+
 class Encrypted(unittest.IsolatedAsyncioTestCase):
     """A broker that wants to see a certificate, and shows one."""
 
