@@ -42,6 +42,7 @@ from roman_client.devices import Outcome, Told
 from roman_client.policies import Choice
 from roman_client.protocol import Event
 
+from .at_work import AtWork
 from .broker import Connection
 from .devices import Answer, Reach, Simulated
 from .devices.making import make_reach
@@ -85,6 +86,7 @@ class HomeDevice(aio.Device):
         return self._home.outcome(call, answer)
 
     async def state(self, call: Call) -> Told:
+        await self._home.at_work().those_before()
         answer = await self.reach.tell(self._home.number(call))
         if answer is None:
             return None
@@ -125,6 +127,8 @@ class Home:
         )
         self._tasks: Set[asyncio.Task[Any]] = set()
         self._folder: Optional[tempfile.TemporaryDirectory[str]] = None
+        self._journal: Path
+        self._at_work: Optional[AtWork] = None
 
     # Beginning and end.
 
@@ -251,6 +255,7 @@ class Home:
         if journal is None or self.simulate:
             # The program may end without the home: a journal for this run alone lets it go on.
             journal = self._own_folder() / "journal"
+        self._journal = journal
         self.kept = Kept(journal)
         self.dispatcher = aio.Dispatcher(
             self.session, self.devices, policy=self._choose, store=journal, watch=self._watch
@@ -263,6 +268,7 @@ class Home:
             raise HomeFileError(f"{self.file.path}: journal.path: {error}; {ANEW}") from None
         except ValueError as error:
             raise HomeFileError(f"{self.file.path}: {error}, which the journal has") from None
+        self.at_work()
         report = await self.dispatcher.report()
         self.known.take(report)
         self.shown.begin(report)
@@ -276,6 +282,14 @@ class Home:
         served = self.dispatcher.served
         since = f"; requests served so far: {served}" if served else ""
         self.events.add("begun", f"{self.file.document.name} runs{since}")
+
+    def at_work(self) -> AtWork:
+        """What tells of commands that are at work, for those of this home, too, once it has the journal."""
+        if self._at_work is None:
+            self._at_work = AtWork(self._journal)
+            for device in self.devices.values():
+                device.reach.holds = (self._at_work.file,)
+        return self._at_work
 
     def _missing(self, service: str) -> None:
         """A service stands in the document and isn't there by the journal."""
@@ -305,6 +319,8 @@ class Home:
             await self.broker.close()
         if hasattr(self, "kept"):
             self.kept.catch_up()
+        if self._at_work is not None:
+            self._at_work.close()
         await self.session.close()
         if self._folder is not None:
             self._folder.cleanup()
@@ -484,6 +500,7 @@ class Home:
         device = self.devices.get(service)
         if device is None:
             device = self.devices[service] = self._make_device(service)
+            device.reach.holds = (self.at_work().file,)
             await device.reach.open()
         await self.dispatcher.join(service, behaviour, state, device, loose=loose)
 

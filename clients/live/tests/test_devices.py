@@ -300,6 +300,35 @@ class OneCallEach(Devices):
         self.assertEqual(self.world.wrong, [])
 
 
+class LeftAtWork(Devices):
+    """A command that is at work when the home is killed runs on. It may not be asked for the same again."""
+
+    def boil_in_vain(self) -> None:
+        with self.assertRaises((OSError, http.client.HTTPException)):
+            self.request("boil")
+
+    def test_it_is_waited_for(self) -> None:
+        self.served("brighten")
+        self.world.manners["kettle"] = "slow"
+        asking = threading.Thread(target=self.boil_in_vain)
+        asking.start()
+        until(lambda: ("kettle", "boil") in self.world.asked, "the call")
+        self.live.kill()
+        asking.join(PATIENCE)
+        threading.Timer(2.0, self.world.release.set).start()
+        self.live.start()
+        self.assertEqual(self.live.state()["counts"]["served"], 2)
+        self.assertEqual(self.world.played.count(("kettle", "boil")), 1)
+        self.served("pour")
+        self.assertEqual(self.world.wrong, [])
+
+
+class OneCallLeftAtWork(LeftAtWork):
+    """One that runs anew for each call."""
+
+    lines = False
+
+
 class Deadlines(Devices):
     """A device over MQTT that takes too long."""
 

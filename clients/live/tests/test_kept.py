@@ -1,13 +1,18 @@
-"""What is kept beside the journal."""
+"""What is kept beside the journal, and which commands are at work."""
 
+import asyncio
+import subprocess
 import tempfile
 import unittest
 from pathlib import Path
 from unittest import mock
 
+from roman_live.at_work import AtWork
 from roman_live.homefile import HomeFileError
 from roman_live.kept import Kept
 from roman_live.troubles import NoRoom
+
+from .machinery import PATIENCE
 
 
 class KeptBesideTheJournal(unittest.TestCase):
@@ -63,6 +68,45 @@ class KeptBesideTheJournal(unittest.TestCase):
         self.assertEqual(self.begin(2000).held, set())
         kept.catch_up()
         self.assertEqual(self.begin(2000).held, {"window"})
+
+
+class CommandsAtWork(unittest.IsolatedAsyncioTestCase):
+    def begin(self) -> AtWork:
+        found = AtWork(self.journal)
+        self.addCleanup(found.close)
+        return found
+
+    async def asyncSetUp(self) -> None:
+        folder = tempfile.TemporaryDirectory()
+        self.addCleanup(folder.cleanup)
+        self.journal = Path(folder.name) / "journal"
+
+    def command(self, home: AtWork) -> "subprocess.Popen[bytes]":
+        """One that runs until it is ended, though its home has ended."""
+        command = subprocess.Popen(["sleep", "1000"], pass_fds=(home.file,))
+        self.addCleanup(command.wait)
+        self.addCleanup(command.kill)
+        home.close()
+        return command
+
+    async def test_the_next_home_waits_for_them(self) -> None:
+        first = self.command(self.begin())
+        home = self.begin()
+        waiting = asyncio.ensure_future(home.those_before())
+        await asyncio.sleep(0.2)
+        self.assertFalse(waiting.done())
+        first.kill()
+        await asyncio.wait_for(waiting, PATIENCE)
+
+    async def test_its_own_ones_are_known_to_the_one_after_it(self) -> None:
+        self.command(self.begin())
+        self.command(self.begin())
+        with self.assertRaises(asyncio.TimeoutError):
+            await asyncio.wait_for(self.begin().those_before(), 0.2)
+
+    async def test_nobody_is_waited_for_where_all_have_ended(self) -> None:
+        self.begin().close()
+        await asyncio.wait_for(self.begin().those_before(), PATIENCE)
 
 
 if __name__ == "__main__":

@@ -25,9 +25,9 @@ Told = Dict[str, Any]
 
 class World:
     """What the services of a document did, and where they are. Each call is played once, however often it
-    is asked. `manners` has how a service misbehaves: `fail`, `hang`, `late`, `twice`, `wrong`, `junk`,
-    `foreign`. Those in `mute` don't tell where they are. What hangs, is late or mute does so until
-    `release` is set."""
+    is asked. `manners` has how a service misbehaves: `fail`, `hang`, `slow`, `late`, `twice`,
+    `wrong`, `junk`, `foreign`. Those in `mute` don't tell where they are. What hangs, is slow, late or mute does so
+    until `release` is set."""
 
     def __init__(self, document: "Document", seed: int = 0) -> None:
         self.document = document
@@ -60,6 +60,8 @@ class World:
         if manner == "hang":
             self.release.wait()
             return []
+        if manner == "slow":
+            self.release.wait()
         told = self.play(service, action, number)
         if manner == "foreign":
             return [{**told, "id": -5}]

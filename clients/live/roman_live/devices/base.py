@@ -4,7 +4,7 @@ from __future__ import annotations
 
 import json
 from dataclasses import dataclass
-from typing import Any, Optional, Protocol
+from typing import Any, Optional, Protocol, Tuple
 
 from roman_client import Call, DeviceFailed
 
@@ -42,10 +42,12 @@ class Listener(Protocol):
 
 
 class Reach:
-    """How a service is reached. `by_broker` says that what it says unasked is lost while the broker is gone."""
+    """How a service is reached. `by_broker` says that what it says unasked is lost while the broker is gone, and
+    `holds` has the files that a process holds open that it starts."""
 
     reached = ""
     by_broker = False
+    holds: Tuple[int, ...] = ()
 
     def __init__(self, service: str, listener: Listener) -> None:
         self.service = service

@@ -50,7 +50,11 @@ class Command(Reach):
         loop = asyncio.get_running_loop()
         with _naming(self._entry):
             transport, written = await loop.subprocess_exec(
-                Written, *self._entry.command, word, stdin=asyncio.subprocess.DEVNULL, **_around(self._entry, number)
+                Written,
+                *self._entry.command,
+                word,
+                stdin=asyncio.subprocess.DEVNULL,
+                **_around(self._entry, number, self.holds),
             )
         try:
             await written.ended
@@ -164,7 +168,7 @@ class KeptCommand(Reach):
         if self._left is not None and self._left.returncode is None:
             raise DeviceFailed(STILL)
         if self._process is None or self._process.returncode is not None:
-            self._process = await _start(self._entry)
+            self._process = await _start(self._entry, self.holds)
             listening = asyncio.ensure_future(self._listen(self._process))
             self._listening.add(listening)
             listening.add_done_callback(self._listening.discard)
@@ -246,11 +250,12 @@ class KeptCommand(Reach):
             self._left = process
 
 
-def _around(entry: CommandReach, number: Optional[int]) -> Dict[str, Any]:
-    """What a command runs in: a group of its own, beside the home file. The number of a call is in its
-    environment."""
+def _around(entry: CommandReach, number: Optional[int], holds: Tuple[int, ...]) -> Dict[str, Any]:
+    """What a command runs in: a group of its own, beside the home file, with these files open. The number of a
+    call is in its environment."""
     known = {} if number is None else {"ROMAN_CALL": str(number)}
-    return {"cwd": entry.folder, "env": {**os.environ, **known}, "start_new_session": True}
+    env = {**os.environ, **known}
+    return {"cwd": entry.folder, "env": env, "start_new_session": True, "pass_fds": holds}
 
 
 def _is_there(entry: CommandReach) -> bool:
@@ -268,7 +273,7 @@ def _naming(entry: CommandReach) -> Iterator[None]:
         raise DeviceFailed(f"{entry.command[0]} can't be started: {error.strerror}") from None
 
 
-async def _start(entry: CommandReach) -> asyncio.subprocess.Process:
+async def _start(entry: CommandReach, holds: Tuple[int, ...]) -> asyncio.subprocess.Process:
     """Starts a command that is kept."""
     with _naming(entry):
         return await asyncio.create_subprocess_exec(
@@ -276,7 +281,7 @@ async def _start(entry: CommandReach) -> asyncio.subprocess.Process:
             stdin=asyncio.subprocess.PIPE,
             stdout=asyncio.subprocess.PIPE,
             limit=LONGEST_ANSWER,
-            **_around(entry, None),
+            **_around(entry, None, holds),
         )
 
 
