@@ -1,12 +1,14 @@
 """A kettle that is reached over HTTP: kettle.py PORT. It fails now and then, with status 500.
 
-POST {"id": .., "action": ..} has it act; GET tells its state, and with ?id= whether that call was done.
+POST {"id": .., "action": ..} has it act; GET tells its state, and with ?id= whether that call was done. While it
+acts it tells nothing: what it is at work on isn't done, and soon is.
 """
 
 import json
 import os
 import random
 import sys
+import threading
 import time
 from http.server import BaseHTTPRequestHandler, ThreadingHTTPServer
 from typing import Any, Optional
@@ -26,13 +28,19 @@ class Kettle(BaseHTTPRequestHandler):
 
     state = "empty"
     last: Optional[int] = None
+    at_work = threading.Lock()
 
     def do_GET(self) -> None:
         about = parse_qs(urlsplit(self.path).query).get("id")
-        self.answer(200, state=Kettle.state, done=about == [str(Kettle.last)])
+        with Kettle.at_work:
+            self.answer(200, state=Kettle.state, done=about == [str(Kettle.last)])
 
     def do_POST(self) -> None:
         asked = json.loads(self.rfile.read(int(self.headers["Content-Length"])))
+        with Kettle.at_work:
+            self.act(asked)
+
+    def act(self, asked: Any) -> None:
         time.sleep(SECONDS)
         if random.random() < FAILURES:
             self.answer(500, error="the fuse is out")

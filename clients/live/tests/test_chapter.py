@@ -3,9 +3,12 @@
 from __future__ import annotations
 
 import json
+import os
 import re
 import shlex
 import signal
+import subprocess
+import sys
 import threading
 import time
 import unittest
@@ -16,7 +19,7 @@ import paho.mqtt.publish as publish  # type: ignore[import]
 
 from . import LIVE, TOP
 from .browser import Demonstrated, Running, wait_until
-from .machinery import PATIENCE, free_port
+from .machinery import PATIENCE, call, free_port, until
 
 GUIDE = (TOP / "docs" / "GUIDE.md").read_text(encoding="utf-8")
 CHAPTER = GUIDE[GUIDE.index("## Running your devices") : GUIDE.index("## Samples")]
@@ -61,6 +64,26 @@ class Messages(unittest.TestCase):
         publish.single(topic, message, qos=1, hostname="127.0.0.1", port=home.broker)
         time.sleep(1)
         return False
+
+
+class Kettle(unittest.TestCase):
+    def test_it_tells_nothing_while_it_acts(self) -> None:
+        """Else a home that was killed and begins again would have it act twice."""
+        port = free_port()
+        url = f"http://127.0.0.1:{port}/kettle"
+        seconds = {"DEMO_SECONDS": "2", "DEMO_FAILURES": "0"}
+        words = [sys.executable, str(LIVE / "demo" / "kettle.py"), str(port)]
+        with subprocess.Popen(words, env={**os.environ, **seconds}) as kettle:
+            self.addCleanup(kettle.kill)
+            until(lambda: call(url), "the kettle", (OSError,))
+            boils = threading.Thread(target=call, args=(url, {"id": 7, "action": "boil"}))
+            boils.start()
+            time.sleep(1)
+            _, told = call(f"{url}?id=7")
+            boils.join()
+            kettle.kill()
+        self.assertTrue(told["done"])
+        self.assertIn(told["state"], ("warm", "hot"))
 
 
 class OwnDevice(unittest.TestCase):
