@@ -4,11 +4,14 @@ from __future__ import annotations
 
 import asyncio
 import fcntl
+import logging
 import os
 from pathlib import Path
 from typing import List, Optional
 
 from .troubles import NoRoom
+
+LOG = logging.getLogger("roman_live")
 
 LOOK_AGAIN = 0.05
 """After how many seconds it is looked again whether they have ended."""
@@ -41,6 +44,8 @@ class AtWork:
 
     async def those_before(self) -> None:
         """Waits until no command of the home before is at work."""
+        if self._before is not None and not _lock(self._before):
+            LOG.warning("a command of the last run is still at work, and is waited for")
         while self._before is not None and not _lock(self._before):
             await asyncio.sleep(LOOK_AGAIN)
         self._before = None

@@ -92,16 +92,18 @@ class CommandsAtWork(unittest.IsolatedAsyncioTestCase):
     async def test_the_next_home_waits_for_them(self) -> None:
         first = self.command(self.begin())
         home = self.begin()
-        waiting = asyncio.ensure_future(home.those_before())
-        await asyncio.sleep(0.2)
+        with self.assertLogs("roman_live", "WARNING") as logged:
+            waiting = asyncio.ensure_future(home.those_before())
+            await asyncio.sleep(0.2)
         self.assertFalse(waiting.done())
+        self.assertEqual(logged.output, ["WARNING:roman_live:a command of the last run is still at work, and is waited for"])
         first.kill()
         await asyncio.wait_for(waiting, PATIENCE)
 
     async def test_its_own_ones_are_known_to_the_one_after_it(self) -> None:
         self.command(self.begin())
         self.command(self.begin())
-        with self.assertRaises(asyncio.TimeoutError):
+        with self.assertLogs("roman_live", "WARNING"), self.assertRaises(asyncio.TimeoutError):
             await asyncio.wait_for(self.begin().those_before(), 0.2)
 
     async def test_nobody_is_waited_for_where_all_have_ended(self) -> None:
