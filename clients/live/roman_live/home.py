@@ -82,6 +82,8 @@ class HomeDevice(aio.Device):
         self._home = home
 
     async def serve(self, call: Call) -> Outcome:
+        if not self._home.begun:  # It is asked once more for what was under way at a kill.
+            await self._home.at_work().those_before()
         answer = await self.reach.ask(self._home.number(call), call)
         return self._home.outcome(call, answer)
 
@@ -282,6 +284,11 @@ class Home:
         served = self.dispatcher.served
         since = f"; requests served so far: {served}" if served else ""
         self.events.add("begun", f"{self.file.document.name} runs{since}")
+
+    @property
+    def begun(self) -> bool:
+        """Whether it has gone on from its journal."""
+        return self._ready
 
     def at_work(self) -> AtWork:
         """What tells of commands that are at work, for those of this home, too, once it has the journal."""

@@ -329,6 +329,32 @@ class OneCallLeftAtWork(LeftAtWork):
     lines = False
 
 
+class RepeatedLeftAtWork(LeftAtWork):
+    """One that may be asked twice for one thing, and still not twice at once."""
+
+    lines = False
+
+    def home(self) -> str:
+        return f"{super().home()}repeat = true\n"
+
+    def test_it_is_waited_for(self) -> None:
+        self.served("brighten")
+        self.world.manners["kettle"] = "slow"
+        asking = threading.Thread(target=self.boil_in_vain)
+        asking.start()
+        until(lambda: ("kettle", "boil") in self.world.asked, "the call")
+        self.live.kill()
+        asking.join(PATIENCE)
+        self.live.start(wait=False)
+        until(lambda: "is waited for" in self.live.text(), "that it waits")
+        self.assertEqual(self.world.asked.count(("kettle", "boil")), 1)
+        self.world.release.set()
+        until(self.live.answers, "its page")
+        self.assertEqual(self.world.asked.count(("kettle", "boil")), 2)
+        self.assertEqual(self.world.played.count(("kettle", "boil")), 1)
+        self.assertEqual(self.live.state()["counts"]["served"], 2)
+
+
 class Deadlines(Devices):
     """A device over MQTT that takes too long."""
 
