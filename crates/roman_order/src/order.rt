@@ -319,8 +319,8 @@ fn copied<T: Copy>(alloc: Global, items: &[T], room: usize) -> Result<Vec<T>, Al
     Ok(table)
 }
 
-/// Replaces the items of a table, which must have room for the new ones. Copies them piece by piece,
-/// since long copies are made byte by byte on some machines.
+/// Replaces the items of a table, which must have room for the new ones. Copies them piece by piece:
+/// glibc copies longer pieces by `rep movsb`, which a count of instructions takes byte by byte.
 fn rewrite<T: Copy + Drop>(table: &mut Vec<T>, items: &[T])
     requires { length items.now ≤ vec_capacity table.old }
     ensures items { table.new.items ≡ items.now }
@@ -335,7 +335,8 @@ fn rewrite<T: Copy + Drop>(table: &mut Vec<T>, items: &[T])
 }
 
 /// Replaces the items of a table by `n` copies of a value. Requires room for them. Writes them piece
-/// by piece, since long runs of zeros are written byte by byte on some machines.
+/// by piece: glibc fills longer pieces by `rep stosb`, which a count of instructions takes byte by
+/// byte.
 fn refill<T: Copy + Drop>(table: &mut Vec<T>, n: usize, value: T)
     requires { n ≤ vec_capacity table.old }
     ensures items { table.new.items ≡ replicate n value }
