@@ -7,11 +7,11 @@ pub use Rattle.std.proofs.Math.Pow.{pow-lt}
 pub use Rattle.std.proofs.Math.Seq.{drop-append_seam, drop-cons, take-append_seam}
 pub use Rattle.std.proofs.lemmas.Bool.{and_parts, both_ways, cases_Bool, cases_eq, cases_lt, eq-eqb, eqb-true, ne_eqb, or_from, or_left, or_right}
 pub use Rattle.std.proofs.lemmas.Grind.{flat_map-append}
-pub use Rattle.std.proofs.lemmas.List.{get_or-replicate, get_or-set_other, get_or-set_same, get_or_read, length-drop, length-map, length-replicate, length-set, length-take-le, map_push, take-append-drop, take_all}
+pub use Rattle.std.proofs.lemmas.List.{get_or-append_right, get_or-drop, get_or-replicate, get_or-set_other, get_or-set_same, get_or-take, get_or_append_left, get_or_read, length-drop, length-map, length-replicate, length-set, length-take-le, map_push, take-append-drop, take_all}
 pub use Rattle.std.proofs.lemmas.List.Folds.{list_any-append}
 pub use Rattle.std.proofs.lemmas.List.Sums.{sum_by_push}
 pub use Rattle.std.proofs.lemmas.Map.Keys.{IsDistinct-head, IsDistinct-tail}
-pub use Rattle.std.proofs.lemmas.Nat.{div-add-mod', mod_below, mul-le, same_from_place}
+pub use Rattle.std.proofs.lemmas.Nat.{div-add-mod', mod_below, same_from_place}
 pub use Rattle.std.proofs.lemmas.Nat.Bits.{bit_at-trailing_zeros, shr_and_one}
 pub use Rattle.std.specs.Int.{bit_at, bit_not, w64}
 pub use Rattle.std.specs.List.{AllByRecursion, list_any, position_from}

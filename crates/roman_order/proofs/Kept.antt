@@ -1,10 +1,10 @@
 -- Events whose pairs have no bits in the kept words.
-use Rattle.roman_order.proofs.Common.{◌≡◌, ℕ, suc, ◌+◌, ◌-◌, ◌*◌, ◌/◌, ◌%◌, ◌<◌, ◌≤◌, true, false, List, [], ◌∷◌, ◌++◌, length, get_or, take, drop, bit_and, inl, inr, sym, ap, ap₂, ◌∙◌, subst, arith, eqb, length-append, length-drop, AllByRecursion, both_ways, cases_lt, or_right, list_any-append, div-add-mod', mod_below, same_from_place, flat_map-append, on_zero, Entry, IsIn, is_on, as_entry, set_lanes, has_entry, entries_at, entries_of, IsEvent, IsSound, board_of, Event, Inside, lt_of_mul-lt-mul_right, drop-append_seam, take-append_seam, take_all, take-append-drop, on_and, AreUnkept, IsApart}
+use Rattle.roman_order.proofs.Common.{◌≡◌, ℕ, suc, ◌+◌, ◌-◌, ◌*◌, ◌/◌, ◌%◌, ◌<◌, ◌≤◌, true, false, List, [], ◌∷◌, ◌++◌, length, get_or, take, drop, bit_and, inl, inr, sym, ap, ap₂, ◌∙◌, subst, arith, eqb, length-append, length-drop, AllByRecursion, both_ways, cases_lt, or_right, list_any-append, flat_map-append, on_zero, Entry, IsIn, is_on, as_entry, set_lanes, has_entry, entries_at, entries_of, IsEvent, IsSound, board_of, Event, Inside, lt_of_mul-lt-mul_right, drop-append_seam, take-append_seam, take_all, take-append-drop, on_and, AreUnkept, IsApart}
 use Rattle.std.specs.Prelude.{slice_index}
 use Rattle.std.proofs.Math.Seq.{get_or-drop, take-add, take-suc}
 use Rattle.std.proofs.lemmas.Bool.{and_from, false_from_ne_true}
 use Rattle.roman_model.proofs.CallerLemmas.{from_flat_map, from_map, from_push, in_append_left, in_append_right}
-use Rattle.roman_order.proofs.Lanes.{in_lanes}
+use Rattle.roman_order.proofs.Lanes.{in_lanes, lane_place}
 use Rattle.roman_order.proofs.Reading.{firsts_at, some_listed}
 use Rattle.roman_order.proofs.Tables.{few}
 
@@ -23,11 +23,8 @@ entry_unkept : (lanes : ℕ) (words : List ℕ) (e : Event) (x : Entry ℕ) → 
 entry_unkept lanes words e x is apart i =
     let (lane, among, same) = from_map (λ (l : ℕ). as_entry (e.row * lanes + l, e.reason)) x (set_lanes e.lanes) i in
     let on = (in_lanes e.lanes lane among).1 in
-    let low = is.within lane on in
-    let some : 0 < lanes = omega arith in
-    let p : ℕ = e.row * lanes + lane in
-    let node : x.node ≡ p = ap (λ (y : Entry ℕ). y.node) same in
-    let place = same_from_place (p / lanes) (p % lanes) e.row lane lanes (mod_below p lanes some) low (div-add-mod' p lanes) in
+    let node : x.node ≡ e.row * lanes + lane = ap (λ (y : Entry ℕ). y.node) same in
+    let place = lane_place lanes e.row lane (is.within lane on) in
     ap₂ (λ y k. is_on (slice_index words y) k) (ap (λ q. q / lanes) node ∙ place.0) (ap (λ q. q % lanes) node ∙ place.1) ∙ apart lane on
 
 -- one more event

@@ -1,5 +1,5 @@
 -- The lanes of a word, and the entries of the pairs at them.
-use Rattle.roman_order.proofs.Common.{◌≡◌, ◌≢◌, ℕ, zero, suc, ◌+◌, ◌-◌, ◌*◌, ◌%◌, ◌^◌, ◌<◌, ◌≤◌, Bool, true, false, not, ◌&&◌, ◌||◌, eqb, List, [], ◌∷◌, ◌++◌, map, length, get_or, refl, ap, sym, ◌∙◌, subst, inl, inr, arith, filter, bit_and, append-nil, append_assoc, list_any, w64, bit_not, set, or-false, pow-lt, cases_eq, and_parts, eq-eqb, ne_eqb, eqb-true, both_ways, length-set, get_or-set_same, get_or-set_other, list_any-append, same_from_place, bit_at-trailing_zeros, IsIn, HasNoRepeats, below, Entry, Reason, filter_below_more, list_any-map, none_from, filter_in, from_below, is_on, HasLanes, AreRows, on_zero, on_ones, on_ones_above, on_clear_same, on_clear_other, as_entry, set_lanes, entries_in, entries_in_rows, has_entry, on_and}
+use Rattle.roman_order.proofs.Common.{◌≡◌, ◌≢◌, ℕ, zero, suc, ◌+◌, ◌-◌, ◌*◌, ◌/◌, ◌%◌, ◌^◌, ◌<◌, ◌≤◌, Bool, true, false, not, ◌&&◌, ◌||◌, eqb, List, [], ◌∷◌, ◌++◌, map, length, get_or, refl, ap, sym, ◌∙◌, subst, inl, inr, arith, filter, bit_and, append-nil, append_assoc, list_any, w64, bit_not, set, or-false, pow-lt, cases_eq, and_parts, eq-eqb, ne_eqb, eqb-true, both_ways, length-set, get_or-set_same, get_or-set_other, list_any-append, div-add-mod', mod_below, same_from_place, bit_at-trailing_zeros, IsIn, HasNoRepeats, below, Entry, Reason, filter_below_more, list_any-map, none_from, filter_in, from_below, is_on, HasLanes, AreRows, on_zero, on_ones, on_ones_above, on_clear_same, on_clear_other, as_entry, set_lanes, entries_in, entries_in_rows, has_entry, on_and}
 use Rattle.std.proofs.Common.{IsTrue}
 use Rattle.std.proofs.lemmas.Nat.{and_le_r}
 use Rattle.roman_model.proofs.CallerLemmas.{flat_map_row, any_true, any_from, in_filter, in_below, same_test, HasNoRepeats-filter, HasNoRepeats-below}
@@ -105,6 +105,14 @@ has_entry-lane L first lost lane reason low =
 pub has_entry-elsewhere : (L : List (Entry ℕ)) (first lost p : ℕ) (reason : Reason) → ((lane : ℕ) → lane < 64 → is_on lost lane ≡ true → p ≢ first + lane) →
     has_entry (L ++ map (λ l. as_entry (first + l, reason)) (set_lanes lost)) p ≡ has_entry L p
 has_entry-elsewhere L first lost p reason apart = grind (arith, has_entry-lanes, in_lanes, ne_eqb, none_from, or-false)
+
+-- the row and the lane of a pair
+pub lane_place : (lanes row lane : ℕ) → lane < lanes → ((row * lanes + lane) / lanes ≡ row) × ((row * lanes + lane) % lanes ≡ lane)
+lane_place lanes row lane l =
+    let some : 0 < lanes = omega arith in
+    let p = row * lanes + lane in
+    let same = same_from_place (p / lanes) (p % lanes) row lane lanes (mod_below p lanes some) l (div-add-mod' p lanes) in
+    (same.0, same.1)
 
 -- ---- entries of neighbouring rows
 

@@ -1,8 +1,8 @@
 -- The contents of an order's tables, and the room in them.
-use Rattle.roman_order.proofs.Common.{◌≡◌, ℕ, ◌+◌, ◌-◌, ◌*◌, ◌/◌, ◌^◌, ◌<◌, ◌≤◌, true, false, not, [], ◌∷◌, ◌++◌, map, length, drop, get_or, replicate, vec_capacity, sym, ◌∙◌, subst, arith, bit_and, length-append, ap₂, w64, bit_not, set, length-map, length-replicate, get_or-replicate, Reason, is_on, AreRows, full_word, Board, as_entry, set_lanes, entries_in, has_entry, entries_of, board_of, IsPlaced, CanWait, IsSized, IsSound, Event, Inside}
+use Rattle.roman_order.proofs.Common.{◌≡◌, ◌≢◌, ℕ, suc, ◌+◌, ◌-◌, ◌*◌, ◌/◌, ◌^◌, ◌<◌, ◌≤◌, true, false, not, [], ◌∷◌, ◌++◌, map, length, drop, get_or, replicate, vec_capacity, sym, ◌∙◌, subst, arith, bit_and, length-append, ap₂, w64, bit_not, set, length-map, length-replicate, get_or-replicate, List, take, ap, length-drop, length-take-le, Reason, Entry, is_on, AreRows, full_word, Board, as_entry, set_lanes, entries_in, entries_in_rows, has_entry, entries_of, board_of, IsPlaced, CanWait, IsSized, IsSound, Event, Inside, get_or-append_right, get_or-drop, get_or-take, get_or_append_left}
 use Rattle.std.proofs.Math.Nat.{mul-le-mul_left}
 use Rattle.roman_order.specs.Sound.{removal_list}
-use Rattle.roman_order.proofs.Lanes.{AreRows-full, AreRows-pushed, in_lanes, lanes_once}
+use Rattle.roman_order.proofs.Lanes.{AreRows-full, AreRows-pushed, entries_in_rows-row, has_entry-later, in_lanes, lanes_once, some_lane}
 use Rattle.roman_order.proofs.Places.{IsPlaced-nil, length-le_from_apart}
 use Rattle.roman_order.proofs.Events.{few_events, length-firsts_of, entries_of-push, AreCounted-push, AreCounted-nil}
 use Rattle.roman_order.proofs.Pushes.{pair_below, IsPlaced-lanes}
@@ -108,3 +108,43 @@ pushed_sound a b x lost reason sound free fits some rows lanes waits count first
           (omega (arith, free.row, sound.sized.words_long)) fits free.within sound.alive)));
       sized = sized;
     }
+
+-- ---- entries for the lanes of neighbouring rows
+
+-- after the entries of i rows were added, the lanes of the next row are free
+pub free_row : (d b : Board) (x i : ℕ) (lost : List ℕ) (reason : Reason) → d ≡ record b { list = b.list ++ entries_in_rows b.lanes x i lost reason } → x + i < b.rows →
+    ((j lane : ℕ) → is_on (get_or lost j 0) lane ≡ true → lane < b.lanes) → ((j lane : ℕ) → is_on (get_or lost j 0) lane ≡ true → has_entry b.list ((x + j) * b.lanes + lane) ≡ false) →
+    IsFree d (x + i) (get_or lost i 0)
+free_row d b x i lost reason same row within alive = subst (λ e. IsFree e (x + i) (get_or lost i 0)) (sym same)
+    (record { row = row; within = within i; alive = λ lane on. has_entry-later b.list b.lanes x lost reason within i i lane (omega arith) (within i lane on) ∙ alive i lane on })
+
+-- then the tables have room for the entries of the next row
+pub room_next : (a : Inside) (b : Board) (x i : ℕ) (lost : List ℕ) (reason : Reason) → IsSound a → board_of a ≡ record b { list = b.list ++ entries_in_rows b.lanes x i lost reason } → x + i < b.rows →
+    ((j lane : ℕ) → is_on (get_or lost j 0) lane ≡ true → lane < b.lanes) → ((j lane : ℕ) → is_on (get_or lost j 0) lane ≡ true → has_entry b.list ((x + j) * b.lanes + lane) ≡ false) →
+    get_or lost i 0 < 2 ^ 64 → get_or lost i 0 ≢ 0 → HasRoom a (get_or lost i 0)
+room_next a b x i lost reason sound same row within alive fits some =
+    room-row a (x + i) (get_or lost i 0) reason sound (free_row (board_of a) b x i lost reason same row within alive) fits (some_lane (get_or lost i 0) some fits)
+
+-- the entries of one more row
+pub pushed_rows : (d b : Board) (x i : ℕ) (lost : List ℕ) (reason : Reason) (L : List (Entry ℕ)) → d ≡ record b { list = b.list ++ entries_in_rows b.lanes x i lost reason } →
+    L ≡ d.list ++ entries_in d.lanes (x + i) (get_or lost i 0) reason → record d { list = L } ≡ record b { list = b.list ++ entries_in_rows b.lanes x (i + 1) lost reason }
+pushed_rows d b x i lost reason L same more =
+    let next : suc i ≡ i + 1 = omega arith in
+    ap (λ M. record d { list = M }) more
+    ∙ (ap (λ (e : Board). record e { list = e.list ++ entries_in e.lanes (x + i) (get_or lost i 0) reason }) same
+    ∙ ap (λ M. record b { list = M }) (sym (entries_in_rows-row b.lanes x i lost reason b.list) ∙ ap (λ n. b.list ++ entries_in_rows b.lanes x n lost reason) next))
+
+-- ---- words that are copied
+
+-- after the words of k places from x on were copied, they are read at their places
+pub kept_part : (xs words ys zs : List ℕ) (n x k y : ℕ) → x + k ≤ length xs → x + k ≤ length words → ys ≡ take k (drop x words) → x ≤ y → y < x + k → y < n →
+    get_or (take n ((take x xs ++ (ys ++ drop k (drop x xs))) ++ zs)) y 0 ≡ get_or words y 0
+kept_part xs words ys zs n x k y inside long same low high short =
+    let place : x + (y - x) ≡ y = omega (arith, low) in
+    let front : length (take x xs) ≡ x = length-take-le x xs (omega (arith, inside)) in
+    let many : length ys ≡ k = ap length same ∙ length-take-le k (drop x words) (omega (arith, long, length-drop x words)) in
+    get_or-take n _ y 0 short
+    ∙ (get_or_append_left (take x xs ++ (ys ++ drop k (drop x xs))) zs 0 y (omega (arith, length-append (take x xs) (ys ++ drop k (drop x xs)), length-append ys (drop k (drop x xs)), front, many, low, high))
+    ∙ (get_or-append_right (take x xs) (ys ++ drop k (drop x xs)) x y 0 front low
+    ∙ (get_or_append_left ys (drop k (drop x xs)) 0 (y - x) (omega (arith, many, low, high))
+    ∙ (ap (λ ws. get_or ws (y - x) 0) same ∙ (get_or-take k (drop x words) (y - x) 0 (omega (arith, low, high)) ∙ (get_or-drop x words (y - x) 0 ∙ ap (λ j. get_or words j 0) place))))))

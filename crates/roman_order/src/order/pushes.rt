@@ -62,9 +62,19 @@ impl Order {
         requires alive { (i lane : ℕ) → is_on (slice_index lost.now i) lane ≡ true → has_entry self.old.list ((x + i) * self.old.lanes + lane) ≡ false }
         ensures { self.new ≡ record self.old { list = self.old.list ++ entries_in_rows self.old.lanes x (length lost.now) lost.now reason } }
     {
-        prove!(lost.len() <= self.rows as usize);
+        self.stamps.clear();
+        let mut count = self.count;
         for i in 0..lost.len() {
-            self.push_lanes(x + i as u32, lost[i], reason);
+            let lanes = lost[i];
+            if lanes == 0 {
+                continue;
+            }
+            let row = x + i as u32;
+            self.words[row as usize] &= !lanes;
+            self.firsts.push_reserved(count);
+            self.events.push_reserved(Event { row, reason, lanes });
+            count += lanes_in(lanes);
         }
+        self.count = count;
     }
 }

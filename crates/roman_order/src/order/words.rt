@@ -1,5 +1,5 @@
 //! The pairs that aren't listed, as words, and kept copies of these words.
-ghost use Rattle.std.specs.Prelude.{◌≡◌, ◌≢◌, ℕ, ◌+◌, ◌<◌, ◌≤◌, ◌⊎◌, not, length, slice_index};
+ghost use Rattle.std.specs.Prelude.{◌≡◌, ℕ, ◌+◌, ◌<◌, ◌≤◌, ◌⊎◌, not, length, slice_index};
 ghost use Rattle.roman_lanes.specs.Rows.{HasLanes, AreRows};
 ghost use Rattle.roman_order.specs.Board.{has_entry};
 
@@ -31,17 +31,6 @@ impl Order {
         rewrite(&mut self.before, &self.words);
     }
 
-    /// Keeps the present word of the row `x`. The kept words of other rows stay.
-    pub fn keep_row(&mut self, x: u32)
-        requires { x < self.old.rows }
-        ensures kept { HasLanes self.old.lanes x (λ p. not (has_entry self.old.list p)) (slice_index self.new.before x) }
-        ensures others { (y : ℕ) → y ≢ x → slice_index self.new.before y ≡ slice_index self.old.before y }
-        ensures long { length self.new.before ≡ length self.old.before }
-        ensures rest { self.new ≡ record self.old { before = self.new.before } }
-    {
-        self.before[x as usize] = self.words[x as usize];
-    }
-
     /// Keeps the present words of `many` rows from the row `x` on. The kept words of other rows stay.
     pub fn keep_rows(&mut self, x: u32, many: u32)
         requires { x + many ≤ self.old.rows }
@@ -50,9 +39,8 @@ impl Order {
         ensures long { length self.new.before ≡ length self.old.before }
         ensures rest { self.new ≡ record self.old { before = self.new.before } }
     {
-        prove!(many <= self.rows);
-        for i in 0..many {
-            self.keep_row(x + i);
-        }
+        let from = x as usize;
+        let to = from + many as usize;
+        self.before[from..to].copy_from_slice(&self.words[from..to]);
     }
 }

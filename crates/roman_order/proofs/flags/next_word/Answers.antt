@@ -1,7 +1,6 @@
-use Rattle.roman_order.proofs.Common.{◌≡◌, ℕ, ◌*◌, ◌/◌, ◌<◌, ◌≤◌, List, length, take, get_or, Some, None, false, arith, cases_lt, length-take-le, has_flag}
+use Rattle.roman_order.proofs.Common.{◌≡◌, ℕ, ◌*◌, ◌/◌, ◌<◌, ◌≤◌, List, length, take, get_or, Some, None, false, arith, cases_lt, length-take-le, has_flag, get_or-take}
 use Rattle.std.proofs.Common.{Option}
 use Rattle.std.specs.Option.{IfNone}
-use Rattle.std.proofs.lemmas.List.{get_or-take}
 use Rattle.roman_order.proofs.Words.{flag_off}
 use Rattle.roman_order.proofs.flags.next_word.Goals as goal
 
