@@ -1,5 +1,5 @@
 -- The bands that were noted in a round.
-use Rattle.roman_relation.proofs.Common.{◌≡◌, ℕ, zero, suc, ◌+◌, ◌-◌, ◌*◌, ◌/◌, ◌%◌, ◌<◌, ◌≤◌, Bool, true, false, cond, ◌||◌, ◌==◌, List, [], ◌∷◌, ◌++◌, length, take, drop, slice_index, IsTrue, IsFalse, inl, inr, refl, sym, ap, ◌∙◌, subst, arith, take-append-drop, append_assoc, sum_by, take-append_seam, take-length, cases_eq, both_ways, eqb-true, or_left, or_right, or_parts, false_from_ne_true, not_from_true, eq-eqb, ne_eqb, take-take, length-take-le, list_any-append, sum_by_push, IsIn, below, Arena, Entry, is_listed, IsOrder, fall, IsNumbered, by_test, sum_by_same, from_below, any_from, from_map, in_map, listed_append, is_on, Board, as_entry, set_lanes, has_entry, IsEvent, entries_at, Event, in_lanes, IsMarking, moves_to_all, on_at, any_true, pairs_of, IsShaped}
+use Rattle.roman_relation.proofs.Common.{◌≡◌, ℕ, zero, suc, ◌+◌, ◌-◌, ◌*◌, ◌/◌, ◌%◌, ◌<◌, ◌≤◌, Bool, true, false, cond, ◌||◌, ◌==◌, List, [], ◌∷◌, ◌++◌, length, take, drop, slice_index, IsTrue, IsFalse, inl, inr, refl, sym, ap, ◌∙◌, subst, arith, take-append-drop, append_assoc, sum_by, take-append_seam, take-length, cases_eq, both_ways, eqb-true, or_left, or_right, or_parts, false_from_ne_true, not_from_true, eq-eqb, ne_eqb, take-take, length-take-le, list_any-append, sum_by_push, IsIn, below, Arena, Entry, is_listed, IsOrder, fall, IsNumbered, by_test, sum_by_same, from_below, any_from, from_map, in_map, listed_append, is_on, Board, as_entry, set_lanes, has_entry, IsEvent, entries_at, Event, in_lanes, IsMarking, moves_to_all, on_at, any_true, pairs_of, IsShaped, lane_place}
 use Rattle.roman_relation.specs.Rounds.{AreGoneBack}
 use Rattle.std.proofs.Common.{length-drop}
 use Rattle.std.proofs.lemmas.Bool.{cases_Bool}
@@ -8,7 +8,6 @@ use Rattle.std.proofs.Math.Seq.{take-append-add, drop-append_seam}
 use Rattle.roman_model.proofs.CallerLemmas.{in_append_left, in_append_right, none_from, split_at, order_middle}
 use Rattle.roman_relation.specs.Rounds.{has_band, moves_to}
 use Rattle.roman_relation.proofs.Beginnings.{take_listed}
-use Rattle.roman_relation.proofs.Lanes.{lane_place}
 use Rattle.roman_order.specs.Walks.{AreUnkept}
 use Rattle.roman_relation.proofs.Losses.{fall_entries, lane_in, noted_entries}
 use Rattle.roman_relation.proofs.Marks.{IsNoted, noted_own, noted_other}
@@ -139,6 +138,7 @@ entry_new A L M R start i x order first rest inside =
     let off = (or_parts (is_listed A T p) (is_listed A B p) (sym (listed_append A T B p) ∙ before)).0 in
     false_from_ne_true (is_listed A (take start L) p) (λ t. both_ways (is_listed A T p) off (take_listed A start T p (subst (λ N. IsTrue (is_listed A N p)) (sym (take-take start i L first)) t)))
 
+-- the entries before the round don't list the pairs of an event of the round
 pub event_new : (A : Arena ℕ) (n : ℕ) (L R : List (Entry ℕ)) (start i : ℕ) (e : Event) (lane : ℕ) → IsOrder A L → start ≤ i → drop i L ≡ entries_at n e ++ R → lane < 64 → is_on e.lanes lane ≡ true →
     IsFalse (is_listed A (take start L) (e.row * n + lane))
 event_new A n L R start i e lane order first rest low on =

@@ -19,7 +19,7 @@ pub use Rattle.roman_model.specs.Lists.{IsIn, below}
 pub use Rattle.roman_model.specs.Numbers.{count, sizes_of}
 pub use Rattle.roman_model.specs.declared.reason.Reason.{Reason}
 pub use Rattle.roman_model.specs.declared.reason.Reason.TheVariants.{Act, Final}
-pub use Rattle.roman_order.proofs.CallerLemmas.{in_lanes}
+pub use Rattle.roman_order.proofs.CallerLemmas.{in_lanes, lane_place}
 pub use Rattle.roman_order.specs.Board.{Board, as_entry, entries_in_rows, has_entry, is_marked, pairs_of}
 unfoldable pub use Rattle.roman_order.specs.Board.{set_lanes}
 pub use Rattle.roman_order.specs.Events.{IsEvent, entries_at}

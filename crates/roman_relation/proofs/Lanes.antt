@@ -1,5 +1,5 @@
 -- Pairs as lanes of rows.
-use Rattle.roman_relation.proofs.Common.{◌≡◌, ℕ, ◌+◌, ◌*◌, ◌/◌, ◌%◌, ◌<◌, Bool, false, not, List, length, slice_index, IsFalse, sym, ap, ap₂, ◌∙◌, arith, both_ways, not_from_false, div-add-mod', div_below, mod_below, Arena, Entry, is_listed, is_on, HasLanes, on_zero, IsNumbered, Board, has_entry, IsShaped, AreUnlisted, on_at}
+use Rattle.roman_relation.proofs.Common.{◌≡◌, ℕ, ◌+◌, ◌*◌, ◌/◌, ◌%◌, ◌<◌, Bool, false, not, List, length, slice_index, IsFalse, sym, ap, ap₂, ◌∙◌, arith, both_ways, not_from_false, div-add-mod', div_below, mod_below, Arena, Entry, is_listed, is_on, HasLanes, on_zero, IsNumbered, Board, has_entry, IsShaped, AreUnlisted, on_at, lane_place}
 use Rattle.std.proofs.lemmas.Nat.{same_from_place}
 use Rattle.roman_lanes.specs.Rows.{AreRows}
 use Rattle.roman_relation.proofs.Beginnings.{listed_is}
@@ -8,14 +8,7 @@ use Rattle.roman_relation.proofs.Beginnings.{listed_is}
 pub unlisted_row : (A : Arena ℕ) → IsNumbered A → (lanes row : ℕ) (L : List (Entry ℕ)) (word : ℕ) → HasLanes lanes row (λ p. not (has_entry L p)) word → HasLanes lanes row (λ p. not (is_listed A L p)) word
 unlisted_row A ok lanes row L word is = record { each = λ lane l. is.each lane l ∙ ap not (sym (listed_is A ok L (row * lanes + lane))); rest = is.rest }
 
--- the row and the lane of a pair
-pub lane_place : (lanes row lane : ℕ) → lane < lanes → ((row * lanes + lane) / lanes ≡ row) × ((row * lanes + lane) % lanes ≡ lane)
-lane_place lanes row lane l =
-    let some : 0 < lanes = omega arith in
-    let p = row * lanes + lane in
-    let same = same_from_place (p / lanes) (p % lanes) row lane lanes (mod_below p lanes some) l (div-add-mod' p lanes) in
-    (same.0, same.1)
-
+-- the bit of a pair is that of its lane in the word of its row
 pub on_lane : (lanes row lane : ℕ) (words : List ℕ) → lane < lanes → on_at lanes words (row * lanes + lane) ≡ is_on (slice_index words row) lane
 on_lane lanes row lane words l = let (e, f) = lane_place lanes row lane l in ap₂ (λ x y. is_on (slice_index words x) y) e f
 

@@ -1,5 +1,5 @@
 -- Lists with entries for the lanes of a row.
-use Rattle.roman_relation.proofs.Common.{◌≡◌, ℕ, zero, suc, ◌+◌, ◌*◌, ◌/◌, ◌<◌, ◌≤◌, ◌⊎◌, Bool, true, false, not, ◌&&◌, ◌||◌, List, [], ◌∷◌, ◌++◌, length, take, slice_index, IsTrue, IsFalse, inl, inr, refl, sym, ap, ◌∙◌, subst, arith, append_assoc, both_ways, cases_lt, cases_eq, false_from_ne_true, or_cases, or_parts, or_left, and_parts, not_from_false, not-true, ne_eqb, get_or_past, IsIn, below, Arena, Entry, is_listed, is_justified, IsOrder, Reason, Act, from_map, any_from, in_below, listed_append, listed_push, is_on, Keeps, on_zero, IsNumbered, numbered_same, Board, as_entry, entries_in_rows, has_entry, in_lanes, Begins, AreUnlisted, InRound, IsJudged}
+use Rattle.roman_relation.proofs.Common.{◌≡◌, ℕ, zero, suc, ◌+◌, ◌*◌, ◌/◌, ◌<◌, ◌≤◌, ◌⊎◌, Bool, true, false, not, ◌&&◌, ◌||◌, List, [], ◌∷◌, ◌++◌, length, take, slice_index, IsTrue, IsFalse, inl, inr, refl, sym, ap, ◌∙◌, subst, arith, append_assoc, both_ways, cases_lt, cases_eq, false_from_ne_true, or_cases, or_parts, or_left, and_parts, not_from_false, not-true, ne_eqb, get_or_past, IsIn, below, Arena, Entry, is_listed, is_justified, IsOrder, Reason, Act, from_map, any_from, in_below, listed_append, listed_push, is_on, Keeps, on_zero, IsNumbered, numbered_same, Board, as_entry, entries_in_rows, has_entry, in_lanes, Begins, AreUnlisted, InRound, IsJudged, lane_place}
 use Rattle.std.proofs.lemmas.Bool.{and_from}
 use Rattle.std.proofs.Common.{map, length-append}
 use Rattle.std.proofs.lemmas.Bool.{or_from}
@@ -10,7 +10,6 @@ use Rattle.roman_order.specs.Board.{entries_in}
 use Rattle.roman_order.proofs.CallerLemmas.{lanes_once, has_entry-lane, has_entry-later, entries_in_rows-row}
 use Rattle.roman_relation.specs.Rounds.{falls}
 use Rattle.roman_relation.proofs.Beginnings.{listed_is, begins_same, begins_unlisted, take_listed}
-use Rattle.roman_relation.proofs.Lanes.{lane_place}
 
 -- ---- a removal list with the entries of some lanes, for one reason that held before them
 

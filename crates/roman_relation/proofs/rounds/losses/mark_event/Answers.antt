@@ -1,11 +1,11 @@
-use Rattle.roman_relation.proofs.Common.{◌≡◌, ℕ, ◌+◌, ◌*◌, ◌/◌, ◌%◌, ◌<◌, ◌≤◌, true, false, not, ◌++◌, length, slice_index, inl, inr, refl, sym, ap, ◌∙◌, subst, arith, rules, not_from_true, mod_below, div-add-mod', mul-le, IsIn, is_on, HasLanes, has_flag, count_by, Board, has_entry, entries_at, moves_to_all, on_at}
+use Rattle.roman_relation.proofs.Common.{◌≡◌, ℕ, ◌+◌, ◌*◌, ◌/◌, ◌%◌, ◌<◌, ◌≤◌, true, false, not, ◌++◌, length, slice_index, inl, inr, refl, sym, ap, ◌∙◌, subst, arith, rules, not_from_true, mod_below, div-add-mod', mul-le, IsIn, is_on, HasLanes, has_flag, count_by, Board, has_entry, entries_at, moves_to_all, on_at, lane_place}
 use Rattle.std.proofs.Common.{ltb}
 use Rattle.std.proofs.lemmas.List.Sums.{count_by-le-length}
 use Rattle.roman_model.specs.Arena.{is_listed, Delegation, back as back_of}
 use Rattle.roman_order.proofs.CallerLemmas.{rewritten_whole}
 use Rattle.roman_relation.proofs.Backs.{back_again, back_now, band_is_new, band_is_old, event_lane}
 use Rattle.roman_relation.proofs.Bands.{band_begins, in_band, outside_band, pair_in, pair_inside, row_band, row_of_band}
-use Rattle.roman_relation.proofs.Lanes.{on_lane, unlisted_row, lane_place, shaped_pairs}
+use Rattle.roman_relation.proofs.Lanes.{on_lane, unlisted_row, shaped_pairs}
 use Rattle.roman_relation.proofs.Marks.{IsNoted, noted_own, noted_marking}
 use Rattle.roman_relation.proofs.Losses.{fall_one}
 use Rattle.roman_relation.proofs.rounds.losses.mark_event.Goals as goal
