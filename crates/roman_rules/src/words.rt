@@ -1,8 +1,6 @@
 //! The words of the rows of a band.
 ghost use Rattle.std.specs.Prelude.{◌≡◌, ℕ, ◌+◌, ◌<◌, ◌≤◌, true, length, slice_index};
 
-use roman_lanes::first_set;
-
 /// Copies the words of the rows from the row `x` on to `to`, as many as `to` has places.
 pub fn copy_rows(words: &[u64], x: u32, to: &mut [u64])
     requires { x + length to.old ≤ length words.now }
@@ -15,9 +13,18 @@ pub fn copy_rows(words: &[u64], x: u32, to: &mut [u64])
     }
 }
 
-/// Returns whether all words are 0.
+/// Returns whether all words are 0. Reads the first word by itself: where some word isn't 0, the first
+/// mostly isn't either. Then joins all words.
+#[tactic(auto, using(std::proofs::lemmas::Bool::cases_eq, std::proofs::lemmas::Nat::le_or_l, std::proofs::lemmas::Nat::le_or_r))]
 pub fn are_clear(words: &[u64]) -> bool
     ensures { result ≡ true → (i : ℕ) → i < length words.now → slice_index words.now i ≡ 0 }
 {
-    first_set(words, 0).is_none()
+    if !words.is_empty() && words[0] != 0 {
+        return false;
+    }
+    let mut all = 0;
+    for i in 0..words.len() {
+        all |= words[i];
+    }
+    all == 0
 }
