@@ -1,6 +1,6 @@
 -- The delegations that are found backwards are those that lead to the pair.
-use Rattle.roman_joint.proofs.Common.{◌≡◌, ℕ, ◌<◌, Bool, true, false, cond, [], map, length, Option, Some, None, IsTrue, IsFalse, slice_get, slice_index, slice_set, refl, sym, ap, ◌∙◌, subst, arith, IsIn, HasNoRepeats, HoldsEachOnce, below, Env, Sys, Seat, Pair, IsSys, IsPair, IsBeh, has_triple, has_move, env_prev, beh_prev, outcomes, Delegation, back, sizes_of, count, number, pair_at, numbered, in_map, from_map, in_flat_map, from_flat_map, in_below, from_below, HasNoRepeats-below, HasNoRepeats-filter, HasNoRepeats-map, HasNoRepeats-flat_map, triple_in_range, move_in_range, in_env_prev, in_beh_prev, seat_in, states_set, numbers_are_pairs, IsPairOf-from, AreBelow-length, numbered_is_arena, in_back, slice_get_within, get_or-set_same, length-map, seat_prev, from_seat, from_target, from_env, from_action, from_all}
-use Rattle.roman_model.proofs.CallerLemmas.{from_env_prev, from_beh_prev, outcome_in, from_outcome, outcome_pair, numbered_is_same, from_back}
+use Rattle.roman_joint.proofs.Common.{◌≡◌, ℕ, ◌<◌, Bool, true, false, cond, List, [], map, length, Option, Some, None, IsTrue, IsFalse, slice_get, slice_index, slice_set, refl, sym, ap, ◌∙◌, subst, arith, flat_map, IsIn, HasNoRepeats, HoldsEachOnce, below, Env, Sys, Seat, Pair, IsSys, IsPair, IsBeh, has_triple, has_move, env_prev, beh_prev, outcomes, Delegation, back, sizes_of, count, number, pair_at, numbered, in_map, from_map, in_flat_map, from_flat_map, in_below, from_below, HasNoRepeats-below, HasNoRepeats-filter, HasNoRepeats-map, triple_in_range, move_in_range, in_env_prev, in_beh_prev, seat_in, states_set, numbers_are_pairs, IsPairOf-from, AreBelow-length, numbered_is_arena, in_back, slice_get_within, get_or-set_same, length-map, seat_prev, from_seat, from_target, from_env, from_action, from_all}
+use Rattle.roman_model.proofs.CallerLemmas.{HasNoRepeats-flat_map, from_env_prev, from_beh_prev, outcome_in, from_outcome, outcome_pair, numbered_is_same, from_back}
 use Rattle.std.proofs.lemmas.List.{set-set, set-get_or}
 
 -- the delegation of a to the seat at k, from t, e and the seat's state b
@@ -129,10 +129,16 @@ leads_found s p d sys below_p i =
     rw node at (in_all s q d.action r.e r.t d.seat (slice_index r.bs d.seat) sys comes.steps)
 
 -- the states and the seat of a delegation are those by which it was found
-pub record FoundAt (s : Sys) (q : Pair) (e t k : ℕ) (d : Delegation ℕ) : Type 0 where
+pub record FoundAt (s : Sys) (q : Pair) (a e t k : ℕ) (d : Delegation ℕ) : Type 0 where
+  pub action : d.action ≡ a
   pub env : (pair_at (sizes_of s) d.node).e ≡ e
   pub target : (pair_at (sizes_of s) d.node).t ≡ t
   pub seat : d.seat ≡ k
+
+-- joined lists have no repeats if an element shows from which list it comes
+pub once_by : {X Y : Type 0} (f : X → List Y) (from : Y → X) (xs : List X) → HasNoRepeats xs → ((x : X) → IsIn x xs → HasNoRepeats (f x)) → ((x : X) (y : Y) → IsIn x xs → IsIn y (f x) → from y ≡ x) →
+    HasNoRepeats (flat_map f xs)
+once_by f from xs once each is = HasNoRepeats-flat_map f xs each (λ x z y i j l m. sym (is x y i l) ∙ is z y j m) once
 
 seat_prev_once : (o : Option Seat) (b' e a : ℕ) → HasNoRepeats (seat_prev o b' e a)
 seat_prev_once None b' e a = tt
@@ -142,31 +148,20 @@ module _ (s : Sys) (q : Pair) (sys : IsSys s) (ok : IsPair s q) where
   back_at : (a e t k b : ℕ) → Steps s q a e t k b → pair_at (sizes_of s) (number (sizes_of s) (origin q e t k b)) ≡ origin q e t k b
   back_at a e t k b steps = (numbers_are_pairs s).back (origin q e t k b) (origin_pair s q a e t k b sys ok steps)
 
-  seat_at : (a e t k : ℕ) (d : Delegation ℕ) → IsIn e (env_prev s.env q.e a) → IsIn t (beh_prev s.target q.t e a) → IsIn d (from_seat s q a e t k) → FoundAt s q e t k d
+  seat_at : (a e t k : ℕ) (d : Delegation ℕ) → IsIn e (env_prev s.env q.e a) → IsIn t (beh_prev s.target q.t e a) → IsIn d (from_seat s q a e t k) → FoundAt s q a e t k d
   seat_at a e t k d in_env in_target i =
       let (b, j, is) = from_map (delegation s q a e t k) d (seat_prev (slice_get s.seats k) (slice_index q.bs k) e a) i in
       let here : pair_at (sizes_of s) d.node ≡ origin q e t k b = ap (λ x. pair_at (sizes_of s) x.node) is ∙ back_at a e t k b (state_steps s q a e t k b in_env in_target j) in
-      record { env = ap (λ p. p.e) here; target = ap (λ p. p.t) here; seat = ap (λ x. x.seat) is }
+      record { action = ap (λ x. x.action) is; env = ap (λ p. p.e) here; target = ap (λ p. p.t) here; seat = ap (λ x. x.seat) is }
 
-  target_at : (a e t : ℕ) (d : Delegation ℕ) → IsIn e (env_prev s.env q.e a) → IsIn t (beh_prev s.target q.t e a) → IsIn d (from_target s q a e t) →
-      ((pair_at (sizes_of s) d.node).e ≡ e) × ((pair_at (sizes_of s) d.node).t ≡ t)
-  target_at a e t d in_env in_target i =
-      let (k, j, l) = from_flat_map (from_seat s q a e t) d (below (length s.seats)) i in
-      let at : FoundAt s q e t k d = seat_at a e t k d in_env in_target l in
-      (at.env, at.target)
+  target_at : (a e t : ℕ) (d : Delegation ℕ) → IsIn e (env_prev s.env q.e a) → IsIn t (beh_prev s.target q.t e a) → IsIn d (from_target s q a e t) → (k : ℕ) × FoundAt s q a e t k d
+  target_at a e t d in_env in_target i = let (k, j, l) = from_flat_map (from_seat s q a e t) d (below (length s.seats)) i in (k, seat_at a e t k d in_env in_target l)
 
-  env_at : (a e : ℕ) (d : Delegation ℕ) → IsIn e (env_prev s.env q.e a) → IsIn d (from_env s q a e) → (pair_at (sizes_of s) d.node).e ≡ e
-  env_at a e d in_env i =
-      let (t, j, l) = from_flat_map (from_target s q a e) d (beh_prev s.target q.t e a) i in
-      (target_at a e t d in_env j l).0
+  env_at : (a e : ℕ) (d : Delegation ℕ) → IsIn e (env_prev s.env q.e a) → IsIn d (from_env s q a e) → (t : ℕ) × (k : ℕ) × FoundAt s q a e t k d
+  env_at a e d in_env i = let (t, j, l) = from_flat_map (from_target s q a e) d (beh_prev s.target q.t e a) i in let (k, at) = target_at a e t d in_env j l in (t, k, at)
 
   action_at : (a : ℕ) (d : Delegation ℕ) → IsIn d (from_action s q a) → d.action ≡ a
-  action_at a d i =
-      let (e, j, l) = from_flat_map (from_env s q a) d (env_prev s.env q.e a) i in
-      let (t, m, n) = from_flat_map (from_target s q a e) d (beh_prev s.target q.t e a) l in
-      let (k, o, u) = from_flat_map (from_seat s q a e t) d (below (length s.seats)) n in
-      let (b, v, is) = from_map (delegation s q a e t k) d (seat_prev (slice_get s.seats k) (slice_index q.bs k) e a) u in
-      ap (λ x. x.action) is
+  action_at a d i = let (e, j, l) = from_flat_map (from_env s q a) d (env_prev s.env q.e a) i in (env_at a e d j l).2.action
 
   seat_once : (a e t k : ℕ) → IsIn e (env_prev s.env q.e a) → IsIn t (beh_prev s.target q.t e a) → HasNoRepeats (from_seat s q a e t k)
   seat_once a e t k in_env in_target =
@@ -179,27 +174,17 @@ module _ (s : Sys) (q : Pair) (sys : IsSys s) (ok : IsPair s q) where
       sym (get_or-set_same q.bs k b 0 within) ∙ (ap (λ p. slice_index p.bs k) pairs ∙ get_or-set_same q.bs k c 0 within))
       (seat_prev_once (slice_get s.seats k) (slice_index q.bs k) e a)
 
-  target_once : (a e t : ℕ) → IsIn e (env_prev s.env q.e a) → IsIn t (beh_prev s.target q.t e a) → HasNoRepeats (from_target s q a e t)
-  target_once a e t in_env in_target =
-      HasNoRepeats-flat_map (from_seat s q a e t) (below (length s.seats)) (λ k i. seat_once a e t k in_env in_target)
-      (λ k j d l m i o. sym (seat_at a e t k d in_env in_target i).seat ∙ (seat_at a e t j d in_env in_target o).seat) (HasNoRepeats-below (length s.seats))
-
-  env_once : (a e : ℕ) → IsIn e (env_prev s.env q.e a) → HasNoRepeats (from_env s q a e)
-  env_once a e in_env =
-      HasNoRepeats-flat_map (from_target s q a e) (beh_prev s.target q.t e a) (λ t i. target_once a e t in_env i)
-      (λ t u d i j l m. sym (target_at a e t d in_env i l).1 ∙ (target_at a e u d in_env j m).1)
-      (HasNoRepeats-filter (λ t. has_move s.target t e a q.t) (below s.target.states) (HasNoRepeats-below s.target.states))
-
-  action_once : (a : ℕ) → HasNoRepeats (from_action s q a)
-  action_once a =
-      HasNoRepeats-flat_map (from_env s q a) (env_prev s.env q.e a) (λ e i. env_once a e i)
-      (λ e f d i j l m. sym (env_at a e d i l) ∙ env_at a f d j m)
-      (HasNoRepeats-filter (λ e. has_triple s.env e a q.e) (below s.env.states) (HasNoRepeats-below s.env.states))
-
   pub all_once : HasNoRepeats (from_all s q)
   all_once =
-      HasNoRepeats-flat_map (from_action s q) (below s.env.actions) (λ a i. action_once a)
-      (λ a b d i j l m. sym (action_at a d l) ∙ action_at b d m) (HasNoRepeats-below s.env.actions)
+      once_by (from_action s q) (λ d. d.action) (below s.env.actions) (HasNoRepeats-below s.env.actions)
+      (λ a i. once_by (from_env s q a) (λ d. (pair_at (sizes_of s) d.node).e) (env_prev s.env q.e a) (HasNoRepeats-filter (λ e. has_triple s.env e a q.e) (below s.env.states) (HasNoRepeats-below s.env.states))
+      (λ e in_env. once_by (from_target s q a e) (λ d. (pair_at (sizes_of s) d.node).t) (beh_prev s.target q.t e a) (HasNoRepeats-filter (λ t. has_move s.target t e a q.t) (below s.target.states) (HasNoRepeats-below s.target.states))
+      (λ t in_target. once_by (from_seat s q a e t) (λ d. d.seat) (below (length s.seats)) (HasNoRepeats-below (length s.seats))
+      (λ k j. seat_once a e t k in_env in_target)
+      (λ k d j l. (seat_at a e t k d in_env in_target l).seat))
+      (λ t d in_target l. (target_at a e t d in_env in_target l).1.target))
+      (λ e d in_env l. (env_at a e d in_env l).2.env))
+      (λ a d i l. action_at a d l)
 
 -- the delegations that are found backwards are those that lead to the pair, each once
 pub found_backwards : (s : Sys) (p : ℕ) → IsSys s → p < count (sizes_of s) → HoldsEachOnce (from_all s (pair_at (sizes_of s) p)) (back (numbered s) p)

@@ -6,7 +6,7 @@ pub use Rattle.std.proofs.Math.Nat.{le-div_iff_mul-le, mul-le-mul_left, mul-le-m
 pub use Rattle.std.proofs.Math.Seq.{get_or-append_seam}
 pub use Rattle.std.proofs.lemmas.Bool.{and_parts, both_ways, cases_eq, cases_lt, eqb-true, false≢true, le-ltb, lt-ltb, ne_eqb, not-true}
 pub use Rattle.std.proofs.lemmas.Bool.Decides.{nat_tests}
-pub use Rattle.std.proofs.lemmas.List.{append-nil, append_assoc, drop_all, drop_more, get_or-set_other, get_or-set_same, get_or_append_left, length-append, length-map, length-set, length-take, map-append, map_push, take_all, take_more}
+pub use Rattle.std.proofs.lemmas.List.{append_assoc, drop_all, drop_more, get_or-set_other, get_or-set_same, get_or_append_left, length-append, length-map, length-set, length-take, map-append, map_push, take_all, take_more}
 pub use Rattle.std.proofs.lemmas.List.Elements.{All-from_recursion}
 pub use Rattle.std.proofs.lemmas.List.Sums.{count_by-le-length, length-filter}
 pub use Rattle.std.proofs.lemmas.Nat.{div-add-mod', div-mul-add, div_below, mod-mul-add, mod_below, mul-add-lt, mul-le}
@@ -20,7 +20,7 @@ pub use Rattle.std.specs.Prelude.{bit_or}
 pub use Rattle.roman_lanes.proofs.CallerLemmas.{on_and, on_or, on_zero}
 pub use Rattle.roman_lanes.specs.Rows.{AreRows, HasLanes, Keeps}
 unfoldable pub use Rattle.roman_lanes.specs.Rows.{is_on}
-pub use Rattle.roman_model.proofs.CallerLemmas.{AreBelow-index, AreBelow-length, HasNoRepeats-below, HasNoRepeats-filter, HasNoRepeats-flat_map, HasNoRepeats-map, IsPairOf-at, IsPairOf-from, all_below_at, all_below_from, any_from, any_same, any_true, by_test, empty_is, filter_in, from_below, from_env_next, from_flat_map, from_map, from_seat_next, in_back, in_beh_prev, in_below, in_env_prev, in_filter, in_flat_map, in_map, length-below, move_in_range, not_empty_in, number-pair_at, number_below, numbered_is_arena, numbers_are_pairs, part_at, same_test, seat_in, states_set, triple_in_range}
+pub use Rattle.roman_model.proofs.CallerLemmas.{AreBelow-index, AreBelow-length, HasNoRepeats-below, HasNoRepeats-filter, HasNoRepeats-map, IsPairOf-at, IsPairOf-from, all_below_at, all_below_from, any_from, any_same, any_true, by_test, empty_is, filter_in, from_below, from_env_next, from_flat_map, from_map, from_seat_next, in_back, in_beh_prev, in_below, in_env_prev, in_filter, in_flat_map, in_map, length-below, move_in_range, not_empty_in, number-pair_at, number_below, numbered_is_arena, numbers_are_pairs, part_at, same_test, seat_in, states_set, triple_in_range}
 pub use Rattle.roman_model.specs.Arena.{Arena, Delegation, back, is_beaten, is_justified, mask}
 pub use Rattle.roman_model.specs.Change.{Die, Join, after}
 pub use Rattle.roman_model.specs.Explanation.{name_at}
@@ -42,7 +42,7 @@ pub use Rattle.roman_joint.specs.Bands.{AllAlive, KeepsWhere, band_in, mid_in, t
 pub use Rattle.roman_joint.specs.Behaviours.{IsSeatBehaviour}
 pub use Rattle.roman_joint.specs.Changes.{with_frozen}
 pub use Rattle.roman_joint.specs.Layout.{named_sys_in}
-pub use Rattle.roman_joint.specs.Marks.{Grows, IsAt, IsMarked, MarksAction, MarksEnv, MarksSeat, MarksTurn, front_action, front_env, front_target, row_at}
+pub use Rattle.roman_joint.specs.Marks.{Grows, IsMarked, MarksAction, MarksEnv, MarksSeat, MarksTurn, action_steps, env_steps, row_at, seat_steps, turn_steps}
 pub use Rattle.roman_joint.specs.Moves.{AreSeatsOf, HoldsMoves, HoldsSpans, IsKept, lane_moves_from, ways_room}
 pub use Rattle.roman_joint.specs.NamedSys.{IsNamedSys, IsOverEnv, NamedSys, beh_at, cells, seat_of, system_of}
 pub use Rattle.roman_joint.specs.Outcomes.{IsPairWith}

@@ -1,15 +1,14 @@
 -- Marks on the bands from which a band can be reached.
-use Rattle.roman_joint.proofs.Common.{◌≡◌, ℕ, zero, suc, ◌+◌, ◌-◌, ◌*◌, ◌/◌, ◌%◌, ◌^◌, ◌<◌, ◌≤◌, Bool, true, cond, map, List, [], ◌∷◌, ◌++◌, length, take, get_or, Option, Some, slice_get, slice_index, IsTrue, IsFalse, inl, inr, refl, sym, ap, ap₂, ◌∙◌, subst, arith, add-one, set, bit_or, bit_at, flat_map, filter, cases_eq, cases_lt, lt-ltb, le-ltb, slice_get_within, get_or-set_same, get_or-set_other, length-set, length-map, length-append, take_more, append-nil, length-filter, div-add-mod', mod_below, div_below, IsIn, HasNoRepeats, below, product_of, by_test, in_below, from_below, from_map, from_flat_map, filter_in, in_filter, HasNoRepeats-below, HasNoRepeats-filter, HasNoRepeats-map, HasNoRepeats-flat_map, triple_in_range, move_in_range, in_env_prev, in_beh_prev, seat_in, in_back, AreBelow-length, IsPairOf-at, number-pair_at, numbered_is_arena, Seat, Sys, Pair, IsSys, IsBeh, env_prev, beh_prev, Arena, Delegation, back, sizes_of, count, number, pair_at, numbered, IsSizes, stride_of, row_sizes, env_rows_of, target_rows_of, row_mod, env_rows_are, low_of-le, lanes_positive, length_rows, row_size, row_stride_of, IsSizes-rows, is_on, seat_prev, from_states, from_seat, from_target, from_env, from_action, from_all, lanes_in, low_in, lane_state_of, IsRow, mid_in, band_in, AreLeading, IsMarked, Grows, row_at, MarksSeat, MarksTurn, MarksEnv, MarksAction, IsAt, front_target, front_env, front_action, Row}
+use Rattle.roman_joint.proofs.Common.{◌≡◌, ℕ, suc, ◌+◌, ◌-◌, ◌*◌, ◌/◌, ◌%◌, ◌^◌, ◌<◌, ◌≤◌, Bool, true, false, cond, List, [], ◌∷◌, length, get_or, Option, Some, slice_get, slice_index, IsTrue, IsFalse, inl, inr, refl, sym, ap, ap₂, ◌∙◌, subst, arith, set, bit_or, bit_at, flat_map, filter, cases_eq, cases_lt, lt-ltb, le-ltb, slice_get_within, get_or-set_same, get_or-set_other, length-set, length-map, length-filter, div-add-mod', mod_below, div_below, IsIn, HasNoRepeats, HoldsEachOnce, sum_by, below, product_of, by_test, in_below, from_below, from_map, from_flat_map, filter_in, in_filter, HasNoRepeats-below, HasNoRepeats-filter, HasNoRepeats-map, triple_in_range, move_in_range, in_env_prev, in_beh_prev, seat_in, in_back, AreBelow-length, IsPairOf-at, number-pair_at, numbered_is_arena, Seat, Sys, Pair, IsSys, IsBeh, env_prev, beh_prev, Arena, Delegation, back, sizes_of, count, number, pair_at, numbered, IsSizes, stride_of, row_sizes, env_rows_of, target_rows_of, row_mod, env_rows_are, low_of-le, lanes_positive, length_rows, row_size, row_stride_of, IsSizes-rows, is_on, seat_prev, from_states, from_seat, from_target, from_env, from_action, from_all, lanes_in, low_in, lane_state_of, IsRow, mid_in, band_in, AreLeading, IsMarked, Grows, row_at, MarksSeat, MarksTurn, MarksEnv, MarksAction, seat_steps, turn_steps, env_steps, action_steps, Row}
 use Rattle.std.proofs.Common.{count_by}
+use Rattle.std.proofs.lemmas.List.Sums.{sum_by-append, sum_by-cons}
 use Rattle.std.specs.Prelude.{ltb}
-use Rattle.std.proofs.lemmas.List.Concat.{flat_map-append}
-use Rattle.std.proofs.lemmas.List.Elements.{filter-append}
 use Rattle.std.proofs.lemmas.Nat.{same_from_place}
-use Rattle.roman_model.proofs.CallerLemmas.{flat_map_same, flat_map_same_in, no_longer, number-moved}
+use Rattle.roman_model.proofs.CallerLemmas.{no_longer, number-moved, sum_by_same}
 use Rattle.roman_model.specs.Arena.{is_among, delegations}
 use Rattle.roman_lanes.specs.Flags.{has_flag}
-use Rattle.roman_joint.specs.Marks.{front_all}
-use Rattle.roman_joint.proofs.BackwardLemmas.{Steps, Found, delegation, origin, in_seat_prev, leads_found, from_all_found, found_backwards}
+use Rattle.roman_rules.proofs.CallerLemmas.{sum_cut}
+use Rattle.roman_joint.proofs.BackwardLemmas.{once_by, delegation, Steps, Found, origin, in_seat_prev, leads_found, from_all_found, found_backwards}
 use Rattle.roman_joint.proofs.Rows.{size_of_seat}
 use Rattle.roman_joint.proofs.WordLemmas.{on_set_same, on_set_other}
 use Rattle.roman_joint.proofs.SplitLemmas.{stride_rows, quotient}
@@ -248,120 +247,85 @@ ready_prev o seat b e a seated ready = ap (λ y. seat_prev y b e a) seated ∙ a
 
 -- The number of steps.
 
--- the length of joined lists with one more
-pub count_more : {X : Type 0} (f : ℕ → List X) (xs : List ℕ) (i : ℕ) → i < length xs → length (flat_map f (take (i + 1) xs)) ≡ length (flat_map f (take i xs)) + length (f (get_or xs i 0))
-count_more f xs i l =
-    ap (λ ys. length (flat_map f ys)) (take_more xs i 0 l) ∙ (ap length (flat_map-append f (take i xs) (get_or xs i 0 ∷ []))
-    ∙ (length-append (flat_map f (take i xs)) (f (get_or xs i 0) ++ []) ∙ ap (λ ys. length (flat_map f (take i xs)) + length ys) (append-nil (f (get_or xs i 0)))))
+-- a sum over joined lists, from the sum over each
+sum_each : {X Y : Type 0} (f : Y → ℕ) (g : X → List Y) (h : X → ℕ) (xs : List X) → ((x : X) → sum_by f (g x) ≡ h x) → sum_by f (flat_map g xs) ≡ sum_by h xs
+sum_each f g h [] same = refl
+sum_each f g h (x ∷ xs) same = sum_by-append f (g x) (flat_map g xs) ∙ (ap₂ (λ m n. m + n) (same x) (sum_each f g h xs same) ∙ sym (sum_by-cons h x xs))
 
-pub count_below : {X : Type 0} (f : ℕ → List X) (k : ℕ) → length (flat_map f (below (k + 1))) ≡ length (flat_map f (below k)) + length (f k)
-count_below f k = rw add-one (ap length (flat_map-append f (below k) (k ∷ [])) ∙ (length-append (flat_map f (below k)) (f k ++ []) ∙ ap (λ ys. length (flat_map f (below k)) + length ys) (append-nil (f k))))
+-- lists without repeats that hold the same elements have as many that pass a test
+count_same : {X : Type 0} (f : X → Bool) (xs ys : List X) → HoldsEachOnce xs ys → HasNoRepeats ys → count_by f ys ≡ count_by f xs
+count_same f xs ys each once =
+    let up : length (filter f xs) ≤ length (filter f ys) = no_longer (filter f xs) (filter f ys) (HasNoRepeats-filter f xs each.once)
+    (λ d i. let (j, t) = filter_in f d xs i in in_filter f d ys ((each.same d).0 j) t) in
+    let down : length (filter f ys) ≤ length (filter f xs) = no_longer (filter f ys) (filter f xs) (HasNoRepeats-filter f ys once)
+    (λ d i. let (j, t) = filter_in f d ys i in in_filter f d xs ((each.same d).1 j) t) in
+    omega (arith, length-filter f xs, length-filter f ys)
 
--- a seat has as many delegations as predecessor states
-pub count_seat : (s : Sys) (q : Pair) (a e t k : ℕ) (row : Row) → IsAt s row q → k < mid_in s → length (from_seat s q a e t k) ≡ length (seat_prev (slice_get s.seats k) (slice_index row.states k) e a)
-count_seat s q a e t k row at before =
-    length-map (seat_prev (slice_get s.seats k) (slice_index q.bs k) e a) _ ∙ ap (λ b. length (seat_prev (slice_get s.seats k) b e a)) (at.states k before)
+-- no delegation leads to a node twice
+back_once : (A : Arena ℕ) (q : ℕ) → HasNoRepeats A.nodes → HasNoRepeats (back A q)
+back_once A q once = HasNoRepeats-filter (λ d. is_among A (A.outcomes d.node d.action d.seat) q) (delegations A)
+    (once_by _ (λ d. d.node) A.nodes once
+    (λ p i. once_by _ (λ d. d.action) (below A.actions) (HasNoRepeats-below A.actions)
+    (λ a j. HasNoRepeats-map _ (below A.seats) (λ k o u v is. ap (λ (d : Delegation ℕ). d.seat) is) (HasNoRepeats-below A.seats))
+    (λ a d i j. grind (arith, from_map)))
+    (λ p d i j. grind (arith, from_flat_map, from_map)))
 
--- a pair of the band has the states that the band shares
-pub pair_there : (s : Sys) (row : Row) (y i lane : ℕ) → IsSizes (sizes_of s) → IsRow s (y * band_in s) row → i < band_in s → lane < lanes_in s →
-    IsAt s row (pair_at (sizes_of s) ((y * band_in s + i) * lanes_in s + lane))
-pair_there s row y i lane sizes ok in_rows in_lanes =
-    let here = in_band s y i row sizes ok in_rows in
-    record {
-      target = here.looked.targets lane in_lanes;
-      env = here.looked.envs lane in_lanes;
-      states = λ k front. here.looked.states k lane (mid_low s k front) in_lanes ∙ here.before k front;
-    }
-
--- where an action doesn't lead to a band, none of its delegations does
-pub none_leads : (s : Sys) (q : Pair) (row : Row) (a : ℕ) → IsAt s row q → AreLeading s.env s.target row.target row.env row.leading → a < s.env.actions → bit_at row.leading a ≡ 0 →
-    length (front_action s q a) ≡ 0
-none_leads s q row a at leading l off =
-    ap length (flat_map_same_in (front_env s q a) (λ e. nothing) (env_prev s.env q.e a)
-    (λ e i. ap (λ ts. flat_map (front_target s q a e) ts) (ap (λ t. beh_prev s.target t e a) at.target ∙ leading.others a l off e (subst (λ z. IsIn e (env_prev s.env z a)) at.env i)))
-    ∙ none (env_prev s.env q.e a))
+-- the delegations to a seat count only if it stands before the band's own
+count_states : (s : Sys) (q : Pair) (a e t k : ℕ) (bs : List ℕ) → count_by (λ d. ltb d.seat (mid_in s)) (from_states s q a e t k bs) ≡ cond (ltb k (mid_in s)) (length bs) 0
+count_states s q a e t k [] = grind (arith, by_test)
+count_states s q a e t k (b ∷ bs) =
+    sum_by-cons (λ d. cond (ltb d.seat (mid_in s)) 1 0) (delegation s q a e t k b) (from_states s q a e t k bs) ∙ more (ltb k (mid_in s)) _ (count_states s q a e t k bs)
   where
-    nothing : List (Delegation ℕ)
-    nothing = []
+    more : (t : Bool) (rest : ℕ) → rest ≡ cond t (length bs) 0 → cond t 1 0 + rest ≡ cond t (length (b ∷ bs)) 0
+    more true rest e = omega (arith, e)
+    more false rest e = omega (arith, e)
 
-    none : (xs : List ℕ) → flat_map (λ e. nothing) xs ≡ []
-    none [] = refl
-    none (x ∷ xs) = none xs
-
--- The counted delegations are those to the first seats.
-
-only_flat : {X Y : Type 0} (f : Y → Bool) (g : X → List Y) (xs : List X) → filter f (flat_map g xs) ≡ flat_map (λ x. filter f (g x)) xs
-only_flat f g [] = refl
-only_flat f g (x ∷ xs) = filter-append f (g x) (flat_map g xs) ∙ ap (λ ys. filter f (g x) ++ ys) (only_flat f g xs)
-
-first_only : {X : Type 0} (f g : ℕ → List X) (m n : ℕ) → m ≤ n → ((k : ℕ) → k < m → f k ≡ g k) → ((k : ℕ) → m ≤ k → f k ≡ []) → flat_map f (below n) ≡ flat_map g (below m)
-first_only f g m zero l same none = let zero_ : m ≡ 0 = omega arith in subst (λ z. [] ≡ flat_map g (below z)) (sym zero_) refl
-first_only f g m (suc n) l same none = elim (cases_eq m (suc n)) [
-  | inl all ↦ subst (λ z. flat_map f (below (suc n)) ≡ flat_map g (below z)) (sym all) (flat_map_same_in f g (below (suc n)) (λ k i. same k (subst (λ z. k < z) (sym all) (from_below (suc n) k i))))
-  | inr less ↦
-      flat_map-append f (below n) (n ∷ []) ∙ (ap (λ ys. flat_map f (below n) ++ (ys ++ [])) (none n (omega arith))
-      ∙ (append-nil (flat_map f (below n)) ∙ first_only f g m n (omega arith) same none))
-]
-
--- the delegation is to a seat before the band's own
-abbrev is_front : Sys → Delegation ℕ → Bool
-is_front s d = ltb d.seat (mid_in s)
-
-seat_only : (s : Sys) (q : Pair) (a e t k : ℕ) (bs : List ℕ) → filter (is_front s) (from_states s q a e t k bs) ≡ cond (ltb k (mid_in s)) (from_states s q a e t k bs) []
-seat_only s q a e t k [] = by_test (ltb k (mid_in s)) (λ yes. sym (ap (λ z. cond z (from_states s q a e t k []) []) yes)) (λ no. sym (ap (λ z. cond z (from_states s q a e t k []) []) no))
-seat_only s q a e t k (b ∷ bs) = grind (arith, by_test, delegation, (seat_only s q a e t k bs), (seat_only s q a e t k bs))
-
-front_only : (s : Sys) (q : Pair) → filter (is_front s) (from_all s q) ≡ front_all s q
-front_only s q =
-    only_flat f (from_action s q) (below s.env.actions)
-    ∙ flat_map_same (λ a. filter f (from_action s q a)) (front_action s q) (below s.env.actions)
-    (λ a. only_flat f (from_env s q a) (env_prev s.env q.e a)
-    ∙ flat_map_same (λ e. filter f (from_env s q a e)) (front_env s q a) (env_prev s.env q.e a)
-    (λ e. only_flat f (from_target s q a e) (beh_prev s.target q.t e a)
-    ∙ flat_map_same (λ t. filter f (from_target s q a e t)) (front_target s q a e) (beh_prev s.target q.t e a)
-    (λ t. only_flat f (from_seat s q a e t) (below (length s.seats))
-    ∙ first_only (λ k. filter f (from_seat s q a e t k)) (from_seat s q a e t) (mid_in s) (length s.seats) few
-    (λ k l. here a e t k ∙ ap (λ z. cond z (from_seat s q a e t k) []) (lt-ltb k (mid_in s) l))
-    (λ k l. here a e t k ∙ ap (λ z. cond z (from_seat s q a e t k) []) (le-ltb k (mid_in s) l)))))
+-- where an action doesn't lead to a band, there are no steps
+pub none_leads : (s : Sys) (row : Row) (a : ℕ) → AreLeading s.env s.target row.target row.env row.leading → a < s.env.actions → bit_at row.leading a ≡ 0 → action_steps s row a ≡ 0
+none_leads s row a leading l off =
+    sum_by_same (env_steps s row a) (λ e. 0) (env_prev s.env row.env a) (λ e i. ap (sum_by (λ t. turn_steps s row a e)) (leading.others a l off e i)) ∙ nothing (env_prev s.env row.env a)
   where
-    f : Delegation ℕ → Bool
-    f = is_front s
+    nothing : (xs : List ℕ) → sum_by (λ x. 0) xs ≡ 0
+    nothing [] = refl
+    nothing (x ∷ xs) = nothing xs
 
-    here : (a e t k : ℕ) → filter f (from_seat s q a e t k) ≡ cond (ltb k (mid_in s)) (from_seat s q a e t k) []
-    here a e t k = seat_only s q a e t k (seat_prev (slice_get s.seats k) (slice_index q.bs k) e a)
+-- each pair of the band takes the same number of steps
+pub count_front : (s : Sys) (row : Row) (y i lane : ℕ) → IsSys s → IsSizes (sizes_of s) → IsRow s (y * band_in s) row → i < band_in s → lane < lanes_in s →
+    count_by (λ d. ltb d.seat (mid_in s)) (back (numbered s) ((y * band_in s + i) * lanes_in s + lane)) ≡ sum_by (action_steps s row) (below s.env.actions)
+count_front s row y i lane sys sizes first in_rows in_lanes =
+    count_same _ (from_all s q) (back (numbered s) p) (found_backwards s p sys (here.looked.below lane in_lanes)) (back_once (numbered s) p (HasNoRepeats-below (count (sizes_of s))))
+    ∙ sum_each f (from_action s q) (action_steps s row) (below s.env.actions)
+    (λ a. sum_each f (from_env s q a) (env_steps s row a) (env_prev s.env q.e a)
+    (λ e. sum_each f (from_target s q a e) (λ t. turn_steps s row a e) (beh_prev s.target q.t e a) (λ t. target a e t)
+    ∙ ap (λ t. sum_by (λ u. turn_steps s row a e) (beh_prev s.target t e a)) (here.looked.targets lane in_lanes))
+    ∙ ap (λ e. sum_by (env_steps s row a) (env_prev s.env e a)) (here.looked.envs lane in_lanes))
+  where
+    here : InBand s y i row
+    here = in_band s y i row sizes first in_rows
+
+    p : ℕ
+    p = (y * band_in s + i) * lanes_in s + lane
+
+    q : Pair
+    q = pair_at (sizes_of s) p
+
+    f : Delegation ℕ → ℕ
+    f d = cond (ltb d.seat (mid_in s)) 1 0
+
+    prevs : ℕ → ℕ → ℕ → List ℕ
+    prevs a e k = seat_prev (slice_get s.seats k) (slice_index q.bs k) e a
+
+    states : ℕ → ℕ → ℕ → ℕ
+    states a e k = cond (ltb k (mid_in s)) (length (prevs a e k)) 0
 
     few : mid_in s ≤ length s.seats
     few = omega (arith, low_of-le (row_sizes (sizes_of s)).seats, length_rows (sizes_of s), low_of-le (sizes_of s).seats, length-map s.seats (λ (z : Seat). z.beh.states))
 
--- the delegations to first seats that are found backwards are as many as those that lead to the pair
-pub count_front : (s : Sys) (p : ℕ) → IsSys s → p < count (sizes_of s) → count_by (λ (d : Delegation ℕ). ltb d.seat (mid_in s)) (back (numbered s) p) ≡ length (front_all s (pair_at (sizes_of s) p))
-count_front s p sys l =
-    let found = found_backwards s p sys l in
-    let all = from_all s (pair_at (sizes_of s) p) in
-    let lead = back (numbered s) p in
-    let f : Delegation ℕ → Bool = is_front s in
-    let up : length (filter f all) ≤ length (filter f lead) = no_longer (filter f all) (filter f lead) (HasNoRepeats-filter f all found.once)
-    (λ d i. let (j, t) = filter_in f d all i in in_filter f d lead ((found.same d).0 j) t) in
-    let down : length (filter f lead) ≤ length (filter f all) = no_longer (filter f lead) (filter f all) (HasNoRepeats-filter f lead (back_once (numbered s) p (HasNoRepeats-below (count (sizes_of s)))))
-    (λ d i. let (j, t) = filter_in f d lead i in in_filter f d all ((found.same d).1 j) t) in
-    let same : length (filter f lead) ≡ length (filter f all) = omega arith in
-    sym (length-filter f lead) ∙ (same ∙ ap length (front_only s (pair_at (sizes_of s) p)))
-  where
-    back_once : (A : Arena ℕ) (q : ℕ) → HasNoRepeats A.nodes → HasNoRepeats (back A q)
-    back_once A q once = HasNoRepeats-filter (λ d. is_among A (A.outcomes d.node d.action d.seat) q) (delegations A)
-        (HasNoRepeats-flat_map (λ p. flat_map (λ a. map (λ k. record { node = p; action = a; seat = k }) (below A.seats)) (below A.actions)) A.nodes
-        (λ p i. HasNoRepeats-flat_map (λ a. map (λ k. record { node = p; action = a; seat = k }) (below A.seats)) (below A.actions)
-        (λ a j. HasNoRepeats-map (λ k. record { node = p; action = a; seat = k }) (below A.seats) (λ k o u v is. ap (λ (d : Delegation ℕ). d.seat) is) (HasNoRepeats-below A.seats))
-        (λ a b d i j u v. sym (action_of p a d u) ∙ action_of p b d v)
-        (HasNoRepeats-below A.actions))
-        (λ p r d i j u v. sym (node_of p d u) ∙ node_of r d v)
-        once)
-      where
-        action_of : (p a : ℕ) (d : Delegation ℕ) → IsIn d (map (λ k. record { node = p; action = a; seat = k }) (below A.seats)) → d.action ≡ a
-        action_of p a d i = let (k, j, is) = from_map (λ k. record { node = p; action = a; seat = k }) d (below A.seats) i in ap (λ (z : Delegation ℕ). z.action) is
-
-        node_of : (p : ℕ) (d : Delegation ℕ) → IsIn d (flat_map (λ a. map (λ k. record { node = p; action = a; seat = k }) (below A.seats)) (below A.actions)) → d.node ≡ p
-        node_of p d i =
-            let (a, j, u) = from_flat_map (λ a. map (λ k. record { node = p; action = a; seat = k }) (below A.seats)) d (below A.actions) i in
-            let (k, l, is) = from_map (λ k. record { node = p; action = a; seat = k }) d (below A.seats) u in
-            ap (λ (z : Delegation ℕ). z.node) is
+    target : (a e t : ℕ) → sum_by f (from_target s q a e t) ≡ turn_steps s row a e
+    target a e t =
+        sum_each f (from_seat s q a e t) (states a e) (below (length s.seats)) (λ k. count_states s q a e t k (prevs a e k))
+        ∙ (sym (sum_cut (states a e) (mid_in s) (length s.seats) few (λ k l m. ap (λ z. cond z (length (prevs a e k)) 0) (le-ltb k (mid_in s) l)))
+        ∙ sum_by_same (states a e) (seat_steps s row a e) (below (mid_in s)) (λ k j.
+        let front : k < mid_in s = from_below (mid_in s) k j in
+        ap (λ z. cond z (length (prevs a e k)) 0) (lt-ltb k (mid_in s) front)
+        ∙ ap (λ b. length (seat_prev (slice_get s.seats k) b e a)) (here.looked.states k lane (mid_low s k front) in_lanes ∙ here.before k front)))

@@ -1,15 +1,13 @@
 -- Marks on the bands from which a band can be reached.
-use Rattle.std.specs.Prelude.{◌≡◌, ℕ, ◌+◌, ◌*◌, ◌/◌, ◌<◌, List, true, length, slice_get, slice_index, IsTrue}
-use Rattle.std.specs.List.{flat_map}
+use Rattle.std.specs.Prelude.{◌≡◌, ℕ, ◌+◌, ◌*◌, ◌/◌, ◌<◌, List, true, length, sum_by, slice_get, slice_index, IsTrue}
 use Rattle.roman_model.specs.Lists.{IsIn, below}
-use Rattle.roman_model.specs.System.{Sys, Pair}
+use Rattle.roman_model.specs.System.{Sys}
 use Rattle.roman_model.specs.SystemArena.{env_prev, beh_prev}
-use Rattle.roman_model.specs.Arena.{Delegation}
 use Rattle.roman_model.specs.Numbers.{sizes_of, count, numbered}
 use Rattle.roman_radix.specs.Radix.{stride_of}
 use Rattle.roman_radix.specs.Rows.{env_rows_of, target_rows_of}
 use Rattle.roman_lanes.specs.Flags.{has_flag}
-use Rattle.roman_joint.specs.Backward.{seat_prev, from_seat}
+use Rattle.roman_joint.specs.Backward.{seat_prev}
 use Rattle.roman_joint.specs.NamedSys.{system_of}
 use Rattle.roman_joint.specs.Rows.{lanes_in, IsRow}
 use Rattle.roman_joint.specs.Bands.{mid_in, band_in}
@@ -59,24 +57,18 @@ MarksBefore s row marks =
     (y i lane p a k : ℕ) → IsRow s (y * band_in s) row → i < band_in s → lane < lanes_in s → p < count (sizes_of s) →
     IsIn ((y * band_in s + i) * lanes_in s + lane) ((numbered s).outcomes p a k) → has_flag marks (p / lanes_in s / band_in s) ≡ true
 
--- the pair has the states that all pairs of the row's band share
-pub record IsAt (s : Sys) (row : Row) (q : Pair) : Type 0 where
-  pub target : q.t ≡ row.target
-  pub env : q.e ≡ row.env
-  pub states : (k : ℕ) → k < mid_in s → slice_index q.bs k ≡ slice_index row.states k
+-- the steps for seat k: one for each state from which it goes by a, in environment state e, to its state in the row
+abbrev pub seat_steps : Sys → Row → ℕ → ℕ → ℕ → ℕ
+seat_steps s row a e k = length (seat_prev (slice_get s.seats k) (slice_index row.states k) e a)
 
--- the delegations of a to a seat before the band's own, from the target's state t and the environment's e, that lead to q
-abbrev pub front_target : Sys → Pair → ℕ → ℕ → ℕ → List (Delegation ℕ)
-front_target s q a e t = flat_map (from_seat s q a e t) (below (mid_in s))
+-- the steps for the seats before the band's own, by a in environment state e
+abbrev pub turn_steps : Sys → Row → ℕ → ℕ → ℕ
+turn_steps s row a e = sum_by (seat_steps s row a e) (below (mid_in s))
 
--- the delegations of a to a seat before the band's own, from the environment's state e, that lead to q
-abbrev pub front_env : Sys → Pair → ℕ → ℕ → List (Delegation ℕ)
-front_env s q a e = flat_map (front_target s q a e) (beh_prev s.target q.t e a)
+-- the steps for all states of the target from which it goes by a, in environment state e, to its state in the row
+abbrev pub env_steps : Sys → Row → ℕ → ℕ → ℕ
+env_steps s row a e = sum_by (λ t. turn_steps s row a e) (beh_prev s.target row.target e a)
 
--- the delegations of a to a seat before the band's own that lead to q
-abbrev pub front_action : Sys → Pair → ℕ → List (Delegation ℕ)
-front_action s q a = flat_map (front_env s q a) (env_prev s.env q.e a)
-
--- all delegations to a seat before the band's own that lead to q
-abbrev pub front_all : Sys → Pair → List (Delegation ℕ)
-front_all s q = flat_map (front_action s q) (below s.env.actions)
+-- the steps for all states of the environment from which it goes by a to its state in the row
+abbrev pub action_steps : Sys → Row → ℕ → ℕ
+action_steps s row a = sum_by (env_steps s row a) (env_prev s.env row.env a)

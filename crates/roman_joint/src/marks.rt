@@ -1,14 +1,12 @@
 //! Marking the bands from which a band can be reached.
 ghost use Rattle.std.specs.Prelude.{◌≡◌, ℕ, ◌+◌, ◌*◌, ◌/◌, ◌^◌, ◌<◌, ◌≤◌, true, length, count_by, ltb};
-ghost use Rattle.roman_model.specs.System.{Pair};
 ghost use Rattle.roman_model.specs.Arena.{back};
 ghost use Rattle.roman_model.specs.Numbers.{sizes_of, count, numbered};
 ghost use Rattle.roman_lanes.specs.Flags.{has_flag};
 ghost use Rattle.roman_joint.specs.NamedSys.{system_of};
-ghost use Rattle.roman_joint.specs.Backward.{from_seat};
 ghost use Rattle.roman_joint.specs.Rows.{lanes_in, IsRow};
 ghost use Rattle.roman_joint.specs.Bands.{mid_in, band_in};
-ghost use Rattle.roman_joint.specs.Marks.{IsMarked, Grows, IsArrival, MarksSeat, MarksTurn, MarksEnv, MarksAction, MarksBefore, IsAt, front_target, front_env, front_action};
+ghost use Rattle.roman_joint.specs.Marks.{IsMarked, Grows, IsArrival, MarksSeat, MarksTurn, MarksEnv, MarksAction, MarksBefore, seat_steps, turn_steps, env_steps, action_steps};
 
 use crate::joint::Joint;
 use crate::row::Row;
@@ -69,9 +67,7 @@ fn mark_seat<L: Ledger>(by: &Arrival<'_>, marks: &mut [u64], base: u64, k: u8, s
     requires seat { k < mid_in (system_of by.now.joint.now) }
     ensures grows { Grows marks.old marks.new }
     ensures marks { MarksSeat (system_of by.now.joint.now) by.now.row.now marks.new by.now.action by.now.env base k }
-    ensures steps { let s = system_of by.now.joint.now in
-        (q : Pair) (t : ℕ) → IsAt s by.now.row.now q →
-        steps.new ≡ steps.old + length (from_seat s q by.now.action by.now.env t k) }
+    ensures steps { steps.new ≡ steps.old + seat_steps (system_of by.now.joint.now) by.now.row.now by.now.action by.now.env k }
 {
     by.joint.known();
     let rows = by.joint.layout();
@@ -88,13 +84,12 @@ fn mark_seat<L: Ledger>(by: &Arrival<'_>, marks: &mut [u64], base: u64, k: u8, s
 /// Marks the bands at the target's state `t` from which the action leads to the row's band. For a seat
 /// that isn't before the band's own, that is the band in which the seats before the band's own have
 /// the same states.
+#[tactic(auto, using(crate::proofs::GoodLemmas::turn_fits))]
 fn mark_turn<L: Ledger>(by: &Arrival<'_>, marks: &mut [u64], t: u8, steps: &mut Steps<L>)
     requires { IsArrival by.now }
     ensures grows { Grows marks.old marks.new }
     ensures marks { MarksTurn (system_of by.now.joint.now) by.now.row.now marks.new by.now.action by.now.env t }
-    ensures steps { let s = system_of by.now.joint.now in
-        (q : Pair) → IsAt s by.now.row.now q →
-        steps.new ≡ steps.old + length (front_target s q by.now.action by.now.env t) }
+    ensures steps { steps.new ≡ steps.old + turn_steps (system_of by.now.joint.now) by.now.row.now by.now.action by.now.env }
 {
     by.joint.known();
     let rows = by.joint.layout();
@@ -110,9 +105,7 @@ fn mark_env<L: Ledger>(by: &Arrival<'_>, marks: &mut [u64], steps: &mut Steps<L>
     requires { IsArrival by.now }
     ensures grows { Grows marks.old marks.new }
     ensures marks { MarksEnv (system_of by.now.joint.now) by.now.row.now marks.new by.now.action by.now.env }
-    ensures steps { let s = system_of by.now.joint.now in
-        (q : Pair) → IsAt s by.now.row.now q →
-        steps.new ≡ steps.old + length (front_env s q by.now.action by.now.env) }
+    ensures steps { steps.new ≡ steps.old + env_steps (system_of by.now.joint.now) by.now.row.now by.now.action by.now.env }
 {
     by.joint.known();
     let targets = by.joint.target().into(by.row.target, by.env, by.action);
@@ -127,7 +120,7 @@ fn mark_action<L: Ledger>(joint: &Joint, row: &Row, marks: &mut [u64], a: u8, st
     requires action { a < (system_of joint.now).env.actions }
     ensures grows { Grows marks.old marks.new }
     ensures marks { MarksAction (system_of joint.now) row.now marks.new a }
-    ensures steps { (q : Pair) → IsAt (system_of joint.now) row.now q → steps.new ≡ steps.old + length (front_action (system_of joint.now) q a) }
+    ensures steps { steps.new ≡ steps.old + action_steps (system_of joint.now) row.now a }
 {
     joint.known();
     if (row.leading >> a) & 1 == 0 {

@@ -1,11 +1,13 @@
-use Rattle.roman_joint.proofs.Common.{ℕ, get_or, sym, ◌∙◌, arith, take_all, shr_and_one, system_of, front_env, MarksEnv}
-use Rattle.roman_joint.proofs.MarkLemmas.{grows_on, env_on, more_below, each_in, count_more, none_leads}
+use Rattle.roman_joint.proofs.Common.{ℕ, get_or, sym, ◌∙◌, arith, take_all, shr_and_one, system_of, env_steps, MarksEnv}
+use Rattle.std.proofs.lemmas.List.Sums.{sum_by_more}
+use Rattle.roman_joint.proofs.MarkLemmas.{grows_on, env_on, more_below, each_in, none_leads}
 use Rattle.roman_joint.proofs.marks.mark_action.Goals as goal
 
 pub returns-then-row-a-eq0-clause-steps : goal.returns-then-row-a-eq0-clause-steps
-returns-then-row-a-eq0-clause-steps g c q at =
+returns-then-row-a-eq0-clause-steps g c =
+    let s = system_of c.args.joint.now in
     let row = c.args.row.now in
-    omega (arith, none_leads (system_of c.args.joint.now) q row c.args.a at c.requires.row.1.leading c.requires.action (sym (shr_and_one row.leading c.args.a) ∙ c.if-row-a-eq0.true))
+    omega (arith, none_leads s row c.args.a c.requires.row.1.leading c.requires.action (sym (shr_and_one row.leading c.args.a) ∙ c.if-row-a-eq0.true))
 
 pub loop-e-preserved : goal.loop-e-preserved
 loop-e-preserved g c =
@@ -20,7 +22,7 @@ loop-e-preserved g c =
       grows = grows_on c.args.marks.now old new i.grows more;
       envs = more_below c.loop-e.e-index (λ (j : ℕ). MarksEnv s row new c.args.a (get_or es j 0)) (λ j l. env_on s row old new c.args.a (get_or es j 0) more (i.envs j l))
           c.mark_env.ensures.marks;
-      steps = λ q at. omega (arith, i.steps q at, c.mark_env.ensures.steps q at, count_more (front_env s q c.args.a) es c.loop-e.e-index (omega arith));
+      steps = omega (arith, i.steps, c.mark_env.ensures.steps, sum_by_more (env_steps s row c.args.a) es c.loop-e.e-index 0 (omega arith));
     }
 
 pub returns-clause-marks : goal.returns-clause-marks
@@ -30,6 +32,6 @@ returns-clause-marks g c = record {
 }
 
 pub returns-clause-steps : goal.returns-clause-steps
-returns-clause-steps g c q at =
+returns-clause-steps g c =
     let all = take_all c.loop-e.e-index c.prev-envs.result.now c.loop-e-test.false in
-    rw (all, c.prev-envs.ensures.prev, c.environment.ensures, sym at.env) at (c.loop-e.invariant.steps q at)
+    rw (all, c.prev-envs.ensures.prev, c.environment.ensures) at c.loop-e.invariant.steps

@@ -1,5 +1,6 @@
-use Rattle.roman_joint.proofs.Common.{ℕ, get_or, sym, arith, take_all, system_of, front_target, MarksTurn}
-use Rattle.roman_joint.proofs.MarkLemmas.{grows_on, turn_on, more_below, each_in, count_more}
+use Rattle.roman_joint.proofs.Common.{ℕ, get_or, arith, take_all, system_of, turn_steps, MarksTurn}
+use Rattle.std.proofs.lemmas.List.Sums.{sum_by_more}
+use Rattle.roman_joint.proofs.MarkLemmas.{grows_on, turn_on, more_below, each_in}
 use Rattle.roman_joint.proofs.marks.mark_env.Goals as goal
 
 pub loop-t-preserved : goal.loop-t-preserved
@@ -15,7 +16,7 @@ loop-t-preserved g c =
       grows = grows_on c.args.marks.now old new i.grows more;
       turns = more_below c.loop-t.t-index (λ (j : ℕ). MarksTurn s row new c.args.by.now.action c.args.by.now.env (get_or ts j 0))
           (λ j l. turn_on s row old new c.args.by.now.action c.args.by.now.env (get_or ts j 0) more (i.turns j l)) c.mark_turn.ensures.marks;
-      steps = λ q at. omega (arith, i.steps q at, c.mark_turn.ensures.steps q at, count_more (front_target s q c.args.by.now.action c.args.by.now.env) ts c.loop-t.t-index (omega arith));
+      steps = omega (arith, i.steps, c.mark_turn.ensures.steps, sum_by_more (λ t. turn_steps s row c.args.by.now.action c.args.by.now.env) ts c.loop-t.t-index 0 (omega arith));
     }
 
 pub returns-clause-marks : goal.returns-clause-marks
@@ -25,6 +26,6 @@ returns-clause-marks g c = record {
 }
 
 pub returns-clause-steps : goal.returns-clause-steps
-returns-clause-steps g c q at =
+returns-clause-steps g c =
     let all = take_all c.loop-t.t-index c.into-targets.result.now c.loop-t-test.false in
-    rw (all, c.into-targets.ensures.prev, c.target.ensures, sym at.target) at (c.loop-t.invariant.steps q at)
+    rw (all, c.into-targets.ensures.prev, c.target.ensures) at c.loop-t.invariant.steps

@@ -1,4 +1,4 @@
-use Rattle.roman_joint.proofs.Common.{◌≡◌, ℕ, ◌+◌, ◌<◌, length, take, get_or, flat_map, Pair, system_of, front_target, Grows, MarksTurn, IsAt}
+use Rattle.roman_joint.proofs.Common.{◌≡◌, ℕ, ◌+◌, ◌<◌, sum_by, take, get_or, system_of, turn_steps, Grows, MarksTurn}
 use Rattle.roman_joint.proofs.marks.mark_env.Given as goal
 
 -- the bands of the target's states so far are marked
@@ -6,5 +6,5 @@ abbrev pub invariant-loop-t : goal.invariant-loop-t
 invariant-loop-t g l = record {
   grows : Grows l.fn.marks l.marks;
   turns : (j : ℕ) → j < l.t-index → MarksTurn (system_of l.by.joint.now) l.by.row.now l.marks l.by.action l.by.env (get_or l.targets j 0);
-  steps : (q : Pair) → IsAt (system_of l.by.joint.now) l.by.row.now q → l.steps ≡ l.fn.steps + length (flat_map (front_target (system_of l.by.joint.now) q l.by.action l.by.env) (take l.t-index l.targets));
+  steps : l.steps ≡ l.fn.steps + sum_by (λ t. turn_steps (system_of l.by.joint.now) l.by.row.now l.by.action l.by.env) (take l.t-index l.targets);
 }

@@ -1,8 +1,8 @@
-use Rattle.roman_joint.proofs.Common.{◌≡◌, ℕ, ◌+◌, ◌*◌, ◌/◌, inl, inr, length, slice_index, get_or, sym, ap, ◌∙◌, subst, arith, cases_eq, system_of, lanes_in, IsMarked}
+use Rattle.roman_joint.proofs.Common.{◌≡◌, ℕ, ◌+◌, ◌*◌, ◌/◌, inl, inr, slice_index, get_or, sym, ap, ◌∙◌, subst, arith, cases_eq, system_of, lanes_in, IsMarked}
 use Rattle.roman_joint.proofs.SplitLemmas.{joint_sizes, factor}
 use Rattle.roman_joint.proofs.GoodLemmas.{low_few, width_positive}
 use Rattle.roman_joint.proofs.BandLemmas.{mid_low, first_in}
-use Rattle.roman_joint.proofs.MarkLemmas.{each_in, grows_on, marked_on, count_seat}
+use Rattle.roman_joint.proofs.MarkLemmas.{each_in, grows_on, marked_on}
 use Rattle.roman_joint.proofs.marks.mark_seat.Goals as goal
 
 pub bounds-by-k : goal.bounds-by-k
@@ -51,11 +51,6 @@ returns-clause-marks g c =
           (λ j l e. c.loop-b.invariant.moved j x (omega (arith, c.loop-b-test.false)) e) b (rw c.prev_states-states.ensures.prev i)
           (ap (λ m. x + m) c.times-taken.ensures.value ∙ subst (λ (m : ℕ). x + own * m ≡ c.args.base + b * m) same is));
     }
-
-pub returns-clause-steps : goal.returns-clause-steps
-returns-clause-steps g c q t at =
-    let s = system_of c.args.by.now.joint.now in
-    omega (arith, count_seat s q c.args.by.now.action c.args.by.now.env t c.args.k c.args.by.now.row.now at c.requires.seat, ap length c.prev_states-states.ensures.prev, c.loop-b.invariant.steps, c.loop-b-test.false, c.loop-b.auto.b-index-end)
 
 pub mark_moved-requires-clause-band : goal.mark_moved-requires-clause-band
 mark_moved-requires-clause-band g c = omega (arith, c.layout-rows.ensures.rows.band, first_in (system_of c.args.by.now.joint.now) (joint_sizes c.args.by.now.joint.now c.layout-rows.ensures.known))

@@ -1,8 +1,7 @@
-use Rattle.roman_joint.proofs.Common.{◌≡◌, ℕ, ◌+◌, ◌*◌, ◌/◌, ap, arith, system_of, mid_in, band_in, from_seat, MarksSeat, row_at}
+use Rattle.roman_joint.proofs.Common.{◌≡◌, ℕ, ◌+◌, ◌*◌, ◌/◌, ap, arith, system_of, mid_in, band_in, sum_below_more, seat_steps, MarksSeat, row_at}
 use Rattle.roman_joint.proofs.SplitLemmas.{joint_sizes}
 use Rattle.roman_joint.proofs.BandLemmas.{first_in}
-use Rattle.roman_joint.proofs.GoodLemmas.{turn_fits}
-use Rattle.roman_joint.proofs.MarkLemmas.{grows_on, marked_on, seat_on, more_below, count_below}
+use Rattle.roman_joint.proofs.MarkLemmas.{grows_on, marked_on, seat_on, more_below}
 use Rattle.roman_joint.proofs.marks.mark_turn.Goals as goal
 
 pub nonzero_div-base : goal.nonzero_div-base
@@ -26,14 +25,11 @@ loop-k-preserved g c =
       own = marked_on old new (row_at s row e t / band_in s) more i.own;
       seats = more_below c.loop-k.k (λ (k : ℕ). MarksSeat s row new c.args.by.now.action e (row_at s row e t) k)
           (λ k l. seat_on s row old new c.args.by.now.action e (row_at s row e t) k more (i.seats k l)) (rw base at c.mark_seat.ensures.marks);
-      steps = λ q at. omega (arith, i.steps q at, c.mark_seat.ensures.steps q t at, count_below (from_seat s q c.args.by.now.action e t) c.loop-k.k);
+      steps = omega (arith, i.steps, c.mark_seat.ensures.steps, sum_below_more (seat_steps s row c.args.by.now.action e) c.loop-k.k);
     }
 
 pub returns-clause-steps : goal.returns-clause-steps
-returns-clause-steps g c q at =
+returns-clause-steps g c =
     let s = system_of c.args.by.now.joint.now in
     let end : c.loop-k.k ≡ mid_in s = omega (arith, c.loop-k-test.false, c.layout-rows.ensures.rows.mid) in
-    rw end at (c.loop-k.invariant.steps q at)
-
-pub mark_seat-requires-clause-base : goal.mark_seat-requires-clause-base
-mark_seat-requires-clause-base g c = grind (arith, turn_fits)
+    rw end at c.loop-k.invariant.steps

@@ -1,7 +1,6 @@
-use Rattle.roman_joint.proofs.Common.{◌≡◌, ℕ, ◌+◌, ◌*◌, ◌<◌, length, ap, ◌∙◌, arith, sizes_of, count, pair_at, system_of, lanes_in, band_in, MarksAction, front_action}
+use Rattle.roman_joint.proofs.Common.{◌≡◌, ℕ, length, ap, ◌∙◌, arith, system_of, sum_below_more, MarksAction, action_steps}
 use Rattle.roman_joint.proofs.SplitLemmas.{joint_sizes}
-use Rattle.roman_joint.proofs.BandLemmas.{in_band}
-use Rattle.roman_joint.proofs.MarkLemmas.{grows_on, action_on, more_below, marks_all, count_below, count_front, pair_there}
+use Rattle.roman_joint.proofs.MarkLemmas.{grows_on, action_on, more_below, marks_all, count_front}
 use Rattle.roman_joint.proofs.joint.Joint.mark_before.Goals as goal
 
 pub loop-a-preserved : goal.loop-a-preserved
@@ -15,7 +14,7 @@ loop-a-preserved g c =
     record {
       grows = grows_on c.args.marks.now old new i.grows more;
       actions = more_below c.loop-a.a (λ (b : ℕ). MarksAction s row new b) (λ b l. action_on s row old new b more (i.actions b l)) c.mark_action.ensures.marks;
-      steps = λ q at. omega (arith, i.steps q at, c.mark_action.ensures.steps q at, count_below (front_action s q) c.loop-a.a);
+      steps = omega (arith, i.steps, c.mark_action.ensures.steps, sum_below_more (action_steps s row) c.loop-a.a);
     }
 
 pub returns-clause-marked : goal.returns-clause-marked
@@ -28,11 +27,6 @@ returns-clause-marked g c y i lane p a k ok in_rows in_lanes below_p led =
 
 pub returns-clause-steps : goal.returns-clause-steps
 returns-clause-steps g c y i lane ok in_rows in_lanes =
-    let n = c.args.self.now in
-    let s = system_of n in
-    let sizes = joint_sizes n c.known.ensures in
-    let p = (y * band_in s + i) * lanes_in s + lane in
-    let q = pair_at (sizes_of s) p in
+    let s = system_of c.args.self.now in
     let end : c.loop-a.a ≡ s.env.actions = omega (arith, c.loop-a-test.false, c.len-a-end.ensures.len, rw c.environment.ensures at (ap length c.actions.ensures.names ∙ c.actions.ensures.count)) in
-    let below_p : p < count (sizes_of s) = (in_band s y i c.args.row.now sizes ok in_rows).looked.below lane in_lanes in
-    omega (arith, rw end at (c.loop-a.invariant.steps q (pair_there s c.args.row.now y i lane sizes ok in_rows in_lanes)), count_front s p c.known.ensures.system below_p)
+    omega (arith, rw end at c.loop-a.invariant.steps, count_front s c.args.row.now y i lane c.known.ensures.system (joint_sizes c.args.self.now c.known.ensures) ok in_rows in_lanes)
