@@ -1,6 +1,8 @@
 -- The pairs of a row at which a seat serves an action.
-use Rattle.roman_joint.proofs.Common.{◌≡◌, ◌⊎◌, ℕ, zero, suc, ◌+◌, ◌-◌, ◌*◌, ◌/◌, ◌%◌, ◌<◌, ◌≤◌, ◌^◌, Bool, true, false, not, ◌&&◌, ◌||◌, eqb, ltb, inl, inr, List, [], length, slice_get, slice_index, IsFalse, refl, sym, ap, ap₂, ◌∙◌, subst, arith, list_any, length-map, mul-add-lt, mul-le, mod_below, div_below, div-mul-add, mod-mul-add, div-add-mod', cases_lt, ne_eqb, lt-ltb, le-ltb, nat_tests, IsIn, is_empty, length-below, by_test, any_same, any_true, any_from, empty_is, not_empty_in, triple_in_range, from_env_next, move_in_range, from_seat_next, seat_in, Sys, Seat, IsSys, seat_next, is_beaten, Sizes, sizes_of, count, numbered, IsSizes, stride_of, env_stride_of, low_of, lanes_of, env_rows_of, target_rows_of, product_positive, low_of-le, lanes_few, lanes_positive, row_least, row_below, env_rows_are, is_on, HasLanes, AreRows, IsNumbered, NamedSys, system_of, seat_of, IsNamedSys, lanes_in, low_in, lane_has_state, lane_state_of, AreRowsOf, IsRow, IsTargetMove, AreAlive, Rows, Row, TargetMove, on_zero}
-use Rattle.std.proofs.Math.Nat.{add-mod-mod}
+use Rattle.roman_joint.proofs.Common.{◌≡◌, ◌⊎◌, ℕ, zero, suc, ◌+◌, ◌-◌, ◌*◌, ◌/◌, ◌%◌, ◌<◌, ◌≤◌, ◌^◌, Bool, true, false, not, ◌&&◌, ◌||◌, eqb, ltb, inl, inr, List, [], length, slice_get, slice_index, IsFalse, refl, sym, ap, ap₂, ◌∙◌, subst, arith, list_any, length-map, mul-add-lt, mul-le, mod_below, div_below, div-add-mod', cases_lt, ne_eqb, eqb-true, same_test, lt-ltb, le-ltb, nat_tests, IsIn, is_empty, length-below, by_test, any_same, any_true, any_from, empty_is, not_empty_in, triple_in_range, from_env_next, move_in_range, from_seat_next, seat_in, Sys, Seat, IsSys, seat_next, is_beaten, Sizes, sizes_of, count, numbered, IsSizes, stride_of, env_stride_of, low_of, lanes_of, env_rows_of, target_rows_of, product_positive, low_of-le, lanes_few, lanes_positive, row_least, row_below, env_rows_are, is_on, HasLanes, AreRows, IsNumbered, NamedSys, system_of, seat_of, IsNamedSys, lanes_in, low_in, lane_has_state, lane_state_of, AreRowsOf, IsRow, IsTargetMove, AreAlive, Rows, Row, TargetMove, on_and, on_zero}
+use Rattle.std.proofs.Math.Nat.{add-mod-mod, mod-eq_of_lt, mul-add-div_right, mul-mod_left}
+use Rattle.std.proofs.lemmas.Bool.{eq-eqb}
+use Rattle.std.proofs.Math.Bool.{and-false}
 use Rattle.roman_joint.proofs.ArenaFacts.{joint_numbered}
 use Rattle.roman_joint.proofs.OutcomeLemmas.{target_in_range}
 use Rattle.roman_joint.proofs.Rows.{size_of_seat}
@@ -191,33 +193,23 @@ unfolding lane_has_state
 state_shift first b st size lane is pos l low = elim (cases_lt lane (b * st)) [
   | inl less ↦
       let high : lane / st < b = div_below lane st b pos less in
-      let start : lane / st ≡ 0 * size + lane / st = omega arith in
-      let own : lane / st % size ≡ lane / st = ap (λ m. m % size) start ∙ mod-mul-add 0 size (lane / st) (omega arith) in
+      let own : lane / st % size ≡ lane / st = mod-eq_of_lt (omega arith) in
       on_below first (b * st) lane less ∙ sym (ne_eqb (lane / st % size) b (omega (arith, own, high)))
   | inr more ↦
       let rest : lane ≡ b * st + (lane - b * st) = omega arith in
-      let shifted = on_shl first (b * st) lane (lane - b * st) low rest in
-      let split : (lane - b * st) / st * st + (lane - b * st) % st ≡ lane - b * st = div-add-mod' (lane - b * st) st in
-      let sum : lane ≡ (b + (lane - b * st) / st) * st + (lane - b * st) % st = omega arith in
-      let high : lane / st ≡ b + (lane - b * st) / st = ap (λ m. m / st) sum ∙ div-mul-add (b + (lane - b * st) / st) st ((lane - b * st) % st) (mod_below (lane - b * st) st pos) in
-      shifted ∙ (is (lane - b * st) (omega arith) ∙ (turns ((lane - b * st) / st) size b l ∙ ap (λ m. eqb (m % size) b) (sym high)))
+      let high : lane / st ≡ b + (lane - b * st) / st = ap (λ m. m / st) rest ∙ mul-add-div_right pos b (lane - b * st) in
+      on_shl first (b * st) lane (lane - b * st) low rest ∙ (is (lane - b * st) (omega arith) ∙ (turns ((lane - b * st) / st) size b l ∙ ap (λ m. eqb (m % size) b) (sym high)))
 ]
   where
     turns : (h size b : ℕ) → b < size → eqb (h % size) 0 ≡ eqb ((b + h) % size) b
-    turns h size b l = turned (h % size) ((b + h) % size) b size l (mod_below h size (omega arith)) (elim (cases_lt (b + h % size) size) [
-      | inl fits ↦
-          let sum : b + h % size ≡ 0 * size + (b + h % size) = omega arith in
-          inl (sym (add-mod-mod b h size) ∙ (ap (λ m. m % size) sum ∙ mod-mul-add 0 size (b + h % size) fits))
-      | inr past ↦
-          let sum : b + h % size ≡ 1 * size + (b + h % size - size) = omega arith in
-          let less : h % size < size = mod_below h size (omega arith) in
-          let is : (b + h) % size ≡ b + h % size - size = sym (add-mod-mod b h size) ∙ (ap (λ m. m % size) sum ∙ mod-mul-add 1 size (b + h % size - size) (omega arith)) in
-          inr (omega (arith, is))
-    ])
-      where
-        turned : (m r b size : ℕ) → b < size → m < size → (r ≡ b + m) ⊎ (r + size ≡ b + m) → eqb m 0 ≡ eqb r b
-        turned m r b size k l (inl e) = grind (arith, nat_tests)
-        turned m r b size k l (inr e) = grind (arith, nat_tests)
+    turns h size b l = same_test (eqb (h % size) 0) (eqb ((b + h) % size) b)
+        (λ t.
+        let none : b + h % size ≡ b = omega (arith, eqb-true (h % size) 0 t) in
+        let start : (b + h % size) % size ≡ b = ap (λ m. m % size) none ∙ mod-eq_of_lt l in
+        eq-eqb ((b + h) % size) b (sym (add-mod-mod b h size) ∙ start))
+        (λ t.
+        let whole : h ≡ (b + h) / size * size = omega (arith, div-add-mod' (b + h) size, eqb-true ((b + h) % size) b t) in
+        eq-eqb (h % size) 0 (ap (λ m. m % size) whole ∙ mul-mod_left ((b + h) / size) size))
 
 -- without an alive lane, a seat within the lanes serves at no pair
 pub beaten_dead : (s : Sys) (x a k lane : ℕ) (row : Row) (turn : TargetMove) (gone : ℕ → Bool) → Known s x row → IsTargetMove s row a turn → low_in s ≤ k → k < length s.seats → AreAlive s gone turn 0 → lane < lanes_in s →
@@ -270,3 +262,13 @@ within n r k ok laid low l =
     let seats : k < length (sizes_of s).seats = omega (arith, length-map s.seats (λ (y : Seat). y.beh.states)) in
     let stride = laid.within k low seats in
     record { seats = seats; seat = seat; stride = stride; small = λ b m. subst (λ u. b * u < 64) (sym stride) (state_below (sizes_of s) k b (joint_sizes n ok) low seats m) }
+
+-- a service before the lanes is one of the services
+pub ruleset seat_counts = (length-map, low_of-le)
+
+-- the first lane of a state is within the word
+pub begins : (n : Sizes) (r : Rows) (k b from : ℕ) → IsSizes n → AreRowsOf n r → low_of n.seats ≤ k → k < length n.seats → b < slice_index n.seats k → from ≡ b → from * slice_index r.strides k < 64
+begins n r k b from sizes laid within seat state is = subst (λ m. m < 64) (sym (ap₂ (λ m u. m * u) is (laid.within k within seat))) (state_below n k b sizes within seat state)
+
+-- the bits past the lanes are off
+pub ruleset off_rows = (and-false, full_off, on_and)

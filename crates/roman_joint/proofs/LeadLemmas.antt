@@ -1,6 +1,6 @@
 -- The outcomes of a delegation, by rows and lanes.
-use Rattle.roman_joint.proofs.Common.{◌≡◌, ℕ, ◌+◌, ◌-◌, ◌*◌, ◌/◌, ◌%◌, ◌<◌, ◌≤◌, Bool, true, not, List, [], ◌∷◌, length, drop, map, slice_get, slice_index, IsTrue, IsFalse, refl, sym, ap, ap₂, ◌∙◌, subst, arith, list_any, flat_map, div-mul-add, div-add-mod', mul-add-lt, mod_below, div_below, length-map, IsIn, is_empty, product_of, in_map, in_flat_map, any_same, not_empty_in, any_true, any_from, same_test, part_at, Sys, Seat, IsSys, env_next, beh_next, seat_next, Arena, is_beaten, Sizes, sizes_of, count, pair_at, numbered, IsSizes, stride_of, low_of, lanes_of, env_rows_of, target_rows_of, product_positive, AreSizes-drop, AreSizes-index, product_more, low_of-le, tails_from, row_mod, row_least, env_rows_are, IsNumbered, lanes_in, low_in, lane_state_of, IsRow, Row}
-use Rattle.std.proofs.Math.Nat.{mul-add-mod_self_right}
+use Rattle.roman_joint.proofs.Common.{◌≡◌, ℕ, ◌+◌, ◌-◌, ◌*◌, ◌/◌, ◌%◌, ◌<◌, ◌≤◌, Bool, true, not, List, [], ◌∷◌, length, drop, map, slice_get, slice_index, IsTrue, IsFalse, refl, sym, ap, ap₂, ◌∙◌, subst, arith, list_any, flat_map, div-add-mod', mul-add-lt, mod_below, div_below, length-map, IsIn, is_empty, product_of, in_map, in_flat_map, any_same, not_empty_in, any_true, any_from, same_test, part_at, Sys, Seat, IsSys, env_next, beh_next, seat_next, Arena, is_beaten, Sizes, sizes_of, count, pair_at, numbered, IsSizes, stride_of, low_of, lanes_of, env_rows_of, target_rows_of, product_positive, AreSizes-drop, AreSizes-index, product_more, low_of-le, tails_from, row_mod, row_least, env_rows_are, IsNumbered, lanes_in, low_in, lane_state_of, IsRow, Row}
+use Rattle.std.proofs.Math.Nat.{mul-add-div_right, mul-add-mod_self_right}
 use Rattle.roman_model.proofs.CallerLemmas.{list_any-map, list_any-flat_map}
 use Rattle.roman_joint.proofs.OutcomeLemmas.{StartsAt, starts_at, numbers_are, target_in_range}
 use Rattle.roman_joint.proofs.Finds.{some_numbers, no_numbers}
@@ -46,21 +46,41 @@ row_moves to_rows rest u w lane r part e b h l =
         let spread : (y + e * r + b * u) * w ≡ y * w + e * (r * w) + b * (u * w) = omega arith in
         omega arith
 
+-- the first number for a seat
+start_row : (s : Sys) (row : Row) (x lane k to part stride : ℕ) → IsRow s x row → lane < lanes_in s → k < length (sizes_of s).seats → to < s.target.states →
+    part ≡ slice_index (pair_at (sizes_of s) (x * lanes_in s + lane)).bs k → stride ≡ stride_of (sizes_of s) k →
+    StartsAt (sizes_of s) (x * lanes_in s + lane) k to (to * target_rows_of (sizes_of s) * lanes_in s + (row.part * lanes_in s + lane)) part (env_rows_of (sizes_of s) * lanes_in s) stride
+start_row s row x lane k to part stride ok in_lanes seat in_target is_part is_stride =
+    let n = sizes_of s in
+    let w = lanes_in s in
+    let R = env_rows_of n in
+    let start = starts_at n (x * w + lane) k to to (target_rows_of n * w) part (R * w) stride (ok.below lane in_lanes) seat in_target refl (target_rows_are n) is_part (env_rows_are n) is_stride in
+    let within_env : (x * w + lane) % (R * w) ≡ row.part * w + lane = row_mod x w lane R in_lanes ∙ ap (λ m. m * w + lane) (sym ok.part) in
+    let whole : to * (target_rows_of n * w) + (x * w + lane) % (R * w) ≡ to * target_rows_of n * w + (row.part * w + lane) = ap (λ m. to * (target_rows_of n * w) + m) within_env ∙ omega arith in
+    subst (λ m. StartsAt n (x * w + lane) k to m part (R * w) stride) whole start
+
+-- the outcomes of a delegation, where their numbers are counted from the first
+leads_row : (s : Sys) (row : Row) (x lane a k to part stride : ℕ) (envs states : List ℕ) (number : ℕ → ℕ → ℕ) → IsSys s → IsRow s x row → lane < lanes_in s → k < length (sizes_of s).seats →
+    part ≡ slice_index (pair_at (sizes_of s) (x * lanes_in s + lane)).bs k → stride ≡ stride_of (sizes_of s) k →
+    beh_next s.target row.target row.env a ≡ to ∷ [] → envs ≡ env_next s.env row.env a → states ≡ seat_next (slice_get s.seats k) part row.env a →
+    (part * stride ≤ to * target_rows_of (sizes_of s) * lanes_in s + (row.part * lanes_in s + lane) → (e b : ℕ) →
+    number e b ≡ to * target_rows_of (sizes_of s) * lanes_in s + (row.part * lanes_in s + lane) - part * stride + e * (env_rows_of (sizes_of s) * lanes_in s) + b * stride) →
+    Leads (numbered s) (x * lanes_in s + lane) a k envs states number
+leads_row s row x lane a k to part stride envs states number sys ok in_lanes seat is_part is_stride target is_envs is_states counted =
+    let start = start_row s row x lane k to part stride ok in_lanes seat (target_in_range s row.target row.env a to sys target) is_part is_stride in
+    let env = sym (ok.envs lane in_lanes) in
+    record {
+      outcomes = numbers_are s (pair_at (sizes_of s) (x * lanes_in s + lane)) a k to number envs states
+          (ap₂ (λ t e. beh_next s.target t e a) (ok.targets lane in_lanes) (ok.envs lane in_lanes) ∙ target)
+          (is_envs ∙ ap (λ e. env_next s.env e a) env) (is_states ∙ ap₂ (λ b e. seat_next (slice_get s.seats k) b e a) is_part env)
+          (λ e b. counted start.taken e b ∙ start.number e b);
+    }
+
 -- the first number for a seat before the lanes
 pub start_before : (s : Sys) (row : Row) (x lane k to u : ℕ) → IsSys s → IsRow s x row → lane < lanes_in s → k < low_in s → to < s.target.states → u * lanes_in s ≡ stride_of (sizes_of s) k →
     StartsAt (sizes_of s) (x * lanes_in s + lane) k to (to * target_rows_of (sizes_of s) * lanes_in s + (row.part * lanes_in s + lane)) (slice_index row.states k) (env_rows_of (sizes_of s) * lanes_in s) (u * lanes_in s)
 start_before s row x lane k to u sys ok in_lanes before in_target stride =
-    let n = sizes_of s in
-    let w = lanes_in s in
-    let p = x * w + lane in
-    let R = env_rows_of n in
-    let seat : k < length n.seats = omega (arith, low_of-le n.seats) in
-    let start : StartsAt n p k to (to * (target_rows_of n * w) + p % (R * w)) (slice_index row.states k) (R * w) (u * w) =
-    starts_at n p k to to (target_rows_of n * w) (slice_index row.states k) (R * w) (u * w) (ok.below lane in_lanes) seat in_target refl
-    (target_rows_are n) (sym (ok.states k lane before in_lanes)) (env_rows_are n) stride in
-    let within_env : p % (R * w) ≡ row.part * w + lane = row_mod x w lane R in_lanes ∙ ap (λ m. m * w + lane) (sym ok.part) in
-    let whole : to * (target_rows_of n * w) + p % (R * w) ≡ to * target_rows_of n * w + (row.part * w + lane) = ap (λ m. to * (target_rows_of n * w) + m) within_env ∙ omega arith in
-    subst (λ m. StartsAt n p k to m (slice_index row.states k) (R * w) (u * w)) whole start
+    start_row s row x lane k to (slice_index row.states k) (u * lanes_in s) ok in_lanes (omega (arith, low_of-le (sizes_of s).seats)) in_target (sym (ok.states k lane before in_lanes)) stride
 
 -- the outcomes of a delegation to a seat before the lanes
 pub leads_before : (s : Sys) (row : Row) (x lane a k to base u : ℕ) (envs states : List ℕ) → IsSys s → IsRow s x row → lane < lanes_in s → k < low_in s → u * lanes_in s ≡ stride_of (sizes_of s) k →
@@ -70,19 +90,10 @@ pub leads_before : (s : Sys) (row : Row) (x lane a k to base u : ℕ) (envs stat
 leads_before s row x lane a k to base u envs states sys ok in_lanes before stride target is_envs is_states is_base =
     let n = sizes_of s in
     let w = lanes_in s in
-    let q = pair_at n (x * w + lane) in
     let R = env_rows_of n in
     let part = slice_index row.states k in
-    let in_target : to < s.target.states = target_in_range s row.target row.env a to sys target in
-    let start = start_before s row x lane k to u sys ok in_lanes before in_target stride in
-    record {
-      outcomes = numbers_are s q a k to (λ e b. (base + e * R + b * u) * w + lane) envs states
-          (ap₂ (λ t e. beh_next s.target t e a) (ok.targets lane in_lanes) (ok.envs lane in_lanes) ∙ target)
-          (is_envs ∙ ap (λ e. env_next s.env e a) (sym (ok.envs lane in_lanes)))
-          (is_states ∙ ap₂ (λ b e. seat_next (slice_get s.seats k) b e a) (sym (ok.states k lane before in_lanes)) (sym (ok.envs lane in_lanes))) (λ e b.
-          let here = row_moves (to * target_rows_of n) row.part u w lane R part e b in_lanes start.taken in
-          ap (λ m. (m + e * R + b * u) * w + lane) is_base ∙ (sym here ∙ start.number e b));
-    }
+    leads_row s row x lane a k to part (u * w) envs states (λ e b. (base + e * R + b * u) * w + lane) sys ok in_lanes (omega (arith, low_of-le n.seats)) (sym (ok.states k lane before in_lanes)) stride target is_envs is_states
+    (λ taken e b. ap (λ m. (m + e * R + b * u) * w + lane) is_base ∙ sym (row_moves (to * target_rows_of n) row.part u w lane R part e b in_lanes taken))
 
 -- the state of a seat within the lanes
 pub record LaneState (n : Sizes) (k lane : ℕ) : Type 0 where
@@ -129,10 +140,8 @@ lane_state n k lane h within seat l =
 -- a seat's state at a pair is its state at the pair's lane
 digit_at : (row lane st size m : ℕ) → 0 < st → (row * (m * size * st) + lane) / st % size ≡ lane / st % size
 digit_at row lane st size m pos =
-    let split : lane / st * st + lane % st ≡ lane = div-add-mod' lane st in
-    let whole : row * (m * size * st) + lane ≡ (row * m * size + lane / st) * st + lane % st = omega arith in
-    let high : (row * (m * size * st) + lane) / st ≡ row * m * size + lane / st = ap (λ x. x / st) whole ∙ div-mul-add (row * m * size + lane / st) st (lane % st) (mod_below lane st pos) in
-    ap (λ x. x % size) high ∙ mul-add-mod_self_right (row * m) size (lane / st)
+    let whole : row * (m * size * st) + lane ≡ row * m * size * st + lane = omega arith in
+    ap (λ x. x / st % size) whole ∙ (ap (λ x. x % size) (mul-add-div_right pos (row * m * size) lane) ∙ mul-add-mod_self_right (row * m) size (lane / st))
 
 pub lane_part : (n : Sizes) (x lane k : ℕ) → IsSizes n → x * lanes_of n.seats + lane < count n → low_of n.seats ≤ k → k < length n.seats →
     slice_index (pair_at n (x * lanes_of n.seats + lane)).bs k ≡ lane_state_of n k lane
@@ -149,25 +158,11 @@ pub leads_lanes : (s : Sys) (row : Row) (x lane a k to base part : ℕ) (envs st
 leads_lanes s row x lane a k to base part envs states sys sizes ok in_lanes within seat is_part target is_envs is_states is_base =
     let n = sizes_of s in
     let w = lanes_in s in
-    let p = x * w + lane in
-    let q = pair_at n p in
     let R = env_rows_of n in
     let st = stride_of n k in
-    let inside : p < count n = ok.below lane in_lanes in
     let seats : k < length n.seats = omega (arith, length-map s.seats (λ (y : Seat). y.beh.states)) in
-    let in_target : to < s.target.states = target_in_range s row.target row.env a to sys target in
-    let at_part : part ≡ slice_index q.bs k = is_part ∙ sym (lane_part n x lane k sizes inside within seats) in
-    let start : StartsAt n p k to (to * (target_rows_of n * w) + p % (R * w)) part (R * w) st =
-    starts_at n p k to to (target_rows_of n * w) part (R * w) st inside seats in_target refl (target_rows_are n) at_part (env_rows_are n) refl in
-    let within_env : p % (R * w) ≡ row.part * w + lane = row_mod x w lane R in_lanes ∙ ap (λ m. m * w + lane) (sym ok.part) in
-    let moves = lane_state n k lane sizes within seats in_lanes in
-    let taken : part * st ≤ lane = subst (λ y. y * st ≤ lane) (sym is_part) moves.taken in
-    record {
-      outcomes = numbers_are s q a k to (λ e b. (base + e * R) * w + (lane + b * st - part * st)) envs states
-          (ap₂ (λ t e. beh_next s.target t e a) (ok.targets lane in_lanes) (ok.envs lane in_lanes) ∙ target)
-          (is_envs ∙ ap (λ e. env_next s.env e a) (sym (ok.envs lane in_lanes)))
-          (is_states ∙ ap₂ (λ b e. seat_next (slice_get s.seats k) b e a) at_part (sym (ok.envs lane in_lanes))) (λ e b.
-          let spread : (base + e * R) * w ≡ to * (target_rows_of n * w) + row.part * w + e * (R * w) = ap (λ m. (m + e * R) * w) is_base ∙ omega arith in
-          let here = start.number e b in
-          omega (arith, taken, within_env, spread, here) ∙ here);
-    }
+    let taken : part * st ≤ lane = subst (λ y. y * st ≤ lane) (sym is_part) (lane_state n k lane sizes within seats in_lanes).taken in
+    leads_row s row x lane a k to part st envs states (λ e b. (base + e * R) * w + (lane + b * st - part * st)) sys ok in_lanes seats
+    (is_part ∙ sym (lane_part n x lane k sizes (ok.below lane in_lanes) within seats)) refl target is_envs is_states (λ first e b.
+    let spread : (base + e * R) * w ≡ to * target_rows_of n * w + row.part * w + e * (R * w) = ap (λ m. (m + e * R) * w) is_base ∙ omega arith in
+    omega (arith, taken, spread))

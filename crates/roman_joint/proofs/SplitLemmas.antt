@@ -1,5 +1,6 @@
 -- How rows are made and looked up.
-use Rattle.roman_joint.proofs.Common.{◌≡◌, ℕ, zero, suc, ◌+◌, ◌*◌, ◌/◌, ◌%◌, ◌^◌, ◌<◌, cond, List, [], ◌∷◌, length, map, drop, slice_index, inl, inr, refl, sym, ap, ap₂, ◌∙◌, subst, arith, ltb, cases_eq, lt-ltb, le-ltb, mul-add-lt, mod_below, div-mul-add, mod-mul-add, div-add-mod', get_or-set_same, get_or-set_other, length-map, set, IsIn, product_of, Sys, Seat, IsBeh, Sizes, IsPairOf, sizes_of, count, pair_at, part_at, IsPairOf-at, AreBelow-index, AreSizes, IsSizes, stride_of, env_stride_of, target_stride_of, low_of, lanes_of, row_sizes, env_rows_of, target_rows_of, product_positive, product_more, AreSizes-drop, AreSizes-index, low_of-le, lanes_positive, tails_from, exact, row_div, row_least, row_below, env_rows_are, is_on, NamedSys, system_of, IsNamedSys, lanes_in, low_in, lane_has_state, AreRowsOf, IsRow, ArePermitted, AreLeading, Rows, Row}
+use Rattle.roman_joint.proofs.Common.{◌≡◌, ℕ, zero, suc, ◌+◌, ◌*◌, ◌/◌, ◌%◌, ◌^◌, ◌<◌, cond, List, [], ◌∷◌, length, map, drop, slice_index, inl, inr, refl, sym, ap, ap₂, ◌∙◌, subst, arith, ltb, cases_eq, lt-ltb, le-ltb, mul-add-lt, mod_below, div-mul-add, mod-mul-add, get_or-set_same, get_or-set_other, length-map, set, IsIn, product_of, Sys, Seat, IsBeh, Sizes, IsPairOf, sizes_of, count, pair_at, part_at, IsPairOf-at, AreBelow-index, AreSizes, IsSizes, stride_of, env_stride_of, target_stride_of, low_of, lanes_of, row_sizes, env_rows_of, target_rows_of, product_positive, product_more, AreSizes-drop, AreSizes-index, low_of-le, lanes_positive, tails_from, exact, row_div, row_least, row_below, env_rows_are, is_on, NamedSys, system_of, IsNamedSys, lanes_in, low_in, lane_has_state, AreRowsOf, IsRow, ArePermitted, AreLeading, Rows, Row}
+use Rattle.std.proofs.Math.Arith.{mod-mul}
 use Rattle.roman_joint.proofs.Rows.{count_fits}
 
 -- the pairs of a joint have numbers of 32 bits
@@ -22,6 +23,10 @@ joint_sizes n known =
 pub positive_of : (a w p : ℕ) → a * w ≡ p → 0 < p → 0 < a
 positive_of zero w p e pos = absurd (omega (arith, e, pos))
 positive_of (suc a) w p e pos = omega arith
+
+-- each seat has states
+pub size_positive : (n : Sizes) (k : ℕ) → IsSizes n → k < length n.seats → 0 < slice_index n.seats k
+size_positive n k h l = (AreSizes-index n.seats k h.seats l).0
 
 -- a factor can be cancelled
 pub factor : (x y w : ℕ) → 0 < w → x * w ≡ y * w → x ≡ y
@@ -90,14 +95,9 @@ before named r k known rows l =
 -- a number's remainder by a product, split by one factor
 split_again : (x u size : ℕ) → 0 < u → 0 < size → (x % (u * size) / u ≡ x / u % size) × (x % (u * size) % u ≡ x % u)
 split_again x u size pos some =
-    let digits : x / u / size * size + x / u % size ≡ x / u = div-add-mod' (x / u) size in
-    let whole : x / u * u + x % u ≡ x = div-add-mod' x u in
+    let turned : u * size ≡ size * u = omega arith in
     let part : x % u < u = mod_below x u pos in
-    let below : x / u % size * u + x % u < u * size = mul-add-lt (x / u % size) u (x % u) size (mod_below (x / u) size some) part in
-    let times : (x / u / size * size + x / u % size) * u ≡ x / u * u = ap (λ m. m * u) digits in
-    let split : (x / u / size * size + x / u % size) * u ≡ x / u / size * (u * size) + x / u % size * u = omega arith in
-    let sum : x ≡ x / u / size * (u * size) + (x / u % size * u + x % u) = omega arith in
-    let is : x % (u * size) ≡ x / u % size * u + x % u = ap (λ m. m % (u * size)) sum ∙ mod-mul-add (x / u / size) (u * size) (x / u % size * u + x % u) below in
+    let is : x % (u * size) ≡ x / u % size * u + x % u = ap (λ m. x % m) turned ∙ mod-mul x some pos in
     (ap (λ m. m / u) is ∙ div-mul-add (x / u % size) u (x % u) part, ap (λ m. m % u) is ∙ mod-mul-add (x / u % size) u (x % u) part)
 
 -- the rest of a row's number from a seat before the lanes on: the seat's state, and the rest after it
