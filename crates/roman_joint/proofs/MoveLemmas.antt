@@ -1,5 +1,5 @@
 -- Moves of services within the lanes.
-use Rattle.roman_joint.proofs.Common.{◌≡◌, ◌≢◌, ℕ, zero, suc, ◌+◌, ◌-◌, ◌*◌, ◌/◌, ◌%◌, ◌<◌, ◌≤◌, ◌==◌, Bool, true, false, not, ◌&&◌, cond, eqb, List, [], ◌∷◌, ◌++◌, length, drop, get_or, Some, slice_get, slice_index, slice_index_or, IsTrue, IsFalse, inl, inr, refl, sym, ap, ap₂, ◌∙◌, subst, arith, get_or-append_seam, mul-le-mul_right, list_any, filter, both_ways, cases_eq, cases_lt, ne_eqb, eqb-true, false≢true, and_parts, div-mul-add, mod-mul-add, mod_below, mul-add-lt, length-map, length-append, map-append, get_or_append_left, drop_more, drop_all, take_all, length-filter, count_by-le-length, slice_get_within, slice_get-get_or, IsIn, is_empty, below, product_of, in_map, from_map, in_filter, filter_in, in_below, from_below, any_true, any_from, any_same, same_test, by_test, empty_is, length-below, seat_in, Sys, Seat, Beh, beh_next, is_ready, is_beaten, Sizes, sizes_of, numbered, AreSizes, IsSizes, stride_of, low_of, lanes_of, env_rows_of, AreSizes-index, AreSizes-drop, product_positive, lanes_few, is_on, HasLanes, NamedBeh, NamedSys, system_of, seat_of, lanes_in, low_in, lane_state_of, IsTargetMove, AreAlive, lane_moves_from, ways_room, HoldsSpans, HoldsMoves, IsKept, AreSeatsOf, Row, TargetMove, Move, Moves, IsNumbered, with_frozen, on_zero}
+use Rattle.roman_joint.proofs.Common.{◌≡◌, ◌≢◌, ℕ, zero, suc, ◌+◌, ◌-◌, ◌*◌, ◌/◌, ◌%◌, ◌<◌, ◌≤◌, ◌==◌, Bool, true, false, not, ◌&&◌, cond, eqb, List, [], ◌∷◌, ◌++◌, length, drop, get_or, Some, slice_get, slice_index, slice_index_or, IsTrue, IsFalse, inl, inr, refl, sym, ap, ap₂, ◌∙◌, subst, arith, get_or-append_seam, mul-le-mul_right, list_any, filter, both_ways, cases_eq, cases_lt, ne_eqb, eqb-true, false≢true, and_parts, div-mul-add, mod-mul-add, mod_below, mul-add-lt, length-map, length-append, map-append, append_assoc, get_or_append_left, drop_more, drop_all, take_all, length-filter, count_by-le-length, slice_get_within, slice_get-get_or, IsIn, is_empty, below, product_of, in_map, from_map, in_filter, filter_in, in_below, from_below, any_true, any_from, any_same, same_test, by_test, empty_is, length-below, seat_in, Sys, Seat, Beh, beh_next, is_ready, is_beaten, Sizes, sizes_of, numbered, AreSizes, IsSizes, stride_of, low_of, lanes_of, env_rows_of, AreSizes-index, AreSizes-drop, product_positive, lanes_few, is_on, HasLanes, NamedBeh, NamedSys, system_of, seat_of, lanes_in, low_in, lane_state_of, IsTargetMove, AreAlive, lane_moves_from, ways_room, HoldsSpans, HoldsMoves, IsKept, AreSeatsOf, Row, TargetMove, Move, Moves, IsNumbered, with_frozen, on_zero}
 use Rattle.std.proofs.Common.{slice_range}
 use Rattle.std.proofs.lemmas.Bool.{eq-eqb, not_from_false}
 use Rattle.std.proofs.lemmas.List.{length-drop, take-append-le, drop-append-le}
@@ -339,3 +339,6 @@ moves_frozen n k frozen table held =
       long = held.long ∙ ap (λ w. s.env.states * s.env.actions * w) (sym (within_same s t sizes));
       spans_at = record { each = λ i span l at. span_same s t i span table.moves.items sizes refl (λ j x seated. frozen_at n.catalogue n.seats k frozen j x seated) (held.spans_at.each i span l at) };
     }
+
+-- the ways so far, with one more
+pub ruleset way_steps = (way_more, ways_few, append_assoc, length-append)

@@ -261,3 +261,6 @@ begins s p t e leading m states sys leads below_p same is_t is_e is_m =
       };
       left = subst (λ xs. HoldsEachOnce xs (back (numbered s) p)) (all ∙ sym nothing) (found_backwards s p sys below_p);
     }
+
+-- nothing is left past the last place
+pub ruleset passed = (below-past, flat_map-past, length-map)

@@ -97,6 +97,7 @@ fn good_on(joint: &Joint, turn: &Turn<'_>, alive: u64, k: u8) -> u64
 
 /// Returns how many of the first seats have to be tried for an action. Without an alive lane these
 /// are the seats before the lanes, since the others serve at no pair.
+#[tactic(auto, using(crate::proofs::GoodLemmas::seat_counts))]
 fn serving(joint: &Joint, alive: u64) -> u8
     ensures few { result ≤ length joint.now.seats }
     ensures rest { (k : ℕ) → result ≤ k → k < length joint.now.seats → (low_in (system_of joint.now) ≤ k) × (alive ≡ 0) }
@@ -138,6 +139,7 @@ impl Joint {
     /// Returns the mask of the action `a` at the pair at a lane of a row: the services that are ready
     /// and have an outcome there, and none that is gone. `words` has, row by row, the bits of the
     /// pairs that aren't gone. The mask is empty where the target doesn't allow the action.
+    #[tactic(auto, using(roman_radix::proofs::CallerLemmas::lanes_few, roman_rules::proofs::CallerLemmas::mask_refused, crate::proofs::AllowedLemmas::open_here))]
     pub fn mask(&self, row: &Row, words: &[u64], a: u8, lane: u32) -> SeatSet
         requires row { (x : ℕ) × IsRow (system_of self.now) x row.now }
         requires action { a < (system_of self.now).env.actions }

@@ -36,6 +36,7 @@ pub(crate) struct Rows {
 }
 
 /// Returns how the numbers of a shape's pairs split.
+#[tactic(auto, using(crate::proofs::LeadLemmas::stride_positive, crate::proofs::SplitLemmas::size_positive))]
 pub(crate) fn rows_of(shape: &Shape) -> Rows
     ensures { AreRowsOf shape.now result }
 {

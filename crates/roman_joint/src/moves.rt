@@ -87,6 +87,7 @@ fn push_way(moves: &mut Vec<Move>, lanes: u64, j: u8, last: u8, stride: u32)
 }
 
 /// Adds the moves of all ways.
+#[tactic(auto, using(crate::proofs::MoveLemmas::way_steps))]
 fn push_ways(moves: &mut Vec<Move>, lanes: &[u64], last: u8, stride: u32)
     requires room { vec_len moves.old + last + last < vec_capacity moves.old }
     requires small { last * stride < 64 }
@@ -121,6 +122,7 @@ impl Moves {
     }
 
     /// Adds the moves of a service on an action in a state of the environment.
+    #[tactic(auto, using(crate::proofs::GoodLemmas::state_below, crate::proofs::MoveLemmas::moves_made, crate::proofs::MoveLemmas::ways_few, crate::proofs::SplitLemmas::size_positive))]
     fn add(&mut self, shape: &Shape, rows: &Rows, behaviour: &Behaviour, k: u8, e: u8, a: u8)
         requires ways { SuitsWays shape.now rows.now k behaviour.now e a }
         requires room { vec_len self.old.moves + (2 * slice_index shape.now.seats k - 1) ≤ vec_capacity self.old.moves }
@@ -142,6 +144,7 @@ impl Moves {
     }
 
     /// Adds the moves of all services within the lanes on an action in a state of the environment.
+    #[tactic(auto, using(crate::proofs::MoveLemmas::lanes_room, crate::proofs::MoveLemmas::room_more, crate::proofs::MoveLemmas::sizes_long))]
     fn fill_turn(&mut self, parts: &Parts<'_>, shape: &Shape, rows: &Rows, e: u8, a: u8)
         requires seats { (n : NamedSys) × AreSeatsOf n parts.now.catalogue.now parts.now.seats.now shape.now self.old.envs self.old.actions }
         requires rows { AreRowsOf shape.now rows.now }

@@ -53,6 +53,7 @@ impl Outcomes<'_> {
 
 /// Returns the first of a service's states whose pair isn't alive. The pair with state b has the
 /// number `row + b * stride`.
+#[tactic(auto, using(crate::proofs::Finds::in_at))]
 fn state_gone<A: Fn(u32) -> bool>(alive: &A, row: u32, states: &[u8], stride: u32) -> Option<u8>
     requires fits { All (λ b. row + b * stride < 2 ^ 32) states.now }
     requires callable { All (λ b. A.pre alive.now (row + b * stride)) states.now }

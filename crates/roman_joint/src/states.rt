@@ -70,6 +70,7 @@ pub(crate) fn prev_states<'a>(joint: &'a Joint, k: u8, b: u8, e: u8, a: u8) -> &
 }
 
 /// Returns whether a service may rest in a state: the state is final, or the service is loose.
+#[tactic(auto, using(crate::proofs::SeatLemmas::seat_placed))]
 pub(crate) fn may_rest(joint: &Joint, k: u8, b: u8) -> bool
     requires seat { k < length joint.now.seats }
     requires state { b < slice_index (sizes_of (system_of joint.now)).seats k }
@@ -85,6 +86,7 @@ pub(crate) fn may_rest(joint: &Joint, k: u8, b: u8) -> bool
 }
 
 /// Returns the lanes in which a service within the lanes is in state `b`.
+#[tactic(auto, using(crate::proofs::GoodLemmas::begins, crate::proofs::GoodLemmas::off_rows))]
 pub(crate) fn state_lanes(shape: &Shape, rows: &Rows, k: u8, b: u8) -> u64
     requires rows { AreRowsOf shape.now rows.now }
     requires within { low_of shape.now.seats ≤ k }

@@ -20,6 +20,7 @@ use roman_radix::Shape;
 impl Joint {
     /// Freezes the service at place `k`, so that it takes no delegations, or makes it ready again.
     /// Nothing else changes.
+    #[tactic(auto, using(crate::proofs::SeatChanges::frozen_set, crate::proofs::SeatChanges::frozen_system, crate::proofs::SeatChanges::with_seats))]
     pub fn set_frozen(&mut self, k: u8, frozen: bool)
         requires { k < length self.old.seats }
         ensures seats { self.new ≡ record self.old { seats = with_frozen self.old.seats k frozen } }
@@ -84,6 +85,7 @@ impl Joint {
 
     // Returns the numbering with one more service, or `None` exactly where the system with it has more
     // cells than the limit. Requires a service with a new name.
+    #[tactic(auto, using(crate::proofs::SeatLemmas::states_range))]
     fn shape_with(&self, seat: &Seat) -> Option<Shape>
         requires room { length self.now.seats < MAX_SERVICES }
         requires behaviour { seat.now.behaviour < length self.now.catalogue }

@@ -29,6 +29,7 @@ impl Joint {
 
     /// Looks up the row `x`, for the calls that take a row. The result is valid until the services
     /// change.
+    #[tactic(auto, using(crate::proofs::SplitLemmas::joint_sizes))]
     pub fn row(&self, x: u32) -> Row
         requires { x * lanes_in (system_of self.now) < count (sizes_of (system_of self.now)) }
         ensures { IsRow (system_of self.now) x result }

@@ -158,6 +158,7 @@ impl Joint {
 
     // Moves on to the environment's next predecessor state, at which no state of the target is taken
     // yet, and returns whether there is one.
+    #[tactic(auto, using(crate::proofs::WalkLemmas::passed, crate::proofs::WalkLemmas::few_prev))]
     fn next_env(&self, walk: &mut Walk) -> bool
         requires walk { IsWalk (system_of self.now) walk.old }
         requires seat { left_of_seat (system_of self.now) walk.old ≡ [] }
@@ -199,6 +200,7 @@ impl Joint {
 
     // Moves on to the next action, and returns whether there is one. No state of the environment is
     // taken there yet, or all of them if the action doesn't lead to the pair.
+    #[tactic(auto, using(crate::proofs::WalkLemmas::passed))]
     fn next_action(&self, walk: &mut Walk) -> bool
         requires walk { IsWalk (system_of self.now) walk.old }
         requires seat { left_of_seat (system_of self.now) walk.old ≡ [] }

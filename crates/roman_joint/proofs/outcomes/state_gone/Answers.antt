@@ -1,10 +1,7 @@
 use Rattle.roman_joint.proofs.Common.{◌+◌, ◌*◌, get_or, sym, ◌∙◌, not-true}
 use Rattle.std.proofs.lemmas.Bool.{not-false}
-use Rattle.roman_joint.proofs.Finds.{in_at, find_here, find_on, find_end}
+use Rattle.roman_joint.proofs.Finds.{find_here, find_on, find_end}
 use Rattle.roman_joint.proofs.outcomes.state_gone.Goals as goal
-
-pub returns-then-not-alive-clause-among : goal.returns-then-not-alive-clause-among
-returns-then-not-alive-clause-among g c = in_at c.args.states.now c.loop-state.state-index 0 c.loop-state-test.true
 
 -- a pair is gone exactly if it isn't alive
 pub returns-then-not-alive-clause-first : goal.returns-then-not-alive-clause-first

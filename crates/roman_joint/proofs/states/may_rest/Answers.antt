@@ -1,12 +1,6 @@
 use Rattle.roman_joint.proofs.Common.{◌||◌, not, ◌∙◌, sym, ap, arith, is_final, seat_of, may_rest}
-use Rattle.roman_joint.proofs.SeatLemmas.{seat_read, seat_placed}
+use Rattle.roman_joint.proofs.SeatLemmas.{seat_read}
 use Rattle.roman_joint.proofs.states.may_rest.Goals as goal
-
-pub returns-then-not-seat : goal.returns-then-not-seat
-returns-then-not-seat c =
-    let n = c.args.joint.now in
-    sym (ap (λ o. may_rest o c.args.b) (seat_placed n c.args.k c.seat-seat.result.now c.seat-seat.ensures)
-    ∙ ap (λ b. not b || is_final (seat_of n.catalogue c.seat-seat.result.now).beh c.args.b) c.if-not-seat.true)
 
 pub is_final-requires : goal.is_final-requires
 is_final-requires c =

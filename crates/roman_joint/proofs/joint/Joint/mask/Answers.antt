@@ -1,16 +1,8 @@
-use Rattle.roman_joint.proofs.Common.{◌≡◌, ◌+◌, ◌*◌, ◌^◌, ◌/◌, ◌<◌, eqb, bit_and, sym, ap, subst, ◌∙◌, arith, shr_and_one, length-map, has, mask, sizes_of, numbered, lanes_few, is_on, HasBits, system_of, seat_of, lanes_in, AreAlive}
-use Rattle.roman_rules.proofs.CallerLemmas.{has_good, mask_refused, mask_more, mask_all}
+use Rattle.roman_joint.proofs.Common.{◌≡◌, ◌+◌, ◌*◌, ◌^◌, ◌/◌, ◌<◌, eqb, bit_and, sym, ap, subst, ◌∙◌, arith, shr_and_one, length-map, has, mask, numbered, is_on, HasBits, system_of, seat_of, lanes_in, AreAlive}
+use Rattle.roman_rules.proofs.CallerLemmas.{has_good, mask_more, mask_all}
 use Rattle.roman_joint.proofs.ArenaFacts.{joint_numbered}
-use Rattle.roman_joint.proofs.AllowedLemmas.{open_here}
 use Rattle.roman_joint.proofs.GoodLemmas.{known, beaten_dead}
 use Rattle.roman_joint.proofs.joint.Joint.mask.Goals as goal
-
--- an action that isn't allowed at the row's pairs
-pub returns-in_default : goal.returns-in_default
-returns-in_default c x gone ok rows = grind (arith, mask_refused, open_here)
-
-pub overflow_shr-good : goal.overflow_shr-good
-overflow_shr-good c = omega (arith, c.requires.lane, lanes_few (sizes_of (system_of c.args.self.now)).seats)
 
 pub loop-k-preserved : goal.loop-k-preserved
 unfolding is_on

@@ -1,6 +1,6 @@
 use Rattle.roman_joint.proofs.Common.{length, get_or, sym, ap, ◌∙◌, arith, length-map, env_prev, env_stride_of, system_of, seat_of, goal_of}
 use Rattle.roman_joint.proofs.Rows.{count_fits, env_moves}
-use Rattle.roman_joint.proofs.WalkLemmas.{goes_env, flat_map-past, few_prev}
+use Rattle.roman_joint.proofs.WalkLemmas.{goes_env}
 use Rattle.roman_joint.proofs.joint.Joint.next_env.Goals as goal
 
 pub moved-walk-requires : goal.moved-walk-requires
@@ -22,6 +22,3 @@ returns c =
     (omega (arith, ap length envs.prev)) (ap (λ xs. get_or xs w.envs_taken 0) envs.prev) within (c.moved-walk.ensures ∙ to.number)
     c.one_more-walk.ensures.more (c.one_more-walk.ensures.same (env_prev s.env (goal_of s w).e w.action) (sym (ap length envs.prev)))
     (c.seats-walk.ensures.count ∙ sym (length-map n.seats (seat_of n.catalogue)))
-
-pub returns-then-walk-ge-MAX_STATES : goal.returns-then-walk-ge-MAX_STATES
-returns-then-walk-ge-MAX_STATES c = grind (arith, few_prev, flat_map-past)

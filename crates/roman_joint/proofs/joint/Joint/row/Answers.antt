@@ -1,10 +1,7 @@
-use Rattle.roman_joint.proofs.Common.{◌≡◌, ◌*◌, ◌%◌, ap, ◌∙◌, arith, sizes_of, pair_at, system_of, lanes_in}
+use Rattle.roman_joint.proofs.Common.{◌≡◌, ◌*◌, ◌%◌, ap, ◌∙◌, sizes_of, pair_at, system_of, lanes_in}
 use Rattle.roman_joint.proofs.SplitLemmas.{joint_sizes, row_made}
 use Rattle.roman_joint.proofs.GoodLemmas.{env_rows_positive}
 use Rattle.roman_joint.proofs.joint.Joint.row.Goals as goal
-
-pub overflow_mul-p : goal.overflow_mul-p
-overflow_mul-p c = grind (arith, joint_sizes)
 
 pub nonzero_rem-result : goal.nonzero_rem-result
 nonzero_rem-result c = rw c.layout-rows.ensures.rows.env (env_rows_positive (system_of c.args.self.now) (joint_sizes c.args.self.now c.layout-rows.ensures.known))

@@ -1,7 +1,7 @@
-use Rattle.roman_joint.proofs.Common.{◌<◌, length, sym, ap, ◌∙◌, arith, named_sys_in, with_frozen}
+use Rattle.roman_joint.proofs.Common.{◌<◌, length, sym, ap, ◌∙◌, named_sys_in, with_frozen}
 use Rattle.roman_joint.proofs.Shown.{is_joint}
 use Rattle.roman_joint.proofs.MoveLemmas.{moves_frozen}
-use Rattle.roman_joint.proofs.SeatChanges.{with_seats, frozen_set, frozen_known, frozen_sizes, frozen_system}
+use Rattle.roman_joint.proofs.SeatChanges.{with_seats, frozen_set, frozen_known, frozen_sizes}
 use Rattle.roman_joint.proofs.joint.Joint.set_frozen.Goals as goal
 
 pub invariant_of-self : goal.invariant_of-self
@@ -19,9 +19,3 @@ invariant_of-self c =
       target_views = c.self.invariant.target_views;
       room = c.self.invariant.room;
     })
-
-pub returns-clause-seats : goal.returns-clause-seats
-returns-clause-seats c = grind (arith, frozen_set, with_seats)
-
-pub returns-clause-system : goal.returns-clause-system
-returns-clause-system c = grind (arith, frozen_set, frozen_system, with_seats)

@@ -1,14 +1,8 @@
-use Rattle.roman_joint.proofs.Common.{◌≡◌, ◌≤◌, List, length, get_or, sym, ap, ◌∙◌, subst, arith, Beh, IsBeh, Join, after, NamedBeh, beh_at, seat_of, system_of, cells, IsOverEnv}
+use Rattle.roman_joint.proofs.Common.{◌≡◌, ◌≤◌, List, length, get_or, sym, ap, ◌∙◌, subst, Beh, IsBeh, Join, after, NamedBeh, beh_at, seat_of, system_of, cells, IsOverEnv}
 use Rattle.std.specs.Option.{IsSome}
-use Rattle.roman_joint.proofs.SeatLemmas.{seat_beh_read, states_range}
+use Rattle.roman_joint.proofs.SeatLemmas.{seat_beh_read}
 use Rattle.roman_joint.proofs.SeatChanges.{joined_known, joined_sizes, joined_test}
 use Rattle.roman_joint.proofs.joint.Joint.shape_with.Goals as goal
-
-pub overflow_cast-size : goal.overflow_cast-size
-overflow_cast-size c = omega (arith, (states_range c.index-catalogue-seat.result c.states.ensures.known).1, ap length c.states.ensures.names)
-
-pub grow-requires-clause-size : goal.grow-requires-clause-size
-grow-requires-clause-size c = omega (arith, (states_range c.index-catalogue-seat.result c.states.ensures.known).0, ap length c.states.ensures.names)
 
 pub returns : goal.returns
 returns c =

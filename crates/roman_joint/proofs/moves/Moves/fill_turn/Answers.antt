@@ -19,9 +19,6 @@ add-requires-clause-ways c =
       action = grind arith;
     }
 
-pub add-requires-clause-room : goal.add-requires-clause-room
-add-requires-clause-room c = grind (arith, lanes_room, room_more, sizes_long)
-
 pub loop-k-preserved : goal.loop-k-preserved
 loop-k-preserved c =
     let n = c.requires.seats.0 in
