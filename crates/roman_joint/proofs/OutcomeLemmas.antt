@@ -9,9 +9,11 @@ pub record StartsAt (n : Sizes) (p k to row part env_stride stride : ℕ) : Type
   pub taken : part * stride ≤ row
   pub number : (e b : ℕ) → row - part * stride + e * env_stride + b * stride ≡ number n (moved (pair_at n p) to e k b)
 
-starts_by : (n : Sizes) (p k to : ℕ) → p < count n → k < length n.seats → to < n.target →
-    StartsAt n p k to (to * target_stride_of n + p % env_stride_of n) (slice_index (pair_at n p).bs k) (env_stride_of n) (stride_of n k)
-starts_by n p k to below_p within target =
+pub starts_at : (n : Sizes) (p k to from target_stride part env_stride stride : ℕ) → p < count n → k < length n.seats → to < n.target →
+    from ≡ to → target_stride ≡ target_stride_of n → part ≡ slice_index (pair_at n p).bs k → env_stride ≡ env_stride_of n → stride ≡ stride_of n k →
+    StartsAt n p k to (from * target_stride + p % env_stride) part env_stride stride
+starts_at n p k to from target_stride part env_stride stride below_p within target is_from is_target is_part is_env is_stride =
+    rw (is_from, is_target, is_part, is_env, is_stride) (
     let q : Pair = pair_at n p in
     let ok : IsPairOf n q = IsPairOf-at n p below_p in
     let long : length q.bs ≡ length n.seats = AreBelow-length n.seats q.bs ok.bs in
@@ -26,13 +28,7 @@ starts_by n p k to below_p within target =
       number = λ e b.
           let there : states_number n.seats (slice_set q.bs k b) + slice_index q.bs k * stride_of n k ≡ states_number n.seats q.bs + b * stride_of n k = states_number-set n.seats q.bs k b within long in
           omega (arith, there, bare, low);
-    }
-
-pub starts_at : (n : Sizes) (p k to from target_stride part env_stride stride : ℕ) → p < count n → k < length n.seats → to < n.target →
-    from ≡ to → target_stride ≡ target_stride_of n → part ≡ slice_index (pair_at n p).bs k → env_stride ≡ env_stride_of n → stride ≡ stride_of n k →
-    StartsAt n p k to (from * target_stride + p % env_stride) part env_stride stride
-starts_at n p k to from target_stride part env_stride stride below_p within target is_from is_target is_part is_env is_stride =
-    rw (is_from, is_target, is_part, is_env, is_stride) (starts_by n p k to below_p within target)
+    })
 
 -- the numbers of a list of pairs, where g gives the number of each
 numbers_of_states : (n : Sizes) (f : ℕ → Pair) (g : ℕ → ℕ) (bs : List ℕ) → ((b : ℕ) → g b ≡ number n (f b)) → map (number n) (map f bs) ≡ map g bs
@@ -72,32 +68,29 @@ pub record AreOutcomes (s : Sys) (p a k : ℕ) (g : ℕ → ℕ → ℕ) (envs s
   pub numbers : map (number (sizes_of s)) (outcomes s (pair_at (sizes_of s) p) a k) ≡ flat_map (λ e. map (g e) states) envs
   pub places : (e b : ℕ) → IsIn e envs → IsIn b states → IsPairWith (sizes_of s) k (g e b) e b
 
-outcomes_of : (s : Sys) (p a k to : ℕ) (seat : Seat) (g : ℕ → ℕ → ℕ) → IsSys s → p < count (sizes_of s) → slice_get s.seats k ≡ Some seat → IsFalse seat.frozen →
-    beh_next s.target (pair_at (sizes_of s) p).t (pair_at (sizes_of s) p).e a ≡ to ∷ [] → ((e b : ℕ) → g e b ≡ number (sizes_of s) (moved (pair_at (sizes_of s) p) to e k b)) →
-    AreOutcomes s p a k g (env_next s.env (pair_at (sizes_of s) p).e a) (beh_next seat.beh (slice_index (pair_at (sizes_of s) p).bs k) (pair_at (sizes_of s) p).e a)
-outcomes_of s p a k to seat g sys below_p seated ready target numbers =
+pub are_outcomes : (s : Sys) (p a k to e b : ℕ) (seat : Seat) (g : ℕ → ℕ → ℕ) (envs states : List ℕ) → IsSys s → p < count (sizes_of s) → slice_get s.seats k ≡ Some seat → IsTrue (is_ready (slice_get s.seats k)) →
+    e ≡ (pair_at (sizes_of s) p).e → b ≡ slice_index (pair_at (sizes_of s) p).bs k → beh_next s.target (pair_at (sizes_of s) p).t e a ≡ to ∷ [] →
+    ((e b : ℕ) → g e b ≡ number (sizes_of s) (moved (pair_at (sizes_of s) p) to e k b)) → envs ≡ env_next s.env e a → states ≡ beh_next seat.beh b e a → AreOutcomes s p a k g envs states
+are_outcomes s p a k to e b seat g envs states sys below_p seated ready is_e is_b target numbers is_envs is_states =
+    rw (is_envs, is_states, is_e, is_b) (
+    let next = rw is_e at target in
+    let is_ready : IsFalse seat.frozen = seat_ready (slice_get s.seats k) seat seated ready in
     let n = sizes_of s in
     let q : Pair = pair_at n p in
     let pair : IsPair s q = (numbers_are_pairs s).pair p below_p in
     let within : k < length q.bs =
     omega (arith, slice_get_within s.seats k seat seated, AreBelow-length n.seats q.bs (IsPairOf-from s q pair).bs, length-map s.seats (λ (x : Seat). x.beh.states)) in
     record {
-      numbers = numbers_are s q a k to g (env_next s.env q.e a) (beh_next seat.beh (slice_index q.bs k) q.e a) target refl (sym (ready_next (slice_get s.seats k) seat (slice_index q.bs k) q.e a seated ready)) numbers;
+      numbers = numbers_are s q a k to g (env_next s.env q.e a) (beh_next seat.beh (slice_index q.bs k) q.e a) next refl (sym (ready_next (slice_get s.seats k) seat (slice_index q.bs k) q.e a seated is_ready)) numbers;
       places = λ e b in_env in_states.
           let r : Pair = moved q to e k b in
           let env : e < s.env.states = (triple_in_range s.env q.e a e sys.env (from_env_next s.env q.e a e in_env)).2 in
           let state : b < seat.beh.states = (move_in_range s.env seat.beh (slice_index q.bs k) q.e a b (sys.seats seat (seat_in s.seats k seat seated)) (from_beh_next seat.beh (slice_index q.bs k) q.e a b in_states)).3 in
-          let ok : IsPair s r = record { t = target_in_range s q.t q.e a to sys target; e = env; bs = states_set s.seats q.bs k b seat pair.bs seated state } in
+          let ok : IsPair s r = record { t = target_in_range s q.t q.e a to sys next; e = env; bs = states_set s.seats q.bs k b seat pair.bs seated state } in
           let here : pair_at n (g e b) ≡ r = ap (pair_at n) (numbers e b) ∙ (numbers_are_pairs s).back r ok in
           record {
             below = subst (λ x. x < count n) (sym (numbers e b)) ((numbers_are_pairs s).below r ok);
             env = ap (λ (x : Pair). x.e) here;
             state = ap (λ (x : Pair). slice_index x.bs k) here ∙ get_or-set_same q.bs k b 0 within;
           };
-    }
-
-pub are_outcomes : (s : Sys) (p a k to e b : ℕ) (seat : Seat) (g : ℕ → ℕ → ℕ) (envs states : List ℕ) → IsSys s → p < count (sizes_of s) → slice_get s.seats k ≡ Some seat → IsTrue (is_ready (slice_get s.seats k)) →
-    e ≡ (pair_at (sizes_of s) p).e → b ≡ slice_index (pair_at (sizes_of s) p).bs k → beh_next s.target (pair_at (sizes_of s) p).t e a ≡ to ∷ [] →
-    ((e b : ℕ) → g e b ≡ number (sizes_of s) (moved (pair_at (sizes_of s) p) to e k b)) → envs ≡ env_next s.env e a → states ≡ beh_next seat.beh b e a → AreOutcomes s p a k g envs states
-are_outcomes s p a k to e b seat g envs states sys below_p seated ready is_e is_b target numbers is_envs is_states =
-    rw (is_envs, is_states, is_e, is_b) (outcomes_of s p a k to seat g sys below_p seated (seat_ready (slice_get s.seats k) seat seated ready) (rw is_e at target) numbers)
+    })

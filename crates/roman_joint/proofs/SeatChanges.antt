@@ -1,14 +1,14 @@
 -- The system after a service is frozen, dropped or added.
-use Rattle.roman_joint.proofs.Common.{◌≡◌, ℕ, zero, suc, ◌*◌, ◌/◌, ◌<◌, ◌≤◌, ◌↔◌, Bool, true, false, if◌then◌else◌, List, [], ◌∷◌, ◌++◌, Some, slice_get, slice_index, get_or, map, length, take, drop, refl, sym, ap, ap₂, ◌∙◌, subst, arith, AllByRecursion, remove, set, mul-le-mul_left, mul-le-mul_right, le-div_iff_mul-le, map_push, map-append, length-map, All-from_recursion, IsIn, HasNoRepeats, Sys, IsSys, IsBeh, Join, Die, after, Sizes, sizes_of, count, MAX_SERVICES, seat_in, NamedBeh, NamedSys, beh_at, seat_of, system_of, cells, IsNamedSys, with_frozen, HasSameParts}
+use Rattle.roman_joint.proofs.Common.{◌≡◌, ℕ, zero, suc, ◌*◌, ◌/◌, ◌<◌, ◌≤◌, ◌↔◌, Bool, true, false, if◌then◌else◌, List, [], ◌∷◌, ◌++◌, Some, slice_get, slice_index, get_or, map, length, take, drop, refl, sym, ap, ap₂, ◌∙◌, subst, arith, AllByRecursion, remove, set, mul-le-mul_left, mul-le-mul_right, le-div_iff_mul-le, map_push, map-append, length-map, All, All-from_recursion, IsIn, HasNoRepeats, Sys, IsSys, IsBeh, Join, Die, after, Sizes, sizes_of, count, MAX_SERVICES, seat_in, NamedBeh, NamedSys, beh_at, seat_of, system_of, cells, IsNamedSys, with_frozen, HasSameParts}
 use Rattle.std.proofs.lemmas.List.{take-map, drop-map}
-use Rattle.std.proofs.lemmas.List.Elements.{recursion_from_All}
+use Rattle.std.proofs.lemmas.List.Elements.{All-append, All-drop, All-push, All-take, recursion_from_All}
 use Rattle.roman_model.specs.System as model
 use Rattle.roman_model.specs.Change.{Change, Freeze, Thaw, set_frozen, CanChange}
 use Rattle.roman_model.specs.Numbers.{grown_sizes, sizes_without}
 use Rattle.roman_model.proofs.CallerLemmas.{HasNoRepeats-push, states_frozen, remove_in, renaming_keeps, count-without}
 use Rattle.roman_joint.specs.declared.seat.Seat.{Seat}
 use Rattle.roman_joint.proofs.Rows.{size_of_seat}
-use Rattle.roman_joint.proofs.SeatLemmas.{seat_there, recursion-push}
+use Rattle.roman_joint.proofs.SeatLemmas.{seat_there}
 
 -- a system after a change is well formed
 changed : (change : Change) (s : Sys) → IsSys s → CanChange change s → IsSys (after change s)
@@ -89,11 +89,8 @@ HasNoRepeats-remove [] (suc k) h = h
 HasNoRepeats-remove (x ∷ xs) zero h = h.1
 HasNoRepeats-remove (x ∷ xs) (suc k) h = (λ i. h.0 (remove_in x xs k i), HasNoRepeats-remove xs k h.1)
 
-recursion-remove : {X : Type 0} (P : X → Type 0) (xs : List X) (k : ℕ) → AllByRecursion P xs → AllByRecursion P (remove xs k)
-recursion-remove P [] zero h = h
-recursion-remove P [] (suc k) h = h
-recursion-remove P (x ∷ xs) zero h = h.1
-recursion-remove P (x ∷ xs) (suc k) h = (h.0, recursion-remove P xs k h.1)
+All-remove : {X : Type 0} (P : X → Type 0) (xs : List X) (k : ℕ) → All P xs → All P (remove xs k)
+All-remove P xs k h = All-append P (take k xs) (drop (suc k) xs) (All-take P k xs h) (All-drop P (suc k) xs h)
 
 pub gone_system : (n : NamedSys) (k : ℕ) (seat : model.Seat) → system_of (with_seats n (remove n.seats k)) ≡ after (Die k seat) (system_of n)
 gone_system n k seat = ap (with_model_seats (system_of n)) (map-remove (seat_of n.catalogue) n.seats k)
@@ -117,8 +114,7 @@ gone_known n k x known within is =
       system = subst IsSys (sym (gone_system n k seat)) (changed (Die k seat) s known.system seated);
       fits = omega (arith, ap (λ m. count m * s.env.actions) (gone_sizes n k), cells_less, known.fits);
       limit = known.limit;
-      behaviours = All-from_recursion (λ y. y.behaviour < length n.catalogue) (remove n.seats k)
-          (recursion-remove (λ y. y.behaviour < length n.catalogue) n.seats k (recursion_from_All (λ y. y.behaviour < length n.catalogue) n.seats known.behaviours));
+      behaviours = All-remove (λ y. y.behaviour < length n.catalogue) n.seats k known.behaviours;
       names = subst HasNoRepeats (sym (map-remove (λ (y : Seat). y.name) n.seats k)) (HasNoRepeats-remove (map (λ (y : Seat). y.name) n.seats) k known.names);
       catalogue = known.catalogue;
       target = known.target;
@@ -132,12 +128,6 @@ joined_system n seat = ap (with_model_seats (system_of n)) (map_push (seat_of n.
 pub joined_sizes : (n : NamedSys) (seat : Seat) → grown_sizes (sizes_of (system_of n)) (beh_at n.catalogue seat.behaviour).states ≡ sizes_of (system_of (with_seats n (n.seats ++ seat ∷ [])))
 joined_sizes n seat = grind (arith, map_push)
 
--- the grown pairs fit exactly if the grown cells are within the limit
-pub joined_fit : (n : NamedSys) (seat : Seat) → IsNamedSys n →
-    (count (grown_sizes (sizes_of (system_of n)) (beh_at n.catalogue seat.behaviour).states) ≤ n.limit / n.environment.env.actions)
-    ↔ (cells (after (Join (seat_of n.catalogue seat)) (system_of n)) ≤ n.limit)
-joined_fit n seat known = grind (arith, joined_sizes, joined_system, le-div_iff_mul-le)
-
 pub joined_known : (n : NamedSys) (seat : Seat) → IsNamedSys n → length n.seats < MAX_SERVICES → seat.behaviour < length n.catalogue →
     IsBeh n.environment.env (beh_at n.catalogue seat.behaviour) → (IsIn seat.name (map (λ (y : Seat). y.name) n.seats) → ⊥) →
     cells (after (Join (seat_of n.catalogue seat)) (system_of n)) ≤ n.limit → IsNamedSys (with_seats n (n.seats ++ seat ∷ []))
@@ -146,18 +136,17 @@ joined_known n seat known room place beh new fits = record {
       (changed (Join (seat_of n.catalogue seat)) (system_of n) known.system (beh, omega (arith, length-map n.seats (seat_of n.catalogue))));
   fits = subst (λ x. x ≤ n.limit) (sym (ap cells (joined_system n seat))) fits;
   limit = known.limit;
-  behaviours = All-from_recursion (λ y. y.behaviour < length n.catalogue) (n.seats ++ seat ∷ [])
-      (recursion-push (λ y. y.behaviour < length n.catalogue) n.seats seat (recursion_from_All (λ y. y.behaviour < length n.catalogue) n.seats known.behaviours) place);
+  behaviours = All-push (λ y. y.behaviour < length n.catalogue) n.seats seat known.behaviours place;
   names = subst HasNoRepeats (sym (map_push (λ (y : Seat). y.name) n.seats seat)) (HasNoRepeats-push (map (λ (y : Seat). y.name) n.seats) seat.name known.names new);
   catalogue = known.catalogue;
   target = known.target;
 }
 
--- the test of the grown pairs, for numbers that are equal to the system's
+-- the grown pairs fit exactly if the grown cells are within the limit, for numbers that are equal to the system's
 pub joined_test : (n : NamedSys) (seat : Seat) (m : Sizes) (size actions : ℕ) → IsNamedSys n → m ≡ sizes_of (system_of n) → size ≡ (beh_at n.catalogue seat.behaviour).states →
     actions ≡ n.environment.env.actions →
     (count (grown_sizes m size) ≤ n.limit / actions) ↔ (cells (after (Join (seat_of n.catalogue seat)) (system_of n)) ≤ n.limit)
-joined_test n seat m size actions known is_m is_size is_actions = rw (is_m, is_size, is_actions) (joined_fit n seat known)
+joined_test n seat m size actions known is_m is_size is_actions = rw (is_m, is_size, is_actions) (grind (arith, joined_sizes, joined_system, le-div_iff_mul-le))
 
 -- a service that is frozen or made ready keeps its behaviour
 pub frozen_at : (catalogue : List NamedBeh) (seats : List Seat) (k : ℕ) (frozen : Bool) (j : ℕ) (x : model.Seat) → slice_get (map (seat_of catalogue) (with_frozen seats k frozen)) j ≡ Some x →

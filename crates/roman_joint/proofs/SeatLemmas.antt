@@ -1,10 +1,11 @@
 -- Services and their behaviours, read one after another.
 use Rattle.roman_joint.proofs.Common.{◌≡◌, ℕ, zero, suc, ◌+◌, ◌/◌, ◌%◌, ◌^◌, ◌<◌, ◌≤◌, List, [], ◌∷◌, ◌++◌, Some, All, slice_get, get_or, map, length, take, drop, refl, sym, ap, ap₂, ◌∙◌, subst, inl, inr, arith, ◌==◌, slice_index, AllByRecursion, option_map, slice_get-map, slice_get-get_or, slice_get_within, get_or_from_slice_get, set, take_more, map_push, length-set, length-map, div_below, mod_below, All-from_recursion, IsIn, product_of, is_empty, Env, IsBeh, IsEnv, IsSys, sizes_of, Sizes, NamedEnv, NamedBeh, AreSizes, product_positive, product_more, AreSizes-drop, AreSizes-index, beh_at, seat_of, IsOverEnv, NamedSys, system_of, IsNamedSys, ne_eqb, MAX_SERVICES}
-use Rattle.std.proofs.lemmas.List.{take_more_set, get_or-map}
+use Rattle.std.proofs.lemmas.List.{take_more_set}
 use Rattle.roman_model.specs.System as model
-use Rattle.roman_model.specs.System.{IsDeterministic}
+use Rattle.roman_model.specs.System.{Beh, IsDeterministic}
 use Rattle.roman_parts.specs.Named.{IsOver}
 use Rattle.roman_joint.specs.declared.seat.Seat.{Seat}
+use Rattle.roman_joint.proofs.Rows.{size_of_seat}
 
 -- the behaviour that is read at a place of the catalogue
 pub seat_beh_read : (behs : List NamedBeh) (i : ℕ) (y : NamedBeh) → i < length behs → y ≡ get_or behs i y → y.beh ≡ beh_at behs i
@@ -22,7 +23,7 @@ states_range y known =
     let env : Env = record { states = y.env_states; actions = y.actions; start = 0; triples = [] } in
     (known env refl refl).states
 
-pub recursion-push : {X : Type 0} (P : X → Type 0) (xs : List X) (x : X) → AllByRecursion P xs → P x → AllByRecursion P (xs ++ x ∷ [])
+recursion-push : {X : Type 0} (P : X → Type 0) (xs : List X) (x : X) → AllByRecursion P xs → P x → AllByRecursion P (xs ++ x ∷ [])
 recursion-push P [] x h p = (p, tt)
 recursion-push P (y ∷ xs) x h p = (h.0, recursion-push P xs x h.1 p)
 
@@ -73,11 +74,6 @@ pub record Splits (sizes : List ℕ) (k rest stride : ℕ) : Type 0 where
 pub splits : (sizes : List ℕ) (k rest stride : ℕ) → AreSizes sizes → k < length sizes → rest < product_of (drop k sizes) → stride ≡ product_of (drop (k + 1) sizes) → Splits sizes k rest stride
 splits sizes k rest stride ok within below is = grind (arith, AreSizes-drop, AreSizes-index, div_below, mod_below, product_more, product_positive)
 
--- the size at a place is the number of states of the service's behaviour
-pub size_read : (catalogue : List NamedBeh) (seats : List Seat) (sizes : List ℕ) (k : ℕ) (x : Seat) (y : NamedBeh) → sizes ≡ map (λ seat. (beh_at catalogue seat.behaviour).states) seats →
-    k < length seats → x ≡ get_or seats k x → y.beh ≡ beh_at catalogue x.behaviour → get_or sizes k 0 ≡ y.beh.states
-size_read catalogue seats sizes k x y is within at_seat read = grind (arith, get_or-map)
-
 -- each service has states
 pub positive_sizes : (catalogue : List NamedBeh) (seats : List Seat) (env : Env) → AllByRecursion (λ seat. IsBeh env (beh_at catalogue seat.behaviour)) seats →
     All (λ size. 0 < size) (map (λ seat. (beh_at catalogue seat.behaviour).states) seats)
@@ -105,10 +101,11 @@ seat_read n k x catalogue y known at_place same in_catalogue =
     let place : x.behaviour < length n.catalogue = subst (λ (z : Seat). z.behaviour < length n.catalogue) (sym at_seat) (known.behaviours k x within) in
     let read : y.beh ≡ beh_at n.catalogue x.behaviour = seat_beh_read n.catalogue x.behaviour y place at_beh in
     let over : IsOverEnv n.environment y = subst (IsOverEnv n.environment) (sym at_beh) (known.catalogue x.behaviour y place) in
+    let seated = seat_there n.catalogue n.seats k x within at_seat in
     record {
       beh = read;
-      seated = seat_there n.catalogue n.seats k x within at_seat;
-      size = size_read n.catalogue n.seats (sizes_of (system_of n)).seats k x y (sym (same_sizes n.catalogue n.seats)) within at_seat read;
+      seated = seated;
+      size = size_of_seat (system_of n).seats k (seat_of n.catalogue x) seated ∙ ap (λ (b : Beh). b.states) (sym read);
       env_states = over.0;
       actions = over.1;
     }

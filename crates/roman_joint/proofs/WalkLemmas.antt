@@ -53,6 +53,10 @@ seats_from s q a e t k = elim (cases_lt k (length s.seats)) [
 after_none : {X : Type 0} (xs ys rest : List X) → xs ≡ [] → ys ≡ [] → xs ++ (ys ++ rest) ≡ rest
 after_none xs ys rest x y = ap (λ zs. zs ++ (ys ++ rest)) x ∙ ap (λ zs. zs ++ rest) y
 
+-- the first part of a list goes to the front, past empty parts
+moved_on : {X : Type 0} (a b c first later rest : List X) → a ≡ [] → b ≡ [] → c ≡ first ++ later → first ++ (later ++ rest) ≡ a ++ (b ++ (c ++ rest))
+moved_on a b c first later rest x y is = sym (after_none a b (c ++ rest) x y ∙ (ap (λ xs. xs ++ rest) is ∙ append_assoc first later rest))
+
 -- a new count is within its bound
 none_taken : 0 ≤ 64
 none_taken = omega arith
@@ -89,13 +93,20 @@ module _ (s : Sys) (sys : IsSys s) (w : Walk) (ok : IsWalk s w) where
       let new = target_on t row m in
       let next : left_of_env s w ≡ f t ++ left_of_env s new =
       flat_map-drop f targets w.targets_taken 0 more ∙ ap₂ (λ u ts. f u ++ flat_map f ts) (sym is) (sym same) in
-      let seats : left_of_seat s new ++ left_of_target s new ≡ f t = seats_from s (goal_of s w) w.action w.env t 0 in
-      let old : left s w ≡ f t ++ (left_of_env s new ++ rest) =
-      after_none (left_of_seat s w) (left_of_target s w) (left_of_env s w ++ rest) no_states no_seats ∙ (ap (λ xs. xs ++ rest) next ∙ append_assoc (f t) (left_of_env s new) rest) in
-      let then : left s new ≡ f t ++ (left_of_env s new ++ rest) =
-      sym (append_assoc (left_of_seat s new) (left_of_target s new) (left_of_env s new ++ rest)) ∙ ap (λ xs. xs ++ (left_of_env s new ++ rest)) seats in
       let first : 0 ≤ length s.seats = omega arith in
-      record { walk = assumption (none_taken); left = then ∙ sym old; falls = omega (arith, sys.few) }
+      record {
+        walk = assumption (none_taken);
+        left = sym (append_assoc (left_of_seat s new) (left_of_target s new) (left_of_env s new ++ rest))
+            ∙ (ap (λ xs. xs ++ (left_of_env s new ++ rest)) (seats_from s (goal_of s w) w.action w.env t 0)
+            ∙ moved_on (left_of_seat s w) (left_of_target s w) (left_of_env s w) (f t) (left_of_env s new) rest no_states no_seats next);
+        falls = omega (arith, sys.few);
+      }
+
+  -- past the last seat, nothing is left of the target's state
+  no_seat_left : (e a k : ℕ) (rest : List (Delegation ℕ)) → length s.seats ≤ k →
+      from_seat s (goal_of s w) a e w.target k ++ (flat_map (from_seat s (goal_of s w) a e w.target) (drop (k + 1) (below (length s.seats))) ++ rest) ≡ rest
+  no_seat_left e a k rest past =
+      after_none _ _ rest (past_seat s (goal_of s w) a e w.target k 0 past) (below-past (from_seat s (goal_of s w) a e w.target) (length s.seats) (k + 1) (omega arith))
 
   -- the walk at the environment's next predecessor state, with m states taken; k is the number of seats
   abbrev pub env_on : ℕ → ℕ → ℕ → ℕ → Walk
@@ -112,13 +123,13 @@ module _ (s : Sys) (sys : IsSys s) (w : Walk) (ok : IsWalk s w) where
       let past : k ≤ length s.seats = omega arith in
       let next : left_of_action s w ≡ f e ++ left_of_action s new =
       flat_map-drop f (env_prev s.env (goal_of s w).e w.action) w.envs_taken 0 more ∙ ap₂ (λ u es. f u ++ flat_map f es) (sym is) (sym same) in
-      let old : left s w ≡ f e ++ (left_of_action s new ++ rest) =
-      after_none (left_of_seat s w) (left_of_target s w) (left_of_env s w ++ (left_of_action s w ++ rest)) no_states no_seats
-      ∙ (ap (λ xs. xs ++ (left_of_action s w ++ rest)) no_targets ∙ (ap (λ xs. xs ++ rest) next ∙ append_assoc (f e) (left_of_action s new) rest)) in
-      let then : left s new ≡ f e ++ (left_of_action s new ++ rest) =
-      after_none (left_of_seat s new) (left_of_target s new) (f e ++ (left_of_action s new ++ rest)) (past_seat s (goal_of s w) w.action e w.target k 0 (omega arith))
-      (below-past (from_seat s (goal_of s w) w.action e w.target) (length s.seats) (k + 1) (omega arith)) in
-      record { walk = assumption (none_taken); left = then ∙ sym old; falls = omega (arith, sys.few) }
+      record {
+        walk = assumption (none_taken);
+        left = no_seat_left e w.action k (f e ++ (left_of_action s new ++ rest)) (omega arith)
+            ∙ (moved_on (left_of_target s w) (left_of_env s w) (left_of_action s w) (f e) (left_of_action s new) rest no_seats no_targets next
+            ∙ ap (λ xs. xs ++ (left_of_target s w ++ (left_of_env s w ++ (left_of_action s w ++ rest)))) (sym no_states));
+        falls = omega (arith, sys.few);
+      }
 
   -- the walk at the next action, with m of the environment's states taken: all of them if the action doesn't lead to the pair
   abbrev pub action_on : ℕ → ℕ → Walk
@@ -143,8 +154,7 @@ module _ (s : Sys) (sys : IsSys s) (w : Walk) (ok : IsWalk s w) where
         | inr (e, bit) ↦ flat_map-past (from_env s q a) (env_prev s.env q.e a) m (omega (arith, e, few_prev s.env q.e a sys.env)) ∙ sym (ok.leads a more bit)
       ] in
       let then : left s new ≡ f a ++ left_of_all s new =
-      after_none (left_of_seat s new) (left_of_target s new) (left_of_env s new ++ (left_of_action s new ++ left_of_all s new)) (past_seat s q a w.env w.target k 0 (omega arith))
-      (below-past (from_seat s q a w.env w.target) (length s.seats) (k + 1) (omega arith))
+      no_seat_left w.env a k (left_of_env s new ++ (left_of_action s new ++ left_of_all s new)) (omega arith)
       ∙ (ap (λ xs. xs ++ (left_of_action s new ++ left_of_all s new)) targets ∙ ap (λ xs. xs ++ left_of_all s new) envs) in
       let taken : 64 ≤ 64 = omega arith in
       record { walk = assumption (none_taken); left = then ∙ sym old; falls = omega (arith, sys.few, small) }
