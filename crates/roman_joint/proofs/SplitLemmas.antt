@@ -161,10 +161,11 @@ row_made s x row sizes start rows is_rows part at_target at_env at_states allowe
     let front : (lane : ℕ) → lane < w → (x * w + lane) / product_of n.seats ≡ x * w / product_of n.seats = λ lane l.
     ap (λ y. (x * w + lane) / y) (sym (env_rows_are n)) ∙ (row_div x w lane (env_rows_of n) l
     ∙ sym (ap₂ (λ y z. y / z) first (sym (env_rows_are n)) ∙ row_div x w 0 (env_rows_of n) pos)) in
+    let digit : (k lane : ℕ) → k < low_of n.seats → lane < w → slice_index (pair_at n (x * w + lane)).bs k ≡ x / (stride_of n k / w) % slice_index n.seats k = λ k lane l h.
+    part_at n (x * w + lane) k (inside lane h) (omega (arith, low_of-le n.seats))
+    ∙ ap (λ y. y % slice_index n.seats k) (ap (λ y. (x * w + lane) / y) (sym (stride_rows n k sizes l)) ∙ row_div x w lane (stride_of n k / w) h) in
     let state : (k : ℕ) → k < low_of n.seats → slice_index row.states k ≡ slice_index (pair_at n (x * w)).bs k = λ k l.
-    let is : stride_of n k / w * w ≡ stride_of n k = stride_rows n k sizes l in
-    at_states k l ∙ sym (part_at n (x * w) k start (omega (arith, low_of-le n.seats))
-    ∙ ap (λ y. y % slice_index n.seats k) (ap₂ (λ y z. y / z) first (sym is) ∙ row_div x w 0 (stride_of n k / w) pos)) in
+    at_states k l ∙ sym (ap (λ p. slice_index (pair_at n p).bs k) first ∙ digit k 0 l pos) in
     record {
       part = part;
       target_range = subst (λ y. y < n.target) (sym at_target) pair.t;
@@ -173,12 +174,7 @@ row_made s x row sizes start rows is_rows part at_target at_env at_states allowe
       below = inside;
       targets = λ lane l. ap (λ y. y / n.env) (front lane l) ∙ sym at_target;
       envs = λ lane l. ap (λ y. y % n.env) (front lane l) ∙ sym at_env;
-      states = λ k lane l h.
-          let r : ℕ = stride_of n k / w in
-          let is : r * w ≡ stride_of n k = stride_rows n k sizes l in
-          part_at n (x * w + lane) k (inside lane h) (omega (arith, low_of-le n.seats)) ∙ (ap (λ y. (x * w + lane) / y % slice_index n.seats k) (sym is)
-          ∙ (ap (λ y. y % slice_index n.seats k) (row_div x w lane r h ∙ sym (ap₂ (λ y z. y / z) first (sym is) ∙ row_div x w 0 r pos))
-          ∙ (sym (part_at n (x * w) k start (omega (arith, low_of-le n.seats))) ∙ sym (state k l))));
+      states = λ k lane l h. digit k lane l h ∙ sym (at_states k l);
       allowed = allowed;
       leading = leading;
     }
