@@ -244,9 +244,12 @@ pub state_is : (st size b lane : ℕ) → lane_has_state st size b lane ≡ eqb 
 unfolding lane_has_state
 state_is st size b lane = refl
 
--- a seat before the lanes is one of the seats
+-- the seats before the lanes are services, of which there are few
+pub seats_few : (n : NamedSys) → IsNamedSys n → (low_in (system_of n) ≤ length n.seats) × (length n.seats ≤ 32)
+seats_few n ok = grind (arith, length-map, low_of-le)
+
 pub low_few : (n : NamedSys) (k : ℕ) → IsNamedSys n → k < low_in (system_of n) → (k < 32) × (k < length n.seats)
-low_few n k ok l = grind (arith, length-map, low_of-le)
+low_few n k ok l = omega (arith, seats_few n ok)
 
 -- facts about a seat within the lanes
 pub record Within (n : NamedSys) (r : Rows) (k : ℕ) : Type 0 where

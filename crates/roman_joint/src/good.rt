@@ -21,6 +21,7 @@ use roman_rules::SeatSet;
 
 /// Returns the lanes at which a seat before the lanes serves the action.
 #[inline(always)]
+#[tactic(auto, using(crate::proofs::GoodLemmas::seats_few))]
 fn good_before(joint: &Joint, turn: &Turn<'_>, k: u8) -> u64
     requires turn { (x : ℕ) × IsTurn (system_of joint.now) x turn.now }
     requires seat { k < low_in (system_of joint.now) }

@@ -61,6 +61,7 @@ struct Arrival<'a> {
 
 /// Marks the bands from which the seat `k`, before the band's own, goes to its state in the row.
 /// `base` is the earlier row if the seat kept its state.
+#[tactic(auto, using(crate::proofs::GoodLemmas::seats_few, crate::proofs::MarkLemmas::mid_few))]
 fn mark_seat<L: Ledger>(by: &Arrival<'_>, marks: &mut [u64], base: u64, k: u8, steps: &mut Steps<L>)
     requires arrival { IsArrival by.now }
     requires base { base < 2 ^ 50 }

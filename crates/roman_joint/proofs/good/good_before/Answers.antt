@@ -1,15 +1,9 @@
 use Rattle.roman_joint.proofs.Common.{get_or, length, IsFalse, sym, ◌∙◌, arith, is_empty, not_empty_in, empty_is, system_of}
 use Rattle.roman_joint.proofs.Finds.{in_at}
 use Rattle.roman_joint.proofs.SeatLemmas.{len_empty}
-use Rattle.roman_joint.proofs.GoodLemmas.{low_few, Known, known, RowsBefore, rows_before, serves_before, beaten_before}
+use Rattle.roman_joint.proofs.GoodLemmas.{Known, known, RowsBefore, rows_before, serves_before, beaten_before}
 use Rattle.roman_joint.proofs.good.good_before.Goals as goal
 use Rattle.roman_joint.proofs.good.good_before.Goals.{After-from}
-
-pub bounds-turn-k : goal.bounds-turn-k
-bounds-turn-k c = (low_few c.args.joint.now c.args.k c.layout-rows.ensures.known c.requires.seat).0
-
-pub next_states-states-requires-clause-seat : goal.next_states-states-requires-clause-seat
-next_states-states-requires-clause-seat c = (low_few c.args.joint.now c.args.k c.layout-rows.ensures.known c.requires.seat).1
 
 pub returns-then-is_empty : goal.returns-then-is_empty
 returns-then-is_empty c x gone ok rows =

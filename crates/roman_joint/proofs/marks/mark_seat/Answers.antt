@@ -1,18 +1,9 @@
 use Rattle.roman_joint.proofs.Common.{◌≡◌, ℕ, ◌+◌, ◌*◌, ◌/◌, inl, inr, slice_index, get_or, sym, ap, ◌∙◌, subst, arith, cases_eq, system_of, lanes_in, IsMarked}
 use Rattle.roman_joint.proofs.SplitLemmas.{joint_sizes, factor}
-use Rattle.roman_joint.proofs.GoodLemmas.{low_few, width_positive}
+use Rattle.roman_joint.proofs.GoodLemmas.{width_positive}
 use Rattle.roman_joint.proofs.BandLemmas.{mid_low, first_in}
 use Rattle.roman_joint.proofs.MarkLemmas.{each_in, grows_on, marked_on}
 use Rattle.roman_joint.proofs.marks.mark_seat.Goals as goal
-
-pub bounds-by-k : goal.bounds-by-k
-bounds-by-k g c = (low_few c.args.by.now.joint.now c.args.k c.layout-rows.ensures.known (mid_low (system_of c.args.by.now.joint.now) c.args.k c.requires.seat)).0
-
-pub bounds-rows-k : goal.bounds-rows-k
-bounds-rows-k g c = (low_few c.args.by.now.joint.now c.args.k c.layout-rows.ensures.known (mid_low (system_of c.args.by.now.joint.now) c.args.k c.requires.seat)).0
-
-pub prev_states-states-requires-clause-seat : goal.prev_states-states-requires-clause-seat
-prev_states-states-requires-clause-seat g c = (low_few c.args.by.now.joint.now c.args.k c.layout-rows.ensures.known (mid_low (system_of c.args.by.now.joint.now) c.args.k c.requires.seat)).1
 
 pub prev_states-states-requires-clause-state : goal.prev_states-states-requires-clause-state
 prev_states-states-requires-clause-state g c = c.requires.arrival.row.1.state_range c.args.k (mid_low (system_of c.args.by.now.joint.now) c.args.k c.requires.seat)
