@@ -6,7 +6,7 @@ use Rattle.roman_model.specs.Arena.{is_beaten}
 use Rattle.roman_model.specs.Numbers.{sizes_of, numbered}
 use Rattle.roman_radix.specs.Rows.{low_of, lanes_of, row_sizes}
 use Rattle.roman_lanes.specs.Rows.{is_on, Keeps}
-use Rattle.roman_joint.specs.Rows.{lanes_in, lane_state_of, AreAlive, IsRow, IsTargetMove}
+use Rattle.roman_joint.specs.Rows.{lanes_in, AreAlive, IsRow, IsTargetMove}
 use Rattle.roman_joint.specs.declared.row.Row.{Row}
 use Rattle.roman_joint.specs.declared.runs.Run.{Run}
 use Rattle.roman_joint.specs.declared.turn.TargetMove.{TargetMove}
@@ -56,9 +56,3 @@ abbrev pub ClearsServed : Sys → Row → List ℕ → ℕ → ℕ → List ℕ 
 ClearsServed s row alive a k old new =
     (y : ℕ) (gone : ℕ → Bool) (turn : TargetMove) → IsRow s (y * band_in s) row → IsTargetMove s row a turn → AllAlive s gone turn alive →
     Keeps (lanes_in s) (y * band_in s) (band_in s) (λ p. is_beaten (numbered s) gone p a k) old new
-
--- the same in the rows in which the seat is in state b
-abbrev pub ClearsServedIn : Sys → Row → List ℕ → ℕ → ℕ → ℕ → List ℕ → List ℕ → Type 0
-ClearsServedIn s row alive a k b old new =
-    (y : ℕ) (gone : ℕ → Bool) (turn : TargetMove) → IsRow s (y * band_in s) row → IsTargetMove s row a turn → AllAlive s gone turn alive →
-    KeepsWhere s (y * band_in s) (λ i. lane_state_of (row_sizes (sizes_of s)) k i ≡ b) (λ p. is_beaten (numbered s) gone p a k) old new

@@ -7,7 +7,7 @@ ghost use Rattle.roman_model.specs.declared.reason.Reason.TheVariants.{Act};
 ghost use Rattle.roman_lanes.specs.Rows.{Keeps};
 ghost use Rattle.roman_joint.specs.NamedSys.{system_of};
 ghost use Rattle.roman_joint.specs.Rows.{lanes_in, low_in, HasAlive, IsRow, IsTurn};
-ghost use Rattle.roman_joint.specs.Bands.{mid_in, band_in, AllAlive, ClearsServed, ClearsServedIn};
+ghost use Rattle.roman_joint.specs.Bands.{mid_in, band_in, AllAlive, ClearsServed};
 
 use crate::joint::Joint;
 use crate::moving::clear_moving;
@@ -72,37 +72,6 @@ fn alive_each(joint: &Joint, turn: &Turn<'_>, alive: &mut [u64])
     rows_alive_each(alive, turn.words, to.base, to.envs, rows.env_rows);
 }
 
-/// Clears, in `left`, the pairs of a band at which the seat `k` is in state `b` and serves the action.
-/// The seat is one of the band's own. `alive` holds the alive lanes of each row's turn.
-fn clear_own_state(joint: &Joint, row: &Row, alive: &[u64], a: u8, k: u8, b: u8, left: &mut [u64])
-    requires row { (y : ℕ) × IsRow (system_of joint.now) (y * band_in (system_of joint.now)) row.now }
-    requires action { a < (system_of joint.now).env.actions }
-    requires within { mid_in (system_of joint.now) ≤ k }
-    requires seat { k < low_in (system_of joint.now) }
-    requires state { b < slice_index (sizes_of (system_of joint.now)).seats k }
-    requires alive { band_in (system_of joint.now) ≤ length alive.now }
-    requires long { length left.old ≡ band_in (system_of joint.now) }
-    ensures long { length left.new ≡ length left.old }
-    ensures left { ClearsServedIn (system_of joint.now) row.now alive.now a k b left.old left.new }
-{
-    let rows = joint.layout();
-    let states = next_states(joint, k, b, row.env, a);
-    if states.is_empty() {
-        return;
-    }
-    let size = rows.sizes[k as usize];
-    let stride = rows.strides[k as usize];
-    let blocks = rows.band / (u32::from(size) * stride);
-    let run = Run {
-        alive,
-        from: 0,
-        states,
-        stride: stride as usize,
-        full: rows.full,
-    };
-    clear_state(left, &run, b, size, blocks as usize);
-}
-
 /// Clears, in `left`, the pairs of a band at which the seat `k` serves the action. The seat is one of
 /// the band's own. `alive` holds the alive lanes of each row's turn.
 fn clear_own(joint: &Joint, row: &Row, alive: &[u64], a: u8, k: u8, left: &mut [u64])
@@ -116,8 +85,29 @@ fn clear_own(joint: &Joint, row: &Row, alive: &[u64], a: u8, k: u8, left: &mut [
     ensures left { ClearsServed (system_of joint.now) row.now alive.now a k left.old left.new }
 {
     let rows = joint.layout();
-    for b in 0..rows.sizes[k as usize] {
-        clear_own_state(joint, row, alive, a, k, b, left);
+    let seat = joint.seat(k);
+    if seat.frozen {
+        return;
+    }
+    let behaviour = &joint.catalogue()[seat.behaviour as usize];
+    let size = rows.sizes[k as usize];
+    let stride = rows.strides[k as usize];
+    let blocks = rows.band / (u32::from(size) * stride);
+    let full = rows.full;
+    let e = row.env;
+    for b in 0..size {
+        let states = behaviour.out(b, e, a);
+        if states.is_empty() {
+            continue;
+        }
+        let run = Run {
+            alive,
+            from: 0,
+            states,
+            stride: stride as usize,
+            full,
+        };
+        clear_state(left, &run, b, size, blocks as usize);
     }
 }
 
