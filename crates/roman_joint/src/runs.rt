@@ -113,6 +113,53 @@ impl<const N: usize> ChangeOf<N> for Run<'_> {
     }
 }
 
+/// Clears, in the word at place i, the lanes of `full` that are set in the word at place i of `alive`.
+#[derive(Clone, Copy)]
+struct Lone<'a> {
+    alive: &'a [u64],
+    full: u64,
+}
+
+impl Change for Lone<'_> {
+    ghost use Rattle.std.specs.Prelude.{◌≡◌, ℕ, ◌≤◌, not, ◌&&◌, length, slice_index};
+    ghost use Rattle.roman_lanes.specs.Rows.{is_on};
+
+    ghost suits = { λ change many. many ≤ length change.alive.now };
+
+    ghost makes = { λ change i old new. (lane : ℕ) → is_on new lane ≡ (is_on old lane && not (is_on change.full lane && is_on (slice_index change.alive.now i) lane)) };
+}
+
+impl<const N: usize> ChangeOf<N> for Lone<'_> {
+    #[inline(always)]
+    fn changed(&self, words: Simd<u64, N>, at: usize) -> Simd<u64, N>
+        requires { (many : ℕ) × (at + N ≤ many) × (many ≤ length self.now.alive.now) }
+        ensures long { length result ≡ N }
+        ensures each { (i : ℕ) → i < N → (lane : ℕ) → is_on (slice_index result i) lane ≡ (is_on (slice_index words.entry i) lane && not (is_on self.now.full lane && is_on (slice_index self.now.alive.now (at + i)) lane)) }
+    {
+        let good = Simd::<u64, N>::splat(self.full) & load::<N>(self.alive, at);
+        without(words, good)
+    }
+}
+
+/// Makes the change of a run in all words.
+#[inline(always)]
+fn change_run(words: &mut [u64], run: &Run<'_>)
+    requires { SuitsRun run.now (length words.old) }
+    ensures long { length words.new ≡ length words.old }
+    ensures each { (i : ℕ) → i < length words.old → LosesRun run.now i (slice_index words.old i) (slice_index words.new i) }
+{
+    if run.states.len() == 1 {
+        let from = run.from + usize::from(run.states[0]) * run.stride;
+        let lone = Lone {
+            alive: &run.alive[from..],
+            full: run.full,
+        };
+        change_each(&lone, words);
+    } else {
+        change_each(run, words);
+    }
+}
+
 /// Makes the change of a run in as many words of `left` as its stride, from place `to` on.
 fn clear_run(left: &mut [u64], to: usize, run: &Run<'_>)
     requires to { to + run.now.stride ≤ length left.old }
@@ -123,7 +170,7 @@ fn clear_run(left: &mut [u64], to: usize, run: &Run<'_>)
     ensures above { (i : ℕ) → to + run.now.stride ≤ i → slice_index left.new i ≡ slice_index left.old i }
     ensures none { (i lane : ℕ) → is_on (slice_index left.old i) lane ≡ false → is_on (slice_index left.new i) lane ≡ false }
 {
-    change_each(run, &mut left[to..to + run.stride]);
+    change_run(&mut left[to..to + run.stride], run);
 }
 
 /// Makes the change of a run in the words of `left` in which a component is in state `b`, of `size`
