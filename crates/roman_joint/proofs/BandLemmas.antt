@@ -1,12 +1,14 @@
 -- Rows of a band.
-use Rattle.roman_joint.proofs.Common.{◌≡◌, ℕ, ◌+◌, ◌-◌, ◌*◌, ◌/◌, ◌%◌, ◌<◌, ◌≤◌, ◌^◌, Bool, true, false, not, ◌&&◌, List, [], length, slice_get, slice_index, IsFalse, inl, inr, refl, sym, ap, ap₂, ◌∙◌, subst, arith, list_any, set, cases_eq, cases_lt, mul-add-lt, mul-le, mod_below, length-map, get_or-set_same, get_or-set_other, IsIn, is_empty, product_of, all_below, any_same, from_seat_next, move_in_range, seat_in, part_at, Sys, Seat, IsSys, seat_next, is_beaten, sizes_of, count, pair_at, numbered, IsSizes, stride_of, low_of, row_sizes, env_rows_of, exact, lanes_few, AreSizes-index, low_of-le, lanes_positive, row_div, row_mod, row_below, env_rows_are, count_rows, length_rows, row_size, row_stride_of, IsSizes-rows, rows_are, is_on, HasLanes, AreRows, Keeps, lanes_in, low_in, lane_state_of, AreRowsOf, IsRow, IsTargetMove, mid_in, band_in, turn_at, AllAlive, KeepsWhere, Rows, Row, TargetMove, and_assoc, on_zero}
+use Rattle.roman_joint.proofs.Common.{◌≡◌, ℕ, ◌+◌, ◌-◌, ◌*◌, ◌/◌, ◌%◌, ◌<◌, ◌≤◌, ◌^◌, Bool, true, false, not, ◌&&◌, List, [], length, slice_get, slice_index, IsFalse, inl, inr, refl, sym, ap, ap₂, ◌∙◌, subst, arith, list_any, set, cases_eq, cases_lt, mul-add-lt, mul-le, mod_below, get_or-set_same, get_or-set_other, IsIn, is_empty, product_of, all_below, any_same, from_seat_next, move_in_range, seat_in, part_at, Sys, IsSys, seat_next, is_beaten, sizes_of, count, pair_at, numbered, IsSizes, stride_of, low_of, row_sizes, env_rows_of, exact, lanes_few, AreSizes-index, low_of-le, lanes_positive, row_div, row_mod, row_below, env_rows_are, count_rows, length_rows, row_size, row_stride_of, IsSizes-rows, rows_are, is_on, HasLanes, AreRows, Keeps, lanes_in, low_in, lane_state_of, AreRowsOf, IsRow, IsTargetMove, mid_in, band_in, turn_at, AllAlive, Rows, Row, TargetMove, and_assoc, on_zero}
+use Rattle.std.proofs.Common.{ltb-false}
 use Rattle.std.proofs.lemmas.List.{get_or_past}
 use Rattle.roman_joint.proofs.Rows.{size_of_seat}
 use Rattle.roman_joint.proofs.AllowedLemmas.{cut_off, and_nothing}
 use Rattle.roman_joint.proofs.WordLemmas.{not_not, all_pass}
 use Rattle.roman_joint.proofs.SplitLemmas.{factor, positive_of, quotient, stride_rows, row_number, row_made}
 use Rattle.roman_joint.proofs.LeadLemmas.{lanes_parts, stride_positive, lane_state, lane_part, leads_before, leads_served, any_turned}
-use Rattle.roman_joint.proofs.GoodLemmas.{Known, rows_before, full_on, serves_before, beaten_before}
+use Rattle.roman_joint.specs.Rows.{AreAlive}
+use Rattle.roman_joint.proofs.GoodLemmas.{Known, RowsThere, rows_there, rows_before, full_on, alive_there, serves_before, beaten_before}
 
 -- the i-th row of a band, from the first
 abbrev pub row_in : Sys → ℕ → Row → Row
@@ -94,6 +96,13 @@ module _ (s : Sys) (r : Rows) (y a : ℕ) (first : Row) (turn : TargetMove) (h :
 
   pub turned : (i : ℕ) → i < band_in s → IsTargetMove s (row_in s (y * band_in s + i) first) a (turn_at turn i)
   turned i l = record { to = ok.to; target = ok.target; base = omega (arith, ok.base, (here i l).part); worlds = ok.worlds; some = ok.some }
+
+  pub there_at : (i long : ℕ) → i < band_in s → long * lanes_in s ≡ count (sizes_of s) → RowsThere r (turn_at turn i) long
+  there_at i long l room = rows_there s r (y * band_in s + i) a long (row_in s (y * band_in s + i) first) (turn_at turn i) (known_at i l) laid (turned i l) room
+
+  pub alive_at : (i alive : ℕ) (words : List ℕ) (gone : ℕ → Bool) → i < band_in s → length words * lanes_in s ≡ count (sizes_of s) → AreRows (lanes_in s) (λ q. not (gone q)) words →
+      ((lane : ℕ) → is_on alive lane ≡ (is_on r.full lane && not (list_any (λ e. not (is_on (slice_index words (turn.base + i + e * r.env_rows)) lane)) turn.envs.now))) → AreAlive s gone (turn_at turn i) alive
+  alive_at i alive words gone l room rows told = alive_there s r (y * band_in s + i) a alive (row_in s (y * band_in s + i) first) (turn_at turn i) words gone (known_at i l) laid (turned i l) room rows told
 
   pub before_at : (i k part long : ℕ) (states : List ℕ) → i < band_in s → k < mid_in s → long * lanes_in s ≡ count (sizes_of s) →
       states ≡ seat_next (slice_get s.seats k) (slice_index first.states k) first.env a → part ≡ slice_index first.states k → BandBefore s r turn k part i long states
@@ -297,12 +306,6 @@ keeps_nothing s x many p old now few long clear off = grind (arith, and_nothing,
 pub keeps_seat : (s : Sys) (x many k : ℕ) (p : ℕ → ℕ → Bool) (old now new : List ℕ) → Keeps (lanes_in s) x many (λ q. all_below (p q) k) old now → Keeps (lanes_in s) x many (λ q. p q k) now new → Keeps (lanes_in s) x many (λ q. all_below (p q) (k + 1)) old new
 keeps_seat s x many k p old now new before here = grind (arith, keeps_then)
 
--- the seats before a band's own are among the seats
-pub mid_few : (s : Sys) → mid_in s ≤ length s.seats
-mid_few s =
-    let n = sizes_of s in
-    omega (arith, low_of-le (row_sizes n).seats, length_rows n, low_of-le n.seats, length-map s.seats (λ (y : Seat). y.beh.states))
-
 -- all rows are judged at once, each by a word of the lanes at which its pairs are served
 pub keeps_clear : (s : Sys) (x many : ℕ) (test : ℕ → Bool) (old new : List ℕ) → length old ≡ many → length new ≡ length old →
     ((i : ℕ) → i < many → (good : ℕ) × HasLanes (lanes_in s) (x + i) (λ p. not (test p)) good × ((lane : ℕ) → is_on (slice_index new i) lane ≡ (is_on (slice_index old i) lane && not (is_on good lane)))) → Keeps (lanes_in s) x many test old new
@@ -314,6 +317,17 @@ keeps_clear s x many test old new few long served = record {
     | inr past ↦ ap (λ z. is_on z lane) (get_or_past new i 0 (omega (arith, past, long, few))) ∙ on_zero lane
   ];
 }
+
+-- no row has a lane past the full word
+pub dark_past : (s : Sys) (r : Rows) (words : List ℕ) (gone : ℕ → Bool) → AreRowsOf (sizes_of s) r → AreRows (lanes_in s) (λ q. not (gone q)) words →
+    (x lane : ℕ) → x < length words → is_on r.full lane ≡ false → is_on (slice_index words x) lane ≡ false
+dark_past s r words gone laid rows x lane l dark = (rows.each x l).rest lane (ltb-false lane (lanes_in s) (sym (laid.full lane) ∙ dark))
+
+-- in the meant rows of the band that begins at row x, exactly the set lanes whose pairs pass the test stay set; no lane is newly set, and other rows stay
+pub record KeepsWhere (s : Sys) (x : ℕ) (meant : ℕ → Type 0) (test : ℕ → Bool) (old new : List ℕ) : Type 0 where
+  pub each : (i lane : ℕ) → i < band_in s → lane < lanes_in s → meant i → is_on (slice_index new i) lane ≡ (is_on (slice_index old i) lane && test ((x + i) * lanes_in s + lane))
+  pub others : (i : ℕ) → (meant i → ⊥) → slice_index new i ≡ slice_index old i
+  pub none : (i lane : ℕ) → is_on (slice_index old i) lane ≡ false → is_on (slice_index new i) lane ≡ false
 
 -- the rows of one more state
 pub where_more : (s : Sys) (x b : ℕ) (digit : ℕ → ℕ) (test : ℕ → Bool) (old now new : List ℕ) → KeepsWhere s x (λ i. digit i < b) test old now → KeepsWhere s x (λ i. digit i ≡ b) test now new → KeepsWhere s x (λ i. digit i < b + 1) test old new

@@ -38,7 +38,7 @@ pub use Rattle.roman_rules.proofs.CallerLemmas.{served_by, sum_below_more}
 pub use Rattle.roman_rules.specs.Bits.{HasBits, bit_of}
 pub use Rattle.roman_rules.specs.Numbered.{IsNumbered}
 pub use Rattle.roman_joint.specs.Backward.{from_action, from_all, from_env, from_seat, from_states, from_target, seat_prev}
-pub use Rattle.roman_joint.specs.Bands.{AllAlive, KeepsWhere, band_in, mid_in, turn_at}
+pub use Rattle.roman_joint.specs.Bands.{AllAlive, band_in, mid_in, turn_at}
 pub use Rattle.roman_joint.specs.Behaviours.{IsSeatBehaviour}
 pub use Rattle.roman_joint.specs.Changes.{with_frozen}
 pub use Rattle.roman_joint.specs.Layout.{named_sys_in}

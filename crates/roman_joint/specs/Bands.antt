@@ -1,5 +1,5 @@
 -- Bands of rows: runs of neighbouring rows, which differ only in the states of the last seats before the lanes.
-use Rattle.std.specs.Prelude.{◌≡◌, ℕ, ◌+◌, ◌*◌, ◌^◌, ◌<◌, ◌≤◌, ◌&&◌, not, All, Bool, false, List, length, slice_index}
+use Rattle.std.specs.Prelude.{◌≡◌, ℕ, ◌+◌, ◌*◌, ◌^◌, ◌<◌, ◌≤◌, ◌&&◌, not, All, Bool, List, length, slice_index}
 use Rattle.std.specs.List.{list_any}
 use Rattle.roman_model.specs.System.{Sys}
 use Rattle.roman_model.specs.Arena.{is_beaten}
@@ -7,6 +7,7 @@ use Rattle.roman_model.specs.Numbers.{sizes_of, numbered}
 use Rattle.roman_radix.specs.Rows.{low_of, lanes_of, row_sizes}
 use Rattle.roman_lanes.specs.Rows.{is_on, Keeps}
 use Rattle.roman_joint.specs.Rows.{lanes_in, AreAlive, IsRow, IsTargetMove}
+use Rattle.roman_joint.specs.declared.outcomes.Outcomes.{Outcomes}
 use Rattle.roman_joint.specs.declared.row.Row.{Row}
 use Rattle.roman_joint.specs.declared.runs.Run.{Run}
 use Rattle.roman_joint.specs.declared.turn.TargetMove.{TargetMove}
@@ -37,18 +38,18 @@ abbrev pub LosesRun : Run → ℕ → ℕ → ℕ → Type 0
 LosesRun run i old new = (lane : ℕ) → is_on new lane
     ≡ (is_on old lane && not (is_on run.full lane && not (list_any (λ b. not (is_on (slice_index run.alive.now (run.from + i + b * run.stride)) lane)) run.states.now)))
 
+-- the new word at place i is the old one without those lanes of `full` that are set in all rows of the word: those with the numbers of `rows`, each plus i
+abbrev pub LosesAlive : Outcomes → List ℕ → ℕ → ℕ → ℕ → ℕ → Type 0
+LosesAlive rows words full i old new = (good : ℕ)
+    × ((lane : ℕ) → is_on good lane ≡ (is_on full lane && not (list_any (λ e. list_any (λ b. not (is_on (slice_index words (rows.base + i + e * rows.env_stride + b * rows.stride)) lane)) rows.states.now) rows.envs.now)))
+    × ((lane : ℕ) → is_on new lane ≡ (is_on old lane && not (is_on good lane)))
+
 -- a component of this size and stride, within a band, is in state b and can go to these states
 pub record CanGo (size stride b : ℕ) (states : List ℕ) : Type 0 where
   pub step : size * stride ≤ 64
   pub stride_some : 0 < stride
   pub state : b < size
   pub states_below : All (λ c. c < size) states
-
--- in the meant rows of the band that begins at row x, exactly the set lanes whose pairs pass the test stay set; no lane is newly set, and other rows stay
-pub record KeepsWhere (s : Sys) (x : ℕ) (meant : ℕ → Type 0) (test : ℕ → Bool) (old new : List ℕ) : Type 0 where
-  pub each : (i lane : ℕ) → i < band_in s → lane < lanes_in s → meant i → is_on (slice_index new i) lane ≡ (is_on (slice_index old i) lane && test ((x + i) * lanes_in s + lane))
-  pub others : (i : ℕ) → (meant i → ⊥) → slice_index new i ≡ slice_index old i
-  pub none : (i lane : ℕ) → is_on (slice_index old i) lane ≡ false → is_on (slice_index new i) lane ≡ false
 
 -- in the band that the row begins, exactly the pairs at which seat k serves the action are cleared;
 -- `alive` has the alive lanes of each row's turn

@@ -1,5 +1,5 @@
 //! The pairs of a band of rows that no service serves.
-ghost use Rattle.std.specs.Prelude.{◌≡◌, ℕ, ◌+◌, ◌*◌, ◌<◌, ◌≤◌, Bool, not, count_by, sum_by, length, slice_index};
+ghost use Rattle.std.specs.Prelude.{◌≡◌, ℕ, ◌+◌, ◌*◌, ◌<◌, ◌≤◌, Bool, not, count_by, sum_by, drop, length, IfSome};
 ghost use Rattle.roman_model.specs.Lists.{all_below, below};
 ghost use Rattle.roman_model.specs.Arena.{is_beaten, is_justified, mask as mask_of};
 ghost use Rattle.roman_model.specs.Numbers.{sizes_of, count, numbered};
@@ -13,22 +13,19 @@ use crate::joint::Joint;
 use crate::moving::clear_moving;
 use crate::outcomes::Outcomes;
 use crate::row::Row;
-use crate::runs::{Run, all_alive_each, clear, clear_state, is_clear, rows_alive_each, set_first};
+use crate::runs::{
+    BAND, Run, clear, clear_alive, clear_state, is_clear, rows_alive_each, set_first,
+};
 use crate::states::next_states;
 use crate::turn::{Turn, target_move_of};
 use crate::words::less;
 
-/// The greatest number of rows in a band.
-const BAND: usize = 64;
-
 /// Clears, in `left`, the pairs of a band at which the seat `k` serves the action. The seat stands
-/// before the band's own. `all` is scratch space, and its contents don't matter.
-fn clear_before(joint: &Joint, turn: &Turn<'_>, k: u8, all: &mut [u64], left: &mut [u64])
+/// before the band's own.
+fn clear_before(joint: &Joint, turn: &Turn<'_>, k: u8, left: &mut [u64])
     requires turn { (y : ℕ) × IsTurn (system_of joint.now) (y * band_in (system_of joint.now)) turn.now }
     requires seat { k < mid_in (system_of joint.now) }
-    requires all { band_in (system_of joint.now) ≤ length all.old }
     requires long { length left.old ≡ band_in (system_of joint.now) }
-    ensures all { length all.new ≡ length all.old }
     ensures long { length left.new ≡ length left.old }
     ensures left { let s = system_of joint.now in
         (y : ℕ) (gone : ℕ → Bool) → IsRow s (y * band_in s) turn.now.row.now → HasAlive s gone turn.now.words.now →
@@ -48,11 +45,7 @@ fn clear_before(joint: &Joint, turn: &Turn<'_>, k: u8, all: &mut [u64], left: &m
         states,
         stride,
     };
-    let many = left.len();
-    let all = &mut all[..many];
-    set_first(all, many, rows.full);
-    all_alive_each(all, turn.words, &to);
-    roman_lanes::less(left, all);
+    clear_alive(left, turn.words, &to, rows.full);
 }
 
 /// Writes, for each row of a band, the alive lanes of its turn: those at which it leads to no pair
@@ -70,6 +63,22 @@ fn alive_each(joint: &Joint, turn: &Turn<'_>, alive: &mut [u64])
     set_first(alive, many, rows.full);
     let to = &turn.to;
     rows_alive_each(alive, turn.words, to.base, to.envs, rows.env_rows);
+}
+
+/// Returns the only row to which the turn leads from the first row of a band. Its word and those of the
+/// next rows hold the alive lanes of each row's turn. Returns `None` where it leads to several rows.
+fn only_row(joint: &Joint, turn: &Turn<'_>) -> Option<usize>
+    requires turn { (y : ℕ) × IsTurn (system_of joint.now) (y * band_in (system_of joint.now)) turn.now }
+    ensures within { IfSome result (λ from. from + band_in (system_of joint.now) ≤ length turn.now.words.now) }
+    ensures alive { (gone : ℕ → Bool) → HasAlive (system_of joint.now) gone turn.now.words.now →
+        IfSome result (λ from. AllAlive (system_of joint.now) gone turn.now.to (drop from turn.now.words.now)) }
+{
+    let rows = joint.layout();
+    let to = &turn.to;
+    if to.envs.len() != 1 {
+        return None;
+    }
+    Some((to.base + u32::from(to.envs[0]) * rows.env_rows) as usize)
 }
 
 /// Clears, in `left`, the pairs of a band at which the seat `k` serves the action. The seat is one of
@@ -150,32 +159,6 @@ fn clear_behind(joint: &Joint, row: &Row, alive: &[u64], a: u8, k: u8, left: &mu
     }
 }
 
-/// Clears, in `left`, the pairs of a band at which some seat serves the action.
-fn clear_served(joint: &Joint, turn: &Turn<'_>, left: &mut [u64])
-    requires turn { (y : ℕ) × IsTurn (system_of joint.now) (y * band_in (system_of joint.now)) turn.now }
-    requires long { length left.old ≡ band_in (system_of joint.now) }
-    ensures long { length left.new ≡ length left.old }
-    ensures left { let s = system_of joint.now in
-        (y : ℕ) (gone : ℕ → Bool) → IsRow s (y * band_in s) turn.now.row.now → HasAlive s gone turn.now.words.now →
-        Keeps (lanes_in s) (y * band_in s) (band_in s) (λ p. all_below (is_beaten (numbered s) gone p turn.now.action) (length s.seats)) left.old left.new }
-{
-    let rows = joint.layout();
-    let mut alive = [0; BAND];
-    for k in 0..rows.mid {
-        if is_clear(left) {
-            return;
-        }
-        clear_before(joint, turn, k, &mut alive, left);
-    }
-    alive_each(joint, turn, &mut alive);
-    for seat in rows.mid..joint.seats() {
-        if is_clear(left) {
-            return;
-        }
-        clear_behind(joint, turn.row, &alive, turn.action, seat, left);
-    }
-}
-
 /// Clears, in `left`, the pairs of a band at which the seat `k` serves the action. `alive` holds the
 /// alive lanes of each row's turn.
 fn clear_seat(joint: &Joint, turn: &Turn<'_>, alive: &[u64], k: u8, left: &mut [u64])
@@ -190,11 +173,48 @@ fn clear_seat(joint: &Joint, turn: &Turn<'_>, alive: &[u64], k: u8, left: &mut [
         Keeps (lanes_in s) (y * band_in s) (band_in s) (λ p. is_beaten (numbered s) gone p turn.now.action k) left.old left.new }
 {
     if k < joint.layout().mid {
-        let mut all = [0; BAND];
-        clear_before(joint, turn, k, &mut all, left);
+        clear_before(joint, turn, k, left);
     } else {
         clear_behind(joint, turn.row, alive, turn.action, k, left);
     }
+}
+
+/// Clears, in `left`, the pairs of a band at which some seat serves the action. `alive` holds the alive
+/// lanes of each row's turn.
+fn clear_seats(joint: &Joint, turn: &Turn<'_>, alive: &[u64], left: &mut [u64])
+    requires turn { (y : ℕ) × IsTurn (system_of joint.now) (y * band_in (system_of joint.now)) turn.now }
+    requires alive { band_in (system_of joint.now) ≤ length alive.now }
+    requires long { length left.old ≡ band_in (system_of joint.now) }
+    ensures long { length left.new ≡ length left.old }
+    ensures left { let s = system_of joint.now in
+        (y : ℕ) (gone : ℕ → Bool) → IsRow s (y * band_in s) turn.now.row.now → HasAlive s gone turn.now.words.now →
+        AllAlive s gone turn.now.to alive.now →
+        Keeps (lanes_in s) (y * band_in s) (band_in s) (λ p. all_below (is_beaten (numbered s) gone p turn.now.action) (length s.seats)) left.old left.new }
+{
+    for k in 0..joint.seats() {
+        if is_clear(left) {
+            return;
+        }
+        clear_seat(joint, turn, alive, k, left);
+    }
+}
+
+/// Clears, in `left`, the pairs of a band at which some seat serves the action.
+fn clear_served(joint: &Joint, turn: &Turn<'_>, left: &mut [u64])
+    requires turn { (y : ℕ) × IsTurn (system_of joint.now) (y * band_in (system_of joint.now)) turn.now }
+    requires long { length left.old ≡ band_in (system_of joint.now) }
+    ensures long { length left.new ≡ length left.old }
+    ensures left { let s = system_of joint.now in
+        (y : ℕ) (gone : ℕ → Bool) → IsRow s (y * band_in s) turn.now.row.now → HasAlive s gone turn.now.words.now →
+        Keeps (lanes_in s) (y * band_in s) (band_in s) (λ p. all_below (is_beaten (numbered s) gone p turn.now.action) (length s.seats)) left.old left.new }
+{
+    if let Some(from) = only_row(joint, turn) {
+        clear_seats(joint, turn, &turn.words[from..], left);
+        return;
+    }
+    let mut alive = [0; BAND];
+    alive_each(joint, turn, &mut alive);
+    clear_seats(joint, turn, &alive, left);
 }
 
 /// Returns the number of pairs of a band at which the seat `k` serves the action. `alive` holds the

@@ -3,11 +3,14 @@ ghost use Rattle.std.specs.Prelude.{◌≡◌, ◌≢◌, ◌↔◌, IsTrue, ℕ
 ghost use Rattle.std.specs.List.{list_any};
 ghost use Rattle.roman_lanes.specs.Rows.{is_on};
 ghost use Rattle.roman_joint.specs.Outcomes.{outcome_number};
-ghost use Rattle.roman_joint.specs.Bands.{SuitsRun, LosesRun, CanGo};
+ghost use Rattle.roman_joint.specs.Bands.{SuitsRun, LosesRun, LosesAlive, CanGo};
 
 use crate::outcomes::Outcomes;
-use roman_lanes::{Change, ChangeOf, both, change_each, first_set, load, without};
+use roman_lanes::{Change, ChangeOf, both, change_each, first_set, less, load, without};
 use std::simd::prelude::*;
+
+/// The greatest number of rows in a band.
+pub(crate) const BAND: usize = 64;
 
 /// Returns whether all words are 0.
 pub(crate) fn is_clear(words: &[u64]) -> bool
@@ -77,6 +80,44 @@ pub(crate) fn all_alive_each(all: &mut [u64], words: &[u64], rows: &Outcomes<'_>
         let from = rows.base + u32::from(*env) * rows.env_stride;
         rows_alive_each(all, words, from, rows.states, rows.stride);
     }
+}
+
+/// Clears, in each word of `left`, the lanes of `full` that are set in all rows of the word: the rows
+/// of word i are the numbers of `rows`, each plus i.
+fn clear_by_all(left: &mut [u64], words: &[u64], rows: &Outcomes<'_>, full: u64)
+    requires few { length left.old ≤ 64 }
+    requires envs { All (λ e. rows.now.base + e * rows.now.env_stride < 2 ^ 32) rows.now.envs.now }
+    requires fits { All (λ e. All (λ b. outcome_number rows.now e b < 2 ^ 32) rows.now.states.now) rows.now.envs.now }
+    requires within { All (λ e. All (λ b. outcome_number rows.now e b + length left.old ≤ length words.now) rows.now.states.now) rows.now.envs.now }
+    ensures long { length left.new ≡ length left.old }
+    ensures each { (i : ℕ) → i < length left.old → LosesAlive rows.now words.now full i (slice_index left.old i) (slice_index left.new i) }
+{
+    let mut room = [0; BAND];
+    let many = left.len();
+    let all = &mut room[..many];
+    set_first(all, many, full);
+    all_alive_each(all, words, rows);
+    less(left, all);
+}
+
+/// Clears, in each word of `left`, the lanes of `full` that are set in all rows of the word: the rows
+/// of word i are the numbers of `rows`, each plus i. No word has lanes past `full`. There are at most
+/// 64 words in `left`.
+pub(crate) fn clear_alive(left: &mut [u64], words: &[u64], rows: &Outcomes<'_>, full: u64)
+    requires few { length left.old ≤ 64 }
+    requires envs { All (λ e. rows.now.base + e * rows.now.env_stride < 2 ^ 32) rows.now.envs.now }
+    requires fits { All (λ e. All (λ b. outcome_number rows.now e b < 2 ^ 32) rows.now.states.now) rows.now.envs.now }
+    requires within { All (λ e. All (λ b. outcome_number rows.now e b + length left.old ≤ length words.now) rows.now.states.now) rows.now.envs.now }
+    ensures long { length left.new ≡ length left.old }
+    ensures each { ((x lane : ℕ) → x < length words.now → is_on full lane ≡ false → is_on (slice_index words.now x) lane ≡ false) →
+        (i : ℕ) → i < length left.old → LosesAlive rows.now words.now full i (slice_index left.old i) (slice_index left.new i) }
+{
+    if rows.envs.len() != 1 || rows.states.len() != 1 {
+        clear_by_all(left, words, rows, full);
+        return;
+    }
+    let from = rows.number(rows.envs[0], rows.states[0]) as usize;
+    less(left, &words[from..]);
 }
 
 /// Clears, in the word at place i, the lanes of `full` that are set in all words

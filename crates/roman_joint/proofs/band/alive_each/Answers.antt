@@ -1,8 +1,8 @@
 use Rattle.roman_joint.proofs.Common.{ℕ, ◌+◌, ◌-◌, ◌*◌, ◌<◌, ◌∙◌, not, ◌&&◌, ap, drop, get_or, length, slice_index, arith, get_or_append_left, list_any, is_on, system_of, band_in, turn_at, length-take}
 use Rattle.roman_joint.proofs.Finds.{in_at}
 use Rattle.roman_joint.proofs.SplitLemmas.{joint_sizes}
-use Rattle.roman_joint.proofs.GoodLemmas.{known, RowsThere, rows_there, alive_there}
-use Rattle.roman_joint.proofs.BandLemmas.{row_in, first_in, known_at, turned}
+use Rattle.roman_joint.proofs.GoodLemmas.{known, RowsThere}
+use Rattle.roman_joint.proofs.BandLemmas.{first_in, there_at, alive_at}
 use Rattle.roman_joint.proofs.band.alive_each.Goals as goal
 use Rattle.roman_joint.proofs.band.alive_each.Goals.{After-layout-rows}
 
@@ -10,13 +10,9 @@ there : (c : After-layout-rows) (i : ℕ) → i < band_in (system_of c.args.join
 there c i l =
     let (y, is) = c.requires.turn in
     let row = c.args.turn.now.row.now in
-    let a = c.args.turn.now.action in
     let n = c.args.joint.now in
     let s = system_of n in
-    let r = c.layout-rows.result.now in
-    let h = known n (y * band_in s) row c.layout-rows.ensures.known is.row in
-    rows_there s r (y * band_in s + i) a (length c.args.turn.now.words.now) (row_in s (y * band_in s + i) row) (turn_at c.args.turn.now.to i) (known_at s r y a row c.args.turn.now.to h c.layout-rows.ensures.rows is.to i l)
-    c.layout-rows.ensures.rows (turned s r y a row c.args.turn.now.to h c.layout-rows.ensures.rows is.to i l) is.room
+    there_at s c.layout-rows.result.now y c.args.turn.now.action row c.args.turn.now.to (known n (y * band_in s) row c.layout-rows.ensures.known is.row) c.layout-rows.ensures.rows is.to i (length c.args.turn.now.words.now) l is.room
 
 some_row : (c : After-layout-rows) → 0 < band_in (system_of c.args.joint.now)
 some_row c = first_in (system_of c.args.joint.now) (joint_sizes c.args.joint.now c.layout-rows.ensures.known)
@@ -48,8 +44,7 @@ returns-clause-alive c gone rows =
       each = λ i l.
           let many : i < r.band = omega (arith, l, c.layout-rows.ensures.rows.band) in
           let within : i < length c.set_first.new.to = omega (arith, many, c.set_first.ensures.long, length-take r.band c.args.alive.now, c.layout-rows.ensures.rows.band, c.requires.long) in
-          alive_there s r (y * band_in s + i) a _ (row_in s (y * band_in s + i) row) (turn_at turn i) c.args.turn.now.words.now gone (known_at s r y a row turn h c.layout-rows.ensures.rows is.to i l)
-          c.layout-rows.ensures.rows (turned s r y a row turn h c.layout-rows.ensures.rows is.to i l) is.room rows
+          alive_at s r y a row turn h c.layout-rows.ensures.rows is.to i _ c.args.turn.now.words.now gone l is.room rows
           (λ lane. ap (λ z. is_on z lane) (get_or_append_left c.rows_alive_each.new.all (drop r.band c.args.alive.now) 0 i (omega (arith, within, c.rows_alive_each.ensures.long)))
           ∙ c.rows_alive_each.ensures.each i lane within
           ∙ ap (λ z. is_on z lane && not (list_any (λ e. not (is_on (slice_index c.args.turn.now.words.now (turn.base + i + e * r.env_rows)) lane)) turn.envs.now)) (c.set_first.ensures.each i many));

@@ -1,9 +1,9 @@
-use Rattle.roman_joint.proofs.Common.{ℕ, ◌+◌, ◌-◌, ◌*◌, ◌<◌, not, ◌&&◌, get_or, length, slice_index, IsFalse, refl, sym, ap, ◌∙◌, arith, list_any, is_on, is_beaten, numbered, is_empty, not_empty_in, empty_is, system_of, band_in, length-take}
+use Rattle.roman_joint.proofs.Common.{ℕ, ◌+◌, ◌-◌, ◌*◌, ◌<◌, get_or, length, slice_index, IsFalse, refl, sym, ◌∙◌, arith, is_beaten, sizes_of, numbered, row_sizes, lanes_few, is_empty, not_empty_in, empty_is, system_of, band_in}
 use Rattle.roman_joint.proofs.Finds.{in_at}
 use Rattle.roman_joint.proofs.SeatLemmas.{len_empty}
 use Rattle.roman_joint.proofs.SplitLemmas.{joint_sizes}
 use Rattle.roman_joint.proofs.GoodLemmas.{low_few, known}
-use Rattle.roman_joint.proofs.BandLemmas.{mid_low, first_in, BandBefore, before_at, serves_band, beaten_band, keeps_clear, keeps_all}
+use Rattle.roman_joint.proofs.BandLemmas.{mid_low, first_in, BandBefore, before_at, serves_band, beaten_band, keeps_clear, keeps_all, dark_past}
 use Rattle.roman_joint.proofs.band.clear_before.Goals as goal
 use Rattle.roman_joint.proofs.band.clear_before.Goals.{After-from}
 
@@ -38,28 +38,31 @@ overflow_mul-to c = let at = (goal.at.overflow_mul-to c).After-from in let to = 
 pub overflow_sub-to : goal.overflow_sub-to
 overflow_sub-to c = let at = (goal.at.overflow_sub-to c).After-from in (rows_to at 0 (some_row at)).taken
 
-pub all_alive_each-requires-clause-envs : goal.all_alive_each-requires-clause-envs
-all_alive_each-requires-clause-envs c i d l =
-    let at = (goal.at.all_alive_each-requires-clause-envs c).After-from in
+pub clear_alive-requires-clause-envs : goal.clear_alive-requires-clause-envs
+clear_alive-requires-clause-envs c i d l =
+    let at = (goal.at.clear_alive-requires-clause-envs c).After-from in
     let to = rows_to at 0 (some_row at) in
     let states = c.next_states-states.result.now in
     let (b, j) = not_empty_in states (sym (len_empty states) ∙ (sym c.is_empty.ensures ∙ c.if-is_empty.false)) in
     omega (arith, to.there (get_or c.args.turn.now.to.envs.now i d) b (in_at c.args.turn.now.to.envs.now i d l) j, to.few)
 
-pub all_alive_each-requires-clause-within : goal.all_alive_each-requires-clause-within
-all_alive_each-requires-clause-within c i d l j e m =
-    let at = (goal.at.all_alive_each-requires-clause-within c).After-from in
+pub clear_alive-requires-clause-within : goal.clear_alive-requires-clause-within
+clear_alive-requires-clause-within c i d l j e m =
+    let at = (goal.at.clear_alive-requires-clause-within c).After-from in
     let states = c.next_states-states.result.now in
     let some = some_row at in
     let last = band_in (system_of c.args.joint.now) - 1 in
-    omega (arith, c.requires.long, c.requires.all, c.set_first.ensures.long, length-take (length c.args.left.now) c.args.all.now, some, (rows_to at last (omega (arith, some))).there (get_or c.args.turn.now.to.envs.now i d) (get_or states j e) (in_at c.args.turn.now.to.envs.now i d l) (in_at states j e m))
+    omega (arith, c.requires.long, some, (rows_to at last (omega (arith, some))).there (get_or c.args.turn.now.to.envs.now i d) (get_or states j e) (in_at c.args.turn.now.to.envs.now i d l) (in_at states j e m))
 
-pub all_alive_each-requires-clause-fits : goal.all_alive_each-requires-clause-fits
-all_alive_each-requires-clause-fits c i d l j e m =
-    let at = (goal.at.all_alive_each-requires-clause-fits c).After-from in
+pub clear_alive-requires-clause-fits : goal.clear_alive-requires-clause-fits
+clear_alive-requires-clause-fits c i d l j e m =
+    let at = (goal.at.clear_alive-requires-clause-fits c).After-from in
     let states = c.next_states-states.result.now in
     let to = rows_to at 0 (some_row at) in
     omega (arith, to.there (get_or c.args.turn.now.to.envs.now i d) (get_or states j e) (in_at c.args.turn.now.to.envs.now i d l) (in_at states j e m), to.few)
+
+pub clear_alive-requires-clause-few : goal.clear_alive-requires-clause-few
+clear_alive-requires-clause-few c = omega (arith, c.requires.long, lanes_few (row_sizes (sizes_of (system_of c.args.joint.now))).seats)
 
 pub returns-then-is_empty-clause-left : goal.returns-then-is_empty-clause-left
 returns-then-is_empty-clause-left c y gone ok rows =
@@ -80,15 +83,11 @@ returns-clause-left c y gone ok rows =
     let states = c.next_states-states.result.now in
     let h = known n (y * band_in s) c.args.turn.now.row.now c.layout-rows.ensures.known ok in
     let some : IsFalse (is_empty states) = sym (len_empty states) ∙ (sym c.is_empty.ensures ∙ c.if-is_empty.false) in
-    keeps_clear s (y * band_in s) (band_in s) (λ p. is_beaten (numbered s) gone p c.args.turn.now.action c.args.k) c.args.left.now c.less.new.words c.requires.long c.less.ensures.long
+    keeps_clear s (y * band_in s) (band_in s) (λ p. is_beaten (numbered s) gone p c.args.turn.now.action c.args.k) c.args.left.now c.clear_alive.new.left c.requires.long c.clear_alive.ensures.long
     (λ i l.
-    let many : i < length c.args.left.now = omega (arith, l, c.requires.long) in
-    let within : i < length c.set_first.new.to = omega (arith, many, c.set_first.ensures.long, length-take (length c.args.left.now) c.args.all.now, c.requires.long, c.requires.all) in (
-      slice_index c.all_alive_each.new.all i,
-      serves_band s r y c.args.turn.now.action c.args.turn.now.row.now c.args.turn.now.to h c.layout-rows.ensures.rows c.requires.turn.1.to i c.args.k c.from.result (c.args.turn.now.to.base - c.from.result * u + i) (slice_index c.all_alive_each.new.all i)
-          states c.args.turn.now.words.now gone l c.requires.seat c.requires.turn.1.room c.next_states-states.ensures.next c.from.ensures some rows refl (λ lane.
-          c.all_alive_each.ensures.each i lane within
-          ∙ ap (λ z. is_on z lane && not (list_any (λ e. list_any (λ b. not (is_on (slice_index c.args.turn.now.words.now (c.args.turn.now.to.base - c.from.result * u + i + e * r.env_rows + b * u)) lane)) states) c.args.turn.now.to.envs.now))
-          (c.set_first.ensures.each i many)),
-      λ lane. c.less.ensures.each i lane many,
+    let (good, told, lost) = c.clear_alive.ensures.each (dark_past s r c.args.turn.now.words.now gone c.layout-rows.ensures.rows rows) i (omega (arith, l, c.requires.long)) in (
+      good,
+      serves_band s r y c.args.turn.now.action c.args.turn.now.row.now c.args.turn.now.to h c.layout-rows.ensures.rows c.requires.turn.1.to i c.args.k c.from.result (c.args.turn.now.to.base - c.from.result * u + i) good
+          states c.args.turn.now.words.now gone l c.requires.seat c.requires.turn.1.room c.next_states-states.ensures.next c.from.ensures some rows refl told,
+      lost,
     ))

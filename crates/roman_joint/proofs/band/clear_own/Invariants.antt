@@ -1,4 +1,5 @@
-use Rattle.roman_joint.proofs.Common.{◌≡◌, ℕ, ◌*◌, ◌<◌, Bool, length, is_beaten, sizes_of, numbered, row_sizes, system_of, lane_state_of, IsRow, IsTargetMove, band_in, AllAlive, KeepsWhere, TargetMove}
+use Rattle.roman_joint.proofs.Common.{◌≡◌, ℕ, ◌*◌, ◌<◌, Bool, length, is_beaten, sizes_of, numbered, row_sizes, system_of, lane_state_of, IsRow, IsTargetMove, band_in, AllAlive, TargetMove}
+use Rattle.roman_joint.proofs.BandLemmas.{KeepsWhere}
 use Rattle.roman_joint.proofs.band.clear_own.Given as goal
 
 -- the pairs of the rows of the states so far are cleared
