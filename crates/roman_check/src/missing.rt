@@ -48,7 +48,8 @@ fn missing_in<J: Rules>(joint: &J, words: &[u64], x: u32) -> u64
 
 /// Returns false only where no pair of the band `y` is missing. `words` has the bits of the pairs that
 /// aren't listed. `left` is working space for the rows of one band.
-fn misses_some<J: Rules>(joint: &J, words: &[u64], y: u32, left: &mut [u64]) -> bool
+fn misses_some<J: Rules>(joint: &J, words: &[u64], y: u32, resting: u64, left: &mut [u64]) -> bool
+    requires resting { J.is_resting joint.now resting }
     requires band { y * J.band joint.now + J.band joint.now ≤ length words.now }
     requires room { length words.now * J.lanes joint.now ≡ length (J.arena joint.now).nodes }
     requires left { length left.old ≡ J.band joint.now }
@@ -64,7 +65,7 @@ fn misses_some<J: Rules>(joint: &J, words: &[u64], y: u32, left: &mut [u64]) -> 
         return false;
     }
     let row = joint.first_row(y);
-    joint.unfine_band(&row, left);
+    joint.unfine_band(&row, resting, left);
     if !are_clear(left) {
         return true;
     }
@@ -91,8 +92,9 @@ fn rows_before<J: Rules>(joint: &J, words: &[u64]) -> u32
     let band = joint.band();
     let mut room = [0; BAND];
     let left = &mut room[..band as usize];
+    let resting = joint.resting();
     for y in 0..joint.bands() {
-        if misses_some(joint, words, y, left) {
+        if misses_some(joint, words, y, resting, left) {
             return y * band;
         }
     }

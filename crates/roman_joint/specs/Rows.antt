@@ -1,7 +1,7 @@
 -- Rows of a system's pairs.
-use Rattle.std.specs.Prelude.{◌≡◌, ℕ, ◌+◌, ◌*◌, ◌/◌, ◌%◌, ◌<◌, ◌≤◌, ◌==◌, ◌&&◌, ◌||◌, ltb, Bool, true, not, List, Option, None, Some, [], ◌∷◌, length, slice_index, IsFalse}
+use Rattle.std.specs.Prelude.{◌≡◌, ℕ, ◌+◌, ◌*◌, ◌/◌, ◌%◌, ◌<◌, ◌≤◌, ◌==◌, ◌&&◌, ◌||◌, ltb, Bool, true, not, List, Option, None, Some, [], ◌∷◌, length, slice_get, slice_index, IsFalse}
 use Rattle.std.specs.List.{list_any}
-use Rattle.roman_model.specs.Lists.{is_empty}
+use Rattle.roman_model.specs.Lists.{is_empty, all_below}
 use Rattle.roman_model.specs.System.{Sys, Seat, is_final}
 use Rattle.roman_model.specs.SystemArena.{env_next, beh_next}
 use Rattle.roman_model.specs.Numbers.{Sizes, sizes_of, count, pair_at}
@@ -82,6 +82,11 @@ HasAlive s gone words = AreRows (lanes_in s) (λ q. not (gone q)) words
 abbrev pub may_rest : Option Seat → ℕ → Bool
 may_rest None b = true
 may_rest (Some seat) b = not seat.rests || is_final seat.beh b
+
+-- among the lanes, the word has those at which all seats within the lanes may rest
+abbrev pub HasResting : Sys → ℕ → Type 0
+HasResting s word = (lane : ℕ) → lane < lanes_in s → is_on word lane
+    ≡ all_below (λ k. ltb k (low_in s) || may_rest (slice_get s.seats k) (lane_state_of (sizes_of s) k lane)) (length s.seats)
 
 -- the turn is that of an action of the system at row x, and has a word for each row
 pub record IsTurn (s : Sys) (x : ℕ) (turn : Turn) : Type 0 where

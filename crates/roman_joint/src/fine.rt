@@ -4,7 +4,7 @@ ghost use Rattle.roman_model.specs.Lists.{all_below};
 ghost use Rattle.roman_model.specs.Numbers.{sizes_of, pair_at, numbered};
 ghost use Rattle.roman_lanes.specs.Rows.{is_on, HasLanes, Keeps};
 ghost use Rattle.roman_joint.specs.NamedSys.{system_of};
-ghost use Rattle.roman_joint.specs.Rows.{lanes_in, low_in, lane_state_of, IsRow, may_rest as may_rest_in};
+ghost use Rattle.roman_joint.specs.Rows.{lanes_in, low_in, lane_state_of, HasResting, IsRow, may_rest as may_rest_in};
 ghost use Rattle.roman_joint.specs.Bands.{mid_in, band_in};
 ghost use Rattle.roman_joint.specs.Own.{is_own};
 ghost use Rattle.roman_joint.specs.declared.row.Row.{Row};
@@ -50,37 +50,21 @@ fn rests_on(joint: &Joint, row: &Row, k: u8) -> u64
     rests_within(joint, k)
 }
 
-/// Returns the lanes of a band's rows at which a seat may rest, or all lanes for one of the band's own.
-/// They are the same in all rows of the band.
-fn rests_unless_own(joint: &Joint, row: &Row, k: u8) -> u64
+/// Returns the lanes of a band's rows at which all seats but the band's own may rest. `resting` has the
+/// lanes at which all seats within the lanes may rest.
+fn others_rest(joint: &Joint, row: &Row, resting: u64) -> u64
     requires row { (y : ℕ) × IsRow (system_of joint.now) (y * band_in (system_of joint.now)) row.now }
-    requires seat { k < length joint.now.seats }
-    ensures { let s = system_of joint.now in
-        (y i lane : ℕ) → IsRow s (y * band_in s) row.now → i < band_in s → lane < lanes_in s → is_on result lane
-        ≡ (is_own s k || may_rest_in (slice_get s.seats k) (slice_index (pair_at (sizes_of s) ((y * band_in s + i) * lanes_in s + lane)).bs k)) }
-{
-    let rows = joint.layout();
-    if k < rows.mid || rows.low <= k {
-        return rests_on(joint, row, k);
-    }
-    rows.full
-}
-
-/// Returns the lanes of a band's rows at which all seats but the band's own may rest.
-fn others_rest(joint: &Joint, row: &Row) -> u64
-    requires row { (y : ℕ) × IsRow (system_of joint.now) (y * band_in (system_of joint.now)) row.now }
+    requires resting { HasResting (system_of joint.now) resting }
     ensures { let s = system_of joint.now in
         (y i lane : ℕ) → IsRow s (y * band_in s) row.now → i < band_in s → lane < lanes_in s → is_on result lane
         ≡ all_below (λ k. is_own s k || may_rest_in (slice_get s.seats k) (slice_index (pair_at (sizes_of s) ((y * band_in s + i) * lanes_in s + lane)).bs k)) (length s.seats) }
 {
-    let mut rests = joint.layout().full;
-    for k in 0..joint.seats() {
-        if rests == 0 {
+    for k in 0..joint.layout().mid {
+        if !may_rest(joint, k, row.states[k as usize]) {
             return 0;
         }
-        rests &= rests_unless_own(joint, row, k);
     }
-    rests
+    resting
 }
 
 /// Returns the lanes of row `i` of a band, counted from its first row, at which a seat of the band's
@@ -145,10 +129,24 @@ impl Joint {
         }
         less(full, rests)
     }
+    /// Returns the lanes at which all seats within the lanes may rest. They are the same in all rows.
+    pub fn resting(&self) -> u64
+        ensures { HasResting (system_of self.now) result }
+    {
+        let rows = self.layout();
+        let mut rests = rows.full;
+        for k in rows.low..self.seats() {
+            rests &= rests_within(self, k);
+        }
+        rests
+    }
+
     /// Clears, in `left`, the pairs of a band that meet clause 2 of an ND-simulation. `row` is the
-    /// first row of the band. `left` has one word for each row of the band.
-    pub fn unfine_band(&self, row: &Row, left: &mut [u64])
+    /// first row of the band. `resting` is what `resting` returns. `left` has one word for each row of
+    /// the band.
+    pub fn unfine_band(&self, row: &Row, resting: u64, left: &mut [u64])
         requires row { (y : ℕ) × IsRow (system_of self.now) (y * band_in (system_of self.now)) row.now }
+        requires resting { HasResting (system_of self.now) resting }
         requires long { length left.old ≡ band_in (system_of self.now) }
         ensures long { length left.new ≡ length left.old }
         ensures unfine { let s = system_of self.now in
@@ -160,7 +158,7 @@ impl Joint {
             clear(left);
             return;
         }
-        let others = others_rest(self, row);
+        let others = others_rest(self, row, resting);
         if others == 0 {
             return;
         }

@@ -10,7 +10,7 @@ use std::sync::ledger::Ledger;
 impl Rules for Joint {
     ghost use Rattle.roman_model.specs.Numbers.{sizes_of, numbered};
     ghost use Rattle.roman_joint.specs.NamedSys.{system_of};
-    ghost use Rattle.roman_joint.specs.Rows.{lanes_in, IsRow};
+    ghost use Rattle.roman_joint.specs.Rows.{lanes_in, HasResting, IsRow};
     ghost use Rattle.roman_joint.specs.Bands.{mid_in, band_in};
 
     ghost arena = { λ joint. numbered (system_of joint) };
@@ -24,6 +24,8 @@ impl Rules for Joint {
     ghost mid = { λ joint. mid_in (system_of joint) };
 
     ghost is_row = { λ joint x row. IsRow (system_of joint) x row };
+
+    ghost is_resting = { λ joint resting. HasResting (system_of joint) resting };
 
     ghost sizes = { λ joint. sizes_of (system_of joint) };
 
@@ -79,8 +81,12 @@ impl Rules for Joint {
         Joint::unfine(self, row)
     }
 
-    fn unfine_band(&self, row: &Row, left: &mut [u64]) {
-        Joint::unfine_band(self, row, left);
+    fn resting(&self) -> u64 {
+        Joint::resting(self)
+    }
+
+    fn unfine_band(&self, row: &Row, resting: u64, left: &mut [u64]) {
+        Joint::unfine_band(self, row, resting, left);
     }
 
     fn mask(&self, row: &Row, words: &[u64], a: u8, lane: u32) -> SeatSet {

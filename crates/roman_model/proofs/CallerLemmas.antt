@@ -2,7 +2,7 @@
 
 -- Lemmas on lists and their elements, on numbers below a bound, and on tests.
 pub use Rattle.roman_model.proofs.Lists.{HasNoRepeats-below, HasNoRepeats-filter, HasNoRepeats-flat_map, HasNoRepeats-map, HasNoRepeats-push, all_below_at}
-pub use Rattle.roman_model.proofs.Lists.{all_below_from, any_false, any_from, any_same, any_true, any_within, by_test, contains_in, empty_is, filter_below_more}
+pub use Rattle.roman_model.proofs.Lists.{all_below_from, all_below_same, any_false, any_from, any_same, any_true, any_within, by_test, contains_in, empty_is, filter_below_more}
 pub use Rattle.roman_model.proofs.Lists.{filter_in, filter_same, filter_sublist, find_first, find_found, find_least, find_not_found, find_some, from_append}
 pub use Rattle.roman_model.proofs.Lists.{from_below, from_flat_map, from_map, from_push, get_or-below, in_append_left, in_append_right, in_below, in_contains}
 pub use Rattle.roman_model.proofs.Lists.{in_filter, in_flat_map, in_map, in_not_empty, in_push, length-below, list_any-flat_map, list_any-map, ne_not_empty}

@@ -80,7 +80,7 @@ fn ask_band<J: Rules, L: Ledger>(
     held.fill(u64::MAX >> (64 - joint.lanes()));
     let row = joint.first_row(y);
     match reason {
-        Reason::Final => joint.unfine_band(&row, held),
+        Reason::Final => joint.unfine_band(&row, joint.resting(), held),
         Reason::Act(a) => {
             tick_seats(joint, steps);
             joint.unserved_band(&row, words, a, held);

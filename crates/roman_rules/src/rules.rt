@@ -48,6 +48,9 @@ pub trait Rules {
     /// The looked-up facts are those of the row with the given number.
     ghost is_row: { Self → ℕ → Self.Row → Type 0 };
 
+    /// The word has the lanes at which all seats within the lanes may rest.
+    ghost is_resting: { Self → ℕ → Type 0 };
+
     /// The sizes by which the pairs are numbered.
     ghost sizes: { Self → Sizes };
 
@@ -121,10 +124,16 @@ pub trait Rules {
         ensures { (x : ℕ) → is_row self.now x row.now →
             HasLanes (lanes self.now) x (λ p. not ((arena self.now).fine p)) result };
 
-    /// Clears, in `left`, the pairs of a band that meet clause 2 of an ND-simulation. `left` has one
-    /// word for each row of the band.
-    fn unfine_band(&self, row: &Self::Row, left: &mut [u64])
+    /// Returns the lanes at which all seats within the lanes may rest. They are the same in all rows,
+    /// until the system changes.
+    fn resting(&self) -> u64
+        ensures { is_resting self.now result };
+
+    /// Clears, in `left`, the pairs of a band that meet clause 2 of an ND-simulation. `resting` is what
+    /// [`resting`](Rules::resting) returns. `left` has one word for each row of the band.
+    fn unfine_band(&self, row: &Self::Row, resting: u64, left: &mut [u64])
         requires row { (y : ℕ) × is_row self.now (y * band self.now) row.now }
+        requires resting { is_resting self.now resting }
         requires long { length left.old ≡ band self.now }
         ensures long { length left.new ≡ length left.old }
         ensures unfine { (y : ℕ) → is_row self.now (y * band self.now) row.now →

@@ -26,15 +26,17 @@ pub(crate) fn list_unfine<J: Rules>(joint: &J, order: &mut Order)
     joint.known();
     let mut words = [0; BAND];
     let left = &mut words[..joint.band() as usize];
+    let resting = joint.resting();
     for y in 0..joint.bands() {
-        list_unfine_band(joint, order, y, left);
+        list_unfine_band(joint, order, y, resting, left);
     }
 }
 
 /// Lists the pairs of the band `y` that aren't listed and don't meet clause 2.
-fn list_unfine_band<J: Rules>(joint: &J, order: &mut Order, y: u32, left: &mut [u64])
+fn list_unfine_band<J: Rules>(joint: &J, order: &mut Order, y: u32, resting: u64, left: &mut [u64])
     requires shaped { IsShaped (J.arena joint.now) (J.lanes joint.now) order.old }
     requires band { y * J.band joint.now + J.band joint.now ≤ order.old.rows }
+    requires resting { J.is_resting joint.now resting }
     requires left { length left.old ≡ J.band joint.now }
     requires valid { IsOrder (J.arena joint.now) order.old.list }
     ensures goes_on { SettlesOn (J.arena joint.now) order.old order.new }
@@ -55,6 +57,6 @@ fn list_unfine_band<J: Rules>(joint: &J, order: &mut Order, y: u32, left: &mut [
         return;
     }
     let row = joint.first_row(y);
-    joint.unfine_band(&row, left);
+    joint.unfine_band(&row, resting, left);
     order.push_rows(x, left, Reason::Final);
 }

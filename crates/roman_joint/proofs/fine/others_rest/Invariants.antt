@@ -1,9 +1,6 @@
-use Rattle.roman_joint.proofs.Common.{◌≡◌, ℕ, ◌+◌, ◌*◌, ◌<◌, ◌||◌, slice_get, slice_index, all_below, sizes_of, pair_at, is_on, system_of, lanes_in, IsRow, may_rest, band_in, is_own}
+use Rattle.roman_joint.proofs.Common.{◌≡◌, ℕ, ◌<◌, true, slice_get, slice_index, system_of, may_rest}
 use Rattle.roman_joint.proofs.fine.others_rest.Given as goal
 
--- the lanes at which the seats so far may rest, unless they are the band's own
+-- the seats so far may rest
 abbrev pub invariant-loop-k : goal.invariant-loop-k
-invariant-loop-k l =
-    let s = system_of l.joint in
-    (y i lane : ℕ) → IsRow s (y * band_in s) l.row → i < band_in s → lane < lanes_in s →
-    is_on l.rests lane ≡ all_below (λ k. is_own s k || may_rest (slice_get s.seats k) (slice_index (pair_at (sizes_of s) ((y * band_in s + i) * lanes_in s + lane)).bs k)) l.k
+invariant-loop-k l = (j : ℕ) → j < l.k → may_rest (slice_get (system_of l.joint).seats j) (slice_index l.row.states j) ≡ true
