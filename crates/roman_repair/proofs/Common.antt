@@ -1,17 +1,16 @@
 -- The names that several proof pages of this crate cite, passed on from one place. Declares nothing.
-pub use Rattle.std.proofs.Common.{Bool, IsFalse, IsTrue, List, None, Option, Some, [], ap, append-nil, append_assoc, ap₂, arith, bit_and, bit_or, cond, count_by, drop, eqb, false, filter, flat_map, if◌then◌else◌, inl, inr, length, length-append, map, not, refl, remove, rules, slice_get, slice_index, subst, suc, sym, true, zero, ℕ, ◌%◌, ◌&&◌, ◌*◌, ◌++◌, ◌+◌, ◌-◌, ◌/◌, ◌<◌, ◌==◌, ◌^◌, ◌||◌, ◌∙◌, ◌∷◌, ◌≡◌, ◌≢◌, ◌≤◌, ◌⊎◌}
+pub use Rattle.std.proofs.Common.{Bool, IsFalse, IsTrue, List, None, Option, Some, [], ap, append-nil, append_assoc, ap₂, arith, bit_and, bit_or, cond, count_by, drop, eqb, false, filter, flat_map, if◌then◌else◌, inl, inr, length, map, not, refl, remove, slice_get, slice_index, subst, suc, sym, true, zero, ℕ, ◌%◌, ◌&&◌, ◌*◌, ◌++◌, ◌+◌, ◌-◌, ◌/◌, ◌<◌, ◌==◌, ◌^◌, ◌||◌, ◌∙◌, ◌∷◌, ◌≡◌, ◌≢◌, ◌≤◌, ◌⊎◌}
 pub use Rattle.std.proofs.Math.Nat.{mul-le-mul_left}
-pub use Rattle.std.proofs.lemmas.Bool.{and_from, and_parts, both_ways, cases_eq, cases_lt, eq-eqb, eqb-true, false_from_ne_true, false≢true, or_cases, or_left, or_right}
+pub use Rattle.std.proofs.lemmas.Bool.{and_from, and_parts, both_ways, cases_eq, cases_lt, eq-eqb, eqb-true, false_from_ne_true, or_cases, or_left, or_right}
 pub use Rattle.std.proofs.lemmas.List.{length-map, length_push, map-append}
 pub use Rattle.std.proofs.lemmas.List.Concat.{flat_map-append}
 pub use Rattle.std.proofs.lemmas.List.Folds.{list_any-append}
-pub use Rattle.std.proofs.lemmas.List.Sums.{sum_by-append, sum_by-cons}
+pub use Rattle.std.proofs.lemmas.List.Sums.{sum_by-cons}
 pub use Rattle.std.proofs.lemmas.Nat.{div-add-mod', mod_below, same_from_place}
 pub use Rattle.std.proofs.lemmas.Nat.Bits.{bit_at_cat_high}
 pub use Rattle.std.proofs.lemmas.Option.{none-some, same_Some}
 pub use Rattle.std.specs.Int.{bit_at, bit_not, leading_zeros, trailing_zeros, w64}
 pub use Rattle.std.specs.List.{list_any}
-pub use Rattle.roman_joint.proofs.CallerLemmas.{joint_numbered}
 pub use Rattle.roman_joint.specs.NamedSys.{IsNamedSys, NamedSys, seat_of, system_of}
 pub use Rattle.roman_joint.specs.Rows.{lanes_in}
 pub use Rattle.roman_lanes.proofs.CallerLemmas.{on_and, on_full, on_full_past, on_not, on_or, on_zero}

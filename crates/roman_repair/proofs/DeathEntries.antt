@@ -8,11 +8,11 @@ use Rattle.roman_radix.proofs.CallerLemmas.{AreSizes-index}
 use Rattle.roman_order.specs.Events.{IsEvent}
 use Rattle.roman_order.proofs.CallerLemmas.{lanes_once}
 use Rattle.roman_repair.specs.Deaths.{entries_left}
-use Rattle.roman_repair.proofs.Fronts.{false_else, none_so_far}
+use Rattle.roman_repair.proofs.Fronts.{none_so_far}
 use Rattle.roman_repair.proofs.DeathStates.{seat_in_sizes}
 use Rattle.roman_repair.proofs.DeathParts.{part_number, part_state, part_place, row_of_left, part_word, part_lanes, moved_lanes}
 use Rattle.roman_repair.proofs.Joined.{map_as}
-use Rattle.roman_repair.proofs.Fronts.{false_else, on_in, filter_split, only_so_far}
+use Rattle.roman_repair.proofs.Fronts.{on_in, filter_split, only_so_far}
 
 -- The first entry for each number.
 
@@ -155,7 +155,7 @@ left_row n shape k left lanes order l is pairs wide = row_of_left left lanes ord
 -- the appended entries lie in the row, and weren't listed before
 pub lost_within : (lanes x other alive lane : ℕ) (L : List (Entry ℕ)) → HasLanes lanes x (λ p. not (has_entry L p)) alive → is_on (bit_and other alive) lane ≡ true →
     (lane < lanes) × (has_entry L (x * lanes + lane) ≡ false)
-lost_within lanes x other alive lane L rows on = grind (arith, and_parts, both_ways, cases_lt, false_else, on_and)
+lost_within lanes x other alive lane L rows on = grind (arith, and_parts, both_ways, cases_lt, false_from_ne_true, on_and)
 
 -- The entries of a row, part by part.
 
@@ -181,7 +181,7 @@ unfolding set_lanes
 lanes_below word n few within =
     let whole : 64 ≡ n + (64 - n) = omega arith in
     sym (ap (λ m. filter (is_on word) (below m)) whole
-    ∙ only_so_far (is_on word) n (64 - n) (λ i l. false_else (is_on word (n + i)) (λ t. let past : n + i < n = within (n + i) t in omega (arith, past))))
+    ∙ only_so_far (is_on word) n (64 - n) (λ i l. false_from_ne_true (is_on word (n + i)) (λ t. let past : n + i < n = within (n + i) t in omega (arith, past))))
 
 pub row_whole : (n x word bound : ℕ) (reason : Reason) → bound ≤ 64 → ((lane : ℕ) → is_on word lane ≡ true → lane < bound) → entries_below n x word bound reason ≡ entries_in n x word reason
 row_whole n x word bound reason few within = ap (map (λ lane. as_entry (x * n + lane, reason))) (lanes_below word bound few within)
@@ -189,7 +189,7 @@ row_whole n x word bound reason few within = ap (map (λ lane. as_entry (x * n +
 -- no entry is below the first lane
 pub row_begin : (n x word bound : ℕ) (reason : Reason) → ((lane : ℕ) → is_on word lane ≡ true → bound ≤ lane) → entries_below n x word bound reason ≡ []
 row_begin n x word bound reason first =
-    ap (map (λ lane. as_entry (x * n + lane, reason))) (none_so_far (is_on word) bound (λ lane l. false_else (is_on word lane) (λ on. omega (arith, first lane on, l))))
+    ap (map (λ lane. as_entry (x * n + lane, reason))) (none_so_far (is_on word) bound (λ lane l. false_from_ne_true (is_on word lane) (λ on. omega (arith, first lane on, l))))
 
 -- The pairs of a pending event are in range.
 

@@ -1,18 +1,13 @@
 -- The service that dies, and the states that it may leave behind.
-use Rattle.roman_repair.proofs.Common.{◌≡◌, ℕ, ◌<◌, Bool, not, ◌||◌, List, [], ◌∷◌, length, IsTrue, IsFalse, slice_get, slice_index, suc, zero, refl, sym, ap, ◌∙◌, arith, Some, length-map, Seat, is_final, Die, CanChange, sizes_of, NamedSys, IsNamedSys, system_of, seat_of, same_Some}
-use Rattle.roman_model.proofs.CallerLemmas.{size_at}
+use Rattle.roman_repair.proofs.Common.{◌≡◌, ℕ, ◌<◌, Bool, not, ◌||◌, [], ◌∷◌, length, IsTrue, IsFalse, slice_get, slice_index, sym, ap, ◌∙◌, arith, Some, length-map, Seat, is_final, Die, CanChange, sizes_of, NamedSys, IsNamedSys, system_of, seat_of, same_Some}
+use Rattle.roman_model.proofs.CallerLemmas.{size_at, there_is}
 use Rattle.roman_parts.specs.Named.{NamedBeh}
 use Rattle.roman_joint.specs.Behaviours.{IsSeatBehaviour}
 use Rattle.roman_joint.specs.declared.seat.Seat as joint
 use Rattle.roman_joint.proofs.CallerLemmas.{Behaves, behaves, seat_read}
 
-stands : {X : Type 0} (xs : List X) (k : ℕ) → k < length xs → (x : X) × (slice_get xs k ≡ Some x)
-stands [] k l = absurd (omega arith)
-stands (x ∷ xs) zero l = (x, refl)
-stands (x ∷ xs) (suc k) l = stands xs k (omega arith)
-
 pub seat_there : (n : NamedSys) (k : ℕ) → k < length n.seats → (seat : Seat) × CanChange (Die k seat) (system_of n)
-seat_there n k l = stands (system_of n).seats k (omega (arith, length-map n.seats (seat_of n.catalogue)))
+seat_there n k l = there_is (system_of n).seats k (omega (arith, length-map n.seats (seat_of n.catalogue)))
 
 pub seat_in_sizes : (n : NamedSys) (k : ℕ) → k < length n.seats → k < length (sizes_of (system_of n)).seats
 seat_in_sizes n k l = omega (arith, length-map (system_of n).seats (λ seat. seat.beh.states), length-map n.seats (seat_of n.catalogue))

@@ -1,15 +1,19 @@
 -- The front of a word's lanes, and the front of a replay.
-use Rattle.roman_repair.proofs.Common.{◌≡◌, ◌≢◌, ℕ, zero, suc, ◌+◌, ◌-◌, ◌*◌, ◌/◌, ◌%◌, ◌^◌, ◌<◌, ◌≤◌, Bool, true, false, not, ◌&&◌, ◌⊎◌, List, [], ◌∷◌, ◌++◌, map, length, filter, cond, IsTrue, IsFalse, inl, inr, refl, sym, ap, ap₂, ◌∙◌, subst, arith, append-nil, append_assoc, bit_and, eqb, length-append, bit_at, leading_zeros, trailing_zeros, w64, bit_not, cases_lt, both_ways, and_parts, or_left, cases_eq, eq-eqb, map-append, sum_by-cons, sum_by-append, bit_at_cat_high, mul-le-mul_left, IsIn, below, Arena, Entry, is_listed, is_justified, Reason, filter_below_more, from_map, in_map, in_below, justified_more, listed_append, is_on, on_and, on_full, on_full_past, on_not, IsNumbered, IsReasonOf, readings_of_reason, Board, as_entry, set_lanes, entries_in, has_entry, set_lanes-zero, in_lanes, IsShaped, is_possible, AreCandidates, with_replay, readings_of_entries}
+use Rattle.roman_repair.proofs.Common.{◌≡◌, slice_index, ◌≢◌, ℕ, Option, Event, zero, suc, ◌+◌, ◌-◌, ◌*◌, ◌/◌, ◌%◌, ◌^◌, ◌<◌, ◌≤◌, Bool, true, false, not, ◌&&◌, ◌⊎◌, List, [], ◌∷◌, ◌++◌, map, length, filter, cond, IsTrue, IsFalse, inl, inr, refl, sym, ap, ap₂, ◌∙◌, subst, arith, append-nil, append_assoc, bit_and, eqb, bit_at, leading_zeros, trailing_zeros, w64, bit_not, cases_lt, both_ways, or_left, cases_eq, eq-eqb, map-append, bit_at_cat_high, mul-le-mul_left, IsIn, below, Arena, Entry, is_listed, is_justified, Reason, filter_below_more, in_map, in_below, justified_more, listed_append, is_on, on_and, on_full, on_full_past, on_not, IsNumbered, IsReasonOf, Board, as_entry, set_lanes, entries_in, set_lanes-zero, IsShaped, AreCandidates, with_replay}
 use Rattle.roman_lanes.proofs.CallerLemmas.{on_less}
 use Rattle.std.proofs.Math.Nat.{pow-suc, pow-le-pow_right}
 use Rattle.std.proofs.Math.Pow.{pow-lt}
+use Rattle.std.proofs.Math.Bool.{and-true}
+use Rattle.std.proofs.lemmas.Bool.{and_right}
 use Rattle.std.proofs.lemmas.Nat.{and_le_l, and_le_r, leading_top}
 use Rattle.std.proofs.lemmas.Nat.Bits.{bit_at_above, bit_at-trailing_zeros}
 use Rattle.roman_model.proofs.CallerLemmas.{in_filter}
 use Rattle.roman_lanes.proofs.CallerLemmas.{on_ones, on_ones_above}
-use Rattle.roman_repair.proofs.Keeping.{with_replay_step, with_replay_append, candidates_replayed, possible_reason, IsReplaying, replaying_still, replaying_part}
+use Rattle.roman_repair.specs.Judging.{CanJudge}
+use Rattle.roman_repair.specs.declared.asked_band.AskedBand.{AskedBand}
+use Rattle.roman_repair.proofs.Keeping.{with_replay_step, possible_reason}
 
--- ---- the lanes of a word, split in two
+-- ---- the lanes of a word
 
 -- the first lane of a word
 pub record IsFirst (word lane : ℕ) : Type 0 where
@@ -61,17 +65,10 @@ word_fits (suc word) n few within =
     let two : 0 < 2 = omega arith in
     omega (arith, high, pow-le-pow_right two end)
 
-pub false_else : (b : Bool) → (b ≡ true → ⊥) → b ≡ false
-false_else true never = absurd (never refl)
-false_else false never = refl
-
 pub both_fit : (word end : ℕ) → word < 2 ^ 64 → bit_and word end < 2 ^ 64
 both_fit word end fits = omega (arith, and_le_l word end)
 
--- the lanes of a word below a bound are those of `front`, and its other lanes are those of `rest`
-pub record IsCut (word front rest cut : ℕ) : Type 0 where
-  pub low : (lane : ℕ) → lane < 64 → lane < cut → (is_on front lane ≡ is_on word lane) × (is_on rest lane ≡ false)
-  pub high : (lane : ℕ) → lane < 64 → cut ≤ lane → (is_on front lane ≡ false) × (is_on rest lane ≡ is_on word lane)
+-- ---- the numbers that pass
 
 -- the list is empty where no lane passes so far
 pub none_so_far : (p : ℕ → Bool) (m : ℕ) → ((lane : ℕ) → lane < m → p lane ≡ false) → filter p (below m) ≡ []
@@ -81,79 +78,6 @@ none_so_far p (suc m) off = rw (filter_below_more p m, none_so_far p m (λ lane 
 pub same_so_far : (p q : ℕ → Bool) (m : ℕ) → ((lane : ℕ) → lane < m → p lane ≡ q lane) → filter p (below m) ≡ filter q (below m)
 same_so_far p q zero same = refl
 same_so_far p q (suc m) same = rw (filter_below_more p m, filter_below_more q m, same_so_far p q m (λ lane l. same lane (omega arith)), same m (omega arith)) refl
-
-cut_so_far : (word front rest cut m : ℕ) → IsCut word front rest cut → m ≤ 64 →
-    filter (is_on word) (below m) ≡ filter (is_on front) (below m) ++ filter (is_on rest) (below m)
-cut_so_far word front rest cut zero is l = refl
-cut_so_far word front rest cut (suc m) is l =
-    elim (cases_lt m cut) [
-      | inl low ↦
-          let same : filter (is_on front) (below (suc m)) ≡ filter (is_on word) (below (suc m)) = same_so_far (is_on front) (is_on word) (suc m) (λ lane h. (is.low lane (omega arith) (omega arith)).0) in
-          let none : filter (is_on rest) (below (suc m)) ≡ [] = none_so_far (is_on rest) (suc m) (λ lane h. (is.low lane (omega arith) (omega arith)).1) in
-          sym (append-nil (filter (is_on word) (below (suc m)))) ∙ ap (λ L. filter (is_on word) (below (suc m)) ++ L) (sym none) ∙ ap (λ L. L ++ filter (is_on rest) (below (suc m))) (sym same)
-      | inr high ↦
-          let (off, on) = is.high m (omega arith) (omega arith) in
-          let last : List ℕ = cond (is_on word m) (m ∷ []) [] in
-          let front_same : filter (is_on front) (below (suc m)) ≡ filter (is_on front) (below m) =
-          filter_below_more (is_on front) m ∙ ap (λ b. filter (is_on front) (below m) ++ cond b (m ∷ []) []) off ∙ append-nil (filter (is_on front) (below m)) in
-          let rest_more : filter (is_on rest) (below (suc m)) ≡ filter (is_on rest) (below m) ++ last =
-          filter_below_more (is_on rest) m ∙ ap (λ b. filter (is_on rest) (below m) ++ cond b (m ∷ []) []) on in
-          filter_below_more (is_on word) m ∙ ap (λ L. L ++ last) (cut_so_far word front rest cut m is (omega arith))
-          ∙ append_assoc (filter (is_on front) (below m)) (filter (is_on rest) (below m)) last ∙ ap (λ L. filter (is_on front) (below m) ++ L) (sym rest_more)
-          ∙ ap (λ L. L ++ filter (is_on rest) (below (suc m))) (sym front_same)
-    ]
-
-pub cut_lanes : (word front rest cut : ℕ) → IsCut word front rest cut → set_lanes word ≡ set_lanes front ++ set_lanes rest
-unfolding set_lanes
-cut_lanes word front rest cut is = cut_so_far word front rest cut 64 is (omega arith)
-
--- the front of a word, as the code computes it
-abbrev pub front_of : ℕ → ℕ → ℕ
-front_of word cut = bit_and word (1 * 2 ^ cut % 2 ^ 64 - 1)
-
-pub front_on : (word cut lane : ℕ) → cut < 64 → lane < cut → is_on (front_of word cut) lane ≡ is_on word lane
-front_on word cut lane few l =
-    let one : 1 * 2 ^ cut % 2 ^ 64 ≡ 2 ^ cut = (let fits : 2 ^ cut < 2 ^ 64 = pow-lt few in omega arith) in
-    ap (λ m. is_on (bit_and word (m - 1)) lane) one ∙ on_and word (2 ^ cut - 1) lane ∙ ap (λ b. is_on word lane && b) (on_ones cut lane l) ∙ and_true (is_on word lane)
-  where
-    and_true : (b : Bool) → (b && true) ≡ b
-    and_true true = refl
-    and_true false = refl
-
-pub front_off : (word cut lane : ℕ) → cut < 64 → cut ≤ lane → is_on (front_of word cut) lane ≡ false
-front_off word cut lane few l =
-    let one : 1 * 2 ^ cut % 2 ^ 64 ≡ 2 ^ cut = (let fits : 2 ^ cut < 2 ^ 64 = pow-lt few in omega arith) in
-    ap (λ m. is_on (bit_and word (m - 1)) lane) one ∙ on_and word (2 ^ cut - 1) lane ∙ ap (λ b. is_on word lane && b) (on_ones_above cut lane l) ∙ and_false (is_on word lane)
-  where
-    and_false : (b : Bool) → (b && false) ≡ false
-    and_false true = refl
-    and_false false = refl
-
-pub is_cut : (word cut : ℕ) → cut < 64 → front_of word cut < 2 ^ 64 → IsCut word (front_of word cut) (bit_and word (bit_not w64 (front_of word cut))) cut
-is_cut word cut few fits = grind (arith, front_off, front_on, on_less)
-
--- a lane that is on is one of a word's lanes
-pub on_in : (word lane : ℕ) → lane < 64 → is_on word lane ≡ true → IsIn lane (set_lanes word)
-unfolding set_lanes
-on_in word lane l on = in_filter (is_on word) lane (below 64) (in_below 64 lane l) on
-
-pub in_some : {X : Type 0} (x : X) (xs : List X) → IsIn x xs → 0 < length xs
-in_some x [] i = absurd i
-in_some x (y ∷ xs) i = omega arith
-
-pub front_some : (word end cut lane : ℕ) → cut < 64 → is_on (bit_and word end) cut ≡ true → lane < 64 → is_on word lane ≡ true → ((bit : ℕ) → bit < lane → is_on word bit ≡ false) → is_on end lane ≡ false →
-    0 < length (set_lanes (front_of word cut))
-front_some word end cut lane few both l on before off =
-    let (here, there) = and_parts (is_on word cut) (is_on end cut) (sym (on_and word end cut) ∙ both) in
-    elim (cases_lt lane cut) [
-      | inl less ↦ in_some lane (set_lanes (front_of word cut)) (on_in (front_of word cut) lane l (front_on word cut lane few less ∙ on))
-      | inr past ↦ elim (cases_eq cut lane) [
-        | inl e ↦ absurd (both_ways (is_on end cut) (ap (is_on end) e ∙ off) there)
-        | inr ne ↦ absurd (both_ways (is_on word cut) (before cut (omega arith)) here)
-      ]
-    ]
-
--- ---- neighbouring lanes
 
 -- the numbers below b that pass, and those from b on
 pub filter_split : (q : ℕ → Bool) (b m : ℕ) → filter q (below (b + m)) ≡ filter q (below b) ++ map (λ i. b + i) (filter (λ i. q (b + i)) (below m))
@@ -188,6 +112,72 @@ first_so_far p s (suc m) l on off = elim (cases_eq s (suc m)) [
   | inr ne ↦ filter_below_more p m ∙ ap₂ (λ L x. L ++ cond x (m ∷ []) []) (first_so_far p s m (omega arith) on (λ i h k. off i h (omega arith))) (off m (omega arith) (omega arith)) ∙ append-nil (below s)
 ]
 
+-- ---- a word that is split in two
+
+-- the lanes of a word below a bound are those of `front`, and its other lanes are those of `rest`
+pub record IsCut (word front rest cut : ℕ) : Type 0 where
+  pub low : (lane : ℕ) → lane < 64 → lane < cut → (is_on front lane ≡ is_on word lane) × (is_on rest lane ≡ false)
+  pub high : (lane : ℕ) → lane < 64 → cut ≤ lane → (is_on front lane ≡ false) × (is_on rest lane ≡ is_on word lane)
+
+-- the list splits into the lanes below the cut and those from there on
+pub cut_lanes : (word front rest cut : ℕ) → cut ≤ 64 → IsCut word front rest cut → set_lanes word ≡ set_lanes front ++ set_lanes rest
+unfolding set_lanes
+cut_lanes word front rest cut few is =
+    let whole : 64 ≡ cut + (64 - cut) = omega (arith, few) in
+    let parts = λ (q : ℕ → Bool). ap (λ n. filter q (below n)) whole in
+    parts (is_on word) ∙ filter_split (is_on word) cut (64 - cut)
+    ∙ sym (ap₂ (λ L M. L ++ M)
+    (parts (is_on front) ∙ only_so_far (is_on front) cut (64 - cut) (λ i l. (is.high (cut + i) (omega arith) (omega arith)).0) ∙ same_so_far (is_on front) (is_on word) cut (λ i l. (is.low i (omega arith) l).0))
+    (parts (is_on rest) ∙ moved_so_far (λ i. is_on word (cut + i)) (is_on rest) cut (64 - cut) (λ i l. (is.low i (omega arith) l).1) (λ i l. (is.high (cut + i) (omega arith) (omega arith)).1)))
+
+-- where 0 passes it comes first
+first_of : (q : ℕ → Bool) (m : ℕ) → q 0 ≡ true → (ls : List ℕ) × (filter q (below (suc m)) ≡ 0 ∷ ls)
+first_of q zero on = ([], ap (λ b. cond b (0 ∷ []) []) on)
+first_of q (suc m) on =
+    let (ls, is) = first_of q m on in
+    (ls ++ cond (q (suc m)) (suc m ∷ []) [], filter_below_more q (suc m) ∙ ap (λ L. L ++ cond (q (suc m)) (suc m ∷ []) []) is)
+
+-- the rest begins at the cut, where the word has that lane
+pub rest_first : (word front rest cut lane : ℕ) (more : List ℕ) → cut < 64 → IsCut word front rest cut → is_on word cut ≡ true → set_lanes rest ≡ lane ∷ more → lane ≡ cut
+unfolding set_lanes
+rest_first word front rest cut lane more few is on first =
+    let whole : 64 ≡ cut + suc (63 - cut) = omega (arith, few) in
+    let place : cut + 0 ≡ cut = omega arith in
+    let (ls, begin) = first_of (λ i. is_on word (cut + i)) (63 - cut) (ap (is_on word) place ∙ on) in
+    let those = ap (λ n. filter (is_on rest) (below n)) whole
+    ∙ moved_so_far (λ i. is_on word (cut + i)) (is_on rest) cut (suc (63 - cut)) (λ i l. (is.low i (omega arith) l).1) (λ i l. (is.high (cut + i) (omega arith) (omega arith)).1)
+    ∙ ap (map (λ i. cut + i)) begin in
+    let same : lane ∷ more ≡ (cut + 0) ∷ map (λ i. cut + i) ls = sym first ∙ those in
+    ap (λ ls. slice_index ls 0) same ∙ place
+
+-- the front of a word, as the code computes it
+abbrev pub front_of : ℕ → ℕ → ℕ
+front_of word cut = bit_and word (1 * 2 ^ cut % 2 ^ 64 - 1)
+
+bit_is : (n : ℕ) → n < 64 → 1 * 2 ^ n % 2 ^ 64 ≡ 2 ^ n
+bit_is n few = let fits : 2 ^ n < 2 ^ 64 = pow-lt few in omega arith
+
+pub front_on : (word cut lane : ℕ) → cut < 64 → lane < cut → is_on (front_of word cut) lane ≡ is_on word lane
+front_on word cut lane few l =
+    ap (λ m. is_on (bit_and word (m - 1)) lane) (bit_is cut few) ∙ on_and word (2 ^ cut - 1) lane ∙ ap (λ b. is_on word lane && b) (on_ones cut lane l) ∙ and-true (is_on word lane)
+
+pub front_off : (word cut lane : ℕ) → cut < 64 → cut ≤ lane → is_on (front_of word cut) lane ≡ false
+front_off word cut lane few l =
+    ap (λ m. is_on (bit_and word (m - 1)) lane) (bit_is cut few) ∙ on_and word (2 ^ cut - 1) lane ∙ and_right (is_on word lane) (is_on (2 ^ cut - 1) lane) (on_ones_above cut lane l)
+
+pub front_fits : (word cut : ℕ) → front_of word cut < 2 ^ 64
+front_fits word cut = omega (arith, and_le_r word (1 * 2 ^ cut % 2 ^ 64 - 1))
+
+pub is_cut : (word cut : ℕ) → cut < 64 → front_of word cut < 2 ^ 64 → IsCut word (front_of word cut) (bit_and word (bit_not w64 (front_of word cut))) cut
+is_cut word cut few fits = grind (arith, front_off, front_on, on_less)
+
+-- a lane that is on is one of a word's lanes
+pub on_in : (word lane : ℕ) → lane < 64 → is_on word lane ≡ true → IsIn lane (set_lanes word)
+unfolding set_lanes
+on_in word lane l on = in_filter (is_on word) lane (below 64) (in_below 64 lane l) on
+
+-- ---- neighbouring lanes
+
 pub lanes_from_to : (word begin end : ℕ) → begin < end → end ≤ 64 → ((i : ℕ) → i < begin → is_on word i ≡ false) → ((i : ℕ) → begin ≤ i → i < end → is_on word i ≡ true) → ((i : ℕ) → end ≤ i → is_on word i ≡ false) →
     set_lanes word ≡ map (λ i. begin + i) (below (end - begin))
 unfolding set_lanes
@@ -207,21 +197,17 @@ pub record IsBetween (word begin end : ℕ) : Type 0 where
 
 pub is_between : (begin end : ℕ) → begin < end → end ≤ 64 → IsBetween (between begin end) begin end
 is_between begin end some few =
-    let one : 1 * 2 ^ begin % 2 ^ 64 ≡ 2 ^ begin = (let less : begin < 64 = omega arith in let fits : 2 ^ begin < 2 ^ 64 = pow-lt less in omega arith) in
     let full : ℕ = (2 ^ 64 - 1) / 2 ^ (64 - end) in
-    let fits : 2 ^ begin - 1 < 2 ^ 64 = (let less : begin < 64 = omega arith in let small : 2 ^ begin < 2 ^ 64 = pow-lt less in omega arith) in
-    let same = λ (i : ℕ). ap (λ m. is_on (bit_and full (bit_not w64 (m - 1))) i) one in
+    let less : begin < 64 = omega arith in
+    let fits : 2 ^ begin - 1 < 2 ^ 64 = (let small : 2 ^ begin < 2 ^ 64 = pow-lt less in omega arith) in
+    let same = λ (i : ℕ). ap (λ m. is_on (bit_and full (bit_not w64 (m - 1))) i) (bit_is begin less) in
     record {
-      low = λ i l. same i ∙ on_less full (2 ^ begin - 1) i fits (omega arith) ∙ ap (λ b. is_on full i && not b) (on_ones begin i l) ∙ and_false (is_on full i);
+      low = λ i l. same i ∙ on_less full (2 ^ begin - 1) i fits (omega arith) ∙ and_right (is_on full i) (not (is_on (2 ^ begin - 1) i)) (ap not (on_ones begin i l));
       mid = λ i l h. same i ∙ on_less full (2 ^ begin - 1) i fits (omega arith) ∙ ap₂ (λ a b. a && not b) (on_full end i few h) (on_ones_above begin i l);
       high = λ i l. same i ∙ on_and full (bit_not w64 (2 ^ begin - 1)) i ∙ ap (λ b. b && is_on (bit_not w64 (2 ^ begin - 1)) i) (on_full_past end i few l);
     }
-  where
-    and_false : (b : Bool) → (b && false) ≡ false
-    and_false true = refl
-    and_false false = refl
 
--- ---- the front of a replay
+-- ---- a replay that keeps all or none
 
 -- the replay keeps all candidates where all are justified
 pub with_replay_all : (A : Arena ℕ) (kept L : List (Entry ℕ)) → ((x : Entry ℕ) → IsIn x L → IsTrue (is_justified A (is_listed A kept) x.node x.reason)) → with_replay A kept L ≡ kept ++ L
@@ -241,100 +227,11 @@ with_replay_none A kept (x ∷ L) none =
     ∙ ap (λ b. with_replay A (cond b (kept ++ x ∷ []) kept) L) (none x (inl refl))
     ∙ with_replay_none A kept L (λ y i. none y (inr i))
 
--- the rest of a replay after its front
-pub record IsAfter (A : Arena ℕ) (kept new all left : List (Entry ℕ)) : Type 0 where
-  pub list : with_replay A new left ≡ with_replay A kept all
-  pub candidates : AreCandidates A new left
-
-pub after_part : (A : Arena ℕ) (kept new all front left : List (Entry ℕ)) → AreCandidates A kept all → all ≡ front ++ left → with_replay A kept front ≡ new → IsAfter A kept new all left
-after_part A kept new all front left are parts is = record {
-  list = ap (λ K. with_replay A K left) (sym is) ∙ sym (with_replay_append A kept front left) ∙ ap (with_replay A kept) (sym parts);
-  candidates = subst (λ K. AreCandidates A K left) is (candidates_replayed A kept front left (subst (AreCandidates A kept) parts are));
-}
-
-after_two : (A : Arena ℕ) (one two three L M N : List (Entry ℕ)) → IsAfter A one two L M → IsAfter A two three M N → IsAfter A one three L N
-after_two A one two three L M N a b = record { list = b.list ∙ a.list; candidates = b.candidates }
-
-pub entries_cut : (n x word front rest : ℕ) (reason : Reason) → set_lanes word ≡ set_lanes front ++ set_lanes rest → entries_in n x word reason ≡ entries_in n x front reason ++ entries_in n x rest reason
-entries_cut n x word front rest reason parts =
-    ap (map (λ lane. as_entry (x * n + lane, reason))) parts ∙ map-append (λ lane. as_entry (x * n + lane, reason)) (set_lanes front) (set_lanes rest)
-
--- a property of the pairs of some lanes is one of their entries
-pub entries_by : (n x word : ℕ) (reason : Reason) (P : Entry ℕ → Type 0) → ((lane : ℕ) → lane < 64 → is_on word lane ≡ true → P (as_entry (x * n + lane, reason))) →
-    (y : Entry ℕ) → IsIn y (entries_in n x word reason) → P y
-entries_by n x word reason P each y i = grind (arith, from_map, in_lanes)
-
--- a front of lanes that are known to be justified is listed
-pub front_kept : (A : Arena ℕ) (kept : List (Entry ℕ)) (n x word front rest : ℕ) (reason : Reason) → AreCandidates A kept (entries_in n x word reason) → set_lanes word ≡ set_lanes front ++ set_lanes rest →
-    ((lane : ℕ) → lane < 64 → is_on front lane ≡ true → IsTrue (is_justified A (is_listed A kept) (x * n + lane) reason)) →
-    IsAfter A kept (kept ++ entries_in n x front reason) (entries_in n x word reason) (entries_in n x rest reason)
-front_kept A kept n x word front rest reason are parts holds =
-    after_part A kept (kept ++ entries_in n x front reason) (entries_in n x word reason) (entries_in n x front reason) (entries_in n x rest reason) are (entries_cut n x word front rest reason parts)
-    (with_replay_all A kept (entries_in n x front reason) (entries_by n x front reason (λ y. IsTrue (is_justified A (is_listed A kept) y.node y.reason)) holds))
-
--- lanes before the first justified one are dropped, and the front from there on is listed
-pub front_dropped : (A : Arena ℕ) (kept : List (Entry ℕ)) (n x word off from front rest : ℕ) (reason : Reason) → AreCandidates A kept (entries_in n x word reason) →
-    set_lanes word ≡ set_lanes off ++ set_lanes from → set_lanes from ≡ set_lanes front ++ set_lanes rest →
-    ((lane : ℕ) → lane < 64 → is_on off lane ≡ true → IsFalse (is_justified A (is_listed A kept) (x * n + lane) reason)) →
-    ((lane : ℕ) → lane < 64 → is_on front lane ≡ true → IsTrue (is_justified A (is_listed A kept) (x * n + lane) reason)) →
-    IsAfter A kept (kept ++ entries_in n x front reason) (entries_in n x word reason) (entries_in n x rest reason)
-front_dropped A kept n x word off from front rest reason are parts more fails holds =
-    let dropped : IsAfter A kept kept (entries_in n x word reason) (entries_in n x from reason) =
-    after_part A kept kept (entries_in n x word reason) (entries_in n x off reason) (entries_in n x from reason) are (entries_cut n x word off from reason parts)
-    (with_replay_none A kept (entries_in n x off reason) (entries_by n x off reason (λ y. IsFalse (is_justified A (is_listed A kept) y.node y.reason)) fails)) in
-    after_two A kept kept (kept ++ entries_in n x front reason) (entries_in n x word reason) (entries_in n x from reason) (entries_in n x rest reason) dropped
-    (front_kept A kept n x from front rest reason dropped.candidates more holds)
-
--- ---- readings
-
--- one of several entries has at most the readings of all
-pub one_asks : (A : Arena ℕ) (L : List (Entry ℕ)) (y : Entry ℕ) → IsIn y L → readings_of_reason A y.node y.reason ≤ readings_of_entries A L
-one_asks A [] y i = absurd i
-one_asks A (x ∷ L) y i =
-    let more : readings_of_entries A (x ∷ L) ≡ readings_of_reason A x.node x.reason + readings_of_entries A L = sum_by-cons (λ (z : Entry ℕ). readings_of_reason A z.node z.reason) x L in
-    elim i [
-      | inl e ↦ omega (arith, more, ap (λ (z : Entry ℕ). readings_of_reason A z.node z.reason) e)
-      | inr j ↦ omega (arith, more, one_asks A L y j)
-    ]
-
-pub entries_more : (A : Arena ℕ) (n x word front rest : ℕ) (reason : Reason) → set_lanes word ≡ set_lanes front ++ set_lanes rest →
-    readings_of_entries A (entries_in n x word reason) ≡ readings_of_entries A (entries_in n x front reason) + readings_of_entries A (entries_in n x rest reason)
-entries_more A n x word front rest reason parts =
-    ap (readings_of_entries A) (entries_cut n x word front rest reason parts) ∙ sum_by-append (λ (y : Entry ℕ). readings_of_reason A y.node y.reason) (entries_in n x front reason) (entries_in n x rest reason)
-
--- ---- one question to a row
-
--- the removed lanes pay for one question
-pub one_less : (A : Arena ℕ) (n x word off from front rest reading : ℕ) (reason : Reason) → set_lanes word ≡ set_lanes off ++ set_lanes from → set_lanes from ≡ set_lanes front ++ set_lanes rest →
-    (0 < length (set_lanes off)) ⊎ (0 < length (set_lanes front)) → ((lane : ℕ) → lane < 64 → is_on word lane ≡ true → reading ≤ readings_of_reason A (x * n + lane) reason) →
-    ((lane : ℕ) → is_on off lane ≡ true → is_on word lane ≡ true) → ((lane : ℕ) → is_on front lane ≡ true → is_on word lane ≡ true) →
-    reading + readings_of_entries A (entries_in n x rest reason) ≤ readings_of_entries A (entries_in n x word reason)
-one_less A n x word off from front rest reading reason parts more some each of_off of_front =
-    let all = entries_more A n x word off from reason parts in
-    let others = entries_more A n x from front rest reason more in
-    elim some [
-      | inl s ↦ omega (arith, all, others, paid off s of_off)
-      | inr s ↦ omega (arith, all, others, paid front s of_front)
-    ]
-  where
-    head : (xs : List ℕ) → 0 < length xs → (y : ℕ) × IsIn y xs
-    head [] l = absurd (omega arith)
-    head (y ∷ xs) l = (y, inl refl)
-
-    paid : (part : ℕ) → 0 < length (set_lanes part) → ((lane : ℕ) → is_on part lane ≡ true → is_on word lane ≡ true) → reading ≤ readings_of_entries A (entries_in n x part reason)
-    paid part s of =
-        let (lane, i) = head (set_lanes part) s in
-        let (l, on) = in_lanes part lane i in
-        omega (arith, each lane l (of lane on), one_asks A (entries_in n x part reason) (as_entry (x * n + lane, reason)) (in_map (λ lane. as_entry (x * n + lane, reason)) lane (set_lanes part) i))
-
--- ---- the row of some candidates
-
-pub front_fits : (word cut : ℕ) → front_of word cut < 2 ^ 64
-front_fits word cut = omega (arith, and_le_r word (1 * 2 ^ cut % 2 ^ 64 - 1))
-
 -- a lane that isn't on in a word's complement is on in the word
 pub on_not_off : (word lane : ℕ) → word < 2 ^ 64 → lane < 64 → is_on (bit_not w64 word) lane ≡ false → is_on word lane ≡ true
 on_not_off word lane fits l off = grind (arith, on_not)
+
+-- ---- the row of some candidates
 
 -- candidates for lanes of a row are in the system, and so is their reason
 pub record IsInRow (A : Arena ℕ) (rows n x : ℕ) (reason : Reason) : Type 0 where
@@ -355,6 +252,11 @@ in_row A ok board n x word reason shaped are some fits =
       action = possible_reason A ok (x * n + lane) reason (are.possible (as_entry (x * n + lane, reason)) i);
     }
 
+-- that of an event whose first entry can be judged
+pub judged_row : (A : Arena ℕ) (n : ℕ) (seat : Option ℕ) (order : Board) (asked : AskedBand) (e : Event) → IsNumbered A → n ≤ 64 → CanJudge A n seat order asked e → IsInRow A order.rows n e.row e.reason
+judged_row A n seat order asked e ok few can =
+    in_row A ok order n e.row e.lanes e.reason can.event.shaped can.event.ready.candidates can.some (word_fits e.lanes n few can.event.within)
+
 -- the number of the row is small
 row_few : (A : Arena ℕ) → IsNumbered A → (board : Board) (n x word : ℕ) (reason : Reason) → IsShaped A n board → AreCandidates A board.list (entries_in n x word reason) → word ≢ 0 → word < 2 ^ 64 → 0 < n → x < 2 ^ 32
 row_few A ok board n x word reason shaped are some fits wide =
@@ -373,53 +275,3 @@ wrapped_row A ok board n x many i word reason shaped are fits wide = elim (cases
   where
     none : word ≡ 0 → (y : ℕ) → entries_in n y word reason ≡ []
     none e y = ap (λ w. entries_in n y w reason) e ∙ ap (map (λ lane. as_entry (y * n + lane, reason))) set_lanes-zero
-
--- none of them is listed
-pub lane_alive : (A : Arena ℕ) (kept : List (Entry ℕ)) (n wide x word lane : ℕ) (reason : Reason) → AreCandidates A kept (entries_in n x word reason) → wide ≡ n → lane < 64 → is_on word lane ≡ true →
-    has_entry kept (x * wide + lane) ≡ false
-lane_alive A kept n wide x word lane reason are e l on =
-    ap (λ m. has_entry kept (x * m + lane)) e ∙ are.new (as_entry (x * n + lane, reason)) (in_map (λ lane. as_entry (x * n + lane, reason)) lane (set_lanes word) (on_in word lane l on))
-
--- and their reason is possible
-pub lane_possible : (A : Arena ℕ) (kept : List (Entry ℕ)) (n x word lane : ℕ) (reason : Reason) → AreCandidates A kept (entries_in n x word reason) → lane < 64 → is_on word lane ≡ true → IsTrue (is_possible A (x * n + lane) reason)
-lane_possible A kept n x word lane reason are l on = are.possible (as_entry (x * n + lane, reason)) (in_map (λ lane. as_entry (x * n + lane, reason)) lane (set_lanes word) (on_in word lane l on))
-
-pub shorter : (word front rest : ℕ) → set_lanes word ≡ set_lanes front ++ set_lanes rest → 0 < length (set_lanes front) → length (set_lanes rest) < length (set_lanes word)
-shorter word front rest parts some = omega (arith, ap length parts, length-append (set_lanes front) (set_lanes rest), some)
-
--- one of the two fronts has a lane, because the first lane of all is in the answer or it isn't
-pub either_front : (word held off from front lane : ℕ) → held < 2 ^ 64 → IsFirst word lane → set_lanes word ≡ set_lanes off ++ set_lanes from →
-    ((lane : ℕ) → lane < 64 → is_on word lane ≡ true → ((bit : ℕ) → bit < lane → is_on word bit ≡ false) → is_on held lane ≡ false → 0 < length (set_lanes off)) →
-    ((lane : ℕ) → lane < 64 → is_on from lane ≡ true → ((bit : ℕ) → bit < lane → is_on from bit ≡ false) → is_on (bit_not w64 held) lane ≡ false → 0 < length (set_lanes front)) →
-    ((bit : ℕ) → is_on from bit ≡ true → is_on word bit ≡ true) →
-    (0 < length (set_lanes off)) ⊎ (0 < length (set_lanes front))
-either_front word held off from front lane fits first parts drops keeps of = by_answer (is_on held lane) refl
-  where
-    from_on : (bs : List ℕ) → set_lanes off ≡ bs → length bs ≡ 0 → is_on from lane ≡ true
-    from_on (b ∷ bs) e none = absurd (omega arith)
-    from_on [] e none = (in_lanes from lane (subst (IsIn lane) (parts ∙ ap (λ ls. ls ++ set_lanes from) e) (on_in word lane first.low first.on))).1
-
-    none_before : (bit : ℕ) → bit < lane → is_on from bit ≡ false
-    none_before bit l = false_else (is_on from bit) (λ t. both_ways (is_on word bit) (first.before bit l) (of bit t))
-
-    by_answer : (b : Bool) → is_on held lane ≡ b → (0 < length (set_lanes off)) ⊎ (0 < length (set_lanes front))
-    by_answer false e = inl (drops lane first.low first.on first.before e)
-    by_answer true e = elim (cases_eq (length (set_lanes off)) 0) [
-      | inl none ↦ inr (keeps lane first.low (from_on (set_lanes off) refl none) none_before (on_not held lane fits first.low ∙ ap not e))
-      | inr some ↦ inl (omega arith)
-    ]
-
--- ---- the pending entries, split into one event and the rest
-
-pub part_first : (A : Arena ℕ) (start now next : Board) (all part : List (Entry ℕ)) → IsReplaying A start now all now.waiting → now.waiting ≡ part ++ next.waiting → next ≡ record now { waiting = next.waiting } →
-    IsReplaying A start next all (part ++ next.waiting)
-part_first A start now next all part so_far first rest = replaying_still A start now next all (part ++ next.waiting) (subst (IsReplaying A start now all) first so_far) rest
-
-pub part_turn : (A : Arena ℕ) (start now next new : Board) (all part : List (Entry ℕ)) → IsReplaying A start now all now.waiting → now.waiting ≡ part ++ next.waiting → next ≡ record now { waiting = next.waiting } →
-    new.list ≡ with_replay A next.list part → new ≡ record next { list = new.list } → IsReplaying A start new all new.waiting
-part_turn A start now next new all part so_far first rest list kept =
-    subst (IsReplaying A start new all) (sym (ap (λ (b : Board). b.waiting) kept)) (replaying_part _ _ _ _ _ _ _ (part_first _ _ _ _ _ _ so_far first rest) list kept)
-
-pub part_cost : (A : Arena ℕ) (now next new : Board) (part : List (Entry ℕ)) → now.waiting ≡ part ++ next.waiting → new ≡ record next { list = new.list } →
-    readings_of_entries A now.waiting ≡ readings_of_entries A part + readings_of_entries A new.waiting
-part_cost A now next new part first kept = grind (arith, sum_by-append)

@@ -1,10 +1,12 @@
 -- Entries that are gathered for the end of a list.
-use Rattle.roman_repair.proofs.Common.{◌≡◌, ◌≢◌, ℕ, ◌+◌, ◌-◌, ◌*◌, ◌/◌, ◌^◌, ◌<◌, ◌≤◌, Bool, true, false, not, ◌&&◌, ◌||◌, ◌⊎◌, eqb, List, [], ◌++◌, map, inl, inr, refl, sym, ap, ap₂, ◌∙◌, subst, arith, append-nil, append_assoc, bit_or, trailing_zeros, w64, cases_lt, both_ways, list_any-append, same_from_place, Entry, Reason, Final, list_any-map, is_on, HasLanes, on_or, on_zero, Board, as_entry, has_entry, set_lanes, entries_in, entries_at, Event, in_lanes, set_lanes-zero, list_and, IsGathered}
-use Rattle.std.proofs.lemmas.Bool.{ne_eqb}
+use Rattle.roman_repair.proofs.Common.{◌≡◌, ◌≢◌, ℕ, ◌+◌, ◌-◌, ◌*◌, ◌/◌, ◌^◌, ◌<◌, ◌≤◌, Bool, true, false, not, ◌&&◌, ◌||◌, ◌⊎◌, eqb, List, [], ◌++◌, map, map-append, inl, inr, refl, sym, ap, ap₂, ◌∙◌, subst, arith, append-nil, append_assoc, bit_or, trailing_zeros, w64, cases_lt, both_ways, list_any-append, same_from_place, Entry, Reason, Final, list_any-map, is_on, HasLanes, on_or, on_zero, Board, as_entry, has_entry, set_lanes, entries_in, entries_at, Event, in_lanes, set_lanes-zero, list_and, IsGathered}
+use Rattle.std.proofs.Math.Bool.{or-false}
+use Rattle.std.proofs.lemmas.Bool.{ne_eqb, or_parts}
 use Rattle.roman_model.proofs.CallerLemmas.{none_from}
 use Rattle.roman_order.proofs.CallerLemmas.{has_entry-lane}
+use Rattle.roman_repair.specs.Judging.{lane_entries}
 use Rattle.roman_repair.proofs.DeathParts.{on_lowered}
-use Rattle.roman_repair.proofs.Fronts.{entries_cut, first_lane}
+use Rattle.roman_repair.proofs.Fronts.{first_lane}
 use Rattle.roman_repair.proofs.Growing.{lanes_joined}
 
 -- a word without lanes has no entries
@@ -19,11 +21,7 @@ other_row n row word x lane reason L ne l within =
     list_any-append (λ (y : Entry ℕ). eqb (x * n + lane) y.node) L (entries_in n row word reason)
     ∙ ap (λ b. has_entry L (x * n + lane) || b) (list_any-map (λ m. as_entry (row * n + m, reason)) (λ (y : Entry ℕ). eqb (x * n + lane) y.node) (set_lanes word)
     ∙ none_from (λ m. eqb (x * n + lane) (row * n + m)) (set_lanes word) (λ m i. ne_eqb (x * n + lane) (row * n + m) (λ e. ne (sym (same_from_place x lane row m n l (within m (in_lanes word m i).1) e).0))))
-    ∙ or_none (has_entry L (x * n + lane))
-  where
-    or_none : (b : Bool) → (b || false) ≡ b
-    or_none true = refl
-    or_none false = refl
+    ∙ or-false (has_entry L (x * n + lane))
 
 -- the lanes of a row that neither the list nor the gathered entries have
 pub fresh_same : (board : Board) (e : Event) (x word rest : ℕ) → board.lanes ≤ 64 → e.row ≡ x → HasLanes board.lanes x (λ p. not (has_entry board.list p)) word →
@@ -86,7 +84,7 @@ pub gathers_on : (board : Board) (e : Event) (x lost : ℕ) (reason : Reason) �
     GathersTo board board e (record e { lanes = bit_or e.lanes lost }) x lost reason
 gathers_on board e x lost reason is row why higher some fits l within alive = record {
   list =
-      ap (λ M. board.list ++ M) (entries_cut board.lanes e.row (bit_or e.lanes lost) e.lanes lost e.reason (lanes_joined e.lanes lost cut low high))
+      ap (λ M. board.list ++ M) (ap (lane_entries board.lanes e) (lanes_joined e.lanes lost cut (omega (arith, (first_lane lost some fits).low)) low high) ∙ map-append (λ lane. as_entry (e.row * board.lanes + lane, e.reason)) (set_lanes e.lanes) (set_lanes lost))
       ∙ sym (append_assoc board.list (entries_at board.lanes e) (entries_in board.lanes e.row lost e.reason))
       ∙ ap₂ (λ r s. list_and board e ++ entries_in board.lanes r lost s) row why;
   gathered = record {
@@ -113,8 +111,4 @@ gathers_on board e x lost reason is row why higher some fits l within alive = re
         by_answer false f = inr (sym (ap (λ b. b || is_on lost lane) f) ∙ sym (on_or e.lanes lost lane) ∙ on)
 
     left_out : (lane : ℕ) → has_entry (list_and board e) (x * board.lanes + lane) ≡ false → has_entry board.list (x * board.lanes + lane) ≡ false
-    left_out lane f = (or_parts (has_entry board.list (x * board.lanes + lane)) _ (sym (list_any-append (λ (y : Entry ℕ). eqb (x * board.lanes + lane) y.node) board.list (entries_at board.lanes e)) ∙ f))
-      where
-        or_parts : (a b : Bool) → (a || b) ≡ false → a ≡ false
-        or_parts true b t = absurd (both_ways true t refl)
-        or_parts false b t = refl
+    left_out lane f = (or_parts (has_entry board.list (x * board.lanes + lane)) _ (sym (list_any-append (λ (y : Entry ℕ). eqb (x * board.lanes + lane) y.node) board.list (entries_at board.lanes e)) ∙ f)).0

@@ -1,30 +1,29 @@
 -- The replay of a row's entries that stand for several pairs each, part by part.
-use Rattle.roman_repair.proofs.Common.{◌≡◌, ℕ, zero, suc, ◌+◌, ◌-◌, ◌*◌, ◌/◌, ◌<◌, ◌≤◌, Bool, true, false, ◌||◌, append-nil, List, [], ◌∷◌, ◌++◌, map, flat_map, filter, cond, Option, refl, sym, ap, ap₂, ◌∙◌, subst, arith, append_assoc, bit_or, not, ◌^◌, inl, inr, map-map, filter_below_more, bit_not, w64, cases_eq, both_ways, on_not, on_or, mul-le-mul_left, map-append, flat_map-append, sum_by-append, below, Arena, Entry, grown_numbers, Reason, is_on, readings_of_reason, as_entry, set_lanes, entries_in, entries_from, AreCandidates, AreSlices, with_replay, readings_of_entries, MayAskAlone, IsIntact}
+use Rattle.roman_repair.proofs.Common.{false_from_ne_true, ◌≡◌, ℕ, zero, suc, ◌+◌, ◌-◌, ◌*◌, ◌/◌, ◌%◌, ◌<◌, ◌≤◌, Bool, true, false, ◌||◌, append-nil, List, [], ◌∷◌, ◌++◌, map, flat_map, filter, cond, refl, sym, ap, ap₂, ◌∙◌, subst, arith, append_assoc, bit_or, not, ◌^◌, inl, inr, map-map, filter_below_more, bit_not, w64, cases_eq, both_ways, on_not, on_or, mul-le-mul_left, map-append, flat_map-append, below, Arena, Entry, grown_numbers, Reason, is_on, as_entry, Event, entries_at, set_lanes, entries_in, entries_from, AreCandidates, AreSlices, IsNumbered, IsShaped, Board, HasReplayed}
+use Rattle.std.proofs.Math.Bool.{or-false}
 use Rattle.std.proofs.lemmas.Nat.{div-mul-add}
+use Rattle.roman_repair.proofs.Waiting.{grown_by_one}
 use Rattle.roman_repair.proofs.BandAnswers.{not_twice}
-use Rattle.roman_repair.proofs.Keeping.{candidates_left, candidates_replayed}
 use Rattle.roman_repair.proofs.Joined.{positive, grown_part}
-use Rattle.roman_repair.proofs.DeathParts.{part_word, part_in}
+use Rattle.roman_repair.proofs.DeathParts.{part_word, part_in, part_end}
 use Rattle.roman_repair.proofs.DeathEntries.{entries_below, row_begin, row_next, row_whole, lanes_below}
-use Rattle.roman_repair.proofs.JudgedAlone.{may_first, may_rest}
-use Rattle.roman_repair.proofs.Fronts.{cut_lanes, filter_split, false_else, first_so_far, only_so_far}
+use Rattle.roman_repair.specs.Judging.{CanReplay}
+use Rattle.roman_repair.specs.declared.asked_band.AskedBand.{AskedBand}
+use Rattle.roman_repair.proofs.Replayed.{replay_next}
+use Rattle.roman_repair.proofs.Fronts.{cut_lanes, filter_split, first_so_far, only_so_far, wrapped_row}
 
 -- ---- spread lanes
 
 -- lanes that stand past all others come last
-pub lanes_joined : (word more cut : ℕ) → ((bit : ℕ) → is_on word bit ≡ true → bit < cut) → ((bit : ℕ) → is_on more bit ≡ true → cut ≤ bit) → set_lanes (bit_or word more) ≡ set_lanes word ++ set_lanes more
-lanes_joined word more cut low high = cut_lanes (bit_or word more) word more cut (record {
+pub lanes_joined : (word more cut : ℕ) → cut ≤ 64 → ((bit : ℕ) → is_on word bit ≡ true → bit < cut) → ((bit : ℕ) → is_on more bit ≡ true → cut ≤ bit) → set_lanes (bit_or word more) ≡ set_lanes word ++ set_lanes more
+lanes_joined word more cut few low high = cut_lanes (bit_or word more) word more cut few (record {
   low = λ lane l under.
-      let off : is_on more lane ≡ false = false_else (is_on more lane) (λ t. let past : cut ≤ lane = high lane t in omega (arith, past, under)) in
-      (sym (on_or word more lane ∙ ap (λ b. is_on word lane || b) off ∙ or_off (is_on word lane)), off);
+      let off : is_on more lane ≡ false = false_from_ne_true (is_on more lane) (λ t. let past : cut ≤ lane = high lane t in omega (arith, past, under)) in
+      (sym (on_or word more lane ∙ ap (λ b. is_on word lane || b) off ∙ or-false (is_on word lane)), off);
   high = λ lane l past.
-      let off : is_on word lane ≡ false = false_else (is_on word lane) (λ t. let under : lane < cut = low lane t in omega (arith, past, under)) in
+      let off : is_on word lane ≡ false = false_from_ne_true (is_on word lane) (λ t. let under : lane < cut = low lane t in omega (arith, past, under)) in
       (off, sym (on_or word more lane ∙ ap (λ b. b || is_on more lane) off));
 })
-  where
-    or_off : (b : Bool) → (b || false) ≡ b
-    or_off true = refl
-    or_off false = refl
 
 pub joined_within : (word more cut end bit : ℕ) → ((bit : ℕ) → is_on word bit ≡ true → bit < cut) → cut ≤ end → (is_on more bit ≡ true → bit < end) → is_on (bit_or word more) bit ≡ true → bit < end
 joined_within word more cut end bit low less high on = grind (arith, on_or)
@@ -121,6 +120,14 @@ slices_are n lanes states is some few =
 pub sliced : (n lanes states row width : ℕ) → row ≡ n → width ≡ states → AreSlices n lanes states → 0 < n → n ≤ 64 → IsSliced n lanes states (row / width) (lanes / (row / width))
 sliced n lanes states row width same wide is some few = subst (λ k. IsSliced n lanes states k (lanes / k)) (sym (ap₂ (λ a b. a / b) same wide)) (slices_are n lanes states is some few)
 
+-- rows that stay as they are
+pub same_slices : (row lanes : ℕ) → row ≡ lanes → lanes ≤ 64 → AreSlices row lanes 1
+same_slices row lanes same few = record { few = few; slices = (row, omega arith, 1, omega arith) }
+
+-- entries that stand for their own pairs
+pub grown_itself : (states lanes n : ℕ) (e : Event) → states ≡ 1 → lanes ≡ n → entries_at n e ≡ flat_map (grown_numbers states) (entries_at lanes e)
+grown_itself states lanes n e one same = sym (ap (λ s. flat_map (grown_numbers s) (entries_at lanes e)) one ∙ grown_by_one (entries_at lanes e) ∙ ap (λ m. entries_at m e) same)
+
 -- what the entries of some lanes stand for, below a bound
 abbrev pub grown_below : ℕ → ℕ → ℕ → ℕ → ℕ → Reason → List (Entry ℕ)
 grown_below states lanes x word bound reason = flat_map (grown_numbers states) (entries_below lanes x word bound reason)
@@ -161,25 +168,29 @@ part_split states lanes x word bound reason end =
           ∙ flat_map-append (grown_numbers states) (entries_below lanes x word bound reason) (map f after),
     )
 
--- the candidates of the next part
-pub part_candidates : (A : Arena ℕ) (kept : List (Entry ℕ)) (states lanes x word i m : ℕ) (reason : Reason) → m ≤ 64 → (i + 1) * m ≤ lanes → AreCandidates A kept (grown_below states lanes x word lanes reason) →
-    AreCandidates A (with_replay A kept (grown_below states lanes x word (i * m) reason)) (grown_from states (x * lanes + i * m) (part_word word (i * m) m) reason)
-part_candidates A kept states lanes x word i m reason few end are =
-    let (rest, split) = part_split states lanes x word ((i + 1) * m) reason end in
-    candidates_replayed A kept (grown_below states lanes x word (i * m) reason) (grown_from states (x * lanes + i * m) (part_word word (i * m) m) reason)
-    (subst (AreCandidates A kept) (sym (grown_next states lanes x word i m reason few))
-    (candidates_left A kept (grown_below states lanes x word ((i + 1) * m) reason) rest (subst (AreCandidates A kept) split are)))
+-- the candidates of the next part can be replayed, and they are the entries for some lanes of a row
+pub part_next : (A : Arena ℕ) (n : ℕ) (kept : List (Entry ℕ)) (order : Board) (asked on : AskedBand) (before after states lanes slices many x word i width grown : ℕ) (reason : Reason) → IsNumbered A → 0 < n →
+    IsSliced n lanes states slices many → width ≡ states → i < many → many ≡ lanes / slices → lanes ≤ 64 → ((lane : ℕ) → is_on word lane ≡ true → lane < lanes) →
+    grown < 2 ^ 64 → set_lanes grown ≡ spread_below (part_word word (i * slices) slices) slices width → IsShaped A n order →
+    CanReplay A n kept asked (flat_map (grown_numbers states) (entries_in lanes x word reason)) → HasReplayed A n (grown_below states lanes x word (i * slices) reason) kept order.list asked on before after →
+    CanReplay A n order.list on (grown_from states (x * lanes + i * slices) (part_word word (i * slices) slices) reason)
+    × (entries_in n ((x * many % 2 ^ 32 + i) % 2 ^ 32) grown reason ≡ grown_from states (x * lanes + i * slices) (part_word word (i * slices) slices) reason)
+part_next A n kept order asked on before after states lanes slices many x word i width grown reason ok wide is same_width l whole few within fits spread shaped can replayed = (
+  ready,
+  wrapped_row A ok order n x many i grown reason shaped (subst (AreCandidates A order.list) (sym same) ready.candidates) fits wide ∙ same,
+)
+  where
+    those : List (Entry ℕ)
+    those = grown_from states (x * lanes + i * slices) (part_word word (i * slices) slices) reason
 
--- the next part may be asked of the seat alone
-pub part_alone : (A : Arena ℕ) (old new : Option ℕ) (kept now : List (Entry ℕ)) (states lanes x word i m : ℕ) (reason : Reason) → m ≤ 64 → (i + 1) * m ≤ lanes →
-    MayAskAlone A old kept (grown_below states lanes x word lanes reason) → IsIntact old new (kept ++ grown_below states lanes x word (i * m) reason) now →
-    MayAskAlone A new now (grown_from states (x * lanes + i * m) (part_word word (i * m) m) reason)
-part_alone A old new kept now states lanes x word i m reason few end may intact =
-    let (rest, split) = part_split states lanes x word ((i + 1) * m) reason end in
-    may_rest A old new kept now (grown_below states lanes x word (i * m) reason) (grown_from states (x * lanes + i * m) (part_word word (i * m) m) reason)
-    (subst (MayAskAlone A old kept) (sym (grown_next states lanes x word i m reason few))
-    (may_first A old kept (grown_below states lanes x word ((i + 1) * m) reason) rest (subst (MayAskAlone A old kept) split may))) intact
+    so_far : List (Entry ℕ)
+    so_far = grown_below states lanes x word (i * slices) reason
 
--- readings of both
-pub readings_both : (A : Arena ℕ) (L M : List (Entry ℕ)) → readings_of_entries A (L ++ M) ≡ readings_of_entries A L + readings_of_entries A M
-readings_both A L M = sum_by-append (λ (y : Entry ℕ). readings_of_reason A y.node y.reason) L M
+    same : entries_in n (x * many + i) grown reason ≡ those
+    same = part_entries n lanes states slices many x word i width grown reason is same_width spread
+
+    ready : CanReplay A n order.list on those
+    ready =
+        let (rest, split) = part_split states lanes x word ((i + 1) * slices) reason (part_end i slices lanes (omega (arith, l, whole))) in
+        replay_next A n kept order.list (flat_map (grown_numbers states) (entries_in lanes x word reason)) so_far those rest asked on before after can
+        (sym (grown_whole states lanes x word lanes reason few within) ∙ split ∙ ap (λ L. L ++ rest) (sym (grown_next states lanes x word i slices reason is.few)) ∙ append_assoc so_far those rest) replayed

@@ -1,11 +1,11 @@
 -- Entries that are judged by one seat.
-use Rattle.roman_repair.proofs.Common.{◌≡◌, ℕ, zero, suc, ◌+◌, ◌*◌, ◌^◌, ◌<◌, ◌≤◌, ◌==◌, Bool, true, false, not, cond, if◌then◌else◌, ◌||◌, List, [], ◌∷◌, ◌++◌, length, Option, None, Some, IsTrue, IsFalse, count_by, inl, inr, refl, sym, ap, ◌∙◌, subst, arith, append-nil, append_assoc, both_ways, or_left, eqb-true, false_from_ne_true, and_from, cases_eq, or_cases, or_right, false≢true, IsIn, below, all_below, is_empty, Arena, Entry, is_listed, is_justified, Reason, Final, Act, listed_append, all_below_from, any_from, any_true, by_test, justified_is, is_on, on_zero, on_not, bit_not, w64, readings_of_reason, readings_of_entries, is_possible, AreCandidates, with_replay, readings_of-allowed, Board, set_lanes, entries_in, set_lanes-zero, list_any, without_seat, AreKept, MayAskAlone, IsIntact, lets_hold}
+use Rattle.roman_repair.proofs.Common.{◌≡◌, ℕ, zero, suc, ◌+◌, ◌*◌, ◌^◌, ◌<◌, ◌≤◌, ◌==◌, Bool, cond, if◌then◌else◌, ◌||◌, List, [], ◌∷◌, ◌++◌, Option, None, Some, IsTrue, IsFalse, count_by, inl, inr, refl, sym, ap, ◌∙◌, subst, arith, append-nil, append_assoc, both_ways, or_left, eqb-true, false_from_ne_true, and_from, cases_eq, or_cases, or_right, IsIn, below, all_below, is_empty, Arena, Entry, is_listed, is_justified, Reason, Final, Act, listed_append, all_below_from, any_from, any_true, by_test, justified_is, readings_of_reason, is_possible, with_replay, readings_of-allowed, list_any, without_seat, AreKept, MayAskAlone, IsIntact, lets_hold}
+use Rattle.std.proofs.lemmas.Bool.{false≢true}
 use Rattle.std.proofs.Common.{add-one}
 use Rattle.roman_model.specs.Arena.{is_beaten}
 use Rattle.roman_rules.proofs.CallerLemmas.{count_below_more}
 use Rattle.roman_repair.specs.Alone.{questions_of}
 use Rattle.roman_repair.proofs.Keeping.{with_replay_step}
-use Rattle.roman_repair.proofs.Fronts.{IsFirst, IsAfter, after_part, entries_cut, entries_by, with_replay_none, one_less, lane_possible}
 
 -- ---- entries that are kept
 
@@ -27,10 +27,6 @@ may_rest A old (Some k) kept now L M may intact =
     let (same, is) = intact k refl in
     let still : MayAskAlone A (Some k) kept (L ++ M) = subst (λ o. MayAskAlone A o kept (L ++ M)) same may in
     (still.0, still.1, subst (λ K. AreKept (without_seat A k) K M) (sym is) (kept_split (without_seat A k) kept L M still.2).1)
-
--- the candidates of the pending entries, where one event is taken from them
-pub waits_alone : (A : Arena ℕ) (alone : Option ℕ) (now next : Board) (L M : List (Entry ℕ)) → MayAskAlone A alone now.list L → L ≡ M → next ≡ record now { waiting = next.waiting } → MayAskAlone A alone next.list M
-waits_alone A alone now next L M may same rest = subst (λ K. MayAskAlone A alone K M) (sym (ap (λ (b : Board). b.list) rest)) (subst (MayAskAlone A alone now.list) same may)
 
 -- ---- one seat
 
@@ -60,7 +56,7 @@ unlet A gone k p Final l off = absurd (false≢true (sym off))
 unlet A gone k p (Act a) l off = false_from_ne_true (is_justified A gone p (Act a)) (λ t. both_ways (is_beaten A gone p a k) off ((justified_is A gone p a t).1 k l))
 
 -- entries that would be kept without the seat's outcomes are kept where the seat lets them
-kept_alone : (A : Arena ℕ) (k : ℕ) (kept L : List (Entry ℕ)) → AreKept (without_seat A k) kept L → ((x : Entry ℕ) → IsIn x L → IsTrue (lets_hold A (is_listed A kept) k x.node x.reason)) →
+pub kept_alone : (A : Arena ℕ) (k : ℕ) (kept L : List (Entry ℕ)) → AreKept (without_seat A k) kept L → ((x : Entry ℕ) → IsIn x L → IsTrue (lets_hold A (is_listed A kept) k x.node x.reason)) →
     with_replay A kept L ≡ kept ++ L
 kept_alone A k kept [] are lets = refl
 kept_alone A k kept (x ∷ L) are lets =
@@ -69,18 +65,6 @@ kept_alone A k kept (x ∷ L) are lets =
     ∙ kept_alone A k (kept ++ x ∷ []) L are.1 (λ y i. lets_more A (is_listed A kept) (is_listed A (kept ++ x ∷ [])) k y.node y.reason
     (λ q t. listed_append A kept (x ∷ []) q ∙ or_left (is_listed A kept q) (is_listed A (x ∷ []) q) t) (lets y (inr i)))
     ∙ append_assoc kept (x ∷ []) L
-
--- a front of lanes at which the seat lets the reason hold is listed
-pub front_alone : (A : Arena ℕ) (kept : List (Entry ℕ)) (k n x word front rest : ℕ) (reason : Reason) → AreCandidates A kept (entries_in n x word reason) → MayAskAlone A (Some k) kept (entries_in n x word reason) →
-    set_lanes word ≡ set_lanes front ++ set_lanes rest →
-    ((lane : ℕ) → lane < 64 → is_on front lane ≡ true → IsTrue (lets_hold A (is_listed A kept) k (x * n + lane) reason)) →
-    IsAfter A kept (kept ++ entries_in n x front reason) (entries_in n x word reason) (entries_in n x rest reason)
-front_alone A kept k n x word front rest reason are may parts lets =
-    let cut = entries_cut n x word front rest reason parts in
-    after_part A kept (kept ++ entries_in n x front reason) (entries_in n x word reason) (entries_in n x front reason) (entries_in n x rest reason) are cut
-    (kept_alone A k kept (entries_in n x front reason)
-    (may_first A (Some k) kept (entries_in n x front reason) (entries_in n x rest reason) (subst (MayAskAlone A (Some k) kept) cut may)).2
-    (entries_by n x front reason (λ y. IsTrue (lets_hold A (is_listed A kept) k y.node y.reason)) lets))
 
 -- ---- the cost
 
@@ -102,32 +86,3 @@ one_question A k p Final l ready possible = omega arith
 one_question A k p (Act a) l ready possible =
     let some : 0 < count_by A.ready (below A.seats) = some_counted A.ready A.seats k l ready in
     omega (arith, some, readings_of-allowed A p a possible)
-
--- the removed lanes pay for one question
-pub alone_paid : (A : Arena ℕ) (kept : List (Entry ℕ)) (k n x word off rest : ℕ) (reason : Reason) → AreCandidates A kept (entries_in n x word reason) → MayAskAlone A (Some k) kept (entries_in n x word reason) →
-    set_lanes word ≡ set_lanes off ++ set_lanes rest → 0 < length (set_lanes off) → ((lane : ℕ) → is_on off lane ≡ true → is_on word lane ≡ true) →
-    questions_of reason + readings_of_entries A (entries_in n x rest reason) ≤ readings_of_entries A (entries_in n x word reason)
-alone_paid A kept k n x word off rest reason are may parts some of_off =
-    one_less A n x word off rest 0 rest (questions_of reason) reason parts (ap (λ ls. ls ++ set_lanes rest) (sym set_lanes-zero)) (inl some)
-    (λ lane l on. one_question A k (x * n + lane) reason may.0 may.1 (lane_possible A kept n x word lane reason are l on)) of_off
-    (λ lane on. absurd (both_ways (is_on 0 lane) (on_zero lane) on))
-
--- ---- lanes before the first one at which the seat doesn't serve
-
--- there are some, where no lane comes before the first one at which it serves
-pub some_dropped : (word held off lane : ℕ) → held < 2 ^ 64 → IsFirst word lane →
-    ((lane : ℕ) → lane < 64 → is_on word lane ≡ true → ((bit : ℕ) → bit < lane → is_on word bit ≡ false) → is_on (bit_not w64 held) lane ≡ false → 0 < length (set_lanes 0)) →
-    ((lane : ℕ) → lane < 64 → is_on word lane ≡ true → ((bit : ℕ) → bit < lane → is_on word bit ≡ false) → is_on held lane ≡ false → 0 < length (set_lanes off)) →
-    0 < length (set_lanes off)
-some_dropped word held off lane fits first keeps drops = by_test (is_on held lane)
-    (λ t. absurd (let some : 0 < length (set_lanes 0) = keeps lane first.low first.on first.before (on_not held lane fits first.low ∙ ap not t) in omega (arith, some, ap length set_lanes-zero)))
-    (λ f. drops lane first.low first.on first.before f)
-
--- lanes at which the seat serves are dropped
-pub front_unlet : (A : Arena ℕ) (kept : List (Entry ℕ)) (k n x word off rest : ℕ) (reason : Reason) → AreCandidates A kept (entries_in n x word reason) → k < A.seats →
-    set_lanes word ≡ set_lanes off ++ set_lanes rest → ((lane : ℕ) → lane < 64 → is_on off lane ≡ true → IsFalse (lets_hold A (is_listed A kept) k (x * n + lane) reason)) →
-    IsAfter A kept kept (entries_in n x word reason) (entries_in n x rest reason)
-front_unlet A kept k n x word off rest reason are l parts serves =
-    after_part A kept kept (entries_in n x word reason) (entries_in n x off reason) (entries_in n x rest reason) are (entries_cut n x word off rest reason parts)
-    (with_replay_none A kept (entries_in n x off reason) (entries_by n x off reason (λ y. IsFalse (is_justified A (is_listed A kept) y.node y.reason))
-    (λ lane h on. unlet A (is_listed A kept) k (x * n + lane) reason l (serves lane h on))))

@@ -1,5 +1,5 @@
 -- What a replay keeps, candidate by candidate.
-use Rattle.roman_repair.proofs.Common.{◌≡◌, ℕ, ◌+◌, ◌*◌, ◌<◌, ◌≤◌, Bool, true, false, if◌then◌else◌, ◌&&◌, List, [], ◌∷◌, ◌++◌, flat_map, length, IsTrue, count_by, inl, inr, refl, sym, ap, ◌∙◌, subst, arith, append-nil, append_assoc, false_from_ne_true, eqb-true, map-append, sum_by-cons, sum_by-append, flat_map-append, list_any-append, IsIn, HasNoRepeats, below, Arena, Entry, is_listed, is_justified, readings, is_among, Reason, Final, Act, grown_numbers, in_map, from_map, in_append_left, in_below, IsNumbered, IsReasonOf, readings_of_reason, readings_of-allowed, Board, nodes_of, is_possible, AreCandidates, with_replay, readings_of_entries}
+use Rattle.roman_repair.proofs.Common.{◌≡◌, ℕ, ◌+◌, ◌*◌, ◌<◌, ◌≤◌, Bool, true, false, if◌then◌else◌, ◌&&◌, List, [], ◌∷◌, ◌++◌, length, IsTrue, count_by, inl, inr, refl, sym, ap, ◌∙◌, subst, arith, append-nil, append_assoc, false_from_ne_true, eqb-true, map-append, sum_by-cons, list_any-append, IsIn, HasNoRepeats, below, Arena, Entry, is_listed, is_justified, readings, is_among, Reason, Final, Act, grown_numbers, in_map, from_map, in_append_left, in_below, IsNumbered, IsReasonOf, readings_of_reason, readings_of-allowed, nodes_of, is_possible, AreCandidates, with_replay, readings_of_entries}
 use Rattle.std.proofs.Common.{sum_by}
 use Rattle.std.proofs.lemmas.Bool.{or_from}
 use Rattle.roman_model.specs.Arena.{replay_from}
@@ -65,27 +65,6 @@ pub candidates_replayed : (A : Arena ℕ) (kept L M : List (Entry ℕ)) → AreC
 candidates_replayed A kept [] M are = subst (λ N. AreCandidates A N M) (sym (append-nil kept)) are
 candidates_replayed A kept (x ∷ L) M are = grind (arith, candidates_step, with_replay_step, (candidates_replayed A (with_one A kept x) L M (candidates_step A kept x (L ++ M) are)))
 
--- One turn of the replay.
-
--- the state of a replay: the candidates that are left, and the list that it comes to
-pub record IsReplaying (A : Arena ℕ) (start now : Board) (all left : List (Entry ℕ)) : Type 0 where
-  pub candidates : AreCandidates A now.list left
-  pub list : with_replay A now.list left ≡ with_replay A start.list all
-  pub rest : now ≡ record start { list = now.list; waiting = now.waiting }
-
--- the state of the replay where only the pending entries have changed
-pub replaying_still : (A : Arena ℕ) (start now next : Board) (all left : List (Entry ℕ)) → IsReplaying A start now all left → next ≡ record now { waiting = next.waiting } → IsReplaying A start next all left
-replaying_still A start now next all left so_far rest = grind arith
-
--- the state of the replay after several candidates
-pub replaying_part : (A : Arena ℕ) (start now new : Board) (all L M : List (Entry ℕ)) → IsReplaying A start now all (L ++ M) → new.list ≡ with_replay A now.list L →
-    new ≡ record now { list = new.list } → IsReplaying A start new all M
-replaying_part A start now new all L M so_far list rest = record {
-  candidates = subst (λ N. AreCandidates A N M) (sym list) (candidates_replayed A now.list L M so_far.candidates);
-  list = ap (λ N. with_replay A N M) list ∙ sym (with_replay_append A now.list L M) ∙ so_far.list;
-  rest = rest ∙ ap (λ (b : Board). record b { list = new.list }) so_far.rest ∙ ap (λ (W : List (Entry ℕ)). record start { list = new.list; waiting = W }) (sym (ap (λ (b : Board). b.waiting) rest));
-}
-
 -- The candidates of one entry.
 
 -- the candidate with the state b
@@ -95,23 +74,6 @@ grown_number states x b = record { node = x.node * states + b; reason = x.reason
 -- an entry grown by one state is its own candidate
 pub grown_once : (states : ℕ) (x : Entry ℕ) → states ≡ 1 → grown_numbers states x ≡ x ∷ []
 grown_once states x one = grind arith
-
--- Those of all entries that wait, some of them first.
-
-pub grown_first : (A : Arena ℕ) (start now next : Board) (states : ℕ) (all part : List (Entry ℕ)) → IsReplaying A start now all (flat_map (grown_numbers states) now.waiting) →
-    now.waiting ≡ part ++ next.waiting → next ≡ record now { waiting = next.waiting } → IsReplaying A start next all (flat_map (grown_numbers states) part ++ flat_map (grown_numbers states) next.waiting)
-grown_first A start now next states all part so_far first rest = grind (arith, flat_map-append, replaying_still)
-
-pub grown_turn : (A : Arena ℕ) (start now next new : Board) (states : ℕ) (all part : List (Entry ℕ)) → IsReplaying A start now all (flat_map (grown_numbers states) now.waiting) →
-    now.waiting ≡ part ++ next.waiting → next ≡ record now { waiting = next.waiting } → new.list ≡ with_replay A next.list (flat_map (grown_numbers states) part) → new ≡ record next { list = new.list } →
-    IsReplaying A start new all (flat_map (grown_numbers states) new.waiting)
-grown_turn A start now next new states all part so_far first rest list kept =
-    subst (λ L. IsReplaying A start new all (flat_map (grown_numbers states) L)) (sym (ap (λ (b : Board). b.waiting) kept))
-    (replaying_part A start next new all (flat_map (grown_numbers states) part) (flat_map (grown_numbers states) next.waiting) (grown_first A start now next states all part so_far first rest) list kept)
-
-pub grown_cost : (A : Arena ℕ) (now next new : Board) (states : ℕ) (part : List (Entry ℕ)) → now.waiting ≡ part ++ next.waiting → new ≡ record next { list = new.list } →
-    readings_of_entries A (flat_map (grown_numbers states) now.waiting) ≡ readings_of_entries A (flat_map (grown_numbers states) part) + readings_of_entries A (flat_map (grown_numbers states) new.waiting)
-grown_cost A now next new states part first kept = grind (arith, flat_map-append, sum_by-append)
 
 -- Readings.
 

@@ -13,3 +13,4 @@ pub mod BandAnswers
 pub mod Gathering
 pub mod JudgedAlone
 pub mod OtherSeats
+pub mod Replayed

@@ -1,6 +1,7 @@
 -- After a thaw or a join each entry of the old list would be kept if the changed seat had no outcomes.
 use Rattle.roman_repair.proofs.Common.{◌≡◌, ℕ, zero, suc, ◌+◌, ◌*◌, ◌%◌, ◌<◌, ◌==◌, Bool, true, false, not, ◌&&◌, ◌||◌, List, [], ◌∷◌, ◌++◌, map, flat_map, length, Some, IsTrue, IsFalse, if◌then◌else◌, slice_get, slice_index, inl, inr, refl, sym, ap, ◌∙◌, subst, arith, append-nil, append_assoc, both_ways, eqb-true, or_left, and_from, and_parts, eq-eqb, or_cases, or_right, IsIn, below, product_of, all_below, is_empty, Arena, Entry, IsOrder, is_listed, is_justified, is_among, Reason, Final, Act, length-map, length_push, Sys, Seat, IsSys, is_final, Sizes, sizes_of, count, pair_at, numbered, number, turned, sizes-turned, in_map, from_map, AreNumbers, in_below, justified_more, listed_append, map-map, all_below_from, any_from, any_true, by_test, flat_map_same, from_below, justified_is, map-flat_map, number_allows-turned, pair_at-grown, sizes-joined, grown_numbers, NamedSys, system_of, IsNamedSys, Board, pairs_of, has_entry, IsRelation, listed_numbers, candidates, list_any, is_ready, without_seat, AreKept, MayAskAlone}
 use Rattle.std.proofs.Common.{slice_set}
+use Rattle.std.proofs.lemmas.List.{get_or_append_left, set-append_left}
 use Rattle.roman_model.specs.Arena.{IsOrderFrom}
 use Rattle.roman_model.specs.Change.{grown, set_frozen}
 use Rattle.roman_model.specs.System.{Pair, all_final}
@@ -130,16 +131,6 @@ get_before [] x j l = absurd (omega arith)
 get_before (y ∷ xs) x zero l = refl
 get_before (y ∷ xs) x (suc j) l = get_before xs x j (omega arith)
 
-index_before : (bs : List ℕ) (b j : ℕ) → j < length bs → slice_index (bs ++ b ∷ []) j ≡ slice_index bs j
-index_before [] b j l = absurd (omega arith)
-index_before (c ∷ bs) b zero l = refl
-index_before (c ∷ bs) b (suc j) l = index_before bs b j (omega arith)
-
-set_before : (bs : List ℕ) (b j c : ℕ) → j < length bs → slice_set (bs ++ b ∷ []) j c ≡ slice_set bs j c ++ b ∷ []
-set_before [] b j c l = absurd (omega arith)
-set_before (d ∷ bs) b zero c l = refl
-set_before (d ∷ bs) b (suc j) c l = ap (λ cs. d ∷ cs) (set_before bs b j c (omega arith))
-
 -- a pair that isn't final for the seats isn't final for one seat more
 final_fewer : (seats : List Seat) (seat : Seat) (bs : List ℕ) (b : ℕ) → IsTrue (all_final (seats ++ seat ∷ []) (bs ++ b ∷ [])) → length bs ≡ length seats → IsTrue (all_final seats bs)
 final_fewer [] seat bs b f long = refl
@@ -159,7 +150,7 @@ moved_grown s seat p b a j states l =
     (λ e'. flat_map_same (λ t'. map (λ c. record { t = t'; e = e'; bs = slice_set (p.bs ++ b ∷ []) j c }) states)
     (λ t'. map (λ q. grown q b) (map (λ c. record { t = t'; e = e'; bs = slice_set p.bs j c }) states)) (beh_next s.target p.t p.e a)
     (λ t'. map_as (λ c. record { t = t'; e = e'; bs = slice_set (p.bs ++ b ∷ []) j c }) (λ c. grown (record { t = t'; e = e'; bs = slice_set p.bs j c }) b) states
-    (λ c i. ap (λ bs. record { t = t'; e = e'; bs = bs }) (set_before p.bs b j c l))
+    (λ c i. ap (λ bs. record { t = t'; e = e'; bs = bs }) (set-append_left p.bs (b ∷ []) j c l))
     ∙ sym (map-map (λ q. grown q b) (λ c. record { t = t'; e = e'; bs = slice_set p.bs j c }) states))
     ∙ sym (map-flat_map (λ q. grown q b) (λ t'. map (λ c. record { t = t'; e = e'; bs = slice_set p.bs j c }) states) (beh_next s.target p.t p.e a)))
     ∙ sym (map-flat_map (λ q. grown q b) (λ e'. flat_map (λ t'. map (λ c. record { t = t'; e = e'; bs = slice_set p.bs j c }) states) (beh_next s.target p.t p.e a)) (env_next s.env p.e a))
@@ -168,7 +159,7 @@ moved_grown s seat p b a j states l =
 outcomes_grown : (s : Sys) (seat : Seat) (p : Pair) (b a j : ℕ) → length p.bs ≡ length s.seats → j < length s.seats → outcomes (with_last s seat) (grown p b) a j ≡ map (λ q. grown q b) (outcomes s p a j)
 outcomes_grown s seat p b a j long l =
     ap (λ o. outcomes_by (with_last s seat) (grown p b) a j (seat_next o (slice_index (p.bs ++ b ∷ []) j) p.e a)) (get_before s.seats seat j l)
-    ∙ ap (λ c. outcomes_by (with_last s seat) (grown p b) a j (seat_next (slice_get s.seats j) c p.e a)) (index_before p.bs b j (omega (arith, l, long)))
+    ∙ ap (λ c. outcomes_by (with_last s seat) (grown p b) a j (seat_next (slice_get s.seats j) c p.e a)) (get_or_append_left p.bs (b ∷ []) 0 j (omega (arith, l, long)))
     ∙ moved_grown s seat p b a j (seat_next (slice_get s.seats j) (slice_index p.bs j) p.e a) (omega (arith, l, long))
 
 pub join_carries : (s : Sys) (seat : Seat) → IsSys s → CarriesOver s (with_last s seat) (length s.seats) seat.beh.states

@@ -1,14 +1,13 @@
 -- Changes that keep the whole renamed list: a freeze or a death.
-use Rattle.roman_repair.proofs.Common.{◌≡◌, ℕ, zero, suc, ◌<◌, Bool, List, [], ◌∷◌, length, IsTrue, slice_get, sym, ◌∙◌, arith, Sys, Seat, Entry, Change, after, sizes_of, numbered, rename_numbers, turned, sizes-turned, NumbersReplay, NamedSys, system_of, lanes_in, Board, IsShaped, arena_of, HasCaps, IsBegun, false≢true, is_ready}
+use Rattle.roman_repair.proofs.Common.{cases_lt, ◌≡◌, ℕ, ◌<◌, Bool, List, [], ◌∷◌, length, IsTrue, slice_get, sym, ◌∙◌, arith, Sys, Seat, Entry, Change, after, sizes_of, numbered, rename_numbers, turned, sizes-turned, NumbersReplay, NamedSys, system_of, lanes_in, Board, IsShaped, arena_of, HasCaps, IsBegun, is_ready}
+use Rattle.std.proofs.lemmas.Option.{slice_get_past}
 use Rattle.roman_model.specs.Change.{KeepsAll}
 use Rattle.roman_joint.specs.declared.seat.Seat as joint
 use Rattle.roman_repair.proofs.Repairing.{numbers_replayed, caps_kept}
 use Rattle.roman_repair.proofs.Waiting.{nodes-turned}
 
 pub ready_there : (seats : List Seat) (k : ℕ) → IsTrue (is_ready (slice_get seats k)) → k < length seats
-ready_there [] k ready = absurd (false≢true ready)
-ready_there (seat ∷ seats) zero ready = omega arith
-ready_there (seat ∷ seats) (suc k) ready = let rest : k < length seats = ready_there seats k ready in omega arith
+ready_there seats k ready = grind (arith, cases_lt, slice_get_past)
 
 -- the replay keeps the whole renamed list
 pub whole_replay : (change : Change) (s : Sys) (old new : List (Entry ℕ)) → NumbersReplay change s old → KeepsAll change → new ≡ rename_numbers change (sizes_of s) old → new ≡ numbers_replayed change s old

@@ -1,15 +1,14 @@
 -- What a replay of grown entries goes on from.
 use Rattle.std.specs.Prelude.{◌≡◌, ℕ, ◌<◌, true, List, flat_map}
 use Rattle.roman_lanes.specs.Rows.{is_on}
-use Rattle.roman_model.specs.Arena.{Arena, Entry, is_listed}
+use Rattle.roman_model.specs.Arena.{Arena, Entry}
 use Rattle.roman_model.specs.NumberedChange.{grown_numbers}
 use Rattle.roman_order.specs.Board.{Board}
 use Rattle.roman_order.specs.Events.{entries_at}
 use Rattle.roman_order.specs.declared.event.Event.{Event}
 use Rattle.roman_relation.specs.Shaped.{IsShaped}
-use Rattle.roman_repair.specs.Alone.{MayAskAlone}
-use Rattle.roman_repair.specs.AskedBands.{HoldsInBand}
-use Rattle.roman_repair.specs.Replays.{AreCandidates, AreSlices}
+use Rattle.roman_repair.specs.Judging.{CanReplay}
+use Rattle.roman_repair.specs.Replays.{AreSlices}
 use Rattle.roman_repair.specs.declared.asked_band.AskedBand.{AskedBand}
 use Rattle.roman_repair.specs.declared.replaying.Newcomer.{Newcomer}
 
@@ -27,6 +26,4 @@ pub record CanGrow (A : Arena ℕ) (row : ℕ) (newcomer : Newcomer) (e : Event)
   pub shaped : IsShaped A row order
   pub slices : AreSlices row newcomer.lanes newcomer.states
   pub within : (lane : ℕ) → is_on e.lanes lane ≡ true → lane < newcomer.lanes
-  pub candidates : AreCandidates A order.list (entries_grown newcomer e)
-  pub may : MayAskAlone A asked.alone order.list (entries_grown newcomer e)
-  pub known : HoldsInBand A row (is_listed A order.list) asked
+  pub ready : CanReplay A row order.list asked (entries_grown newcomer e)

@@ -3,6 +3,7 @@
 ghost use Rattle.std.specs.Prelude.{◌≡◌, ℕ, ◌*◌, ◌<◌, Bool, not, length, Some};
 ghost use Rattle.roman_model.specs.Arena.{is_beaten};
 ghost use Rattle.roman_lanes.specs.Rows.{HasLanes, AreRows, Keeps};
+ghost use Rattle.roman_order.specs.Board.{set_lanes};
 ghost use Rattle.roman_repair.specs.Judging.{CanJudge, HasJudged};
 
 use crate::asked_band::AskedBand;
@@ -63,7 +64,8 @@ pub(crate) fn keep_alone<J: OneSeat, L: Ledger>(
     steps: &mut Steps<L>,
 ) -> u64
     requires { CanJudge (J.arena joint.now) (J.lanes joint.now) (Some k) order.old asked.old event }
-    ensures { HasJudged (J.arena joint.now) (J.lanes joint.now) event result order.old order.new asked.old asked.new steps.old steps.new }
+    ensures { (length (set_lanes result) < length (set_lanes event.lanes))
+        × HasJudged (J.arena joint.now) (J.lanes joint.now) event result order.old order.new asked.old asked.new steps.old steps.new }
 {
     joint.known();
     order.known();

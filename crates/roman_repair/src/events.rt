@@ -1,8 +1,9 @@
 //! Replays events. An event is a run of waiting entries of one row with one reason. An entry is
 //! kept where the entries kept before it justify it.
-ghost use Rattle.std.specs.Prelude.{◌≡◌, None};
+ghost use Rattle.std.specs.Prelude.{◌≡◌, ◌<◌, length, None};
+ghost use Rattle.roman_order.specs.Board.{set_lanes};
 ghost use Rattle.roman_order.specs.Events.{entries_at};
-ghost use Rattle.roman_repair.specs.Judging.{CanJudge, CanReplayEvent, CanReplayAll, HasJudged, HasReplayed, HasReplayedAll};
+ghost use Rattle.roman_repair.specs.Judging.{CanJudge, CanReplayEvent, HasJudged, HasReplayed};
 
 use crate::alone::{OneSeat, keep_alone};
 use crate::asked_band::AskedBand;
@@ -24,7 +25,8 @@ fn keep_front<J: Rules, L: Ledger>(
     steps: &mut Steps<L>,
 ) -> u64
     requires { CanJudge (J.arena joint.now) (J.lanes joint.now) None order.old asked.old event }
-    ensures { HasJudged (J.arena joint.now) (J.lanes joint.now) event result order.old order.new asked.old asked.new steps.old steps.new }
+    ensures { (length (set_lanes result) < length (set_lanes event.lanes))
+        × HasJudged (J.arena joint.now) (J.lanes joint.now) event result order.old order.new asked.old asked.new steps.old steps.new }
 {
     joint.known();
     order.known();
@@ -51,7 +53,8 @@ fn keep_some<J: OneSeat, L: Ledger>(
     steps: &mut Steps<L>,
 ) -> u64
     requires { CanJudge (J.arena joint.now) (J.lanes joint.now) asked.old.alone order.old asked.old event }
-    ensures { HasJudged (J.arena joint.now) (J.lanes joint.now) event result order.old order.new asked.old asked.new steps.old steps.new }
+    ensures { (length (set_lanes result) < length (set_lanes event.lanes))
+        × HasJudged (J.arena joint.now) (J.lanes joint.now) event result order.old order.new asked.old asked.new steps.old steps.new }
 {
     match asked.alone {
         Some(k) => keep_alone(joint, order, asked, k, event, steps),
@@ -70,8 +73,9 @@ pub(crate) fn keep_lanes<J: OneSeat, L: Ledger>(
     steps: &mut Steps<L>,
 )
     requires { CanReplayEvent (J.arena joint.now) (J.lanes joint.now) order.old asked.old event }
-    ensures { HasReplayed (J.arena joint.now) (J.lanes joint.now) (entries_at (J.lanes joint.now) event)
-        order.old order.new asked.old asked.new steps.old steps.new }
+    ensures replayed { HasReplayed (J.arena joint.now) (J.lanes joint.now) (entries_at (J.lanes joint.now) event)
+        order.old.list order.new.list asked.old asked.new steps.old steps.new }
+    ensures rest { order.new ≡ record order.old { list = order.new.list } }
 {
     let mut left = event.lanes;
     'left: while left != 0 {
@@ -80,24 +84,5 @@ pub(crate) fn keep_lanes<J: OneSeat, L: Ledger>(
             ..event
         };
         left = keep_some(joint, order, asked, rest, steps);
-    }
-}
-
-/// Replays the waiting entries, and appends those that it keeps to the list. Requires rows of as
-/// many lanes as when the entries were listed, so that each event lies in one row. Asks the seat `k`
-/// alone until an entry is dropped: no other seat keeps an entry from being justified.
-pub(crate) fn replay_events<J: OneSeat, L: Ledger>(
-    joint: &J,
-    order: &mut Order,
-    k: u8,
-    steps: &mut Steps<L>,
-)
-    requires same_rows { order.old.waiting_lanes ≡ J.lanes joint.now }
-    requires ready { CanReplayAll (J.arena joint.now) (J.lanes joint.now) k order.old order.old.waiting }
-    ensures { HasReplayedAll (J.arena joint.now) order.old.waiting order.old order.new steps.old steps.new }
-{
-    let mut asked = AskedBand::nothing(Some(k));
-    'replay: while let Some(event) = order.next_waiting_event() {
-        keep_lanes(joint, order, &mut asked, event, steps);
     }
 }

@@ -4,17 +4,12 @@ ghost use Rattle.std.specs.List.{filter};
 ghost use Rattle.roman_model.specs.Lists.{below};
 ghost use Rattle.roman_lanes.specs.Rows.{is_on};
 ghost use Rattle.roman_order.specs.Board.{set_lanes};
+ghost use Rattle.roman_repair.specs.Judging.{IsSplitAt};
 
 /// Splits the lanes of `word` at the first lane that `end` has too. Returns the lanes below it and
 /// the lanes from it on. Returns all lanes and none where the words have no lane in common.
 pub(crate) fn split_lanes(word: u64, end: u64) -> (u64, u64)
-    ensures parts { set_lanes word ≡ set_lanes result.0 ++ set_lanes result.1 }
-    ensures apart { (lane : ℕ) → is_on result.0 lane ≡ true → is_on end lane ≡ false }
-    ensures front { (lane : ℕ) → is_on result.0 lane ≡ true → is_on word lane ≡ true }
-    ensures back { (lane : ℕ) → is_on result.1 lane ≡ true → is_on word lane ≡ true }
-    ensures any { result.0 ≢ 0 → 0 < length (set_lanes result.0) }
-    ensures some { (lane : ℕ) → lane < 64 → is_on word lane ≡ true → ((bit : ℕ) → bit < lane → is_on word bit ≡ false) →
-        is_on end lane ≡ false → 0 < length (set_lanes result.0) }
+    ensures { IsSplitAt word end result.0 result.1 }
 {
     let both = word & end;
     if both == 0 {

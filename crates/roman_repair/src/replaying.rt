@@ -1,4 +1,5 @@
 //! Replays entries that stand for several pairs each.
+ghost use Rattle.std.specs.Prelude.{◌≡◌};
 ghost use Rattle.roman_repair.specs.Judging.{HasReplayed, CanReplayAll, HasReplayedAll};
 ghost use Rattle.roman_repair.specs.Growing.{RowsGrow, CanGrow, entries_grown};
 ghost use Rattle.roman_repair.specs.Replays.{candidates};
@@ -11,18 +12,20 @@ use roman_io::Steps;
 use roman_order::{Event, Order};
 use std::sync::ledger::Ledger;
 
-/// A service that joins at the last place.
+/// A service that takes delegations anew: it joined at the last place, or it thawed.
 #[derive(Clone, Copy)]
 pub(crate) struct Newcomer {
     /// Its place.
     pub(crate) k: u8,
-    /// The number of its states. Each lane of a row becomes as many neighbours.
+    /// The number of pairs for which an entry stands: of its states where it joined, and 1 where it thawed.
+    /// Each lane of a row becomes as many neighbours.
     pub(crate) states: u8,
-    /// The number of lanes of a row before it joined.
+    /// The number of lanes of a row before the change.
     pub(crate) lanes: u32,
 }
 
-/// Replays the pairs for which the entries of the event stand. Its row becomes one or more whole rows.
+/// Replays the pairs for which the entries of the event stand. Its row becomes one or more whole rows, or
+/// stays as it is.
 fn keep_grown<J: OneSeat, L: Ledger>(
     joint: &J,
     order: &mut Order,
@@ -32,9 +35,13 @@ fn keep_grown<J: OneSeat, L: Ledger>(
     steps: &mut Steps<L>,
 )
     requires { CanGrow (J.arena joint.now) (J.lanes joint.now) newcomer event order.old asked.old }
-    ensures { HasReplayed (J.arena joint.now) (J.lanes joint.now) (entries_grown newcomer event) order.old order.new asked.old asked.new steps.old steps.new }
+    ensures replayed { HasReplayed (J.arena joint.now) (J.lanes joint.now) (entries_grown newcomer event) order.old.list order.new.list asked.old asked.new steps.old steps.new }
+    ensures rest { order.new ≡ record order.old { list = order.new.list } }
 {
     joint.known();
+    if newcomer.states == 1 && newcomer.lanes == joint.lanes() {
+        return keep_lanes(joint, order, asked, event, steps);
+    }
     let width = u32::from(newcomer.states);
     let slices = joint.lanes() / width;
     let many = newcomer.lanes / slices;

@@ -8,7 +8,6 @@ ghost use Rattle.roman_repair.specs.Growing.{RowsGrow};
 ghost use Rattle.roman_repair.specs.Repairs.{IsBegun, IsSettledOn, IsWithinReading, fall_of};
 ghost use Rattle.roman_repair.specs.Replays.{candidates, pending_replay, IsReplayable};
 
-use crate::events::replay_events;
 use crate::replaying::{Newcomer, replay};
 use crate::tally::Tally;
 use roman_io::Steps;
@@ -46,24 +45,5 @@ pub(crate) fn replay_and_settle_on<L: Ledger>(
 {
     relation.joint.known();
     replay(&relation.joint, &mut relation.order, newcomer, steps);
-    settle_on(relation, steps)
-}
-
-/// Replays the waiting entries, whose rows are those of the changed system, and completes the list.
-/// The number of steps is at most the number of delegations that lead to added pairs plus the
-/// number of delegations of an allowed action to a ready service.
-pub(crate) fn replay_events_and_settle_on<L: Ledger>(
-    relation: &mut Relation,
-    k: u8,
-    steps: &mut Steps<L>,
-) -> Tally
-    requires replayable { IsReplayable relation.old.joint 1 relation.old.order }
-    requires may { MayAskAlone (arena_of relation.old.joint) (Some k) relation.old.order.list (candidates 1 relation.old.order) }
-    requires same_rows { relation.old.order.waiting_lanes ≡ lanes_in (system_of relation.old.joint) }
-    ensures settled { IsSettledOn relation.old.joint (pending_replay relation.old.joint 1 relation.old.order) relation.new.joint relation.new.order result }
-    ensures cost { IsWithinReading relation.new.joint relation.new.order result steps.old steps.new }
-{
-    relation.joint.known();
-    replay_events(&relation.joint, &mut relation.order, k, steps);
     settle_on(relation, steps)
 }

@@ -8,7 +8,8 @@ ghost use Rattle.roman_relation.specs.Greatest.{IsRelation};
 ghost use Rattle.roman_repair.specs.Repairs.{IsRepaired, IsWithinReading};
 
 use crate::reopening::reopen;
-use crate::settling::replay_events_and_settle_on;
+use crate::replaying::Newcomer;
+use crate::settling::replay_and_settle_on;
 use crate::tally::Tally;
 use roman_io::Steps;
 use roman_relation::Relation;
@@ -30,7 +31,14 @@ pub fn thaw<L: Ledger>(relation: &mut Relation, k: u8, steps: &mut Steps<L>) -> 
 {
     relation.joint.known();
     relation.order.known();
+    let shape = relation.joint.shape();
+    let lanes = shape.lanes();
+    let newcomer = Newcomer {
+        k,
+        states: 1,
+        lanes,
+    };
     relation.joint.set_frozen(k, false);
     reopen(relation);
-    replay_events_and_settle_on(relation, k, steps)
+    replay_and_settle_on(relation, newcomer, steps)
 }

@@ -1,17 +1,15 @@
-use Rattle.roman_repair.proofs.Common.{◌≡◌, ◌+◌, ◌*◌, [], ◌++◌, map, sym, ap, ◌∙◌, arith, append-nil, as_entry, entries_in, set_lanes-zero, with_replay}
+use Rattle.roman_repair.proofs.Common.{[], refl}
+use Rattle.roman_repair.proofs.Replayed.{replayed_none, judge_rest, judged_on, judged_all}
 use Rattle.roman_repair.proofs.events.keep_lanes.Goals as goal
 
-pub returns : goal.returns
-returns g c =
-    let n = g.J.Rules.lanes c.args.joint.now in
-    let L = c.left.order.list in
-    let e = c.args.event in
-    let none : entries_in n e.row c.left.left e.reason ≡ [] = ap (λ w. entries_in n e.row w e.reason) c.left-test.false ∙ ap (map (λ lane. as_entry (e.row * n + lane, e.reason))) set_lanes-zero in
-    let so_far = c.left.invariant in
-    record {
-      list = sym (append-nil L) ∙ ap (with_replay (g.J.Rules.arena c.args.joint.now) L) (sym none) ∙ so_far.list;
-      intact = λ k same. (let (old, is) = so_far.intact k same in (old, sym (append-nil L) ∙ ap (λ M. L ++ M) (sym none) ∙ is));
-      known = so_far.known;
-      rest = so_far.rest;
-      cost = omega (arith, so_far.cost);
-    }
+pub left-init : goal.left-init
+left-init g c = record { gone = []; parts = refl; within = λ lane on. on; replayed = replayed_none _ _ _ _ _ c.requires.ready.known; rest = refl }
+
+pub keep_some-left-requires : goal.keep_some-left-requires
+keep_some-left-requires g c = record { some = c.left-test.true; alone = refl; event = judge_rest _ _ _ _ _ _ _ _ _ _ c.requires c.left.invariant }
+
+pub left-preserved : goal.left-preserved
+left-preserved g c = judged_on _ _ _ _ _ _ _ _ _ _ _ _ _ _ c.left.invariant c.keep_some-left.ensures.1
+
+pub returns-clause-replayed : goal.returns-clause-replayed
+returns-clause-replayed g c = judged_all _ _ _ _ _ _ _ _ _ _ c.left.invariant c.left-test.false

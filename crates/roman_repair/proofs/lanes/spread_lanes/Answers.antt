@@ -33,10 +33,11 @@ lane-preserved c =
     let block = c.lanes_between-spread in
     let next = c.next_lane-lane-in-lane in
     let few = mul-le-mul_left c.args.lanes c.requires.0 in
+    let wide = mul-le-mul_left width so_far.range in
     let past = mul-le-mul_left width c.next_lane-end.ensures.range.0 in
     let far = mul-le-mul_left width next.ensures.range.0 in
     record {
-      lanes = lanes_joined c.lane.spread block.result (lane * width) so_far.within (λ bit on. (block.ensures.within bit on).0)
+      lanes = lanes_joined c.lane.spread block.result (lane * width) (omega (arith, wide, c.requires.1)) so_far.within (λ bit on. (block.ensures.within bit on).0)
           ∙ ap₂ (λ (L M : List ℕ). L ++ M) so_far.lanes block.ensures.lanes ∙ spread_run c.args.word lane end width c.next_lane-end.ensures.range.0
           (run_lanes c.args.word lane end c.ranges.word.fits (omega (arith, few, c.requires.1, c.next_lane-end.ensures.range)) c.next_lane-end.ensures.off)
           ∙ sym (spread_skip c.args.word end next.result width next.ensures.range.0 next.ensures.off);

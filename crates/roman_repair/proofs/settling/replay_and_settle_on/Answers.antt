@@ -1,4 +1,5 @@
-use Rattle.roman_repair.proofs.Common.{[], sym, ap, ◌∙◌, subst, arith, readings, NamedSys, joint_numbered, arena_of, IsSettledOn, AreCandidates, candidates, with_replay}
+use Rattle.roman_repair.proofs.Common.{[], sym, ap, ◌∙◌, subst, arith, readings, NamedSys, arena_of, IsSettledOn, AreCandidates, candidates, with_replay}
+use Rattle.roman_joint.proofs.CallerLemmas.{joint_numbered}
 use Rattle.roman_repair.proofs.Keeping.{candidates_readings}
 use Rattle.roman_repair.proofs.Repairing.{replayed_begun}
 use Rattle.roman_repair.proofs.settling.replay_and_settle_on.Goals as goal
