@@ -1,5 +1,5 @@
 -- The front of a word's lanes, and the front of a replay.
-use Rattle.roman_repair.proofs.Common.{◌≡◌, slice_index, ◌≢◌, ℕ, Option, Event, zero, suc, ◌+◌, ◌-◌, ◌*◌, ◌/◌, ◌%◌, ◌^◌, ◌<◌, ◌≤◌, Bool, true, false, not, ◌&&◌, ◌⊎◌, List, [], ◌∷◌, ◌++◌, map, length, filter, cond, IsTrue, IsFalse, inl, inr, refl, sym, ap, ap₂, ◌∙◌, subst, arith, append-nil, append_assoc, bit_and, eqb, bit_at, leading_zeros, trailing_zeros, w64, bit_not, cases_lt, both_ways, or_left, cases_eq, eq-eqb, map-append, bit_at_cat_high, mul-le-mul_left, IsIn, below, Arena, Entry, is_listed, is_justified, Reason, filter_below_more, in_map, in_below, justified_more, listed_append, is_on, on_and, on_full, on_full_past, on_not, IsNumbered, IsReasonOf, Board, as_entry, set_lanes, entries_in, set_lanes-zero, IsShaped, AreCandidates, with_replay}
+use Rattle.roman_repair.proofs.Common.{◌≡◌, slice_index, ◌≢◌, ℕ, Option, Event, zero, suc, ◌+◌, ◌-◌, ◌*◌, ◌/◌, ◌%◌, ◌^◌, ◌<◌, ◌≤◌, Bool, true, false, not, ◌&&◌, List, [], ◌∷◌, ◌++◌, map, length, filter, cond, IsTrue, IsFalse, inl, inr, refl, sym, ap, ap₂, ◌∙◌, subst, arith, append-nil, append_assoc, bit_and, eqb, bit_at, leading_zeros, trailing_zeros, w64, bit_not, cases_lt, both_ways, or_left, cases_eq, eq-eqb, map-append, bit_at_cat_high, mul-le-mul_left, IsIn, below, Arena, Entry, is_listed, is_justified, Reason, filter_below_more, in_map, in_below, justified_more, listed_append, is_on, on_and, on_full, on_full_past, on_not, IsNumbered, IsReasonOf, Board, as_entry, set_lanes, entries_in, set_lanes-zero, IsShaped, AreCandidates, with_replay}
 use Rattle.roman_lanes.proofs.CallerLemmas.{on_less}
 use Rattle.std.proofs.Math.Nat.{pow-suc, pow-le-pow_right}
 use Rattle.std.proofs.Math.Pow.{pow-lt}
@@ -103,14 +103,16 @@ moved_so_far p q b m off same = filter_split q b m ∙ ap₂ (λ L M. L ++ map (
 pub only_so_far : (q : ℕ → Bool) (b m : ℕ) → ((i : ℕ) → i < m → q (b + i) ≡ false) → filter q (below (b + m)) ≡ filter q (below b)
 only_so_far q b m off = filter_split q b m ∙ ap (λ M. filter q (below b) ++ map (λ i. b + i) M) (none_so_far (λ i. q (b + i)) m off) ∙ append-nil (filter q (below b))
 
+-- all numbers below m pass
+pub all_so_far : (p : ℕ → Bool) (m : ℕ) → ((i : ℕ) → i < m → p i ≡ true) → filter p (below m) ≡ below m
+all_so_far p zero on = refl
+all_so_far p (suc m) on = filter_below_more p m ∙ ap₂ (λ L x. L ++ cond x (m ∷ []) []) (all_so_far p m (λ i l. on i (omega arith))) (on m (omega arith))
+
 -- exactly the numbers below s pass
-pub first_so_far : (p : ℕ → Bool) (s m : ℕ) → s ≤ m → ((i : ℕ) → i < s → p i ≡ true) → ((i : ℕ) → s ≤ i → i < m → p i ≡ false) → filter p (below m) ≡ below s
-first_so_far p s zero l on off = let none : s ≡ 0 = omega arith in ap below (sym none)
-first_so_far p s (suc m) l on off = elim (cases_eq s (suc m)) [
-  | inl e ↦
-      filter_below_more p m ∙ ap₂ (λ L x. L ++ cond x (m ∷ []) []) (first_so_far p m m (omega arith) (λ i h. on i (omega arith)) (λ i h k. absurd (omega arith))) (on m (omega arith)) ∙ ap below (sym e)
-  | inr ne ↦ filter_below_more p m ∙ ap₂ (λ L x. L ++ cond x (m ∷ []) []) (first_so_far p s m (omega arith) on (λ i h k. off i h (omega arith))) (off m (omega arith) (omega arith)) ∙ append-nil (below s)
-]
+first_so_far : (p : ℕ → Bool) (s m : ℕ) → s ≤ m → ((i : ℕ) → i < s → p i ≡ true) → ((i : ℕ) → s ≤ i → i < m → p i ≡ false) → filter p (below m) ≡ below s
+first_so_far p s m l on off =
+    let whole : m ≡ s + (m - s) = omega arith in
+    ap (λ n. filter p (below n)) whole ∙ only_so_far p s (m - s) (λ i h. off (s + i) (omega arith) (omega (arith, h, l))) ∙ all_so_far p s on
 
 -- ---- a word that is split in two
 
@@ -256,6 +258,10 @@ in_row A ok board n x word reason shaped are some fits =
 pub judged_row : (A : Arena ℕ) (n : ℕ) (seat : Option ℕ) (order : Board) (asked : AskedBand) (e : Event) → IsNumbered A → n ≤ 64 → CanJudge A n seat order asked e → IsInRow A order.rows n e.row e.reason
 judged_row A n seat order asked e ok few can =
     in_row A ok order n e.row e.lanes e.reason can.event.shaped can.event.ready.candidates can.some (word_fits e.lanes n few can.event.within)
+
+-- an event whose first entry can be judged lies in a row of the order
+pub row_there : (A : Arena ℕ) (n : ℕ) (seat : Option ℕ) (order : Board) (asked : AskedBand) (e : Event) → CanJudge A n seat order asked e → IsNumbered A → n ≤ 64 → e.row < order.rows
+row_there A n seat order asked e can ok few = (judged_row A n seat order asked e ok few can).row
 
 -- the number of the row is small
 row_few : (A : Arena ℕ) → IsNumbered A → (board : Board) (n x word : ℕ) (reason : Reason) → IsShaped A n board → AreCandidates A board.list (entries_in n x word reason) → word ≢ 0 → word < 2 ^ 64 → 0 < n → x < 2 ^ 32

@@ -1,5 +1,6 @@
 -- Entries that are gathered for the end of a list.
-use Rattle.roman_repair.proofs.Common.{◌≡◌, ◌≢◌, ℕ, ◌+◌, ◌-◌, ◌*◌, ◌/◌, ◌^◌, ◌<◌, ◌≤◌, Bool, true, false, not, ◌&&◌, ◌||◌, ◌⊎◌, eqb, List, [], ◌++◌, map, map-append, inl, inr, refl, sym, ap, ap₂, ◌∙◌, subst, arith, append-nil, append_assoc, bit_or, trailing_zeros, w64, cases_lt, both_ways, list_any-append, same_from_place, Entry, Reason, Final, list_any-map, is_on, HasLanes, on_or, on_zero, Board, as_entry, has_entry, set_lanes, entries_in, entries_at, Event, in_lanes, set_lanes-zero, list_and, IsGathered}
+use Rattle.roman_repair.proofs.Common.{◌≡◌, ◌≢◌, ℕ, ◌+◌, ◌-◌, ◌*◌, ◌/◌, ◌^◌, ◌<◌, ◌≤◌, Bool, true, false, not, ◌&&◌, ◌||◌, eqb, List, [], ◌++◌, map, map-append, inl, inr, refl, sym, ap, ap₂, ◌∙◌, subst, arith, append-nil, append_assoc, bit_or, trailing_zeros, w64, cases_lt, both_ways, list_any-append, same_from_place, Entry, Reason, Final, list_any-map, is_on, HasLanes, on_or, on_zero, Board, as_entry, has_entry, set_lanes, entries_in, entries_at, Event, in_lanes, set_lanes-zero, list_and, IsGathered}
+use Rattle.std.proofs.Common.{◌⊎◌}
 use Rattle.std.proofs.Math.Bool.{or-false}
 use Rattle.std.proofs.lemmas.Bool.{ne_eqb, or_parts}
 use Rattle.roman_model.proofs.CallerLemmas.{none_from}

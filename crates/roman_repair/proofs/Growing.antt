@@ -1,5 +1,5 @@
 -- The replay of a row's entries that stand for several pairs each, part by part.
-use Rattle.roman_repair.proofs.Common.{false_from_ne_true, ◌≡◌, ℕ, zero, suc, ◌+◌, ◌-◌, ◌*◌, ◌/◌, ◌%◌, ◌<◌, ◌≤◌, Bool, true, false, ◌||◌, append-nil, List, [], ◌∷◌, ◌++◌, map, flat_map, filter, cond, refl, sym, ap, ap₂, ◌∙◌, subst, arith, append_assoc, bit_or, not, ◌^◌, inl, inr, map-map, filter_below_more, bit_not, w64, cases_eq, both_ways, on_not, on_or, mul-le-mul_left, map-append, flat_map-append, below, Arena, Entry, grown_numbers, Reason, is_on, as_entry, Event, entries_at, set_lanes, entries_in, entries_from, AreCandidates, AreSlices, IsNumbered, IsShaped, Board, HasReplayed}
+use Rattle.roman_repair.proofs.Common.{false_from_ne_true, ◌≡◌, ℕ, zero, suc, ◌+◌, ◌-◌, ◌*◌, ◌/◌, ◌%◌, ◌<◌, ◌≤◌, true, false, ◌||◌, append-nil, List, [], ◌∷◌, ◌++◌, map, flat_map, filter, cond, refl, sym, ap, ap₂, ◌∙◌, subst, arith, append_assoc, bit_or, not, ◌^◌, inl, inr, map-map, filter_below_more, bit_not, w64, cases_eq, both_ways, on_not, on_or, mul-le-mul_left, map-append, flat_map-append, below, Arena, Entry, grown_numbers, Reason, is_on, as_entry, Event, entries_at, set_lanes, entries_in, entries_from, AreCandidates, AreSlices, IsNumbered, IsShaped, Board, HasReplayed}
 use Rattle.std.proofs.Math.Bool.{or-false}
 use Rattle.std.proofs.lemmas.Nat.{div-mul-add}
 use Rattle.roman_repair.proofs.Waiting.{grown_by_one}
@@ -10,7 +10,7 @@ use Rattle.roman_repair.proofs.DeathEntries.{entries_below, row_begin, row_next,
 use Rattle.roman_repair.specs.Judging.{CanReplay}
 use Rattle.roman_repair.specs.declared.asked_band.AskedBand.{AskedBand}
 use Rattle.roman_repair.proofs.Replayed.{replay_next}
-use Rattle.roman_repair.proofs.Fronts.{cut_lanes, filter_split, first_so_far, only_so_far, wrapped_row}
+use Rattle.roman_repair.proofs.Fronts.{cut_lanes, filter_split, all_so_far, only_so_far, wrapped_row}
 
 -- ---- spread lanes
 
@@ -31,19 +31,6 @@ joined_within word more cut end bit low less high on = grind (arith, on_or)
 -- the lanes of a word below a bound, each spread
 abbrev pub spread_below : ℕ → ℕ → ℕ → List ℕ
 spread_below word lanes width = flat_map (λ lane. map (λ i. lane * width + i) (below width)) (filter (is_on word) (below lanes))
-
-pub spread_more : (word lane width : ℕ) → spread_below word lane width ++ cond (is_on word lane) (map (λ i. lane * width + i) (below width)) [] ≡ spread_below word (lane + 1) width
-spread_more word lane width =
-    let next : lane + 1 ≡ suc lane = omega arith in
-    let f = λ (l : ℕ). map (λ i. l * width + i) (below width) in
-    sym (ap (λ n. flat_map f (filter (is_on word) (below n))) next
-    ∙ ap (flat_map f) (filter_below_more (is_on word) lane)
-    ∙ flat_map-append f (filter (is_on word) (below lane)) (cond (is_on word lane) (lane ∷ []) [])
-    ∙ ap (λ L. spread_below word lane width ++ L) (by_answer (is_on word lane)))
-  where
-    by_answer : (b : Bool) → flat_map (λ l. map (λ i. l * width + i) (below width)) (cond b (lane ∷ []) []) ≡ cond b (map (λ i. lane * width + i) (below width)) []
-    by_answer true = append-nil (map (λ i. lane * width + i) (below width))
-    by_answer false = refl
 
 -- the first lane that isn't the word's ends a run of lanes that are
 pub run_lanes : (word lane end : ℕ) → word < 2 ^ 64 → end ≤ 64 → ((l : ℕ) → lane ≤ l → l < end → is_on (bit_not w64 word) l ≡ false) → (l : ℕ) → lane ≤ l → l < end → is_on word l ≡ true
@@ -66,7 +53,7 @@ below_add : (a b : ℕ) → below (a + b) ≡ below a ++ map (λ i. a + i) (belo
 below_add a b = sym (all (a + b)) ∙ filter_split (λ i. true) a b ∙ ap₂ (λ L M. L ++ map (λ i. a + i) M) (all a) (all b)
   where
     all : (n : ℕ) → filter (λ i. true) (below n) ≡ below n
-    all n = first_so_far (λ i. true) n n (omega arith) (λ i l. refl) (λ i l k. absurd (omega (arith, l, k)))
+    all n = all_so_far (λ i. true) n (λ i l. refl)
 
 -- a run of the word's lanes is spread to a run
 run_more : (word lane n width : ℕ) → ((l : ℕ) → lane ≤ l → l < lane + n → is_on word l ≡ true) →
@@ -77,15 +64,17 @@ run_more word lane zero width on =
     ap (λ m. spread_below word m width) same ∙ sym (append-nil (spread_below word lane width)) ∙ ap (λ n. spread_below word lane width ++ map (λ i. lane * width + i) (below n)) (sym none)
 run_more word lane (suc n) width on =
     let so_far = spread_below word lane width in
-    let f = λ (i : ℕ). lane * width + i in
-    let next : lane + suc n ≡ lane + n + 1 = omega arith in
+    let f = λ (l : ℕ). map (λ i. l * width + i) (below width) in
+    let g = λ (i : ℕ). lane * width + i in
+    let next : lane + suc n ≡ suc (lane + n) = omega arith in
     let wide : suc n * width ≡ n * width + width = omega arith in
     let place : (i : ℕ) → (lane + n) * width + i ≡ lane * width + (n * width + i) = λ i. omega arith in
-    ap (λ m. spread_below word m width) next ∙ sym (spread_more word (lane + n) width)
-    ∙ ap₂ (λ L b. L ++ cond b (map (λ i. (lane + n) * width + i) (below width)) []) (run_more word lane n width (λ l h m. on l h (omega (arith, m)))) (on (lane + n) (omega arith) (omega arith))
-    ∙ append_assoc so_far (map f (below (n * width))) (map (λ i. (lane + n) * width + i) (below width))
-    ∙ ap (λ L. so_far ++ (map f (below (n * width)) ++ L)) ((λ j. map (λ (i : ℕ). place i j) (below width)) ∙ sym (map-map f (λ i. n * width + i) (below width)))
-    ∙ ap (λ L. so_far ++ L) (sym (map-append f (below (n * width)) (map (λ i. n * width + i) (below width))) ∙ ap (map f) (sym (below_add (n * width) width) ∙ ap below (sym wide)))
+    ap (λ m. spread_below word m width) next ∙ ap (flat_map f) (filter_below_more (is_on word) (lane + n))
+    ∙ flat_map-append f (filter (is_on word) (below (lane + n))) (cond (is_on word (lane + n)) ((lane + n) ∷ []) [])
+    ∙ ap₂ (λ L b. L ++ flat_map f (cond b ((lane + n) ∷ []) [])) (run_more word lane n width (λ l h m. on l h (omega (arith, m)))) (on (lane + n) (omega arith) (omega arith))
+    ∙ append_assoc so_far (map g (below (n * width))) (f (lane + n) ++ [])
+    ∙ ap (λ L. so_far ++ (map g (below (n * width)) ++ L)) (append-nil (f (lane + n)) ∙ (λ j. map (λ (i : ℕ). place i j) (below width)) ∙ sym (map-map g (λ i. n * width + i) (below width)))
+    ∙ ap (λ L. so_far ++ L) (sym (map-append g (below (n * width)) (map (λ i. n * width + i) (below width))) ∙ ap (map g) (sym (below_add (n * width) width) ∙ ap below (sym wide)))
 
 pub spread_run : (word lane end width : ℕ) → lane ≤ end → ((l : ℕ) → lane ≤ l → l < end → is_on word l ≡ true) →
     spread_below word lane width ++ map (λ i. lane * width + i) (below (end * width - lane * width)) ≡ spread_below word end width

@@ -1,5 +1,5 @@
 -- Entries that are judged by one seat.
-use Rattle.roman_repair.proofs.Common.{◌≡◌, ℕ, zero, suc, ◌+◌, ◌*◌, ◌^◌, ◌<◌, ◌≤◌, ◌==◌, Bool, cond, if◌then◌else◌, ◌||◌, List, [], ◌∷◌, ◌++◌, Option, None, Some, IsTrue, IsFalse, count_by, inl, inr, refl, sym, ap, ◌∙◌, subst, arith, append-nil, append_assoc, both_ways, or_left, eqb-true, false_from_ne_true, and_from, cases_eq, or_cases, or_right, IsIn, below, all_below, is_empty, Arena, Entry, is_listed, is_justified, Reason, Final, Act, listed_append, all_below_from, any_from, any_true, by_test, justified_is, readings_of_reason, is_possible, with_replay, readings_of-allowed, list_any, without_seat, AreKept, MayAskAlone, IsIntact, lets_hold}
+use Rattle.roman_repair.proofs.Common.{◌≡◌, ℕ, zero, suc, ◌+◌, ◌<◌, ◌≤◌, ◌==◌, Bool, cond, if◌then◌else◌, ◌||◌, List, [], ◌∷◌, ◌++◌, Option, None, Some, IsTrue, IsFalse, count_by, inl, inr, refl, sym, ap, ◌∙◌, subst, arith, append-nil, append_assoc, both_ways, or_left, eqb-true, false_from_ne_true, and_from, cases_eq, or_cases, or_right, IsIn, below, all_below, is_empty, Arena, Entry, is_listed, is_justified, Reason, Final, Act, listed_append, all_below_from, any_from, any_true, by_test, justified_is, readings_of_reason, is_possible, with_replay, readings_of-allowed, list_any, without_seat, AreKept, MayAskAlone, IsIntact, lets_hold}
 use Rattle.std.proofs.lemmas.Bool.{false≢true}
 use Rattle.std.proofs.Common.{add-one}
 use Rattle.roman_model.specs.Arena.{is_beaten}

@@ -1,6 +1,7 @@
 -- After a thaw or a join each entry of the old list would be kept if the changed seat had no outcomes.
 use Rattle.roman_repair.proofs.Common.{◌≡◌, ℕ, zero, suc, ◌+◌, ◌*◌, ◌%◌, ◌<◌, ◌==◌, Bool, true, false, not, ◌&&◌, ◌||◌, List, [], ◌∷◌, ◌++◌, map, flat_map, length, Some, IsTrue, IsFalse, if◌then◌else◌, slice_get, slice_index, inl, inr, refl, sym, ap, ◌∙◌, subst, arith, append-nil, append_assoc, both_ways, eqb-true, or_left, and_from, and_parts, eq-eqb, or_cases, or_right, IsIn, below, product_of, all_below, is_empty, Arena, Entry, IsOrder, is_listed, is_justified, is_among, Reason, Final, Act, length-map, length_push, Sys, Seat, IsSys, is_final, Sizes, sizes_of, count, pair_at, numbered, number, turned, sizes-turned, in_map, from_map, AreNumbers, in_below, justified_more, listed_append, map-map, all_below_from, any_from, any_true, by_test, flat_map_same, from_below, justified_is, map-flat_map, number_allows-turned, pair_at-grown, sizes-joined, grown_numbers, NamedSys, system_of, IsNamedSys, Board, pairs_of, has_entry, IsRelation, listed_numbers, candidates, list_any, is_ready, without_seat, AreKept, MayAskAlone}
 use Rattle.std.proofs.Common.{slice_set}
+use Rattle.std.proofs.lemmas.Option.{slice_get-get_or}
 use Rattle.std.proofs.lemmas.List.{get_or_append_left, set-append_left}
 use Rattle.roman_model.specs.Arena.{IsOrderFrom}
 use Rattle.roman_model.specs.Change.{grown, set_frozen}
@@ -127,9 +128,9 @@ thaw_carries s k = record {
 -- ---- a join
 
 get_before : {X : Type 0} (xs : List X) (x : X) (j : ℕ) → j < length xs → slice_get (xs ++ x ∷ []) j ≡ slice_get xs j
-get_before [] x j l = absurd (omega arith)
-get_before (y ∷ xs) x zero l = refl
-get_before (y ∷ xs) x (suc j) l = get_before xs x j (omega arith)
+get_before xs x j l =
+    slice_get-get_or (xs ++ x ∷ []) j x (let more : length (xs ++ x ∷ []) ≡ length xs + 1 = length_push xs x in omega (arith, more, l))
+    ∙ ap Some (get_or_append_left xs (x ∷ []) x j l) ∙ sym (slice_get-get_or xs j x l)
 
 -- a pair that isn't final for the seats isn't final for one seat more
 final_fewer : (seats : List Seat) (seat : Seat) (bs : List ℕ) (b : ℕ) → IsTrue (all_final (seats ++ seat ∷ []) (bs ++ b ∷ [])) → length bs ≡ length seats → IsTrue (all_final seats bs)

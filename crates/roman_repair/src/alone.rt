@@ -55,6 +55,7 @@ impl OneSeat for Joint {
 /// entries before the first one at which it serves. If there are none, drops the entries before the
 /// first one at which it doesn't serve, and from then on all seats must be asked. Returns the remaining
 /// lanes. Requires at least one lane.
+#[tactic(auto, using(crate::proofs::Fronts::row_there, crate::proofs::Replayed::lane_alive))]
 pub(crate) fn keep_alone<J: OneSeat, L: Ledger>(
     joint: &J,
     order: &mut Order,

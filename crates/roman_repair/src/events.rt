@@ -17,6 +17,7 @@ use std::sync::ledger::Ledger;
 /// be justified. If there are none, asks the row, drops the entries before the first justified one,
 /// and lists those from there up to the next one that isn't justified. Returns the remaining lanes.
 /// Requires at least one lane.
+#[tactic(auto, using(crate::proofs::Fronts::row_there, crate::proofs::Replayed::lane_alive))]
 fn keep_front<J: Rules, L: Ledger>(
     joint: &J,
     order: &mut Order,

@@ -1,4 +1,4 @@
-//! Replays entries that stand for several pairs each.
+//! Replays the pending entries, each for the pairs for which it stands.
 ghost use Rattle.std.specs.Prelude.{◌≡◌};
 ghost use Rattle.roman_repair.specs.Judging.{HasReplayed, CanReplayAll, HasReplayedAll};
 ghost use Rattle.roman_repair.specs.Growing.{RowsGrow, CanGrow, entries_grown};

@@ -1,28 +1,16 @@
-use Rattle.roman_repair.proofs.Common.{◌≡◌, ◌+◌, ◌*◌, ◌<◌, [], ◌++◌, true, IsFalse, refl, sym, ap, ◌∙◌, arith, append-nil, is_listed, is_justified, set_lanes, set_lanes-zero, in_lanes, words_rows, none-some}
+use Rattle.roman_repair.proofs.Common.{◌≡◌, ◌+◌, ◌*◌, [], ◌++◌, IsFalse, refl, sym, ap, ◌∙◌, arith, append-nil, is_listed, is_justified, set_lanes, set_lanes-zero, in_lanes, words_rows, none-some}
 use Rattle.roman_order.proofs.CallerLemmas.{some_lane}
 use Rattle.roman_repair.specs.Judging.{lane_entries}
 use Rattle.roman_repair.proofs.Fronts.{word_fits, judged_row, on_not_off, with_replay_none}
 use Rattle.roman_repair.proofs.BandAnswers.{let_in}
 use Rattle.roman_repair.proofs.JudgedAlone.{unlet}
-use Rattle.roman_repair.proofs.Replayed.{lane_alive, entries_by, some_judged, never_both, judged, judged_alone, judged_let, one_paid}
+use Rattle.roman_repair.proofs.Replayed.{entries_by, some_judged, never_both, judged, judged_alone, judged_let, one_paid}
 use Rattle.roman_repair.proofs.alone.keep_alone.Goals as goal
-
-pub push_lanes-requires-clause-row : goal.push_lanes-requires-clause-row
-push_lanes-requires-clause-row g c = (judged_row _ _ _ _ _ _ c.known.ensures.numbered c.known.ensures.lanes.1 c.requires).row
-
-pub push_lanes-requires-clause-alive : goal.push_lanes-requires-clause-alive
-push_lanes-requires-clause-alive g c lane on = lane_alive _ _ _ _ _ lane c.requires.event c.known.ensures.lanes.1 (c.split_lanes-known_front.ensures.in_front lane on)
 
 pub ask_alone-held-requires : goal.ask_alone-held-requires
 ask_alone-held-requires g c =
     let row = judged_row _ _ _ _ _ _ c.known.ensures.numbered c.known.ensures.lanes.1 c.requires in
     record { seat = (judged_alone _ _ _ _ _ _ c.requires).0; row = row.node; reason = row.action; room = grind arith }
-
-pub push_lanes-requires-then-front-ne0-clause-row : goal.push_lanes-requires-then-front-ne0-clause-row
-push_lanes-requires-then-front-ne0-clause-row g c = (judged_row _ _ _ _ _ _ c.known.ensures.numbered c.known.ensures.lanes.1 c.requires).row
-
-pub push_lanes-requires-then-front-ne0-clause-alive : goal.push_lanes-requires-then-front-ne0-clause-alive
-push_lanes-requires-then-front-ne0-clause-alive g c lane on = lane_alive _ _ _ _ _ lane c.requires.event c.known.ensures.lanes.1 (c.split_lanes-front.ensures.in_front lane on)
 
 pub returns-then-known_front-ne0 : goal.returns-then-known_front-ne0
 returns-then-known_front-ne0 g c =

@@ -3,14 +3,8 @@ use Rattle.roman_order.proofs.CallerLemmas.{some_lane}
 use Rattle.roman_repair.specs.Judging.{lane_entries}
 use Rattle.roman_repair.proofs.Keeping.{with_replay_append}
 use Rattle.roman_repair.proofs.Fronts.{word_fits, judged_row, on_not_off, with_replay_all, with_replay_none}
-use Rattle.roman_repair.proofs.Replayed.{lane_alive, lane_possible, entries_by, paid, some_judged, never_both, judged}
+use Rattle.roman_repair.proofs.Replayed.{lane_possible, entries_by, paid, some_judged, never_both, judged}
 use Rattle.roman_repair.proofs.events.keep_front.Goals as goal
-
-pub push_lanes-requires-clause-row : goal.push_lanes-requires-clause-row
-push_lanes-requires-clause-row g c = (judged_row _ _ _ _ _ _ c.known.ensures.numbered c.known.ensures.lanes.1 c.requires).row
-
-pub push_lanes-requires-clause-alive : goal.push_lanes-requires-clause-alive
-push_lanes-requires-clause-alive g c lane on = lane_alive _ _ _ _ _ lane c.requires.event c.known.ensures.lanes.1 (c.split_lanes-front.ensures.in_front lane on)
 
 pub returns-then-front-ne0 : goal.returns-then-front-ne0
 returns-then-front-ne0 g c =
@@ -31,13 +25,6 @@ pub ask-held-requires-clause-ask : goal.ask-held-requires-clause-ask
 ask-held-requires-clause-ask g c =
     let row = judged_row _ _ _ _ _ _ c.known.ensures.numbered c.known.ensures.lanes.1 c.requires in
     record { row = row.node; reason = row.action; room = grind arith }
-
-pub push_lanes-requires-2-clause-row : goal.push_lanes-requires-2-clause-row
-push_lanes-requires-2-clause-row g c = (judged_row _ _ _ _ _ _ c.known.ensures.numbered c.known.ensures.lanes.1 c.requires).row
-
-pub push_lanes-requires-2-clause-alive : goal.push_lanes-requires-2-clause-alive
-push_lanes-requires-2-clause-alive g c lane on =
-    lane_alive _ _ _ _ _ lane c.requires.event c.known.ensures.lanes.1 (c.split_lanes-from_held.ensures.in_rest lane (c.split_lanes-front-2.ensures.in_front lane on))
 
 pub returns : goal.returns
 returns g c =

@@ -1,4 +1,4 @@
-use Rattle.roman_repair.proofs.Common.{◌+◌, ◌*◌, ◌/◌, ◌≤◌, ◌≡◌, refl, sym, ap, ◌∙◌, subst, arith, Board, IsShaped, HasReplayed}
+use Rattle.roman_repair.proofs.Common.{◌*◌, ◌/◌, ◌≤◌, ◌≡◌, refl, sym, ap, ◌∙◌, subst, arith, Board, IsShaped, HasReplayed}
 use Rattle.roman_repair.specs.Judging.{CanReplay}
 use Rattle.roman_repair.proofs.DeathParts.{parts_fit}
 use Rattle.roman_repair.proofs.Replayed.{replayed_none, replayed_both}
