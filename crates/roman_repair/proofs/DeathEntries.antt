@@ -191,7 +191,7 @@ pub row_begin : (n x word bound : ℕ) (reason : Reason) → ((lane : ℕ) → i
 row_begin n x word bound reason first =
     ap (map (λ lane. as_entry (x * n + lane, reason))) (none_so_far (is_on word) bound (λ lane l. false_from_ne_true (is_on word lane) (λ on. omega (arith, first lane on, l))))
 
--- The pairs of a pending event are in range.
+-- The pairs of a waiting event are in range.
 
 pub record IsEventIn (lanes bound : ℕ) (rest : List (Entry ℕ)) (e : Event) : Type 0 where
   pub within : (lane : ℕ) → is_on e.lanes lane ≡ true → (lane < lanes) × (e.row * lanes + lane < bound)

@@ -51,7 +51,7 @@ fresh_other board e x word is ne rows = grind (arith, other_row)
 pub nothing_gathered : (board : Board) → IsGathered board (record { row = 0; reason = Final; lanes = 0 })
 nothing_gathered board = grind (arith, both_ways, on_zero)
 
--- entries stay gathered where only the pending ones change
+-- entries stay gathered where only the waiting ones change
 pub still_gathered : (old new : Board) (e : Event) → new ≡ record old { waiting = new.waiting } → IsGathered old e → IsGathered new e
 still_gathered old new e rest is = subst (λ (b : Board). IsGathered b e) (sym rest) (record { row = is.row; within = is.within; alive = is.alive })
 

@@ -51,13 +51,13 @@ pub replay_next : (A : Arena ℕ) (n : ℕ) (kept new all L M N : List (Entry �
 replay_next A n kept new all L M N asked now before after can parts is =
     replay_first A n new M N now (replay_rest A n kept new L (M ++ N) asked now before after (subst (CanReplay A n kept asked) parts can) is)
 
--- ---- the pending entries, event by event
+-- ---- the waiting entries, event by event
 
--- all pending entries can be replayed, with nothing known of a band
+-- all waiting entries can be replayed, with nothing known of a band
 pub all_ready : (A : Arena ℕ) (n k : ℕ) (order : Board) (asked : AskedBand) (L : List (Entry ℕ)) → CanReplayAll A n k order L → asked.alone ≡ Some k → HoldsInBand A n (is_listed A order.list) asked → CanReplay A n order.list asked L
 all_ready A n k order asked L can alone known = record { candidates = can.candidates; may = subst (λ o. MayAskAlone A o order.list L) (sym alone) can.may; known = known }
 
--- what the first pending entries stand for was replayed, and the others are pending
+-- what the first waiting entries stand for was replayed, and the others are waiting
 pub record IsReplaying (A : Arena ℕ) (n : ℕ) (grow : List (Entry ℕ) → List (Entry ℕ)) (start now : Board) (asked on : AskedBand) (before after : ℕ) : Type 0 where
   pub done : List (Entry ℕ)
   pub parts : start.waiting ≡ done ++ now.waiting

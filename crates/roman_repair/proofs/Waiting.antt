@@ -45,7 +45,7 @@ room_to_reopen joint old shape rows lanes known caps is whole wide =
 pub shaped_for : (s : Sys) (shape : Sizes) (new : Board) → shape ≡ sizes_of s → new.rows * lanes_of shape.seats ≡ count shape → new.lanes ≡ lanes_of shape.seats → IsShaped (numbered s) (lanes_in s) new
 shaped_for s shape new is whole wide = grind (arith, length-below)
 
--- the whole list is pending for the changed system, and stands for the renamed list
+-- the whole list is waiting for the changed system, and stands for the renamed list
 pub record IsReopened (change : Change) (s : Sys) (joint : NamedSys) (states : ℕ) (old : List (Entry ℕ)) (reopened : Board) : Type 0 where
   pub replays : NumbersReplay change s old
   pub system : system_of joint ≡ after change s

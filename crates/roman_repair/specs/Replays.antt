@@ -37,8 +37,8 @@ abbrev pub candidates : ℕ → Board → List (Entry ℕ)
 candidates states board = flat_map (grown_numbers states) board.waiting
 
 -- the replay of these candidates in the joint's system
-abbrev pub pending_replay : NamedSys → ℕ → Board → List (Entry ℕ)
-pending_replay joint states board = replay (arena_of joint) (candidates states board)
+abbrev pub waiting_replay : NamedSys → ℕ → Board → List (Entry ℕ)
+waiting_replay joint states board = replay (arena_of joint) (candidates states board)
 
 -- the whole list waits in an empty order for the changed system, the order has room, and the replay of the candidates is a removal list
 pub record IsReplayable (joint : NamedSys) (states : ℕ) (board : Board) : Type 0 where
@@ -46,7 +46,7 @@ pub record IsReplayable (joint : NamedSys) (states : ℕ) (board : Board) : Type
   pub caps : HasCaps joint board
   pub empty : board.list ≡ []
   pub may : AreCandidates (arena_of joint) [] (candidates states board)
-  pub valid : IsOrder (arena_of joint) (pending_replay joint states board)
+  pub valid : IsOrder (arena_of joint) (waiting_replay joint states board)
 
 -- a row has whole slices of so many states, and one of so many lanes becomes whole rows where each lane becomes a slice
 pub record AreSlices (row lanes states : ℕ) : Type 0 where

@@ -1,4 +1,4 @@
-//! Replays the pending entries, each for the pairs for which it stands.
+//! Replays the waiting entries, each for the pairs for which it stands.
 ghost use Rattle.std.specs.Prelude.{◌≡◌};
 ghost use Rattle.roman_repair.specs.Judging.{HasReplayed, CanReplayAll, HasReplayedAll};
 ghost use Rattle.roman_repair.specs.Growing.{RowsGrow, CanGrow, entries_grown};

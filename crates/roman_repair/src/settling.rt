@@ -6,7 +6,7 @@ ghost use Rattle.roman_relation.specs.Greatest.{arena_of};
 ghost use Rattle.roman_repair.specs.Alone.{MayAskAlone};
 ghost use Rattle.roman_repair.specs.Growing.{RowsGrow};
 ghost use Rattle.roman_repair.specs.Repairs.{IsBegun, IsSettledOn, IsWithinReading, fall_of};
-ghost use Rattle.roman_repair.specs.Replays.{candidates, pending_replay, IsReplayable};
+ghost use Rattle.roman_repair.specs.Replays.{candidates, waiting_replay, IsReplayable};
 
 use crate::replaying::{Newcomer, replay};
 use crate::tally::Tally;
@@ -40,7 +40,7 @@ pub(crate) fn replay_and_settle_on<L: Ledger>(
     requires replayable { IsReplayable relation.old.joint newcomer.states relation.old.order }
     requires may { MayAskAlone (arena_of relation.old.joint) (Some newcomer.k) relation.old.order.list (candidates newcomer.states relation.old.order) }
     requires grows { RowsGrow (lanes_in (system_of relation.old.joint)) newcomer relation.old.order }
-    ensures settled { IsSettledOn relation.old.joint (pending_replay relation.old.joint newcomer.states relation.old.order) relation.new.joint relation.new.order result }
+    ensures settled { IsSettledOn relation.old.joint (waiting_replay relation.old.joint newcomer.states relation.old.order) relation.new.joint relation.new.order result }
     ensures cost { IsWithinReading relation.new.joint relation.new.order result steps.old steps.new }
 {
     relation.joint.known();

@@ -1,7 +1,7 @@
 use Rattle.roman_repair.proofs.Common.{◌≡◌, ℕ, ◌<◌, length, IsIn, Seat, Entry, Die, CanChange, sizes_of, count, rename_numbers, system_of, list_and, list_with, IsGathered}
 use Rattle.roman_repair.proofs.dying.renaming.rename_list.Given as goal
 
--- the entries so far are renamed, and the others are pending
+-- the entries so far are renamed, and the others are waiting
 abbrev pub invariant-waiting : goal.invariant-waiting
 invariant-waiting l = record {
   list : (seat : Seat) → CanChange (Die l.k seat) (system_of l.joint) →
@@ -11,6 +11,6 @@ invariant-waiting l = record {
   rest : l.order ≡ record l.initial.order { list = l.order.list; waiting = l.order.waiting };
 }
 
--- each turn takes a pending event
+-- each turn takes a waiting event
 abbrev pub decreases-waiting : goal.decreases-waiting
 decreases-waiting l = length l.order.waiting
