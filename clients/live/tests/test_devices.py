@@ -308,7 +308,8 @@ class LeftAtWork(Devices):
         with self.assertRaises((OSError, http.client.HTTPException)):
             self.request("boil")
 
-    def test_it_is_waited_for(self) -> None:
+    def kill_at_work(self) -> None:
+        """Kills the home while the kettle boils."""
         self.served("brighten")
         self.world.manners["kettle"] = "slow"
         asking = threading.Thread(target=self.boil_in_vain)
@@ -316,6 +317,9 @@ class LeftAtWork(Devices):
         until(lambda: ("kettle", "boil") in self.world.asked, "the call")
         self.live.kill()
         asking.join(PATIENCE)
+
+    def test_it_is_waited_for(self) -> None:
+        self.kill_at_work()
         threading.Timer(2.0, self.world.release.set).start()
         self.live.start()
         self.assertEqual(self.live.state()["counts"]["served"], 2)
@@ -339,13 +343,7 @@ class RepeatedLeftAtWork(LeftAtWork):
         return f"{super().home()}repeat = true\n"
 
     def test_it_is_waited_for(self) -> None:
-        self.served("brighten")
-        self.world.manners["kettle"] = "slow"
-        asking = threading.Thread(target=self.boil_in_vain)
-        asking.start()
-        until(lambda: ("kettle", "boil") in self.world.asked, "the call")
-        self.live.kill()
-        asking.join(PATIENCE)
+        self.kill_at_work()
         self.live.start(wait=False)
         until(lambda: "is waited for" in self.live.text(), "that it waits")
         self.assertEqual(self.world.asked.count(("kettle", "boil")), 1)
