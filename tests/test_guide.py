@@ -83,8 +83,6 @@ class Guide(unittest.TestCase):
             self.assertTrue(shown)
             for line in shown:
                 self.assertIn(line, written)
-        (short,) = blocks("python", README)
-        self.assertIn("ceiling", self.runs(short))
 
     def test_a_copy_of_a_sample_finds_its_schema(self) -> None:
         """In its folder, and at the top of the repository."""

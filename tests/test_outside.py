@@ -172,9 +172,9 @@ class Tree(unittest.TestCase):
         self.addCleanup(folder.cleanup)
         self.top = Path(folder.name) / "top"
         self.prefix = Path(folder.name) / "prefix"
-        for name in ("roman", "install", "docs/roman.1", "docs/roman-live.1", "docs/roman-tools.1", "samples/lamp.json"):
+        for name in ("roman", "install"):
             self.copy(name)
-        for name in ("schema", "tools", "clients"):
+        for name in ("schema", "tools", "clients", "docs", "samples"):
             shutil.copytree(TOP / name, self.top / name)
         self.program = self.top / "crates/roman_cli/out/roman_cli"
         self.program.parent.mkdir(parents=True)
@@ -270,6 +270,7 @@ class Install(Tree):
         "bin/roman-draw",
         *(f"share/man/man1/roman{name}.1" for name in ("", "-draw", "-expand", "-lint", "-live", "-talk")),
         "share/doc/roman/examples/roman-live.service",
+        "share/doc/roman/roman-live.md",
         "share/roman/schema/system.schema.json",
         "share/roman/schema/costs.schema.json",
         "share/roman/schema/short.schema.json",
@@ -305,6 +306,19 @@ class Install(Tree):
         done = run(str(self.prefix / "bin" / "roman-draw"), lamp, "--dot")
         self.assertEqual((done.returncode, done.stderr), (0, ""))
         self.assertIn("digraph roman", done.stdout)
+
+    def test_the_guide_has_beside_it_what_it_names(self) -> None:
+        self.build()
+        self.assertEqual(self.install(str(self.prefix)).returncode, 0)
+        guide = self.prefix / "share/doc/roman/GUIDE.md"
+        text = guide.read_text(encoding="utf-8")
+        named = {*re.findall(r"\]\(([^)]+)\)", text), *re.findall(r"samples/[\w./-]*\w", text)}
+        self.assertGreater(len(named), 15)
+        for name in named:
+            self.assertTrue((guide.parent / name).exists(), name)
+        program = str(self.prefix / "bin/roman")
+        done = run(program, "run", "samples/greenhouse.json", "samples/greenhouse.session", cwd=guide.parent)
+        self.assertEqual(done.stdout, (guide.parent / "samples/greenhouse.replies").read_text(encoding="utf-8"))
 
     def test_python_finds_the_client(self) -> None:
         self.build()
@@ -411,6 +425,8 @@ class Install(Tree):
             "share/man/man1/roman-live.1.gz",
             "share/doc/roman/changelog.gz",
             "share/doc/roman/copyright",
+            "share/doc/roman/GUIDE.md",
+            "share/doc/roman/samples/home.json",
             "share/roman/schema/system.schema.json",
             "share/bash-completion/completions/roman",
             "share/zsh/vendor-completions/_roman",

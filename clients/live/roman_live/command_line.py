@@ -17,7 +17,7 @@ from .home import Home
 from .homefile import HomeFile, HomeFileError
 from .requests import Requests
 from .server import Server
-from .service import Supervisor, begin_log, complain
+from .service import Supervisor, begin_log, complain, greet
 
 LOG = logging.getLogger("roman_live")
 
@@ -114,7 +114,7 @@ async def run(file: HomeFile, simulate: bool) -> None:
         if supervisor.listens:
             home.shown.listener = supervisor.status
             home.dirty.set()
-        print(f"{file.document.name} is at {server.url}/", flush=True)
+        greet(f"{file.document.name} is at {server.url}/")
         await supervisor.watch(ending)
         supervisor.stopping()
         if not simulate and home.open:

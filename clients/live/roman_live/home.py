@@ -5,6 +5,7 @@ from __future__ import annotations
 import asyncio
 import contextlib
 import logging
+import shutil
 import tempfile
 import time
 from collections import defaultdict
@@ -39,6 +40,7 @@ from roman_client import (
     protocol,
 )
 from roman_client.devices import Outcome, Told
+from roman_client.journal import Journal
 from roman_client.policies import Choice
 from roman_client.protocol import Event
 
@@ -48,7 +50,7 @@ from .devices import Answer, Reach, Simulated
 from .devices.making import make_reach
 from .events import EventLog, now
 from .homefile import HomeFile, HomeFileError, Policy
-from .kept import ANEW, Kept, check_journal
+from .kept import ANEW, GONE, Kept, check_folder, check_journal
 from .known import Knowledge
 from .metrics import Metrics
 from .policies import Choose, make_policy
@@ -156,20 +158,24 @@ class Home:
         try:
             self._make_devices()
             for service, device in self.devices.items():
-                if not device.reach.may_begin():
-                    raise HomeFileError(f"{self.file.path}: devices.{service}.command can't be run")
-            if self.file.journal is not None:
-                check_journal(self.file.journal, self.document)
+                hindrance = device.reach.hindrance()
+                if hindrance is not None:
+                    raise HomeFileError(f"{self.file.path}: devices.{service}.command can't be run: {hindrance}")
+            if self.file.journal is not None and not self.simulate:
+                check_journal(self.file.journal, self.document, self.devices)
         finally:
             await self.close()
 
     async def _begin_session(self) -> None:
         """Starts the program on the document."""
+        hint = ""
         try:
             folder = self._plain_folder()
+            if self.file.document.exists():
+                hint = f"; roman-lint {self.file.document} says where"
             self.document = Document.load(self.file.document.name, folder)
         except DocumentError as error:
-            raise HomeFileError(f"{self.file.path}: document: {error}") from None
+            raise HomeFileError(f"{self.file.path}: document: {error}{hint}") from None
         program = self._program()
         seconds = self.file.program_seconds
         self.session = aio.Session(self.file.document.name, program=program, folder=folder, timeout=seconds)
@@ -178,16 +184,15 @@ class Home:
         except ProgramEnded as error:
             if error.status not in REFUSED:
                 raise
-            hint = f"roman-lint {self.file.document} says where"
-            raise HomeFileError(f"{self.file.path}: document: {error}; {hint}") from None
+            raise HomeFileError(f"{self.file.path}: document: {error}{hint}") from None
         except NoReply as error:
             raise NoProgram(
                 f"{self.file.path}: program is {program!r}, which gave {error}; program_seconds gives it more"
             ) from None
         except OSError as error:
-            raise NoProgram(
-                f"{self.file.path}: program is {program!r}, which can't be started: {error.strerror}"
-            ) from None
+            known = "/" in program or shutil.which(program) is not None
+            why = f"can't be started: {error.strerror}" if known else "isn't in PATH; say there where it is"
+            raise NoProgram(f"{self.file.path}: program is {program!r}, which {why}") from None
 
     def _plain_folder(self) -> Path:
         """The folder in which the document stands in its plain form, under its own name. Raises
@@ -257,19 +262,21 @@ class Home:
         if journal is None or self.simulate:
             # The program may end without the home: a journal for this run alone lets it go on.
             journal = self._own_folder() / "journal"
+        check_folder(journal)
         self._journal = journal
-        self.kept = Kept(journal)
-        self.dispatcher = aio.Dispatcher(
-            self.session, self.devices, policy=self._choose, store=journal, watch=self._watch
-        )
         try:
+            store = Journal(journal)  # From here on no other home writes there.
+            self.dispatcher = aio.Dispatcher(
+                self.session, self.devices, policy=self._choose, store=store, watch=self._watch
+            )
+            self.kept = Kept(journal)
             await self.dispatcher.begin()
         except StoreLocked as error:
             raise StoreLocked(f"{error}; does this home run already?") from None
         except StoreBroken as error:
             raise HomeFileError(f"{self.file.path}: journal.path: {error}; {ANEW}") from None
         except ValueError as error:
-            raise HomeFileError(f"{self.file.path}: {error}, which the journal has") from None
+            raise HomeFileError(f"{self.file.path}: {error}, which the journal has; {GONE}") from None
         self.at_work()
         report = await self.dispatcher.report()
         self.known.take(report)
@@ -510,6 +517,10 @@ class Home:
             device.reach.holds = (self.at_work().file,)
             await device.reach.open()
         await self.dispatcher.join(service, behaviour, state, device, loose=loose)
+
+    async def record(self, action: str, service: str, outcome: Outcome, key: Optional[str]) -> None:
+        """A request that was in doubt was served, with that outcome. No device is asked."""
+        await self.dispatcher.record(action, service, *outcome, key)
 
     async def jump(self, service: str, state: str) -> None:
         """A service is in that state now."""

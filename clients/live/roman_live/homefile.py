@@ -275,8 +275,12 @@ def words(value: Any) -> Tuple[str, ...]:
 
 def url(value: Any) -> str:
     """A URL of http or https."""
-    place = urlsplit(value) if isinstance(value, str) else None
-    if place is None or place.scheme not in ("http", "https") or not place.hostname:
+    try:
+        place = urlsplit(value if isinstance(value, str) else "")
+        known = place.scheme in ("http", "https") and bool(place.hostname) and place.port != 0
+    except ValueError:  # Its port is no number of a port, or a bracket is missing.
+        known = False
+    if not known:
         raise ValueError('a URL, as "http://192.168.1.20/blind"')
     return str(value)
 

@@ -21,7 +21,7 @@ from .home import Home
 from .homefile import Page, is_loopback
 from .pictures import picture
 from .states import explanation_to_json, failures_to_json
-from .troubles import TROUBLE, Busy, NoDevice, Nowhere, UnknownAction
+from .troubles import TROUBLE, Busy, NoDevice, NoPage, Nowhere, UnknownAction, in_words
 
 LONGEST_BODY = 65_536
 """The most bytes of a body."""
@@ -47,7 +47,7 @@ class Server:
         self._closing = asyncio.Event()
 
     async def begin(self) -> None:
-        """Begins to listen. Raises OSError where that can't be."""
+        """Begins to listen. Raises NoPage where that can't be."""
         app = web.Application(client_max_size=LONGEST_BODY, middlewares=[self._guard])
         app.add_routes(
             [
@@ -60,13 +60,18 @@ class Server:
                 web.post("/services/{service}/{change:freeze|thaw|die|jump}", self._post_change),
                 web.post("/join", self._post_join),
                 web.post("/environment/jump", self._post_environment),
+                web.post("/record", self._post_record),
                 web.post("/outcome", self._post_outcome),
             ]
         )
         self._runner = web.AppRunner(app, access_log=None)
         await self._runner.setup()
         site = web.TCPSite(self._runner, self.page.host, self.page.port, shutdown_timeout=2.0)
-        await site.start()
+        try:
+            await site.start()
+        except OSError as error:
+            place = f"{self.page.host}, port {self.page.port}"
+            raise NoPage(f"{self.home.file.path}: page: it can't be at {place}: {in_words(error)}") from None
         port = self._runner.addresses[0][1]
         host = f"[{self.page.host}]" if ":" in self.page.host else self.page.host
         self.url = f"http://{host}:{port}"
@@ -218,6 +223,12 @@ class Server:
     async def _post_environment(self, request: web.Request) -> web.Response:
         body = await _body(request)
         return await self._changed(self.home.jump_environment(_text(body, "state")))
+
+    async def _post_record(self, request: web.Request) -> web.Response:
+        body = await _body(request)
+        action, service, key = _text(body, "action"), _text(body, "service"), _optional_text(body, "key")
+        outcome = _text(body, "state"), _text(body, "environment")
+        return await self._changed(self.home.record(action, service, outcome, key))
 
     async def _post_outcome(self, request: web.Request) -> web.Response:
         body = await _body(request)

@@ -3,6 +3,7 @@
 from __future__ import annotations
 
 import asyncio
+import contextlib
 import logging
 import os
 import sys
@@ -41,11 +42,21 @@ def begin_log(level: int) -> None:
     logging.getLogger("roman_client").setLevel(logging.WARNING)
 
 
+def greet(text: str) -> None:
+    """Writes a line to the standard output. The home runs on where that can't be, as on a full disk."""
+    try:
+        print(text, flush=True)
+    except OSError:
+        with open(os.devnull, "wb") as nowhere:  # So that it isn't tried again at the end.
+            os.dup2(nowhere.fileno(), sys.stdout.fileno())
+
+
 def complain(error: Exception) -> None:
     """Says on the standard error why it ends."""
     mark = f"<{PRIORITIES[logging.ERROR]}>" if in_journal() else ""
     text = str(error).replace("\n", f"\n{mark}")
-    print(f"{mark}roman-live: {text}", file=sys.stderr)
+    with contextlib.suppress(OSError):  # The status says that it failed.
+        print(f"{mark}roman-live: {text}", file=sys.stderr)
 
 
 class Supervisor:

@@ -3,8 +3,9 @@
 from __future__ import annotations
 
 import os
+import ssl
 
-from aiohttp import ClientConnectorError
+from aiohttp import ClientConnectorCertificateError, ClientConnectorError
 from roman_client import RomanError
 
 TROUBLE = (RomanError, OSError)
@@ -35,6 +36,10 @@ class Nobody(RomanError):
     """No home answers."""
 
 
+class NoPage(RomanError):
+    """The page can't be where the home file says."""
+
+
 class NoRoom(RomanError):
     """A file that the home needs can't be read or written now, as on a full disk."""
 
@@ -49,5 +54,14 @@ class NoDevice(RomanError):
 
 def unreached(error: ClientConnectorError) -> str:
     """Why there is no connection, in the words of the system."""
-    number = error.os_error.errno
-    return os.strerror(number) if number and number > 0 else str(error.os_error)
+    if isinstance(error, ClientConnectorCertificateError):
+        why = error.certificate_error
+        return f"its certificate isn't believed: {getattr(why, 'verify_message', why)}"
+    return in_words(error.os_error)
+
+
+def in_words(error: OSError) -> str:
+    """An error in the words of the system, without what the library adds."""
+    if isinstance(error, ssl.SSLError):
+        return f"TLS: {(error.reason or str(error)).replace('_', ' ').lower()}"
+    return os.strerror(error.errno) if error.errno and error.errno > 0 else str(error)

@@ -11,7 +11,7 @@ import time
 import urllib.error
 import urllib.request
 from pathlib import Path
-from typing import Any, Callable, Dict, List, Optional, Tuple, Type
+from typing import IO, Any, Callable, Dict, List, Optional, Tuple, Type, Union
 
 from . import LIVE, PROGRAM
 
@@ -121,12 +121,12 @@ class Live:
         self.log = folder / "log"
         self.process: "subprocess.Popen[bytes]"
 
-    def start(self, wait: bool = True) -> None:
+    def start(self, wait: bool = True, output: Union[int, IO[bytes]] = subprocess.DEVNULL) -> None:
         """Starts it, and waits until its page is there."""
         with self.log.open("ab") as log:
             self.process = subprocess.Popen(
                 [str(LIVE / "roman-live"), *self.words, str(self.file)],
-                stdout=subprocess.DEVNULL,
+                stdout=output,
                 stderr=log,
                 env={**os.environ, "PYTHONUNBUFFERED": "1"},
             )

@@ -3,6 +3,7 @@
 import asyncio
 import os
 import signal
+import socket
 import tempfile
 import unittest
 from pathlib import Path
@@ -11,13 +12,14 @@ from unittest import mock
 
 from . import PROGRAM, sample
 
-from roman_client import Call, DeviceFailed
+from roman_client import Call, DeviceFailed, InDoubt, StoreLocked
+from roman_client.journal import Journal
 from roman_live import home as homes
 from roman_live import returning, troubles
 from roman_live.devices import Answer, Listener, Reach
 from roman_live.home import Home
 from roman_live.homefile import HomeFile, HomeFileError
-from roman_live.server import result
+from roman_live.server import Server, result
 
 HOME = ("window", "ceiling", "kettle")
 SERVICES = {"depot": ("belt", "drone", "van", "broom"), "home": HOME, "short/home": HOME}
@@ -161,6 +163,28 @@ class Beginning(InProcess):
         with self.assertRaisesRegex(troubles.NoProgram, "program is '/nowhere', which can't be started: No such file"):
             with mock.patch(f"{__name__}.PROGRAM", "/nowhere"):
                 await self.begin("home")
+        with self.assertRaisesRegex(troubles.NoProgram, "program is 'no-such-roman', which isn't in PATH; say there"):
+            with mock.patch(f"{__name__}.PROGRAM", "no-such-roman"):
+                await self.begin("home")
+
+    async def test_a_document_that_is_none(self) -> None:
+        """Its reader stops at what it lacks first, and roman-lint says all."""
+        file = self.folder / "home.toml"
+        file.write_text(f'document = "mine.json"\nprogram = "{PROGRAM}"\n', encoding="utf-8")
+        with self.assertRaisesRegex(HomeFileError, "home.toml: document: /.*/mine.json: No such file or directory$"):
+            await Home(HomeFile.read(file)).begin()
+        (self.folder / "mine.json").write_text('{"roman": 1}', encoding="utf-8")
+        with self.assertRaisesRegex(HomeFileError, "home.toml: document: mine.json: .*; roman-lint /.*/mine.json says"):
+            await Home(HomeFile.read(file)).begin()
+
+    async def test_a_port_that_is_taken(self) -> None:
+        with socket.create_server(("127.0.0.1", 0)) as taken:
+            port = taken.getsockname()[1]
+            home = await self.begin("home", f"[page]\nport = {port}")
+            server = Server(home, home.file.page)
+            self.addAsyncCleanup(server.close)
+            with self.assertRaisesRegex(troubles.NoPage, f"home.toml: page: .* 127.0.0.1, port {port}: Address already"):
+                await server.begin()
 
     async def test_a_document_that_is_refused(self) -> None:
         text = Path(sample("home.json")).read_text(encoding="utf-8")
@@ -184,6 +208,45 @@ class Beginning(InProcess):
         await home.close()
         with self.assertRaisesRegex(HomeFileError, "no device for the service spare, which the journal has"):
             await self.begin("home", journal)
+
+    async def test_beside_a_home_that_is_just_beginning(self) -> None:
+        """What that one keeps beside its journal stays as it is, though the journal isn't there yet."""
+        beginning = Journal(self.folder / "journal")
+        self.addCleanup(beginning.close)
+        kept = self.folder / "journal.live"
+        kept.write_text("its own", encoding="utf-8")
+        with self.assertRaisesRegex(StoreLocked, "does this home run already?"):
+            await self.begin("home", '[journal]\npath = "journal"')
+        self.assertEqual(kept.read_text(encoding="utf-8"), "its own")
+
+    async def test_a_service_that_joined_again(self) -> None:
+        """It is asked after the next start, too."""
+        journal = '[journal]\npath = "journal"'
+        home = await self.begin("home", journal)
+        await home.die("window")
+        await home.join("window", "blind", "shut", False)
+        await home.close()
+        home = await self.begin("home", journal)
+        await home.freeze("ceiling")
+        self.assertEqual((await home.request("brighten"))["served_by"], "window")
+
+    async def test_a_request_in_doubt_that_was_done(self) -> None:
+        journal = '[journal]\npath = "journal"'
+        home = await self.begin("home", journal)
+        self.gates["window"] = asyncio.Event()
+        asked = asyncio.ensure_future(home.request("brighten", "a"))
+        await self.until(lambda: self.asked)
+        await home.close()
+        self.assertIsInstance((await asyncio.gather(asked, return_exceptions=True))[0], BaseException)
+        self.states["window"] = "open"
+        home = await self.begin("home", journal)
+        await self.until(lambda: not home.known["window"].frozen)
+        with self.assertRaises(InDoubt):
+            await home.request("brighten", "a")
+        await home.jump("window", "shut")  # Where it was before.
+        await home.record("brighten", "window", ("open", "day"), "a")
+        self.assertEqual((await home.request("brighten", "a"))["served_by"], "window")
+        self.assertEqual(((await home.shown.state())["target"]["state"], self.asked), ("bright", ["window"]))
 
     async def test_a_service_that_is_new_in_the_document(self) -> None:
         journal = '[journal]\npath = "journal"'
@@ -250,13 +313,35 @@ class Checked(InProcess):
         with self.assertRaisesRegex(HomeFileError, "journal.path is '/.*/journal', which is no journal"):
             await self.check()
 
+    async def test_a_table_that_the_journal_needs(self) -> None:
+        """A service that joined needs one, also while the home runs, and one that is gone doesn't."""
+        journal = '[journal]\npath = "journal"'
+        with mock.patch.dict(SERVICES, home=(*HOME, "spare")):
+            home = await self.begin("home", journal)
+        await home.join("spare", "lamp", "off", False)
+        await home.jump("spare", "on")
+        with (self.folder / "journal").open("ab") as file:
+            file.write(b'{"event":"chan')  # It is being written.
+        await self.check()
+        text = (self.folder / "home.toml").read_text(encoding="utf-8")
+        (self.folder / "home.toml").write_text(text.partition("[devices.spare]")[0], encoding="utf-8")
+        with self.assertRaisesRegex(HomeFileError, "no device for the service spare, which the journal has; .* is gone"):
+            await self.check()
+        await home.die("spare")
+        await self.check()
+
     async def test_a_command_that_is_not_there(self) -> None:
         await (await self.begin("home")).close()
-        spare = '[devices.spare]\nreach = "command"\ncommand = ["./spare"]'
-        with self.assertRaisesRegex(HomeFileError, "home.toml: devices.spare.command can't be run"):
+        spare = '[devices.spare]\nreach = "command"\ncommand = ["./spare"]\n'
+        with self.assertRaisesRegex(HomeFileError, "home.toml: devices.spare.command can't be run: ./spare isn't there"):
             await self.check(spare)
-        (self.folder / "spare").touch(mode=0o755)
+        (self.folder / "spare").touch(mode=0o644)
+        with self.assertRaisesRegex(HomeFileError, "spare.command can't be run: ./spare may not be executed, .* chmod"):
+            await self.check()
+        (self.folder / "spare").chmod(0o755)
         await self.check()
+        with self.assertRaisesRegex(HomeFileError, "other.command can't be run: no-such-lamp isn't in PATH"):
+            await self.check('[devices.other]\nreach = "command"\ncommand = ["no-such-lamp"]\n')
 
 
 class ShortForm(InProcess):

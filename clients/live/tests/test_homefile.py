@@ -97,6 +97,8 @@ WRONG = (
         "devices.fan.ask is 'roman/requests', and so is one of mqtt.prefix",
     ),
     (f'{DEVICE}"http"\nurl = "ftp://x"', "devices.fan.url is 'ftp://x', and not a URL"),
+    (f'{DEVICE}"http"\nurl = "http://x:70000/"', "devices.fan.url is 'http://x:70000/', and not a URL"),
+    (f'{DEVICE}"http"\nurl = "http://[::1/"', "devices.fan.url is 'http://[::1/', and not a URL"),
     (f'{DEVICE}"http"\nurl = "http://x"\nseconds = 0', "devices.fan.seconds is 0, and not a number"),
     (f'{DEVICE}"command"\ncommand = "./x"', "devices.fan.command is './x', and not a list"),
     (f'{DEVICE}"command"\ncommand = ["x"]\nlines = 1', "devices.fan.lines is 1, and not true or false"),

@@ -9,7 +9,7 @@ from unittest import mock
 
 from roman_live.at_work import AtWork
 from roman_live.homefile import HomeFileError
-from roman_live.kept import Kept
+from roman_live.kept import Kept, check_folder
 from roman_live.troubles import NoRoom
 
 from .machinery import PATIENCE
@@ -21,8 +21,8 @@ class KeptBesideTheJournal(unittest.TestCase):
         self.addCleanup(folder.cleanup)
         self.journal = Path(folder.name) / "journal"
 
-    def begin(self, second: int) -> Kept:
-        with mock.patch("time.time", lambda: second):
+    def begin(self, second: float) -> Kept:
+        with mock.patch("time.time_ns", lambda: int(second * 1e9)):
             kept = Kept(self.journal)
         self.journal.touch()
         return kept
@@ -36,11 +36,12 @@ class KeptBesideTheJournal(unittest.TestCase):
         self.assertEqual((again.first, again.held), (first.first, {"window"}))
 
     def test_a_new_journal_has_other_numbers(self) -> None:
+        """It may be begun in the second of the one before, which has had some calls by then."""
         first = self.begin(1000)
         first.hold("window")
         self.journal.unlink()
-        fresh = self.begin(1001)
-        self.assertGreaterEqual(fresh.first, first.first + 1_000_000)
+        fresh = self.begin(1000.25)
+        self.assertGreaterEqual(fresh.first, first.first + 250_000)
         self.assertEqual(fresh.held, set())
 
     def test_what_cannot_be_read_is_named(self) -> None:
@@ -56,9 +57,8 @@ class KeptBesideTheJournal(unittest.TestCase):
             self.begin(1000)
 
     def test_a_folder_that_is_not_there(self) -> None:
-        self.journal = self.journal.parent / "none" / "journal"
         with self.assertRaisesRegex(HomeFileError, "journal.path is .*, and there is no folder"):
-            self.begin(1000)
+            check_folder(self.journal.parent / "none" / "journal")
 
     def test_what_could_not_be_written_is_written_later(self) -> None:
         kept = self.begin(1000)

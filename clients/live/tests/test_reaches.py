@@ -4,6 +4,8 @@ functions that hang."""
 from __future__ import annotations
 
 import asyncio
+import ssl
+import subprocess
 import sys
 import tempfile
 import threading
@@ -104,6 +106,26 @@ class HttpDevices(unittest.IsolatedAsyncioTestCase):
         self.assertNotIn("secret", str(raised.exception))
         self.assertTrue(str(raised.exception).endswith("/lamp: Connection refused"), str(raised.exception))
 
+    async def test_why_an_encrypted_connection_is_not_made(self) -> None:
+        folder = tempfile.TemporaryDirectory()
+        self.addCleanup(folder.cleanup)
+        words = "req -x509 -newkey rsa:2048 -nodes -keyout key -out certificate -days 2 -subj /CN=127.0.0.1"
+        subprocess.run(["/usr/bin/openssl", *words.split()], cwd=folder.name, check=True, capture_output=True)
+        own = ssl.SSLContext(ssl.PROTOCOL_TLS_SERVER)
+        own.load_cert_chain(f"{folder.name}/certificate", f"{folder.name}/key")
+
+        asyncio.get_running_loop().set_exception_handler(lambda *words: None)  # The server's own complaints.
+
+        async def close(reader: asyncio.StreamReader, writer: asyncio.StreamWriter) -> None:
+            writer.write(b"HTTP/1.1 400 Bad Request\r\n\r\n")
+            writer.close()
+
+        for context, why in ((own, "its certificate isn't believed: self-signed certificate"), (None, "TLS: wrong version number")):
+            async with await asyncio.start_server(close, "127.0.0.1", 0, ssl=context) as server:
+                device = await self.device(f"https://127.0.0.1:{server.sockets[0].getsockname()[1]}/")
+                with self.subTest(why), self.assertRaisesRegex(DeviceFailed, f"^https://127.0.0.1:[0-9]+/: {why}$"):
+                    await asyncio.wait_for(device.tell(None), PATIENCE)
+
     async def test_each_call_has_its_connection(self) -> None:
         """The device answers once on a connection, and is silent on it from then on."""
 
@@ -127,7 +149,7 @@ class PythonDevices(unittest.IsolatedAsyncioTestCase):
             module = type(sys)("things_of_a_test")
             module.lamp = found  # type: ignore[attr-defined]
             sys.modules[module.__name__] = module
-            self.addCleanup(sys.modules.pop, module.__name__)
+            self.addCleanup(lambda: sys.modules.pop(module.__name__, None))
             return PythonDevice("lamp", Heard(), PythonReach(module.__name__, "lamp", Path(folder)))
 
     async def test_one_that_cannot_be_loaded_is_named(self) -> None:
@@ -164,6 +186,21 @@ class PythonDevices(unittest.IsolatedAsyncioTestCase):
             except DeviceFailed:
                 await asyncio.sleep(0.01)
         self.assertEqual(len(called), 2)
+
+    async def test_one_that_would_end_the_home(self) -> None:
+        error: BaseException
+
+        def in_a_thread(action: str) -> str:
+            raise error
+
+        async def in_the_loop(action: str) -> str:
+            raise error
+
+        ends = (SystemExit("away"), KeyboardInterrupt())
+        for found, errors in ((in_a_thread, (*ends, StopIteration(), GeneratorExit())), (in_the_loop, ends)):
+            for error in errors:
+                with self.subTest(found=found, error=error), self.assertRaisesRegex(DeviceFailed, "^raised "):
+                    await asyncio.wait_for(self.device(found).ask(1, CALL), PATIENCE)
 
     async def test_an_object_that_is_called_as_a_coroutine(self) -> None:
         class Lamp:

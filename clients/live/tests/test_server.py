@@ -111,6 +111,16 @@ class Api(Served):
         self.assertEqual(post("/environment/jump", {"state": "dusk"})[1]["environment"], "dusk")
         self.assertEqual(post("/services/ghost/freeze", {})[0], 409)
 
+    def test_a_request_that_was_served_otherwise(self) -> None:
+        post = self.live.post
+        told = {"action": "brighten", "service": "window", "state": "open", "environment": "day", "key": "a"}
+        self.assertEqual(post("/record", {**told, "service": "kettle"}), (409, {"error": "not offered"}))
+        self.assertEqual(post("/record", {**told, "state": "ajar"}), (409, {"error": "impossible"}))
+        self.assertEqual(post("/record", {**told, "state": None})[0], 400)
+        status, state = post("/record", told)
+        self.assertEqual((status, state["target"]["state"], state["counts"]["served"]), (200, "bright", 1))
+        self.assertEqual(post("/requests", {"action": "brighten", "key": "a"})[1]["served_by"], "window")
+
     def test_bodies(self) -> None:
         url = f"{self.live.url}/requests"
         for body, status in (

@@ -59,6 +59,16 @@ class Service(unittest.TestCase):
         self.assertLessEqual(set(systemd.heard[1:-1]), {b"WATCHDOG=1", *lines})
 
 
+    def test_a_greeting_that_cannot_be_written(self) -> None:
+        folder = tempfile.TemporaryDirectory()
+        self.addCleanup(folder.cleanup)
+        live = Live(Path(folder.name), f'document = "{sample("home.json")}"', "--simulate")
+        with open("/dev/full", "wb") as full:
+            live.start(output=full)
+        self.addCleanup(live.kill)
+        self.assertEqual(live.stop(), 0)
+
+
 class Unit(unittest.TestCase):
     def test_how_it_ends_and_is_started_again(self) -> None:
         """What a device does isn't cut short by a stop, and a wrong file isn't tried for ever."""

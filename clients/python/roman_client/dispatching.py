@@ -488,8 +488,7 @@ class Dispatching(Generic[DeviceKind]):
         if words[0] == "join":
             self.behaviours[words[1]] = words[2]
         if words[0] == "die":
-            self.behaviours.pop(words[1], None)
-            self.devices.pop(words[1], None)
+            self.behaviours.pop(words[1], None)  # Its device stays, for where it joins again.
 
     def _ask_back(self) -> Steps[None]:
         """Thaws those that are back of the services that failed."""

@@ -332,7 +332,9 @@ def read_json(path: PathLike) -> Any:
         if len(data) > LONGEST_DOCUMENT:
             raise ValueError(f"it has more than {LONGEST_DOCUMENT:,} bytes")
         return json.loads(data.decode("utf-8"), parse_constant=_no_number)
-    except (OSError, ValueError, RecursionError) as error:
+    except OSError as error:
+        raise DocumentError(f"{os.fspath(path)}: {error.strerror}") from None
+    except (ValueError, RecursionError) as error:
         raise DocumentError(f"{os.fspath(path)}: {error}") from None
 
 

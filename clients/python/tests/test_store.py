@@ -94,6 +94,21 @@ class GoingOn(Stores):
         with self.dispatcher() as dispatcher:
             self.assertEqual(len(dispatcher.report().services), 3)
 
+    def test_a_service_that_joined_again(self) -> None:
+        """It has its device when the program has ended, and when the journal is read."""
+        with self.dispatcher() as dispatcher:
+            dispatcher.die("window")
+            dispatcher.join("window", "blind", "ajar", self.devices["window"])
+            dispatcher.freeze("ceiling")
+            dispatcher.session.close()
+            self.assertEqual(dispatcher.request("brighten").service, "window")
+            report = dispatcher.report()
+        with self.dispatcher() as dispatcher:
+            self.assertEqual(dispatcher.report(), report)
+            for action in ("boil", "pour"):
+                dispatcher.request(action)
+            self.assertEqual(dispatcher.request("dim").service, "window")
+
     def test_an_event_a_line(self) -> None:
         with self.dispatcher() as dispatcher:
             dispatcher.request("brighten")
@@ -536,7 +551,7 @@ class FullDisk(Stores):
             with self.full(more=10), self.assertRaises(roman.StoreFailed):
                 dispatcher.join("blind", "blind", "shut", Home())
             dispatcher.die("ceiling")
-            self.assertEqual(dispatcher.core.devices.keys(), {"window", "kettle", "blind"})
+            self.assertEqual(dispatcher.core.devices.keys(), {"window", "ceiling", "kettle", "blind"})
 
     def test_an_interrupt_meanwhile(self) -> None:
         with self.dispatcher() as dispatcher:

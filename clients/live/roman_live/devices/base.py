@@ -53,9 +53,9 @@ class Reach:
         self.service = service
         self.listener = listener
 
-    def may_begin(self) -> bool:
-        """Whether what it is reached by is there, as far as that is known without asking it."""
-        return True
+    def hindrance(self) -> Optional[str]:
+        """Why what it is reached by can't be asked, as far as that is known without asking it."""
+        return None
 
     async def open(self) -> None:
         """Makes it ready to be asked."""

@@ -34,8 +34,8 @@ class Command(Reach):
         self._entry = entry
         self._left: Optional[asyncio.SubprocessTransport] = None
 
-    def may_begin(self) -> bool:
-        return _is_there(self._entry)
+    def hindrance(self) -> Optional[str]:
+        return _hindrance(self._entry)
 
     async def ask(self, number: int, call: Call) -> Answer:
         return await self._run(call.action, number)
@@ -123,8 +123,8 @@ class KeptCommand(Reach):
         self._last = 0
         self._turn = asyncio.Lock()
 
-    def may_begin(self) -> bool:
-        return _is_there(self._entry)
+    def hindrance(self) -> Optional[str]:
+        return _hindrance(self._entry)
 
     async def close(self) -> None:
         if self._process is not None:
@@ -258,10 +258,15 @@ def _around(entry: CommandReach, number: Optional[int], holds: Tuple[int, ...]) 
     return {"cwd": entry.folder, "env": env, "start_new_session": True, "pass_fds": holds}
 
 
-def _is_there(entry: CommandReach) -> bool:
-    """Whether a command is there, and may be run."""
+def _hindrance(entry: CommandReach) -> Optional[str]:
+    """Why a command can't be run, as far as that is known without running it."""
     word = entry.command[0]
-    return shutil.which(str(entry.folder / word) if "/" in word else word) is not None
+    path = str(entry.folder / word) if "/" in word else word
+    if shutil.which(path) is not None:
+        return None
+    if "/" not in word:
+        return f"{word} isn't in PATH"
+    return f"{word} may not be executed, as after chmod +x" if os.path.exists(path) else f"{word} isn't there"
 
 
 @contextlib.contextmanager

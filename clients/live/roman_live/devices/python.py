@@ -7,10 +7,11 @@ import importlib
 import inspect
 import sys
 import threading
-from typing import Any, Callable, Optional
+from typing import Any, Awaitable, Callable, Optional
 
 import roman_client
 from roman_client import Call, aio
+from roman_client.aio.dispatcher import settle
 
 from ..homefile import HomeFileError, PythonReach
 from .base import Answer, Listener, Reach
@@ -46,35 +47,46 @@ class PythonDevice(Reach):
         """The value of a call: of a coroutine function here, and of another one in a thread. Raises DeviceFailed
         while an earlier call in a thread hasn't come to its end, so that none pile up."""
         if inspect.iscoroutinefunction(call):
-            return await call(*words)
+            return await _value_of(call(*words))
         if self._at_work:
             raise roman_client.DeviceFailed("is still at work on an earlier call")
         loop = asyncio.get_running_loop()
         answer: asyncio.Future[Any] = loop.create_future()
 
-        def settle(value: Any, error: Optional[BaseException]) -> None:
+        def ended(value: Any, error: Optional[BaseException]) -> None:
             self._at_work = False
-            if answer.done():
-                return
-            if error is None:
-                answer.set_result(value)
-            else:
-                answer.set_exception(error)
+            settle(answer, value, error)
 
         def work() -> None:
             value, failure = None, None
             try:
                 value = call(*words)
             except BaseException as error:
-                failure = error
+                failure = _failure(error)
             if not loop.is_closed():
-                loop.call_soon_threadsafe(settle, value, failure)
+                loop.call_soon_threadsafe(ended, value, failure)
 
         self._at_work = True
         # A daemon, since one that hangs must not keep the home from its end.
         threading.Thread(target=work, daemon=True).start()
         value = await answer
-        return await value if inspect.isawaitable(value) else value
+        return await _value_of(value) if inspect.isawaitable(value) else value
+
+
+async def _value_of(work: Awaitable[Any]) -> Any:
+    """What a device gives in the loop of the home."""
+    try:
+        return await work
+    except (SystemExit, KeyboardInterrupt) as error:
+        raise _failure(error) from None
+
+
+def _failure(error: BaseException) -> Exception:
+    """What a device raised, as an error of the device: SystemExit and its like would end the home, and nobody can
+    wait for a StopIteration."""
+    if isinstance(error, Exception) and not isinstance(error, StopIteration):
+        return error
+    return roman_client.DeviceFailed(f"raised {error!r}")
 
 
 def _load(entry: PythonReach, which: str) -> Any:

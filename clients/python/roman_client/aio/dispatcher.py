@@ -67,10 +67,11 @@ class Dispatcher:
         policy: Policy = first_offered,
         back: Optional[Back] = None,
         on_failure: Optional[Callable[[Failure], None]] = None,
-        store: Optional[PathLike] = None,
+        store: Union[PathLike, Journal, None] = None,
         watch: Optional[Watch] = None,
     ) -> None:
-        """The words are those of `roman_client.Dispatcher`. The session has begun when this begins."""
+        """The words are those of `roman_client.Dispatcher`. The session has begun when this begins. The store may
+        be a journal that is open; it is closed with this."""
         self.session = session
         self.policy = policy
         self._devices = {name: as_device(each) for name, each in devices.items()}
@@ -78,7 +79,7 @@ class Dispatcher:
         self._on_failure = on_failure
         self._watch = watch
         self._store = store
-        self._journal: Optional[Journal] = None
+        self._journal = store if isinstance(store, Journal) else None
         self._core: Optional[Dispatching[Device]] = None
         self._turn: Optional[asyncio.Lock] = None
         self._inside: Optional["asyncio.Task[Any]"] = None
@@ -88,7 +89,7 @@ class Dispatcher:
         """Takes the session as it stands, or has it go on from the store. Raises `StoreLocked` where another
         dispatcher is at work on it, and `StoreBroken` where it isn't one for this document."""
         self._turn = asyncio.Lock()
-        if self._store is not None:
+        if self._store is not None and not isinstance(self._store, Journal):
             self._journal = Journal(self._store)
         core = Dispatching(self._devices, self._back is not None, self._journal)
         self._core = core
@@ -229,16 +230,7 @@ class Dispatcher:
 
     def _posted(self, steps: Callable[[], Steps[Value]]) -> "asyncio.Future[Value]":
         future: "asyncio.Future[Value]" = asyncio.get_running_loop().create_future()
-
-        def settle(value: Value, error: Optional[BaseException]) -> None:
-            if future.done():
-                return
-            if error is None:
-                future.set_result(value)
-            else:
-                future.set_exception(error)
-
-        self.core.inbox.append(Posted(steps, settle))
+        self.core.inbox.append(Posted(steps, functools.partial(settle, future)))
         return future
 
     def _drain_later(self) -> None:
@@ -344,6 +336,16 @@ class Dispatcher:
         Reread: _reread,
         Notify: _notify,
     }
+
+
+def settle(future: "asyncio.Future[Any]", value: Any, error: Optional[BaseException]) -> None:
+    """Gives a future its value, or its error, unless it is done."""
+    if future.done():
+        return
+    if error is None:
+        future.set_result(value)
+    else:
+        future.set_exception(error)
 
 
 def _nothing() -> Steps[None]:
