@@ -211,6 +211,9 @@ class Guards(Folder):
         self.assertIs(self.meaning("day and night"), False)
         self.assertEqual(self.meaning("not day-home-hot"), {"not": ["day-home-hot"]})
 
+    def test_a_formula_of_any_depth(self) -> None:
+        self.assertEqual(self.meaning("not " * 3000 + "day"), self.meaning("day"))
+
 
 class Machines(Folder):
     def behaviours(self, *behaviours: Any, services: Any = ()) -> Tuple[Any, Any]:

@@ -6,7 +6,7 @@ import functools
 import re
 from typing import Any, Callable, Dict, List, Optional, Tuple
 
-from lark import Lark, Token, UnexpectedInput
+from lark import Lark, Token, Tree, UnexpectedInput
 
 from .findings import meant
 from .reading import Constant, Items, Members, Span, Text, Value
@@ -129,7 +129,16 @@ class Space:
             return self.everything
         return self.meaning(tree, text, report)
 
-    def meaning(self, tree: Any, text: Text, report: Report) -> int:
+    def meaning(self, tree: Tree[Token], text: Text, report: Report) -> int:
+        """The states that a formula means. Its parts come first, however deep they stand."""
+        masks: Dict[int, int] = {}
+        for part in tree.iter_subtrees():
+            within = [masks[id(each)] for each in part.children if isinstance(each, Tree)]
+            masks[id(part)] = self.part(part, within, text, report)
+        return masks[id(tree)]
+
+    def part(self, tree: Any, masks: List[int], text: Text, report: Report) -> int:
+        """The states that a part of a formula means, by those of its own parts."""
         if tree.data == "word":
             return self.word(str(tree.children[0]), spot(text, tree.children[0]), report)
         if tree.data in ("test", "difference"):
@@ -137,7 +146,6 @@ class Space:
             wrong = value if variable in self.variables else variable
             mask = self.test(str(variable), str(value), spot(text, wrong), report)
             return mask if tree.data == "test" else self.everything & ~mask
-        masks = [self.meaning(each, text, report) for each in tree.children]
         if tree.data == "negation":
             return self.everything & ~masks[0]
         return self.joined(masks, tree.data == "both")
