@@ -41,8 +41,8 @@ pub(crate) fn answer<J: Rules, L: Ledger>(
     ensures answer { result ≡ answer_of (J.arena joint.now) order.now.list p a k }
     ensures within { IfSome result (λ q. q < length (J.arena joint.now).nodes) }
 {
-    joint.known();
-    order.known();
+    joint.known(); // outcomes are pairs of the system
+    order.known(); // listed pairs are pairs of the system
     if !joint.is_ready(k) {
         return None;
     }

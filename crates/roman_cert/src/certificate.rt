@@ -32,7 +32,7 @@ pub fn write_order<O: Sink>(relation: &Relation, out: &mut O) -> Result<(), Fail
         → OnOk result (WroteGreatest s (O.written out.old) (O.written out.new)) }
     ensures cause { HasCause (O.faults out.old) (O.faults out.new) result }
 {
-    relation.joint.known();
+    relation.joint.known(); // the system is well formed and within its limit
     write_list(relation.joint.pairs(), &relation.order, out)
 }
 

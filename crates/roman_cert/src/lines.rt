@@ -61,7 +61,6 @@ fn state_piece(joint: &Joint, p: u32, k: u8) -> Piece
     ensures { let q = pair_at (sizes_of (system_of joint.now)) p in
         result ≡ 32 ∷ name_at (seat_names (names_in joint.now) k).states (slice_index q.bs k) }
 {
-    joint.known();
     let state = joint.shape().part_of(p, k);
     Piece::new().text(b" ").name(joint.state_name(k, state))
 }
@@ -103,7 +102,6 @@ fn add_states(text: Piece, joint: &Joint, k: u8, q: u32) -> Piece
         ++ name_at (seat_names (names_in joint.now) k).states (slice_index answered.bs k)
         ++ codes " " ++ name_at (names_in joint.now).env answered.e ++ 10 ∷ [] }
 {
-    joint.known();
     let state = joint.state_name(k, joint.shape().part_of(q, k));
     let env = joint.env_name(joint.shape().env_of(q));
     let text = text.text(b" may answer ").name(state);

@@ -26,7 +26,7 @@ pub(crate) fn mark_slice<J: Rules, L: Ledger>(
         (q : ℕ) → is_marked order.new q ≡ rests_on (J.arena joint.now) L (length L) p q }
     ensures rest { order.new ≡ record order.old { marks = order.new.marks } }
 {
-    joint.known();
+    joint.known(); // pairs are told apart by their numbers
     order.clear_marks();
     order.mark(p);
     for i in (0..order.len()).rev() {
@@ -45,8 +45,8 @@ fn visit<J: Rules, L: Ledger>(joint: &J, order: &mut Order, i: u32, steps: &mut 
         && is_among A (answers A order.old.list x.node x.reason) q)) }
     ensures rest { order.new ≡ record order.old { marks = order.new.marks } }
 {
-    joint.known();
-    order.known();
+    joint.known(); // pairs are told apart by their numbers
+    order.known(); // listed pairs are pairs of the system
     let (p, reason) = order.entry(i);
     if !order.marked(p) {
         return;
@@ -75,7 +75,7 @@ fn mark_answers<J: Rules, L: Ledger>(
         ≡ (is_marked order.old q || is_among A (answers A order.old.list p (Reason.Act a)) q) }
     ensures rest { order.new ≡ record order.old { marks = order.new.marks } }
 {
-    joint.known();
+    joint.known(); // pairs are told apart by their numbers
     for k in 0..joint.seats() {
         if let Some(q) = answer(joint, order, i, p, a, k, steps) {
             order.mark(q);

@@ -61,8 +61,8 @@ pub fn write_slice<O: Sink, L: Ledger>(
     } }
     ensures cause { HasCause (O.faults out.old) (O.faults out.new) result }
 {
-    relation.joint.known();
-    relation.order.known();
+    relation.joint.known(); // the system is well formed
+    relation.order.known(); // listed pairs are pairs of the system
     relation.order.place_all();
     mark_slice(&relation.joint, &mut relation.order, p, steps);
     write_marked(&relation.joint, &relation.order, out, steps)
@@ -81,8 +81,8 @@ fn write_marked<O: Sink, L: Ledger>(
         (slice_text joint.now order.now.list (marked_entries order.now)) result }
     ensures cause { HasCause (O.faults out.old) (O.faults out.new) result }
 {
-    joint.known();
-    order.known();
+    joint.known(); // the system is well formed
+    order.known(); // listed pairs are pairs of the system
     let mut page = Page::new();
     let mut ahead = Ahead::nothing(0);
     for i in 0..order.len() {
@@ -114,8 +114,8 @@ fn push_entry<O: Sink, L: Ledger>(
         (page.old ++ entry_text joint.now order.now.list (as_entry (p, reason))) result }
     ensures cause { HasCause (O.faults out.old) (O.faults out.new) result }
 {
-    joint.known();
-    order.known();
+    joint.known(); // allowed actions are actions of the system
+    order.known(); // listed pairs are pairs of the system
     push_lost(joint, p, reason, page, out)?;
     match reason {
         Reason::Final => Ok(()),
@@ -142,8 +142,8 @@ fn push_answers<O: Sink, L: Ledger>(
         (page.old ++ answers_text joint.now order.now.list (as_entry (p, Reason.Act a))) result }
     ensures cause { HasCause (O.faults out.old) (O.faults out.new) result }
 {
-    joint.known();
-    order.known();
+    joint.known(); // the system is well formed
+    order.known(); // listed pairs are pairs of the system
     for k in 0..joint.seats() {
         if !joint.is_ready(k) {
             continue;

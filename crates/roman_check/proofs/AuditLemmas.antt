@@ -1,6 +1,11 @@
 -- Lines that are judged by those that were read.
-use Rattle.roman_check.proofs.Common.{◌≡◌, ℕ, ◌+◌, ◌*◌, ◌<◌, ◌==◌, Bool, true, false, not, ◌||◌, List, [], ◌∷◌, ◌++◌, length, Option, Some, None, IsTrue, IsFalse, option_map, find, refl, sym, ap, ◌∙◌, subst, arith, append-nil, mul-le, list_any, cons_option, or-false, cond-true, cond-false, not-true, list_any-append, IsIn, same_numbers, Arena, Entry, is_listed, is_justified, head_line, count_line, reasons, entry_of, entries_on, could_be_listed, entry_fault, same_numbers_is, AreFew, from_possible, possible_small, entry_of-is, entry_of_other, fault_in_body, fault_after_end, Reason, Final, Act, AreRows, HoldsWhereKept, IsNumbered, Audit, Body, Nothing, Why, Form, fault_of, Remain, IsInRows, HasListed, Judges, end_line}
+use Rattle.roman_check.proofs.Common.{◌≡◌, ℕ, ◌+◌, ◌*◌, ◌<◌, ◌==◌, Bool, true, false, not, ◌||◌, List, [], ◌∷◌, ◌++◌, length, Option, Some, None, IsTrue, IsFalse, option_map, find, refl, sym, ap, ◌∙◌, subst, arith, append-nil, list_any, cons_option, or-false, cond-true, cond-false, list_any-append, IsIn, same_numbers, Arena, Entry, is_listed, is_justified, head_line, count_line, reasons, entry_of, entries_on, could_be_listed, end_line, same_numbers_is, AreFew, from_possible, possible_small, entry_of-is, entry_of_other, fault_in_body, fault_after_end, Reason, Final, Act, AreRows, IsNumbered, Audit, Nothing, Why, Form, fault_of, IsInRows, HasListed, Judges, TakesEntry, Removes}
+use Rattle.std.proofs.lemmas.Bool.{not-true}
+use Rattle.roman_model.specs.Certificate.{entry_fault}
+use Rattle.roman_rules.specs.Asked.{HoldsWhereKept}
+use Rattle.roman_check.specs.declared.audit.Due.TheVariants.{Body}
 use Rattle.std.proofs.Common.{if◌then◌else◌}
+use Rattle.std.proofs.lemmas.Bool.{or_left}
 use Rattle.std.proofs.lemmas.Bool.{not-false}
 use Rattle.std.proofs.lemmas.List.Elements.{filter_map-append}
 use Rattle.roman_model.specs.Certificate as text
@@ -11,51 +16,40 @@ use Rattle.roman_rules.proofs.CallerLemmas.{known_more}
 use Rattle.roman_check.specs.declared.audit.Due.{Due}
 use Rattle.roman_check.specs.declared.audit.Due.TheVariants.{Head, Count}
 use Rattle.roman_check.specs.Audits.{due_after}
-use Rattle.roman_check.proofs.ReasonLemmas.{given_action, row_within}
+use Rattle.roman_check.proofs.ReasonLemmas.{given_action, row_ends, row_within}
 
 -- Entries
 
 pub few_numbered : (A : Arena ℕ) → IsNumbered A → AreFew (length A.nodes) A.actions
 few_numbered A ok = grind arith
 
--- the entry read off a line is in range
-pub entry_given : (pairs actions : ℕ) (line : List ℕ) (x : Entry ℕ) → Some x ≡ entry_of pairs actions line → (x.node < pairs) × IsIn x.reason (reasons actions)
-entry_given pairs actions line x e = from_possible pairs actions x (entry_of-is pairs actions line x (sym e)).0
-
 module _ (A : Arena ℕ) (L : List (Entry ℕ)) (x : Entry ℕ) where
-  abbrev rest : Option text.Why
-  rest = if is_justified A (is_listed A L) x.node x.reason then None else Some text.Unjustified
-
   pub repeated_entry : false ≡ not (is_listed A L x.node) → Some text.Repeated ≡ entry_fault A L (Some x)
-  repeated_entry listed = sym (cond-true (is_listed A L x.node) (Some text.Repeated) rest (not-false (is_listed A L x.node) (sym listed)))
-
-  new_entry : true ≡ not (is_listed A L x.node) → entry_fault A L (Some x) ≡ rest
-  new_entry new = cond-false (is_listed A L x.node) (Some text.Repeated) rest (not-true (is_listed A L x.node) (sym new))
+  repeated_entry listed = rw (not-false (is_listed A L x.node) (sym listed)) refl
 
   pub unjustified_entry : true ≡ not (is_listed A L x.node) → IsFalse (is_justified A (is_listed A L) x.node x.reason) → Some text.Unjustified ≡ entry_fault A L (Some x)
-  unjustified_entry new fails = sym (new_entry new ∙ cond-false (is_justified A (is_listed A L) x.node x.reason) None (Some text.Unjustified) fails)
+  unjustified_entry new fails = rw (not-true (is_listed A L x.node) (sym new), fails) refl
 
-  pub clean_entry : true ≡ not (is_listed A L x.node) → IsTrue (is_justified A (is_listed A L) x.node x.reason) → None ≡ entry_fault A L (Some x)
-  clean_entry new holds = sym (new_entry new ∙ cond-true (is_justified A (is_listed A L) x.node x.reason) None (Some text.Unjustified) holds)
+  clean_entry : true ≡ not (is_listed A L x.node) → IsTrue (is_justified A (is_listed A L) x.node x.reason) → None ≡ entry_fault A L (Some x)
+  clean_entry new holds = rw (not-true (is_listed A L x.node) (sym new), holds) refl
 
 -- the pairs of the entries, with one more
 listed_more : (A : Arena ℕ) → IsNumbered A → (L : List (Entry ℕ)) (x : Entry ℕ) (q : ℕ) → is_listed A (L ++ x ∷ []) q ≡ (is_listed A L q || q == x.node)
 listed_more A ok L x q = list_any-append (λ y. A.same q y.node) L (x ∷ []) ∙ ap (λ b. is_listed A L q || b) (or-false (A.same q x.node) ∙ ok.same q x.node)
 
--- an entry was read: its pair is removed, and the stored answer of the row stays right
-pub entry_listed : (A : Arena ℕ) → IsNumbered A → (L : List (Entry ℕ)) (x : Entry ℕ) (new : Audit) →
-    (((q : ℕ) → is_listed A (L ++ x ∷ []) q ≡ (is_listed A L q || q == x.node)) → Remain (length A.nodes) (is_listed A (L ++ x ∷ [])) new.left) →
-    HoldsWhereKept A new.left.lanes (is_listed A L) new.asked → HasListed A (L ++ x ∷ []) new
-entry_listed A ok L x new left known = grind (arith, known_more, listed_more)
-
 -- what an audit holds, by the lanes of the system
 pub listed_rows : (A : Arena ℕ) (L : List (Entry ℕ)) (audit : Audit) (lanes : ℕ) → HasListed A L audit → audit.left.lanes ≡ lanes → (words : List ℕ) → words ≡ audit.left.words.items → AreRows lanes (λ q. not (is_listed A L q)) words
 listed_rows A L audit lanes has shaped words same = subst (AreRows lanes (λ q. not (is_listed A L q))) (sym same) (subst (λ m. AreRows m (λ q. not (is_listed A L q)) audit.left.words.items) shaped has.left.rows)
 
--- the reason of an entry is one of the system
-pub reason_given : (A : Arena ℕ) (r : Reason) → IsIn r (reasons A.actions) → IsReasonOf A r
+reason_given : (A : Arena ℕ) (r : Reason) → IsIn r (reasons A.actions) → IsReasonOf A r
 reason_given A Final i = tt
 reason_given A (Act a) i = given_action A.actions a i
+
+-- the entry read off a line is in range
+pub entry_given : (A : Arena ℕ) (line : List ℕ) (x : Entry ℕ) → Some x ≡ entry_of (length A.nodes) A.actions line → (x.node < length A.nodes) × IsReasonOf A x.reason
+entry_given A line x e =
+    let (i, given) = from_possible (length A.nodes) A.actions x (entry_of-is (length A.nodes) A.actions line x (sym e)).0 in
+    (i, reason_given A x.reason given)
 
 -- the row of a pair is one of the table
 pub pair_within : (lanes pairs : ℕ) (audit : Audit) → IsInRows lanes pairs audit → (p row lane : ℕ) → row * audit.left.lanes + lane ≡ p → p < pairs → row < length audit.left.words.items
@@ -63,10 +57,7 @@ pair_within lanes pairs audit shaped p row lane e l = grind (arith, row_within)
 
 -- a place of the table is that of a pair
 pub place_within : (lanes pairs : ℕ) (audit : Audit) → IsInRows lanes pairs audit → (row lane : ℕ) → row < length audit.left.words.items → lane < audit.left.lanes → row * audit.left.lanes + lane < pairs
-place_within lanes pairs audit shaped row lane l m =
-    let most = mul-le (row + 1) audit.left.lanes (length audit.left.words.items) audit.left.lanes (omega arith) (omega arith) in
-    let next : (row + 1) * audit.left.lanes ≡ row * audit.left.lanes + audit.left.lanes = omega arith in
-    omega (arith, most, next, m, ap (λ n. length audit.left.words.items * n) shaped.in_rows ∙ shaped.room)
+place_within lanes pairs audit shaped row lane l m = omega (arith, row_ends row (length audit.left.words.items) audit.left.lanes l, ap (λ n. length audit.left.words.items * n) shaped.in_rows ∙ shaped.room)
 
 -- the last line, where this pair or no pair is missing
 pub end_judged : (A : Arena ℕ) (L : List (Entry ℕ)) (line : List ℕ) (found : Option ℕ) → found ≡ find (could_be_listed A L) A.nodes → IsTrue (same_numbers end_line line) → option_map text.Unlisted found ≡ body_fault A L (Some line)
@@ -88,41 +79,25 @@ ended_list A ok L line is =
 
 -- What was read, by what is due
 
-not_opening : (b : Bool) → Head ≡ (if b then Nothing else Body) → ⊥
-not_opening true e = cc
-not_opening false e = cc
+-- the lines that were read, where this line is due
+abbrev IsDue : Due → List (List ℕ) → Type 0
+IsDue Head lines = lines ≡ []
+IsDue Count lines = (head : List ℕ) × (lines ≡ head ∷ [])
+IsDue Body lines = (head : List ℕ) × (size : List ℕ) × (body : List (List ℕ)) × (lines ≡ head ∷ size ∷ body) × IsFalse (list_any (same_numbers end_line) body)
+IsDue Nothing lines = (head : List ℕ) × (size : List ℕ) × (body : List (List ℕ)) × (lines ≡ head ∷ size ∷ body) × IsTrue (list_any (same_numbers end_line) body)
 
-not_second : (b : Bool) → Count ≡ (if b then Nothing else Body) → ⊥
-not_second true e = cc
-not_second false e = cc
+due_so_far : (lines : List (List ℕ)) → IsDue (due_after lines) lines
+due_so_far [] = refl
+due_so_far (head ∷ []) = (head, refl)
+due_so_far (head ∷ size ∷ body) = by_end (list_any (same_numbers end_line) body) refl
+  where
+    by_end : (b : Bool) → list_any (same_numbers end_line) body ≡ b → IsDue (if b then Nothing else Body) (head ∷ size ∷ body)
+    by_end true e = (head, size, body, refl, e)
+    by_end false e = (head, size, body, refl, e)
 
-after_head : (lines : List (List ℕ)) → Head ≡ due_after lines → lines ≡ []
-after_head [] e = refl
-after_head (head ∷ []) e = (let h : ⊥ = cc in absurd h)
-after_head (head ∷ size ∷ body) e = absurd (not_opening (list_any (same_numbers end_line) body) e)
-
-after_count : (lines : List (List ℕ)) → Count ≡ due_after lines → (head : List ℕ) × (lines ≡ head ∷ [])
-after_count [] e = (let h : ⊥ = cc in absurd h)
-after_count (head ∷ []) e = (head, refl)
-after_count (head ∷ size ∷ body) e = absurd (not_second (list_any (same_numbers end_line) body) e)
-
-still_open : (b : Bool) → Body ≡ (if b then Nothing else Body) → IsFalse b
-still_open true e = (let h : ⊥ = cc in absurd h)
-still_open false e = refl
-
-has_ended : (b : Bool) → Nothing ≡ (if b then Nothing else Body) → IsTrue b
-has_ended true e = refl
-has_ended false e = (let h : ⊥ = cc in absurd h)
-
-pub after_body : (lines : List (List ℕ)) → Body ≡ due_after lines → (head : List ℕ) × (size : List ℕ) × (body : List (List ℕ)) × (lines ≡ head ∷ size ∷ body) × IsFalse (list_any (same_numbers end_line) body)
-after_body [] e = (let h : ⊥ = cc in absurd h)
-after_body (head ∷ []) e = (let h : ⊥ = cc in absurd h)
-after_body (head ∷ size ∷ body) e = (head, size, body, refl, still_open (list_any (same_numbers end_line) body) e)
-
-pub after_end : (lines : List (List ℕ)) → Nothing ≡ due_after lines → (head : List ℕ) × (size : List ℕ) × (body : List (List ℕ)) × (lines ≡ head ∷ size ∷ body) × IsTrue (list_any (same_numbers end_line) body)
-after_end [] e = (let h : ⊥ = cc in absurd h)
-after_end (head ∷ []) e = (let h : ⊥ = cc in absurd h)
-after_end (head ∷ size ∷ body) e = (head, size, body, refl, has_ended (list_any (same_numbers end_line) body) e)
+-- the same, where it is known which line is due
+pub lines_due : (due : Due) (lines : List (List ℕ)) → due ≡ due_after lines → IsDue due lines
+lines_due due lines e = subst (λ due. IsDue due lines) (sym e) (due_so_far lines)
 
 -- The first two lines
 
@@ -130,16 +105,16 @@ after_end (head ∷ size ∷ body) e = (head, size, body, refl, has_ended (list_
 pub same_listed : (A : Arena ℕ) (L : List (Entry ℕ)) (old new : Audit) → new.left ≡ old.left → new.asked ≡ old.asked → HasListed A L old → HasListed A L new
 same_listed A L old new left asked has = grind arith
 
-opening_fault : (b c : Bool) (fault : Option Why) → b ≡ c → fault ≡ (if b then None else Some Form) → option_map fault_of fault ≡ (if c then None else Some text.Form)
-opening_fault b c fault same e = grind arith
+opening_fault : (b : Bool) (fault : Option Why) → fault ≡ (if b then None else Some Form) → option_map fault_of fault ≡ (if b then None else Some text.Form)
+opening_fault b fault e = grind arith
 
-pub judged_head : (A : Arena ℕ) (old new : Audit) (line : List ℕ) (b : Bool) (fault : Option Why) → old.due ≡ Head → b ≡ same_numbers head_line line → fault ≡ (if b then None else Some Form) →
+pub judged_head : (A : Arena ℕ) (old new : Audit) (line : List ℕ) (fault : Option Why) → old.due ≡ Head → fault ≡ (if same_numbers head_line line then None else Some Form) →
     (fault ≡ None → new.due ≡ Count) → new ≡ record old { due = new.due } → Judges A old new line fault
-judged_head A old new line b fault due is named next same = grind (arith, after_head, opening_fault, same_listed)
+judged_head A old new line fault due named next same = grind (arith, lines_due Head, opening_fault, same_listed)
 
-pub judged_count : (A : Arena ℕ) (old new : Audit) (line : List ℕ) (b : Bool) (fault : Option Why) → old.due ≡ Count → b ≡ same_numbers (count_line (length A.nodes)) line → fault ≡ (if b then None else Some Form) →
+pub judged_count : (A : Arena ℕ) (old new : Audit) (line : List ℕ) (fault : Option Why) → old.due ≡ Count → fault ≡ (if same_numbers (count_line (length A.nodes)) line then None else Some Form) →
     (fault ≡ None → new.due ≡ Body) → new ≡ record old { due = new.due } → Judges A old new line fault
-judged_count A old new line b fault due is named next same = grind (arith, after_count, opening_fault, same_listed)
+judged_count A old new line fault due named next same = grind (arith, lines_due, opening_fault, same_listed)
 
 -- The lines after them
 
@@ -151,18 +126,44 @@ pub judged_body : (A : Arena ℕ) (old new : Audit) (line : List ℕ) (fault : O
     ((L : List (Entry ℕ)) → HasListed A L old → option_map fault_of fault ≡ body_fault A L (Some line)) →
     ((L : List (Entry ℕ)) → HasListed A L old → fault ≡ None → HasListed A (L ++ entries_on A (line ∷ [])) new) →
     new.due ≡ (if same_numbers end_line line then Nothing else old.due) → Judges A old new line fault
-judged_body A old new line fault due named list next = grind (arith, after_body, due_more, fault_in_body, filter_map-append)
+judged_body A old new line fault due named list next = grind (arith, lines_due Body, due_more, fault_in_body, filter_map-append)
 
--- a line whose entry was read
-pub judged_entry : (A : Arena ℕ) → IsNumbered A → (old new : Audit) (line : List ℕ) (x : Entry ℕ) (fault : Option Why) → old.due ≡ Body → entry_of (length A.nodes) A.actions line ≡ Some x →
+-- a line of an entry
+judged_entry : (A : Arena ℕ) → IsNumbered A → (old new : Audit) (x : Entry ℕ) (fault : Option Why) → old.due ≡ Body →
     ((L : List (Entry ℕ)) → HasListed A L old → option_map fault_of fault ≡ entry_fault A L (Some x)) →
-    ((L : List (Entry ℕ)) → HasListed A L old → fault ≡ None → HasListed A (L ++ x ∷ []) new) → new.due ≡ old.due → Judges A old new line fault
-judged_entry A ok old new line x fault due is named list same =
+    ((L : List (Entry ℕ)) → HasListed A L old → fault ≡ None → HasListed A (L ++ x ∷ []) new) → new.due ≡ old.due → (line : List ℕ) → entry_of (length A.nodes) A.actions line ≡ Some x → Judges A old new line fault
+judged_entry A ok old new x fault due named list same line is =
     let (i, e) = entry_of-is (length A.nodes) A.actions line x is in
     let other : IsFalse (same_numbers end_line line) = subst (λ bs. IsFalse (same_numbers end_line bs)) e (entry_is_no_end x (possible_small (length A.nodes) A.actions x (few_numbered A ok) i)) in
     judged_body A old new line fault due (λ L has. entry_judged A L line (option_map fault_of fault) (named L has ∙ sym (ap (entry_fault A L) is)) other)
     (λ L has none. subst (λ o. HasListed A (L ++ cons_option o []) new) (sym is) (list L has none))
     (same ∙ sym (cond-false (same_numbers end_line line) Nothing old.due other))
 
+-- an entry at fault
+pub entry_refused : (A : Arena ℕ) → IsNumbered A → (lanes : ℕ) (old new : Audit) (x : Entry ℕ) (why : Why) → old.due ≡ Body → IsInRows lanes (length A.nodes) old → new.due ≡ old.due → x.node < length A.nodes → new.left ≡ old.left →
+    ((L : List (Entry ℕ)) → HasListed A L old → Some (fault_of why) ≡ entry_fault A L (Some x)) → TakesEntry A lanes old new x (Some why)
+entry_refused A ok lanes old new x why due shaped same inside left named = record {
+  inside = inside;
+  judged = judged_entry A ok old new x (Some why) due named (λ L has none. (let h : ⊥ = cc in absurd h)) same;
+  shaped = grind arith;
+  due = same;
+}
+
+-- an entry without a fault
+pub entry_taken : (A : Arena ℕ) → IsNumbered A → (lanes : ℕ) (old new : Audit) (x : Entry ℕ) → old.due ≡ Body → IsInRows lanes (length A.nodes) old → new.due ≡ old.due → x.node < length A.nodes → Removes old.left new.left x.node →
+    ((L : List (Entry ℕ)) → HasListed A L old → (true ≡ not (is_listed A L x.node)) × IsTrue (is_justified A (is_listed A L) x.node x.reason) × HoldsWhereKept A old.left.lanes (is_listed A L) new.asked) → TakesEntry A lanes old new x None
+entry_taken A ok lanes old new x due shaped same inside removes holds = record {
+  inside = inside;
+  judged = judged_entry A ok old new x None due (λ L has. clean_entry A L x (holds L has).0 (holds L has).1) (λ L has none. listed L has) same;
+  shaped = record { in_rows = removes.lanes ∙ shaped.in_rows; room = ap (λ n. n * lanes) removes.rows ∙ shaped.room };
+  due = same;
+}
+  where
+    listed : (L : List (Entry ℕ)) → HasListed A L old → HasListed A (L ++ x ∷ []) new
+    listed L has = record {
+      left = removes.removed (length A.nodes) (is_listed A L) (is_listed A (L ++ x ∷ [])) has.left inside (not-true (is_listed A L x.node) (sym (holds L has).0)) (listed_more A ok L x);
+      known = known_more A new.left.lanes _ _ _ (λ q gone. listed_more A ok L x q ∙ or_left _ _ gone) (subst (λ m. HoldsWhereKept A m (is_listed A L) new.asked) (sym removes.lanes) (holds L has).2);
+    }
+
 pub judged_after_end : (A : Arena ℕ) (old new : Audit) (line : List ℕ) → old.due ≡ Nothing → Judges A old new line (Some Form)
-judged_after_end A old new line due = grind (arith, after_end, fault_after_end)
+judged_after_end A old new line due = grind (arith, lines_due, fault_after_end)

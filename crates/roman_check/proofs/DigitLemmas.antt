@@ -1,12 +1,12 @@
 -- Decimal texts.
-use Rattle.roman_check.proofs.Common.{◌≡◌, ◌≢◌, ℕ, ◌+◌, ◌-◌, ◌*◌, ◌^◌, ◌<◌, ◌≤◌, List, length, take, get_or, decimal, arith, subst, sym, ap, ◌∙◌, inl, inr, length-take-le, AllDigits, digits_value, cases_lt, get_or-take, IsNumberTo, length-decimal-le}
+use Rattle.roman_check.proofs.Common.{◌≡◌, ◌≢◌, ℕ, ◌+◌, ◌-◌, ◌*◌, ◌^◌, ◌<◌, ◌≤◌, List, length, take, get_or, decimal, arith, subst, sym, ap, ◌∙◌, inl, inr, length-take-le, AllDigits, digits_value, cases_lt, get_or-take, take_all, IsNumberTo, length-decimal-le}
 use Rattle.std.specs.Int.{IsInRange, IsOutOfRange}
 use Rattle.std.specs.Char.{digit_value}
 use Rattle.std.proofs.lemmas.Bool.{cases_order}
 use Rattle.std.proofs.lemmas.Str.{digit_value_digit}
 use Rattle.std.proofs.lemmas.Str.Parse.{IsNumeralModel, numerals_by_value, tells_digits, digit_at, digits_value_short}
 use Rattle.std.proofs.lemmas.Int.Digits.{digits_more, digits_value_more}
-use Rattle.roman_check.specs.Decimals.{IsTrim}
+use Rattle.roman_check.specs.Decimals.{HasDigits, IsTrim}
 use Rattle.std.proofs.lemmas.Fmt.{decimal_is_IsNumeral, first_decimal, decimal-digits_value}
 
 own : IsNumeralModel (AllDigits 10) (digits_value 10)
@@ -25,10 +25,6 @@ digits_step ds i d l digit is all =
     let value : digit_value (get_or ds i 0) + 48 ≡ get_or ds i 0 = digit_value_digit (get_or ds i 0) digit in
     (digits_more 10 ds i l all (omega arith), ap (λ n. digits_value 10 (take i ds) * 10 + n) (omega arith) ∙ sym (digits_value_more 10 ds i l))
 
--- at most nine digits leave room for another
-pub digits_room : (ds : List ℕ) (i : ℕ) → i < length ds → length ds ≤ 10 → AllDigits 10 (take i ds) → digits_value 10 (take i ds) < 10 ^ 9
-digits_room ds i l few all = digits_value_short own (take i ds) 9 all (omega (arith, length-take-le i ds))
-
 -- the value of at most ten digits is below 10 ^ 10
 pub digits_below : (ds : List ℕ) (i : ℕ) → i ≤ length ds → i ≤ 10 → AllDigits 10 (take i ds) → digits_value 10 (take i ds) < 10 ^ 10
 digits_below ds i l few all = digits_value_short own (take i ds) 10 all (omega (arith, length-take-le i ds))
@@ -42,19 +38,15 @@ no_stop_digit stop line i k low_stop within all l stops =
     let same : get_or (take i line) k 0 ≡ get_or line k 0 = get_or-take i line k 0 l in
     omega arith
 
--- where a byte is neither a digit nor the stop byte, the bytes don't begin with at most ten digits and the stop byte
-pub no_number_past : (stop : ℕ) (line : List ℕ) (i j : ℕ) → stop < 48 → i < length line → AllDigits 10 (take i line) → get_or line i 0 ≢ stop → IsOutOfRange 48 57 (get_or line i 0) → IsNumberTo stop line j → ⊥
-no_number_past stop line i j low within all other out number = elim (cases_order i j) [
-  | inl same ↦ other (ap (λ k. get_or line k 0) same ∙ number.stops)
+-- where no stop byte follows the digits at the start, the bytes don't begin with a number up to that byte
+pub no_number_to : (stop : ℕ) (line : List ℕ) (value i j : ℕ) → stop < 48 → HasDigits line value i → (i < length line → get_or line i 0 ≢ stop) → IsNumberTo stop line j → ⊥
+no_number_to stop line value i j low has other number = elim (cases_order i j) [
+  | inl same ↦ other (omega (arith, number.within)) (ap (λ k. get_or line k 0) same ∙ number.stops)
   | inr (inl less) ↦
       let l : i < length (take j line) = omega (arith, length-take-le j line (omega (arith, number.within))) in
-      no_digit (take j line) i l (subst (IsOutOfRange 48 57) (sym (get_or-take j line i 0 less)) out) number.digits
-  | inr (inr more) ↦ no_stop_digit stop line i j low (omega arith) all more number.stops
+      no_digit (take j line) i l (subst (IsOutOfRange 48 57) (sym (get_or-take j line i 0 less)) (has.ends (omega (arith, number.within)) (omega (arith, number.few)))) number.digits
+  | inr (inr more) ↦ no_stop_digit stop line i j low has.within has.digits more number.stops
 ]
-
--- where all bytes in reach are digits, the bytes don't begin with at most ten digits and the stop byte
-pub no_number_within : (stop : ℕ) (line : List ℕ) (i : ℕ) → stop < 48 → i ≤ length line → AllDigits 10 (take i line) → ((j : ℕ) → j ≤ 10 → j < length line → j < i) → (j : ℕ) → IsNumberTo stop line j → ⊥
-no_number_within stop line i low within all reach j number = no_stop_digit stop line i j low within all (reach j number.few number.within) number.stops
 
 -- A whole number
 
@@ -86,3 +78,13 @@ pub no_small_number : (ds : List ℕ) (value bound n : ℕ) → value ≡ digits
 no_small_number ds value bound n is small large l e =
     let (all, trim, same) = decimal_shape n ds (omega arith) e in
     omega arith
+
+-- bytes that go on after their first digits aren't a decimal text
+pub no_decimal : (ds : List ℕ) (value i n : ℕ) → HasDigits ds value i → i < length ds → n < 2 ^ 32 → decimal n ≢ ds
+no_decimal ds value i n has more small e =
+    let (all, trim, same) = decimal_shape n ds small e in
+    no_digit ds i more (has.ends more (omega (arith, trim.few))) all
+
+-- all bytes are digits
+pub digits_of_all : (ds : List ℕ) (value i : ℕ) → HasDigits ds value i → length ds ≤ i → AllDigits 10 ds × (value ≡ digits_value 10 ds)
+digits_of_all ds value i has past = (subst (AllDigits 10) (take_all i ds past) has.digits, has.said ∙ ap (digits_value 10) (take_all i ds past))

@@ -1,11 +1,11 @@
 -- The verdict at the end of a text, and at a line at fault.
-use Rattle.roman_check.proofs.Common.{◌≡◌, ◌≢◌, ℕ, ◌+◌, ◌≤◌, Bool, not, List, [], ◌∷◌, ◌++◌, length, drop, Some, None, count_by, codes, decimal, refl, sym, ap, ap₂, ◌∙◌, subst, arith, cons_option, cond-true, below, lines, Arena, Entry, is_listed, head_line, count_line, entry_of, entries_on, line_fault, MAX_CERTIFICATE_BYTES, by_test, AreFew, entry_of_other, fault_in_body, fault_after_end, IsNumbered, Audit, Nothing, Reader, Why, fault_of, HasListed, HasRead, HasLines}
+use Rattle.roman_check.proofs.Common.{◌≡◌, ◌≢◌, ℕ, ◌+◌, ◌<◌, ◌≤◌, Bool, not, List, [], ◌∷◌, ◌++◌, length, drop, Some, None, count_by, codes, decimal, refl, sym, ap, ap₂, ◌∙◌, subst, arith, cons_option, cond-true, below, lines, Arena, Entry, is_listed, head_line, count_line, entry_of, entries_on, line_fault, MAX_CERTIFICATE_BYTES, by_test, entry_of_other, fault_in_body, fault_after_end, IsNumbered, Audit, Nothing, Reader, HasListed, HasRead, HasLines}
+use Rattle.roman_model.specs.Certificate.{unless_is}
 use Rattle.std.proofs.lemmas.List.Sums.{length-filter}
 use Rattle.roman_model.specs.Certificate as text
 use Rattle.roman_model.specs.Certificate.{IsClean, unlisted, cert_verdict}
-use Rattle.roman_model.proofs.CallerLemmas.{due_is, verdict_at, verdict_ended, verdict_accepted}
-use Rattle.roman_check.specs.Readers.{EndsAtFault}
-use Rattle.roman_check.proofs.AuditLemmas.{few_numbered, after_end}
+use Rattle.roman_model.proofs.CallerLemmas.{due_is, verdict_ended, verdict_accepted}
+use Rattle.roman_check.proofs.AuditLemmas.{few_numbered, lines_due}
 
 -- Whether the text may end
 
@@ -15,7 +15,7 @@ may_not_end A (head ∷ []) audit read other = refl
 may_not_end A (head ∷ size ∷ body) audit read other = grind (arith, by_test, cond-true, fault_in_body)
 
 may_end : (A : Arena ℕ) (ls : List (List ℕ)) (audit : Audit) → HasRead A ls audit → audit.due ≡ Nothing → line_fault A ls None ≡ None
-may_end A ls audit read ended = grind (arith, after_end, fault_after_end)
+may_end A ls audit read ended = grind (arith, lines_due, fault_after_end)
 
 pub ended_early : (A : Arena ℕ) (start : ℕ) (bytes : List ℕ) (reader : Reader) → HasLines A (lines bytes) reader → length bytes ≤ MAX_CERTIFICATE_BYTES → reader.audit.due ≢ Nothing →
     cert_verdict A start bytes ≡ text.Rejected (reader.lines + 1) text.Form
@@ -28,21 +28,13 @@ ended_early A start bytes reader has short other =
 -- the first two lines are no entries
 opening_unread : (A : Arena ℕ) → IsNumbered A → (ls : List (List ℕ)) (head size : List ℕ) (body : List (List ℕ)) → ls ≡ head ∷ size ∷ body → IsClean A ls (length ls) → entries_on A ls ≡ entries_on A (drop 2 ls)
 opening_unread A ok ls head size body e clean =
-    subst (λ ms. entries_on A ms ≡ entries_on A (drop 2 ms)) (sym e)
-    (ap₂ (λ o p. cons_option o (cons_option p (entries_on A body))) first second)
+    let n = length A.nodes in
+    let cleaned = subst (λ ms. IsClean A ms (length ms)) e clean in
+    subst (λ ms. entries_on A ms ≡ entries_on A (drop 2 ms)) (sym e) (ap₂ (λ o p. cons_option o (cons_option p (entries_on A body)))
+    (unread head_line head 114 (codes "oman-order 1") (cleaned 0 (omega arith)) refl (omega arith)) (unread (count_line n) size 112 (codes "airs " ++ decimal n) (cleaned 1 (omega arith)) refl (omega arith)))
   where
-    few : AreFew (length A.nodes) A.actions
-    few = few_numbered A ok
-
-    cleaned : IsClean A (head ∷ size ∷ body) (length (head ∷ size ∷ body))
-    cleaned = subst (λ ms. IsClean A ms (length ms)) e clean
-
-    first : entry_of (length A.nodes) A.actions head ≡ None
-    first = subst (λ l. entry_of (length A.nodes) A.actions l ≡ None) (sym (due_is head_line head (cleaned 0 (omega arith)))) (entry_of_other (length A.nodes) A.actions 114 (codes "oman-order 1") few (omega arith))
-
-    second : entry_of (length A.nodes) A.actions size ≡ None
-    second = subst (λ l. entry_of (length A.nodes) A.actions l ≡ None) (sym (due_is (count_line (length A.nodes)) size (cleaned 1 (omega arith))))
-        (entry_of_other (length A.nodes) A.actions 112 (codes "airs " ++ decimal (length A.nodes)) few (omega arith))
+    unread : (due line : List ℕ) (b : ℕ) (bs : List ℕ) → unless_is due (Some line) ≡ None → due ≡ b ∷ bs → 57 < b → entry_of (length A.nodes) A.actions line ≡ None
+    unread due line b bs e is other = subst (λ l. entry_of (length A.nodes) A.actions l ≡ None) (sym (due_is due line e ∙ is)) (entry_of_other (length A.nodes) A.actions b bs (few_numbered A ok) other)
 
 -- the number of remaining pairs is their count
 counted_unlisted : (A : Arena ℕ) → IsNumbered A → (start : ℕ) (L : List (Entry ℕ)) (related : ℕ) (alive : Bool) → related ≡ count_by (λ p. not (is_listed A L p)) (below (length A.nodes)) → alive ≡ not (is_listed A L start) →
@@ -52,14 +44,8 @@ counted_unlisted A ok start L related alive count starts = grind (arith, length-
 pub ended_greatest : (A : Arena ℕ) → IsNumbered A → (start : ℕ) (bytes : List ℕ) (reader : Reader) (alive : Bool) → HasLines A (lines bytes) reader → length bytes ≤ MAX_CERTIFICATE_BYTES → reader.audit.due ≡ Nothing →
     ((L : List (Entry ℕ)) → HasListed A L reader.audit → alive ≡ not (is_listed A L start)) → cert_verdict A start bytes ≡ text.Greatest reader.audit.left.count alive
 ended_greatest A ok start bytes reader alive has short ended starts =
-    let (head, size, body, e, some) = after_end (lines bytes) (sym ended ∙ has.read.due) in
+    let (head, size, body, e, some) = lines_due Nothing (lines bytes) (sym ended ∙ has.read.due) in
     let L = entries_on A (drop 2 (lines bytes)) in
     verdict_accepted A start bytes (lines bytes) short refl has.clean (may_end A (lines bytes) reader.audit has.read ended)
     ∙ ap (unlisted A start) (opening_unread A ok (lines bytes) head size body e has.clean)
     ∙ counted_unlisted A ok start L reader.audit.left.count alive has.read.list.left.counted (starts L has.read.list)
-
--- A last line at fault
-
-pub ended_at_fault : (A : Arena ℕ) (start : ℕ) (bytes : List ℕ) (n : ℕ) (why : Why) → EndsAtFault A bytes n why → length bytes ≤ MAX_CERTIFICATE_BYTES → cert_verdict A start bytes ≡ text.Rejected (n + 1) (fault_of why)
-ended_at_fault A start bytes n why at short =
-    verdict_at A start bytes at.text at.line [] (fault_of why) short at.split at.clean at.fault ∙ ap (λ m. text.Rejected (m + 1) (fault_of why)) (sym at.counted)

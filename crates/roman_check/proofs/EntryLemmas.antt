@@ -1,7 +1,7 @@
 -- Lines that are read as entries.
-use Rattle.roman_check.proofs.Common.{◌≡◌, ◌≢◌, ℕ, suc, ◌+◌, ◌-◌, ◌^◌, ◌<◌, ◌≤◌, Bool, List, ◌∷◌, ◌++◌, length, take, drop, get_or, None, Some, IsTrue, IsFalse, decimal, codes, refl, sym, ap, ap₂, ◌∙◌, subst, inl, arith, length-drop, length-append, AllDigits, both_ways, ne_eqb, take_rest, take_all, take_at, get_or-drop, IsIn, IsLine, has, same_numbers, Entry, Reason, Final, Act, count_line, reason_text, entry_line, reasons, entry_of, from_map, from_below, same_numbers_itself, AreFew, act_reason, from_possible, possible_small, entry_of-is, entry_of_none, IsEndedAt, IsNumberTo}
+use Rattle.roman_check.proofs.Common.{◌≡◌, ◌≢◌, ℕ, suc, ◌+◌, ◌-◌, ◌^◌, ◌<◌, Bool, List, ◌∷◌, ◌++◌, length, take, drop, get_or, None, Some, IsTrue, IsFalse, decimal, codes, refl, sym, ap, ap₂, ◌∙◌, subst, inl, arith, length-append, AllDigits, both_ways, ne_eqb, take_all, take_at, IsIn, has, same_numbers, Entry, Reason, Final, Act, count_line, reason_text, entry_line, reasons, entry_of, from_map, from_below, same_numbers_itself, AreFew, act_reason, from_possible, possible_small, entry_of_none, IsNumberTo}
 use Rattle.std.proofs.lemmas.List.{drop_more, get_or_at}
-use Rattle.roman_model.proofs.CallerLemmas.{IsSmall, cut_at, decimal_without, in_possible, entry_is_line, entry_of-line}
+use Rattle.roman_model.proofs.CallerLemmas.{IsSmall, cut_at, decimal_without, in_possible, entry_of-line}
 use Rattle.roman_check.specs.Readings.{ReadsOff}
 use Rattle.roman_check.proofs.DigitLemmas.{decimal_shape, no_stop_digit}
 use Rattle.roman_check.proofs.Texts.{same_from, clear_before, taken_more}
@@ -12,10 +12,7 @@ pub counted : (line front text : List ℕ) (n : ℕ) (b : Bool) → front ≡ co
 counted line front text n b is whole to from =
     same_from b (count_line n) line
     (λ t. ap₂ (λ bs cs. bs ++ cs) (sym is) (to t) ∙ sym whole)
-    (λ e. from (behind (decimal n) text (e ∙ whole ∙ ap (λ bs. bs ++ text) is)))
-  where
-    behind : (xs ys : List ℕ) → codes "pairs " ++ xs ≡ codes "pairs " ++ ys → xs ≡ ys
-    behind xs ys e = cc
+    (λ e. (let all : codes "pairs " ++ decimal n ≡ codes "pairs " ++ text = e ∙ whole ∙ ap (λ bs. bs ++ text) is in let same : decimal n ≡ text = cc in from same))
 
 -- Reasons
 
@@ -76,15 +73,13 @@ no_number pairs actions line few none = entry_of_none pairs actions line (λ x i
           stops = get_or_at ds 32 (reason_text x.reason) 0 (length ds) refl;
         }
 
--- a line whose first part isn't the number of a pair isn't the line of an entry
-pub no_pair : (pairs actions : ℕ) (line front back : List ℕ) → AreFew pairs actions → IsCut line front back → ((n : ℕ) → n < pairs → decimal n ≢ front) → entry_of pairs actions line ≡ None
-no_pair pairs actions line front back few cut none = entry_of_none pairs actions line (λ x i e.
-    none x.node (from_possible pairs actions x i).0 (entry_parts line front back x cut (possible_small pairs actions x few i) e).0)
-
--- a line whose second part isn't the text of a reason isn't the line of an entry
-pub no_reason : (pairs actions : ℕ) (line front back : List ℕ) → AreFew pairs actions → IsCut line front back → ((r : Reason) → IsIn r (reasons actions) → reason_text r ≢ back) → entry_of pairs actions line ≡ None
-no_reason pairs actions line front back few cut none = entry_of_none pairs actions line (λ x i e.
-    none x.reason (from_possible pairs actions x i).1 (entry_parts line front back x cut (possible_small pairs actions x few i) e).1)
+-- a line whose parts aren't the number of a pair and the text of a reason isn't the line of an entry
+pub no_parts : (pairs actions : ℕ) (line front back : List ℕ) → AreFew pairs actions → IsCut line front back →
+    ((n : ℕ) (r : Reason) → n < pairs → IsIn r (reasons actions) → decimal n ≡ front → reason_text r ≢ back) → entry_of pairs actions line ≡ None
+no_parts pairs actions line front back few cut none = entry_of_none pairs actions line (λ x i e.
+    let (number, text) = entry_parts line front back x cut (possible_small pairs actions x few i) e in
+    let (inside, given) = from_possible pairs actions x i in
+    none x.node x.reason inside given number text)
 
 -- the entry of a number and a reason
 pub some_entry : (pairs actions : ℕ) (line front back : List ℕ) (n : ℕ) (r : Reason) → AreFew pairs actions → IsCut line front back → n < pairs → decimal n ≡ front → IsIn r (reasons actions) → reason_text r ≡ back →
@@ -92,22 +87,3 @@ pub some_entry : (pairs actions : ℕ) (line front back : List ℕ) (n : ℕ) (r
 some_entry pairs actions line front back n r few cut l e i same =
     ap (entry_of pairs actions) (cut.whole ∙ ap₂ (λ bs cs. bs ++ 32 ∷ cs) (sym e) (sym same))
     ∙ entry_of-line pairs actions (record { node = n; reason = r }) few (in_possible pairs actions (record { node = n; reason = r }) l i)
-
--- Lines at the start of more bytes
-
--- the line of an entry from a place on
-pub entry_at : (pairs actions : ℕ) (piece : List ℕ) (start len : ℕ) (x : Entry ℕ) → AreFew pairs actions → IsEndedAt (take (length piece - start) (drop start piece)) len →
-    entry_of pairs actions (take len (take (length piece - start) (drop start piece))) ≡ Some x → (start ≤ start + len) × (start + len < length piece) × IsLine (take (start + len - start) (drop start piece)) ×
-    (get_or piece (start + len) 0 ≡ 10) × (entry_of pairs actions (take (start + len - start) (drop start piece)) ≡ Some x)
-entry_at pairs actions piece start len x few ended is =
-    let rest : take (length piece - start) (drop start piece) ≡ drop start piece = take_rest piece start in
-    let at : IsEndedAt (drop start piece) len = subst (λ bs. IsEndedAt bs len) rest ended in
-    let count : len ≡ start + len - start = omega arith in
-    let same : take len (take (length piece - start) (drop start piece)) ≡ take (start + len - start) (drop start piece) = ap₂ (λ n bs. take n bs) count rest in
-    let (i, e) = entry_of-is pairs actions (take len (take (length piece - start) (drop start piece))) x is in (
-      omega arith,
-      omega (arith, at.within, length-drop start piece),
-      subst IsLine (e ∙ same) (entry_is_line x (possible_small pairs actions x few i)),
-      sym (get_or-drop start piece len 0) ∙ at.newline,
-      sym (ap (entry_of pairs actions) same) ∙ is,
-    )

@@ -1,14 +1,11 @@
 -- Lines that are longer than any that is due.
-use Rattle.roman_check.proofs.Common.{◌≡◌, ℕ, ◌^◌, ◌<◌, ◌≤◌, List, [], ◌∷◌, length, Some, None, IsFalse, decimal, ap, arith, length-append, cond-false, length-decimal-le, IsIn, same_numbers, Arena, Entry, Reason, Final, Act, head_line, count_line, reason_text, entry_line, reasons, entry_of, line_fault, by_test, same_numbers_is, from_possible, entry_of_none, fault_in_body, fault_after_end, IsNumbered}
-use Rattle.roman_model.specs.Certificate.{Form, possible_entries, unless_is}
+use Rattle.roman_check.proofs.Common.{◌≡◌, ℕ, ◌^◌, ◌<◌, ◌≤◌, List, [], ◌∷◌, length, Some, None, IsFalse, decimal, ap, arith, length-append, cond-false, length-decimal-le, IsIn, same_numbers, Arena, Entry, Reason, Final, Act, count_line, reason_text, entry_line, reasons, entry_of, line_fault, by_test, same_numbers_is, from_possible, entry_of_none, fault_in_body, fault_after_end, IsNumbered}
+use Rattle.roman_model.specs.Certificate.{Form, possible_entries}
 use Rattle.roman_check.proofs.ReasonLemmas.{given_action}
 
 -- a short line isn't a long one
 differs : (due line : List ℕ) → length due ≤ 32 → 32 < length line → IsFalse (same_numbers due line)
 differs due line short long = by_test _ (λ t. let same : length due ≡ length line = ap length (same_numbers_is _ _ t) in absurd (omega arith)) (λ f. f)
-
-not_due : (due line : List ℕ) → length due ≤ 32 → 32 < length line → unless_is due (Some line) ≡ Some Form
-not_due due line short long = cond-false (same_numbers due line) None (Some Form) (differs due line short long)
 
 count_length : (pairs : ℕ) → pairs < 2 ^ 32 → length (count_line pairs) ≤ 16
 count_length pairs small = grind (arith, length-decimal-le, length-append)
@@ -32,8 +29,8 @@ no_entry pairs actions line small few long = grind (arith, entry_length, entry_o
 
 -- a line that is too long is at fault by its form
 pub long_line : (A : Arena ℕ) → IsNumbered A → (text : List (List ℕ)) (line : List ℕ) → 32 < length line → line_fault A text (Some line) ≡ Some Form
-long_line A ok [] line long = not_due head_line line (omega arith) long
+long_line A ok [] line long = grind (arith, cond-false, differs)
 long_line A ok (head ∷ []) line long =
     let short : length (count_line (length A.nodes)) ≤ 16 = count_length (length A.nodes) ok.few_nodes in
-    not_due (count_line (length A.nodes)) line (omega arith) long
+    cond-false (same_numbers (count_line (length A.nodes)) line) None (Some Form) (differs (count_line (length A.nodes)) line (omega arith) long)
 long_line A ok (head ∷ size ∷ body) line long = grind (arith, by_test, cond-false, differs, fault_after_end, fault_in_body, no_entry)

@@ -1,29 +1,28 @@
 -- Lines that differ in the last two digits of the pair.
-use Rattle.roman_check.proofs.Common.{◌≡◌, ℕ, ◌+◌, ◌-◌, ◌*◌, ◌/◌, ◌%◌, ◌^◌, ◌<◌, ◌≤◌, List, [], ◌∷◌, ◌++◌, length, take, drop, get_or, set, Some, decimal, sym, ap, ap₂, ◌∙◌, inl, inr, arith, append_assoc, length-append, length-take-le, cases_lt, decimal_digit, take_at, take-take, drop-take, get_or-take, get_or-drop, get_or-set_other, IsIn, reasons, entry_of, Reason, AreFew, IsEndedAt, HasParts, IsPattern}
+use Rattle.roman_check.proofs.Common.{◌≡◌, ℕ, ◌+◌, ◌-◌, ◌*◌, ◌/◌, ◌%◌, ◌^◌, ◌<◌, ◌≤◌, List, [], ◌∷◌, ◌++◌, length, take, drop, get_or, set, decimal, sym, ap, ap₂, ◌∙◌, inl, inr, arith, append_assoc, length-append, length-take-le, cases_lt, decimal_digit, take_at, take-take, drop-take, get_or-take, get_or-drop, get_or-set_other, length-set, IsIn, reasons, entry_of, Reason, HasEntry, HasParts, entry_with, IsPattern}
 use Rattle.std.proofs.lemmas.Fmt.{decimal_step}
 use Rattle.std.proofs.lemmas.Grind.{same_number_lists}
-use Rattle.std.proofs.lemmas.List.{take_more_set, drop-set-lt, length-set}
+use Rattle.std.proofs.lemmas.List.{take_more_set, drop-set-lt}
 use Rattle.roman_check.specs.declared.pattern.Shape.{Shape}
 use Rattle.roman_check.proofs.DigitLemmas.{decimal_shape}
-use Rattle.roman_check.proofs.EntryLemmas.{cut_to, some_entry}
+use Rattle.roman_check.proofs.EntryLemmas.{few_of, cut_to, some_entry}
 
 -- Parts of a line
 
 -- these parts are the line of an entry
-pub parts_entry : (pairs actions : ℕ) (bytes : List ℕ) (n space end : ℕ) (r : Reason) → AreFew pairs actions → pairs < 2 ^ 32 → HasParts bytes n r space end → n < pairs → IsIn r (reasons actions) →
-    IsEndedAt bytes end × (entry_of pairs actions (take end bytes) ≡ Some (record { node = n; reason = r }))
-parts_entry pairs actions bytes n space end r few small parts l given =
+pub parts_entry : (pairs actions : ℕ) (bytes : List ℕ) (n space end : ℕ) (r : Reason) → pairs < 2 ^ 32 → actions < 2 ^ 8 → HasParts bytes n r space end → n < pairs → IsIn r (reasons actions) → HasEntry pairs actions bytes end (entry_with (n, r))
+parts_entry pairs actions bytes n space end r pairs_fit actions_fit parts l given =
     let before : space < end = parts.before in
     let within : end < length bytes = parts.ended.within in
     let long : length (take space bytes) ≡ space = length-take-le space bytes (omega arith) in
     let (all, trim, value) = decimal_shape _ _ (omega arith) parts.number in
     let short : length (take space bytes) ≤ 10 = trim.few in
-    let m = end - (space + 1) in
-    let whole : space + 1 + m ≡ end = omega arith in (
-      parts.ended,
-      ap (λ k. entry_of pairs actions (take k bytes)) (sym whole) ∙ some_entry _ _ _ _ _ _ _ few
-          (cut_to _ _ _ (record { few = omega arith; within = omega arith; digits = all; stops = parts.stop })) l parts.number given parts.text,
-    )
+    let whole : space + 1 + (end - (space + 1)) ≡ end = omega arith in
+    record {
+      ended = parts.ended;
+      entry = ap (λ k. entry_of pairs actions (take k bytes)) (sym whole) ∙ some_entry _ _ _ _ _ _ _ (few_of pairs actions pairs_fit actions_fit)
+          (cut_to _ _ _ (record { few = omega arith; within = omega arith; digits = all; stops = parts.stop })) l parts.number given parts.text;
+    }
 
 -- The same bytes
 
@@ -78,36 +77,26 @@ two_digits q a b some tens ones small =
     low : (q * 100 + a * 10 + b) % 10 ≡ b
     low = omega arith
 
+-- a number from 100 on ends with two digits
+last_two : (pair : ℕ) → 100 ≤ pair → pair < 8589934592 → decimal pair ≡ decimal (pair / 100) ++ (48 + pair / 10 % 10) ∷ (48 + pair % 10) ∷ []
+last_two pair large small =
+    let whole : pair ≡ pair / 100 * 100 + pair / 10 % 10 * 10 + pair % 10 = omega arith in
+    ap decimal whole ∙ two_digits (pair / 100) (pair / 10 % 10) (pair % 10) (omega arith) (omega arith) (omega arith) (omega arith)
+
+-- the length of its text
+last_two_length : (text : List ℕ) (pair space : ℕ) → 100 ≤ pair → pair < 8589934592 → space ≤ length text → decimal pair ≡ take space text → length (decimal (pair / 100)) + 2 ≡ space
+last_two_length text pair space large small within number =
+    sym (length-append (decimal (pair / 100)) ((48 + pair / 10 % 10) ∷ (48 + pair % 10) ∷ [])) ∙ ap length (sym (last_two pair large small) ∙ number) ∙ length-take-le space text within
+
 -- the digits before the last two
-front_digits : (text : List ℕ) (pair place : ℕ) → 100 ≤ pair → pair < 8589934592 → place + 2 ≤ length text → decimal pair ≡ take (place + 2) text → take place text ≡ decimal (pair / 100)
+pub front_digits : (text : List ℕ) (pair place : ℕ) → 100 ≤ pair → pair < 8589934592 → place + 2 ≤ length text → decimal pair ≡ take (place + 2) text → take place text ≡ decimal (pair / 100)
 front_digits text pair place large small within number =
-    let q = pair / 100 in
-    let a = pair / 10 % 10 in
-    let b = pair % 10 in
-    let whole : pair ≡ q * 100 + a * 10 + b = omega arith in
-    let split : decimal pair ≡ decimal q ++ (48 + a) ∷ (48 + b) ∷ [] = ap decimal whole ∙ two_digits q a b (omega arith) (omega arith) (omega arith) (omega arith) in
-    let long : length (take (place + 2) text) ≡ place + 2 = length-take-le (place + 2) text within in
-    let sum : length (decimal q ++ (48 + a) ∷ (48 + b) ∷ []) ≡ length (decimal q) + 2 = length-append (decimal q) ((48 + a) ∷ (48 + b) ∷ []) in
-    let same : length (decimal pair) ≡ length (take (place + 2) text) = ap length number in
-    let both : length (decimal pair) ≡ length (decimal q ++ (48 + a) ∷ (48 + b) ∷ []) = ap length split in
-    sym (take-take place (place + 2) text (omega arith)) ∙ ap (take place) (sym number ∙ split) ∙ take_at (decimal q) ((48 + a) ∷ (48 + b) ∷ []) place (omega arith)
+    let long : length (decimal (pair / 100)) + 2 ≡ place + 2 = last_two_length text pair (place + 2) large small within number in
+    sym (take-take place (place + 2) text (omega arith)) ∙ ap (take place) (sym number ∙ last_two pair large small) ∙ take_at (decimal (pair / 100)) ((48 + pair / 10 % 10) ∷ (48 + pair % 10) ∷ []) place (omega arith)
 
 -- a number from 100 on has more than two digits
 pub large_number : (bytes : List ℕ) (pair space : ℕ) → 100 ≤ pair → pair < 2 ^ 32 → space ≤ length bytes → decimal pair ≡ take space bytes → 2 ≤ space
-large_number bytes pair space large small within number = elim (cases_lt space 2) [
-  | inl less ↦
-      let q = pair / 100 in
-      let a = pair / 10 % 10 in
-      let b = pair % 10 in
-      let whole : pair ≡ q * 100 + a * 10 + b = omega arith in
-      let split : decimal pair ≡ decimal q ++ (48 + a) ∷ (48 + b) ∷ [] = ap decimal whole ∙ two_digits q a b (omega arith) (omega arith) (omega arith) (omega arith) in
-      let long : length (take space bytes) ≡ space = length-take-le space bytes within in
-      let sum : length (decimal q ++ (48 + a) ∷ (48 + b) ∷ []) ≡ length (decimal q) + 2 = length-append (decimal q) ((48 + a) ∷ (48 + b) ∷ []) in
-      let same : length (decimal pair) ≡ length (take space bytes) = ap length number in
-      let both : length (decimal pair) ≡ length (decimal q ++ (48 + a) ∷ (48 + b) ∷ []) = ap length split in
-      absurd (omega arith)
-  | inr more ↦ more
-]
+large_number bytes pair space large small within number = omega (arith, last_two_length bytes pair space large (omega arith) within number)
 
 -- the digits of the pattern at the start
 pub first_number : decimal 10000 ≡ 49 ∷ 48 ∷ 48 ∷ 48 ∷ 48 ∷ []
@@ -116,9 +105,9 @@ first_number =
     ∙ ap (λ ds. ds ++ 48 ∷ 48 ∷ []) (two_digits 1 0 0 (omega arith) (omega arith) (omega arith) (omega arith) ∙ ap (λ ds. ds ++ 48 ∷ 48 ∷ []) (decimal_digit 1 (omega arith)))
 
 -- other digits stand as the last two
-pub with_digits : (text : List ℕ) (p : Shape) (tens ones n : ℕ) → IsPattern text p → 48 ≤ tens → tens ≤ 57 → 48 ≤ ones → ones ≤ 57 → n + 528 ≡ p.base + tens * 10 + ones →
+pub with_digits : (text : List ℕ) (p : Shape) (tens ones n : ℕ) → IsPattern text p → (48 ≤ tens) × (tens ≤ 57) → (48 ≤ ones) × (ones ≤ 57) → n + 528 ≡ p.base + tens * 10 + ones →
     HasParts (set (set text p.place tens) (p.place + 1) ones) n p.reason (p.place + 2) p.len
-with_digits text p tens ones n is tens_low tens_high ones_low ones_high value =
+with_digits text p tens ones n is (tens_low, tens_high) (ones_low, ones_high) value =
     let place = p.place in
     let q = is.pair / 100 in
     let base : p.base ≡ q * 100 = is.base in

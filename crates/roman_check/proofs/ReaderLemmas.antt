@@ -1,12 +1,17 @@
 -- Texts that are read byte by byte.
-use Rattle.roman_check.proofs.Common.{◌≡◌, ◌≢◌, ℕ, ◌+◌, ◌-◌, ◌<◌, ◌≤◌, ◌==◌, List, [], ◌∷◌, ◌++◌, length, take, drop, get_or, Option, Some, None, option_map, refl, sym, ap, ap₂, ◌∙◌, subst, inl, inr, arith, append_assoc, append-nil, length-append, length-drop, position, take-append-drop, take_rest, get_or-drop, lines, text_of_lines, IsLine, Arena, Entry, entry_of, entry_fault, Reader, Audit, Body, Why, Form, fault_of, Holds, IsEndedAt, HasListed, HasRead, Judges, HasLines, IsReading, IsAtFault, IsNumbered}
-use Rattle.std.proofs.lemmas.List.{take_more}
+use Rattle.roman_check.proofs.Common.{◌≡◌, ℕ, ◌+◌, ◌-◌, ◌<◌, ◌≤◌, List, [], ◌∷◌, ◌++◌, length, take, drop, get_or, Option, Some, None, option_map, refl, sym, ap, ap₂, ◌∙◌, subst, inl, inr, arith, append_assoc, append-nil, length-append, take_rest, take_all, take-append-drop, get_or-drop, cases_lt, lines, text_of_lines, IsLine, Arena, Entry, Reader, Audit, Why, Form, fault_of, HasRead, TakesEntry, Judges, IsInRows, possible_small, entry_of-is, IsEndedAt, HasEntry, HasLines, IsReading, IsBetween, ReadsPart, IsNumbered}
+use Rattle.std.proofs.Common.{length-drop}
+use Rattle.roman_model.proofs.CallerLemmas.{entry_is_line}
+use Rattle.roman_check.specs.Lines.{Holds}
+use Rattle.roman_check.specs.Readers.{IsAtFault, EndsLine}
+use Rattle.std.proofs.lemmas.List.{nil_from_length, take_more}
 use Rattle.roman_model.specs.Lines.{AreLines}
-use Rattle.roman_model.proofs.CallerLemmas.{from_push, text_of_lines-push, lines-text, lines_last, append_line, clean_push}
-use Rattle.roman_check.specs.Readers.{Feeds, Closes}
-use Rattle.roman_check.proofs.Texts.{taken_more, found_before, found_nowhere}
-use Rattle.roman_check.proofs.EntryLemmas.{entry_at}
-use Rattle.roman_check.proofs.AuditLemmas.{few_numbered, judged_entry}
+use Rattle.roman_model.specs.Certificate.{Rejected}
+use Rattle.roman_model.proofs.CallerLemmas.{from_push, text_of_lines-push, lines-text, lines_last, append_line, clean_push, verdict_at}
+use Rattle.roman_check.specs.declared.line.Line.{Line}
+use Rattle.roman_check.specs.Readers.{Closes, one_if_clean}
+use Rattle.roman_check.proofs.Texts.{taken_more}
+use Rattle.roman_check.proofs.AuditLemmas.{few_numbered}
 use Rattle.roman_check.proofs.LongLines.{long_line}
 
 -- One line
@@ -18,159 +23,124 @@ judged_long A ok audit line long = grind (arith, long_line)
 lines_push : (text : List (List ℕ)) (line : List ℕ) → AreLines text → IsLine line → AreLines (text ++ line ∷ [])
 lines_push text line are is l i = elim (from_push l line text i) [ inl j ↦ are l j | inr e ↦ subst IsLine (sym e) is ]
 
+-- a line without bytes has no other bytes
+pub alone : (line : Line) (bytes : List ℕ) → Holds line [] → Holds line bytes → bytes ≡ []
+alone line bytes none held = grind (arith, cases_lt, nil_from_length)
+
+at_most_one : (fault : Option Why) → one_if_clean fault ≤ 1
+at_most_one None = omega arith
+at_most_one (Some why) = omega arith
+
+-- a line at fault isn't counted
+stopped : (A : Arena ℕ) (lanes : ℕ) (old new : Reader) (last : List ℕ) (fault : Option Why) (why : Why) → EndsLine A lanes old new last fault → fault ≡ Some why → new.lines ≡ old.lines
+stopped A lanes old new last fault why ends some = omega (arith, ends.lines ∙ ap (λ f. old.lines + one_if_clean f) some)
+
 -- the line that follows is read
-has_more : (A : Arena ℕ) (old new : Reader) (text : List (List ℕ)) (line : List ℕ) (fault : Option Why) → HasLines A text old → Judges A old.audit new.audit line fault → fault ≡ None → new.lines ≡ old.lines + 1 →
-    HasLines A (text ++ line ∷ []) new
-has_more A old new text line fault has judged none count = record {
-  clean = clean_push A text line has.clean (sym (judged.named text has.read) ∙ ap (option_map fault_of) none);
-  read = judged.read text has.read none;
-  counted = count ∙ ap (λ n. n + 1) has.counted ∙ sym (length_one_more text line);
-}
-  where
-    length_one_more : (text : List (List ℕ)) (line : List ℕ) → length (text ++ line ∷ []) ≡ length text + 1
-    length_one_more text line = length-append text (line ∷ [])
+has_more : (A : Arena ℕ) (lanes : ℕ) (old new : Reader) (text : List (List ℕ)) (partial last : List ℕ) (fault : Option Why) → HasLines A text old → Holds old.line partial → EndsLine A lanes old new last fault → fault ≡ None →
+    HasLines A (text ++ (partial ++ last) ∷ []) new
+has_more A lanes old new text partial last fault has held ends none =
+    let judged = ends.judged partial held in
+    record {
+      clean = clean_push A text (partial ++ last) has.clean (sym (judged.named text has.read) ∙ ap (option_map fault_of) none);
+      read = judged.read text has.read none;
+      counted = ends.lines ∙ ap₂ (λ n f. n + one_if_clean f) has.counted none ∙ sym (length-append text ((partial ++ last) ∷ []));
+    }
 
 -- Pieces
 
--- the first newline from a place on
-pub newline_at : (piece : List ℕ) (start found : ℕ) → start ≤ length piece → position (λ b. b == 10) (take (length piece - start) (drop start piece)) ≡ Some found →
-    (start ≤ start + found) × (start + found < length piece) × IsLine (take ((start + found) - start) (drop start piece)) × (get_or piece (start + found) 0 ≡ 10)
-newline_at piece start found low e =
-    let (within, line, here) = found_before 10 (drop start piece) found (ap (position (λ b. b == 10)) (sym (take_rest piece start)) ∙ e) in
-    let place : (start + found) - start ≡ found = omega arith in
-    let l : found < length (drop start piece) = within in
-    (omega arith, omega (arith, length-drop start piece), subst (λ n. IsLine (take n (drop start piece))) (sym place) line, sym (get_or-drop start piece found 0) ∙ here)
-
--- there is none
-pub newline_nowhere : (piece : List ℕ) (start : ℕ) → position (λ b. b == 10) (take (length piece - start) (drop start piece)) ≡ None → IsLine (drop start piece)
-newline_nowhere piece start e = found_nowhere 10 (drop start piece) (ap (position (λ b. b == 10)) (sym (take_rest piece start)) ∙ e)
-
--- the bytes of a line that isn't ended
-pub read_partial : (A : Arena ℕ) (old new : Reader) (more : List ℕ) → IsLine more → new.audit ≡ old.audit → new.lines ≡ old.lines → ((bytes : List ℕ) → Holds old.line bytes → Holds new.line (bytes ++ more)) →
-    (taken : List ℕ) → IsReading A taken old → IsReading A (taken ++ more) new
-read_partial A old new more line same count pushed taken r = record {
-  text = r.text;
-  partial = r.partial ++ more;
-  split = ap (λ bs. bs ++ more) r.split ∙ append_assoc (text_of_lines r.text) r.partial more;
-  whole = r.whole;
-  unended = append_line r.partial more r.unended line;
-  has = record {
-    clean = r.has.clean;
-    read = subst (λ audit. HasRead A r.text audit) (sym same) r.has.read;
-    counted = count ∙ r.has.counted;
-  };
-  held = pushed r.partial r.held;
+-- one part is read after another
+pub reads_then : (A : Arena ℕ) (lanes : ℕ) (old mid new : Reader) (piece : List ℕ) (from at to : ℕ) (fault : Option Why) → ReadsPart A lanes old mid piece from at None → ReadsPart A lanes mid new piece at to fault → ReadsPart A lanes old new piece from to fault
+reads_then A lanes old mid new piece from at to fault first second = record {
+  low = omega (arith, first.low, second.low);
+  high = second.high;
+  lines = omega (arith, first.lines, second.lines);
+  shaped = second.shaped;
+  reads = λ taken r none. second.reads taken (first.reads taken r refl) none;
+  stops = λ taken why r some. second.stops taken why (first.reads taken r refl) some;
 }
 
-ended_split : (partial last : List ℕ) (text : List (List ℕ)) (taken : List ℕ) → taken ≡ text_of_lines text ++ partial → taken ++ (last ++ 10 ∷ []) ≡ text_of_lines (text ++ (partial ++ last) ∷ []) ++ []
-ended_split partial last text taken split =
-    ap (λ bs. bs ++ (last ++ 10 ∷ [])) split ∙ append_assoc (text_of_lines text) partial (last ++ 10 ∷ [])
-    ∙ ap (λ bs. text_of_lines text ++ bs) (sym (append_assoc partial last (10 ∷ []))) ∙ sym (append_assoc (text_of_lines text) (partial ++ last) (10 ∷ []))
-    ∙ sym (text_of_lines-push _ _) ∙ sym (append-nil (text_of_lines (text ++ (partial ++ last) ∷ [])))
+-- the text so far with the rest of a line and its newline
+ended_split : (text : List (List ℕ)) (partial last : List ℕ) → (text_of_lines text ++ partial) ++ (last ++ 10 ∷ []) ≡ text_of_lines (text ++ (partial ++ last) ∷ []) ++ []
+ended_split text partial last =
+    append_assoc (text_of_lines text) partial (last ++ 10 ∷ []) ∙ ap (λ bs. text_of_lines text ++ bs) (sym (append_assoc partial last (10 ∷ [])))
+    ∙ sym (append_assoc (text_of_lines text) (partial ++ last) (10 ∷ [])) ∙ sym (text_of_lines-push _ _) ∙ sym (append-nil (text_of_lines (text ++ (partial ++ last) ∷ [])))
 
--- the end of a line without a fault
-pub read_line : (A : Arena ℕ) (old new : Reader) (last : List ℕ) (fault : Option Why) → IsLine last → ((bytes : List ℕ) → Holds old.line bytes → Judges A old.audit new.audit (bytes ++ last) fault) → fault ≡ None → new.lines ≡ old.lines + 1 →
-    Holds new.line [] → Feeds A old new (last ++ 10 ∷ []) None
-read_line A old new last fault line judged clean count cleared = record {
-  reads = λ taken r none. record {
-    text = r.text ++ (r.partial ++ last) ∷ [];
-    partial = [];
-    split = ended_split r.partial last r.text taken r.split;
-    whole = lines_push r.text (r.partial ++ last) r.whole (append_line r.partial last r.unended line);
-    unended = refl;
-    has = has_more A old new r.text (r.partial ++ last) fault r.has (judged r.partial r.held) clean count;
-    held = cleared;
-  };
-  stops = λ taken why r some. (let h : ⊥ = cc in absurd h);
-}
+module _ (A : Arena ℕ) (lanes : ℕ) (old new : Reader) (piece : List ℕ) (from len : ℕ) where
+  abbrev rest : List ℕ
+  rest = take (length piece - from) (drop from piece)
 
--- the end of a line at fault
-pub stop_line : (A : Arena ℕ) (old new : Reader) (last : List ℕ) (fault : Option Why) (first : Why) → IsLine last → ((bytes : List ℕ) → Holds old.line bytes → Judges A old.audit new.audit (bytes ++ last) fault) → fault ≡ Some first →
-    new.lines ≡ old.lines → Feeds A old new (last ++ 10 ∷ []) (Some first)
-stop_line A old new last fault first line judged faulty count = record {
-  reads = λ taken r none. (let h : ⊥ = cc in absurd h);
-  stops = λ taken why r some. record {
-    text = r.text;
-    line = r.partial ++ last;
-    more = [];
-    split = ended_split r.partial last r.text taken r.split;
-    whole = lines_push r.text (r.partial ++ last) r.whole (append_line r.partial last r.unended line);
-    clean = r.has.clean;
-    fault = sym ((judged r.partial r.held).named r.text r.has.read) ∙ ap (option_map fault_of) (faulty ∙ some);
-    counted = count ∙ r.has.counted;
-  };
-}
+  line_more : (taken : List ℕ) → from + len < length piece → IsEndedAt rest len → (taken ++ take from piece) ++ (take len rest ++ 10 ∷ []) ≡ taken ++ take (from + len + 1) piece
+  line_more taken within ended =
+      append_assoc taken (take from piece) (take len rest ++ 10 ∷ []) ∙ ap (λ bs. taken ++ bs) (sym (append_assoc (take from piece) (take len rest) (10 ∷ []))
+      ∙ ap₂ (λ bs b. bs ++ b ∷ []) (ap (λ bs. take from piece ++ take len bs) (take_rest piece from) ∙ taken_more piece from len)
+      (sym (sym (get_or-drop from piece len 0) ∙ ap (λ bs. get_or bs len 0) (sym (take_rest piece from)) ∙ ended.newline)) ∙ sym (take_more piece (from + len) 0 within))
 
-fault_more : (A : Arena ℕ) (bytes more : List ℕ) (n : ℕ) (why : Why) → IsAtFault A bytes n why → IsAtFault A (bytes ++ more) n why
-fault_more A bytes more n why at = record {
-  text = at.text;
-  line = at.line;
-  more = at.more ++ more;
-  split = ap (λ bs. bs ++ more) at.split ∙ append_assoc (text_of_lines (at.text ++ at.line ∷ [])) at.more more;
-  whole = at.whole;
-  clean = at.clean;
-  fault = at.fault;
-  counted = at.counted;
-}
+  -- a line is read to its end
+  pub line_read : (fault : Option Why) → from ≤ length piece → IsEndedAt rest len → IsLine (take len rest) → EndsLine A lanes old new (take len rest) fault → ReadsPart A lanes old new piece from (from + len + 1) fault
+  line_read fault within ended line ends = record {
+    low = omega arith;
+    high = omega (arith, inside);
+    lines = omega (arith, ends.lines, at_most_one fault);
+    shaped = ends.shaped;
+    reads = λ taken r none. subst (λ bs. IsReading A bs new) (line_more taken inside ended) (record {
+      text = r.text ++ (r.partial ++ take len rest) ∷ [];
+      partial = [];
+      split = ap (λ bs. bs ++ (take len rest ++ 10 ∷ [])) r.split ∙ ended_split r.text r.partial (take len rest);
+      whole = lines_push r.text (r.partial ++ take len rest) r.whole (append_line r.partial (take len rest) r.unended line);
+      unended = refl;
+      has = has_more A lanes old new r.text r.partial (take len rest) fault r.has r.held ends none;
+      held = ends.cleared none;
+    });
+    stops = λ taken why r some. subst (λ bs. IsAtFault A bs new.lines why) (line_more taken inside ended) (record {
+      text = r.text;
+      line = r.partial ++ take len rest;
+      more = [];
+      split = ap (λ bs. bs ++ (take len rest ++ 10 ∷ [])) r.split ∙ ended_split r.text r.partial (take len rest);
+      whole = lines_push r.text (r.partial ++ take len rest) r.whole (append_line r.partial (take len rest) r.unended line);
+      clean = r.has.clean;
+      fault = sym ((ends.judged r.partial r.held).named r.text r.has.read) ∙ ap (option_map fault_of) some;
+      counted = stopped A lanes old new (take len rest) fault why ends some ∙ r.has.counted;
+    });
+  }
+    where
+      inside : from + len < length piece
+      inside = omega (arith, ended.within, ap length (take_rest piece from), length-drop from piece)
 
--- the bytes of a piece up to a place, those of the line that ends behind it, and its newline
-line_more : (piece : List ℕ) (start end : ℕ) → start ≤ end → end < length piece → get_or piece end 0 ≡ 10 → take start piece ++ (take (end - start) (drop start piece) ++ 10 ∷ []) ≡ take (end + 1) piece
-line_more piece start end low high newline =
-    sym (append_assoc (take start piece) (take (end - start) (drop start piece)) (10 ∷ []))
-    ∙ ap₂ (λ bs b. bs ++ b ∷ []) (taken_more _ _ _ ∙ ap (λ n. take n piece) (omega arith)) (sym newline) ∙ sym (take_more piece end 0 high)
-
-lines_more : (taken piece : List ℕ) (start end : ℕ) → start ≤ end → end < length piece → get_or piece end 0 ≡ 10 →
-    (taken ++ take start piece) ++ (take (end - start) (drop start piece) ++ 10 ∷ []) ≡ taken ++ take (end + 1) piece
-lines_more taken piece start end low high newline =
-    append_assoc taken (take start piece) (take (end - start) (drop start piece) ++ 10 ∷ []) ∙ ap (λ bs. taken ++ bs) (line_more piece start end low high newline)
-
-pub read_more : (A : Arena ℕ) (old mid new : Reader) (piece : List ℕ) (start end : ℕ) (fault : Option Why) → start ≤ end → end < length piece → get_or piece end 0 ≡ 10 →
-    ((taken : List ℕ) → IsReading A taken old → IsReading A (taken ++ take start piece) mid) → Feeds A mid new (take (end - start) (drop start piece) ++ 10 ∷ []) fault → fault ≡ None →
-    (taken : List ℕ) → IsReading A taken old → IsReading A (taken ++ take (end + 1) piece) new
-read_more A old mid new piece start end fault low high newline so_far fed none taken r =
-    subst (λ bs. IsReading A bs new) (lines_more taken piece start end low high newline) (fed.reads (taken ++ take start piece) (so_far taken r) none)
-
-pub stop_in_piece : (A : Arena ℕ) (old mid new : Reader) (piece : List ℕ) (start end : ℕ) (why : Why) → start ≤ end → end < length piece → get_or piece end 0 ≡ 10 →
-    ((taken : List ℕ) → IsReading A taken old → IsReading A (taken ++ take start piece) mid) → Feeds A mid new (take (end - start) (drop start piece) ++ 10 ∷ []) (Some why) → Feeds A old new piece (Some why)
-stop_in_piece A old mid new piece start end why low high newline so_far fed = record {
-  reads = λ taken r none. (let h : ⊥ = cc in absurd h);
-  stops = λ taken first r some.
-      subst (λ bs. IsAtFault A bs new.lines first) (whole taken)
-      (fault_more A (taken ++ take (end + 1) piece) (drop (end + 1) piece) new.lines first
-      (subst (λ bs. IsAtFault A bs new.lines first) (lines_more taken piece start end low high newline) (fed.stops (taken ++ take start piece) first (so_far taken r) some)));
-}
-  where
-    whole : (taken : List ℕ) → (taken ++ take (end + 1) piece) ++ drop (end + 1) piece ≡ taken ++ piece
-    whole taken = append_assoc taken (take (end + 1) piece) (drop (end + 1) piece) ∙ ap (λ bs. taken ++ bs) (take-append-drop (end + 1) piece)
-
--- a line of a piece whose entry was read at once, where no bytes of it were read before
-pub entry_in_piece : (A : Arena ℕ) → IsNumbered A → (mid new : Reader) (piece : List ℕ) (start len pairs actions : ℕ) (x : Entry ℕ) (fault : Option Why) → pairs ≡ length A.nodes → actions ≡ A.actions →
-    IsEndedAt (take (length piece - start) (drop start piece)) len → entry_of pairs actions (take len (take (length piece - start) (drop start piece))) ≡ Some x →
-    mid.audit.due ≡ Body → ((bytes : List ℕ) → Holds mid.line bytes → bytes ≡ []) →
-    ((L : List (Entry ℕ)) → HasListed A L mid.audit → option_map fault_of fault ≡ entry_fault A L (Some x)) →
-    ((L : List (Entry ℕ)) → HasListed A L mid.audit → fault ≡ None → HasListed A (L ++ x ∷ []) new.audit) → new.audit.due ≡ mid.audit.due →
-    (start ≤ start + len) × (start + len < length piece) × (get_or piece (start + len) 0 ≡ 10) × IsLine (take (start + len - start) (drop start piece)) ×
-    ((bytes : List ℕ) → Holds mid.line bytes → Judges A mid.audit new.audit (bytes ++ take (start + len - start) (drop start piece)) fault)
-entry_in_piece A ok mid new piece start len pairs actions x fault all some ended is due alone named list same =
-    let whole = sym (ap₂ (λ p a. entry_of p a (take len (take (length piece - start) (drop start piece)))) all some) ∙ is in
-    let (low, below, line, newline, own) = entry_at (length A.nodes) A.actions piece start len x (few_numbered A ok) ended whole in (
-      low,
-      below,
-      newline,
-      line,
-      λ bytes held. subst (λ front. Judges A mid.audit new.audit (front ++ take (start + len - start) (drop start piece)) fault) (sym (alone bytes held))
-          (judged_entry A ok mid.audit new.audit (take (start + len - start) (drop start piece)) x fault due own named list same),
-    )
+  -- an entry is read at once
+  pub entry_read : IsNumbered A → (x : Entry ℕ) (fault : Option Why) → from ≤ length piece → IsBetween old → HasEntry (length A.nodes) A.actions rest len x → TakesEntry A lanes old.audit new.audit x fault →
+      new.line ≡ old.line → new.lines ≡ old.lines + one_if_clean fault → ReadsPart A lanes old new piece from (from + len + 1) fault
+  entry_read ok x fault within between has takes same counted =
+      let (i, e) = entry_of-is (length A.nodes) A.actions (take len rest) x has.entry in
+      line_read fault within has.ended (subst IsLine e (entry_is_line x (possible_small (length A.nodes) A.actions x (few_numbered A ok) i))) (record {
+        judged = λ bytes held. subst (λ front. Judges A old.audit new.audit (front ++ take len rest) fault) (sym (alone old.line bytes between.line held)) (takes.judged (take len rest) has.entry);
+        shaped = takes.shaped;
+        lines = counted;
+        cleared = λ none. subst (λ line. Holds line []) (sym same) between.line;
+      })
 
 -- the bytes behind the last newline of a piece
-pub read_rest : (A : Arena ℕ) (old mid new : Reader) (piece rest : List ℕ) (start : ℕ) → rest ≡ drop start piece → IsLine (drop start piece) → ((taken : List ℕ) → IsReading A taken old → IsReading A (taken ++ take start piece) mid) →
-    new.audit ≡ mid.audit → new.lines ≡ mid.lines → ((bytes : List ℕ) → Holds mid.line bytes → Holds new.line (bytes ++ rest)) → Feeds A old new piece None
-read_rest A old mid new piece rest start is line so_far same count pushed = record {
-  reads = λ taken r none.
-      subst (λ bs. IsReading A bs new) (append_assoc taken (take start piece) (drop start piece) ∙ ap (λ bs. taken ++ bs) (take-append-drop start piece))
-      (read_partial A mid new (drop start piece) line same count (subst (λ bs. (bytes : List ℕ) → Holds mid.line bytes → Holds new.line (bytes ++ bs)) is pushed) (taken ++ take start piece) (so_far taken r));
+pub rest_read : (A : Arena ℕ) (lanes : ℕ) (old new : Reader) (piece rest : List ℕ) (from : ℕ) → from ≤ length piece → rest ≡ drop from piece → IsLine rest → IsInRows lanes (length A.nodes) old.audit → new.audit ≡ old.audit → new.lines ≡ old.lines →
+    ((bytes : List ℕ) → Holds old.line bytes → Holds new.line (bytes ++ rest)) → ReadsPart A lanes old new piece from (length piece) None
+rest_read A lanes old new piece rest from within is line shaped same count pushed = record {
+  low = within;
+  high = omega arith;
+  lines = omega (arith, count);
+  shaped = subst (IsInRows lanes (length A.nodes)) (sym same) shaped;
+  reads = λ taken r none. subst (λ bs. IsReading A bs new) (whole taken) (record {
+    text = r.text;
+    partial = r.partial ++ rest;
+    split = ap (λ bs. bs ++ rest) r.split ∙ append_assoc (text_of_lines r.text) r.partial rest;
+    whole = r.whole;
+    unended = append_line r.partial rest r.unended line;
+    has = record { clean = r.has.clean; read = subst (λ audit. HasRead A r.text audit) (sym same) r.has.read; counted = count ∙ r.has.counted };
+    held = pushed r.partial r.held;
+  });
   stops = λ taken why r some. (let h : ⊥ = cc in absurd h);
 }
+  where
+    whole : (taken : List ℕ) → (taken ++ take from piece) ++ rest ≡ taken ++ take (length piece) piece
+    whole taken =
+        append_assoc taken (take from piece) rest ∙ ap (λ bs. taken ++ bs) (ap (λ bs. take from piece ++ bs) is ∙ take-append-drop from piece ∙ sym (take_all (length piece) piece (omega arith)))
 
 -- The end
 
@@ -178,33 +148,20 @@ text_lines : (A : Arena ℕ) (bytes : List ℕ) (reader : Reader) (r : IsReading
 text_lines A bytes reader r = ap lines r.split ∙ lines-text r.text r.partial r.whole
 
 -- the text ends with a newline, or is empty
-pub closed_empty : (A : Arena ℕ) (old : Reader) → ((bytes : List ℕ) → Holds old.line bytes → bytes ≡ []) → Closes A old old None
+pub closed_empty : (A : Arena ℕ) (old : Reader) → Holds old.line [] → Closes A old old None
 closed_empty A old empty = record {
-  reads = λ bytes r none. subst (λ ls. HasLines A ls old) (sym (text_lines A bytes old r ∙ ap (λ bs. r.text ++ lines bs) (empty r.partial r.held) ∙ append-nil r.text)) r.has;
-  stops = λ bytes why r some. (let h : ⊥ = cc in absurd h);
+  reads = λ bytes r none. subst (λ ls. HasLines A ls old) (sym (text_lines A bytes old r ∙ ap (λ bs. r.text ++ lines bs) (alone old.line r.partial empty r.held) ∙ append-nil r.text)) r.has;
+  stops = λ start why some. (let h : ⊥ = cc in absurd h);
 }
 
-last_line : (A : Arena ℕ) (bytes : List ℕ) (reader : Reader) (r : IsReading A bytes reader) → r.partial ≢ [] → lines bytes ≡ r.text ++ r.partial ∷ []
-last_line A bytes reader r some = text_lines A bytes reader r ∙ ap (λ ls. r.text ++ ls) (lines_last r.partial r.unended some)
-
-pub closed_line : (A : Arena ℕ) (old new : Reader) (fault : Option Why) → ((bytes : List ℕ) → Holds old.line bytes → bytes ≢ []) → ((bytes : List ℕ) → Holds old.line bytes → Judges A old.audit new.audit bytes fault) → fault ≡ None →
-    new.lines ≡ old.lines + 1 → Closes A old new None
-closed_line A old new fault some judged clean count = record {
-  reads = λ bytes r none.
-      subst (λ ls. HasLines A ls new) (sym (last_line A bytes old r (some r.partial r.held))) (has_more A old new r.text r.partial fault r.has (judged r.partial r.held) clean count);
-  stops = λ bytes why r some. (let h : ⊥ = cc in absurd h);
+-- the last line ends without a newline
+pub closed_line : (A : Arena ℕ) (lanes : ℕ) (old new : Reader) (fault : Option Why) → (Holds old.line [] → ⊥) → EndsLine A lanes old new [] fault → Closes A old new fault
+closed_line A lanes old new fault some ends = record {
+  reads = λ bytes r none. subst (λ ls. HasLines A ls new) (sym (last_line bytes r)) (has_more A lanes old new r.text r.partial [] fault r.has r.held ends none);
+  stops = λ start why is bytes r short.
+      verdict_at A start bytes r.text (r.partial ++ []) [] (fault_of why) short (last_line bytes r) r.has.clean (sym ((ends.judged r.partial r.held).named r.text r.has.read) ∙ ap (option_map fault_of) is)
+      ∙ ap (λ n. Rejected (n + 1) (fault_of why)) (sym (stopped A lanes old new [] fault why ends is ∙ r.has.counted));
 }
-
-pub closed_at_fault : (A : Arena ℕ) (old new : Reader) (fault : Option Why) (first : Why) → ((bytes : List ℕ) → Holds old.line bytes → bytes ≢ []) → ((bytes : List ℕ) → Holds old.line bytes → Judges A old.audit new.audit bytes fault) →
-    fault ≡ Some first → new.lines ≡ old.lines → Closes A old new (Some first)
-closed_at_fault A old new fault first some judged faulty count = record {
-  reads = λ bytes r none. (let h : ⊥ = cc in absurd h);
-  stops = λ bytes why r is. record {
-    text = r.text;
-    line = r.partial;
-    split = last_line A bytes old r (some r.partial r.held);
-    clean = r.has.clean;
-    fault = sym ((judged r.partial r.held).named r.text r.has.read) ∙ ap (option_map fault_of) (faulty ∙ is);
-    counted = count ∙ r.has.counted;
-  };
-}
+  where
+    last_line : (bytes : List ℕ) (r : IsReading A bytes old) → lines bytes ≡ r.text ++ (r.partial ++ []) ∷ []
+    last_line bytes r = text_lines A bytes old r ∙ ap (λ ls. r.text ++ ls) (lines_last r.partial r.unended (λ e. some (subst (Holds old.line) e r.held)) ∙ ap (λ bs. bs ∷ []) (sym (append-nil r.partial)))

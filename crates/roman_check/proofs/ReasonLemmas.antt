@@ -1,9 +1,11 @@
 -- Reasons that hold, and pairs that are missing.
-use Rattle.roman_check.proofs.Common.{◌≡◌, ◌≢◌, ℕ, ◌+◌, ◌-◌, ◌*◌, ◌^◌, ◌/◌, ◌%◌, ◌<◌, ◌≤◌, Bool, true, false, not, ◌&&◌, ◌||◌, [], ◌∷◌, length, Some, None, IsTrue, IsFalse, find, refl, sym, ap, ◌∙◌, subst, inl, inr, arith, add-one, list_any, trailing_zeros, w64, or-false, cases_lt, eq-eqb, false≢true, mul-le, same_from_place, list_any-append, IsIn, below, Arena, Reason, Act, reasons, from_map, from_below, is_on, IsNumbered}
-use Rattle.std.proofs.Common.{◌⊎◌, eqb}
+use Rattle.roman_check.proofs.Common.{◌≡◌, ◌≢◌, ℕ, ◌+◌, ◌-◌, ◌*◌, ◌^◌, ◌/◌, ◌%◌, ◌<◌, ◌≤◌, Bool, true, false, not, ◌&&◌, ◌||◌, List, get_or, [], ◌∷◌, length, Some, None, find, sym, ap, ap₂, ◌∙◌, subst, inl, inr, arith, add-one, bit_and, list_any, trailing_zeros, w64, or-false, cases_lt, eq-eqb, false≢true, mul-le, same_from_place, list_any-append, IsIn, below, Arena, Entry, is_justified, is_listed, Reason, Act, could_be_listed, reasons, from_map, from_below, is_on, AreRows, HasLanes, on_and, on_zero, IsNumbered, NoneMissing}
+use Rattle.std.proofs.Common.{bit_or, eqb}
 use Rattle.std.specs.Int.{bit_at}
-use Rattle.std.proofs.lemmas.Nat.{div-add-mod', div_below, row_fits}
+use Rattle.std.proofs.Math.Bool.{and_comm}
+use Rattle.std.proofs.lemmas.Nat.{div-add-mod', div_below, le-div, row_fits}
 use Rattle.std.proofs.lemmas.Nat.Bits.{bit_at-trailing_zeros}
+use Rattle.roman_lanes.proofs.CallerLemmas.{on_or}
 use Rattle.roman_model.proofs.CallerLemmas.{none_from, find_first, find_not_found, list_any-map}
 
 -- Reasons
@@ -19,76 +21,108 @@ any_below_more : (test : ℕ → Bool) (n : ℕ) → list_any test (below (n + 1
 any_below_more test n =
     ap (λ m. list_any test (below m)) (add-one n) ∙ list_any-append test (below n) (n ∷ []) ∙ ap (λ b. list_any test (below n) || b) (or-false (test n))
 
--- one more action may be a reason
-pub reasons_more : (test : Reason → Bool) (a : ℕ) → list_any test (reasons (a + 1)) ≡ (list_any test (reasons a) || test (Act a))
-reasons_more test a = grind (arith, any_below_more, list_any-map)
-
--- where clause 2 is the only reason that was asked about
-pub only_final : (unfine left fine : Bool) → unfine ≡ not fine → (unfine && left) ≡ (left && (not fine || false))
-only_final true true true e = e
-only_final true true false e = refl
-only_final true false fine e = refl
-only_final false true true e = refl
-only_final false true false e = e
-only_final false false fine e = refl
-
 -- one more action is asked about
 pub one_more : (left : Bool) (test : Reason → Bool) (a : ℕ) → ((left && list_any test (reasons a)) || (left && test (Act a))) ≡ (left && list_any test (reasons (a + 1)))
-one_more left test a = grind (arith, reasons_more)
+one_more left test a = grind (arith, any_below_more, list_any-map)
 
-pub and_all : (a b : Bool) → b ≡ true → (a && b) ≡ a
-and_all true b e = e
-and_all false b e = refl
+-- the pairs of a row that are missing by clause 2
+pub final_lanes : (A : Arena ℕ) (gone : ℕ → Bool) (lanes x unfine left : ℕ) → HasLanes lanes x (λ p. not (A.fine p)) unfine → HasLanes lanes x (λ p. not (gone p)) left →
+    HasLanes lanes x (λ p. not (gone p) && list_any (is_justified A gone p) (reasons 0)) (bit_and unfine left)
+final_lanes A gone lanes x unfine left fine rest = record {
+  each = λ lane l. on_and unfine left lane ∙ ap₂ (λ a b. a && b) (fine.each lane l) (rest.each lane l) ∙ and_comm (not (A.fine (x * lanes + lane))) (not (gone (x * lanes + lane))) ∙ ap (λ b. not (gone (x * lanes + lane)) && b) (sym (or-false (not (A.fine (x * lanes + lane)))));
+  rest = λ lane l. on_and unfine left lane ∙ ap (λ b. b && is_on left lane) (fine.rest lane l);
+}
+
+-- the same where one more action is asked about
+pub more_lanes : (A : Arena ℕ) (gone : ℕ → Bool) (lanes x missing left lost a : ℕ) → HasLanes lanes x (λ p. not (gone p) && list_any (is_justified A gone p) (reasons a)) missing → HasLanes lanes x (λ p. not (gone p)) left →
+    ((lane : ℕ) → lane < lanes → is_on lost lane ≡ (is_on left lane && is_justified A gone (x * lanes + lane) (Act a))) → ((lane : ℕ) → is_on left lane ≡ false → is_on lost lane ≡ false) →
+    HasLanes lanes x (λ p. not (gone p) && list_any (is_justified A gone p) (reasons (a + 1))) (bit_or missing lost)
+more_lanes A gone lanes x missing left lost a so_far rest here none = record {
+  each = λ lane l. on_or missing lost lane ∙ ap₂ (λ b d. b || d) (so_far.each lane l) (here lane l ∙ ap (λ b. b && is_justified A gone (x * lanes + lane) (Act a)) (rest.each lane l)) ∙ one_more (not (gone (x * lanes + lane))) (is_justified A gone (x * lanes + lane)) a;
+  rest = λ lane l. on_or missing lost lane ∙ ap₂ (λ b d. b || d) (so_far.rest lane l) (none lane (rest.rest lane l));
+}
+
+-- Bands
+
+-- the words of a band are those of its rows
+pub copied_on : (lanes x from i lane : ℕ) (gone : ℕ → Bool) (words : List ℕ) (word : ℕ) → AreRows lanes (λ q. not (gone q)) words → x + i < length words → lane < lanes → from ≡ x → word ≡ get_or words (from + i) 0 →
+    is_on word lane ≡ not (gone ((x + i) * lanes + lane))
+copied_on lanes x from i lane gone words word rows within l start same = ap (λ w. is_on w lane) (same ∙ ap (λ m. get_or words (m + i) 0) start) ∙ (rows.each (x + i) within).each lane l
+
+-- where no lane is on, no pair is both left and passes the test
+pub is_off : (word lane : ℕ) (left test : Bool) → word ≡ 0 → is_on word lane ≡ (left && test) → left && test ≡ false
+is_off word lane left test none is = sym is ∙ (ap (λ w. is_on w lane) none ∙ on_zero lane)
 
 -- The least one
 
 -- the lowest lane of a word
-pub record IsLowest (word lane : ℕ) : Type 0 where
-  pub on : is_on word lane ≡ true
-  pub before : (i : ℕ) → i < lane → is_on word i ≡ false
-
-pub lowest : (word : ℕ) → word ≢ 0 → word < 2 ^ 64 → IsLowest word (trailing_zeros w64 word)
+lowest : (word : ℕ) → word ≢ 0 → word < 2 ^ 64 → (is_on word (trailing_zeros w64 word) ≡ true) × ((i : ℕ) → i < trailing_zeros w64 word → is_on word i ≡ false)
 unfolding is_on
 lowest word some small =
     let (within, one, none) = bit_at-trailing_zeros w64 word (omega arith) small in
-    record { on = eq-eqb (bit_at word (trailing_zeros w64 word)) 1 one; before = λ i l. ap (λ b. eqb b 1) (none i l) }
-
--- the lowest lane is a lane of the row, where no lane past the row is on
-pub lowest_within : (word lane lanes : ℕ) → IsLowest word lane → ((i : ℕ) → lanes ≤ i → is_on word i ≡ false) → lane < lanes
-lowest_within word lane lanes first off = elim (cases_lt lane lanes) [ inl less ↦ less | inr more ↦ absurd (false≢true (sym (off lane more) ∙ first.on)) ]
-
-pub least_found : (A : Arena ℕ) → IsNumbered A → (t : ℕ → Bool) (p : ℕ) → p < length A.nodes → IsTrue (t p) → ((q : ℕ) → q < p → IsFalse (t q)) → Some p ≡ find t A.nodes
-least_found A ok t p l here before = sym (ap (find t) ok.nodes ∙ find_first t (length A.nodes) p l here before)
-
-pub none_found : (A : Arena ℕ) → IsNumbered A → (t : ℕ → Bool) → ((q : ℕ) → q < length A.nodes → IsFalse (t q)) → None ≡ find t A.nodes
-none_found A ok t none = sym (ap (find t) ok.nodes ∙ find_not_found t (below (length A.nodes)) (none_from t (below (length A.nodes)) (λ q i. none q (from_below (length A.nodes) q i))))
+    (eq-eqb (bit_at word (trailing_zeros w64 word)) 1 one, λ i l. ap (λ b. eqb b 1) (none i l))
 
 -- Rows
-
-pub row_ends : (x rows lanes n : ℕ) → x < rows → rows * lanes ≡ n → x * lanes + lanes ≤ n
-row_ends x rows lanes n l e = grind (arith, row_fits)
 
 -- there are as many rows as words
 pub same_rows : (rows words lanes : ℕ) → 0 < lanes → rows * lanes ≡ words * lanes → rows ≡ words
 same_rows rows words lanes some e = (same_from_place rows 0 words 0 lanes some some (ap (λ n. n + 0) e)).0
 
--- each band ends within the rows
-pub band_ends : (band y bands : ℕ) → y < bands → y * band + band ≤ bands * band
-band_ends band y bands l = row_ends y bands band (bands * band) l refl
+-- each row, or band, ends within all of them
+pub row_ends : (x rows lanes : ℕ) → x < rows → x * lanes + lanes ≤ rows * lanes
+row_ends x rows lanes l = row_fits x lanes rows lanes l (omega arith)
 
 -- the row of a pair
 pub row_within : (row lane lanes rows p : ℕ) → row * lanes + lane ≡ p → p < rows * lanes → row < rows
 row_within row lane lanes rows p e l = grind (arith, cases_lt, mul-le)
 
--- what holds at each lane of the rows before one holds at each number before its first
-pub before_row : (lanes x : ℕ) (P : ℕ → Type 0) → 0 < lanes → ((y lane : ℕ) → y < x → lane < lanes → P (y * lanes + lane)) → (q : ℕ) → q < x * lanes → P q
-before_row lanes x P some each q l =
-    let whole : q / lanes * lanes + q % lanes ≡ q = div-add-mod' q lanes in
-    subst P whole (each (q / lanes) (q % lanes) (div_below q lanes x some l) (omega arith))
+module _ (A : Arena ℕ) (lanes : ℕ) (words : List ℕ) where
+  -- the words have the bits of the pairs that aren't listed
+  abbrev Unlisted : List (Entry ℕ) → Type 0
+  Unlisted L = AreRows lanes (λ p. not (is_listed A L p)) words
 
--- what also holds at the first lanes of that row holds at each number before the next lane
-pub before_lane : (lanes x first : ℕ) (P : ℕ → Type 0) → 0 < lanes → ((y lane : ℕ) → y < x → lane < lanes → P (y * lanes + lane)) → ((lane : ℕ) → lane < first → P (x * lanes + lane)) → (q : ℕ) → q < x * lanes + first → P q
-before_lane lanes x first P some rows here q l = elim (split q) [ inl less ↦ before_row lanes x P some rows q less | inr (d, e) ↦ subst P (sym e) (here d (omega arith)) ]
-  where
-    split : (q : ℕ) → (q < x * lanes) ⊎ ((d : ℕ) × (q ≡ x * lanes + d))
-    split q = elim (cases_lt q (x * lanes)) [ inl less ↦ inl less | inr more ↦ inr (q - x * lanes, omega arith) ]
+  -- no pair of the rows from row x on, as many as there are, is missing
+  pub rows_searched : (x many : ℕ) → 0 < lanes → NoneMissing A lanes words (x * lanes) → ((L : List (Entry ℕ)) → Unlisted L → (i lane : ℕ) → i < many → lane < lanes → could_be_listed A L ((x + i) * lanes + lane) ≡ false) →
+      NoneMissing A lanes words ((x + many) * lanes)
+  rows_searched x many some so_far none = record {
+    none = λ L rows q l. elim (cases_lt q (x * lanes)) [
+      | inl less ↦ so_far.none L rows q less
+      | inr more ↦
+          let low : x ≤ q / lanes = le-div x q lanes some more in
+          let high : q / lanes < x + many = div_below q lanes (x + many) some l in
+          let row : x + (q / lanes - x) ≡ q / lanes = omega arith in
+          subst (λ p. could_be_listed A L p ≡ false) (ap (λ n. n * lanes + q % lanes) row ∙ div-add-mod' q lanes) (none L rows (q / lanes - x) (q % lanes) (omega arith) (omega arith))
+    ];
+  }
+
+  module _ (x word : ℕ) (so_far : NoneMissing A lanes words (x * lanes)) (has : (L : List (Entry ℕ)) → Unlisted L → HasLanes lanes x (could_be_listed A L) word) where
+    -- no pair before a lane of the row is missing, where the word has no bit before it
+    before_lane : (lane : ℕ) → lane ≤ lanes → ((i : ℕ) → i < lane → is_on word i ≡ false) → NoneMissing A lanes words (x * lanes + lane)
+    before_lane lane few off = record {
+      none = λ L rows q l. elim (cases_lt q (x * lanes)) [
+        | inl less ↦ so_far.none L rows q less
+        | inr more ↦
+            let place : x * lanes + (q - x * lanes) ≡ q = omega arith in
+            subst (λ p. could_be_listed A L p ≡ false) place (sym ((has L rows).each (q - x * lanes) (omega arith)) ∙ off (q - x * lanes) (omega arith))
+      ];
+    }
+
+    -- no pair of the row is missing
+    pub row_searched : word ≡ 0 → NoneMissing A lanes words ((x + 1) * lanes)
+    row_searched none = subst (NoneMissing A lanes words) (omega arith) (before_lane lanes (omega arith) (λ i l. ap (λ w. is_on w i) none ∙ on_zero i))
+
+    -- the lowest bit of the word is the first missing pair
+    pub least_missing : IsNumbered A → word ≢ 0 → word < 2 ^ 64 → x * lanes + lanes ≤ length A.nodes → (L : List (Entry ℕ)) → Unlisted L → Some ((x * lanes + trailing_zeros w64 word) % 2 ^ 32) ≡ find (could_be_listed A L) A.nodes
+    least_missing ok some small within L rows =
+        let lane = trailing_zeros w64 word in
+        let (on, before) = lowest word some small in
+        let l : lane < lanes = elim (cases_lt lane lanes) [ inl less ↦ less | inr more ↦ absurd (false≢true (sym ((has L rows).rest lane more) ∙ on)) ] in
+        let fits : (x * lanes + lane) % 2 ^ 32 ≡ x * lanes + lane = omega (arith, ok.few_nodes) in
+        ap Some fits ∙ sym (ap (find (could_be_listed A L)) ok.nodes ∙ find_first (could_be_listed A L) (length A.nodes) (x * lanes + lane) (omega arith) (sym ((has L rows).each lane l) ∙ on)
+        ((before_lane lane (omega arith) before).none L rows))
+
+  -- no pair is missing
+  pub all_searched : (bound : ℕ) → IsNumbered A → length A.nodes ≤ bound → NoneMissing A lanes words bound → (L : List (Entry ℕ)) → Unlisted L → None ≡ find (could_be_listed A L) A.nodes
+  all_searched bound ok past none L rows =
+      sym (ap (find (could_be_listed A L)) ok.nodes ∙ find_not_found (could_be_listed A L) (below (length A.nodes)) (none_from (could_be_listed A L) (below (length A.nodes))
+      (λ q i. none.none L rows q (omega (arith, from_below (length A.nodes) q i)))))

@@ -1,6 +1,8 @@
 -- Equal texts, and texts that don't have a byte.
-use Rattle.roman_check.proofs.Common.{◌≡◌, ℕ, zero, suc, ◌+◌, ◌<◌, ◌==◌, Bool, List, [], ◌∷◌, ◌++◌, length, take, drop, get_or, None, Some, refl, sym, ap₂, ◌∙◌, subst, inl, inr, arith, IsTrue, IsFalse, position, Decides-eqb, eqb-true, cases_lt, cond-true, take_all, take-take, drop-take, take-append-drop, has, same_numbers, same_numbers_is, same_numbers_itself}
+use Rattle.roman_check.proofs.Common.{◌≡◌, ℕ, zero, suc, ◌+◌, ◌<◌, ◌==◌, Bool, List, [], ◌∷◌, ◌++◌, length, take, drop, get_or, None, Option, Some, refl, sym, ap₂, ◌∙◌, subst, inl, inr, arith, IsTrue, IsFalse, IsLine, IsEndedAt, Decides-eqb, eqb-true, cases_lt, cond-true, take_all, take-take, drop-take, take-append-drop, has, same_numbers, same_numbers_is, same_numbers_itself}
+use Rattle.std.specs.List.{position}
 use Rattle.std.proofs.Common.{nat_lt}
+use Rattle.std.specs.Prelude.{MatchOption}
 use Rattle.std.specs.List.{position_or_len}
 use Rattle.std.specs.Cmp.Lexicographic.{pointwise}
 use Rattle.std.proofs.lemmas.Slice.Eq.{slice_eq-Decides}
@@ -30,15 +32,12 @@ clear_before b xs zero none = refl
 clear_before b [] (suc i) none = refl
 clear_before b (x ∷ xs) (suc i) none = or_from (x == b) (has (take i xs) b) (none 0 (omega arith)) (clear_before b xs i (λ k l. none (suc k) (omega arith)))
 
--- the first place of a byte
-pub found_before : (b : ℕ) (xs : List ℕ) (i : ℕ) → position (λ x. x == b) xs ≡ Some i → (i < length xs) × IsFalse (has (take i xs) b) × (get_or xs i 0 ≡ b)
-found_before b xs i e =
-    let (l, here, before) = position-Some (λ x. x == b) xs i 0 e in
-    (l, clear_before b xs i before, eqb-true (get_or xs i 0) b here)
-
--- the byte has no place in the text
-pub found_nowhere : (b : ℕ) (xs : List ℕ) → position (λ x. x == b) xs ≡ None → IsFalse (has xs b)
-found_nowhere b xs e = elim (cases_lt (position_or_len (λ x. x == b) xs) (length xs)) [
-  | inl less ↦ absurd (none-some (position_or_len (λ x. x == b) xs) (sym e ∙ cond-true (nat_lt (position_or_len (λ x. x == b) xs) (length xs)) (Some (position_or_len (λ x. x == b) xs)) None (lt-ltb (position_or_len (λ x. x == b) xs) (length xs) less)))
-  | inr more ↦ subst (λ ys. IsFalse (has ys b)) (take_all (length xs) xs (omega arith)) (clear_before b xs (length xs) (λ k l. fails_before_first (λ x. x == b) xs k 0 (omega arith)))
+-- the first newline, if there is one
+pub newline_found : (xs : List ℕ) (r : Option ℕ) → r ≡ position (λ x. x == 10) xs → MatchOption r (IsLine xs) (λ i. IsEndedAt xs i × IsLine (take i xs))
+newline_found xs (Some i) e =
+    let (l, here, before) = position-Some (λ x. x == 10) xs i 0 (sym e) in
+    (record { within = l; newline = eqb-true (get_or xs i 0) 10 here }, clear_before 10 xs i before)
+newline_found xs None e = elim (cases_lt (position_or_len (λ x. x == 10) xs) (length xs)) [
+  | inl less ↦ absurd (none-some (position_or_len (λ x. x == 10) xs) (e ∙ cond-true (nat_lt (position_or_len (λ x. x == 10) xs) (length xs)) (Some (position_or_len (λ x. x == 10) xs)) None (lt-ltb (position_or_len (λ x. x == 10) xs) (length xs) less)))
+  | inr more ↦ subst IsLine (take_all (length xs) xs (omega arith)) (clear_before 10 xs (length xs) (λ k l. fails_before_first (λ x. x == 10) xs k 0 (omega arith)))
 ]

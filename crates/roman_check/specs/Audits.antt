@@ -1,10 +1,10 @@
 -- The state of a check after the lines read so far.
 use Rattle.std.specs.Prelude.{◌≡◌, ℕ, ◌+◌, ◌*◌, ◌<◌, Bool, not, List, [], ◌∷◌, ◌++◌, drop, length, Option, None, Some, if◌then◌else◌}
-use Rattle.std.specs.List.{cons_option, list_any}
+use Rattle.std.specs.List.{list_any}
 use Rattle.std.specs.Option.{option_map}
 use Rattle.roman_model.specs.SystemArena.{same_numbers}
 use Rattle.roman_model.specs.Arena.{Arena, Entry, is_listed, is_justified}
-use Rattle.roman_model.specs.Certificate.{end_line, entries_on, entry_fault, line_fault}
+use Rattle.roman_model.specs.Certificate.{end_line, entries_on, entry_of, line_fault}
 use Rattle.roman_model.specs.declared.reason.Reason.{Reason}
 use Rattle.roman_lanes.specs.Rows.{AreRows}
 use Rattle.roman_rules.specs.declared.asked.Asked.{Asked}
@@ -33,7 +33,7 @@ pub record IsInRows (lanes pairs : ℕ) (audit : Audit) : Type 0 where
 pub record IsFront (audit : Audit) (front : Front) : Type 0 where
   pub inside : front.row < length audit.left.words.items
   pub row : front.row ≡ audit.asked.row
-  pub first : front.first ≡ audit.asked.row * audit.left.lanes
+  pub first : front.first ≡ front.row * audit.left.lanes
   pub lanes : front.lanes ≡ audit.left.lanes
   pub known : front.known ≡ audit.asked.lanes
 
@@ -55,13 +55,6 @@ pub record HasListed (A : Arena ℕ) (L : List (Entry ℕ)) (audit : Audit) : Ty
   pub left : Remain (length A.nodes) (is_listed A L) audit.left
   pub known : HoldsWhereKept A audit.left.lanes (is_listed A L) audit.asked
 
--- the entry is judged after those of the list, and added to it where it has no fault; the table keeps its rows, and the same line stays due
-pub record TakesEntry (A : Arena ℕ) (lanes : ℕ) (old new : Audit) (entry : Option (Entry ℕ)) (result : Option Why) : Type 0 where
-  pub fault : (L : List (Entry ℕ)) → HasListed A L old → option_map fault_of result ≡ entry_fault A L entry
-  pub list : (L : List (Entry ℕ)) → HasListed A L old → result ≡ None → HasListed A (L ++ cons_option entry []) new
-  pub shaped : IsInRows lanes (length A.nodes) new
-  pub due : new.due ≡ old.due
-
 -- the lines read so far are those of the text
 pub record HasRead (A : Arena ℕ) (text : List (List ℕ)) (audit : Audit) : Type 0 where
   pub due : audit.due ≡ due_after text
@@ -71,3 +64,10 @@ pub record HasRead (A : Arena ℕ) (text : List (List ℕ)) (audit : Audit) : Ty
 pub record Judges (A : Arena ℕ) (old new : Audit) (line : List ℕ) (fault : Option Why) : Type 0 where
   pub named : (text : List (List ℕ)) → HasRead A text old → option_map fault_of fault ≡ line_fault A text (Some line)
   pub read : (text : List (List ℕ)) → HasRead A text old → fault ≡ None → HasRead A (text ++ line ∷ []) new
+
+-- the entry's pair is one of the system, its line is judged, the table keeps its rows, and the same line stays due
+pub record TakesEntry (A : Arena ℕ) (lanes : ℕ) (old new : Audit) (x : Entry ℕ) (fault : Option Why) : Type 0 where
+  pub judged : (line : List ℕ) → entry_of (length A.nodes) A.actions line ≡ Some x → Judges A old new line fault
+  pub inside : x.node < length A.nodes
+  pub shaped : IsInRows lanes (length A.nodes) new
+  pub due : new.due ≡ old.due

@@ -4,6 +4,7 @@ pub mod Patterns
 pub mod Verdicts
 pub mod Remain
 pub mod Audits
+pub mod Missing
 pub mod Lines
 pub mod Readers
 pub mod Checks

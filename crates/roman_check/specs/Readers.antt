@@ -5,6 +5,8 @@ use Rattle.roman_model.specs.Arena.{Arena}
 use Rattle.roman_model.specs.Certificate.{cert_verdict, line_fault, IsClean}
 use Rattle.roman_model.specs.declared.limits.TheConstants.{MAX_CERTIFICATE_BYTES}
 use Rattle.roman_check.specs.declared.verdict.Verdict.{Verdict}
+use Rattle.roman_check.specs.declared.verdict.Verdict.TheVariants.{Rejected}
+use Rattle.roman_check.specs.declared.audit.Due.TheVariants.{Body}
 use Rattle.roman_check.specs.declared.verdict.Why.{Why}
 use Rattle.roman_check.specs.declared.reader.Reader.{Reader}
 use Rattle.roman_check.specs.Verdicts.{fault_of, verdict_of}
@@ -27,9 +29,10 @@ pub record IsReading (A : Arena ℕ) (taken : List ℕ) (reader : Reader) : Type
   pub has : HasLines A text reader
   pub held : Holds reader.line partial
 
--- the reader has read the first bytes of the piece, up to a place, after all that it had read before
-abbrev pub IsReadTo : Arena ℕ → Reader → Reader → List ℕ → ℕ → Type 0
-IsReadTo A before now piece at = (taken : List ℕ) → IsReading A taken before → IsReading A (taken ++ take at piece) now
+-- an entry or the last line is due, and no byte of it was read
+pub record IsBetween (reader : Reader) : Type 0 where
+  pub due : reader.audit.due ≡ Body
+  pub line : Holds reader.line []
 
 -- the text has a whole line at fault after this number of clean lines
 pub record IsAtFault (A : Arena ℕ) (bytes : List ℕ) (clean_lines : ℕ) (why : Why) : Type 0 where
@@ -42,29 +45,32 @@ pub record IsAtFault (A : Arena ℕ) (bytes : List ℕ) (clean_lines : ℕ) (why
   pub fault : line_fault A text (Some line) ≡ Some (fault_of why)
   pub counted : clean_lines ≡ length text
 
--- the whole piece was read after all that was read before, or a line that ends in it is at fault
-pub record Feeds (A : Arena ℕ) (old new : Reader) (piece : List ℕ) (fault : Option Why) : Type 0 where
-  pub reads : (taken : List ℕ) → IsReading A taken old → fault ≡ None → IsReading A (taken ++ piece) new
-  pub stops : (taken : List ℕ) (why : Why) → IsReading A taken old → fault ≡ Some why → IsAtFault A (taken ++ piece) new.lines why
-
--- the last line of the text is at fault after this number of clean lines
-pub record EndsAtFault (A : Arena ℕ) (bytes : List ℕ) (clean_lines : ℕ) (why : Why) : Type 0 where
-  pub text : List (List ℕ)
-  pub line : List ℕ
-  pub split : lines bytes ≡ text ++ line ∷ []
-  pub clean : IsClean A text (length text)
-  pub fault : line_fault A text (Some line) ≡ Some (fault_of why)
-  pub counted : clean_lines ≡ length text
-
--- the piece is read with at most this many lines, and the table keeps its rows
-pub record ReadsPiece (A : Arena ℕ) (lanes : ℕ) (old new : Reader) (piece : List ℕ) (most : ℕ) (fault : Option Why) : Type 0 where
-  pub fed : Feeds A old new piece fault
+-- where the piece was read to the first place, it is read to the second, or the line that ends there is at fault; the table keeps its rows
+pub record ReadsPart (A : Arena ℕ) (lanes : ℕ) (old new : Reader) (piece : List ℕ) (from to : ℕ) (fault : Option Why) : Type 0 where
+  pub low : from ≤ to
+  pub high : to ≤ length piece
+  pub lines : new.lines + from ≤ old.lines + to
   pub shaped : IsInRows lanes (length A.nodes) new.audit
-  pub lines : new.lines ≤ old.lines + most
+  pub reads : (taken : List ℕ) → IsReading A (taken ++ take from piece) old → fault ≡ None → IsReading A (taken ++ take to piece) new
+  pub stops : (taken : List ℕ) (why : Why) → IsReading A (taken ++ take from piece) old → fault ≡ Some why → IsAtFault A (taken ++ take to piece) new.lines why
 
--- the line that the buffered bytes and the last bytes make up is judged
-abbrev pub JudgesLast : Arena ℕ → Reader → Reader → List ℕ → Option Why → Type 0
-JudgesLast A old new last fault = (bytes : List ℕ) → Holds old.line bytes → Judges A old.audit new.audit (bytes ++ last) fault
+-- the whole piece is read, or a line that ends in it is at fault
+pub record ReadsPiece (A : Arena ℕ) (lanes : ℕ) (old new : Reader) (piece : List ℕ) (fault : Option Why) : Type 0 where
+  pub to : ℕ
+  pub read : ReadsPart A lanes old new piece 0 to fault
+  pub whole : fault ≡ None → to ≡ length piece
+
+-- 1 where there is no fault, and 0 otherwise
+abbrev pub one_if_clean : Option Why → ℕ
+one_if_clean None = 1
+one_if_clean (Some why) = 0
+
+-- the line that the buffered bytes and the last bytes make up is judged, and the next one begins where it has no fault
+pub record EndsLine (A : Arena ℕ) (lanes : ℕ) (old new : Reader) (last : List ℕ) (fault : Option Why) : Type 0 where
+  pub judged : (bytes : List ℕ) → Holds old.line bytes → Judges A old.audit new.audit (bytes ++ last) fault
+  pub shaped : IsInRows lanes (length A.nodes) new.audit
+  pub lines : new.lines ≡ old.lines + one_if_clean fault
+  pub cleared : fault ≡ None → Holds new.line []
 
 -- the verdict is that of each text within the limit that is known to have been read
 abbrev pub Decides : Arena ℕ → ℕ → (List ℕ → Type 0) → Verdict → Type 0
@@ -73,4 +79,4 @@ Decides A start IsRead verdict = (bytes : List ℕ) → IsRead bytes → length 
 -- all lines of the ended text were read, or its last line is at fault
 pub record Closes (A : Arena ℕ) (old new : Reader) (fault : Option Why) : Type 0 where
   pub reads : (bytes : List ℕ) → IsReading A bytes old → fault ≡ None → HasLines A (lines bytes) new
-  pub stops : (bytes : List ℕ) (why : Why) → IsReading A bytes old → fault ≡ Some why → EndsAtFault A bytes new.lines why
+  pub stops : (start : ℕ) (why : Why) → fault ≡ Some why → Decides A start (λ bytes. IsReading A bytes old) (Rejected (new.lines + 1) why)

@@ -3,7 +3,7 @@ use Rattle.std.specs.Prelude.{◌≡◌, ◌≢◌, ℕ, ◌+◌, ◌-◌, ◌<�
 use Rattle.roman_model.specs.Lists.{IsIn}
 use Rattle.roman_model.specs.Arena.{Entry}
 use Rattle.roman_model.specs.declared.reason.Reason.{Reason}
-use Rattle.roman_model.specs.Certificate.{reason_text}
+use Rattle.roman_model.specs.Certificate.{reason_text, entry_of}
 
 -- the entry of a pair and a reason
 abbrev pub entry_with : ℕ × Reason → Entry ℕ
@@ -30,3 +30,8 @@ pub record HasParts (bytes : List ℕ) (pair : ℕ) (reason : Reason) (space end
   pub before : space < end
   pub text : reason_text reason ≡ take (end - (space + 1)) (drop (space + 1) bytes)
   pub ended : IsEndedAt bytes end
+
+-- the bytes begin with the line of this entry, whose newline stands at this place
+pub record HasEntry (pairs actions : ℕ) (bytes : List ℕ) (end : ℕ) (x : Entry ℕ) : Type 0 where
+  pub ended : IsEndedAt bytes end
+  pub entry : entry_of pairs actions (take end bytes) ≡ Some x

@@ -1,10 +1,22 @@
 -- Tables of the pairs that remain.
-use Rattle.std.specs.Prelude.{◌≡◌, ℕ, Bool, not, count_by}
+use Rattle.std.specs.Prelude.{◌≡◌, ◌≢◌, ℕ, ◌<◌, ◌==◌, Bool, false, not, ◌||◌, length, count_by, IsFalse}
 use Rattle.roman_model.specs.Lists.{below}
-use Rattle.roman_lanes.specs.Rows.{AreRows}
+use Rattle.roman_lanes.specs.Rows.{is_on, AreRows}
 use Rattle.roman_check.specs.declared.table.Remaining.{Remaining}
 
 -- the table has the bits of the pairs that aren't gone, and their number
 pub record Remain (pairs : ℕ) (gone : ℕ → Bool) (table : Remaining) : Type 0 where
   pub rows : AreRows table.lanes (λ p. not (gone p)) table.words.items
   pub counted : table.count ≡ count_by (λ p. not (gone p)) (below pairs)
+
+-- the pair that remained is taken out, and the table keeps its rows
+pub record Removes (old new : Remaining) (p : ℕ) : Type 0 where
+  pub removed : (pairs : ℕ) (gone more : ℕ → Bool) → Remain pairs gone old → p < pairs → IsFalse (gone p) → ((q : ℕ) → more q ≡ (gone q || q == p)) → Remain pairs more new
+  pub lanes : new.lanes ≡ old.lanes
+  pub rows : length new.words.items ≡ length old.words.items
+
+-- the new word is the old one with the bit of the lane cleared
+pub record Clears (old new lane : ℕ) : Type 0 where
+  pub own : is_on new lane ≡ false
+  pub others : (j : ℕ) → j < 64 → j ≢ lane → is_on new j ≡ is_on old j
+  pub within : (j : ℕ) → is_on old j ≡ false → is_on new j ≡ false

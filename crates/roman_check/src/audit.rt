@@ -1,7 +1,6 @@
 //! Judges each line of a certificate by the lines read before it.
 ghost use Rattle.std.specs.Prelude.{◌≡◌, ℕ, ◌+◌, ◌*◌, ◌<◌, false, not, IsTrue, List, [], None, Some, length, IfOk, IfSome, if◌then◌else◌};
 ghost use Rattle.roman_model.specs.Arena.{Arena, Entry, is_listed};
-ghost use Rattle.roman_model.specs.Certificate.{entry_of};
 ghost use Rattle.roman_rules.specs.Asked.{IsReasonOf};
 ghost use Rattle.roman_check.specs.Readings.{entry_with};
 ghost use Rattle.roman_check.specs.Audits.{IsInRows, IsFront, AnswersReason, IsQuestion, HasListed, Judges, TakesEntry};
@@ -122,6 +121,7 @@ impl Audit {
     /// Judges the entry of a pair and a reason. Removes the pair from `left` where the entry has no
     /// fault, and returns the fault otherwise.
     #[inline(always)]
+    #[tactic(auto, using(crate::proofs::AuditLemmas::pair_within))]
     pub(crate) fn take_entry<J: Rules, L: Ledger>(
         &mut self,
         joint: &J,
@@ -130,10 +130,11 @@ impl Audit {
         steps: &mut Steps<L>,
     ) -> Option<Why>
         requires shaped { IsInRows (J.lanes joint.now) (length (J.arena joint.now).nodes) self.old }
+        requires due { self.old.due ≡ Due.Body }
         requires entry { (pair < length (J.arena joint.now).nodes) × IsReasonOf (J.arena joint.now) reason }
-        ensures { TakesEntry (J.arena joint.now) (J.lanes joint.now) self.old self.new (Some (entry_with (pair, reason))) result }
+        ensures { TakesEntry (J.arena joint.now) (J.lanes joint.now) self.old self.new (entry_with (pair, reason)) result }
     {
-        joint.known();
+        joint.known(); // pairs are told apart by their numbers
         let (row, lane) = self.left.place(self.asked.row, pair);
         if !self.left.has(row, lane) {
             return Some(Why::Repeated);
@@ -167,16 +168,13 @@ impl Audit {
     #[inline(always)]
     pub(crate) fn take_known<J: Rules>(&mut self, joint: &J, front: Front, pair: u64) -> bool
         requires shaped { IsInRows (J.lanes joint.now) (length (J.arena joint.now).nodes) self.old }
+        requires due { self.old.due ≡ Due.Body }
         requires front { IsFront self.old front }
-        ensures pair { IsTrue result → pair < length (J.arena joint.now).nodes }
-        ensures taken { let x = entry_with (pair, self.old.asked.reason) in
-            IsTrue result → TakesEntry (J.arena joint.now) (J.lanes joint.now) self.old self.new (Some x) None }
+        ensures taken { IsTrue result → TakesEntry (J.arena joint.now) (J.lanes joint.now) self.old self.new (entry_with (pair, self.old.asked.reason)) None }
         ensures untaken { result ≡ false → self.new ≡ self.old }
-        ensures shaped { IsInRows (J.lanes joint.now) (length (J.arena joint.now).nodes) self.new }
-        ensures due { self.new.due ≡ self.old.due }
         ensures asked { self.new.asked ≡ self.old.asked }
     {
-        joint.known();
+        joint.known(); // pairs are told apart by their numbers
         let Some(lane) = lane_from(front.first, front.lanes, pair) else {
             return false;
         };
@@ -185,23 +183,6 @@ impl Audit {
         }
         self.left.remove(front.row, lane);
         true
-    }
-
-    /// Judges a line as an entry. Reads it where it has no fault, and returns the fault otherwise.
-    fn judge_entry<J: Rules, L: Ledger>(
-        &mut self,
-        joint: &J,
-        line: &[u8],
-        steps: &mut Steps<L>,
-    ) -> Option<Why>
-        requires shaped { IsInRows (J.lanes joint.now) (length (J.arena joint.now).nodes) self.old }
-        ensures { let A = J.arena joint.now in
-            TakesEntry A (J.lanes joint.now) self.old self.new (entry_of (length A.nodes) A.actions line.now) result }
-    {
-        match entry(line, joint.pairs(), joint.actions()) {
-            Some((pair, reason)) => self.take_entry(joint, pair, reason, steps),
-            None => Some(Why::Form),
-        }
     }
 
     /// Judges a line after the first two: an entry, or the line `end`.
@@ -216,9 +197,12 @@ impl Audit {
         ensures judged { Judges (J.arena joint.now) self.old self.new line.now result }
         ensures shaped { IsInRows (J.lanes joint.now) (length (J.arena joint.now).nodes) self.new }
     {
-        joint.known();
+        joint.known(); // a pair's number fits 32 bits
         if !is_end(line) {
-            return self.judge_entry(joint, line, steps);
+            return match entry(line, joint.pairs(), joint.actions()) {
+                Some((pair, reason)) => self.take_entry(joint, pair, reason, steps),
+                None => Some(Why::Form),
+            };
         }
         self.due = Due::Nothing;
         match first_missing(joint, self.left.words()) {
@@ -228,6 +212,7 @@ impl Audit {
     }
 
     /// Judges the next line. Reads it where it has no fault, and returns the fault otherwise.
+    #[tactic(auto, using(crate::proofs::AuditLemmas::judged_head, crate::proofs::AuditLemmas::judged_count, crate::proofs::AuditLemmas::judged_after_end))]
     pub(crate) fn judge<J: Rules, L: Ledger>(
         &mut self,
         joint: &J,

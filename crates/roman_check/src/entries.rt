@@ -45,6 +45,7 @@ fn is_final(text: &[u8]) -> bool
 }
 
 /// Returns the reason with this text, or `None` where there is none for `actions` actions.
+#[tactic(auto, using(crate::proofs::EntryLemmas::action_text))]
 fn reason(text: &[u8], actions: u8) -> Option<Reason>
     ensures { ReadsOff (reasons actions) reason_text text.now result }
 {

@@ -46,8 +46,7 @@ impl Line {
 
     /// Returns whether the line has no bytes.
     pub(crate) fn is_empty(&self) -> bool
-        ensures told { (bytes : List ℕ) → Holds self.now bytes → IsTrue result ↔ (bytes ≡ []) }
-        ensures none { IsTrue result → Holds self.now [] }
+        ensures { IsTrue result ↔ Holds self.now [] }
     {
         self.len == 0
     }

@@ -1,49 +1,31 @@
 //! Finds the pairs missing from a list: those that aren't listed, and at which a reason holds.
-ghost use Rattle.std.specs.Prelude.{◌≡◌, ℕ, ◌+◌, ◌*◌, ◌<◌, ◌≤◌, Bool, false, not, ◌&&◌, List, length};
-ghost use Rattle.std.specs.List.{find, list_any};
-ghost use Rattle.roman_model.specs.Arena.{Entry, is_listed, is_justified};
-ghost use Rattle.roman_model.specs.Certificate.{reasons, could_be_listed};
-ghost use Rattle.roman_lanes.specs.Rows.{is_on, AreRows};
+ghost use Rattle.std.specs.Prelude.{◌≡◌, ℕ, ◌+◌, ◌*◌, ◌<◌, ◌≤◌, false, not, List, length};
+ghost use Rattle.std.specs.List.{find};
+ghost use Rattle.roman_model.specs.Arena.{Entry, is_listed};
+ghost use Rattle.roman_model.specs.Certificate.{could_be_listed};
+ghost use Rattle.roman_lanes.specs.Rows.{HasLanes, AreRows};
+ghost use Rattle.roman_check.specs.Missing.{NoneMissing};
 
 use roman_rules::{Rules, are_clear, copy_rows};
 
 /// The greatest number of rows in a band.
 const BAND: usize = 64;
 
-/// Returns the pairs among `left`, in one row, at which a reason holds. `words` has the bits of the
-/// pairs that aren't gone.
-fn missing_among<J: Rules>(joint: &J, row: &J::Row, words: &[u64], left: u64) -> u64
-    requires row { (x : ℕ) × J.is_row joint.now x row.now }
-    requires room { length words.now * J.lanes joint.now ≡ length (J.arena joint.now).nodes }
-    ensures missing { let A = J.arena joint.now in let lanes = J.lanes joint.now in
-        (x : ℕ) (gone : ℕ → Bool) → J.is_row joint.now x row.now → AreRows lanes (λ q. not (gone q)) words.now →
-        (lane : ℕ) → lane < lanes →
-        is_on result lane ≡ (is_on left lane && list_any (is_justified A gone (x * lanes + lane)) (reasons A.actions)) }
-    ensures within { (lane : ℕ) → is_on left lane ≡ false → is_on result lane ≡ false }
-{
-    let mut missing = joint.unfine(row) & left;
-    for a in 0..joint.actions() {
-        missing |= joint.unserved(row, words, a, left);
-    }
-    missing
-}
-
 /// Returns the missing pairs of the row `x`. `words` has the bits of the pairs that aren't listed.
 fn missing_in<J: Rules>(joint: &J, words: &[u64], x: u32) -> u64
     requires row { x < length words.now }
     requires room { length words.now * J.lanes joint.now ≡ length (J.arena joint.now).nodes }
-    ensures missing { let A = J.arena joint.now in let lanes = J.lanes joint.now in
-        (L : List (Entry ℕ)) → AreRows lanes (λ p. not (is_listed A L p)) words.now →
-        (lane : ℕ) → lane < lanes → is_on result lane ≡ could_be_listed A L (x * lanes + lane) }
-    ensures within { (lane : ℕ) → J.lanes joint.now ≤ lane → is_on result lane ≡ false }
+    ensures { let A = J.arena joint.now in
+        (L : List (Entry ℕ)) → AreRows (J.lanes joint.now) (λ p. not (is_listed A L p)) words.now → HasLanes (J.lanes joint.now) x (could_be_listed A L) result }
 {
-    let full = u64::MAX >> (64 - joint.lanes());
-    let left = words[x as usize] & full;
-    if left == 0 {
-        return 0;
-    }
+    joint.known(); // a row has 1 to 64 lanes
+    let left = words[x as usize];
     let row = joint.row(x);
-    missing_among(joint, &row, words, left)
+    let mut missing = joint.unfine(&row) & left;
+    for a in 0..joint.actions() {
+        missing |= joint.unserved(&row, words, a, left);
+    }
+    missing
 }
 
 /// Returns false only where no pair of the band `y` is missing. `words` has the bits of the pairs that
@@ -58,7 +40,7 @@ fn misses_some<J: Rules>(joint: &J, words: &[u64], y: u32, resting: u64, left: &
         result ≡ false → (L : List (Entry ℕ)) → AreRows lanes (λ p. not (is_listed A L p)) words.now →
         (i lane : ℕ) → i < J.band joint.now → lane < lanes → could_be_listed A L ((y * J.band joint.now + i) * lanes + lane) ≡ false }
 {
-    joint.known();
+    joint.known(); // a row has 1 to 64 lanes, a band has 1 to 64 rows
     let x = y * joint.band();
     copy_rows(words, x, left);
     if are_clear(left) {
@@ -81,14 +63,12 @@ fn misses_some<J: Rules>(joint: &J, words: &[u64], y: u32, resting: u64, left: &
 
 /// Returns a number of rows, from the first row on, that miss no pair. `words` has the bits of the
 /// pairs that aren't listed. Searches band by band, and stops at the first band that may miss a pair.
+#[tactic(auto, using(crate::proofs::ReasonLemmas::row_ends, crate::proofs::ReasonLemmas::same_rows))]
 fn rows_before<J: Rules>(joint: &J, words: &[u64]) -> u32
     requires { length words.now * J.lanes joint.now ≡ length (J.arena joint.now).nodes }
-    ensures within { result ≤ length words.now }
-    ensures none { let A = J.arena joint.now in let lanes = J.lanes joint.now in
-        (L : List (Entry ℕ)) → AreRows lanes (λ p. not (is_listed A L p)) words.now →
-        (x lane : ℕ) → x < result → lane < lanes → could_be_listed A L (x * lanes + lane) ≡ false }
+    ensures { NoneMissing (J.arena joint.now) (J.lanes joint.now) words.now (result * J.lanes joint.now) }
 {
-    joint.known();
+    joint.known(); // a row has 1 to 64 lanes
     let band = joint.band();
     let mut room = [0; BAND];
     let left = &mut room[..band as usize];
@@ -109,12 +89,12 @@ pub(crate) fn first_missing<J: Rules>(joint: &J, words: &[u64]) -> Option<u32>
         (L : List (Entry ℕ)) → AreRows (J.lanes joint.now) (λ p. not (is_listed A L p)) words.now →
         result ≡ find (could_be_listed A L) A.nodes }
 {
-    joint.known();
+    joint.known(); // a pair's number fits 32 bits, a row has 1 to 64 lanes
     let lanes = joint.lanes();
     for x in rows_before(joint, words)..joint.rows() {
         let missing = missing_in(joint, words, x);
         if missing != 0 {
-            return Some(x * lanes + missing.trailing_zeros());
+            return Some((x * lanes).wrapping_add(missing.trailing_zeros()));
         }
     }
     None

@@ -2,27 +2,10 @@
 ghost use Rattle.std.specs.Prelude.{◌≡◌, ◌≢◌, ℕ, ◌-◌, ◌<◌, ◌≤◌, length, take, decimal, MatchOption, IsTrue, ◌↔◌};
 ghost use Rattle.std.specs.Int.{IsInRange, IsOutOfRange};
 ghost use Rattle.std.specs.Str.Parse.{AllDigits, digits_value};
-ghost use Rattle.roman_check.specs.Decimals.{IsTrim, IsNumberTo};
+ghost use Rattle.roman_check.specs.Decimals.{IsTrim, IsNumberTo, HasDigits};
 
 /// The greatest number of digits that a `u32` has.
 const MOST_DIGITS: usize = 10;
-
-/// Returns the value of a text of digits, leading zeros included. Requires at most ten bytes. Returns
-/// `None` exactly where some byte isn't a digit.
-fn digits(text: &[u8]) -> Option<u64>
-    requires { length text.now ≤ MOST_DIGITS }
-    ensures { MatchOption result (AllDigits 10 text.now → ⊥)
-        (λ n. AllDigits 10 text.now × (n ≡ digits_value 10 text.now)) }
-{
-    let mut value = 0u64;
-    for byte in text {
-        if !byte.is_ascii_digit() {
-            return None;
-        }
-        value = value * 10 + u64::from(*byte - b'0');
-    }
-    Some(value)
-}
 
 /// Returns the value of a digit, or more than 9 where the byte isn't a digit.
 pub(crate) fn digit(byte: u8) -> u64
@@ -30,6 +13,25 @@ pub(crate) fn digit(byte: u8) -> u64
     ensures other { 9 < result → IsOutOfRange 48 57 byte }
 {
     u64::from(byte).wrapping_sub(u64::from(b'0'))
+}
+
+/// Reads the digits at the start of the bytes, at most ten. Returns their value, leading zeros
+/// included, and how many they are.
+#[inline]
+#[tactic(auto, using(crate::proofs::DigitLemmas::digits_step, crate::proofs::DigitLemmas::digits_below))]
+fn front_digits(bytes: &[u8]) -> (u64, usize)
+    ensures { HasDigits bytes.now result.0 result.1 }
+{
+    let mut value = 0u64;
+    let most = bytes.len().min(MOST_DIGITS);
+    for i in 0..most {
+        let digit = digit(bytes[i]);
+        if digit > 9 {
+            return (value, i);
+        }
+        value = value * 10 + digit;
+    }
+    (value, most)
 }
 
 /// Reads the digits at the start of the bytes, up to the byte `stop`. Returns their value, leading
@@ -42,18 +44,14 @@ pub(crate) fn number_to(bytes: &[u8], stop: u8) -> Option<(u64, usize)>
         ((i : ℕ) → IsNumberTo stop bytes.now i → ⊥)
         (λ r. IsNumberTo stop bytes.now r.1 × (r.0 ≡ digits_value 10 (take r.1 bytes.now))) }
 {
-    let mut value = 0u64;
-    for i in 0..bytes.len().min(MOST_DIGITS + 1) {
-        let digit = digit(bytes[i]);
-        if digit > 9 {
-            if bytes[i] == stop {
-                return Some((value, i));
-            }
-            return None;
-        }
-        value = value * 10 + digit;
+    let (value, end) = front_digits(bytes);
+    if end >= bytes.len() {
+        return None;
     }
-    None
+    if bytes[end] != stop {
+        return None;
+    }
+    Some((value, end))
 }
 
 /// Returns whether the text has one to ten bytes and no leading zero.
@@ -80,15 +78,16 @@ pub(crate) fn trim_below(value: u64, text: &[u8], bound: u32) -> Option<u32>
 }
 
 /// Returns the number below the bound that has this decimal text, or `None` where there is none.
+#[tactic(auto, using(crate::proofs::DigitLemmas::no_decimal, crate::proofs::DigitLemmas::digits_of_all))]
 pub(crate) fn number_below(text: &[u8], bound: u32) -> Option<u32>
     ensures { MatchOption result
         ((n : ℕ) → n < bound → decimal n ≢ text.now)
         (λ n. (n < bound) × (decimal n ≡ text.now)) }
 {
-    if text.len() > MOST_DIGITS {
+    let (value, end) = front_digits(text);
+    if end < text.len() {
         return None;
     }
-    let value = digits(text)?;
     trim_below(value, text, bound)
 }
 
@@ -96,11 +95,9 @@ pub(crate) fn number_below(text: &[u8], bound: u32) -> Option<u32>
 pub(crate) fn is_number(text: &[u8], n: u32) -> bool
     ensures { IsTrue result ↔ (decimal n ≡ text.now) }
 {
-    if !is_trim(text) {
+    let (value, end) = front_digits(text);
+    if end < text.len() {
         return false;
     }
-    match digits(text) {
-        Some(value) => value == u64::from(n),
-        None => false,
-    }
+    is_trim(text) && value == u64::from(n)
 }

@@ -1,9 +1,9 @@
 //! Reads lines of a certificate that differ only in the last two digits of the pair.
-ghost use Rattle.std.specs.Prelude.{◌≡◌, ℕ, ◌+◌, ◌*◌, ◌<◌, ◌≤◌, length, take, Some, IfSome, IsTrue, slice_index};
+ghost use Rattle.std.specs.Prelude.{◌≡◌, ℕ, ◌+◌, ◌*◌, ◌<◌, ◌≤◌, length, IfSome, IsTrue, slice_index};
 ghost use Rattle.std.specs.Int.{from_le_bytes, w32, w64};
 ghost use Rattle.roman_model.specs.Lists.{IsIn};
-ghost use Rattle.roman_model.specs.Certificate.{reasons, entry_of};
-ghost use Rattle.roman_check.specs.Readings.{entry_with, IsEndedAt, HasParts};
+ghost use Rattle.roman_model.specs.Certificate.{reasons};
+ghost use Rattle.roman_check.specs.Readings.{entry_with, HasEntry, HasParts};
 ghost use Rattle.roman_check.specs.Patterns.{IsPattern, four, eight};
 
 use crate::entries::{ROOM, front_entry};
@@ -155,6 +155,7 @@ impl Pattern {
     /// Makes the first line of the bytes the pattern. Changes nothing where the pair has fewer than
     /// three digits or the line is too long. Requires that the line is the entry of the pair and the
     /// reason, has `len` bytes, and has its space at place `space`.
+    #[tactic(auto, using(crate::proofs::PatternLemmas::large_number))]
     fn learn(&mut self, bytes: &[u8], pair: u32, reason: Reason, space: usize, len: usize)
         requires pattern { IsPattern self.old.text self.old.shape }
         requires room { 16 ≤ length bytes.now }
@@ -182,7 +183,7 @@ impl Pattern {
         requires reason { IsIn self.old.shape.reason (reasons actions) }
         ensures pattern { IsPattern self.new.text self.new.shape }
         ensures reason { IsIn self.new.shape.reason (reasons actions) }
-        ensures read { IfSome result (λ r. IsEndedAt bytes.now r.2 × (entry_of pairs actions (take r.2 bytes.now) ≡ Some (entry_with (r.0, r.1)))) }
+        ensures read { IfSome result (λ r. HasEntry pairs actions bytes.now r.2 (entry_with (r.0, r.1))) }
     {
         let (pair, reason, space, len) = front_entry(bytes, pairs, actions)?;
         self.learn(bytes, pair, reason, space, len);
@@ -197,7 +198,7 @@ impl Pattern {
         requires reason { IsIn self.old.shape.reason (reasons actions) }
         ensures pattern { IsPattern self.new.text self.new.shape }
         ensures reason { IsIn self.new.shape.reason (reasons actions) }
-        ensures read { IfSome result (λ r. IsEndedAt bytes.now r.2 × (entry_of pairs actions (take r.2 bytes.now) ≡ Some (entry_with (r.0, r.1)))) }
+        ensures read { IfSome result (λ r. HasEntry pairs actions bytes.now r.2 (entry_with (r.0, r.1))) }
     {
         if bytes.len() < ROOM {
             return None;

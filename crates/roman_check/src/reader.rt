@@ -1,14 +1,14 @@
 //! Reads a certificate line by line, from pieces of any length.
-ghost use Rattle.std.specs.Prelude.{◌≡◌, ℕ, ◌+◌, ◌-◌, ◌*◌, ◌<◌, ◌≤◌, ◌++◌, List, [], ◌∷◌, length, take, drop, slice_index, position, ◌==◌, Some, IfOk, IfErr, MatchOption};
+ghost use Rattle.std.specs.Prelude.{◌≡◌, ℕ, ◌+◌, ◌*◌, ◌<◌, ◌≤◌, ◌++◌, ◌==◌, List, [], length, position, None, Some, IfOk, IfErr};
 ghost use Rattle.roman_model.specs.Lists.{IsIn};
-ghost use Rattle.roman_model.specs.Lines.{lines, IsLine};
+ghost use Rattle.roman_model.specs.Lines.{lines};
 ghost use Rattle.roman_model.specs.Arena.{Arena};
 ghost use Rattle.roman_model.specs.Certificate.{reasons};
 ghost use Rattle.roman_rules.specs.Numbered.{IsNumbered};
 ghost use Rattle.roman_check.specs.Lines.{Holds};
 ghost use Rattle.roman_check.specs.Audits.{IsInRows, Judges};
 ghost use Rattle.roman_check.specs.Patterns.{IsPattern};
-ghost use Rattle.roman_check.specs.Readers.{IsReading, HasLines, IsReadTo, JudgesLast, Feeds, ReadsPiece, Closes, Decides};
+ghost use Rattle.roman_check.specs.Readers.{IsReading, HasLines, IsBetween, ReadsPart, ReadsPiece, EndsLine, Closes, Decides};
 
 use crate::audit::{Audit, Due};
 use crate::entries::ROOM;
@@ -37,18 +37,6 @@ fn first_newline(bytes: &[u8]) -> Option<usize>
     bytes.iter().position(|byte| *byte == b'\n')
 }
 
-/// Returns the place of the first newline from `start` on.
-fn next_newline(piece: &[u8], start: usize) -> Option<usize>
-    requires { start ≤ length piece.now }
-    ensures { MatchOption result (IsLine (drop start piece.now))
-        (λ end. (start ≤ end) × (end < length piece.now) × IsLine (take (end - start) (drop start piece.now)) × (slice_index piece.now end ≡ 10)) }
-{
-    match first_newline(&piece[start..]) {
-        Some(found) => Some(start + found),
-        None => None,
-    }
-}
-
 impl Reader {
     /// Begins a check, before the first byte. Fails only when out of memory.
     pub(crate) fn build<J: Rules>(alloc: Global, joint: &J) -> Result<Reader, AllocError>
@@ -63,38 +51,28 @@ impl Reader {
         })
     }
 
-    /// Judges the buffered line.
-    fn judge<J: Rules, L: Ledger>(&mut self, joint: &J, steps: &mut Steps<L>) -> Option<Why>
-        requires shaped { IsInRows (J.lanes joint.now) (length (J.arena joint.now).nodes) self.old.audit }
-        ensures judged { (bytes : List ℕ) → Holds self.old.line bytes →
-            Judges (J.arena joint.now) self.old.audit self.new.audit bytes result }
-        ensures shaped { IsInRows (J.lanes joint.now) (length (J.arena joint.now).nodes) self.new.audit }
-        ensures rest { self.new ≡ record self.old { audit = self.new.audit } }
-    {
-        joint.known();
-        match self.line.text() {
-            Some(line) => self.audit.judge(joint, line, steps),
-            None => Some(Why::Form),
-        }
-    }
-
     /// Judges the line that the buffered bytes and the bytes `last` make up.
-    fn judge_end<J: Rules, L: Ledger>(
+    fn judge<J: Rules, L: Ledger>(
         &mut self,
         joint: &J,
         last: &[u8],
         steps: &mut Steps<L>,
     ) -> Option<Why>
         requires shaped { IsInRows (J.lanes joint.now) (length (J.arena joint.now).nodes) self.old.audit }
-        ensures judged { JudgesLast (J.arena joint.now) self.old self.new last.now result }
+        ensures judged { (bytes : List ℕ) → Holds self.old.line bytes →
+            Judges (J.arena joint.now) self.old.audit self.new.audit (bytes ++ last.now) result }
         ensures shaped { IsInRows (J.lanes joint.now) (length (J.arena joint.now).nodes) self.new.audit }
         ensures lines { self.new.lines ≡ self.old.lines }
     {
+        joint.known(); // a pair's number fits 32 bits
         if self.line.is_empty() {
             return self.audit.judge(joint, last, steps);
         }
         self.line.extend(last);
-        self.judge(joint, steps)
+        match self.line.text() {
+            Some(line) => self.audit.judge(joint, line, steps),
+            None => Some(Why::Form),
+        }
     }
 
     /// Reads the last bytes of a line and its newline. Returns the line's fault, if it has one.
@@ -105,11 +83,10 @@ impl Reader {
         steps: &mut Steps<L>,
     ) -> Option<Why>
         requires shaped { IsInRows (J.lanes joint.now) (length (J.arena joint.now).nodes) self.old.audit }
-        requires line { IsLine last.now }
-        requires room { self.old.lines < MAX_CERTIFICATE_BYTES }
-        ensures { ReadsPiece (J.arena joint.now) (J.lanes joint.now) self.old self.new (last.now ++ 10 ∷ []) 1 result }
+        requires room { self.old.lines ≤ MAX_CERTIFICATE_BYTES }
+        ensures { EndsLine (J.arena joint.now) (J.lanes joint.now) self.old self.new last.now result }
     {
-        if let Some(why) = self.judge_end(joint, last, steps) {
+        if let Some(why) = self.judge(joint, last, steps) {
             return Some(why);
         }
         self.line.clear();
@@ -128,19 +105,14 @@ impl Reader {
     ) -> usize
         requires shaped { IsInRows (J.lanes joint.now) (length (J.arena joint.now).nodes) self.old.audit }
         requires place { from ≤ length piece.now }
-        requires room { self.old.lines + (length piece.now - from) ≤ MAX_CERTIFICATE_BYTES }
-        requires due { self.old.audit.due ≡ Due.Body }
-        requires alone { (bytes : List ℕ) → Holds self.old.line bytes → bytes ≡ [] }
-        requires none { Holds self.old.line [] }
+        requires room { self.old.lines + length piece.now ≤ MAX_CERTIFICATE_BYTES + from }
+        requires between { IsBetween self.old }
         requires pattern { IsPattern pattern.now.text pattern.now.shape }
         requires reason { IsIn pattern.now.shape.reason (reasons (J.arena joint.now).actions) }
-        ensures place { (from ≤ result) × (result ≤ length piece.now) × (self.new.lines ≤ self.old.lines + (result - from)) }
-        ensures read { (before : Reader) → IsReadTo (J.arena joint.now) before self.old piece.now from → IsReadTo (J.arena joint.now) before self.new piece.now result }
-        ensures due { self.new.audit.due ≡ Due.Body }
-        ensures line { self.new.line ≡ self.old.line }
-        ensures shaped { IsInRows (J.lanes joint.now) (length (J.arena joint.now).nodes) self.new.audit }
+        ensures read { ReadsPart (J.arena joint.now) (J.lanes joint.now) self.old self.new piece.now from result None }
+        ensures between { IsBetween self.new }
     {
-        joint.known();
+        joint.known(); // a pair's number fits 32 bits
         let mut start = from;
         let (mut text, shape) = (pattern.text, pattern.shape);
         if shape.reason != self.audit.asked.reason {
@@ -174,16 +146,11 @@ impl Reader {
     ) -> Result<usize, Why>
         requires shaped { IsInRows (J.lanes joint.now) (length (J.arena joint.now).nodes) self.old.audit }
         requires place { from ≤ length piece.now }
-        requires room { self.old.lines + (length piece.now - from) ≤ MAX_CERTIFICATE_BYTES }
-        ensures place { IfOk result (λ start. (from ≤ start) × (start ≤ length piece.now) × (self.new.lines ≤ self.old.lines + (start - from))) }
-        ensures read { IfOk result (λ start. (before : Reader) → IsReadTo (J.arena joint.now) before self.old piece.now from →
-            IsReadTo (J.arena joint.now) before self.new piece.now start) }
-        ensures fault { IfErr result (λ why. (before : Reader) → IsReadTo (J.arena joint.now) before self.old piece.now from →
-            Feeds (J.arena joint.now) before self.new piece.now (Some why)) }
-        ensures lines { self.new.lines ≤ self.old.lines + (length piece.now - from) }
-        ensures shaped { IsInRows (J.lanes joint.now) (length (J.arena joint.now).nodes) self.new.audit }
+        requires room { self.old.lines + length piece.now ≤ MAX_CERTIFICATE_BYTES + from }
+        ensures read { IfOk result (λ start. ReadsPart (J.arena joint.now) (J.lanes joint.now) self.old self.new piece.now from start None) }
+        ensures fault { IfErr result (λ why. (to : ℕ) × ReadsPart (J.arena joint.now) (J.lanes joint.now) self.old self.new piece.now from to (Some why)) }
     {
-        joint.known();
+        joint.known(); // a pair's number fits 32 bits
         let mut start = from;
         let Due::Body = self.audit.due else {
             return Ok(start);
@@ -214,7 +181,7 @@ impl Reader {
     ) -> Option<Why>
         requires shaped { IsInRows (J.lanes joint.now) (length (J.arena joint.now).nodes) self.old.audit }
         requires room { self.old.lines + length piece.now ≤ MAX_CERTIFICATE_BYTES }
-        ensures { ReadsPiece (J.arena joint.now) (J.lanes joint.now) self.old self.new piece.now (length piece.now) result }
+        ensures { ReadsPiece (J.arena joint.now) (J.lanes joint.now) self.old self.new piece.now result }
     {
         let mut from = 0;
         'lines: loop {
@@ -222,14 +189,15 @@ impl Reader {
                 Ok(start) => start,
                 Err(why) => return Some(why),
             };
-            let Some(end) = next_newline(piece, start) else {
-                self.line.extend(&piece[start..]);
+            let rest = &piece[start..];
+            let Some(len) = first_newline(rest) else {
+                self.line.extend(rest);
                 return None;
             };
-            if let Some(why) = self.end_line(joint, &piece[start..end], steps) {
+            if let Some(why) = self.end_line(joint, &rest[..len], steps) {
                 return Some(why);
             }
-            from = end + 1;
+            from = start + len + 1;
         }
     }
 
@@ -244,11 +212,7 @@ impl Reader {
         if self.line.is_empty() {
             return None;
         }
-        if let Some(why) = self.judge(joint, steps) {
-            return Some(why);
-        }
-        self.lines += 1;
-        None
+        self.end_line(joint, &[], steps)
     }
 
     /// Returns the verdict where all lines were read and none is at fault. It rejects the text where
@@ -282,7 +246,7 @@ impl Reader {
         requires start { start < length (J.arena joint.now).nodes }
         ensures { Decides (J.arena joint.now) start (λ bytes. IsReading (J.arena joint.now) bytes self.old) result }
     {
-        joint.known();
+        joint.known(); // pairs are numbered from 0
         if let Some(why) = self.close(joint, steps) {
             return Verdict::Rejected {
                 line: self.lines + 1,

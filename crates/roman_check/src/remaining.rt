@@ -1,7 +1,7 @@
 //! The remaining pairs, row by row: those that no entry names yet.
-ghost use Rattle.std.specs.Prelude.{◌≡◌, ◌≢◌, ℕ, ◌+◌, ◌*◌, ◌<◌, ◌≤◌, ◌==◌, Bool, false, not, ◌&&◌, ◌||◌, length, IfOk, IfSome, IsFalse};
+ghost use Rattle.std.specs.Prelude.{◌≡◌, ◌≢◌, ℕ, ◌+◌, ◌*◌, ◌<◌, ◌≤◌, ◌==◌, Bool, false, not, ◌&&◌, ◌||◌, length, IfOk, IfSome, IsTrue};
 ghost use Rattle.roman_lanes.specs.Rows.{is_on};
-ghost use Rattle.roman_check.specs.Remain.{Remain};
+ghost use Rattle.roman_check.specs.Remain.{Clears, Remain, Removes};
 
 use crate::table::Remaining;
 use std::alloc::{AllocError, Global};
@@ -19,9 +19,7 @@ pub(crate) fn has_lane(word: u64, lane: u32) -> bool
 #[tactic(auto, using(roman_lanes::proofs::CallerLemmas::on_clear_same, roman_lanes::proofs::CallerLemmas::on_clear_other, crate::proofs::RemainLemmas::without_within))]
 fn without_lane(word: u64, lane: u32) -> u64
     requires { lane < 64 }
-    ensures own { is_on result lane ≡ false }
-    ensures others { (j : ℕ) → j < 64 → j ≢ lane → is_on result j ≡ is_on word j }
-    ensures within { (j : ℕ) → is_on word j ≡ false → is_on result j ≡ false }
+    ensures { Clears word result lane }
 {
     word & !(1 << lane)
 }
@@ -84,18 +82,18 @@ impl Remaining {
     pub(crate) fn has(&self, row: u32, lane: u32) -> bool
         requires row { row < length self.now.words.items }
         requires lane { lane < self.now.lanes }
-        ensures { (pairs : ℕ) (gone : ℕ → Bool) → Remain pairs gone self.now → result ≡ not (gone (row * self.now.lanes + lane)) }
+        ensures { (pairs p : ℕ) (gone : ℕ → Bool) → row * self.now.lanes + lane ≡ p → Remain pairs gone self.now → result ≡ not (gone p) }
     {
         has_lane(self.words[row as usize], lane)
     }
 
     /// Returns whether the pair at this row and lane remains, and its lane is among `known`.
     #[inline(always)]
-    #[tactic(auto, using(roman_lanes::proofs::CallerLemmas::on_and))]
+    #[tactic(auto, using(roman_lanes::proofs::CallerLemmas::on_and, std::proofs::lemmas::Bool::and_parts))]
     pub(crate) fn has_known(&self, row: u32, lane: u32, known: u64) -> bool
         requires row { row < length self.now.words.items }
         requires lane { lane < self.now.lanes }
-        ensures { (pairs : ℕ) (gone : ℕ → Bool) → Remain pairs gone self.now → result ≡ (is_on known lane && not (gone (row * self.now.lanes + lane))) }
+        ensures { (pairs p : ℕ) (gone : ℕ → Bool) → row * self.now.lanes + lane ≡ p → Remain pairs gone self.now → IsTrue result → IsTrue (is_on known lane) × IsTrue (not (gone p)) }
     {
         has_lane(known & self.words[row as usize], lane)
     }
@@ -105,11 +103,7 @@ impl Remaining {
     pub(crate) fn remove(&mut self, row: u32, lane: u32)
         requires row { row < length self.old.words.items }
         requires lane { lane < self.old.lanes }
-        ensures removed { (pairs : ℕ) (gone more : ℕ → Bool) → Remain pairs gone self.old →
-            row * self.old.lanes + lane < pairs → IsFalse (gone (row * self.old.lanes + lane)) →
-            ((q : ℕ) → more q ≡ (gone q || q == row * self.old.lanes + lane)) → Remain pairs more self.new }
-        ensures lanes { self.new.lanes ≡ self.old.lanes }
-        ensures rows { length self.new.words.items ≡ length self.old.words.items }
+        ensures { Removes self.old self.new (row * self.old.lanes + lane) }
     {
         let word = self.words[row as usize];
         self.words[row as usize] = without_lane(word, lane);

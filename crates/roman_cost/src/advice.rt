@@ -27,13 +27,24 @@ use std::marker::Model;
 /// The least worst-case costs of each number of requests, up to a greatest number, at each related
 /// pair. Contracts see the greatest number, the pairs, and the rows of values one after another,
 /// starting with the row for no request.
-#[derive(Drop)]
 pub struct Advice {
     requests: u8,
     pairs: Vec<u32>,
     // for each pair of the system, the number of related pairs before it
     ranks: Vec<u32>,
     values: Vec<u32>,
+}
+
+// One call. At each exit of a function that owns advice, a derived drop would be a step for each vector.
+impl Drop for Advice {
+    fn drop(self) {
+        let Advice {
+            requests: _,
+            pairs: _,
+            ranks: _,
+            values: _,
+        } = self;
+    }
 }
 
 impl Model for Advice {
@@ -71,7 +82,7 @@ impl Advice {
         ensures advises { IfOk result
             (Advises (system_of relation.now.joint) (seat_costs relation.now.joint costs.now.listed)) }
     {
-        costs.known();
+        costs.known(); // no cost is greater than MAX_COST
         let count = relation.count();
         if u64::from(count) * u64::from(h) > u64::from(MAX_VALUES) {
             return Err(AdviceError::Limit);
@@ -161,7 +172,6 @@ impl Advice {
             let C = seat_costs relation.now.joint costs.now.listed in
             result.1 ≡ through s C (least s C (h - 1)) (pair_at (sizes_of s) p) a result.0 }
     {
-        costs.known();
         let row = self.row(h - 1);
         let offered = offers(relation, p, a);
         cheapest(&relation.joint, costs, &self.ranks, row, p, a, offered)

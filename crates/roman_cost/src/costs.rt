@@ -20,13 +20,24 @@ pub struct Listed {
 
 /// The costs of the behaviours of a catalogue for actions. Contracts see the listed costs, in their
 /// order, and the numbers of behaviours and actions.
-#[derive(Drop)]
 pub struct Costs {
     behaviours: usize,
     actions: usize,
     listed: Vec<Listed>,
     // By behaviour and then by action: the cost plus 1, or 0 if no cost is listed.
     cells: Vec<u32>,
+}
+
+// One call. At each exit of a function that owns costs, a derived drop would be a step for each vector.
+impl Drop for Costs {
+    fn drop(self) {
+        let Costs {
+            behaviours: _,
+            actions: _,
+            listed: _,
+            cells: _,
+        } = self;
+    }
 }
 
 impl Model for Costs {

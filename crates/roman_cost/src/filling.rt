@@ -30,7 +30,7 @@ pub(crate) fn ranked_pairs(
     ensures pairs { IfOk result (λ made. made.0.items ≡ related_pairs (system_of relation.now.joint)) }
     ensures ranks { IfOk result (λ made. HavePlaces made.0.items made.1.items) }
 {
-    relation.joint.known();
+    relation.joint.known(); // the system is well formed
     let count = relation.joint.shape().pairs();
     let mut pairs = Vec::with_capacity(alloc, room)?;
     let mut ranks = Vec::with_capacity(alloc, count as usize)?;
@@ -98,8 +98,8 @@ pub(crate) fn push_row(
     ensures rows { let n = relation.now.joint in OnOk result (values.new.items
         ≡ value_rows (system_of n) (seat_costs n costs.now.listed) pairs.now (suc (suc h))) }
 {
-    costs.known();
-    relation.joint.known();
+    costs.known(); // no cost is greater than MAX_COST
+    relation.joint.known(); // the system is well formed
     let row = row_of(values, h as usize, pairs.len());
     next.clear();
     work_out(terms, row, next)?;
@@ -128,8 +128,8 @@ fn work_out_others(
         (h : ℕ) → row.now ≡ map (least_at s C h) (related_pairs s) →
         OnOk result (values.new.items ≡ values.old.items ++ map (least_at s C (suc h)) others.now) }
 {
-    costs.known();
-    relation.joint.known();
+    costs.known(); // no cost is greater than MAX_COST
+    relation.joint.known(); // the system is well formed
     for p in others {
         spare.clear();
         push_pair(spare, relation, costs, ranks, *p)?;

@@ -43,7 +43,7 @@ pub(crate) fn cheapest(
         (h : ℕ) → row.now ≡ map (least_at s C h) (related_pairs s)
         → result.1 ≡ through s C (least s C h) (pair_at (sizes_of s) p) a result.0 }
 {
-    joint.known();
+    joint.known(); // the system is well formed
     let mut best = None;
     for k in 0..joint.seats() {
         if offered.has(k) {
@@ -76,7 +76,7 @@ fn cost_through(
     ensures { result ≡ seat_costs joint.now costs.now.listed k a
         + max_over (ranked ranks.now row.now) ((numbered (system_of joint.now)).outcomes p a k) }
 {
-    joint.known();
+    joint.known(); // each seat's behaviour is in the catalogue
     let outcomes = joint.outcomes(p, a, k);
     let cost = costs.cost(joint.seat(k).behaviour, a);
     cost + greatest_outcome(ranks, row, outcomes)

@@ -132,7 +132,6 @@ pub(crate) fn push_pair(
     ensures { let n = relation.now.joint in
         OnOk result (terms.new.items ≡ terms.old.items ++ pair_terms (system_of n) (seat_costs n costs.now.listed) ranks.now p) }
 {
-    relation.joint.known();
     for a in 0..relation.joint.actions() {
         if relation.joint.allowed(p, a) {
             push_action(terms, relation, costs, ranks, p, a)?;
@@ -160,7 +159,7 @@ fn push_action(
     ensures { let n = relation.now.joint in
         OnOk result (terms.new.items ≡ terms.old.items ++ action_terms (system_of n) (seat_costs n costs.now.listed) ranks.now p a) }
 {
-    relation.joint.known();
+    relation.joint.known(); // the system is well formed
     let offered = offers(relation, p, a);
     for k in 0..relation.joint.seats() {
         if offered.has(k) {
@@ -192,7 +191,7 @@ fn push_service(
     ensures { OnOk result (terms.new.items
         ≡ terms.old.items ++ service_terms (system_of joint.now) (seat_costs joint.now costs.now.listed) ranks.now p a k) }
 {
-    joint.known();
+    joint.known(); // each seat's behaviour is in the catalogue
     let cost = costs.cost(joint.seat(k).behaviour, a);
     let outcomes = joint.outcomes(p, a, k);
     push_outcomes(terms, ranks, outcomes)?;

@@ -84,7 +84,7 @@ fn push_choices<O: Sink>(
         (page.old ++ flat_map (choice_line n (seat_costs n costs.now.listed) (advice.now.requests - 1) p) (allowed_actions (system_of n) p)) result }
     ensures cause { HasCause (O.faults out.old) (O.faults out.new) result }
 {
-    relation.joint.known();
+    relation.joint.known(); // the system is well formed
     for a in 0..relation.joint.actions() {
         if !relation.joint.allowed(start, a) {
             continue;
@@ -108,7 +108,7 @@ fn choice_piece(advice: &Advice, relation: &Relation, costs: &Costs, start: u32,
     ensures { let n = relation.now.joint in
         result ≡ choice_line n (seat_costs n costs.now.listed) (advice.now.requests - 1) (pair_at (sizes_of (system_of n)) start) a }
 {
-    relation.joint.known();
+    relation.joint.known(); // the system is well formed
     let (seat, cost) = advice.choice(relation, costs, advice.requests(), start, a);
     let action = relation.joint.environment().actions().at(u32::from(a));
     let service = &relation.joint.seat(seat).name;

@@ -20,7 +20,7 @@ pub fn next_pair(joint: &Joint, p: u32, a: u8, k: u8, b2: u8, e2: u8) -> Option<
     ensures moves { IfSome result (Becomes (system_of joint.now) (pair_at (sizes_of (system_of joint.now)) p) a k b2 e2) }
     ensures none { IfNone result (CanMove (system_of joint.now) (pair_at (sizes_of (system_of joint.now)) p) a k b2 e2 → ⊥) }
 {
-    joint.known();
+    joint.known(); // the system is well formed
     let shape = joint.shape();
     let t = shape.target_of(p);
     let e = shape.env_of(p);
@@ -60,7 +60,7 @@ fn target_after(joint: &Joint, t: u8, e: u8, b: u8, sight: Sight) -> Option<u8>
     ensures moves { IfSome result (λ to. TStep (system_of joint.now) t e sight.action to sight.env × IsServed (system_of joint.now) e b sight) }
     ensures none { IfNone result (IsServed (system_of joint.now) e b sight → ⊥) }
 {
-    joint.known();
+    joint.known(); // behaviours and the target are over the environment
     if !holds(joint.environment().next(e, sight.action), sight.env) {
         return None;
     }

@@ -26,7 +26,7 @@ pub fn offers(relation: &Relation, p: u32, a: u8) -> SeatSet
     ensures offers { HasBits result (has (offers (system_of relation.now.joint) (pair_at (sizes_of (system_of relation.now.joint)) p) a)) }
     ensures some { result ≢ 0 }
 {
-    relation.joint.known();
-    relation.order.known();
+    relation.joint.known(); // the system is well formed
+    relation.order.known(); // listed pairs are pairs of the system
     relation.mask(p, a)
 }

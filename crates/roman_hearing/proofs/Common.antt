@@ -1,6 +1,6 @@
 -- The names that several proof pages of this crate cite, passed on from one place. Declares nothing.
-pub use Rattle.std.proofs.Common.{Bool, Err, IsFalse, IsTrue, List, None, Ok, Option, Result, Some, [], ap, append-nil, append_assoc, ap₂, arith, codes, cond, drop, eq-eqb, eqb-true, false, get_or, inl, inr, is_none, is_ok, leb-true, length, length-append, ltb-false, ltb-true, map, nat_le, nat_lt, not, ok_or, refl, slice_get, slice_set, subst, suc, sym, take, take-append-drop, true, zero, ℕ, ◌&&◌, ◌++◌, ◌+◌, ◌<◌, ◌==◌, ◌↔◌, ◌∙◌, ◌∷◌, ◌≡◌, ◌≤◌}
-pub use Rattle.std.proofs.lemmas.Bool.{and_from, and_parts, both_ways, cond-false, cond-true, false≢true, not-true, or_cases, or_from, or_left, or_parts, or_right}
+pub use Rattle.std.proofs.Common.{Bool, Err, IsFalse, IsTrue, List, None, Ok, Option, Result, Some, [], ap, append-nil, append_assoc, ap₂, arith, codes, cond, drop, false, get_or, inl, inr, is_none, is_ok, leb-true, length, length-append, ltb-false, ltb-true, map, nat_le, nat_lt, not, ok_or, refl, slice_get, slice_set, subst, suc, sym, take, take-append-drop, true, zero, ℕ, ◌++◌, ◌+◌, ◌<◌, ◌↔◌, ◌∙◌, ◌∷◌, ◌≡◌, ◌≤◌}
+pub use Rattle.std.proofs.lemmas.Bool.{both_ways, cond-false, cond-true, false≢true, not-false, not-true, or_cases, or_from, or_left, or_parts, or_right}
 pub use Rattle.std.proofs.lemmas.List.{length-map}
 pub use Rattle.std.proofs.lemmas.List.Quantifiers.{position-Some}
 pub use Rattle.std.proofs.lemmas.Option.{get_or_from_slice_get}
@@ -13,16 +13,17 @@ pub use Rattle.roman_joint.proofs.CallerLemmas.{beh_read, frozen_known, frozen_s
 pub use Rattle.roman_joint.specs.NamedSys.{IsNamedSys, NamedSys, beh_at, seat_of, system_of}
 pub use Rattle.roman_joint.specs.Names.{beh_name, names_in, seat_name, states_of_behaviour}
 pub use Rattle.roman_joint.specs.declared.seat.Seat.{Seat}
-pub use Rattle.roman_model.proofs.CallerLemmas.{allowed_in, any_true, by_test, empty_is, filter_in, filter_sublist, from_allowed, from_map, from_outcome, great_related, in_below, in_filter, in_listed, listed_in, number_listed, outcome_in, related_great, same_numbers_is, same_numbers_itself, there_is}
+pub use Rattle.roman_model.proofs.CallerLemmas.{allowed_in, any_true, by_test, empty_is, filter_in, filter_sublist, from_allowed, from_map, from_outcome, great_related, in_below, in_filter, in_listed, listed_in, number_listed, outcome_in, related_great, system_is_same, there_is}
 pub use Rattle.roman_model.specs.Arena.{Entry, is_beaten}
 pub use Rattle.roman_model.specs.CompleteLists.{IsComplete}
 pub use Rattle.roman_model.specs.Composition.{Great}
 pub use Rattle.roman_model.specs.Explanation.{explain_text, name_at, seat_names}
 pub use Rattle.roman_model.specs.Lines.{ended_lines, lines, text_of_lines}
+pub use Rattle.roman_model.specs.Counting.{Counts}
 pub use Rattle.roman_model.specs.Lists.{IsIn, below}
 pub use Rattle.roman_model.specs.Offers.{is_related, offers}
 pub use Rattle.roman_model.specs.System.{Beh, IsBeh, IsPair, IsSys, Pair, Sys, is_final}
-pub use Rattle.roman_model.specs.SystemArena.{arena, is_allowed, outcomes, same_numbers}
+pub use Rattle.roman_model.specs.SystemArena.{arena, is_allowed, outcomes}
 pub use Rattle.roman_model.specs.declared.limits.TheConstants.{MAX_SERVICES, MAX_SESSION_BYTES}
 pub use Rattle.roman_parts.specs.Named.{NamedBeh}
 pub use Rattle.roman_read.proofs.CallerLemmas.{bind_ok, same_ok}
@@ -53,4 +54,4 @@ pub use Rattle.roman_hearing.specs.HearingBytes.{FailsIn, FallsShort, HearsPiece
 pub use Rattle.roman_hearing.specs.Known.{AreBehaviours, AreNamed, IsKnownSituation, shown}
 pub use Rattle.roman_hearing.specs.States.{IsGreat, MayAsk, State}
 pub use Rattle.roman_hearing.specs.Told.{Answers, Told, until_quit}
-pub use Rattle.roman_hearing.specs.Words.{Counts, IsReady, Refutes}
+pub use Rattle.roman_hearing.specs.Words.{IsReady, Refutes}

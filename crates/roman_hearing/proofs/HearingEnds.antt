@@ -6,7 +6,7 @@ use Rattle.std.proofs.lemmas.Bool.{lt-leb}
 use Rattle.roman_io.specs.Source.{EndsAt, Had}
 use Rattle.roman_io.proofs.CallerLemmas.{WrotePrefix-append, had_more, had_all}
 use Rattle.roman_text.proofs.CallerLemmas.{lines_are, lines_only}
-use Rattle.roman_hearing.specs.Hearing.{prefix_of, GaveQuit, stream_state, IsHeardOut, IsCutOff, StopsShort, TellsPrefixOfAll}
+use Rattle.roman_hearing.specs.Hearing.{prefix_of, GaveQuit, StreamState, stream_state, IsHeardOut, IsCutOff, StopsShort, TellsPrefixOfAll}
 use Rattle.roman_hearing.specs.HearingBytes.{HearsRest}
 use Rattle.roman_hearing.specs.declared.hearing.HearError.{HearError}
 use Rattle.roman_hearing.specs.declared.hearing.HearError.TheVariants.{ReadFault, WriteFault, TooLong}
@@ -49,12 +49,20 @@ heard_more heard rest few =
           ∙ ap ended_lines (prefix-append MAX_SESSION_BYTES heard rest few) ∙ e,
     ))
 
+-- how a session ends without a fault of the source
+pub record Ends (old new : StreamState) (r : Result (Unit {0}) HearError) : Type 0 where
+  pub ok : OnOk r (IsHeardOut old new.cursor)
+  pub too_long : IsErrOf r TooLong → IsCutOff old new.cursor
+  pub untroubled : IsErrOf r ReadFault → ⊥
+  pub write_fault : IsErrOf r WriteFault → StopsShort old new
+  pub prefix : IsErrOf r WriteFault → AreBehaviours old.cursor.situation.parts → TellsPrefixOfAll old new.cursor.written
+
 -- ---- at the end of the source
 
 module _ (old new : Situation) (start mid : Option (List ℕ)) (taken : List ℕ) (n : ℕ) (before now : Option (List ℕ)) (gave : Gave start mid taken) (ends : EndsAt mid n) (none : n ≡ 0)
     (few : length taken ≤ MAX_SESSION_BYTES) where
   -- all lines are answered
-  pub out_at_end : Tells (cursor old before) (lines taken) (cursor new now) → IsHeardOut (stream_state old start before) (cursor new now)
+  out_at_end : Tells (cursor old before) (lines taken) (cursor new now) → IsHeardOut (stream_state old start before) (cursor new now)
   out_at_end tells = record {
     session = taken;
     had = had_all start mid taken n gave ends none;
@@ -71,46 +79,34 @@ module _ (old new : Situation) (start mid : Option (List ℕ)) (taken : List ℕ
     tells = subst (λ (ls : List (List ℕ)). TellsPrefix (cursor old before) ls (cursor new now)) (sym (cond-true (is_heard_out taken) (lines taken) (ended_lines (prefix_of taken)) (short_out taken few))) fails.tells;
   }
 
-  -- both cases, by the result of the call
-  pub rest_out : (r : Result (Unit {0}) HearError) → HearsRest (cursor old before) taken (cursor new now) r → OnOk r (IsHeardOut (stream_state old start before) (cursor new now))
+  -- the last reply wasn't written whole
+  rest_stops : (has : Option (List ℕ)) (into : List ℕ) → Gave mid has (take n into) → FallsShort (cursor old before) (lines taken) (cursor new now) → StopsShort (stream_state old start before) (stream_state new has now)
+  rest_stops has into second fails =
+      let got : take n into ≡ [] = ap (λ (n : ℕ). take n into) none in
+      record {
+        heard = taken;
+        past = [];
+        gave = subst (Gave start has) (ap (λ (bytes : List ℕ). taken ++ bytes) got) (Gave-then start mid has taken (take n into) gave second);
+        few = few;
+        ends = inr (had_all start mid taken n gave ends none);
+        tells = fails.tells;
+      }
+
+  rest_out : (r : Result (Unit {0}) HearError) → HearsRest (cursor old before) taken (cursor new now) r → OnOk r (IsHeardOut (stream_state old start before) (cursor new now))
   rest_out (Ok x) tells = out_at_end tells
   rest_out (Err error) h = tt
 
-  pub rest_prefixes : (r : Result (Unit {0}) HearError) → HearsRest (cursor old before) taken (cursor new now) r → IsErrOf r WriteFault → TellsPrefixOfAll (stream_state old start before) now
-  rest_prefixes (Ok x) h is = absurd (let e : ⊥ = cc in e)
-  rest_prefixes (Err ReadFault) h is = absurd h
-  rest_prefixes (Err WriteFault) h is = prefixes_rest h
-  rest_prefixes (Err TooLong) h is = absurd h
-
--- the last reply wasn't written whole
-pub rest_stops_short : (old new : Situation) (start mid has : Option (List ℕ)) (taken into : List ℕ) (n : ℕ) (before now : Option (List ℕ)) (r : Result (Unit {0}) HearError) → Gave start mid taken →
-    Gave mid has (take n into) → EndsAt mid n → n ≡ 0 → length taken ≤ MAX_SESSION_BYTES → HearsRest (cursor old before) taken (cursor new now) r → IsErrOf r WriteFault → StopsShort (stream_state old start before) (stream_state new has now)
-rest_stops_short old new start mid has taken into n before now (Ok x) first second ends none few h is = absurd (let e : ⊥ = cc in e)
-rest_stops_short old new start mid has taken into n before now (Err ReadFault) first second ends none few h is = absurd h
-rest_stops_short old new start mid has taken into n before now (Err TooLong) first second ends none few h is = absurd h
-rest_stops_short old new start mid has taken into n before now (Err WriteFault) first second ends none few fails is =
-    let got : take n into ≡ [] = ap (λ (n : ℕ). take n into) none in
-    record {
-      heard = taken;
-      past = [];
-      gave = subst (Gave start has) (ap (λ (bytes : List ℕ). taken ++ bytes) got) (Gave-then start mid has taken (take n into) first second);
-      few = few;
-      ends = inr (had_all start mid taken n first ends none);
-      tells = fails.tells;
-    }
-
--- no other error is returned
-pub rest_not_read : (old new : Situation) (taken : List ℕ) (before now : Option (List ℕ)) (r : Result (Unit {0}) HearError) → HearsRest (cursor old before) taken (cursor new now) r → IsErrOf r ReadFault → ⊥
-rest_not_read old new taken before now (Ok x) h is = cc
-rest_not_read old new taken before now (Err ReadFault) h is = h
-rest_not_read old new taken before now (Err WriteFault) h is = cc
-rest_not_read old new taken before now (Err TooLong) h is = h
-
-pub rest_not_long : (old new : Situation) (taken : List ℕ) (before now : Option (List ℕ)) (r : Result (Unit {0}) HearError) → HearsRest (cursor old before) taken (cursor new now) r → IsErrOf r TooLong → ⊥
-rest_not_long old new taken before now (Ok x) h is = cc
-rest_not_long old new taken before now (Err ReadFault) h is = h
-rest_not_long old new taken before now (Err WriteFault) h is = cc
-rest_not_long old new taken before now (Err TooLong) h is = h
+  -- all results of the last line
+  pub rest_ends : (has : Option (List ℕ)) (into : List ℕ) (r : Result (Unit {0}) HearError) → Gave mid has (take n into) → HearsRest (cursor old before) taken (cursor new now) r → Ends (stream_state old start before) (stream_state new has now) r
+  rest_ends has into r second h =
+      let at : (error : HearError) → IsErrOf r error → HearsRest (cursor old before) taken (cursor new now) (Err error) = λ error is. subst (HearsRest (cursor old before) taken (cursor new now)) is h in
+      record {
+        ok = rest_out r h;
+        too_long = λ is. absurd (at TooLong is);
+        untroubled = λ is. at ReadFault is;
+        write_fault = λ is. rest_stops has into second (at WriteFault is);
+        prefix = λ is behaviours. prefixes_rest (at WriteFault is);
+      }
 
 -- ---- the whole lines of bytes, as a text
 
@@ -191,7 +187,7 @@ module _ (old new : Situation) (start mid has : Option (List ℕ)) (taken got : 
       }
 
   -- the piece has more bytes than `room`
-  pub cut_off : (held : List ℕ) → IsHearing (cursor old before) (taken ++ take room got) (reader_state new now [] held) → room < length got → IsCutOff (stream_state old start before) (cursor new now)
+  cut_off : (held : List ℕ) → IsHearing (cursor old before) (taken ++ take room got) (reader_state new now [] held) → room < length got → IsCutOff (stream_state old start before) (cursor new now)
   cut_off held hearing more =
       let (after, had) = had_after in
       let full : length (taken ++ take room got) ≡ MAX_SESSION_BYTES = omega (arith, length-append taken (take room got), length-take room got) in
@@ -245,22 +241,14 @@ module _ (old new : Situation) (start mid has : Option (List ℕ)) (taken got : 
       }
 
   -- all errors of a piece
-  pub piece_cut_off : (held : List ℕ) (error : HearError) → HearsPiece room (cursor old before) taken got (reader_state new now [] held) (Err error) → error ≡ TooLong → IsCutOff (stream_state old start before) (cursor new now)
-  piece_cut_off held ReadFault h is = absurd h
-  piece_cut_off held WriteFault h is = absurd (let e : ⊥ = cc in e)
-  piece_cut_off held TooLong (hearing, more) is = cut_off held hearing more
-
-  pub piece_stops_short : (held : List ℕ) (error : HearError) → HearsPiece room (cursor old before) taken got (reader_state new now [] held) (Err error) → error ≡ WriteFault → StopsShort (stream_state old start before) (stream_state new has now)
-  piece_stops_short held ReadFault h is = absurd h
-  piece_stops_short held WriteFault fails is = stops_short fails
-  piece_stops_short held TooLong h is = absurd (let e : ⊥ = cc in e)
-
-  pub piece_prefixes : (held : List ℕ) (error : HearError) → HearsPiece room (cursor old before) taken got (reader_state new now [] held) (Err error) → error ≡ WriteFault → AreBehaviours old.parts → TellsPrefixOfAll (stream_state old start before) now
-  piece_prefixes held ReadFault h is behaviours = absurd h
-  piece_prefixes held WriteFault fails is behaviours = prefixes_all behaviours fails
-  piece_prefixes held TooLong h is behaviours = absurd (let e : ⊥ = cc in e)
-
-  pub piece_not_read : (held : List ℕ) (error : HearError) → HearsPiece room (cursor old before) taken got (reader_state new now [] held) (Err error) → error ≡ ReadFault → ⊥
-  piece_not_read held ReadFault h is = h
-  piece_not_read held WriteFault h is = cc
-  piece_not_read held TooLong h is = cc
+  pub piece_ends : (held : List ℕ) (error : HearError) → HearsPiece room (cursor old before) taken got (reader_state new now [] held) (Err error) → Ends (stream_state old start before) (stream_state new has now) (Err error)
+  piece_ends held error h =
+      let at : (other : HearError) → error ≡ other → HearsPiece room (cursor old before) taken got (reader_state new now [] held) (Err other) =
+      λ other is. subst (λ (error : HearError). HearsPiece room (cursor old before) taken got (reader_state new now [] held) (Err error)) is h in
+      record {
+        ok = tt;
+        too_long = λ is. let (hearing, more) = at TooLong cc in cut_off held hearing more;
+        untroubled = λ is. at ReadFault cc;
+        write_fault = λ is. stops_short (at WriteFault cc);
+        prefix = λ is behaviours. prefixes_all behaviours (at WriteFault cc);
+      }

@@ -10,6 +10,7 @@ pub mod SeveralLemmas
 pub mod EventLemmas
 pub mod RefutationLemmas
 pub mod WordLemmas
+pub mod FixedLemmas
 pub mod TurnLemmas
 pub mod HearingGoing
 pub mod HearingSteps

@@ -1,5 +1,5 @@
 -- The explanation of a pair that isn't related is a removal list in terms of steps, and the opponent who plays by it wins.
-use Rattle.roman_hearing.proofs.Common.{◌≡◌, ℕ, zero, suc, ◌+◌, ◌<◌, ◌==◌, Bool, true, false, not, ◌&&◌, List, [], ◌∷◌, ◌++◌, length, codes, Option, None, Some, IsTrue, IsFalse, inl, inr, slice_get, refl, sym, ap, ◌∙◌, subst, arith, append_assoc, eqb-true, eq-eqb, list_any, false≢true, both_ways, and_parts, and_from, or_cases, or_parts, not-true, cond-true, cond-false, IsIn, below, text_of_lines, Sys, Pair, IsSys, is_final, arena, outcomes, same_numbers, Entry, is_beaten, Great, explain_text, by_test, empty_is, filter_in, in_filter, filter_sublist, in_below, listed_in, in_listed, from_allowed, from_outcome, outcome_in, same_numbers_is, same_numbers_itself, names_in, Situation, present_system, IsSituation, shown, IsReady, Refutes}
+use Rattle.roman_hearing.proofs.Common.{◌≡◌, ℕ, zero, suc, ◌+◌, ◌<◌, Bool, not, List, [], ◌∷◌, ◌++◌, length, codes, Option, None, Some, IsTrue, IsFalse, inl, inr, slice_get, refl, sym, ap, ◌∙◌, subst, arith, append_assoc, list_any, false≢true, both_ways, or_cases, or_parts, not-true, cond-true, cond-false, IsIn, below, text_of_lines, Sys, Pair, IsSys, is_final, arena, outcomes, Entry, is_beaten, Great, explain_text, by_test, empty_is, filter_in, in_filter, filter_sublist, in_below, listed_in, in_listed, from_allowed, from_outcome, outcome_in, names_in, Situation, present_system, IsSituation, shown, IsReady, Refutes, not-false, system_is_same}
 use Rattle.std.proofs.Common.{◌||◌, filter, find}
 use Rattle.roman_model.specs.Lists.{is_empty}
 use Rattle.std.specs.Option.{option_to_list}
@@ -10,25 +10,9 @@ use Rattle.roman_model.specs.Arena.{is_listed, is_justified, IsOrder}
 use Rattle.roman_model.specs.Explanation.{Names, entries_before, answer, ready_seats, answers, rests_on, explanation, lost_line, answer_lines, entry_lines}
 use Rattle.roman_model.specs.declared.reason.Reason.{Reason}
 use Rattle.roman_model.specs.declared.reason.Reason.TheVariants.{Final, Act}
-use Rattle.roman_model.proofs.CallerLemmas.{IsSame, find_some, find_found, in_append_right, in_append_left, from_push, in_flat_map, flat_map_same, justified_is, order_middle, before_is, explanation_is_order, explanation_is_least}
+use Rattle.roman_model.proofs.CallerLemmas.{find_some, find_found, in_append_right, in_append_left, from_push, in_flat_map, flat_map_same, justified_is, order_middle, before_is, explanation_is_order, explanation_is_least}
 use Rattle.roman_hearing.specs.Refutations.{MayAnswer, IsLost, AreLost, WinsBy}
 use Rattle.roman_hearing.specs.Words.{lines_of_answers}
-
--- pairs of an arena with the same number are equal
-pub pairs_same : (s : Sys) → IsSame (arena s)
-pairs_same s = record {
-  is = λ p q h.
-      let (front, states) = and_parts (p.t == q.t && p.e == q.e) (same_numbers p.bs q.bs) h in
-      let (t, e) = and_parts (p.t == q.t) (p.e == q.e) front in
-      same_parts p q (eqb-true p.t q.t t) (eqb-true p.e q.e e) (same_numbers_is p.bs q.bs states);
-  itself = λ p. and_from (p.t == p.t && p.e == p.e) (same_numbers p.bs p.bs) (and_from (p.t == p.t) (p.e == p.e) (eq-eqb p.t p.t refl) (eq-eqb p.e p.e refl)) (same_numbers_itself p.bs);
-}
-  where
-    same_parts : (p q : Pair) → p.t ≡ q.t → p.e ≡ q.e → p.bs ≡ q.bs → p ≡ q
-    same_parts p q t e bs =
-        ap (λ (t : ℕ). record { t = t; e = p.e; bs = p.bs }) t
-        ∙ ap (λ (e : ℕ). record { t = q.t; e = e; bs = p.bs }) e
-        ∙ ap (λ (bs : List ℕ). record { t = q.t; e = q.e; bs = bs }) bs
 
 -- Losing more
 
@@ -87,10 +71,10 @@ module _ (s : Sys) (ok : IsSys s) (L : List (Entry Pair)) (p : Pair) (order : Is
       in_flat_map (λ j. option_to_list (answer (arena s) L x.node a j)) k q (ready_seats (arena s))
       (in_filter (arena s).ready k (below (arena s).seats) (in_below (arena s).seats k l) ready) (subst (λ (o : Option Pair). IsIn q (option_to_list o)) (sym is) (inl refl)) in
       let closed = (explanation_is_least s L p listed).closed in
-      let shown_too = closed.answered x there_in (in_listed (arena s) (pairs_same s) (explanation (arena s) L p) x (in_filter is_shown x L there_in told)) q
+      let shown_too = closed.answered x there_in (in_listed (arena s) (system_is_same s) (explanation (arena s) L p) x (in_filter is_shown x L there_in told)) q
       (subst (λ (r : Reason). IsIn q (answers (arena s) L x.node r)) (sym act) answered) in
-      let (z, i, same) = listed_in (arena s) (pairs_same s) (explanation (arena s) L p) q shown_too in
-      let (y, j, here) = listed_in (arena s) (pairs_same s) done q there in
+      let (z, i, same) = listed_in (arena s) (system_is_same s) (explanation (arena s) L p) q shown_too in
+      let (y, j, here) = listed_in (arena s) (system_is_same s) done q there in
       (y, j, subst (λ (q : Pair). IsTrue (rests_on (arena s) L (length L) p q)) (sym same ∙ here) (filter_in is_shown z L i).1, here)
 
   -- the answers of an explained entry are those that its text gives
@@ -113,14 +97,10 @@ module _ (s : Sys) (ok : IsSys s) (L : List (Entry Pair)) (p : Pair) (order : Is
       IsLost s (λ q. IsIn q before) (answer_by r x.node) x.node r
   lost_by done x rest before Final whole new told act holds justified =
       let (target, system) = or_parts (not (is_final s.target x.node.t)) (all_final s.seats x.node.bs) (not-true (not (is_final s.target x.node.t) || all_final s.seats x.node.bs) justified) in
-      (not_false (is_final s.target x.node.t) target, system)
-    where
-      not_false : (b : Bool) → IsFalse (not b) → IsTrue b
-      not_false true h = refl
-      not_false false h = absurd (false≢true (sym h))
+      (not-false (is_final s.target x.node.t) target, system)
   lost_by done x rest before (Act a) whole new told act holds justified =
       let (allowed, each) = justified_is (arena s) (is_listed (arena s) done) x.node a justified in
-      let before_is : entries_before (arena s) L x.node ≡ done = ap (λ (M : List (Entry Pair)). entries_before (arena s) M x.node) whole ∙ before_is (arena s) done x rest ((pairs_same s).itself x.node) new in (
+      let before_is : entries_before (arena s) L x.node ≡ done = ap (λ (M : List (Entry Pair)). entries_before (arena s) M x.node) whole ∙ before_is (arena s) done x rest ((system_is_same s).itself x.node) new in (
         from_allowed s x.node a allowed,
         λ k l.
             answers_lose done x rest before a k whole told act l holds (each k l) (answer (arena s) L x.node a k) refl
@@ -134,8 +114,8 @@ module _ (s : Sys) (ok : IsSys s) (L : List (Entry Pair)) (p : Pair) (order : Is
       let (new, justified) = order_middle (arena s) done rest x (subst (IsOrder (arena s)) whole order) in
       let more : L ≡ (done ++ x ∷ []) ++ rest = whole ∙ sym (append_assoc done (x ∷ []) rest) in
       let further : (q : Pair) → IsTrue (is_listed (arena s) done q) → IsTrue (is_listed (arena s) (done ++ x ∷ []) q) =
-      λ q there. let (y, i, same) = listed_in (arena s) (pairs_same s) done q there in
-      subst (λ (q : Pair). IsTrue (is_listed (arena s) (done ++ x ∷ []) q)) (sym same) (in_listed (arena s) (pairs_same s) (done ++ x ∷ []) y (in_append_left y done (x ∷ []) i)) in
+      λ q there. let (y, i, same) = listed_in (arena s) (system_is_same s) done q there in
+      subst (λ (q : Pair). IsTrue (is_listed (arena s) (done ++ x ∷ []) q)) (sym same) (in_listed (arena s) (system_is_same s) (done ++ x ∷ []) y (in_append_left y done (x ∷ []) i)) in
       by_test (is_shown x)
       (λ told. subst (AreLost s answer_to before) (sym (cond-true (is_shown x) (x ∷ filter is_shown rest) (filter is_shown rest) told)) (
         λ i. both_ways (is_listed (arena s) done x.node) new (only x.node i),
@@ -144,7 +124,7 @@ module _ (s : Sys) (ok : IsSys s) (L : List (Entry Pair)) (p : Pair) (order : Is
             (λ y i told. elim (from_push y x done i) [ inl j ↦ inr (holds y j told) | inr e ↦ inl (ap (λ (y : Entry Pair). y.node) e) ])
             (λ q i. elim i [
               | inl e ↦ subst (λ (q : Pair). IsTrue (is_listed (arena s) (done ++ x ∷ []) q)) (sym e)
-                  (in_listed (arena s) (pairs_same s) (done ++ x ∷ []) x (in_append_right x done (x ∷ []) (inl refl)))
+                  (in_listed (arena s) (system_is_same s) (done ++ x ∷ []) x (in_append_right x done (x ∷ []) (inl refl)))
               | inr j ↦ further q (only q j)
             ]),
       ))

@@ -1,5 +1,5 @@
 -- Each step of a session is a turn.
-use Rattle.roman_hearing.proofs.Common.{◌≡◌, ℕ, ◌+◌, ◌<◌, ◌≤◌, Bool, true, false, not, List, [], map, length, get_or, Option, None, Some, ok_or, is_none, is_ok, Result, Ok, Err, IsTrue, IsFalse, inl, inr, slice_get, nat_lt, nat_le, refl, sym, ap, ◌∙◌, subst, arith, ltb-true, leb-true, bytes_eq, false≢true, both_ways, not-true, length-map, position-Some, get_or_from_slice_get, IsIn, Sys, is_allowed, Great, name_at, seat_names, is_related, offers, MAX_SERVICES, allowed_in, from_allowed, related_great, great_related, number_listed, is_name, place_of, reply_text, LineShape, nothing, ask, hand, saw, abort, freeze, thaw, die, join, jump, jump_env, report, explain, quit, shape_of, LineError, Reply, seat_of, system_of, seat_name, beh_name, states_of_behaviour, names_in, joined_system, Situation, present_system, is_idle, IsPhase, named, seat_at, asked, handed, seen, aborted, jumped, env_jumped, frozen, thawed, died, joining, join_of, unexplained, Asks, Hands, Sees, Aborts, Jumps, EnvJumps, Changing, Changes, Freezes, Thaws, Dies, Joins, freezing, thawing, dying, growing, Explains, Does, StepBy, Step, parts_after, Handing, Joining, Phase, Idle, Offered, Delegated, name_is_new, seat_is, cells_with, State, IsGreat, MayAsk, shown, IsKnownSituation, Counts, IsReady, Refutes}
+use Rattle.roman_hearing.proofs.Common.{◌≡◌, ℕ, ◌+◌, ◌<◌, ◌≤◌, Bool, true, false, not, List, [], map, length, get_or, Option, None, Some, ok_or, is_none, is_ok, Result, Ok, Err, IsTrue, IsFalse, inl, inr, slice_get, nat_lt, nat_le, refl, sym, ap, ◌∙◌, subst, arith, ltb-true, leb-true, bytes_eq, false≢true, both_ways, not-true, length-map, position-Some, get_or_from_slice_get, IsIn, Sys, is_allowed, Great, name_at, seat_names, is_related, offers, MAX_SERVICES, allowed_in, from_allowed, related_great, great_related, number_listed, is_name, place_of, reply_text, LineShape, nothing, ask, hand, saw, abort, freeze, thaw, die, join, jump, jump_env, report, explain, quit, shape_of, LineError, Reply, seat_of, system_of, seat_name, beh_name, states_of_behaviour, names_in, joined_system, Situation, present_system, is_idle, IsPhase, named, seat_at, asked, handed, seen, aborted, jumped, env_jumped, frozen, thawed, died, joining, join_of, unexplained, Asks, Hands, Sees, Aborts, Jumps, EnvJumps, Changing, Changes, Freezes, Thaws, Dies, Joins, freezing, thawing, dying, growing, Explains, Does, StepBy, Step, parts_after, Handing, Joining, Phase, Idle, Offered, Delegated, name_is_new, seat_is, cells_with, State, IsGreat, MayAsk, shown, IsKnownSituation, Counts, IsReady, Refutes, not-false}
 use Rattle.roman_model.specs.System.{Seat}
 use Rattle.roman_session.specs.Steps.{offer_text}
 use Rattle.std.proofs.lemmas.Bool.{lt-ltb, le-leb}
@@ -69,10 +69,6 @@ join_in_turn s service behaviour state loose = grind (arith, behaviour_in_turn)
 -- a service isn't ready exactly when it is frozen
 ready_tells : (s : Situation) (k : ℕ) → k < length s.parts.seats → IsReady (shown s) k → IsFalse (seat_at s k).frozen
 ready_tells s k l (seat, there, ready) = subst (λ (seat : Seat). IsFalse seat.frozen) (same_Some seat (seat_at s k) (sym there ∙ seat_is s k l)) ready
-
-not_false : (b : Bool) → IsFalse (not b) → IsTrue b
-not_false true h = refl
-not_false false h = absurd (false≢true (sym h))
 
 -- Conditions and events
 
@@ -190,7 +186,7 @@ module _ (old new : Situation) (text : List ℕ) (Refused : Reply → Type 0) (L
   aborts does =
       unless_alone Aborts (not (is_idle old.phase)) reply.ErrorIdle (old.phase ≡ Idle) _ does
       (λ busy idle. both_ways (is_idle old.phase) (not-true (is_idle old.phase) busy) (ap is_idle idle))
-      (λ idle. idle_is old.phase (not_false (is_idle old.phase) idle))
+      (λ idle. idle_is old.phase (not-false (is_idle old.phase) idle))
       (λ busy does. leads (record seen_state { phase = Idle }) (Replies reply.Aborted) (ap shown does.1) does.0)
 
   -- a change of the services, after which the reply counts the pairs that aren't related
@@ -276,7 +272,7 @@ module _ (old new : Situation) (text : List ℕ) (Refused : Reply → Type 0) (L
       let related = is_related (present_system old) old.here in
       unless_alone Explains (not related) reply.ErrorRelated (IsGreat seen_state) _ does
       (λ lost great. both_ways related (not-true related lost) (great_related (present_system old) old.here sys great))
-      (λ great. related_great (present_system old) old.here sys known.situation.here (not_false related great))
+      (λ great. related_great (present_system old) old.here sys known.situation.here (not-false related great))
       (λ lost does. leads seen_state (Refutes seen_state) (ap shown does.1)
       (refutes old text known.situation (λ great. both_ways related (not-true related lost) (great_related (present_system old) old.here sys great)) does.0))
 

@@ -1,5 +1,5 @@
 -- Offers, counts and reports are right by the greatest ND-simulation.
-use Rattle.roman_hearing.proofs.Common.{◌≡◌, ℕ, ◌+◌, Bool, List, [], ◌∷◌, ◌++◌, map, length, cond, true, false, IsTrue, ◌↔◌, refl, sym, ◌∙◌, subst, length-append, arith, both_ways, length-map, IsIn, below, Sys, Pair, IsSys, IsPair, is_final, arena, is_allowed, Entry, IsComplete, Great, name_at, is_related, offers, filter_sublist, filter_in, in_filter, in_below, allowed_in, from_allowed, related_great, great_related, in_listed, listed_in, from_map, system_of, seat_name, Situation, present_system, IsPhase, IsSituation, lines_text, report_text, Phase, Idle, Offered, Delegated, shown, State, IsGreat, MayAsk, afresh, Counts}
+use Rattle.roman_hearing.proofs.Common.{◌≡◌, ℕ, ◌+◌, Bool, List, [], ◌∷◌, ◌++◌, map, length, cond, true, false, IsTrue, ◌↔◌, refl, sym, ◌∙◌, subst, length-append, arith, both_ways, length-map, IsIn, below, Sys, Pair, IsSys, IsPair, is_final, arena, is_allowed, Entry, IsComplete, Great, name_at, is_related, offers, filter_sublist, filter_in, in_filter, in_below, allowed_in, from_allowed, related_great, great_related, in_listed, listed_in, from_map, system_of, seat_name, Situation, present_system, IsPhase, IsSituation, lines_text, report_text, Phase, Idle, Offered, Delegated, shown, State, IsGreat, MayAsk, afresh, Counts, system_is_same}
 use Rattle.std.specs.List.{flat_map, filter}
 use Rattle.roman_model.specs.Lists.{IsSublist}
 use Rattle.roman_model.specs.Numbers.{sizes_of, count}
@@ -10,7 +10,6 @@ use Rattle.roman_session.specs.Reports.{service_lines}
 use Rattle.roman_hearing.specs.Laws.{OpenIsGreat}
 use Rattle.roman_hearing.specs.States.{start_state, IsOpenGreat}
 use Rattle.roman_hearing.specs.Words.{AreServing, ReportsGreat}
-use Rattle.roman_hearing.proofs.RefutationLemmas.{pairs_same}
 use Rattle.roman_hearing.proofs.ReportLemmas.{reports_afresh, afresh_known}
 
 -- the services that serve
@@ -50,14 +49,14 @@ lost_counted s kept added complete =
     let L = kept ++ added in
     record {
       pairs = map (λ x. x.node) L;
-      once = new_once (arena s) (pairs_same s) [] L (order_new (arena s) L complete.order);
+      once = new_once (arena s) (system_is_same s) [] L (order_new (arena s) L complete.order);
       each = λ p. (
         λ i.
             let (x, j, same) = from_map (λ (x : Entry Pair). x.node) p L i in
             let pair = complete.pairs x j in
-            subst (λ (p : Pair). IsPair s p × (Great s p → ⊥)) (sym same) (pair, (complete.exact x.node pair).0 (in_listed (arena s) (pairs_same s) L x j)),
+            subst (λ (p : Pair). IsPair s p × (Great s p → ⊥)) (sym same) (pair, (complete.exact x.node pair).0 (in_listed (arena s) (system_is_same s) L x j)),
         λ (pair, lost).
-            let (x, j, same) = listed_in (arena s) (pairs_same s) L p ((complete.exact p pair).1 lost) in
+            let (x, j, same) = listed_in (arena s) (system_is_same s) L p ((complete.exact p pair).1 lost) in
             subst (λ (p : Pair). IsIn p (map (λ (x : Entry Pair). x.node) L)) (sym same) (in_map (λ (x : Entry Pair). x.node) x L j),
       );
       count = length-map L (λ (x : Entry Pair). x.node) ∙ length-append kept added;

@@ -13,8 +13,9 @@ use Rattle.roman_session.specs.Reports.{report_text}
 use Rattle.roman_start.specs.Starts.{parts_of, start_pair_of}
 use Rattle.roman_hearing.specs.Afresh.{afresh}
 use Rattle.roman_hearing.specs.Known.{shown, IsKnownSituation}
-use Rattle.roman_hearing.specs.States.{IsOpenGreat}
+use Rattle.roman_hearing.specs.States.{State, IsOpenGreat}
 use Rattle.roman_hearing.specs.Turns.{TurnsInto}
+use Rattle.roman_hearing.specs.Words.{ReportsGreat}
 
 -- some seat is offered for a request that isn't refused
 abbrev pub RequestsAreOffered : Type 0
@@ -34,6 +35,10 @@ NotOfferedFails = (s : Sys) (p : Pair) (a k : ℕ) → k < length s.seats → Is
 abbrev pub ReportsAreAfresh : Type 0
 ReportsAreAfresh =
     (s : Situation) → IsSituation s → report_text s.parts s.here ≡ report_text (parts_of (afresh (shown s))) (start_pair_of (afresh (shown s)))
+
+-- two texts that report the same state are equal
+abbrev pub ReportsAreFixed : Type 0
+ReportsAreFixed = (s : State) (one other : List ℕ) → ReportsGreat s one → ReportsGreat s other → one ≡ other
 
 -- each step from a well-formed situation is a turn: its states are those to which the event leads, and its text answers the event
 abbrev pub StepsAreTurns : Type 0

@@ -1,11 +1,12 @@
 -- What a session's answers say, in terms of the greatest ND-simulation, steps and names.
 use Rattle.std.specs.Prelude.{◌≡◌, ℕ, ◌+◌, ◌<◌, Bool, List, [], ◌∷◌, ◌++◌, map, length, codes, Option, Some, IsTrue, IsFalse, ◌↔◌, slice_get}
 use Rattle.std.specs.List.{flat_map}
-use Rattle.roman_model.specs.Lists.{IsIn, IsSublist, HasNoRepeats, below}
+use Rattle.roman_model.specs.Lists.{IsIn, IsSublist, below}
 use Rattle.roman_model.specs.Lines.{text_of_lines}
-use Rattle.roman_model.specs.System.{Seat, Sys, Pair, IsPair, is_final}
+use Rattle.roman_model.specs.System.{Seat, Pair, is_final}
 use Rattle.roman_model.specs.Arena.{Entry}
 use Rattle.roman_model.specs.Composition.{Great}
+use Rattle.roman_model.specs.Counting.{Counts}
 use Rattle.roman_model.specs.Explanation.{Names, name_at, lost_line, answer_line}
 use Rattle.roman_model.specs.Numbers.{sizes_of, count}
 use Rattle.roman_model.specs.declared.reason.Reason.{Reason}
@@ -23,13 +24,6 @@ use Rattle.roman_hearing.specs.Refutations.{AreLost, WinsBy}
 -- the text is that reply
 abbrev pub Replies : Reply → List ℕ → Type 0
 Replies said text = text ≡ reply_text said
-
--- n is the number of pairs of the system that have the property
-pub record Counts (s : Sys) (IsAsSaid : Pair → Type 0) (n : ℕ) : Type 0 where
-  pub pairs : List Pair
-  pub once : HasNoRepeats pairs
-  pub each : (p : Pair) → IsIn p pairs ↔ (IsPair s p × IsAsSaid p)
-  pub count : length pairs ≡ n
 
 -- ---- offers
 

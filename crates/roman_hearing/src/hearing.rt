@@ -117,7 +117,7 @@ fn hear_piece<O: Sink, L: Ledger>(
     let Ok(next) = hear_bytes(session, splitter, &piece[..due], page, out, steps) else {
         return Err(HearError::WriteFault);
     };
-    session.known();
+    session.known(); // the situation is well formed
     if let Err(_failed) = page.flush(out) {
         return Err(HearError::WriteFault);
     }
@@ -216,6 +216,6 @@ fn hear_line<O: Sink, L: Ledger>(
 {
     keep_shapes();
     let answered = session.answer_on(line, page, out, steps);
-    session.known();
+    session.known(); // the situation is well formed
     answered
 }

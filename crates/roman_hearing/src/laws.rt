@@ -1,7 +1,7 @@
 //! Laws over the definitions of sessions. Each is the contract of a function with an empty body.
 ghost use Rattle.roman_hearing.specs.Events.{LinesAreRead};
 ghost use Rattle.roman_hearing.specs.Known.{StepsStayKnown};
-ghost use Rattle.roman_hearing.specs.Laws.{RequestsAreOffered, OutcomesAreRelated, NotOfferedFails, ReportsAreAfresh, StepsAreTurns, OpenIsGreat};
+ghost use Rattle.roman_hearing.specs.Laws.{RequestsAreOffered, OutcomesAreRelated, NotOfferedFails, ReportsAreAfresh, ReportsAreFixed, StepsAreTurns, OpenIsGreat};
 ghost use Rattle.roman_hearing.specs.Several.{SeveralAreServed};
 
 use roman_text::spell_events;
@@ -27,6 +27,13 @@ pub fn services_not_offered_fail()
 #[tactic(auto, using(crate::proofs::ReportLemmas::reports_afresh))]
 pub fn reports_are_afresh()
     ensures afresh { ReportsAreAfresh }
+{}
+
+/// What a report says fixes its bytes: two texts that report the same state are equal. So a session's
+/// report equals that of `synth` for a document whose library has the present services and begins in
+/// the present states.
+pub fn reports_are_fixed()
+    ensures fixed { ReportsAreFixed }
 {}
 
 /// Each step from a well-formed situation leads to a well-formed situation.

@@ -14,6 +14,7 @@ mod laws;
 
 pub use hearing::{HearError, hear};
 pub use laws::{
-    lines_are_read, open_is_great, outcomes_are_related, reports_are_afresh, requests_are_offered,
-    services_not_offered_fail, several_are_served, steps_are_turns, steps_stay_known,
+    lines_are_read, open_is_great, outcomes_are_related, reports_are_afresh, reports_are_fixed,
+    requests_are_offered, services_not_offered_fail, several_are_served, steps_are_turns,
+    steps_stay_known,
 };

@@ -1,5 +1,7 @@
 -- Allowed actions and clause 2 at the pairs of a row.
-use Rattle.roman_joint.proofs.Common.{◌≡◌, ℕ, ◌+◌, ◌*◌, ◌<◌, ◌≤◌, Bool, true, false, not, ◌&&◌, ◌||◌, length, refl, sym, ap, ap₂, ◌∙◌, arith, zero, suc, eqb, List, [], ◌∷◌, inl, inr, slice_get, slice_index, both_ways, cases_eq, is_empty, all_below, by_test, AreBelow-length, IsPairOf-at, all_below_at, all_below_from, Sys, Seat, is_final, all_final, is_allowed, env_next, beh_next, is_beaten, is_justified, Act, sizes_of, pair_at, numbered, IsNumbered, lanes_in, IsRow, IsTargetMove, may_rest, Row, TargetMove, and-true, and_assoc, nat_tests, length-map}
+use Rattle.roman_joint.proofs.Common.{◌≡◌, ℕ, ◌+◌, ◌*◌, ◌<◌, ◌≤◌, Bool, true, false, not, ◌&&◌, ◌||◌, length, refl, sym, ap, ap₂, ◌∙◌, arith, zero, suc, List, [], ◌∷◌, inl, inr, slice_get, slice_index, both_ways, cases_lt, same_test, by_test, AreBelow-length, IsPairOf-at, all_below_at, all_below_from, is_empty, all_below, Sys, Seat, is_final, env_next, beh_next, is_beaten, is_justified, Act, sizes_of, pair_at, numbered, IsNumbered, lanes_in, IsRow, IsTargetMove, may_rest, Row, TargetMove, and-true, and_assoc, length-map}
+use Rattle.roman_model.specs.SystemArena.{is_allowed}
+use Rattle.roman_model.specs.System.{all_final}
 use Rattle.roman_joint.proofs.ArenaFacts.{beaten_where}
 use Rattle.roman_joint.specs.Rows.{is_open}
 
@@ -37,13 +39,7 @@ cut_off p k n true l e = by_test (all_below p n) (λ t. absurd (both_ways (all_b
 
 -- further numbers that all pass change nothing
 pub all_further : (p : ℕ → Bool) (k n : ℕ) → k ≤ n → ((j : ℕ) → k ≤ j → j < n → p j ≡ true) → all_below p k ≡ all_below p n
-all_further p k zero l on = let none : k ≡ zero = omega arith in ap (all_below p) none
-all_further p k (suc n) l on = elim (cases_eq k (suc n)) [
-  | inl e ↦ ap (all_below p) e
-  | inr ne ↦
-      let less : k ≤ n = omega (arith, ne, l) in
-      all_further p k n less (λ j past m. on j past (omega arith)) ∙ (sym (and-true (all_below p n)) ∙ ap (λ b. all_below p n && b) (sym (on n less (omega arith))))
-]
+all_further p k n l on = same_test _ _ (λ t. all_below_from p n (λ j m. elim (cases_lt j k) [ inl low ↦ all_below_at p k j t low | inr past ↦ on j past m ])) (λ t. all_below_from p k (λ j m. all_below_at p n j t (omega arith)))
 
 -- the test of all numbers below a bound, with the first one split off
 all_first : (p : ℕ → Bool) (n : ℕ) → all_below p (suc n) ≡ (p 0 && all_below (λ k. p (suc k)) n)
@@ -65,7 +61,3 @@ fine_there s row x lane ok l =
     let p = x * lanes_in s + lane in
     let long : length (pair_at (sizes_of s) p).bs ≡ length s.seats = AreBelow-length (sizes_of s).seats (pair_at (sizes_of s) p).bs (IsPairOf-at (sizes_of s) p (ok.below lane l)).bs ∙ length-map s.seats (λ (y : Seat). y.beh.states) in
     ap₂ (λ t b. not (is_final s.target t) || b) (ok.targets lane l) (all_rest s.seats (pair_at (sizes_of s) p).bs long)
-
--- a test behind an equality can be made at the equal number
-pub same_state : (m b : ℕ) (f : ℕ → Bool) → (eqb m b && f b) ≡ (eqb m b && f m)
-same_state m b f = grind (arith, nat_tests)

@@ -1,14 +1,13 @@
 -- Rows of a band.
-use Rattle.roman_joint.proofs.Common.{◌≡◌, ℕ, ◌+◌, ◌-◌, ◌*◌, ◌/◌, ◌%◌, ◌<◌, ◌≤◌, ◌^◌, Bool, true, false, not, ◌&&◌, List, [], length, slice_get, slice_index, IsFalse, inl, inr, refl, sym, ap, ap₂, ◌∙◌, subst, arith, list_any, set, cases_eq, cases_lt, mul-add-lt, mul-le, mod_below, get_or-set_same, get_or-set_other, IsIn, is_empty, product_of, all_below, any_same, from_seat_next, move_in_range, seat_in, part_at, Sys, IsSys, seat_next, is_beaten, sizes_of, count, pair_at, numbered, IsSizes, stride_of, low_of, row_sizes, env_rows_of, exact, lanes_few, AreSizes-index, low_of-le, lanes_positive, row_div, row_mod, row_below, env_rows_are, count_rows, length_rows, row_size, row_stride_of, IsSizes-rows, rows_are, is_on, HasLanes, AreRows, Keeps, lanes_in, low_in, lane_state_of, AreRowsOf, IsRow, IsTargetMove, mid_in, band_in, turn_at, AllAlive, Rows, Row, TargetMove, and_assoc, on_zero}
+use Rattle.roman_joint.proofs.Common.{◌≡◌, ℕ, ◌+◌, ◌-◌, ◌*◌, ◌/◌, ◌%◌, ◌<◌, ◌≤◌, ◌^◌, Bool, true, false, not, ◌&&◌, List, [], length, slice_get, slice_index, IsFalse, inl, inr, refl, sym, ap, ap₂, ◌∙◌, subst, arith, list_any, set, cases_eq, cases_lt, mul-add-lt, mul-le, mod_below, get_or-set_same, get_or-set_other, IsIn, is_empty, product_of, all_below, any_same, from_seat_next, move_in_range, seat_in, part_at, Sys, IsSys, seat_next, is_beaten, sizes_of, count, pair_at, numbered, IsSizes, stride_of, low_of, row_sizes, env_rows_of, exact, lanes_few, AreSizes-index, low_of-le, lanes_positive, row_div, row_mod, row_below, env_rows_are, count_rows, length_rows, row_size, row_stride_of, IsSizes-rows, rows_are, is_on, HasLanes, AreRows, Keeps, lanes_in, low_in, lane_state_of, AreRowsOf, IsRow, IsTargetMove, AreAlive, mid_in, band_in, turn_at, AllAlive, AreRowsBefore, Rows, Row, TargetMove, and_assoc, on_zero, SuitsRows, Outcomes}
 use Rattle.std.proofs.Common.{ltb-false}
 use Rattle.std.proofs.lemmas.List.{get_or_past}
 use Rattle.roman_joint.proofs.Rows.{size_of_seat}
 use Rattle.roman_joint.proofs.AllowedLemmas.{cut_off, and_nothing}
 use Rattle.roman_joint.proofs.WordLemmas.{not_not, all_pass}
 use Rattle.roman_joint.proofs.SplitLemmas.{factor, positive_of, quotient, stride_rows, row_number, row_made}
-use Rattle.roman_joint.proofs.LeadLemmas.{lanes_parts, stride_positive, lane_state, lane_part, leads_before, leads_served, any_turned}
-use Rattle.roman_joint.specs.Rows.{AreAlive}
-use Rattle.roman_joint.proofs.GoodLemmas.{Known, RowsThere, rows_there, rows_before, full_on, alive_there, serves_before, beaten_before}
+use Rattle.roman_joint.proofs.LeadLemmas.{lanes_parts, stride_positive, lane_state, lane_part, leads_before, leads_alive}
+use Rattle.roman_joint.proofs.GoodLemmas.{Known, rows_there, full_on, alive_there, beaten_before, rows_few, suits_rows, before_there, serves_before}
 
 -- the i-th row of a band, from the first
 abbrev pub row_in : Sys → ℕ → Row → Row
@@ -80,12 +79,11 @@ mid_low s k l = omega (arith, l, low_of-le (row_sizes (sizes_of s)).seats, lengt
 pub first_in : (s : Sys) → IsSizes (sizes_of s) → 0 < band_in s
 first_in s h = lanes_positive (row_sizes (sizes_of s)).seats (IsSizes-rows (sizes_of s) h).seats
 
--- the rows to which row i of a band goes
-pub record BandBefore (s : Sys) (r : Rows) (turn : TargetMove) (k part i long : ℕ) (states : List ℕ) : Type 0 where
-  pub taken : part * slice_index r.strides k ≤ turn.base
+-- the rows to which a turn leads from the rows of a band
+pub record BandThere (s : Sys) (r : Rows) (turn : TargetMove) (long : ℕ) : Type 0 where
   pub few : long < 2 ^ 32
-  pub inside : turn.base < long
-  pub there : (e b : ℕ) → IsIn e turn.envs.now → IsIn b states → turn.base - part * slice_index r.strides k + i + e * r.env_rows + b * slice_index r.strides k < long
+  pub some : 0 < band_in s
+  pub there : (e : ℕ) → IsIn e turn.envs.now → turn.base + e * r.env_rows + band_in s ≤ long
 
 module _ (s : Sys) (r : Rows) (y a : ℕ) (first : Row) (turn : TargetMove) (h : Known s (y * band_in s) first) (laid : AreRowsOf (sizes_of s) r) (ok : IsTargetMove s first a turn) where
   here : (i : ℕ) → i < band_in s → InBand s y i first
@@ -97,47 +95,56 @@ module _ (s : Sys) (r : Rows) (y a : ℕ) (first : Row) (turn : TargetMove) (h :
   pub turned : (i : ℕ) → i < band_in s → IsTargetMove s (row_in s (y * band_in s + i) first) a (turn_at turn i)
   turned i l = record { to = ok.to; target = ok.target; base = omega (arith, ok.base, (here i l).part); worlds = ok.worlds; some = ok.some }
 
-  pub there_at : (i long : ℕ) → i < band_in s → long * lanes_in s ≡ count (sizes_of s) → RowsThere r (turn_at turn i) long
-  there_at i long l room = rows_there s r (y * band_in s + i) a long (row_in s (y * band_in s + i) first) (turn_at turn i) (known_at i l) laid (turned i l) room
+  pub band_there : (long : ℕ) → long * lanes_in s ≡ count (sizes_of s) → BandThere s r turn long
+  band_there long room =
+      let some : 0 < band_in s = first_in s h.sizes in
+      let last = band_in s - 1 in
+      let l : last < band_in s = omega (arith, some) in
+      let there = rows_there s r (y * band_in s + last) a long (row_in s (y * band_in s + last) first) (turn_at turn last) (known_at last l) laid (turned last l) room in
+      record { few = there.few; some = some; there = λ e i. omega (arith, some, there.there e i) }
 
   pub alive_at : (i alive : ℕ) (words : List ℕ) (gone : ℕ → Bool) → i < band_in s → length words * lanes_in s ≡ count (sizes_of s) → AreRows (lanes_in s) (λ q. not (gone q)) words →
       ((lane : ℕ) → is_on alive lane ≡ (is_on r.full lane && not (list_any (λ e. not (is_on (slice_index words (turn.base + i + e * r.env_rows)) lane)) turn.envs.now))) → AreAlive s gone (turn_at turn i) alive
   alive_at i alive words gone l room rows told = alive_there s r (y * band_in s + i) a alive (row_in s (y * band_in s + i) first) (turn_at turn i) words gone (known_at i l) laid (turned i l) room rows told
 
-  pub before_at : (i k part long : ℕ) (states : List ℕ) → i < band_in s → k < mid_in s → long * lanes_in s ≡ count (sizes_of s) →
-      states ≡ seat_next (slice_get s.seats k) (slice_index first.states k) first.env a → part ≡ slice_index first.states k → BandBefore s r turn k part i long states
-  before_at i k part long states l before room is_states is_part =
-      let u = slice_index r.strides k in
-      let start = rows_before s r (y * band_in s) a k part long first turn states h laid ok (mid_low s k before) room is_states is_part in
+  -- the rows to which a seat before the band's own leads from row i
+  pub band_before : (i k : ℕ) (to : Outcomes) → i < band_in s → k < mid_in s → AreRowsBefore s first turn a k to → AreRowsBefore s (row_in s (y * band_in s + i) first) (turn_at turn i) a k (record to { base = to.base + i })
+  band_before i k to l before of =
       let same = (here i l).before k before in
-      let all = rows_before s r (y * band_in s + i) a k part long (row_in s (y * band_in s + i) first) (turn_at turn i) states (known_at i l) laid (turned i l) (mid_low s k before) room
-      (is_states ∙ ap (λ b. seat_next (slice_get s.seats k) b first.env a) (sym same)) (is_part ∙ sym same) in
       record {
-        taken = start.taken;
-        few = start.turn_rows.few;
-        inside = start.turn_rows.inside;
-        there = λ e b m j. omega (arith, start.taken, all.there e b m j);
+        base = rw same (omega (arith, of.base));
+        stride = of.stride;
+        env_stride = of.env_stride;
+        worlds = of.worlds;
+        states = of.states ∙ ap (λ b. seat_next (slice_get s.seats k) b first.env a) (sym same);
+        some = of.some;
       }
 
-  pub serves_band : (i k part base word : ℕ) (states words : List ℕ) (gone : ℕ → Bool) → i < band_in s → k < mid_in s → length words * lanes_in s ≡ count (sizes_of s) →
-      states ≡ seat_next (slice_get s.seats k) (slice_index first.states k) first.env a → part ≡ slice_index first.states k → IsFalse (is_empty states) → AreRows (lanes_in s) (λ q. not (gone q)) words →
-      base ≡ turn.base - part * slice_index r.strides k + i →
-      ((lane : ℕ) → is_on word lane ≡ (is_on r.full lane && not (list_any (λ e. list_any (λ b. not (is_on (slice_index words (base + e * r.env_rows + b * slice_index r.strides k)) lane)) states) turn.envs.now))) →
-      HasLanes (lanes_in s) (y * band_in s + i) (λ p. not (is_beaten (numbered s) gone p a k)) word
-  serves_band i k part base word states words gone l before room is_states is_part some rows is_base told =
-      let u = slice_index r.strides k in
-      let start = rows_before s r (y * band_in s) a k part (length words) first turn states h laid ok (mid_low s k before) room is_states is_part in
-      let same = (here i l).before k before in
-      let begins : base ≡ turn.base + i - part * u = omega (arith, is_base, start.taken) in
-      serves_before s r (y * band_in s + i) a k part word (row_in s (y * band_in s + i) first) (turn_at turn i) states words gone (known_at i l) laid (turned i l) (mid_low s k before) room
-      (is_states ∙ ap (λ b. seat_next (slice_get s.seats k) b first.env a) (sym same)) (is_part ∙ sym same) some rows
-      (λ lane. told lane ∙ ap (λ m. is_on r.full lane && not (list_any (λ e. list_any (λ b. not (is_on (slice_index words (m + e * r.env_rows + b * u)) lane)) states) turn.envs.now)) begins)
+  pub suits_band : (k long : ℕ) (to : Outcomes) → k < mid_in s → long * lanes_in s ≡ count (sizes_of s) → AreRowsBefore s first turn a k to → SuitsRows to (band_in s) long
+  suits_band k long to before room of =
+      let some : 0 < band_in s = first_in s h.sizes in
+      let last = band_in s - 1 in
+      let l : last < band_in s = omega (arith, some) in
+      suits_rows to (band_in s) long some (rows_few s long h.sizes room) of.some (λ e b i j.
+      omega (
+        arith,
+        some,
+        before_there s (y * band_in s + last) a k (row_in s (y * band_in s + last) first) (turn_at turn last) (record to { base = to.base + last }) (known_at last l) (turned last l) (mid_low s k before)
+            (band_before last k to l before of) long e b room i j,
+      ))
 
-  pub beaten_band : (i k : ℕ) (states : List ℕ) (gone : ℕ → Bool) → i < band_in s → k < mid_in s →
-      states ≡ seat_next (slice_get s.seats k) (slice_index first.states k) first.env a → states ≡ [] → HasLanes (lanes_in s) (y * band_in s + i) (λ p. not (is_beaten (numbered s) gone p a k)) 0
-  beaten_band i k states gone l before is_states none =
-      beaten_before s r (y * band_in s + i) a k (row_in s (y * band_in s + i) first) (turn_at turn i) states gone (known_at i l) laid (turned i l) (mid_low s k before)
-      (is_states ∙ ap (λ b. seat_next (slice_get s.seats k) b first.env a) (sym ((here i l).before k before))) none
+  pub serves_band : (i k word : ℕ) (to : Outcomes) (words : List ℕ) (gone : ℕ → Bool) → i < band_in s → k < mid_in s → length words * lanes_in s ≡ count (sizes_of s) → AreRowsBefore s first turn a k to → AreRows (lanes_in s) (λ q. not (gone q)) words →
+      ((lane : ℕ) → is_on word lane ≡ (is_on r.full lane && not (list_any (λ e. list_any (λ b. not (is_on (slice_index words (to.base + i + e * to.env_stride + b * to.stride)) lane)) to.states.now) to.envs.now))) →
+      HasLanes (lanes_in s) (y * band_in s + i) (λ p. not (is_beaten (numbered s) gone p a k)) word
+  serves_band i k word to words gone l before room of rows told =
+      serves_before s (y * band_in s + i) a k (row_in s (y * band_in s + i) first) (turn_at turn i) (record to { base = to.base + i }) (known_at i l) (turned i l) (mid_low s k before) (band_before i k to l before of)
+      r word words gone laid room rows told
+
+  pub beaten_band : (i k lane : ℕ) (gone : ℕ → Bool) → i < band_in s → k < mid_in s → seat_next (slice_get s.seats k) (slice_index first.states k) first.env a ≡ [] → lane < lanes_in s →
+      is_beaten (numbered s) gone ((y * band_in s + i) * lanes_in s + lane) a k ≡ true
+  beaten_band i k lane gone l before none m =
+      beaten_before s r (y * band_in s + i) a k lane (row_in s (y * band_in s + i) first) (turn_at turn i) gone (known_at i l) laid (turned i l) (mid_low s k before)
+      (ap (λ b. seat_next (slice_get s.seats k) b first.env a) ((here i l).before k before) ∙ none) m
 
 -- one more row is judged
 pub keeps_more : (s : Sys) (x i good word : ℕ) (test : ℕ → Bool) (old now : List ℕ) → i < length now → Keeps (lanes_in s) x i test old now →
@@ -145,30 +152,22 @@ pub keeps_more : (s : Sys) (x i good word : ℕ) (test : ℕ → Bool) (old now 
     ((lane : ℕ) → is_on word lane ≡ (is_on (slice_index now i) lane && not (is_on good lane))) → Keeps (lanes_in s) x (i + 1) test old (set now i word)
 keeps_more s x i good word test old now room before served told = grind (arith, cases_eq, get_or-set_other, get_or-set_same, not_not, set)
 
--- a seat that serves at no pair clears nothing
-pub keeps_all : (s : Sys) (x many : ℕ) (test : ℕ → Bool) (now : List ℕ) → ((i : ℕ) → i < many → HasLanes (lanes_in s) (x + i) (λ p. not (test p)) 0) → Keeps (lanes_in s) x many test now now
-keeps_all s x many test now nothing = record {
-  each = λ i lane l m.
-      let on : test ((x + i) * lanes_in s + lane) ≡ true = not_not (test ((x + i) * lanes_in s + lane)) ∙ ap not (sym ((nothing i l).each lane m) ∙ on_zero lane) in
-      sym (ap (λ b. is_on (slice_index now i) lane && b) on ∙ sym (all_pass (is_on (slice_index now i) lane)));
+-- where all pairs pass, nothing is cleared
+pub keeps_all : (s : Sys) (x many : ℕ) (test : ℕ → Bool) (now : List ℕ) → ((i lane : ℕ) → i < many → lane < lanes_in s → test ((x + i) * lanes_in s + lane) ≡ true) → Keeps (lanes_in s) x many test now now
+keeps_all s x many test now all = record {
+  each = λ i lane l m. all_pass (is_on (slice_index now i) lane) ∙ ap (λ b. is_on (slice_index now i) lane && b) (sym (all i lane l m));
   others = λ i l. refl;
   none = λ i lane off. off;
 }
 
--- a row of a band, for one of the band's own seats
-pub record OwnRow (s : Sys) (r : Rows) (k i part : ℕ) : Type 0 where
-  pub is : part ≡ lane_state_of (row_sizes (sizes_of s)) k i
-  pub taken : part * slice_index r.strides k ≤ i
-  pub state : part < slice_index (sizes_of s).seats k
-  pub there : (b : ℕ) → b < slice_index (sizes_of s).seats k → i - part * slice_index r.strides k + b * slice_index r.strides k < band_in s
-
--- facts about one of a band's own seats
+-- facts about a seat before the lanes, counted in rows
 pub record OwnSeat (s : Sys) (r : Rows) (k : ℕ) : Type 0 where
   pub stride : slice_index r.strides k ≡ stride_of (row_sizes (sizes_of s)) k
   pub size : slice_index r.sizes k ≡ slice_index (row_sizes (sizes_of s)).seats k
   pub same : slice_index (row_sizes (sizes_of s)).seats k ≡ slice_index (sizes_of s).seats k
   pub stride_some : 0 < slice_index r.strides k
   pub size_some : 0 < slice_index r.sizes k
+  pub byte : slice_index r.sizes k ≤ 2 ^ 8
 
 pub own_seat : (s : Sys) (r : Rows) (k : ℕ) → IsSizes (sizes_of s) → AreRowsOf (sizes_of s) r → k < low_in s → OwnSeat s r k
 own_seat s r k sizes laid low =
@@ -186,54 +185,44 @@ own_seat s r k sizes laid low =
       same = same;
       stride_some = subst (λ u. 0 < u) (sym stride) (stride_positive m k msizes);
       size_some = subst (λ u. 0 < u) (sym (laid.sizes k seat)) (AreSizes-index n.seats k sizes.seats seat).0;
+      byte = omega (arith, laid.sizes k seat, (AreSizes-index n.seats k sizes.seats seat).1);
     }
 
-pub own_row : (s : Sys) (r : Rows) (k i part : ℕ) → IsSizes (sizes_of s) → AreRowsOf (sizes_of s) r → mid_in s ≤ k → k < low_in s → i < band_in s → part ≡ i / slice_index r.strides k % slice_index r.sizes k → OwnRow s r k i part
-own_row s r k i part sizes laid within low l is_part =
-    let n = sizes_of s in
-    let m = row_sizes n in
-    let msizes = IsSizes-rows n sizes in
-    let own = own_seat s r k sizes laid low in
-    let is : part ≡ lane_state_of m k i = is_part ∙ ap₂ (λ u z. i / u % z) own.stride own.size in
-    let at = lane_state m k i msizes within (omega (arith, low, length_rows n)) l in
-    let moved : part * slice_index r.strides k ≡ lane_state_of m k i * stride_of m k = ap₂ (λ u z. u * z) is own.stride in
-    let taken : part * slice_index r.strides k ≤ i = omega (arith, moved, at.taken) in
-    let below : i / slice_index r.strides k % slice_index r.sizes k < slice_index r.sizes k = mod_below (i / slice_index r.strides k) (slice_index r.sizes k) own.size_some in
-    record {
-      is = is;
-      taken = taken;
-      state = omega (arith, is_part, below, own.size, own.same);
-      there = λ b less.
-          let to = at.moves b (omega (arith, less, own.same)) in
-          let step : b * slice_index r.strides k ≡ b * stride_of m k = ap (λ u. b * u) own.stride in
-          omega (arith, to, step, moved, taken);
-    }
-
--- a band consists of blocks of all states of one of its own seats
-pub record OwnBlocks (s : Sys) (r : Rows) (k : ℕ) : Type 0 where
+-- facts about one of a band's own seats: the band consists of blocks of all its states, and it moves within the band
+pub record OwnRows (s : Sys) (r : Rows) (k : ℕ) : Type 0 where
+  pub seat : OwnSeat s r k
   pub some : 0 < slice_index r.sizes k * slice_index r.strides k
   pub few : slice_index r.sizes k * slice_index r.strides k ≤ 64
   pub whole : band_in s / (slice_index r.sizes k * slice_index r.strides k) * (slice_index r.sizes k * slice_index r.strides k) ≡ band_in s
+  pub state : (i : ℕ) → i / slice_index r.strides k % slice_index r.sizes k ≡ lane_state_of (row_sizes (sizes_of s)) k i
+  pub below : (i : ℕ) → lane_state_of (row_sizes (sizes_of s)) k i < slice_index (sizes_of s).seats k
+  pub taken : (i : ℕ) → i < band_in s → lane_state_of (row_sizes (sizes_of s)) k i * slice_index r.strides k ≤ i
+  pub moves : (i b : ℕ) → i < band_in s → b < slice_index (sizes_of s).seats k → i + b * slice_index r.strides k - lane_state_of (row_sizes (sizes_of s)) k i * slice_index r.strides k < band_in s
 
-pub own_blocks : (s : Sys) (r : Rows) (k : ℕ) → IsSizes (sizes_of s) → AreRowsOf (sizes_of s) r → mid_in s ≤ k → k < low_in s → OwnBlocks s r k
-own_blocks s r k sizes laid within low =
-    let n = sizes_of s in
-    let m = row_sizes n in
+pub own_rows : (s : Sys) (r : Rows) (k : ℕ) → IsSizes (sizes_of s) → AreRowsOf (sizes_of s) r → mid_in s ≤ k → k < low_in s → OwnRows s r k
+own_rows s r k sizes laid within low =
+    let m = row_sizes (sizes_of s) in
+    let msizes = IsSizes-rows (sizes_of s) sizes in
     let own = own_seat s r k sizes laid low in
+    let seats : k < length m.seats = omega (arith, low, length_rows (sizes_of s)) in
     let step = slice_index r.sizes k * slice_index r.strides k in
-    let (many, e) = lanes_parts m k within (omega (arith, low, length_rows n)) in
+    let (many, e) = lanes_parts m k within seats in
     let same : step ≡ slice_index m.seats k * stride_of m k = ap₂ (λ z u. z * u) own.size own.stride in
     let times : many * step ≡ many * (slice_index m.seats k * stride_of m k) = ap (λ z. many * z) same in
     let is : band_in s ≡ many * step = e ∙ (omega arith ∙ sym times) in
     let pos : 1 * 1 ≤ slice_index r.sizes k * slice_index r.strides k = mul-le 1 1 (slice_index r.sizes k) (slice_index r.strides k) own.size_some own.stride_some in
     let all : 0 < many = positive_of many step (band_in s) (sym is) (first_in s sizes) in
     let most : 1 * step ≤ many * step = mul-le 1 step many step all (omega arith) in
-    record { some = omega (arith, pos); few = omega (arith, most, is, lanes_few m.seats); whole = exact (band_in s) many step (omega (arith, pos)) is }
-
-pub state_few : (s : Sys) (k i : ℕ) → IsSizes (sizes_of s) → k < low_in s → lane_state_of (row_sizes (sizes_of s)) k i < slice_index (row_sizes (sizes_of s)).seats k
-state_few s k i sizes low =
-    let m = row_sizes (sizes_of s) in
-    mod_below (i / stride_of m k) (slice_index m.seats k) (AreSizes-index m.seats k (IsSizes-rows (sizes_of s) sizes).seats (omega (arith, low, length_rows (sizes_of s)))).0
+    record {
+      seat = own;
+      some = omega (arith, pos);
+      few = omega (arith, most, is, lanes_few m.seats);
+      whole = exact (band_in s) many step (omega (arith, pos)) is;
+      state = λ i. ap₂ (λ u z. i / u % z) own.stride own.size;
+      below = λ i. omega (arith, own.same, mod_below (i / stride_of m k) (slice_index m.seats k) (AreSizes-index m.seats k msizes.seats seats).0);
+      taken = λ i l. rw own.stride (lane_state m k i msizes within seats l).taken;
+      moves = λ i b l less. rw own.stride ((lane_state m k i msizes within seats l).moves b (omega (arith, less, own.same)));
+    }
 
 -- the states to which a seat goes are its own
 pub next_few : (s : Sys) (k b e a c : ℕ) → IsSys s → IsIn c (seat_next (slice_get s.seats k) b e a) → c < slice_index (sizes_of s).seats k
@@ -243,17 +232,17 @@ next_few s k b e a c sys i =
 
 module _ (s : Sys) (r : Rows) (y a : ℕ) (first : Row) (turn : TargetMove) (h : Known s (y * band_in s) first) (laid : AreRowsOf (sizes_of s) r) (ok : IsTargetMove s first a turn) where
   -- one of a band's own seats
-  pub beaten_own : (i k part : ℕ) (states : List ℕ) (gone : ℕ → Bool) → i < band_in s → mid_in s ≤ k → k < low_in s → OwnRow s r k i part →
-      states ≡ seat_next (slice_get s.seats k) part first.env a → states ≡ [] → HasLanes (lanes_in s) (y * band_in s + i) (λ p. not (is_beaten (numbered s) gone p a k)) 0
-  beaten_own i k part states gone l within low own is_states none =
-      beaten_before s r (y * band_in s + i) a k (row_in s (y * band_in s + i) first) (turn_at turn i) states gone (known_at s r y a first turn h laid ok i l) laid (turned s r y a first turn h laid ok i l) low
-      (is_states ∙ ap (λ b. seat_next (slice_get s.seats k) b first.env a) (own.is ∙ sym ((in_band s y i first h.sizes h.looked l).within k within low))) none
+  pub beaten_own : (i k part lane : ℕ) (gone : ℕ → Bool) → i < band_in s → mid_in s ≤ k → k < low_in s → lane_state_of (row_sizes (sizes_of s)) k i ≡ part →
+      seat_next (slice_get s.seats k) part first.env a ≡ [] → lane < lanes_in s → is_beaten (numbered s) gone ((y * band_in s + i) * lanes_in s + lane) a k ≡ true
+  beaten_own i k part lane gone l within low is none m =
+      beaten_before s r (y * band_in s + i) a k lane (row_in s (y * band_in s + i) first) (turn_at turn i) gone (known_at s r y a first turn h laid ok i l) laid (turned s r y a first turn h laid ok i l) low
+      (ap (λ b. seat_next (slice_get s.seats k) b first.env a) ((in_band s y i first h.sizes h.looked l).within k within low ∙ is) ∙ none) m
 
-  pub own_served : (i k part lane : ℕ) (states alive : List ℕ) (gone : ℕ → Bool) → i < band_in s → mid_in s ≤ k → k < low_in s → OwnRow s r k i part →
+  pub own_served : (i k part lane : ℕ) (states alive : List ℕ) (gone : ℕ → Bool) → i < band_in s → mid_in s ≤ k → k < low_in s → lane_state_of (row_sizes (sizes_of s)) k i ≡ part →
       states ≡ seat_next (slice_get s.seats k) part first.env a → IsFalse (is_empty states) → AllAlive s gone turn alive → lane < lanes_in s →
       (is_on r.full lane && not (list_any (λ b. not (is_on (slice_index alive (i - part * slice_index r.strides k + b * slice_index r.strides k)) lane)) states)) ≡ not (is_beaten (numbered s) gone ((y * band_in s + i) * lanes_in s + lane) a k)
   unfolding turned
-  own_served i k part lane states alive gone l within low own is_states some living m =
+  own_served i k part lane states alive gone l within low is_part is_states some living m =
       let n = sizes_of s in
       let w = lanes_in s in
       let u = slice_index r.strides k in
@@ -261,23 +250,19 @@ module _ (s : Sys) (r : Rows) (y a : ℕ) (first : Row) (turn : TargetMove) (h :
       let x = y * band_in s + i in
       let row = row_in s x first in
       let there = turned s r y a first turn h laid ok i l in
-      let is : part ≡ slice_index row.states k = own.is ∙ sym ((in_band s y i first h.sizes h.looked l).within k within low) in
+      let own = own_rows s r k h.sizes laid within low in
+      let is : part ≡ slice_index row.states k = sym ((in_band s y i first h.sizes h.looked l).within k within low ∙ is_part) in
+      let taken : part * u ≤ i = rw is_part at (own.taken i l) in
       let base = turn.base + i - part * u in
       let to = λ (lane e b : ℕ). (base + e * R + b * u) * w + lane in
-      let leads = λ (lane : ℕ) (m : lane < w).
-      leads_before s row x lane a k ok.to base u turn.envs.now states h.sys (known_at s r y a first turn h laid ok i l).looked m low (laid.before k low) ok.target ok.worlds
+      let leads = leads_before s row x lane a k ok.to base u turn.envs.now states h.sys (known_at s r y a first turn h laid ok i l).looked m low (laid.before k low) ok.target ok.worlds
       (is_states ∙ ap (λ b. seat_next (slice_get s.seats k) b first.env a) is) (ap₂ (λ m d. m - d * u) there.base is) in
-      let one : (lane : ℕ) → lane < w → (b : ℕ) → IsIn b states → not (is_on (slice_index alive (i - part * u + b * u)) lane) ≡ list_any (λ e. gone (to lane e b)) turn.envs.now = λ lane m b j.
-      let inside : i - part * u + b * u < band_in s = own.there b (next_few s k part first.env a b h.sys (subst (λ bs. IsIn b bs) is_states j)) in
-      let dead : is_on (slice_index alive (i - part * u + b * u)) lane ≡ not (list_any (λ e. gone ((turn.base + (i - part * u + b * u) + e * R) * w + lane)) turn.envs.now) =
-      (living.each (i - part * u + b * u) inside).each lane m in
-      ap not dead ∙ (sym (not_not (list_any (λ e. gone ((turn.base + (i - part * u + b * u) + e * R) * w + lane)) turn.envs.now))
-      ∙ any_same (λ e. gone ((turn.base + (i - part * u + b * u) + e * R) * w + lane)) (λ e. gone (to lane e b)) turn.envs.now
-      (λ e v. let place : turn.base + (i - part * u + b * u) + e * R ≡ base + e * R + b * u = omega (arith, own.taken) in ap (λ z. gone (z * w + lane)) place)) in
       ap (λ b. b && not (list_any (λ b. not (is_on (slice_index alive (i - part * u + b * u)) lane)) states)) (full_on n r lane laid m)
-      ∙ (ap not (any_same (λ b. not (is_on (slice_index alive (i - part * u + b * u)) lane)) (λ b. list_any (λ e. gone (to lane e b)) turn.envs.now) states (λ b j. one lane m b j)
-      ∙ any_turned (λ b e. gone (to lane e b)) states turn.envs.now)
-      ∙ leads_served (numbered s) gone (x * w + lane) a k turn.envs.now states (to lane) (λ e b. gone (to lane e b)) (leads lane m) ok.some some (λ e b v j. refl))
+      ∙ leads_alive (numbered s) gone (x * w + lane) a k turn.envs.now states (to lane) (λ b. not (is_on (slice_index alive (i - part * u + b * u)) lane)) leads ok.some some (λ b j.
+      let inside : i - part * u + b * u < band_in s = omega (arith, taken, rw is_part at (own.moves i b l (next_few s k part first.env a b h.sys (subst (λ bs. IsIn b bs) is_states j)))) in
+      ap not ((living.each (i - part * u + b * u) inside).each lane m) ∙ (sym (not_not (list_any (λ e. gone ((turn.base + (i - part * u + b * u) + e * R) * w + lane)) turn.envs.now))
+      ∙ any_same (λ e. gone ((turn.base + (i - part * u + b * u) + e * R) * w + lane)) (λ e. gone (to lane e b)) turn.envs.now
+      (λ e v. let place : turn.base + (i - part * u + b * u) + e * R ≡ base + e * R + b * u = omega (arith, taken) in ap (λ z. gone (z * w + lane)) place)))
 
 -- two tests, one after another, are both tests at once
 pub keeps_then : (s : Sys) (x many : ℕ) (p q : ℕ → Bool) (old now new : List ℕ) → Keeps (lanes_in s) x many p old now → Keeps (lanes_in s) x many q now new → Keeps (lanes_in s) x many (λ i. p i && q i) old new

@@ -1,14 +1,14 @@
 -- The pairs of a row at which a seat serves an action.
-use Rattle.roman_joint.proofs.Common.{◌≡◌, ◌⊎◌, ℕ, zero, suc, ◌+◌, ◌-◌, ◌*◌, ◌/◌, ◌%◌, ◌<◌, ◌≤◌, ◌^◌, Bool, true, false, not, ◌&&◌, ◌||◌, eqb, ltb, inl, inr, List, [], length, slice_get, slice_index, IsFalse, refl, sym, ap, ap₂, ◌∙◌, subst, arith, list_any, length-map, mul-add-lt, mul-le, mod_below, div_below, div-add-mod', cases_lt, ne_eqb, eqb-true, same_test, lt-ltb, le-ltb, nat_tests, IsIn, is_empty, length-below, by_test, any_same, any_true, any_from, empty_is, not_empty_in, triple_in_range, from_env_next, move_in_range, from_seat_next, seat_in, Sys, Seat, IsSys, seat_next, is_beaten, Sizes, sizes_of, count, numbered, IsSizes, stride_of, env_stride_of, low_of, lanes_of, env_rows_of, target_rows_of, product_positive, low_of-le, lanes_few, lanes_positive, row_least, row_below, env_rows_are, is_on, HasLanes, AreRows, IsNumbered, NamedSys, system_of, seat_of, IsNamedSys, lanes_in, low_in, lane_has_state, lane_state_of, AreRowsOf, IsRow, IsTargetMove, AreAlive, Rows, Row, TargetMove, on_and, on_zero}
-use Rattle.std.proofs.Math.Nat.{add-mod-mod, mod-eq_of_lt, mul-add-div_right, mul-mod_left}
-use Rattle.std.proofs.lemmas.Bool.{eq-eqb}
+use Rattle.roman_joint.proofs.Common.{◌≡◌, ◌⊎◌, ℕ, zero, suc, ◌+◌, ◌-◌, ◌*◌, ◌/◌, ◌%◌, ◌<◌, ◌≤◌, ◌^◌, Bool, true, false, not, ◌&&◌, ◌||◌, eqb, ltb, inl, inr, List, [], length, get_or, slice_get, slice_index, IsFalse, refl, sym, ap, ap₂, ◌∙◌, subst, arith, list_any, length-map, mul-add-lt, mul-le, mod_below, div_below, div-add-mod', cases_lt, ne_eqb, eqb-true, lt-ltb, le-ltb, eq-eqb, same_test, length-below, by_test, any_same, any_from, empty_is, not_empty_in, triple_in_range, from_env_next, move_in_range, from_seat_next, seat_in, nat_tests, IsIn, is_empty, Sys, Seat, IsSys, seat_next, is_beaten, Sizes, sizes_of, count, numbered, IsSizes, stride_of, env_stride_of, low_of, lanes_of, env_rows_of, target_rows_of, product_positive, low_of-le, lanes_few, lanes_positive, row_least, row_below, env_rows_are, is_on, HasLanes, AreRows, IsNumbered, NamedSys, system_of, seat_of, IsNamedSys, lanes_in, low_in, lane_has_state, lane_state_of, AreRowsOf, IsRow, IsTargetMove, AreAlive, Rows, Row, TargetMove, on_and, on_zero, mul-add-div_right, AreRowsBefore, SuitsRows, outcome_number, Outcomes}
+use Rattle.std.proofs.Math.Nat.{add-mod-mod, mod-eq_of_lt, mul-mod_left}
 use Rattle.std.proofs.Math.Bool.{and-false}
 use Rattle.roman_joint.proofs.ArenaFacts.{joint_numbered}
 use Rattle.roman_joint.proofs.OutcomeLemmas.{target_in_range}
+use Rattle.roman_joint.proofs.Finds.{in_at}
 use Rattle.roman_joint.proofs.Rows.{size_of_seat}
 use Rattle.roman_joint.proofs.WordLemmas.{on_shl, on_below, not_not}
 use Rattle.roman_joint.proofs.SplitLemmas.{joint_sizes, positive_of, factor}
-use Rattle.roman_joint.proofs.LeadLemmas.{Leads, leads_within, leads_served, leads_nothing, start_before, leads_before, lanes_parts, stride_positive, lane_state, leads_lanes}
+use Rattle.roman_joint.proofs.LeadLemmas.{Leads, leads_within, leads_served, leads_alive, leads_nothing, start_before, leads_before, lanes_parts, stride_positive, lane_state, leads_lanes}
 
 -- Facts about a row.
 pub record Known (s : Sys) (x : ℕ) (row : Row) : Type 0 where
@@ -81,15 +81,16 @@ rows_there s r x a long row turn h laid ok room =
       few = rows_few s long h.sizes room;
     }
 
--- the rows to which a seat before the lanes goes
-pub record RowsBefore (r : Rows) (turn : TargetMove) (k part long : ℕ) (states : List ℕ) : Type 0 where
-  pub turn_rows : RowsThere r turn long
-  pub taken : part * slice_index r.strides k ≤ turn.base
-  pub there : (e b : ℕ) → IsIn e turn.envs.now → IsIn b states → turn.base - part * slice_index r.strides k + e * r.env_rows + b * slice_index r.strides k < long
+pub full_on : (n : Sizes) (r : Rows) (lane : ℕ) → AreRowsOf n r → lane < lanes_of n.seats → is_on r.full lane ≡ true
+full_on n r lane laid l = laid.full lane ∙ lt-ltb lane (lanes_of n.seats) l
 
-pub rows_before : (s : Sys) (r : Rows) (x a k part long : ℕ) (row : Row) (turn : TargetMove) (states : List ℕ) → Known s x row → AreRowsOf (sizes_of s) r → IsTargetMove s row a turn → k < low_in s → long * lanes_in s ≡ count (sizes_of s) →
-    states ≡ seat_next (slice_get s.seats k) (slice_index row.states k) row.env a → part ≡ slice_index row.states k → RowsBefore r turn k part long states
-rows_before s r x a k part long row turn states h laid ok before room is_states is_part =
+pub full_off : (n : Sizes) (r : Rows) (lane : ℕ) → AreRowsOf n r → lanes_of n.seats ≤ lane → is_on r.full lane ≡ false
+full_off n r lane laid l = laid.full lane ∙ le-ltb lane (lanes_of n.seats) l
+
+-- what a seat's own state adds to the number of a turn's first row
+pub taken_before : (s : Sys) (r : Rows) (x a k : ℕ) (row : Row) (turn : TargetMove) → Known s x row → AreRowsOf (sizes_of s) r → IsTargetMove s row a turn → k < low_in s →
+    slice_index row.states k * slice_index r.strides k ≤ turn.base
+taken_before s r x a k row turn h laid ok before =
     let n = sizes_of s in
     let w = lanes_in s in
     let u = slice_index r.strides k in
@@ -100,59 +101,58 @@ rows_before s r x a k part long row turn states h laid ok before room is_states 
     let product : own * (u * w) ≡ own * u * w = omega arith in
     let sum : ok.to * target_rows_of n * w + (row.part * w + 0) ≡ (ok.to * target_rows_of n + row.part) * w + 0 = omega arith in
     let taken : own * u ≤ ok.to * target_rows_of n + row.part = row_least (own * u) (ok.to * target_rows_of n + row.part) w 0 pos (omega (arith, start.taken, product, sum)) in
-    let same : part * u ≡ own * u = ap (λ m. m * u) is_part in
-    let base : turn.base - part * u ≡ ok.to * target_rows_of n + row.part - own * u = ap₂ (λ m l. m - l) ok.base same in
-    let leads = leads_before s row x 0 a k ok.to (turn.base - part * u) u turn.envs.now states h.sys h.looked pos before (laid.before k before) ok.target ok.worlds is_states base in
-    record {
-      turn_rows = rows_there s r x a long row turn h laid ok room;
-      taken = omega (arith, taken, same, ok.base);
-      there = λ e b i j.
-          let below : (turn.base - part * u + e * env_rows_of n + b * u) * w + 0 < length (numbered s).nodes =
-          leads_within (numbered s) (x * w + 0) a k e b turn.envs.now states (λ c d. (turn.base - part * u + c * env_rows_of n + d * u) * w + 0) h.nodes
-          (omega (arith, h.looked.below 0 pos, length-below (count n))) leads i j in
-          let row_in : turn.base - part * u + e * env_rows_of n + b * u < long = row_below (turn.base - part * u + e * env_rows_of n + b * u) w 0 long (omega (arith, below, room, length-below (count n))) in
-          let rows : e * r.env_rows ≡ e * env_rows_of n = ap (λ m. e * m) laid.env in
-          omega (arith, row_in, rows);
-    }
+    omega (arith, taken, ok.base)
 
-pub full_on : (n : Sizes) (r : Rows) (lane : ℕ) → AreRowsOf n r → lane < lanes_of n.seats → is_on r.full lane ≡ true
-full_on n r lane laid l = laid.full lane ∙ lt-ltb lane (lanes_of n.seats) l
+-- where a seat before the lanes has no next state, it serves at no pair
+pub beaten_before : (s : Sys) (r : Rows) (x a k lane : ℕ) (row : Row) (turn : TargetMove) (gone : ℕ → Bool) → Known s x row → AreRowsOf (sizes_of s) r → IsTargetMove s row a turn → k < low_in s →
+    seat_next (slice_get s.seats k) (slice_index row.states k) row.env a ≡ [] → lane < lanes_in s → is_beaten (numbered s) gone (x * lanes_in s + lane) a k ≡ true
+beaten_before s r x a k lane row turn gone h laid ok before none l =
+    leads_nothing _ _ _ _ _ _ _ _ (leads_before _ _ _ _ _ _ _ _ _ _ _ h.sys h.looked l before (laid.before k before) ok.target ok.worlds refl refl) none
 
-pub full_off : (n : Sizes) (r : Rows) (lane : ℕ) → AreRowsOf n r → lanes_of n.seats ≤ lane → is_on r.full lane ≡ false
-full_off n r lane laid l = laid.full lane ∙ le-ltb lane (lanes_of n.seats) l
+-- a word without lanes, where no pair is served
+pub none_served : (w x : ℕ) (test : ℕ → Bool) → ((lane : ℕ) → lane < w → test (x * w + lane) ≡ true) → HasLanes w x (λ p. not (test p)) 0
+none_served w x test all = record { each = λ lane l. on_zero lane ∙ sym (ap not (all lane l)); rest = λ lane l. on_zero lane }
 
--- the pairs at which a seat before the lanes serves
-pub serves_before : (s : Sys) (r : Rows) (x a k part word : ℕ) (row : Row) (turn : TargetMove) (states words : List ℕ) (gone : ℕ → Bool) → Known s x row → AreRowsOf (sizes_of s) r → IsTargetMove s row a turn → k < low_in s →
-    length words * lanes_in s ≡ count (sizes_of s) → states ≡ seat_next (slice_get s.seats k) (slice_index row.states k) row.env a → part ≡ slice_index row.states k → IsFalse (is_empty states) →
-    AreRows (lanes_in s) (λ q. not (gone q)) words →
-    ((lane : ℕ) → is_on word lane ≡ (is_on r.full lane && not (list_any (λ e. list_any (λ b. not (is_on (slice_index words (turn.base - part * slice_index r.strides k + e * r.env_rows + b * slice_index r.strides k)) lane)) states) turn.envs.now))) →
-    HasLanes (lanes_in s) x (λ p. not (is_beaten (numbered s) gone p a k)) word
-serves_before s r x a k part word row turn states words gone h laid ok before room is_states is_part some rows told =
-    let n = sizes_of s in
-    let w = lanes_in s in
-    let u = slice_index r.strides k in
-    let test = λ (lane e b : ℕ). not (is_on (slice_index words (turn.base - part * u + e * r.env_rows + b * u)) lane) in
-    let to = λ (lane e b : ℕ). (turn.base - part * u + e * env_rows_of n + b * u) * w + lane in
-    let same : (lane e b : ℕ) → lane < w → IsIn e turn.envs.now → IsIn b states → test lane e b ≡ gone (to lane e b) = λ lane e b l i j.
-    let all = rows_before s r x a k part (length words) row turn states h laid ok before room is_states is_part in
-    let here = (rows.each (turn.base - part * u + e * r.env_rows + b * u) (all.there e b i j)).each lane l in
-    ap not here ∙ (sym (not_not (gone ((turn.base - part * u + e * r.env_rows + b * u) * w + lane))) ∙ ap (λ m. gone ((turn.base - part * u + e * m + b * u) * w + lane)) laid.env) in
-    record {
-      each = λ lane l. told lane ∙ (ap (λ b. b && not (list_any (λ e. list_any (test lane e) states) turn.envs.now)) (full_on n r lane laid l)
-          ∙ leads_served (numbered s) gone (x * w + lane) a k turn.envs.now states (to lane) (test lane)
-          (leads_before s row x lane a k ok.to (turn.base - part * u) u turn.envs.now states h.sys h.looked l before (laid.before k before) ok.target ok.worlds is_states (ap₂ (λ m d. m - d * u) ok.base is_part))
-          ok.some some (λ e b i j. same lane e b l i j));
-      rest = λ lane l. told lane ∙ ap (λ b. b && not (list_any (λ e. list_any (test lane e) states) turn.envs.now)) (full_off n r lane laid l);
-    }
+-- rows of these numbers, one of which is far enough before the end
+pub suits_rows : (rows : Outcomes) (many long : ℕ) → 0 < many → long < 2 ^ 32 → IsFalse (is_empty rows.states.now) →
+    ((e b : ℕ) → IsIn e rows.envs.now → IsIn b rows.states.now → outcome_number rows e b + many ≤ long) → SuitsRows rows many long
+suits_rows rows many long pos few some there = record {
+  envs = λ i d l. let (b, j) = not_empty_in rows.states.now some in omega (arith, there (get_or rows.envs.now i d) b (in_at rows.envs.now i d l) j);
+  fits = λ i d l j e m. omega (arith, there (get_or rows.envs.now i d) (get_or rows.states.now j e) (in_at rows.envs.now i d l) (in_at rows.states.now j e m));
+  within = λ i d l j e m. there (get_or rows.envs.now i d) (get_or rows.states.now j e) (in_at rows.envs.now i d l) (in_at rows.states.now j e m);
+}
 
-pub beaten_before : (s : Sys) (r : Rows) (x a k : ℕ) (row : Row) (turn : TargetMove) (states : List ℕ) (gone : ℕ → Bool) → Known s x row → AreRowsOf (sizes_of s) r → IsTargetMove s row a turn → k < low_in s →
-    states ≡ seat_next (slice_get s.seats k) (slice_index row.states k) row.env a → states ≡ [] → HasLanes (lanes_in s) x (λ p. not (is_beaten (numbered s) gone p a k)) 0
-beaten_before s r x a k row turn states gone h laid ok before is_states none =
-    record {
-      each = λ lane l. on_zero _ ∙ sym (ap not (leads_nothing _ _ _ _ _ _ _ _
-          (leads_before _ _ _ _ _ _ _ _ _ _ _ h.sys h.looked l before (laid.before k before) ok.target ok.worlds is_states refl) none));
-      rest = λ lane l. on_zero _;
-    }
+-- the rows to which a seat before the lanes leads from a row
+module _ (s : Sys) (x a k : ℕ) (row : Row) (turn : TargetMove) (to : Outcomes) (h : Known s x row) (ok : IsTargetMove s row a turn) (before : k < low_in s) (of : AreRowsBefore s row turn a k to) where
+  before_leads : (lane : ℕ) → lane < lanes_in s → Leads (numbered s) (x * lanes_in s + lane) a k to.envs.now to.states.now (λ e b. outcome_number to e b * lanes_in s + lane)
+  before_leads lane l =
+      subst (λ m. Leads (numbered s) (x * lanes_in s + lane) a k to.envs.now to.states.now (λ e b. (to.base + e * m + b * to.stride) * lanes_in s + lane)) (sym of.env_stride)
+      (leads_before s row x lane a k ok.to to.base to.stride to.envs.now to.states.now h.sys h.looked l before of.stride ok.target (of.worlds ∙ ok.worlds) of.states (omega (arith, of.base, ok.base)))
+
+  pub before_there : (long e b : ℕ) → long * lanes_in s ≡ count (sizes_of s) → IsIn e to.envs.now → IsIn b to.states.now → outcome_number to e b < long
+  before_there long e b room i j =
+      let all = length-below (count (sizes_of s)) in
+      let pos = width_positive s h.sizes in
+      row_below (outcome_number to e b) (lanes_in s) 0 long (omega (
+        arith,
+        room,
+        all,
+        leads_within (numbered s) (x * lanes_in s + 0) a k e b to.envs.now to.states.now
+            (λ c d. outcome_number to c d * lanes_in s + 0) h.nodes (omega (arith, h.looked.below 0 pos, all)) (before_leads 0 pos) i j,
+      ))
+
+  pub serves_before : (r : Rows) (word : ℕ) (words : List ℕ) (gone : ℕ → Bool) → AreRowsOf (sizes_of s) r → length words * lanes_in s ≡ count (sizes_of s) → AreRows (lanes_in s) (λ q. not (gone q)) words →
+      ((lane : ℕ) → is_on word lane ≡ (is_on r.full lane && not (list_any (λ e. list_any (λ b. not (is_on (slice_index words (outcome_number to e b)) lane)) to.states.now) to.envs.now))) →
+      HasLanes (lanes_in s) x (λ p. not (is_beaten (numbered s) gone p a k)) word
+  serves_before r word words gone laid room rows told =
+      let test = λ (lane e b : ℕ). not (is_on (slice_index words (outcome_number to e b)) lane) in
+      record {
+        each = λ lane l. told lane ∙ (ap (λ b. b && not (list_any (λ e. list_any (test lane e) to.states.now) to.envs.now)) (full_on (sizes_of s) r lane laid l)
+            ∙ leads_served (numbered s) gone (x * lanes_in s + lane) a k to.envs.now to.states.now (λ e b. outcome_number to e b * lanes_in s + lane) (test lane) (before_leads lane l)
+            (rw of.worlds ok.some) of.some
+            (λ e b i j. ap not ((rows.each (outcome_number to e b) (before_there (length words) e b room i j)).each lane l) ∙ sym (not_not (gone (outcome_number to e b * lanes_in s + lane)))));
+        rest = λ lane l. told lane ∙ ap (λ b. b && not (list_any (λ e. list_any (test lane e) to.states.now) to.envs.now)) (full_off (sizes_of s) r lane laid l);
+      }
 
 -- the alive lanes of a turn
 pub alive_there : (s : Sys) (r : Rows) (x a alive : ℕ) (row : Row) (turn : TargetMove) (words : List ℕ) (gone : ℕ → Bool) → Known s x row → AreRowsOf (sizes_of s) r → IsTargetMove s row a turn → length words * lanes_in s ≡ count (sizes_of s) →
@@ -228,17 +228,12 @@ beaten_dead s x a k lane row turn gone h ok within seat living in_lanes =
     let (y, seated, ready, moves) = from_seat_next (slice_get s.seats k) digit row.env a b i in
     let state : b < slice_index n.seats k = subst (λ m. b < m) (sym (size_of_seat s.seats k y seated)) (move_in_range s.env y.beh digit row.env a b (h.sys.seats y (seat_in s.seats k y seated)) moves).3 in
     let there = (lane_state n k lane h.sizes within seats in_lanes).moves b state in
-    let dead : list_any (λ e. gone (to e b)) turn.envs.now ≡ true =
-    not_not (list_any (λ e. gone (to e b)) turn.envs.now) ∙ ap not (sym (living.each (lane + b * st - digit * st) there) ∙ on_zero (lane + b * st - digit * st)) in
-    let (e, j, t) = any_true (λ e. gone (to e b)) turn.envs.now dead in
-    let left : list_any (λ c. list_any (λ d. gone (to c d)) states) turn.envs.now ≡ true =
-    any_from (λ c. list_any (λ d. gone (to c d)) states) e turn.envs.now j (any_from (λ d. gone (to e d)) b states i t) in
-    let served = leads_served (numbered s) gone (x * lanes_in s + lane) a k turn.envs.now states to (λ c d. gone (to c d)) leads ok.some some (λ c d u v. refl) in
-    not_not (is_beaten (numbered s) gone (x * lanes_in s + lane) a k) ∙ ap not (sym served ∙ ap not left))
+    let served = leads_alive (numbered s) gone (x * lanes_in s + lane) a k turn.envs.now states to (λ c. list_any (λ e. gone (to e c)) turn.envs.now) leads ok.some some (λ c j. refl) in
+    not_not _ ∙ ap not (sym served ∙ ap not (any_from (λ c. list_any (λ e. gone (to e c)) turn.envs.now) b states i (not_not _ ∙ ap not (sym (living.each (lane + b * st - digit * st) there) ∙ on_zero (lane + b * st - digit * st))))))
 
 -- the lanes of the states so far, with one more
-pub below_more : (m b : ℕ) (x : Bool) → ((ltb m b && x) || (eqb m b && x)) ≡ (ltb m (b + 1) && x)
-below_more m b x = grind (arith, nat_tests)
+pub one_more : (m b : ℕ) (f : ℕ → Bool) → ((ltb m b && f m) || (eqb m b && f b)) ≡ (ltb m (b + 1) && f m)
+one_more m b f = grind (arith, nat_tests)
 
 pub state_is : (st size b lane : ℕ) → lane_has_state st size b lane ≡ eqb (lane / st % size) b
 unfolding lane_has_state

@@ -1,6 +1,7 @@
 -- The outcomes of a delegation, by rows and lanes.
-use Rattle.roman_joint.proofs.Common.{◌≡◌, ℕ, ◌+◌, ◌-◌, ◌*◌, ◌/◌, ◌%◌, ◌<◌, ◌≤◌, Bool, true, not, List, [], ◌∷◌, length, drop, map, slice_get, slice_index, IsTrue, IsFalse, refl, sym, ap, ap₂, ◌∙◌, subst, arith, list_any, flat_map, div-add-mod', mul-add-lt, mod_below, div_below, length-map, IsIn, is_empty, product_of, in_map, in_flat_map, any_same, not_empty_in, any_true, any_from, same_test, part_at, Sys, Seat, IsSys, env_next, beh_next, seat_next, Arena, is_beaten, Sizes, sizes_of, count, pair_at, numbered, IsSizes, stride_of, low_of, lanes_of, env_rows_of, target_rows_of, product_positive, AreSizes-drop, AreSizes-index, product_more, low_of-le, tails_from, row_mod, row_least, env_rows_are, IsNumbered, lanes_in, low_in, lane_state_of, IsRow, Row}
-use Rattle.std.proofs.Math.Nat.{mul-add-div_right, mul-add-mod_self_right}
+use Rattle.roman_joint.proofs.Common.{◌≡◌, ℕ, ◌+◌, ◌-◌, ◌*◌, ◌/◌, ◌%◌, ◌<◌, ◌≤◌, Bool, true, not, List, [], ◌∷◌, length, drop, map, slice_get, slice_index, IsTrue, IsFalse, refl, sym, ap, ap₂, ◌∙◌, subst, arith, list_any, flat_map, div-add-mod', mul-add-lt, mod_below, div_below, length-map, IsIn, is_empty, product_of, in_map, in_flat_map, any_same, not_empty_in, any_true, any_from, same_test, part_at, Sys, Seat, IsSys, env_next, beh_next, seat_next, Arena, is_beaten, Sizes, sizes_of, count, pair_at, numbered, IsSizes, stride_of, low_of, lanes_of, env_rows_of, target_rows_of, product_positive, AreSizes-drop, AreSizes-index, low_of-le, tails_from, row_mod, row_least, env_rows_are, IsNumbered, lanes_in, low_in, lane_state_of, IsRow, Row, mul-add-div_right}
+use Rattle.roman_radix.proofs.CallerLemmas.{product_more}
+use Rattle.std.proofs.Math.Nat.{mul-add-mod_self_right}
 use Rattle.roman_model.proofs.CallerLemmas.{list_any-map, list_any-flat_map}
 use Rattle.roman_joint.proofs.OutcomeLemmas.{StartsAt, starts_at, numbers_are, target_in_range}
 use Rattle.roman_joint.proofs.Finds.{some_numbers, no_numbers}
@@ -27,8 +28,15 @@ leads_nothing A gone p a k envs states to leads none = grind (arith, no_numbers)
 any_turn : (test : ℕ → ℕ → Bool) (xs ys : List ℕ) → IsTrue (list_any (λ x. list_any (test x) ys) xs) → IsTrue (list_any (λ y. list_any (λ x. test x y) xs) ys)
 any_turn test xs ys t = grind (arith, any_from, any_true)
 
-pub any_turned : (test : ℕ → ℕ → Bool) (xs ys : List ℕ) → list_any (λ x. list_any (test x) ys) xs ≡ list_any (λ y. list_any (λ x. test x y) xs) ys
+any_turned : (test : ℕ → ℕ → Bool) (xs ys : List ℕ) → list_any (λ x. list_any (test x) ys) xs ≡ list_any (λ y. list_any (λ x. test x y) xs) ys
 any_turned test xs ys = same_test _ _ (any_turn test xs ys) (any_turn (λ y x. test x y) ys xs)
+
+-- a seat serves exactly if none of its states is dead: one at which a next state of the environment leads to a node that is gone
+pub leads_alive : (A : Arena ℕ) (gone : ℕ → Bool) (p a k : ℕ) (envs states : List ℕ) (to : ℕ → ℕ → ℕ) (dead : ℕ → Bool) → Leads A p a k envs states to →
+    IsFalse (is_empty envs) → IsFalse (is_empty states) → ((b : ℕ) → IsIn b states → dead b ≡ list_any (λ e. gone (to e b)) envs) → not (list_any dead states) ≡ not (is_beaten A gone p a k)
+leads_alive A gone p a k envs states to dead leads some_env some_state same =
+    ap not (any_same dead (λ b. list_any (λ e. gone (to e b)) envs) states same ∙ any_turned (λ b e. gone (to e b)) states envs)
+    ∙ leads_served A gone p a k envs states to (λ e b. gone (to e b)) leads some_env some_state (λ e b i j. refl)
 
 -- an outcome's number by rows, for a seat that goes to state b
 pub row_moves : (to_rows rest u w lane r part e b : ℕ) → lane < w → part * (u * w) ≤ to_rows * w + (rest * w + lane) →

@@ -21,4 +21,4 @@ pub mod NameLemmas
 pub mod RunLemmas
 pub mod BandLemmas
 pub mod CallerLemmas
-mod RestLemmas
+pub mod RestLemmas

@@ -1,13 +1,12 @@
 -- Marks on the bands from which a band can be reached.
-use Rattle.roman_joint.proofs.Common.{◌≡◌, ℕ, suc, ◌+◌, ◌-◌, ◌*◌, ◌/◌, ◌%◌, ◌^◌, ◌<◌, ◌≤◌, Bool, true, false, cond, List, [], ◌∷◌, length, get_or, length-take, low_of, take, Option, Some, slice_get, slice_index, IsTrue, IsFalse, inl, inr, refl, sym, ap, ap₂, ◌∙◌, subst, arith, set, bit_or, bit_at, flat_map, filter, cases_eq, cases_lt, lt-ltb, le-ltb, slice_get_within, get_or-set_same, get_or-set_other, length-set, length-map, length-filter, div-add-mod', mod_below, div_below, IsIn, HasNoRepeats, HoldsEachOnce, sum_by, below, product_of, by_test, in_below, from_below, from_map, from_flat_map, filter_in, in_filter, HasNoRepeats-below, HasNoRepeats-filter, HasNoRepeats-map, triple_in_range, move_in_range, in_env_prev, in_beh_prev, seat_in, in_back, AreBelow-length, IsPairOf-at, number-pair_at, numbered_is_arena, Seat, Sys, Pair, IsSys, IsBeh, env_prev, beh_prev, Arena, Delegation, back, sizes_of, count, number, pair_at, numbered, IsSizes, stride_of, row_sizes, env_rows_of, target_rows_of, row_mod, env_rows_are, low_of-le, lanes_positive, length_rows, row_size, row_stride_of, IsSizes-rows, is_on, seat_prev, from_states, from_seat, from_target, from_env, from_action, from_all, lanes_in, low_in, lane_state_of, IsRow, mid_in, band_in, AreLeading, IsMarked, Grows, row_at, MarksSeat, MarksTurn, MarksEnv, MarksAction, seat_steps, turn_steps, env_steps, action_steps, Row}
+use Rattle.roman_joint.proofs.Common.{◌≡◌, ℕ, suc, ◌+◌, ◌-◌, ◌*◌, ◌/◌, ◌%◌, ◌^◌, ◌<◌, ◌≤◌, Bool, true, false, cond, List, [], ◌∷◌, length, get_or, take, Option, Some, slice_get, slice_index, IsTrue, IsFalse, inl, inr, refl, sym, ap, ap₂, ◌∙◌, subst, arith, sum_by, length-take, get_or-set_same, get_or-set_other, length-set, length-map, low_of, row_sizes, env_rows_of, target_rows_of, set, bit_or, bit_at, flat_map, filter, cases_eq, cases_lt, lt-ltb, le-ltb, slice_get_within, length-filter, div-add-mod', mod_below, div_below, IsIn, HasNoRepeats, HoldsEachOnce, below, product_of, by_test, in_below, from_below, from_map, from_flat_map, filter_in, in_filter, HasNoRepeats-below, HasNoRepeats-filter, HasNoRepeats-map, triple_in_range, move_in_range, in_env_prev, in_beh_prev, seat_in, in_back, AreBelow-length, IsPairOf-at, number-pair_at, numbered_is_arena, sum_by_same, Seat, Sys, Pair, IsSys, IsBeh, env_prev, beh_prev, Arena, Delegation, back, sizes_of, count, number, pair_at, numbered, IsSizes, stride_of, row_mod, env_rows_are, low_of-le, lanes_positive, length_rows, row_size, row_stride_of, IsSizes-rows, is_on, seat_prev, from_states, from_seat, from_target, from_env, from_action, from_all, lanes_in, low_in, lane_state_of, IsRow, mid_in, band_in, AreLeading, IsMarked, Grows, row_at, MarksSeat, MarksTurn, MarksEnv, MarksAction, seat_steps, turn_steps, env_steps, action_steps, Row, sum_cut}
 use Rattle.std.proofs.Common.{count_by}
 use Rattle.std.proofs.lemmas.List.Sums.{sum_by-append, sum_by-cons}
 use Rattle.std.specs.Prelude.{ltb}
 use Rattle.std.proofs.lemmas.Nat.{same_from_place}
-use Rattle.roman_model.proofs.CallerLemmas.{no_longer, number-moved, sum_by_same}
+use Rattle.roman_model.proofs.CallerLemmas.{no_longer, number-moved}
 use Rattle.roman_model.specs.Arena.{is_among, delegations}
 use Rattle.roman_lanes.specs.Flags.{has_flag}
-use Rattle.roman_rules.proofs.CallerLemmas.{sum_cut}
 use Rattle.roman_joint.proofs.BackwardLemmas.{once_by, delegation, Steps, Found, origin, in_seat_prev, leads_found, from_all_found, found_backwards}
 use Rattle.roman_joint.proofs.Rows.{size_of_seat}
 use Rattle.roman_joint.proofs.WordLemmas.{on_set_same, on_set_other}
@@ -56,29 +55,20 @@ flag_is marks x = refl
 -- one more mark
 pub put_mark : (marks : List ℕ) (y place lane : ℕ) → place < length marks → place ≡ y / 64 → lane ≡ y % 64 →
     Grows marks (set marks place (bit_or (get_or marks place 0) (1 * 2 ^ lane % 2 ^ 64))) × IsTrue (has_flag (set marks place (bit_or (get_or marks place 0) (1 * 2 ^ lane % 2 ^ 64))) y)
-put_mark marks y place lane room at is = (
-  record { long = length-set marks place word; still = λ z t. flag_is (set marks place word) z ∙ each z (sym (flag_is marks z) ∙ t) },
-  flag_is (set marks place word) y ∙ (ap₂ (λ u z. is_on (slice_index (set marks place word) u) z) (sym at) (sym is) ∙ here),
-)
-  where
-    word : ℕ
-    word = bit_or (get_or marks place 0) (1 * 2 ^ lane % 2 ^ 64)
-
-    low : lane < 64
-    low = subst (λ y. y < 64) (sym is) (mod_below y 64 (omega arith))
-
-    here : is_on (slice_index (set marks place word) place) lane ≡ true
-    here = ap (λ w. is_on w lane) (get_or-set_same marks place word 0 room) ∙ on_set_same (get_or marks place 0) lane low
-
-    each : (z : ℕ) → is_on (slice_index marks (z / 64)) (z % 64) ≡ true → is_on (slice_index (set marks place word) (z / 64)) (z % 64) ≡ true
-    each z t = elim (cases_eq (z / 64) place) [
-      | inl same ↦ elim (cases_eq (z % 64) lane) [
-        | inl own ↦ ap₂ (λ u v. is_on (slice_index (set marks place word) u) v) same own ∙ here
-        | inr other ↦ ap (λ u. is_on (slice_index (set marks place word) u) (z % 64)) same ∙ (ap (λ w. is_on w (z % 64)) (get_or-set_same marks place word 0 room)
-            ∙ (on_set_other (get_or marks place 0) lane (z % 64) low other ∙ (ap (λ u. is_on (get_or marks u 0) (z % 64)) (sym same) ∙ t)))
-      ]
-      | inr other ↦ ap (λ w. is_on w (z % 64)) (get_or-set_other marks place (z / 64) word 0 other) ∙ t
-    ]
+put_mark marks y place lane room at is =
+    let word : ℕ = bit_or (get_or marks place 0) (1 * 2 ^ lane % 2 ^ 64) in
+    let low : lane < 64 = omega (arith, is, mod_below y 64 (omega arith)) in
+    let put = get_or-set_same marks place word 0 room in
+    let here = on_set_same (get_or marks place 0) lane low in (
+      record {
+        long = length-set marks place word;
+        still = λ z t. let new = flag_is (set marks place word) z in let old = flag_is marks z in elim (cases_eq (z / 64) place) [
+          | inl same ↦ elim (cases_eq (z % 64) lane) [ inl own ↦ cc | inr other ↦ let kept = on_set_other (get_or marks place 0) lane (z % 64) low other in cc ]
+          | inr far ↦ let kept = get_or-set_other marks place (z / 64) word 0 far in cc
+        ];
+      },
+      let new = flag_is (set marks place word) y in grind (arith, get_or-set_same, on_set_same),
+    )
 
 -- The rows from which a row is reached.
 

@@ -1,20 +1,20 @@
 -- Moves of services within the lanes.
-use Rattle.roman_joint.proofs.Common.{◌≡◌, ◌≢◌, ℕ, zero, suc, ◌+◌, ◌-◌, ◌*◌, ◌/◌, ◌%◌, ◌<◌, ◌≤◌, ◌==◌, Bool, true, false, not, ◌&&◌, cond, eqb, List, [], ◌∷◌, ◌++◌, length, drop, get_or, Some, slice_get, slice_index, slice_index_or, IsTrue, IsFalse, inl, inr, refl, sym, ap, ap₂, ◌∙◌, subst, arith, get_or-append_seam, mul-le-mul_right, list_any, filter, both_ways, cases_eq, cases_lt, ne_eqb, eqb-true, false≢true, and_parts, div-mul-add, mod-mul-add, mod_below, mul-add-lt, length-map, length-append, map-append, append_assoc, get_or_append_left, drop_more, drop_all, take_all, length-filter, count_by-le-length, slice_get_within, slice_get-get_or, IsIn, is_empty, below, product_of, in_map, from_map, in_filter, filter_in, in_below, from_below, any_true, any_from, any_same, same_test, by_test, empty_is, length-below, seat_in, Sys, Seat, Beh, beh_next, is_ready, is_beaten, Sizes, sizes_of, numbered, AreSizes, IsSizes, stride_of, low_of, lanes_of, env_rows_of, AreSizes-index, AreSizes-drop, product_positive, lanes_few, is_on, HasLanes, NamedBeh, NamedSys, system_of, seat_of, lanes_in, low_in, lane_state_of, IsTargetMove, AreAlive, lane_moves_from, ways_room, HoldsSpans, HoldsMoves, IsKept, AreSeatsOf, Row, TargetMove, Move, Moves, IsNumbered, with_frozen, on_zero}
+use Rattle.roman_joint.proofs.Common.{◌≡◌, ◌≢◌, ℕ, zero, suc, ◌+◌, ◌-◌, ◌*◌, ◌/◌, ◌%◌, ◌<◌, ◌≤◌, ◌==◌, Bool, true, false, not, ◌&&◌, cond, eqb, List, [], ◌∷◌, ◌++◌, length, drop, get_or, Some, slice_get, slice_index, slice_index_or, IsTrue, IsFalse, inl, inr, refl, sym, ap, ap₂, ◌∙◌, subst, arith, get_or-append_seam, mul-le-mul_right, list_any, filter, both_ways, cases_eq, cases_lt, ne_eqb, eqb-true, false≢true, and_parts, eq-eqb, div-mul-add, mod-mul-add, mod_below, mul-add-lt, length-map, length-append, map-append, append_assoc, get_or_append_left, drop_more, drop_all, take_all, length-filter, count_by-le-length, slice_get_within, slice_get-get_or, IsIn, is_empty, below, product_of, in_map, from_map, in_filter, filter_in, in_below, from_below, any_true, any_from, same_test, by_test, empty_is, length-below, seat_in, Sys, Seat, Beh, beh_next, is_ready, is_beaten, Sizes, sizes_of, numbered, AreSizes, IsSizes, stride_of, low_of, lanes_of, env_rows_of, AreSizes-index, AreSizes-drop, product_positive, lanes_few, is_on, HasLanes, NamedBeh, NamedSys, IsNamedSys, system_of, seat_of, lanes_in, low_in, lane_state_of, IsTargetMove, AreAlive, lane_moves_from, ways_room, HoldsSpans, HoldsMoves, IsKept, AreSeatsOf, Row, TargetMove, Move, Moves, with_frozen, on_zero}
 use Rattle.std.proofs.Common.{slice_range}
-use Rattle.std.proofs.lemmas.Bool.{eq-eqb, not_from_false}
+use Rattle.std.proofs.lemmas.Bool.{not_from_false}
 use Rattle.std.proofs.lemmas.List.{length-drop, take-append-le, drop-append-le}
 use Rattle.roman_model.proofs.CallerLemmas.{filter_below_more}
 use Rattle.roman_joint.specs.declared.seat.Seat as declared
 use Rattle.roman_joint.specs.Moves.{GoesTo, AreMovesOf, AreWays, lane_move, within_in, IsSpan, IsAdded}
 use Rattle.roman_joint.specs.declared.moves.Span.{Span}
 use Rattle.roman_joint.specs.declared.ways.Ways.{Ways}
-use Rattle.roman_joint.proofs.ArenaFacts.{beaten_where}
+use Rattle.roman_joint.proofs.ArenaFacts.{beaten_where, joint_numbered}
 use Rattle.roman_joint.proofs.Rows.{size_of_seat}
 use Rattle.roman_joint.proofs.SeatChanges.{with_seats, frozen_sizes, frozen_at}
-use Rattle.roman_joint.proofs.SeatLemmas.{SeatRead, seat_read}
+use Rattle.roman_joint.proofs.BehaviourLemmas.{SeatRead, seat_read, service_read}
 use Rattle.roman_joint.proofs.OutcomeLemmas.{ready_next}
 use Rattle.roman_joint.proofs.WordLemmas.{not_not}
-use Rattle.roman_joint.proofs.LeadLemmas.{Leads, leads_served, leads_nothing, any_turned, lane_state, leads_lanes}
+use Rattle.roman_joint.proofs.LeadLemmas.{Leads, leads_alive, leads_nothing, lane_state, leads_lanes}
 use Rattle.roman_joint.proofs.GoodLemmas.{Known, state_below}
 
 -- next states are in range
@@ -151,17 +151,10 @@ serves_within s x a k some good alive row turn seat moves gone h ok within seate
     leads : (lane : ℕ) → (l : lane < lanes_in s) → Leads (numbered s) (x * lanes_in s + lane) a k turn.envs.now (states lane) (λ e b. (turn.base + e * env_rows_of n) * lanes_in s + (lane + b * st - digit lane * st))
     leads lane l = leads_lanes s row x lane a k ok.to turn.base (digit lane) turn.envs.now (states lane) h.sys h.sizes h.looked l within in_seats refl ok.target ok.worlds (sym (ready_next (slice_get s.seats k) seat (digit lane) row.env a seated ready)) ok.base
 
-    lives : (lane b : ℕ) → lane < lanes_in s → IsIn b (states lane) → dead lane b ≡ list_any (λ e. gone ((turn.base + e * env_rows_of n) * lanes_in s + (lane + b * st - digit lane * st))) turn.envs.now
-    lives lane b l i =
-        ap not (living.each (lane + b * st - digit lane * st) (there lane b l i))
-        ∙ sym (not_not (list_any (λ e. gone ((turn.base + e * env_rows_of n) * lanes_in s + (lane + b * st - digit lane * st))) turn.envs.now))
-
     all_alive : (lane : ℕ) → lane < lanes_in s → IsFalse (is_empty (states lane)) → not (list_any (dead lane) (states lane)) ≡ not (is_beaten (numbered s) gone (x * lanes_in s + lane) a k)
     all_alive lane l full =
-        ap not (any_same (dead lane) (λ b. list_any (λ e. gone ((turn.base + e * env_rows_of n) * lanes_in s + (lane + b * st - digit lane * st))) turn.envs.now) (states lane) (λ b i. lives lane b l i)
-        ∙ any_turned (λ b e. gone ((turn.base + e * env_rows_of n) * lanes_in s + (lane + b * st - digit lane * st))) (states lane) turn.envs.now)
-        ∙ leads_served (numbered s) gone (x * lanes_in s + lane) a k turn.envs.now (states lane) (λ e b. (turn.base + e * env_rows_of n) * lanes_in s + (lane + b * st - digit lane * st))
-        (λ e b. gone ((turn.base + e * env_rows_of n) * lanes_in s + (lane + b * st - digit lane * st))) (leads lane l) ok.some full (λ e b i j. refl)
+        leads_alive (numbered s) gone (x * lanes_in s + lane) a k turn.envs.now (states lane) (λ e b. (turn.base + e * env_rows_of n) * lanes_in s + (lane + b * st - digit lane * st)) (dead lane) (leads lane l) ok.some full
+        (λ b i. ap not (living.each (lane + b * st - digit lane * st) (there lane b l i)) ∙ sym (not_not _))
 
     each : (lane : ℕ) → lane < lanes_in s → is_on good lane ≡ not (is_beaten (numbered s) gone (x * lanes_in s + lane) a k)
     each lane l = by_test (is_empty (states lane))
@@ -173,14 +166,10 @@ serves_within s x a k some good alive row turn seat moves gone h ok within seate
         ∙ (ap₂ (λ y z. y && not z) (are.each lane l ∙ ap not full) (same_any lane l) ∙ all_alive lane l full))
 
 -- a frozen service serves at no pair
-pub beaten_frozen : (s : Sys) (x a k : ℕ) (seat : Seat) (gone : ℕ → Bool) → IsNumbered (numbered s) → slice_get s.seats k ≡ Some seat → IsTrue seat.frozen →
-    HasLanes (lanes_in s) x (λ p. not (is_beaten (numbered s) gone p a k)) 0
-beaten_frozen s x a k seat gone nodes seated frozen = record {
-  each = λ lane l.
-      let p = x * lanes_in s + lane in
-      on_zero lane ∙ sym (ap not (beaten_where (numbered s) gone p a k (λ q i. both_ways (is_ready (slice_get s.seats k)) (ap is_ready seated ∙ ap not frozen) (nodes.served p a k q i).2)));
-  rest = λ lane l. on_zero lane;
-}
+pub beaten_frozen : (n : NamedSys) (p a k : ℕ) (seat : declared.Seat) (gone : ℕ → Bool) → IsNamedSys n → slice_get n.seats k ≡ Some seat → IsTrue seat.frozen → is_beaten (numbered (system_of n)) gone p a k ≡ true
+beaten_frozen n p a k seat gone ok placed frozen =
+    beaten_where (numbered (system_of n)) gone p a k
+    (λ q i. both_ways (is_ready (slice_get (system_of n).seats k)) (ap is_ready (seat_read n k seat placed) ∙ ap not frozen) ((joint_numbered n ok).served p a k q i).2)
 
 -- The table of moves.
 
@@ -277,7 +266,7 @@ pub seat_here : (n : NamedSys) (catalogue : List NamedBeh) (seats : List declare
     k < length seats → x ≡ get_or seats k x → y ≡ get_or catalogue x.behaviour y → SeatHere n sizes k y.beh
 seat_here n catalogue seats sizes envs actions k x y of l at_seat at_beh =
     let placed : slice_get n.seats k ≡ Some x = ap (λ xs. slice_get xs k) (sym of.seats_of) ∙ (slice_get-get_or seats k x l ∙ ap Some (sym at_seat)) in
-    let read : SeatRead n k x y = seat_read n k x catalogue y of.known placed of.catalogue_of at_beh in
+    let read : SeatRead n k x y = service_read n k x catalogue y of.known placed of.catalogue_of at_beh in
     let ok = of.known.system.seats (seat_of n.catalogue x) (seat_in (system_of n).seats k (seat_of n.catalogue x) read.seated) in
     record {
       seat = seat_of n.catalogue x;

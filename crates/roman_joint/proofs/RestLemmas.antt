@@ -1,19 +1,10 @@
--- The seats of a band's own, and the seats that may rest.
-use Rattle.roman_joint.proofs.Common.{◌≡◌, ℕ, ◌<◌, ◌≤◌, Bool, true, false, not, ◌&&◌, ◌||◌, ltb, length, IsTrue, ap, ap₂, ◌∙◌, sym, arith, and_parts, both_ways, lt-ltb, le-ltb, all_below_at, all_below_from, same_test, by_test, nat_tests, length-map, low_of-le, length_rows, row_sizes, all_below, Sys, Seat, sizes_of, low_in, mid_in, is_own}
+-- The seats that may rest.
+use Rattle.roman_joint.proofs.Common.{◌≡◌, ℕ, ◌+◌, ◌*◌, ◌<◌, ◌≤◌, Bool, true, false, not, ◌&&◌, ◌||◌, inl, inr, ltb, length, slice_get, slice_index, ap, ap₂, ◌∙◌, sym, arith, and_parts, both_ways, cases_lt, lt-ltb, le-ltb, by_test, all_below_at, all_below_from, same_test, length-map, low_of-le, length_rows, row_sizes, all_below, is_final, Sys, Seat, is_on, sizes_of, numbered, pair_at, IsSizes, lanes_in, low_in, lane_state_of, IsRow, may_rest, mid_in, band_in, Row}
 use Rattle.std.proofs.lemmas.Bool.{or_right}
-use Rattle.roman_joint.proofs.BandLemmas.{mid_low}
-
-pub own_is : (s : Sys) (k : ℕ) → mid_in s ≤ k → k < low_in s → is_own s k ≡ true
-own_is s k past low = ap₂ (λ t u. t && not u) (lt-ltb k (low_in s) low) (le-ltb k (mid_in s) past)
-
-pub own_off_before : (s : Sys) (k : ℕ) → k < mid_in s → is_own s k ≡ false
-own_off_before s k front = ap₂ (λ t u. t && not u) (lt-ltb k (low_in s) (mid_low s k front)) (lt-ltb k (mid_in s) front)
-
-pub own_off_past : (s : Sys) (k : ℕ) → low_in s ≤ k → is_own s k ≡ false
-own_off_past s k past = ap (λ t. t && not (ltb k (mid_in s))) (le-ltb k (low_in s) past)
-
-pub own_at : (s : Sys) (k : ℕ) → IsTrue (is_own s k) → (mid_in s ≤ k) × (k < low_in s)
-own_at s k t = grind (arith, nat_tests)
+use Rattle.roman_joint.specs.Rows.{HasResting}
+use Rattle.roman_joint.proofs.AllowedLemmas.{fine_there}
+use Rattle.roman_joint.proofs.LeadLemmas.{lane_part}
+use Rattle.roman_joint.proofs.BandLemmas.{row_in, in_band}
 
 pub mid_low_le : (s : Sys) → mid_in s ≤ low_in s
 mid_low_le s = omega (arith, low_of-le (row_sizes (sizes_of s)).seats, length_rows (sizes_of s))
@@ -21,28 +12,43 @@ mid_low_le s = omega (arith, low_of-le (row_sizes (sizes_of s)).seats, length_ro
 pub low_seats : (s : Sys) → low_in s ≤ length s.seats
 low_seats s = omega (arith, low_of-le (sizes_of s).seats, length-map s.seats (λ (seat : Seat). seat.beh.states))
 
--- ---- whether all seats may rest, by the other seats and the band's own up to one of them
-
 pub none_own : (mid : ℕ) (p : ℕ → Bool) → all_below (λ k. ltb k mid || p k) mid ≡ true
 none_own mid p = all_below_from (λ k. ltb k mid || p k) mid (λ k l. ap (λ t. t || p k) (lt-ltb k mid l))
 
-all_rest : (s : Sys) (p : ℕ → Bool) (k : ℕ) → k ≤ length s.seats → all_below p (length s.seats) ≡ true →
-    (all_below (λ j. is_own s j || p j) (length s.seats) && all_below (λ j. ltb j (mid_in s) || p j) k) ≡ true
-all_rest s p k within all =
-    let n = length s.seats in
-    ap₂ (λ t u. t && u) (all_below_from (λ j. is_own s j || p j) n (λ j l. or_right (is_own s j) (p j) (all_below_at p n j all l)))
-    (all_below_from (λ j. ltb j (mid_in s) || p j) k (λ j l. or_right (ltb j (mid_in s)) (p j) (all_below_at p n j all (omega arith))))
+-- one number that doesn't pass decides
+pub stopped : (p : ℕ → Bool) (k n : ℕ) → k < n → p k ≡ false → false ≡ all_below p n
+stopped p k n l off = by_test (all_below p n) (λ t. absurd (both_ways (p k) off (all_below_at p n k t l))) (λ f. sym f)
 
-pub some_rest_not : (s : Sys) (p : ℕ → Bool) (k : ℕ) → k ≤ low_in s → (all_below (λ j. is_own s j || p j) (length s.seats) && all_below (λ j. ltb j (mid_in s) || p j) k) ≡ false →
-    all_below p (length s.seats) ≡ false
-some_rest_not s p k within e = by_test (all_below p (length s.seats))
-    (λ t. absurd (both_ways (all_below (λ j. is_own s j || p j) (length s.seats) && all_below (λ j. ltb j (mid_in s) || p j) k) e (all_rest s p k (omega (arith, low_seats s)) t)))
-    (λ f. f)
+-- a test of all numbers, split at one of them
+split_at : (f q p : ℕ → Bool) (m n : ℕ) → m ≤ n → ((k : ℕ) → k < m → f k ≡ p k) → ((k : ℕ) → m ≤ k → k < n → q k ≡ p k) → (all_below f m && all_below (λ k. ltb k m || q k) n) ≡ all_below p n
+split_at f q p m n l front back = same_test _ _
+    (λ t. let (u, v) = and_parts (all_below f m) (all_below (λ k. ltb k m || q k) n) t in all_below_from p n (λ k i. elim (cases_lt k m) [
+      | inl low ↦ sym (front k low) ∙ all_below_at f m k u low
+      | inr past ↦ sym (ap (λ b. b || q k) (le-ltb k m past) ∙ back k past i) ∙ all_below_at (λ k. ltb k m || q k) n k v i
+    ]))
+    (λ t. ap₂ (λ u v. u && v) (all_below_from f m (λ k i. front k i ∙ all_below_at p n k t (omega arith))) (all_below_from (λ k. ltb k m || q k) n (λ k i. elim (cases_lt k m) [
+      | inl low ↦ ap (λ b. b || q k) (lt-ltb k m low)
+      | inr past ↦ or_right (ltb k m) (q k) (back k past i ∙ all_below_at p n k t i)
+    ])))
 
-pub rest_together : (s : Sys) (p : ℕ → Bool) → (all_below (λ j. is_own s j || p j) (length s.seats) && all_below (λ j. ltb j (mid_in s) || p j) (low_in s)) ≡ all_below p (length s.seats)
-rest_together s p = same_test _ _
-    (λ t. let (others, own) = and_parts (all_below (λ j. is_own s j || p j) (length s.seats)) (all_below (λ j. ltb j (mid_in s) || p j) (low_in s)) t in
-    all_below_from p (length s.seats) (λ k l. by_test (is_own s k)
-    (λ is. let (past, low) = own_at s k is in sym (ap (λ u. u || p k) (le-ltb k (mid_in s) past)) ∙ all_below_at (λ j. ltb j (mid_in s) || p j) (low_in s) k own low)
-    (λ not_own. sym (ap (λ u. u || p k) not_own) ∙ all_below_at (λ j. is_own s j || p j) (length s.seats) k others l)))
-    (λ t. all_rest s p (low_in s) (low_seats s) t)
+-- clause 2 at a pair of a row whose target is final, by the seats before the lanes and those within them
+pub fine_row : (s : Sys) (row : Row) (x lane : ℕ) → IsSizes (sizes_of s) → IsRow s x row → lane < lanes_in s → is_final s.target row.target ≡ true →
+    (numbered s).fine (x * lanes_in s + lane) ≡ (all_below (λ k. may_rest (slice_get s.seats k) (slice_index row.states k)) (low_in s)
+    && all_below (λ k. ltb k (low_in s) || may_rest (slice_get s.seats k) (lane_state_of (sizes_of s) k lane)) (length s.seats))
+fine_row s row x lane sizes ok l final =
+    let p = λ (k : ℕ). may_rest (slice_get s.seats k) (slice_index (pair_at (sizes_of s) (x * lanes_in s + lane)).bs k) in
+    fine_there s row x lane ok l ∙ (ap (λ b. not b || all_below p (length s.seats)) final
+    ∙ sym (split_at (λ k. may_rest (slice_get s.seats k) (slice_index row.states k)) (λ k. may_rest (slice_get s.seats k) (lane_state_of (sizes_of s) k lane)) p (low_in s) (length s.seats) (low_seats s)
+    (λ k low. ap (may_rest (slice_get s.seats k)) (sym (ok.states k lane low l)))
+    (λ k past inside. ap (may_rest (slice_get s.seats k)) (sym (lane_part (sizes_of s) x lane k sizes (ok.below lane l) past (omega (arith, inside, length-map s.seats (λ (seat : Seat). seat.beh.states))))))))
+
+-- the same at a pair of a band, by the seats before the band's own, the band's own and those within the lanes
+pub fine_band : (s : Sys) (row : Row) (y i lane resting : ℕ) → IsSizes (sizes_of s) → IsRow s (y * band_in s) row → i < band_in s → lane < lanes_in s → is_final s.target row.target ≡ true → HasResting s resting →
+    (numbered s).fine ((y * band_in s + i) * lanes_in s + lane)
+    ≡ ((all_below (λ k. may_rest (slice_get s.seats k) (slice_index row.states k)) (mid_in s) && all_below (λ k. ltb k (mid_in s) || may_rest (slice_get s.seats k) (lane_state_of (row_sizes (sizes_of s)) k i)) (low_in s)) && is_on resting lane)
+fine_band s row y i lane resting sizes ok h l final rests =
+    let here = in_band s y i row sizes ok h in
+    let now = row_in s (y * band_in s + i) row in
+    let split = split_at (λ k. may_rest (slice_get s.seats k) (slice_index row.states k)) (λ k. may_rest (slice_get s.seats k) (lane_state_of (row_sizes (sizes_of s)) k i)) (λ k. may_rest (slice_get s.seats k) (slice_index now.states k))
+    (mid_in s) (low_in s) (mid_low_le s) (λ k low. ap (may_rest (slice_get s.seats k)) (sym (here.before k low))) (λ k past low. ap (may_rest (slice_get s.seats k)) (sym (here.within k past low))) in
+    fine_row s now (y * band_in s + i) lane sizes here.looked l final ∙ ap₂ (λ a b. a && b) (sym split) (sym (rests lane l))

@@ -1,5 +1,5 @@
 -- The system after a service is frozen, dropped or added.
-use Rattle.roman_joint.proofs.Common.{◌≡◌, ℕ, zero, suc, ◌*◌, ◌/◌, ◌<◌, ◌≤◌, ◌↔◌, Bool, true, false, if◌then◌else◌, List, [], ◌∷◌, ◌++◌, Some, slice_get, slice_index, get_or, map, length, take, drop, refl, sym, ap, ap₂, ◌∙◌, subst, arith, AllByRecursion, remove, set, mul-le-mul_left, mul-le-mul_right, le-div_iff_mul-le, map_push, map-append, length-map, All, All-from_recursion, IsIn, HasNoRepeats, Sys, IsSys, IsBeh, Join, Die, after, Sizes, sizes_of, count, MAX_SERVICES, seat_in, NamedBeh, NamedSys, beh_at, seat_of, system_of, cells, IsNamedSys, with_frozen, HasSameParts}
+use Rattle.roman_joint.proofs.Common.{◌≡◌, ℕ, zero, suc, ◌*◌, ◌/◌, ◌<◌, ◌≤◌, ◌↔◌, Bool, true, false, if◌then◌else◌, List, [], ◌∷◌, ◌++◌, Some, slice_get, slice_index, get_or, map, length, take, drop, refl, sym, ap, ap₂, ◌∙◌, subst, arith, All, slice_get-get_or, AllByRecursion, remove, set, mul-le-mul_left, mul-le-mul_right, le-div_iff_mul-le, map_push, map-append, length-map, All-from_recursion, IsIn, HasNoRepeats, Sys, IsSys, IsBeh, Join, Die, after, Sizes, sizes_of, count, MAX_SERVICES, seat_in, NamedBeh, NamedSys, beh_at, seat_of, system_of, cells, IsNamedSys, with_frozen, HasSameParts}
 use Rattle.std.proofs.lemmas.List.{take-map, drop-map}
 use Rattle.std.proofs.lemmas.List.Elements.{All-append, All-drop, All-push, All-take, recursion_from_All}
 use Rattle.roman_model.specs.System as model
@@ -8,7 +8,7 @@ use Rattle.roman_model.specs.Numbers.{grown_sizes, sizes_without}
 use Rattle.roman_model.proofs.CallerLemmas.{HasNoRepeats-push, states_frozen, remove_in, renaming_keeps, count-without}
 use Rattle.roman_joint.specs.declared.seat.Seat.{Seat}
 use Rattle.roman_joint.proofs.Rows.{size_of_seat}
-use Rattle.roman_joint.proofs.SeatLemmas.{seat_there}
+use Rattle.roman_joint.proofs.BehaviourLemmas.{seat_read}
 
 -- a system after a change is well formed
 changed : (change : Change) (s : Sys) → IsSys s → CanChange change s → IsSys (after change s)
@@ -102,7 +102,7 @@ pub gone_known : (n : NamedSys) (k : ℕ) (x : Seat) → IsNamedSys n → k < le
 gone_known n k x known within is =
     let s = system_of n in
     let seat : model.Seat = seat_of n.catalogue x in
-    let seated : slice_get s.seats k ≡ Some seat = seat_there n.catalogue n.seats k x within is in
+    let seated : slice_get s.seats k ≡ Some seat = seat_read n k x (slice_get-get_or n.seats k x within ∙ ap Some (sym is)) in
     let there : k < length (sizes_of s).seats = omega (arith, length-map s.seats (λ (y : model.Seat). y.beh.states), length-map n.seats (seat_of n.catalogue)) in
     let size : slice_index (sizes_of s).seats k ≡ seat.beh.states = size_of_seat s.seats k seat seated in
     let some : 0 < slice_index (sizes_of s).seats k = omega (arith, size, (known.system.seats seat (seat_in s.seats k seat seated)).states.0) in

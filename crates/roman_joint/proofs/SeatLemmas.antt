@@ -1,21 +1,16 @@
 -- Services and their behaviours, read one after another.
-use Rattle.roman_joint.proofs.Common.{◌≡◌, ℕ, zero, suc, ◌+◌, ◌/◌, ◌%◌, ◌^◌, ◌<◌, ◌≤◌, List, [], ◌∷◌, ◌++◌, Some, All, slice_get, get_or, map, length, take, drop, refl, sym, ap, ap₂, ◌∙◌, subst, inl, inr, arith, ◌==◌, slice_index, AllByRecursion, option_map, slice_get-map, slice_get-get_or, slice_get_within, get_or_from_slice_get, set, take_more, map_push, length-set, length-map, div_below, mod_below, All-from_recursion, IsIn, product_of, is_empty, Env, IsBeh, IsEnv, IsSys, sizes_of, Sizes, NamedEnv, NamedBeh, AreSizes, product_positive, product_more, AreSizes-drop, AreSizes-index, beh_at, seat_of, IsOverEnv, NamedSys, system_of, IsNamedSys, ne_eqb, MAX_SERVICES}
+use Rattle.roman_joint.proofs.Common.{◌≡◌, ℕ, zero, suc, ◌+◌, ◌/◌, ◌%◌, ◌^◌, ◌<◌, ◌≤◌, List, [], ◌∷◌, ◌++◌, All, get_or, map, length, take, refl, sym, ap, ap₂, ◌∙◌, subst, inl, inr, arith, ◌==◌, AllByRecursion, set, take_more, map_push, length-set, length-map, All-from_recursion, IsIn, is_empty, Env, IsBeh, IsEnv, IsSys, sizes_of, Sizes, NamedEnv, NamedBeh, beh_at, seat_of, IsOverEnv, NamedSys, system_of, ne_eqb, MAX_SERVICES}
 use Rattle.std.proofs.lemmas.List.{take_more_set}
 use Rattle.roman_model.specs.System as model
-use Rattle.roman_model.specs.System.{Beh, IsDeterministic}
+use Rattle.roman_model.specs.System.{IsDeterministic}
 use Rattle.roman_parts.specs.Named.{IsOver}
 use Rattle.roman_joint.specs.declared.seat.Seat.{Seat}
-use Rattle.roman_joint.proofs.Rows.{size_of_seat}
 
 -- the behaviour that is read at a place of the catalogue
 pub seat_beh_read : (behs : List NamedBeh) (i : ℕ) (y : NamedBeh) → i < length behs → y ≡ get_or behs i y → y.beh ≡ beh_at behs i
 seat_beh_read [] i y l h = absurd (omega arith)
 seat_beh_read (beh ∷ behs) zero y l h = ap (λ (x : NamedBeh). x.beh) h
 seat_beh_read (beh ∷ behs) (suc i) y l h = seat_beh_read behs i y (omega arith) h
-
-pub seat_there : (catalogue : List NamedBeh) (seats : List Seat) (k : ℕ) (x : Seat) → k < length seats → x ≡ get_or seats k x →
-    slice_get (map (seat_of catalogue) seats) k ≡ Some (seat_of catalogue x)
-seat_there catalogue seats k x l h = slice_get-map (seat_of catalogue) seats k ∙ ap (option_map (seat_of catalogue)) (slice_get-get_or seats k x l ∙ ap Some (sym h))
 
 -- a behaviour has from 1 to 64 states, over any environment
 pub states_range : (y : NamedBeh) → IsOver y.env_states y.actions y.beh → (0 < y.beh.states) × (y.beh.states ≤ 64)
@@ -64,16 +59,6 @@ seats_known catalogue [] env h x i = absurd i
 seats_known catalogue (seat ∷ seats) env h x (inl e) = subst (λ (y : model.Seat). IsBeh env y.beh) (sym e) h.0
 seats_known catalogue (seat ∷ seats) env h x (inr i) = seats_known catalogue seats env h.1 x i
 
--- a number of states is split into the first state and the number of the later ones
-pub record Splits (sizes : List ℕ) (k rest stride : ℕ) : Type 0 where
-  pub positive : 0 < stride
-  pub state : rest / stride < get_or sizes k 0
-  pub below : rest % stride < product_of (drop (k + 1) sizes)
-  pub byte : get_or sizes k 0 < 2 ^ 8
-
-pub splits : (sizes : List ℕ) (k rest stride : ℕ) → AreSizes sizes → k < length sizes → rest < product_of (drop k sizes) → stride ≡ product_of (drop (k + 1) sizes) → Splits sizes k rest stride
-splits sizes k rest stride ok within below is = grind (arith, AreSizes-drop, AreSizes-index, div_below, mod_below, product_more, product_positive)
-
 -- each service has states
 pub positive_sizes : (catalogue : List NamedBeh) (seats : List Seat) (env : Env) → AllByRecursion (λ seat. IsBeh env (beh_at catalogue seat.behaviour)) seats →
     All (λ size. 0 < size) (map (λ seat. (beh_at catalogue seat.behaviour).states) seats)
@@ -83,36 +68,6 @@ positive_sizes catalogue seats env h = All-from_recursion (λ size. 0 < size) (m
         AllByRecursion (λ size. 0 < size) (map (λ seat. (beh_at catalogue seat.behaviour).states) xs)
     each [] h = tt
     each (x ∷ xs) h = (h.0.states.0, each xs h.1)
-
--- A seat and its behaviour, as they are read.
-pub record SeatRead (n : NamedSys) (k : ℕ) (x : Seat) (y : NamedBeh) : Type 0 where
-  pub beh : y.beh ≡ beh_at n.catalogue x.behaviour
-  pub seated : slice_get (system_of n).seats k ≡ Some (seat_of n.catalogue x)
-  pub size : slice_index (sizes_of (system_of n)).seats k ≡ y.beh.states
-  pub env_states : y.env_states ≡ (system_of n).env.states
-  pub actions : y.actions ≡ (system_of n).env.actions
-
-pub seat_read : (n : NamedSys) (k : ℕ) (x : Seat) (catalogue : List NamedBeh) (y : NamedBeh) → IsNamedSys n → slice_get n.seats k ≡ Some x → catalogue ≡ n.catalogue →
-    y ≡ get_or catalogue x.behaviour y → SeatRead n k x y
-seat_read n k x catalogue y known at_place same in_catalogue =
-    let at_beh : y ≡ get_or n.catalogue x.behaviour y = in_catalogue ∙ ap (λ ys. get_or ys x.behaviour y) same in
-    let within : k < length n.seats = slice_get_within n.seats k x at_place in
-    let at_seat : x ≡ get_or n.seats k x = sym (get_or_from_slice_get n.seats k x x at_place) in
-    let place : x.behaviour < length n.catalogue = subst (λ (z : Seat). z.behaviour < length n.catalogue) (sym at_seat) (known.behaviours k x within) in
-    let read : y.beh ≡ beh_at n.catalogue x.behaviour = seat_beh_read n.catalogue x.behaviour y place at_beh in
-    let over : IsOverEnv n.environment y = subst (IsOverEnv n.environment) (sym at_beh) (known.catalogue x.behaviour y place) in
-    let seated = seat_there n.catalogue n.seats k x within at_seat in
-    record {
-      beh = read;
-      seated = seated;
-      size = size_of_seat (system_of n).seats k (seat_of n.catalogue x) seated ∙ ap (λ (b : Beh). b.states) (sym read);
-      env_states = over.0;
-      actions = over.1;
-    }
-
--- the seat of a service stands at the service's place in the system
-pub seat_placed : (n : NamedSys) (k : ℕ) (x : Seat) → slice_get n.seats k ≡ Some x → slice_get (system_of n).seats k ≡ Some (seat_of n.catalogue x)
-seat_placed n k x at_place = seat_there n.catalogue n.seats k x (slice_get_within n.seats k x at_place) (sym (get_or_from_slice_get n.seats k x x at_place))
 
 pub len_empty : (xs : List ℕ) → (length xs == 0) ≡ is_empty xs
 len_empty [] = refl

@@ -1,6 +1,6 @@
 -- How rows are made and looked up.
-use Rattle.roman_joint.proofs.Common.{◌≡◌, ℕ, zero, suc, ◌+◌, ◌*◌, ◌/◌, ◌%◌, ◌^◌, ◌<◌, cond, List, [], ◌∷◌, length, map, drop, slice_index, inl, inr, refl, sym, ap, ap₂, ◌∙◌, subst, arith, ltb, cases_eq, lt-ltb, le-ltb, mul-add-lt, mod_below, div-mul-add, mod-mul-add, get_or-set_same, get_or-set_other, length-map, set, IsIn, product_of, Sys, Seat, IsBeh, Sizes, IsPairOf, sizes_of, count, pair_at, part_at, IsPairOf-at, AreBelow-index, AreSizes, IsSizes, stride_of, env_stride_of, target_stride_of, low_of, lanes_of, row_sizes, env_rows_of, target_rows_of, product_positive, product_more, AreSizes-drop, AreSizes-index, low_of-le, lanes_positive, tails_from, exact, row_div, row_least, row_below, env_rows_are, is_on, NamedSys, system_of, IsNamedSys, lanes_in, low_in, lane_has_state, AreRowsOf, IsRow, ArePermitted, AreLeading, Rows, Row}
-use Rattle.std.proofs.Math.Arith.{mod-mul}
+use Rattle.roman_joint.proofs.Common.{◌≡◌, ℕ, zero, suc, ◌+◌, ◌*◌, ◌/◌, ◌%◌, ◌^◌, ◌<◌, cond, List, [], ◌∷◌, length, map, slice_index, inl, inr, refl, sym, ap, ap₂, ◌∙◌, subst, arith, ltb, cases_eq, lt-ltb, le-ltb, mul-add-lt, get_or-set_same, get_or-set_other, length-map, set, IsIn, product_of, Sys, Seat, IsBeh, Sizes, IsPairOf, sizes_of, count, pair_at, part_at, IsPairOf-at, AreSizes, IsSizes, stride_of, env_stride_of, target_stride_of, low_of, lanes_of, row_sizes, env_rows_of, target_rows_of, AreSizes-index, low_of-le, lanes_positive, tails_from, exact, row_div, row_least, row_below, env_rows_are, is_on, NamedSys, system_of, IsNamedSys, lanes_in, low_in, lane_has_state, AreRowsOf, IsRow, ArePermitted, AreLeading, Rows, Row}
+use Rattle.roman_model.proofs.CallerLemmas.{AreBelow-index}
 use Rattle.roman_joint.proofs.Rows.{count_fits}
 
 -- the pairs of a joint have numbers of 32 bits
@@ -74,63 +74,6 @@ rows_made n r h is_low is_mid is_band is_lanes full rows env target strides size
 -- the stride of a seat before the lanes, counted in rows
 pub row_stride : (n : Sizes) (r : Rows) (k : ℕ) → IsSizes n → AreRowsOf n r → k < low_of n.seats → slice_index r.strides k ≡ stride_of n k / lanes_of n.seats
 row_stride n r k h rows l = factor (slice_index r.strides k) (stride_of n k / lanes_of n.seats) (lanes_of n.seats) (lanes_positive n.seats h.seats) (rows.before k l ∙ sym (stride_rows n k h l))
-
-stride_in_rows : (n : Sizes) (r : Rows) (k : ℕ) → IsSizes n → AreRowsOf n r → k < low_of n.seats → 0 < slice_index r.strides k
-stride_in_rows n r k h rows low =
-    positive_of (slice_index r.strides k) (lanes_of n.seats) (stride_of n k) (rows.before k low) (product_positive (drop (k + 1) n.seats) (AreSizes-drop (k + 1) n.seats h.seats))
-
--- a seat before the lanes has a place in tables, and a positive stride
-pub record Before (n : Sizes) (r : Rows) (k : ℕ) : Type 0 where
-  pub low : k < low_of n.seats
-  pub few : k < 32
-  pub stride : 0 < slice_index r.strides k
-
-pub before : (n : NamedSys) (r : Rows) (k : ℕ) → IsNamedSys n → AreRowsOf (sizes_of (system_of n)) r → k < r.low → Before (sizes_of (system_of n)) r k
-before named r k known rows l =
-    let n : Sizes = sizes_of (system_of named) in
-    let h : IsSizes n = joint_sizes named known in
-    let low : k < low_of n.seats = omega (arith, rows.low) in
-    record { low = low; few = omega (arith, low, low_of-le n.seats, h.few); stride = stride_in_rows n r k h rows low }
-
--- a number's remainder by a product, split by one factor
-split_again : (x u size : ℕ) → 0 < u → 0 < size → (x % (u * size) / u ≡ x / u % size) × (x % (u * size) % u ≡ x % u)
-split_again x u size pos some =
-    let turned : u * size ≡ size * u = omega arith in
-    let part : x % u < u = mod_below x u pos in
-    let is : x % (u * size) ≡ x / u % size * u + x % u = ap (λ m. x % m) turned ∙ mod-mul x some pos in
-    (ap (λ m. m / u) is ∙ div-mul-add (x / u % size) u (x % u) part, ap (λ m. m % u) is ∙ mod-mul-add (x / u % size) u (x % u) part)
-
--- the rest of a row's number from a seat before the lanes on: the seat's state, and the rest after it
-pub record LeftAt (n : Sizes) (r : Rows) (x k rest : ℕ) : Type 0 where
-  pub state : rest / slice_index r.strides k ≡ x / (stride_of n k / lanes_of n.seats) % slice_index n.seats k
-  pub byte : rest / slice_index r.strides k < 2 ^ 8
-  pub behind : rest % slice_index r.strides k ≡ x % (product_of (drop (k + 1) n.seats) / lanes_of n.seats)
-
-pub left_at : (n : Sizes) (r : Rows) (x k rest : ℕ) → IsSizes n → AreRowsOf n r → k < low_of n.seats → rest ≡ x % (product_of (drop k n.seats) / lanes_of n.seats) → LeftAt n r x k rest
-left_at n r x k rest h rows low is =
-    let u = slice_index r.strides k in
-    let w = lanes_of n.seats in
-    let size = slice_index n.seats k in
-    let stride : u ≡ stride_of n k / w = row_stride n r k h rows low in
-    let seat : k < length n.seats = omega (arith, low, low_of-le n.seats) in
-    let sized = AreSizes-index n.seats k h.seats seat in
-    let product : stride_of n k * size ≡ product_of (drop k n.seats) = product_more n.seats k (k + 1) (stride_of n k) size refl seat refl refl in
-    let times : u * w * size ≡ stride_of n k * size = ap (λ m. m * size) (rows.before k low) in
-    let turned : u * size * w ≡ u * w * size = omega arith in
-    let whole : product_of (drop k n.seats) / w ≡ u * size = quotient (product_of (drop k n.seats)) (u * size) w (lanes_positive n.seats h.seats) (turned ∙ (times ∙ product)) in
-    let here : rest ≡ x % (u * size) = is ∙ ap (λ m. x % m) whole in
-    let (state, behind) = split_again x u size (stride_in_rows n r k h rows low) sized.0 in
-    let own : rest / u ≡ x / u % size = ap (λ m. m / u) here ∙ state in
-    let less : x / u % size < size = mod_below (x / u) size sized.0 in
-    record {
-      state = own ∙ ap (λ m. x / m % size) stride;
-      byte = omega (arith, own, less, sized.1);
-      behind = ap (λ m. m % u) here ∙ (behind ∙ ap (λ m. x % m) stride);
-    }
-
--- before the first seat, the rest is the whole part of the row
-pub left_first : (n : Sizes) (r : Rows) (x : ℕ) → IsSizes n → AreRowsOf n r → x % r.env_rows ≡ x % (product_of (drop 0 n.seats) / lanes_of n.seats)
-left_first n r x h rows = ap (λ m. x % m) (rows.env ∙ sym (quotient (product_of n.seats) (env_rows_of n) (lanes_of n.seats) (lanes_positive n.seats h.seats) (env_rows_are n)))
 
 -- the states of a row with one more seat
 pub row_states_more : (n : Sizes) (states : List ℕ) (x k state : ℕ) → k < length states → state ≡ x / (stride_of n k / lanes_of n.seats) % slice_index n.seats k →

@@ -1,5 +1,5 @@
 -- Target views and the system's actions.
-use Rattle.roman_joint.proofs.Common.{◌≡◌, ℕ, ◌+◌, ◌/◌, ◌%◌, ◌<◌, ◌≤◌, IsFalse, List, [], ◌∷◌, ◌++◌, length, take, get_or, slice_index_or, inl, inr, refl, sym, ap, ◌∙◌, subst, arith, bit_at, flat_map, get_or-append_seam, cases_eq, cases_lt, take_more, get_or_append_left, IsIn, Env, Beh, Sys, Pair, IsSys, env_prev, sizes_of, pair_at, numbered, by_test, numbered_is_arena, TargetView, from_target, from_env, from_action, bit_of, HasBits, ArePermitted, AreLeading, IsTargetView}
+use Rattle.roman_joint.proofs.Common.{◌≡◌, ℕ, ◌+◌, ◌/◌, ◌%◌, ◌<◌, ◌≤◌, IsFalse, List, [], ◌∷◌, ◌++◌, length, take, get_or, slice_index_or, inl, inr, sym, ap, ◌∙◌, subst, arith, get_or-append_seam, cases_eq, cases_lt, take_more, get_or_append_left, IsIn, Env, Beh, Sys, IsSys, sizes_of, pair_at, numbered, by_test, numbered_is_arena, TargetView, bit_of, HasBits, ArePermitted, IsTargetView}
 use Rattle.roman_model.proofs.CallerLemmas.{from_push}
 
 -- one more number at which the list is empty
@@ -21,12 +21,3 @@ permitted_at s p bits sys ok =
     let past : (a : ℕ) → s.env.actions ≤ a → IsFalse ((numbered s).allows p a) = λ a l.
     by_test ((numbered s).allows p a) (λ t. let within : a < s.env.actions = (numbered_is_arena s sys).allowed p a t in absurd (omega arith)) (λ f. f) in
     record { each = λ a m. elim (cases_lt a s.env.actions) [ inl less ↦ ok.each a less | inr more ↦ ok.rest a more ∙ sym (ap bit_of (past a more)) ] }
-
--- where all lists are empty, the joined list is empty
-pub flat_map-none : {X Y : Type 0} (f : X → List Y) (xs : List X) → ((x : X) → IsIn x xs → f x ≡ []) → flat_map f xs ≡ []
-flat_map-none f [] none = refl
-flat_map-none f (x ∷ xs) none = ap (λ ys. ys ++ flat_map f xs) (none x (inl refl)) ∙ flat_map-none f xs (λ y i. none y (inr i))
-
--- an action that doesn't lead to a target view leads to no pair there
-pub leads_nowhere : (s : Sys) (q : Pair) (bits : ℕ) → AreLeading s.env s.target q.t q.e bits → (a : ℕ) → a < s.env.actions → bit_at bits a ≡ 0 → from_action s q a ≡ []
-leads_nowhere s q bits ok a l none = flat_map-none (from_env s q a) (env_prev s.env q.e a) (λ e i. ap (flat_map (from_target s q a e)) (ok.others a l none e i))

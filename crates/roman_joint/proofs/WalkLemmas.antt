@@ -1,6 +1,5 @@
 -- One step of a walk backwards: the delegations that are left, and the new position.
-use Rattle.roman_joint.proofs.Common.{◌≡◌, ◌⊎◌, ℕ, zero, suc, ◌+◌, ◌<◌, ◌≤◌, Bool, true, false, cond, List, [], ◌∷◌, ◌++◌, length, take, drop, get_or, Option, None, Some, slice_get, slice_index, slice_set, inl, inr, refl, sym, ap, ap₂, ◌∙◌, subst, arith, bit_at, flat_map, cases_lt, drop_more, drop_all, append_assoc, length-map, length-filter, count_by-le-length, HoldsEachOnce, below, Env, Beh, Sys, Seat, Pair, IsSys, IsPair, IsEnv, IsBeh, has_triple, has_move, env_prev, beh_prev, Delegation, back, sizes_of, count, number, pair_at, numbered, length-below, numbers_are_pairs, seat_in, Walk, seat_prev, from_states, from_seat, from_target, from_env, from_action, from_all, goal_of, IsWalk, states_before, left}
-use Rattle.std.proofs.lemmas.List.{get_or-take}
+use Rattle.roman_joint.proofs.Common.{◌≡◌, ◌⊎◌, ℕ, zero, suc, ◌+◌, ◌<◌, ◌≤◌, Bool, true, false, cond, List, [], ◌∷◌, ◌++◌, length, drop, get_or, Option, None, Some, slice_get, slice_index, slice_set, inl, inr, refl, sym, ap, ◌∙◌, subst, arith, flat_map, cases_lt, drop_more, drop_all, append_assoc, length-map, length-filter, count_by-le-length, HoldsEachOnce, below, Env, Beh, Sys, Seat, Pair, IsSys, IsEnv, IsBeh, has_triple, has_move, env_prev, beh_prev, Delegation, back, sizes_of, count, number, pair_at, numbered, length-below, seat_in, Walk, seat_prev, from_states, from_seat, from_target, from_env, from_action, from_all, goal_of, IsWalk, states_before, left}
 use Rattle.roman_model.proofs.CallerLemmas.{get_or-below}
 use Rattle.roman_joint.proofs.BackwardLemmas.{found_backwards}
 use Rattle.roman_joint.specs.Walks.{left_of_seat, left_of_target, left_of_env, left_of_action, left_of_all, WalkGoesOn}
@@ -78,28 +77,26 @@ module _ (s : Sys) (sys : IsSys s) (w : Walk) (ok : IsWalk s w) where
   pub goes_seat : left_of_seat s w ≡ [] → w.seat + 1 < length s.seats → WalkGoesOn s w seat_on
   goes_seat no_states more = record { walk = seat_walk (omega arith); left = seat_left no_states; falls = omega arith }
 
-  -- the walk at the target's next predecessor state, with m states taken
-  abbrev pub target_on : ℕ → ℕ → ℕ → Walk
-  target_on t row m = record w { target = t; row = row; targets_taken = m; seat = 0; states_taken = 0 }
+  -- the walk at the target's next predecessor state
+  abbrev pub target_on : ℕ → Walk
+  target_on t = record w { target = t; targets_taken = w.targets_taken + 1; seat = 0; states_taken = 0 }
 
-  pub goes_target : (t row m : ℕ) → left_of_seat s w ≡ [] → left_of_target s w ≡ [] → w.targets_taken < length (beh_prev s.target (goal_of s w).t w.env w.action) →
-      t ≡ get_or (beh_prev s.target (goal_of s w).t w.env w.action) w.targets_taken 0 → t < s.target.states →
-      row ≡ number (sizes_of s) (record { t = t; e = w.env; bs = (goal_of s w).bs }) → (w.targets_taken < m) × (m ≤ 64) →
-      drop m (beh_prev s.target (goal_of s w).t w.env w.action) ≡ drop (w.targets_taken + 1) (beh_prev s.target (goal_of s w).t w.env w.action) → WalkGoesOn s w (target_on t row m)
-  goes_target t row m no_states no_seats more is within at taken same =
+  pub goes_target : (t : ℕ) → left_of_seat s w ≡ [] → left_of_target s w ≡ [] → w.targets_taken < length (beh_prev s.target (goal_of s w).t w.env w.action) →
+      t ≡ get_or (beh_prev s.target (goal_of s w).t w.env w.action) w.targets_taken 0 → t < s.target.states → WalkGoesOn s w (target_on t)
+  goes_target t no_states no_seats more is within =
       let targets = beh_prev s.target (goal_of s w).t w.env w.action in
       let rest = left_of_action s w ++ left_of_all s w in
       let f = from_target s (goal_of s w) w.action w.env in
-      let new = target_on t row m in
-      let next : left_of_env s w ≡ f t ++ left_of_env s new =
-      flat_map-drop f targets w.targets_taken 0 more ∙ ap₂ (λ u ts. f u ++ flat_map f ts) (sym is) (sym same) in
+      let new = target_on t in
+      let next : left_of_env s w ≡ f t ++ left_of_env s new = flat_map-drop f targets w.targets_taken 0 more ∙ ap (λ u. f u ++ left_of_env s new) (sym is) in
       let first : 0 ≤ length s.seats = omega arith in
+      let taken : w.targets_taken + 1 ≤ 64 = omega (arith, more, few_beh_prev s.env s.target (goal_of s w).t w.env w.action sys.target) in
       record {
         walk = assumption (none_taken);
         left = sym (append_assoc (left_of_seat s new) (left_of_target s new) (left_of_env s new ++ rest))
             ∙ (ap (λ xs. xs ++ (left_of_env s new ++ rest)) (seats_from s (goal_of s w) w.action w.env t 0)
             ∙ moved_on (left_of_seat s w) (left_of_target s w) (left_of_env s w) (f t) (left_of_env s new) rest no_states no_seats next);
-        falls = omega (arith, sys.few);
+        falls = omega (arith, sys.few, taken);
       }
 
   -- past the last seat, nothing is left of the target's state
@@ -108,56 +105,47 @@ module _ (s : Sys) (sys : IsSys s) (w : Walk) (ok : IsWalk s w) where
   no_seat_left e a k rest past =
       after_none _ _ rest (past_seat s (goal_of s w) a e w.target k 0 past) (below-past (from_seat s (goal_of s w) a e w.target) (length s.seats) (k + 1) (omega arith))
 
-  -- the walk at the environment's next predecessor state, with m states taken; k is the number of seats
-  abbrev pub env_on : ℕ → ℕ → ℕ → ℕ → Walk
-  env_on e row m k = record w { env = e; row = row; envs_taken = m; targets_taken = 0; seat = k; states_taken = 0 }
+  -- the walk at the environment's next predecessor state; k is the number of seats
+  abbrev pub env_on : ℕ → ℕ → Walk
+  env_on e k = record w { env = e; envs_taken = w.envs_taken + 1; targets_taken = 0; seat = k; states_taken = 0 }
 
-  pub goes_env : (e row m k : ℕ) → left_of_seat s w ≡ [] → left_of_target s w ≡ [] → left_of_env s w ≡ [] → w.envs_taken < length (env_prev s.env (goal_of s w).e w.action) →
-      e ≡ get_or (env_prev s.env (goal_of s w).e w.action) w.envs_taken 0 → e < s.env.states →
-      row ≡ number (sizes_of s) (record { t = w.target; e = e; bs = (goal_of s w).bs }) → (w.envs_taken < m) × (m ≤ 64) →
-      drop m (env_prev s.env (goal_of s w).e w.action) ≡ drop (w.envs_taken + 1) (env_prev s.env (goal_of s w).e w.action) → k ≡ length s.seats → WalkGoesOn s w (env_on e row m k)
-  goes_env e row m k no_states no_seats no_targets more is within at taken same all =
+  pub goes_env : (e k : ℕ) → left_of_seat s w ≡ [] → left_of_target s w ≡ [] → left_of_env s w ≡ [] → w.envs_taken < length (env_prev s.env (goal_of s w).e w.action) →
+      e ≡ get_or (env_prev s.env (goal_of s w).e w.action) w.envs_taken 0 → e < s.env.states → k ≡ length s.seats → WalkGoesOn s w (env_on e k)
+  goes_env e k no_states no_seats no_targets more is within all =
       let rest = left_of_all s w in
       let f = from_env s (goal_of s w) w.action in
-      let new = env_on e row m k in
+      let new = env_on e k in
       let past : k ≤ length s.seats = omega arith in
-      let next : left_of_action s w ≡ f e ++ left_of_action s new =
-      flat_map-drop f (env_prev s.env (goal_of s w).e w.action) w.envs_taken 0 more ∙ ap₂ (λ u es. f u ++ flat_map f es) (sym is) (sym same) in
+      let next : left_of_action s w ≡ f e ++ left_of_action s new = flat_map-drop f (env_prev s.env (goal_of s w).e w.action) w.envs_taken 0 more ∙ ap (λ u. f u ++ left_of_action s new) (sym is) in
+      let taken : w.envs_taken + 1 ≤ 64 = omega (arith, more, few_prev s.env (goal_of s w).e w.action sys.env) in
       record {
         walk = assumption (none_taken);
         left = no_seat_left e w.action k (f e ++ (left_of_action s new ++ rest)) (omega arith)
             ∙ (moved_on (left_of_target s w) (left_of_env s w) (left_of_action s w) (f e) (left_of_action s new) rest no_seats no_targets next
             ∙ ap (λ xs. xs ++ (left_of_target s w ++ (left_of_env s w ++ (left_of_action s w ++ rest)))) (sym no_states));
-        falls = omega (arith, sys.few);
+        falls = omega (arith, sys.few, taken);
       }
 
-  -- the walk at the next action, with m of the environment's states taken: all of them if the action doesn't lead to the pair
-  abbrev pub action_on : ℕ → ℕ → Walk
-  action_on m k = record w { action = w.action + 1; envs_taken = m; targets_taken = 64; seat = k; states_taken = 0 }
+  -- the walk at the next action, where all states of the target count as taken
+  abbrev pub action_on : ℕ → Walk
+  action_on k = record w { action = w.action + 1; envs_taken = 0; targets_taken = 64; seat = k; states_taken = 0 }
 
-  pub goes_action : (m k : ℕ) → left_of_seat s w ≡ [] → left_of_target s w ≡ [] → left_of_env s w ≡ [] → left_of_action s w ≡ [] → w.action + 1 < s.env.actions →
-      (m ≡ 0) ⊎ ((m ≡ 64) × (bit_at w.leading (w.action + 1) ≡ 0)) → k ≡ length s.seats → WalkGoesOn s w (action_on m k)
-  goes_action m k no_states no_seats no_targets no_envs more first all =
+  pub goes_action : (k : ℕ) → left_of_seat s w ≡ [] → left_of_target s w ≡ [] → left_of_env s w ≡ [] → left_of_action s w ≡ [] → w.action + 1 < s.env.actions → k ≡ length s.seats → WalkGoesOn s w (action_on k)
+  goes_action k no_states no_seats no_targets no_envs more all =
       let q = goal_of s w in
       let a = w.action + 1 in
       let f = from_action s q in
-      let new = action_on m k in
+      let new = action_on k in
       let past : k ≤ length s.seats = omega arith in
-      let small : m ≤ 64 = elim first [ inl e ↦ omega (arith, e) | inr e ↦ omega (arith, e.0) ] in
       let next : left_of_all s w ≡ f a ++ left_of_all s new = flat_map-below f s.env.actions a more in
       let old : left s w ≡ f a ++ left_of_all s new =
       after_none (left_of_seat s w) (left_of_target s w) (left_of_env s w ++ (left_of_action s w ++ left_of_all s w)) no_states no_seats
       ∙ (after_none (left_of_env s w) (left_of_action s w) (left_of_all s w) no_targets no_envs ∙ next) in
       let targets : left_of_env s new ≡ [] = flat_map-past (from_target s q a w.env) (beh_prev s.target q.t w.env a) 64 (few_beh_prev s.env s.target q.t w.env a sys.target) in
-      let envs : left_of_action s new ≡ f a = elim first [
-        | inl e ↦ ap (λ i. flat_map (from_env s q a) (drop i (env_prev s.env q.e a))) e
-        | inr (e, bit) ↦ flat_map-past (from_env s q a) (env_prev s.env q.e a) m (omega (arith, e, few_prev s.env q.e a sys.env)) ∙ sym (ok.leads a more bit)
-      ] in
       let then : left s new ≡ f a ++ left_of_all s new =
-      no_seat_left w.env a k (left_of_env s new ++ (left_of_action s new ++ left_of_all s new)) (omega arith)
-      ∙ (ap (λ xs. xs ++ (left_of_action s new ++ left_of_all s new)) targets ∙ ap (λ xs. xs ++ left_of_all s new) envs) in
+      no_seat_left w.env a k (left_of_env s new ++ (left_of_action s new ++ left_of_all s new)) (omega arith) ∙ ap (λ xs. xs ++ (left_of_action s new ++ left_of_all s new)) targets in
       let taken : 64 ≤ 64 = omega arith in
-      record { walk = assumption (none_taken); left = then ∙ sym old; falls = omega (arith, sys.few, small) }
+      record { walk = assumption (none_taken); left = then ∙ sym old; falls = omega (arith, sys.few) }
 
 -- a seat has at most 64 predecessor states
 pub few_seat_prev : (s : Sys) (k b' e a : ℕ) → IsSys s → length (seat_prev (slice_get s.seats k) b' e a) ≤ 64
@@ -178,7 +166,7 @@ pub record Takes (s : Sys) (old new : Walk) (node : ℕ) : Type 0 where
   pub left : left s old ≡ record { node = node; action = old.action; seat = old.seat } ∷ left s new
 
 module _ (s : Sys) (sys : IsSys s) (w : Walk) (ok : IsWalk s w) where
-  takes_state : (node : ℕ) → w.states_taken < length (states_before s w) →
+  pub takes_state : (node : ℕ) → w.states_taken < length (states_before s w) →
       node ≡ number (sizes_of s) (record { t = w.target; e = w.env; bs = slice_set (goal_of s w).bs w.seat (get_or (states_before s w) w.states_taken 0) }) →
       Takes s w (record w { states_taken = w.states_taken + 1 }) node
   takes_state node more is =
@@ -193,77 +181,30 @@ module _ (s : Sys) (sys : IsSys s) (w : Walk) (ok : IsWalk s w) where
       delegation_of : ℕ → ℕ → ℕ → Delegation ℕ
       delegation_of node a k = record { node = node; action = a; seat = k }
 
-  pub no_state_left : length (states_before s w) ≤ w.states_taken → left_of_seat s w ≡ []
-  no_state_left past = ap (from_states s (goal_of s w) w.action w.env w.target w.seat) (drop_all w.states_taken (states_before s w) past)
-
-module _ (s : Sys) (sys : IsSys s) (w : Walk) (ok : IsWalk s w) where
-  -- a predecessor state of the current seat is taken, and after the last one the walk moves on to the next seat
-  pub passes_state : (node : ℕ) (new : Walk) → w.seat < length s.seats → w.states_taken < length (states_before s w) →
-      node ≡ number (sizes_of s) (record { t = w.target; e = w.env; bs = slice_set (goal_of s w).bs w.seat (get_or (states_before s w) w.states_taken 0) }) →
-      (w.states_taken + 1 < length (states_before s w) → new ≡ record w { states_taken = w.states_taken + 1 }) →
-      (length (states_before s w) ≤ w.states_taken + 1 → new ≡ record w { seat = w.seat + 1; states_taken = 0 }) →
-      Takes s w new node
-  passes_state node new within left is more last =
-      elim (cases_lt (w.states_taken + 1) (length (states_before s w))) [
-        | inl less ↦ subst (λ v. Takes s w v node) (sym (more less)) takes
-        | inr past ↦ subst (λ u. Takes s w u node) (sym (last past)) (record {
-          walk = seat_walk s sys v takes.walk within;
-          action = refl;
-          left = takes.left ∙ ap (λ ds. record { node = node; action = w.action; seat = w.seat } ∷ ds) (sym (seat_left s sys v takes.walk (no_state_left s sys v takes.walk past)));
-        })
-      ]
-    where
-      v : Walk
-      v = record w { states_taken = w.states_taken + 1 }
-
-      takes : Takes s w v node
-      takes = takes_state s sys w ok node left is
-
 -- a walk that begins: all delegations that lead to the pair are left
 pub record Begins (s : Sys) (p : ℕ) (w : Walk) : Type 0 where
   pub walk : IsWalk s w
   pub left : HoldsEachOnce (left s w) (back (numbered s) p)
 
-abbrev pub first_walk : ℕ → ℕ → ℕ → List ℕ → ℕ → ℕ → Walk
-first_walk p t e states leading m = record {
-  pair = p;
-  to_target = t;
-  to_env = e;
-  to_states = states;
-  leading = leading;
-  action = 0;
-  envs_taken = 0;
-  env = e;
-  targets_taken = 64;
-  target = t;
-  row = p;
-  seat = m;
-  states_taken = 0;
-}
+-- m is the number of seats
+abbrev pub first_walk : ℕ → ℕ → Walk
+first_walk p m = record { pair = p; action = 0; envs_taken = 0; env = 0; targets_taken = 64; target = 0; seat = m; states_taken = 0 }
 
-pub begins : (s : Sys) (p t e leading m : ℕ) (states : List ℕ) → IsSys s → ((a : ℕ) → a < s.env.actions → bit_at leading a ≡ 0 → from_action s (pair_at (sizes_of s) p) a ≡ []) → p < count (sizes_of s) → take (length (sizes_of s).seats) states ≡ (pair_at (sizes_of s) p).bs →
-    t ≡ (pair_at (sizes_of s) p).t → e ≡ (pair_at (sizes_of s) p).e → m ≡ length s.seats → Begins s p (first_walk p t e states leading m)
-begins s p t e leading m states sys leads below_p same is_t is_e is_m =
+pub begins : (s : Sys) (p m : ℕ) → IsSys s → p < count (sizes_of s) → m ≡ length s.seats → Begins s p (first_walk p m)
+begins s p m sys below_p is_m =
     let q : Pair = pair_at (sizes_of s) p in
-    let pair : IsPair s q = (numbers_are_pairs s).pair p below_p in
-    let w : Walk = first_walk p t e states leading m in
-    let many : length (sizes_of s).seats ≡ length s.seats = length-map s.seats (λ (x : Seat). x.beh.states) in
+    let w : Walk = first_walk p m in
     let nothing : left s w ≡ left_of_action s w ++ left_of_all s w =
-    after_none (left_of_seat s w) (left_of_target s w) (left_of_env s w ++ (left_of_action s w ++ left_of_all s w)) (past_seat s q 0 e t m 0 (omega arith))
-    (below-past (from_seat s q 0 e t) (length s.seats) (m + 1) (omega arith))
-    ∙ ap (λ xs. xs ++ (left_of_action s w ++ left_of_all s w)) (flat_map-past (from_target s q 0 e) (beh_prev s.target q.t e 0) 64 (few_beh_prev s.env s.target q.t e 0 sys.target)) in
+    after_none (left_of_seat s w) (left_of_target s w) (left_of_env s w ++ (left_of_action s w ++ left_of_all s w)) (past_seat s q 0 0 0 m 0 (omega arith))
+    (below-past (from_seat s q 0 0 0) (length s.seats) (m + 1) (omega arith))
+    ∙ ap (λ xs. xs ++ (left_of_action s w ++ left_of_all s w)) (flat_map-past (from_target s q 0 0) (beh_prev s.target q.t 0 0) 64 (few_beh_prev s.env s.target q.t 0 0 sys.target)) in
     let all : from_all s q ≡ left_of_action s w ++ left_of_all s w = flat_map-below (from_action s q) s.env.actions 0 sys.env.actions.0 in
     record {
       walk = record {
         pair = below_p;
-        to_target = is_t;
-        to_env = is_e;
-        to_states = λ k l. sym (get_or-take (length (sizes_of s).seats) states k 0 (omega arith)) ∙ ap (λ bs. slice_index bs k) same;
-        leads = leads;
         action = sys.env.actions.0;
-        env = omega (arith, is_e, pair.e);
-        target = omega (arith, is_t, pair.t);
-        row = rw (is_t, is_e) (sym ((numbers_are_pairs s).there p below_p));
+        env = sys.env.states.0;
+        target = sys.target.states.0;
         seat = omega arith;
         states_taken = omega arith;
         targets_taken = omega arith;

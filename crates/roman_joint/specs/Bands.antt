@@ -1,10 +1,13 @@
 -- Bands of rows: runs of neighbouring rows, which differ only in the states of the last seats before the lanes.
-use Rattle.std.specs.Prelude.{◌≡◌, ℕ, ◌+◌, ◌*◌, ◌^◌, ◌<◌, ◌≤◌, ◌&&◌, not, All, Bool, List, length, slice_index}
+use Rattle.std.specs.Prelude.{◌≡◌, ℕ, ◌+◌, ◌*◌, ◌^◌, ◌<◌, ◌≤◌, ◌&&◌, not, All, Bool, List, IsFalse, length, slice_get, slice_index}
 use Rattle.std.specs.List.{list_any}
+use Rattle.roman_model.specs.Lists.{is_empty}
 use Rattle.roman_model.specs.System.{Sys}
+use Rattle.roman_model.specs.SystemArena.{seat_next}
 use Rattle.roman_model.specs.Arena.{is_beaten}
 use Rattle.roman_model.specs.Numbers.{sizes_of, numbered}
-use Rattle.roman_radix.specs.Rows.{low_of, lanes_of, row_sizes}
+use Rattle.roman_radix.specs.Radix.{stride_of}
+use Rattle.roman_radix.specs.Rows.{low_of, lanes_of, row_sizes, env_rows_of}
 use Rattle.roman_lanes.specs.Rows.{is_on, Keeps}
 use Rattle.roman_joint.specs.Rows.{lanes_in, AreAlive, IsRow, IsTargetMove}
 use Rattle.roman_joint.specs.declared.outcomes.Outcomes.{Outcomes}
@@ -57,3 +60,12 @@ abbrev pub ClearsServed : Sys → Row → List ℕ → ℕ → ℕ → List ℕ 
 ClearsServed s row alive a k old new =
     (y : ℕ) (gone : ℕ → Bool) (turn : TargetMove) → IsRow s (y * band_in s) row → IsTargetMove s row a turn → AllAlive s gone turn alive →
     Keeps (lanes_in s) (y * band_in s) (band_in s) (λ p. is_beaten (numbered s) gone p a k) old new
+
+-- by the action, seat k leads from the row to these rows; it stands before the lanes and has a next state
+pub record AreRowsBefore (s : Sys) (row : Row) (turn : TargetMove) (a k : ℕ) (to : Outcomes) : Type 0 where
+  pub base : to.base + slice_index row.states k * to.stride ≡ turn.base
+  pub stride : to.stride * lanes_in s ≡ stride_of (sizes_of s) k
+  pub env_stride : to.env_stride ≡ env_rows_of (sizes_of s)
+  pub worlds : to.envs.now ≡ turn.envs.now
+  pub states : to.states.now ≡ seat_next (slice_get s.seats k) (slice_index row.states k) row.env a
+  pub some : IsFalse (is_empty to.states.now)

@@ -13,4 +13,3 @@ pub mod Rows
 pub mod Marks
 pub mod Moves
 pub mod Bands
-pub mod Own

@@ -1,5 +1,5 @@
 -- The numbers of the pairs to which a delegation can lead.
-use Rattle.std.specs.Prelude.{◌≡◌, ℕ, ◌+◌, ◌*◌, ◌<◌, List, map, slice_index}
+use Rattle.std.specs.Prelude.{◌≡◌, ℕ, ◌+◌, ◌*◌, ◌^◌, ◌<◌, ◌≤◌, All, List, map, slice_index}
 use Rattle.std.specs.List.{flat_map}
 use Rattle.roman_model.specs.Numbers.{Sizes, count, pair_at}
 use Rattle.roman_joint.specs.declared.outcomes.Outcomes.{Outcomes}
@@ -17,3 +17,9 @@ pub record IsPairWith (n : Sizes) (k q e b : ℕ) : Type 0 where
   pub below : q < count n
   pub env : (pair_at n q).e ≡ e
   pub state : slice_index (pair_at n q).bs k ≡ b
+
+-- of the numbers, each and the `many - 1` after it are below `long`, and all have 32 bits
+pub record SuitsRows (rows : Outcomes) (many long : ℕ) : Type 0 where
+  pub envs : All (λ e. rows.base + e * rows.env_stride < 2 ^ 32) rows.envs.now
+  pub fits : All (λ e. All (λ b. outcome_number rows e b < 2 ^ 32) rows.states.now) rows.envs.now
+  pub within : All (λ e. All (λ b. outcome_number rows e b + many ≤ long) rows.states.now) rows.envs.now

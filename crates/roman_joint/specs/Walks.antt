@@ -1,12 +1,11 @@
 -- Walks backwards from a pair.
 use Rattle.std.specs.Prelude.{◌≡◌, ℕ, ◌+◌, ◌-◌, ◌*◌, ◌^◌, ◌<◌, ◌≤◌, List, [], ◌++◌, length, drop, slice_get, slice_index}
-use Rattle.std.specs.Int.{bit_at}
 use Rattle.std.specs.List.{flat_map}
 use Rattle.roman_model.specs.Lists.{below}
 use Rattle.roman_model.specs.System.{Sys, Pair}
 use Rattle.roman_model.specs.SystemArena.{env_prev, beh_prev}
 use Rattle.roman_model.specs.Arena.{Delegation}
-use Rattle.roman_model.specs.Numbers.{sizes_of, count, number, pair_at}
+use Rattle.roman_model.specs.Numbers.{sizes_of, count, pair_at}
 use Rattle.roman_joint.specs.declared.walk.Walk.{Walk}
 use Rattle.roman_joint.specs.Backward.{seat_prev, from_states, from_seat, from_target, from_env, from_action}
 
@@ -17,14 +16,9 @@ goal_of s walk = pair_at (sizes_of s) walk.pair
 -- the walk is a walk of this system
 pub record IsWalk (s : Sys) (walk : Walk) : Type 0 where
   pub pair : walk.pair < count (sizes_of s)
-  pub to_target : walk.to_target ≡ (goal_of s walk).t
-  pub to_env : walk.to_env ≡ (goal_of s walk).e
-  pub to_states : (k : ℕ) → k < length s.seats → slice_index walk.to_states k ≡ slice_index (goal_of s walk).bs k
-  pub leads : (a : ℕ) → a < s.env.actions → bit_at walk.leading a ≡ 0 → from_action s (goal_of s walk) a ≡ []
   pub action : walk.action < s.env.actions
   pub env : walk.env < s.env.states
   pub target : walk.target < s.target.states
-  pub row : walk.row ≡ number (sizes_of s) (record { t = walk.target; e = walk.env; bs = (goal_of s walk).bs })
   pub seat : walk.seat ≤ length s.seats
   pub states_taken : walk.states_taken ≤ 64
   pub targets_taken : walk.targets_taken ≤ 64

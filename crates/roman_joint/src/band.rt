@@ -11,13 +11,11 @@ ghost use Rattle.roman_joint.specs.Bands.{mid_in, band_in, AllAlive, ClearsServe
 
 use crate::joint::Joint;
 use crate::moving::clear_moving;
-use crate::outcomes::Outcomes;
 use crate::row::Row;
 use crate::runs::{
     BAND, Run, clear, clear_alive, clear_state, is_clear, rows_alive_each, set_first,
 };
-use crate::states::next_states;
-use crate::turn::{Turn, target_move_of};
+use crate::turn::{Turn, rows_before, target_move_of};
 use crate::words::less;
 
 /// Clears, in `left`, the pairs of a band at which the seat `k` serves the action. The seat stands
@@ -32,18 +30,8 @@ fn clear_before(joint: &Joint, turn: &Turn<'_>, k: u8, left: &mut [u64])
         Keeps (lanes_in s) (y * band_in s) (band_in s) (λ p. is_beaten (numbered s) gone p turn.now.action k) left.old left.new }
 {
     let rows = joint.layout();
-    let b = turn.row.states[k as usize];
-    let states = next_states(joint, k, b, turn.row.env, turn.action);
-    if states.is_empty() {
+    let Some(to) = rows_before(joint, turn, k) else {
         return;
-    }
-    let stride = rows.strides[k as usize];
-    let to = Outcomes {
-        base: turn.to.base - u32::from(b) * stride,
-        envs: turn.to.envs,
-        env_stride: rows.env_rows,
-        states,
-        stride,
     };
     clear_alive(left, turn.words, &to, rows.full);
 }
@@ -256,7 +244,7 @@ impl Joint {
             (y : ℕ) (gone : ℕ → Bool) → IsRow s (y * band_in s) row.now → HasAlive s gone words.now →
             Keeps (lanes_in s) (y * band_in s) (band_in s) (λ p. is_justified (numbered s) gone p (Act a)) left.old left.new }
     {
-        self.known();
+        self.known(); // no size is 0, a pair's number fits 32 bits
         if left.len() == 1 {
             left[0] = self.unserved(row, words, a, left[0]);
             return;
@@ -288,7 +276,7 @@ impl Joint {
             (y : ℕ) (gone : ℕ → Bool) → IsRow s (y * band_in s) row.now → HasAlive s gone words.now →
             Keeps (lanes_in s) (y * band_in s) (band_in s) (λ p. is_beaten (numbered s) gone p a k) left.old left.new }
     {
-        self.known();
+        self.known(); // outcomes need an allowed action and a ready seat, no size is 0
         let Some(to) = target_move_of(self, row, a) else {
             return;
         };
@@ -316,7 +304,7 @@ impl Joint {
             (below (lanes_in s))) (below (band_in s)) }
         ensures few { result ≤ 131072 }
     {
-        self.known();
+        self.known(); // outcomes need an allowed action and a ready seat, no size is 0
         let Some(to) = target_move_of(self, row, a) else {
             return 0;
         };

@@ -1,6 +1,5 @@
 //! The pairs of a row at which seats serve an action.
-ghost use Rattle.std.specs.Prelude.{◌≡◌, ℕ, ◌+◌, ◌*◌, ◌<◌, ◌≤◌, Bool, not, ◌&&◌, false, length, sum_by};
-ghost use Rattle.roman_model.specs.Lists.{below};
+ghost use Rattle.std.specs.Prelude.{◌≡◌, ℕ, ◌+◌, ◌*◌, ◌<◌, ◌≤◌, Bool, not, ◌&&◌, false, length};
 ghost use Rattle.roman_model.specs.System.{has};
 ghost use Rattle.roman_model.specs.Arena.{is_beaten, is_justified, mask as mask_of};
 ghost use Rattle.roman_model.specs.Numbers.{sizes_of, count, numbered};
@@ -12,16 +11,13 @@ ghost use Rattle.roman_joint.specs.Rows.{lanes_in, low_in, HasAlive, IsRow, IsTa
 ghost use Rattle.roman_joint.specs.declared.turn.TargetMove.{TargetMove};
 
 use crate::joint::Joint;
-use crate::outcomes::Outcomes;
 use crate::row::Row;
-use crate::states::next_states;
-use crate::turn::{Turn, target_move_of};
+use crate::turn::{Turn, rows_before, target_move_of};
 use crate::words::{all_alive, less, moves_alive, rows_alive};
 use roman_rules::SeatSet;
 
 /// Returns the lanes at which a seat before the lanes serves the action.
 #[inline(always)]
-#[tactic(auto, using(crate::proofs::GoodLemmas::seats_few))]
 fn good_before(joint: &Joint, turn: &Turn<'_>, k: u8) -> u64
     requires turn { (x : ℕ) × IsTurn (system_of joint.now) x turn.now }
     requires seat { k < low_in (system_of joint.now) }
@@ -30,18 +26,8 @@ fn good_before(joint: &Joint, turn: &Turn<'_>, k: u8) -> u64
         HasLanes (lanes_in s) x (λ p. not (is_beaten (numbered s) gone p turn.now.action k)) result }
 {
     let rows = joint.layout();
-    let b = turn.row.states[k as usize];
-    let states = next_states(joint, k, b, turn.row.env, turn.action);
-    if states.is_empty() {
+    let Some(to) = rows_before(joint, turn, k) else {
         return 0;
-    }
-    let stride = rows.strides[k as usize];
-    let to = Outcomes {
-        base: turn.to.base - u32::from(b) * stride,
-        envs: turn.to.envs,
-        env_stride: rows.env_rows,
-        states,
-        stride,
     };
     all_alive(turn.words, &to, rows.full)
 }
@@ -71,7 +57,7 @@ fn good_within(joint: &Joint, row: &Row, alive: u64, a: u8, k: u8) -> u64
         IsTargetMove s row.now a turn → AreAlive s gone turn alive →
         HasLanes (lanes_in s) x (λ p. not (is_beaten (numbered s) gone p a k)) result }
 {
-    joint.known();
+    joint.known(); // outcomes need an allowed action and a ready seat
     if joint.seat(k).frozen {
         return 0;
     }
@@ -123,7 +109,7 @@ impl Joint {
             (x : ℕ) (gone : ℕ → Bool) → IsRow s x row.now → HasAlive s gone words.now →
             HasLanes (lanes_in s) x (λ p. not (is_beaten (numbered s) gone p a k)) result }
     {
-        self.known();
+        self.known(); // outcomes need an allowed action and a ready seat
         let Some(to) = target_move_of(self, row, a) else {
             return 0;
         };
@@ -150,7 +136,7 @@ impl Joint {
             (x : ℕ) (gone : ℕ → Bool) → IsRow s x row.now → HasAlive s gone words.now →
             HasBits result (has (mask_of (numbered s) gone (x * lanes_in s + lane) a)) }
     {
-        self.known();
+        self.known(); // outcomes need an allowed action and a ready seat
         let Some(to) = target_move_of(self, row, a) else {
             return SeatSet::EMPTY;
         };
@@ -182,7 +168,7 @@ impl Joint {
             is_on result lane ≡ (is_on wanted lane && is_justified (numbered s) gone (x * lanes_in s + lane) (Act a)) }
         ensures within { (lane : ℕ) → is_on wanted lane ≡ false → is_on result lane ≡ false }
     {
-        self.known();
+        self.known(); // the system is well formed
         let Some(to) = target_move_of(self, row, a) else {
             return 0;
         };

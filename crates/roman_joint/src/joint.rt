@@ -6,7 +6,7 @@ ghost use Rattle.roman_model.specs.declared.limits.TheConstants.{MAX_SERVICES, M
 ghost use Rattle.roman_joint.specs.Behaviours.{IsSeatBehaviour};
 ghost use Rattle.roman_joint.specs.NamedSys.{NamedSys, named_parts, system_of, cells, IsOverEnv, TargetIsOverEnv, IsNamedSys};
 ghost use Rattle.roman_joint.specs.Rows.{AreRowsOf, low_in};
-ghost use Rattle.roman_joint.specs.Moves.{AreMovesOf};
+ghost use Rattle.roman_joint.specs.Moves.{AreMovesOf, HoldsMoves};
 ghost use Rattle.roman_model.specs.System as model;
 
 mod changes;
@@ -37,7 +37,6 @@ use std::marker::Model;
 /// The pairs of the system have the numbers of its [shape](Joint::shape). Services are given by their
 /// places, and actions and states by their numbers. Unless a call says otherwise, numbers that are
 /// passed must be in range, and the call takes no memory.
-#[derive(Drop)]
 pub struct Joint {
     environment: Environment,
     catalogue: Vec<Behaviour>,
@@ -50,6 +49,23 @@ pub struct Joint {
     // Ordered by the target's state, and then by the environment's.
     target_views: Vec<TargetView>,
     limit: u32,
+}
+
+// One call. At each exit of a function that owns a joint, a derived drop would be a step for each vector.
+impl Drop for Joint {
+    fn drop(self) {
+        let Joint {
+            environment: _,
+            catalogue: _,
+            target: _,
+            seats: _,
+            shape: _,
+            rows: _,
+            moves: _,
+            target_views: _,
+            limit: _,
+        } = self;
+    }
 }
 
 impl Model for Joint {
@@ -158,7 +174,7 @@ impl Joint {
         requires { k < length self.now.seats }
         ensures { IsSeatBehaviour self.now k result.now }
     {
-        self.known();
+        self.known(); // each seat's behaviour is in the catalogue
         let seat = self.seat(k);
         &self.catalogue()[seat.behaviour as usize]
     }
@@ -178,6 +194,13 @@ impl Joint {
         &self.rows
     }
 
+    // Returns the moves of the services within the lanes.
+    fn table(&self) -> &Moves
+        ensures { HoldsMoves (system_of self.now) result.now }
+    {
+        &self.moves
+    }
+
     // Returns the moves of the service at place `k`, within the lanes, on an action in a state of the
     // environment: the lanes from which its behaviour has a step, and the moves of these lanes. They
     // don't depend on whether the service is frozen.
@@ -188,10 +211,11 @@ impl Joint {
         requires action { a < (system_of self.now).env.actions }
         ensures { (seat : model.Seat) → slice_get (system_of self.now).seats k ≡ Some seat → AreMovesOf (sizes_of (system_of self.now)) k seat.beh e a result.0 result.1.now }
     {
-        let table = &self.moves;
+        let rows = self.layout();
+        let table = self.table();
         let turn = u32::from(e) * table.actions + u32::from(a);
-        let lows = self.seats.len() as u32 - u32::from(self.rows.low);
-        let at = turn * lows + u32::from(k - self.rows.low);
+        let lows = u32::from(self.seats()) - u32::from(rows.low);
+        let at = turn * lows + u32::from(k - rows.low);
         let span = table.spans[at as usize];
         (span.some, part(&table.moves, span.first, span.end))
     }

@@ -40,7 +40,7 @@ pub(crate) struct Rows {
 pub(crate) fn rows_of(shape: &Shape) -> Rows
     ensures { AreRowsOf shape.now result }
 {
-    shape.known();
+    shape.known(); // no size is 0
     let low = shape.low();
     let (mid, band) = shape.band();
     let lanes = shape.lanes();

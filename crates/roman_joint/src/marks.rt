@@ -70,7 +70,7 @@ fn mark_seat<L: Ledger>(by: &Arrival<'_>, marks: &mut [u64], base: u64, k: u8, s
     ensures marks { MarksSeat (system_of by.now.joint.now) by.now.row.now marks.new by.now.action by.now.env base k }
     ensures steps { steps.new ≡ steps.old + seat_steps (system_of by.now.joint.now) by.now.row.now by.now.action by.now.env k }
 {
-    by.joint.known();
+    by.joint.known(); // there are at most 32 seats
     let rows = by.joint.layout();
     let own = by.row.states[k as usize];
     let states = prev_states(by.joint, k, own, by.env, by.action);
@@ -92,7 +92,7 @@ fn mark_turn<L: Ledger>(by: &Arrival<'_>, marks: &mut [u64], t: u8, steps: &mut 
     ensures marks { MarksTurn (system_of by.now.joint.now) by.now.row.now marks.new by.now.action by.now.env t }
     ensures steps { steps.new ≡ steps.old + turn_steps (system_of by.now.joint.now) by.now.row.now by.now.action by.now.env }
 {
-    by.joint.known();
+    by.joint.known(); // a pair's number fits 32 bits
     let rows = by.joint.layout();
     let base = times(t, rows.target_rows) + times(by.env, rows.env_rows) + u64::from(by.row.part);
     mark(marks, base / u64::from(rows.band));
@@ -108,7 +108,7 @@ fn mark_env<L: Ledger>(by: &Arrival<'_>, marks: &mut [u64], steps: &mut Steps<L>
     ensures marks { MarksEnv (system_of by.now.joint.now) by.now.row.now marks.new by.now.action by.now.env }
     ensures steps { steps.new ≡ steps.old + env_steps (system_of by.now.joint.now) by.now.row.now by.now.action by.now.env }
 {
-    by.joint.known();
+    by.joint.known(); // the target is over the environment
     let targets = by.joint.target().into(by.row.target, by.env, by.action);
     for t in targets {
         mark_turn(by, marks, *t, steps);
@@ -123,7 +123,7 @@ fn mark_action<L: Ledger>(joint: &Joint, row: &Row, marks: &mut [u64], a: u8, st
     ensures marks { MarksAction (system_of joint.now) row.now marks.new a }
     ensures steps { steps.new ≡ steps.old + action_steps (system_of joint.now) row.now a }
 {
-    joint.known();
+    joint.known(); // there are at most 32 actions
     if (row.leading >> a) & 1 == 0 {
         return;
     }
@@ -156,7 +156,7 @@ impl Joint {
             (y i lane : ℕ) → IsRow s (y * band_in s) row.now → i < band_in s → lane < lanes_in s →
             steps.new ≡ steps.old + count_by (λ d. ltb d.seat (mid_in s)) (back (numbered s) ((y * band_in s + i) * lanes_in s + lane)) }
     {
-        self.known();
+        self.known(); // the system is well formed, a pair's number fits 32 bits
         for a in 0..self.environment().actions().len() as u8 {
             mark_action(self, row, marks, a, steps);
         }

@@ -130,7 +130,7 @@ impl Moves {
         requires place { vec_len self.old.spans < vec_capacity self.old.spans }
         ensures added { IsAdded shape.now k behaviour.now.beh e a self.old self.new }
     {
-        shape.known();
+        shape.known(); // no size is 0, there are at most 32 seats
         let ways = ways_of(shape, rows, behaviour, k, e, a);
         let first = self.moves.len() as u32;
         let last = rows.sizes[k as usize] - 1;
@@ -156,7 +156,7 @@ impl Moves {
         ensures added { IsTurnAdded (length parts.now.seats.now - low_of shape.now.seats) self.old self.new }
         ensures spans { (n : NamedSys) → AreSeatsOf n parts.now.catalogue.now parts.now.seats.now shape.now self.old.envs self.old.actions → HoldsSpans (system_of n) self.new.spans.items self.new.moves.items }
     {
-        shape.known();
+        shape.known(); // no size is 0, there are at most 32 seats
         let seats = parts.seats;
         let catalogue = parts.catalogue;
         for k in rows.low..seats.len() as u8 {

@@ -2,7 +2,7 @@
 ghost use Rattle.std.specs.Prelude.{◌≡◌, ◌≢◌, ◌↔◌, IsTrue, ℕ, ◌+◌, ◌-◌, ◌*◌, ◌/◌, ◌%◌, ◌^◌, ◌<◌, ◌≤◌, not, ◌&&◌, false, All, length, slice_index, bit_and};
 ghost use Rattle.std.specs.List.{list_any};
 ghost use Rattle.roman_lanes.specs.Rows.{is_on};
-ghost use Rattle.roman_joint.specs.Outcomes.{outcome_number};
+ghost use Rattle.roman_joint.specs.Outcomes.{SuitsRows};
 ghost use Rattle.roman_joint.specs.Bands.{SuitsRun, LosesRun, LosesAlive, CanGo};
 
 use crate::outcomes::Outcomes;
@@ -68,9 +68,7 @@ pub(crate) fn rows_alive_each(all: &mut [u64], words: &[u64], base: u32, states:
 /// Clears, in each word, the lanes that aren't set in all rows of the word: the rows of word i are
 /// the numbers of `rows`, each plus i.
 pub(crate) fn all_alive_each(all: &mut [u64], words: &[u64], rows: &Outcomes<'_>)
-    requires envs { All (λ e. rows.now.base + e * rows.now.env_stride < 2 ^ 32) rows.now.envs.now }
-    requires fits { All (λ e. All (λ b. outcome_number rows.now e b < 2 ^ 32) rows.now.states.now) rows.now.envs.now }
-    requires within { All (λ e. All (λ b. outcome_number rows.now e b + length all.old ≤ length words.now) rows.now.states.now) rows.now.envs.now }
+    requires { SuitsRows rows.now (length all.old) (length words.now) }
     ensures long { length all.new ≡ length all.old }
     ensures each { let states = rows.now.states.now in
         (i lane : ℕ) → i < length all.old → is_on (slice_index all.new i) lane ≡ (is_on (slice_index all.old i) lane
@@ -86,9 +84,7 @@ pub(crate) fn all_alive_each(all: &mut [u64], words: &[u64], rows: &Outcomes<'_>
 /// of word i are the numbers of `rows`, each plus i.
 fn clear_by_all(left: &mut [u64], words: &[u64], rows: &Outcomes<'_>, full: u64)
     requires few { length left.old ≤ 64 }
-    requires envs { All (λ e. rows.now.base + e * rows.now.env_stride < 2 ^ 32) rows.now.envs.now }
-    requires fits { All (λ e. All (λ b. outcome_number rows.now e b < 2 ^ 32) rows.now.states.now) rows.now.envs.now }
-    requires within { All (λ e. All (λ b. outcome_number rows.now e b + length left.old ≤ length words.now) rows.now.states.now) rows.now.envs.now }
+    requires rows { SuitsRows rows.now (length left.old) (length words.now) }
     ensures long { length left.new ≡ length left.old }
     ensures each { (i : ℕ) → i < length left.old → LosesAlive rows.now words.now full i (slice_index left.old i) (slice_index left.new i) }
 {
@@ -105,9 +101,7 @@ fn clear_by_all(left: &mut [u64], words: &[u64], rows: &Outcomes<'_>, full: u64)
 /// 64 words in `left`.
 pub(crate) fn clear_alive(left: &mut [u64], words: &[u64], rows: &Outcomes<'_>, full: u64)
     requires few { length left.old ≤ 64 }
-    requires envs { All (λ e. rows.now.base + e * rows.now.env_stride < 2 ^ 32) rows.now.envs.now }
-    requires fits { All (λ e. All (λ b. outcome_number rows.now e b < 2 ^ 32) rows.now.states.now) rows.now.envs.now }
-    requires within { All (λ e. All (λ b. outcome_number rows.now e b + length left.old ≤ length words.now) rows.now.states.now) rows.now.envs.now }
+    requires rows { SuitsRows rows.now (length left.old) (length words.now) }
     ensures long { length left.new ≡ length left.old }
     ensures each { ((x lane : ℕ) → x < length words.now → is_on full lane ≡ false → is_on (slice_index words.now x) lane ≡ false) →
         (i : ℕ) → i < length left.old → LosesAlive rows.now words.now full i (slice_index left.old i) (slice_index left.new i) }

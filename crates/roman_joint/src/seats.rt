@@ -1,13 +1,11 @@
-//! The services of a joint: copies, sizes, the shape of these sizes, and the states in which services
-//! may rest.
-ghost use Rattle.std.specs.Prelude.{◌≡◌, ◌+◌, ◌/◌, ◌%◌, ◌≤◌, ◌<◌, ◌↔◌, ◌||◌, not, All, length, map, take, drop, slice_index, IsSome, IfSome, IfOk, vec_capacity};
+//! The services of a joint: copies, sizes, and the shape of these sizes.
+ghost use Rattle.std.specs.Prelude.{◌≡◌, ◌≤◌, ◌<◌, ◌↔◌, All, length, map, take, IsSome, IfSome, IfOk, vec_capacity};
 ghost use Rattle.std.specs.List.{AllByRecursion};
-ghost use Rattle.roman_model.specs.Lists.{product_of};
-ghost use Rattle.roman_model.specs.System.{IsSys, IsBeh, is_final, all_final};
-ghost use Rattle.roman_model.specs.Numbers.{sizes_of, count, pair_at};
+ghost use Rattle.roman_model.specs.System.{IsSys, IsBeh};
+ghost use Rattle.roman_model.specs.Numbers.{sizes_of};
 ghost use Rattle.roman_model.specs.declared.limits.TheConstants.{MAX_SERVICES};
 ghost use Rattle.roman_parts.specs.Named.{NamedEnv};
-ghost use Rattle.roman_joint.specs.NamedSys.{beh_at, seat_of, system_of, cells, IsOverEnv, TargetIsOverEnv};
+ghost use Rattle.roman_joint.specs.NamedSys.{beh_at, system_of, cells, IsOverEnv, TargetIsOverEnv};
 ghost use Rattle.roman_joint.specs.Parts.{named_in};
 
 use crate::parts::Parts;
@@ -60,52 +58,4 @@ pub(crate) fn shape_of(parts: &Parts<'_>, limit: u32) -> Option<Shape>
         &sizes[..parts.seats.len()],
         limit / parts.environment.actions().len(),
     )
-}
-
-/// Returns whether each service that rests is in a final state at pair `p`.
-pub(crate) fn are_final(catalogue: &[Behaviour], seats: &[Seat], shape: &Shape, p: u32) -> bool
-    requires behaviours { All (λ seat. seat.behaviour < length catalogue.now) seats.now }
-    requires sizes { shape.now.seats ≡ map (λ seat. (beh_at catalogue.now seat.behaviour).states) seats.now }
-    requires pair { p < count shape.now }
-    ensures { result ≡ all_final (map (seat_of catalogue.now) seats.now) (pair_at shape.now p).bs }
-{
-    shape.known();
-    let mut rest = p % shape.env_stride();
-    for (k, seat) in seats.iter().enumerate() {
-        let (state, behind) = split(shape, k as u8, rest);
-        if !may_rest(catalogue, seat, state) {
-            return false;
-        }
-        rest = behind;
-    }
-    true
-}
-
-/// Splits the number of the states from component `k` on. Returns the state of component `k`, and the
-/// number of the states after it.
-fn split(shape: &Shape, k: u8, rest: u32) -> (u8, u32)
-    requires component { k < length shape.now.seats }
-    requires rest { rest < product_of (drop k shape.now.seats) }
-    ensures state { result.0 ≡ rest / product_of (drop (k + 1) shape.now.seats) }
-    ensures within { result.0 < slice_index shape.now.seats k }
-    ensures behind { result.1 ≡ rest % product_of (drop (k + 1) shape.now.seats) }
-    ensures below { result.1 < product_of (drop (k + 1) shape.now.seats) }
-{
-    shape.known();
-    let stride = shape.stride(k);
-    ((rest / stride) as u8, rest % stride)
-}
-
-/// Returns whether a service may rest in a state: the state is final, or the service is loose.
-#[tactic(auto, using(crate::proofs::SeatLemmas::seat_beh_read))]
-fn may_rest(catalogue: &[Behaviour], seat: &Seat, state: u8) -> bool
-    requires behaviour { seat.now.behaviour < length catalogue.now }
-    requires state { state < (beh_at catalogue.now seat.now.behaviour).states }
-    ensures { result ≡ (not seat.now.rests || is_final (beh_at catalogue.now seat.now.behaviour) state) }
-{
-    if !seat.rests {
-        return true;
-    }
-    let behaviour = &catalogue[seat.behaviour as usize];
-    behaviour.is_final(state)
 }

@@ -16,17 +16,16 @@ use roman_radix::Shape;
 
 /// Returns the states of the services before the lanes at the pairs of row `x`, in the first places of
 /// a table.
+#[tactic(auto, using(crate::proofs::GoodLemmas::seats_few))]
 pub(crate) fn row_states(joint: &Joint, x: u32) -> [u8; PLACES]
     ensures { (k : ℕ) → k < low_in (system_of joint.now) → slice_index result k
         ≡ x / (stride_of (sizes_of (system_of joint.now)) k / lanes_in (system_of joint.now)) % slice_index (sizes_of (system_of joint.now)).seats k }
 {
     let rows = joint.layout();
     let mut states = [0; PLACES];
-    let mut rest = x % rows.env_rows;
     for k in 0..rows.low {
-        let stride = rows.strides[k as usize];
-        states[k as usize] = (rest / stride) as u8;
-        rest %= stride;
+        let state = x / rows.strides[k as usize] % u32::from(rows.sizes[k as usize]);
+        states[k as usize] = state as u8;
     }
     states
 }
@@ -41,7 +40,7 @@ pub(crate) fn next_states<'a>(joint: &'a Joint, k: u8, b: u8, e: u8, a: u8) -> &
     ensures next { result.now ≡ seat_next (slice_get (system_of joint.now).seats k) b e a }
     ensures below { All (λ c. c < slice_index (sizes_of (system_of joint.now)).seats k) result.now }
 {
-    joint.known();
+    joint.known(); // each seat's behaviour is in the catalogue
     let seat = joint.seat(k);
     if seat.frozen {
         return &[];
@@ -60,7 +59,7 @@ pub(crate) fn prev_states<'a>(joint: &'a Joint, k: u8, b: u8, e: u8, a: u8) -> &
     ensures below { All (λ c. c < slice_index (sizes_of (system_of joint.now)).seats k) result.now }
     ensures few { length result.now ≤ 64 }
 {
-    joint.known();
+    joint.known(); // each seat's behaviour is in the catalogue
     let seat = joint.seat(k);
     if seat.frozen {
         return &[];
@@ -70,13 +69,13 @@ pub(crate) fn prev_states<'a>(joint: &'a Joint, k: u8, b: u8, e: u8, a: u8) -> &
 }
 
 /// Returns whether a service may rest in a state: the state is final, or the service is loose.
-#[tactic(auto, using(crate::proofs::SeatLemmas::seat_placed))]
+#[tactic(auto, using(crate::proofs::BehaviourLemmas::seat_read))]
 pub(crate) fn may_rest(joint: &Joint, k: u8, b: u8) -> bool
     requires seat { k < length joint.now.seats }
     requires state { b < slice_index (sizes_of (system_of joint.now)).seats k }
     ensures { result ≡ may_rest_in (slice_get (system_of joint.now).seats k) b }
 {
-    joint.known();
+    joint.known(); // each seat's behaviour is in the catalogue
     let seat = joint.seat(k);
     if !seat.rests {
         return true;
@@ -95,7 +94,7 @@ pub(crate) fn state_lanes(shape: &Shape, rows: &Rows, k: u8, b: u8) -> u64
     ensures each { (lane : ℕ) → lane < lanes_of shape.now.seats → is_on result lane ≡ lane_has_state (stride_of shape.now k) (slice_index shape.now.seats k) b lane }
     ensures rest { (lane : ℕ) → lanes_of shape.now.seats ≤ lane → is_on result lane ≡ false }
 {
-    shape.known();
+    shape.known(); // no size is 0, there are at most 32 seats
     let from = u32::from(b) * rows.strides[k as usize];
     (rows.firsts[k as usize] << from) & rows.full
 }

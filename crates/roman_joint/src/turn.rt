@@ -1,10 +1,14 @@
 //! The states to which an action leads from a row, whichever service serves it.
-ghost use Rattle.std.specs.Prelude.{ℕ, ◌<◌, IsFalse, MatchOption};
+ghost use Rattle.std.specs.Prelude.{◌≡◌, ℕ, ◌<◌, [], IsFalse, MatchOption, slice_get, slice_index};
+ghost use Rattle.roman_model.specs.SystemArena.{seat_next};
 ghost use Rattle.roman_joint.specs.NamedSys.{system_of};
-ghost use Rattle.roman_joint.specs.Rows.{IsRow, IsTargetMove, is_open};
+ghost use Rattle.roman_joint.specs.Rows.{low_in, IsRow, IsTargetMove, IsTurn, is_open};
+ghost use Rattle.roman_joint.specs.Bands.{AreRowsBefore};
 
 use crate::joint::Joint;
+use crate::outcomes::Outcomes;
 use crate::row::Row;
+use crate::states::next_states;
 
 /// The states to which an action leads from a row: one state of the target, and some of the
 /// environment.
@@ -47,4 +51,31 @@ pub(crate) fn target_move_of<'a>(joint: &'a Joint, row: &Row, a: u8) -> Option<T
     }
     let base = u32::from(to) * rows.target_rows + row.part;
     Some(TargetMove { base, envs })
+}
+
+/// Returns the rows to which the seat `k` leads from the turn's row, or `None` exactly where it has no
+/// next state. The seat stands before the lanes.
+#[inline(always)]
+#[tactic(auto, using(crate::proofs::GoodLemmas::seats_few))]
+pub(crate) fn rows_before<'a>(joint: &'a Joint, turn: &Turn<'a>, k: u8) -> Option<Outcomes<'a>>
+    requires turn { (x : ℕ) × IsTurn (system_of joint.now) x turn.now }
+    requires seat { k < low_in (system_of joint.now) }
+    ensures { MatchOption result
+        (seat_next (slice_get (system_of joint.now).seats k) (slice_index turn.now.row.now.states k) turn.now.row.now.env turn.now.action ≡ [])
+        (AreRowsBefore (system_of joint.now) turn.now.row.now turn.now.to turn.now.action k) }
+{
+    let rows = joint.layout();
+    let b = turn.row.states[k as usize];
+    let states = next_states(joint, k, b, turn.row.env, turn.action);
+    if states.is_empty() {
+        return None;
+    }
+    let stride = rows.strides[k as usize];
+    Some(Outcomes {
+        base: turn.to.base - u32::from(b) * stride,
+        envs: turn.to.envs,
+        env_stride: rows.env_rows,
+        states,
+        stride,
+    })
 }

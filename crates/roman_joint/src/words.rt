@@ -3,7 +3,7 @@ ghost use Rattle.std.specs.Prelude.{◌≡◌, ℕ, ◌+◌, ◌-◌, ◌*◌, �
 ghost use Rattle.std.specs.List.{list_any};
 ghost use Rattle.roman_model.specs.Lists.{IsIn};
 ghost use Rattle.roman_lanes.specs.Rows.{is_on};
-ghost use Rattle.roman_joint.specs.Outcomes.{outcome_number};
+ghost use Rattle.roman_joint.specs.Outcomes.{outcome_number, SuitsRows};
 ghost use Rattle.roman_joint.specs.declared.moves.Move.{Move};
 
 use crate::moves::Move;
@@ -27,9 +27,7 @@ pub(crate) fn rows_alive(words: &[u64], base: u32, states: &[u8], stride: u32, g
 /// Returns the lanes of `good` that are set in all rows whose numbers `rows` has.
 #[inline(always)]
 pub(crate) fn all_alive(words: &[u64], rows: &Outcomes<'_>, good: u64) -> u64
-    requires envs { All (λ e. rows.now.base + e * rows.now.env_stride < 2 ^ 32) rows.now.envs.now }
-    requires fits { All (λ e. All (λ b. outcome_number rows.now e b < 2 ^ 32) rows.now.states.now) rows.now.envs.now }
-    requires within { All (λ e. All (λ b. outcome_number rows.now e b < length words.now) rows.now.states.now) rows.now.envs.now }
+    requires { SuitsRows rows.now 1 (length words.now) }
     ensures { (lane : ℕ) → is_on result lane
         ≡ (is_on good lane && not (list_any (λ e. list_any (λ b. not (is_on (slice_index words.now (outcome_number rows.now e b)) lane)) rows.now.states.now) rows.now.envs.now)) }
 {

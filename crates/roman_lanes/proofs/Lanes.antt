@@ -1,5 +1,5 @@
 -- Vectors whose lanes are 0.
-use Rattle.std.proofs.Common.{◌≡◌, ℕ, ◌+◌, ◌-◌, ◌<◌, ◌≤◌, zero, suc, List, [], ◌∷◌, length, drop, get_or, bit_or, refl, sym, ap, ◌∙◌, arith}
+use Rattle.std.proofs.Common.{◌≡◌, ℕ, ◌+◌, ◌-◌, ◌<◌, ◌≤◌, zero, suc, List, [], ◌∷◌, length, get_or, bit_or, refl, ◌∙◌, arith}
 use Rattle.std.specs.Simd.Lanes.{zip2, chunk}
 use Rattle.std.proofs.lemmas.Nat.{le_or_l, le_or_r}
 use Rattle.std.proofs.lemmas.List.{get_or-take, get_or-drop}
@@ -22,10 +22,10 @@ either_clear (x ∷ xs) (y ∷ ys) same clear =
 
 -- an element of a block is an element of the list
 in_chunk : (at n i : ℕ) (xs : List ℕ) → i < n → get_or (chunk at n xs) i 0 ≡ get_or xs (at + i) 0
-in_chunk at n i xs within = get_or-take n (drop at xs) i 0 within ∙ get_or-drop at xs i 0
+in_chunk at n i xs within = grind (arith, get_or-take, get_or-drop)
 
 -- where the whole block is 0, each word of it is 0
 pub clear_in : (at n : ℕ) (xs block : List ℕ) → block ≡ chunk at n xs → AreClear block → (i : ℕ) → at ≤ i → i < at + n → get_or xs i 0 ≡ 0
 clear_in at n xs block is clear i low high =
     let place : at + (i - at) ≡ i = omega arith in
-    ap (λ j. get_or xs j 0) (sym place) ∙ sym (in_chunk at n (i - at) xs (omega arith)) ∙ ap (λ ys. get_or ys (i - at) 0) (sym is) ∙ clear (i - at)
+    grind (arith, (in_chunk at n (i - at) xs))

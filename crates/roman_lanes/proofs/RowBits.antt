@@ -1,8 +1,8 @@
 -- The lanes of words that are combined.
-use Rattle.std.proofs.Common.{◌≡◌, ◌≢◌, ℕ, zero, ◌-◌, ◌*◌, ◌/◌, ◌%◌, ◌^◌, ◌<◌, ◌≤◌, min, max, true, false, not, ◌&&◌, ◌||◌, inl, inr, refl, sym, ap, ◌∙◌, arith, eqb, bit_and}
+use Rattle.std.proofs.Common.{◌≡◌, ◌≢◌, ◌⊎◌, ℕ, zero, ◌-◌, ◌*◌, ◌/◌, ◌%◌, ◌^◌, ◌<◌, ◌≤◌, min, max, true, false, not, ◌&&◌, ◌||◌, sym, ap, ◌∙◌, arith, eqb, bit_and}
 use Rattle.std.specs.Int.{bit_at, bit_not, w64}
 use Rattle.std.specs.Prelude.{bit_or}
-use Rattle.std.proofs.lemmas.Bool.{cases_eq, cases_lt, eq-eqb}
+use Rattle.std.proofs.lemmas.Bool.{cases_lt, eq-eqb}
 use Rattle.std.proofs.lemmas.Nat.Bits.{bit_at_and, bit_at_or, bit_at_not, bit_at-lt, bit_at-zero, bit_at_above, bit_at_ones, bit_at_ones_above, bit_at-pow_same, bit_at-pow_other, bit_at_set_same, bit_at_set_other, bit_at_clear_same, bit_at_clear_other, ones_shr, shr_and_one}
 use Rattle.roman_lanes.specs.Rows.{is_on}
 
@@ -30,24 +30,17 @@ on_full lanes lane few within = ap (λ word. is_on word lane) (full_word lanes f
 pub on_full_past : (lanes lane : ℕ) → lanes ≤ 64 → lanes ≤ lane → is_on ((2 ^ 64 - 1) / 2 ^ (64 - lanes)) lane ≡ false
 on_full_past lanes lane few past = ap (λ word. is_on word lane) (full_word lanes few) ∙ on_ones_above lanes lane past
 
+bit_cases : (m : ℕ) → m < 2 → (m ≡ 0) ⊎ (m ≡ 1)
+bit_cases m few = grind arith
+
 min_on : (m n : ℕ) → m < 2 → n < 2 → eqb (min m n) 1 ≡ (eqb m 1 && eqb n 1)
-min_on m n a b = elim (cases_eq m 1) as (λ _. eqb (min m n) 1 ≡ (eqb m 1 && eqb n 1)) [
-  | inl e ↦ elim (cases_eq n 1) as (λ _. eqb (min m n) 1 ≡ (eqb m 1 && eqb n 1)) [ inl f ↦ rw (e, f) refl | inr f ↦ let n0 : n ≡ 0 = omega arith in rw (e, n0) refl ]
-  | inr e ↦
-      let m0 : m ≡ 0 = omega arith in
-      elim (cases_eq n 1) as (λ _. eqb (min m n) 1 ≡ (eqb m 1 && eqb n 1)) [ inl f ↦ rw (m0, f) refl | inr f ↦ let n0 : n ≡ 0 = omega arith in rw (m0, n0) refl ]
-]
+min_on m n a b = grind (arith, bit_cases)
 
 max_on : (m n : ℕ) → m < 2 → n < 2 → eqb (max m n) 1 ≡ (eqb m 1 || eqb n 1)
-max_on m n a b = elim (cases_eq m 1) as (λ _. eqb (max m n) 1 ≡ (eqb m 1 || eqb n 1)) [
-  | inl e ↦ elim (cases_eq n 1) as (λ _. eqb (max m n) 1 ≡ (eqb m 1 || eqb n 1)) [ inl f ↦ rw (e, f) refl | inr f ↦ let n0 : n ≡ 0 = omega arith in rw (e, n0) refl ]
-  | inr e ↦
-      let m0 : m ≡ 0 = omega arith in
-      elim (cases_eq n 1) as (λ _. eqb (max m n) 1 ≡ (eqb m 1 || eqb n 1)) [ inl f ↦ rw (m0, f) refl | inr f ↦ let n0 : n ≡ 0 = omega arith in rw (m0, n0) refl ]
-]
+max_on m n a b = grind (arith, bit_cases)
 
 not_on : (m : ℕ) → m < 2 → eqb (1 - m) 1 ≡ not (eqb m 1)
-not_on m a = elim (cases_eq m 1) as (λ _. eqb (1 - m) 1 ≡ not (eqb m 1)) [ inl e ↦ rw e refl | inr e ↦ let m0 : m ≡ 0 = omega arith in rw m0 refl ]
+not_on m a = grind (arith, bit_cases)
 
 pub on_and : (a b i : ℕ) → is_on (bit_and a b) i ≡ (is_on a i && is_on b i)
 unfolding is_on
@@ -72,7 +65,7 @@ on_pow_other i j ne = ap (λ n. eqb n 1) (bit_at-pow_other i j ne)
 
 -- the lanes of one word that aren't lanes of another
 pub on_less : (a b i : ℕ) → b < 2 ^ 64 → i < 64 → is_on (bit_and a (bit_not w64 b)) i ≡ (is_on a i && not (is_on b i))
-on_less a b i h l = on_and a (bit_not w64 b) i ∙ ap (λ x. is_on a i && x) (on_not b i h l)
+on_less a b i h l = grind (arith, on_and, on_not)
 
 -- a lane that is set or cleared
 pub on_set_same : (word lane : ℕ) → lane < 64 → is_on (bit_or word (1 * 2 ^ lane % 2 ^ 64)) lane ≡ true
@@ -94,10 +87,7 @@ on_clear_other word lane j h l ne = ap (λ n. eqb n 1) (bit_at_clear_other w64 w
 -- the test of one bit
 pub on_tested : (w i : ℕ) → (bit_and (w / 2 ^ i) 1 ≡ 0 → ⊥) → is_on w i ≡ true
 unfolding is_on
-on_tested w i some =
-    let other : bit_at w i ≢ 0 = λ e. some (shr_and_one w i ∙ e) in
-    let one : bit_at w i ≡ 1 = omega (arith, bit_at-lt w i) in
-    eq-eqb (bit_at w i) 1 one
+on_tested w i some = grind (arith, bit_at-lt, eq-eqb, shr_and_one)
 
 pub off_tested : (w i : ℕ) → bit_and (w / 2 ^ i) 1 ≡ 0 → is_on w i ≡ false
 unfolding is_on
@@ -110,9 +100,4 @@ on_past a i h l = ap (λ n. eqb n 1) (bit_at_above a 64 i h l)
 
 -- the lanes of one word that aren't lanes of another, past the 64 bits too
 pub on_without : (word other lane : ℕ) → word < 2 ^ 64 → other < 2 ^ 64 → is_on (bit_and word (bit_not w64 other)) lane ≡ (is_on word lane && not (is_on other lane))
-on_without word other lane l m = elim (cases_lt lane 64) [
-  | inl less ↦ on_and word (bit_not w64 other) lane ∙ ap (λ b. is_on word lane && b) (on_not other lane m less)
-  | inr past ↦
-      on_and word (bit_not w64 other) lane
-      ∙ (ap (λ b. b && is_on (bit_not w64 other) lane) (on_past word lane l past) ∙ sym (ap (λ b. b && not (is_on other lane)) (on_past word lane l past)))
-]
+on_without word other lane l m = grind (arith, cases_lt, on_and, on_not, on_past)

@@ -44,6 +44,7 @@ fn part(words: &[u64], at: usize) -> u64x8
 
 /// Returns the N words from `at` on.
 #[inline(always)]
+#[tactic(auto, using(crate::proofs::Parts::chunks))]
 pub fn load<const N: usize>(words: &[u64], at: usize) -> Simd<u64, N>
     requires { at + N ≤ length words.now }
     ensures long { length result ≡ N }
@@ -54,6 +55,7 @@ pub fn load<const N: usize>(words: &[u64], at: usize) -> Simd<u64, N>
 
 /// Returns the bitwise or of the two vectors.
 #[inline(always)]
+#[tactic(auto, using(crate::proofs::Lanes::either_clear))]
 fn either(a: u64x8, b: u64x8) -> u64x8
     ensures { AreClear result → AreClear a × AreClear b }
 {

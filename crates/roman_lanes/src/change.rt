@@ -27,6 +27,7 @@ pub trait ChangeOf<const N: usize>: Change {
 
 /// Makes the change to the N words from `at` on.
 #[inline(always)]
+#[tactic(auto, using(crate::proofs::Parts::changes_block))]
 fn change_block<const N: usize, C: ChangeOf<N>>(change: &C, words: &mut [u64], at: usize)
     requires words { at + N ≤ length words.old }
     requires suits { C.suits change.now (length words.old) }

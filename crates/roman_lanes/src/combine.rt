@@ -22,6 +22,7 @@ impl Change for Meeting<'_> {
 
 impl<const N: usize> ChangeOf<N> for Meeting<'_> {
     #[inline(always)]
+    #[tactic(auto, using(crate::proofs::Parts::chunks))]
     fn changed(&self, words: Simd<u64, N>, at: usize) -> Simd<u64, N>
         requires { (many : ℕ) × (at + N ≤ many) × (many ≤ length self.now.with.now) }
         ensures long { length result ≡ N }

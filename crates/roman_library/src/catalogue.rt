@@ -68,7 +68,7 @@ impl Listed for Behaviour {
             return Err(refused(Kind::Repeated, List::Name));
         }
         let behaviour = read_behaviour(alloc, v, environment)?;
-        behaviour.known();
+        behaviour.known(); // the behaviour is well formed
         Ok(behaviour)
     }
 }

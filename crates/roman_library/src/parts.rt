@@ -79,7 +79,7 @@ pub(crate) fn target_over(
 {
     match read_target(alloc, v, environment) {
         Ok(target) => {
-            target.known();
+            target.known(); // the target is well formed
             Ok(target)
         }
         Err(error) => Err(error),

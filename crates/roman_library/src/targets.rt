@@ -47,7 +47,7 @@ pub(crate) fn load_parts<F: Shelf>(
     ensures known { IfOk result (λ made. ArePartsOf catalogue.items (combining.plain_combined made)) }
     ensures shelf { LeavesShelf (F.texts shelf.old) (F.texts shelf.new) (F.faults shelf.old) (F.faults shelf.new) result }
 {
-    environment.known();
+    environment.known(); // the environment is well formed
     if version == SEVERAL {
         let targets = load_targets(alloc, shelf, document, v, &environment)?;
         let made = combine_targets(alloc, &environment, &catalogue, &targets);
@@ -127,7 +127,7 @@ fn combine_targets(
     ensures parts { Gives combining.plain_combined result (combined_of environment.now catalogue.now targets.now) }
     ensures known { IfOk result (λ made. ArePartsOf catalogue.now (combining.plain_combined made)) }
 {
-    environment.known();
+    environment.known(); // the environment is well formed
     match combine(alloc, environment, catalogue, targets) {
         Ok(made) => Ok(made),
         Err(error) => Err(broken_rule(error)),

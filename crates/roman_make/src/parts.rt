@@ -24,7 +24,7 @@ pub(crate) fn make_floor(alloc: Global) -> Result<Environment, AllocError>
     let states = names_of(alloc, &FLOOR_STATES)?;
     let actions = names_of(alloc, &ACTIONS)?;
     let floor = Environment::from_lists(alloc, states, actions, 0, &FLOOR_STEPS)?;
-    floor.known();
+    floor.known(); // the environment is well formed
     Ok(floor)
 }
 
@@ -58,7 +58,7 @@ pub(crate) fn make_worker(alloc: Global, env: &Environment) -> Result<Behaviour,
     let states = names_of(alloc, &WORKER_STATES)?;
     let steps = steps_of(alloc, &WORKER_STEPS)?;
     let worker = Behaviour::from_lists(alloc, name, states, 0, &WORKER_FINALS, &steps, env)?;
-    worker.known();
+    worker.known(); // the behaviour is well formed
     Ok(worker)
 }
 
@@ -71,7 +71,7 @@ pub(crate) fn make_shift(alloc: Global, env: &Environment) -> Result<Target, All
     let states = names_of(alloc, &SHIFT_STATES)?;
     let steps = steps_of(alloc, &SHIFT_STEPS)?;
     let shift = Target::from_lists(alloc, states, 0, &SHIFT_FINALS, &steps, env)?;
-    shift.known();
+    shift.known(); // the target is well formed
     Ok(shift)
 }
 

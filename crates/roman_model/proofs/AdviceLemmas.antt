@@ -43,5 +43,4 @@ least_bound s C m (suc h) p bound =
     (λ a i.
     let rest : max_over (least s C h) (outcomes s p a (choice s C h p a)) ≤ h * m =
     max_over_le (least s C h) (h * m) (outcomes s p a (choice s C h p a)) (λ q j. least_bound s C m h q bound) in
-    let here : C (choice s C h p a) a ≤ m = bound (choice s C h p a) a in
-    omega arith)
+    grind arith)

@@ -10,7 +10,7 @@ pub use Rattle.roman_model.proofs.Lists.{no_longer, none_from, not_empty_in, not
 pub use Rattle.roman_model.proofs.Lists.{sublist_length, sublist_skip, sum_by_within}
 -- Lemmas on the pairs of a system, its steps and outcomes.
 pub use Rattle.roman_model.proofs.SystemLemmas.{allowed_in, allowed_in_range, from_allowed, from_beh_next, from_beh_prev, from_env_next, from_env_prev, from_outcome}
-pub use Rattle.roman_model.proofs.SystemLemmas.{from_pairs, from_seat_next, in_beh_next, in_beh_prev, in_env_next, in_env_prev, in_pairs, listed_number, move_in_range, number_listed, outcome_in}
+pub use Rattle.roman_model.proofs.SystemLemmas.{from_pairs, from_seat_next, in_beh_next, in_beh_prev, in_env_next, in_env_prev, in_pairs, listed_number, move_in_range, move_test, number_listed, outcome_in}
 pub use Rattle.roman_model.proofs.SystemLemmas.{outcome_pair, outcome_seat, pairs_once, same_numbers_is, same_numbers_itself, seat_in, states_set, triple_in_range}
 -- Lemmas on any arena: listed nodes, beaten seats, reasons, masks, and nodes that survive.
 pub use Rattle.roman_model.proofs.ArenaLemmas.{IsArena, IsSame, among_in, beaten_none, from_back, in_back, in_listed, in_mask, justified_is, justified_more}
@@ -31,11 +31,11 @@ pub use Rattle.roman_model.proofs.OfferLemmas.{offer_is, offers_are, related_off
 -- The opponent's game, by a removal list and by the depth.
 pub use Rattle.roman_model.proofs.PlayLemmas.{order_won}
 -- The depths of a system's pairs, and the opponent's game by them.
-pub use Rattle.roman_model.proofs.DepthPlayLemmas.{depth_least, depth_won}
+pub use Rattle.roman_model.proofs.DepthPlayLemmas.{depth_least, depth_won, great_holds, lost_fails, unlost_holds}
 -- Numbers of lists of states and of pairs: bounds, and the change of a number where a state changes, comes or goes.
 pub use Rattle.roman_model.proofs.NumberLemmas.{AreBelow-at, AreBelow-index, AreBelow-length, IsPairOf-at, IsPairOf-from, IsPairOf-grown, IsPairOf-moved, IsPairOf-without}
 pub use Rattle.roman_model.proofs.NumberLemmas.{count-grown, count-without, length-states_at, number-grown, number-moved, number-pair_at, number-set, number_below}
-pub use Rattle.roman_model.proofs.NumberLemmas.{number_without-is, numbers_are_pairs, pair_at-grown, pair_at-number, pair_at-without, part_at}
+pub use Rattle.roman_model.proofs.NumberLemmas.{number_without-is, numbers_are_pairs, pair_at-grown, pair_at-number, pair_at-without, part_at, size_at}
 pub use Rattle.roman_model.proofs.NumberLemmas.{parts_of_number, states_at-number, states_below, states_number-at, states_number-set, states_number_below}
 -- Removal lists, masks and depths carry over between arenas whose nodes correspond by a renaming.
 pub use Rattle.roman_model.proofs.Renames.{order_named}
@@ -43,12 +43,11 @@ pub use Rattle.roman_model.proofs.Renames.{order_named}
 pub use Rattle.roman_model.proofs.NumberedArena.{AreNumbers, IsNumber, numbers_rename}
 -- The effect of a change of the seats on systems, pairs, outcomes and removal lists.
 pub use Rattle.roman_model.proofs.ChangeLemmas.{IsPair-grown, IsPair-turned, IsPair-without, flat_map_same, flat_map_same_in, left, length-remove}
-pub use Rattle.roman_model.proofs.ChangeLemmas.{join_once, length-set_frozen, map-flat_map, map-map, new_from_once, new_same, remove_in, states_frozen, states_length, turned}
+pub use Rattle.roman_model.proofs.ChangeLemmas.{is_fine-turned, join_once, length-set_frozen, map-flat_map, map-map, moved_named, new_from_once, new_same, outcomes-turned, remove_in, sizes-joined, sizes-left, sizes-turned, states_frozen, states_length, turned}
 -- The replay of a renamed list is a removal list after each change.
 pub use Rattle.roman_model.proofs.ChangeLaws.{renaming_keeps}
 -- Changes over the numbers of pairs: renaming and replay agree with those over pairs.
-pub use Rattle.roman_model.proofs.NumberedChanges.{NumbersReplay, number_allows-turned, numbers_replay, size_at}
-pub use Rattle.roman_model.proofs.NumberedChanges.{sizes-joined, sizes-left, sizes-turned}
+pub use Rattle.roman_model.proofs.NumberedChanges.{NumbersReplay, number_allows-turned, numbers_replay}
 -- Removal lists over the numbers of pairs: the laws of their arena, complete lists, and counts of pairs.
 pub use Rattle.roman_model.proofs.NumberedLists.{length-pairs, numbered_choices, numbered_completed_by, numbered_is_arena, numbered_is_same, numbered_listed}
 pub use Rattle.roman_model.proofs.NumberedLists.{numbered_loses, numbered_offers, numbered_related_count, sum_over_pairs}
@@ -77,7 +76,7 @@ pub use Rattle.roman_model.proofs.WithoutLemmas.{freeze_one, freeze_two, leave_o
 pub use Rattle.roman_model.proofs.Places.{from_end, from_get_map, from_place, get_in, get_map, in_get, there_is}
 -- Records built from tests: their steps are exactly those that pass, their numbers are in range, and equal tests build equal records.
 pub use Rattle.roman_model.proofs.MadeLemmas.{IsBeh-made, IsEnv-made, beh_from_same, env_from_same, from_made_final, from_made_move, from_made_triple}
-pub use Rattle.roman_model.proofs.MadeLemmas.{made_final, made_move, made_triple, move_passes, move_test}
+pub use Rattle.roman_model.proofs.MadeLemmas.{made_final, made_move, made_triple, move_passes}
 -- The combined actions, and the steps and final states of the combined parts, which are those of the members.
 pub use Rattle.roman_model.proofs.CombinedLemmas.{IsMemberStep, combined_sstep, combined_target_goes, combined_triple, from_combined_sstep, from_combined_target}
 pub use Rattle.roman_model.proofs.CombinedLemmas.{from_combined_triple, in_requests, stands_uses, target_size_at}

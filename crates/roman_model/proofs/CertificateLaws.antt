@@ -1,5 +1,5 @@
 -- The certificate of a complete list is accepted, and an accepted certificate is complete.
-use Rattle.roman_model.proofs.Common.{◌≡◌, ℕ, zero, suc, ◌+◌, ◌*◌, ◌^◌, ◌<◌, ◌≤◌, Bool, false, not, ◌&&◌, List, [], ◌∷◌, ◌++◌, map, length, take, Option, Some, None, IsTrue, IsFalse, if◌then◌else◌, filter, find, option_map, slice_get, slice_index_or, codes, decimal, nat_le, refl, sym, ap, ap₂, ◌∙◌, subst, inl, inr, arith, append_assoc, append-nil, length-append, list_any, cons_option, cases_lt, both_ways, or_from, and_parts, and_left, not-false, not_from_true, not_from_false, cond-true, cond-false, and_from, length-map, filter_map-append, list_any-append, none-some, IsIn, below, all_below, lines, ended_lines, text_of_lines, IsLine, AreLines, Sys, IsSys, pairs, same_numbers, arena, Arena, Entry, is_listed, is_beaten, is_justified, IsOrder, Great, sizes_of, count, pair_at, numbered, entry_at, IsCompleteList, is_related, head_line, count_line, reason_text, entry_line, end_line, Why, Rejected, TooLong, reasons, possible_entries, entry_of, entries_on, unless_over, body_fault, line_fault, faults, unlisted, cert_verdict, IsClean, MAX_ACTIONS, MAX_CERTIFICATE_BYTES, Reason, Final, Act}
+use Rattle.roman_model.proofs.Common.{Verdict, ◌≡◌, ℕ, zero, suc, ◌+◌, ◌*◌, ◌^◌, ◌<◌, ◌≤◌, Bool, false, not, ◌&&◌, List, [], ◌∷◌, ◌++◌, map, length, take, Option, Some, None, IsTrue, IsFalse, if◌then◌else◌, filter, find, option_map, slice_get, slice_index_or, codes, decimal, nat_le, refl, sym, ap, ap₂, ◌∙◌, subst, inl, inr, arith, append_assoc, append-nil, length-append, list_any, cons_option, cases_lt, both_ways, or_from, and_left, not-false, not_from_true, not_from_false, cond-true, cond-false, and_from, length-map, filter_map-append, list_any-append, none-some, IsIn, below, lines, ended_lines, text_of_lines, IsLine, AreLines, Sys, IsSys, pairs, same_numbers, arena, Arena, Entry, is_listed, is_justified, IsOrder, Great, sizes_of, count, pair_at, numbered, entry_at, IsCompleteList, is_related, head_line, count_line, reason_text, entry_line, end_line, Why, TooLong, reasons, possible_entries, entry_of, entries_on, unless_over, body_fault, line_fault, faults, unlisted, cert_verdict, IsClean, MAX_CERTIFICATE_BYTES, Reason, Final, Act}
 use Rattle.std.proofs.Common.{le-leb}
 use Rattle.roman_model.specs.Certificate.{cert_text, Form, Repeated, Unjustified, Unlisted, Greatest}
 use Rattle.std.proofs.Math.Bool.{not-not}
@@ -10,17 +10,17 @@ use Rattle.std.proofs.lemmas.Fmt.{length-decimal-le}
 use Rattle.roman_model.specs.Certificate.{cert_lines, unless_is, entry_fault, could_be_listed, end_fault, greatest, IsWithinCells, WrittenIsGreatest, GreatestIsComplete}
 use Rattle.roman_model.specs.declared.limits.TheConstants.{MAX_CELLS}
 use Rattle.roman_model.proofs.Lists.{by_test, none_from, any_from, from_map, in_append_left, in_append_right, from_append, in_push, in_filter, filter_in, in_below, from_below, filter_same, find_not_found, length-below, same_length, HasNoRepeats-filter, filter-map, any_false, find_none, from_push}
-use Rattle.roman_model.proofs.SystemLemmas.{same_numbers_is, same_numbers_itself, allowed_in_range, pairs_once}
-use Rattle.roman_model.proofs.ArenaLemmas.{unjustified}
+use Rattle.roman_model.proofs.SystemLemmas.{same_numbers_is, same_numbers_itself, pairs_once}
+use Rattle.roman_model.proofs.ArenaLemmas.{reason_in, unjustified}
 use Rattle.roman_model.proofs.CompositionLemmas.{great_survives, related_great, listed_unrelated}
 use Rattle.roman_model.proofs.NumberLemmas.{numbers_are_pairs}
 use Rattle.roman_model.proofs.OrderLemmas.{order_fits, order_justified, order_push}
 use Rattle.roman_model.proofs.WorkLemmas.{order_middle}
 use Rattle.roman_model.proofs.Renames.{order_named}
 use Rattle.roman_model.proofs.NumberedArena.{IsNumber, AreNumbers, numbers_rename, justified_at}
-use Rattle.roman_model.proofs.NumberedLists.{numbered_is_same, numbered_completed_by, numbered_listed, numbered_pairs, numbered_pairs_once, in_numbered_pairs, from_numbered_pairs}
+use Rattle.roman_model.proofs.NumberedLists.{numbered_is_same, numbered_is_arena, numbered_completed_by, numbered_listed, numbered_pairs, numbered_pairs_once, in_numbered_pairs, from_numbered_pairs}
 use Rattle.roman_model.proofs.LineLemmas.{lines-text_of_lines}
-use Rattle.roman_model.proofs.CertificateLemmas.{head_is_line, end_is_line, count_is_line, entry_is_line, entry_is_no_end, final_reason, act_reason, AreFew, possible_small, in_possible, from_possible, entry_of-line, entry_of-is, entry_of_other, entries_on-lines, faults_none, faults_first, clean_push, fault_next, fault_over, faults_cases}
+use Rattle.roman_model.proofs.CertificateLemmas.{head_is_line, end_is_line, count_is_line, entry_is_line, entry_is_no_end, AreFew, possible_small, in_possible, from_possible, entry_of-line, entry_of-is, entry_of_other, entries_on-lines, faults_none, faults_first, clean_push, fault_next, fault_over, faults_cases}
 
 -- The sizes of a system within the limits
 
@@ -72,16 +72,9 @@ judged_long A start bytes h = grind (arith, cond-false, lt-leb)
 pub complete_order : (s : Sys) (L : List (Entry ℕ)) → IsSys s → AreNumbers s L → IsCompleteList s L → IsOrder (numbered s) L
 complete_order s L sys are complete = order_named (numbered s) (arena s) (pair_at (sizes_of s)) (IsNumber s) (numbers_rename s sys) L are complete.order
 
--- a reason that holds can stand in a certificate
-pub justified_reason : (s : Sys) (gone : ℕ → Bool) (p : ℕ) (r : Reason) → IsSys s → IsTrue (is_justified (numbered s) gone p r) → IsIn r (reasons s.env.actions)
-justified_reason s gone p Final sys h = final_reason s.env.actions
-justified_reason s gone p (Act a) sys h =
-    act_reason s.env.actions a (allowed_in_range s (pair_at (sizes_of s) p) a sys
-    (and_parts ((numbered s).allows p a) (all_below (is_beaten (numbered s) gone p a) (length s.seats)) h).0)
-
 pub order_possible : (s : Sys) (L : List (Entry ℕ)) → IsSys s → AreNumbers s L → IsOrder (numbered s) L → ArePossible s L
 order_possible s L sys are order x i =
-    number_possible s x (are x i) (justified_reason s (is_listed (numbered s) L) x.node x.reason sys (order_justified (numbered s) L x order i))
+    number_possible s x (are x i) (reason_in (numbered s) (numbered_is_arena s sys) (is_listed (numbered s) L) x.node x.reason (order_justified (numbered s) L x order i))
 
 -- The lines of a certificate are clean
 
@@ -89,7 +82,7 @@ order_possible s L sys are order x i =
 no_end : (s : Sys) (L : List (Entry ℕ)) → IsFew s → ArePossible s L → IsFalse (list_any (same_numbers end_line) (map entry_line L))
 no_end s L small are = none_from (same_numbers end_line) (map entry_line L) (λ line i.
     let (x, j, e) = from_map entry_line line L i in
-    subst (λ l. IsFalse (same_numbers end_line l)) (sym e) (entry_is_no_end x (possible_small (node_count s) s.env.actions x small (are x j))))
+    grind (arith, entry_is_no_end, possible_small))
 
 -- the lines before the entries
 abbrev pub opened : Sys → List (Entry ℕ) → List (List ℕ)
@@ -172,8 +165,7 @@ entries_on-cert s L small are =
 -- The text is short enough
 
 line_length : (s : Sys) (x : Entry ℕ) → IsSys s → count (sizes_of s) ≤ MAX_CELLS → IsIn x (possible_entries (node_count s) s.env.actions) → length (entry_line x) ≤ 11
-line_length s x sys few i =
-    let (l, j) = possible_number s x i in
+line_length s x sys few i = let (l, j) = possible_number s x i in
     let below_it : x.node < count (sizes_of s) = l in
     let number : length (decimal x.node) ≤ 8 = length-decimal-le 8 x.node (omega arith) (omega arith) (omega arith) in
     let reason : length (reason_text x.reason) ≤ 2 = reason_length x.reason j in
@@ -189,16 +181,12 @@ line_length s x sys few i =
         let (b, j, e) = from_map Act (Act a) (below s.env.actions) i in
         let same : a ≡ b = cc in
         let l : b < s.env.actions = from_below s.env.actions b j in
-        let few : s.env.actions ≤ MAX_ACTIONS = sys.env.actions.1 in
-        length-decimal-le 2 a (omega arith) (omega arith) (omega arith)
+        grind (arith, length-decimal-le)
 
 entries_length : (s : Sys) (L : List (Entry ℕ)) → IsSys s → count (sizes_of s) ≤ MAX_CELLS → ArePossible s L →
     length (text_of_lines (map entry_line L ++ end_line ∷ [])) ≤ 12 * length L + 4
 entries_length s [] sys few are = omega arith
-entries_length s (x ∷ L) sys few are =
-    let rest : length (text_of_lines (map entry_line L ++ end_line ∷ [])) ≤ 12 * length L + 4 = entries_length s L sys few (λ y i. are y (inr i)) in
-    let here : length (entry_line x) ≤ 11 = line_length s x sys few (are x (inl refl)) in
-    omega (arith, length-append (entry_line x ++ 10 ∷ []) (text_of_lines (map entry_line L ++ end_line ∷ [])), length-append (entry_line x) (10 ∷ []))
+entries_length s (x ∷ L) sys few are = grind (arith, (line_length s x sys few (are x (inl refl))), length-append, (entries_length s L sys few))
 
 pub cert_length : (s : Sys) (L : List (Entry ℕ)) → IsSys s → count (sizes_of s) ≤ MAX_CELLS → ArePossible s L → length L ≤ count (sizes_of s) →
     length (cert_text (node_count s) L) ≤ MAX_CERTIFICATE_BYTES
@@ -233,17 +221,13 @@ cert_are_lines s L small are few line (inr (inr i)) = elim (from_append line (ma
 -- the number of unlisted numbers is the number of related pairs
 pub unlisted_count : (s : Sys) (L : List (Entry ℕ)) → IsSys s → AreNumbers s L → IsCompleteList s L →
     length (filter (λ p. not (is_listed (numbered s) L p)) (below (count (sizes_of s)))) ≡ length (filter (is_related s) (pairs s))
-unlisted_count s L sys are complete =
-    ap length (filter_same (λ p. not (is_listed (numbered s) L p)) (λ p. is_related s (pair_at (sizes_of s) p)) (below (count (sizes_of s)))
+unlisted_count s L sys are complete = ap length (filter_same (λ p. not (is_listed (numbered s) L p)) (λ p. is_related s (pair_at (sizes_of s) p)) (below (count (sizes_of s)))
     (λ p i. ap not (numbered_listed s L p sys are complete (from_below (count (sizes_of s)) p i)) ∙ not-not (is_related s (pair_at (sizes_of s) p))))
     ∙ sym (length-map (filter (λ p. is_related s (pair_at (sizes_of s) p)) (below (count (sizes_of s)))) (pair_at (sizes_of s)))
     ∙ ap length (sym (filter-map (is_related s) (pair_at (sizes_of s)) (below (count (sizes_of s)))))
     ∙ same_length (filter (is_related s) (numbered_pairs s)) (filter (is_related s) (pairs s))
     (HasNoRepeats-filter (is_related s) (numbered_pairs s) (numbered_pairs_once s)) (HasNoRepeats-filter (is_related s) (pairs s) (pairs_once s))
-    (λ p. (
-      λ i. let (j, t) = filter_in (is_related s) p (numbered_pairs s) i in in_filter (is_related s) p (pairs s) (from_numbered_pairs s p j) t,
-      λ i. let (j, t) = filter_in (is_related s) p (pairs s) i in in_filter (is_related s) p (numbered_pairs s) (in_numbered_pairs s p j) t,
-    ))
+    (λ p. grind (arith, filter_in, from_numbered_pairs, in_filter, in_numbered_pairs))
 
 pub unlisted_is_greatest : (s : Sys) (start : ℕ) (L : List (Entry ℕ)) → IsSys s → start < count (sizes_of s) → AreNumbers s L → IsCompleteList s L → unlisted (numbered s) start L ≡ greatest s start
 unlisted_is_greatest s start L sys l are complete =
@@ -386,7 +370,7 @@ nothing_missing s L sys ended p l unlisted r =
     (any_false (could_be_listed (numbered s) L) p (below (count (sizes_of s))) (find_none (could_be_listed (numbered s) L) (below (count (sizes_of s))) (unmapped (find (could_be_listed (numbered s) L) (below (count (sizes_of s)))) ended)) (in_below (count (sizes_of s)) p l))
     (and_from (not (is_listed (numbered s) L p)) (list_any (is_justified (numbered s) (is_listed (numbered s) L) p) (reasons s.env.actions))
     (not_from_false (is_listed (numbered s) L p) unlisted)
-    (any_from (is_justified (numbered s) (is_listed (numbered s) L) p) r (reasons s.env.actions) (justified_reason s (is_listed (numbered s) L) p r sys holds) holds))))
+    (any_from (is_justified (numbered s) (is_listed (numbered s) L) p) r (reasons s.env.actions) (reason_in (numbered s) (numbered_is_arena s sys) (is_listed (numbered s) L) p r holds) holds))))
     (λ f. f)
   where
     unmapped : (o : Option ℕ) → option_map Unlisted o ≡ None → o ≡ None
@@ -400,32 +384,25 @@ clean_complete s text sys small clean =
     let are : AreNumbers s (entries_on (numbered s) text) = λ x i. (possible_number s x (all.possible x i)).0 in
     (are, numbered_completed_by s (entries_on (numbered s) text) sys are all.order (nothing_missing s (entries_on (numbered s) text) sys all.ended))
 
+-- where the first of the faults, or else the other verdict, is that all is well, there is no fault
+judged_clean : (s : Sys) (ls : List (List ℕ)) (n : ℕ) (otherwise : Verdict) (related : ℕ) (starts : Bool) → slice_index_or (faults (numbered s) ls n) 0 otherwise ≡ Greatest related starts →
+    IsClean (numbered s) ls n × (Greatest related starts ≡ otherwise)
+judged_clean s ls n otherwise related starts e = elim (faults_cases (numbered s) ls n) [
+  | inl clean ↦ (clean, sym e ∙ ap (λ vs. slice_index_or vs 0 otherwise) (faults_none (numbered s) ls n clean))
+  | inr found ↦
+      let (i, why, l, clean, fault) = found in
+      let (rest, is) = faults_first (numbered s) ls n i why clean fault l in
+      grind arith
+]
+
 -- an accepted text is within the limit and has no fault
 accepted_clean : (s : Sys) (start : ℕ) (bytes : List ℕ) (related : ℕ) (starts : Bool) → cert_verdict (numbered s) start bytes ≡ Greatest related starts →
     IsClean (numbered s) (lines bytes) (length (lines bytes) + 1) × (Greatest related starts ≡ unlisted (numbered s) start (entries_on (numbered s) (lines bytes)))
 accepted_clean s start bytes related starts e = elim (cases_lt MAX_CERTIFICATE_BYTES (length bytes)) [
-  | inl long ↦ absurd (elim (faults_cases (numbered s) (ended_lines (take MAX_CERTIFICATE_BYTES bytes)) (length (ended_lines (take MAX_CERTIFICATE_BYTES bytes)))) [
-    | inl clean ↦
-        let same : TooLong ≡ Greatest related starts = sym (ap (λ vs. slice_index_or vs 0 TooLong) (faults_none (numbered s) ended (length ended) clean)) ∙ sym (judged_long (numbered s) start bytes long) ∙ e in
-        (let h : ⊥ = cc in h)
-    | inr found ↦
-        let (i, why, l, clean, fault) = found in
-        let (rest, is) = faults_first (numbered s) ended (length ended) i why clean fault l in
-        let same : Rejected (i + 1) why ≡ Greatest related starts = sym (ap (λ vs. slice_index_or vs 0 TooLong) is) ∙ sym (judged_long (numbered s) start bytes long) ∙ e in
-        (let h : ⊥ = cc in h)
-  ])
-  | inr short ↦ elim (faults_cases (numbered s) (lines bytes) (length (lines bytes) + 1)) [
-    | inl clean ↦ (
-      clean,
-      sym e ∙ judged_short (numbered s) start bytes short ∙ ap (λ vs. slice_index_or vs 0 (unlisted (numbered s) start (entries_on (numbered s) (lines bytes)))) (faults_none (numbered s) (lines bytes) (length (lines bytes) + 1) clean),
-    )
-    | inr found ↦
-        let (i, why, l, clean, fault) = found in
-        let (rest, is) = faults_first (numbered s) (lines bytes) (length (lines bytes) + 1) i why clean fault l in
-        let same : Rejected (i + 1) why ≡ Greatest related starts =
-        sym (ap (λ vs. slice_index_or vs 0 (unlisted (numbered s) start (entries_on (numbered s) (lines bytes)))) is) ∙ sym (judged_short (numbered s) start bytes short) ∙ e in
-        absurd (let h : ⊥ = cc in h)
-  ]
+  | inl long ↦
+      let same : Greatest related starts ≡ TooLong = (judged_clean s ended (length ended) TooLong related starts (sym (judged_long (numbered s) start bytes long) ∙ e)).1 in
+      grind arith
+  | inr short ↦ judged_clean s (lines bytes) (length (lines bytes) + 1) (unlisted (numbered s) start (entries_on (numbered s) (lines bytes))) related starts (sym (judged_short (numbered s) start bytes short) ∙ e)
 ]
   where
     ended : List (List ℕ)

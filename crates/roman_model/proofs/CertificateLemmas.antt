@@ -1,4 +1,5 @@
 -- Lines of certificates: the entry that a line states, and the first fault.
+use Rattle.std.proofs.lemmas.Option.{slice_get_past}
 use Rattle.roman_model.proofs.Common.{◌≡◌, ℕ, zero, suc, ◌+◌, ◌%◌, ◌^◌, ◌<◌, ◌≤◌, ◌==◌, false, ◌⊎◌, List, [], ◌∷◌, ◌++◌, map, length, take, Option, Some, None, IsFalse, option_map, slice_get, codes, decimal, refl, sym, ap, ap₂, ◌∙◌, subst, inl, inr, arith, length-append, cons_option, both_ways, or_parts, or_from, eq-eqb, cases_lt, list_any-append, filter_map-append, IsIn, below, IsLine, has, same_numbers, Arena, Entry, head_line, count_line, reason_text, entry_line, end_line, Why, Verdict, Rejected, reasons, possible_entries, entry_of, entries_on, line_fault, IsClean, faults, Reason, Final, Act}
 use Rattle.std.proofs.lemmas.Bool.{ne_eqb}
 use Rattle.std.proofs.lemmas.List.{take-append-le, take_all, take_at}
@@ -64,18 +65,10 @@ pub cut_at : (c : ℕ) (xs ys ts us : List ℕ) → IsFalse (has xs c) → IsFal
 cut_at c [] [] ts us h g e = (refl, cc)
 cut_at c [] (y ∷ ys) ts us h g e = let same : c ≡ y = cc in absurd (both_ways (y == c) (or_parts (y == c) (has ys c) g).0 (eq-eqb y c (sym same)))
 cut_at c (x ∷ xs) [] ts us h g e = let same : x ≡ c = cc in absurd (both_ways (x == c) (or_parts (x == c) (has xs c) h).0 (eq-eqb x c same))
-cut_at c (x ∷ xs) (y ∷ ys) ts us h g e =
-    let first : x ≡ y = cc in
-    let rest : xs ++ c ∷ ts ≡ ys ++ c ∷ us = cc in
-    let (front, back) = cut_at c xs ys ts us (or_parts (x == c) (has xs c) h).1 (or_parts (y == c) (has ys c) g).1 rest in
-    (ap₂ (λ z zs. z ∷ zs) first front, back)
+cut_at c (x ∷ xs) (y ∷ ys) ts us h g e = grind (arith, (cut_at c xs ys ts us (or_parts (x == c) (has xs c) h).1 (or_parts (y == c) (has ys c) g).1))
 
 letter_is_no_number : (a : ℕ) → a < 2 ^ 64 → 102 ∷ [] ≡ decimal a → ⊥
-letter_is_no_number a h e =
-    let (b, bs, is, small) = decimal_starts a h in
-    let start : 102 ∷ [] ≡ b ∷ bs = e ∙ is in
-    let same : 102 ≡ b = cc in
-    omega arith
+letter_is_no_number a h e = grind (arith, (decimal_starts a h))
 
 reason_from_text : (q r : Reason) → IsSmallReason q → IsSmallReason r → reason_text q ≡ reason_text r → q ≡ r
 reason_from_text Final Final h g e = refl
@@ -85,39 +78,25 @@ reason_from_text (Act a) (Act b) h g e = ap Act (decimal_injective a b h g e)
 
 -- entries with the same text are equal
 pub entry_from_text : (x y : Entry ℕ) → IsSmall x → IsSmall y → entry_line x ≡ entry_line y → x ≡ y
-entry_from_text x y h g e =
-    let (front, back) = cut_at 32 (decimal x.node) (decimal y.node) (reason_text x.reason) (reason_text y.reason)
-    (decimal_without x.node 32 h.0 (inl (omega arith))) (decimal_without y.node 32 g.0 (inl (omega arith))) e in
-    entry_path (decimal_injective x.node y.node h.0 g.0 front) (reason_from_text x.reason y.reason h.1 g.1 back)
-  where
-    entry_path : x.node ≡ y.node → x.reason ≡ y.reason → x ≡ y
-    entry_path m r = λ i. record { node = m i; reason = r i }
+entry_from_text x y h g e = grind (arith, cut_at, decimal_injective, (decimal_without x.node 32 h.0 (inl (omega arith))), (decimal_without y.node 32 g.0 (inl (omega arith))), reason_from_text)
 
 -- the text of an entry starts with a digit
 pub entry_starts : (x : Entry ℕ) → IsSmall x → (b : ℕ) (bs : List ℕ) → entry_line x ≡ b ∷ bs → b ≤ 57
-entry_starts x h b bs e =
-    let (c, cs, is, small) = decimal_starts x.node h.0 in
-    let start : c ∷ (cs ++ 32 ∷ reason_text x.reason) ≡ b ∷ bs = ap (λ ds. ds ++ 32 ∷ reason_text x.reason) (sym is) ∙ e in
-    let same : c ≡ b = cc in
-    omega arith
+entry_starts x h b bs e = grind (arith, (decimal_starts x.node h.0))
 
 pub entry_is_no_end : (x : Entry ℕ) → IsSmall x → IsFalse (same_numbers end_line (entry_line x))
 entry_is_no_end x h = grind (arith, by_test, entry_starts, same_numbers_is)
 
 -- Entries that can stand in a certificate
 
-pub final_reason : (actions : ℕ) → IsIn Final (reasons actions)
-final_reason actions = inl refl
-
 pub act_reason : (actions a : ℕ) → a < actions → IsIn (Act a) (reasons actions)
 act_reason actions a l = inr (in_map Act a (below actions) (in_below actions a l))
 
 pub reason_small : (actions : ℕ) (r : Reason) → actions ≤ 2 ^ 64 → IsIn r (reasons actions) → IsSmallReason r
 reason_small actions r h (inl e) = subst IsSmallReason (sym e) tt
-reason_small actions r h (inr i) =
-    let (a, j, e) = from_map Act r (below actions) i in
+reason_small actions r h (inr i) = let (a, j, e) = from_map Act r (below actions) i in
     let l : a < actions = from_below actions a j in
-    subst IsSmallReason (sym e) (small a l)
+    grind arith
   where
     small : (a : ℕ) → a < actions → a < 2 ^ 64
     small a l = omega arith
@@ -151,9 +130,8 @@ entry_of-line pairs actions x small i =
 
 -- a line that is read as an entry is the line of that entry
 pub entry_of-is : (pairs actions : ℕ) (line : List ℕ) (x : Entry ℕ) → entry_of pairs actions line ≡ Some x → IsIn x (possible_entries pairs actions) × (entry_line x ≡ line)
-entry_of-is pairs actions line x e =
-    let (i, same) = find_some (λ y. same_numbers (entry_line y) line) (possible_entries pairs actions) x e in
-    (i, same_numbers_is (entry_line x) line same)
+entry_of-is pairs actions line x e = let (i, same) = find_some (λ y. same_numbers (entry_line y) line) (possible_entries pairs actions) x e in
+    grind (arith, same_numbers_is)
 
 -- a line that isn't the line of any entry is read as none
 pub entry_of_none : (pairs actions : ℕ) (line : List ℕ) → ((x : Entry ℕ) → IsIn x (possible_entries pairs actions) → entry_line x ≡ line → ⊥) → entry_of pairs actions line ≡ None
@@ -166,9 +144,7 @@ entry_of_other pairs actions b bs small h = entry_of_none pairs actions (b ∷ b
 -- the lines of entries are read as these entries
 pub entries_on-lines : (A : Arena ℕ) (L : List (Entry ℕ)) → AreFew (length A.nodes) A.actions → ((x : Entry ℕ) → IsIn x L → IsIn x (possible_entries (length A.nodes) A.actions)) → entries_on A (map entry_line L) ≡ L
 entries_on-lines A [] small are = refl
-entries_on-lines A (x ∷ L) small are =
-    ap (λ o. cons_option o (entries_on A (map entry_line L))) (entry_of-line (length A.nodes) A.actions x small (are x (inl refl)))
-    ∙ ap (λ M. x ∷ M) (entries_on-lines A L small (λ y i. are y (inr i)))
+entries_on-lines A (x ∷ L) small are = grind (arith, (entry_of-line (length A.nodes) A.actions x small (are x (inl refl))), (entries_on-lines A L small))
 
 -- Faults
 
@@ -181,9 +157,7 @@ faults_more A text n = filter_map-append (fault_at A text) (below n) (n ∷ [])
 
 pub faults_none : (A : Arena ℕ) (text : List (List ℕ)) (n : ℕ) → IsClean A text n → faults A text n ≡ []
 faults_none A text zero clean = refl
-faults_none A text (suc n) clean =
-    faults_more A text n
-    ∙ ap₂ (λ vs o. vs ++ cons_option (option_map (Rejected (n + 1)) o) []) (faults_none A text n (λ i l. clean i (omega arith))) (clean n (omega arith))
+faults_none A text (suc n) clean = grind (arith, faults_more, (faults_none A text n))
 
 pub faults_first : (A : Arena ℕ) (text : List (List ℕ)) (n i : ℕ) (why : Why) → IsClean A text i → line_fault A (take i text) (slice_get text i) ≡ Some why → i < n →
     (rest : List Verdict) × (faults A text n ≡ Rejected (i + 1) why ∷ rest)
@@ -204,10 +178,7 @@ faults_first A text (suc n) i why clean fault l = elim (cases_lt i n) [
           ∙ ap (λ o. cons_option (option_map (Rejected (i + 1)) o) []) fault,
     )
 
--- the first lines of a text, where more follow
-take_front : {X : Type 0} (xs ys : List X) (i : ℕ) → i < length xs → take i (xs ++ ys) ≡ take i xs
-take_front xs ys i l = take-append-le i xs ys (omega arith)
-
+-- the line of a text, where more follow
 get_front : {X : Type 0} (xs ys : List X) (i : ℕ) → i < length xs → slice_get (xs ++ ys) i ≡ slice_get xs i
 get_front [] ys i l = absurd (omega arith)
 get_front (x ∷ xs) ys zero l = refl
@@ -217,12 +188,8 @@ get_after : {X : Type 0} (xs : List X) (y : X) (ys : List X) → slice_get (xs +
 get_after [] y ys = refl
 get_after (x ∷ xs) y ys = get_after xs y ys
 
-get_past : {X : Type 0} (xs : List X) → slice_get xs (length xs) ≡ None
-get_past [] = refl
-get_past (x ∷ xs) = get_past xs
-
 pub clean_front : (A : Arena ℕ) (text more : List (List ℕ)) → IsClean A text (length text) → IsClean A (text ++ more) (length text)
-clean_front A text more clean i l = ap₂ (line_fault A) (take_front text more i l) (get_front text more i l) ∙ clean i l
+clean_front A text more clean i l = ap₂ (line_fault A) (take-append-le i text more (omega arith)) (get_front text more i l) ∙ clean i l
 
 -- the first lines with one more line without a fault
 pub clean_push : (A : Arena ℕ) (text : List (List ℕ)) (line : List ℕ) → IsClean A text (length text) → line_fault A text (Some line) ≡ None → IsClean A (text ++ line ∷ []) (length (text ++ line ∷ []))
@@ -233,7 +200,7 @@ pub fault_next : (A : Arena ℕ) (text more : List (List ℕ)) (line : List ℕ)
 fault_next A text more line = ap₂ (line_fault A) (take_at text (line ∷ more) (length text) refl) (get_after text line more)
 
 pub fault_over : (A : Arena ℕ) (text : List (List ℕ)) → line_fault A (take (length text) text) (slice_get text (length text)) ≡ line_fault A text None
-fault_over A text = ap₂ (line_fault A) (take_all (length text) text (omega arith)) (get_past text)
+fault_over A text = ap₂ (line_fault A) (take_all (length text) text (omega arith)) (slice_get_past text (length text) (omega arith))
 
 -- either none of the first n lines has a fault, or there is a first faulty line
 pub faults_cases : (A : Arena ℕ) (text : List (List ℕ)) (n : ℕ) →

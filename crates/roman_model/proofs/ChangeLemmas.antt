@@ -1,5 +1,8 @@
 -- The effect of a change of the seats on systems, pairs, outcomes and removal lists.
-use Rattle.roman_model.proofs.Common.{◌≡◌, ℕ, zero, suc, ◌<◌, ◌≤◌, Bool, true, not, ◌&&◌, ◌||◌, List, [], ◌∷◌, ◌++◌, map, length, Some, IsTrue, IsFalse, filter, flat_map, slice_get, slice_index, slice_set, remove, refl, sym, ap, ap₂, ◌∙◌, subst, inl, inr, arith, rules, list_any, AllZip, cases_eq, both_ways, or_cases, or_left, or_right, and_parts, and_from, cond-true, cond-false, map-append, length_push, flat_map-map, none-some, same_Some, slice_get_within, IsIn, HasNoRepeats, below, all_below, Seat, Sys, Pair, IsBeh, IsSys, IsPair, is_final, all_final, env_next, beh_next, seat_next, outcomes_by, outcomes, is_allowed, is_fine, same_pair, arena, Entry, is_among, is_beaten, is_justified, IsOrderFrom, AreNew, AreEntries, Join, Die, set_frozen, grown, without, may_go, firsts, entry_without, rename, MAX_SERVICES, Reason, Final, Act}
+use Rattle.roman_model.proofs.Common.{take, drop, length-append, length-map, IsPairOf, sizes_of, grown_sizes, sizes_without, AllZip-long, ◌≡◌, ℕ, zero, suc, ◌<◌, ◌≤◌, Bool, true, not, ◌&&◌, ◌||◌, List, [], ◌∷◌, ◌++◌, map, length, Some, IsTrue, IsFalse, filter, flat_map, slice_get, slice_index, slice_set, remove, refl, sym, ap, ap₂, ◌∙◌, subst, inl, inr, arith, rules, list_any, AllZip, cases_eq, both_ways, or_cases, or_left, or_right, and_parts, and_from, cond-true, cond-false, map-append, length_push, flat_map-map, none-some, same_Some, slice_get_within, IsIn, HasNoRepeats, below, all_below, Seat, Sys, Pair, IsBeh, IsSys, IsPair, is_final, all_final, env_next, beh_next, seat_next, outcomes_by, outcomes, is_allowed, is_fine, same_pair, arena, Entry, is_among, is_beaten, is_justified, IsOrderFrom, AreNew, AreEntries, Join, Die, set_frozen, grown, without, may_go, firsts, entry_without, rename, MAX_SERVICES, Reason, Final, Act}
+use Rattle.std.proofs.Common.{length-take, length-drop}
+use Rattle.std.proofs.lemmas.List.{take-map, drop-map}
+use Rattle.roman_model.proofs.NumberLemmas.{IsPair-from, IsPairOf-from, IsPairOf-grown, IsPairOf-without}
 use Rattle.std.proofs.lemmas.List.{same_from_push}
 use Rattle.roman_model.proofs.Lists.{by_test, any_true, any_from, list_any-map, is_empty-map, from_push, in_map, from_map, from_flat_map, filter_in, from_below, all_below_at, all_below_from, HasNoRepeats-map, HasNoRepeats-flat_map, HasNoRepeats-below}
 use Rattle.roman_model.proofs.SystemLemmas.{same_pair_is, same_pair_from, from_moved}
@@ -18,9 +21,6 @@ map_same_in f g (x ∷ xs) same = ap₂ (λ y ys. y ∷ ys) (same x (inl refl)) 
 -- where two functions agree everywhere
 pub flat_map_same : {X Y : Type 0} (f g : X → List Y) (xs : List X) → ((x : X) → f x ≡ g x) → flat_map f xs ≡ flat_map g xs
 flat_map_same f g xs same = flat_map_same_in f g xs (λ x i. same x)
-
-pub map_same : {X Y : Type 0} (f g : X → Y) (xs : List X) → ((x : X) → f x ≡ g x) → map f xs ≡ map g xs
-map_same f g xs same = map_same_in f g xs (λ x i. same x)
 
 pub map-map : {X Y Z : Type 0} (f : Y → Z) (g : X → Y) (xs : List X) → map f (map g xs) ≡ map (λ x. f (g x)) xs
 map-map f g [] = refl
@@ -45,13 +45,11 @@ pub moved_named : (s : Sys) (seats : List Seat) (p : Pair) (a j k : ℕ) (states
     ((b' : ℕ) → slice_set bs k b' ≡ g (slice_set p.bs j b')) →
     outcomes_by (record { env = s.env; target = s.target; seats = seats }) (record { t = p.t; e = p.e; bs = bs }) a k states
     ≡ map (λ q. record { t = q.t; e = q.e; bs = g q.bs }) (outcomes_by s p a j states)
-moved_named s seats p a j k states g bs is =
-    flat_map_same (λ e'. flat_map (λ t'. map (λ b'. record { t = t'; e = e'; bs = slice_set bs k b' }) states) (beh_next s.target p.t p.e a))
+moved_named s seats p a j k states g bs is = flat_map_same (λ e'. flat_map (λ t'. map (λ b'. record { t = t'; e = e'; bs = slice_set bs k b' }) states) (beh_next s.target p.t p.e a))
     (λ e'. map f (flat_map (λ t'. map (λ b'. record { t = t'; e = e'; bs = slice_set p.bs j b' }) states) (beh_next s.target p.t p.e a)))
     (env_next s.env p.e a)
     (λ e'. flat_map_same (λ t'. map (λ b'. record { t = t'; e = e'; bs = slice_set bs k b' }) states) (λ t'. map f (map (λ b'. record { t = t'; e = e'; bs = slice_set p.bs j b' }) states)) (beh_next s.target p.t p.e a)
-    (λ t'. map_same (λ b'. record { t = t'; e = e'; bs = slice_set bs k b' }) (λ b'. record { t = t'; e = e'; bs = g (slice_set p.bs j b') }) states (λ b'. ap (λ cs. record { t = t'; e = e'; bs = cs }) (is b'))
-    ∙ sym (map-map f (λ b'. record { t = t'; e = e'; bs = slice_set p.bs j b' }) states))
+    (λ t'. grind (arith, f, map-map))
     ∙ sym (map-flat_map f (λ t'. map (λ b'. record { t = t'; e = e'; bs = slice_set p.bs j b' }) states) (beh_next s.target p.t p.e a)))
     ∙ sym (map-flat_map f (λ e'. flat_map (λ t'. map (λ b'. record { t = t'; e = e'; bs = slice_set p.bs j b' }) states) (beh_next s.target p.t p.e a)) (env_next s.env p.e a))
   where
@@ -68,9 +66,7 @@ remove_in x (y ∷ xs) (suc k) (inl e) = inl e
 remove_in x (y ∷ xs) (suc k) (inr i) = inr (remove_in x xs k i)
 
 pub length-remove : {X : Type 0} (xs : List X) (k : ℕ) → k < length xs → suc (length (remove xs k)) ≡ length xs
-length-remove [] k h = absurd (omega arith)
-length-remove (x ∷ xs) zero h = refl
-length-remove (x ∷ xs) (suc k) h = ap suc (length-remove xs k (omega arith))
+length-remove xs k h = simp (length-append, length-take, length-drop) (omega arith)
 
 -- the old place of seat j, before seat k left
 abbrev place : ℕ → ℕ → ℕ
@@ -121,15 +117,14 @@ set_frozen_in (seat ∷ seats) zero frozen x (inr i) = (x, inr i, refl)
 set_frozen_in (seat ∷ seats) (suc k) frozen x (inl e) = (seat, inl refl, ap (λ z. z.beh) e)
 set_frozen_in (seat ∷ seats) (suc k) frozen x (inr i) = let (y, j, e) = set_frozen_in seats k frozen x i in (y, inr j, e)
 
-pub length-set_frozen : (seats : List Seat) (k : ℕ) (frozen : Bool) → length (set_frozen seats k frozen) ≡ length seats
-length-set_frozen [] k frozen = refl
-length-set_frozen (seat ∷ seats) zero frozen = refl
-length-set_frozen (seat ∷ seats) (suc k) frozen = ap suc (length-set_frozen seats k frozen)
-
 pub states_frozen : (seats : List Seat) (k : ℕ) (frozen : Bool) → map (λ seat. seat.beh.states) (set_frozen seats k frozen) ≡ map (λ seat. seat.beh.states) seats
 states_frozen [] k frozen = refl
 states_frozen (seat ∷ seats) zero frozen = refl
 states_frozen (seat ∷ seats) (suc k) frozen = ap (λ ns. seat.beh.states ∷ ns) (states_frozen seats k frozen)
+
+pub length-set_frozen : (seats : List Seat) (k : ℕ) (frozen : Bool) → length (set_frozen seats k frozen) ≡ length seats
+length-set_frozen seats k frozen =
+    sym (length-map (set_frozen seats k frozen) (λ seat. seat.beh.states)) ∙ ap length (states_frozen seats k frozen) ∙ length-map seats (λ seat. seat.beh.states)
 
 pub all_final-set_frozen : (seats : List Seat) (k : ℕ) (frozen : Bool) (bs : List ℕ) → all_final (set_frozen seats k frozen) bs ≡ all_final seats bs
 all_final-set_frozen [] k frozen bs = refl
@@ -151,14 +146,14 @@ IsSys-turned s k frozen ok = record {
   few = subst (λ n. n ≤ MAX_SERVICES) (sym (length-set_frozen s.seats k frozen)) ok.few;
 }
 
-pub set_frozen_below : (seats : List Seat) (k : ℕ) (frozen : Bool) (bs : List ℕ) → AllZip (λ seat b. b < seat.beh.states) seats bs → AllZip (λ seat b. b < seat.beh.states) (set_frozen seats k frozen) bs
-set_frozen_below [] k frozen bs h = h
-set_frozen_below (seat ∷ seats) k frozen [] h = absurd h
-set_frozen_below (seat ∷ seats) zero frozen (b ∷ bs) h = (h.0, h.1)
-set_frozen_below (seat ∷ seats) (suc k) frozen (b ∷ bs) h = (h.0, set_frozen_below seats k frozen bs h.1)
+same_sizes : (s r : Sys) (ns : List ℕ) → s.env ≡ r.env → s.target ≡ r.target → map (λ seat. seat.beh.states) s.seats ≡ ns → sizes_of s ≡ record { target = r.target.states; env = r.env.states; seats = ns }
+same_sizes s r ns e t same = λ i. record { target = (t i).states; env = (e i).states; seats = same i }
+
+pub sizes-turned : (s : Sys) (k : ℕ) (frozen : Bool) → sizes_of (turned s k frozen) ≡ sizes_of s
+sizes-turned s k frozen = same_sizes (turned s k frozen) s (map (λ seat. seat.beh.states) s.seats) refl refl (states_frozen s.seats k frozen)
 
 pub IsPair-turned : (s : Sys) (k : ℕ) (frozen : Bool) (p : Pair) → IsPair s p → IsPair (turned s k frozen) p
-IsPair-turned s k frozen p ok = record { t = ok.t; e = ok.e; bs = set_frozen_below s.seats k frozen p.bs ok.bs }
+IsPair-turned s k frozen p ok = IsPair-from (turned s k frozen) p (subst (λ n. IsPairOf n p) (sym (sizes-turned s k frozen)) (IsPairOf-from s p ok))
 
 pub is_fine-turned : (s : Sys) (k : ℕ) (frozen : Bool) (p : Pair) → is_fine (turned s k frozen) p ≡ is_fine s p
 is_fine-turned s k frozen p = ap (λ x. not (is_final s.target p.t) || x) (all_final-set_frozen s.seats k frozen p.bs)
@@ -234,14 +229,12 @@ IsSys-joined s seat ok beh room = record {
   few = subst (λ n. n ≤ MAX_SERVICES) (sym (length_push s.seats seat)) (omega arith);
 }
 
-pub push_below : (seats : List Seat) (seat : Seat) (bs : List ℕ) (b : ℕ) → AllZip (λ seat b. b < seat.beh.states) seats bs → b < seat.beh.states → AllZip (λ seat b. b < seat.beh.states) (seats ++ seat ∷ []) (bs ++ b ∷ [])
-push_below [] seat [] b h l = (l, tt)
-push_below [] seat (c ∷ bs) b h l = absurd h
-push_below (x ∷ seats) seat [] b h l = absurd h
-push_below (x ∷ seats) seat (c ∷ bs) b h l = (h.0, push_below seats seat bs b h.1 l)
+pub sizes-joined : (s : Sys) (seat : Seat) → sizes_of (joined s seat) ≡ grown_sizes (sizes_of s) seat.beh.states
+sizes-joined s seat = same_sizes (joined s seat) s (map (λ seat. seat.beh.states) s.seats ++ seat.beh.states ∷ []) refl refl (map-append (λ seat. seat.beh.states) s.seats (seat ∷ []))
 
 pub IsPair-grown : (s : Sys) (seat : Seat) (p : Pair) (b : ℕ) → IsPair s p → b < seat.beh.states → IsPair (joined s seat) (grown p b)
-IsPair-grown s seat p b ok l = record { t = ok.t; e = ok.e; bs = push_below s.seats seat p.bs b ok.bs l }
+IsPair-grown s seat p b ok l =
+    IsPair-from (joined s seat) (grown p b) (subst (λ n. IsPairOf n (grown p b)) (sym (sizes-joined s seat)) (IsPairOf-grown (sizes_of s) p seat.beh.states b (IsPairOf-from s p ok) l))
 
 pub join_entries : (s : Sys) (seat : Seat) (L : List (Entry Pair)) → AreEntries s L → AreEntries (joined s seat) (rename (Join seat) L)
 join_entries s seat L are x i = grind (arith, IsPair-grown, from_below, from_flat_map, from_map)
@@ -263,10 +256,7 @@ abbrev pub left : Sys → ℕ → Sys
 left s k = record { env = s.env; target = s.target; seats = remove s.seats k }
 
 pub length-remove-le : {X : Type 0} (xs : List X) (k : ℕ) → length (remove xs k) ≤ length xs
-length-remove-le [] zero = omega arith
-length-remove-le [] (suc k) = omega arith
-length-remove-le (x ∷ xs) zero = omega arith
-length-remove-le (x ∷ xs) (suc k) = let rest : length (remove xs k) ≤ length xs = length-remove-le xs k in omega arith
+length-remove-le xs k = simp (length-append, length-take, length-drop) (omega arith)
 
 pub IsSys-left : (s : Sys) (k : ℕ) → IsSys s → IsSys (left s k)
 IsSys-left s k ok = record {
@@ -277,22 +267,18 @@ IsSys-left s k ok = record {
   few = let less : length (remove s.seats k) ≤ length s.seats = length-remove-le s.seats k in let few : length s.seats ≤ MAX_SERVICES = ok.few in omega arith;
 }
 
-pub remove_below : (seats : List Seat) (bs : List ℕ) (k : ℕ) → AllZip (λ seat b. b < seat.beh.states) seats bs → AllZip (λ seat b. b < seat.beh.states) (remove seats k) (remove bs k)
-remove_below [] [] zero h = tt
-remove_below [] [] (suc k) h = tt
-remove_below [] (b ∷ bs) k h = absurd h
-remove_below (seat ∷ seats) [] k h = absurd h
-remove_below (seat ∷ seats) (b ∷ bs) zero h = h.1
-remove_below (seat ∷ seats) (b ∷ bs) (suc k) h = (h.0, remove_below seats bs k h.1)
+pub map-remove : {X Y : Type 0} (f : X → Y) (xs : List X) (k : ℕ) → map f (remove xs k) ≡ remove (map f xs) k
+map-remove f xs k = map-append f (take k xs) (drop (suc k) xs) ∙ ap₂ (λ ys zs. ys ++ zs) (sym (take-map f k xs)) (sym (drop-map f (suc k) xs))
+
+pub sizes-left : (s : Sys) (k : ℕ) → sizes_of (left s k) ≡ sizes_without k (sizes_of s)
+sizes-left s k = same_sizes (left s k) s (remove (map (λ seat. seat.beh.states) s.seats) k) refl refl (map-remove (λ seat. seat.beh.states) s.seats k)
 
 pub IsPair-without : (s : Sys) (k : ℕ) (p : Pair) → IsPair s p → IsPair (left s k) (without k p)
-IsPair-without s k p ok = record { t = ok.t; e = ok.e; bs = remove_below s.seats p.bs k ok.bs }
+IsPair-without s k p ok =
+    IsPair-from (left s k) (without k p) (subst (λ n. IsPairOf n (without k p)) (sym (sizes-left s k)) (IsPairOf-without (sizes_of s) p k (IsPairOf-from s p ok)))
 
 pub states_length : (seats : List Seat) (bs : List ℕ) → AllZip (λ seat b. b < seat.beh.states) seats bs → length bs ≡ length seats
-states_length [] [] h = refl
-states_length [] (b ∷ bs) h = absurd h
-states_length (seat ∷ seats) [] h = absurd h
-states_length (seat ∷ seats) (b ∷ bs) h = ap suc (states_length seats bs h.1)
+states_length seats bs h = AllZip-long (λ seat b. b < seat.beh.states) seats bs h
 
 -- the outcomes of the other seats, without the state of the seat that left
 pub outcomes-without : (s : Sys) (k : ℕ) (p : Pair) (a j : ℕ) → outcomes (left s k) (without k p) a j ≡ map (without k) (outcomes s p a (place k j))
@@ -347,8 +333,7 @@ die_order s k seat seated before seen [] are carries order = tt
 die_order s k seat seated before seen (x ∷ L) are carries order = by_test (may_go k seat x.node)
     (λ goes. subst (λ M. IsOrderFrom (arena (left s k)) seen (firsts seen (map (entry_without k) M))) (sym (cond-true (may_go k seat x.node) (x ∷ goers_of) goers_of goes))
     (by_test (list_any (same_pair (without k x.node)) seen)
-    (λ known. subst (λ M. IsOrderFrom (arena (left s k)) seen M) (sym (cond-true (list_any (same_pair (without k x.node)) seen) (firsts seen rest) (entry_without k x ∷ firsts (without k x.node ∷ seen) rest) known))
-    (die_order s k seat seated (x.node ∷ before) seen L (λ y i. are y (inr i)) (still known) order.2))
+    (λ known. grind (arith, rest, still, (die_order s k seat seated (x.node ∷ before) seen L)))
     (λ new. subst (λ M. IsOrderFrom (arena (left s k)) seen M) (sym (cond-false (list_any (same_pair (without k x.node)) seen) (firsts seen rest) (entry_without k x ∷ firsts (without k x.node ∷ seen) rest) new)) (
       new,
       die_justified s k seat (is_among (arena s) before) (is_among (arena (left s k)) seen) seated carries x.node (are x (inl refl)) goes x.reason order.1,
@@ -385,13 +370,7 @@ die_order s k seat seated before seen (x ∷ L) are carries order = by_test (may
 
 pub firsts_in : (seen : List Pair) (L : List (Entry Pair)) (x : Entry Pair) → IsIn x (firsts seen L) → IsIn x L
 firsts_in seen [] x i = absurd i
-firsts_in seen (y ∷ L) x i = by_test (list_any (same_pair y.node) seen)
-    (λ t. inr (firsts_in seen L x (subst (λ M. IsIn x M) (cond-true (list_any (same_pair y.node) seen) (firsts seen L) (y ∷ firsts (y.node ∷ seen) L) t) i)))
-    (λ f. first (subst (λ M. IsIn x M) (cond-false (list_any (same_pair y.node) seen) (firsts seen L) (y ∷ firsts (y.node ∷ seen) L) f) i) (λ j. firsts_in (y.node ∷ seen) L x j))
-  where
-    first : IsIn x (y ∷ firsts (y.node ∷ seen) L) → (IsIn x (firsts (y.node ∷ seen) L) → IsIn x L) → IsIn x (y ∷ L)
-    first (inl e) go = inl e
-    first (inr j) go = inr (go j)
+firsts_in seen (y ∷ L) x i = grind (arith, by_test, cond-true, (firsts_in seen L x), (firsts_in (y.node ∷ seen) L x))
 
 -- each renamed entry comes from a listed entry whose pair may go
 pub die_from : (k : ℕ) (seat : Seat) (L : List (Entry Pair)) (x : Entry Pair) → IsIn x (rename (Die k seat) L) → (y : Entry Pair) × IsIn y L × IsTrue (may_go k seat y.node) × (x ≡ entry_without k y)

@@ -11,7 +11,18 @@ use Rattle.roman_model.proofs.SystemLemmas.{same_numbers_is, same_numbers_itself
 use Rattle.roman_model.proofs.NumberLemmas.{states_number_below, states_at-number, states_number-at}
 use Rattle.roman_model.proofs.CompositionLemmas.{meets_more}
 use Rattle.roman_model.proofs.MadeLemmas.{IsEnv-made, IsBeh-made, from_made_final, made_final}
-use Rattle.roman_model.proofs.CombinedLemmas.{in_requests, from_combined_triple, combined_triple, from_combined_sstep, combined_sstep, from_combined_target, combined_target_goes, member_below, states_of, number_of, total, from_all_final_combined, all_final_combined}
+use Rattle.roman_model.proofs.CombinedLemmas.{IsMemberStep, in_requests, from_combined_triple, combined_triple, from_combined_sstep, combined_sstep, from_combined_target, combined_target_goes, member_below, states_of, number_of, total, from_all_final_combined, all_final_combined}
+
+-- The steps of the combined environment and target, where the request and the target are known.
+
+world_as : (w : Several) (e n e' : ℕ) (r : Request) → slice_get (all_requests w) n ≡ Some r → IsTrue (has_triple (combined w).env e n e') → IsTrue (has_triple w.env e r.action e')
+world_as w e n e' r at t = let (r2, at2, plain) = from_combined_triple w e n e' t in
+    grind arith
+
+step_as : (w : Several) (n : ℕ) (ts : List ℕ) (e : ℕ) (ts' : List ℕ) (r r2 : Request) (target target2 : Beh) → slice_get (all_requests w) n ≡ Some r →
+    slice_get w.targets r.target ≡ Some target → IsMemberStep w n ts e ts' r2 target2 → IsMemberStep w n ts e ts' r target
+step_as w n ts e ts' r r2 target target2 at member step = let again : IsMemberStep w n ts e ts' r target2 = subst (λ x. IsMemberStep w n ts e ts' x target2) (same_Some r2 r (sym step.request ∙ at)) step in
+    grind (arith, same_Some)
 
 -- The three clauses.
 
@@ -33,10 +44,8 @@ meets_combined w Related c ok meets = record {
       let (t1, e1, tstep1) = allows in
       let (world1, goes1) = tstep1 in
       let (ht, ht', r, target, step) = from_combined_target w c.t c.e n t1 goes1 in
-      let (r1, at1, plain1) = from_combined_triple w c.e n e1 world1 in
-      let same1 : r1 ≡ r = same_Some r1 r (sym at1 ∙ step.request) in
       let (k, serves) = meets.served r.target target step.member r.action
-      (slice_index (states_of w t1) r.target, e1, (subst (λ (x : Request). IsTrue (has_triple w.env c.e x.action e1)) same1 plain1, step.goes)) in
+      (slice_index (states_of w t1) r.target, e1, (world_as w c.e n e1 r step.request world1, step.goes)) in
       (k, λ t' e' tstep. each n k r target step.request step.member serves t' e' tstep.0 tstep.1);
 }
   where
@@ -45,27 +54,15 @@ meets_combined w Related c ok meets = record {
         ((bs' : List ℕ) × SStep (combined w) c.bs c.e2 n k bs' e')
         × ((bs' : List ℕ) → SStep (combined w) c.bs c.e2 n k bs' e' → (t' < total w) × Related (record { ts = states_of w t'; e = e'; bs = bs'; e2 = e' }))
     each n k r target at member serves t' e' world goes =
-        let (r2, at2, plain) = from_combined_triple w c.e n e' world in
-        let same2 : r2 ≡ r = same_Some r2 r (sym at2 ∙ at) in
-        let plain2 : IsTrue (has_triple w.env c.e r.action e') = subst (λ (x : Request). IsTrue (has_triple w.env c.e x.action e')) same2 plain in
-        let (ht, ht', r3, target3, step) = from_combined_target w c.t c.e n t' goes in
-        let same3 : r3 ≡ r = same_Some r3 r (sym step.request ∙ at) in
-        let member3 : slice_get w.targets r.target ≡ Some target3 = subst (λ (x : Request). slice_get w.targets x.target ≡ Some target3) same3 step.member in
-        let same_target : target3 ≡ target = same_Some target3 target (sym member3 ∙ member) in
-        let goes3 : IsTrue (has_move target (slice_index (states_of w c.t) r.target) c.e r.action (slice_index (states_of w t') r.target)) =
-        subst (λ (x : Beh). IsTrue (has_move x (slice_index (states_of w c.t) r.target) c.e r.action (slice_index (states_of w t') r.target))) same_target
-        (subst (λ (x : Request). IsTrue (has_move target3 (slice_index (states_of w c.t) x.target) c.e x.action (slice_index (states_of w t') x.target))) same3 step.goes) in
-        let others3 : slice_set (states_of w c.t) r.target (slice_index (states_of w t') r.target) ≡ states_of w t' =
-        subst (λ (x : Request). slice_set (states_of w c.t) x.target (slice_index (states_of w t') x.target) ≡ states_of w t') same3 step.others in
-        let (some, all) = serves (slice_index (states_of w t') r.target) e' (plain2, goes3) in (
+        let (ht, ht', r3, target3, step3) = from_combined_target w c.t c.e n t' goes in
+        let step : IsMemberStep w n (states_of w c.t) c.e (states_of w t') r target = step_as w n (states_of w c.t) c.e (states_of w t') r r3 target target3 at member step3 in
+        let (some, all) = serves (slice_index (states_of w t') r.target) e' (world_as w c.e n e' r at world, step.goes) in (
           (some.0, combined_sstep w target c.bs c.e2 n k some.0 e' r ok at some.1),
-          λ bs' sstep.
-              let (r4, at4, world4) = from_combined_triple w c.e2 n e' sstep.world in
-              let same4 : r4 ≡ r = same_Some r4 r (sym at4 ∙ at) in (
-                ht',
-                subst (λ ts. Related (record { ts = ts; e = e'; bs = bs'; e2 = e' })) others3
-                    (all bs' (from_combined_sstep w target c.bs c.e2 n k bs' e' r at (subst (λ (x : Request). IsTrue (has_triple w.env c.e2 x.action e')) same4 world4) sstep)),
-              ),
+          λ bs' sstep. (
+            ht',
+            subst (λ ts. Related (record { ts = ts; e = e'; bs = bs'; e2 = e' })) step.others
+                (all bs' (from_combined_sstep w target c.bs c.e2 n k bs' e' r at (world_as w c.e2 n e' r at sstep.world) sstep)),
+          ),
         )
 
 pub meets_members : (w : Several) (Related : Couple → Type 0) (More : CoupleAll → Type 0) (c : Couple) → IsSeveral w → c.t < total w →
@@ -98,18 +95,13 @@ meets_members w Related More c ok l more meets = record {
         let below : AreBelow (target_sizes w.targets) (slice_set (states_of w c.t) i t') = member_below w c.t i target t' l member hb' in
         let (some, all) = serves (number_of w (slice_set (states_of w c.t) i t')) e'
         (combined_triple w c.e n e' r ok.env at world, combined_target_goes w c.t c.e n t' r target ok l at member goes) in (
-          (some.0, from_combined_sstep w target c.bs c.e2 n k some.0 e' r at (plain_world e' n a i at some.1.world) some.1),
+          (some.0, from_combined_sstep w target c.bs c.e2 n k some.0 e' r at (world_as w c.e2 n e' r at some.1.world) some.1),
           λ bs' sstep.
               subst (λ ts. More (record { ts = ts; e = e'; bs = bs'; e2 = e' })) (states_at-number (target_sizes w.targets) (slice_set (states_of w c.t) i t') below)
               (more (record { t = number_of w (slice_set (states_of w c.t) i t'); e = e'; bs = bs'; e2 = e' })
               (states_number_below (target_sizes w.targets) (slice_set (states_of w c.t) i t') below)
               (all bs' (combined_sstep w target c.bs c.e2 n k bs' e' r ok at sstep))),
         )
-      where
-        plain_world : (e' n a i : ℕ) → slice_get (all_requests w) n ≡ Some (record { target = i; action = a }) → IsTrue (has_triple (combined w).env c.e2 n e') → IsTrue (has_triple w.env c.e2 a e')
-        plain_world e' n a i at t =
-            let (r4, at4, world4) = from_combined_triple w c.e2 n e' t in
-            subst (λ (x : Request). IsTrue (has_triple w.env c.e2 x.action e')) (same_Some r4 (record { target = i; action = a }) (sym at4 ∙ at)) world4
 
 -- Related pairs.
 
@@ -143,9 +135,7 @@ great_from_all w c ok l (R, sim, i) = (
 )
   where
     kept : (d : Couple) → d.t < total w → IsIn (decoded w d) R → IsIn d (map (encoded w) (filter (is_encoded w) R))
-    kept d small j =
-        subst (λ x. IsIn x (map (encoded w) (filter (is_encoded w) R))) (decoded_back w d small)
-        (in_map (encoded w) (decoded w d) (filter (is_encoded w) R) (in_filter (is_encoded w) (decoded w d) R j (is_encoded_from w d small)))
+    kept d small j = grind (arith, decoded_back, in_filter, in_map, is_encoded_from)
 
 pub all_from_great : (w : Several) (c : Couple) → IsSeveral w → c.t < total w → GreatCouple (combined w) c → GreatAll w (decoded w c)
 all_from_great w c ok l (R, sim, i) = (
@@ -159,8 +149,7 @@ all_from_great w c ok l (R, sim, i) = (
 )
   where
     kept : (d : Couple) → d.t < total w → IsIn d R → IsIn (decoded w d) (map (decoded w) (filter (λ d. nat_lt d.t (total w)) R))
-    kept d small j =
-        in_map (decoded w) d (filter (λ d. nat_lt d.t (total w)) R) (in_filter (λ d. nat_lt d.t (total w)) d R j (lt-ltb d.t (total w) small))
+    kept d small j = grind (arith, in_filter, in_map, total)
 
 -- The combined system is well formed.
 
@@ -173,18 +162,11 @@ pub combined_single : (w : Several) → IsSeveral w → IsDeterministic (combine
 combined_single w ok b e n b1 b2 h1 h2 =
     let (l, l1, r1, target1, step1) = from_combined_target w b e n b1 h1 in
     let (m, l2, r2, target2, step2) = from_combined_target w b e n b2 h2 in
-    let same : r2 ≡ r1 = same_Some r2 r1 (sym step2.request ∙ step1.request) in
-    let member2 : slice_get w.targets r1.target ≡ Some target2 = subst (λ (x : Request). slice_get w.targets x.target ≡ Some target2) same step2.member in
-    let same_target : target2 ≡ target1 = same_Some target2 target1 (sym member2 ∙ step1.member) in
-    let goes2 : IsTrue (has_move target1 (slice_index (states_of w b) r1.target) e r1.action (slice_index (states_of w b2) r1.target)) =
-    subst (λ (x : Beh). IsTrue (has_move x (slice_index (states_of w b) r1.target) e r1.action (slice_index (states_of w b2) r1.target))) same_target
-    (subst (λ (x : Request). IsTrue (has_move target2 (slice_index (states_of w b) x.target) e x.action (slice_index (states_of w b2) x.target))) same step2.goes) in
-    let others2 : slice_set (states_of w b) r1.target (slice_index (states_of w b2) r1.target) ≡ states_of w b2 =
-    subst (λ (x : Request). slice_set (states_of w b) x.target (slice_index (states_of w b2) x.target) ≡ states_of w b2) same step2.others in
+    let step : IsMemberStep w n (states_of w b) e (states_of w b2) r1 target1 = step_as w n (states_of w b) e (states_of w b2) r1 r2 target1 target2 step1.request step1.member step2 in
     let one : slice_index (states_of w b1) r1.target ≡ slice_index (states_of w b2) r1.target =
     (ok.targets target1 (get_in w.targets r1.target target1 step1.member)).1 (slice_index (states_of w b) r1.target) e r1.action
-    (slice_index (states_of w b1) r1.target) (slice_index (states_of w b2) r1.target) step1.goes goes2 in
-    let lists : states_of w b1 ≡ states_of w b2 = sym step1.others ∙ ap (slice_set (states_of w b) r1.target) one ∙ others2 in
+    (slice_index (states_of w b1) r1.target) (slice_index (states_of w b2) r1.target) step1.goes step.goes in
+    let lists : states_of w b1 ≡ states_of w b2 = sym step1.others ∙ ap (slice_set (states_of w b) r1.target) one ∙ step.others in
     sym (states_number-at (target_sizes w.targets) b1 l1) ∙ ap (number_of w) lists ∙ states_number-at (target_sizes w.targets) b2 l2
 
 pub combined_system : (w : Several) → IsSeveral w → IsSys (combined w)

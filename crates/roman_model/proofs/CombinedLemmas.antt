@@ -1,23 +1,19 @@
 -- The combined actions, and the steps and final states of the combined parts, which are those of the members.
-use Rattle.roman_model.proofs.Common.{◌≡◌, ℕ, zero, suc, ◌<◌, ◌==◌, not, ◌&&◌, ◌||◌, List, [], ◌∷◌, map, length, Option, Some, None, IsTrue, filter, slice_get, slice_index, slice_set, inl, inr, refl, sym, ap, ◌∙◌, subst, arith, list_any, false≢true, and_parts, and_from, or_cases, or_left, or_right, eqb-true, eq-eqb, not_from_false, not-true, length-map, none-some, same_Some, slice_get_within, IsIn, below, is_empty, product_of, Env, Beh, Seat, has, has_triple, has_move, IsEnv, IsBeh, SStep, is_final, all_final, beh_next, same_numbers, AreBelow, states_number, states_at, Request, Several, of_one, are_final, has_triple_on, has_move_on, targets_go, target_sizes, combined_start, combined_seat, all_requests, combined, IsSeveral}
+use Rattle.roman_model.proofs.Common.{◌≡◌, ℕ, zero, suc, ◌<◌, ◌==◌, not, ◌&&◌, ◌||◌, List, [], ◌∷◌, map, length, Option, Some, None, IsTrue, filter, slice_get, slice_index, slice_set, inl, inr, refl, sym, ap, ◌∙◌, subst, arith, list_any, false≢true, and_parts, and_from, or_cases, or_left, or_right, eqb-true, eq-eqb, not_from_false, not-true, length-map, none-some, same_Some, slice_get_within, IsIn, below, is_empty, product_of, Env, Beh, Seat, has, has_triple, has_move, IsEnv, IsBeh, SStep, is_final, all_final, beh_next, AreBelow, states_number, states_at, Request, Several, of_one, are_final, has_triple_on, has_move_on, targets_go, target_sizes, combined_start, combined_seat, all_requests, combined, IsSeveral}
 use Rattle.roman_model.specs.Combined.{stands_in, uses, requests_of, member_goes, combined_beh}
 use Rattle.roman_model.proofs.Places.{get_in, from_get_map, get_map, index_set}
 use Rattle.roman_model.proofs.Lists.{same_test, in_map, in_flat_map, in_filter, any_true, any_from, in_not_empty, not_empty_in, in_below}
-use Rattle.roman_model.proofs.SystemLemmas.{same_numbers_is, same_numbers_itself, triple_in_range, move_in_range, in_beh_next, from_beh_next}
+use Rattle.roman_model.proofs.SystemLemmas.{move_in, same_numbers_is, same_numbers_itself, triple_in_range, move_in_range, in_beh_next, from_beh_next}
 use Rattle.roman_model.proofs.NumberLemmas.{AreBelow-length, AreBelow-at, AreBelow-set, states_number_below, states_at-number}
-use Rattle.roman_model.proofs.MadeLemmas.{from_made_triple, made_triple, move_test, move_passes, from_made_move, made_move, from_made_final, made_final}
+use Rattle.roman_model.proofs.MadeLemmas.{from_made_triple, made_triple, move_passes, from_made_move, made_move, from_made_final, made_final}
 
 -- The combined actions.
 
 -- an action that a step uses is one of the combined actions
 pub in_requests : (env : Env) (targets : List Beh) (i : ℕ) (target : Beh) (b e a b' : ℕ) → slice_get targets i ≡ Some target → IsBeh env target →
     IsTrue (has_move target b e a b') → IsIn (record { target = i; action = a }) (requests_of env.actions targets)
-in_requests env targets i target b e a b' at ok t =
-    let (m, j, passes) = any_true (λ m. m.from == b && m.action == a && has m.guard e && m.to == b') target.steps t in
-    let (from, action, guard, to) = move_test m b e a b' passes in
-    let stands : IsTrue (stands_in (Some target) a) =
-    any_from (λ n. n.action == a && not (is_empty n.guard)) m target.steps j
-    (and_from (m.action == a) (not (is_empty m.guard)) (eq-eqb m.action a action) (not_from_false (is_empty m.guard) (in_not_empty e m.guard guard))) in
+in_requests env targets i target b e a b' at ok t = let (guard, j, k) = move_in target b e a b' t in
+    let stands : IsTrue (stands_in (Some target) a) = grind (arith, and_from, any_from, eq-eqb, in_not_empty) in
     in_flat_map (λ i. map (λ a. record { target = i; action = a }) (filter (stands_in (slice_get targets i)) (below env.actions))) i (record { target = i; action = a })
     (below (length targets)) (in_below (length targets) i (slice_get_within targets i target at))
     (in_map (λ a. record { target = i; action = a }) a (filter (stands_in (slice_get targets i)) (below env.actions))
@@ -41,10 +37,8 @@ stands_uses env beh a ok = same_test (stands_in (Some beh) a) (uses env.states b
     let (b, i, u) = any_true (λ b. list_any (λ e. not (is_empty (beh_next beh b e a))) (below env.states)) (below beh.states) t in
     let (e, j, some) = any_true (λ e. not (is_empty (beh_next beh b e a))) (below env.states) u in
     let (b', k) = not_empty_in (beh_next beh b e a) (not-true (is_empty (beh_next beh b e a)) some) in
-    let (m, n, passes) = any_true (λ m. m.from == b && m.action == a && has m.guard e && m.to == b') beh.steps (from_beh_next beh b e a b' k) in
-    let (from, action, guard, to) = move_test m b e a b' passes in
-    any_from (λ m. m.action == a && not (is_empty m.guard)) m beh.steps n
-    (and_from (m.action == a) (not (is_empty m.guard)) (eq-eqb m.action a action) (not_from_false (is_empty m.guard) (in_not_empty e m.guard guard))))
+    let (guard, n, l) = move_in beh b e a b' (from_beh_next beh b e a b' k) in
+    grind (arith, and_from, any_from, eq-eqb, in_not_empty))
 
 -- The combined environment.
 
@@ -86,15 +80,7 @@ from_combined_sstep w target bs e n k bs' e' r at world step = grind (arith, fro
 
 pub combined_sstep : (w : Several) (target : Beh) (bs : List ℕ) (e n k : ℕ) (bs' : List ℕ) (e' : ℕ) (r : Request) → IsSeveral w → slice_get (all_requests w) n ≡ Some r →
     SStep (of_one w target) bs e r.action k bs' e' → SStep (combined w) bs e n k bs' e'
-combined_sstep w target bs e n k bs' e' r ok at step = record {
-  seat = combined_seat w.env.states (all_requests w) step.seat;
-  seated = get_map (combined_seat w.env.states (all_requests w)) w.seats k step.seat step.seated;
-  ready = step.ready;
-  world = combined_triple w e n e' r ok.env at step.world;
-  to = step.to;
-  moves = combined_move w step.seat.beh (slice_index bs k) e n step.to r (ok.seats step.seat (get_in w.seats k step.seat step.seated)) at step.moves;
-  is = step.is;
-}
+combined_sstep w target bs e n k bs' e' r ok at step = grind (arith, (combined_move w step.seat.beh (slice_index bs k) e n step.to r (ok.seats step.seat (get_in w.seats k step.seat step.seated))), (combined_triple w e n e' r ok.env), (get_map (combined_seat w.env.states (all_requests w)) w.seats k step.seat step.seated))
 
 -- The combined target.
 
@@ -134,11 +120,9 @@ total w = product_of (target_sizes w.targets)
 
 pub from_combined_target : (w : Several) (t e n t' : ℕ) → IsTrue (has_move (combined w).target t e n t') →
     (t < total w) × (t' < total w) × (r : Request) × (target : Beh) × IsMemberStep w n (states_of w t) e (states_of w t') r target
-from_combined_target w t e n t' h =
-    let (ht, he, hn, ht', goes) = from_made_move w.env.states (length (all_requests w)) (total w) (combined_start w.targets)
+from_combined_target w t e n t' h = let (ht, he, hn, ht', goes) = from_made_move w.env.states (length (all_requests w)) (total w) (combined_start w.targets)
     (λ t. are_final w.targets (states_of w t)) (λ t e n t'. targets_go w.targets (slice_get (all_requests w) n) (states_of w t) e (states_of w t')) t e n t' h in
-    let (r, target, step) = from_targets_go w n (states_of w t) e (states_of w t') (slice_get (all_requests w) n) refl goes in
-    (ht, ht', r, target, step)
+    grind (arith, from_targets_go)
 
 -- the list of states after a member's step is in range again
 pub member_below : (w : Several) (t : ℕ) (i : ℕ) (target : Beh) (t' : ℕ) → t < total w → slice_get w.targets i ≡ Some target → t' < target.states →
@@ -148,8 +132,7 @@ member_below w t i target t' l at h = grind (arith, AreBelow-at, AreBelow-set, t
 pub combined_target_goes : (w : Several) (t e n t' : ℕ) (r : Request) (target : Beh) → IsSeveral w → t < total w → slice_get (all_requests w) n ≡ Some r →
     slice_get w.targets r.target ≡ Some target → IsTrue (has_move target (slice_index (states_of w t) r.target) e r.action t') →
     IsTrue (has_move (combined w).target t e n (number_of w (slice_set (states_of w t) r.target t')))
-combined_target_goes w t e n t' r target ok l at member goes =
-    let (hb, he, ha, hb') = move_in_range w.env target (slice_index (states_of w t) r.target) e r.action t' (ok.targets target (get_in w.targets r.target target member)).0 goes in
+combined_target_goes w t e n t' r target ok l at member goes = let (hb, he, ha, hb') = move_in_range w.env target (slice_index (states_of w t) r.target) e r.action t' (ok.targets target (get_in w.targets r.target target member)).0 goes in
     let below : AreBelow (target_sizes w.targets) (slice_set (states_of w t) r.target t') = member_below w t r.target target t' l member hb' in
     let back : states_of w (number_of w (slice_set (states_of w t) r.target t')) ≡ slice_set (states_of w t) r.target t' =
     states_at-number (target_sizes w.targets) (slice_set (states_of w t) r.target t') below in
@@ -157,12 +140,7 @@ combined_target_goes w t e n t' r target ok l at member goes =
     subst (λ m. r.target < m) (sym (AreBelow-length (target_sizes w.targets) (states_of w t) (AreBelow-at (target_sizes w.targets) t l) ∙ length-map w.targets (λ target. target.states)))
     (slice_get_within w.targets r.target target member) in
     let there : slice_index (slice_set (states_of w t) r.target t') r.target ≡ t' = index_set (states_of w t) r.target t' within in
-    let passes : IsTrue (member_goes (Some target) r.target r.action (states_of w t) e (slice_set (states_of w t) r.target t')) =
-    and_from (has_move target (slice_index (states_of w t) r.target) e r.action (slice_index (slice_set (states_of w t) r.target t') r.target))
-    (same_numbers (slice_set (states_of w t) r.target (slice_index (slice_set (states_of w t) r.target t') r.target)) (slice_set (states_of w t) r.target t'))
-    (subst (λ m. IsTrue (has_move target (slice_index (states_of w t) r.target) e r.action m)) (sym there) goes)
-    (subst (λ m. IsTrue (same_numbers (slice_set (states_of w t) r.target m) (slice_set (states_of w t) r.target t'))) (sym there)
-    (same_numbers_itself (slice_set (states_of w t) r.target t'))) in
+    let passes : IsTrue (member_goes (Some target) r.target r.action (states_of w t) e (slice_set (states_of w t) r.target t')) = grind (arith, same_numbers_itself) in
     made_move w.env.states (length (all_requests w)) (total w) (combined_start w.targets)
     (λ t. are_final w.targets (states_of w t)) (λ t e n t'. targets_go w.targets (slice_get (all_requests w) n) (states_of w t) e (states_of w t')) t e n
     (number_of w (slice_set (states_of w t) r.target t'))

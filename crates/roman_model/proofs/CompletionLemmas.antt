@@ -1,16 +1,14 @@
 -- Every removal list can be extended to a complete one.
-use Rattle.roman_model.proofs.Common.{ℕ, zero, suc, ◌+◌, ◌≤◌, Bool, not, ◌&&◌, List, [], ◌∷◌, ◌++◌, length, map, flat_map, IsTrue, IsFalse, inl, inr, refl, sym, subst, arith, append_assoc, append-nil, length-append, list_any, both_ways, and_parts, and_from, not-true, not_from_false, IsIn, below, all_below, Sys, Pair, IsSys, IsPair, pairs, is_allowed, arena, Entry, is_listed, is_justified, is_beaten, IsOrder, AreEntries, IsComplete, Reason, Final, Act}
-use Rattle.roman_model.proofs.Lists.{by_test, any_true, any_false, in_map, from_map, in_flat_map, from_flat_map, in_below, from_push}
-use Rattle.roman_model.proofs.SystemLemmas.{in_pairs, from_pairs, allowed_in_range}
+use Rattle.roman_model.proofs.ArenaLemmas.{reason_in}
+use Rattle.roman_model.proofs.Common.{reasons, ℕ, zero, suc, ◌+◌, ◌≤◌, Bool, not, ◌&&◌, List, [], ◌∷◌, ◌++◌, length, map, flat_map, IsTrue, IsFalse, sym, subst, arith, append_assoc, append-nil, length-append, list_any, both_ways, and_parts, and_from, not-true, not_from_false, IsIn, Sys, Pair, IsSys, IsPair, pairs, arena, Entry, is_listed, is_justified, IsOrder, AreEntries, IsComplete, Reason}
+use Rattle.roman_model.proofs.Lists.{by_test, any_true, any_false, in_map, from_map, in_flat_map, from_flat_map, from_push}
+use Rattle.roman_model.proofs.SystemLemmas.{in_pairs, from_pairs}
 use Rattle.roman_model.proofs.OrderLemmas.{order_push, order_fits}
-use Rattle.roman_model.proofs.CompositionLemmas.{system_is_same, completed_by}
+use Rattle.roman_model.proofs.CompositionLemmas.{system_is_same, system_is_arena, completed_by}
 
--- all reasons, and the entries of a pair with each of them
-abbrev reasons : Sys → List Reason
-reasons s = Final ∷ map Act (below s.env.actions)
-
+-- the entries of a pair with each reason
 abbrev with_reasons : Sys → Pair → List (Entry Pair)
-with_reasons s p = map (λ r. record { node = p; reason = r }) (reasons s)
+with_reasons s p = map (λ r. record { node = p; reason = r }) (reasons s.env.actions)
 
 -- all possible entries
 abbrev possible : Sys → List (Entry Pair)
@@ -20,18 +18,11 @@ possible s = flat_map (with_reasons s) (pairs s)
 abbrev can_follow : Sys → List (Entry Pair) → Entry Pair → Bool
 can_follow s L x = not (is_listed (arena s) L x.node) && is_justified (arena s) (is_listed (arena s) L) x.node x.reason
 
-in_possible : (s : Sys) (p : Pair) (r : Reason) → IsPair s p → IsIn r (reasons s) → IsIn (record { node = p; reason = r }) (possible s)
-in_possible s p r pair i = in_flat_map (with_reasons s) p (record { node = p; reason = r }) (pairs s) (in_pairs s p pair) (in_map (λ r. record { node = p; reason = r }) r (reasons s) i)
+in_possible : (s : Sys) (p : Pair) (r : Reason) → IsPair s p → IsIn r (reasons s.env.actions) → IsIn (record { node = p; reason = r }) (possible s)
+in_possible s p r pair i = in_flat_map (with_reasons s) p (record { node = p; reason = r }) (pairs s) (in_pairs s p pair) (in_map (λ r. record { node = p; reason = r }) r (reasons s.env.actions) i)
 
 possible_pair : (s : Sys) (x : Entry Pair) → IsIn x (possible s) → IsPair s x.node
 possible_pair s x i = grind (arith, from_flat_map, from_map, from_pairs)
-
--- a reason that holds is one of them
-reason_in : (s : Sys) (L : List (Entry Pair)) (p : Pair) (r : Reason) → IsSys s → IsTrue (is_justified (arena s) (is_listed (arena s) L) p r) → IsIn r (reasons s)
-reason_in s L p Final ok t = inl refl
-reason_in s L p (Act a) ok t =
-    let (allowed, beaten) = and_parts (is_allowed s p a) (all_below (is_beaten (arena s) (is_listed (arena s) L) p a) (length s.seats)) t in
-    inr (in_map Act a (below s.env.actions) (in_below s.env.actions a (allowed_in_range s p a ok allowed)))
 
 -- a list that no entry can follow is complete
 last_complete : (s : Sys) (L : List (Entry Pair)) → IsSys s → AreEntries s L → IsOrder (arena s) L → IsFalse (list_any (can_follow s L) (possible s)) → IsComplete s L
@@ -40,7 +31,7 @@ last_complete s L ok entries order none = completed_by s L ok entries order no_r
     no_reason : (p : Pair) → IsPair s p → IsFalse (is_listed (arena s) L p) → (r : Reason) → IsFalse (is_justified (arena s) (is_listed (arena s) L) p r)
     no_reason p pair unlisted r = by_test (is_justified (arena s) (is_listed (arena s) L) p r)
         (λ t. absurd (both_ways (can_follow s L (record { node = p; reason = r }))
-        (any_false (can_follow s L) (record { node = p; reason = r }) (possible s) none (in_possible s p r pair (reason_in s L p r ok t)))
+        (any_false (can_follow s L) (record { node = p; reason = r }) (possible s) none (in_possible s p r pair (reason_in (arena s) (system_is_arena s ok) (is_listed (arena s) L) p r t)))
         (and_from (not (is_listed (arena s) L p)) (is_justified (arena s) (is_listed (arena s) L) p r) (not_from_false (is_listed (arena s) L p) unlisted) t)))
         (λ f. f)
 

@@ -59,7 +59,7 @@ meets_survives s Related p ok meets = record {
   served = λ a allowed.
       let (k, serves) = meets.served a (from_allowed s p a allowed) in
       let (l, some, all) = serves_outcomes s Related p a k ok allowed serves in
-      (k, l, some, all);
+      grind arith;
 }
 
 pub survives_meets : (s : Sys) (Related : Couple → Type 0) (p : Pair) → IsSys s → Survives (arena s) (λ q. Related (couple q)) p → Meets s Related (couple p)
@@ -102,11 +102,7 @@ pub great_from : (s : Sys) (gone : Pair → Bool) → IsSys s →
     ((p : Pair) → IsPair s p → IsFalse (gone p) → Survives (arena s) (λ q. IsIn q (pairs s) × IsFalse (gone q)) p) →
     IsNdSim s (map couple (filter (λ p. not (gone p)) (pairs s)))
 great_from s gone ok survive = survivors_sim s (filter (λ p. not (gone p)) (pairs s)) ok
-    (λ p i.
-    let (j, t) = filter_in (λ p. not (gone p)) p (pairs s) i in
-    survives_more (arena s) (λ q. IsIn q (pairs s) × IsFalse (gone q)) (λ q. IsIn q (filter (λ p. not (gone p)) (pairs s))) p
-    (λ a k q l h. in_filter (λ p. not (gone p)) q (pairs s) h.0 (not_from_false (gone q) h.1))
-    (survive p (from_pairs s p j) (not-true (gone p) t)))
+    (λ p i. grind (arith, filter_in, from_pairs, in_filter, not-true, survives_more))
 
 pub great_in : (s : Sys) (gone : Pair → Bool) (p : Pair) → IsNdSim s (map couple (filter (λ p. not (gone p)) (pairs s))) → IsPair s p → IsFalse (gone p) → Great s p
 great_in s gone p sim ok f = (

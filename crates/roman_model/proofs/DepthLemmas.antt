@@ -1,5 +1,5 @@
 -- Depths over any arena: the least numbers of requests within which the opponent wins.
-use Rattle.roman_model.proofs.Common.{◌≡◌, ℕ, zero, suc, ◌+◌, ◌<◌, ◌≤◌, not, ◌||◌, ◌⊎◌, List, length, Option, Some, None, IsTrue, IsFalse, filter, inl, inr, refl, sym, ap, ◌∙◌, subst, arith, list_any, both_ways, or_cases, or_parts, or_left, not-true, not-false, not_from_true, not_from_false, cases_eq, cases_lt, IsIn, below, Arena, Entry, is_listed, is_justified, IsOrder, loses, depth, Reason, Final, Act}
+use Rattle.roman_model.proofs.Common.{◌≡◌, ℕ, zero, suc, ◌+◌, ◌<◌, ◌≤◌, not, ◌||◌, ◌⊎◌, List, length, Option, Some, None, IsTrue, IsFalse, filter, inl, inr, refl, sym, ap, ◌∙◌, subst, arith, list_any, both_ways, or_cases, or_left, not-true, not-false, not_from_true, not_from_false, cases_eq, cases_lt, IsIn, below, Arena, Entry, is_listed, is_justified, IsOrder, loses, depth, Reason, Final, Act}
 use Rattle.roman_model.proofs.Lists.{by_test, same_test, any_true, any_false, any_same, filter_shrinks, filter_sublist, sublist_length, in_below, find_none, find_least}
 use Rattle.roman_model.proofs.ArenaLemmas.{IsArena, Survives, justified_same, unjustified, survivor_within}
 use Rattle.roman_model.proofs.OrderLemmas.{listed_dead}
@@ -22,20 +22,22 @@ unlost_fine A n p f = not-false (A.fine p) (loses_down A zero n p (omega arith) 
 
 -- no action justifies the loss of a node within n + 1 requests that isn't lost then
 pub unlost_act : {N : Type 0} (A : Arena N) → IsArena A → (n : ℕ) (p : N) (a : ℕ) → IsFalse (loses A (suc n) p) → IsTrue (A.allows p a) → IsFalse (is_justified A (loses A n) p (Act a))
-unlost_act A ok n p a f allowed =
-    any_false (λ b. is_justified A (loses A n) p (Act b)) a (below A.actions)
-    (or_parts (loses A n p) (list_any (λ b. is_justified A (loses A n) p (Act b)) (below A.actions)) f).1
-    (in_below A.actions a (ok.allowed p a allowed))
+unlost_act A ok n p a f allowed = grind (arith, any_false, (in_below A.actions a (ok.allowed p a allowed)))
 
--- A lost node doesn't live, for any notion of living nodes that survive among themselves.
-pub lost_dead : {N : Type 0} (A : Arena N) (Lives : N → Type 0) → ((p : N) → Lives p → Survives A Lives p) → (n : ℕ) (p : N) → IsTrue (loses A n p) → Lives p → ⊥
-lost_dead A Lives lives zero p t v = both_ways (A.fine p) (not-true (A.fine p) t) (lives p v).final
-lost_dead A Lives lives (suc n) p t v = elim (or_cases (loses A n p) (list_any (λ a. is_justified A (loses A n) p (Act a)) (below A.actions)) t) [
-  | inl sooner ↦ lost_dead A Lives lives n p sooner v
+-- A node that is lost within some requests doesn't hold out against them, for any notion of holding out whose clauses say as much of one request less.
+pub lost_falls : {N : Type 0} (A : Arena N) (Holds : ℕ → N → Type 0) → ((p : N) → Holds zero p → IsTrue (A.fine p)) → ((n : ℕ) (p : N) → Holds (suc n) p → Holds n p × Survives A (Holds n) p) →
+    (n : ℕ) (p : N) → IsTrue (loses A n p) → Holds n p → ⊥
+lost_falls A Holds fine survives zero p t v = both_ways (A.fine p) (not-true (A.fine p) t) (fine p v)
+lost_falls A Holds fine survives (suc n) p t v = elim (or_cases (loses A n p) (list_any (λ a. is_justified A (loses A n) p (Act a)) (below A.actions)) t) [
+  | inl sooner ↦ lost_falls A Holds fine survives n p sooner (survives n p v).0
   | inr now ↦
       let (a, i, j) = any_true (λ a. is_justified A (loses A n) p (Act a)) (below A.actions) now in
-      unjustified A Lives (loses A n) p (Act a) (lives p v) (λ q s w. lost_dead A Lives lives n q s w) j
+      unjustified A (Holds n) (loses A n) p (Act a) (survives n p v).1 (lost_falls A Holds fine survives n) j
 ]
+
+-- a lost node doesn't live, for any notion of living nodes that survive among themselves
+pub lost_dead : {N : Type 0} (A : Arena N) (Lives : N → Type 0) → ((p : N) → Lives p → Survives A Lives p) → (n : ℕ) (p : N) → IsTrue (loses A n p) → Lives p → ⊥
+lost_dead A Lives lives = lost_falls A (λ n. Lives) (λ p v. (lives p v).final) (λ n p v. (v, lives p v))
 
 -- The rounds become steady.
 
@@ -67,8 +69,7 @@ rounds {N} A (suc n) = elim (rounds A n) [
 
 -- some round is steady within as many rounds as there are nodes
 pub rounds_end : {N : Type 0} (A : Arena N) → (m : ℕ) × (m ≤ length A.nodes) × IsSteady A m
-rounds_end A = elim (rounds A (suc (length A.nodes)))
-    [ inl found ↦ let (m, l, steady) = found in (m, omega arith, steady) | inr few ↦ (let none : ⊥ = omega arith in absurd none) ]
+rounds_end A = grind (arith, (rounds A (suc (length A.nodes))))
 
 -- no more nodes are lost after a steady round
 pub steady_stays : {N : Type 0} (A : Arena N) → IsArena A → (m : ℕ) → IsSteady A m → (n : ℕ) → m ≤ n → (p : N) → IsIn p A.nodes → loses A n p ≡ loses A m p
@@ -92,9 +93,7 @@ last_is_steady A ok n l p i =
 -- the nodes that aren't lost survive among themselves
 pub unlost_survives : {N : Type 0} (A : Arena N) → IsArena A → (p : N) → IsIn p A.nodes → IsFalse (loses A (length A.nodes) p) →
     Survives A (λ q. IsIn q A.nodes × IsFalse (loses A (length A.nodes) q)) p
-unlost_survives A ok p i f =
-    survivor_within A ok (loses A (length A.nodes)) p i (unlost_fine A (length A.nodes) p f)
-    (λ a allowed. unlost_act A ok (length A.nodes) p a (last_is_steady A ok (suc (length A.nodes)) (omega arith) p i ∙ f) allowed)
+unlost_survives A ok p i f = grind (arith, (last_is_steady A ok (suc (length A.nodes)) (omega arith) p i), (survivor_within A ok (loses A (length A.nodes)) p i (unlost_fine A (length A.nodes) p f)), unlost_act)
 
 -- Depths.
 
@@ -104,12 +103,10 @@ depth_is A p d e = grind (arith, find_least)
 
 -- a node without a depth is never lost
 pub depth_none : {N : Type 0} (A : Arena N) → IsArena A → (p : N) → IsIn p A.nodes → depth A p ≡ None → (n : ℕ) → IsFalse (loses A n p)
-depth_none A ok p i e n =
-    let last : IsFalse (loses A (length A.nodes) p) =
+depth_none A ok p i e n = let last : IsFalse (loses A (length A.nodes) p) =
     any_false (λ m. loses A m p) (length A.nodes) (below (length A.nodes + 1)) (find_none (λ m. loses A m p) (below (length A.nodes + 1)) e)
     (in_below (length A.nodes + 1) (length A.nodes) (omega arith)) in
-    elim (cases_lt n (length A.nodes))
-    [ inl less ↦ loses_down A n (length A.nodes) p (omega arith) last | inr more ↦ last_is_steady A ok n more p i ∙ last ]
+    grind (arith, last_is_steady, loses_down)
 
 -- a node that is lost within n requests has a depth of at most n
 pub lost_depth : {N : Type 0} (A : Arena N) → IsArena A → (p : N) → IsIn p A.nodes → (n : ℕ) → IsTrue (loses A n p) → (d : ℕ) × (d ≤ n) × (depth A p ≡ Some d)
@@ -119,7 +116,7 @@ lost_depth A ok p i n t = by_found (depth A p) refl
     by_found None e = absurd (both_ways (loses A n p) (depth_none A ok p i e n) t)
     by_found (Some d) e =
         let (l, s, least) = depth_is A p d e in
-        elim (cases_lt n d) [ inl less ↦ absurd (both_ways (loses A n p) (least n less) t) | inr no_more ↦ (d, no_more, e) ]
+        grind (arith, cases_lt)
 
 -- Settled lists.
 

@@ -1,7 +1,7 @@
 -- The explanation is the least closed part of a removal list, is a removal list by itself, and ends with the explained entry.
-use Rattle.roman_model.proofs.Common.{◌≡◌, ℕ, zero, suc, ◌+◌, ◌-◌, ◌<◌, ◌≤◌, Bool, ◌&&◌, ◌||◌, ◌⊎◌, List, [], ◌∷◌, ◌++◌, length, Option, Some, None, IsTrue, IsFalse, filter, find, refl, sym, ap, ap₂, ◌∙◌, subst, inl, inr, arith, append-nil, append_assoc, length-append, list_any, option_to_list, false≢true, both_ways, or_cases, or_parts, or_left, or_right, and_parts, and_from, cond-true, cond-false, filter-append, none-some, same_Some, IsIn, below, Arena, Entry, is_among, is_listed, is_justified, IsOrder, arena, entries_before, answer, ready_seats, answers, rests_on, explanation, Reason, Final, Act}
+use Rattle.roman_model.proofs.Common.{cases_eq, ◌≡◌, ℕ, zero, suc, ◌+◌, ◌<◌, ◌≤◌, Bool, ◌&&◌, ◌||◌, ◌⊎◌, List, [], ◌∷◌, ◌++◌, length, Option, Some, None, IsTrue, IsFalse, filter, find, refl, sym, ap, ap₂, ◌∙◌, subst, inl, inr, arith, append-nil, append_assoc, length-append, list_any, option_to_list, false≢true, both_ways, or_cases, or_parts, or_left, or_right, and_parts, and_from, cond-true, cond-false, filter-append, none-some, same_Some, IsIn, below, Arena, Entry, is_among, is_listed, is_justified, IsOrder, arena, entries_before, answer, ready_seats, answers, rests_on, explanation, Reason, Final, Act}
 use Rattle.roman_model.specs.Explanation.{IsClosed, IsLeastClosed, ExplanationIsLeast, ExplanationIsOrder}
-use Rattle.roman_model.proofs.Lists.{by_test, same_test, any_true, any_from, in_append_right, in_flat_map, from_flat_map, in_filter, filter_in, in_below, find_some, find_found, split_at}
+use Rattle.roman_model.proofs.Lists.{by_test, same_test, any_true, any_from, any_within, in_append_right, in_flat_map, from_flat_map, in_filter, filter_in, in_below, find_some, find_found, split_at}
 use Rattle.roman_model.proofs.ArenaLemmas.{IsSame, IsArena, among_in, in_among, listed_in, beaten_is, beaten_none, beaten_by, justified_is, justified_by}
 use Rattle.roman_model.proofs.CompositionLemmas.{system_is_same, system_is_arena}
 use Rattle.roman_model.proofs.OrderLemmas.{order_push}
@@ -12,34 +12,12 @@ use Rattle.roman_model.proofs.WorkLemmas.{order_middle}
 -- a node that is listed before p is listed
 pub before_listed : {N : Type 0} (A : Arena N) (L : List (Entry N)) (p q : N) → IsTrue (is_listed A (entries_before A L p) q) → IsTrue (is_listed A L q)
 before_listed A [] p q h = h
-before_listed A (x ∷ L) p q h = by_test (A.same p x.node)
-    (λ t. absurd (false≢true (subst (λ M. IsTrue (is_listed A M q)) (cond-true (A.same p x.node) [] (x ∷ entries_before A L p) t) h)))
-    (λ f. by_place (or_cases (A.same q x.node) (is_listed A (entries_before A L p) q)
-    (subst (λ M. IsTrue (is_listed A M q)) (cond-false (A.same p x.node) [] (x ∷ entries_before A L p) f) h))
-    (λ g. before_listed A L p q g))
-  where
-    by_place : IsTrue (A.same q x.node) ⊎ IsTrue (is_listed A (entries_before A L p) q) → (IsTrue (is_listed A (entries_before A L p) q) → IsTrue (is_listed A L q)) → IsTrue (is_listed A (x ∷ L) q)
-    by_place (inl here) go = or_left (A.same q x.node) (is_listed A L q) here
-    by_place (inr there) go = or_right (A.same q x.node) (is_listed A L q) (go there)
+before_listed A (x ∷ L) p q h = grind (arith, by_test, cond-true, false≢true, or_cases, or_left, or_right, (before_listed A L p q))
 
 -- a node that is listed before p has fewer entries before it
 pub before_falls : {N : Type 0} (A : Arena N) (L : List (Entry N)) (p q : N) → IsTrue (is_listed A (entries_before A L p) q) → length (entries_before A L q) < length (entries_before A L p)
 before_falls A [] p q h = absurd (false≢true h)
-before_falls {N} A (x ∷ L) p q h = by_test (A.same p x.node)
-    (λ t. absurd (false≢true (subst (λ M. IsTrue (is_listed A M q)) (cond-true (A.same p x.node) [] (x ∷ entries_before A L p) t) h)))
-    (λ f.
-    let long : entries_before A (x ∷ L) p ≡ x ∷ entries_before A L p = cond-false (A.same p x.node) [] (x ∷ entries_before A L p) f in
-    subst (λ M. length (entries_before A (x ∷ L) q) < length M) (sym long)
-    (by_test (A.same q x.node)
-    (λ here. subst (λ M. length M < length (x ∷ entries_before A L p)) (sym (cond-true (A.same q x.node) [] (x ∷ entries_before A L q) here)) (omega arith))
-    (λ apart. subst (λ M. length M < length (x ∷ entries_before A L p)) (sym (cond-false (A.same q x.node) [] (x ∷ entries_before A L q) apart))
-    (deeper (before_falls A L p q (later apart (subst (λ M. IsTrue (is_listed A M q)) long h)))))))
-  where
-    deeper : {m n : ℕ} → m < n → suc m < suc n
-    deeper l = omega arith
-
-    later : IsFalse (A.same q x.node) → IsTrue (is_listed A (x ∷ entries_before A L p) q) → IsTrue (is_listed A (entries_before A L p) q)
-    later apart g = elim (or_cases (A.same q x.node) (is_listed A (entries_before A L p) q) g) [ inl here ↦ absurd (both_ways (A.same q x.node) apart here) | inr there ↦ there ]
+before_falls {N} A (x ∷ L) p q h = grind (arith, both_ways, by_test, cond-true, false≢true, or_cases, (before_falls A L p q))
 
 pub before_fits : {N : Type 0} (A : Arena N) (L : List (Entry N)) (p : N) → length (entries_before A L p) ≤ length L
 before_fits A [] p = omega arith
@@ -48,20 +26,13 @@ before_fits A (x ∷ L) p = grind (arith, (before_fits A L p))
 -- a listed node has fewer entries before it than the list has entries
 pub before_shorter : {N : Type 0} (A : Arena N) (L : List (Entry N)) (p : N) → IsTrue (is_listed A L p) → length (entries_before A L p) < length L
 before_shorter A [] p t = absurd (false≢true t)
-before_shorter A (x ∷ L) p t = by_test (A.same p x.node)
-    (λ here. subst (λ M. length M < length (x ∷ L)) (sym (cond-true (A.same p x.node) [] (x ∷ entries_before A L p) here)) (omega arith))
-    (λ apart.
-    let rest : length (entries_before A L p) < length L = before_shorter A L p (subst (λ b. IsTrue (b || is_listed A L p)) apart t) in
-    subst (λ M. length M < length (x ∷ L)) (sym (cond-false (A.same p x.node) [] (x ∷ entries_before A L p) apart)) (omega arith))
+before_shorter A (x ∷ L) p t = grind (arith, by_test, cond-true, (before_shorter A L p))
 
 -- the entries before a new node
 pub before_is : {N : Type 0} (A : Arena N) (done : List (Entry N)) (x : Entry N) (rest : List (Entry N)) → IsTrue (A.same x.node x.node) → IsFalse (is_listed A done x.node) →
     entries_before A (done ++ x ∷ rest) x.node ≡ done
 before_is A [] x rest same new = cond-true (A.same x.node x.node) [] (x ∷ entries_before A rest x.node) same
-before_is A (y ∷ done) x rest same new =
-    let (here, there) = or_parts (A.same x.node y.node) (is_listed A done x.node) new in
-    cond-false (A.same x.node y.node) [] (y ∷ entries_before A (done ++ x ∷ rest) x.node) here
-    ∙ ap (λ M. y ∷ M) (before_is A done x rest same there)
+before_is A (y ∷ done) x rest same new = grind (arith, or_parts, (before_is A done x rest same))
 
 -- Answers
 
@@ -84,23 +55,12 @@ answer_before A L p q (Act a) i =
 -- Steps from entries to answers
 
 module _ {N : Type 0} (A : Arena N) (L : List (Entry N)) (p : N) where
-  pub rests_more : (n d : ℕ) (q : N) → IsTrue (rests_on A L n p q) → IsTrue (rests_on A L (d + n) p q)
-  rests_more n zero q h = subst (λ m. IsTrue (rests_on A L m p q)) (zero_plus n) h
-    where
-      zero_plus : (n : ℕ) → n ≡ 0 + n
-      zero_plus n = omega arith
-  rests_more n (suc d) q h =
-      subst (λ m. IsTrue (rests_on A L m p q)) (suc_plus d n)
-      (or_left (rests_on A L (d + n) p q) (list_any (λ x. rests_on A L (d + n) p x.node && is_among A (answers A L x.node x.reason) q) L) (rests_more n d q h))
-    where
-      suc_plus : (d n : ℕ) → suc (d + n) ≡ suc d + n
-      suc_plus d n = omega arith
-
   pub rests_up : (n m : ℕ) (q : N) → n ≤ m → IsTrue (rests_on A L n p q) → IsTrue (rests_on A L m p q)
-  rests_up n m q l h = subst (λ k. IsTrue (rests_on A L k p q)) (whole n m l) (rests_more n (m - n) q h)
-    where
-      whole : (n m : ℕ) → n ≤ m → m - n + n ≡ m
-      whole n m l = omega arith
+  rests_up n zero q l h = subst (λ k. IsTrue (rests_on A L k p q)) (let e : n ≡ 0 = omega arith in e) h
+  rests_up n (suc m) q l h = elim (cases_eq n (suc m)) [
+    | inl e ↦ subst (λ k. IsTrue (rests_on A L k p q)) e h
+    | inr ne ↦ or_left (rests_on A L m p q) (list_any (λ x. rests_on A L m p x.node && is_among A (answers A L x.node x.reason) q) L) (rests_up n m q (omega arith) h)
+  ]
 
   pub rests_step : (n : ℕ) (x : Entry N) (q : N) → IsSame A → IsIn x L → IsTrue (rests_on A L n p x.node) → IsIn q (answers A L x.node x.reason) → IsTrue (rests_on A L (suc n) p q)
   rests_step n x q same i h j =
@@ -151,7 +111,7 @@ module _ {N : Type 0} (A : Arena N) (L : List (Entry N)) (p : N) where
   pub rests_is : (q : N) → IsSame A →
       rests_on A L (length L) p q ≡ (A.same q p || list_any (λ x. rests_on A L (length L) p x.node && is_among A (answers A L x.node x.reason) q) L)
   rests_is q same = same_test (rests_on A L (length L) p q) (A.same q p || list_any (λ x. rests_on A L (length L) p x.node && is_among A (answers A L x.node x.reason) q) L)
-      (λ h. first (length L) (length_le L) h)
+      (λ h. first (length L) (omega arith) h)
       (λ h. elim (or_cases (A.same q p) (list_any (λ x. rests_on A L (length L) p x.node && is_among A (answers A L x.node x.reason) q) L) h) [
         | inl e ↦ rests_within 0 q same e
         | inr some ↦
@@ -160,9 +120,6 @@ module _ {N : Type 0} (A : Arena N) (L : List (Entry N)) (p : N) where
             rests_closed x q same i r (among_in A same (answers A L x.node x.reason) q m)
       ])
     where
-      length_le : (M : List (Entry N)) → length M ≤ length M
-      length_le M = omega arith
-
       first : (n : ℕ) → n ≤ length L → IsTrue (rests_on A L n p q) → IsTrue (A.same q p || list_any (λ x. rests_on A L (length L) p x.node && is_among A (answers A L x.node x.reason) q) L)
       first zero l h = or_left (A.same q p) (list_any (λ x. rests_on A L (length L) p x.node && is_among A (answers A L x.node x.reason) q) L) h
       first (suc n) l h = by_last n l (rests_cases n q same h) (λ g. first n (omega arith) g)
@@ -251,9 +208,7 @@ module _ {N : Type 0} (A : Arena N) (ok : IsArena A) (L : List (Entry N)) (p : N
           (λ t. subst (λ M. IsOrder A (filter is_explained done ++ M)) (sym (cond-true (is_explained x) (x ∷ []) [] t))
           (order_push A (filter is_explained done) x kept
           (by_test (is_listed A (filter is_explained done) x.node)
-          (λ h.
-          let (y, i, same) = any_true (λ y. A.same x.node y.node) (filter is_explained done) h in
-          absurd (both_ways (is_listed A done x.node) new (any_from (λ y. A.same x.node y.node) y done (filter_in is_explained y done i).0 same)))
+          (λ h. absurd (both_ways (is_listed A done x.node) new (any_within (λ y. A.same x.node y.node) (filter is_explained done) done (λ y i. (filter_in is_explained y done i).0) h)))
           (λ f. f))
           (explained_justified done x.node x.reason (ap (λ M. entries_before A M x.node) whole ∙ before_is A done x rest (ok.same.itself x.node) new) holds
           (λ w i. answer_explained done x rest w whole new t i))))
@@ -272,10 +227,7 @@ filter_none test (x ∷ xs) none = cond-false (test x) (x ∷ filter test xs) (f
 -- a node that isn't listed yet comes after all entries so far
 before_longer : {N : Type 0} (A : Arena N) (done rest : List (Entry N)) (q : N) → IsFalse (is_listed A done q) → length done ≤ length (entries_before A (done ++ rest) q)
 before_longer A [] rest q h = omega arith
-before_longer A (x ∷ done) rest q h =
-    let (here, there) = or_parts (A.same q x.node) (is_listed A done q) h in
-    let longer : length done ≤ length (entries_before A (done ++ rest) q) = before_longer A done rest q there in
-    subst (λ M. length (x ∷ done) ≤ length M) (sym (cond-false (A.same q x.node) [] (x ∷ entries_before A (done ++ rest) q) here)) (omega arith)
+before_longer A (x ∷ done) rest q h = grind (arith, or_parts, (before_longer A done rest q))
 
 pub explanation_last : {N : Type 0} (A : Arena N) (L : List (Entry N)) (p : N) → IsSame A → IsOrder A L → IsTrue (is_listed A L p) →
     (front : List (Entry N)) × (x : Entry N) × (explanation A L p ≡ front ++ x ∷ []) × (x.node ≡ p)

@@ -8,13 +8,7 @@ use Rattle.roman_model.proofs.ExplanationLemmas.{from_option}
 -- the first renamed element that passes, where the tests agree
 find_renamed : {X Y : Type 0} (f : X → Y) (p : X → Bool) (q : Y → Bool) (xs : List X) → ((x : X) → IsIn x xs → p x ≡ q (f x)) → option_map f (find p xs) ≡ find q (map f xs)
 find_renamed f p q [] same = refl
-find_renamed {X} {Y} f p q (x ∷ xs) same =
-    here (p x) (find p xs)
-    ∙ ap₂ (λ b o. if b then Some (f x) else o) (same x (inl refl)) (find_renamed f p q xs (λ y i. same y (inr i)))
-  where
-    here : (b : Bool) (o : Option X) → option_map f (if b then Some x else o) ≡ (if b then Some (f x) else option_map f o)
-    here true o = refl
-    here false o = refl
+find_renamed {X} {Y} f p q (x ∷ xs) same = grind (arith, (find_renamed f p q xs))
 
 map_option : {X Y : Type 0} (f : X → Y) (o : Option X) → map f (option_to_list o) ≡ option_to_list (option_map f o)
 map_option f None = refl

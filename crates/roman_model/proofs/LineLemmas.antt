@@ -1,39 +1,23 @@
 -- The lines of a text whose first lines are known.
-use Rattle.roman_model.proofs.Common.{◌≡◌, ◌≢◌, ℕ, ◌==◌, List, [], ◌∷◌, ◌++◌, refl, sym, ap, ◌∙◌, inl, inr, append_assoc, append-nil, arith, or_parts, cond-false, lines, ended_lines, text_of_lines, IsLine, AreLines, has}
-use Rattle.roman_model.specs.Lines.{onto_first_line, onto_ended_line}
+use Rattle.roman_model.proofs.Common.{◌≡◌, ◌≢◌, ℕ, List, [], ◌∷◌, ◌++◌, refl, sym, ap, ◌∙◌, append_assoc, append-nil, arith, or_parts, cond-false, lines, ended_lines, text_of_lines, IsLine, AreLines}
 
 pub lines-line : (line rest : List ℕ) → IsLine line → lines (line ++ 10 ∷ rest) ≡ line ∷ lines rest
 lines-line [] rest h = refl
-lines-line (byte ∷ line) rest h =
-    let (first, others) = or_parts (byte == 10) (has line 10) h in
-    cond-false (byte == 10) ([] ∷ lines (line ++ 10 ∷ rest)) (onto_first_line byte (lines (line ++ 10 ∷ rest))) first
-    ∙ ap (onto_first_line byte) (lines-line line rest others)
+lines-line (byte ∷ line) rest h = grind (arith, or_parts, (lines-line line rest))
 
 pub ended_lines-line : (line rest : List ℕ) → IsLine line → ended_lines (line ++ 10 ∷ rest) ≡ line ∷ ended_lines rest
 ended_lines-line [] rest h = refl
-ended_lines-line (byte ∷ line) rest h =
-    let (first, others) = or_parts (byte == 10) (has line 10) h in
-    cond-false (byte == 10) ([] ∷ ended_lines (line ++ 10 ∷ rest)) (onto_ended_line byte (ended_lines (line ++ 10 ∷ rest))) first
-    ∙ ap (onto_ended_line byte) (ended_lines-line line rest others)
+ended_lines-line (byte ∷ line) rest h = grind (arith, or_parts, (ended_lines-line line rest))
 
 -- bytes without a newline are one line, or none where there are no bytes
 pub lines_last : (line : List ℕ) → IsLine line → line ≢ [] → lines line ≡ line ∷ []
 lines_last [] h some = absurd (some refl)
 lines_last (byte ∷ []) h some = grind (arith, cond-false, or_parts)
-lines_last (byte ∷ next ∷ line) h some =
-    let (first, others) = or_parts (byte == 10) (has (next ∷ line) 10) h in
-    cond-false (byte == 10) ([] ∷ lines (next ∷ line)) (onto_first_line byte (lines (next ∷ line))) first
-    ∙ ap (onto_first_line byte) (lines_last (next ∷ line) others (λ e. nil_is_not_cons next line e))
-  where
-    nil_is_not_cons : (b : ℕ) (bs : List ℕ) → (b ∷ bs) ≢ []
-    nil_is_not_cons b bs e = let h : ⊥ = cc in h
+lines_last (byte ∷ next ∷ line) h some = grind (arith, or_parts, (lines_last (next ∷ line)))
 
 pub ended_lines_last : (line : List ℕ) → IsLine line → ended_lines line ≡ []
 ended_lines_last [] h = refl
-ended_lines_last (byte ∷ line) h =
-    let (first, others) = or_parts (byte == 10) (has line 10) h in
-    cond-false (byte == 10) ([] ∷ ended_lines line) (onto_ended_line byte (ended_lines line)) first
-    ∙ ap (onto_ended_line byte) (ended_lines_last line others)
+ended_lines_last (byte ∷ line) h = grind (arith, or_parts, (ended_lines_last line))
 
 -- the text of a line, its newline, and the bytes that follow
 text_first : (line rest more : List ℕ) → ((line ++ 10 ∷ []) ++ rest) ++ more ≡ line ++ 10 ∷ (rest ++ more)
@@ -41,15 +25,11 @@ text_first line rest more = append_assoc (line ++ 10 ∷ []) rest more ∙ appen
 
 pub lines-text : (ls : List (List ℕ)) (rest : List ℕ) → AreLines ls → lines (text_of_lines ls ++ rest) ≡ ls ++ lines rest
 lines-text [] rest are = refl
-lines-text (line ∷ ls) rest are =
-    ap lines (text_first line (text_of_lines ls) rest) ∙ lines-line line (text_of_lines ls ++ rest) (are line (inl refl))
-    ∙ ap (λ ms. line ∷ ms) (lines-text ls rest (λ l i. are l (inr i)))
+lines-text (line ∷ ls) rest are = grind (arith, lines-line, text_first, (lines-text ls rest))
 
 pub ended_lines-text : (ls : List (List ℕ)) (rest : List ℕ) → AreLines ls → ended_lines (text_of_lines ls ++ rest) ≡ ls ++ ended_lines rest
 ended_lines-text [] rest are = refl
-ended_lines-text (line ∷ ls) rest are =
-    ap ended_lines (text_first line (text_of_lines ls) rest) ∙ ended_lines-line line (text_of_lines ls ++ rest) (are line (inl refl))
-    ∙ ap (λ ms. line ∷ ms) (ended_lines-text ls rest (λ l i. are l (inr i)))
+ended_lines-text (line ∷ ls) rest are = grind (arith, ended_lines-line, text_first, (ended_lines-text ls rest))
 
 -- the lines of a text of lines are these lines
 pub lines-text_of_lines : (ls : List (List ℕ)) → AreLines ls → lines (text_of_lines ls) ≡ ls

@@ -1,6 +1,7 @@
 -- Lemmas on lists and their elements, on numbers below a bound, and on tests.
-use Rattle.roman_model.proofs.Common.{◌≡◌, ◌≢◌, ℕ, zero, suc, ◌+◌, ◌<◌, ◌≤◌, Bool, true, false, cond, ◌&&◌, ◌||◌, ◌⊎◌, List, [], ◌∷◌, ◌++◌, map, length, get_or, Option, Some, None, IsTrue, IsFalse, filter, find, flat_map, sum_by, inl, inr, refl, sym, ap, ap₂, ◌∙◌, subst, arith, add-one, length-append, list_any, false≢true, both_ways, or_cases, or_parts, or_left, or_right, or_from, and_parts, and_from, and_cases, cond-true, cond-false, cases_eq, cases_order, length_push, get_or_push, get_or_append_left, sum_by-append, list_any-append, filter-append, none-some, same_Some, IsIn, IsSublist, HasNoRepeats, below, all_below, is_empty}
-use Rattle.std.proofs.Common.{◌↔◌, Contains}
+use Rattle.roman_model.proofs.Common.{◌≡◌, ◌≢◌, ℕ, zero, suc, ◌+◌, ◌<◌, ◌≤◌, Bool, true, false, cond, ◌&&◌, ◌||◌, ◌⊎◌, List, [], ◌∷◌, ◌++◌, map, length, get_or, Option, Some, None, IsTrue, IsFalse, filter, find, flat_map, sum_by, inl, inr, refl, sym, ap, ap₂, ◌∙◌, subst, arith, add-one, length-append, list_any, false≢true, both_ways, or_cases, or_parts, or_left, or_right, or_from, and_from, and_cases, cond-true, cases_eq, length_push, get_or_push, get_or_append_left, sum_by-append, list_any-append, filter-append, none-some, same_Some, IsIn, IsSublist, HasNoRepeats, below, all_below, is_empty, ◌↔◌, rules}
+use Rattle.std.proofs.lemmas.Bool.{cases_order}
+use Rattle.std.proofs.Common.{Contains}
 use Rattle.std.proofs.lemmas.Bool.{true≢false}
 use Rattle.std.proofs.lemmas.List.Sums.{sum_by-cons}
 use Rattle.std.proofs.lemmas.List.Folds.{find-append}
@@ -67,13 +68,7 @@ in_filter p x (y ∷ xs) (inr i) t = grind (arith, (in_filter p x xs i t))
 
 pub filter_in : {X : Type 0} (p : X → Bool) (x : X) (xs : List X) → IsIn x (filter p xs) → IsIn x xs × IsTrue (p x)
 filter_in p x [] i = absurd i
-filter_in p x (y ∷ xs) i = by_test (p y)
-    (λ t. kept t (subst (λ ys. IsIn x ys) (cond-true (p y) (y ∷ filter p xs) (filter p xs) t) i) (λ j. filter_in p x xs j))
-    (λ f. let (j, t) = filter_in p x xs (subst (λ ys. IsIn x ys) (cond-false (p y) (y ∷ filter p xs) (filter p xs) f) i) in (inr j, t))
-  where
-    kept : IsTrue (p y) → IsIn x (y ∷ filter p xs) → (IsIn x (filter p xs) → IsIn x xs × IsTrue (p x)) → IsIn x (y ∷ xs) × IsTrue (p x)
-    kept passes (inl e) rest = (inl e, subst (λ w. IsTrue (p w)) (sym e) passes)
-    kept passes (inr j) rest = let (k, t) = rest j in (inr k, t)
+filter_in p x (y ∷ xs) i = grind (arith, by_test, cond-true, (filter_in p x xs))
 
 -- `IsIn` and std's `Contains`
 
@@ -172,18 +167,11 @@ length-below (suc n) = length_push (below n) n ∙ ap (λ m. m + 1) (length-belo
 
 pub get_or-below : (n i d : ℕ) → i < n → get_or (below n) i d ≡ i
 get_or-below zero i d l = let none : ⊥ = omega arith in absurd none
-get_or-below (suc n) i d l = elim (cases_eq i n) [
-  | inl e ↦ get_or_push (below n) n d i (length-below n ∙ sym e) ∙ sym e
-  | inr ne ↦
-      let small : i < n = omega arith in
-      get_or_append_left (below n) (n ∷ []) d i (subst (λ m. i < m) (sym (length-below n)) small) ∙ get_or-below n i d small
-]
+get_or-below (suc n) i d l = grind (arith, get_or_append_left, get_or_push, length-below, (get_or-below n i d))
 
 pub all_below_at : (p : ℕ → Bool) (n i : ℕ) → IsTrue (all_below p n) → i < n → IsTrue (p i)
 all_below_at p zero i h l = let none : ⊥ = omega arith in absurd none
-all_below_at p (suc n) i h l =
-    let (before, last) = and_parts (all_below p n) (p n) h in
-    elim (cases_eq i n) [ inl e ↦ subst (λ k. IsTrue (p k)) (sym e) last | inr ne ↦ all_below_at p n i before (omega arith) ]
+all_below_at p (suc n) i h l = grind (arith, cases_eq, (all_below_at p n i))
 
 pub all_below_from : (p : ℕ → Bool) (n : ℕ) → ((i : ℕ) → i < n → IsTrue (p i)) → IsTrue (all_below p n)
 all_below_from p zero h = refl
@@ -209,15 +197,11 @@ filter_below_more p n = filter-append p (below n) (n ∷ [])
 
 pub find_some : {X : Type 0} (p : X → Bool) (xs : List X) (x : X) → find p xs ≡ Some x → IsIn x xs × IsTrue (p x)
 find_some p [] x e = absurd (none-some x e)
-find_some p (y ∷ xs) x e = by_test (p y)
-    (λ here. let same : y ≡ x = same_Some y x (sym (cond-true (p y) (Some y) (find p xs) here) ∙ e) in (inl (sym same), subst (λ w. IsTrue (p w)) same here))
-    (λ f. let (i, t) = find_some p xs x (sym (cond-false (p y) (Some y) (find p xs) f) ∙ e) in (inr i, t))
+find_some p (y ∷ xs) x e = grind (arith, by_test, cond-true, same_Some, (find_some p xs x))
 
 pub find_none : {X : Type 0} (p : X → Bool) (xs : List X) → find p xs ≡ None → IsFalse (list_any p xs)
 find_none p [] e = refl
-find_none p (y ∷ xs) e = by_test (p y)
-    (λ t. absurd (none-some y (sym e ∙ cond-true (p y) (Some y) (find p xs) t)))
-    (λ f. or_from (p y) (list_any p xs) f (find_none p xs (sym (cond-false (p y) (Some y) (find p xs) f) ∙ e)))
+find_none p (y ∷ xs) e = grind (arith, by_test, cond-true, none-some, or_from, (find_none p xs))
 
 -- where some element passes, an element is found
 pub find_found : {X : Type 0} (p : X → Bool) (xs : List X) → IsTrue (list_any p xs) → (x : X) × (find p xs ≡ Some x)
@@ -225,9 +209,7 @@ find_found {X} p xs h = grind (arith, both_ways, find_none)
 
 pub find_not_found : {X : Type 0} (p : X → Bool) (xs : List X) → IsFalse (list_any p xs) → find p xs ≡ None
 find_not_found p [] h = refl
-find_not_found p (y ∷ xs) h =
-    let (here, rest) = or_parts (p y) (list_any p xs) h in
-    cond-false (p y) (Some y) (find p xs) here ∙ find_not_found p xs rest
+find_not_found p (y ∷ xs) h = grind (arith, or_parts, (find_not_found p xs))
 
 -- among the numbers below n the first number that passes is the least
 pub find_least : (p : ℕ → Bool) (n i : ℕ) → find p (below n) ≡ Some i → (i < n) × IsTrue (p i) × ((j : ℕ) → j < i → IsFalse (p j))
@@ -240,7 +222,7 @@ find_least p (suc n) i e = by_before (find p (below n)) refl (λ k found. find_l
     by_before (Some k) before earlier =
         let same : k ≡ i = same_Some k i (sym (find-append p (below n) (n ∷ []) ∙ ap (λ o. option_or o (find p (n ∷ []))) before) ∙ e) in
         let (l, t, least) = earlier k before in
-        (omega arith, subst (λ w. IsTrue (p w)) same t, λ j m. least j (omega arith))
+        grind arith
     by_before None before earlier =
         let last : find p (n ∷ []) ≡ Some i = sym (find-append p (below n) (n ∷ []) ∙ ap (λ o. option_or o (find p (n ∷ []))) before) ∙ e in
         let (here, t) = find_some p (n ∷ []) i last in
@@ -249,47 +231,20 @@ find_least p (suc n) i e = by_before (find p (below n)) refl (λ k found. find_l
 
 -- the first number that passes is found where no smaller number passes
 pub find_first : (p : ℕ → Bool) (n i : ℕ) → i < n → IsTrue (p i) → ((j : ℕ) → j < i → IsFalse (p j)) → find p (below n) ≡ Some i
-find_first p n i l t least =
-    let (k, found) = find_found p (below n) (any_from p i (below n) (in_below n i l) t) in
-    let (m, passes, before) = find_least p n k found in
-    by_order k found passes before (cases_order i k)
-  where
-    by_order : (k : ℕ) → find p (below n) ≡ Some k → IsTrue (p k) → ((j : ℕ) → j < k → IsFalse (p j)) → (i ≡ k) ⊎ ((i < k) ⊎ (k < i)) → find p (below n) ≡ Some i
-    by_order k found passes before (inl e) = found ∙ ap Some (sym e)
-    by_order k found passes before (inr (inl less)) = absurd (both_ways (p i) (before i less) t)
-    by_order k found passes before (inr (inr more)) = absurd (both_ways (p k) (least k more) passes)
+find_first p n i l t least = grind (arith, both_ways, cases_order, (find_found p (below n) (any_from p i (below n) (in_below n i l) t)), find_least)
 
 -- Filters.
 
 -- two tests that agree on the elements keep the same elements
 pub filter_same : {X : Type 0} (p q : X → Bool) (xs : List X) → ((x : X) → IsIn x xs → p x ≡ q x) → filter p xs ≡ filter q xs
 filter_same p q [] same = refl
-filter_same p q (x ∷ xs) same =
-    ap₂ (λ b ys. cond b (x ∷ ys) ys) (same x (inl refl)) (filter_same p q xs (λ y i. same y (inr i)))
+filter_same p q (x ∷ xs) same = grind (arith, (filter_same p q xs))
 
 -- a filter that keeps no element that another drops keeps the same number of elements, or fewer
 pub filter_shrinks : {X : Type 0} (p q : X → Bool) (xs : List X) → ((x : X) → IsIn x xs → IsTrue (q x) → IsTrue (p x)) →
     ((x : X) → IsIn x xs → p x ≡ q x) ⊎ (length (filter q xs) < length (filter p xs))
 filter_shrinks p q [] less = inl (λ x i. absurd i)
-filter_shrinks {X} p q (y ∷ xs) less = by_tests (p y) (q y) refl refl (filter_shrinks p q xs (λ x i. less x (inr i)))
-  where
-    more : (a b : Bool) → p y ≡ a → q y ≡ b → IsFalse a → IsTrue b → ⊥
-    more a b pa qb fa tb = both_ways (p y) (pa ∙ fa) (less y (inl refl) (qb ∙ tb))
-
-    still : (a : Bool) → p y ≡ a → q y ≡ a → ((x : X) → IsIn x xs → p x ≡ q x) → (x : X) → IsIn x (y ∷ xs) → p x ≡ q x
-    still a pa qa same x (inl e) = ap p e ∙ pa ∙ sym qa ∙ ap q (sym e)
-    still a pa qa same x (inr i) = same x i
-
-    by_tests : (a b : Bool) → p y ≡ a → q y ≡ b →
-        ((x : X) → IsIn x xs → p x ≡ q x) ⊎ (length (filter q xs) < length (filter p xs)) →
-        ((x : X) → IsIn x (y ∷ xs) → p x ≡ q x) ⊎ (length (filter q (y ∷ xs)) < length (filter p (y ∷ xs)))
-    by_tests true true pa qb (inl same) = inl (still true pa qb same)
-    by_tests true true pa qb (inr short) = inr (rw (pa, qb) (omega arith))
-    by_tests false false pa qb (inl same) = inl (still false pa qb same)
-    by_tests false false pa qb (inr short) = inr (rw (pa, qb) short)
-    by_tests true false pa qb (inl same) = inr (rw (pa, qb, filter_same p q xs same) (omega arith))
-    by_tests true false pa qb (inr short) = inr (rw (pa, qb) (omega arith))
-    by_tests false true pa qb rest = absurd (more false true pa qb refl refl)
+filter_shrinks {X} p q (y ∷ xs) less = search (rules, both_ways, filter_same, (filter_shrinks p q xs))
 
 -- Sublists.
 
@@ -398,15 +353,11 @@ sum_by-map g f (x ∷ xs) = sum_by-cons g (f x) (map f xs) ∙ ap (λ n. g (f x)
 -- the sums of two functions that agree on the elements are equal
 pub sum_by_same : {X : Type 0} (f g : X → ℕ) (xs : List X) → ((x : X) → IsIn x xs → f x ≡ g x) → sum_by f xs ≡ sum_by g xs
 sum_by_same f g [] same = refl
-sum_by_same f g (x ∷ xs) same =
-    sum_by-cons f x xs ∙ ap₂ (λ a b. a + b) (same x (inl refl)) (sum_by_same f g xs (λ y i. same y (inr i))) ∙ sym (sum_by-cons g x xs)
+sum_by_same f g (x ∷ xs) same = grind (arith, sum_by-cons, (sum_by_same f g xs))
 
 -- the sum over a list without repeats whose elements are all in another list is at most the sum over that list
 pub sum_by_within : {X : Type 0} (f : X → ℕ) (xs ys : List X) → HasNoRepeats xs → ((x : X) → IsIn x xs → IsIn x ys) → sum_by f xs ≤ sum_by f ys
 sum_by_within f [] ys once within = omega arith
-sum_by_within {X} f (x ∷ xs) ys once within =
-    let (before, after, e) = split_at x ys (within x (inl refl)) in
+sum_by_within {X} f (x ∷ xs) ys once within = let (before, after, e) = split_at x ys (within x (inl refl)) in
     let others : (z : X) → IsIn z xs → IsIn z (before ++ after) = λ z i. in_others x z before after (λ same. once.0 (subst (λ w. IsIn w xs) same i)) (subst (λ zs. IsIn z zs) e (within z (inr i))) in
-    let rest : sum_by f xs ≤ sum_by f (before ++ after) = sum_by_within f xs (before ++ after) once.1 others in
-    let there : sum_by f ys ≡ sum_by f (before ++ x ∷ after) = ap (sum_by f) e in
-    omega (arith, sum_by-append f before after, sum_by-append f before (x ∷ after), sum_by-cons f x after, sum_by-cons f x xs)
+    grind (arith, sum_by-append, sum_by-cons, (sum_by_within f xs (before ++ after) once.1 others))

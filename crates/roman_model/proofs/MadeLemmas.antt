@@ -1,8 +1,10 @@
 -- Records built from tests: their steps are exactly those that pass, their numbers are in range, and equal tests build equal records.
-use Rattle.roman_model.proofs.Common.{◌≡◌, ℕ, ◌<◌, ◌≤◌, ◌==◌, Bool, ◌&&◌, IsTrue, List, [], ◌∷◌, map, filter, sym, ap, ap₂, ◌∙◌, subst, inl, inr, refl, arith, eq-eqb, eqb-true, and_parts, and_from, IsIn, below, Env, has, has_triple, has_move, IsEnv, IsBeh, is_final, MAX_ACTIONS}
-use Rattle.roman_model.specs.System.{Triple, Move}
+use Rattle.roman_model.proofs.Common.{◌≡◌, ℕ, ◌<◌, ◌≤◌, ◌==◌, Bool, ◌&&◌, IsTrue, List, [], ◌∷◌, map, filter, ap, ap₂, inl, inr, refl, arith, eq-eqb, eqb-true, and_from, IsIn, below, Env, has, has_triple, has_move, IsEnv, IsBeh, is_final, Move}
+use Rattle.roman_model.specs.declared.limits.TheConstants.{MAX_ACTIONS}
+use Rattle.roman_model.specs.System.{Triple}
 use Rattle.roman_model.specs.declared.limits.TheConstants.{MAX_STATES}
 use Rattle.roman_model.specs.Made.{env_from, guarded_step, beh_from}
+use Rattle.roman_model.proofs.SystemLemmas.{move_in, triple_in}
 use Rattle.roman_model.proofs.Lists.{any_true, any_from, in_map, from_map, in_flat_map, from_flat_map, in_filter, filter_in, in_below, from_below, filter_same}
 use Rattle.roman_model.proofs.ChangeLemmas.{flat_map_same_in}
 
@@ -15,15 +17,7 @@ from_made_triples states actions start goes x i = grind (arith, filter_in, from_
 pub from_made_triple : (states actions start : ℕ) (goes : ℕ → ℕ → ℕ → Bool) (e a e' : ℕ) → IsTrue (has_triple (env_from states actions start goes) e a e') →
     (e < states) × (a < actions) × (e' < states) × IsTrue (goes e a e')
 from_made_triple states actions start goes e a e' t =
-    let (x, i, passes) = any_true (λ x. x.from == e && x.action == a && x.to == e') (env_from states actions start goes).triples t in
-    let (front, to) = and_parts (x.from == e && x.action == a) (x.to == e') passes in
-    let (from, action) = and_parts (x.from == e) (x.action == a) front in
-    let (l, m, n, own) = from_made_triples states actions start goes x i in (
-      subst (λ y. y < states) (eqb-true x.from e from) l,
-      subst (λ y. y < actions) (eqb-true x.action a action) m,
-      subst (λ y. y < states) (eqb-true x.to e' to) n,
-      sym (ap₂ (λ p q. goes p q x.to) (eqb-true x.from e from) (eqb-true x.action a action) ∙ ap (goes e a) (eqb-true x.to e' to)) ∙ own,
-    )
+    from_made_triples states actions start goes (record { from = e; action = a; to = e' }) (triple_in (env_from states actions start goes) e a e' t)
 
 pub made_triple : (states actions start : ℕ) (goes : ℕ → ℕ → ℕ → Bool) (e a e' : ℕ) → e < states → a < actions → e' < states → IsTrue (goes e a e') →
     IsTrue (has_triple (env_from states actions start goes) e a e')
@@ -59,11 +53,6 @@ from_made_steps : (env_states actions states start : ℕ) (final : ℕ → Bool)
     (m.from < states) × (m.action < actions) × (m.to < states) × ((e : ℕ) → IsIn e m.guard → (e < env_states) × IsTrue (goes m.from e m.action m.to))
 from_made_steps env_states actions states start final goes m i = grind (arith, filter_in, from_below, from_flat_map, from_guarded)
 
--- the move that the test of a step finds
-pub move_test : (m : Move) (b e a b' : ℕ) → IsTrue (m.from == b && m.action == a && has m.guard e && m.to == b') →
-    (m.from ≡ b) × (m.action ≡ a) × IsIn e m.guard × (m.to ≡ b')
-move_test m b e a b' t = grind (arith, and_parts, any_true, eqb-true)
-
 pub move_passes : (b e a b' : ℕ) (guard : List ℕ) → IsIn e guard → IsTrue (b == b && a == a && has guard e && b' == b')
 move_passes b e a b' guard i = grind (arith, and_from, any_from, eq-eqb)
 
@@ -71,16 +60,9 @@ pub from_made_move : (env_states actions states start : ℕ) (final : ℕ → Bo
     IsTrue (has_move (beh_from env_states actions states start final goes) b e a b') →
     (b < states) × (e < env_states) × (a < actions) × (b' < states) × IsTrue (goes b e a b')
 from_made_move env_states actions states start final goes b e a b' t =
-    let (m, i, passes) = any_true (λ m. m.from == b && m.action == a && has m.guard e && m.to == b') (beh_from env_states actions states start final goes).steps t in
-    let (from, action, guard, to) = move_test m b e a b' passes in
-    let (hb, ha, hb', each) = from_made_steps env_states actions states start final goes m i in
-    let (he, own) = each e guard in (
-      subst (λ n. n < states) from hb,
-      he,
-      subst (λ n. n < actions) action ha,
-      subst (λ n. n < states) to hb',
-      sym (ap₂ (λ p q. goes p e q m.to) from action ∙ ap (goes b e a) to) ∙ own,
-    )
+    let (guard, i, j) = move_in (beh_from env_states actions states start final goes) b e a b' t in
+    let (hb, ha, hb', each) = from_made_steps env_states actions states start final goes (record { from = b; guard = guard; action = a; to = b' }) i in
+    (hb, (each e j).0, ha, hb', (each e j).1)
 
 pub made_move : (env_states actions states start : ℕ) (final : ℕ → Bool) (goes : ℕ → ℕ → ℕ → ℕ → Bool) (b e a b' : ℕ) →
     b < states → e < env_states → a < actions → b' < states → IsTrue (goes b e a b') → IsTrue (has_move (beh_from env_states actions states start final goes) b e a b')
@@ -110,8 +92,7 @@ from_made_final env_states actions states start final goes b t = grind (arith, a
 
 pub made_final : (env_states actions states start : ℕ) (final : ℕ → Bool) (goes : ℕ → ℕ → ℕ → ℕ → Bool) (b : ℕ) → b < states → IsTrue (final b) →
     IsTrue (is_final (beh_from env_states actions states start final goes) b)
-made_final env_states actions states start final goes b hb t =
-    any_from (λ n. n == b) b (filter final (below states)) (in_filter final b (below states) (in_below states b hb) t) (eq-eqb b b refl)
+made_final env_states actions states start final goes b hb t = grind (arith, any_from, (eq-eqb b b refl), (in_below states b hb), in_filter)
 
 -- Tests that agree in range build equal records.
 
@@ -127,10 +108,8 @@ pub beh_from_same : (env_states actions states start : ℕ) (final finals : ℕ 
     ((b : ℕ) → b < states → final b ≡ finals b) →
     ((b e a b' : ℕ) → b < states → e < env_states → a < actions → b' < states → goes b e a b' ≡ others b e a b') →
     beh_from env_states actions states start final goes ≡ beh_from env_states actions states start finals others
-beh_from_same env_states actions states start final finals goes others ends same =
-    ap₂ (λ (fs : List ℕ) (ms : List Move). record { states = states; start = start; finals = fs; steps = ms })
+beh_from_same env_states actions states start final finals goes others ends same = ap₂ (λ (fs : List ℕ) (ms : List Move). record { states = states; start = start; finals = fs; steps = ms })
     (filter_same final finals (below states) (λ b i. ends b (from_below states b i)))
     (flat_map_same_in _ _ (below states) (λ b ib. flat_map_same_in _ _ (below actions) (λ a ia. flat_map_same_in _ _ (below states) (λ b' ib'.
     ap (guarded_step b a b')
-    (filter_same (λ e. goes b e a b') (λ e. others b e a b') (below env_states)
-    (λ e ie. same b e a b' (from_below states b ib) (from_below env_states e ie) (from_below actions a ia) (from_below states b' ib')))))))
+    (grind (arith, filter_same, from_below))))))

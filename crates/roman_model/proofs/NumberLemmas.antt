@@ -1,14 +1,12 @@
 -- Numbers of lists of states and of pairs: bounds, and the change of a number where a state changes, comes or goes.
-use Rattle.roman_model.proofs.Common.{◌≡◌, ℕ, zero, suc, ◌+◌, ◌*◌, ◌%◌, ◌<◌, List, [], ◌∷◌, ◌++◌, map, length, take, drop, slice_index, slice_set, remove, refl, sym, ap, ◌∙◌, arith, add-one, rules, AllZip, mul-add-lt, product_of, Seat, Sys, Pair, IsPair, Sizes, sizes_of, AreBelow, grown_sizes, sizes_without, count, states_number, states_at, number, pair_at, grown, without, number_without}
-use Rattle.std.proofs.Common.{◌/◌, div-add-mod'}
+use Rattle.roman_model.proofs.Common.{Some, slice_get, none-some, same_Some, AllZip-long, ◌≡◌, ℕ, zero, suc, ◌+◌, ◌*◌, ◌%◌, ◌<◌, List, [], ◌∷◌, ◌++◌, map, length, take, drop, slice_index, slice_set, remove, refl, sym, ap, ◌∙◌, arith, add-one, rules, AllZip, mul-add-lt, product_of, Seat, Sys, Pair, IsPair, Sizes, sizes_of, AreBelow, grown_sizes, sizes_without, count, states_number, states_at, number, pair_at, grown, without, number_without, IsPairOf}
+use Rattle.std.proofs.lemmas.List.Elements.{AllZip-get_or}
+use Rattle.std.proofs.Common.{◌/◌}
 use Rattle.std.proofs.lemmas.Nat.{div-mul-add, mod-mul-add, div_below, mod_below}
-use Rattle.roman_model.specs.Numbers.{IsPairOf, NumbersArePairs}
+use Rattle.roman_model.specs.Numbers.{NumbersArePairs}
 
 pub AreBelow-length : (sizes bs : List ℕ) → AreBelow sizes bs → length bs ≡ length sizes
-AreBelow-length [] [] h = refl
-AreBelow-length [] (b ∷ bs) h = elim h [ ]
-AreBelow-length (size ∷ sizes) [] h = elim h [ ]
-AreBelow-length (size ∷ sizes) (b ∷ bs) h = ap suc (AreBelow-length sizes bs h.1)
+AreBelow-length sizes bs h = AllZip-long (λ size b. b < size) sizes bs h
 
 pub states_number_below : (sizes bs : List ℕ) → AreBelow sizes bs → states_number sizes bs < product_of sizes
 states_number_below [] [] h = omega arith
@@ -32,17 +30,12 @@ factor_pos i a (suc b) h = omega arith
 
 pub AreBelow-at : (sizes : List ℕ) (i : ℕ) → i < product_of sizes → AreBelow sizes (states_at sizes i)
 AreBelow-at [] i h = tt
-AreBelow-at (size ∷ sizes) i h =
-    let pos : 0 < product_of sizes = factor_pos i size (product_of sizes) h in
-    (div_below i (product_of sizes) size pos h, AreBelow-at sizes (i % product_of sizes) (mod_below i (product_of sizes) pos))
+AreBelow-at (size ∷ sizes) i h = grind (arith, div_below, mod_below, (AreBelow-at sizes (i % product_of sizes)))
 
 pub states_number-at : (sizes : List ℕ) (i : ℕ) → i < product_of sizes → states_number sizes (states_at sizes i) ≡ i
 states_number-at [] zero h = refl
 states_number-at [] (suc i) h = omega arith
-states_number-at (size ∷ sizes) i h =
-    let pos : 0 < product_of sizes = factor_pos i size (product_of sizes) h in
-    let rest : states_number sizes (states_at sizes (i % product_of sizes)) ≡ i % product_of sizes = states_number-at sizes (i % product_of sizes) (mod_below i (product_of sizes) pos) in
-    rw rest (div-add-mod' i (product_of sizes))
+states_number-at (size ∷ sizes) i h = grind (arith, mod_below, (states_number-at sizes (i % product_of sizes)))
 
 -- Lists of states, cut in two or at a place
 
@@ -79,10 +72,7 @@ states_number-split (size ∷ sizes) (b ∷ bs) (suc k) h l =
 -- Lists of states that are below their sizes
 
 pub AreBelow-index : (sizes bs : List ℕ) (k : ℕ) → AreBelow sizes bs → k < length sizes → slice_index bs k < slice_index sizes k
-AreBelow-index [] bs k h l = omega arith
-AreBelow-index (size ∷ sizes) [] k h l = elim h [ ]
-AreBelow-index (size ∷ sizes) (b ∷ bs) zero h l = h.0
-AreBelow-index (size ∷ sizes) (b ∷ bs) (suc k) h l = AreBelow-index sizes bs k h.1 (omega arith)
+AreBelow-index sizes bs k h l = AllZip-get_or (λ size b. b < size) sizes bs k 0 0 h l
 
 pub AreBelow-set : (sizes bs : List ℕ) (k b : ℕ) → AreBelow sizes bs → b < slice_index sizes k → AreBelow sizes (slice_set bs k b)
 AreBelow-set [] [] k b h l = h
@@ -127,13 +117,7 @@ states_number-set (size ∷ sizes) (x ∷ bs) (suc k) b h l = grind (arith, (sta
 -- the state at place k is a digit of the number
 pub state_from_number : (sizes bs : List ℕ) (k : ℕ) → AreBelow sizes bs → k < length sizes →
     slice_index bs k ≡ states_number sizes bs / product_of (drop (k + 1) sizes) % slice_index sizes k
-state_from_number sizes bs k h l =
-    let low : states_number (drop (k + 1) sizes) (drop (k + 1) bs) < product_of (drop (k + 1) sizes) = states_number_below (drop (k + 1) sizes) (drop (k + 1) bs) (AreBelow-drop sizes bs (k + 1) h) in
-    rw (
-      states_number-split sizes bs k l (AreBelow-length sizes bs h),
-      div-mul-add (states_number (take k sizes) (take k bs) * slice_index sizes k + slice_index bs k) (product_of (drop (k + 1) sizes)) (states_number (drop (k + 1) sizes) (drop (k + 1) bs)) low,
-    )
-    (sym (mod-mul-add (states_number (take k sizes) (take k bs)) (slice_index sizes k) (slice_index bs k) (AreBelow-index sizes bs k h l)))
+state_from_number sizes bs k h l = grind (arith, (AreBelow-drop sizes bs (k + 1) h), (AreBelow-index sizes bs k h l), (AreBelow-length sizes bs h), div-mul-add, (states_number-split sizes bs k l (AreBelow-length sizes bs h)), (states_number_below (drop (k + 1) sizes) (drop (k + 1) bs) (AreBelow-drop sizes bs (k + 1) h)))
 
 pub length-states_at : (sizes : List ℕ) (i : ℕ) → length (states_at sizes i) ≡ length sizes
 length-states_at [] i = refl
@@ -152,10 +136,7 @@ states_before sizes bs k h l =
 
 pub states_behind : (sizes bs : List ℕ) (k : ℕ) → AreBelow sizes bs → k < length sizes →
     states_number (drop (k + 1) sizes) (drop (k + 1) bs) ≡ states_number sizes bs % product_of (drop (k + 1) sizes)
-states_behind sizes bs k h l =
-    let low : states_number (drop (k + 1) sizes) (drop (k + 1) bs) < product_of (drop (k + 1) sizes) = states_number_below (drop (k + 1) sizes) (drop (k + 1) bs) (AreBelow-drop sizes bs (k + 1) h) in
-    rw (states_number-split sizes bs k l (AreBelow-length sizes bs h))
-    (sym (mod-mul-add (states_number (take k sizes) (take k bs) * slice_index sizes k + slice_index bs k) (product_of (drop (k + 1) sizes)) (states_number (drop (k + 1) sizes) (drop (k + 1) bs)) low))
+states_behind sizes bs k h l = grind (arith, (AreBelow-drop sizes bs (k + 1) h), (AreBelow-length sizes bs h), mod-mul-add, (states_number-split sizes bs k l (AreBelow-length sizes bs h)), states_number_below)
 
 -- without the state at place k
 pub states_number-remove : (sizes bs : List ℕ) (k : ℕ) → AreBelow sizes bs → k < length sizes →
@@ -264,9 +245,7 @@ pub number_without-is : (n : Sizes) (i k : ℕ) → i < count n → k < length n
 number_without-is n i k h l = number-without n (pair_at n i) k (IsPairOf-at n i h) l ∙ ap (number_without k n) (number-pair_at n i h)
 
 pub pair_at-without : (n : Sizes) (i k : ℕ) → i < count n → k < length n.seats → pair_at (sizes_without k n) (number_without k n i) ≡ without k (pair_at n i)
-pair_at-without n i k h l =
-    ap (pair_at (sizes_without k n)) (sym (number_without-is n i k h l))
-    ∙ pair_at-number (sizes_without k n) (without k (pair_at n i)) (IsPairOf-without n (pair_at n i) k (IsPairOf-at n i h))
+pair_at-without n i k h l = grind (arith, (number_without-is n i k h l), (pair_at-number (sizes_without k n) (without k (pair_at n i)) (IsPairOf-without n (pair_at n i) k (IsPairOf-at n i h))))
 
 pub count-without : (n : Sizes) (k : ℕ) → k < length n.seats → count n ≡ count (sizes_without k n) * slice_index n.seats k
 count-without n k h =
@@ -286,6 +265,11 @@ below_states [] [] h = tt
 below_states [] (b ∷ bs) h = elim h [ ]
 below_states (seat ∷ seats) [] h = elim h [ ]
 below_states (seat ∷ seats) (b ∷ bs) h = (h.0, below_states seats bs h.1)
+
+pub size_at : (seats : List Seat) (k : ℕ) (seat : Seat) → slice_get seats k ≡ Some seat → slice_index (map (λ seat. seat.beh.states) seats) k ≡ seat.beh.states
+size_at [] k seat e = absurd (none-some seat e)
+size_at (x ∷ seats) zero seat e = ap (λ y. y.beh.states) (same_Some x seat e)
+size_at (x ∷ seats) (suc k) seat e = size_at seats k seat e
 
 pub IsPairOf-from : (s : Sys) (p : Pair) → IsPair s p → IsPairOf (sizes_of s) p
 IsPairOf-from s p ok = record { t = ok.t; e = ok.e; bs = states_below s.seats p.bs ok.bs }

@@ -1,10 +1,17 @@
 -- The arenas over numbers of pairs and over pairs carry over to each other.
-use Rattle.roman_model.proofs.Common.{◌≡◌, ℕ, ◌<◌, ◌==◌, List, [], ◌∷◌, map, IsTrue, refl, sym, ap, ap₂, ◌∙◌, subst, inl, inr, eqb-true, eq-eqb, IsIn, Sys, Pair, IsSys, IsPair, outcomes, is_allowed, is_fine, same_pair, arena, Entry, is_listed, mask, IsOrder, is_justified, Reason, AreEntries, sizes_of, count, number, pair_at, numbered, entry_at, OrderCompletes}
+use Rattle.roman_model.proofs.Common.{Sizes, ◌≡◌, ℕ, ◌<◌, ◌==◌, List, [], ◌∷◌, map, IsTrue, refl, sym, ap, ap₂, ◌∙◌, subst, inl, inr, eqb-true, eq-eqb, IsIn, Sys, Pair, IsSys, IsPair, outcomes, is_allowed, is_fine, same_pair, arena, Entry, is_listed, mask, IsOrder, is_justified, Reason, AreEntries, sizes_of, count, number, pair_at, numbered, entry_at, OrderCompletes}
 use Rattle.roman_model.specs.Laws.{NumberedCompletes}
 use Rattle.roman_model.proofs.Lists.{same_test, from_map}
 use Rattle.roman_model.proofs.SystemLemmas.{same_pair_is, same_pair_from, outcome_pair}
-use Rattle.roman_model.proofs.NumberLemmas.{numbers_are_pairs}
+use Rattle.roman_model.proofs.NumberLemmas.{number-pair_at, numbers_are_pairs}
 use Rattle.roman_model.proofs.Renames.{Renames, listed_renamed, mask_renamed, order_renamed, justified_renamed}
+
+-- numbers below the count are equal exactly where their pairs are
+pub same_at : (n : Sizes) (i j : ℕ) → i < count n → j < count n → (i == j) ≡ same_pair (pair_at n i) (pair_at n j)
+same_at n i j below_i below_j =
+    same_test (i == j) (same_pair (pair_at n i) (pair_at n j))
+    (λ h. same_pair_from (pair_at n i) (pair_at n j) (ap (pair_at n) (eqb-true i j h)))
+    (λ h. eq-eqb i j (sym (number-pair_at n i below_i) ∙ ap (number n) (same_pair_is (pair_at n i) (pair_at n j) h) ∙ number-pair_at n j below_j))
 
 module _ (s : Sys) where
   -- the number is the number of a pair
@@ -22,9 +29,7 @@ module _ (s : Sys) where
   -- the numbers rename the pairs
   pub numbers_rename : IsSys s → Renames (numbered s) (arena s) (pair_at (sizes_of s)) IsNumber
   numbers_rename sys = record {
-    same = λ i j below_i below_j. same_test (i == j) (same_pair (pair_at (sizes_of s) i) (pair_at (sizes_of s) j))
-        (λ h. same_pair_from (pair_at (sizes_of s) i) (pair_at (sizes_of s) j) (ap (pair_at (sizes_of s)) (eqb-true i j h)))
-        (λ h. eq-eqb i j (sym ((numbers_are_pairs s).there i below_i) ∙ ap (number (sizes_of s)) (same_pair_is (pair_at (sizes_of s) i) (pair_at (sizes_of s) j) h) ∙ (numbers_are_pairs s).there j below_j));
+    same = same_at (sizes_of s);
     actions = refl;
     seats = refl;
     ready = λ k. refl;

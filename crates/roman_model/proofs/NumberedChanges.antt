@@ -1,39 +1,15 @@
 -- Changes over the numbers of pairs: renaming and replay agree with those over pairs.
-use Rattle.roman_model.proofs.Common.{◌≡◌, ℕ, zero, suc, ◌+◌, ◌*◌, ◌<◌, ◌==◌, Bool, true, false, List, [], ◌∷◌, ◌++◌, map, length, take, drop, filter, flat_map, Some, if◌then◌else◌, slice_get, slice_index, remove, refl, sym, ap, ap₂, ◌∙◌, subst, inl, inr, arith, list_any, eqb-true, eq-eqb, cond-true, cond-false, map-append, length-map, flat_map-map, mul-add-lt, none-some, same_Some, slice_get_within, IsIn, below, Seat, Sys, Pair, IsSys, is_allowed, same_pair, arena, Entry, IsOrder, replay, Freeze, Thaw, Join, Die, grown, without, may_go, firsts, entry_without, rename, Sizes, sizes_of, grown_sizes, sizes_without, count, number, pair_at, numbered, entry_at, number_without}
+use Rattle.roman_model.proofs.Common.{◌≡◌, ℕ, ◌+◌, ◌*◌, ◌<◌, ◌==◌, Bool, true, false, List, [], ◌∷◌, map, length, filter, flat_map, Some, if◌then◌else◌, slice_get, refl, sym, ap, ap₂, ◌∙◌, subst, inl, inr, arith, list_any, cond-true, length-map, flat_map-map, mul-add-lt, slice_get_within, IsIn, below, Seat, Sys, Pair, IsSys, is_allowed, same_pair, arena, Entry, IsOrder, replay, Freeze, Thaw, Join, Die, grown, without, may_go, firsts, entry_without, rename, Sizes, sizes_of, grown_sizes, sizes_without, count, pair_at, numbered, entry_at, number_without}
 use Rattle.roman_model.specs.Change.{after}
-use Rattle.std.proofs.lemmas.List.{take-map, drop-map}
 use Rattle.roman_model.specs.Change.{Change, grown_entries, CanChange, KeepsAll, RenamedReplays}
 use Rattle.roman_model.specs.NumberedChange.{grown_numbers, number_entry_without, first_numbers, rename_numbers}
-use Rattle.roman_model.proofs.Lists.{by_test, same_test, any_same, list_any-map, from_map, from_flat_map, filter_in, from_below, sublist_in, filter-map}
-use Rattle.roman_model.proofs.SystemLemmas.{same_pair_is, same_pair_from}
+use Rattle.roman_model.proofs.Lists.{by_test, any_same, list_any-map, from_map, from_flat_map, filter_in, from_below, sublist_in, filter-map}
 use Rattle.roman_model.proofs.OrderLemmas.{replay_whole, replay_sublist}
-use Rattle.roman_model.proofs.NumberLemmas.{IsPairOf-at, number_below, number-pair_at, pair_at-grown, count-grown, number_without-is, pair_at-without, IsPairOf-without}
+use Rattle.roman_model.proofs.NumberLemmas.{IsPairOf-at, number_below, pair_at-grown, count-grown, number_without-is, pair_at-without, IsPairOf-without}
 use Rattle.roman_model.proofs.Renames.{order_named, replay_renamed}
-use Rattle.roman_model.proofs.NumberedArena.{IsNumber, AreNumbers, numbers_rename, entries_at, order_at}
-use Rattle.roman_model.proofs.ChangeLemmas.{flat_map_same_in, map_same_in, map-map, map-flat_map, states_frozen, turned, joined, left}
+use Rattle.roman_model.proofs.NumberedArena.{same_at, IsNumber, AreNumbers, numbers_rename, entries_at, order_at}
+use Rattle.roman_model.proofs.ChangeLemmas.{flat_map_same_in, map_same_in, map-map, map-flat_map, sizes-turned, sizes-joined, sizes-left, turned}
 use Rattle.roman_model.proofs.ChangeLaws.{renaming_keeps}
-
--- The sizes after a change
-
-same_sizes : (s r : Sys) (ns : List ℕ) → s.env ≡ r.env → s.target ≡ r.target → map (λ seat. seat.beh.states) s.seats ≡ ns → sizes_of s ≡ record { target = r.target.states; env = r.env.states; seats = ns }
-same_sizes s r ns e t same = λ i. record { target = (t i).states; env = (e i).states; seats = same i }
-
-pub sizes-turned : (s : Sys) (k : ℕ) (frozen : Bool) → sizes_of (turned s k frozen) ≡ sizes_of s
-sizes-turned s k frozen = same_sizes (turned s k frozen) s (map (λ seat. seat.beh.states) s.seats) refl refl (states_frozen s.seats k frozen)
-
-pub sizes-joined : (s : Sys) (seat : Seat) → sizes_of (joined s seat) ≡ grown_sizes (sizes_of s) seat.beh.states
-sizes-joined s seat = same_sizes (joined s seat) s (map (λ seat. seat.beh.states) s.seats ++ seat.beh.states ∷ []) refl refl (map-append (λ seat. seat.beh.states) s.seats (seat ∷ []))
-
-pub map-remove : {X Y : Type 0} (f : X → Y) (xs : List X) (k : ℕ) → map f (remove xs k) ≡ remove (map f xs) k
-map-remove f xs k = map-append f (take k xs) (drop (suc k) xs) ∙ ap₂ (λ ys zs. ys ++ zs) (sym (take-map f k xs)) (sym (drop-map f (suc k) xs))
-
-pub sizes-left : (s : Sys) (k : ℕ) → sizes_of (left s k) ≡ sizes_without k (sizes_of s)
-sizes-left s k = same_sizes (left s k) s (remove (map (λ seat. seat.beh.states) s.seats) k) refl refl (map-remove (λ seat. seat.beh.states) s.seats k)
-
-pub size_at : (seats : List Seat) (k : ℕ) (seat : Seat) → slice_get seats k ≡ Some seat → slice_index (map (λ seat. seat.beh.states) seats) k ≡ seat.beh.states
-size_at [] k seat e = absurd (none-some seat e)
-size_at (x ∷ seats) zero seat e = ap (λ y. y.beh.states) (same_Some x seat e)
-size_at (x ∷ seats) (suc k) seat e = size_at seats k seat e
 
 -- the entry of a pair, from the sizes alone
 abbrev pub pair_entry : Sizes → Entry ℕ → Entry Pair
@@ -48,13 +24,6 @@ grown_named n size x l = grind (arith, from_below, map-map, map_same_in, pair_at
 join_named : (n : Sizes) (seat : Seat) (L : List (Entry ℕ)) → ((x : Entry ℕ) → IsIn x L → x.node < count n) →
     map (pair_entry (grown_sizes n seat.beh.states)) (flat_map (grown_numbers seat.beh.states) L) ≡ flat_map (grown_entries seat) (map (pair_entry n) L)
 join_named n seat L are = grind (arith, flat_map-map, flat_map_same_in, grown_named, map-flat_map)
-
--- numbers below the count are equal exactly where their pairs are
-same_at : (n : Sizes) (i j : ℕ) → i < count n → j < count n → (i == j) ≡ same_pair (pair_at n i) (pair_at n j)
-same_at n i j below_i below_j =
-    same_test (i == j) (same_pair (pair_at n i) (pair_at n j))
-    (λ h. same_pair_from (pair_at n i) (pair_at n j) (ap (pair_at n) (eqb-true i j h)))
-    (λ h. eq-eqb i j (sym (number-pair_at n i below_i) ∙ ap (number n) (same_pair_is (pair_at n i) (pair_at n j) h) ∙ number-pair_at n j below_j))
 
 firsts_named : (n : Sizes) (seen : List ℕ) (L : List (Entry ℕ)) → ((i : ℕ) → IsIn i seen → i < count n) → ((x : Entry ℕ) → IsIn x L → x.node < count n) →
     map (pair_entry n) (first_numbers seen L) ≡ firsts (map (pair_at n) seen) (map (pair_entry n) L)
@@ -78,24 +47,15 @@ firsts_named n seen (x ∷ L) known are =
 
 -- a number without the k-th state is the number of a pair
 pub number_without_below : (n : Sizes) (i k : ℕ) → i < count n → k < length n.seats → number_without k n i < count (sizes_without k n)
-number_without_below n i k l h =
-    subst (λ m. m < count (sizes_without k n)) (number_without-is n i k l h)
-    (number_below (sizes_without k n) (without k (pair_at n i)) (IsPairOf-without n (pair_at n i) k (IsPairOf-at n i l)))
+number_without_below n i k l h = grind (arith, (number_below (sizes_without k n) (without k (pair_at n i)) (IsPairOf-without n (pair_at n i) k (IsPairOf-at n i l))), (number_without-is n i k l h))
 
 first_numbers_in : (seen : List ℕ) (L : List (Entry ℕ)) (x : Entry ℕ) → IsIn x (first_numbers seen L) → IsIn x L
 first_numbers_in seen [] x i = absurd i
-first_numbers_in seen (y ∷ L) x i = by_test (list_any (λ j. y.node == j) seen)
-    (λ t. inr (first_numbers_in seen L x (subst (λ M. IsIn x M) (cond-true (list_any (λ j. y.node == j) seen) (first_numbers seen L) (y ∷ first_numbers (y.node ∷ seen) L) t) i)))
-    (λ f. first (subst (λ M. IsIn x M) (cond-false (list_any (λ j. y.node == j) seen) (first_numbers seen L) (y ∷ first_numbers (y.node ∷ seen) L) f) i) (λ j. first_numbers_in (y.node ∷ seen) L x j))
-  where
-    first : IsIn x (y ∷ first_numbers (y.node ∷ seen) L) → (IsIn x (first_numbers (y.node ∷ seen) L) → IsIn x L) → IsIn x (y ∷ L)
-    first (inl e) go = inl e
-    first (inr j) go = inr (go j)
+first_numbers_in seen (y ∷ L) x i = grind (arith, by_test, cond-true, (first_numbers_in seen L x), (first_numbers_in (y.node ∷ seen) L x))
 
 die_named : (n : Sizes) (k : ℕ) (seat : Seat) (L : List (Entry ℕ)) → k < length n.seats → ((x : Entry ℕ) → IsIn x L → x.node < count n) →
     map (pair_entry (sizes_without k n)) (rename_numbers (Die k seat) n L) ≡ rename (Die k seat) (map (pair_entry n) L)
-die_named n k seat L h are =
-    firsts_named (sizes_without k n) [] (map (number_entry_without k n) kept) (λ i none. absurd none) (λ x i. within x i)
+die_named n k seat L h are = firsts_named (sizes_without k n) [] (map (number_entry_without k n) kept) (λ i none. absurd none) (λ x i. within x i)
     ∙ ap (firsts [])
     (map-map (pair_entry (sizes_without k n)) (number_entry_without k n) kept
     ∙ map_same_in (λ x. pair_entry (sizes_without k n) (number_entry_without k n x)) (λ x. entry_without k (pair_entry n x)) kept
@@ -107,10 +67,7 @@ die_named n k seat L h are =
     kept = filter (λ x. may_go k seat (pair_at n x.node)) L
 
     within : (x : Entry ℕ) → IsIn x (map (number_entry_without k n) (filter (λ x. may_go k seat (pair_at n x.node)) L)) → x.node < count (sizes_without k n)
-    within x i =
-        let (y, j, e) = from_map (number_entry_without k n) x (filter (λ x. may_go k seat (pair_at n x.node)) L) i in
-        subst (λ z. z.node < count (sizes_without k n)) (sym e)
-        (number_without_below n y.node k (are y (filter_in (λ x. may_go k seat (pair_at n x.node)) y L j).0) h)
+    within x i = grind (arith, filter_in, from_map, number_without_below)
 
 -- the sizes after a change
 abbrev pub sizes_after : Change → Sizes → Sizes
@@ -143,12 +100,11 @@ numbers_renamed change s L can are = ap (λ n. map (pair_entry n) (rename_number
 renamed_below : (change : Change) (s : Sys) (L : List (Entry ℕ)) → CanChange change s → AreNumbers s L → (x : Entry ℕ) → IsIn x (rename_numbers change (sizes_of s) L) → x.node < count (sizes_after change (sizes_of s))
 renamed_below (Freeze k) s L can are x i = are x i
 renamed_below (Thaw k) s L can are x i = are x i
-renamed_below (Join seat) s L can are x i =
-    let (y, j, m) = from_flat_map (grown_numbers seat.beh.states) x L i in
+renamed_below (Join seat) s L can are x i = let (y, j, m) = from_flat_map (grown_numbers seat.beh.states) x L i in
     let (b, l, e) = from_map (λ b. record { node = y.node * seat.beh.states + b; reason = y.reason }) x (below seat.beh.states) m in
     let fits : y.node * seat.beh.states + b < seat.beh.states * count (sizes_of s) = mul-add-lt y.node seat.beh.states b (count (sizes_of s)) (are y j) (from_below seat.beh.states b l) in
     let more : count (grown_sizes (sizes_of s) seat.beh.states) ≡ count (sizes_of s) * seat.beh.states = count-grown (sizes_of s) seat.beh.states in
-    subst (λ z. z.node < count (grown_sizes (sizes_of s) seat.beh.states)) (sym e) (fits_as y.node b seat.beh.states (count (sizes_of s)) (count (grown_sizes (sizes_of s) seat.beh.states)) fits more)
+    grind arith
   where
     fits_as : (i b size n m : ℕ) → i * size + b < size * n → m ≡ n * size → i * size + b < m
     fits_as i b size n m h e = omega arith

@@ -1,5 +1,5 @@
 -- Removal lists over the numbers of pairs: the laws of their arena, complete lists, and counts of pairs.
-use Rattle.roman_model.proofs.Common.{◌≡◌, ℕ, ◌+◌, ◌<◌, ◌≤◌, not, List, [], map, length, IsTrue, IsFalse, filter, sum_by, refl, sym, ap, ◌∙◌, subst, arith, rules, both_ways, eqb-true, eq-eqb, not-false, length-map, IsIn, HasNoRepeats, below, Sys, Pair, IsSys, IsPair, pairs, outcomes, arena, Entry, is_listed, is_justified, mask, IsOrder, loses, IsComplete, sizes_of, count, number, pair_at, numbered, entry_at, IsCompleteList, is_related, offers, Reason, Final, Act}
+use Rattle.roman_model.proofs.Common.{◌≡◌, ℕ, ◌+◌, ◌<◌, not, List, [], map, length, IsTrue, IsFalse, filter, sum_by, refl, sym, ◌∙◌, subst, arith, rules, both_ways, eqb-true, eq-eqb, not-false, length-map, IsIn, HasNoRepeats, below, Sys, Pair, IsSys, IsPair, pairs, outcomes, arena, Entry, is_listed, is_justified, mask, IsOrder, loses, IsComplete, sizes_of, count, number, pair_at, numbered, entry_at, IsCompleteList, is_related, offers, Reason, Final, Act}
 use Rattle.roman_model.specs.Offers.{choice_count}
 use Rattle.std.proofs.lemmas.List.Filters.{length-filter_both}
 use Rattle.roman_model.specs.Arena.{choices}
@@ -48,8 +48,7 @@ numbered_completed_by s L ok are order no_reason =
 -- a complete list has exactly the numbers of the pairs that aren't related
 pub numbered_listed : (s : Sys) (L : List (Entry ℕ)) (i : ℕ) → IsSys s → AreNumbers s L → IsCompleteList s L → i < count (sizes_of s) →
     is_listed (numbered s) L i ≡ not (is_related s (pair_at (sizes_of s) i))
-numbered_listed s L i ok are complete l =
-    listed_at s ok L are i l ∙ complete_listed s (map (entry_at s) L) (pair_at (sizes_of s) i) ok complete ((numbers_are_pairs s).pair i l)
+numbered_listed s L i ok are complete l = grind (arith, (complete_listed s (map (entry_at s) L) (pair_at (sizes_of s) i) ok complete ((numbers_are_pairs s).pair i l)), (listed_at s ok L are i l))
 
 -- the masks of a complete list are the offers
 pub numbered_offers : (s : Sys) (L : List (Entry ℕ)) (i a : ℕ) → IsSys s → AreNumbers s L → IsCompleteList s L → i < count (sizes_of s) →
@@ -71,12 +70,7 @@ abbrev pub numbered_pairs : Sys → List Pair
 numbered_pairs s = map (pair_at (sizes_of s)) (below (count (sizes_of s)))
 
 pub numbered_pairs_once : (s : Sys) → HasNoRepeats (numbered_pairs s)
-numbered_pairs_once s =
-    HasNoRepeats-map (pair_at (sizes_of s)) (below (count (sizes_of s)))
-    (λ i j k l e.
-    sym ((numbers_are_pairs s).there i (from_below (count (sizes_of s)) i k)) ∙ ap (number (sizes_of s)) e
-    ∙ (numbers_are_pairs s).there j (from_below (count (sizes_of s)) j l))
-    (HasNoRepeats-below (count (sizes_of s)))
+numbered_pairs_once s = grind (arith, (HasNoRepeats-below (count (sizes_of s))), HasNoRepeats-map, from_below, (numbers_are_pairs s))
 
 pub in_numbered_pairs : (s : Sys) (p : Pair) → IsIn p (pairs s) → IsIn p (numbered_pairs s)
 in_numbered_pairs s p i =
@@ -86,9 +80,7 @@ in_numbered_pairs s p i =
     (in_below (count (sizes_of s)) (number (sizes_of s) p) ((numbers_are_pairs s).below p pair)))
 
 pub from_numbered_pairs : (s : Sys) (p : Pair) → IsIn p (numbered_pairs s) → IsIn p (pairs s)
-from_numbered_pairs s p i =
-    let (n, j, e) = from_map (pair_at (sizes_of s)) p (below (count (sizes_of s))) i in
-    in_pairs s p (subst (IsPair s) (sym e) ((numbers_are_pairs s).pair n (from_below (count (sizes_of s)) n j)))
+from_numbered_pairs s p i = grind (arith, from_below, from_map, in_pairs, (numbers_are_pairs s))
 
 -- there are as many pairs as numbers below the count
 pub length-pairs : (s : Sys) → length (pairs s) ≡ count (sizes_of s)
@@ -98,11 +90,7 @@ length-pairs s =
 
 -- a sum over the pairs equals the sum over their numbers
 pub sum_over_pairs : (s : Sys) (g : Pair → ℕ) → sum_by g (pairs s) ≡ sum_by (λ i. g (pair_at (sizes_of s) i)) (below (count (sizes_of s)))
-sum_over_pairs s g =
-    let up : sum_by g (pairs s) ≤ sum_by g (numbered_pairs s) = sum_by_within g (pairs s) (numbered_pairs s) (pairs_once s) (in_numbered_pairs s) in
-    let down : sum_by g (numbered_pairs s) ≤ sum_by g (pairs s) = sum_by_within g (numbered_pairs s) (pairs s) (numbered_pairs_once s) (from_numbered_pairs s) in
-    let same : sum_by g (pairs s) ≡ sum_by g (numbered_pairs s) = omega arith in
-    same ∙ sum_by-map g (pair_at (sizes_of s)) (below (count (sizes_of s)))
+sum_over_pairs s g = grind (arith, (sum_by-map g (pair_at (sizes_of s)) (below (count (sizes_of s)))), (sum_by_within g (pairs s) (numbered_pairs s) (pairs_once s) (in_numbered_pairs s)), (sum_by_within g (numbered_pairs s) (pairs s) (numbered_pairs_once s) (from_numbered_pairs s)))
 
 -- the masks of a complete list over numbers have as many choices as the offers
 pub numbered_choices : (s : Sys) (L : List (Entry ℕ)) → IsSys s → AreNumbers s L → IsCompleteList s L → choices (numbered s) (is_listed (numbered s) L) ≡ choice_count s
@@ -110,16 +98,13 @@ numbered_choices s L ok are complete = search (rules, from_below, numbered_offer
 
 -- the number of related pairs is the number of unlisted ones
 pub related_count : (s : Sys) (L : List (Entry Pair)) → IsSys s → IsComplete s L → length (filter (is_related s) (pairs s)) + length L ≡ length (pairs s)
-related_count s L ok complete =
-    let listed : length L ≡ length (filter (λ p. not (is_related s p)) (pairs s)) =
+related_count s L ok complete = let listed : length L ≡ length (filter (λ p. not (is_related s p)) (pairs s)) =
     sym (length-map L (λ x. x.node))
     ∙ same_length (map (λ x. x.node) L) (filter (λ p. not (is_related s p)) (pairs s))
     (new_once (arena s) (system_is_same s) [] L (order_new (arena s) L complete.order))
     (HasNoRepeats-filter (λ p. not (is_related s p)) (pairs s) (pairs_once s))
     (λ p. (unrelated p, listed_node p)) in
-    let both : length (filter (is_related s) (pairs s)) + length (filter (λ p. not (is_related s p)) (pairs s)) ≡ length (pairs s) =
-    length-filter_both (is_related s) (λ p. not (is_related s p)) (λ p. refl) (pairs s) in
-    omega arith
+    grind (arith, length-filter_both)
   where
     unrelated : (p : Pair) → IsIn p (map (λ x. x.node) L) → IsIn p (filter (λ q. not (is_related s q)) (pairs s))
     unrelated p i =

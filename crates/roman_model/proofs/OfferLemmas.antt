@@ -1,5 +1,5 @@
 -- The offers, and the pairs to which they lead.
-use Rattle.roman_model.proofs.Common.{◌≡◌, ◌≢◌, ℕ, ◌<◌, not, List, [], length, IsTrue, rules, not-false, not_from_true, IsIn, Sys, Pair, IsSys, IsPair, outcomes, is_allowed, arena, Entry, is_listed, mask, GreatCouple, Great, IsComplete, is_related, offers}
+use Rattle.roman_model.proofs.Common.{arith, ◌≡◌, ◌≢◌, ℕ, ◌<◌, not, List, [], length, IsTrue, rules, not-false, not_from_true, IsIn, Sys, Pair, IsSys, IsPair, outcomes, is_allowed, arena, Entry, is_listed, mask, GreatCouple, Great, IsComplete, is_related, offers}
 use Rattle.roman_model.specs.Offers.{OffersAreGenerator}
 use Rattle.roman_model.proofs.Lists.{in_not_empty, not_empty_ne}
 use Rattle.roman_model.proofs.SystemLemmas.{outcome_pair}
@@ -32,7 +32,7 @@ offers_are s ok = record {
         (l, outcomes_serve s (GreatCouple s) p a k ok some all),
     λ h.
         let (l, some, all) = serves_outcomes s (GreatCouple s) p a k ok allowed h.1 in
-        in_offers s p a k ok allowed l some all,
+        grind (arith, in_offers),
   );
   masked = λ L complete p pair a. mask_is_offers s L p a ok complete pair;
 }

@@ -1,7 +1,7 @@
 -- Removal lists and replays over any arena.
-use Rattle.roman_model.proofs.Common.{◌≡◌, ◌≤◌, Bool, true, false, cond, ◌||◌, List, [], ◌∷◌, ◌++◌, map, length, IsTrue, IsFalse, inl, inr, refl, sym, ap, ap₂, ◌∙◌, subst, arith, false≢true, both_ways, or_cases, or_parts, or_left, or_right, or_from, cond-true, cond-false, length-map, IsIn, IsSublist, HasNoRepeats, Arena, Entry, is_among, is_listed, is_justified, IsOrderFrom, IsOrder, AreNew, replay_from, replay}
+use Rattle.roman_model.proofs.Common.{◌≡◌, ◌≤◌, ◌||◌, List, [], ◌∷◌, ◌++◌, map, length, IsTrue, IsFalse, inl, inr, refl, sym, subst, arith, false≢true, both_ways, or_cases, or_parts, or_left, or_right, or_from, cond-true, length-map, IsIn, IsSublist, HasNoRepeats, Arena, Entry, is_among, is_listed, is_justified, IsOrderFrom, IsOrder, AreNew, replay_from, replay}
 use Rattle.roman_model.proofs.Lists.{by_test, from_map, sublist_skip, no_longer}
-use Rattle.roman_model.proofs.ArenaLemmas.{IsSame, Survives, same_from, listed_in, justified_more, justified_same, unjustified}
+use Rattle.roman_model.proofs.ArenaLemmas.{IsSame, Survives, same_from, listed_in, justified_more, unjustified}
 
 -- The construction of removal lists, and their parts.
 
@@ -9,18 +9,7 @@ pub order_from_push : {N : Type 0} (A : Arena N) (before : List N) (L : List (En
     IsFalse (is_among A before x.node) → IsFalse (is_listed A L x.node) →
     IsTrue (is_justified A (λ q. is_among A before q || is_listed A L q) x.node x.reason) → IsOrderFrom A before (L ++ x ∷ [])
 order_from_push A before [] x order new unlisted j = grind (arith, false≢true, justified_more)
-order_from_push A before (y ∷ L) x order new unlisted j =
-    let (other, rest) = or_parts (A.same x.node y.node) (is_listed A L x.node) unlisted in (
-      order.0,
-      order.1,
-      order_from_push A (y.node ∷ before) L x order.2 (or_from (A.same x.node y.node) (is_among A before x.node) other new) rest
-          (justified_more A (λ q. is_among A before q || is_listed A (y ∷ L) q) (λ q. is_among A (y.node ∷ before) q || is_listed A L q) x.node x.reason
-          (λ a k q i t. moved_on (A.same q y.node) (is_among A before q) (is_listed A L q) t) j),
-    )
-  where
-    moved_on : (a b c : Bool) → IsTrue (b || (a || c)) → IsTrue ((a || b) || c)
-    moved_on true b c t = refl
-    moved_on false b c t = t
+order_from_push A before (y ∷ L) x order new unlisted j = grind (arith, justified_more, or_from, (order_from_push A (y.node ∷ before) L x order.2))
 
 -- an entry that the list justifies can stand at its end
 pub order_push : {N : Type 0} (A : Arena N) (L : List (Entry N)) (x : Entry N) → IsOrder A L → IsFalse (is_listed A L x.node) →
@@ -47,7 +36,7 @@ new_once A E before (x ∷ L) new = (
   λ i.
       let (y, j, e) = from_map (λ y. y.node) x.node L i in
       let apart : IsFalse (A.same y.node x.node) = (or_parts (A.same y.node x.node) (is_among A before y.node) (new_apart A E (x.node ∷ before) L y new.1 j)).0 in
-      both_ways (A.same y.node x.node) apart (same_from A E y.node x.node (sym e)),
+      grind (arith, same_from),
   new_once A E (x.node ∷ before) L new.1,
 )
 
@@ -80,9 +69,7 @@ listed_from_dead A E Lives lives before (y ∷ L) order dead x i =
 
 pub listed_dead : {N : Type 0} (A : Arena N) → IsSame A → (Lives : N → Type 0) → ((p : N) → Lives p → Survives A Lives p) → (L : List (Entry N)) → IsOrder A L →
     (p : N) → IsTrue (is_listed A L p) → Lives p → ⊥
-listed_dead A E Lives lives L order p t v =
-    let (x, i, e) = listed_in A E L p t in
-    listed_from_dead A E Lives lives [] L order (λ q none. absurd (false≢true none)) x i (subst Lives e v)
+listed_dead A E Lives lives L order p t v = grind (arith, (listed_from_dead A E Lives lives), (listed_in A E L p t))
 
 -- Replays.
 
@@ -90,19 +77,7 @@ listed_dead A E Lives lives L order p t v =
 pub replay_from_order : {N : Type 0} (A : Arena N) (before kept : List N) (L : List (Entry N)) → AreNew A before L →
     ((q : N) → IsTrue (is_among A kept q) → IsTrue (is_among A before q)) → IsOrderFrom A kept (replay_from A kept L)
 replay_from_order A before kept [] new within = tt
-replay_from_order {N} A before kept (x ∷ L) new within =
-    let new_here : IsFalse (is_among A kept x.node) =
-    by_test (is_among A kept x.node) (λ t. absurd (both_ways (is_among A before x.node) new.0 (within x.node t))) (λ f. f) in
-    by_test (is_justified A (is_among A kept) x.node x.reason)
-    (λ t. subst (λ M. IsOrderFrom A kept M) (sym (cond-true (is_justified A (is_among A kept) x.node x.reason) (x ∷ replay_from A (x.node ∷ kept) L) (replay_from A kept L) t)) (
-      new_here,
-      t,
-      replay_from_order A (x.node ∷ before) (x.node ∷ kept) L new.1
-          (λ q s. elim (or_cases (A.same q x.node) (is_among A kept q) s)
-          [ inl here ↦ or_left (A.same q x.node) (is_among A before q) here | inr rest ↦ or_right (A.same q x.node) (is_among A before q) (within q rest) ]),
-    ))
-    (λ f. subst (λ M. IsOrderFrom A kept M) (sym (cond-false (is_justified A (is_among A kept) x.node x.reason) (x ∷ replay_from A (x.node ∷ kept) L) (replay_from A kept L) f))
-    (replay_from_order A (x.node ∷ before) kept L new.1 (λ q s. or_right (A.same q x.node) (is_among A before q) (within q s))))
+replay_from_order {N} A before kept (x ∷ L) new within = grind (arith, both_ways, by_test, cond-true, or_cases, or_left, or_right, (replay_from_order A (x.node ∷ before) (x.node ∷ kept) L new.1), (replay_from_order A (x.node ∷ before) kept L new.1))
 
 pub replay_order : {N : Type 0} (A : Arena N) (L : List (Entry N)) → AreNew A [] L → IsOrder A (replay A L)
 replay_order A L new = replay_from_order A [] [] L new (λ q t. t)
@@ -125,11 +100,7 @@ replay_sublist A L = replay_from_sublist A [] L
 -- replays that begin with the same nodes are equal
 pub replay_from_same : {N : Type 0} (A : Arena N) (kept others : List N) (L : List (Entry N)) → ((q : N) → is_among A kept q ≡ is_among A others q) → replay_from A kept L ≡ replay_from A others L
 replay_from_same A kept others [] same = refl
-replay_from_same A kept others (x ∷ L) same =
-    ap₂ (λ b M. cond b (x ∷ replay_from A (x.node ∷ kept) L) M)
-    (justified_same A (is_among A kept) (is_among A others) x.node x.reason (λ a k q i. same q)) (replay_from_same A kept others L same)
-    ∙ ap (λ M. cond (is_justified A (is_among A others) x.node x.reason) (x ∷ M) (replay_from A others L))
-    (replay_from_same A (x.node ∷ kept) (x.node ∷ others) L (λ q. ap (λ b. A.same q x.node || b) (same q)))
+replay_from_same A kept others (x ∷ L) same = grind (arith, (replay_from_same A kept others L same), (replay_from_same A (x.node ∷ kept) (x.node ∷ others) L))
 
 -- the test doesn't depend on the order of the nodes
 pub middle_first : {N : Type 0} (A : Arena N) (ps qs : List N) (p q : N) → is_among A (ps ++ p ∷ qs) q ≡ is_among A (p ∷ (ps ++ qs)) q

@@ -1,5 +1,5 @@
 -- The plan of the choices costs least of all plans at a related pair.
-use Rattle.roman_model.proofs.Common.{◌≡◌, ◌≢◌, ℕ, zero, suc, ◌+◌, ◌-◌, ◌<◌, ◌≤◌, Bool, true, false, cond, ◌⊎◌, List, [], ◌∷◌, ◌++◌, IsTrue, filter, nat_le, inl, inr, refl, sym, ap, ap₂, ◌∙◌, subst, arith, rules, max, cond-true, cond-false, IsIn, below, Sys, Pair, IsSys, IsPair, outcomes, is_allowed, Great, offers, Costs, max_over, allowed_actions, least_from, through, least, choice}
+use Rattle.roman_model.proofs.Common.{cases_lt, ◌≡◌, ◌≢◌, ℕ, zero, suc, ◌+◌, ◌-◌, ◌<◌, ◌≤◌, Bool, true, false, cond, ◌⊎◌, List, [], ◌∷◌, ◌++◌, IsTrue, filter, nat_le, inl, inr, refl, sym, ap, ap₂, ◌∙◌, subst, arith, rules, max, cond-true, cond-false, IsIn, below, Sys, Pair, IsSys, IsPair, outcomes, is_allowed, Great, offers, Costs, max_over, allowed_actions, least_from, through, least, choice}
 use Rattle.std.proofs.Math.Nat.{le-max_left, le-max_right, max-le}
 use Rattle.std.proofs.lemmas.Bool.{leb-true, leb-false}
 use Rattle.roman_model.specs.Plans.{Plan, Leaf, Node, IsPlan, worst, first_least, chosen, IsChoice, PlansCostLeast}
@@ -75,6 +75,9 @@ before_le : (f : ℕ → ℕ) (k j : ℕ) → IsBefore f k j → f k ≤ f j
 before_le f k j (inl l) = omega arith
 before_le f k j (inr (e, l)) = omega arith
 
+before_trans : (f : ℕ → ℕ) (i j k : ℕ) → IsBefore f i j → IsBefore f j k → IsBefore f i k
+before_trans f i j k first second = grind arith
+
 least_from_is : (f : ℕ → ℕ) (x : ℕ) (xs : List ℕ) → IsRising (x ∷ xs) → IsIn (least_from f x xs) (x ∷ xs) × ((j : ℕ) → IsIn j (x ∷ xs) → IsBefore f (least_from f x xs) j)
 least_from_is f x [] rises = (inl refl, λ j i. elim i [ inl e ↦ inr (ap f (sym e), omega arith) | inr none ↦ absurd none ])
 least_from_is f x (y ∷ ys) rises = by_test (nat_le (f x) (f y))
@@ -84,42 +87,17 @@ least_from_is f x (y ∷ ys) rises = by_test (nat_le (f x) (f y))
     (taken (least_from f y ys) (leb-false (f x) (f y) g) (least_from_is f y ys rises.1)))
   where
     kept : (r : ℕ) → f x ≤ f y → IsIn r (x ∷ ys) × ((j : ℕ) → IsIn j (x ∷ ys) → IsBefore f r j) → IsIn r (x ∷ y ∷ ys) × ((j : ℕ) → IsIn j (x ∷ y ∷ ys) → IsBefore f r j)
-    kept r l (i, best) = (
-      elim i [ inl e ↦ inl e | inr k ↦ inr (inr k) ],
-      λ j m. elim m [
-        | inl e ↦ best j (inl e)
-        | inr n ↦ elim n [
-          | inl e ↦ second j e (best x (inl refl))
-          | inr k ↦ best j (inr k)
-        ]
-      ],
-    )
-      where
-        second : (j : ℕ) → j ≡ y → IsBefore f r x → IsBefore f r j
-        second j e (inl less) = inl (subst (λ z. f r < f z) (sym e) (omega arith))
-        second j e (inr (same, before)) =
-            let far : x < y = rises.0 y (inl refl) in
-            subst (λ z. IsBefore f r z) (sym e) (by_test (nat_le (f y) (f r))
-            (λ t. let le : f y ≤ f r = leb-true (f y) (f r) t in inr (omega arith, omega arith))
-            (λ g. let lt : f r < f y = leb-false (f y) (f r) g in inl lt))
+    kept r l (i, best) = grind (arith, before_trans, cases_lt)
 
     taken : (r : ℕ) → f y < f x → IsIn r (y ∷ ys) × ((j : ℕ) → IsIn j (y ∷ ys) → IsBefore f r j) → IsIn r (x ∷ y ∷ ys) × ((j : ℕ) → IsIn j (x ∷ y ∷ ys) → IsBefore f r j)
-    taken r l (i, best) = (
-      inr i,
-      λ j m. elim m [
-        | inl e ↦ (let le : f r ≤ f y = before_le f r y (best y (inl refl)) in inl (subst (λ z. f r < f z) (sym e) (omega arith)))
-        | inr k ↦ best j k
-      ],
-    )
+    taken r l (i, best) = grind arith
 
 pub first_least_is : (f : ℕ → ℕ) (xs : List ℕ) → IsRising xs → xs ≢ [] → IsIn (first_least f xs) xs × ((j : ℕ) → IsIn j xs → IsBefore f (first_least f xs) j)
 first_least_is f [] rises some = absurd (some refl)
 first_least_is f (x ∷ xs) rises some = least_from_is f x xs rises
 
 pub choice_is : (s : Sys) (C : Costs) (h : ℕ) (p : Pair) (a : ℕ) → IsSys s → Great s p → IsTrue (is_allowed s p a) → IsChoice s C h p a (choice s C h p a)
-choice_is s C h p a ok great allowed =
-    let (offered, best) = first_least_is (through s C (least s C h) p a) (offers s p a) (rising_offers s p a) (related_offers s p a ok great allowed) in
-    record { offered = offered; best = best }
+choice_is s C h p a ok great allowed = grind (arith, (first_least_is (through s C (least s C h) p a) (offers s p a) (rising_offers s p a) (related_offers s p a ok great allowed)))
 
 -- Plans.
 
@@ -127,8 +105,7 @@ pub chosen_plan : (s : Sys) (C : Costs) (h : ℕ) (p : Pair) → IsSys s → IsP
 chosen_plan s C zero p ok pair great = refl
 chosen_plan s C (suc h) p ok pair great = λ a allowed.
     let offered : IsIn (choice s C h p a) (offers s p a) = (choice_is s C h p a ok great allowed).offered in
-    let (allows, l, some, all) = offer_is s p a (choice s C h p a) ok pair offered in
-    (offered, λ q i. chosen_plan s C h q ok (outcome_pair s p a (choice s C h p a) q ok pair i) (all q i))
+    grind (arith, offer_is, outcome_pair, (chosen_plan s C h))
 
 pub chosen_cost : (s : Sys) (C : Costs) (h : ℕ) (p : Pair) → IsSys s → IsPair s p → Great s p → worst s C p (chosen s C h p) ≡ least s C h p
 chosen_cost s C zero p ok pair great = refl

@@ -1,5 +1,5 @@
 -- Removal lists, masks and depths carry over between arenas whose nodes correspond by a renaming.
-use Rattle.roman_model.proofs.Common.{◌≡◌, ℕ, zero, suc, Bool, true, false, not, ◌&&◌, ◌||◌, List, [], ◌∷◌, map, if◌then◌else◌, filter, refl, sym, ap, ap₂, ◌∙◌, subst, inl, inr, list_any, IsIn, below, all_below, is_empty, Arena, Entry, is_among, is_listed, is_beaten, is_justified, mask, IsOrderFrom, IsOrder, replay_from, replay, loses, Reason, Final, Act}
+use Rattle.roman_model.proofs.Common.{◌↔◌, ◌≡◌, ℕ, zero, suc, Bool, true, false, not, ◌&&◌, ◌||◌, List, [], ◌∷◌, map, if◌then◌else◌, filter, refl, sym, ap, ap₂, ◌∙◌, subst, inl, inr, list_any, IsIn, below, all_below, is_empty, Arena, Entry, is_among, is_listed, is_beaten, is_justified, mask, IsOrderFrom, IsOrder, replay_from, replay, loses, Reason, Final, Act}
 use Rattle.roman_model.proofs.Lists.{any_same, list_any-map, is_empty-map, all_below_same, filter_same}
 
 -- f maps nodes of A to nodes of B, and the arenas agree on each of these nodes and its image
@@ -74,32 +74,22 @@ module _ {N M : Type 0} (A : Arena N) (B : Arena M) (f : N → M) (Is : N → Ty
   more_nodes p ps is are q (inl e) = subst Is (sym e) is
   more_nodes p ps is are q (inr i) = are q i
 
-  pub order_renamed_from : (before : List N) (L : List (Entry N)) → AreNodes Is before → HaveNodes Is L →
-      IsOrderFrom A before L → IsOrderFrom B (map f before) (map (renamed_entry f) L)
-  order_renamed_from before [] are have order = tt
-  order_renamed_from before (x ∷ L) are have order =
-      let is : Is x.node = have x (inl refl) in (
-        sym (among_renamed before x.node are is) ∙ order.0,
-        sym (justified_renamed (is_among A before) (is_among B (map f before)) (λ q is_q. among_renamed before q are is_q) x.node is x.reason) ∙ order.1,
-        order_renamed_from (x.node ∷ before) L (more_nodes x.node before is are) (λ y i. have y (inr i)) order.2,
-      )
+  -- the nodes of a removal list can be renamed there and back
+  order_both : (before : List N) (L : List (Entry N)) → AreNodes Is before → HaveNodes Is L →
+      IsOrderFrom A before L ↔ IsOrderFrom B (map f before) (map (renamed_entry f) L)
+  order_both before [] are have = (λ order. tt, λ order. tt)
+  order_both before (x ∷ L) are have =
+      let is : Is x.node = have x (inl refl) in
+      let new = among_renamed before x.node are is in
+      let holds = justified_renamed (is_among A before) (is_among B (map f before)) (λ q is_q. among_renamed before q are is_q) x.node is x.reason in
+      let (there, back) = order_both (x.node ∷ before) L (more_nodes x.node before is are) (λ y i. have y (inr i)) in
+      (λ order. (sym new ∙ order.0, sym holds ∙ order.1, there order.2), λ order. (new ∙ order.0, holds ∙ order.1, back order.2))
 
   pub order_renamed : (L : List (Entry N)) → HaveNodes Is L → IsOrder A L → IsOrder B (map (renamed_entry f) L)
-  order_renamed L have order = order_renamed_from [] L (λ p i. absurd i) have order
+  order_renamed L have = (order_both [] L (λ p i. absurd i) have).0
 
-  pub order_named_from : (before : List N) (L : List (Entry N)) → AreNodes Is before → HaveNodes Is L →
-      IsOrderFrom B (map f before) (map (renamed_entry f) L) → IsOrderFrom A before L
-  order_named_from before [] are have order = tt
-  order_named_from before (x ∷ L) are have order =
-      let is : Is x.node = have x (inl refl) in (
-        among_renamed before x.node are is ∙ order.0,
-        justified_renamed (is_among A before) (is_among B (map f before)) (λ q is_q. among_renamed before q are is_q) x.node is x.reason ∙ order.1,
-        order_named_from (x.node ∷ before) L (more_nodes x.node before is are) (λ y i. have y (inr i)) order.2,
-      )
-
-  -- the converse: a list is a removal list where the renamed list is
   pub order_named : (L : List (Entry N)) → HaveNodes Is L → IsOrder B (map (renamed_entry f) L) → IsOrder A L
-  order_named L have order = order_named_from [] L (λ p i. absurd i) have order
+  order_named L have = (order_both [] L (λ p i. absurd i) have).1
 
   pub replay_renamed_from : (kept : List N) (L : List (Entry N)) → AreNodes Is kept → HaveNodes Is L →
       map (renamed_entry f) (replay_from A kept L) ≡ replay_from B (map f kept) (map (renamed_entry f) L)

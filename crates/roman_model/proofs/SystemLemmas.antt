@@ -1,7 +1,9 @@
 -- Lemmas on the pairs of a system, its steps and outcomes.
-use Rattle.roman_model.proofs.Common.{◌≡◌, ℕ, zero, suc, ◌<◌, ◌==◌, not, ◌&&◌, List, [], ◌∷◌, map, length, Option, Some, None, IsTrue, IsFalse, flat_map, slice_get, slice_index, slice_set, inl, inr, refl, sym, ap, ap₂, ◌∙◌, subst, arith, rules, AllZip, false≢true, and_parts, and_from, not-true, not_from_false, eqb-true, eq-eqb, cond-true, cond-false, none-some, same_Some, slice_get_within, IsIn, HasNoRepeats, below, is_empty, Env, Beh, Seat, Sys, Pair, has, has_triple, has_move, IsEnv, IsBeh, IsSys, IsPair, SStep, pairs, env_next, beh_next, seat_next, outcomes_by, outcomes, is_allowed, same_numbers, same_pair}
+use Rattle.roman_model.proofs.Common.{◌≡◌, ℕ, ◌<◌, ◌==◌, not, ◌&&◌, List, [], ◌∷◌, map, length, Option, Some, None, IsTrue, IsFalse, flat_map, slice_get, slice_index, slice_set, inl, inr, refl, sym, ap, ◌∙◌, subst, arith, rules, AllZip, false≢true, and_parts, and_from, not-true, not_from_false, eqb-true, eq-eqb, cond-true, cond-false, slice_get_within, IsIn, HasNoRepeats, below, is_empty, Env, Beh, Seat, Sys, Pair, has, has_triple, has_move, IsEnv, IsBeh, IsSys, IsPair, SStep, pairs, env_next, beh_next, seat_next, outcomes_by, outcomes, is_allowed, same_numbers, same_pair, Move}
 use Rattle.roman_model.specs.System.{TStep, Allows}
 use Rattle.roman_model.specs.SystemArena.{combinations, env_prev, beh_prev, is_ready}
+use Rattle.roman_model.proofs.NumberLemmas.{AreBelow-set, below_states, size_at, states_below}
+use Rattle.roman_model.proofs.Places.{get_in}
 use Rattle.roman_model.proofs.Lists.{by_test, in_map, from_map, in_flat_map, from_flat_map, in_filter, filter_in, any_true, any_from, in_not_empty, not_empty_in, in_below, from_below, HasNoRepeats-map, HasNoRepeats-flat_map, HasNoRepeats-below}
 
 -- Membership of numbers.
@@ -18,19 +20,15 @@ pub same_numbers_is : (ms ns : List ℕ) → IsTrue (same_numbers ms ns) → ms 
 same_numbers_is [] [] h = refl
 same_numbers_is [] (n ∷ ns) h = absurd (false≢true h)
 same_numbers_is (m ∷ ms) [] h = absurd (false≢true h)
-same_numbers_is (m ∷ ms) (n ∷ ns) h =
-    let (first, rest) = and_parts (m == n) (same_numbers ms ns) h in
-    ap₂ (λ k ks. k ∷ ks) (eqb-true m n first) (same_numbers_is ms ns rest)
+same_numbers_is (m ∷ ms) (n ∷ ns) h = grind (arith, eqb-true, (same_numbers_is ms ns))
 
 pub same_numbers_itself : (ns : List ℕ) → IsTrue (same_numbers ns ns)
 same_numbers_itself [] = refl
 same_numbers_itself (n ∷ ns) = and_from (n == n) (same_numbers ns ns) (eq-eqb n n refl) (same_numbers_itself ns)
 
 pub same_pair_is : (p q : Pair) → IsTrue (same_pair p q) → p ≡ q
-same_pair_is p q h =
-    let (front, numbers) = and_parts (p.t == q.t && p.e == q.e) (same_numbers p.bs q.bs) h in
-    let (targets, envs) = and_parts (p.t == q.t) (p.e == q.e) front in
-    pair_path (eqb-true p.t q.t targets) (eqb-true p.e q.e envs) (same_numbers_is p.bs q.bs numbers)
+same_pair_is p q h = let (front, numbers) = and_parts (p.t == q.t && p.e == q.e) (same_numbers p.bs q.bs) h in
+    grind (arith, eqb-true, pair_path, same_numbers_is)
   where
     pair_path : p.t ≡ q.t → p.e ≡ q.e → p.bs ≡ q.bs → p ≡ q
     pair_path t e bs = λ i. record { t = t i; e = e i; bs = bs i }
@@ -71,13 +69,12 @@ from_pairs s p i = grind (arith, from_below, from_combinations, from_flat_map, f
 
 pub combinations_once : (seats : List Seat) → HasNoRepeats (combinations seats)
 combinations_once [] = (λ none. absurd none, tt)
-combinations_once (seat ∷ seats) =
-    HasNoRepeats-flat_map (λ b. map (λ bs. b ∷ bs) (combinations seats)) (below seat.beh.states)
+combinations_once (seat ∷ seats) = HasNoRepeats-flat_map (λ b. map (λ bs. b ∷ bs) (combinations seats)) (below seat.beh.states)
     (λ b i. HasNoRepeats-map (λ bs. b ∷ bs) (combinations seats) (λ bs cs j k e. ap tail e) (combinations_once seats))
     (λ b c bs i j k l.
     let (cs, m, e) = from_map (λ ds. b ∷ ds) bs (combinations seats) k in
     let (ds, n, f) = from_map (λ es. c ∷ es) bs (combinations seats) l in
-    ap head (sym e ∙ f))
+    grind arith)
     (HasNoRepeats-below seat.beh.states)
   where
     head : List ℕ → ℕ
@@ -89,8 +86,7 @@ combinations_once (seat ∷ seats) =
     tail (b ∷ bs) = bs
 
 pub pairs_once : (s : Sys) → HasNoRepeats (pairs s)
-pairs_once s =
-    HasNoRepeats-flat_map of_target (below s.target.states)
+pairs_once s = HasNoRepeats-flat_map of_target (below s.target.states)
     (λ t i. HasNoRepeats-flat_map (of_both t) (below s.env.states)
     (λ e j. HasNoRepeats-map (λ bs. record { t = t; e = e; bs = bs }) (combinations s.seats) (λ bs cs k l f. ap (λ p. p.bs) f) (combinations_once s.seats))
     (λ e d p j k l m. sym (env_of t e p l) ∙ env_of t d p m)
@@ -108,48 +104,51 @@ pairs_once s =
     env_of t e p i = let (bs, j, f) = from_map (λ bs. record { t = t; e = e; bs = bs }) p (combinations s.seats) i in ap (λ q. q.e) f
 
     target_of : (t : ℕ) (p : Pair) → IsIn p (of_target t) → p.t ≡ t
-    target_of t p i =
-        let (e, j, k) = from_flat_map (of_both t) p (below s.env.states) i in
-        let (bs, l, f) = from_map (λ bs. record { t = t; e = e; bs = bs }) p (combinations s.seats) k in
-        ap (λ q. q.t) f
+    target_of t p i = grind (arith, from_flat_map, from_map)
 
 -- Triples and moves are in range.
 
-pub triple_in_range : (env : Env) (e a e' : ℕ) → IsEnv env → IsTrue (has_triple env e a e') → (e < env.states) × (a < env.actions) × (e' < env.states)
-triple_in_range env e a e' ok h =
+pub triple_in : (env : Env) (e a e' : ℕ) → IsTrue (has_triple env e a e') → IsIn (record { from = e; action = a; to = e' }) env.triples
+triple_in env e a e' h =
     let (x, i, t) = any_true (λ x. x.from == e && x.action == a && x.to == e') env.triples h in
     let (front, to) = and_parts (x.from == e && x.action == a) (x.to == e') t in
     let (from, action) = and_parts (x.from == e) (x.action == a) front in
-    let (l, m, n) = ok.triples x i in
-    (subst (λ y. y < env.states) (eqb-true x.from e from) l, subst (λ y. y < env.actions) (eqb-true x.action a action) m, subst (λ y. y < env.states) (eqb-true x.to e' to) n)
+    let same : x ≡ record { from = e; action = a; to = e' } = λ k. record { from = eqb-true x.from e from k; action = eqb-true x.action a action k; to = eqb-true x.to e' to k } in
+    grind arith
+
+pub triple_in_range : (env : Env) (e a e' : ℕ) → IsEnv env → IsTrue (has_triple env e a e') → (e < env.states) × (a < env.actions) × (e' < env.states)
+triple_in_range env e a e' ok h = ok.triples (record { from = e; action = a; to = e' }) (triple_in env e a e' h)
+
+-- the move that the test of a step finds
+pub move_test : (m : Move) (b e a b' : ℕ) → IsTrue (m.from == b && m.action == a && has m.guard e && m.to == b') →
+    (m.from ≡ b) × (m.action ≡ a) × IsIn e m.guard × (m.to ≡ b')
+move_test m b e a b' t = grind (arith, any_true, eqb-true)
+
+-- the guard of the step's move
+pub move_in : (beh : Beh) (b e a b' : ℕ) → IsTrue (has_move beh b e a b') → (guard : List ℕ) × IsIn (record { from = b; guard = guard; action = a; to = b' }) beh.steps × IsIn e guard
+move_in beh b e a b' h =
+    let (m, i, t) = any_true (λ m. m.from == b && m.action == a && has m.guard e && m.to == b') beh.steps h in
+    let (from, action, guard, to) = move_test m b e a b' t in
+    let same : m ≡ record { from = b; guard = m.guard; action = a; to = b' } = λ k. record { from = from k; guard = m.guard; action = action k; to = to k } in
+    grind arith
 
 pub move_in_range : (env : Env) (beh : Beh) (b e a b' : ℕ) → IsBeh env beh → IsTrue (has_move beh b e a b') →
     (b < beh.states) × (e < env.states) × (a < env.actions) × (b' < beh.states)
 move_in_range env beh b e a b' ok h =
-    let (m, i, t) = any_true (λ m. m.from == b && m.action == a && has m.guard e && m.to == b') beh.steps h in
-    let (front, to) = and_parts (m.from == b && m.action == a && has m.guard e) (m.to == b') t in
-    let (middle, guard) = and_parts (m.from == b && m.action == a) (has m.guard e) front in
-    let (from, action) = and_parts (m.from == b) (m.action == a) middle in
-    let (g, j, same) = any_true (λ n. n == e) m.guard guard in
-    let (k, l, n) = ok.steps m i in (
-      subst (λ y. y < beh.states) (eqb-true m.from b from) k,
-      subst (λ y. y < env.states) (eqb-true g e same) (ok.guards m i g j),
-      subst (λ y. y < env.actions) (eqb-true m.action a action) l,
-      subst (λ y. y < beh.states) (eqb-true m.to b' to) n,
-    )
+    let (guard, i, j) = move_in beh b e a b' h in
+    let (k, l, n) = ok.steps (record { from = b; guard = guard; action = a; to = b' }) i in
+    (k, ok.guards (record { from = b; guard = guard; action = a; to = b' }) i e j, l, n)
 
 -- Next states.
 
 pub in_env_next : (env : Env) (e a e' : ℕ) → IsEnv env → IsTrue (has_triple env e a e') → IsIn e' (env_next env e a)
-in_env_next env e a e' ok h =
-    in_filter (has_triple env e a) e' (below env.states) (in_below env.states e' (triple_in_range env e a e' ok h).2) h
+in_env_next env e a e' ok h = grind (arith, (in_below env.states e' (triple_in_range env e a e' ok h).2), in_filter, (triple_in_range env e a e' ok h))
 
 pub from_env_next : (env : Env) (e a e' : ℕ) → IsIn e' (env_next env e a) → IsTrue (has_triple env e a e')
 from_env_next env e a e' i = (filter_in (has_triple env e a) e' (below env.states) i).1
 
 pub in_beh_next : (env : Env) (beh : Beh) (b e a b' : ℕ) → IsBeh env beh → IsTrue (has_move beh b e a b') → IsIn b' (beh_next beh b e a)
-in_beh_next env beh b e a b' ok h =
-    in_filter (has_move beh b e a) b' (below beh.states) (in_below beh.states b' (move_in_range env beh b e a b' ok h).3) h
+in_beh_next env beh b e a b' ok h = grind (arith, (in_below beh.states b' (move_in_range env beh b e a b' ok h).3), in_filter, (move_in_range env beh b e a b' ok h))
 
 pub from_beh_next : (beh : Beh) (b e a b' : ℕ) → IsIn b' (beh_next beh b e a) → IsTrue (has_move beh b e a b')
 from_beh_next beh b e a b' i = (filter_in (has_move beh b e a) b' (below beh.states) i).1
@@ -166,24 +165,20 @@ from_seat_next (Some seat) b e a b' i = grind (arith, by_test, cond-false, cond-
 -- Previous states.
 
 pub in_env_prev : (env : Env) (e a e' : ℕ) → IsEnv env → IsTrue (has_triple env e a e') → IsIn e (env_prev env e' a)
-in_env_prev env e a e' ok h =
-    in_filter (λ d. has_triple env d a e') e (below env.states) (in_below env.states e (triple_in_range env e a e' ok h).0) h
+in_env_prev env e a e' ok h = grind (arith, (in_below env.states e (triple_in_range env e a e' ok h).0), in_filter)
 
 pub from_env_prev : (env : Env) (e a e' : ℕ) → IsIn e (env_prev env e' a) → IsTrue (has_triple env e a e')
 from_env_prev env e a e' i = (filter_in (λ d. has_triple env d a e') e (below env.states) i).1
 
 pub in_beh_prev : (env : Env) (beh : Beh) (b e a b' : ℕ) → IsBeh env beh → IsTrue (has_move beh b e a b') → IsIn b (beh_prev beh b' e a)
-in_beh_prev env beh b e a b' ok h =
-    in_filter (λ c. has_move beh c e a b') b (below beh.states) (in_below beh.states b (move_in_range env beh b e a b' ok h).0) h
+in_beh_prev env beh b e a b' ok h = grind (arith, (in_below beh.states b (move_in_range env beh b e a b' ok h).0), in_filter)
 
 pub from_beh_prev : (beh : Beh) (b e a b' : ℕ) → IsIn b (beh_prev beh b' e a) → IsTrue (has_move beh b e a b')
 from_beh_prev beh b e a b' i = (filter_in (λ c. has_move beh c e a b') b (below beh.states) i).1
 
 -- The seat at a place of a list of seats.
 pub seat_in : (seats : List Seat) (k : ℕ) (seat : Seat) → slice_get seats k ≡ Some seat → IsIn seat seats
-seat_in [] k seat e = absurd (none-some seat e)
-seat_in (x ∷ seats) zero seat e = inl (sym (same_Some x seat e))
-seat_in (x ∷ seats) (suc k) seat e = inr (seat_in seats k seat e)
+seat_in seats k seat e = get_in seats k seat e
 
 -- Outcomes are the ends of joint steps.
 
@@ -202,12 +197,10 @@ from_moved s p a k states q i = grind (arith, from_beh_next, from_env_next, from
 
 pub outcome_in : (s : Sys) (p : Pair) (a k t' e' : ℕ) (bs' : List ℕ) → IsSys s → TStep s p.t p.e a t' e' → SStep s p.bs p.e a k bs' e' →
     IsIn (record { t = t'; e = e'; bs = bs' }) (outcomes s p a k)
-outcome_in s p a k t' e' bs' ok step r =
-    let next : IsIn r.to (seat_next (slice_get s.seats k) (slice_index p.bs k) p.e a) =
+outcome_in s p a k t' e' bs' ok step r = let next : IsIn r.to (seat_next (slice_get s.seats k) (slice_index p.bs k) p.e a) =
     subst (λ o. IsIn r.to (seat_next o (slice_index p.bs k) p.e a)) (sym r.seated)
     (in_seat_next s.env r.seat (slice_index p.bs k) p.e a r.to (ok.seats r.seat (seat_in s.seats k r.seat r.seated)) r.ready r.moves) in
-    subst (λ bs. IsIn (record { t = t'; e = e'; bs = bs }) (outcomes s p a k)) (sym r.is)
-    (in_moved s p a k (seat_next (slice_get s.seats k) (slice_index p.bs k) p.e a) t' e' r.to ok step next)
+    grind (arith, in_moved)
 
 pub from_outcome : (s : Sys) (p : Pair) (a k : ℕ) (q : Pair) → IsIn q (outcomes s p a k) → TStep s p.t p.e a q.t q.e × SStep s p.bs p.e a k q.bs q.e
 from_outcome s p a k q i = grind (arith, from_moved, from_seat_next)
@@ -219,11 +212,9 @@ outcome_seat s p a k q i = grind (arith, from_outcome, not_from_false, slice_get
 -- A list of one state for each seat stays in range where one state is replaced.
 pub states_set : (seats : List Seat) (bs : List ℕ) (k b : ℕ) (seat : Seat) → AllZip (λ seat b. b < seat.beh.states) seats bs →
     slice_get seats k ≡ Some seat → b < seat.beh.states → AllZip (λ seat b. b < seat.beh.states) seats (slice_set bs k b)
-states_set [] [] k b seat h e l = absurd (none-some seat e)
-states_set [] (c ∷ bs) k b seat h e l = absurd h
-states_set (x ∷ seats) [] k b seat h e l = absurd h
-states_set (x ∷ seats) (c ∷ bs) zero b seat h e l = (subst (λ (y : Seat). b < y.beh.states) (sym (same_Some x seat e)) l, h.1)
-states_set (x ∷ seats) (c ∷ bs) (suc k) b seat h e l = (h.0, states_set seats bs k b seat h.1 e l)
+states_set seats bs k b seat h e l =
+    below_states seats (slice_set bs k b)
+    (AreBelow-set (map (λ seat. seat.beh.states) seats) bs k b (states_below seats bs h) (subst (λ n. b < n) (sym (size_at seats k seat e)) l))
 
 pub outcome_pair : (s : Sys) (p : Pair) (a k : ℕ) (q : Pair) → IsSys s → IsPair s p → IsIn q (outcomes s p a k) → IsPair s q
 outcome_pair s p a k q ok pair i =
@@ -239,10 +230,7 @@ outcome_pair s p a k q ok pair i =
 -- Allowed actions.
 
 pub allowed_in : (s : Sys) (p : Pair) (a : ℕ) → IsSys s → Allows s p.t p.e a → IsTrue (is_allowed s p a)
-allowed_in s p a ok (t', e', step) =
-    and_from (not (is_empty (env_next s.env p.e a))) (not (is_empty (beh_next s.target p.t p.e a)))
-    (not_from_false (is_empty (env_next s.env p.e a)) (in_not_empty e' (env_next s.env p.e a) (in_env_next s.env p.e a e' ok.env step.0)))
-    (not_from_false (is_empty (beh_next s.target p.t p.e a)) (in_not_empty t' (beh_next s.target p.t p.e a) (in_beh_next s.env s.target p.t p.e a t' ok.target step.1)))
+allowed_in s p a ok (t', e', step) = grind (arith, (and_from (not (is_empty (env_next s.env p.e a))) (not (is_empty (beh_next s.target p.t p.e a)))), (not_from_false (is_empty (env_next s.env p.e a)) (in_not_empty e' (env_next s.env p.e a) (in_env_next s.env p.e a e' ok.env step.0))), (not_from_false (is_empty (beh_next s.target p.t p.e a)) (in_not_empty t' (beh_next s.target p.t p.e a) (in_beh_next s.env s.target p.t p.e a t' ok.target step.1))))
 
 pub from_allowed : (s : Sys) (p : Pair) (a : ℕ) → IsTrue (is_allowed s p a) → Allows s p.t p.e a
 from_allowed s p a h = grind (arith, and_parts, from_beh_next, from_env_next, not-true, not_empty_in)

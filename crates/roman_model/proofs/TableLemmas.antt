@@ -1,5 +1,5 @@
 -- Tables of rows with a place for each of some elements, and the rank of a number among the numbers that pass a test.
-use Rattle.roman_model.proofs.Common.{◌≡◌, ℕ, zero, suc, ◌+◌, ◌*◌, ◌<◌, Bool, cond, List, [], ◌∷◌, ◌++◌, map, length, get_or, filter, flat_map, IsTrue, sym, ap, ◌∙◌, subst, arith, inl, inr, length-append, append-nil, cases_eq, cond-true, mul-add-lt, get_or_append_left, get_or_push, length-map, below}
+use Rattle.roman_model.proofs.Common.{◌≡◌, ℕ, zero, suc, ◌+◌, ◌*◌, ◌<◌, Bool, cond, List, [], ◌∷◌, ◌++◌, map, length, get_or, filter, flat_map, IsTrue, sym, ap, ◌∙◌, subst, arith, inl, inr, length-append, append-nil, cases_eq, mul-add-lt, get_or_append_left, get_or_push, length-map, below}
 use Rattle.std.proofs.lemmas.List.{get_or-append-add, get_or-map}
 use Rattle.std.proofs.lemmas.Grind.{flat_map-append}
 use Rattle.roman_model.proofs.Lists.{filter_below_more}
@@ -39,8 +39,7 @@ pub rank_at : (q : ℕ → Bool) (n p d : ℕ) → p < n → IsTrue (q p) → (r
 rank_at q zero p d l t = absurd (omega arith)
 rank_at q (suc n) p d l t = elim (cases_eq p n) [
   | inl e ↦
-      let here : filter q (below (suc n)) ≡ filter q (below n) ++ n ∷ [] =
-      filter_below_more q n ∙ ap (λ ys. filter q (below n) ++ ys) (cond-true (q n) (n ∷ []) [] (subst (λ k. IsTrue (q k)) e t)) in
+      let here : filter q (below (suc n)) ≡ filter q (below n) ++ n ∷ [] = grind (arith, filter_below_more) in
       let long : length (filter q (below (suc n))) ≡ length (filter q (below n) ++ n ∷ []) = ap length here in (
         subst (λ k. rank q k < rank q (suc n)) (sym e) (omega (arith, length-append (filter q (below n)) (n ∷ []))),
         ap (λ ys. get_or ys (rank q p) d) here ∙ get_or_push (filter q (below n)) n d (rank q p) (ap (rank q) (sym e)) ∙ sym e,

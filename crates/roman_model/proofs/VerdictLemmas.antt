@@ -21,7 +21,7 @@ first_fault : (A : Arena ℕ) (ls : List (List ℕ)) (line : List ℕ) (more : L
     slice_index_or (faults A (ls ++ line ∷ more) n) 0 otherwise ≡ Rejected (length ls + 1) why
 first_fault A ls line more n why otherwise clean fault l =
     let (rest, is) = faults_first A (ls ++ line ∷ more) n (length ls) why (clean_front A ls (line ∷ more) clean) (fault_next A ls more line ∙ fault) l in
-    ap (λ vs. slice_index_or vs 0 otherwise) is
+    grind arith
 
 -- the verdict on a text within the limit that has a faulty line
 pub verdict_at : (A : Arena ℕ) (start : ℕ) (bytes : List ℕ) (ls : List (List ℕ)) (line : List ℕ) (more : List (List ℕ)) (why : Why) → length bytes ≤ MAX_CERTIFICATE_BYTES → lines bytes ≡ ls ++ line ∷ more →

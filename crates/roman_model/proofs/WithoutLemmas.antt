@@ -57,8 +57,7 @@ leave_two zero zero xs l = absurd (omega arith)
 leave_two (suc k) zero xs l = absurd (omega arith)
 leave_two zero (suc j) [] l = refl
 leave_two (suc k) (suc j) [] l = refl
-leave_two zero (suc j) (x ∷ xs) l =
-    leave_out_same (λ i. has (zero ∷ suc j ∷ []) (suc i)) (has (j ∷ [])) xs (λ i. ap₂ (λ b c. b || (c || false)) (zero_other i) (suc_same j i)) ∙ leave_one j xs
+leave_two zero (suc j) (x ∷ xs) l = grind (arith, (leave_one j xs), suc_same, zero_other)
 leave_two (suc k) (suc j) (x ∷ xs) l = grind (arith, leave_out_same, other_zero, suc_same, (leave_two k j xs (omega arith)))
 
 -- leaving out the earlier place first: the later one moves down

@@ -11,6 +11,7 @@ pub mod Numbers
 pub mod Change
 pub mod NumberedChange
 pub mod Offers
+pub mod Counting
 pub mod Explanation
 pub mod Play
 pub mod Certificate

@@ -1,14 +1,14 @@
 -- The opponent's game: it plays by a removal list, or by the depth.
-use Rattle.std.specs.Prelude.{◌≡◌, ◌≢◌, ◌↔◌, ℕ, zero, suc, ◌<◌, ◌≤◌, Bool, not, List, [], ◌∷◌, length, Option, None, Some, IsTrue, IsFalse, if◌then◌else◌}
+use Rattle.std.specs.Prelude.{◌≡◌, ◌↔◌, ℕ, zero, suc, ◌<◌, ◌≤◌, Bool, not, List, [], ◌∷◌, length, Option, None, Some, IsTrue, IsFalse, if◌then◌else◌}
 use Rattle.std.specs.List.{list_any, find}
 use Rattle.std.specs.Option.{option_map}
-use Rattle.roman_model.specs.Lists.{IsIn, below, is_empty}
+use Rattle.roman_model.specs.Lists.{below, is_empty}
 use Rattle.roman_model.specs.Arena.{Entry, is_listed, is_justified, IsOrder, loses, depth}
 use Rattle.roman_model.specs.declared.reason.Reason.{Reason}
 use Rattle.roman_model.specs.declared.reason.Reason.TheVariants.{Final, Act}
-use Rattle.roman_model.specs.System.{Sys, Seat, Pair, IsSys, IsPair}
-use Rattle.roman_model.specs.SystemArena.{outcomes, is_allowed, is_fine, arena}
-use Rattle.roman_model.specs.Composition.{Great}
+use Rattle.roman_model.specs.System.{Sys, Seat, Pair, IsSys, IsPair, is_final, all_final}
+use Rattle.roman_model.specs.SystemArena.{outcomes, arena}
+use Rattle.roman_model.specs.Composition.{Couple, couple, Meets, Great}
 use Rattle.roman_model.specs.Explanation.{answer}
 
 -- the reason of p's entry, if p is listed
@@ -94,16 +94,22 @@ pub record DepthPlayWins (s : Sys) (n : ℕ) (p : Pair) : Type 0 where
 abbrev pub DepthWins : Type 0
 DepthWins = (s : Sys) → IsSys s → (p : Pair) → IsPair s p → (n : ℕ) → depth (arena s) p ≡ Some n → DepthPlayWins s n p
 
--- The depth is the least number of requests within which the pair is lost, and a related pair has none. A pair that
--- isn't lost within n requests meets clause 2, and one that isn't lost within n + 1 has, for each allowed action, a
--- seat that has an outcome and leads to no pair that is lost within n.
-pub record IsLeastDepth (s : Sys) (p : Pair) : Type 0 where
-  pub least : (n : ℕ) → (depth (arena s) p ≡ Some n) ↔ (IsTrue (loses (arena s) n p) × ((m : ℕ) → m < n → IsFalse (loses (arena s) m p)))
-  pub none : (depth (arena s) p ≡ None) ↔ Great s p
-  pub final : (n : ℕ) → IsFalse (loses (arena s) n p) → IsTrue (is_fine s p)
-  pub served : (n : ℕ) → IsFalse (loses (arena s) (suc n) p) → (a : ℕ) → IsTrue (is_allowed s p a) →
-      (k : ℕ) × (k < length s.seats) × (outcomes s p a k ≢ []) × ((q : Pair) → IsIn q (outcomes s p a k) → IsFalse (loses (arena s) n q))
+-- Some way of delegating keeps the opponent from winning within n requests: clause 2 holds, and some service serves each allowed action,
+-- into couples that hold out against one request less.
+abbrev pub HoldsOut : Sys → ℕ → Couple → Type 0
+HoldsOut s zero c = IsTrue (is_final s.target c.t) → IsTrue (all_final s.seats c.bs)
+HoldsOut s (suc n) c = Meets s (HoldsOut s n) c
 
--- the depth of each pair is the least number of requests within which it is lost
+-- n is the least number of requests within which the opponent wins from the pair, however the requests are delegated
+pub record IsLeast (s : Sys) (p : Pair) (n : ℕ) : Type 0 where
+  pub lost : HoldsOut s n (couple p) → ⊥
+  pub no_sooner : (m : ℕ) → m < n → HoldsOut s m (couple p)
+
+-- the depth is the least number of requests within which the opponent wins, and a related pair has none
+pub record IsLeastDepth (s : Sys) (p : Pair) : Type 0 where
+  pub least : (n : ℕ) → (depth (arena s) p ≡ Some n) ↔ IsLeast s p n
+  pub none : (depth (arena s) p ≡ None) ↔ Great s p
+
+-- the depth of each pair is the least number of requests within which the opponent wins from it
 abbrev pub DepthIsLeast : Type 0
 DepthIsLeast = (s : Sys) → IsSys s → (p : Pair) → IsPair s p → IsLeastDepth s p

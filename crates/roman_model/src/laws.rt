@@ -34,10 +34,9 @@ pub fn depth_wins()
     ensures won { DepthWins }
 {}
 
-/// The depth of a pair is the least number of requests within which the opponent wins from it. A
-/// related pair has no depth. A pair that isn't lost within n requests meets clause 2. A pair that
-/// isn't lost within n + 1 requests has, for each allowed action, a seat that has an outcome and
-/// leads to no pair lost within n.
+/// The depth of a pair is the least number of requests within which the opponent wins from it: no way
+/// of delegating holds out against so many, and some way holds out against fewer. A related pair has
+/// no depth.
 pub fn depth_is_least()
     ensures least { DepthIsLeast }
 {}

@@ -1,6 +1,7 @@
 -- The names that several proof pages of this crate cite, passed on from one place. Declares nothing.
 pub use Rattle.std.proofs.Common.{All, Bool, Err, IsFalse, IsTrue, List, None, Option, Some, [], add-one, ap, append_assoc, ap₂, arith, drop, false, filter, flat_map, get_or, inl, inr, is_some, length, map, not, refl, slice_get, slice_index, slice_set, subst, suc, sym, take, zero, ℕ, ◌&&◌, ◌++◌, ◌+◌, ◌<◌, ◌==◌, ◌^◌, ◌∙◌, ◌∷◌, ◌≡◌, ◌≤◌}
 pub use Rattle.std.proofs.lemmas.Bool.{and_from, and_parts, false≢true, ltb-false}
+pub use Rattle.std.proofs.lemmas.Grind.{common_steps}
 pub use Rattle.std.proofs.lemmas.List.{length-map, take_all, take_more}
 pub use Rattle.std.proofs.lemmas.Option.{none-some, same_Some, slice_get-get_or}
 pub use Rattle.std.specs.List.{AllZip, list_all, list_any}

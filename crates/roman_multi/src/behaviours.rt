@@ -73,7 +73,7 @@ fn moves_of(alloc: Global, member: &Member) -> Result<Vec<Move>, AllocError>
         member.now.behaviour.now.beh.states (next_of_member member.now)) }
 {
     let behaviour = member.behaviour;
-    behaviour.known();
+    behaviour.known(); // the behaviour has at most 64 states
     let mut steps = Vec::new(alloc);
     for b in 0..behaviour.states().len() as u8 {
         push_state(&mut steps, member, b)?;
@@ -108,7 +108,7 @@ fn combine_behaviour(
     ensures { IfOk result (λ made. made ≡ combined_behaviour merge.now.env.now merge.now.requests.now behaviour.now) }
 {
     let (env, requests) = (merge.env, merge.requests);
-    env.known();
+    env.known(); // the environment is well formed
     let finals = finals_of(alloc, behaviour)?;
     let member = Member {
         env,

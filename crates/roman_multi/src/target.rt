@@ -28,7 +28,7 @@ fn push_move(steps: &mut Vec<Move>, merge: &Merge, t: u8, n: u8, e: u8) -> Resul
     requires env_state { e < merge.now.env.now.env.states }
     ensures { IfOk result (λ _. steps.new.items ≡ steps.old.items ++ moves_in t n e (next_in merge.now t n e)) }
 {
-    merge.env.known();
+    merge.env.known(); // the environment has at most 64 states
     let (targets, shape) = (merge.targets, merge.shape);
     let request = &merge.requests[n as usize];
     let member = &targets[request.target as usize].target;
@@ -144,7 +144,7 @@ pub(crate) fn combine_target(
     requires over { IsOverMerge merge.now over.now }
     ensures { IfOk result (λ made. made ≡ one_target merge.now.env.now merge.now.requests.now merge.now.targets.now states) }
 {
-    merge.env.known();
+    merge.env.known(); // the environment is well formed
     let finals = finals_of(alloc, merge.targets, merge.shape)?;
     let start = start_of(alloc, merge)?;
     let steps = moves_of(alloc, merge)?;

@@ -1,5 +1,5 @@
 -- Lists of events.
-use Rattle.roman_order.proofs.Common.{◌≡◌, ℕ, suc, ◌+◌, ◌*◌, ◌^◌, ◌<◌, ◌≤◌, true, List, [], ◌∷◌, ◌++◌, map, length, refl, ap, ◌∙◌, arith, eqb, append-nil, length-append, list_any-append, AllByRecursion, or_right, or_left, eq-eqb, length-map, flat_map-append, Entry, is_on, as_entry, set_lanes, has_entry, IsEvent, entries_at, entries_of, firsts_of, AreCounted, CanWait, Event}
+use Rattle.roman_order.proofs.Common.{◌≡◌, ℕ, suc, ◌+◌, ◌*◌, ◌<◌, ◌≤◌, true, List, [], ◌∷◌, ◌++◌, length, refl, ap, ◌∙◌, arith, eqb, append-nil, length-append, list_any-append, AllByRecursion, or_right, length-map, flat_map-append, Entry, is_on, as_entry, set_lanes, has_entry, IsEvent, entries_at, entries_of, firsts_of, AreCounted, CanWait, Event}
 
 -- ---- one more event
 
@@ -46,34 +46,13 @@ CanWait-nil lanes = record { each = tt; in_range = λ p h. cc }
 abbrev pub later : Event → ℕ → Event
 later e left = record { row = e.row; reason = e.reason; lanes = left }
 
-pub first_waiting : (lanes : ℕ) (e : Event) (rest : List Event) (lane left : ℕ) → set_lanes e.lanes ≡ lane ∷ set_lanes left →
-    entries_of lanes (e ∷ rest) ≡ as_entry (e.row * lanes + lane, e.reason) ∷ entries_of lanes (later e left ∷ rest)
-first_waiting lanes e rest lane left first = ap (λ ls. map (λ lane. as_entry (e.row * lanes + lane, e.reason)) ls ++ entries_of lanes rest) first
-
--- where no lane is left, the event is done
-pub done_waiting : (lanes : ℕ) (e : Event) (rest : List Event) (left : ℕ) → set_lanes left ≡ [] → entries_of lanes (later e left ∷ rest) ≡ entries_of lanes rest
-done_waiting lanes e rest left none = ap (λ ls. map (λ lane. as_entry (e.row * lanes + lane, e.reason)) ls ++ entries_of lanes rest) none
-
--- the pair of the first lane has a number of 32 bits
-pub first_pair : (lanes : ℕ) (e : Event) (rest : List Event) (lane left : ℕ) → CanWait lanes (e ∷ rest) → set_lanes e.lanes ≡ lane ∷ set_lanes left → e.row * lanes + lane < 2 ^ 32
-first_pair lanes e rest lane left can first =
-    let p : ℕ = e.row * lanes + lane in
-    let listed = or_left (eqb p p) (has_entry (entries_of lanes (later e left ∷ rest)) p) (eq-eqb p p refl) in
-    can.in_range p (ap (λ L. has_entry L p) (first_waiting lanes e rest lane left first) ∙ listed)
-
 -- an event without some of its lanes
 pub fewer : (lanes : ℕ) (e : Event) (left : ℕ) → IsEvent lanes e → 0 < length (set_lanes left) → ((lane : ℕ) → is_on left lane ≡ true → is_on e.lanes lane ≡ true) → IsEvent lanes (later e left)
 fewer lanes e left is some on = record { some = some; within = λ lane t. is.within lane (on lane t) }
 
--- the rest of an event can wait
-pub left_waiting : (lanes : ℕ) (e : Event) (rest : List Event) (lane left : ℕ) → CanWait lanes (e ∷ rest) → set_lanes e.lanes ≡ lane ∷ set_lanes left → IsEvent lanes (later e left) → CanWait lanes (later e left ∷ rest)
-left_waiting lanes e rest lane left can first some = record {
-  each = (some, can.each.1);
-  in_range = λ p h. can.in_range p (ap (λ L. has_entry L p) (first_waiting lanes e rest lane left first) ∙ or_right (eqb p (e.row * lanes + lane)) _ h);
-}
-
-pub rest_waiting : (lanes : ℕ) (e : Event) (rest : List Event) → CanWait lanes (e ∷ rest) → CanWait lanes rest
-rest_waiting lanes e rest can = record {
+-- the events without the first one can wait
+pub rest_waits : (lanes : ℕ) (e : Event) (rest : List Event) → CanWait lanes (e ∷ rest) → CanWait lanes rest
+rest_waits lanes e rest can = record {
   each = can.each.1;
   in_range = λ p h. can.in_range p (list_any-append (λ (x : Entry ℕ). eqb p x.node) (entries_at lanes e) (entries_of lanes rest) ∙ or_right (has_entry (entries_at lanes e) p) _ h);
 }

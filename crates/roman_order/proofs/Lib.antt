@@ -8,7 +8,6 @@ pub mod Pushes
 pub mod Counts
 pub mod Lent
 pub mod Tables
-pub mod Waiting
 pub mod Reading
 pub mod Stamps
 pub mod Kept

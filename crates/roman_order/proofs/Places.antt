@@ -1,5 +1,7 @@
 -- Lists with one more entry.
-use Rattle.roman_order.proofs.Common.{◌≡◌, ◌≢◌, ℕ, ◌+◌, ◌-◌, ◌^◌, ◌<◌, ◌≤◌, Bool, true, false, List, [], ◌∷◌, ◌++◌, length, Some, None, refl, ap, sym, ◌∙◌, inl, inr, arith, eqb, ◌||◌, list_any, position_from, IsDistinct, or-false, cases_eq, cases_Bool, ne_eqb, map_push, length-map, list_any-append, Entry, list_any-map, nodes_of, has_entry, place_in_list, IsPlaced}
+use Rattle.roman_order.proofs.Common.{◌≡◌, ◌≢◌, ℕ, ◌+◌, ◌-◌, ◌^◌, ◌<◌, ◌≤◌, Bool, true, false, List, [], ◌∷◌, ◌++◌, length, Some, None, refl, ap, sym, ◌∙◌, inl, inr, arith, eqb, ◌||◌, list_any, position_from, IsDistinct, or-false, cases_eq, ne_eqb, length-map, list_any-append, Entry, list_any-map, nodes_of, has_entry, place_in_list, IsPlaced}
+use Rattle.std.proofs.lemmas.Bool.{cases_Bool}
+use Rattle.std.proofs.lemmas.List.{map_push}
 use Rattle.std.proofs.Common.{is_some}
 use Rattle.std.proofs.lemmas.Bool.{false≢true}
 use Rattle.std.proofs.lemmas.Cmp.{nat_eq_equiv}

@@ -1,10 +1,10 @@
 -- The contents of an order's tables, and the room in them.
-use Rattle.roman_order.proofs.Common.{◌≡◌, ◌≢◌, ℕ, suc, ◌+◌, ◌-◌, ◌*◌, ◌/◌, ◌^◌, ◌<◌, ◌≤◌, true, false, not, [], ◌∷◌, ◌++◌, map, length, drop, get_or, replicate, vec_capacity, sym, ◌∙◌, subst, arith, bit_and, length-append, ap₂, w64, bit_not, set, length-map, length-replicate, get_or-replicate, List, take, ap, length-drop, length-take-le, Reason, Entry, is_on, AreRows, full_word, Board, as_entry, set_lanes, entries_in, entries_in_rows, has_entry, entries_of, board_of, IsPlaced, CanWait, IsSized, IsSound, Event, Inside, get_or-append_right, get_or-drop, get_or-take, get_or_append_left}
-use Rattle.std.proofs.Math.Nat.{mul-le-mul_left}
+use Rattle.roman_order.proofs.Common.{◌≡◌, ◌≢◌, ℕ, ◌+◌, ◌-◌, ◌*◌, ◌/◌, ◌^◌, ◌<◌, ◌≤◌, true, false, not, [], ◌∷◌, ◌++◌, length, drop, get_or, replicate, sym, ◌∙◌, subst, arith, bit_and, length-append, List, take, ap, w64, bit_not, set, length-replicate, get_or-replicate, length-drop, length-take-le, get_or-append_right, get_or-drop, get_or-take, get_or_append_left, Reason, is_on, AreRows, full_word, Board, set_lanes, entries_in, has_entry, entries_at, AreCounted, board_of, IsPlaced, CanWait, IsSound, Event, Inside}
+use Rattle.roman_order.specs.Sound.{IsSized}
 use Rattle.roman_order.specs.Sound.{removal_list}
-use Rattle.roman_order.proofs.Lanes.{AreRows-full, AreRows-pushed, entries_in_rows-row, has_entry-later, in_lanes, lanes_once, some_lane}
+use Rattle.roman_order.proofs.Lanes.{AreRows-full, AreRows-pushed, in_lanes, lanes_once, some_lane}
 use Rattle.roman_order.proofs.Places.{IsPlaced-nil, length-le_from_apart}
-use Rattle.roman_order.proofs.Events.{few_events, length-firsts_of, entries_of-push, AreCounted-push, AreCounted-nil}
+use Rattle.roman_order.proofs.Events.{few_events, length-firsts_of, length-entries_at, AreCounted-push, AreCounted-nil}
 use Rattle.roman_order.proofs.Pushes.{pair_below, IsPlaced-lanes}
 
 -- the list has at most as many entries as there are pairs
@@ -41,98 +41,35 @@ blank_sound a sized waits events firsts count stamps words =
       sized = sized;
     }
 
--- the tables of one order have room for the contents of another's
-pub record IsRoomFor (a b : Inside) : Type 0 where
-  pub room : a.room ≡ b.room
-  pub events : length b.events.items ≤ vec_capacity a.events
-  pub firsts : length b.firsts.items ≤ vec_capacity a.firsts
-  pub words : length b.words.items ≤ vec_capacity a.words
-  pub before : length b.before.items ≤ vec_capacity a.before
-  pub marks : length b.marks.items ≤ vec_capacity a.marks
-  pub levels : length b.levels.items ≤ vec_capacity a.levels
-
-pub room_for : (a b : Inside) (x y : Board) → board_of a ≡ x → board_of b ≡ y → x.cap_pairs ≡ y.cap_pairs → IsSound a → IsSound b → IsRoomFor a b
-room_for a b x y is_x is_y same sound_a sound_b = grind (arith, few, mul-le-mul_left)
-
 -- ---- entries for the lanes of a row
 
--- the lanes of `lost` are pairs of the row x that aren't listed
-pub record IsFree (b : Board) (x lost : ℕ) : Type 0 where
-  pub row : x < b.rows
-  pub within : (lane : ℕ) → is_on lost lane ≡ true → lane < b.lanes
-  pub alive : (lane : ℕ) → is_on lost lane ≡ true → has_entry b.list (x * b.lanes + lane) ≡ false
+-- what is known once the pairs of the row x whose lanes are in `lost` are listed
+pub record IsPushed (a : Inside) (x lost : ℕ) (reason : Reason) : Type 0 where
+  pub placed : IsPlaced (a.rows * a.lanes) (removal_list a ++ entries_in a.lanes x lost reason)
+  pub counted : AreCounted a.lanes (a.count + length (set_lanes lost)) (a.firsts.items ++ a.count ∷ []) (a.events.items ++ record { row = x; reason = reason; lanes = lost } ∷ [])
+  pub alive : AreRows a.lanes (λ p. not (has_entry (removal_list a ++ entries_in a.lanes x lost reason) p)) (set a.words.items x (bit_and (get_or a.words.items x 0) (bit_not w64 lost)))
+  pub room : a.count + length (set_lanes lost) ≤ a.room
+  pub some : 0 < length (set_lanes lost)
+  pub row : x < a.rows
 
--- entries for unlisted pairs of a row can be added
-pushed_placed : (a : Inside) (x lost : ℕ) (reason : Reason) → IsSound a → IsFree (board_of a) x lost →
-    IsPlaced (a.rows * a.lanes) (removal_list a ++ entries_in a.lanes x lost reason)
-pushed_placed a x lost reason sound free =
-    IsPlaced-lanes (a.rows * a.lanes) (x * a.lanes) reason (set_lanes lost) (removal_list a) (lanes_once lost)
-    (λ lane i. let on = (in_lanes lost lane i).1 in (pair_below a.rows a.lanes x lane free.row (free.within lane on), free.alive lane on)) sound.placed
-
--- the tables have room for entries for the lanes of `lost`
-pub record HasRoom (a : Inside) (lost : ℕ) : Type 0 where
-  pub events : length a.events.items < a.room
-  pub firsts : length a.firsts.items < a.room
-  pub count : a.count + length (set_lanes lost) < 2 ^ 32
-
-pub room-row : (a : Inside) (x lost : ℕ) (reason : Reason) → IsSound a → IsFree (board_of a) x lost → lost < 2 ^ 64 → 0 < length (set_lanes lost) → HasRoom a lost
-room-row a x lost reason sound free fits some =
-    let placed = pushed_placed a x lost reason sound free in
-    let f = λ (lane : ℕ). as_entry (x * a.lanes + lane, reason) in
-    let within : a.count + length (set_lanes lost) ≤ a.room = omega (
-      arith,
-      length-le_from_apart (a.rows * a.lanes) _ placed.apart placed.in_range,
-      length-append (removal_list a) (map f (set_lanes lost)),
-      length-map (set_lanes lost) f,
-      sound.counted.count,
-      sound.sized.room,
-    ) in
-    grind (arith, few)
-
--- an order is sound after entries for unlisted pairs of a row were added
-pub pushed_sound : (a b : Inside) (x lost : ℕ) (reason : Reason) → IsSound a → IsFree (board_of a) x lost → lost < 2 ^ 64 → 0 < length (set_lanes lost) → b.rows ≡ a.rows →
-    b.lanes ≡ a.lanes → CanWait b.waiting_lanes (drop b.next b.waiting.items) → b.count ≡ a.count + length (set_lanes lost) → b.firsts.items ≡ a.firsts.items ++ a.count ∷ [] →
-    b.events.items ≡ a.events.items ++ record { row = x; reason = reason; lanes = lost } ∷ [] →
-    b.words.items ≡ set a.words.items x (bit_and (get_or a.words.items x 0) (bit_not w64 lost)) → b.stamps.items ≡ [] → IsSized b → IsSound b
-pushed_sound a b x lost reason sound free fits some rows lanes waits count firsts events words stamps sized =
+pub pushed : (a : Inside) (b : Board) (x lost : ℕ) (reason : Reason) → board_of a ≡ b → IsSound a → x < b.rows → ((lane : ℕ) → is_on lost lane ≡ true → lane < b.lanes) →
+    ((lane : ℕ) → is_on lost lane ≡ true → has_entry b.list (x * b.lanes + lane) ≡ false) → lost < 2 ^ 64 → lost ≢ 0 → IsPushed a x lost reason
+pushed a b x lost reason is sound row within alive fits some =
+    let r : x < a.rows = rw (ap (λ (d : Board). d.rows) is) row in
+    let w : (lane : ℕ) → is_on lost lane ≡ true → lane < a.lanes = rw (ap (λ (d : Board). d.lanes) is) within in
+    let f : (lane : ℕ) → is_on lost lane ≡ true → has_entry (removal_list a) (x * a.lanes + lane) ≡ false =
+    subst (λ (d : Board). (lane : ℕ) → is_on lost lane ≡ true → has_entry d.list (x * d.lanes + lane) ≡ false) (sym is) alive in
+    let placed = IsPlaced-lanes (a.rows * a.lanes) (x * a.lanes) reason (set_lanes lost) (removal_list a) (lanes_once lost)
+    (λ lane i. let on = (in_lanes lost lane i).1 in (pair_below a.rows a.lanes x lane r (w lane on), f lane on)) sound.placed in
     let e : Event = record { row = x; reason = reason; lanes = lost } in
-    let list : removal_list b ≡ removal_list a ++ entries_in a.lanes x lost reason = ap₂ (λ n es. entries_of n es) lanes events ∙ entries_of-push _ _ _ in
     record {
-      placed = subst (λ n. IsPlaced n (removal_list b)) (sym (ap₂ (λ m n. m * n) rows lanes))
-          (subst (IsPlaced (a.rows * a.lanes)) (sym list) (pushed_placed _ _ _ _ sound free));
-      counted = rw (lanes, firsts, events, count) (AreCounted-push _ _ _ _ _ sound.counted (record { some = some; within = free.within }));
-      waits = waits;
-      stamped = rw stamps (λ p h. absurd (omega arith));
-      alive = subst (λ n. AreRows n (λ p. not (has_entry (removal_list b) p)) b.words.items) (sym lanes)
-          (subst (λ L. AreRows a.lanes (λ p. not (has_entry L p)) b.words.items) (sym list) (rw words (AreRows-pushed _ _ _ _ _ _ sound.sized.few_lanes.1
-          (omega (arith, free.row, sound.sized.words_long)) fits free.within sound.alive)));
-      sized = sized;
+      placed = placed;
+      counted = AreCounted-push _ _ _ _ e sound.counted (record { some = some_lane lost some fits; within = w });
+      alive = AreRows-pushed _ _ _ _ _ _ sound.sized.few_lanes.1 (omega (arith, r, sound.sized.words_long)) fits w sound.alive;
+      room = omega (arith, length-le_from_apart _ _ placed.apart placed.in_range, length-append (removal_list a) (entries_at a.lanes e), length-entries_at a.lanes e, sound.counted.count, sound.sized.room);
+      some = some_lane lost some fits;
+      row = r;
     }
-
--- ---- entries for the lanes of neighbouring rows
-
--- after the entries of i rows were added, the lanes of the next row are free
-pub free_row : (d b : Board) (x i : ℕ) (lost : List ℕ) (reason : Reason) → d ≡ record b { list = b.list ++ entries_in_rows b.lanes x i lost reason } → x + i < b.rows →
-    ((j lane : ℕ) → is_on (get_or lost j 0) lane ≡ true → lane < b.lanes) → ((j lane : ℕ) → is_on (get_or lost j 0) lane ≡ true → has_entry b.list ((x + j) * b.lanes + lane) ≡ false) →
-    IsFree d (x + i) (get_or lost i 0)
-free_row d b x i lost reason same row within alive = subst (λ e. IsFree e (x + i) (get_or lost i 0)) (sym same)
-    (record { row = row; within = within i; alive = λ lane on. has_entry-later b.list b.lanes x lost reason within i i lane (omega arith) (within i lane on) ∙ alive i lane on })
-
--- then the tables have room for the entries of the next row
-pub room_next : (a : Inside) (b : Board) (x i : ℕ) (lost : List ℕ) (reason : Reason) → IsSound a → board_of a ≡ record b { list = b.list ++ entries_in_rows b.lanes x i lost reason } → x + i < b.rows →
-    ((j lane : ℕ) → is_on (get_or lost j 0) lane ≡ true → lane < b.lanes) → ((j lane : ℕ) → is_on (get_or lost j 0) lane ≡ true → has_entry b.list ((x + j) * b.lanes + lane) ≡ false) →
-    get_or lost i 0 < 2 ^ 64 → get_or lost i 0 ≢ 0 → HasRoom a (get_or lost i 0)
-room_next a b x i lost reason sound same row within alive fits some =
-    room-row a (x + i) (get_or lost i 0) reason sound (free_row (board_of a) b x i lost reason same row within alive) fits (some_lane (get_or lost i 0) some fits)
-
--- the entries of one more row
-pub pushed_rows : (d b : Board) (x i : ℕ) (lost : List ℕ) (reason : Reason) (L : List (Entry ℕ)) → d ≡ record b { list = b.list ++ entries_in_rows b.lanes x i lost reason } →
-    L ≡ d.list ++ entries_in d.lanes (x + i) (get_or lost i 0) reason → record d { list = L } ≡ record b { list = b.list ++ entries_in_rows b.lanes x (i + 1) lost reason }
-pushed_rows d b x i lost reason L same more =
-    let next : suc i ≡ i + 1 = omega arith in
-    ap (λ M. record d { list = M }) more
-    ∙ (ap (λ (e : Board). record e { list = e.list ++ entries_in e.lanes (x + i) (get_or lost i 0) reason }) same
-    ∙ ap (λ M. record b { list = M }) (sym (entries_in_rows-row b.lanes x i lost reason b.list) ∙ ap (λ n. b.list ++ entries_in_rows b.lanes x n lost reason) next))
 
 -- ---- words that are copied
 

@@ -1,5 +1,5 @@
 -- How the tables of an order represent what callers see.
-use Rattle.std.specs.Prelude.{◌≡◌, ℕ, ◌+◌, ◌-◌, ◌*◌, ◌/◌, ◌^◌, ◌<◌, ◌≤◌, ◌==◌, not, true, List, [], ◌∷◌, drop, length, unwrap_or, slice_index, vec_capacity}
+use Rattle.std.specs.Prelude.{◌≡◌, ℕ, ◌+◌, ◌-◌, ◌*◌, ◌/◌, ◌^◌, ◌<◌, ◌≤◌, ◌==◌, not, true, List, [], ◌∷◌, drop, length, unwrap_or, slice_index, slice_set, vec_capacity}
 use Rattle.std.specs.List.{IsDistinct, AllByRecursion}
 use Rattle.roman_model.specs.Arena.{Entry}
 use Rattle.roman_lanes.specs.Rows.{AreRows}
@@ -42,6 +42,11 @@ pub record IsPlaced (pairs : ℕ) (L : List (Entry ℕ)) : Type 0 where
 -- each stamp in the table is the place of its pair in the list
 abbrev pub AreStamps : List (Entry ℕ) → List ℕ → Type 0
 AreStamps L stamps = (p : ℕ) → p < length stamps → slice_index stamps p ≡ stamp_of L p
+
+-- the table after i, i + 1 and so on were written at the given places
+abbrev pub with_stamps : ℕ → List ℕ → List ℕ → List ℕ
+with_stamps i [] stamps = stamps
+with_stamps i (p ∷ ps) stamps = with_stamps (i + 1) ps (slice_set stamps p i)
 
 -- the place of each event's first entry, where n entries stand before the first
 abbrev pub firsts_of : ℕ → List Event → List ℕ

@@ -14,6 +14,7 @@ mod reading;
 mod walking;
 mod words;
 
+use self::reading::event_in;
 use crate::event::Event;
 use crate::flags::{self, lowest};
 use roman_model::Reason;
@@ -30,7 +31,6 @@ const PIECE: usize = 256;
 /// An order is shaped for a number of rows and lanes: pair p is lane `p % lanes` of row `p / lanes`.
 /// Pairs and rows that are passed must be in range for this shape. The shape has at most as many pairs
 /// as the order has room for, so no call runs out of room.
-#[derive(Drop)]
 pub struct Order {
     // the greatest number of pairs
     room: u32,
@@ -57,6 +57,29 @@ pub struct Order {
     marks: Vec<u64>,
     // the length of the list at the end of each of its levels
     levels: Vec<u32>,
+}
+
+// One call. At each exit of a function that owns an order, a derived drop would be a step for each vector.
+impl Drop for Order {
+    fn drop(self) {
+        let Order {
+            room: _,
+            rows: _,
+            lanes: _,
+            count: _,
+            next: _,
+            waiting_lanes: _,
+            cursor: _,
+            events: _,
+            firsts: _,
+            waiting: _,
+            stamps: _,
+            words: _,
+            before: _,
+            marks: _,
+            levels: _,
+        } = self;
+    }
 }
 
 impl Model for Order {
@@ -141,6 +164,7 @@ impl Order {
     /// Makes this order equal to `from`, in one pass over the contents of its tables, whatever
     /// their capacity. Requires that `from` has the same room and no waiting entries. Takes no
     /// memory.
+    #[tactic(auto, using(crate::proofs::Tables::few))]
     pub fn reset_to(&mut self, from: &Order)
         requires room { self.old.cap_pairs ≡ from.now.cap_pairs }
         requires idle { from.now.waiting ≡ [] }
@@ -240,16 +264,19 @@ impl Order {
         if self.next == self.waiting.len() {
             return None;
         }
-        let event = self.waiting[self.next];
-        let lane = lowest(event.lanes);
-        let left = event.lanes & !(1 << lane);
-        let pair = event.row * self.waiting_lanes + lane;
+        let first = event_in(&self.waiting, self.next);
+        let lane = lowest(first.lanes);
+        let pair = first.row * self.waiting_lanes + lane;
+        let left = first.lanes & !(1 << lane);
         if left == 0 {
             self.next += 1;
         } else {
-            self.waiting[self.next].lanes = left;
+            self.waiting[self.next] = Event {
+                lanes: left,
+                ..first
+            };
         }
-        Some((pair, event.reason))
+        Some((pair, first.reason))
     }
 
     /// Takes the waiting entries of the first event together, as an event of the shape before the
@@ -263,7 +290,7 @@ impl Order {
         if self.next == self.waiting.len() {
             return None;
         }
-        let event = self.waiting[self.next];
+        let event = event_in(&self.waiting, self.next);
         self.next += 1;
         Some(event)
     }
@@ -296,7 +323,7 @@ impl Order {
         ensures counted { result ≡ count_by (λ p. not (has_entry self.now.list p)) (below (pairs_of self.now)) }
         ensures rest { result + length self.now.list ≡ pairs_of self.now }
     {
-        self.known();
+        self.known(); // no pair is listed twice, listed pairs are pairs of the system
         self.rows * self.lanes - self.len()
     }
 
@@ -327,10 +354,13 @@ fn rewrite<T: Copy + Drop>(table: &mut Vec<T>, items: &[T])
     ensures room { vec_capacity table.old ≤ vec_capacity table.new }
 {
     table.clear();
-    for piece in items.chunks(PIECE) {
-        let Ok(()) = table.extend_from_slice(piece) else {
+    let mut done = 0;
+    'pieces: while done < items.len() {
+        let end = done + (items.len() - done).min(PIECE);
+        let Ok(()) = table.extend_from_slice(&items[done..end]) else {
             unreachable!()
         };
+        done = end;
     }
 }
 

@@ -69,7 +69,7 @@ impl Behaviour {
         ensures normal { IfOk result (λ made. made.beh
             ≡ normal_beh env.now.env.states env.now.env.actions (listed_beh (length states) start finals.now steps.now)) }
     {
-        env.known();
+        env.known(); // the environment is well formed
         let cells = Cells::over(&states, env);
         let automaton = Automaton::from_lists(alloc, cells, start, finals, steps)?;
         Ok(Behaviour {

@@ -17,7 +17,6 @@ use std::marker::Model;
 /// and its record in normal form.
 ///
 /// All calls require numbers of states and actions that are in range. The look-ups take no memory.
-#[derive(Drop)]
 pub struct Environment {
     states: NameTable,
     actions: NameTable,
@@ -26,6 +25,19 @@ pub struct Environment {
     // leads to e.
     next: Rows,
     prev: Rows,
+}
+
+// One call. At each exit of a function that owns an environment, a derived drop would be a step for each vector.
+impl Drop for Environment {
+    fn drop(self) {
+        let Environment {
+            states: _,
+            actions: _,
+            start: _,
+            next: _,
+            prev: _,
+        } = self;
+    }
 }
 
 impl Model for Environment {

@@ -21,10 +21,19 @@ use std::marker::Model;
 /// its record in normal form, and the numbers of states and actions of its environment.
 ///
 /// All calls require numbers of states and actions that are in range. The look-ups take no memory.
-#[derive(Drop)]
 pub struct Target {
     states: NameTable,
     automaton: Automaton,
+}
+
+// One call. At each exit of a function that owns a target, a derived drop would be a step for each vector.
+impl Drop for Target {
+    fn drop(self) {
+        let Target {
+            states: _,
+            automaton: _,
+        } = self;
+    }
 }
 
 impl Model for Target {
@@ -69,7 +78,7 @@ impl Target {
         ensures normal { IfOk result (λ made. made.beh
             ≡ normal_beh env.now.env.states env.now.env.actions (listed_beh (length states) start finals.now steps.now)) }
     {
-        env.known();
+        env.known(); // the environment is well formed
         let cells = Cells::over(&states, env);
         let automaton = Automaton::from_lists(alloc, cells, start, finals, steps)?;
         Ok(Target { states, automaton })
@@ -131,7 +140,7 @@ impl Target {
             (beh_next self.now.beh t e a ≡ []) (λ to. beh_next self.now.beh t e a ≡ to ∷ []) }
         ensures below { IfSome result (λ to. to < self.now.beh.states) }
     {
-        self.known();
+        self.known(); // the target is deterministic
         self.automaton.next(t, e, a).first().copied()
     }
 

@@ -3,6 +3,5 @@ pub mod Strides
 pub mod Tables
 pub mod Moves
 pub mod Shown
-mod Numbering
 pub mod RowLemmas
 pub mod CallerLemmas

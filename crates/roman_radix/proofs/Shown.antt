@@ -1,6 +1,12 @@
 -- A shape's fields in terms of the sizes that it holds.
-use Rattle.roman_radix.proofs.Common.{◌≡◌, ℕ, ◌+◌, ◌^◌, ◌<◌, length, get_or, slice_index, arith, Sizes, count, Inside, IsSizes, stride_of, env_stride_of, target_stride_of, padded, strides_of, low_of, lanes_of, sizes_in, IsLaidOut}
+use Rattle.std.proofs.lemmas.List.{take-append-le}
+use Rattle.roman_radix.specs.declared.shape.Shape.TheInside.{Inside}
+use Rattle.roman_radix.specs.Radix.{target_stride_of}
+use Rattle.roman_radix.specs.Layout.{IsLaidOut, sizes_in}
+use Rattle.std.proofs.Common.{ap₂}
+use Rattle.roman_radix.proofs.Common.{◌≡◌, ℕ, ◌-◌, ◌≤◌, ◌∙◌, take, replicate, sym, ap, subst, length-append, MAX_SERVICES, AreSizes, row_sizes, ◌+◌, ◌^◌, ◌<◌, length, get_or, slice_index, arith, Sizes, count, IsSizes, stride_of, env_stride_of, padded, strides_of, low_of, lanes_of}
 use Rattle.roman_radix.proofs.Strides.{product_positive, AreSizes-drop, AreSizes-index, stride_at, size_at}
+use Rattle.roman_radix.proofs.RowLemmas.{AreSizes-take, lanes_few, lanes_positive, low_of-le}
 
 pub record Shows (a : Inside) (n : Sizes) : Type 0 where
   pub sizes : IsSizes n
@@ -18,17 +24,18 @@ pub record Shows (a : Inside) (n : Sizes) : Type 0 where
 pub shown : (a : Inside) (n : Sizes) → IsLaidOut a → sizes_in a ≡ n → Shows a n
 shown a n h e = grind arith
 
-pub record StrideIs (n : Sizes) (k stride : ℕ) : Type 0 where
-  pub is : stride ≡ stride_of n k
-  pub positive : 0 < stride
+pub stride_is : (a : Inside) (k : ℕ) → IsLaidOut a → k < length (sizes_in a).seats → (get_or a.strides k 0 ≡ stride_of (sizes_in a) k) × (0 < get_or a.strides k 0)
+stride_is a k h l = grind (arith, (AreSizes-drop (k + 1) (sizes_in a).seats h.sizes.seats), product_positive, (stride_at (sizes_in a).seats a.strides k h.strides l))
 
-pub stride_is : (a : Inside) (n : Sizes) (k : ℕ) → Shows a n → k < length n.seats → StrideIs n k (get_or a.strides k 0)
-stride_is a n k h l = grind (arith, (AreSizes-drop (k + 1) n.seats h.sizes.seats), product_positive, (stride_at n.seats a.strides k h.strides l))
+pub size_is : (a : Inside) (k : ℕ) → IsLaidOut a → k < length (sizes_in a).seats → (get_or a.sizes k 0 ≡ slice_index (sizes_in a).seats k) × (0 < get_or a.sizes k 0)
+size_is a k h l = grind (arith, (AreSizes-index (sizes_in a).seats k h.sizes.seats l), (size_at (sizes_in a).seats a.sizes k h.places l))
 
-pub record SizeIs (n : Sizes) (k size : ℕ) : Type 0 where
-  pub is : size ≡ slice_index n.seats k
-  pub positive : 0 < size
-  pub narrow : size < 2 ^ 8
+-- the first sizes are the sizes before the lanes
+pub first_sizes : (a : Inside) → IsLaidOut a → (take a.low a.sizes ≡ (row_sizes (sizes_in a)).seats) × AreSizes (take a.low a.sizes) × (a.low ≤ length a.sizes)
+first_sizes a h =
+    let n = sizes_in a in
+    let first : take a.low a.sizes ≡ (row_sizes n).seats = ap₂ take h.low h.places ∙ take-append-le (low_of n.seats) n.seats (replicate (MAX_SERVICES - length n.seats) 0) (low_of-le n.seats) in
+    (first, subst AreSizes (sym first) (AreSizes-take (low_of n.seats) n.seats h.sizes.seats), omega (arith, ap length h.places, length-append n.seats (replicate (MAX_SERVICES - length n.seats) 0), low_of-le n.seats, h.low))
 
-pub size_is : (a : Inside) (n : Sizes) (k : ℕ) → Shows a n → k < length n.seats → SizeIs n k (get_or a.sizes k 0)
-size_is a n k h l = grind (arith, (AreSizes-index n.seats k h.sizes.seats l), (size_at n.seats a.sizes k h.places l))
+-- a shape's lanes
+pub ruleset lane_rules = (shown, lanes_few, lanes_positive, low_of-le)

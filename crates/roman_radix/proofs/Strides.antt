@@ -1,6 +1,7 @@
 -- Products of sizes, and the table of strides.
 use Rattle.roman_radix.proofs.Common.{◌≡◌, ℕ, zero, suc, ◌+◌, ◌-◌, ◌*◌, ◌^◌, ◌<◌, ◌≤◌, List, [], ◌∷◌, ◌++◌, length, take, drop, get_or, replicate, refl, sym, ap, ◌∙◌, arith, add-one, set, set_at, replicate_more, append_assoc, length-append, drop_all, drop_more, mul-le-mul_left, product_of, MAX_SERVICES, AreSizes, padded, strides_of}
 use Rattle.std.proofs.Common.{mul-le-mul}
+use Rattle.std.proofs.Math.Nat.{mul-pos}
 use Rattle.std.proofs.lemmas.List.{get_or_append_left, replicate-append-replicate, length-replicate, length-take}
 use Rattle.std.specs.List.{All, AllByRecursion}
 use Rattle.std.proofs.lemmas.List.Elements.{recursion_from_All, All-drop}
@@ -8,10 +9,7 @@ use Rattle.std.proofs.lemmas.List.Elements.{recursion_from_All, All-drop}
 -- a product of positive numbers is positive
 pub product_positive : (ns : List ℕ) → AreSizes ns → 0 < product_of ns
 product_positive [] h = omega arith
-product_positive (n ∷ ns) h =
-    let rest : 0 < product_of ns = product_positive ns h.2 in
-    let product : 1 * 1 ≤ n * product_of ns = mul-le-mul h.0 rest in
-    omega arith
+product_positive (n ∷ ns) h = mul-pos h.0 (product_positive ns h.2)
 
 pub AreSizes-drop : (k : ℕ) (ns : List ℕ) → AreSizes ns → AreSizes (drop k ns)
 AreSizes-drop zero ns h = h
@@ -84,10 +82,7 @@ product_none c table = sym (ap product_of (drop_all c (take c table) (omega (ari
 
 positive_by_recursion : (ns : List ℕ) → AllByRecursion (λ n. 0 < n) ns → 0 < product_of ns
 positive_by_recursion [] h = omega arith
-positive_by_recursion (n ∷ ns) h =
-    let rest : 0 < product_of ns = positive_by_recursion ns h.1 in
-    let product : 1 * 1 ≤ n * product_of ns = mul-le-mul h.0 rest in
-    omega arith
+positive_by_recursion (n ∷ ns) h = mul-pos h.0 (positive_by_recursion ns h.1)
 
 pub positive_rest : (k : ℕ) (ns : List ℕ) → All (λ n. 0 < n) ns → 0 < product_of (drop k ns)
 positive_rest k ns h = positive_by_recursion (drop k ns) (recursion_from_All (λ n. 0 < n) (drop k ns) (All-drop (λ n. 0 < n) k ns h))

@@ -1,9 +1,11 @@
 -- Tables of sizes after a size is added or dropped, and the sizes themselves.
-use Rattle.roman_radix.proofs.Common.{◌≡◌, ℕ, zero, suc, ◌+◌, ◌-◌, ◌*◌, ◌^◌, ◌<◌, ◌≤◌, List, [], ◌∷◌, ◌++◌, length, take, drop, get_or, replicate, refl, sym, ap, ◌∙◌, arith, add-one, set, mul-le-mul_left, remove, append_assoc, set_at, length-append, replicate_more, drop_more, drop_all, Sizes, grown_sizes, sizes_without, count, MAX_SERVICES, AreSizes, IsSizes, padded}
-use Rattle.std.specs.List.{copy_within}
+use Rattle.roman_radix.proofs.Common.{◌≡◌, ℕ, zero, suc, ◌+◌, ◌-◌, ◌*◌, ◌^◌, ◌<◌, ◌≤◌, List, [], ◌∷◌, ◌++◌, length, take, drop, get_or, replicate, refl, sym, ap, ◌∙◌, arith, add-one, set, mul-le-mul_left, append_assoc, set_at, length-append, replicate_more, drop_more, drop_all, Sizes, grown_sizes, sizes_without, count, MAX_SERVICES, AreSizes, IsSizes, padded}
+use Rattle.std.specs.List.{copy_within, remove}
 use Rattle.std.proofs.lemmas.List.{take_at, drop-replicate, take_rest}
 use Rattle.std.proofs.lemmas.List.Edits.{length-remove, remove-append_left}
-use Rattle.roman_model.proofs.CallerLemmas.{count-without}
+use Rattle.roman_model.proofs.CallerLemmas.{count-grown, count-without}
+use Rattle.roman_radix.proofs.RowLemmas.{AreSizes-take}
+use Rattle.roman_radix.proofs.Shown.{shown}
 use Rattle.roman_radix.proofs.Strides.{length-padded, AreSizes-drop, AreSizes-index}
 
 -- a table that holds these numbers, followed by zeros
@@ -53,11 +55,6 @@ AreSizes-append : (ms ns : List ℕ) → AreSizes ms → AreSizes ns → AreSize
 AreSizes-append [] ns h g = g
 AreSizes-append (m ∷ ms) ns h g = (h.0, h.1, AreSizes-append ms ns h.2 g)
 
-AreSizes-take : (k : ℕ) (ns : List ℕ) → AreSizes ns → AreSizes (take k ns)
-AreSizes-take zero ns h = tt
-AreSizes-take (suc k) [] h = tt
-AreSizes-take (suc k) (n ∷ ns) h = (h.0, h.1, AreSizes-take k ns h.2)
-
 -- numbers are in range where the number at each place is
 pub AreSizes-from : (ns : List ℕ) → ((k : ℕ) (d : ℕ) → k < length ns → 0 < get_or ns k d) → ((k : ℕ) → get_or ns k 0 < 2 ^ 8) → AreSizes ns
 AreSizes-from [] low high = tt
@@ -86,3 +83,10 @@ IsSizes-without n k h component =
 
 pub same_sizes : (t u e f : ℕ) (ms ns : List ℕ) → u ≡ t → f ≡ e → ns ≡ ms → ◌≡◌ {A = Sizes} (record { target = t; env = e; seats = ms }) (record { target = u; env = f; seats = ns })
 same_sizes t u e f ms ns x y z = rw (x, y, z) refl
+
+-- the table of a new shape, of a grown one and of one without a component
+pub ruleset new_rules = (AreSizes-from, IsSizes-new, has_copied, same_sizes)
+
+pub ruleset grow_rules = (IsSizes-grown, count-grown, has_pushed, same_sizes, set, shown)
+
+pub ruleset shrink_rules = (IsSizes-without, has_shrunk, same_sizes, set, shown)

@@ -60,6 +60,7 @@ impl Shape {
     /// Returns the shape of these sizes. Requires sizes of at least 1, and at most 32 components.
     /// Returns `None` exactly where there are more than `cap` pairs. The product of the sizes can't
     /// overflow.
+    #[tactic(auto, using(crate::proofs::Tables::new_rules))]
     pub fn new(target: u8, env: u8, sizes: &[u8], cap: u32) -> Option<Shape>
         requires target { 0 < target }
         requires env { 0 < env }
@@ -95,6 +96,7 @@ impl Shape {
     /// last ones, as many of them as have sizes whose product is at most 64. They give a pair's
     /// lane. At all pairs of a row the target, the environment and each component before the lanes
     /// have the same state.
+    #[tactic(auto, using(crate::proofs::Shown::lane_rules))]
     pub fn low(&self) -> u8
         ensures value { result ≡ low_of self.now.seats }
         ensures within { result ≤ length self.now.seats }
@@ -104,6 +106,7 @@ impl Shape {
 
     /// Returns the number of pairs in a row, from 1 to 64. Pair p is lane `p % lanes` of row
     /// `p / lanes`.
+    #[tactic(auto, using(crate::proofs::Shown::lane_rules))]
     pub fn lanes(&self) -> u32
         ensures value { result ≡ lanes_of self.now.seats }
         ensures few { (0 < result) × (result ≤ 64) }
@@ -116,14 +119,17 @@ impl Shape {
     /// sizes whose product is at most 64. At all rows of a band the target, the environment and each
     /// component before the band's own have the same state. Row x is row `x % width` of band
     /// `x / width`, where `width` is the number of rows in a band.
+    #[tactic(auto, using(crate::proofs::Shown::first_sizes, crate::proofs::Shown::lane_rules))]
     pub fn band(&self) -> (u8, u32)
         ensures first { result.0 ≡ low_of (row_sizes self.now).seats }
         ensures width { result.1 ≡ lanes_of (row_sizes self.now).seats }
     {
+        self.known();
         lanes_over(self.low, &self.sizes)
     }
 
     /// Returns the number of rows: pairs divided by lanes, without remainder.
+    #[tactic(auto, using(crate::proofs::Shown::lane_rules, crate::proofs::RowLemmas::rows_are))]
     pub fn rows(&self) -> u32
         ensures { result * lanes_of self.now.seats ≡ count self.now }
     {
@@ -145,11 +151,26 @@ impl Shape {
     }
 
     /// Returns the stride of component `k`: what one more state of it adds to a pair's number.
+    #[tactic(auto, using(crate::proofs::Shown::stride_is))]
     pub fn stride(&self, k: u8) -> u32
         requires { k < length self.now.seats }
         ensures { result ≡ stride_of self.now k }
     {
         self.strides[k as usize]
+    }
+
+    /// Returns the stride and the size of component `k`. Neither is 0.
+    #[inline(always)]
+    #[tactic(auto, using(crate::proofs::Shown::stride_is, crate::proofs::Shown::size_is))]
+    fn part(&self, k: usize) -> (u32, u8)
+        requires { k < length self.now.seats }
+        ensures stride { result.0 ≡ stride_of self.now k }
+        ensures size { result.1 ≡ slice_index self.now.seats k }
+        ensures strides_some { 0 < result.0 }
+        ensures sizes_some { 0 < result.1 }
+    {
+        self.known();
+        (self.strides[k], self.sizes[k])
     }
 
     /// Returns the number of components, at most 32.
@@ -160,6 +181,7 @@ impl Shape {
     }
 
     /// Returns the number of states of component `k`, at least 1.
+    #[tactic(auto, using(crate::proofs::Shown::size_is))]
     pub fn size(&self, k: u8) -> u8
         requires { k < length self.now.seats }
         ensures { result ≡ slice_index self.now.seats k }
@@ -169,14 +191,16 @@ impl Shape {
 
     /// Returns the number of the pair with the target's state `t`, the environment's state `e` and the
     /// states of the components, in order. Requires one state for each component.
+    #[tactic(auto, using(crate::proofs::Moves::number_few, crate::proofs::Moves::states_more))]
     pub fn number(&self, t: u8, e: u8, states: &[u8]) -> u32
         requires { IsPairOf self.now (record { t = t; e = e; bs = states.now }) }
         ensures number { result ≡ number self.now (record { t = t; e = e; bs = states.now }) }
         ensures below { result < count self.now }
     {
-        let mut number = u32::from(t) * self.target_stride + u32::from(e) * self.env_stride;
+        self.known();
+        let mut number = u32::from(t) * self.target_stride() + u32::from(e) * self.env_stride();
         for (k, state) in states.iter().enumerate() {
-            number += u32::from(*state) * self.strides[k];
+            number += u32::from(*state) * self.part(k).0;
         }
         number
     }
@@ -202,28 +226,33 @@ impl Shape {
     }
 
     /// Returns the state of component `k` at pair `p`.
+    #[tactic(auto, using(roman_model::proofs::CallerLemmas::part_at, std::proofs::lemmas::Nat::mod_below))]
     pub fn part_of(&self, p: u32, k: u8) -> u8
         requires pair { p < count self.now }
         requires component { k < length self.now.seats }
         ensures value { result ≡ slice_index (pair_at self.now p).bs k }
         ensures below { result < slice_index self.now.seats k }
     {
-        let (_, state) = divided(p / self.strides[k as usize], self.sizes[k as usize]);
+        let (stride, size) = self.part(k as usize);
+        let (_, state) = divided(p / stride, size);
         state
     }
 
     /// Returns the states of the components at pair `p`, in order, in the first places of a table. The
     /// other places are unspecified.
+    #[tactic(auto, using(crate::proofs::Moves::digit_rules))]
     pub fn parts_of(&self, p: u32) -> [u8; PLACES]
         requires { p < count self.now }
         ensures { take (length self.now.seats) result ≡ (pair_at self.now p).bs }
     {
+        self.known();
         let mut parts = [0; PLACES];
         let mut rest = p;
         let mut k = self.components as usize;
         while k > 0 {
             k -= 1;
-            let (whole, state) = divided(rest, self.sizes[k]);
+            let (_, size) = self.part(k);
+            let (whole, state) = divided(rest, size);
             parts[k] = state;
             rest = whole;
         }
@@ -232,6 +261,7 @@ impl Shape {
 
     /// Returns the number of the pair that differs from pair `p` only in component `k`, which has
     /// state `b`.
+    #[tactic(auto, using(crate::proofs::Moves::taken))]
     pub fn with_part(&self, p: u32, k: u8, b: u8) -> u32
         requires pair { p < count self.now }
         requires component { k < length self.now.seats }
@@ -239,12 +269,14 @@ impl Shape {
         ensures number { result ≡ number self.now (with_part (pair_at self.now p) k b) }
         ensures below { result < count self.now }
     {
-        let stride = self.strides[k as usize];
+        self.known();
+        let stride = self.stride(k);
         p - u32::from(self.part_of(p, k)) * stride + u32::from(b) * stride
     }
 
     /// Returns the number of the pair that has the target's state `t`, the environment's state `e` and
     /// the state `b` of component `k`, and otherwise the states of pair `p`.
+    #[tactic(auto, using(crate::proofs::Shown::shown, crate::proofs::Moves::moves_by))]
     pub fn moved(&self, p: u32, t: u8, e: u8, k: u8, b: u8) -> u32
         requires pair { p < count self.now }
         requires t { t < self.now.target }
@@ -254,13 +286,15 @@ impl Shape {
         ensures number { result ≡ number self.now (moved (pair_at self.now p) t e k b) }
         ensures below { result < count self.now }
     {
-        let states = self.with_part(p, k, b) % self.env_stride;
-        (u32::from(t) * u32::from(self.env) + u32::from(e)) * self.env_stride + states
+        self.known();
+        let states = self.with_part(p, k, b) % self.env_stride();
+        (u32::from(t) * u32::from(self.env) + u32::from(e)) * self.env_stride() + states
     }
 
     /// Returns the shape with one more component of the given size, at the end. Requires a size of at
     /// least 1, and a shape with fewer than 32 components. Returns `None` exactly where there would
     /// be more than `cap` pairs.
+    #[tactic(auto, using(crate::proofs::Tables::Has, crate::proofs::Shown::Shows, crate::proofs::Tables::grow_rules))]
     pub fn grow(&self, size: u8, cap: u32) -> Option<Shape>
         requires size { 0 < size }
         requires few { length self.now.seats < MAX_SERVICES }
@@ -276,6 +310,7 @@ impl Shape {
     }
 
     /// Returns the shape without component `k`. Later components move up by one place.
+    #[tactic(auto, using(crate::proofs::Tables::Has, crate::proofs::Shown::Shows, crate::proofs::Tables::shrink_rules))]
     pub fn shrink(&self, k: u8) -> Shape
         requires { k < length self.now.seats }
         ensures { result ≡ sizes_without k self.now }
@@ -289,6 +324,7 @@ impl Shape {
     /// Returns the number of pair `p` after a component of the given size is added at the end, in
     /// state `b`. Requires a shape with fewer than 32 components, and at most 2^32 - 1 pairs of the
     /// grown shape.
+    #[tactic(auto, using(crate::proofs::Moves::grows_by))]
     pub fn grown(&self, p: u32, size: u8, b: u8) -> u32
         requires pair { p < count self.now }
         requires state { b < size }
@@ -301,14 +337,15 @@ impl Shape {
     }
 
     /// Returns the number of pair `p` after component `k` is dropped, whatever its state is.
+    #[tactic(auto, using(crate::proofs::Moves::shrinks))]
     pub fn without(&self, p: u32, k: u8) -> u32
         requires pair { p < count self.now }
         requires component { k < length self.now.seats }
         ensures number { result ≡ number (sizes_without k self.now) (without k (pair_at self.now p)) }
         ensures below { result < count (sizes_without k self.now) }
     {
-        let stride = self.strides[k as usize];
-        p / stride / u32::from(self.sizes[k as usize]) * stride + p % stride
+        let (stride, size) = self.part(k as usize);
+        p / stride / u32::from(size) * stride + p % stride
     }
 }
 
@@ -340,6 +377,7 @@ fn divided(n: u32, size: u8) -> (u32, u8)
 }
 
 /// Returns whether there are at most `cap` pairs of these sizes.
+#[tactic(auto, using(crate::proofs::Strides::positive_rest, crate::proofs::Strides::too_many))]
 fn is_within(target: u8, env: u8, sizes: &[u8], cap: u32) -> bool
     requires target { 0 < target }
     requires env { 0 < env }

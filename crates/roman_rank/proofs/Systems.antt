@@ -1,5 +1,7 @@
 -- Facts about a complete relation for ranking its pairs.
-use Rattle.roman_rank.proofs.Common.{◌≡◌, ℕ, ◌-◌, ◌^◌, ◌<◌, true, length, IsFalse, inl, inr, sym, ◌∙◌, subst, arith, not_from_false, cases_lt, Arena, sizes_of, count, pair_at, is_related, by_test, length-below, lost_unrelated, related_great, numbers_are_pairs, numbered_loses, loses_up, last_is_steady, system_of, has_entry, arena_of, IsNumbered, numbered_arena, in_nodes, HoldsAllLost}
+use Rattle.roman_rank.proofs.Common.{◌≡◌, ℕ, ◌-◌, ◌^◌, ◌<◌, true, length, IsFalse, inl, inr, sym, ◌∙◌, subst, arith, not_from_false, cases_lt, Arena, sizes_of, count, pair_at, by_test, length-below, related_great, numbers_are_pairs, numbered_loses, last_is_steady, system_of, has_entry, arena_of, IsNumbered, numbered_arena, in_nodes, HoldsAllLost}
+use Rattle.roman_model.specs.Offers.{is_related}
+use Rattle.roman_model.proofs.CallerLemmas.{lost_unrelated, loses_up}
 use Rattle.std.proofs.Math.Nat.{mul-le-mul_left}
 use Rattle.roman_model.proofs.CallerLemmas.{numbered_listed, settled_exact}
 use Rattle.roman_joint.specs.NamedSys.{NamedSys, IsNamedSys}

@@ -25,8 +25,8 @@ pub(crate) fn depths_by<J: Rules>(
     requires all { HoldsAllLost (J.arena joint.now) order.now.list }
     ensures { IfOk result (λ depths. AreRanks (J.arena joint.now) depths.items) }
 {
-    joint.known();
-    order.known();
+    joint.known(); // pairs are told apart by their numbers
+    order.known(); // no pair is listed twice
     let pairs = joint.pairs();
     let mut depths = vec![in alloc; u32::MAX; pairs as usize]?;
     // No depth exceeds the number of pairs.
@@ -49,7 +49,7 @@ fn give_depth(order: &Order, depths: &mut [u32], start: u32, end: u32, n: u32, n
     requires within { end ≤ length order.now.list }
     ensures { GivesLevel order.now.list start end n depths.old depths.new }
 {
-    order.known();
+    order.known(); // listed pairs are pairs of the system
     let mut ahead = Ahead::nothing(near);
     for i in start..end {
         let (pair, _) = order.walk(i, &mut ahead);
@@ -69,7 +69,7 @@ pub(crate) fn depths_anew<J: Rules, L: Ledger>(
     requires { length (J.arena joint.now).nodes < 2 ^ 32 - 1 }
     ensures { IfOk result (λ depths. AreRanks (J.arena joint.now) depths.items) }
 {
-    joint.known();
+    joint.known(); // pairs are numbered from 0
     let lanes = joint.lanes();
     let mut order = Order::build(alloc, joint.pairs())?;
     order.shape_to(joint.rows(), lanes);

@@ -3,11 +3,12 @@ ghost use Rattle.std.specs.Prelude.{◌≡◌, ℕ, ◌<◌, ◌↔◌, None, le
 ghost use Rattle.roman_model.specs.System.{Sys, Pair, IsPair};
 ghost use Rattle.roman_model.specs.Composition.{Great};
 ghost use Rattle.roman_model.specs.Numbers.{sizes_of, pair_at};
-ghost use Rattle.roman_model.specs.Offers.{related_count};
+ghost use Rattle.roman_model.specs.Play.{IsLeast};
 ghost use Rattle.roman_joint.specs.NamedSys.{system_of};
 ghost use Rattle.roman_relation.specs.Shaped.{IsShaped};
 ghost use Rattle.roman_relation.specs.Greatest.{arena_of, row_lanes, HasCompleteList};
-ghost use Rattle.roman_rank.specs.Depths.{IsLeast, IsGreatest, depth_count};
+ghost use Rattle.roman_model.specs.Counting.{Counts};
+ghost use Rattle.roman_rank.specs.Depths.{IsGreatest};
 ghost use Rattle.roman_rank.specs.Ranking.{depth_in, AreDepths, AreRanks, IsRanking};
 
 use crate::counting::counts_of;
@@ -25,11 +26,20 @@ use std::sync::ledger::Ledger;
 /// Contracts see a table of these numbers, in the order of the pairs' numbers. `u32::MAX` stands for a
 /// pair without a depth. A clause about a system holds for each system whose [depths](Ranks::build) the
 /// table has.
-#[derive(Drop)]
 pub struct Ranks {
     depths: Vec<u32>,
     // the number of pairs of each depth, up to the greatest depth
     counts: Vec<u32>,
+}
+
+// One call. At each exit of a function that owns ranks, a derived drop would be a step for each vector.
+impl Drop for Ranks {
+    fn drop(self) {
+        let Ranks {
+            depths: _,
+            counts: _,
+        } = self;
+    }
 }
 
 impl Model for Ranks {
@@ -56,7 +66,7 @@ impl Ranks {
         requires shaped { IsShaped (arena_of relation.now.joint) (row_lanes relation.now.joint) relation.now.order }
         ensures depths { IfOk result (AreDepths (system_of relation.now.joint)) }
     {
-        relation.joint.known();
+        relation.joint.known(); // the system is well formed, a pair's number fits 32 bits
         let depths = depths_of(alloc, relation, steps)?;
         let counts = counts_of(alloc, &depths)?;
         Ok(Ranks { depths, counts })
@@ -96,7 +106,7 @@ impl Ranks {
     /// Returns the number of pairs of depth `n`. Requires a depth below `u32::MAX`.
     pub fn level(&self, n: u32) -> u32
         requires { n < u32.MAX }
-        ensures { (s : Sys) → AreDepths s self.now → result ≡ depth_count s n }
+        ensures { (s : Sys) → AreDepths s self.now → Counts s (λ p. IsLeast s p n) result }
     {
         count_equal(&self.depths, n) as u32
     }
@@ -104,7 +114,7 @@ impl Ranks {
     /// Returns the number of related pairs of the system.
     #[tactic(auto, using(crate::proofs::Telling::related_counted))]
     pub fn related(&self) -> u32
-        ensures { (s : Sys) → AreDepths s self.now → result ≡ related_count s }
+        ensures { (s : Sys) → AreDepths s self.now → Counts s (Great s) result }
     {
         count_equal(&self.depths, u32::MAX) as u32
     }
@@ -128,8 +138,8 @@ fn depths_of<L: Ledger>(
     requires shaped { IsShaped (arena_of relation.now.joint) (row_lanes relation.now.joint) relation.now.order }
     ensures { IfOk result (λ depths. AreRanks (arena_of relation.now.joint) depths.items) }
 {
-    relation.joint.known();
-    relation.order.known();
+    relation.joint.known(); // the system is well formed, a pair's number fits 32 bits
+    relation.order.known(); // listed pairs are pairs of the system
     if relation.order.levels().is_empty() {
         depths_anew(alloc, &relation.joint, steps)
     } else {

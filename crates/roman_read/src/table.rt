@@ -14,9 +14,15 @@ const FEW: usize = 8;
 
 /// A list of distinct names, numbered from 0 in the order in which they were added. Contracts see the
 /// list. Only [`add`](NameTable::add) and [`copy`](NameTable::copy) take memory.
-#[derive(Drop)]
 pub struct NameTable {
     names: IndexSet<Name>,
+}
+
+// One call. At each exit of a function that owns a table, a derived drop would be a step for each vector.
+impl Drop for NameTable {
+    fn drop(self) {
+        let NameTable { names: _ } = self;
+    }
 }
 
 impl Model for NameTable {
@@ -99,7 +105,7 @@ impl NameTable {
         requires { length self.old < 2 ^ 32 - 1 }
         ensures add { Adds self.old self.new name result }
     {
-        name.known();
+        name.known(); // the bytes of a name obey the rule of names
         let names = &mut self.names;
         let (place, added) = match names.insert_full(name) {
             Ok(found) => found,

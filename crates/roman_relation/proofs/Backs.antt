@@ -1,46 +1,23 @@
 -- The bands that were noted in a round.
-use Rattle.roman_relation.proofs.Common.{◌≡◌, ℕ, zero, suc, ◌+◌, ◌-◌, ◌*◌, ◌/◌, ◌%◌, ◌<◌, ◌≤◌, Bool, true, false, cond, ◌||◌, ◌==◌, List, [], ◌∷◌, ◌++◌, length, take, drop, slice_index, IsTrue, IsFalse, inl, inr, refl, sym, ap, ◌∙◌, subst, arith, take-append-drop, append_assoc, sum_by, take-append_seam, take-length, cases_eq, both_ways, eqb-true, or_left, or_right, or_parts, false_from_ne_true, not_from_true, eq-eqb, ne_eqb, take-take, length-take-le, list_any-append, sum_by_push, IsIn, below, Arena, Entry, is_listed, IsOrder, fall, IsNumbered, by_test, sum_by_same, from_below, any_from, from_map, in_map, listed_append, is_on, Board, as_entry, set_lanes, has_entry, IsEvent, entries_at, Event, in_lanes, IsMarking, moves_to_all, on_at, any_true, pairs_of, IsShaped, lane_place}
+use Rattle.roman_relation.proofs.Common.{◌≡◌, ℕ, zero, suc, ◌+◌, ◌-◌, ◌*◌, ◌/◌, ◌%◌, ◌<◌, ◌≤◌, true, false, cond, ◌||◌, ◌==◌, List, [], ◌∷◌, ◌++◌, length, take, drop, slice_index, IsTrue, IsFalse, inl, inr, refl, sym, ap, ◌∙◌, subst, arith, take-append-drop, append_assoc, not, take-length, cases_eq, both_ways, eqb-true, or_right, or_parts, false_from_ne_true, not_from_true, eq-eqb, ne_eqb, not_from_false, take-take, length-take-le, list_any-append, sum_by_push, IsIn, below, Arena, Entry, is_listed, IsOrder, fall, IsNumbered, by_test, sum_by_same, any_from, from_map, in_map, listed_append, any_true, is_on, Board, as_entry, set_lanes, has_entry, pairs_of, IsEvent, entries_at, Event, in_lanes, lane_place, InRound, IsMarking, moves_to_all, on_at, IsShaped}
 use Rattle.roman_relation.specs.Rounds.{AreGoneBack}
 use Rattle.std.proofs.Common.{length-drop}
 use Rattle.std.proofs.lemmas.Bool.{cases_Bool}
 use Rattle.std.proofs.Math.Bool.{or-false}
-use Rattle.std.proofs.Math.Seq.{take-append-add, drop-append_seam}
+use Rattle.std.proofs.Math.Seq.{drop-append_seam}
 use Rattle.roman_model.proofs.CallerLemmas.{in_append_left, in_append_right, none_from, split_at, order_middle}
 use Rattle.roman_relation.specs.Rounds.{has_band, moves_to}
 use Rattle.roman_relation.proofs.Beginnings.{take_listed}
 use Rattle.roman_order.specs.Walks.{AreUnkept}
-use Rattle.roman_relation.proofs.Losses.{fall_entries, lane_in, noted_entries}
-use Rattle.roman_relation.proofs.Marks.{IsNoted, noted_own, noted_other}
-
--- ---- sums
-
--- one more number passes
-sum_one_more : (f : ℕ → ℕ) (t u : ℕ → Bool) (n y : ℕ) → y < n → t y ≡ false → u y ≡ true → ((z : ℕ) → (z ≡ y → ⊥) → u z ≡ t z) →
-    sum_by (λ z. cond (u z) (f z) 0) (below n) ≡ sum_by (λ z. cond (t z) (f z) 0) (below n) + f y
-sum_one_more f t u zero y l off on same = absurd (omega arith)
-sum_one_more f t u (suc n) y l off on same =
-    let one = sum_by_push (λ z. cond (t z) (f z) 0) (below n) n in
-    let two = sum_by_push (λ z. cond (u z) (f z) 0) (below n) n in
-    elim (cases_eq n y) [
-      | inl e ↦
-          let early = sum_by_same (λ z. cond (u z) (f z) 0) (λ z. cond (t z) (f z) 0) (below n) (λ z i. ap (λ b. cond b (f z) 0) (same z (λ s. let m = from_below n z i in omega arith))) in
-          omega (arith, one, two, early, ap (λ b. cond b (f n) 0) (ap u e ∙ on), ap (λ b. cond b (f n) 0) (ap t e ∙ off), ap f e)
-      | inr ne ↦ omega (arith, one, two, ap (λ b. cond b (f n) 0) (same n ne), sum_one_more f t u n y (omega arith) off on same)
-    ]
+use Rattle.roman_relation.proofs.Lanes.{at_pair}
+use Rattle.roman_relation.proofs.Losses.{fall_entries, first_lane, lane_in, noted_entries, take_entries}
+use Rattle.roman_relation.proofs.Marks.{IsNoted, noted_own, noted_other, sum_one_more}
 
 -- ---- the band of an event
 
--- an event has some lane
-pub event_lane : (n : ℕ) (e : Event) → IsEvent n e → (lane : ℕ) × (lane < 64) × (is_on e.lanes lane ≡ true)
-event_lane n e is = first (set_lanes e.lanes) is.some (λ lane i. in_lanes e.lanes lane i)
-  where
-    first : (ls : List ℕ) → 0 < length ls → ((lane : ℕ) → IsIn lane ls → (lane < 64) × (is_on e.lanes lane ≡ true)) → (lane : ℕ) × (lane < 64) × (is_on e.lanes lane ≡ true)
-    first [] some each = absurd (omega arith)
-    first (lane ∷ ls) some each = let (low, on) = each lane (inl refl) in (lane, low, on)
-
 own_band : (n w : ℕ) (e : Event) → IsEvent n e → has_band n w (entries_at n e) (e.row / w) ≡ true
 own_band n w e is =
-    let (lane, low, on) = event_lane n e is in
+    let (lane, low, on) = first_lane e.lanes is.some in
     let y : ℕ = e.row / w in
     let f = λ (l : ℕ). as_entry (e.row * n + l, e.reason) in
     let here : y ≡ (e.row * n + lane) / n / w = ap (λ x. x / w) (sym (lane_place n e.row lane (is.within lane on)).0) in
@@ -60,20 +37,17 @@ other_more n w z M e is ne = band_more n w z M (entries_at n e) ∙ (ap (λ b. h
 
 -- ---- one more event
 
--- where the kept words have one of the event's lanes, its band wasn't noted; where they have none, it was
+-- where the kept words have one of the event's lanes, its band wasn't noted
 pub band_is_new : (A : Arena ℕ) (n w start row lane : ℕ) (M : List (Entry ℕ)) (b : Board) → AreGoneBack A n w start M b → lane < n → row * n + lane < length A.nodes →
     on_at n b.before (row * n + lane) ≡ true → IsTrue (is_listed A b.list (row * n + lane)) → has_band n w M (row / w) ≡ false
 band_is_new A n w start row lane M b back l inside on listed = grind (arith, both_ways, false_from_ne_true, lane_place)
 
-pub band_is_old : (A : Arena ℕ) (n w start row lane : ℕ) (M : List (Entry ℕ)) (b : Board) → AreGoneBack A n w start M b → lane < n → row * n + lane < length A.nodes →
-    on_at n b.before (row * n + lane) ≡ false → IsFalse (is_listed A (take start b.list) (row * n + lane)) → has_band n w M (row / w) ≡ true
-band_is_old A n w start row lane M b back l inside off fresh = grind (arith, both_ways, by_test, lane_place)
-
--- more entries of noted bands change nothing
-pub back_over : (A : Arena ℕ) (n w mid start : ℕ) (M N : List (Entry ℕ)) (b : Board) → ((x : Entry ℕ) → IsIn x N → has_band n w M (x.node / n / w) ≡ true) → AreGoneBack A n w start M b →
+-- more entries without bits in the kept words change nothing: their bands are noted
+pub back_over : (A : Arena ℕ) (n w mid start : ℕ) (M N : List (Entry ℕ)) (b : Board) → ((x : Entry ℕ) → IsIn x N → x.node < length A.nodes) → ((x : Entry ℕ) → IsIn x N → on_at n b.before x.node ≡ false) →
+    ((x : Entry ℕ) → IsIn x N → IsFalse (is_listed A (take start b.list) x.node)) → AreGoneBack A n w start M b →
     AreGoneBack A n w start (M ++ N) b × (moves_to_all A n w mid b.rows (M ++ N) ≡ moves_to_all A n w mid b.rows M)
-back_over A n w mid start M N b old back = (
-  record { fresh = λ p l off new. back.fresh p l (sym (same (p / n / w)) ∙ off) new; gone = λ p l on listed. back.gone p l (sym (same (p / n / w)) ∙ on) listed },
+back_over A n w mid start M N b low off new back = (
+  record { fresh = λ p l none unlisted. back.fresh p l (sym (same (p / n / w)) ∙ none) unlisted; gone = λ p l on listed. back.gone p l (sym (same (p / n / w)) ∙ on) listed },
   sum_by_same (λ z. cond (has_band n w (M ++ N) z) (moves_to A n w mid z) 0) (λ z. cond (has_band n w M z) (moves_to A n w mid z) 0) (below b.rows)
       (λ z i. ap (λ t. cond t (moves_to A n w mid z) 0) (same z)),
 )
@@ -82,21 +56,10 @@ back_over A n w mid start M N b old back = (
     same z = band_more n w z M N ∙ elim (cases_Bool (has_band n w N z)) [
       | inl on ↦
           let (x, i, e) = any_true (λ (x : Entry ℕ). z == x.node / n / w) N on in
-          let noted : has_band n w M z ≡ true = ap (has_band n w M) (eqb-true z (x.node / n / w) e) ∙ old x i in
-          or_left (has_band n w M z) (has_band n w N z) noted ∙ sym noted
+          let noted : has_band n w M (x.node / n / w) ≡ true = by_test (has_band n w M (x.node / n / w)) (λ t. t) (λ none. absurd (both_ways (on_at n b.before x.node) (off x i) (back.fresh x.node (low x i) none (new x i)))) in
+          rw (eqb-true z (x.node / n / w) e, noted) refl
       | inr off ↦ ap (λ t. has_band n w M z || t) off ∙ or-false (has_band n w M z)
     ]
-
--- one more event of a noted band changes nothing
-pub back_again : (A : Arena ℕ) (n w mid start : ℕ) (M : List (Entry ℕ)) (e : Event) (b : Board) → IsEvent n e → has_band n w M (e.row / w) ≡ true → AreGoneBack A n w start M b →
-    AreGoneBack A n w start (M ++ entries_at n e) b × (moves_to_all A n w mid b.rows (M ++ entries_at n e) ≡ moves_to_all A n w mid b.rows M)
-back_again A n w mid start M e b is old back = back_over A n w mid start M (entries_at n e) b own back
-  where
-    own : (x : Entry ℕ) → IsIn x (entries_at n e) → has_band n w M (x.node / n / w) ≡ true
-    own x i =
-        let (lane, among, same) = from_map (λ (l : ℕ). as_entry (e.row * n + l, e.reason)) x (set_lanes e.lanes) i in
-        let place = lane_place n e.row lane (is.within lane (in_lanes e.lanes lane among).1) in
-        ap (has_band n w M) (ap (λ (y : Entry ℕ). y.node / n / w) same ∙ ap (λ r. r / w) place.0) ∙ old
 
 -- one more event of another band, which is then noted
 pub back_now : (A : Arena ℕ) (n w mid start : ℕ) (M : List (Entry ℕ)) (e : Event) (b c : Board) → IsEvent n e → has_band n w M (e.row / w) ≡ false → e.row / w < b.rows → c.rows ≡ b.rows →
@@ -118,13 +81,6 @@ back_now A n w mid start M e b c is new inside rows noted back = (
 )
 
 -- ---- the entries of the round
-
--- the entries up to the end of an event
-pub take_entries : (L : List (Entry ℕ)) (i : ℕ) (E R : List (Entry ℕ)) → i ≤ length L → drop i L ≡ E ++ R → take (i + length E) L ≡ take i L ++ E
-take_entries L i E R within rest =
-    let parts : take i L ++ (E ++ R) ≡ L = ap (λ M. take i L ++ M) (sym rest) ∙ take-append-drop i L in
-    let long : length (take i L) + length E ≡ i + length E = omega (arith, length-take-le i L within) in
-    ap (take (i + length E)) (sym parts) ∙ (ap (λ k. take k (take i L ++ (E ++ R))) (sym long) ∙ (take-append-add (take i L) (E ++ R) (length E) ∙ ap (λ M. take i L ++ M) (take-append_seam E R)))
 
 -- the entries before the round don't list the pair of an entry of the round
 pub entry_new : (A : Arena ℕ) (L M R : List (Entry ℕ)) (start i : ℕ) (x : Entry ℕ) → IsOrder A L → start ≤ i → drop i L ≡ M ++ R → IsIn x M → IsFalse (is_listed A (take start L) x.node)
@@ -154,6 +110,17 @@ pub record IsReached (A : Arena ℕ) (n w mid start i : ℕ) (L : List (Entry �
   pub back : AreGoneBack A n w start L b
   pub cost : moves_to_all A n w mid b.rows L + fall A (take start b.list) ≤ fall A (take i b.list)
 
+-- more entries are noted
+pub reached_on : (A : Arena ℕ) → IsNumbered A → (n w mid start i : ℕ) (L N R : List (Entry ℕ)) (b : Board) → i ≤ length b.list → drop i b.list ≡ N ++ R → ((x : Entry ℕ) → IsIn x N → on_at n b.before x.node ≡ false) →
+    IsMarking A n w start i b → take i b.list ≡ take start b.list ++ L → AreGoneBack A n w start (L ++ N) b →
+    moves_to_all A n w mid b.rows (L ++ N) + fall A (take start b.list) ≤ fall A (take i b.list) + fall A N → IsReached A n w mid start (i + length N) (L ++ N) b
+reached_on A ok n w mid start i L N R b within rest off marking parts back cost = record {
+  marking = noted_entries A ok n w start i b N R within rest off marking;
+  parts = take_entries b.list i N R within rest ∙ (ap (λ M. M ++ N) parts ∙ append_assoc (take start b.list) L N);
+  back = back;
+  cost = omega (arith, cost, fall_entries A b.list i N R within rest);
+}
+
 -- entries without bits in the kept words are passed over
 pub passed_unkept : (A : Arena ℕ) → IsNumbered A → (n w mid start i j : ℕ) (L : List (Entry ℕ)) (b : Board) → IsOrder A b.list → IsShaped A n b →
     ((p : ℕ) → has_entry b.list p ≡ true → p < pairs_of b) → start ≤ i → AreUnkept b i j → IsReached A n w mid start i L b →
@@ -163,26 +130,23 @@ passed_unkept A ok n w mid start i j L b order shaped in_range first over is =
     let R : List (Entry ℕ) = drop (j - i) (drop i b.list) in
     let rest : drop i b.list ≡ N ++ R = sym (take-append-drop (j - i) (drop i b.list)) in
     let whole : b.list ≡ take i b.list ++ (N ++ R) = sym (take-append-drop i b.list) ∙ ap (λ M. take i b.list ++ M) rest in
+    let within : i ≤ length b.list = omega (arith, over.from, over.to) in
     let long : i + length N ≡ j = omega (arith, over.from, over.to, length-take-le (j - i) (drop i b.list) (omega (arith, over.to, length-drop i b.list))) in
     let off = λ (x : Entry ℕ) (inside : IsIn x N). subst (λ m. is_on (slice_index b.before (x.node / m)) (x.node % m) ≡ false) shaped.lanes (over.unkept x inside) in
     let low = λ (x : Entry ℕ) (inside : IsIn x N).
     in_range x.node (any_from (λ (y : Entry ℕ). x.node == y.node) x b.list (subst (IsIn x) (sym whole) (in_append_right x (take i b.list) (N ++ R) (in_append_left x N R inside))) (eq-eqb x.node x.node refl)) in
-    let old = λ (x : Entry ℕ) (inside : IsIn x N). by_test (has_band n w L (x.node / n / w)) (λ on. on)
-    (λ none. absurd (both_ways (on_at n b.before x.node) (off x inside) (is.back.fresh x.node (omega (arith, low x inside, shaped.pairs)) none (entry_new A b.list N R start i x order first rest inside)))) in
-    let (back, sum) = back_over A n w mid start L N b old is.back in (
+    let (back, sum) = back_over A n w mid start L N b (λ x i. omega (arith, low x i, shaped.pairs)) off (λ x inside. entry_new A b.list N R start i x order first rest inside) is.back in (
       L ++ N,
-      record {
-        marking = subst (λ k. IsMarking A n w start k b) long (noted_entries A ok n w start i b N R rest off is.marking);
-        parts = ap (λ k. take k b.list) (sym long) ∙ (take_entries b.list i N R (omega (arith, over.from, over.to)) rest ∙ (ap (λ M. M ++ N) is.parts ∙ append_assoc (take start b.list) L N));
-        back = back;
-        cost = omega (arith, is.cost, sum, fall_entries A b.list i N R rest, ap (λ k. fall A (take k b.list)) long);
-      },
+      subst (λ k. IsReached A n w mid start k (L ++ N) b) long (reached_on A ok n w mid start i L N R b within rest off is.marking is.parts back (omega (arith, is.cost, sum))),
       sum,
     )
 
 -- at the beginning, no band was noted
-pub none_back : (A : Arena ℕ) (n w start : ℕ) (b : Board) → ((p : ℕ) → p < length A.nodes → IsFalse (is_listed A (take start b.list) p) → on_at n b.before p ≡ true) → AreGoneBack A n w start [] b
-none_back A n w start b kept = record { fresh = λ p l off new. kept p l new; gone = λ p l on listed. cc }
+pub none_back : (A : Arena ℕ) (n w start : ℕ) (b : Board) → 0 < n → length A.nodes ≤ length b.before * n → InRound A n start b → AreGoneBack A n w start [] b
+none_back A n w start b some long round = record {
+  fresh = λ p l off new. at_pair n (λ q. not (is_listed A (take start b.list) q)) b.before p some (omega arith) round.kept ∙ not_from_false (is_listed A (take start b.list) p) new;
+  gone = λ p l on listed. cc;
+}
 
 -- at the end, the noted entries are all entries of the round
 pub all_back : (L M : List (Entry ℕ)) (start : ℕ) → start ≤ length L → take (length L) L ≡ take start L ++ M → M ≡ drop start L

@@ -1,7 +1,7 @@
 -- Rows as parts of bands.
 use Rattle.roman_relation.proofs.Common.{◌≡◌, ℕ, ◌+◌, ◌*◌, ◌/◌, ◌%◌, ◌<◌, ◌≤◌, ◌-◌, ◌⊎◌, length, ap, ◌∙◌, arith, cases_lt, mul-le, mul-add-lt, div_below, div-add-mod', mod_below, Arena, Board, IsShaped, lane_place}
 use Rattle.std.proofs.Math.Nat.{div-le_self}
-use Rattle.roman_relation.proofs.Lanes.{shaped_pairs, shaped_rows}
+use Rattle.roman_relation.proofs.Lanes.{shaped_pairs, shaped_row, shaped_rows}
 
 -- a pair from its band, its row within the band, and its lane
 pub pair_in : (lanes band p : ℕ) → (p / lanes / band * band + p / lanes % band) * lanes + p % lanes ≡ p
@@ -22,20 +22,22 @@ outside_band band y row some ne = grind (arith, band_at, cases_lt)
 pub band_ends : (band y bands : ℕ) → y < bands → y * band + band ≤ bands * band
 band_ends band y bands l = grind (arith, mul-le)
 
--- the order consists of whole bands
-pub whole_bands : (A : Arena ℕ) (lanes band bands : ℕ) (b : Board) → IsShaped A lanes b → 0 < lanes → bands * band * lanes ≡ length A.nodes → bands * band ≡ b.rows
-whole_bands A lanes band bands b shaped some e = shaped_rows A lanes (bands * band) b shaped some e
+-- a band below the number of bands ends within the order
+pub band_inside : (A : Arena ℕ) (lanes band bands y : ℕ) (b : Board) → IsShaped A lanes b → 0 < lanes → bands * band * lanes ≡ length A.nodes → y < bands → y * band + band ≤ b.rows
+band_inside A lanes band bands y b shaped some e l = omega (arith, band_ends band y bands l, shaped_rows A lanes (bands * band) b shaped some e)
+
+-- a pair's band is below the number of bands
+pub band_of : (A : Arena ℕ) (lanes band bands p : ℕ) (b : Board) → IsShaped A lanes b → 0 < lanes → 0 < band → bands * band * lanes ≡ length A.nodes → p < length A.nodes → p / lanes / band < bands
+band_of A lanes band bands p b shaped some many e l = div_below (p / lanes) band bands many (omega (arith, shaped_row A lanes p b shaped some l, shaped_rows A lanes (bands * band) b shaped some e))
 
 -- a row's band ends within the order
 pub row_band : (A : Arena ℕ) (lanes band bands row : ℕ) (b : Board) → IsShaped A lanes b → 0 < lanes → 0 < band → bands * band * lanes ≡ length A.nodes → row < b.rows → row / band * band + band ≤ b.rows
 row_band A lanes band bands row b shaped some many e l =
-    let rows = whole_bands A lanes band bands b shaped some e in
-    let h = band_ends band (row / band) bands (div_below row band bands many (omega arith)) in
-    omega arith
+    band_inside A lanes band bands (row / band) b shaped some e (div_below row band bands many (omega (arith, l, shaped_rows A lanes (bands * band) b shaped some e)))
 
 -- the first pair of a row is in range
-pub band_begins : (lanes x rows : ℕ) → x < rows → 0 < lanes → x * lanes < rows * lanes
-band_begins lanes x rows l some = grind (arith, mul-le)
+pub band_begins : (A : Arena ℕ) (lanes x : ℕ) (b : Board) → IsShaped A lanes b → x < b.rows → 0 < lanes → x * lanes < length A.nodes
+band_begins A lanes x b shaped l some = grind (arith, mul-le, shaped_pairs)
 
 -- a pair between the first pair of a band and that of the next lies in the band
 pub pair_past : (lanes band y p : ℕ) → 0 < lanes → y * band * lanes ≤ p → p < (y + 1) * band * lanes →

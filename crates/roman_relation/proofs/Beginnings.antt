@@ -1,5 +1,5 @@
 -- Lists of entries that begin with other lists.
-use Rattle.roman_relation.proofs.Common.{◌≡◌, ℕ, ◌<◌, ◌≤◌, ◌==◌, List, length, take, drop, IsTrue, IsFalse, sym, ap, ◌∙◌, subst, arith, take-append-drop, take-length, both_ways, or_left, false_from_ne_true, take-take, get_or-take, Arena, Entry, is_listed, any_same, listed_append, IsNumbered, has_entry, Begins}
+use Rattle.roman_relation.proofs.Common.{◌≡◌, ℕ, ◌<◌, ◌≤◌, ◌==◌, List, length, take, drop, IsTrue, IsFalse, sym, ap, ◌∙◌, subst, arith, take-append-drop, ◌++◌, take-length, take-append_seam, both_ways, or_left, false_from_ne_true, take-take, get_or-take, Arena, Entry, is_listed, any_same, listed_append, IsNumbered, has_entry, Begins}
 use Rattle.std.proofs.Common.{get_or}
 use Rattle.std.proofs.lemmas.List.{length-take}
 
@@ -12,6 +12,9 @@ begins_length L M b = let same : length (take (length L) M) ≡ length L = ap le
 
 pub begins_itself : (L : List (Entry ℕ)) → Begins L L
 begins_itself L = take-length L
+
+pub begins_append : (L M : List (Entry ℕ)) → Begins L (L ++ M)
+begins_append L M = take-append_seam L M
 
 -- a list and its prefix have the same shorter prefixes
 pub begins_same : (L M : List (Entry ℕ)) (i : ℕ) → Begins L M → i ≤ length L → take i M ≡ take i L

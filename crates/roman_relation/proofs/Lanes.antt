@@ -1,5 +1,6 @@
 -- Pairs as lanes of rows.
-use Rattle.roman_relation.proofs.Common.{◌≡◌, ℕ, ◌+◌, ◌*◌, ◌/◌, ◌%◌, ◌<◌, Bool, false, not, List, length, slice_index, IsFalse, sym, ap, ap₂, ◌∙◌, arith, both_ways, not_from_false, div-add-mod', div_below, mod_below, Arena, Entry, is_listed, is_on, HasLanes, on_zero, IsNumbered, Board, has_entry, IsShaped, AreUnlisted, on_at, lane_place}
+use Rattle.roman_relation.proofs.Common.{◌≡◌, ℕ, ◌+◌, ◌*◌, ◌/◌, ◌%◌, ◌<◌, Bool, false, not, List, length, slice_index, IsTrue, sym, ap, ◌∙◌, arith, by_test, both_ways, not_from_false, div-add-mod', div_below, mod_below, Arena, Entry, is_listed, is_on, HasLanes, on_zero, IsNumbered, Board, has_entry, IsShaped, AreUnlisted, on_at, lane_place}
+use Rattle.std.proofs.Common.{ap₂}
 use Rattle.std.proofs.lemmas.Nat.{same_from_place}
 use Rattle.roman_lanes.specs.Rows.{AreRows}
 use Rattle.roman_relation.proofs.Beginnings.{listed_is}
@@ -22,19 +23,14 @@ pub words_rows : (A : Arena ℕ) → IsNumbered A → (lanes : ℕ) (b : Board) 
     AreRows b.lanes (λ p. not (has_entry b.list p)) words → AreUnlisted A lanes b.list words
 words_rows A ok lanes b words shaped are = grind (arith, unlisted_row)
 
--- the word of a row has the bits of its pairs that aren't listed
-pub words_row : (A : Arena ℕ) → IsNumbered A → (lanes row : ℕ) (b : Board) (words : List ℕ) → IsShaped A lanes b → length words ≡ b.rows →
-    row < b.rows → AreRows b.lanes (λ p. not (has_entry b.list p)) words →
-    HasLanes lanes row (λ p. not (is_listed A b.list p)) (slice_index words row)
-words_row A ok lanes row b words shaped long inside are = (words_rows A ok lanes b words shaped are).each row (omega arith)
-
 -- where the word of a row is 0, all its pairs are listed
 pub all_listed : (A : Arena ℕ) → IsNumbered A → (lanes row lane : ℕ) (b : Board) (words : List ℕ) → IsShaped A lanes b → length words ≡ b.rows →
-    row < b.rows → AreRows b.lanes (λ p. not (has_entry b.list p)) words → slice_index words row ≡ 0 → lane < lanes → IsFalse (is_listed A b.list (row * lanes + lane)) → ⊥
-all_listed A ok lanes row lane b words shaped long inside are empty l off =
+    row < b.rows → AreRows b.lanes (λ p. not (has_entry b.list p)) words → slice_index words row ≡ 0 → lane < lanes → IsTrue (is_listed A b.list (row * lanes + lane))
+all_listed A ok lanes row lane b words shaped long inside are empty l =
     let none : is_on (slice_index words row) lane ≡ false = ap (λ w. is_on w lane) empty ∙ on_zero lane in
-    let is = words_row A ok lanes row b words shaped long inside are in
-    both_ways (is_on (slice_index words row) lane) none (is.each lane l ∙ not_from_false (is_listed A b.list (row * lanes + lane)) off)
+    let is = (words_rows A ok lanes b words shaped are).each row (omega (arith, long, inside)) in
+    by_test (is_listed A b.list (row * lanes + lane)) (λ t. t)
+    (λ off. absurd (both_ways (is_on (slice_index words row) lane) none (is.each lane l ∙ not_from_false (is_listed A b.list (row * lanes + lane)) off)))
 
 -- an order that is shaped for the arena has the arena's rows
 pub shaped_pairs : (A : Arena ℕ) (lanes : ℕ) (b : Board) → IsShaped A lanes b → b.rows * lanes ≡ length A.nodes

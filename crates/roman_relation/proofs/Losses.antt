@@ -1,24 +1,29 @@
 -- Noting the entries of an event together.
-use Rattle.roman_relation.proofs.Common.{◌≡◌, ◌≢◌, ℕ, suc, ◌+◌, ◌*◌, ◌<◌, ◌≤◌, true, false, ◌&&◌, List, [], ◌∷◌, ◌++◌, length, take, drop, IsTrue, inl, inr, refl, sym, ap, ◌∙◌, subst, arith, take-append-drop, ◌==◌, and_parts, or_left, or_right, eq-eqb, list_any-append, IsIn, below, Arena, Entry, is_listed, back, fall, in_map, from_map, in_below, is_on, IsNumbered, Board, as_entry, set_lanes, has_entry, IsEvent, entries_at, Event, in_lanes, IsMarking, on_at}
+use Rattle.roman_relation.proofs.Common.{◌≡◌, ◌≢◌, ℕ, ◌+◌, ◌*◌, ◌<◌, ◌≤◌, true, false, ◌&&◌, List, [], ◌∷◌, ◌++◌, length, take, drop, IsTrue, inl, inr, refl, sym, ap, ◌∙◌, subst, arith, take-append-drop, ◌==◌, and_parts, or_cases, or_left, or_right, eq-eqb, length-take-le, take-append_seam, listed_append, fall_append, in_map, from_map, in_below, listed_in, numbered_same, list_any-append, IsIn, below, Arena, Entry, is_listed, fall, is_on, IsNumbered, Board, as_entry, set_lanes, has_entry, IsEvent, entries_at, Event, in_lanes, IsMarking, on_at}
+use Rattle.roman_model.specs.Arena.{back}
 use Rattle.std.proofs.Common.{◌^◌, bit_and}
+use Rattle.std.proofs.Math.Seq.{take-append-add}
 use Rattle.std.proofs.lemmas.Nat.{and_le_l}
-use Rattle.std.proofs.lemmas.List.Sums.{sum_by-cons}
-use Rattle.roman_model.proofs.CallerLemmas.{sum_by_within, in_filter}
+use Rattle.roman_model.proofs.CallerLemmas.{in_filter, sum_by_within}
 use Rattle.roman_lanes.proofs.CallerLemmas.{on_and}
-use Rattle.roman_order.proofs.CallerLemmas.{some_lane, drop_next, get_first, has_entry-event}
+use Rattle.roman_order.proofs.CallerLemmas.{has_entry-event, some_lane}
 use Rattle.roman_relation.proofs.Beginnings.{listed_is}
-use Rattle.roman_relation.proofs.Marks.{noted_more, fall_more}
 
 -- ---- words that meet
 
-pub meeting_words : (word other : ℕ) → word < 2 ^ 64 → bit_and word other ≢ 0 → (lane : ℕ) × (is_on word lane ≡ true) × (is_on other lane ≡ true)
-meeting_words word other fits some = first (set_lanes (bit_and word other)) (some_lane (bit_and word other) some (omega (arith, and_le_l word other))) (λ lane i. (in_lanes (bit_and word other) lane i).1)
+-- a word with some lane
+pub first_lane : (word : ℕ) → 0 < length (set_lanes word) → (lane : ℕ) × (lane < 64) × (is_on word lane ≡ true)
+first_lane word some = first (set_lanes word) some (λ lane i. in_lanes word lane i)
   where
-    first : (ls : List ℕ) → 0 < length ls → ((lane : ℕ) → IsIn lane ls → is_on (bit_and word other) lane ≡ true) → (lane : ℕ) × (is_on word lane ≡ true) × (is_on other lane ≡ true)
-    first [] long on = absurd (omega arith)
-    first (lane ∷ ls) long on =
-        let (one, two) = and_parts (is_on word lane) (is_on other lane) (sym (on_and word other lane) ∙ on lane (inl refl)) in
-        (lane, one, two)
+    first : (ls : List ℕ) → 0 < length ls → ((lane : ℕ) → IsIn lane ls → (lane < 64) × (is_on word lane ≡ true)) → (lane : ℕ) × (lane < 64) × (is_on word lane ≡ true)
+    first [] long each = absurd (omega arith)
+    first (lane ∷ ls) long each = let (low, on) = each lane (inl refl) in (lane, low, on)
+
+pub meeting_words : (word other : ℕ) → word < 2 ^ 64 → bit_and word other ≢ 0 → (lane : ℕ) × (is_on word lane ≡ true) × (is_on other lane ≡ true)
+meeting_words word other fits some =
+    let (lane, low, on) = first_lane (bit_and word other) (some_lane (bit_and word other) some (omega (arith, and_le_l word other))) in
+    let (one, two) = and_parts (is_on word lane) (is_on other lane) (sym (on_and word other lane) ∙ on) in
+    (lane, one, two)
 
 -- ---- the entries of an event
 
@@ -50,20 +55,31 @@ event_listed A ok n L R i e lane few is rest on =
 
 -- ---- all entries of an event are noted
 
-pub noted_entries : (A : Arena ℕ) → IsNumbered A → (n band start i : ℕ) (b : Board) (M R : List (Entry ℕ)) → drop i b.list ≡ M ++ R →
+-- the entries up to the end of an event
+pub take_entries : (L : List (Entry ℕ)) (i : ℕ) (M R : List (Entry ℕ)) → i ≤ length L → drop i L ≡ M ++ R → take (i + length M) L ≡ take i L ++ M
+take_entries L i M R within rest =
+    let parts : take i L ++ (M ++ R) ≡ L = ap (λ N. take i L ++ N) (sym rest) ∙ take-append-drop i L in
+    let long : length (take i L) + length M ≡ i + length M = omega (arith, length-take-le i L within) in
+    ap (take (i + length M)) (sym parts) ∙ (ap (λ k. take k (take i L ++ (M ++ R))) (sym long) ∙ (take-append-add (take i L) (M ++ R) (length M) ∙ ap (λ N. take i L ++ N) (take-append_seam M R)))
+
+pub noted_entries : (A : Arena ℕ) → IsNumbered A → (n band start i : ℕ) (b : Board) (M R : List (Entry ℕ)) → i ≤ length b.list → drop i b.list ≡ M ++ R →
     ((x : Entry ℕ) → IsIn x M → on_at n b.before x.node ≡ false) → IsMarking A n band start i b → IsMarking A n band start (i + length M) b
-noted_entries A ok n band start i b [] R rest off marking = let same : i ≡ i + 0 = omega arith in subst (λ j. IsMarking A n band start j b) same marking
-noted_entries A ok n band start i b (x ∷ M) R rest off marking =
-    let more = noted_more A ok n band start i b x (get_first b.list i x (M ++ R) rest) (off x (inl refl)) marking in
-    let same : i + 1 + length M ≡ i + suc (length M) = omega arith in
-    subst (λ j. IsMarking A n band start j b) same (noted_entries A ok n band start (i + 1) b M R (drop_next b.list i x (M ++ R) rest) (λ y j. off y (inr j)) more)
+noted_entries A ok n band start i b M R within rest off marking = record {
+  old = marking.old;
+  alive = marking.alive;
+  past = marking.past;
+  noted = λ p t f. elim (or_cases (is_listed A (take i b.list) p) (is_listed A M p) (sym (listed_append A (take i b.list) M p) ∙ (rw (take_entries b.list i M R within rest) at t))) [
+    | inl old ↦ marking.noted p old f
+    | inr own ↦ let (x, inside, same) = listed_in A (numbered_same A ok) M p own in ap (on_at n b.before) same ∙ off x inside
+  ];
+  marked = marking.marked;
+}
 
-pub fall_entries : (A : Arena ℕ) (L : List (Entry ℕ)) (i : ℕ) (M R : List (Entry ℕ)) → drop i L ≡ M ++ R → fall A (take (i + length M) L) ≡ fall A (take i L) + fall A M
-fall_entries A L i [] R rest = let same : i + 0 ≡ i = omega arith in omega (arith, ap (λ j. fall A (take j L)) same)
-fall_entries A L i (x ∷ M) R rest =
-    let same : i + suc (length M) ≡ i + 1 + length M = omega arith in
-    omega (arith, ap (λ j. fall A (take j L)) same, fall_entries A L (i + 1) M R (drop_next L i x (M ++ R) rest), fall_more A L i x (get_first L i x (M ++ R) rest), sum_by-cons (λ (y : Entry ℕ). length (back A y.node)) x M)
+pub fall_entries : (A : Arena ℕ) (L : List (Entry ℕ)) (i : ℕ) (M R : List (Entry ℕ)) → i ≤ length L → drop i L ≡ M ++ R → fall A (take (i + length M) L) ≡ fall A (take i L) + fall A M
+fall_entries A L i M R within rest = ap (fall A) (take_entries L i M R within rest) ∙ fall_append A (take i L) M
 
--- where the bits of an event's lanes are cleared, so are the bits of its entries
-pub entries_off : (n : ℕ) (words : List ℕ) (e : Event) → ((lane : ℕ) → is_on e.lanes lane ≡ true → on_at n words (e.row * n + lane) ≡ false) → (x : Entry ℕ) → IsIn x (entries_at n e) → on_at n words x.node ≡ false
-entries_off n words e off x i = grind (arith, from_map, in_lanes)
+-- what holds of the pairs of an event's lanes holds of its entries
+pub entries_each : (P : ℕ → Type 0) (n : ℕ) (e : Event) → ((lane : ℕ) → is_on e.lanes lane ≡ true → P (e.row * n + lane)) → (x : Entry ℕ) → IsIn x (entries_at n e) → P x.node
+entries_each P n e each x i =
+    let (lane, among, same) = from_map (λ (l : ℕ). as_entry (e.row * n + l, e.reason)) x (set_lanes e.lanes) i in
+    subst (λ (y : Entry ℕ). P y.node) (sym same) (each lane (in_lanes e.lanes lane among).1)

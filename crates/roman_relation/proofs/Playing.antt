@@ -1,5 +1,6 @@
 -- A whole round.
-use Rattle.roman_relation.proofs.Common.{◌≡◌, ℕ, suc, ◌*◌, ◌/◌, ◌<◌, ◌≤◌, true, false, not, List, length, take, IsTrue, IsFalse, inl, inr, sym, ap, ◌∙◌, subst, arith, take-length, both_ways, or_cases, or_left, or_right, not_from_true, not_from_false, not-true, false_from_ne_true, mul-add-lt, IsIn, below, Arena, is_listed, is_justified, IsOrder, Reason, Final, Act, by_test, any_same, in_listed, IsNumbered, numbered_same, Board, has_entry, is_marked, Begins, IsSettled, HoldsLost, AreUnlisted, AwaitsRound, InRound, IsPairJudged, IsMarking, on_at, any_true}
+use Rattle.roman_relation.proofs.Common.{◌≡◌, ℕ, suc, ◌*◌, ◌/◌, ◌<◌, ◌≤◌, true, false, not, length, take, IsTrue, IsFalse, inl, inr, sym, ap, ◌∙◌, subst, arith, take-length, both_ways, or_cases, or_left, or_right, not_from_true, not_from_false, not-true, false_from_ne_true, mul-add-lt, IsIn, below, Arena, is_listed, is_justified, IsOrder, Reason, Act, by_test, any_same, in_listed, any_true, IsNumbered, numbered_same, Board, has_entry, is_marked, Begins, IsSettled, HoldsLost, AreUnlisted, AwaitsRound, InRound, IsPairJudged, IsMarking, on_at}
+use Rattle.roman_model.specs.declared.reason.Reason.TheVariants.{Final}
 use Rattle.std.specs.List.{list_any}
 use Rattle.roman_model.specs.Arena.{loses}
 use Rattle.roman_model.proofs.CallerLemmas.{same_test, justified_same}
@@ -20,9 +21,6 @@ all_done A lanes band start b c e ready begins done p l a off =
 -- when marking begins, nothing is marked, and the kept words are those at the round's start
 pub marking_starts : (A : Arena ℕ) (lanes band start : ℕ) (c : Board) → 0 < lanes → length A.nodes ≤ length c.before * lanes → InRound A lanes start c → IsMarking A lanes band start start c
 marking_starts A lanes band start c some long round = grind (arith, at_pair, both_ways, false_from_ne_true, not-true, not_from_false, take_listed)
-
-pub round_keeps : (A : Arena ℕ) (lanes start : ℕ) (c : Board) → 0 < lanes → length A.nodes ≤ length c.before * lanes → InRound A lanes start c → (p : ℕ) → p < length A.nodes → IsFalse (is_listed A (take start c.list) p) → on_at lanes c.before p ≡ true
-round_keeps A lanes start c some long round p l off = at_pair lanes (λ q. not (is_listed A (take start c.list) q)) c.before p some (omega arith) round.kept ∙ not_from_false (is_listed A (take start c.list) p) off
 
 -- when all entries are noted, the kept words are those of the list
 kept_at : (A : Arena ℕ) (lanes band start : ℕ) (d : Board) → IsMarking A lanes band start (length d.list) d → (p : ℕ) → p < length A.nodes → on_at lanes d.before p ≡ not (is_listed A d.list p)
@@ -86,7 +84,3 @@ settled_round A ok start c valid here done fine in_range = record {
 -- a round in which only the marks change
 pub round_marks : (A : Arena ℕ) (lanes start : ℕ) (b c : Board) → c ≡ record b { marks = c.marks } → InRound A lanes start b → InRound A lanes start c
 round_marks A lanes start b c e round = subst (InRound A lanes start) (sym e) (record { valid = round.valid; begun = round.begun; kept = round.kept; because = round.because })
-
--- a state between rounds in which only the levels change
-pub awaits_levels : (A : Arena ℕ) (lanes band : ℕ) (b c : Board) (levels : List ℕ) → c ≡ record b { levels = levels } → AwaitsRound A lanes band b → AwaitsRound A lanes band c
-awaits_levels A lanes band b c levels e ready = grind arith

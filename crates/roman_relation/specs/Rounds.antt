@@ -1,11 +1,13 @@
 -- The conditions between rounds and within one.
-use Rattle.std.specs.Prelude.{◌≡◌, ℕ, ◌*◌, ◌/◌, ◌%◌, ◌<◌, ◌≤◌, ◌==◌, ltb, ◌⊎◌, if◌then◌else◌, Bool, not, true, false, List, length, take, slice_index, count_by, sum_by, IsTrue, IsFalse}
+use Rattle.std.specs.Prelude.{◌≡◌, ℕ, ◌+◌, ◌*◌, ◌/◌, ◌%◌, ◌<◌, ◌≤◌, ◌==◌, ltb, ◌&&◌, ◌⊎◌, if◌then◌else◌, Bool, not, true, false, List, length, take, slice_index, count_by, sum_by, IsTrue, IsFalse}
 use Rattle.std.specs.List.{list_any}
 use Rattle.roman_model.specs.Lists.{IsIn, below}
 use Rattle.roman_model.specs.Arena.{Arena, Entry, is_listed, is_justified, back, IsOrder}
+use Rattle.roman_model.specs.declared.reason.Reason.{Reason}
 use Rattle.roman_model.specs.declared.reason.Reason.TheVariants.{Act}
 use Rattle.roman_lanes.specs.Rows.{is_on, AreRows}
 use Rattle.roman_order.specs.Board.{Board, is_marked}
+use Rattle.roman_relation.specs.Settled.{Begins}
 use Rattle.roman_relation.specs.Shaped.{IsShaped}
 
 -- the words have, row by row, the bits of the pairs that aren't listed
@@ -25,6 +27,20 @@ pub record AwaitsRound (A : Arena ℕ) (lanes band : ℕ) (board : Board) : Type
 -- some action is a reason to remove p, with the pairs of these entries gone
 abbrev pub falls : Arena ℕ → List (Entry ℕ) → ℕ → Bool
 falls A L p = list_any (λ a. is_justified A (is_listed A L) p (Act a)) (below A.actions)
+
+-- the lost lanes of some rows from row x on, one word for each row: those of the pairs that aren't listed, and at which
+-- the reason holds with these nodes gone
+pub record AreLostRows (A : Arena ℕ) (gone : ℕ → Bool) (L : List (Entry ℕ)) (lanes x rows : ℕ) (reason : Reason) (lost : List ℕ) : Type 0 where
+  pub few : lanes ≤ 64
+  pub within : (i lane : ℕ) → is_on (slice_index lost i) lane ≡ true → lane < lanes
+  pub is : (i lane : ℕ) → i < rows → lane < lanes → is_on (slice_index lost i) lane ≡ (not (is_listed A L ((x + i) * lanes + lane)) && is_justified A gone ((x + i) * lanes + lane) reason)
+
+-- the second list is the first one with the pairs of some rows from row x on at which the reason holds with these nodes gone
+pub record AddsLost (A : Arena ℕ) (gone : ℕ → Bool) (lanes x rows : ℕ) (reason : Reason) (L M : List (Entry ℕ)) : Type 0 where
+  pub begins : Begins L M
+  pub valid : ((p : ℕ) → IsTrue (gone p) → IsTrue (is_listed A L p)) → IsOrder A L → IsOrder A M
+  pub because : (p : ℕ) → IsTrue (is_listed A M p) → IsTrue (is_listed A L p) ⊎ (IsTrue (is_justified A gone p reason) × (x ≤ p / lanes) × (p / lanes < x + rows))
+  pub left : (i lane : ℕ) → i < rows → lane < lanes → IsFalse (is_listed A M ((x + i) * lanes + lane)) → IsFalse (is_justified A gone ((x + i) * lanes + lane) reason)
 
 -- within a round that began when the list had `start` entries: the kept words are those of that list, and each pair
 -- that was added since falls with the pairs of that list gone

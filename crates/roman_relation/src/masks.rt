@@ -18,8 +18,8 @@ pub(crate) fn mask<J: Rules>(joint: &J, order: &Order, p: u32, a: u8) -> SeatSet
     ensures { let A = J.arena joint.now in
         HasBits result (has (mask_of A (is_listed A order.now.list) p a)) }
 {
-    joint.known();
-    order.known();
+    joint.known(); // pairs are told apart by their numbers
+    order.known(); // a row has 1 to 64 lanes
     let lanes = joint.lanes();
     let row = joint.row(p / lanes);
     joint.mask(&row, order.words(), a, p % lanes)
@@ -31,7 +31,7 @@ pub(crate) fn choices<J: Rules>(joint: &J, order: &Order) -> u64
     ensures { let A = J.arena joint.now in
         result ≡ choices A (is_listed A order.now.list) }
 {
-    joint.known();
+    joint.known(); // a row has 1 to 64 lanes, a band has 1 to 64 rows
     let mut count = 0;
     for y in 0..joint.bands() {
         count += band_choices(joint, order, y);
@@ -49,8 +49,8 @@ fn band_choices<J: Rules>(joint: &J, order: &Order, y: u32) -> u64
         (below A.actions)) (below (J.lanes joint.now))) (below (J.band joint.now)) }
     ensures bound { result ≤ 4194304 }
 {
-    joint.known();
-    order.known();
+    joint.known(); // there are at most 32 actions, a row has 1 to 64 lanes
+    order.known(); // a row has 1 to 64 lanes
     let row = joint.first_row(y);
     let words = order.words();
     let mut count = 0;

@@ -59,7 +59,7 @@ impl Relation {
         ensures shaped { IfOk result (λ relation. IsShaped (arena_of relation.joint) (row_lanes relation.joint) relation.order) }
         ensures caps { IfOk result (λ relation. HasCaps relation.joint relation.order) }
     {
-        joint.known();
+        joint.known(); // there is at least one action
         let places = joint.limit() / u32::from(Rules::actions(&joint));
         let order = Order::build(alloc, places)?;
         let mut relation = Relation { joint, order };
@@ -102,8 +102,8 @@ impl Relation {
             HasCompleteList self.now.joint self.now.order
             → (IsTrue result ↔ Great s (pair_at (sizes_of s) p)) }
     {
-        self.joint.known();
-        self.order.known();
+        self.joint.known(); // the system is well formed
+        self.order.known(); // listed pairs are pairs of the system
         self.order.alive(p)
     }
 
@@ -116,7 +116,7 @@ impl Relation {
             HasCompleteList self.now.joint self.now.order
             → result ≡ length (filter (is_related s) (pairs s)) }
     {
-        self.joint.known();
+        self.joint.known(); // the system is well formed
         self.order.unlisted()
     }
 
@@ -130,7 +130,7 @@ impl Relation {
         ensures { let A = arena_of self.now.joint in
             HasBits result (has (mask A (is_listed A self.now.order.list) p a)) }
     {
-        self.joint.known();
+        self.joint.known(); // the system is well formed
         masks::mask(&self.joint, &self.order, p, a)
     }
 
@@ -155,8 +155,8 @@ impl Relation {
         ensures { HasCompleteList self.now.joint self.now.order
             → result ≡ choice_count (system_of self.now.joint) }
     {
-        self.joint.known();
-        self.order.known();
+        self.joint.known(); // the system is well formed
+        self.order.known(); // listed pairs are pairs of the system
         masks::choices(&self.joint, &self.order)
     }
 
@@ -173,7 +173,7 @@ impl Relation {
         ensures shaped { IsShaped (arena_of self.new.joint) (row_lanes self.new.joint) self.new.order }
         ensures caps { HasCaps self.new.joint self.new.order }
     {
-        self.joint.known();
+        self.joint.known(); // the system is well formed and within its limit
         let lanes = self.joint.lanes();
         self.order.shape_to(self.joint.rows(), lanes);
         settle_list(&self.joint, &mut self.order, steps);
@@ -199,7 +199,7 @@ impl Relation {
         ensures cost { steps.new
             ≤ steps.old + fall (arena_of self.old.joint) (drop (length self.old.order.list) self.new.order.list) }
     {
-        self.joint.known();
+        self.joint.known(); // the system is well formed
         settle_list(&self.joint, &mut self.order, steps);
     }
 }

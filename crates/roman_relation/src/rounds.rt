@@ -8,6 +8,7 @@ ghost use Rattle.roman_relation.specs.Settled.{Begins, SettlesOn, IsSettled, Hol
 ghost use Rattle.roman_relation.specs.Rounds.{AwaitsRound, moves_to_all};
 
 mod judging;
+mod listing;
 mod losses;
 mod unfine;
 
@@ -28,7 +29,7 @@ pub fn begin_rounds<J: Rules>(joint: &J, order: &mut Order)
     ensures goes_on { SettlesOn (J.arena joint.now) order.old order.new }
     ensures lost { order.old.list ≡ [] → HoldsLost (J.arena joint.now) 0 order.new.list }
 {
-    joint.known();
+    joint.known(); // a row has 1 to 64 lanes, a band has 1 to 64 rows
     list_unfine(joint, order);
     order.keep_before();
     order.mark_front(joint.bands());
@@ -59,13 +60,13 @@ pub fn play_round<J: Rules, L: Ledger>(joint: &J, order: &mut Order, steps: &mut
     ensures steps { steps.new ≡ steps.old + moves_to_all (J.arena joint.now) (J.lanes joint.now) (J.band joint.now) (J.mid joint.now) order.old.rows
         (drop (length order.old.list) order.new.list) }
 {
-    joint.known();
-    order.known();
+    joint.known(); // outcomes are pairs of the system
+    order.known(); // each row has a kept word, listed pairs are pairs of the system
     let start = order.len();
     let near = order.events().len();
     judge_marked(joint, order);
     mark_losses(joint, order, start, near, steps);
-    order.known();
+    order.known(); // each row has a kept word
 }
 
 /// Extends a removal list to a complete one, to which no reason adds a pair, by rounds. Requires a
@@ -91,20 +92,19 @@ pub fn settle_list<J: Rules, L: Ledger>(joint: &J, order: &mut Order, steps: &mu
     ensures cost { steps.new
         ≤ steps.old + fall (J.arena joint.now) (drop (length order.old.list) order.new.list) }
 {
-    joint.known();
+    joint.known(); // pairs are told apart by their numbers
     let is_fresh = order.len() == 0;
     order.forget_levels();
     begin_rounds(joint, order);
-    order.known();
-    end_level(order, is_fresh);
+    order.known(); // listed pairs are pairs of the system
     'rounds: loop {
+        end_level(order, is_fresh);
         let start = order.len();
         play_round(joint, order, steps);
-        order.known();
+        order.known(); // listed pairs are pairs of the system
         if order.len() == start {
             return;
         }
-        end_level(order, is_fresh);
     }
 }
 

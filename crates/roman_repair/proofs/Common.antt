@@ -3,20 +3,17 @@ pub use Rattle.std.proofs.Common.{Bool, IsFalse, IsTrue, List, None, Option, Som
 pub use Rattle.std.proofs.Math.Nat.{mul-le-mul_left}
 pub use Rattle.std.proofs.lemmas.Bool.{and_from, and_parts, both_ways, cases_eq, cases_lt, eq-eqb, eqb-true, false_from_ne_true, or_cases, or_left, or_right}
 pub use Rattle.std.proofs.lemmas.List.{length-map, length_push, map-append}
-pub use Rattle.std.proofs.lemmas.List.Concat.{flat_map-append}
 pub use Rattle.std.proofs.lemmas.List.Folds.{list_any-append}
 pub use Rattle.std.proofs.lemmas.List.Sums.{sum_by-cons}
 pub use Rattle.std.proofs.lemmas.Nat.{div-add-mod', mod_below, same_from_place}
-pub use Rattle.std.proofs.lemmas.Nat.Bits.{bit_at_cat_high}
-pub use Rattle.std.proofs.lemmas.Option.{none-some, same_Some}
-pub use Rattle.std.specs.Int.{bit_at, bit_not, leading_zeros, trailing_zeros, w64}
+pub use Rattle.std.specs.Int.{bit_not, trailing_zeros, w64}
 pub use Rattle.std.specs.List.{list_any}
 pub use Rattle.roman_joint.specs.NamedSys.{IsNamedSys, NamedSys, seat_of, system_of}
 pub use Rattle.roman_joint.specs.Rows.{lanes_in}
-pub use Rattle.roman_lanes.proofs.CallerLemmas.{on_and, on_full, on_full_past, on_not, on_or, on_zero}
+pub use Rattle.roman_lanes.proofs.CallerLemmas.{on_and, on_full, on_not, on_or, on_zero}
 pub use Rattle.roman_lanes.specs.Rows.{HasLanes}
 unfoldable pub use Rattle.roman_lanes.specs.Rows.{is_on}
-pub use Rattle.roman_model.proofs.CallerLemmas.{AreNumbers, NumbersReplay, all_below_from, any_from, any_true, by_test, filter_below_more, flat_map_same, from_below, from_map, in_append_left, in_append_right, in_below, in_map, justified_is, justified_more, length-below, list_any-map, listed_append, map-flat_map, map-map, number_allows-turned, pair_at-grown, sizes-joined, sizes-turned, turned}
+pub use Rattle.roman_model.proofs.CallerLemmas.{AreNumbers, NumbersReplay, all_below_from, any_from, any_true, by_test, filter_below_more, from_below, from_map, in_append_left, in_append_right, in_below, in_map, justified_is, justified_more, length-below, list_any-map, listed_append, map-map, number_allows-turned, pair_at-grown, sizes-joined, sizes-turned, turned}
 pub use Rattle.roman_model.specs.Arena.{Arena, Entry, IsOrder, is_among, is_justified, is_listed, readings, replay}
 pub use Rattle.roman_model.specs.Change.{CanChange, Change, Die, Join, after}
 pub use Rattle.roman_model.specs.Lists.{HasNoRepeats, IsIn, all_below, below, is_empty, product_of}
@@ -32,18 +29,18 @@ unfoldable pub use Rattle.roman_order.specs.Board.{set_lanes}
 pub use Rattle.roman_order.specs.Events.{entries_at}
 pub use Rattle.roman_order.specs.declared.event.Event.{Event}
 pub use Rattle.roman_radix.proofs.CallerLemmas.{lanes_few, row_mod}
-pub use Rattle.roman_radix.specs.Radix.{AreSizes, IsSizes}
+pub use Rattle.roman_radix.specs.Radix.{AreSizes}
 pub use Rattle.roman_radix.specs.Rows.{lanes_of, low_of}
-pub use Rattle.roman_relation.proofs.CallerLemmas.{listed_numbers, words_rows}
+pub use Rattle.roman_relation.proofs.CallerLemmas.{listed_numbers}
 pub use Rattle.roman_relation.specs.Greatest.{HasCaps, IsRelation, arena_of}
 pub use Rattle.roman_relation.specs.Shaped.{IsShaped}
 pub use Rattle.roman_rules.proofs.CallerLemmas.{readings_of-allowed}
 pub use Rattle.roman_rules.specs.Asked.{IsReasonOf, readings_of_reason}
 pub use Rattle.roman_rules.specs.Numbered.{IsNumbered}
-pub use Rattle.roman_repair.specs.Alone.{AreKept, IsIntact, MayAskAlone, lets_hold, without_seat}
-pub use Rattle.roman_repair.specs.AskedBands.{HoldsInBand}
+pub use Rattle.roman_repair.specs.Alone.{MayAskAlone, passes, without_seat}
+pub use Rattle.roman_repair.specs.AskedBands.{HoldsInBand, IsKnown}
 pub use Rattle.roman_repair.specs.Deaths.{IsGathered, IsPart, entries_from, list_and, list_with}
-pub use Rattle.roman_repair.specs.Judging.{HasReplayed}
-pub use Rattle.roman_repair.specs.Repairs.{IsBegun, IsRepaired, IsSettledOn}
-pub use Rattle.roman_repair.specs.Replays.{AreCandidates, AreSlices, IsReplayable, candidates, is_possible, readings_of_entries, with_replay}
+pub use Rattle.roman_repair.specs.Judging.{CanReplay, CanReplayEvent, GoesOnTo, Replays}
+pub use Rattle.roman_repair.specs.Repairs.{IsRepaired, IsSettledOn}
+pub use Rattle.roman_repair.specs.Replays.{AreCandidates, AreSlices, candidates, is_possible, readings_of_entries, with_replay}
 pub use Rattle.roman_repair.specs.declared.tally.Tally.{Tally}

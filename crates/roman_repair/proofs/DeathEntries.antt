@@ -1,18 +1,14 @@
 -- The entries of a removal list after a death.
-use Rattle.roman_repair.proofs.Common.{◌≡◌, ℕ, ◌+◌, ◌-◌, ◌*◌, ◌/◌, ◌%◌, ◌^◌, ◌<◌, ◌≤◌, Bool, true, false, not, ◌||◌, if◌then◌else◌, cond, List, [], ◌∷◌, ◌++◌, map, length, filter, remove, slice_index, IsFalse, inl, inr, refl, sym, ap, ap₂, ◌∙◌, subst, arith, append-nil, append_assoc, bit_and, ◌==◌, cases_lt, both_ways, and_parts, eqb-true, false_from_ne_true, div-add-mod', mod_below, map-append, list_any-append, mul-le-mul_left, IsIn, HasNoRepeats, below, Seat, Sys, is_final, Entry, Sizes, sizes_of, sizes_without, count, pair_at, numbered, number_without, Reason, in_map, in_append_left, in_append_right, map-map, list_any-map, length-below, is_on, HasLanes, on_and, IsSizes, lanes_of, NamedSys, system_of, lanes_in, Board, as_entry, pairs_of, has_entry, nodes_of, set_lanes, entries_in, entries_at, Event, in_lanes, set_lanes-zero, IsShaped, list_with, entries_from, IsPart, list_any}
-use Rattle.std.proofs.lemmas.List.Elements.{filter-append}
+use Rattle.roman_repair.proofs.Common.{◌≡◌, ℕ, ◌+◌, ◌-◌, ◌*◌, ◌/◌, ◌%◌, ◌^◌, ◌<◌, ◌≤◌, Bool, true, false, not, ◌||◌, if◌then◌else◌, cond, List, [], ◌∷◌, ◌++◌, map, length, filter, remove, slice_index, IsFalse, inl, inr, refl, sym, ap, ap₂, ◌∙◌, subst, arith, append-nil, append_assoc, bit_and, ◌==◌, cases_lt, both_ways, and_parts, eqb-true, false_from_ne_true, div-add-mod', mod_below, map-append, list_any-append, mul-le-mul_left, IsIn, HasNoRepeats, Seat, Sys, is_final, Entry, Sizes, sizes_of, sizes_without, count, pair_at, numbered, number_without, Reason, map-map, list_any-map, length-below, is_on, HasLanes, on_and, lanes_of, NamedSys, system_of, lanes_in, Board, as_entry, pairs_of, has_entry, nodes_of, set_lanes, entries_in, in_lanes, IsShaped, list_with, entries_from, IsPart, list_any}
+use Rattle.roman_radix.specs.Radix.{IsSizes}
 use Rattle.roman_model.specs.Change.{may_go}
 use Rattle.roman_model.specs.NumberedChange.{number_entry_without, first_numbers}
 use Rattle.roman_model.proofs.CallerLemmas.{filter_same, left, count-without, sizes-left}
 use Rattle.roman_radix.proofs.CallerLemmas.{AreSizes-index}
-use Rattle.roman_order.specs.Events.{IsEvent}
 use Rattle.roman_order.proofs.CallerLemmas.{lanes_once}
-use Rattle.roman_repair.specs.Deaths.{entries_left}
-use Rattle.roman_repair.proofs.Fronts.{none_so_far}
 use Rattle.roman_repair.proofs.DeathStates.{seat_in_sizes}
-use Rattle.roman_repair.proofs.DeathParts.{part_number, part_state, part_place, row_of_left, part_word, part_lanes, moved_lanes}
+use Rattle.roman_repair.proofs.DeathParts.{part_number, part_state, part_place, row_of_left, moved_lanes}
 use Rattle.roman_repair.proofs.Joined.{map_as}
-use Rattle.roman_repair.proofs.Fronts.{on_in, filter_split, only_so_far}
 
 -- The first entry for each number.
 
@@ -23,25 +19,6 @@ first_numbers_seen seen more (x ∷ L) same =
     ap₂ (λ us ws. if list_any (λ i. x.node == i) seen then us else x ∷ ws) (first_numbers_seen seen more L same)
     (first_numbers_seen (x.node ∷ seen) (x.node ∷ more) L (λ i. ap (λ b. (i == x.node) || b) (same i)))
     ∙ ap (λ b. if b then first_numbers more L else x ∷ first_numbers (x.node ∷ more) L) (same x.node)
-
-seen_middle : (i m : ℕ) (seen ns : List ℕ) → list_any (λ j. i == j) ((m ∷ seen) ++ ns) ≡ list_any (λ j. i == j) (seen ++ m ∷ ns)
-seen_middle i m seen ns = grind (arith, list_any-append)
-
--- the first entries of one list, and then those of another
-first_numbers_append : (seen : List ℕ) (L M : List (Entry ℕ)) → first_numbers seen (L ++ M) ≡ first_numbers seen L ++ first_numbers (seen ++ nodes_of (first_numbers seen L)) M
-first_numbers_append seen [] M = ap (λ ns. first_numbers ns M) (sym (append-nil seen))
-first_numbers_append seen (x ∷ L) M = by_answer (list_any (λ i. x.node == i) seen) (first_numbers_append seen L M) (first_numbers_append (x.node ∷ seen) L M)
-  where
-    those : List (Entry ℕ)
-    those = first_numbers (x.node ∷ seen) L
-
-    by_answer : (b : Bool) → first_numbers seen (L ++ M) ≡ first_numbers seen L ++ first_numbers (seen ++ nodes_of (first_numbers seen L)) M →
-        first_numbers (x.node ∷ seen) (L ++ M) ≡ those ++ first_numbers ((x.node ∷ seen) ++ nodes_of those) M →
-        (if b then first_numbers seen (L ++ M) else x ∷ first_numbers (x.node ∷ seen) (L ++ M))
-        ≡ (if b then first_numbers seen L else x ∷ those) ++ first_numbers (seen ++ nodes_of (if b then first_numbers seen L else x ∷ those)) M
-    by_answer true same more = same
-    by_answer false same more =
-        ap (λ N. x ∷ N) (more ∙ ap (λ N. those ++ N) (first_numbers_seen ((x.node ∷ seen) ++ nodes_of those) (seen ++ x.node ∷ nodes_of those) M (λ i. seen_middle i x.node seen (nodes_of those))))
 
 -- where the numbers differ, each unseen one is a first entry
 first_apart : (f : ℕ → Entry ℕ) (seen more ls : List ℕ) → ((i j : ℕ) → (f i).node ≡ (f j).node → i ≡ j) → HasNoRepeats ls →
@@ -66,16 +43,34 @@ first_apart f seen more (i ∷ ls) apart once same =
 
 -- The renamed entries.
 
+-- the first entry is renamed, and then the others
+list_with_step : (n : Sizes) (k : ℕ) (seat : Seat) (L : List (Entry ℕ)) (x : Entry ℕ) (W : List (Entry ℕ)) → list_with n k seat L (x ∷ W) ≡ list_with n k seat (list_with n k seat L (x ∷ [])) W
+list_with_step n k seat L x W = by_place (may_go k seat (pair_at n x.node))
+  where
+    y : Entry ℕ
+    y = number_entry_without k n x
+
+    those : List (Entry ℕ)
+    those = filter (λ x. may_go k seat (pair_at n x.node)) W
+
+    with_those : List (Entry ℕ) → List (Entry ℕ)
+    with_those K = K ++ first_numbers (nodes_of K) (map (number_entry_without k n) those)
+
+    by_seen : (b : Bool) → L ++ (if b then first_numbers (nodes_of L) (map (number_entry_without k n) those) else y ∷ first_numbers (y.node ∷ nodes_of L) (map (number_entry_without k n) those)) ≡ with_those (L ++ (if b then [] else y ∷ []))
+    by_seen true = ap with_those (sym (append-nil L))
+    by_seen false =
+        ap (λ N. L ++ y ∷ N) (first_numbers_seen (y.node ∷ nodes_of L) (nodes_of (L ++ y ∷ [])) (map (number_entry_without k n) those) (λ i. grind (arith, list_any-append, map-append)))
+        ∙ sym (append_assoc L (y ∷ []) (first_numbers (nodes_of (L ++ y ∷ [])) (map (number_entry_without k n) those)))
+
+    by_place : (b : Bool) → L ++ first_numbers (nodes_of L) (map (number_entry_without k n) (cond b (x ∷ those) those)) ≡ with_those (L ++ first_numbers (nodes_of L) (map (number_entry_without k n) (cond b (x ∷ []) [])))
+    by_place true = by_seen (list_any (λ i. y.node == i) (nodes_of L))
+    by_place false = ap with_those (sym (append-nil L))
+
 -- the renamed entries of one list, and then those of another
 pub list_with_append : (n : Sizes) (k : ℕ) (seat : Seat) (L V W : List (Entry ℕ)) → list_with n k seat L (V ++ W) ≡ list_with n k seat (list_with n k seat L V) W
-list_with_append n k seat L V W =
-    let new = first_numbers (nodes_of L) (entries_left n k seat V) in
-    let parts : entries_left n k seat (V ++ W) ≡ entries_left n k seat V ++ entries_left n k seat W =
-    ap (map (number_entry_without k n)) (filter-append (λ x. may_go k seat (pair_at n x.node)) V W)
-    ∙ map-append (number_entry_without k n) (filter (λ x. may_go k seat (pair_at n x.node)) V) (filter (λ x. may_go k seat (pair_at n x.node)) W) in
-    ap (λ N. L ++ first_numbers (nodes_of L) N) parts ∙ ap (λ N. L ++ N) (first_numbers_append (nodes_of L) (entries_left n k seat V) (entries_left n k seat W))
-    ∙ sym (append_assoc L new (first_numbers (nodes_of L ++ nodes_of new) (entries_left n k seat W)))
-    ∙ ap (λ ns. (L ++ new) ++ first_numbers ns (entries_left n k seat W)) (sym (map-append (λ (x : Entry ℕ). x.node) L new))
+list_with_append n k seat L [] W = ap (λ K. list_with n k seat K W) (sym (append-nil L))
+list_with_append n k seat L (x ∷ V) W =
+    list_with_step n k seat L x (V ++ W) ∙ list_with_append n k seat (list_with n k seat L (x ∷ [])) V W ∙ ap (λ K. list_with n k seat K W) (sym (list_with_step n k seat L x V))
 
 -- all elements pass, or none
 all_alike : (p : Entry ℕ → Bool) (f : ℕ → Entry ℕ) (ls : List ℕ) (b : Bool) → ((i : ℕ) → IsIn i ls → p (f i) ≡ b) → filter p (map f ls) ≡ cond b (map f ls) []
@@ -83,11 +78,6 @@ all_alike p f [] true same = refl
 all_alike p f [] false same = refl
 all_alike p f (i ∷ ls) true same = ap₂ (λ b M. cond b (f i ∷ M) M) (same i (inl refl)) (all_alike p f ls true (λ j h. same j (inr h)))
 all_alike p f (i ∷ ls) false same = ap₂ (λ b M. cond b (f i ∷ M) M) (same i (inl refl)) (all_alike p f ls false (λ j h. same j (inr h)))
-
--- no entries give no renamed entries
-pub nothing_left : (n : Sizes) (k : ℕ) (seat : Seat) (first word : ℕ) (reason : Reason) (L : List (Entry ℕ)) → word ≡ 0 → L ≡ list_with n k seat L (entries_from first word reason)
-nothing_left n k seat first word reason L none =
-    sym (ap (λ ls. L ++ first_numbers (nodes_of L) (entries_left n k seat (map (λ i. as_entry (first + i, reason)) ls))) (ap set_lanes none ∙ set_lanes-zero) ∙ append-nil L)
 
 -- pairs of one part, at which the seat may leave its state behind, or at none of which it may
 pub record IsDying (n : Sizes) (k : ℕ) (seat : Seat) (first word : ℕ) (may : Bool) : Type 0 where
@@ -156,64 +146,6 @@ left_row n shape k left lanes order l is pairs wide = row_of_left left lanes ord
 pub lost_within : (lanes x other alive lane : ℕ) (L : List (Entry ℕ)) → HasLanes lanes x (λ p. not (has_entry L p)) alive → is_on (bit_and other alive) lane ≡ true →
     (lane < lanes) × (has_entry L (x * lanes + lane) ≡ false)
 lost_within lanes x other alive lane L rows on = grind (arith, and_parts, both_ways, cases_lt, false_from_ne_true, on_and)
-
--- The entries of a row, part by part.
-
--- the entries for the lanes below a bound
-abbrev pub entries_below : ℕ → ℕ → ℕ → ℕ → Reason → List (Entry ℕ)
-entries_below n x word bound reason = map (λ lane. as_entry (x * n + lane, reason)) (filter (is_on word) (below bound))
-
-pub row_next : (n x word i w : ℕ) (reason : Reason) → w ≤ 64 →
-    entries_below n x word (i * w) reason ++ entries_from (x * n + i * w) (part_word word (i * w) w) reason ≡ entries_below n x word ((i + 1) * w) reason
-row_next n x word i w reason few =
-    let next : (i + 1) * w ≡ i * w + w = omega arith in
-    let those = filter (λ a. is_on word (i * w + a)) (below w) in
-    let f = λ (lane : ℕ). as_entry (x * n + lane, reason) in
-    sym (ap (λ m. map f (filter (is_on word) (below m))) next ∙ ap (map f) (filter_split (is_on word) (i * w) w)
-    ∙ map-append f (filter (is_on word) (below (i * w))) (map (λ a. i * w + a) those)
-    ∙ ap (λ M. map f (filter (is_on word) (below (i * w))) ++ M) (map-map f (λ a. i * w + a) those
-    ∙ map_as (λ a. as_entry (x * n + (i * w + a), reason)) (λ a. as_entry (x * n + i * w + a, reason)) those
-    (λ a h. ap (λ p. as_entry (p, reason)) (let place : x * n + (i * w + a) ≡ x * n + i * w + a = omega arith in place))
-    ∙ ap (map (λ a. as_entry (x * n + i * w + a, reason))) (sym (part_lanes word (i * w) w few))))
-
-pub lanes_below : (word n : ℕ) → n ≤ 64 → ((lane : ℕ) → is_on word lane ≡ true → lane < n) → filter (is_on word) (below n) ≡ set_lanes word
-unfolding set_lanes
-lanes_below word n few within =
-    let whole : 64 ≡ n + (64 - n) = omega arith in
-    sym (ap (λ m. filter (is_on word) (below m)) whole
-    ∙ only_so_far (is_on word) n (64 - n) (λ i l. false_from_ne_true (is_on word (n + i)) (λ t. let past : n + i < n = within (n + i) t in omega (arith, past))))
-
-pub row_whole : (n x word bound : ℕ) (reason : Reason) → bound ≤ 64 → ((lane : ℕ) → is_on word lane ≡ true → lane < bound) → entries_below n x word bound reason ≡ entries_in n x word reason
-row_whole n x word bound reason few within = ap (map (λ lane. as_entry (x * n + lane, reason))) (lanes_below word bound few within)
-
--- no entry is below the first lane
-pub row_begin : (n x word bound : ℕ) (reason : Reason) → ((lane : ℕ) → is_on word lane ≡ true → bound ≤ lane) → entries_below n x word bound reason ≡ []
-row_begin n x word bound reason first =
-    ap (map (λ lane. as_entry (x * n + lane, reason))) (none_so_far (is_on word) bound (λ lane l. false_from_ne_true (is_on word lane) (λ on. omega (arith, first lane on, l))))
-
--- The pairs of a waiting event are in range.
-
-pub record IsEventIn (lanes bound : ℕ) (rest : List (Entry ℕ)) (e : Event) : Type 0 where
-  pub within : (lane : ℕ) → is_on e.lanes lane ≡ true → (lane < lanes) × (e.row * lanes + lane < bound)
-  pub row : e.row * lanes < bound
-  pub others : (x : Entry ℕ) → IsIn x rest → x.node < bound
-
-pub event_in_range : (wide lanes bound : ℕ) (W rest : List (Entry ℕ)) (e : Event) → wide ≡ lanes → lanes ≤ 64 → W ≡ entries_at wide e ++ rest → IsEvent wide e → ((x : Entry ℕ) → IsIn x W → x.node < bound) →
-    IsEventIn lanes bound rest e
-event_in_range wide lanes bound W rest e same few parts is all =
-    record { within = within; row = row (set_lanes e.lanes) refl; others = λ x i. all x (subst (IsIn x) (sym parts) (in_append_right x (entries_at wide e) rest i)) }
-  where
-    pair : (lane : ℕ) → IsIn lane (set_lanes e.lanes) → e.row * lanes + lane < bound
-    pair lane i = subst (λ m. e.row * m + lane < bound) same
-        (all (as_entry (e.row * wide + lane, e.reason)) (subst (IsIn (as_entry (e.row * wide + lane, e.reason))) (sym parts)
-        (in_append_left (as_entry (e.row * wide + lane, e.reason)) (entries_at wide e) rest (in_map (λ lane. as_entry (e.row * wide + lane, e.reason)) lane (set_lanes e.lanes) i))))
-
-    within : (lane : ℕ) → is_on e.lanes lane ≡ true → (lane < lanes) × (e.row * lanes + lane < bound)
-    within lane on = (omega (arith, is.within lane on, same), pair lane (on_in e.lanes lane (omega (arith, is.within lane on, few)) on))
-
-    row : (ls : List ℕ) → set_lanes e.lanes ≡ ls → e.row * lanes < bound
-    row [] none = absurd (omega (arith, is.some, ap length none))
-    row (lane ∷ ls) some = omega (arith, pair lane (subst (IsIn lane) (sym some) (inl refl)))
 
 -- The number of pairs without the service.
 

@@ -1,11 +1,14 @@
 -- The parts of rows that stay together when a service dies.
-use Rattle.roman_repair.proofs.Common.{◌≡◌, ℕ, zero, suc, ◌+◌, ◌-◌, ◌*◌, ◌/◌, ◌%◌, ◌^◌, ◌<◌, ◌≤◌, Bool, true, false, ◌&&◌, List, [], ◌∷◌, map, length, drop, filter, eqb, remove, slice_index, inl, inr, refl, sym, ap, ap₂, ◌∙◌, subst, arith, bit_and, bit_at, mul-le-mul_left, cases_lt, both_ways, div-add-mod', bit_at_cat_high, below, product_of, Sizes, count, pair_at, number_without, is_on, on_and, on_full, on_full_past, AreSizes, IsSizes, low_of, lanes_of, row_mod, lanes_few, set_lanes, IsPart, by_test}
-use Rattle.std.proofs.lemmas.Nat.{shr-shr, pow_pos, mul-le}
-use Rattle.std.proofs.lemmas.Nat.Bits.{bit_at-zero, bit_at_cat_low, shr_and_one}
+use Rattle.roman_repair.proofs.Common.{◌≡◌, ℕ, zero, suc, ◌+◌, ◌-◌, ◌*◌, ◌/◌, ◌%◌, ◌^◌, ◌<◌, ◌≤◌, Bool, true, false, ◌&&◌, List, [], ◌∷◌, map, length, drop, filter, eqb, remove, slice_index, inl, inr, refl, sym, ap, ap₂, ◌∙◌, subst, arith, bit_and, mul-le-mul_left, cases_lt, div-add-mod', below, product_of, Sizes, count, pair_at, number_without, is_on, on_and, AreSizes, low_of, lanes_of, row_mod, lanes_few, set_lanes, IsPart, by_test, Sys, Event, lanes_in, sizes_of, in_lanes, IsIn, as_entry, in_map}
+use Rattle.std.specs.Int.{bit_at}
+use Rattle.std.proofs.lemmas.Nat.{pow_pos}
+use Rattle.std.proofs.lemmas.Nat.Bits.{bit_at-zero, bit_at_cat_low, bit_at_cat_high}
 use Rattle.roman_model.proofs.CallerLemmas.{part_at}
-use Rattle.roman_radix.proofs.CallerLemmas.{tails_from, row_div, row_below, rows_are, lanes_positive}
+use Rattle.roman_radix.proofs.CallerLemmas.{tails_from, row_div, row_below, lanes_positive}
 use Rattle.roman_repair.proofs.Joined.{positive, grown_within, whole_row, shorter_row, few_behind, part_of_more}
-use Rattle.roman_repair.proofs.Fronts.{moved_so_far, same_so_far, only_so_far}
+use Rattle.roman_repair.specs.Deaths.{IsWithin}
+use Rattle.roman_repair.specs.Lanes.{IsFirstPart}
+use Rattle.roman_repair.proofs.Fronts.{on_in, some_in, moved_so_far, only_so_far}
 
 -- ---- the width of the parts
 
@@ -81,22 +84,6 @@ part_place n k w j lanes part some is pos =
     let number : number_without k n (j * w) ≡ place * w = omega (arith, first, front, split) in
     subst (λ q. q % lanes + w ≤ lanes) (sym number) (grown_within lanes d w place (is ∙ f) pos)
 
--- a part ends within its row
-pub part_end : (i w lanes : ℕ) → i < lanes / w → (i + 1) * w ≤ lanes
-part_end i w lanes l = let most : (i + 1) * w ≤ lanes / w * w = mul-le (i + 1) w (lanes / w) w (omega arith) (omega arith) in omega (arith, most, div-add-mod' lanes w)
-
--- so many parts fit into a row
-pub parts_fit : (i w lanes : ℕ) → i ≤ lanes / w → i * w ≤ lanes
-parts_fit i w lanes l = let most : i * w ≤ lanes / w * w = mul-le i w (lanes / w) w l (omega arith) in omega (arith, most, div-add-mod' lanes w)
-
--- a row ends within the pairs
-pub row_end : (n : Sizes) (x : ℕ) → IsSizes n → x * lanes_of n.seats < count n → (x + 1) * lanes_of n.seats ≤ count n
-row_end n x h l =
-    let lanes = lanes_of n.seats in
-    let below : x < count n / lanes = row_below x lanes 0 (count n / lanes) (omega (arith, l, rows_are n h)) in
-    let most : (x + 1) * lanes ≤ count n / lanes * lanes = mul-le (x + 1) lanes (count n / lanes) lanes (omega arith) (omega arith) in
-    omega (arith, most, rows_are n h)
-
 pub row_of_left : (left lanes rows : ℕ) → left < rows * lanes → left / lanes < rows
 row_of_left left lanes rows l = row_below (left / lanes) lanes (left % lanes) rows (omega (arith, div-add-mod' left lanes, l))
 
@@ -105,10 +92,6 @@ pub part_begins : (x lanes c w i : ℕ) → lanes ≡ c * w → x * lanes + i * 
 part_begins x lanes c w i is = let slices : x * lanes ≡ x * (c * w) = ap (λ m. x * m) is in omega (arith, slices)
 
 -- ---- the lanes of a part
-
-pub on_lowered : (a d i : ℕ) → is_on (a / 2 ^ d) i ≡ is_on a (d + i)
-unfolding is_on
-on_lowered a d i = ap (λ n. eqb n 1) (sym (shr_and_one (a / 2 ^ d) i) ∙ (ap (λ n. bit_and n 1) (shr-shr a d i) ∙ shr_and_one a (d + i)))
 
 on_fitting : (a d i : ℕ) → i < 64 → is_on (a * 2 ^ d % 2 ^ 64) i ≡ is_on (a * 2 ^ d + 0) i
 unfolding is_on
@@ -125,27 +108,6 @@ on_raised a d i h =
 on_under : (a d i : ℕ) → i < d → i < 64 → is_on (a * 2 ^ d % 2 ^ 64) i ≡ false
 unfolding is_on
 on_under a d i l h = on_fitting a d i h ∙ ap (λ n. eqb n 1) (bit_at_cat_low a d 0 i l ∙ bit_at-zero i)
-
--- the word of the lanes of a part, as the code computes it
-abbrev pub part_word : ℕ → ℕ → ℕ → ℕ
-part_word word base w = bit_and (word / 2 ^ base) ((2 ^ 64 - 1) / 2 ^ (64 - w))
-
-part_on : (word base w i : ℕ) → w ≤ 64 → i < w → is_on (part_word word base w) i ≡ is_on word (base + i)
-part_on word base w i few l = grind (arith, on_and, on_full, on_lowered)
-
-part_off : (word base w i : ℕ) → w ≤ 64 → w ≤ i → is_on (part_word word base w) i ≡ false
-part_off word base w i few past = grind (arith, on_and, on_full_past)
-
-pub part_in : (word base w i : ℕ) → w ≤ 64 → is_on (part_word word base w) i ≡ true → (i < w) × (is_on word (base + i) ≡ true)
-part_in word base w i few on = grind (arith, both_ways, cases_lt, part_off, part_on)
-
-pub part_lanes : (word base w : ℕ) → w ≤ 64 → set_lanes (part_word word base w) ≡ filter (λ i. is_on word (base + i)) (below w)
-unfolding set_lanes
-part_lanes word base w few =
-    let whole : 64 ≡ w + (64 - w) = omega arith in
-    ap (λ n. filter (is_on (part_word word base w)) (below n)) whole
-    ∙ only_so_far (is_on (part_word word base w)) w (64 - w) (λ i l. part_off word base w (w + i) few (omega arith))
-    ∙ same_so_far (is_on (part_word word base w)) (λ i. is_on word (base + i)) w (λ i l. part_on word base w i few l)
 
 -- the elements that pass both tests
 both_tests : {X : Type 0} (f g : X → Bool) (xs : List X) → filter f (filter g xs) ≡ filter (λ x. g x && f x) xs
@@ -173,3 +135,25 @@ moved_lanes word alive place test few each =
 
     past : (i : ℕ) → i < place → is_on word (64 - place + i) ≡ false
     past i l = by_test (is_on word (64 - place + i)) (λ on. absurd (let (h, s) = each (64 - place + i) (omega arith) on in omega (arith, h))) (λ off. off)
+
+-- a pair of the event
+pair_in : (s : Sys) (e : Event) (lane : ℕ) → IsWithin s e → IsIn lane (set_lanes e.lanes) → e.row * lanes_in s + lane < count (sizes_of s)
+pair_in s e lane is i = is.nodes (as_entry (e.row * lanes_in s + lane, e.reason)) (in_map (λ lane. as_entry (e.row * lanes_in s + lane, e.reason)) lane (set_lanes e.lanes) i)
+
+-- its row
+pub row_in : (s : Sys) (e : Event) → IsWithin s e → e.row * lanes_in s < count (sizes_of s)
+row_in s e is = let (lane, i) = some_in (set_lanes e.lanes) is.event.some in omega (arith, pair_in s e lane is i)
+
+-- the pairs of a part
+pub part_in : (s : Sys) (e : Event) (left w i part rest lane : ℕ) → IsWithin s e → ((lane : ℕ) → is_on left lane ≡ true → is_on e.lanes lane ≡ true) → IsFirstPart left w i part rest → is_on part lane ≡ true → (i * w + lane < lanes_in s) × (e.row * lanes_in s + (i * w + lane) < count (sizes_of s))
+part_in s e left w i part rest lane is within first on =
+    let there = within (i * w + lane) (first.in_part lane on).1 in
+    let inner = is.event.within (i * w + lane) there in
+    (inner, pair_in s e (i * w + lane) is (on_in e.lanes (i * w + lane) (omega (arith, inner, lanes_few (sizes_of s).seats)) there))
+
+-- the first pair of a part
+pub first_pair : (s : Sys) (e : Event) (left w i part rest : ℕ) → IsWithin s e → ((lane : ℕ) → is_on left lane ≡ true → is_on e.lanes lane ≡ true) → IsFirstPart left w i part rest → (i * w < lanes_in s) × (e.row * lanes_in s + i * w < count (sizes_of s))
+first_pair s e left w i part rest is within first =
+    let (lane, j) = some_in (set_lanes part) first.some in
+    let (l, pair) = part_in s e left w i part rest lane is within first (in_lanes part lane j).1 in
+    (omega (arith, l), omega (arith, pair))

@@ -1,5 +1,6 @@
 -- The service that dies, and the states that it may leave behind.
-use Rattle.roman_repair.proofs.Common.{◌≡◌, ℕ, ◌<◌, Bool, not, ◌||◌, length, IsTrue, IsFalse, slice_get, slice_index, sym, ap, ◌∙◌, arith, Some, length-map, Seat, is_final, Die, CanChange, sizes_of, NamedSys, IsNamedSys, system_of, seat_of, same_Some}
+use Rattle.roman_repair.proofs.Common.{◌≡◌, ℕ, ◌<◌, Bool, not, ◌||◌, length, IsTrue, IsFalse, slice_get, slice_index, sym, ap, ◌∙◌, arith, Some, length-map, Seat, is_final, Die, CanChange, sizes_of, NamedSys, IsNamedSys, system_of, seat_of}
+use Rattle.std.proofs.lemmas.Option.{same_Some}
 use Rattle.roman_model.proofs.CallerLemmas.{size_at, there_is}
 use Rattle.roman_parts.specs.Named.{NamedBeh}
 use Rattle.roman_joint.specs.Behaviours.{IsSeatBehaviour}

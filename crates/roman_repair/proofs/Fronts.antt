@@ -1,72 +1,53 @@
--- The front of a word's lanes, and the front of a replay.
-use Rattle.roman_repair.proofs.Common.{◌≡◌, slice_index, ◌≢◌, ℕ, Option, Event, zero, suc, ◌+◌, ◌-◌, ◌*◌, ◌/◌, ◌%◌, ◌^◌, ◌<◌, ◌≤◌, Bool, true, false, not, ◌&&◌, List, [], ◌∷◌, ◌++◌, map, length, filter, cond, IsTrue, IsFalse, inl, inr, refl, sym, ap, ap₂, ◌∙◌, subst, arith, append-nil, append_assoc, bit_and, eqb, bit_at, leading_zeros, trailing_zeros, w64, bit_not, cases_lt, both_ways, or_left, cases_eq, eq-eqb, map-append, bit_at_cat_high, mul-le-mul_left, IsIn, below, Arena, Entry, is_listed, is_justified, Reason, filter_below_more, in_map, in_below, justified_more, listed_append, is_on, on_and, on_full, on_full_past, on_not, IsNumbered, IsReasonOf, Board, as_entry, set_lanes, entries_in, set_lanes-zero, IsShaped, AreCandidates, with_replay}
-use Rattle.roman_lanes.proofs.CallerLemmas.{on_less}
-use Rattle.std.proofs.Math.Nat.{pow-suc, pow-le-pow_right}
+-- The lanes of words.
+use Rattle.roman_repair.proofs.Common.{◌≡◌, ◌≢◌, ℕ, zero, suc, ◌+◌, ◌-◌, ◌*◌, ◌/◌, ◌%◌, ◌^◌, ◌<◌, ◌≤◌, Bool, true, false, not, ◌&&◌, List, [], ◌∷◌, ◌++◌, map, length, filter, cond, inl, inr, refl, sym, ap, ap₂, ◌∙◌, arith, append-nil, append_assoc, bit_and, eqb, trailing_zeros, w64, bit_not, cases_lt, both_ways, and_parts, eq-eqb, false_from_ne_true, map-append, IsIn, below, filter_below_more, in_below, is_on, on_and, on_full, on_not, on_zero, set_lanes, map-map, Reason, as_entry, entries_in, entries_from, length-map}
+use Rattle.roman_lanes.proofs.CallerLemmas.{on_less, on_ones, on_ones_above, on_full_past}
+use Rattle.std.proofs.Common.{length-append}
 use Rattle.std.proofs.Math.Pow.{pow-lt}
 use Rattle.std.proofs.Math.Bool.{and-true}
-use Rattle.std.proofs.lemmas.Bool.{and_right}
-use Rattle.std.proofs.lemmas.Nat.{and_le_l, and_le_r, leading_top}
-use Rattle.std.proofs.lemmas.Nat.Bits.{bit_at_above, bit_at-trailing_zeros}
+use Rattle.std.proofs.lemmas.Bool.{and_right, ne_eqb}
+use Rattle.std.proofs.lemmas.Nat.{and_le_l, shr-shr}
+use Rattle.std.proofs.lemmas.Nat.Bits.{bit_at-trailing_zeros, shr_and_one}
 use Rattle.roman_model.proofs.CallerLemmas.{in_filter}
-use Rattle.roman_lanes.proofs.CallerLemmas.{on_ones, on_ones_above}
-use Rattle.roman_repair.specs.Judging.{CanJudge}
-use Rattle.roman_repair.specs.declared.asked_band.AskedBand.{AskedBand}
-use Rattle.roman_repair.proofs.Keeping.{with_replay_step, possible_reason}
+use Rattle.roman_order.proofs.CallerLemmas.{no_lane}
+use Rattle.roman_repair.specs.Lanes.{HasFront, HasLanesBetween, IsCutAt, IsFirstPart}
 
--- ---- the lanes of a word
+-- ---- the first lane of a word
 
--- the first lane of a word
+-- the first lane of a word, or 64
 pub record IsFirst (word lane : ℕ) : Type 0 where
-  pub low : lane < 64
-  pub on : is_on word lane ≡ true
+  pub few : lane ≤ 64
+  pub on : lane < 64 → is_on word lane ≡ true
   pub before : (bit : ℕ) → bit < lane → is_on word bit ≡ false
 
-pub first_lane : (word : ℕ) → word ≢ 0 → word < 2 ^ 64 → IsFirst word (trailing_zeros w64 word)
-unfolding is_on
-first_lane word some fits =
-    let h = bit_at-trailing_zeros w64 word (omega arith) fits in
-    record { low = h.0; on = eq-eqb _ 1 h.1; before = λ bit l. ap (λ n. eqb n 1) (h.2 bit l) }
+pub first_lane : (word : ℕ) → word < 2 ^ 64 → IsFirst word (trailing_zeros w64 word)
+unfolding is_on lib.Count.count_trailing_zeros
+first_lane zero fits = record { few = omega arith; on = λ l. absurd (omega (arith, l)); before = λ bit l. on_zero bit }
+first_lane (suc word) fits =
+    let h = bit_at-trailing_zeros w64 (suc word) (omega arith) fits in
+    record { few = omega (arith, h.0); on = λ l. eq-eqb _ 1 h.1; before = λ bit l. ap (λ n. eqb n 1) (h.2 bit l) }
 
-top_bit : (word j : ℕ) → 2 ^ j ≤ word → word < 2 ^ suc j → bit_at word j ≡ 1
-top_bit word j low high =
-    ap (λ n. bit_at n j) (let parts : word ≡ 1 * 2 ^ j + (word - 2 ^ j) = omega (arith, low) in parts)
-    ∙ bit_at_cat_high 1 j (word - 2 ^ j) j (omega (arith, low, high)) (omega arith) ∙ ap (bit_at 1) (let none : j - j ≡ 0 = omega arith in none)
+-- the lanes of a word begin with its first
+pub from_first : (word : ℕ) → word < 2 ^ 64 → (lane : ℕ) → is_on word lane ≡ true → trailing_zeros w64 word ≤ lane
+from_first word fits lane on = elim (cases_lt lane (trailing_zeros w64 word)) [ inl under ↦ absurd (both_ways (is_on word lane) ((first_lane word fits).before lane under) on) | inr past ↦ past ]
 
--- the last lane of a word
-pub record IsLast (word lane : ℕ) : Type 0 where
-  pub on : is_on word lane ≡ true
-  pub past : (bit : ℕ) → is_on word bit ≡ true → bit ≤ lane
-
-pub last_lane : (word : ℕ) → word ≢ 0 → word < 2 ^ 64 → IsLast word (63 - leading_zeros w64 word)
-unfolding is_on
-last_lane word some fits =
-    let (j, place, low, high) = leading_top 64 word (omega arith) fits in
-    let here : 63 - leading_zeros w64 word ≡ j = omega (arith, place) in
-    subst (IsLast word) (sym here) record {
-      on = eq-eqb _ 1 (top_bit word j low high);
-      past = λ bit on. elim (cases_lt j bit) [
-        | inl more ↦ absurd (both_ways (is_on word bit) (ap (λ n. eqb n 1) (bit_at_above word (suc j) bit high (omega (arith, more)))) on)
-        | inr few ↦ few
-      ];
-    }
-
-below_power : (n : ℕ) → n < 2 ^ n
-below_power zero = omega arith
-below_power (suc n) = omega (arith, below_power n, pow-suc 2 n)
-
--- a word with no lane from 64 on fits
-pub word_fits : (word n : ℕ) → n ≤ 64 → ((lane : ℕ) → is_on word lane ≡ true → lane < n) → word < 2 ^ 64
-unfolding is_on
-word_fits zero n few within = omega arith
-word_fits (suc word) n few within =
-    let (j, place, low, high) = leading_top (suc word) (suc word) (omega arith) (below_power (suc word)) in
-    let l : j < n = within j (eq-eqb _ 1 (top_bit (suc word) j low high)) in
-    let end : suc j ≤ 64 = omega (arith, l, few) in
-    let two : 0 < 2 = omega arith in
-    omega (arith, high, pow-le-pow_right two end)
+-- a word with lanes has a first one
+pub first_low : (word : ℕ) → word < 2 ^ 64 → 0 < length (set_lanes word) → trailing_zeros w64 word < 64
+first_low word fits some = (bit_at-trailing_zeros w64 word (let ne = no_lane word some in omega (arith, ne)) fits).0
 
 pub both_fit : (word end : ℕ) → word < 2 ^ 64 → bit_and word end < 2 ^ 64
 both_fit word end fits = omega (arith, and_le_l word end)
+
+pub on_lowered : (a d i : ℕ) → is_on (a / 2 ^ d) i ≡ is_on a (d + i)
+unfolding is_on
+on_lowered a d i = ap (λ n. eqb n 1) (sym (shr_and_one (a / 2 ^ d) i) ∙ (ap (λ n. bit_and n 1) (shr-shr a d i) ∙ shr_and_one a (d + i)))
+
+-- no lane of 0 is on
+pub none_on : {P : Type 0} (lane : ℕ) → is_on 0 lane ≡ true → P
+none_on lane on = absurd (both_ways (is_on 0 lane) (on_zero lane) on)
+
+pub not_twice : (b : Bool) → not (not b) ≡ b
+not_twice true = refl
+not_twice false = refl
 
 -- ---- the numbers that pass
 
@@ -108,96 +89,172 @@ pub all_so_far : (p : ℕ → Bool) (m : ℕ) → ((i : ℕ) → i < m → p i �
 all_so_far p zero on = refl
 all_so_far p (suc m) on = filter_below_more p m ∙ ap₂ (λ L x. L ++ cond x (m ∷ []) []) (all_so_far p m (λ i l. on i (omega arith))) (on m (omega arith))
 
--- exactly the numbers below s pass
-first_so_far : (p : ℕ → Bool) (s m : ℕ) → s ≤ m → ((i : ℕ) → i < s → p i ≡ true) → ((i : ℕ) → s ≤ i → i < m → p i ≡ false) → filter p (below m) ≡ below s
-first_so_far p s m l on off =
-    let whole : m ≡ s + (m - s) = omega arith in
-    ap (λ n. filter p (below n)) whole ∙ only_so_far p s (m - s) (λ i h. off (s + i) (omega arith) (omega (arith, h, l))) ∙ all_so_far p s on
-
 -- ---- a word that is split in two
 
--- the lanes of a word below a bound are those of `front`, and its other lanes are those of `rest`
-pub record IsCut (word front rest cut : ℕ) : Type 0 where
-  pub low : (lane : ℕ) → lane < 64 → lane < cut → (is_on front lane ≡ is_on word lane) × (is_on rest lane ≡ false)
-  pub high : (lane : ℕ) → lane < 64 → cut ≤ lane → (is_on front lane ≡ false) × (is_on rest lane ≡ is_on word lane)
-
 -- the list splits into the lanes below the cut and those from there on
-pub cut_lanes : (word front rest cut : ℕ) → cut ≤ 64 → IsCut word front rest cut → set_lanes word ≡ set_lanes front ++ set_lanes rest
+pub cut_lanes : (word front rest cut : ℕ) → cut ≤ 64 → ((lane : ℕ) → lane < cut → (is_on front lane ≡ is_on word lane) × (is_on rest lane ≡ false)) →
+    ((lane : ℕ) → lane < 64 → cut ≤ lane → (is_on front lane ≡ false) × (is_on rest lane ≡ is_on word lane)) → set_lanes word ≡ set_lanes front ++ set_lanes rest
 unfolding set_lanes
-cut_lanes word front rest cut few is =
+cut_lanes word front rest cut few low high =
     let whole : 64 ≡ cut + (64 - cut) = omega (arith, few) in
     let parts = λ (q : ℕ → Bool). ap (λ n. filter q (below n)) whole in
     parts (is_on word) ∙ filter_split (is_on word) cut (64 - cut)
     ∙ sym (ap₂ (λ L M. L ++ M)
-    (parts (is_on front) ∙ only_so_far (is_on front) cut (64 - cut) (λ i l. (is.high (cut + i) (omega arith) (omega arith)).0) ∙ same_so_far (is_on front) (is_on word) cut (λ i l. (is.low i (omega arith) l).0))
-    (parts (is_on rest) ∙ moved_so_far (λ i. is_on word (cut + i)) (is_on rest) cut (64 - cut) (λ i l. (is.low i (omega arith) l).1) (λ i l. (is.high (cut + i) (omega arith) (omega arith)).1)))
+    (parts (is_on front) ∙ only_so_far (is_on front) cut (64 - cut) (λ i l. (high (cut + i) (omega arith) (omega arith)).0) ∙ same_so_far (is_on front) (is_on word) cut (λ i l. (low i l).0))
+    (parts (is_on rest) ∙ moved_so_far (λ i. is_on word (cut + i)) (is_on rest) cut (64 - cut) (λ i l. (low i l).1) (λ i l. (high (cut + i) (omega arith) (omega arith)).1)))
 
--- where 0 passes it comes first
-first_of : (q : ℕ → Bool) (m : ℕ) → q 0 ≡ true → (ls : List ℕ) × (filter q (below (suc m)) ≡ 0 ∷ ls)
-first_of q zero on = ([], ap (λ b. cond b (0 ∷ []) []) on)
-first_of q (suc m) on =
-    let (ls, is) = first_of q m on in
-    (ls ++ cond (q (suc m)) (suc m ∷ []) [], filter_below_more q (suc m) ∙ ap (λ L. L ++ cond (q (suc m)) (suc m ∷ []) []) is)
+-- as the code splits it
+pub is_cut : (word cut : ℕ) → word < 2 ^ 64 → cut ≤ 64 → let front = bit_and word ((2 ^ 64 - 1) / 2 ^ (64 - cut)) in IsCutAt word front (bit_and word (bit_not w64 front)) cut
+is_cut word cut fits few = record {
+  parts = cut_lanes word front rest cut few (λ lane l. (low lane l, less lane (omega (arith, l)) ∙ ap (λ b. is_on word lane && not b) (low lane l) ∙ never (is_on word lane)))
+      (λ lane l past. (high lane past, less lane l ∙ ap (λ b. is_on word lane && not b) (high lane past) ∙ and-true (is_on word lane)));
+  low = low;
+  high = high;
+  in_front = of_word ((2 ^ 64 - 1) / 2 ^ (64 - cut));
+  in_rest = of_word (bit_not w64 front);
+  fits = both_fit word (bit_not w64 front) fits;
+}
+  where
+    front : ℕ
+    front = bit_and word ((2 ^ 64 - 1) / 2 ^ (64 - cut))
 
--- the rest begins at the cut, where the word has that lane
-pub rest_first : (word front rest cut lane : ℕ) (more : List ℕ) → cut < 64 → IsCut word front rest cut → is_on word cut ≡ true → set_lanes rest ≡ lane ∷ more → lane ≡ cut
-unfolding set_lanes
-rest_first word front rest cut lane more few is on first =
-    let whole : 64 ≡ cut + suc (63 - cut) = omega (arith, few) in
-    let place : cut + 0 ≡ cut = omega arith in
-    let (ls, begin) = first_of (λ i. is_on word (cut + i)) (63 - cut) (ap (is_on word) place ∙ on) in
-    let those = ap (λ n. filter (is_on rest) (below n)) whole
-    ∙ moved_so_far (λ i. is_on word (cut + i)) (is_on rest) cut (suc (63 - cut)) (λ i l. (is.low i (omega arith) l).1) (λ i l. (is.high (cut + i) (omega arith) (omega arith)).1)
-    ∙ ap (map (λ i. cut + i)) begin in
-    let same : lane ∷ more ≡ (cut + 0) ∷ map (λ i. cut + i) ls = sym first ∙ those in
-    ap (λ ls. slice_index ls 0) same ∙ place
+    rest : ℕ
+    rest = bit_and word (bit_not w64 front)
 
--- the front of a word, as the code computes it
-abbrev pub front_of : ℕ → ℕ → ℕ
-front_of word cut = bit_and word (1 * 2 ^ cut % 2 ^ 64 - 1)
+    of_word : (mask lane : ℕ) → is_on (bit_and word mask) lane ≡ true → is_on word lane ≡ true
+    of_word mask lane on = (and_parts (is_on word lane) (is_on mask lane) (sym (on_and word mask lane) ∙ on)).0
 
-bit_is : (n : ℕ) → n < 64 → 1 * 2 ^ n % 2 ^ 64 ≡ 2 ^ n
-bit_is n few = let fits : 2 ^ n < 2 ^ 64 = pow-lt few in omega arith
+    low : (lane : ℕ) → lane < cut → is_on front lane ≡ is_on word lane
+    low lane l = on_and word _ lane ∙ ap (λ b. is_on word lane && b) (on_full cut lane few l) ∙ and-true (is_on word lane)
 
-pub front_on : (word cut lane : ℕ) → cut < 64 → lane < cut → is_on (front_of word cut) lane ≡ is_on word lane
-front_on word cut lane few l =
-    ap (λ m. is_on (bit_and word (m - 1)) lane) (bit_is cut few) ∙ on_and word (2 ^ cut - 1) lane ∙ ap (λ b. is_on word lane && b) (on_ones cut lane l) ∙ and-true (is_on word lane)
+    high : (lane : ℕ) → cut ≤ lane → is_on front lane ≡ false
+    high lane past = on_and word _ lane ∙ and_right (is_on word lane) _ (on_full_past cut lane few past)
 
-pub front_off : (word cut lane : ℕ) → cut < 64 → cut ≤ lane → is_on (front_of word cut) lane ≡ false
-front_off word cut lane few l =
-    ap (λ m. is_on (bit_and word (m - 1)) lane) (bit_is cut few) ∙ on_and word (2 ^ cut - 1) lane ∙ and_right (is_on word lane) (is_on (2 ^ cut - 1) lane) (on_ones_above cut lane l)
+    less : (lane : ℕ) → lane < 64 → is_on rest lane ≡ (is_on word lane && not (is_on front lane))
+    less lane l = on_less word front lane (both_fit word _ fits) l
 
-pub front_fits : (word cut : ℕ) → front_of word cut < 2 ^ 64
-front_fits word cut = omega (arith, and_le_r word (1 * 2 ^ cut % 2 ^ 64 - 1))
-
-pub is_cut : (word cut : ℕ) → cut < 64 → front_of word cut < 2 ^ 64 → IsCut word (front_of word cut) (bit_and word (bit_not w64 (front_of word cut))) cut
-is_cut word cut few fits = grind (arith, front_off, front_on, on_less)
+    never : (b : Bool) → (b && not b) ≡ false
+    never true = refl
+    never false = refl
 
 -- a lane that is on is one of a word's lanes
 pub on_in : (word lane : ℕ) → lane < 64 → is_on word lane ≡ true → IsIn lane (set_lanes word)
 unfolding set_lanes
 on_in word lane l on = in_filter (is_on word) lane (below 64) (in_below 64 lane l) on
 
+pub some_in : (xs : List ℕ) → 0 < length xs → (x : ℕ) × IsIn x xs
+some_in [] some = absurd (omega arith)
+some_in (x ∷ xs) some = (x, inl refl)
+
+pub has_some : (xs : List ℕ) (x : ℕ) → IsIn x xs → 0 < length xs
+has_some [] x i = absurd i
+has_some (y ∷ xs) x i = omega arith
+
+lane_some : (word lane : ℕ) → lane < 64 → is_on word lane ≡ true → 0 < length (set_lanes word)
+lane_some word lane l on = has_some (set_lanes word) lane (on_in word lane l on)
+
+-- a word that is cut at the first of the others has a front of one answer
+abbrev pub IsFront : ℕ → ℕ → ℕ → Bool → Type 0
+IsFront word held others holds = let end = trailing_zeros w64 others in ((0 < end) × (end ≤ 64)) × ((front rest : ℕ) → IsCutAt word front rest end → HasFront word held front rest holds)
+
+-- the lanes before the first one in a mask have one answer
+alike_front : (word held mask : ℕ) (holds : Bool) → word < 2 ^ 64 → 0 < length (set_lanes word) → is_on mask (trailing_zeros w64 word) ≡ false → ((lane : ℕ) → lane < 64 → is_on mask lane ≡ false → is_on held lane ≡ holds) →
+    IsFront word held (bit_and word mask) holds
+alike_front word held mask holds fits some off same = (
+  (omega (arith, less), others.few),
+  λ front rest cut. record {
+    parts = cut.parts;
+    some = lane_some front t low (cut.low t less ∙ (first_lane word fits).on low);
+    alike = λ lane on. elim (cases_lt lane end) [
+      | inl l ↦ same lane (omega (arith, l, others.few)) (sym (ap (λ b. b && is_on mask lane) (cut.in_front lane on)) ∙ sym (on_and word mask lane) ∙ others.before lane l)
+      | inr past ↦ absurd (both_ways (is_on front lane) (cut.high lane past) on)
+    ];
+    in_front = cut.in_front;
+    in_rest = cut.in_rest;
+  },
+)
+  where
+    t : ℕ
+    t = trailing_zeros w64 word
+
+    end : ℕ
+    end = trailing_zeros w64 (bit_and word mask)
+
+    others : IsFirst (bit_and word mask) end
+    others = first_lane (bit_and word mask) (both_fit word mask fits)
+
+    low : t < 64
+    low = first_low word fits some
+
+    less : t < end
+    less = elim (cases_lt t end) [
+      | inl l ↦ l
+      | inr past ↦
+          let (here, there) = and_parts (is_on word end) (is_on mask end) (sym (on_and word mask end) ∙ others.on (omega (arith, past, low))) in
+          let same : end ≡ t = omega (arith, past, from_first word fits end here) in
+          absurd (both_ways (is_on mask t) off (ap (is_on mask) (sym same) ∙ there))
+    ]
+
+-- a bit, as the code reads it
+pub on_read : (a d : ℕ) → is_on a d ≡ eqb (bit_and (a / 2 ^ d) 1) 1
+unfolding is_on
+on_read a d = ap (λ n. eqb n 1) (sym (shr_and_one a d))
+
+pub held_front : (word held : ℕ) → word < 2 ^ 64 → held < 2 ^ 64 → 0 < length (set_lanes word) → bit_and (held / 2 ^ trailing_zeros w64 word) 1 ≡ 1 → IsFront word held (bit_and word (bit_not w64 held)) true
+held_front word held fits held_fits some one =
+    alike_front word held (bit_not w64 held) true fits some (on_not held _ held_fits (first_low word fits some) ∙ ap not (on_read held _ ∙ eq-eqb _ 1 one)) (λ lane l off. sym (not_twice _) ∙ ap not (sym (on_not held lane held_fits l) ∙ off))
+
+pub other_front : (word held : ℕ) → word < 2 ^ 64 → 0 < length (set_lanes word) → bit_and (held / 2 ^ trailing_zeros w64 word) 1 ≢ 1 → IsFront word held (bit_and word held) false
+other_front word held fits some ne = alike_front word held held false fits some (on_read held _ ∙ ne_eqb _ 1 ne) (λ lane l off. off)
+
+-- the lanes of a part, moved to its first one
+pub first_part_is : (word width i front rest cut : ℕ) → word < 2 ^ 64 → 0 < length (set_lanes word) → i * width ≤ trailing_zeros w64 word → trailing_zeros w64 word < i * width + width → cut ≤ i * width + width → cut ≤ 64 → trailing_zeros w64 word < cut →
+    IsCutAt word front rest cut → IsFirstPart word width i (front / 2 ^ (i * width)) rest
+unfolding set_lanes
+first_part_is word width i front rest cut fits some begun less end few here is = record {
+  parts = is.parts ∙ ap (λ ls. ls ++ set_lanes rest) moved;
+  some = lane_some part (t - begin) (omega arith) (lowered (t - begin) ∙ ap (is_on front) (let place : begin + (t - begin) ≡ t = omega (arith, begun) in place) ∙ is.low t here ∙ (first_lane word fits).on low);
+  in_part = λ lane on. (let at : is_on front (begin + lane) ≡ true = sym (lowered lane) ∙ on in
+      (elim (cases_lt lane width) [ inl l ↦ l | inr past ↦ absurd (both_ways _ (is.high (begin + lane) (omega (arith, past, end))) at) ], is.in_front (begin + lane) at));
+  in_rest = is.in_rest;
+  fits = is.fits;
+}
+  where
+    t : ℕ
+    t = trailing_zeros w64 word
+
+    begin : ℕ
+    begin = i * width
+
+    part : ℕ
+    part = front / 2 ^ begin
+
+    low : t < 64
+    low = first_low word fits some
+
+    lowered : (lane : ℕ) → is_on part lane ≡ is_on front (begin + lane)
+    lowered lane = on_lowered front begin lane
+
+    moved : set_lanes front ≡ map (λ lane. begin + lane) (set_lanes part)
+    moved =
+        let whole : 64 ≡ begin + (64 - begin) = omega (arith, begun, low) in
+        let turned : 64 ≡ 64 - begin + begin = omega (arith, begun, low) in
+        ap (λ n. filter (is_on front) (below n)) whole
+        ∙ moved_so_far (is_on part) (is_on front) begin (64 - begin)
+        (λ lane l. false_from_ne_true (is_on front lane) (λ on. omega (arith, l, begun, from_first word fits lane (is.in_front lane on)))) (λ lane l. sym (lowered lane))
+        ∙ ap (map (λ lane. begin + lane)) (sym (ap (λ n. filter (is_on part) (below n)) turned
+        ∙ only_so_far (is_on part) (64 - begin) begin (λ lane l. lowered (64 - begin + lane) ∙ is.high (begin + (64 - begin + lane)) (omega (arith, few, begun, low)))))
+
 -- ---- neighbouring lanes
 
-pub lanes_from_to : (word begin end : ℕ) → begin < end → end ≤ 64 → ((i : ℕ) → i < begin → is_on word i ≡ false) → ((i : ℕ) → begin ≤ i → i < end → is_on word i ≡ true) → ((i : ℕ) → end ≤ i → is_on word i ≡ false) →
-    set_lanes word ≡ map (λ i. begin + i) (below (end - begin))
-unfolding set_lanes
-lanes_from_to word begin end some few low on high =
-    let whole : 64 ≡ begin + (64 - begin) = omega arith in
-    ap (λ n. filter (is_on word) (below n)) whole ∙ moved_so_far (λ i. is_on word (begin + i)) (is_on word) begin (64 - begin) low (λ i l. refl)
-    ∙ ap (map (λ i. begin + i)) (first_so_far (λ i. is_on word (begin + i)) (end - begin) (64 - begin) (omega arith) (λ i l. on (begin + i) (omega arith) (omega arith)) (λ i l k. high (begin + i) (omega arith)))
+bit_is : (n : ℕ) → n < 64 → 1 * 2 ^ n % 2 ^ 64 ≡ 2 ^ n
+bit_is n few = let fits : 2 ^ n < 2 ^ 64 = pow-lt few in omega arith
 
 -- the word of neighbouring lanes, as the code computes it
 abbrev pub between : ℕ → ℕ → ℕ
 between begin end = bit_and ((2 ^ 64 - 1) / 2 ^ (64 - end)) (bit_not w64 (1 * 2 ^ begin % 2 ^ 64 - 1))
 
-pub record IsBetween (word begin end : ℕ) : Type 0 where
-  pub low : (i : ℕ) → i < begin → is_on word i ≡ false
-  pub mid : (i : ℕ) → begin ≤ i → i < end → is_on word i ≡ true
-  pub high : (i : ℕ) → end ≤ i → is_on word i ≡ false
-
-pub is_between : (begin end : ℕ) → begin < end → end ≤ 64 → IsBetween (between begin end) begin end
+pub is_between : (begin end : ℕ) → begin < end → end ≤ 64 → HasLanesBetween (between begin end) begin end
 is_between begin end some few =
     let full : ℕ = (2 ^ 64 - 1) / 2 ^ (64 - end) in
     let less : begin < 64 = omega arith in
@@ -209,75 +266,27 @@ is_between begin end some few =
       high = λ i l. same i ∙ on_and full (bit_not w64 (2 ^ begin - 1)) i ∙ ap (λ b. b && is_on (bit_not w64 (2 ^ begin - 1)) i) (on_full_past end i few l);
     }
 
--- ---- a replay that keeps all or none
+-- ---- the entries of a word's lanes
 
--- the replay keeps all candidates where all are justified
-pub with_replay_all : (A : Arena ℕ) (kept L : List (Entry ℕ)) → ((x : Entry ℕ) → IsIn x L → IsTrue (is_justified A (is_listed A kept) x.node x.reason)) → with_replay A kept L ≡ kept ++ L
-with_replay_all A kept [] all = refl
-with_replay_all A kept (x ∷ L) all =
-    with_replay_step A kept x L
-    ∙ ap (λ b. with_replay A (cond b (kept ++ x ∷ []) kept) L) (all x (inl refl))
-    ∙ with_replay_all A (kept ++ x ∷ []) L (λ y i. justified_more A (is_listed A kept) (is_listed A (kept ++ x ∷ [])) y.node y.reason
-    (λ a k q j t. listed_append A kept (x ∷ []) q ∙ or_left (is_listed A kept q) (is_listed A (x ∷ []) q) t) (all y (inr i)))
-    ∙ append_assoc kept (x ∷ []) L
-
--- the replay keeps no candidate where none is justified
-pub with_replay_none : (A : Arena ℕ) (kept L : List (Entry ℕ)) → ((x : Entry ℕ) → IsIn x L → IsFalse (is_justified A (is_listed A kept) x.node x.reason)) → with_replay A kept L ≡ kept
-with_replay_none A kept [] none = append-nil kept
-with_replay_none A kept (x ∷ L) none =
-    with_replay_step A kept x L
-    ∙ ap (λ b. with_replay A (cond b (kept ++ x ∷ []) kept) L) (none x (inl refl))
-    ∙ with_replay_none A kept L (λ y i. none y (inr i))
-
--- a lane that isn't on in a word's complement is on in the word
-pub on_not_off : (word lane : ℕ) → word < 2 ^ 64 → lane < 64 → is_on (bit_not w64 word) lane ≡ false → is_on word lane ≡ true
-on_not_off word lane fits l off = grind (arith, on_not)
-
--- ---- the row of some candidates
-
--- candidates for lanes of a row are in the system, and so is their reason
-pub record IsInRow (A : Arena ℕ) (rows n x : ℕ) (reason : Reason) : Type 0 where
-  pub row : x < rows
-  pub node : x * n < length A.nodes
-  pub action : IsReasonOf A reason
-
-pub in_row : (A : Arena ℕ) → IsNumbered A → (board : Board) (n x word : ℕ) (reason : Reason) → IsShaped A n board → AreCandidates A board.list (entries_in n x word reason) → word ≢ 0 → word < 2 ^ 64 → IsInRow A board.rows n x reason
-in_row A ok board n x word reason shaped are some fits =
-    let first = first_lane word some fits in
-    let lane : ℕ = trailing_zeros w64 word in
-    let i = in_map (λ lane. as_entry (x * n + lane, reason)) lane (set_lanes word) (on_in word lane first.low first.on) in
-    let node : x * n + lane < length A.nodes = are.nodes (as_entry (x * n + lane, reason)) i in
-    let pairs : board.rows * n ≡ length A.nodes = ap (λ m. board.rows * m) (sym shaped.lanes) ∙ shaped.pairs in
-    record {
-      row = elim (cases_lt x board.rows) [ inl l ↦ l | inr past ↦ absurd (let more : n * board.rows ≤ n * x = mul-le-mul_left n past in omega (arith, more, node, pairs)) ];
-      node = omega (arith, node);
-      action = possible_reason A ok (x * n + lane) reason (are.possible (as_entry (x * n + lane, reason)) i);
-    }
-
--- that of an event whose first entry can be judged
-pub judged_row : (A : Arena ℕ) (n : ℕ) (seat : Option ℕ) (order : Board) (asked : AskedBand) (e : Event) → IsNumbered A → n ≤ 64 → CanJudge A n seat order asked e → IsInRow A order.rows n e.row e.reason
-judged_row A n seat order asked e ok few can =
-    in_row A ok order n e.row e.lanes e.reason can.event.shaped can.event.ready.candidates can.some (word_fits e.lanes n few can.event.within)
-
--- an event whose first entry can be judged lies in a row of the order
-pub row_there : (A : Arena ℕ) (n : ℕ) (seat : Option ℕ) (order : Board) (asked : AskedBand) (e : Event) → CanJudge A n seat order asked e → IsNumbered A → n ≤ 64 → e.row < order.rows
-row_there A n seat order asked e can ok few = (judged_row A n seat order asked e ok few can).row
-
--- the number of the row is small
-row_few : (A : Arena ℕ) → IsNumbered A → (board : Board) (n x word : ℕ) (reason : Reason) → IsShaped A n board → AreCandidates A board.list (entries_in n x word reason) → word ≢ 0 → word < 2 ^ 64 → 0 < n → x < 2 ^ 32
-row_few A ok board n x word reason shaped are some fits wide =
-    let less : x * 1 ≤ x * n = mul-le-mul_left x wide in
-    omega (arith, (in_row A ok board n x word reason shaped are some fits).node, less, ok.few_nodes)
-
--- so it doesn't wrap, and where no entry is for it, it may
-pub wrapped_row : (A : Arena ℕ) → IsNumbered A → (board : Board) (n x many i word : ℕ) (reason : Reason) → IsShaped A n board → AreCandidates A board.list (entries_in n (x * many + i) word reason) → word < 2 ^ 64 → 0 < n →
-    entries_in n ((x * many % 2 ^ 32 + i) % 2 ^ 32) word reason ≡ entries_in n (x * many + i) word reason
-wrapped_row A ok board n x many i word reason shaped are fits wide = elim (cases_eq word 0) [
-  | inl e ↦ none e _ ∙ sym (none e _)
-  | inr some ↦
-      let same : (x * many % 2 ^ 32 + i) % 2 ^ 32 ≡ x * many + i = omega (arith, row_few A ok board n (x * many + i) word reason shaped are some fits wide) in
-      ap (λ y. entries_in n y word reason) same
-]
+-- those of the first part, and those of the others
+pub part_entries : (n x word width i part rest : ℕ) (reason : Reason) → IsFirstPart word width i part rest → entries_in n x word reason ≡ entries_from (x * n + i * width) part reason ++ entries_in n x rest reason
+part_entries n x word width i part rest reason is =
+    let f = λ (lane : ℕ). as_entry (x * n + lane, reason) in
+    ap (map f) is.parts ∙ map-append f (map (λ lane. i * width + lane) (set_lanes part)) (set_lanes rest)
+    ∙ ap (λ L. L ++ entries_in n x rest reason) (map-map f (λ lane. i * width + lane) (set_lanes part) ∙ (λ j. map (λ (lane : ℕ). as_entry (place lane j, reason)) (set_lanes part)))
   where
-    none : word ≡ 0 → (y : ℕ) → entries_in n y word reason ≡ []
-    none e y = ap (λ w. entries_in n y w reason) e ∙ ap (map (λ lane. as_entry (y * n + lane, reason))) set_lanes-zero
+    place : (lane : ℕ) → x * n + (i * width + lane) ≡ x * n + i * width + lane
+    place lane = omega arith
+
+pub fewer_lanes : (word width i part rest : ℕ) → IsFirstPart word width i part rest → length (set_lanes rest) < length (set_lanes word)
+fewer_lanes word width i part rest is =
+    let f = λ (lane : ℕ). i * width + lane in
+    omega (arith, ap length is.parts, length-append (map f (set_lanes part)) (set_lanes rest), length-map (set_lanes part) f, is.some)
+
+-- the lanes of a word that are below a bound are all
+pub lanes_below : (word n : ℕ) → n ≤ 64 → ((lane : ℕ) → is_on word lane ≡ true → lane < n) → filter (is_on word) (below n) ≡ set_lanes word
+unfolding set_lanes
+lanes_below word n few within =
+    let whole : 64 ≡ n + (64 - n) = omega arith in
+    sym (ap (λ m. filter (is_on word) (below m)) whole
+    ∙ only_so_far (is_on word) n (64 - n) (λ i l. false_from_ne_true (is_on word (n + i)) (λ t. let past : n + i < n = within (n + i) t in omega (arith, past))))

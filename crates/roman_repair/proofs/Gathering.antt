@@ -1,14 +1,11 @@
 -- Entries that are gathered for the end of a list.
-use Rattle.roman_repair.proofs.Common.{◌≡◌, ◌≢◌, ℕ, ◌+◌, ◌-◌, ◌*◌, ◌/◌, ◌^◌, ◌<◌, ◌≤◌, Bool, true, false, not, ◌&&◌, ◌||◌, eqb, List, [], ◌++◌, map, map-append, inl, inr, refl, sym, ap, ap₂, ◌∙◌, subst, arith, append-nil, append_assoc, bit_or, trailing_zeros, w64, cases_lt, both_ways, list_any-append, same_from_place, Entry, Reason, Final, list_any-map, is_on, HasLanes, on_or, on_zero, Board, as_entry, has_entry, set_lanes, entries_in, entries_at, Event, in_lanes, set_lanes-zero, list_and, IsGathered}
+use Rattle.roman_repair.proofs.Common.{false_from_ne_true, set_lanes, ◌≡◌, ◌≢◌, ℕ, ◌+◌, ◌-◌, ◌*◌, ◌/◌, ◌^◌, ◌<◌, ◌≤◌, Bool, true, false, not, ◌&&◌, ◌||◌, eqb, List, [], ◌++◌, map, map-append, inl, inr, refl, sym, ap, ap₂, ◌∙◌, subst, arith, append-nil, append_assoc, bit_or, trailing_zeros, w64, cases_lt, both_ways, list_any-append, same_from_place, Entry, Reason, Final, list_any-map, is_on, HasLanes, on_or, on_zero, Board, as_entry, has_entry, entries_in, entries_at, Event, in_lanes, set_lanes-zero, list_and, IsGathered}
 use Rattle.std.proofs.Common.{◌⊎◌}
 use Rattle.std.proofs.Math.Bool.{or-false}
 use Rattle.std.proofs.lemmas.Bool.{ne_eqb, or_parts}
 use Rattle.roman_model.proofs.CallerLemmas.{none_from}
-use Rattle.roman_order.proofs.CallerLemmas.{has_entry-lane}
-use Rattle.roman_repair.specs.Judging.{lane_entries}
-use Rattle.roman_repair.proofs.DeathParts.{on_lowered}
-use Rattle.roman_repair.proofs.Fronts.{first_lane}
-use Rattle.roman_repair.proofs.Growing.{lanes_joined}
+use Rattle.roman_order.proofs.CallerLemmas.{has_entry-lane, some_lane}
+use Rattle.roman_repair.proofs.Fronts.{cut_lanes, first_lane, first_low, from_first, on_lowered}
 
 -- a word without lanes has no entries
 pub no_entries : (n x word : ℕ) (reason : Reason) (L : List (Entry ℕ)) → word ≡ 0 → L ≡ L ++ entries_in n x word reason
@@ -57,14 +54,20 @@ still_gathered old new e rest is = subst (λ (b : Board). IsGathered b e) (sym r
 
 -- ---- one event more
 
--- the lanes of a word begin with its first
-from_first : (word : ℕ) → word ≢ 0 → word < 2 ^ 64 → (lane : ℕ) → is_on word lane ≡ true → trailing_zeros w64 word ≤ lane
-from_first word some fits lane on = elim (cases_lt lane (trailing_zeros w64 word)) [ inl under ↦ absurd (both_ways (is_on word lane) ((first_lane word some fits).before lane under) on) | inr past ↦ past ]
+-- lanes that stand past all others come last
+lanes_joined : (word more cut : ℕ) → cut ≤ 64 → ((bit : ℕ) → is_on word bit ≡ true → bit < cut) → ((bit : ℕ) → is_on more bit ≡ true → cut ≤ bit) → set_lanes (bit_or word more) ≡ set_lanes word ++ set_lanes more
+lanes_joined word more cut few low high = cut_lanes (bit_or word more) word more cut few
+    (λ lane under.
+    let off : is_on more lane ≡ false = false_from_ne_true (is_on more lane) (λ t. let past : cut ≤ lane = high lane t in omega (arith, past, under)) in
+    (sym (on_or word more lane ∙ ap (λ b. is_on word lane || b) off ∙ or-false (is_on word lane)), off))
+    (λ lane l past.
+    let off : is_on word lane ≡ false = false_from_ne_true (is_on word lane) (λ t. let under : lane < cut = low lane t in omega (arith, past, under)) in
+    (off, sym (on_or word more lane ∙ ap (λ b. b || is_on more lane) off)))
 
 -- a word that has nothing from the first lane of another on has lower lanes
 pub all_lower : (word more l m : ℕ) → word / 2 ^ trailing_zeros w64 more ≡ 0 → more ≢ 0 → more < 2 ^ 64 → is_on word l ≡ true → is_on more m ≡ true → l < m
 all_lower word more l m none some fits on there = elim (cases_lt l cut) [
-  | inl under ↦ omega (arith, under, from_first more some fits m there)
+  | inl under ↦ omega (arith, under, from_first more fits m there)
   | inr past ↦
       let place : cut + (l - cut) ≡ l = omega arith in
       let off : is_on word l ≡ false = ap (is_on word) (sym place) ∙ sym (on_lowered word cut (l - cut)) ∙ ap (λ w. is_on w (l - cut)) none ∙ on_zero (l - cut) in
@@ -85,7 +88,7 @@ pub gathers_on : (board : Board) (e : Event) (x lost : ℕ) (reason : Reason) �
     GathersTo board board e (record e { lanes = bit_or e.lanes lost }) x lost reason
 gathers_on board e x lost reason is row why higher some fits l within alive = record {
   list =
-      ap (λ M. board.list ++ M) (ap (lane_entries board.lanes e) (lanes_joined e.lanes lost cut (omega (arith, (first_lane lost some fits).low)) low high) ∙ map-append (λ lane. as_entry (e.row * board.lanes + lane, e.reason)) (set_lanes e.lanes) (set_lanes lost))
+      ap (λ M. board.list ++ M) (ap (map (λ lane. as_entry (e.row * board.lanes + lane, e.reason))) (lanes_joined e.lanes lost cut (first_lane lost fits).few low high) ∙ map-append (λ lane. as_entry (e.row * board.lanes + lane, e.reason)) (set_lanes e.lanes) (set_lanes lost))
       ∙ sym (append_assoc board.list (entries_at board.lanes e) (entries_in board.lanes e.row lost e.reason))
       ∙ ap₂ (λ r s. list_and board e ++ entries_in board.lanes r lost s) row why;
   gathered = record {
@@ -99,10 +102,10 @@ gathers_on board e x lost reason is row why higher some fits l within alive = re
     cut = trailing_zeros w64 lost
 
     low : (bit : ℕ) → is_on e.lanes bit ≡ true → bit < cut
-    low bit on = higher bit cut on (first_lane lost some fits).on
+    low bit on = higher bit cut on ((first_lane lost fits).on (first_low lost fits (some_lane lost some fits)))
 
     high : (bit : ℕ) → is_on lost bit ≡ true → cut ≤ bit
-    high = from_first lost some fits
+    high = from_first lost fits
 
     either : (lane : ℕ) → is_on (bit_or e.lanes lost) lane ≡ true → (is_on e.lanes lane ≡ true) ⊎ (is_on lost lane ≡ true)
     either lane on = by_answer (is_on e.lanes lane) refl

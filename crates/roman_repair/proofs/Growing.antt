@@ -1,36 +1,42 @@
 -- The replay of a row's entries that stand for several pairs each, part by part.
-use Rattle.roman_repair.proofs.Common.{false_from_ne_true, ◌≡◌, ℕ, zero, suc, ◌+◌, ◌-◌, ◌*◌, ◌/◌, ◌%◌, ◌<◌, ◌≤◌, true, false, ◌||◌, append-nil, List, [], ◌∷◌, ◌++◌, map, flat_map, filter, cond, refl, sym, ap, ap₂, ◌∙◌, subst, arith, append_assoc, bit_or, not, ◌^◌, inl, inr, map-map, filter_below_more, bit_not, w64, cases_eq, both_ways, on_not, on_or, mul-le-mul_left, map-append, flat_map-append, below, Arena, Entry, grown_numbers, Reason, is_on, as_entry, Event, entries_at, set_lanes, entries_in, entries_from, AreCandidates, AreSlices, IsNumbered, IsShaped, Board, HasReplayed}
+use Rattle.roman_repair.proofs.Common.{Bool, cases_lt, ◌≡◌, ℕ, zero, suc, ◌+◌, ◌-◌, ◌*◌, ◌/◌, ◌%◌, ◌<◌, ◌≤◌, true, false, ◌||◌, append-nil, List, [], ◌∷◌, ◌++◌, map, flat_map, filter, cond, sym, ap, ap₂, ◌∙◌, subst, arith, append_assoc, bit_or, not, ◌^◌, inl, inr, filter_below_more, bit_not, w64, cases_eq, both_ways, on_not, on_or, mul-le-mul_left, below, Arena, Entry, grown_numbers, Reason, is_on, as_entry, Event, entries_at, set_lanes, entries_in, entries_from, AreSlices, candidates, CanReplay, CanReplayEvent, GoesOnTo, with_replay, Replays, Board, IsIn, in_append_left, in_below, in_map, length}
+use Rattle.std.proofs.lemmas.List.Concat.{flat_map-append}
 use Rattle.std.proofs.Math.Bool.{or-false}
 use Rattle.std.proofs.lemmas.Nat.{div-mul-add}
-use Rattle.roman_repair.proofs.Waiting.{grown_by_one}
-use Rattle.roman_repair.proofs.BandAnswers.{not_twice}
-use Rattle.roman_repair.proofs.Joined.{positive, grown_part}
-use Rattle.roman_repair.proofs.DeathParts.{part_word, part_in, part_end}
-use Rattle.roman_repair.proofs.DeathEntries.{entries_below, row_begin, row_next, row_whole, lanes_below}
-use Rattle.roman_repair.specs.Judging.{CanReplay}
+use Rattle.roman_model.proofs.CallerLemmas.{in_flat_map}
+use Rattle.roman_order.specs.Events.{IsEvent}
+use Rattle.roman_repair.specs.Growing.{CanGrow, HasReplayedAll, IsGrown, entries_grown}
+use Rattle.roman_repair.specs.Lanes.{HasLanesBetween, IsFirstPart, IsSpread}
 use Rattle.roman_repair.specs.declared.asked_band.AskedBand.{AskedBand}
-use Rattle.roman_repair.proofs.Replayed.{replay_next}
-use Rattle.roman_repair.proofs.Fronts.{cut_lanes, filter_split, all_so_far, only_so_far, wrapped_row}
+use Rattle.roman_repair.specs.declared.replaying.Newcomer.{Newcomer}
+use Rattle.roman_repair.proofs.Waiting.{grown_by_one}
+use Rattle.roman_repair.proofs.Joined.{positive, grown_part}
+use Rattle.roman_repair.proofs.Replayed.{further, replays_front, replays_whole}
+use Rattle.roman_repair.proofs.Fronts.{all_so_far, filter_split, has_some, lanes_below, none_so_far, not_twice, part_entries, some_in}
 
 -- ---- spread lanes
-
--- lanes that stand past all others come last
-pub lanes_joined : (word more cut : ℕ) → cut ≤ 64 → ((bit : ℕ) → is_on word bit ≡ true → bit < cut) → ((bit : ℕ) → is_on more bit ≡ true → cut ≤ bit) → set_lanes (bit_or word more) ≡ set_lanes word ++ set_lanes more
-lanes_joined word more cut few low high = cut_lanes (bit_or word more) word more cut few (record {
-  low = λ lane l under.
-      let off : is_on more lane ≡ false = false_from_ne_true (is_on more lane) (λ t. let past : cut ≤ lane = high lane t in omega (arith, past, under)) in
-      (sym (on_or word more lane ∙ ap (λ b. is_on word lane || b) off ∙ or-false (is_on word lane)), off);
-  high = λ lane l past.
-      let off : is_on word lane ≡ false = false_from_ne_true (is_on word lane) (λ t. let under : lane < cut = low lane t in omega (arith, past, under)) in
-      (off, sym (on_or word more lane ∙ ap (λ b. b || is_on more lane) off));
-})
-
-pub joined_within : (word more cut end bit : ℕ) → ((bit : ℕ) → is_on word bit ≡ true → bit < cut) → cut ≤ end → (is_on more bit ≡ true → bit < end) → is_on (bit_or word more) bit ≡ true → bit < end
-joined_within word more cut end bit low less high on = grind (arith, on_or)
 
 -- the lanes of a word below a bound, each spread
 abbrev pub spread_below : ℕ → ℕ → ℕ → List ℕ
 spread_below word lanes width = flat_map (λ lane. map (λ i. lane * width + i) (below width)) (filter (is_on word) (below lanes))
+
+-- the lanes of a spread word
+pub spread_list : (word spread lanes width : ℕ) → lanes * width ≤ 64 → IsSpread word spread lanes width → set_lanes spread ≡ spread_below word lanes width
+spread_list word spread lanes width few is =
+    sym (lanes_below spread (lanes * width) few (λ bit on. elim (cases_lt bit (lanes * width)) [ inl l ↦ l | inr past ↦ absurd (both_ways (is_on spread bit) (is.past bit past) on) ])) ∙ blocks lanes is.each
+  where
+    block : (m : ℕ) (b : Bool) → ((i : ℕ) → i < width → is_on spread (m * width + i) ≡ b) → map (λ i. m * width + i) (filter (λ i. is_on spread (m * width + i)) (below width)) ≡ flat_map (λ lane. map (λ i. lane * width + i) (below width)) (cond b (m ∷ []) [])
+    block m true same = ap (map (λ i. m * width + i)) (all_so_far (λ i. is_on spread (m * width + i)) width same) ∙ sym (append-nil (map (λ i. m * width + i) (below width)))
+    block m false same = ap (map (λ i. m * width + i)) (none_so_far (λ i. is_on spread (m * width + i)) width same)
+
+    blocks : (m : ℕ) → ((lane i : ℕ) → lane < m → i < width → is_on spread (lane * width + i) ≡ is_on word lane) → filter (is_on spread) (below (m * width)) ≡ spread_below word m width
+    blocks zero each = (let none : 0 * width ≡ 0 = omega arith in ap (λ n. filter (is_on spread) (below n)) none)
+    blocks (suc m) each =
+        let f = λ (lane : ℕ). map (λ i. lane * width + i) (below width) in
+        let next : suc m * width ≡ m * width + width = omega arith in
+        ap (λ n. filter (is_on spread) (below n)) next ∙ filter_split (is_on spread) (m * width) width
+        ∙ ap₂ (λ L M. L ++ M) (blocks m (λ lane i l h. each lane i (omega (arith, l)) h)) (block m (is_on word m) (λ i h. each m i (omega arith) h))
+        ∙ sym (ap (flat_map f) (filter_below_more (is_on word) m) ∙ flat_map-append f (filter (is_on word) (below m)) (cond (is_on word m) (m ∷ []) []))
 
 -- the first lane that isn't the word's ends a run of lanes that are
 pub run_lanes : (word lane end : ℕ) → word < 2 ^ 64 → end ≤ 64 → ((l : ℕ) → lane ≤ l → l < end → is_on (bit_not w64 word) l ≡ false) → (l : ℕ) → lane ≤ l → l < end → is_on word l ≡ true
@@ -42,48 +48,28 @@ run_some word lane end lanes fits few less past here next = elim (cases_eq end l
   | inr ne ↦ omega (arith, ne, past)
 ]
 
--- lanes that aren't the word's add nothing
-pub spread_skip : (word lane next width : ℕ) → lane ≤ next → ((l : ℕ) → lane ≤ l → l < next → is_on word l ≡ false) → spread_below word next width ≡ spread_below word lane width
-spread_skip word lane next width less off =
-    let place : next ≡ lane + (next - lane) = omega (arith, less) in
-    ap (flat_map (λ l. map (λ i. l * width + i) (below width)))
-    (ap (λ n. filter (is_on word) (below n)) place ∙ only_so_far (is_on word) lane (next - lane) (λ i l. off (lane + i) (omega arith) (omega (arith, l, less))))
-
-below_add : (a b : ℕ) → below (a + b) ≡ below a ++ map (λ i. a + i) (below b)
-below_add a b = sym (all (a + b)) ∙ filter_split (λ i. true) a b ∙ ap₂ (λ L M. L ++ map (λ i. a + i) M) (all a) (all b)
-  where
-    all : (n : ℕ) → filter (λ i. true) (below n) ≡ below n
-    all n = all_so_far (λ i. true) n (λ i l. refl)
-
--- a run of the word's lanes is spread to a run
-run_more : (word lane n width : ℕ) → ((l : ℕ) → lane ≤ l → l < lane + n → is_on word l ≡ true) →
-    spread_below word (lane + n) width ≡ spread_below word lane width ++ map (λ i. lane * width + i) (below (n * width))
-run_more word lane zero width on =
-    let same : lane + 0 ≡ lane = omega arith in
-    let none : 0 * width ≡ 0 = omega arith in
-    ap (λ m. spread_below word m width) same ∙ sym (append-nil (spread_below word lane width)) ∙ ap (λ n. spread_below word lane width ++ map (λ i. lane * width + i) (below n)) (sym none)
-run_more word lane (suc n) width on =
-    let so_far = spread_below word lane width in
-    let f = λ (l : ℕ). map (λ i. l * width + i) (below width) in
-    let g = λ (i : ℕ). lane * width + i in
-    let next : lane + suc n ≡ suc (lane + n) = omega arith in
-    let wide : suc n * width ≡ n * width + width = omega arith in
-    let place : (i : ℕ) → (lane + n) * width + i ≡ lane * width + (n * width + i) = λ i. omega arith in
-    ap (λ m. spread_below word m width) next ∙ ap (flat_map f) (filter_below_more (is_on word) (lane + n))
-    ∙ flat_map-append f (filter (is_on word) (below (lane + n))) (cond (is_on word (lane + n)) ((lane + n) ∷ []) [])
-    ∙ ap₂ (λ L b. L ++ flat_map f (cond b ((lane + n) ∷ []) [])) (run_more word lane n width (λ l h m. on l h (omega (arith, m)))) (on (lane + n) (omega arith) (omega arith))
-    ∙ append_assoc so_far (map g (below (n * width))) (f (lane + n) ++ [])
-    ∙ ap (λ L. so_far ++ (map g (below (n * width)) ++ L)) (append-nil (f (lane + n)) ∙ (λ j. map (λ (i : ℕ). place i j) (below width)) ∙ sym (map-map g (λ i. n * width + i) (below width)))
-    ∙ ap (λ L. so_far ++ L) (sym (map-append g (below (n * width)) (map (λ i. n * width + i) (below width))) ∙ ap (map g) (sym (below_add (n * width) width) ∙ ap below (sym wide)))
-
-pub spread_run : (word lane end width : ℕ) → lane ≤ end → ((l : ℕ) → lane ≤ l → l < end → is_on word l ≡ true) →
-    spread_below word lane width ++ map (λ i. lane * width + i) (below (end * width - lane * width)) ≡ spread_below word end width
-spread_run word lane end width less on =
-    let place : end ≡ lane + (end - lane) = omega (arith, less) in
-    let both : end * width ≡ lane * width + (end - lane) * width = ap (λ m. m * width) place ∙ omega arith in
-    let wide : end * width - lane * width ≡ (end - lane) * width = omega (arith, both) in
-    ap (λ n. spread_below word lane width ++ map (λ i. lane * width + i) (below n)) wide
-    ∙ sym (run_more word lane (end - lane) width (λ l h m. on l h (omega (arith, m, less)))) ∙ ap (λ m. spread_below word m width) (sym place)
+-- a run of lanes is spread, and the lanes after it that the word doesn't have
+pub spread_more : (word spread block lane end next width : ℕ) → IsSpread word spread lane width → HasLanesBetween block (lane * width) (end * width) → lane ≤ end → end ≤ next → ((l : ℕ) → lane ≤ l → l < end → is_on word l ≡ true) → ((l : ℕ) → end ≤ l → l < next → is_on word l ≡ false) →
+    IsSpread word (bit_or spread block) next width
+spread_more word spread block lane end next width is run less more on off = record {
+  each = λ l i h inner.
+      let bit = l * width + i in
+      on_or spread block bit ∙ elim (cases_lt l lane) [
+        | inl before ↦
+            let under : width * (l + 1) ≤ width * lane = mul-le-mul_left width (omega (arith, before)) in
+            ap₂ (λ a b. a || b) (is.each l i before inner) (run.low bit (omega (arith, under, inner))) ∙ or-false (is_on word l)
+        | inr past ↦
+            let over : width * lane ≤ width * l = mul-le-mul_left width past in
+            ap (λ a. a || is_on block bit) (is.past bit (omega (arith, over))) ∙ elim (cases_lt l end) [
+              | inl within ↦ (let under : width * (l + 1) ≤ width * end = mul-le-mul_left width (omega (arith, within)) in run.mid bit (omega (arith, over)) (omega (arith, under, inner)) ∙ sym (on l past within))
+              | inr after ↦ (let above : width * end ≤ width * l = mul-le-mul_left width after in run.high bit (omega (arith, above)) ∙ sym (off l after h))
+            ]
+      ];
+  past = λ bit far.
+      let over : width * lane ≤ width * end = mul-le-mul_left width less in
+      let above : width * end ≤ width * next = mul-le-mul_left width more in
+      on_or spread block bit ∙ ap₂ (λ a b. a || b) (is.past bit (omega (arith, far, over, above))) (run.high bit (omega (arith, far, above)));
+}
 
 -- ---- parts of a row
 
@@ -117,69 +103,95 @@ same_slices row lanes same few = record { few = few; slices = (row, omega arith,
 pub grown_itself : (states lanes n : ℕ) (e : Event) → states ≡ 1 → lanes ≡ n → entries_at n e ≡ flat_map (grown_numbers states) (entries_at lanes e)
 grown_itself states lanes n e one same = sym (ap (λ s. flat_map (grown_numbers s) (entries_at lanes e)) one ∙ grown_by_one (entries_at lanes e) ∙ ap (λ m. entries_at m e) same)
 
--- what the entries of some lanes stand for, below a bound
-abbrev pub grown_below : ℕ → ℕ → ℕ → ℕ → ℕ → Reason → List (Entry ℕ)
-grown_below states lanes x word bound reason = flat_map (grown_numbers states) (entries_below lanes x word bound reason)
+-- what the entries of the first part and of the others stand for
+pub grown_first : (n lanes states slices many x word i part rest spread : ℕ) (reason : Reason) → IsSliced n lanes states slices many → IsFirstPart word slices i part rest → set_lanes spread ≡ spread_below part slices states →
+    flat_map (grown_numbers states) (entries_in lanes x word reason) ≡ entries_in n (x * many + i) spread reason ++ flat_map (grown_numbers states) (entries_in lanes x rest reason)
+grown_first n lanes states slices many x word i part rest spread reason is first wide =
+    ap (flat_map (grown_numbers states)) (part_entries lanes x word slices i part rest reason first)
+    ∙ flat_map-append (grown_numbers states) (entries_from (x * lanes + i * slices) part reason) (entries_in lanes x rest reason)
+    ∙ ap (λ L. L ++ flat_map (grown_numbers states) (entries_in lanes x rest reason)) (sym (grown_part n slices many states lanes x i spread reason (set_lanes part) is.whole is.parts
+    (wide ∙ ap (flat_map (λ lane. map (λ i. lane * states + i) (below states))) (lanes_below part slices is.few (λ lane on. (first.in_part lane on).0)))))
 
-abbrev pub grown_from : ℕ → ℕ → ℕ → Reason → List (Entry ℕ)
-grown_from states first part reason = flat_map (grown_numbers states) (entries_from first part reason)
+-- a spread word has a lane where the word has one
+pub spread_some : (word spread lanes width : ℕ) → 0 < width → lanes ≤ 64 → ((lane : ℕ) → is_on word lane ≡ true → lane < lanes) → 0 < length (set_lanes word) → set_lanes spread ≡ spread_below word lanes width → 0 < length (set_lanes spread)
+spread_some word spread lanes width wide few within some is =
+    let (lane, i) = some_in (set_lanes word) some in
+    let f = λ (l : ℕ). map (λ i. l * width + i) (below width) in
+    has_some (set_lanes spread) (lane * width + 0) (subst (IsIn (lane * width + 0)) (sym (is ∙ ap (flat_map f) (lanes_below word lanes few within)))
+    (in_flat_map f lane (lane * width + 0) (set_lanes word) i (in_map (λ i. lane * width + i) 0 (below width) (in_below width 0 wide))))
 
-pub grown_next : (states lanes x word i m : ℕ) (reason : Reason) → m ≤ 64 →
-    grown_below states lanes x word (i * m) reason ++ grown_from states (x * lanes + i * m) (part_word word (i * m) m) reason ≡ grown_below states lanes x word ((i + 1) * m) reason
-grown_next states lanes x word i m reason few =
-    sym (flat_map-append (grown_numbers states) (entries_below lanes x word (i * m) reason) (entries_from (x * lanes + i * m) (part_word word (i * m) m) reason))
-    ∙ ap (flat_map (grown_numbers states)) (row_next lanes x word i m reason few)
-
-pub grown_whole : (states lanes x word bound : ℕ) (reason : Reason) → bound ≤ 64 → ((lane : ℕ) → is_on word lane ≡ true → lane < bound) → grown_below states lanes x word bound reason ≡ flat_map (grown_numbers states) (entries_in lanes x word reason)
-grown_whole states lanes x word bound reason few within = ap (flat_map (grown_numbers states)) (row_whole lanes x word bound reason few within)
-
-pub grown_begin : (states lanes x word bound : ℕ) (reason : Reason) → ((lane : ℕ) → is_on word lane ≡ true → bound ≤ lane) → grown_below states lanes x word bound reason ≡ []
-grown_begin states lanes x word bound reason first = ap (flat_map (grown_numbers states)) (row_begin lanes x word bound reason first)
-
--- the entries of the row that a part becomes
-pub part_entries : (n lanes states slices many x word i width grown : ℕ) (reason : Reason) → IsSliced n lanes states slices many → width ≡ states →
-    set_lanes grown ≡ spread_below (part_word word (i * slices) slices) slices width → entries_in n (x * many + i) grown reason ≡ grown_from states (x * lanes + i * slices) (part_word word (i * slices) slices) reason
-part_entries n lanes states slices many x word i width grown reason is wide spread =
-    let part = part_word word (i * slices) slices in
-    grown_part n slices many states lanes x i grown reason (filter (is_on part) (below slices)) is.whole is.parts (spread ∙ ap (spread_below part slices) wide)
-    ∙ ap (λ L. flat_map (grown_numbers states) (map (λ lane. as_entry (x * lanes + i * slices + lane, reason)) L)) (lanes_below part slices is.few (λ lane on. (part_in word (i * slices) slices lane is.few on).0))
-
--- what all entries stand for, split after a part
-part_split : (states lanes x word bound : ℕ) (reason : Reason) → bound ≤ lanes → (rest : List (Entry ℕ)) × (grown_below states lanes x word lanes reason ≡ grown_below states lanes x word bound reason ++ rest)
-part_split states lanes x word bound reason end =
+-- the row of the first part is one of the system
+pub grown_row : (nodes n lanes states slices many x word i part rest : ℕ) (reason : Reason) → IsSliced n lanes states slices many → IsFirstPart word slices i part rest → 0 < n → ((y : Entry ℕ) → IsIn y (flat_map (grown_numbers states) (entries_in lanes x word reason)) → y.node < nodes) →
+    x * many + i < nodes
+grown_row nodes n lanes states slices many x word i part rest reason is first wide all =
+    let (lane, j) = some_in (set_lanes part) first.some in
     let f = λ (lane : ℕ). as_entry (x * lanes + lane, reason) in
-    let whole : lanes ≡ bound + (lanes - bound) = omega (arith, end) in
-    let after = map (λ a. bound + a) (filter (λ a. is_on word (bound + a)) (below (lanes - bound))) in (
-      flat_map (grown_numbers states) (map f after),
-      ap (λ b. flat_map (grown_numbers states) (map f (filter (is_on word) (below b)))) whole
-          ∙ ap (λ L. flat_map (grown_numbers states) (map f L)) (filter_split (is_on word) bound (lanes - bound))
-          ∙ ap (flat_map (grown_numbers states)) (map-append f (filter (is_on word) (below bound)) after)
-          ∙ flat_map-append (grown_numbers states) (entries_below lanes x word bound reason) (map f after),
-    )
+    let h = in_map f (i * slices + lane) (set_lanes word) (subst (IsIn (i * slices + lane)) (sym first.parts) (in_append_left (i * slices + lane) (map (λ lane. i * slices + lane) (set_lanes part)) (set_lanes rest) (in_map (λ lane. i * slices + lane) lane (set_lanes part) j))) in
+    let old = x * lanes + (i * slices + lane) in
+    let node = all (as_entry (old * states + 0, reason)) (in_flat_map (grown_numbers states) (f (i * slices + lane)) (as_entry (old * states + 0, reason)) (entries_in lanes x word reason) h (in_map (λ b. as_entry (old * states + b, reason)) 0 (below states) (in_below states 0 is.some_states))) in
+    let row : (x * many + i) * n ≡ states * ((x * many + i) * slices) = ap (λ m. (x * many + i) * m) is.whole ∙ omega arith in
+    let past : x * lanes ≡ x * (many * slices) = ap (λ m. x * m) is.parts in
+    let less : states * ((x * many + i) * slices) ≤ states * old = mul-le-mul_left states (omega (arith, past)) in
+    let whole : (x * many + i) * 1 ≤ (x * many + i) * n = mul-le-mul_left (x * many + i) wide in
+    omega (arith, node, row, less, whole)
 
--- the candidates of the next part can be replayed, and they are the entries for some lanes of a row
-pub part_next : (A : Arena ℕ) (n : ℕ) (kept : List (Entry ℕ)) (order : Board) (asked on : AskedBand) (before after states lanes slices many x word i width grown : ℕ) (reason : Reason) → IsNumbered A → 0 < n →
-    IsSliced n lanes states slices many → width ≡ states → i < many → many ≡ lanes / slices → lanes ≤ 64 → ((lane : ℕ) → is_on word lane ≡ true → lane < lanes) →
-    grown < 2 ^ 64 → set_lanes grown ≡ spread_below (part_word word (i * slices) slices) slices width → IsShaped A n order →
-    CanReplay A n kept asked (flat_map (grown_numbers states) (entries_in lanes x word reason)) → HasReplayed A n (grown_below states lanes x word (i * slices) reason) kept order.list asked on before after →
-    CanReplay A n order.list on (grown_from states (x * lanes + i * slices) (part_word word (i * slices) slices) reason)
-    × (entries_in n ((x * many % 2 ^ 32 + i) % 2 ^ 32) grown reason ≡ grown_from states (x * lanes + i * slices) (part_word word (i * slices) slices) reason)
-part_next A n kept order asked on before after states lanes slices many x word i width grown reason ok wide is same_width l whole few within fits spread shaped can replayed = (
-  ready,
-  wrapped_row A ok order n x many i grown reason shaped (subst (AreCandidates A order.list) (sym same) ready.candidates) fits wide ∙ same,
-)
-  where
-    those : List (Entry ℕ)
-    those = grown_from states (x * lanes + i * slices) (part_word word (i * slices) slices) reason
+-- ---- the events of grown rows
 
-    so_far : List (Entry ℕ)
-    so_far = grown_below states lanes x word (i * slices) reason
+-- where each entry stands for its own pair, the event stays as it is
+pub stays_event : (A : Arena ℕ) (n : ℕ) (newcomer : Newcomer) (order : Board) (asked : AskedBand) (e : Event) → newcomer.states ≡ 1 → newcomer.lanes ≡ n → CanReplayEvent A n newcomer.lanes (entries_grown newcomer) order asked e → CanReplayEvent A n n (entries_at n) order asked e
+stays_event A n newcomer order asked e one same can = record {
+  shaped = can.shaped;
+  event = subst (λ m. IsEvent m e) same can.event;
+  ready = (let (N, ready) = can.ready in (N, subst (λ L. CanReplay A n order.list asked (L ++ N)) (sym (grown_itself newcomer.states newcomer.lanes n e one same)) ready));
+}
 
-    same : entries_in n (x * many + i) grown reason ≡ those
-    same = part_entries n lanes states slices many x word i width grown reason is same_width spread
+-- what an event stands for can be grown
+pub can_grow : (A : Arena ℕ) (n : ℕ) (newcomer : Newcomer) (order : Board) (asked : AskedBand) (e : Event) → AreSlices n newcomer.lanes newcomer.states → CanReplayEvent A n newcomer.lanes (entries_grown newcomer) order asked e → CanGrow A n newcomer e
+can_grow A n newcomer order asked e slices can = record { slices = slices; event = can.event; nodes = λ x i. (let (N, ready) = can.ready in ready.candidates.nodes x (in_append_left x (entries_grown newcomer e) N i)) }
 
-    ready : CanReplay A n order.list on those
-    ready =
-        let (rest, split) = part_split states lanes x word ((i + 1) * slices) reason (part_end i slices lanes (omega (arith, l, whole))) in
-        replay_next A n kept order.list (flat_map (grown_numbers states) (entries_in lanes x word reason)) so_far those rest asked on before after can
-        (sym (grown_whole states lanes x word lanes reason few within) ∙ split ∙ ap (λ L. L ++ rest) (sym (grown_next states lanes x word i slices reason is.few)) ∙ append_assoc so_far those rest) replayed
+-- the first row can be replayed
+pub grown_ready : (A : Arena ℕ) (n : ℕ) (newcomer : Newcomer) (order : Board) (asked : AskedBand) (e grown : Event) (rest : ℕ) → CanReplayEvent A n newcomer.lanes (entries_grown newcomer) order asked e → IsGrown n newcomer e grown rest → CanReplayEvent A n n (entries_at n) order asked grown
+grown_ready A n newcomer order asked e grown rest can is = record {
+  shaped = can.shaped;
+  event = is.event;
+  ready = (
+      let (N, ready) = can.ready in
+      let left = entries_grown newcomer (record e { lanes = rest }) in
+      (left ++ N, subst (CanReplay A n order.list asked) (ap (λ L. L ++ N) is.parts ∙ append_assoc (entries_at n grown) left N) ready));
+}
+
+-- ---- the waiting entries, event by event
+
+-- the next event goes first, and the others after it
+waiting_first : (newcomer : Newcomer) (now next : Board) (e : Event) → now.waiting_lanes ≡ newcomer.lanes → now.waiting ≡ entries_at now.waiting_lanes e ++ next.waiting → candidates newcomer.states now ≡ entries_grown newcomer e ++ candidates newcomer.states next
+waiting_first newcomer now next e same first =
+    ap (flat_map (grown_numbers newcomer.states)) (first ∙ ap (λ m. entries_at m e ++ next.waiting) same) ∙ flat_map-append (grown_numbers newcomer.states) (entries_at newcomer.lanes e) next.waiting
+
+-- it can be replayed
+pub next_ready : (A : Arena ℕ) (n : ℕ) (newcomer : Newcomer) (now next : Board) (on : AskedBand) (e : Event) → now.waiting_lanes ≡ newcomer.lanes → now.waiting ≡ entries_at now.waiting_lanes e ++ next.waiting → next ≡ record now { waiting = next.waiting } →
+    CanReplay A n now.list on (candidates newcomer.states now) → CanReplay A n next.list on (entries_grown newcomer e ++ candidates newcomer.states next)
+next_ready A n newcomer now next on e same first rest can =
+    subst (λ K. CanReplay A n K on (entries_grown newcomer e ++ candidates newcomer.states next)) (sym (ap (λ (b : Board). b.list) rest)) (subst (CanReplay A n now.list on) (waiting_first newcomer now next e same first) can)
+
+-- what it stands for was replayed too
+pub replay_on : (A : Arena ℕ) (n : ℕ) (newcomer : Newcomer) (start now next new : Board) (on last : AskedBand) (e : Event) (before between after : ℕ) → now.waiting_lanes ≡ newcomer.lanes → now.waiting ≡ entries_at now.waiting_lanes e ++ next.waiting → next ≡ record now { waiting = next.waiting } →
+    Replays A n (entries_grown newcomer e) [] next.list new.list on last between after → new ≡ record next { list = new.list } → GoesOnTo A n (candidates newcomer.states start) (candidates newcomer.states now) start.list now.list on before between →
+    GoesOnTo A n (candidates newcomer.states start) (candidates newcomer.states new) start.list new.list last before after
+replay_on A n newcomer start now next new on last e before between after same first rest replayed kept goes =
+    let those = candidates newcomer.states in
+    further A n (those start) (those now) (those new) start.list now.list new.list on last before between after goes
+    (replays_whole A n (those now) (those new) now.list new.list on last between after
+    (replays_front A n (entries_grown newcomer e) (those new) (those now) now.list new.list on last between after
+    (waiting_first newcomer now next e same first ∙ ap (λ W. entries_grown newcomer e ++ flat_map (grown_numbers newcomer.states) W) (sym (ap (λ (b : Board). b.waiting) kept)))
+    (subst (λ K. Replays A n (entries_grown newcomer e) [] K new.list on last between after) (ap (λ (b : Board). b.list) rest) replayed)) goes.can)
+
+-- at the end all were
+pub replayed_all : (A : Arena ℕ) (n : ℕ) (newcomer : Newcomer) (start now last : Board) (on : AskedBand) (before after : ℕ) → GoesOnTo A n (candidates newcomer.states start) (candidates newcomer.states now) start.list now.list on before after → now ≡ record start { list = now.list; waiting = now.waiting } →
+    (now.waiting ≡ []) × (last ≡ now) → HasReplayedAll A (candidates newcomer.states start) start last before after
+replayed_all A n newcomer start now last on before after goes rest (none, same) =
+    let all : candidates newcomer.states now ≡ [] = ap (flat_map (grown_numbers newcomer.states)) none in
+    subst (λ board. HasReplayedAll A (candidates newcomer.states start) start board before after) (sym same) (record {
+      list = sym (append-nil now.list) ∙ ap (with_replay A now.list) (sym all) ∙ goes.list;
+      rest = rest ∙ ap (λ W. record start { list = now.list; waiting = W }) none;
+      cost = omega (arith, goes.cost);
+    })

@@ -1,5 +1,5 @@
 -- What a replay keeps, candidate by candidate.
-use Rattle.roman_repair.proofs.Common.{◌≡◌, ℕ, ◌+◌, ◌*◌, ◌<◌, ◌≤◌, Bool, true, false, if◌then◌else◌, ◌&&◌, List, [], ◌∷◌, ◌++◌, length, IsTrue, count_by, inl, inr, refl, sym, ap, ◌∙◌, subst, arith, append-nil, append_assoc, false_from_ne_true, eqb-true, map-append, sum_by-cons, list_any-append, IsIn, HasNoRepeats, below, Arena, Entry, is_listed, is_justified, readings, is_among, Reason, Final, Act, grown_numbers, in_map, from_map, in_append_left, in_below, IsNumbered, IsReasonOf, readings_of_reason, readings_of-allowed, nodes_of, is_possible, AreCandidates, with_replay, readings_of_entries}
+use Rattle.roman_repair.proofs.Common.{◌≡◌, ℕ, ◌+◌, ◌*◌, ◌<◌, ◌≤◌, Bool, true, false, if◌then◌else◌, ◌&&◌, List, [], ◌∷◌, ◌++◌, length, IsTrue, count_by, inl, inr, refl, sym, ap, ◌∙◌, subst, arith, append-nil, append_assoc, false_from_ne_true, eqb-true, map-append, sum_by-cons, list_any-append, IsIn, below, Arena, Entry, is_listed, is_justified, readings, is_among, Reason, Final, Act, grown_numbers, in_map, from_map, in_below, IsNumbered, IsReasonOf, readings_of_reason, readings_of-allowed, nodes_of, is_possible, AreCandidates, with_replay, readings_of_entries}
 use Rattle.std.proofs.Common.{sum_by}
 use Rattle.std.proofs.lemmas.Bool.{or_from}
 use Rattle.roman_model.specs.Arena.{replay_from}
@@ -37,33 +37,11 @@ with_replay_step A kept x L =
     by_answer true = pushed
     by_answer false = refl
 
-pub with_replay_append : (A : Arena ℕ) (kept L M : List (Entry ℕ)) → with_replay A kept (L ++ M) ≡ with_replay A (with_replay A kept L) M
-with_replay_append A kept [] M = ap (λ N. with_replay A N M) (sym (append-nil kept))
-with_replay_append A kept (x ∷ L) M =
-    with_replay_step A kept x (L ++ M) ∙ with_replay_append A (with_one A kept x) L M ∙ ap (λ N. with_replay A N M) (sym (with_replay_step A kept x L))
-
 -- Candidates.
 
-once_left : (ps qs : List ℕ) → HasNoRepeats (ps ++ qs) → HasNoRepeats ps
-once_left [] qs once = tt
-once_left (p ∷ ps) qs once = (λ i. once.0 (in_append_left p ps qs i), once_left ps qs once.1)
-
-pub candidates_left : (A : Arena ℕ) (kept L M : List (Entry ℕ)) → AreCandidates A kept (L ++ M) → AreCandidates A kept L
-candidates_left A kept L M are = record {
-  once = once_left (nodes_of L) (nodes_of M) (subst HasNoRepeats (map-append (λ (x : Entry ℕ). x.node) L M) are.once);
-  new = λ x i. are.new x (in_append_left x L M i);
-  nodes = λ x i. are.nodes x (in_append_left x L M i);
-  possible = λ x i. are.possible x (in_append_left x L M i);
-}
-
 -- the candidates after one that is kept or not
-candidates_step : (A : Arena ℕ) (kept : List (Entry ℕ)) (x : Entry ℕ) (L : List (Entry ℕ)) → AreCandidates A kept (x ∷ L) → AreCandidates A (with_one A kept x) L
+pub candidates_step : (A : Arena ℕ) (kept : List (Entry ℕ)) (x : Entry ℕ) (L : List (Entry ℕ)) → AreCandidates A kept (x ∷ L) → AreCandidates A (with_one A kept x) L
 candidates_step A kept x L are = grind (arith, eqb-true, false_from_ne_true, in_map, list_any-append, or_from)
-
--- the candidates after several that are kept or not
-pub candidates_replayed : (A : Arena ℕ) (kept L M : List (Entry ℕ)) → AreCandidates A kept (L ++ M) → AreCandidates A (with_replay A kept L) M
-candidates_replayed A kept [] M are = subst (λ N. AreCandidates A N M) (sym (append-nil kept)) are
-candidates_replayed A kept (x ∷ L) M are = grind (arith, candidates_step, with_replay_step, (candidates_replayed A (with_one A kept x) L M (candidates_step A kept x (L ++ M) are)))
 
 -- The candidates of one entry.
 

@@ -11,6 +11,6 @@ pub mod Fronts
 pub mod Growing
 pub mod BandAnswers
 pub mod Gathering
-pub mod JudgedAlone
 pub mod OtherSeats
 pub mod Replayed
+pub mod Readmitted

@@ -1,13 +1,13 @@
 -- After a thaw or a join each entry of the old list would be kept if the changed seat had no outcomes.
-use Rattle.roman_repair.proofs.Common.{◌≡◌, ℕ, zero, suc, ◌+◌, ◌*◌, ◌%◌, ◌<◌, ◌==◌, Bool, true, false, not, ◌&&◌, ◌||◌, List, [], ◌∷◌, ◌++◌, map, flat_map, length, Some, IsTrue, IsFalse, if◌then◌else◌, slice_get, slice_index, inl, inr, refl, sym, ap, ◌∙◌, subst, arith, append-nil, append_assoc, both_ways, eqb-true, or_left, and_from, and_parts, eq-eqb, or_cases, or_right, IsIn, below, product_of, all_below, is_empty, Arena, Entry, IsOrder, is_listed, is_justified, is_among, Reason, Final, Act, length-map, length_push, Sys, Seat, IsSys, is_final, Sizes, sizes_of, count, pair_at, numbered, number, turned, sizes-turned, in_map, from_map, AreNumbers, in_below, justified_more, listed_append, map-map, all_below_from, any_from, any_true, by_test, flat_map_same, from_below, justified_is, map-flat_map, number_allows-turned, pair_at-grown, sizes-joined, grown_numbers, NamedSys, system_of, IsNamedSys, Board, pairs_of, has_entry, IsRelation, listed_numbers, candidates, list_any, is_ready, without_seat, AreKept, MayAskAlone}
-use Rattle.std.proofs.Common.{slice_set}
+use Rattle.roman_repair.proofs.Common.{◌≡◌, ℕ, zero, suc, ◌+◌, ◌*◌, ◌%◌, ◌<◌, ◌==◌, Bool, true, false, not, ◌&&◌, ◌||◌, List, [], ◌∷◌, ◌++◌, map, flat_map, length, Some, IsTrue, IsFalse, if◌then◌else◌, slice_get, slice_index, inl, inr, refl, sym, ap, ◌∙◌, subst, arith, append-nil, append_assoc, both_ways, eqb-true, or_left, and_from, and_parts, eq-eqb, or_cases, or_right, IsIn, below, product_of, all_below, is_empty, Arena, Entry, IsOrder, is_listed, is_justified, is_among, Reason, Final, Act, length-map, length_push, Sys, Seat, IsSys, is_final, Sizes, sizes_of, count, pair_at, numbered, number, turned, sizes-turned, in_map, from_map, AreNumbers, in_below, justified_more, listed_append, map-map, all_below_from, any_from, any_true, by_test, from_below, justified_is, number_allows-turned, pair_at-grown, sizes-joined, grown_numbers, NamedSys, system_of, IsNamedSys, Board, pairs_of, has_entry, IsRelation, listed_numbers, list_any, is_ready, without_seat, MayAskAlone}
+use Rattle.roman_repair.specs.Alone.{AreKept}
 use Rattle.std.proofs.lemmas.Option.{slice_get-get_or}
 use Rattle.std.proofs.lemmas.List.{get_or_append_left, set-append_left}
 use Rattle.roman_model.specs.Arena.{IsOrderFrom}
 use Rattle.roman_model.specs.Change.{grown, set_frozen}
 use Rattle.roman_model.specs.System.{Pair, all_final}
-use Rattle.roman_model.specs.SystemArena.{beh_next, env_next, is_fine, outcomes, outcomes_by, seat_next}
-use Rattle.roman_model.proofs.CallerLemmas.{IsPairOf-from, length-set_frozen, length-states_at, number-grown, numbers_are_pairs, outcome_pair}
+use Rattle.roman_model.specs.SystemArena.{is_fine, outcomes, outcomes_by, seat_next}
+use Rattle.roman_model.proofs.CallerLemmas.{IsPairOf-from, is_fine-turned, length-set_frozen, length-states_at, number-grown, numbers_are_pairs, outcome_pair, moved_named, outcomes-turned}
 use Rattle.roman_repair.proofs.Repairing.{numbers_order}
 use Rattle.roman_repair.proofs.Joined.{map_as, possible-joined}
 
@@ -87,20 +87,6 @@ order_kept s t k m over L are order = carried_kept s t k m over [] [] L are (λ 
 
 -- ---- a thaw
 
-other_seat : (seats : List Seat) (k j : ℕ) (frozen : Bool) → (j ≡ k → ⊥) → slice_get (set_frozen seats k frozen) j ≡ slice_get seats j
-other_seat [] k j frozen ne = refl
-other_seat (seat ∷ seats) zero zero frozen ne = absurd (ne refl)
-other_seat (seat ∷ seats) zero (suc j) frozen ne = refl
-other_seat (seat ∷ seats) (suc k) zero frozen ne = refl
-other_seat (seat ∷ seats) (suc k) (suc j) frozen ne = other_seat seats k j frozen (λ e. ne (ap suc e))
-
-still_final : (seats : List Seat) (k : ℕ) (frozen : Bool) (bs : List ℕ) → all_final (set_frozen seats k frozen) bs ≡ all_final seats bs
-still_final [] k frozen bs = refl
-still_final (seat ∷ seats) zero frozen [] = refl
-still_final (seat ∷ seats) zero frozen (b ∷ bs) = refl
-still_final (seat ∷ seats) (suc k) frozen [] = refl
-still_final (seat ∷ seats) (suc k) frozen (b ∷ bs) = ap (λ x. (not seat.rests || is_final seat.beh b) && x) (still_final seats k frozen bs)
-
 -- a pair is its own only pair after a thaw
 same_place : (p b : ℕ) → b < 1 → p * 1 + b ≡ p
 same_place p b h = omega arith
@@ -111,14 +97,13 @@ map_itself b h (q ∷ qs) = λ i. sym (same_place q b h) i ∷ map_itself b h qs
 
 pub thaw_carries : (s : Sys) (k : ℕ) → CarriesOver s (turned s k false) k 1
 thaw_carries s k = record {
-  fine = λ p b l h f. ap not (ap (λ i. is_fine t (pair_at (sizes_of t) i)) (same_place p b h) ∙ ap (λ n. is_fine t (pair_at n p)) (sizes-turned s k false)
-      ∙ ap (λ x. not (is_final s.target (pair_at (sizes_of s) p).t) || x) (still_final s.seats k false (pair_at (sizes_of s) p).bs)) ∙ f;
+  fine = λ p b l h f. ap not (ap (λ i. is_fine t (pair_at (sizes_of t) i)) (same_place p b h) ∙ ap (λ n. is_fine t (pair_at n p)) (sizes-turned s k false) ∙ is_fine-turned s k false (pair_at (sizes_of s) p)) ∙ f;
   allows = λ p b a l h f. ap (λ i. (numbered t).allows i a) (same_place p b h) ∙ number_allows-turned s k false p a ∙ f;
   seat = λ j l ne. subst (λ n. j < n) (length-set_frozen s.seats k false) l;
   outcomes = λ p b a j l h below_j ne.
       ap (λ i. (numbered t).outcomes i a j) (same_place p b h)
       ∙ ap (λ n. map (number n) (outcomes t (pair_at n p) a j)) (sizes-turned s k false)
-      ∙ ap (λ o. map (number (sizes_of s)) (outcomes_by s (pair_at (sizes_of s) p) a j (seat_next o (slice_index (pair_at (sizes_of s) p).bs j) (pair_at (sizes_of s) p).e a))) (other_seat s.seats k j false ne)
+      ∙ ap (map (number (sizes_of s))) (outcomes-turned s k false (pair_at (sizes_of s) p) a j ne)
       ∙ map_itself b h ((numbered s).outcomes p a j);
 }
   where
@@ -144,24 +129,12 @@ final_fewer (x ∷ seats) seat (c ∷ bs) b f long =
 abbrev pub with_last : Sys → Seat → Sys
 with_last s seat = record { env = s.env; target = s.target; seats = s.seats ++ seat ∷ [] }
 
-moved_grown : (s : Sys) (seat : Seat) (p : Pair) (b a j : ℕ) (states : List ℕ) → j < length p.bs → outcomes_by (with_last s seat) (grown p b) a j states ≡ map (λ q. grown q b) (outcomes_by s p a j states)
-moved_grown s seat p b a j states l =
-    flat_map_same (λ e'. flat_map (λ t'. map (λ c. record { t = t'; e = e'; bs = slice_set (p.bs ++ b ∷ []) j c }) states) (beh_next s.target p.t p.e a))
-    (λ e'. map (λ q. grown q b) (flat_map (λ t'. map (λ c. record { t = t'; e = e'; bs = slice_set p.bs j c }) states) (beh_next s.target p.t p.e a))) (env_next s.env p.e a)
-    (λ e'. flat_map_same (λ t'. map (λ c. record { t = t'; e = e'; bs = slice_set (p.bs ++ b ∷ []) j c }) states)
-    (λ t'. map (λ q. grown q b) (map (λ c. record { t = t'; e = e'; bs = slice_set p.bs j c }) states)) (beh_next s.target p.t p.e a)
-    (λ t'. map_as (λ c. record { t = t'; e = e'; bs = slice_set (p.bs ++ b ∷ []) j c }) (λ c. grown (record { t = t'; e = e'; bs = slice_set p.bs j c }) b) states
-    (λ c i. ap (λ bs. record { t = t'; e = e'; bs = bs }) (set-append_left p.bs (b ∷ []) j c l))
-    ∙ sym (map-map (λ q. grown q b) (λ c. record { t = t'; e = e'; bs = slice_set p.bs j c }) states))
-    ∙ sym (map-flat_map (λ q. grown q b) (λ t'. map (λ c. record { t = t'; e = e'; bs = slice_set p.bs j c }) states) (beh_next s.target p.t p.e a)))
-    ∙ sym (map-flat_map (λ q. grown q b) (λ e'. flat_map (λ t'. map (λ c. record { t = t'; e = e'; bs = slice_set p.bs j c }) states) (beh_next s.target p.t p.e a)) (env_next s.env p.e a))
-
 -- the outcomes of the old seats
 outcomes_grown : (s : Sys) (seat : Seat) (p : Pair) (b a j : ℕ) → length p.bs ≡ length s.seats → j < length s.seats → outcomes (with_last s seat) (grown p b) a j ≡ map (λ q. grown q b) (outcomes s p a j)
 outcomes_grown s seat p b a j long l =
     ap (λ o. outcomes_by (with_last s seat) (grown p b) a j (seat_next o (slice_index (p.bs ++ b ∷ []) j) p.e a)) (get_before s.seats seat j l)
     ∙ ap (λ c. outcomes_by (with_last s seat) (grown p b) a j (seat_next (slice_get s.seats j) c p.e a)) (get_or_append_left p.bs (b ∷ []) 0 j (omega (arith, l, long)))
-    ∙ moved_grown s seat p b a j (seat_next (slice_get s.seats j) (slice_index p.bs j) p.e a) (omega (arith, l, long))
+    ∙ moved_named s (s.seats ++ seat ∷ []) p a j j (seat_next (slice_get s.seats j) (slice_index p.bs j) p.e a) (λ bs. bs ++ b ∷ []) (p.bs ++ b ∷ []) (λ c. set-append_left p.bs (b ∷ []) j c (omega (arith, l, long)))
 
 pub join_carries : (s : Sys) (seat : Seat) → IsSys s → CarriesOver s (with_last s seat) (length s.seats) seat.beh.states
 join_carries s seat ok = record {
@@ -214,17 +187,10 @@ thaw_alone joint old k known relation in_range l =
     let are : AreNumbers s old.list = listed_numbers s old relation.shaped.pairs in_range in
     (subst (λ n. k < n) (sym (length-set_frozen s.seats k false)) l, thawed_ready s.seats k l, order_kept s (turned s k false) k 1 (thaw_carries s k) old.list are (numbers_order s old.list known.system are relation.complete.list))
 
-pub join_alone : (joint : NamedSys) (old : Board) (seat : Seat) (k : ℕ) → IsNamedSys joint → IsRelation joint old → ((p : ℕ) → has_entry old.list p ≡ true → p < pairs_of old) → IsFalse seat.frozen →
-    k ≡ length (system_of joint).seats → MayAskAlone (numbered (with_last (system_of joint) seat)) (Some k) [] (flat_map (grown_numbers seat.beh.states) old.list)
-join_alone joint old seat k known relation in_range thawed is =
+pub join_alone : (joint : NamedSys) (old : Board) (seat : Seat) → IsNamedSys joint → IsRelation joint old → ((p : ℕ) → has_entry old.list p ≡ true → p < pairs_of old) → IsFalse seat.frozen →
+    MayAskAlone (numbered (with_last (system_of joint) seat)) (Some (length (system_of joint).seats)) [] (flat_map (grown_numbers seat.beh.states) old.list)
+join_alone joint old seat known relation in_range thawed =
     let s = system_of joint in
     let are : AreNumbers s old.list = listed_numbers s old relation.shaped.pairs in_range in
     let more : length (s.seats ++ seat ∷ []) ≡ length s.seats + 1 = length_push s.seats seat in
-    subst (λ j. MayAskAlone (numbered (with_last s seat)) (Some j) [] (flat_map (grown_numbers seat.beh.states) old.list)) (sym is)
     (omega (arith, more), last_ready s.seats seat thawed, order_kept s (with_last s seat) (length s.seats) seat.beh.states (join_carries s seat known.system) old.list are (numbers_order s old.list known.system are relation.complete.list))
-
--- in the reopened order
-pub may_reopened : (A : Arena ℕ) (k states : ℕ) (old : List (Entry ℕ)) (reopened : Board) → reopened.list ≡ [] → reopened.waiting ≡ old → MayAskAlone A (Some k) [] (flat_map (grown_numbers states) old) →
-    MayAskAlone A (Some k) reopened.list (candidates states reopened)
-may_reopened A k states old reopened empty waiting may =
-    subst (λ K. MayAskAlone A (Some k) K (candidates states reopened)) (sym empty) (subst (λ W. MayAskAlone A (Some k) [] (flat_map (grown_numbers states) W)) (sym waiting) may)

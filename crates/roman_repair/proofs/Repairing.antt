@@ -1,5 +1,5 @@
 -- The end of a repair, in numbers of pairs.
-use Rattle.roman_repair.proofs.Common.{◌≡◌, ℕ, ◌+◌, ◌<◌, true, List, [], length, ap, ◌∙◌, arith, length-map, Sys, IsSys, Entry, IsOrder, replay, Change, after, CanChange, sizes_of, pair_at, numbered, rename_numbers, NumbersReplay, AreNumbers, NamedSys, system_of, IsNamedSys, Board, pairs_of, has_entry, arena_of, HasCaps, IsRelation, listed_numbers, Tally, IsRepaired, IsSettledOn, IsBegun, candidates, with_replay, IsReplayable}
+use Rattle.roman_repair.proofs.Common.{◌≡◌, ℕ, ◌+◌, ◌<◌, true, List, [], length, ap, ◌∙◌, arith, length-map, Sys, IsSys, Entry, IsOrder, replay, Change, after, CanChange, sizes_of, pair_at, numbered, rename_numbers, NumbersReplay, AreNumbers, NamedSys, system_of, IsNamedSys, Board, pairs_of, has_entry, HasCaps, IsRelation, listed_numbers, Tally, IsRepaired, IsSettledOn}
 use Rattle.std.proofs.lemmas.List.{take-map}
 use Rattle.roman_model.specs.SystemArena.{arena}
 use Rattle.roman_model.specs.Numbers.{IsCompleteList}
@@ -42,8 +42,3 @@ repaired_from change old_joint old start mid joint new tally replays is system s
 pub caps_kept : (old_joint new_joint : NamedSys) (seats : List Seat) (old new : Board) → new_joint ≡ record old_joint { seats = seats } → new.cap_pairs ≡ old.cap_pairs → HasCaps old_joint old →
     HasCaps new_joint new
 caps_kept old_joint new_joint seats old new joint pairs caps = grind arith
-
--- the repair can go on from the list that a replay makes
-pub replayed_begun : (joint : NamedSys) (states : ℕ) (old new : Board) → IsReplayable joint states old → new.list ≡ with_replay (arena_of joint) old.list (candidates states old) →
-    new ≡ record old { list = new.list; waiting = [] } → IsBegun joint new
-replayed_begun joint states old new can list rest = grind arith

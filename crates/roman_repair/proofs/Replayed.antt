@@ -1,223 +1,250 @@
--- Replays that follow one another, and the replay of an event lane by lane.
-use Rattle.roman_repair.proofs.Common.{◌≡◌, ℕ, ◌+◌, ◌*◌, ◌^◌, ◌<◌, ◌≤◌, true, false, not, List, [], ◌∷◌, ◌++◌, length, Some, IsTrue, inl, refl, sym, ap, ◌∙◌, subst, arith, append-nil, append_assoc, bit_not, w64, both_ways, map-append, sum_by-cons, IsIn, Arena, Entry, is_listed, from_map, in_append_left, in_map, is_on, on_not, readings_of_reason, Board, as_entry, has_entry, set_lanes, set_lanes-zero, in_lanes, entries_in, entries_at, lets_hold, Event, IsShaped, HoldsInBand, is_possible, AreCandidates, with_replay, readings_of_entries, MayAskAlone, IsIntact, HasReplayed}
+-- Replays that go on, and the replay of an event lane by lane.
+use Rattle.roman_repair.proofs.Common.{◌≡◌, ℕ, zero, suc, ◌+◌, ◌*◌, ◌<◌, ◌≤◌, ◌==◌, Bool, true, false, cond, if◌then◌else◌, ◌||◌, List, [], ◌∷◌, ◌++◌, map, length, Option, None, Some, IsTrue, IsFalse, count_by, inl, inr, refl, sym, ap, ◌∙◌, subst, arith, append-nil, append_assoc, both_ways, and_from, eqb-true, false_from_ne_true, cases_eq, cases_lt, mul-le-mul_left, map-append, sum_by-cons, IsIn, below, all_below, is_empty, list_any, Arena, Entry, is_listed, is_justified, Reason, Final, Act, all_below_from, by_test, justified_is, in_append_left, in_map, from_map, is_on, readings_of_reason, readings_of-allowed, IsReasonOf, IsNumbered, Board, as_entry, has_entry, set_lanes, set_lanes-zero, in_lanes, entries_in, entries_at, Event, IsShaped, HoldsInBand, is_possible, AreCandidates, with_replay, readings_of_entries, MayAskAlone, passes, without_seat, CanReplay, CanReplayEvent, GoesOnTo, Replays}
+use Rattle.roman_model.specs.Arena.{is_beaten}
+use Rattle.std.proofs.Common.{add-one, length-append}
+use Rattle.std.proofs.lemmas.Bool.{false≢true}
 use Rattle.std.proofs.lemmas.List.Sums.{sum_by-append}
-use Rattle.std.proofs.Common.{length-append}
-use Rattle.roman_repair.specs.Judging.{CanJudge, CanReplay, CanReplayAll, CanReplayEvent, HasJudged, HasReplayedAll, lane_entries}
-use Rattle.roman_repair.specs.Alone.{questions_of}
+use Rattle.roman_rules.proofs.CallerLemmas.{count_below_more}
+use Rattle.roman_repair.specs.Alone.{IsSeatOf, questions_of}
+use Rattle.roman_repair.specs.Lanes.{HasFront}
+use Rattle.roman_repair.specs.Judging.{HasJudged}
 use Rattle.roman_repair.specs.declared.asked_band.AskedBand.{AskedBand}
-use Rattle.roman_repair.proofs.BandAnswers.{known_on}
-use Rattle.roman_repair.proofs.Keeping.{candidates_left, candidates_replayed, with_replay_append}
-use Rattle.roman_repair.proofs.JudgedAlone.{kept_alone, may_first, may_rest, one_question}
-use Rattle.roman_repair.proofs.Fronts.{on_in}
+use Rattle.roman_repair.proofs.BandAnswers.{known_more, listed_more, passes_more}
+use Rattle.roman_repair.proofs.Keeping.{candidates_step, possible_reason, with_one, with_replay_step}
+use Rattle.roman_repair.proofs.Fronts.{on_in, some_in}
+
+-- ---- one entry
+
+-- a reason that holds without a seat's outcomes holds where the seat lets it
+both_justified : (A : Arena ℕ) (gone : ℕ → Bool) (k p : ℕ) (reason : Reason) → IsTrue (is_justified (without_seat A k) gone p reason) → IsTrue (passes A gone (Some k) p reason) → IsTrue (is_justified A gone p reason)
+both_justified A gone k p Final others lets = others
+both_justified A gone k p (Act a) others lets =
+    let (allowed, each) = justified_is (without_seat A k) gone p a others in
+    and_from (A.allows p a) (all_below (is_beaten A gone p a) A.seats) allowed
+    (all_below_from (is_beaten A gone p a) A.seats (λ j l. by_test (j == k)
+    (λ t. subst (λ i. IsTrue (is_beaten A gone p a i)) (sym (eqb-true j k t)) lets)
+    (λ f. subst (λ b. IsTrue (is_empty (if b then [] else A.outcomes p a j) || list_any gone (if b then [] else A.outcomes p a j))) f (each j l))))
+
+justified : (A : Arena ℕ) (alone : Option ℕ) (kept : List (Entry ℕ)) (x : Entry ℕ) (L : List (Entry ℕ)) → MayAskAlone A alone kept (x ∷ L) → IsTrue (passes A (is_listed A kept) alone x.node x.reason) → IsTrue (is_justified A (is_listed A kept) x.node x.reason)
+justified A None kept x L may lets = lets
+justified A (Some k) kept x L may lets = both_justified A (is_listed A kept) k x.node x.reason may.2.0 lets
+
+-- a reason doesn't hold where a seat keeps it from holding
+unjustified : (A : Arena ℕ) (gone : ℕ → Bool) (alone : Option ℕ) (p : ℕ) (reason : Reason) → IsSeatOf A alone → IsFalse (passes A gone alone p reason) → IsFalse (is_justified A gone p reason)
+unjustified A gone None p reason seat off = off
+unjustified A gone (Some k) p Final l off = absurd (false≢true (sym off))
+unjustified A gone (Some k) p (Act a) l off = false_from_ne_true (is_justified A gone p (Act a)) (λ t. both_ways (is_beaten A gone p a k) off ((justified_is A gone p a t).1 k l))
+
+pub seat_in : (A : Arena ℕ) (alone : Option ℕ) (kept L : List (Entry ℕ)) → MayAskAlone A alone kept L → IsSeatOf A alone
+seat_in A None kept L may = tt
+seat_in A (Some k) kept L may = may.0
+
+may_step : (A : Arena ℕ) (alone : Option ℕ) (kept : List (Entry ℕ)) (x : Entry ℕ) (L : List (Entry ℕ)) → MayAskAlone A alone kept (x ∷ L) → MayAskAlone A alone (kept ++ x ∷ []) L
+may_step A None kept x L may = tt
+may_step A (Some k) kept x L may = (may.0, may.1, may.2.1)
+
+some_counted : (f : ℕ → Bool) (n k : ℕ) → k < n → IsTrue (f k) → 0 < count_by f (below n)
+some_counted f zero k l t = absurd (omega arith)
+some_counted f (suc n) k l t =
+    let last : count_by f (below (suc n)) ≡ count_by f (below n) + cond (f n) 1 0 = ap (λ m. count_by f (below m)) (sym (add-one n)) ∙ count_below_more f n in
+    elim (cases_eq k n) [
+      | inl e ↦ (let one : cond (f n) 1 0 ≡ suc 0 = ap (λ b. cond b 1 0) (subst (λ i. IsTrue (f i)) e t) in omega (arith, last, one))
+      | inr ne ↦ (let before : 0 < count_by f (below n) = some_counted f n k (omega arith) t in omega (arith, last, before))
+    ]
+
+-- the questions about an entry are at most its readings
+few_questions : (A : Arena ℕ) (alone : Option ℕ) (kept L : List (Entry ℕ)) (p : ℕ) (reason : Reason) → MayAskAlone A alone kept L → IsTrue (is_possible A p reason) → questions_of A alone p reason ≤ readings_of_reason A p reason
+few_questions A None kept L p reason may possible = omega arith
+few_questions A (Some k) kept L p Final may possible = omega arith
+few_questions A (Some k) kept L p (Act a) may possible = omega (arith, some_counted A.ready A.seats k may.0 may.1, readings_of-allowed A p a possible)
+
+-- ---- entries with one answer
+
+-- a replay of entries that all pass keeps them
+pub all_kept : (A : Arena ℕ) (alone : Option ℕ) (kept L N : List (Entry ℕ)) → AreCandidates A kept (L ++ N) → MayAskAlone A alone kept (L ++ N) → ((x : Entry ℕ) → IsIn x L → IsTrue (passes A (is_listed A kept) alone x.node x.reason)) →
+    (with_replay A (kept ++ L) N ≡ with_replay A kept (L ++ N)) × AreCandidates A (kept ++ L) N × MayAskAlone A alone (kept ++ L) N
+all_kept A alone kept [] N are may each = subst (λ K. (with_replay A K N ≡ with_replay A kept N) × AreCandidates A K N × MayAskAlone A alone K N) (sym (append-nil kept)) (refl, are, may)
+all_kept A alone kept (x ∷ L) N are may each =
+    let first : with_one A kept x ≡ kept ++ x ∷ [] = ap (λ b. if b then kept ++ x ∷ [] else kept) (justified A alone kept x (L ++ N) may (each x (inl refl))) in
+    let (same, still, more) = all_kept A alone (kept ++ x ∷ []) L N (subst (λ K. AreCandidates A K (L ++ N)) first (candidates_step A kept x (L ++ N) are)) (may_step A alone kept x (L ++ N) may)
+    (λ y i. passes_more A _ _ alone y.node y.reason (listed_more A kept (x ∷ [])) (each y (inr i))) in
+    subst (λ K. (with_replay A K N ≡ with_replay A kept (x ∷ (L ++ N))) × AreCandidates A K N × MayAskAlone A alone K N) (append_assoc kept (x ∷ []) L)
+    (same ∙ sym (with_replay_step A kept x (L ++ N) ∙ ap (λ K. with_replay A K (L ++ N)) first), still, more)
+
+-- a replay of entries of which none is justified drops them
+pub none_kept : (A : Arena ℕ) (kept L N : List (Entry ℕ)) → AreCandidates A kept (L ++ N) → ((x : Entry ℕ) → IsIn x L → IsFalse (is_justified A (is_listed A kept) x.node x.reason)) →
+    (with_replay A kept N ≡ with_replay A kept (L ++ N)) × AreCandidates A kept N
+none_kept A kept [] N are each = (refl, are)
+none_kept A kept (x ∷ L) N are each =
+    let first : with_one A kept x ≡ kept = ap (λ b. if b then kept ++ x ∷ [] else kept) (each x (inl refl)) in
+    let (same, still) = none_kept A kept L N (subst (λ K. AreCandidates A K (L ++ N)) first (candidates_step A kept x (L ++ N) are)) (λ y i. each y (inr i)) in
+    (same ∙ sym (with_replay_step A kept x (L ++ N) ∙ ap (λ K. with_replay A K (L ++ N)) first), still)
 
 -- ---- replays that follow one another
 
--- nothing was replayed yet
-pub replayed_none : (A : Arena ℕ) (n : ℕ) (kept : List (Entry ℕ)) (asked : AskedBand) (steps : ℕ) → HoldsInBand A n (is_listed A kept) asked → HasReplayed A n [] kept kept asked asked steps steps
-replayed_none A n kept asked steps known = record {
-  list = sym (append-nil kept);
-  intact = λ k e. (e, sym (append-nil kept));
-  known = known;
-  cost = omega arith;
+pub stays : (A : Arena ℕ) (n : ℕ) (L kept : List (Entry ℕ)) (asked : AskedBand) (steps : ℕ) → CanReplay A n kept asked L → GoesOnTo A n L L kept kept asked steps steps
+stays A n L kept asked steps can = record { list = refl; can = can; cost = omega arith }
+
+pub further : (A : Arena ℕ) (n : ℕ) (L M N kept mid now : List (Entry ℕ)) (on last : AskedBand) (before between after : ℕ) → GoesOnTo A n L M kept mid on before between → GoesOnTo A n M N mid now last between after → GoesOnTo A n L N kept now last before after
+further A n L M N kept mid now on last before between after first second = record { list = second.list ∙ first.list; can = second.can; cost = omega (arith, first.cost, second.cost) }
+
+pub replays_none : (A : Arena ℕ) (n : ℕ) (L kept : List (Entry ℕ)) (asked : AskedBand) (steps : ℕ) → Replays A n L L kept kept asked asked steps steps
+replays_none A n L kept asked steps = record { goes_on = λ N can. stays A n (L ++ N) kept asked steps can }
+
+pub replays_both : (A : Arena ℕ) (n : ℕ) (L M N kept mid now : List (Entry ℕ)) (asked on last : AskedBand) (before between after : ℕ) → Replays A n L M kept mid asked on before between → Replays A n M N mid now on last between after →
+    Replays A n L N kept now asked last before after
+replays_both A n L M N kept mid now asked on last before between after first second = record {
+  goes_on = λ K can. (let done = first.goes_on K can in further A n (L ++ K) (M ++ K) (N ++ K) kept mid now on last before between after done (second.goes_on K done.can));
 }
 
--- two replays are one of both lists
-pub replayed_both : (A : Arena ℕ) (n : ℕ) (L M kept mid new : List (Entry ℕ)) (asked on now : AskedBand) (before then after : ℕ) → HasReplayed A n L kept mid asked on before then → HasReplayed A n M mid new on now then after →
-    HasReplayed A n (L ++ M) kept new asked now before after
-replayed_both A n L M kept mid new asked on now before then after first second = record {
-  list = second.list ∙ ap (λ K. with_replay A K M) first.list ∙ sym (with_replay_append A kept L M);
-  intact = λ k e.
-      let (so_far, is) = second.intact k e in
-      let (begun, was) = first.intact k so_far in
-      (begun, is ∙ ap (λ K. K ++ M) was ∙ append_assoc kept L M);
-  known = second.known;
-  cost = omega (arith, first.cost, second.cost, sum_by-append (λ (y : Entry ℕ). readings_of_reason A y.node y.reason) L M);
+-- ---- an event
+
+-- the entry for a lane of an event
+lane_in : (n : ℕ) (e : Event) (lane : ℕ) (N : List (Entry ℕ)) → IsIn lane (set_lanes e.lanes) → IsIn (as_entry (e.row * n + lane, e.reason)) (entries_at n e ++ N)
+lane_in n e lane N i = in_append_left (as_entry (e.row * n + lane, e.reason)) (entries_at n e) N (in_map (λ lane. as_entry (e.row * n + lane, e.reason)) lane (set_lanes e.lanes) i)
+
+-- the row of an event, and its reason, are in the system
+pub record IsInRow (A : Arena ℕ) (rows n : ℕ) (e : Event) : Type 0 where
+  pub row : e.row < rows
+  pub node : e.row * n < length A.nodes
+  pub action : IsReasonOf A e.reason
+
+pub in_row : (A : Arena ℕ) (n : ℕ) (order : Board) (asked : AskedBand) (e : Event) → IsNumbered A → CanReplayEvent A n n (entries_at n) order asked e → IsInRow A order.rows n e
+in_row A n order asked e ok can =
+    let (N, ready) = can.ready in
+    let (lane, j) = some_in (set_lanes e.lanes) can.event.some in
+    let i = lane_in n e lane N j in
+    let node : e.row * n + lane < length A.nodes = ready.candidates.nodes (as_entry (e.row * n + lane, e.reason)) i in
+    let pairs : order.rows * n ≡ length A.nodes = ap (λ m. order.rows * m) (sym can.shaped.lanes) ∙ can.shaped.pairs in
+    record {
+      row = elim (cases_lt e.row order.rows) [ inl l ↦ l | inr past ↦ absurd (let more : n * order.rows ≤ n * e.row = mul-le-mul_left n past in omega (arith, more, node, pairs)) ];
+      node = omega (arith, node);
+      action = possible_reason A ok (e.row * n + lane) e.reason (ready.candidates.possible (as_entry (e.row * n + lane, e.reason)) i);
+    }
+
+pub row_there : (A : Arena ℕ) (n : ℕ) (order : Board) (asked : AskedBand) (e : Event) → CanReplayEvent A n n (entries_at n) order asked e → IsNumbered A → e.row < order.rows
+row_there A n order asked e can ok = (in_row A n order asked e ok can).row
+
+-- an entry of the event isn't listed
+pub lane_alive : (A : Arena ℕ) (n : ℕ) (order : Board) (asked : AskedBand) (e : Event) (lane : ℕ) → CanReplayEvent A n n (entries_at n) order asked e → n ≤ 64 → is_on e.lanes lane ≡ true → has_entry order.list (e.row * order.lanes + lane) ≡ false
+lane_alive A n order asked e lane can few on =
+    let (N, ready) = can.ready in
+    ap (λ m. has_entry order.list (e.row * m + lane)) can.shaped.lanes ∙ ready.candidates.new (as_entry (e.row * n + lane, e.reason)) (lane_in n e lane N (on_in e.lanes lane (omega (arith, can.event.within lane on, few)) on))
+
+-- entries for some lanes of a row
+each_in : (n x : ℕ) (reason : Reason) (word : ℕ) (P : Entry ℕ → Type 0) → ((lane : ℕ) → is_on word lane ≡ true → P (as_entry (x * n + lane, reason))) → (y : Entry ℕ) → IsIn y (entries_in n x word reason) → P y
+each_in n x reason word P each y i = let (lane, j, same) = from_map (λ lane. as_entry (x * n + lane, reason)) y (set_lanes word) i in subst P (sym same) (each lane (in_lanes word lane j).1)
+
+paid : (A : Arena ℕ) (x : Entry ℕ) (L : List (Entry ℕ)) → IsIn x L → readings_of_reason A x.node x.reason ≤ readings_of_entries A L
+paid A x [] i = absurd i
+paid A x (y ∷ L) i = elim i [
+  | inl e ↦ omega (arith, sum_by-cons (λ (z : Entry ℕ). readings_of_reason A z.node z.reason) y L, ap (λ (z : Entry ℕ). readings_of_reason A z.node z.reason) e)
+  | inr j ↦ omega (arith, sum_by-cons (λ (z : Entry ℕ). readings_of_reason A z.node z.reason) y L, paid A x L j)
+]
+
+-- the first entries were judged: the replay goes on from the others, and the questions about the first one pay for the steps
+judged : (A : Arena ℕ) (n rest front held : ℕ) (holds : Bool) (e : Event) (old new : Board) (asked now : AskedBand) (before after : ℕ) → HasFront e.lanes held front rest holds →
+    ((N : List (Entry ℕ)) → CanReplay A n old.list asked (entries_in n e.row front e.reason ++ N) → (with_replay A new.list N ≡ with_replay A old.list (entries_in n e.row front e.reason ++ N)) × CanReplay A n new.list now N) →
+    ((lane : ℕ) → is_on front lane ≡ true → IsTrue (is_possible A (e.row * n + lane) e.reason) → after ≤ before + questions_of A asked.alone (e.row * n + lane) e.reason) → new ≡ record old { list = new.list } →
+    (length (set_lanes rest) < length (set_lanes e.lanes)) × HasJudged A n (entries_at n) e rest old new asked now before after
+judged A n rest front held holds e old new asked now before after split step cost is = (
+  omega (arith, ap length split.parts, length-append (set_lanes front) (set_lanes rest), split.some),
+  record {
+    within = split.in_rest;
+    rest = is;
+    replayed = record {
+      goes_on = λ N can. (
+          let those = entries_in n e.row front e.reason in
+          let left = entries_in n e.row rest e.reason ++ N in
+          let f = λ (lane : ℕ). as_entry (e.row * n + lane, e.reason) in
+          let whole : entries_at n e ++ N ≡ those ++ left = ap (λ L. L ++ N) (ap (map f) split.parts ∙ map-append f (set_lanes front) (set_lanes rest)) ∙ append_assoc those (entries_in n e.row rest e.reason) N in
+          let ready : CanReplay A n old.list asked (those ++ left) = subst (CanReplay A n old.list asked) whole can in
+          let (same, next) = step left ready in
+          let (lane, i) = some_in (set_lanes front) split.some in
+          let possible = ready.candidates.possible (f lane) (in_append_left (f lane) those left (in_map f lane (set_lanes front) i)) in
+          record {
+            list = same ∙ ap (with_replay A old.list) (sym whole);
+            can = next;
+            cost = omega (arith, cost lane (in_lanes front lane i).1 possible, few_questions A asked.alone old.list (those ++ left) (e.row * n + lane) e.reason ready.may possible, paid A (f lane) those (in_map f lane (set_lanes front) i), ap (readings_of_entries A) whole, sum_by-append (λ (z : Entry ℕ). readings_of_reason A z.node z.reason) those left);
+          }
+          );
+    };
+  },
+)
+
+-- entries that pass were listed
+pub listed : (A : Arena ℕ) (n rest front held : ℕ) (e : Event) (old new : Board) (asked now : AskedBand) (before after : ℕ) → CanReplayEvent A n n (entries_at n) old asked e → HasFront e.lanes held front rest true →
+    ((lane : ℕ) → lane < n → is_on held lane ≡ true → IsTrue (passes A (is_listed A old.list) asked.alone (e.row * n + lane) e.reason)) → now.alone ≡ asked.alone → HoldsInBand A n (is_listed A old.list) now →
+    ((lane : ℕ) → lane < n → IsTrue (is_possible A (e.row * n + lane) e.reason) → after ≤ before + questions_of A asked.alone (e.row * n + lane) e.reason) →
+    new ≡ record old { list = old.list ++ entries_in old.lanes e.row front e.reason } → (length (set_lanes rest) < length (set_lanes e.lanes)) × HasJudged A n (entries_at n) e rest old new asked now before after
+listed A n rest front held e old new asked now before after can split each alone known cost is =
+    let those = entries_in n e.row front e.reason in
+    let list : new.list ≡ old.list ++ those = ap (λ (b : Board). b.list) is ∙ ap (λ m. old.list ++ entries_in m e.row front e.reason) can.shaped.lanes in
+    let within = λ (lane : ℕ) (on : is_on front lane ≡ true). can.event.within lane (split.in_front lane on) in
+    judged A n rest front held true e old new asked now before after split (λ N ready.
+    let (same, are, may) = all_kept A asked.alone old.list those N ready.candidates ready.may
+    (each_in n e.row e.reason front (λ y. IsTrue (passes A (is_listed A old.list) asked.alone y.node y.reason)) (λ lane on. each lane (within lane on) (split.alike lane on))) in
+    subst (λ K. (with_replay A K N ≡ with_replay A old.list (those ++ N)) × CanReplay A n K now N) (sym list)
+    (same, record { candidates = are; may = subst (λ o. MayAskAlone A o (old.list ++ those) N) (sym alone) may; known = known_more A n now old.list those known }))
+    (λ lane on. cost lane (within lane on)) (is ∙ ap (λ K. record old { list = K }) (sym (ap (λ (b : Board). b.list) is)))
+
+-- entries that don't pass were dropped, and from then on all seats are asked
+pub dropped : (A : Arena ℕ) (n rest front held : ℕ) (e : Event) (old : Board) (asked now : AskedBand) (before after : ℕ) → CanReplayEvent A n n (entries_at n) old asked e → HasFront e.lanes held front rest false →
+    ((lane : ℕ) → lane < n → is_on held lane ≡ passes A (is_listed A old.list) asked.alone (e.row * n + lane) e.reason) → now.alone ≡ None → HoldsInBand A n (is_listed A old.list) now →
+    ((lane : ℕ) → lane < n → IsTrue (is_possible A (e.row * n + lane) e.reason) → after ≤ before + questions_of A asked.alone (e.row * n + lane) e.reason) →
+    (length (set_lanes rest) < length (set_lanes e.lanes)) × HasJudged A n (entries_at n) e rest old old asked now before after
+dropped A n rest front held e old asked now before after can split each all known cost =
+    let within = λ (lane : ℕ) (on : is_on front lane ≡ true). can.event.within lane (split.in_front lane on) in
+    judged A n rest front held false e old old asked now before after split (λ N ready.
+    let (same, are) = none_kept A old.list (entries_in n e.row front e.reason) N ready.candidates
+    (each_in n e.row e.reason front (λ y. IsFalse (is_justified A (is_listed A old.list) y.node y.reason))
+    (λ lane on. unjustified A (is_listed A old.list) asked.alone (e.row * n + lane) e.reason (seat_in A asked.alone old.list _ ready.may) (sym (each lane (within lane on)) ∙ split.alike lane on))) in
+    (same, record { candidates = are; may = subst (λ o. MayAskAlone A o old.list N) (sym all) tt; known = known }))
+    (λ lane on. cost lane (within lane on)) refl
+
+-- ---- what an event stands for, lane by lane
+
+-- what the remaining lanes stand for can be replayed
+pub judge_rest : (A : Arena ℕ) (row lanes : ℕ) (entries : Event → List (Entry ℕ)) (left : ℕ) (e : Event) (old new : Board) (asked now : AskedBand) (before after : ℕ) → CanReplayEvent A row lanes entries old asked e → HasJudged A row entries e left old new asked now before after →
+    0 < length (set_lanes left) → CanReplayEvent A row lanes entries new now (record e { lanes = left })
+judge_rest A row lanes entries left e old new asked now before after can is some = record {
+  shaped = subst (IsShaped A row) (sym is.rest) (record { pairs = can.shaped.pairs; lanes = can.shaped.lanes });
+  event = record { some = some; within = λ lane on. can.event.within lane (is.within lane on) };
+  ready = (let (N, ready) = can.ready in (N, (is.replayed.goes_on N ready).can));
 }
 
--- the first of the entries can be replayed
-pub replay_first : (A : Arena ℕ) (n : ℕ) (kept L M : List (Entry ℕ)) (asked : AskedBand) → CanReplay A n kept asked (L ++ M) → CanReplay A n kept asked L
-replay_first A n kept L M asked can = record { candidates = candidates_left A kept L M can.candidates; may = may_first A asked.alone kept L M can.may; known = can.known }
+-- nothing was judged yet
+pub judged_none : (A : Arena ℕ) (row : ℕ) (entries : Event → List (Entry ℕ)) (e : Event) (order : Board) (asked : AskedBand) (steps : ℕ) → HasJudged A row entries e e.lanes order order asked asked steps steps
+judged_none A row entries e order asked steps = record { within = λ lane on. on; replayed = replays_none A row (entries e) order.list asked steps; rest = refl }
 
--- and then the others
-pub replay_rest : (A : Arena ℕ) (n : ℕ) (kept new L M : List (Entry ℕ)) (asked now : AskedBand) (before after : ℕ) → CanReplay A n kept asked (L ++ M) → HasReplayed A n L kept new asked now before after → CanReplay A n new now M
-replay_rest A n kept new L M asked now before after can is = record {
-  candidates = subst (λ K. AreCandidates A K M) (sym is.list) (candidates_replayed A kept L M can.candidates);
-  may = may_rest A asked.alone now.alone kept new L M can.may is.intact;
-  known = is.known;
-}
-
--- a part of the entries can be replayed after those before it
-pub replay_next : (A : Arena ℕ) (n : ℕ) (kept new all L M N : List (Entry ℕ)) (asked now : AskedBand) (before after : ℕ) → CanReplay A n kept asked all → all ≡ L ++ (M ++ N) → HasReplayed A n L kept new asked now before after → CanReplay A n new now M
-replay_next A n kept new all L M N asked now before after can parts is =
-    replay_first A n new M N now (replay_rest A n kept new L (M ++ N) asked now before after (subst (CanReplay A n kept asked) parts can) is)
-
--- ---- the waiting entries, event by event
-
--- all waiting entries can be replayed, with nothing known of a band
-pub all_ready : (A : Arena ℕ) (n k : ℕ) (order : Board) (asked : AskedBand) (L : List (Entry ℕ)) → CanReplayAll A n k order L → asked.alone ≡ Some k → HoldsInBand A n (is_listed A order.list) asked → CanReplay A n order.list asked L
-all_ready A n k order asked L can alone known = record { candidates = can.candidates; may = subst (λ o. MayAskAlone A o order.list L) (sym alone) can.may; known = known }
-
--- what the first waiting entries stand for was replayed, and the others are waiting
-pub record IsReplaying (A : Arena ℕ) (n : ℕ) (grow : List (Entry ℕ) → List (Entry ℕ)) (start now : Board) (asked on : AskedBand) (before after : ℕ) : Type 0 where
-  pub done : List (Entry ℕ)
-  pub parts : start.waiting ≡ done ++ now.waiting
-  pub replayed : HasReplayed A n (grow done) start.list now.list asked on before after
-  pub rest : now ≡ record start { list = now.list; waiting = now.waiting }
-
--- what the entries of the next event stand for can be replayed
-pub event_ready : (A : Arena ℕ) (n : ℕ) (grow : List (Entry ℕ) → List (Entry ℕ)) (start now next : Board) (asked on : AskedBand) (before after : ℕ) (part : List (Entry ℕ)) → ((L M : List (Entry ℕ)) → grow (L ++ M) ≡ grow L ++ grow M) →
-    CanReplay A n start.list asked (grow start.waiting) → IsReplaying A n grow start now asked on before after → now.waiting ≡ part ++ next.waiting → next ≡ record now { waiting = next.waiting } → CanReplay A n next.list on (grow part)
-event_ready A n grow start now next asked on before after part both can is first rest =
-    subst (λ K. CanReplay A n K on (grow part)) (sym (ap (λ (b : Board). b.list) rest))
-    (replay_next A n start.list now.list (grow start.waiting) (grow is.done) (grow part) (grow next.waiting) asked on before after can
-    (ap grow (is.parts ∙ ap (λ W. is.done ++ W) first) ∙ both is.done (part ++ next.waiting) ∙ ap (λ M. grow is.done ++ M) (both part next.waiting)) is.replayed)
-
--- then what its entries stand for was replayed too
-pub event_replayed : (A : Arena ℕ) (n : ℕ) (grow : List (Entry ℕ) → List (Entry ℕ)) (start now next new : Board) (asked on last : AskedBand) (before then after : ℕ) (part : List (Entry ℕ)) → ((L M : List (Entry ℕ)) → grow (L ++ M) ≡ grow L ++ grow M) →
-    IsReplaying A n grow start now asked on before then → now.waiting ≡ part ++ next.waiting → next ≡ record now { waiting = next.waiting } → HasReplayed A n (grow part) next.list new.list on last then after → new ≡ record next { list = new.list } →
-    IsReplaying A n grow start new asked last before after
-event_replayed A n grow start now next new asked on last before then after part both is first rest replayed kept = record {
-  done = is.done ++ part;
-  parts = is.parts ∙ ap (λ W. is.done ++ W) first ∙ sym (append_assoc is.done part next.waiting) ∙ ap (λ W. (is.done ++ part) ++ W) (sym (ap (λ (b : Board). b.waiting) kept));
-  replayed = subst (λ L. HasReplayed A n L start.list new.list asked last before after) (sym (both is.done part))
-      (replayed_both A n (grow is.done) (grow part) start.list now.list new.list asked on last before then after is.replayed
-      (subst (λ K. HasReplayed A n (grow part) K new.list on last then after) (ap (λ (b : Board). b.list) rest) replayed));
-  rest = grind arith;
-}
-
--- at the end all were
-pub all_replayed : (A : Arena ℕ) (n : ℕ) (grow : List (Entry ℕ) → List (Entry ℕ)) (start now last : Board) (asked on : AskedBand) (before after : ℕ) → IsReplaying A n grow start now asked on before after → (now.waiting ≡ []) × (last ≡ now) →
-    HasReplayedAll A (grow start.waiting) start last before after
-all_replayed A n grow start now last asked on before after is (none, same) =
-    let all : grow is.done ≡ grow start.waiting = ap grow (sym (is.parts ∙ ap (λ W. is.done ++ W) none ∙ append-nil is.done)) in
-    subst (λ board. HasReplayedAll A (grow start.waiting) start board before after) (sym same) (record {
-      list = is.replayed.list ∙ ap (with_replay A start.list) all;
-      rest = is.rest ∙ ap (λ W. record start { list = now.list; waiting = W }) none;
-      cost = omega (arith, is.replayed.cost, ap (readings_of_entries A) all);
-    })
-
--- ---- an event, lane by lane
-
--- the entries of an event, split in two
-event_parts : (n left : ℕ) (e : Event) (gone : List ℕ) → set_lanes e.lanes ≡ gone ++ set_lanes left → entries_at n e ≡ lane_entries n e gone ++ lane_entries n e (set_lanes left)
-event_parts n left e gone parts = ap (lane_entries n e) parts ∙ map-append (λ lane. as_entry (e.row * n + lane, e.reason)) gone (set_lanes left)
-
--- the entries for the remaining lanes can be replayed
-pub judge_rest : (A : Arena ℕ) (n left : ℕ) (e : Event) (old new : Board) (asked now : AskedBand) (before after : ℕ) → CanReplayEvent A n old asked e → HasJudged A n e left old new asked now before after → CanReplayEvent A n new now (record e { lanes = left })
-judge_rest A n left e old new asked now before after can is = record {
-  shaped = subst (IsShaped A n) (sym is.rest) (record { pairs = can.shaped.pairs; lanes = can.shaped.lanes });
-  within = λ lane on. can.within lane (is.within lane on);
-  ready = replay_rest A n old.list new.list (lane_entries n e is.gone) (lane_entries n e (set_lanes left)) asked now before after
-      (subst (CanReplay A n old.list asked) (event_parts n left e is.gone is.parts) can.ready) is.replayed;
-}
-
--- some of the remaining lanes are judged too
-pub judged_on : (A : Arena ℕ) (n left rest : ℕ) (e : Event) (old mid new : Board) (asked on now : AskedBand) (before then after : ℕ) → HasJudged A n e left old mid asked on before then → HasJudged A n (record e { lanes = left }) rest mid new on now then after →
-    HasJudged A n e rest old new asked now before after
-judged_on A n left rest e old mid new asked on now before then after first second = record {
-  gone = first.gone ++ second.gone;
-  parts = first.parts ∙ ap (λ L. first.gone ++ L) second.parts ∙ sym (append_assoc first.gone second.gone (set_lanes rest));
-  within = λ lane on. first.within lane (second.within lane on);
-  replayed = subst (λ L. HasReplayed A n L old.list new.list asked now before after) (sym (map-append (λ lane. as_entry (e.row * n + lane, e.reason)) first.gone second.gone))
-      (replayed_both A n (lane_entries n e first.gone) (lane_entries n e second.gone) old.list mid.list new.list asked on now before then after first.replayed second.replayed);
+-- more lanes were judged
+pub judged_on : (A : Arena ℕ) (row : ℕ) (entries : Event → List (Entry ℕ)) (left rest : ℕ) (e : Event) (old mid new : Board) (asked on now : AskedBand) (before between after : ℕ) → HasJudged A row entries e left old mid asked on before between →
+    HasJudged A row entries (record e { lanes = left }) rest mid new on now between after → HasJudged A row entries e rest old new asked now before after
+judged_on A row entries left rest e old mid new asked on now before between after first second = record {
+  within = λ lane at. first.within lane (second.within lane at);
+  replayed = replays_both A row _ _ _ old.list mid.list new.list asked on now before between after first.replayed second.replayed;
   rest = second.rest ∙ ap (λ (b : Board). record b { list = new.list }) first.rest;
 }
 
 -- at the end all were
-pub judged_all : (A : Arena ℕ) (n left : ℕ) (e : Event) (old new : Board) (asked now : AskedBand) (before after : ℕ) → HasJudged A n e left old new asked now before after → left ≡ 0 → HasReplayed A n (entries_at n e) old.list new.list asked now before after
-judged_all A n left e old new asked now before after is none =
-    subst (λ ls. HasReplayed A n (lane_entries n e ls) old.list new.list asked now before after)
-    (sym (is.parts ∙ ap (λ w. is.gone ++ set_lanes w) none ∙ ap (λ ls. is.gone ++ ls) set_lanes-zero ∙ append-nil is.gone)) is.replayed
+pub judged_all : (A : Arena ℕ) (row : ℕ) (entries : Event → List (Entry ℕ)) (left : ℕ) (e : Event) (old new : Board) (asked now : AskedBand) (before after : ℕ) → HasJudged A row entries e left old new asked now before after → left ≡ 0 → entries (record e { lanes = 0 }) ≡ [] →
+    Replays A row (entries e) [] old.list new.list asked now before after
+judged_all A row entries left e old new asked now before after is none empty =
+    subst (λ M. Replays A row (entries e) M old.list new.list asked now before after) (ap (λ w. entries (record e { lanes = w })) none ∙ empty) is.replayed
 
--- ---- the first lanes of an event
+-- an event of no lanes has no entries
+pub no_entries : (n x : ℕ) (reason : Reason) → entries_in n x 0 reason ≡ []
+no_entries n x reason = ap (map (λ lane. as_entry (x * n + lane, reason))) set_lanes-zero
 
--- the entry for a lane of the event is one of its entries
-lane_in : (n : ℕ) (e : Event) (lane : ℕ) → lane < 64 → is_on e.lanes lane ≡ true → IsIn (as_entry (e.row * n + lane, e.reason)) (entries_at n e)
-lane_in n e lane l on = in_map (λ lane. as_entry (e.row * n + lane, e.reason)) lane (set_lanes e.lanes) (on_in e.lanes lane l on)
+-- entries before others
+pub replays_front : (A : Arena ℕ) (n : ℕ) (L M X kept now : List (Entry ℕ)) (asked on : AskedBand) (before after : ℕ) → X ≡ L ++ M → Replays A n L [] kept now asked on before after → Replays A n X M kept now asked on before after
+replays_front A n L M X kept now asked on before after parts is = record {
+  goes_on = λ N can. (
+      let same : X ++ N ≡ L ++ (M ++ N) = ap (λ Y. Y ++ N) parts ∙ append_assoc L M N in
+      subst (λ Y. GoesOnTo A n Y (M ++ N) kept now on before after) (sym same) (is.goes_on (M ++ N) (subst (CanReplay A n kept asked) same can)));
+}
 
--- it isn't listed
-pub lane_alive : (A : Arena ℕ) (n : ℕ) (order : Board) (asked : AskedBand) (e : Event) (lane : ℕ) → CanReplayEvent A n order asked e → n ≤ 64 → is_on e.lanes lane ≡ true → has_entry order.list (e.row * order.lanes + lane) ≡ false
-lane_alive A n order asked e lane can few on =
-    ap (λ m. has_entry order.list (e.row * m + lane)) can.shaped.lanes ∙ can.ready.candidates.new (as_entry (e.row * n + lane, e.reason)) (lane_in n e lane (omega (arith, can.within lane on, few)) on)
-
--- and its reason is possible
-pub lane_possible : (A : Arena ℕ) (n : ℕ) (order : Board) (asked : AskedBand) (e : Event) (lane : ℕ) → CanReplayEvent A n order asked e → lane < 64 → is_on e.lanes lane ≡ true → IsTrue (is_possible A (e.row * n + lane) e.reason)
-lane_possible A n order asked e lane can l on = can.ready.candidates.possible (as_entry (e.row * n + lane, e.reason)) (lane_in n e lane l on)
-
--- the first lanes are lanes of the event
-pub gone_lane : (word : ℕ) (gone rest : List ℕ) (lane : ℕ) → set_lanes word ≡ gone ++ rest → IsIn lane gone → (lane < 64) × (is_on word lane ≡ true)
-gone_lane word gone rest lane parts i = in_lanes word lane (subst (IsIn lane) (sym parts) (in_append_left lane gone rest i))
-
--- a property of some lanes' pairs is one of their entries
-pub entries_by : (n : ℕ) (e : Event) (ls : List ℕ) (P : Entry ℕ → Type 0) → ((lane : ℕ) → IsIn lane ls → P (as_entry (e.row * n + lane, e.reason))) → (y : Entry ℕ) → IsIn y (lane_entries n e ls) → P y
-entries_by n e ls P each y i = let (lane, j, same) = from_map (λ lane. as_entry (e.row * n + lane, e.reason)) y ls i in subst P (sym same) (each lane j)
-
--- the first lanes pay for a question that each of them would ask
-pub paid : (A : Arena ℕ) (n : ℕ) (e : Event) (gone rest : List ℕ) (reading : ℕ) → set_lanes e.lanes ≡ gone ++ rest → 0 < length gone → ((lane : ℕ) → lane < 64 → is_on e.lanes lane ≡ true → reading ≤ readings_of_reason A (e.row * n + lane) e.reason) →
-    reading ≤ readings_of_entries A (lane_entries n e gone)
-paid A n e [] rest reading parts some each = absurd (omega arith)
-paid A n e (lane ∷ ls) rest reading parts some each =
-    let (l, on) = gone_lane e.lanes (lane ∷ ls) rest lane parts (inl refl) in
-    omega (arith, each lane l on, sum_by-cons (λ (y : Entry ℕ). readings_of_reason A y.node y.reason) (as_entry (e.row * n + lane, e.reason)) (lane_entries n e ls))
-
--- one of two fronts has a lane: what goes on from the first begins with a lane of one word, and what goes on from the second with a lane of another
-pub some_judged : (one other : ℕ) (ws off from front rest : List ℕ) → ((lane : ℕ) → lane < 64 → is_on one lane ≡ true → is_on other lane ≡ true → ⊥) → 0 < length ws → ((lane : ℕ) → IsIn lane ws → lane < 64) →
-    ws ≡ off ++ from → from ≡ front ++ rest → ((lane : ℕ) (more : List ℕ) → from ≡ lane ∷ more → is_on one lane ≡ true) → ((lane : ℕ) (more : List ℕ) → rest ≡ lane ∷ more → is_on other lane ≡ true) → 0 < length (off ++ front)
-some_judged one other (w ∷ ws) [] from [] rest apart some few parts more has lacks = absurd (apart w (few w (inl refl)) (has w ws (sym parts)) (lacks w ws (sym (parts ∙ more))))
-some_judged one other [] [] from [] rest apart some few parts more has lacks = absurd (omega arith)
-some_judged one other ws [] from (lane ∷ front) rest apart some few parts more has lacks = omega arith
-some_judged one other ws (lane ∷ off) from front rest apart some few parts more has lacks = omega arith
-
--- a word and its complement have no lane in common
-pub never_both : (word lane : ℕ) → word < 2 ^ 64 → lane < 64 → is_on word lane ≡ true → is_on (bit_not w64 word) lane ≡ true → ⊥
-never_both word lane fits l on off = both_ways (is_on (bit_not w64 word) lane) (on_not word lane fits l ∙ ap not on) off
-
--- the first lanes of an event were judged: the replay of their entries lists those for the lanes `front`
-pub judged : (A : Arena ℕ) (n rest : ℕ) (e : Event) (old new : Board) (asked now : AskedBand) (before after : ℕ) (gone front : List ℕ) → IsShaped A n old →
-    set_lanes e.lanes ≡ gone ++ set_lanes rest → 0 < length gone → ((lane : ℕ) → is_on rest lane ≡ true → is_on e.lanes lane ≡ true) →
-    with_replay A old.list (lane_entries n e gone) ≡ old.list ++ lane_entries n e front → new ≡ record old { list = old.list ++ lane_entries old.lanes e front } →
-    IsIntact asked.alone now.alone (old.list ++ lane_entries n e gone) (old.list ++ lane_entries n e front) → HoldsInBand A n (is_listed A old.list) now → after ≤ before + readings_of_entries A (lane_entries n e gone) →
-    (length (set_lanes rest) < length (set_lanes e.lanes)) × HasJudged A n e rest old new asked now before after
-judged A n rest e old new asked now before after gone front shaped parts some back replay is intact known cost = (
-  omega (arith, ap length parts, length-append gone (set_lanes rest), some),
-  record {
-    gone = gone;
-    parts = parts;
-    within = back;
-    replayed = record {
-      list = list ∙ sym replay;
-      intact = λ k t. (let (begun, all) = intact k t in (begun, list ∙ all));
-      known = known_on A n now old.list new.list (lane_entries n e front) list known;
-      cost = cost;
-    };
-    rest = is ∙ ap (λ K. record old { list = K }) (sym (ap (λ (b : Board). b.list) is));
-  },
-)
-  where
-    list : new.list ≡ old.list ++ lane_entries n e front
-    list = ap (λ (b : Board). b.list) is ∙ ap (λ m. old.list ++ lane_entries m e front) shaped.lanes
-
--- ---- the first lanes of an event, judged by one seat
-
--- the seat may be asked alone
-pub judged_alone : (A : Arena ℕ) (n k : ℕ) (order : Board) (asked : AskedBand) (e : Event) → CanJudge A n (Some k) order asked e → MayAskAlone A (Some k) order.list (entries_at n e)
-judged_alone A n k order asked e can = subst (λ o. MayAskAlone A o order.list (entries_at n e)) can.alone can.event.ready.may
-
--- the first lanes pay for one question to it
-pub one_paid : (A : Arena ℕ) (n k : ℕ) (order : Board) (asked : AskedBand) (e : Event) (gone rest : List ℕ) → CanJudge A n (Some k) order asked e → set_lanes e.lanes ≡ gone ++ rest → 0 < length gone → questions_of e.reason ≤ readings_of_entries A (lane_entries n e gone)
-one_paid A n k order asked e gone rest can parts some =
-    let may = judged_alone A n k order asked e can in
-    paid A n e gone rest (questions_of e.reason) parts some (λ lane l on. one_question A k (e.row * n + lane) e.reason may.0 may.1 (lane_possible A n order asked e lane can.event l on))
-
--- lanes at which it lets the reason hold were listed
-pub judged_let : (A : Arena ℕ) (n k rest : ℕ) (e : Event) (old new : Board) (asked now : AskedBand) (before after : ℕ) (front : ℕ) → CanJudge A n (Some k) old asked e → set_lanes e.lanes ≡ set_lanes front ++ set_lanes rest → 0 < length (set_lanes front) →
-    ((lane : ℕ) → is_on rest lane ≡ true → is_on e.lanes lane ≡ true) → ((lane : ℕ) → IsIn lane (set_lanes front) → IsTrue (lets_hold A (is_listed A old.list) k (e.row * n + lane) e.reason)) →
-    new ≡ record old { list = old.list ++ entries_in old.lanes e.row front e.reason } → now.alone ≡ asked.alone → HoldsInBand A n (is_listed A old.list) now → after ≤ before + readings_of_entries A (entries_in n e.row front e.reason) →
-    (length (set_lanes rest) < length (set_lanes e.lanes)) × HasJudged A n e rest old new asked now before after
-judged_let A n k rest e old new asked now before after front can parts some back lets is alone known cost =
-    let those = entries_in n e.row front e.reason in
-    judged A n rest e old new asked now before after (set_lanes front) (set_lanes front) can.event.shaped parts some back
-    (kept_alone A k old.list those (may_first A (Some k) old.list those (lane_entries n e (set_lanes rest))
-    (subst (MayAskAlone A (Some k) old.list) (event_parts n rest e (set_lanes front) parts) (judged_alone A n k old asked e can))).2
-    (entries_by n e (set_lanes front) (λ y. IsTrue (lets_hold A (is_listed A old.list) k y.node y.reason)) lets))
-    is (λ j t. (sym alone ∙ t, refl)) known cost
+-- all entries
+pub replays_whole : (A : Arena ℕ) (n : ℕ) (L M kept now : List (Entry ℕ)) (asked on : AskedBand) (before after : ℕ) → Replays A n L M kept now asked on before after → CanReplay A n kept asked L → GoesOnTo A n L M kept now on before after
+replays_whole A n L M kept now asked on before after is can =
+    subst (λ X. GoesOnTo A n X M kept now on before after) (append-nil L) (subst (λ X. GoesOnTo A n (L ++ []) X kept now on before after) (append-nil M) (is.goes_on [] (subst (CanReplay A n kept asked) (sym (append-nil L)) can)))

@@ -1,7 +1,9 @@
 -- Orders that are reopened for a changed system, and their replay.
-use Rattle.roman_repair.proofs.Common.{◌≡◌, ℕ, ◌*◌, ◌<◌, ◌≤◌, Bool, true, List, [], ◌∷◌, ◌++◌, flat_map, length, IsTrue, refl, ap, ap₂, ◌∙◌, arith, below, Sys, Arena, Entry, is_justified, IsOrder, replay, Change, after, Sizes, sizes_of, count, numbered, Reason, Final, Act, grown_numbers, rename_numbers, length-below, turned, AreNumbers, sizes-turned, NumbersReplay, justified_is, number_allows-turned, lanes_of, NamedSys, system_of, IsNamedSys, lanes_in, Board, pairs_of, has_entry, IsShaped, arena_of, HasCaps, IsRelation, listed_numbers, Tally, IsRepaired, IsSettledOn, is_possible, AreCandidates, candidates, IsReplayable}
+use Rattle.roman_repair.proofs.Common.{◌≡◌, ℕ, ◌*◌, ◌<◌, ◌≤◌, Bool, true, List, [], ◌∷◌, ◌++◌, flat_map, length, IsTrue, refl, ap, ap₂, ◌∙◌, arith, below, Sys, Arena, Entry, is_justified, IsOrder, replay, Change, after, Sizes, sizes_of, count, numbered, Reason, Final, Act, grown_numbers, rename_numbers, length-below, turned, AreNumbers, sizes-turned, NumbersReplay, justified_is, number_allows-turned, lanes_of, NamedSys, system_of, IsNamedSys, lanes_in, Board, pairs_of, has_entry, IsShaped, arena_of, HasCaps, IsRelation, listed_numbers, Tally, IsRepaired, IsSettledOn, is_possible, AreCandidates, AreSlices, MayAskAlone, Some, sym, subst}
 use Rattle.roman_model.proofs.CallerLemmas.{order_new, new_once, order_justified, numbered_is_same}
 use Rattle.roman_relation.proofs.CallerLemmas.{room_for_pairs}
+use Rattle.roman_repair.specs.Growing.{CanReadmit, list_grown, replay_grown}
+use Rattle.roman_repair.specs.declared.replaying.Newcomer.{Newcomer}
 use Rattle.roman_repair.proofs.Keeping.{grown_once}
 use Rattle.roman_repair.proofs.Repairing.{numbers_order, numbers_replayed, repaired_from}
 
@@ -45,31 +47,36 @@ room_to_reopen joint old shape rows lanes known caps is whole wide =
 pub shaped_for : (s : Sys) (shape : Sizes) (new : Board) → shape ≡ sizes_of s → new.rows * lanes_of shape.seats ≡ count shape → new.lanes ≡ lanes_of shape.seats → IsShaped (numbered s) (lanes_in s) new
 shaped_for s shape new is whole wide = grind (arith, length-below)
 
--- the whole list is waiting for the changed system, and stands for the renamed list
-pub record IsReopened (change : Change) (s : Sys) (joint : NamedSys) (states : ℕ) (old : List (Entry ℕ)) (reopened : Board) : Type 0 where
-  pub replays : NumbersReplay change s old
-  pub system : system_of joint ≡ after change s
-  pub those : candidates states reopened ≡ rename_numbers change (sizes_of s) old
+-- a system to which a list was readmitted, after a thaw or a join: what the list grows to is the renamed list, and can be replayed there
+pub record IsReadmission (change : Change) (n joint : NamedSys) (newcomer : Newcomer) (order : Board) : Type 0 where
+  pub replays : NumbersReplay change (system_of n) order.list
+  pub system : system_of joint ≡ after change (system_of n)
+  pub those : list_grown newcomer order ≡ rename_numbers change (sizes_of (system_of n)) order.list
+  pub caps : HasCaps joint order
+  pub idle : order.waiting ≡ []
+  pub lanes : order.lanes ≡ newcomer.lanes
+  pub slices : AreSlices (lanes_in (after change (system_of n))) newcomer.lanes newcomer.states
+  pub are : AreCandidates (numbered (after change (system_of n))) [] (list_grown newcomer order)
+  pub may : MayAskAlone (numbered (after change (system_of n))) (Some newcomer.k) [] (list_grown newcomer order)
 
 -- its replay is that of the renamed list
-replay_renamed : (change : Change) (s : Sys) (joint : NamedSys) (states : ℕ) (old : List (Entry ℕ)) (reopened : Board) →
-    IsReopened change s joint states old reopened →
-    replay (arena_of joint) (candidates states reopened) ≡ numbers_replayed change s old
-replay_renamed change s joint states old reopened is = ap (replay (arena_of joint)) is.those
-    ∙ ap (λ (t : Sys). replay (numbered t) (rename_numbers change (sizes_of s) old)) is.system
+replay_readmitted : (change : Change) (n joint : NamedSys) (newcomer : Newcomer) (order : Board) → IsReadmission change n joint newcomer order → replay_grown joint newcomer order ≡ numbers_replayed change (system_of n) order.list
+replay_readmitted change n joint newcomer order is = ap₂ (λ (t : Sys) L. replay (numbered t) L) is.system is.those
 
--- the reopened order can be replayed
-pub replayable : (change : Change) (s : Sys) (joint : NamedSys) (states : ℕ) (old : List (Entry ℕ)) (reopened : Board) →
-    IsReopened change s joint states old reopened →
-    AreCandidates (numbered (after change s)) [] (rename_numbers change (sizes_of s) old) → reopened.list ≡ [] → IsShaped (arena_of joint)
-    (lanes_in (system_of joint)) reopened → HasCaps joint reopened →
-    IsReplayable joint states reopened
-replayable change s joint states old reopened is may empty shaped caps = grind (arith, numbers_replayed, replay_renamed)
+pub can_readmit : (change : Change) (n joint : NamedSys) (newcomer : Newcomer) (order : Board) → IsReadmission change n joint newcomer order → CanReadmit joint newcomer order
+can_readmit change n joint newcomer order is = record {
+  caps = is.caps;
+  idle = is.idle;
+  lanes = is.lanes;
+  slices = subst (λ (t : Sys). AreSlices (lanes_in t) newcomer.lanes newcomer.states) (sym is.system) is.slices;
+  are = subst (λ (t : Sys). AreCandidates (numbered t) [] (list_grown newcomer order)) (sym is.system) is.are;
+  may = subst (λ (t : Sys). MayAskAlone (numbered t) (Some newcomer.k) [] (list_grown newcomer order)) (sym is.system) is.may;
+  valid = subst (IsOrder (arena_of joint)) (sym (replay_readmitted change n joint newcomer order is)) (subst (λ (t : Sys). IsOrder (numbered t) (numbers_replayed change (system_of n) order.list)) (sym is.system) is.replays.order);
+}
 
 -- the replayed and completed list is what the repair should end in
-pub reopened_repaired : (change : Change) (n mid joint : NamedSys) (states : ℕ) (old reopened new : Board) (tally : Tally) → IsReopened change (system_of n) mid states old.list reopened →
-    IsSettledOn mid (replay (arena_of mid) (candidates states reopened)) joint new tally → IsRepaired change n old joint new tally
-reopened_repaired change n mid joint states old reopened new tally is settled = repaired_from _ _ _ _ _ _ _ _ is.replays (replay_renamed _ _ _ _ _ _ is) is.system settled
+pub readmitted : (change : Change) (n mid joint : NamedSys) (newcomer : Newcomer) (order new : Board) (tally : Tally) → IsReadmission change n mid newcomer order → IsSettledOn mid (replay_grown mid newcomer order) joint new tally → IsRepaired change n order joint new tally
+readmitted change n mid joint newcomer order new tally is settled = repaired_from _ _ _ _ _ _ _ _ is.replays (replay_readmitted change n mid newcomer order is) is.system settled
 
 -- an entry grown by one state stands for its own pair
 pub grown_by_one : (L : List (Entry ℕ)) → flat_map (grown_numbers 1) L ≡ L

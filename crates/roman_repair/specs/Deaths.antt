@@ -1,7 +1,7 @@
 -- The entries of a removal list after a service's death.
 use Rattle.std.specs.Prelude.{◌≡◌, ◌≢◌, ℕ, ◌+◌, ◌*◌, ◌<◌, true, false, List, ◌++◌, map, drop, length}
 use Rattle.std.specs.List.{filter, remove}
-use Rattle.roman_model.specs.Lists.{product_of}
+use Rattle.roman_model.specs.Lists.{IsIn, product_of}
 use Rattle.roman_model.specs.System.{Sys, Seat}
 use Rattle.roman_model.specs.Arena.{Entry}
 use Rattle.roman_model.specs.Change.{Die, CanChange, may_go}
@@ -13,7 +13,7 @@ use Rattle.roman_lanes.specs.Rows.{is_on}
 use Rattle.roman_joint.specs.NamedSys.{NamedSys, system_of}
 use Rattle.roman_joint.specs.Rows.{lanes_in}
 use Rattle.roman_order.specs.Board.{Board, as_entry, pairs_of, nodes_of, set_lanes, has_entry}
-use Rattle.roman_order.specs.Events.{entries_at}
+use Rattle.roman_order.specs.Events.{IsEvent, entries_at}
 use Rattle.roman_order.specs.declared.event.Event.{Event}
 use Rattle.roman_repair.specs.declared.dying.renaming.Leaver.{Leaver}
 
@@ -52,10 +52,10 @@ pub record CanRename (joint : NamedSys) (leaver : Leaver) (order : Board) (e : E
   pub lanes : (leaver.lanes ≡ order.lanes) × (order.lanes ≡ lanes_of (sizes_without leaver.k (sizes_of (system_of joint))).seats)
   pub gathered : IsGathered order e
 
--- the row of the event and its entries are in the system
+-- the entries of the event are in the system
 pub record IsWithin (s : Sys) (e : Event) : Type 0 where
-  pub each : (lane : ℕ) → is_on e.lanes lane ≡ true → (lane < lanes_in s) × (e.row * lanes_in s + lane < count (sizes_of s))
-  pub row : e.row * lanes_in s < count (sizes_of s)
+  pub event : IsEvent (lanes_in s) e
+  pub nodes : (x : Entry ℕ) → IsIn x (entries_at (lanes_in s) e) → x.node < count (sizes_of s)
 
 -- the entries are renamed, and their first ones are gathered after the list
 pub record HasRenamed (s : Sys) (k : ℕ) (L : List (Entry ℕ)) (old new : Board) (e now : Event) : Type 0 where

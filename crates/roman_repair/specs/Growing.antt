@@ -1,29 +1,67 @@
--- What a replay of grown entries goes on from.
-use Rattle.std.specs.Prelude.{◌≡◌, ℕ, ◌<◌, true, List, flat_map}
+-- What a replay of grown entries goes on from, and what it comes to.
+use Rattle.std.specs.Prelude.{◌≡◌, ℕ, ◌+◌, ◌<◌, ◌≤◌, ◌^◌, true, List, [], ◌++◌, Some, flat_map, length}
 use Rattle.roman_lanes.specs.Rows.{is_on}
-use Rattle.roman_model.specs.Arena.{Arena, Entry}
+use Rattle.roman_model.specs.Lists.{IsIn}
+use Rattle.roman_model.specs.Arena.{Arena, Entry, IsOrder, replay}
 use Rattle.roman_model.specs.NumberedChange.{grown_numbers}
-use Rattle.roman_order.specs.Board.{Board}
-use Rattle.roman_order.specs.Events.{entries_at}
+use Rattle.roman_order.specs.Board.{Board, set_lanes}
+use Rattle.roman_order.specs.Events.{IsEvent, entries_at}
 use Rattle.roman_order.specs.declared.event.Event.{Event}
+use Rattle.roman_joint.specs.NamedSys.{NamedSys, system_of}
+use Rattle.roman_joint.specs.Rows.{lanes_in}
+use Rattle.roman_relation.specs.Greatest.{HasCaps, arena_of}
 use Rattle.roman_relation.specs.Shaped.{IsShaped}
-use Rattle.roman_repair.specs.Judging.{CanReplay}
-use Rattle.roman_repair.specs.Replays.{AreSlices}
+use Rattle.roman_repair.specs.Alone.{MayAskAlone}
+use Rattle.roman_repair.specs.Replays.{AreCandidates, AreSlices, candidates, readings_of_entries, with_replay}
 use Rattle.roman_repair.specs.declared.asked_band.AskedBand.{AskedBand}
 use Rattle.roman_repair.specs.declared.replaying.Newcomer.{Newcomer}
-
--- the waiting entries are of rows from before the newcomer, which grow to whole rows of `row` lanes
-pub record RowsGrow (row : ℕ) (newcomer : Newcomer) (order : Board) : Type 0 where
-  pub slices : AreSlices row newcomer.lanes newcomer.states
-  pub lanes : order.waiting_lanes ≡ newcomer.lanes
 
 -- what the entries of an event from before the newcomer grow to
 abbrev pub entries_grown : Newcomer → Event → List (Entry ℕ)
 entries_grown newcomer e = flat_map (grown_numbers newcomer.states) (entries_at newcomer.lanes e)
 
--- what the entries of an event grow to can be replayed, and its lanes are those of a row from before the newcomer
-pub record CanGrow (A : Arena ℕ) (row : ℕ) (newcomer : Newcomer) (e : Event) (order : Board) (asked : AskedBand) : Type 0 where
+-- the entries of an event from before the newcomer grow to entries of whole rows of `row` lanes, and of nodes of the arena
+pub record CanGrow (A : Arena ℕ) (row : ℕ) (newcomer : Newcomer) (e : Event) : Type 0 where
+  pub slices : AreSlices row newcomer.lanes newcomer.states
+  pub event : IsEvent newcomer.lanes e
+  pub nodes : (x : Entry ℕ) → IsIn x (entries_grown newcomer e) → x.node < length A.nodes
+
+-- what the first entries of an event grow to are the entries of another event, and the entries for the lanes `rest` are left
+pub record IsGrown (row : ℕ) (newcomer : Newcomer) (e grown : Event) (rest : ℕ) : Type 0 where
+  pub event : IsEvent row grown
+  pub parts : entries_grown newcomer e ≡ entries_at row grown ++ entries_grown newcomer (record e { lanes = rest })
+  pub in_rest : (lane : ℕ) → is_on rest lane ≡ true → is_on e.lanes lane ≡ true
+  pub fits : rest < 2 ^ 64
+  pub fewer : length (set_lanes rest) < length (set_lanes e.lanes)
+
+-- what the waiting entries from before the newcomer stand for can be replayed, and the newcomer may be asked alone
+pub record CanReplayAll (A : Arena ℕ) (row : ℕ) (newcomer : Newcomer) (order : Board) : Type 0 where
   pub shaped : IsShaped A row order
   pub slices : AreSlices row newcomer.lanes newcomer.states
-  pub within : (lane : ℕ) → is_on e.lanes lane ≡ true → lane < newcomer.lanes
-  pub ready : CanReplay A row order.list asked (entries_grown newcomer e)
+  pub lanes : order.waiting_lanes ≡ newcomer.lanes
+  pub are : AreCandidates A order.list (candidates newcomer.states order)
+  pub may : MayAskAlone A (Some newcomer.k) order.list (candidates newcomer.states order)
+
+-- all waiting entries were replayed, each as the entries that it stands for
+pub record HasReplayedAll (A : Arena ℕ) (L : List (Entry ℕ)) (old new : Board) (before after : ℕ) : Type 0 where
+  pub list : new.list ≡ with_replay A old.list L
+  pub rest : new ≡ record old { list = new.list; waiting = [] }
+  pub cost : after ≤ before + readings_of_entries A L
+
+-- what the list grows to
+abbrev pub list_grown : Newcomer → Board → List (Entry ℕ)
+list_grown newcomer order = flat_map (grown_numbers newcomer.states) order.list
+
+-- its replay in the joint's system
+abbrev pub replay_grown : NamedSys → Newcomer → Board → List (Entry ℕ)
+replay_grown joint newcomer order = replay (arena_of joint) (list_grown newcomer order)
+
+-- what the list grows to can be replayed in the joint's system, and is a removal list there; the newcomer may be asked alone, and the order has room
+pub record CanReadmit (joint : NamedSys) (newcomer : Newcomer) (order : Board) : Type 0 where
+  pub caps : HasCaps joint order
+  pub idle : order.waiting ≡ []
+  pub lanes : order.lanes ≡ newcomer.lanes
+  pub slices : AreSlices (lanes_in (system_of joint)) newcomer.lanes newcomer.states
+  pub are : AreCandidates (arena_of joint) [] (list_grown newcomer order)
+  pub may : MayAskAlone (arena_of joint) (Some newcomer.k) [] (list_grown newcomer order)
+  pub valid : IsOrder (arena_of joint) (replay_grown joint newcomer order)

@@ -4,4 +4,5 @@ pub mod Deaths
 pub mod Alone
 pub mod AskedBands
 pub mod Judging
+pub mod Lanes
 pub mod Growing

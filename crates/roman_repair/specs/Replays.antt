@@ -1,16 +1,12 @@
 -- The entries over which a replay goes, and what it appends to a list.
-use Rattle.std.specs.Prelude.{◌≡◌, ℕ, ◌<◌, ◌≤◌, Bool, true, List, [], ◌++◌, ◌*◌, flat_map, length, sum_by, IsTrue, IsFalse}
+use Rattle.std.specs.Prelude.{◌≡◌, ℕ, ◌<◌, ◌≤◌, Bool, true, List, ◌++◌, ◌*◌, flat_map, length, sum_by, IsTrue, IsFalse}
 use Rattle.roman_model.specs.Lists.{IsIn, HasNoRepeats}
-use Rattle.roman_model.specs.Arena.{Arena, Entry, IsOrder, replay, replay_from}
+use Rattle.roman_model.specs.Arena.{Arena, Entry, replay_from}
 use Rattle.roman_model.specs.NumberedChange.{grown_numbers}
 use Rattle.roman_model.specs.declared.reason.Reason.{Reason}
 use Rattle.roman_model.specs.declared.reason.Reason.TheVariants.{Final, Act}
 use Rattle.roman_rules.specs.Asked.{readings_of_reason}
-use Rattle.roman_joint.specs.NamedSys.{NamedSys, system_of}
-use Rattle.roman_joint.specs.Rows.{lanes_in}
 use Rattle.roman_order.specs.Board.{Board, nodes_of, has_entry}
-use Rattle.roman_relation.specs.Shaped.{IsShaped}
-use Rattle.roman_relation.specs.Greatest.{arena_of, HasCaps}
 
 -- whether the action of the reason is allowed at the node; true of a reason that names no action
 abbrev pub is_possible : Arena ℕ → ℕ → Reason → Bool
@@ -35,18 +31,6 @@ readings_of_entries A L = sum_by (λ x. readings_of_reason A x.node x.reason) L
 -- the candidates for which the waiting entries stand: for each entry its pair with each of the states
 abbrev pub candidates : ℕ → Board → List (Entry ℕ)
 candidates states board = flat_map (grown_numbers states) board.waiting
-
--- the replay of these candidates in the joint's system
-abbrev pub waiting_replay : NamedSys → ℕ → Board → List (Entry ℕ)
-waiting_replay joint states board = replay (arena_of joint) (candidates states board)
-
--- the whole list waits in an empty order for the changed system, the order has room, and the replay of the candidates is a removal list
-pub record IsReplayable (joint : NamedSys) (states : ℕ) (board : Board) : Type 0 where
-  pub shaped : IsShaped (arena_of joint) (lanes_in (system_of joint)) board
-  pub caps : HasCaps joint board
-  pub empty : board.list ≡ []
-  pub may : AreCandidates (arena_of joint) [] (candidates states board)
-  pub valid : IsOrder (arena_of joint) (waiting_replay joint states board)
 
 -- a row has whole slices of so many states, and one of so many lanes becomes whole rows where each lane becomes a slice
 pub record AreSlices (row lanes states : ℕ) : Type 0 where

@@ -1,18 +1,11 @@
-//! Judges entries by one seat. After a thaw or a join the other seats serve no entry that was listed,
-//! until an entry is dropped.
-ghost use Rattle.std.specs.Prelude.{◌≡◌, ℕ, ◌*◌, ◌<◌, Bool, not, length, Some};
+//! Asks one seat. After a thaw or a join the other seats serve no entry that was listed, until an
+//! entry is dropped.
+ghost use Rattle.std.specs.Prelude.{◌≡◌, ℕ, ◌*◌, ◌<◌, Bool, not, length};
 ghost use Rattle.roman_model.specs.Arena.{is_beaten};
 ghost use Rattle.roman_lanes.specs.Rows.{HasLanes, AreRows, Keeps};
-ghost use Rattle.roman_order.specs.Board.{set_lanes};
-ghost use Rattle.roman_repair.specs.Judging.{CanJudge, HasJudged};
 
-use crate::asked_band::AskedBand;
-use crate::lanes::split_lanes;
-use roman_io::Steps;
 use roman_joint::{Joint, Row};
-use roman_order::{Event, Order};
 use roman_rules::Rules;
-use std::sync::ledger::Ledger;
 
 /// A system whose seats can be asked one by one.
 pub(crate) trait OneSeat: Rules {
@@ -49,40 +42,4 @@ impl OneSeat for Joint {
     fn clear_served(&self, row: &Row, words: &[u64], a: u8, k: u8, left: &mut [u64]) {
         self.clear_good(row, words, a, k, left);
     }
-}
-
-/// Judges the first entries of the event by the seat `k` alone, which may be asked alone. Lists the
-/// entries before the first one at which it serves. If there are none, drops the entries before the
-/// first one at which it doesn't serve, and from then on all seats must be asked. Returns the remaining
-/// lanes. Requires at least one lane.
-#[tactic(auto, using(crate::proofs::Fronts::row_there, crate::proofs::Replayed::lane_alive))]
-pub(crate) fn keep_alone<J: OneSeat, L: Ledger>(
-    joint: &J,
-    order: &mut Order,
-    asked: &mut AskedBand,
-    k: u8,
-    event: Event,
-    steps: &mut Steps<L>,
-) -> u64
-    requires { CanJudge (J.arena joint.now) (J.lanes joint.now) (Some k) order.old asked.old event }
-    ensures { (length (set_lanes result) < length (set_lanes event.lanes))
-        × HasJudged (J.arena joint.now) (J.lanes joint.now) event result order.old order.new asked.old asked.new steps.old steps.new }
-{
-    joint.known();
-    order.known();
-    let known = asked.lanes_at(event.row, event.reason);
-    let (known_front, after) = split_lanes(event.lanes, !known);
-    if known_front != 0 {
-        order.push_lanes(event.row, known_front, event.reason);
-        return after;
-    }
-    let held = asked.ask_alone(joint, order.words(), event, k, steps);
-    let (front, rest) = split_lanes(event.lanes, !held);
-    if front != 0 {
-        order.push_lanes(event.row, front, event.reason);
-        return rest;
-    }
-    *asked = AskedBand::nothing(None);
-    let (_, rest) = split_lanes(event.lanes, held);
-    rest
 }

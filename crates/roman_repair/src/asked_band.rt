@@ -1,11 +1,11 @@
 //! Bands of rows that are asked about a reason.
 ghost use Rattle.std.specs.Prelude.{◌≡◌, ℕ, ◌+◌, ◌*◌, ◌/◌, ◌<◌, ◌≤◌, Bool, true, not, length, None, Some, slice_index, count_by, IsTrue};
 ghost use Rattle.roman_model.specs.Lists.{below};
-ghost use Rattle.roman_model.specs.Arena.{Arena, is_justified};
+ghost use Rattle.roman_model.specs.Arena.{Arena};
 ghost use Rattle.roman_lanes.specs.Rows.{is_on, AreRows};
-ghost use Rattle.roman_rules.specs.Asked.{IsReasonOf, readings_of_reason};
-ghost use Rattle.roman_repair.specs.Alone.{lets_hold, questions_of};
-ghost use Rattle.roman_repair.specs.AskedBands.{HoldsInBand, CanAsk, CanAskSeat, IsAnswer, HasAsked, HasAskedSeat};
+ghost use Rattle.roman_rules.specs.Asked.{IsReasonOf};
+ghost use Rattle.roman_repair.specs.Alone.{IsSeatOf, passes, questions_of};
+ghost use Rattle.roman_repair.specs.AskedBands.{HoldsInBand, IsKnown, CanAsk, HasAsked};
 ghost use Rattle.roman_repair.specs.Replays.{is_possible};
 
 use crate::alone::OneSeat;
@@ -53,38 +53,49 @@ fn tick_seats<J: Rules, L: Ledger>(joint: &J, steps: &mut Steps<L>)
     }
 }
 
-/// Asks all rows of the band `y` about a reason, and sets for each row the lanes at which it holds.
-/// `words` has the bits of the pairs that aren't gone. Counts a step for each ready seat where the
-/// reason is an action.
-fn ask_band<J: Rules, L: Ledger>(
+/// Asks all rows of the band `y` about a reason, of the seat `alone` or, where there is none, of all seats.
+/// Sets for each row the lanes at which they let it hold. `words` has the bits of the pairs that
+/// aren't gone. Counts a step for each seat that is asked, where the reason is an action.
+fn ask_band<J: OneSeat, L: Ledger>(
     joint: &J,
     words: &[u64],
     y: u32,
     reason: Reason,
+    alone: Option<u8>,
     held: &mut [u64],
     steps: &mut Steps<L>,
 )
     requires band { y * J.band joint.now * J.lanes joint.now < length (J.arena joint.now).nodes }
     requires reason { IsReasonOf (J.arena joint.now) reason }
+    requires seat { IsSeatOf (J.arena joint.now) alone }
     requires room { length words.now * J.lanes joint.now ≡ length (J.arena joint.now).nodes }
     requires long { length held.old ≡ J.band joint.now }
     ensures long { length held.new ≡ J.band joint.now }
-    ensures holds { let A = J.arena joint.now in let lanes = J.lanes joint.now in
+    ensures passes { let A = J.arena joint.now in let lanes = J.lanes joint.now in
         (gone : ℕ → Bool) → AreRows lanes (λ q. not (gone q)) words.now →
         (i lane : ℕ) → i < J.band joint.now → lane < lanes →
-        is_on (slice_index held.new i) lane ≡ is_justified A gone ((y * J.band joint.now + i) * lanes + lane) reason }
+        is_on (slice_index held.new i) lane ≡ passes A gone alone ((y * J.band joint.now + i) * lanes + lane) reason }
     ensures cost { let A = J.arena joint.now in
-        (p : ℕ) → IsTrue (is_possible A p reason) → steps.new ≡ steps.old + readings_of_reason A p reason }
+        (p : ℕ) → IsTrue (is_possible A p reason) → steps.new ≡ steps.old + questions_of A alone p reason }
 {
-    joint.known();
+    joint.known(); // a row has 1 to 64 lanes
     held.fill(u64::MAX >> (64 - joint.lanes()));
     let row = joint.first_row(y);
     match reason {
-        Reason::Final => joint.unfine_band(&row, joint.resting(), held),
-        Reason::Act(a) => {
-            tick_seats(joint, steps);
-            joint.unserved_band(&row, words, a, held);
-        }
+        Reason::Final => match alone {
+            None => joint.unfine_band(&row, joint.resting(), held),
+            Some(_) => {}
+        },
+        Reason::Act(a) => match alone {
+            None => {
+                tick_seats(joint, steps);
+                joint.unserved_band(&row, words, a, held);
+            }
+            Some(k) => {
+                steps.tick();
+                joint.clear_served(&row, words, a, k, held);
+            }
+        },
     }
 }
 
@@ -97,9 +108,11 @@ fn ask_row_alone<J: OneSeat, L: Ledger>(
     k: u8,
     steps: &mut Steps<L>,
 ) -> u64
-    requires { CanAskSeat (J.arena joint.now) (J.lanes joint.now) k words.now event }
-    ensures served { IsAnswer (J.lanes joint.now) words.now event.row (λ gone p. not (lets_hold (J.arena joint.now) gone k p event.reason)) result }
-    ensures cost { steps.new ≡ steps.old + questions_of event.reason }
+    requires { CanAsk (J.arena joint.now) (J.lanes joint.now) (Some k) words.now event }
+    ensures served { (gone : ℕ → Bool) → AreRows (J.lanes joint.now) (λ q. not (gone q)) words.now →
+        (lane : ℕ) → lane < J.lanes joint.now →
+        is_on result lane ≡ not (passes (J.arena joint.now) gone (Some k) (event.row * J.lanes joint.now + lane) event.reason) }
+    ensures cost { (p : ℕ) → steps.new ≡ steps.old + questions_of (J.arena joint.now) (Some k) p event.reason }
 {
     match event.reason {
         Reason::Final => 0,
@@ -107,41 +120,6 @@ fn ask_row_alone<J: OneSeat, L: Ledger>(
             steps.tick();
             let row = joint.row(event.row);
             joint.served(&row, words, a, k)
-        }
-    }
-}
-
-/// Sets, for each row of the band `y`, the lanes at which the seat `k` lets a reason hold. `words` has
-/// the bits of the pairs that aren't gone. Counts a step where the reason is an action.
-fn let_band<J: OneSeat, L: Ledger>(
-    joint: &J,
-    words: &[u64],
-    y: u32,
-    reason: Reason,
-    k: u8,
-    held: &mut [u64],
-    steps: &mut Steps<L>,
-)
-    requires band { y * J.band joint.now * J.lanes joint.now < length (J.arena joint.now).nodes }
-    requires reason { IsReasonOf (J.arena joint.now) reason }
-    requires seat { k < (J.arena joint.now).seats }
-    requires room { length words.now * J.lanes joint.now ≡ length (J.arena joint.now).nodes }
-    requires long { length held.old ≡ J.band joint.now }
-    ensures long { length held.new ≡ J.band joint.now }
-    ensures lets { let A = J.arena joint.now in let lanes = J.lanes joint.now in
-        (gone : ℕ → Bool) → AreRows lanes (λ q. not (gone q)) words.now →
-        (i lane : ℕ) → i < J.band joint.now → lane < lanes →
-        is_on (slice_index held.new i) lane ≡ lets_hold A gone k ((y * J.band joint.now + i) * lanes + lane) reason }
-    ensures cost { steps.new ≡ steps.old + questions_of reason }
-{
-    joint.known();
-    held.fill(u64::MAX >> (64 - joint.lanes()));
-    match reason {
-        Reason::Final => {}
-        Reason::Act(a) => {
-            steps.tick();
-            let row = joint.first_row(y);
-            joint.clear_served(&row, words, a, k, held);
         }
     }
 }
@@ -154,7 +132,11 @@ impl AskedBand {
     {
         AskedBand {
             alone,
-            row: Asked::nothing(),
+            row: Asked {
+                row: 0,
+                reason: Reason::Final,
+                lanes: 0,
+            },
             first: 0,
             rows: 0,
             reason: Reason::Final,
@@ -162,26 +144,24 @@ impl AskedBand {
         }
     }
 
+    /// Asks all seats from now on, and forgets what is known of one seat.
+    pub(crate) fn ask_all(&mut self)
+        ensures alone { self.new.alone ≡ None }
+        ensures known { (A : Arena ℕ) (lanes : ℕ) (gone : ℕ → Bool) → HoldsInBand A lanes gone self.old → HoldsInBand A lanes gone self.new }
+    {
+        if self.alone.is_some() {
+            *self = AskedBand::nothing(None);
+        }
+    }
+
     /// Returns the lanes of the row `x` at which the reason is known to hold: none where another row
     /// and another band were asked, or about another reason.
     pub(crate) fn known_at(&self, x: u32, reason: Reason) -> u64
-        requires { self.now.alone ≡ None }
-        ensures { (A : Arena ℕ) (lanes : ℕ) (gone : ℕ → Bool) → HoldsInBand A lanes gone self.now →
-            (lane : ℕ) → lane < lanes → is_on result lane ≡ true → IsTrue (is_justified A gone (x * lanes + lane) reason) }
+        ensures { (A : Arena ℕ) (lanes : ℕ) (gone : ℕ → Bool) → HoldsInBand A lanes gone self.now → IsKnown A lanes gone self.now.alone x reason result }
     {
-        let lanes = self.row.known_at(x, reason);
-        if lanes != 0 {
-            return lanes;
+        if self.row.row == x && self.row.reason == reason && self.row.lanes != 0 {
+            return self.row.lanes;
         }
-        self.lanes_at(x, reason)
-    }
-
-    /// Returns the lanes that are known of the row `x` as a row of the band: none where another band
-    /// was asked, or about another reason.
-    pub(crate) fn lanes_at(&self, x: u32, reason: Reason) -> u64
-        ensures { (lane : ℕ) → is_on result lane ≡ true →
-            (i : ℕ) × (i < self.now.rows) × (x ≡ self.now.first + i) × (reason ≡ self.now.reason) × (is_on (slice_index self.now.words i) lane ≡ true) }
-    {
         if x < self.first || self.reason != reason {
             return 0;
         }
@@ -193,49 +173,33 @@ impl AskedBand {
         }
     }
 
-    /// Asks all rows of the band of the event's row. Returns the lanes of the row at which the reason holds.
-    fn ask_whole<J: Rules, L: Ledger>(
+    /// Asks all rows of the band of the event's row. Returns the lanes of the row at which the reason passes.
+    fn ask_whole<J: OneSeat, L: Ledger>(
         &mut self,
         joint: &J,
         words: &[u64],
         event: Event,
         steps: &mut Steps<L>,
     ) -> u64
-        requires ask { CanAsk (J.arena joint.now) (J.lanes joint.now) words.now event }
-        requires alone { self.old.alone ≡ None }
+        requires { CanAsk (J.arena joint.now) (J.lanes joint.now) self.old.alone words.now event }
         ensures { HasAsked (J.arena joint.now) (J.lanes joint.now) words.now event self.old self.new result steps.old steps.new }
     {
-        joint.known();
+        joint.known(); // a band has 1 to 64 rows
         let band = joint.band();
         self.first = event.row - event.row % band;
         self.rows = band;
         self.reason = event.reason;
+        let alone = self.alone;
         let held = &mut self.words[..band as usize];
-        ask_band(joint, words, event.row / band, event.reason, held, steps);
-        self.words[(event.row % band) as usize]
-    }
-
-    /// Asks the seat `k` alone about the event's reason, in all rows of the band of its row. Returns the
-    /// lanes of the row at which the seat lets the reason hold. Counts a step where the reason is an
-    /// action.
-    fn ask_whole_alone<J: OneSeat, L: Ledger>(
-        &mut self,
-        joint: &J,
-        words: &[u64],
-        event: Event,
-        k: u8,
-        steps: &mut Steps<L>,
-    ) -> u64
-        requires { CanAskSeat (J.arena joint.now) (J.lanes joint.now) k words.now event }
-        ensures { HasAskedSeat (J.arena joint.now) (J.lanes joint.now) k words.now event self.old self.new result steps.old steps.new }
-    {
-        joint.known();
-        let band = joint.band();
-        self.first = event.row - event.row % band;
-        self.rows = band;
-        self.reason = event.reason;
-        let held = &mut self.words[..band as usize];
-        let_band(joint, words, event.row / band, event.reason, k, held, steps);
+        ask_band(
+            joint,
+            words,
+            event.row / band,
+            event.reason,
+            alone,
+            held,
+            steps,
+        );
         self.words[(event.row % band) as usize]
     }
 
@@ -251,53 +215,36 @@ impl AskedBand {
         is_second && (self.first != first || self.reason != reason)
     }
 
-    /// Asks the seat `k` alone about the event's reason, in its row, or in the whole band where another
-    /// of its rows was asked just before. Returns the lanes of the row at which the seat lets the reason
-    /// hold. Counts a step where the reason is an action.
-    pub(crate) fn ask_alone<J: OneSeat, L: Ledger>(
-        &mut self,
-        joint: &J,
-        words: &[u64],
-        event: Event,
-        k: u8,
-        steps: &mut Steps<L>,
-    ) -> u64
-        requires { CanAskSeat (J.arena joint.now) (J.lanes joint.now) k words.now event }
-        ensures { HasAskedSeat (J.arena joint.now) (J.lanes joint.now) k words.now event self.old self.new result steps.old steps.new }
-    {
-        joint.known();
-        if self.is_band_due(joint, event.row, event.reason) {
-            return self.ask_whole_alone(joint, words, event, k, steps);
-        }
-        self.row = Asked {
-            row: event.row,
-            reason: event.reason,
-            lanes: 0,
-        };
-        !ask_row_alone(joint, words, event, k, steps)
-    }
-
     /// Asks the event's row about its reason, together with the whole band where another of its rows was
-    /// asked just before. Returns the lanes of the row at which the reason holds. `words` has the bits
-    /// of the pairs that aren't gone. The action of the reason, if it has one, must be one of the
-    /// system.
+    /// asked just before. Returns the lanes of the row at which the seats that are asked let the reason
+    /// hold. `words` has the bits of the pairs that aren't gone. The action of the reason, if it has one,
+    /// must be one of the system.
     ///
-    /// Counts a step for each ready seat where the reason is an action that is allowed in the row.
-    pub(crate) fn ask<J: Rules, L: Ledger>(
+    /// Counts a step for each seat that is asked, where the reason is an action that is allowed in the row.
+    pub(crate) fn ask<J: OneSeat, L: Ledger>(
         &mut self,
         joint: &J,
         words: &[u64],
         event: Event,
         steps: &mut Steps<L>,
     ) -> u64
-        requires ask { CanAsk (J.arena joint.now) (J.lanes joint.now) words.now event }
-        requires alone { self.old.alone ≡ None }
+        requires { CanAsk (J.arena joint.now) (J.lanes joint.now) self.old.alone words.now event }
         ensures { HasAsked (J.arena joint.now) (J.lanes joint.now) words.now event self.old self.new result steps.old steps.new }
     {
-        joint.known();
+        joint.known(); // a row has 1 to 64 lanes
         if self.is_band_due(joint, event.row, event.reason) {
             return self.ask_whole(joint, words, event, steps);
         }
-        self.row.ask(joint, words, event.row, event.reason, steps)
+        match self.alone {
+            None => self.row.ask(joint, words, event.row, event.reason, steps),
+            Some(k) => {
+                self.row = Asked {
+                    row: event.row,
+                    reason: event.reason,
+                    lanes: 0,
+                };
+                !ask_row_alone(joint, words, event, k, steps)
+            }
+        }
     }
 }

@@ -35,10 +35,10 @@ pub fn die<L: Ledger>(relation: &mut Relation, k: u8, steps: &mut Steps<L>) -> T
         relation.new.joint relation.new.order result }
     ensures cost { steps.new ≤ steps.old + fall_of relation.new.joint relation.new.order result }
 {
-    relation.joint.known();
-    relation.order.known();
+    relation.joint.known(); // the system is well formed
+    relation.order.known(); // listed pairs are pairs of the system
     rename_list(&relation.joint, &mut relation.order, k);
-    relation.order.known();
+    relation.order.known(); // listed pairs are pairs of the system
     relation.joint.drop_seat(k);
     settle_on(relation, steps)
 }

@@ -26,8 +26,8 @@ pub fn freeze<L: Ledger>(relation: &mut Relation, k: u8, steps: &mut Steps<L>) -
     ensures kept { result.kept ≡ length relation.old.order.list }
     ensures cost { steps.new ≤ steps.old + fall_of relation.new.joint relation.new.order result }
 {
-    relation.joint.known();
-    relation.order.known();
+    relation.joint.known(); // the system is well formed
+    relation.order.known(); // listed pairs are pairs of the system
     relation.joint.set_frozen(k, true);
     settle_on(relation, steps)
 }

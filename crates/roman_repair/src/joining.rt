@@ -7,7 +7,6 @@ ghost use Rattle.roman_joint.specs.NamedSys.{seat_of, system_of, cells};
 ghost use Rattle.roman_relation.specs.Greatest.{IsRelation};
 ghost use Rattle.roman_repair.specs.Repairs.{IsRepaired, IsWithinReading};
 
-use crate::reopening::reopen;
 use crate::replaying::Newcomer;
 use crate::settling::replay_and_settle_on;
 use crate::tally::Tally;
@@ -43,17 +42,16 @@ pub fn join<L: Ledger>(
         ↔ ((length relation.old.joint.seats < MAX_SERVICES) × (relation.old.joint.limit < cells (after (Join (seat_of relation.old.joint.catalogue seat)) (system_of relation.old.joint)))) }
     ensures refused { OnErr result ((relation.new ≡ relation.old) × (steps.new ≡ steps.old)) }
 {
-    relation.joint.known();
-    relation.order.known();
+    relation.joint.known(); // the system is well formed
+    relation.order.known(); // listed pairs are pairs of the system
     let states = states_of(&relation.joint, &seat);
     let shape = relation.joint.shape();
-    shape.known();
+    shape.known(); // no size is 0
     let lanes = shape.lanes();
     let k = relation.joint.seats();
     let newcomer = Newcomer { k, states, lanes };
     relation.joint.push_seat(seat)?;
-    relation.joint.known();
-    reopen(relation);
+    relation.joint.known(); // the system is well formed
     Ok(replay_and_settle_on(relation, newcomer, steps))
 }
 

@@ -1,30 +1,50 @@
 //! Splits and makes words of lanes.
-ghost use Rattle.std.specs.Prelude.{◌≡◌, ◌≢◌, ℕ, ◌+◌, ◌-◌, ◌*◌, ◌<◌, ◌≤◌, ◌++◌, [], true, false, cond, length, map, flat_map};
-ghost use Rattle.std.specs.List.{filter};
-ghost use Rattle.roman_model.specs.Lists.{below};
+ghost use Rattle.std.specs.Prelude.{◌≡◌, ℕ, ◌*◌, ◌<◌, ◌≤◌, true, false, length};
 ghost use Rattle.roman_lanes.specs.Rows.{is_on};
 ghost use Rattle.roman_order.specs.Board.{set_lanes};
-ghost use Rattle.roman_repair.specs.Judging.{IsSplitAt};
+ghost use Rattle.roman_repair.specs.Lanes.{HasFront, HasLanesBetween, IsCutAt, IsFirstPart, IsSpread};
 
-/// Splits the lanes of `word` at the first lane that `end` has too. Returns the lanes below it and
-/// the lanes from it on. Returns all lanes and none where the words have no lane in common.
-pub(crate) fn split_lanes(word: u64, end: u64) -> (u64, u64)
-    ensures { IsSplitAt word end result.0 result.1 }
+/// Splits the lanes of `word` into those below `end` and those from it on.
+fn cut_at(word: u64, end: u32) -> (u64, u64)
+    requires { (0 < end) × (end ≤ 64) }
+    ensures { IsCutAt word result.0 result.1 end }
 {
-    let both = word & end;
-    if both == 0 {
-        return (word, 0);
-    }
-    let front = word & ((1 << both.trailing_zeros()) - 1);
+    let front = word & (u64::MAX >> (64 - end));
     (front, word & !front)
+}
+
+/// Splits off the first lanes of `word` that `held` has too if it has the first one, and else those that it
+/// doesn't have. Returns them, the other lanes, and whether `held` has them. Requires a lane.
+pub(crate) fn first_alike(word: u64, held: u64) -> (u64, u64, bool)
+    requires { 0 < length (set_lanes word) }
+    ensures { HasFront word held result.0 result.1 result.2 }
+{
+    if (held >> word.trailing_zeros()) & 1 == 1 {
+        let (front, rest) = cut_at(word, (word & !held).trailing_zeros());
+        return (front, rest, true);
+    }
+    let (front, rest) = cut_at(word, (word & held).trailing_zeros());
+    (front, rest, false)
+}
+
+/// Splits off the first part of a word that has a lane, where each part has `width` lanes. Returns its
+/// number, its lanes from its first one on, and the lanes of the later parts. Requires a lane.
+pub(crate) fn first_part(word: u64, width: u32) -> (u32, u64, u64)
+    requires some { 0 < length (set_lanes word) }
+    requires width { (0 < width) × (width ≤ 64) }
+    ensures { IsFirstPart word width result.0 result.1 result.2 }
+{
+    let i = word.trailing_zeros() / width;
+    let begin = i * width;
+    let (front, rest) = cut_at(word, (begin + width).min(64));
+    (i, front >> begin, rest)
 }
 
 /// Returns the word with the lanes from `begin` to `end - 1`. Requires `begin < end` and `end` at
 /// most 64.
-pub(crate) fn lanes_between(begin: u32, end: u32) -> u64
+fn lanes_between(begin: u32, end: u32) -> u64
     requires { (begin < end) × (end ≤ 64) }
-    ensures lanes { set_lanes result ≡ map (λ i. begin + i) (below (end - begin)) }
-    ensures within { (lane : ℕ) → is_on result lane ≡ true → (begin ≤ lane) × (lane < end) }
+    ensures { HasLanesBetween result begin end }
 {
     (u64::MAX >> (64 - end)) & !((1 << begin) - 1)
 }
@@ -47,8 +67,7 @@ fn next_lane(word: u64, from: u32, end: u32) -> u32
 /// turn for each run of neighbouring lanes.
 pub(crate) fn spread_lanes(word: u64, lanes: u32, width: u32) -> u64
     requires { (0 < width) × (lanes * width ≤ 64) }
-    ensures lanes { set_lanes result ≡ flat_map (λ lane. map (λ i. lane * width + i) (below width)) (filter (is_on word) (below lanes)) }
-    ensures within { (bit : ℕ) → is_on result bit ≡ true → bit < lanes * width }
+    ensures { IsSpread word result lanes width }
 {
     let mut spread = 0;
     let mut lane = next_lane(word, 0, lanes);
@@ -58,21 +77,4 @@ pub(crate) fn spread_lanes(word: u64, lanes: u32, width: u32) -> u64
         lane = next_lane(word, end, lanes);
     }
     spread
-}
-
-/// Returns the first part of a word that has a lane, and the part after the last one that has a lane.
-/// Each of the `parts` parts has `width` lanes. Returns 0 twice where the word has no lane.
-pub(crate) fn filled_parts(word: u64, width: u32, parts: u32) -> (u32, u32)
-    requires width { 0 < width }
-    requires within { (lane : ℕ) → is_on word lane ≡ true → lane < parts * width }
-    ensures first { (lane : ℕ) → is_on word lane ≡ true → result.0 * width ≤ lane }
-    ensures end { (lane : ℕ) → is_on word lane ≡ true → lane < result.1 * width }
-    ensures ordered { (result.0 ≤ result.1) × (result.1 ≤ parts) }
-{
-    if word == 0 {
-        return (0, 0);
-    }
-    let first = word.trailing_zeros() / width;
-    let last = (63 - word.leading_zeros()) / width;
-    (first, last + 1)
 }

@@ -1,15 +1,16 @@
 //! Replays the waiting entries, each for the pairs for which it stands.
-ghost use Rattle.std.specs.Prelude.{◌≡◌};
-ghost use Rattle.roman_repair.specs.Judging.{HasReplayed, CanReplayAll, HasReplayedAll};
-ghost use Rattle.roman_repair.specs.Growing.{RowsGrow, CanGrow, entries_grown};
-ghost use Rattle.roman_repair.specs.Replays.{candidates};
+ghost use Rattle.std.specs.Prelude.{◌≡◌, []};
+ghost use Rattle.roman_repair.specs.Judging.{CanReplayEvent, Replays};
+ghost use Rattle.roman_repair.specs.Growing.{CanGrow, CanReplayAll, HasReplayedAll, IsGrown, entries_grown};
+ghost use Rattle.roman_repair.specs.Replays.{AreSlices, candidates};
 
 use crate::alone::OneSeat;
 use crate::asked_band::AskedBand;
 use crate::events::keep_lanes;
-use crate::lanes::{filled_parts, spread_lanes};
+use crate::lanes::{first_part, spread_lanes};
 use roman_io::Steps;
 use roman_order::{Event, Order};
+use roman_rules::Rules;
 use std::sync::ledger::Ledger;
 
 /// A service that takes delegations anew: it joined at the last place, or it thawed.
@@ -24,6 +25,24 @@ pub(crate) struct Newcomer {
     pub(crate) lanes: u32,
 }
 
+/// Returns the event for the first row with a pair for which the entries of the event stand, and the
+/// lanes of the event whose entries stand for pairs of other rows.
+fn first_grown<J: Rules>(joint: &J, newcomer: Newcomer, event: Event) -> (Event, u64)
+    requires { CanGrow (J.arena joint.now) (J.lanes joint.now) newcomer event }
+    ensures { IsGrown (J.lanes joint.now) newcomer event result.0 result.1 }
+{
+    joint.known(); // a row has 1 to 64 lanes, a pair's number fits 32 bits
+    let width = u32::from(newcomer.states);
+    let slices = joint.lanes() / width;
+    let (i, part, rest) = first_part(event.lanes, slices);
+    let grown = Event {
+        row: event.row * (newcomer.lanes / slices) + i,
+        reason: event.reason,
+        lanes: spread_lanes(part, slices, width),
+    };
+    (grown, rest)
+}
+
 /// Replays the pairs for which the entries of the event stand. Its row becomes one or more whole rows, or
 /// stays as it is.
 fn keep_grown<J: OneSeat, L: Ledger>(
@@ -34,27 +53,24 @@ fn keep_grown<J: OneSeat, L: Ledger>(
     event: Event,
     steps: &mut Steps<L>,
 )
-    requires { CanGrow (J.arena joint.now) (J.lanes joint.now) newcomer event order.old asked.old }
-    ensures replayed { HasReplayed (J.arena joint.now) (J.lanes joint.now) (entries_grown newcomer event) order.old.list order.new.list asked.old asked.new steps.old steps.new }
+    requires ready { CanReplayEvent (J.arena joint.now) (J.lanes joint.now) newcomer.lanes (entries_grown newcomer) order.old asked.old event }
+    requires slices { AreSlices (J.lanes joint.now) newcomer.lanes newcomer.states }
+    ensures replayed { Replays (J.arena joint.now) (J.lanes joint.now) (entries_grown newcomer event) [] order.old.list order.new.list asked.old asked.new steps.old steps.new }
     ensures rest { order.new ≡ record order.old { list = order.new.list } }
 {
-    joint.known();
+    joint.known(); // a pair's number fits 32 bits, a row has 1 to 64 lanes
     if newcomer.states == 1 && newcomer.lanes == joint.lanes() {
         return keep_lanes(joint, order, asked, event, steps);
     }
-    let width = u32::from(newcomer.states);
-    let slices = joint.lanes() / width;
-    let many = newcomer.lanes / slices;
-    let (begin, end) = filled_parts(event.lanes, slices, many);
-    for i in begin..end {
-        let part = (event.lanes >> (i * slices)) & (u64::MAX >> (64 - slices));
-        // a part with no lanes may lie past the last row
-        let grown = Event {
-            row: event.row.wrapping_mul(many).wrapping_add(i),
-            reason: event.reason,
-            lanes: spread_lanes(part, slices, width),
+    let mut left = event.lanes;
+    'left: while left != 0 {
+        let whole = Event {
+            lanes: left,
+            ..event
         };
+        let (grown, rest) = first_grown(joint, newcomer, whole);
         keep_lanes(joint, order, asked, grown, steps);
+        left = rest;
     }
 }
 
@@ -67,11 +83,10 @@ pub(crate) fn replay<J: OneSeat, L: Ledger>(
     newcomer: Newcomer,
     steps: &mut Steps<L>,
 )
-    requires grows { RowsGrow (J.lanes joint.now) newcomer order.old }
-    requires ready { CanReplayAll (J.arena joint.now) (J.lanes joint.now) newcomer.k order.old (candidates newcomer.states order.old) }
+    requires { CanReplayAll (J.arena joint.now) (J.lanes joint.now) newcomer order.old }
     ensures { HasReplayedAll (J.arena joint.now) (candidates newcomer.states order.old) order.old order.new steps.old steps.new }
 {
-    joint.known();
+    joint.known(); // a row has 1 to 64 lanes
     let mut asked = AskedBand::nothing(Some(newcomer.k));
     'replay: while let Some(event) = order.next_waiting_event() {
         keep_grown(joint, order, &mut asked, newcomer, event, steps);

@@ -1,13 +1,9 @@
 //! Completes and counts the list, at the end of each repair.
-ghost use Rattle.std.specs.Prelude.{◌≡◌, ◌+◌, ◌≤◌, Some};
-ghost use Rattle.roman_joint.specs.NamedSys.{system_of};
-ghost use Rattle.roman_joint.specs.Rows.{lanes_in};
-ghost use Rattle.roman_relation.specs.Greatest.{arena_of};
-ghost use Rattle.roman_repair.specs.Alone.{MayAskAlone};
-ghost use Rattle.roman_repair.specs.Growing.{RowsGrow};
+ghost use Rattle.std.specs.Prelude.{◌+◌, ◌≤◌};
+ghost use Rattle.roman_repair.specs.Growing.{CanReadmit, replay_grown};
 ghost use Rattle.roman_repair.specs.Repairs.{IsBegun, IsSettledOn, IsWithinReading, fall_of};
-ghost use Rattle.roman_repair.specs.Replays.{candidates, waiting_replay, IsReplayable};
 
+use crate::reopening::reopen;
 use crate::replaying::{Newcomer, replay};
 use crate::tally::Tally;
 use roman_io::Steps;
@@ -29,21 +25,20 @@ pub(crate) fn settle_on<L: Ledger>(relation: &mut Relation, steps: &mut Steps<L>
     }
 }
 
-/// Replays the waiting entries, each for its pair with each state of the newcomer, and completes the
-/// list. The number of steps is at most the number of delegations that lead to added
+/// Replays the list in the changed system, each entry for its pair with each state of the newcomer, and
+/// completes it. The number of steps is at most the number of delegations that lead to added
 /// pairs plus the number of delegations of an allowed action to a ready service.
 pub(crate) fn replay_and_settle_on<L: Ledger>(
     relation: &mut Relation,
     newcomer: Newcomer,
     steps: &mut Steps<L>,
 ) -> Tally
-    requires replayable { IsReplayable relation.old.joint newcomer.states relation.old.order }
-    requires may { MayAskAlone (arena_of relation.old.joint) (Some newcomer.k) relation.old.order.list (candidates newcomer.states relation.old.order) }
-    requires grows { RowsGrow (lanes_in (system_of relation.old.joint)) newcomer relation.old.order }
-    ensures settled { IsSettledOn relation.old.joint (waiting_replay relation.old.joint newcomer.states relation.old.order) relation.new.joint relation.new.order result }
+    requires { CanReadmit relation.old.joint newcomer relation.old.order }
+    ensures settled { IsSettledOn relation.old.joint (replay_grown relation.old.joint newcomer relation.old.order) relation.new.joint relation.new.order result }
     ensures cost { IsWithinReading relation.new.joint relation.new.order result steps.old steps.new }
 {
-    relation.joint.known();
+    relation.joint.known(); // allowed actions are actions of the system
+    reopen(&relation.joint, &mut relation.order);
     replay(&relation.joint, &mut relation.order, newcomer, steps);
     settle_on(relation, steps)
 }

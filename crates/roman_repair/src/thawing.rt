@@ -7,7 +7,6 @@ ghost use Rattle.roman_joint.specs.Changes.{with_frozen};
 ghost use Rattle.roman_relation.specs.Greatest.{IsRelation};
 ghost use Rattle.roman_repair.specs.Repairs.{IsRepaired, IsWithinReading};
 
-use crate::reopening::reopen;
 use crate::replaying::Newcomer;
 use crate::settling::replay_and_settle_on;
 use crate::tally::Tally;
@@ -29,8 +28,8 @@ pub fn thaw<L: Ledger>(relation: &mut Relation, k: u8, steps: &mut Steps<L>) -> 
     ensures repaired { IsRepaired (Thaw k) relation.old.joint relation.old.order relation.new.joint relation.new.order result }
     ensures cost { IsWithinReading relation.new.joint relation.new.order result steps.old steps.new }
 {
-    relation.joint.known();
-    relation.order.known();
+    relation.joint.known(); // the system is well formed
+    relation.order.known(); // listed pairs are pairs of the system
     let shape = relation.joint.shape();
     let lanes = shape.lanes();
     let newcomer = Newcomer {
@@ -39,6 +38,5 @@ pub fn thaw<L: Ledger>(relation: &mut Relation, k: u8, steps: &mut Steps<L>) -> 
         lanes,
     };
     relation.joint.set_frozen(k, false);
-    reopen(relation);
     replay_and_settle_on(relation, newcomer, steps)
 }

@@ -1,10 +1,10 @@
 -- The bits of masks, and the number of seats in the masks of a row's pairs.
-use Rattle.std.proofs.Common.{◌≡◌, ℕ, zero, suc, ◌+◌, ◌-◌, ◌*◌, ◌%◌, ◌^◌, ◌<◌, ◌≤◌, Bool, cond, not, [], length, filter, sum_by, count_ones, IsTrue, IsFalse, inl, inr, refl, sym, ap, ap₂, ◌∙◌, arith}
+use Rattle.std.proofs.Common.{◌≡◌, ℕ, zero, suc, ◌+◌, ◌-◌, ◌*◌, ◌%◌, ◌^◌, ◌<◌, ◌≤◌, Bool, cond, not, [], length, filter, sum_by, count_ones, IsTrue, IsFalse, inl, inr, refl, sym, ap, ◌∙◌, arith}
 use Rattle.std.specs.Int.{bit_at}
 use Rattle.std.proofs.Math.Pow.{pow_pos}
 use Rattle.std.proofs.lemmas.Bool.{cases_eq, cases_lt, cond-true, cond-false, both_ways, not_from_true, eq-eqb, ne_eqb}
 use Rattle.std.proofs.lemmas.List.Sums.{sum_by_push, length-filter}
-use Rattle.std.proofs.lemmas.Nat.{ones_cat, ones_le_self, zero_from_ones, mod-pow-add}
+use Rattle.std.proofs.lemmas.Nat.{ones-le, ones_cat, ones_le_self, zero_from_ones, mod-pow-add}
 use Rattle.std.proofs.lemmas.Nat.Bits.{bit_at-lt, bit_at-zero}
 use Rattle.roman_model.specs.Lists.{below, is_empty}
 use Rattle.roman_model.specs.System.{has}
@@ -95,12 +95,7 @@ low_ones n zero = let none : n % 1 ≡ 0 = omega arith in ap count_ones none ∙
 low_ones n (suc k) =
     let split : n % 2 ^ suc k ≡ bit_at n k * 2 ^ k + n % 2 ^ k = (let same : suc k ≡ 1 + k = omega arith in ap (λ j. n % 2 ^ j) same) ∙ mod-pow-add n 1 k in
     let small : n % 2 ^ k < 2 ^ k = omega (arith, pow_pos k) in
-    ap count_ones split ∙ ones_cat k (bit_at n k) (n % 2 ^ k) small
-    ∙ ap₂ (λ x y. x + y) (bit_ones (bit_at n k) (bit_at-lt n k)) (low_ones n k)
-    ∙ turned (bit_at n k) (sum_by (bit_at n) (below k)) ∙ sym (sum_by_push (bit_at n) (below k) k)
-  where
-    turned : (x y : ℕ) → x + y ≡ y + x
-    turned x y = omega arith
+    omega (arith, ap count_ones split, ones_cat k (bit_at n k) (n % 2 ^ k) small, bit_ones (bit_at n k) (bit_at-lt n k), low_ones n k, sum_by_push (bit_at n) (below k) k)
 
 bit_is : (word lane : ℕ) → bit_at word lane ≡ cond (is_on word lane) 1 0
 unfolding is_on
@@ -112,20 +107,11 @@ ones_counted lanes row test word few fits is =
     let whole : word ≡ word % 2 ^ 64 = omega arith in
     ap count_ones whole ∙ (low_ones word 64
     ∙ (sym (sum_cut (bit_at word) lanes 64 few (λ lane past l. bit_is word lane ∙ cond-false (is_on word lane) 1 0 (is.rest lane past)))
-    ∙ sum_by_same (bit_at word) (λ lane. cond (test (row * lanes + lane)) 1 0) (below lanes) (λ lane i. bit_is word lane ∙ ap one_if (is.each lane (from_below lanes lane i)))))
-  where
-    one_if : Bool → ℕ
-    one_if b = cond b 1 0
+    ∙ sum_by_same (bit_at word) (λ lane. cond (test (row * lanes + lane)) 1 0) (below lanes) (λ lane i. bit_is word lane ∙ ap (λ b. cond b 1 0) (is.each lane (from_below lanes lane i)))))
 
 -- a word has at most 64 ones
 pub ones_few : (word : ℕ) → word < 2 ^ 64 → count_ones word ≤ 64
-ones_few word fits =
-    let whole : word ≡ word % 2 ^ 64 = omega arith in
-    omega (arith, ap count_ones whole, low_ones word 64, bits_few word 64)
-  where
-    bits_few : (n k : ℕ) → sum_by (bit_at n) (below k) ≤ k
-    bits_few n zero = omega arith
-    bits_few n (suc k) = omega (arith, sum_by_push (bit_at n) (below k) k, bits_few n k, bit_at-lt n k)
+ones_few word fits = ones-le 64 word fits
 
 -- ---- the seats of a mask
 

@@ -48,6 +48,7 @@ fn tick_ready<J: Rules, L: Ledger>(joint: &J, steps: &mut Steps<L>)
 
 /// Returns the pairs of a row at which the action `a` is allowed and no seat serves it. Counts a step
 /// for each ready seat where the action is allowed, and otherwise none.
+#[tactic(auto, using(crate::proofs::Asking::asking), unfolding(crate::specs::Asked::readings_of))]
 fn ask_seats<J: Rules, L: Ledger>(
     joint: &J,
     row: &J::Row,
@@ -66,7 +67,7 @@ fn ask_seats<J: Rules, L: Ledger>(
         (x lane : ℕ) → J.is_row joint.now x row.now → lane < lanes →
         steps.new ≡ steps.old + readings_of A (x * lanes + lane) a }
 {
-    joint.known();
+    joint.known(); // there are at most 32 actions
     if (joint.row_actions(row) >> a) & 1 == 0 {
         return 0;
     }
@@ -200,7 +201,7 @@ impl Asked {
         ensures cost { let A = J.arena joint.now in let lanes = J.lanes joint.now in
             steps.new ≡ steps.old + readings_of_reason A (x * lanes + lane) reason }
     {
-        joint.known();
+        joint.known(); // a row has 1 to 64 lanes
         let lanes = self.ask(joint, words, x, reason, steps);
         has_lane(lanes, lane)
     }

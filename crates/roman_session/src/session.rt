@@ -32,7 +32,6 @@ use std::marker::Model;
 /// One session. Holds the services now present with the greatest relation of their system, the
 /// present states, and the open request. Contracts see it as a situation, whose removal list is
 /// complete.
-#[derive(Drop)]
 pub struct Session {
     relation: Relation,
     // the states of the target, of the environment and of the services
@@ -45,6 +44,21 @@ pub struct Session {
     phase: Phase,
     // the offered services, while an open request has no delegate
     mask: SeatSet,
+}
+
+// One call. At each exit of a function that owns a session, a derived drop would be a step for each vector.
+impl Drop for Session {
+    fn drop(self) {
+        let Session {
+            relation: _,
+            target: _,
+            env: _,
+            states: _,
+            number: _,
+            phase: _,
+            mask: _,
+        } = self;
+    }
 }
 
 impl Model for Session {
@@ -160,7 +174,7 @@ impl Session {
         requires seat { k < length self.now.parts.seats }
         ensures { result ≡ has (offers (present_system self.now) self.now.here a) k }
     {
-        self.known();
+        self.known(); // there are at most 32 seats
         self.offered(a).has(k)
     }
 

@@ -38,7 +38,7 @@ pub(crate) fn service_line(joint: &Joint, k: u8, state: u8) -> ReportLine
     requires state { (seat : model.Seat) → slice_get (system_of joint.now).seats k ≡ Some seat → state < seat.beh.states }
     ensures { (seat : Seat) → slice_get joint.now.seats k ≡ Some seat → result ≡ service_line joint.now.catalogue seat state }
 {
-    joint.known();
+    joint.known(); // behaviours are over the environment
     let seat = *joint.seat(k);
     let behaviour = joint.behaviour(k);
     ReportLine::Service {

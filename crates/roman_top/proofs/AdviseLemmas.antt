@@ -1,5 +1,5 @@
 -- Writing advice by accepted costs as part of a run.
-use Rattle.roman_top.proofs.Common.{◌≡◌, ◌≢◌, ◌↔◌, ℕ, ◌*◌, ◌<◌, ◌≤◌, Bool, IsTrue, IsFalse, List, Option, Some, IfSome, Result, Ok, Err, refl, sym, ap, ◌∙◌, subst, arith, cond-true, cond-false, lt-ltb, cases_lt, Texts, Puts, Sys, Pair, IsSys, sizes_of, count, pair_at, is_related, related_count, by_test, related_great, great_related, numbers_are_pairs, NamedSys, system_of, PlainLibrary, parts_of, start_pair_of, IsSeated, Seated, Advising, Unrelated, TooMany, Told, advice_text, advised_by, Listed, SaysAdvice, GivesAdvice, SinkCause, Advise, On, IsAnswered, Accepts, Opens, Finishes, EndsBare, Writes, WritesText, document_opening, OnOpening, ServedBeside, outputs, Status}
+use Rattle.roman_top.proofs.Common.{◌≡◌, ◌≢◌, ◌↔◌, ℕ, ◌*◌, ◌<◌, ◌≤◌, Bool, IsTrue, IsFalse, List, Option, Some, IfSome, Result, Ok, Err, refl, sym, ap, ◌∙◌, subst, arith, cond-true, cond-false, lt-ltb, cases_lt, Texts, Puts, Sys, Pair, IsSys, sizes_of, count, pair_at, is_related, related_count, by_test, related_great, great_related, numbers_are_pairs, NamedSys, system_of, PlainLibrary, parts_of, start_pair_of, IsSeated, Seated, Advising, Unrelated, TooMany, Told, advice_text, advised_by, Listed, SaysAdvice, GivesAdvice, SinkCause, Advise, On, IsAnswered, Accepts, Opens, Finishes, EndsBare, Writes, WritesText, document_opening, OnOpening, ServedBeside, Status, Outputs}
 use Rattle.roman_parts.specs.declared.error.PartError.{PartError}
 use Rattle.roman_top.specs.Advice.{OnCosts}
 use Rattle.std.proofs.lemmas.Bool.{le-ltb}
@@ -15,7 +15,7 @@ use Rattle.roman_cost.specs.declared.error.AdviceError.TheVariants as advice_err
 use Rattle.roman_cost.specs.declared.limits.TheConstants.{MAX_VALUES}
 use Rattle.roman_top.specs.Advice.{Affords, TellsRead, CausedByRead}
 use Rattle.roman_top.proofs.EndingLemmas.{told_both, on_accepted, writes_put, writes_weaker}
-use Rattle.roman_top.proofs.ServedLemmas.{job_served}
+use Rattle.roman_top.proofs.ServedLemmas.{job_served, opened_from}
 
 -- ---- the result of a request for advice
 
@@ -88,25 +88,19 @@ advised_is_run texts system name requests seated read old new result accepts rea
     (told_of name n requests start read (costs_of texts name n) read_here text ends tells)) at_start
 
 -- advice on an opened document does its job
-pub advise_served : (system name : List ℕ) (requests : ℕ) (seated : Seated) (told told_mid told_now : Option Texts) (shelf shelf_mid shelf_now : ℕ) (old mid new : Option (List ℕ)) (out out_mid out_now : ℕ) (read : Result CostTable CostError) (result : Status) →
-    Opens IsSeated system (outputs told shelf old out) (outputs told_mid shelf_mid mid out_mid) (Ok seated) → IfSome told_mid (λ texts. ReadsAs (λ costs. costs.listed) read (costs_of texts name seated.joint)) →
-    told_now ≡ told_mid → HasCostCause shelf_mid shelf_now read → Writes (TellsRead name seated.joint requests (pair_at (sizes_of (system_of seated.joint)) seated.start) read) mid new result →
-    EndsBare mid new result → CausedByRead read result → SinkCause out_mid out_now result →
-    ServedBeside (Some (On system (Advise name requests))) (outputs told shelf old out) (outputs told_now shelf_now new out_now) result
-advise_served system name requests seated told told_mid told_now shelf shelf_mid shelf_now old mid new out out_mid out_now read result opens reads texts cause writes stops caused wrote =
-    let p = pair_at (sizes_of (system_of seated.joint)) seated.start in
-    let found : IfSome told (λ texts. ReadsAs (λ costs. costs.listed) read (costs_of texts name seated.joint)) =
-    subst (λ (t : Option Texts). IfSome t (λ texts. ReadsAs (λ costs. costs.listed) read (costs_of texts name seated.joint))) opens.leaves.texts reads in
-    let mine : Writes (TellsRead name seated.joint requests p read) old new result = subst (λ (o : Option (List ℕ)). Writes (TellsRead name seated.joint requests p read) o new result) opens.leaves.stops writes in
-    job_served system (Advise name requests) (outputs told shelf old out) (outputs told_now shelf_now new out_now) result tt (record {
-      writes = told_both told (λ texts. Accepts (document_opening texts system) (λ library. IsSeated library seated)) (λ texts. ReadsAs (λ costs. costs.listed) read (costs_of texts name seated.joint))
-          (λ texts. Writes (OnOpening (GivesAdvice name requests texts) (document_opening texts system)) old new result) opens.opens found
-          (λ texts accepts reads. advised_is_run texts system name requests seated read old new result accepts reads mine);
-      stops = subst (λ (o : Option (List ℕ)). EndsBare o new result) opens.leaves.stops stops;
-      texts = texts ∙ opens.leaves.texts;
-      shelf = caused shelf shelf_now (subst (λ (n : ℕ). HasCostCause n shelf_now read) opens.leaves.shelf cause);
-      out = subst (λ (n : ℕ). SinkCause n out_now result) opens.leaves.out wrote;
-    })
+pub advise_served : (system name : List ℕ) (requests : ℕ) (seated : Seated) (old mid new : Outputs) (read : Result CostTable CostError) (result : Status) → Opens IsSeated system old mid (Ok seated) →
+    IfSome mid.texts (λ texts. ReadsAs (λ costs. costs.listed) read (costs_of texts name seated.joint)) → new.texts ≡ mid.texts → HasCostCause mid.shelf_faults new.shelf_faults read →
+    Writes (TellsRead name seated.joint requests (pair_at (sizes_of (system_of seated.joint)) seated.start) read) mid.written new.written result → EndsBare mid.written new.written result → CausedByRead read result →
+    SinkCause mid.out_faults new.out_faults result → ServedBeside (Some (On system (Advise name requests))) old new result
+advise_served system name requests seated old mid new read result opens reads texts cause writes stops caused wrote =
+    opened_from IsSeated seated system old mid (λ (old : Outputs). ServedBeside (Some (On system (Advise name requests))) old new result) opens (λ accepted.
+    job_served system (Advise name requests) mid new result tt (record {
+      writes = told_both _ _ _ _ accepted reads (λ texts accepts reads. advised_is_run texts system name requests seated read mid.written new.written result accepts reads writes);
+      stops = stops;
+      texts = texts;
+      shelf = caused mid.shelf_faults new.shelf_faults cause;
+      out = wrote;
+    }))
 
 -- ---- completeness
 

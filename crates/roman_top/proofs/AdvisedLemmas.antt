@@ -1,5 +1,5 @@
 -- The text of `advise` is right by the greatest ND-simulation and by plans.
-use Rattle.roman_top.proofs.Common.{ℕ, List, filter, sym, subst, arith, Texts, Pair, IsSys, IsPair, pairs, is_related, by_test, related_great, great_related, NamedSys, system_of, PlainLibrary, parts_of, start_pair_of, Advising, advised_by, Listed, SaysAdvice, GivesAdvice, Status}
+use Rattle.roman_top.proofs.Common.{ℕ, List, sym, subst, arith, Texts, Pair, IsSys, IsPair, is_related, by_test, related_great, great_related, NamedSys, system_of, PlainLibrary, parts_of, start_pair_of, Advising, advised_by, Listed, SaysAdvice, GivesAdvice, Status, related_count}
 use Rattle.roman_cost.specs.Laws.{TellsLeast}
 use Rattle.roman_cost.specs.Tables.{seat_costs}
 use Rattle.roman_cost.proofs.CallerLemmas.{advice_least}
@@ -11,7 +11,7 @@ use Rattle.roman_top.proofs.ServingLemmas.{related_all}
 advises_by : (n : NamedSys) (listed : List Listed) (requests : ℕ) (p : Pair) (text : List ℕ) (result : Status) → IsSys (system_of n) → IsPair (system_of n) p →
     SaysAdvice (advised_by n listed requests p) text result → AdvisesBy n listed requests p text result
 advises_by n listed requests p text result ok pair says = record {
-  pairs = filter (is_related (system_of n)) (pairs (system_of n));
+  related = related_count (system_of n);
   great = related_all (system_of n) ok;
   unrelated = λ unrelated. subst (λ (a : Advising). SaysAdvice a text result)
       (advised_unrelated n listed requests p (by_test (is_related (system_of n) p) (λ t. absurd (unrelated (related_great (system_of n) p ok pair t))) (λ f. f))) says;

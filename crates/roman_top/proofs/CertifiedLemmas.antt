@@ -1,27 +1,8 @@
 -- A complete removal list over numbers lists exactly the pairs that aren't related, validly.
-use Rattle.roman_top.proofs.Common.{◌≡◌, ℕ, zero, suc, ◌*◌, ◌<◌, List, [], ◌∷◌, map, IsTrue, IsFalse, inl, inr, refl, sym, ap₂, ◌∙◌, subst, arith, list_any, both_ways, and_from, or_cases, not-true, IsIn, is_empty, product_of, Sys, Pair, IsSys, IsPair, is_final, all_final, pairs, outcomes, same_pair, is_fine, arena, Entry, is_among, is_justified, IsOrderFrom, IsComplete, cert_text, sizes_of, count, number, pair_at, entry_at, IsCompleteList, Reason, Final, Act, any_true, any_from, in_map, from_map, from_allowed, outcome_in, from_outcome, listed_in, in_listed, length-pairs, numbers_are_pairs, map-map, HoldsReason, AreValid, ListsUnrelated, numbered_entry, CertifiesUnrelated}
-use Rattle.std.proofs.Common.{◌==◌, ◌&&◌}
+use Rattle.roman_top.proofs.Common.{◌≡◌, ℕ, zero, suc, ◌*◌, ◌<◌, List, [], ◌∷◌, map, IsTrue, IsFalse, inl, inr, refl, sym, ap₂, ◌∙◌, subst, arith, list_any, both_ways, or_cases, not-true, IsIn, is_empty, product_of, Sys, Pair, IsSys, IsPair, is_final, all_final, pairs, outcomes, same_pair, is_fine, arena, Entry, is_among, is_justified, IsOrderFrom, IsComplete, cert_text, sizes_of, count, number, pair_at, entry_at, IsCompleteList, Reason, Final, Act, any_true, any_from, in_map, from_map, from_allowed, outcome_in, from_outcome, listed_in, in_listed, length-pairs, numbers_are_pairs, map-map, HoldsReason, AreValid, ListsUnrelated, numbered_entry, CertifiesUnrelated, system_is_same}
 use Rattle.std.proofs.Math.Nat.{div-lt_iff_lt-mul}
-use Rattle.std.proofs.lemmas.Bool.{and_parts, or_parts, eqb-true, eq-eqb, not-false}
-use Rattle.roman_model.specs.SystemArena.{same_numbers}
-use Rattle.roman_model.proofs.CallerLemmas.{IsSame, same_numbers_is, same_numbers_itself, justified_is, in_not_empty}
-
--- Different pairs have different numbers.
-
-pub same_is : (p q : Pair) → IsTrue (same_pair p q) → p ≡ q
-same_is p q h =
-    let (ends, bs) = and_parts (p.t == q.t && p.e == q.e) (same_numbers p.bs q.bs) h in
-    let (t, e) = and_parts (p.t == q.t) (p.e == q.e) ends in
-    pair_is p.t q.t p.e q.e p.bs q.bs (eqb-true p.t q.t t) (eqb-true p.e q.e e) (same_numbers_is p.bs q.bs bs)
-  where
-    pair_is : (t u e f : ℕ) (bs cs : List ℕ) → t ≡ u → e ≡ f → bs ≡ cs → ◌≡◌ {A = Pair} (record { t = t; e = e; bs = bs }) (record { t = u; e = f; bs = cs })
-    pair_is t u e f bs cs ht he hbs = rw (ht, he, hbs) refl
-
-pub same_itself : (p : Pair) → IsTrue (same_pair p p)
-same_itself p = grind (arith, and_from, eq-eqb, same_numbers_itself)
-
-pub told_apart : (s : Sys) → IsSame (arena s)
-told_apart s = record { is = same_is; itself = same_itself }
+use Rattle.std.proofs.lemmas.Bool.{or_parts, not-false}
+use Rattle.roman_model.proofs.CallerLemmas.{justified_is, in_not_empty}
 
 -- Reasons.
 
@@ -43,14 +24,14 @@ holds_reason s before p (Act a) ok j =
     )
   where
     among_listed : (before : List Pair) (q : Pair) → IsTrue (is_among (arena s) before q) → IsIn q before
-    among_listed before q t = let (r, i, same) = any_true (same_pair q) before t in subst (λ x. IsIn x before) (sym (same_is q r same)) i
+    among_listed before q t = let (r, i, same) = any_true (same_pair q) before t in subst (λ x. IsIn x before) (sym ((system_is_same s).is q r same)) i
 
 valid_from : (s : Sys) (before : List Pair) (L : List (Entry Pair)) → IsSys s → IsOrderFrom (arena s) before L → AreValid s before L
 valid_from s before [] ok order = tt
-valid_from s before (x ∷ L) ok order = grind (arith, any_from, both_ways, holds_reason, same_itself, (valid_from s (x.node ∷ before) L ok order.2))
+valid_from s before (x ∷ L) ok order = grind (arith, any_from, both_ways, holds_reason, ((system_is_same s).itself), (valid_from s (x.node ∷ before) L ok order.2))
 
 pub lists_unrelated : (s : Sys) (L : List (Entry Pair)) → IsSys s → IsComplete s L → ListsUnrelated s L
-lists_unrelated s L ok complete = grind (arith, from_map, in_listed, in_map, listed_in, told_apart, valid_from)
+lists_unrelated s L ok complete = grind (arith, from_map, in_listed, in_map, listed_in, system_is_same, valid_from)
 
 -- Numbers.
 

@@ -1,5 +1,5 @@
 -- The check of a certificate, as part of a run.
-use Rattle.roman_top.proofs.Common.{◌≡◌, ℕ, Bool, List, Option, None, Some, IfSome, Result, Ok, Err, refl, sym, ap, ◌∙◌, subst, arith, Texts, shelf_text, rest_from, numbered, TooLong, cert_verdict, system_of, IsSeated, Seated, verdict_of, fault_of, SinkCause, Check, On, Accepts, Opens, EndsBare, Writes, document_opening, OnOpening, SaysVerdict, ServedBeside, outputs, greatest_text, rejected_text, Status}
+use Rattle.roman_top.proofs.Common.{◌≡◌, ℕ, Bool, List, Option, None, Some, IfSome, Result, Ok, Err, refl, sym, ap, ◌∙◌, subst, arith, Texts, shelf_text, rest_from, numbered, TooLong, cert_verdict, system_of, IsSeated, Seated, verdict_of, fault_of, SinkCause, Check, On, Accepts, Opens, EndsBare, Writes, document_opening, OnOpening, SaysVerdict, ServedBeside, greatest_text, rejected_text, Status, Outputs}
 use Rattle.std.proofs.Common.{IfOk}
 use Rattle.std.specs.Result.{IsErrOf}
 use Rattle.roman_model.specs.Arena.{Arena}
@@ -13,7 +13,7 @@ use Rattle.roman_top.specs.Endings.{FindsVerdict, CheckCause, JudgesCheck, Cause
 use Rattle.roman_top.specs.Run.{Checks}
 use Rattle.roman_top.specs.declared.status.Status.TheVariants as status
 use Rattle.roman_top.proofs.EndingLemmas.{told_both, on_accepted, writes_weaker}
-use Rattle.roman_top.proofs.ServedLemmas.{job_served}
+use Rattle.roman_top.proofs.ServedLemmas.{job_served, opened_from}
 
 -- a source over a whole text had that text
 had_text : (A : Arena ℕ) (start : ℕ) (texts : Texts) (name : List ℕ) (verdict : _) → HaveVerdict A start (rest_from (Some texts) name 0) verdict → cert_verdict A start (shelf_text texts name) ≡ verdict
@@ -47,24 +47,19 @@ checked_is_run : (texts : Texts) (system certificate : List ℕ) (seated : Seate
 checked_is_run texts system certificate seated checked old new result accepts finds writes = grind (arith, judged, on_accepted, writes_weaker)
 
 -- a check of an opened document does its job
-pub check_served : (system certificate : List ℕ) (seated : Seated) (told told_mid told_now : Option Texts) (shelf shelf_mid shelf_now : ℕ) (old mid new : Option (List ℕ)) (out out_mid out_now : ℕ) (checked : Result Verdict CheckError) (result : Status) →
-    Opens IsSeated system (outputs told shelf old out) (outputs told_mid shelf_mid mid out_mid) (Ok seated) → IfSome told_mid (λ texts. FindsVerdict (numbered (system_of seated.joint)) seated.start (shelf_text texts certificate) checked) →
-    told_now ≡ told_mid → CheckCause shelf_mid shelf_now checked → Writes (JudgesCheck checked) mid new result → EndsBare mid new result → CausedByCheck checked result → SinkCause out_mid out_now result →
-    ServedBeside (Some (On system (Check certificate))) (outputs told shelf old out) (outputs told_now shelf_now new out_now) result
-check_served system certificate seated told told_mid told_now shelf shelf_mid shelf_now old mid new out out_mid out_now checked result opens finds texts cause writes stops caused wrote =
-    let S = system_of seated.joint in
-    let found : IfSome told (λ texts. FindsVerdict (numbered S) seated.start (shelf_text texts certificate) checked) =
-    subst (λ (t : Option Texts). IfSome t (λ texts. FindsVerdict (numbered S) seated.start (shelf_text texts certificate) checked)) opens.leaves.texts finds in
-    let mine : Writes (JudgesCheck checked) old new result = subst (λ (o : Option (List ℕ)). Writes (JudgesCheck checked) o new result) opens.leaves.stops writes in
-    job_served system (Check certificate) (outputs told shelf old out) (outputs told_now shelf_now new out_now) result tt (record {
-      writes = told_both told (λ texts. Accepts (document_opening texts system) (λ library. IsSeated library seated)) (λ texts. FindsVerdict (numbered S) seated.start (shelf_text texts certificate) checked)
-          (λ texts. Writes (OnOpening (Checks (shelf_text texts certificate)) (document_opening texts system)) old new result) opens.opens found
-          (λ texts accepts finds. checked_is_run texts system certificate seated checked old new result accepts finds mine);
-      stops = subst (λ (o : Option (List ℕ)). EndsBare o new result) opens.leaves.stops stops;
-      texts = texts ∙ opens.leaves.texts;
-      shelf = caused shelf shelf_now (subst (λ (n : ℕ). CheckCause n shelf_now checked) opens.leaves.shelf cause);
-      out = subst (λ (n : ℕ). SinkCause n out_now result) opens.leaves.out wrote;
-    })
+pub check_served : (system certificate : List ℕ) (seated : Seated) (old mid new : Outputs) (checked : Result Verdict CheckError) (result : Status) → Opens IsSeated system old mid (Ok seated) →
+    IfSome mid.texts (λ texts. FindsVerdict (numbered (system_of seated.joint)) seated.start (shelf_text texts certificate) checked) → new.texts ≡ mid.texts → CheckCause mid.shelf_faults new.shelf_faults checked →
+    Writes (JudgesCheck checked) mid.written new.written result → EndsBare mid.written new.written result → CausedByCheck checked result → SinkCause mid.out_faults new.out_faults result →
+    ServedBeside (Some (On system (Check certificate))) old new result
+check_served system certificate seated old mid new checked result opens finds texts cause writes stops caused wrote =
+    opened_from IsSeated seated system old mid (λ (old : Outputs). ServedBeside (Some (On system (Check certificate))) old new result) opens (λ accepted.
+    job_served system (Check certificate) mid new result tt (record {
+      writes = told_both _ _ _ _ accepted finds (λ texts accepts finds. checked_is_run texts system certificate seated checked mid.written new.written result accepts finds writes);
+      stops = stops;
+      texts = texts;
+      shelf = caused mid.shelf_faults new.shelf_faults cause;
+      out = wrote;
+    }))
 
 -- the text and status for a verdict
 pub says_greatest : (verdict : Verdict) (related : ℕ) (start : Bool) → verdict ≡ checked_as.Greatest related start → SaysVerdict (verdict_of verdict) (greatest_text related start) status.Done

@@ -1,14 +1,14 @@
 -- A certificate that `check` accepts lists exactly the pairs that aren't related, and each one that does is accepted.
-use Rattle.roman_top.proofs.Common.{◌≡◌, ℕ, ◌<◌, Bool, List, [], ◌∷◌, map, length, IsTrue, filter, inl, inr, refl, sym, ap, ◌∙◌, subst, arith, list_any, both_ways, and_from, or_cases, not-true, lines, IsIn, all_below, is_empty, Sys, Pair, IsSys, IsPair, is_final, all_final, pairs, outcomes, same_pair, is_allowed, is_fine, arena, Entry, is_among, is_justified, IsOrderFrom, IsComplete, Verdict, Greatest, Rejected, TooLong, cert_text, cert_verdict, IsWithinCells, GreatestIsComplete, is_related, sizes_of, count, number, pair_at, numbered, entry_at, IsCompleteList, Reason, Final, Act, by_test, any_from, any_true, in_map, from_map, allowed_in, outcome_in, from_outcome, listed_in, in_listed, length-pairs, length-below, numbers_are_pairs, map-map, related_great, great_related, HoldsReason, AreValid, ListsUnrelated, numbered_entry, CertifiesUnrelated, SaysVerdict, greatest_text, Status}
+use Rattle.roman_top.proofs.Common.{◌≡◌, ℕ, ◌<◌, Bool, List, [], ◌∷◌, map, length, IsTrue, inl, inr, refl, sym, ap, ◌∙◌, subst, arith, list_any, both_ways, or_cases, not-true, lines, IsIn, all_below, is_empty, Sys, Pair, IsSys, IsPair, is_final, all_final, pairs, outcomes, same_pair, is_allowed, is_fine, arena, Entry, is_among, is_justified, IsOrderFrom, IsComplete, Verdict, Greatest, Rejected, TooLong, cert_text, cert_verdict, IsWithinCells, GreatestIsComplete, is_related, sizes_of, count, number, pair_at, numbered, entry_at, IsCompleteList, Reason, Final, Act, by_test, any_from, any_true, in_map, from_map, allowed_in, outcome_in, from_outcome, listed_in, in_listed, length-pairs, length-below, numbers_are_pairs, map-map, related_great, great_related, HoldsReason, AreValid, ListsUnrelated, numbered_entry, CertifiesUnrelated, SaysVerdict, greatest_text, Status, system_is_same, related_count}
 use Rattle.std.proofs.Common.{not}
 use Rattle.roman_model.specs.Arena.{is_listed, is_beaten}
 use Rattle.std.specs.List.{filter_map}
-use Rattle.std.proofs.lemmas.Bool.{or_left, or_right, not_from_false}
+use Rattle.std.proofs.lemmas.Bool.{or_left, or_right, not_from_false, and_from}
 use Rattle.roman_model.specs.CompleteLists.{AreEntries}
 use Rattle.roman_model.specs.Certificate.{entries_on, entry_of, greatest}
 use Rattle.roman_model.proofs.CallerLemmas.{not_empty_in, all_below_from, written_is_greatest}
 use Rattle.roman_top.specs.HeadlineCheck.{TellsGreatest, certified_entries, JudgesCertificate}
-use Rattle.roman_top.proofs.CertifiedLemmas.{same_is, same_itself, told_apart, lists_unrelated}
+use Rattle.roman_top.proofs.CertifiedLemmas.{lists_unrelated}
 use Rattle.roman_top.proofs.ServingLemmas.{related_all}
 
 -- A valid list of exactly the pairs that aren't related is a complete removal list.
@@ -27,14 +27,14 @@ justified_from s before p (Act a) ok (allows, each) =
           let (q, moves, gone) = found in
           or_right (is_empty (outcomes s p a k)) (list_any (is_among (arena s) before) (outcomes s p a k))
           (any_from (is_among (arena s) before) q (outcomes s p a k) (outcome_in s p a k q.t q.e q.bs ok moves.0 moves.1)
-          (any_from (same_pair q) q before gone (same_itself q)))
+          (any_from (same_pair q) q before gone ((system_is_same s).itself q)))
     ]))
 
 order_from_valid : (s : Sys) (before : List Pair) (L : List (Entry Pair)) → IsSys s → AreValid s before L → IsOrderFrom (arena s) before L
 order_from_valid s before [] ok valid = tt
 order_from_valid s before (x ∷ L) ok valid = (
   by_test (is_among (arena s) before x.node)
-      (λ t. let (q, i, same) = any_true (same_pair x.node) before t in absurd (valid.0 (subst (λ r. IsIn r before) (sym (same_is x.node q same)) i))) (λ f. f),
+      (λ t. let (q, i, same) = any_true (same_pair x.node) before t in absurd (valid.0 (subst (λ r. IsIn r before) (sym ((system_is_same s).is x.node q same)) i))) (λ f. f),
   justified_from s before x.node x.reason ok valid.1,
   order_from_valid s (x.node ∷ before) L ok valid.2,
 )
@@ -44,11 +44,11 @@ complete_from_valid s L ok lists = record {
   pairs = λ x i. ((lists.exact x.node).0 (in_map (λ x. x.node) x L i)).0;
   order = order_from_valid s [] L ok lists.valid;
   exact = λ p pair. (
-    λ t. let (x, j, e) = listed_in (arena s) (told_apart s) L p t in
+    λ t. let (x, j, e) = listed_in (arena s) (system_is_same s) L p t in
         ((lists.exact p).0 (subst (λ q. IsIn q (map (λ x. x.node) L)) (sym e) (in_map (λ x. x.node) x L j))).1,
     λ unrelated.
         let (x, j, e) = from_map (λ x. x.node) p L ((lists.exact p).1 (pair, unrelated)) in
-        subst (λ q. IsTrue (is_listed (arena s) L q)) (sym e) (in_listed (arena s) (told_apart s) L x j),
+        subst (λ q. IsTrue (is_listed (arena s) L q)) (sym e) (in_listed (arena s) (system_is_same s) L x j),
   );
 }
 
@@ -89,7 +89,7 @@ accepted_tells law s p certificate related starts text ok few pair verdict says 
     let same : starts ≡ is_related s p = ap start_of accepted.said ∙ ap (is_related s) back in (
       subst (ListsUnrelated s) (entries_read s certificate) (lists_unrelated s (map (entry_at s) (entries_on (numbered s) (lines certificate))) ok accepted.complete),
       record {
-        pairs = filter (is_related s) (pairs s);
+        related = related_count s;
         great = related_all s ok;
         starts = starts;
         start = (λ t. related_great s p ok pair (sym same ∙ t), λ great. same ∙ great_related s p ok great);

@@ -1,6 +1,6 @@
 -- The names that several proof pages of this crate cite, passed on from one place. Declares nothing.
-pub use Rattle.std.proofs.Common.{Bool, Err, IfSome, IsFalse, IsTrue, List, MatchBool, None, Ok, Option, Result, Some, [], ap, append_assoc, ap₂, arith, codes, decimal, drop, false, filter, inl, inr, length, map, nat_le, refl, slice_get, subst, suc, sym, take, true, zero, ℕ, ◌*◌, ◌++◌, ◌+◌, ◌-◌, ◌<◌, ◌↔◌, ◌∙◌, ◌∷◌, ◌≡◌, ◌≢◌, ◌≤◌}
-pub use Rattle.std.proofs.lemmas.Bool.{and_from, both_ways, cases_lt, cond-false, cond-true, false≢true, lt-ltb, not-true, or_cases}
+pub use Rattle.std.proofs.Common.{Bool, Err, IfSome, IsFalse, IsTrue, List, MatchBool, None, Ok, Option, Result, Some, [], ap, append_assoc, ap₂, arith, codes, decimal, drop, false, inl, inr, length, map, nat_le, refl, slice_get, subst, suc, sym, take, true, zero, ℕ, ◌*◌, ◌++◌, ◌+◌, ◌-◌, ◌<◌, ◌↔◌, ◌∙◌, ◌∷◌, ◌≡◌, ◌≢◌, ◌≤◌}
+pub use Rattle.std.proofs.lemmas.Bool.{both_ways, cases_lt, cond-false, cond-true, false≢true, lt-ltb, not-true, or_cases}
 pub use Rattle.std.proofs.lemmas.List.{append-nil, length-map}
 pub use Rattle.std.proofs.lemmas.Option.{get_or_from_slice_get, slice_get_within}
 pub use Rattle.std.proofs.lemmas.Result.{err_from_is_err_and}
@@ -15,7 +15,7 @@ pub use Rattle.roman_hearing.specs.Known.{IsKnownSituation, shown}
 pub use Rattle.roman_hearing.specs.States.{IsState, State, start_state}
 pub use Rattle.roman_hearing.specs.Told.{Answers, until_quit}
 pub use Rattle.roman_hearing.specs.Turns.{TurnsInto}
-pub use Rattle.roman_io.specs.Faults.{HasCause, Rose}
+pub use Rattle.roman_io.specs.Faults.{HasCause}
 pub use Rattle.roman_io.specs.Shelf.{Texts, rest_from, shelf_text}
 pub use Rattle.roman_io.specs.Sink.{Puts, Wrote}
 pub use Rattle.roman_joint.specs.NamedSys.{NamedSys, cells, seat_of, system_of}
@@ -26,7 +26,7 @@ pub use Rattle.roman_library.specs.Targets.{PlainTargets}
 pub use Rattle.roman_library.specs.declared.refusal.Refusal.{Refusal}
 unfoldable pub use Rattle.roman_make.specs.Made.{made}
 pub use Rattle.roman_make.specs.Script.{script_lines}
-pub use Rattle.roman_model.proofs.CallerLemmas.{allowed_in, any_from, any_true, by_test, from_allowed, from_end, from_flat_map, from_map, from_outcome, from_place, great_related, in_listed, in_map, length-below, length-pairs, listed_in, map-map, numbers_are_pairs, outcome_in, related_great, there_is}
+pub use Rattle.roman_model.proofs.CallerLemmas.{allowed_in, any_from, any_true, by_test, from_allowed, from_end, from_flat_map, from_map, from_outcome, from_place, great_related, in_listed, in_map, length-below, length-pairs, listed_in, map-map, numbers_are_pairs, outcome_in, related_great, system_is_same, there_is}
 pub use Rattle.roman_model.specs.Arena.{Entry, IsOrderFrom, is_among, is_justified}
 pub use Rattle.roman_model.specs.Certificate.{Greatest, GreatestIsComplete, IsWithinCells, Rejected, TooLong, Verdict, cert_text, cert_verdict}
 pub use Rattle.roman_model.specs.CompleteLists.{IsComplete}
@@ -58,11 +58,11 @@ pub use Rattle.roman_text.specs.declared.errors.LineError.{LineError}
 pub use Rattle.roman_whatif.specs.Left.{places}
 pub use Rattle.roman_whatif.specs.Told.{told}
 pub use Rattle.roman_top.specs.Advice.{GivesAdvice, SaysAdvice}
-pub use Rattle.roman_top.specs.Causes.{InputCause, ShelfCause, SinkCause}
+pub use Rattle.roman_top.specs.Causes.{ShelfCause, SinkCause}
 pub use Rattle.roman_top.specs.Command.{Advise, Certify, Check, Command, Job, Make, On, Resilience, Run, Shortest, Synth, command_as}
 pub use Rattle.roman_top.specs.Complete.{IsAnswered}
 pub use Rattle.roman_top.specs.Endings.{Accepts, EndsBare, Finishes, IsSpoken, Opens, Reports, TurnsAway, Writes, WritesText}
-pub use Rattle.roman_top.specs.Faults.{AtShelfFault, EndsInput, HasRunPrefix, IsFree, IsOfTaken}
+pub use Rattle.roman_top.specs.Faults.{HasRunPrefix, IsFree}
 pub use Rattle.roman_top.specs.HeadlineCertify.{AreValid, CertifiesUnrelated, HoldsReason, ListsUnrelated, numbered_entry}
 pub use Rattle.roman_top.specs.HeadlineResilience.{TellsLosses}
 pub use Rattle.roman_top.specs.HeadlineTargets.{IsTurnOfTargets, MeansTargets}
@@ -77,5 +77,5 @@ pub use Rattle.roman_top.specs.Served.{Served, ServedBeside}
 pub use Rattle.roman_top.specs.Sessions.{ToldFromStart}
 pub use Rattle.roman_top.specs.Stages.{HasComeTo, line_of_stage, lines_of}
 pub use Rattle.roman_top.specs.Verdicts.{greatest_text, rejected_text}
-pub use Rattle.roman_top.specs.World.{World, outputs, world}
+pub use Rattle.roman_top.specs.World.{Outputs, World, beside, outputs}
 pub use Rattle.roman_top.specs.declared.status.Status.{Status}

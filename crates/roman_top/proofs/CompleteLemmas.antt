@@ -55,9 +55,9 @@ by_status : (asked : Option Command) (old new : World) (result : Status) → Ser
 by_status asked old new status.ShelfFault served quiet = absurd (quiet.shelf served.shelf)
 by_status asked old new status.ReadFault served quiet = absurd (quiet.input served.input)
 by_status asked old new status.WriteFault served quiet = absurd (quiet.out served.out)
-by_status asked old new status.Memory served quiet = told_all (texts_for asked old.texts) (λ texts. CanAnswer asked texts old.rest → IsAnswered status.Memory) (λ texts can. tt)
+by_status asked old new status.Memory served quiet = told_all _ (λ texts. CanAnswer asked texts old.rest → IsAnswered status.Memory) (λ texts can. tt)
 by_status asked old new result served quiet =
-    told_more (texts_for asked old.texts) (λ texts. HasRun asked texts old new result) (λ texts. CanAnswer asked texts old.rest → IsAnswered result) (served.run tt) (λ texts run can. answered asked texts old new result run can)
+    told_more _ _ (λ texts. CanAnswer asked texts old.rest → IsAnswered result) (served.run tt) (λ texts run can. answered asked texts old new result run can)
 
 pub completes : (asked : Option Command) (old new : World) (result : Status) → Served asked old new result → AnswersWherePossible asked old new result
 completes asked old new result served quiet = by_status asked old new result served quiet

@@ -1,7 +1,7 @@
 -- How the parts of a run end.
-use Rattle.roman_top.proofs.Common.{◌≡◌, ℕ, ◌<◌, Bool, true, false, IsTrue, IsFalse, MatchBool, List, Option, None, Some, IfSome, Result, Ok, Err, sym, ap, ◌∙◌, subst, arith, false≢true, cond-true, lt-ltb, HasCause, Texts, Puts, cells, library_of, PlainLibrary, Refusal, ShelfCause, SinkCause, WritesText, Writes, EndsBare, TurnsAway, Finishes, IsSpoken, Accepted, document_opening, OnOpening, library_system, is_past_limit, limit_line, refusal_line, Status}
+use Rattle.roman_top.proofs.Common.{◌≡◌, ℕ, ◌<◌, Bool, true, false, IsTrue, IsFalse, MatchBool, List, Option, None, Some, IfSome, Result, Ok, Err, sym, ap, ◌∙◌, subst, arith, false≢true, cond-true, lt-ltb, HasCause, Texts, Puts, cells, library_of, PlainLibrary, Refusal, ShelfCause, SinkCause, WritesText, Writes, EndsBare, TurnsAway, Finishes, IsSpoken, Accepted, document_opening, OnOpening, library_system, is_past_limit, limit_line, refusal_line, Status, refl, ◌≤◌, cond-false}
 use Rattle.roman_top.specs.Opening.{Past, opening_of}
-use Rattle.std.proofs.lemmas.Bool.{true≢false}
+use Rattle.std.proofs.lemmas.Bool.{true≢false, le-ltb}
 use Rattle.roman_top.specs.Endings.{ReadsTo, OpensTo}
 use Rattle.roman_top.specs.Opening.{Opening, Refused}
 use Rattle.roman_top.specs.declared.status.Status.TheVariants as status
@@ -14,6 +14,10 @@ told_more (Some x) P Q p more = more x p
 pub told_both : {X : Type 0} (o : Option X) (P Q R : X → Type 0) → IfSome o P → IfSome o Q → ((x : X) → P x → Q x → R x) → IfSome o R
 told_both None P Q R p q more = tt
 told_both (Some x) P Q R p q more = more x p q
+
+pub told_known : {X : Type 0} (o : Option X) (P Q : X → Type 0) → IfSome o P → ((x : X) → o ≡ Some x → P x → Q x) → IfSome o Q
+told_known None P Q p more = tt
+told_known (Some x) P Q p more = more x refl p
 
 pub told_all : {X : Type 0} (o : Option X) (P : X → Type 0) → ((x : X) → P x) → IfSome o P
 told_all None P all = tt
@@ -30,6 +34,9 @@ writes_put IsRun old new text ends result (Err e) puts finishes run whole =
 
 pub opens_past : (meaning : Result PlainLibrary Refusal) (library : PlainLibrary) → meaning ≡ Ok library → IsTrue (is_past_limit library) → opening_of meaning ≡ Past library
 opens_past meaning library means past = ap opening_of means ∙ cond-true (is_past_limit library) (Past library) (Accepted library) past
+
+pub opens_within : (meaning : Result PlainLibrary Refusal) (library : PlainLibrary) → meaning ≡ Ok library → cells (library_system library) ≤ library.limit → opening_of meaning ≡ Accepted library
+opens_within meaning library means fits = ap opening_of means ∙ cond-false (is_past_limit library) (Past library) (Accepted library) (le-ltb library.limit (cells (library_system library)) fits)
 
 -- an accepted document means its library, and is within its limit
 pub record IsAccepted (meaning : Result PlainLibrary Refusal) (library : PlainLibrary) : Type 0 where

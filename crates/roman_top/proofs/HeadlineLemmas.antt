@@ -1,23 +1,23 @@
 -- The text of a session keeps its promise.
-use Rattle.roman_top.proofs.Common.{◌≡◌, ℕ, ◌<◌, Bool, true, false, MatchBool, List, length, take, nat_le, Option, Some, sym, ◌∙◌, subst, arith, cond-false, Texts, Wrote, GreatestIsComplete, lines, ended_lines, IsIn, MAX_SESSION_BYTES, by_test, PlainLibrary, PlainTargets, Situation, report_text, parts_of, start_pair_of, Answers, prefix_of, is_heard_out, State, start_state, IsState, LinesAreRead, Synth, Run, Command, On, IsFree, MeansTargets, IsTurnOfTargets, Turn, Accepted, document_opening, Talks, Synthesises, HasRun, Served, ToldFromStart, World, Status}
+use Rattle.roman_top.proofs.Common.{◌≡◌, ℕ, Bool, true, false, MatchBool, List, length, take, nat_le, Option, Some, sym, subst, arith, Texts, Wrote, GreatestIsComplete, lines, ended_lines, IsIn, MAX_SESSION_BYTES, PlainLibrary, Situation, report_text, parts_of, start_pair_of, Answers, prefix_of, is_heard_out, State, start_state, IsState, LinesAreRead, Synth, Run, Command, On, IsFree, MeansTargets, IsTurnOfTargets, Turn, Accepted, document_opening, Talks, Synthesises, HasRun, Served, ToldFromStart, World, Status, PlainTargets, library_of}
 use Rattle.std.proofs.Common.{cond, if◌then◌else◌}
-use Rattle.roman_library.specs.Targets.{NamesTargets}
 use Rattle.roman_library.proofs.CallerLemmas.{targets_combined}
 use Rattle.roman_hearing.specs.Words.{ReportsGreat}
 use Rattle.roman_hearing.proofs.CallerLemmas.{reports_great, answered_heard}
-use Rattle.roman_top.specs.Headline.{HasReported, KeepsPromise, HasHeadline}
-use Rattle.roman_top.specs.HeadlineTargets.{HasAnsweredTargets, KeepsTargets}
+use Rattle.roman_top.specs.Headline.{KeepsPromise, HasHeadline, HasReported}
+use Rattle.roman_top.specs.HeadlineTargets.{KeepsTargets, HasAnsweredTargets}
 use Rattle.roman_top.specs.HeadlineTurns.{Means, HasAnsweredLines}
 use Rattle.roman_top.specs.declared.status.Status.TheVariants as status
-use Rattle.roman_top.proofs.EndingLemmas.{told_more, work_of}
+use Rattle.roman_top.proofs.EndingLemmas.{told_more, work_of, opens_within}
 use Rattle.roman_top.proofs.JobLemmas.{keeps_text}
 use Rattle.roman_top.proofs.StartsKnown.{starts_known, some_start}
 use Rattle.roman_top.proofs.TargetLemmas.{means_targets, steps_tell}
 use Rattle.roman_top.proofs.TurnLemmas.{StepsTell, HasTurns, state_known, start_seen, start_from, turns_of}
+use Rattle.roman_library.specs.Targets.{NamesTargets}
 
 -- the document is accepted, and its library is within the limit
 means_accepted : (texts : Texts) (system : List ℕ) (library : PlainLibrary) → Means texts system library → document_opening texts system ≡ Accepted library
-means_accepted texts system library (is, fits) = grind (arith, by_test, cond-false)
+means_accepted texts system library (is, fits) = opens_within (library_of texts system) library is fits
 
 -- the replies to the lines that are read
 heard_tells : (b : Bool) (library : PlainLibrary) (ls ms : List (List ℕ)) (text : List ℕ) (P Q : Type 0) → MatchBool b (ToldFromStart library ls text × P) (ToldFromStart library ms text × Q) → ToldFromStart library (cond b ls ms) text
@@ -64,29 +64,25 @@ answered_lines P texts system name library old new result read tell means run =
 -- a run keeps the promise
 keeps_promise : (asked : Option Command) (old new : World) (result : Status) → LinesAreRead → Served asked old new result → IsFree result → KeepsPromise asked old new
 keeps_promise (Some (On system Synth)) old new result read served free =
-    told_more old.texts (λ texts. HasRun (Some (On system Synth)) texts old new result)
-    (λ texts. (library : PlainLibrary) → Means texts system library → HasReported library old new) (served.run free) (λ texts run library means.
+    told_more _ _ (λ texts. (library : PlainLibrary) → Means texts system library → HasReported library old new) (served.run free) (λ texts run library means.
     let accepted = means_accepted texts system library means in
     let (start, great) = reported texts system library run.text accepted (work_of Synthesises (document_opening texts system) library run.text result accepted run.run).0 in
     record { start = start; text = run.text; great = great; wrote = run.wrote })
 keeps_promise (Some (On system (Run name))) old new result read served free =
-    told_more old.texts (λ texts. HasRun (Some (On system (Run name))) texts old new result)
-    (λ texts. (library : PlainLibrary) → Means texts system library → HasAnsweredLines (Some (On system (Run name))) library texts old new) (served.run free) (λ texts run library means.
+    told_more _ _ (λ texts. (library : PlainLibrary) → Means texts system library → HasAnsweredLines (Some (On system (Run name))) library texts old new) (served.run free) (λ texts run library means.
     (answered_lines (λ x. Unit {0}) texts system name library old new result read (λ s mid line said from known onward next turn. tt) means run).0)
 keeps_promise _ old new result read served free = tt
 
 -- if a document names several targets, a run keeps the promise target by target
 keeps_targets : (asked : Option Command) (old new : World) (result : Status) → LinesAreRead → Served asked old new result → IsFree result → KeepsTargets asked old new
 keeps_targets (Some (On system Synth)) old new result read served free =
-    told_more old.texts (λ texts. HasRun (Some (On system Synth)) texts old new result)
-    (λ texts. (library : PlainLibrary) (said : PlainTargets) → Means texts system library → NamesTargets texts system said → MeansTargets said (start_state library)) (served.run free) (λ texts run library said means names.
+    told_more _ _ (λ texts. (library : PlainLibrary) (said : PlainTargets) → Means texts system library → NamesTargets texts system said → MeansTargets said (start_state library)) (served.run free) (λ texts run library said means names.
     let accepted = means_accepted texts system library means in
     let (start, begins) = some_start texts system library accepted in
     subst (MeansTargets said) (start_seen library start begins)
     (means_targets said library start (targets_combined texts system library said means.0 names) (start_from library start begins) (starts_known texts system library start accepted begins)))
 keeps_targets (Some (On system (Run name))) old new result read served free =
-    told_more old.texts (λ texts. HasRun (Some (On system (Run name))) texts old new result)
-    (λ texts. (library : PlainLibrary) (said : PlainTargets) → Means texts system library → NamesTargets texts system said → HasAnsweredTargets (Some (On system (Run name))) library said texts old new) (served.run free)
+    told_more _ _ (λ texts. (library : PlainLibrary) (said : PlainTargets) → Means texts system library → NamesTargets texts system said → HasAnsweredTargets (Some (On system (Run name))) library said texts old new) (served.run free)
     (λ texts run library said means names.
     let (answered, each) = answered_lines (IsTurnOfTargets said) texts system name library old new result read (steps_tell said library (targets_combined texts system library said means.0 names)) means run in
     record { answered = answered; each = each })

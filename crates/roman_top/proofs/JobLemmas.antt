@@ -1,5 +1,5 @@
 -- A run of a job on an accepted document keeps its promise.
-use Rattle.roman_top.proofs.Common.{◌≡◌, ℕ, ◌≤◌, List, [], Option, None, Some, sym, subst, arith, Texts, shelf_text, IsSys, IsPair, IsWithinCells, GreatestIsComplete, cells, library_of, PlainLibrary, libraries_known, parts_of, start_pair_of, start_pair, LinesAreRead, Job, Synth, Run, Certify, Check, Shortest, Advise, Resilience, Command, On, Make, WritesText, IsFree, TellsLosses, Accepted, document_opening, library_system, JobDoes, HasRun, Served, World, Status}
+use Rattle.roman_top.proofs.Common.{◌≡◌, ℕ, ◌≤◌, List, [], Option, None, Some, sym, subst, arith, Texts, shelf_text, IsSys, IsPair, IsWithinCells, GreatestIsComplete, cells, library_of, PlainLibrary, libraries_known, parts_of, start_pair_of, start_pair, LinesAreRead, Job, Synth, Run, Certify, Check, Shortest, Advise, Resilience, Command, On, Make, IsFree, TellsLosses, Accepted, document_opening, library_system, JobDoes, HasRun, Served, World, Status, WritesText}
 use Rattle.roman_model.specs.declared.limits.TheConstants.{MAX_CELLS}
 use Rattle.roman_top.specs.HeadlineJobs.{KeepsJob, KeepsText}
 use Rattle.roman_top.proofs.AdvisedLemmas.{keeps_advice}
@@ -43,8 +43,7 @@ keeps_job : GreatestIsComplete → (job : Job) (texts : Texts) (system session :
 keeps_job law job texts system session library text result accepted does = job_kept law job texts session library text result (library_begins texts system library accepted) does
 
 pub keeps_text : LinesAreRead → GreatestIsComplete → (asked : Option Command) (old new : World) (result : Status) → Served asked old new result → IsFree result → KeepsText asked old new result
-keeps_text read law (Some (On system job)) old new result served free = told_more old.texts (λ texts. HasRun (Some (On system job)) texts old new result)
-    (λ texts. (library : PlainLibrary) → document_opening texts system ≡ Accepted library → WritesText (KeepsJob job texts library) old.written new.written result) (served.run free)
+keeps_text read law (Some (On system job)) old new result served free = told_more _ _ (λ texts. (library : PlainLibrary) → document_opening texts system ≡ Accepted library → WritesText (KeepsJob job texts library) old.written new.written result) (served.run free)
     (λ texts run library accepted. record {
       text = run.text;
       run = keeps_job law job texts system run.session library run.text result accepted

@@ -1,5 +1,5 @@
 -- The session of a made system goes from stage to stage by turns.
-use Rattle.roman_top.proofs.Common.{◌≡◌, ℕ, List, [], ◌∷◌, refl, sym, ap, ◌∙◌, subst, is_related, related_count, sizes_of, count, length-pairs, PlainLibrary, Situation, present_system, shape_of, until_quit, Answers, shown, IsKnownSituation, State, LinesAreRead, made, standing, stages, Passes, Makes, Status}
+use Rattle.roman_top.proofs.Common.{◌≡◌, ℕ, List, [], ◌∷◌, refl, sym, ap, ◌∙◌, subst, is_related, related_count, length-pairs, PlainLibrary, Situation, present_system, shape_of, until_quit, Answers, shown, IsKnownSituation, State, LinesAreRead, made, standing, stages, Passes, Makes, Status}
 use Rattle.roman_text.specs.Shapes.{words_of}
 use Rattle.roman_top.specs.HeadlineMake.{TellsStanding, TellsStages, KeepsMade}
 use Rattle.roman_top.specs.Made.{stage_line}
@@ -11,12 +11,11 @@ stands : (word : List ℕ) (s : Situation) → IsKnownSituation s → TellsStand
 stands word s known =
     let right = outlook_right (present_system s) s.here known.situation.parts.system known.situation.here in
     record {
-      related = right.pairs;
-      great = right.great;
+      related = related_count (present_system s);
+      great = right.related;
       composes = is_related (present_system s) s.here;
       here = right.composes;
-      says = ap (λ n. stage_line word n (related_count (present_system s)) (is_related (present_system s) s.here)) (length-pairs (present_system s))
-          ∙ ap (λ n. stage_line word (count (sizes_of (present_system s))) n (is_related (present_system s) s.here)) right.related;
+      says = ap (λ n. stage_line word n (related_count (present_system s)) (is_related (present_system s) s.here)) (length-pairs (present_system s));
     }
 
 -- no line of these stages ends the session

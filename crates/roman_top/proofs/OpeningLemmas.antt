@@ -1,9 +1,10 @@
 -- Opening documents, and how a run ends without one.
-use Rattle.roman_top.proofs.Common.{◌≡◌, ℕ, ◌<◌, List, [], Option, IfSome, Result, Ok, Err, refl, sym, ◌∙◌, subst, HasCause, Rose, Texts, Wrote, Puts, cells, library_of, PlainLibrary, Refusal, Opens, Finishes, library_system, limit_line, refusal_line, outputs, Status}
+use Rattle.roman_top.proofs.Common.{◌≡◌, ℕ, ◌<◌, List, [], Option, IfSome, Result, Ok, Err, refl, sym, ◌∙◌, subst, HasCause, Texts, Wrote, Puts, cells, library_of, PlainLibrary, Refusal, Opens, Finishes, library_system, limit_line, refusal_line, outputs, Status, ◌≤◌, Accepts, document_opening}
+use Rattle.roman_io.specs.Faults.{Rose}
 use Rattle.roman_io.proofs.CallerLemmas.{Wrote-nil}
 use Rattle.roman_top.specs.Endings.{Leaves, OpensLibrary}
 use Rattle.roman_top.specs.declared.status.Status.TheVariants as status
-use Rattle.roman_top.proofs.EndingLemmas.{told_all, refused, exceeded}
+use Rattle.roman_top.proofs.EndingLemmas.{told_all, refused, exceeded, told_more, opens_within}
 
 -- what is left behind by a line that ends a run
 module _ {X : Type 0} (told told_now : Option Texts) (shelf shelf_now : ℕ) (old new : Option (List ℕ)) (out out_mid out_now : ℕ) (result : Status) (texts : told_now ≡ told) (shelves : shelf_now ≡ shelf) (outs : out_mid ≡ out) where
@@ -50,6 +51,14 @@ module _ {X Y : Type 0} (view : Y → PlainLibrary) (Holds : PlainLibrary → X 
   opens_away result r = record { opens = r.reads; leaves = record { away = r.leaves.away; stops = r.leaves.stops; texts = r.leaves.texts; shelf = r.leaves.shelf; out = r.leaves.out } }
 
   module _ (y : Y) (read : OpensLibrary view name (outputs told shelf old out) (outputs told_now shelf_now mid out_mid) (Ok y)) where
+    -- the document is accepted
+    pub opens_ok : (x : X) → cells (library_system (view y)) ≤ (view y).limit → Holds (view y) x → Opens Holds name (outputs told shelf old out) (outputs told_now shelf_now mid out_mid) (Ok x)
+    opens_ok x fits holds = record {
+      opens = told_more _ _ (λ texts. Accepts (document_opening texts name) (λ library. Holds library x)) read.reads (λ texts means.
+          record { library = view y; accepted = opens_within (library_of texts name) (view y) means fits; holds = holds });
+      leaves = record { away = tt; stops = read.leaves.stops; texts = read.leaves.texts; shelf = read.leaves.shelf; out = read.leaves.out };
+    }
+
     -- out of memory
     pub opens_none : Opens Holds name (outputs told shelf old out) (outputs told_now shelf_now mid out_mid) (Err status.Memory)
     opens_none = record {

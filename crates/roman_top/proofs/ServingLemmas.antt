@@ -1,17 +1,23 @@
 -- Outlooks are right: they count the related pairs, and the cases in which a seat serves an action.
-use Rattle.roman_top.proofs.Common.{◌≡◌, ℕ, List, [], map, length, IsTrue, filter, refl, sym, ap, ◌∙◌, subst, arith, cond-true, cond-false, length-map, slice_get_within, IsIn, below, Sys, Pair, IsSys, IsPair, pairs, is_allowed, is_related, outlook, by_test, in_map, from_map, from_flat_map, allowed_in, from_allowed, related_great, great_related}
-use Rattle.std.proofs.Common.{flat_map}
+use Rattle.roman_top.proofs.Common.{◌≡◌, ℕ, List, [], map, length, IsTrue, refl, sym, ap, ◌∙◌, subst, arith, cond-true, cond-false, length-map, slice_get_within, IsIn, below, Sys, Pair, IsSys, IsPair, pairs, is_allowed, is_related, outlook, by_test, in_map, from_map, from_flat_map, allowed_in, from_allowed, related_great, great_related, related_count}
+use Rattle.std.proofs.Common.{filter, flat_map}
 use Rattle.std.proofs.lemmas.List.Concat.{length-flat_map}
 use Rattle.roman_model.specs.Lists.{HasNoRepeats}
 use Rattle.roman_model.specs.Offers.{offers, choice_count}
 use Rattle.roman_model.proofs.CallerLemmas.{in_flat_map, in_filter, filter_in, in_below, HasNoRepeats-map, HasNoRepeats-flat_map, HasNoRepeats-filter, HasNoRepeats-below, sum_by_same, in_pairs, from_pairs, pairs_once, allowed_in_range, offers_are, offer_is}
-use Rattle.roman_rank.specs.DepthText.{AreRelated}
+use Rattle.roman_model.specs.Composition.{Great}
+use Rattle.roman_model.specs.Counting.{Counts}
 use Rattle.roman_top.specs.HeadlineResilience.{Serving, IsServing, AreServings, IsRightOutlook}
 
 -- The related pairs.
 
-pub related_all : (s : Sys) → IsSys s → AreRelated s (filter (is_related s) (pairs s))
-related_all s ok = grind (arith, HasNoRepeats-filter, filter_in, from_pairs, great_related, in_filter, in_pairs, pairs_once, related_great)
+pub related_all : (s : Sys) → IsSys s → Counts s (Great s) (related_count s)
+related_all s ok = record {
+  pairs = filter (is_related s) (pairs s);
+  once = HasNoRepeats-filter (is_related s) (pairs s) (pairs_once s);
+  each = λ p. grind (arith, filter_in, from_pairs, great_related, in_filter, in_pairs, related_great);
+  count = refl;
+}
 
 -- The cases in which a seat serves an action.
 
@@ -86,9 +92,7 @@ servings_all s ok = record { once = servings_once s; each = λ x. (is_serving s 
 pub outlook_right : (s : Sys) (p : Pair) → IsSys s → IsPair s p → IsRightOutlook s p (outlook s p)
 outlook_right s p ok pair = record {
   composes = (related_great s p ok pair, great_related s p ok);
-  pairs = filter (is_related s) (pairs s);
-  great = related_all s ok;
-  related = refl;
+  related = related_all s ok;
   servings = all_servings s;
   serve = servings_all s ok;
   choices = sym (servings_counted s);

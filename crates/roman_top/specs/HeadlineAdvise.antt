@@ -3,6 +3,7 @@ use Rattle.std.specs.Prelude.{◌≡◌, ℕ, ◌<◌, ◌≤◌, ◌*◌, false
 use Rattle.roman_io.specs.Shelf.{Texts}
 use Rattle.roman_model.specs.System.{Pair}
 use Rattle.roman_model.specs.Composition.{Great}
+use Rattle.roman_model.specs.Counting.{Counts}
 use Rattle.roman_parts.specs.declared.error.PartError.{PartError}
 use Rattle.roman_joint.specs.NamedSys.{NamedSys, system_of}
 use Rattle.roman_library.specs.Library.{PlainLibrary}
@@ -16,7 +17,6 @@ use Rattle.roman_cost.specs.Laws.{TellsLeast}
 use Rattle.roman_cost.specs.Tables.{seat_costs}
 use Rattle.roman_cost.specs.declared.costs.Listed.{Listed}
 use Rattle.roman_cost.specs.declared.limits.TheConstants.{MAX_VALUES}
-use Rattle.roman_rank.specs.DepthText.{AreRelated}
 use Rattle.roman_top.specs.Opening.{EndsSaying, limit_line}
 use Rattle.roman_top.specs.RefusalLine.{refusal_line}
 use Rattle.roman_top.specs.declared.status.Status.{Status}
@@ -25,11 +25,11 @@ use Rattle.roman_top.specs.declared.status.Status.TheVariants as status
 -- what is written with accepted costs: `answer none` if the pair isn't related; the line of the limit if the related pairs times
 -- the requests are too many; and otherwise the least worst cost of the requests
 pub record AdvisesBy (n : NamedSys) (listed : List Listed) (requests : ℕ) (p : Pair) (text : List ℕ) (result : Status) : Type 0 where
-  pub pairs : List Pair
-  pub great : AreRelated (system_of n) pairs
+  pub related : ℕ
+  pub great : Counts (system_of n) (Great (system_of n)) related
   pub unrelated : (Great (system_of n) p → ⊥) → EndsSaying (line_text (line.Answer false)) status.No text result
-  pub many : Great (system_of n) p → MAX_VALUES < length pairs * requests → EndsSaying (limit_line MAX_VALUES) status.Limit text result
-  pub told : Great (system_of n) p → length pairs * requests ≤ MAX_VALUES → TellsLeast n (seat_costs n listed) requests p text × (result ≡ status.Done)
+  pub many : Great (system_of n) p → MAX_VALUES < related * requests → EndsSaying (limit_line MAX_VALUES) status.Limit text result
+  pub told : Great (system_of n) p → related * requests ≤ MAX_VALUES → TellsLeast n (seat_costs n listed) requests p text × (result ≡ status.Done)
 
 -- advise: costs that are refused get their refusal line; accepted costs get the advice for the starting states
 pub record KeepsAdvice (costs : List ℕ) (requests : ℕ) (texts : Texts) (library : PlainLibrary) (text : List ℕ) (result : Status) : Type 0 where

@@ -6,10 +6,10 @@ use Rattle.roman_model.specs.System.{Sys, Pair}
 use Rattle.roman_model.specs.SystemArena.{pairs}
 use Rattle.roman_model.specs.Arena.{Entry}
 use Rattle.roman_model.specs.Composition.{Great}
+use Rattle.roman_model.specs.Counting.{Counts}
 use Rattle.roman_model.specs.Certificate.{Why, entry_of}
 use Rattle.roman_model.specs.Numbers.{entry_at}
 use Rattle.roman_library.specs.Library.{PlainLibrary}
-use Rattle.roman_rank.specs.DepthText.{AreRelated}
 use Rattle.roman_start.specs.Starts.{start_pair_of}
 use Rattle.roman_top.specs.HeadlineCertify.{ListsUnrelated, CertifiesUnrelated}
 use Rattle.roman_top.specs.Opening.{library_system}
@@ -19,11 +19,11 @@ use Rattle.roman_top.specs.declared.status.Status.TheVariants as status
 
 -- the text says how many pairs are related, and whether the given pair is
 pub record TellsGreatest (s : Sys) (p : Pair) (text : List ℕ) : Type 0 where
-  pub pairs : List Pair
-  pub great : AreRelated s pairs
+  pub related : ℕ
+  pub great : Counts s (Great s) related
   pub starts : Bool
   pub start : IsTrue starts ↔ Great s p
-  pub says : text ≡ greatest_text (length pairs) starts
+  pub says : text ≡ greatest_text related starts
 
 -- the entries that the lines of a certificate give; lines that aren't the text of an entry give none
 abbrev pub certified_entries : Sys → List ℕ → List (Entry Pair)

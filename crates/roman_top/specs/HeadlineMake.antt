@@ -1,10 +1,11 @@
 -- What `make` writes: the figures of a session of the made system at each stage, in terms of the greatest ND-simulation.
 use Rattle.std.specs.Prelude.{◌≡◌, ◌↔◌, ℕ, Bool, List, [], ◌∷◌, ◌++◌, length, codes, IsTrue}
+use Rattle.roman_model.specs.Composition.{Great}
+use Rattle.roman_model.specs.Counting.{Counts}
 use Rattle.roman_model.specs.System.{Pair}
 use Rattle.roman_model.specs.Numbers.{sizes_of, count}
 use Rattle.roman_joint.specs.NamedSys.{system_of}
 use Rattle.roman_library.specs.Library.{PlainLibrary}
-use Rattle.roman_rank.specs.DepthText.{AreRelated}
 use Rattle.roman_hearing.specs.States.{State, start_state, IsGreat}
 use Rattle.roman_make.specs.Made.{made}
 use Rattle.roman_top.specs.HeadlineTurns.{Turn, AreTurns, after_turns}
@@ -14,11 +15,11 @@ use Rattle.roman_top.specs.declared.status.Status.TheVariants as status
 
 -- a line says how many pairs the present system has, how many are related, and whether the current one is
 pub record TellsStanding (word : List ℕ) (s : State) (text : List ℕ) : Type 0 where
-  pub related : List Pair
-  pub great : AreRelated (system_of s.parts) related
+  pub related : ℕ
+  pub great : Counts (system_of s.parts) (Great (system_of s.parts)) related
   pub composes : Bool
   pub here : IsTrue composes ↔ IsGreat s
-  pub says : text ≡ stage_line word (count (sizes_of (system_of s.parts))) (length related) composes
+  pub says : text ≡ stage_line word (count (sizes_of (system_of s.parts))) related composes
 
 -- the lines of each stage have their turns, and the stage's line gives the figures of the state to which they lead
 abbrev pub TellsStages : PlainLibrary → State → List (List ℕ × List (List ℕ)) → List ℕ → Type 0

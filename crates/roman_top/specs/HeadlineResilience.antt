@@ -3,13 +3,13 @@ use Rattle.std.specs.Prelude.{◌≡◌, ◌⊎◌, ◌↔◌, ℕ, List, ◌++�
 use Rattle.std.specs.List.{flat_map}
 use Rattle.roman_model.specs.Lists.{IsIn, HasNoRepeats}
 use Rattle.roman_model.specs.System.{Sys, Pair, IsPair, Allows}
+use Rattle.roman_model.specs.Counting.{Counts}
 use Rattle.roman_model.specs.Composition.{couple, Serves, GreatCouple, Great}
 use Rattle.roman_model.specs.Without.{Outlook, system_without, pair_without}
 use Rattle.roman_model.specs.declared.way.Way.{Way}
 use Rattle.roman_model.specs.declared.way.Way.TheVariants.{Freeze, Die}
 use Rattle.roman_joint.specs.NamedSys.{NamedSys}
 use Rattle.roman_library.specs.Library.{PlainLibrary}
-use Rattle.roman_rank.specs.DepthText.{AreRelated}
 use Rattle.roman_start.specs.Starts.{parts_of, start_pair_of}
 use Rattle.roman_top.specs.Opening.{library_system}
 use Rattle.roman_top.specs.Outlooks.{line_without, ones, twos, head_text}
@@ -36,9 +36,7 @@ pub record AreServings (s : Sys) (servings : List Serving) : Type 0 where
 -- an outlook is right: it says whether the pair is related, how many pairs are, and in how many cases a seat serves an action
 pub record IsRightOutlook (s : Sys) (p : Pair) (told : Outlook) : Type 0 where
   pub composes : IsTrue told.composes ↔ Great s p
-  pub pairs : List Pair
-  pub great : AreRelated s pairs
-  pub related : told.related ≡ length pairs
+  pub related : Counts s (Great s) told.related
   pub servings : List Serving
   pub serve : AreServings s servings
   pub choices : told.choices ≡ length servings

@@ -165,7 +165,7 @@ fn tell_relation<O: Sink>(
     ensures spoken { IsSpoken (O.written out.old) (O.written out.new) result }
     ensures out { SinkCause (O.faults out.old) (O.faults out.new) result }
 {
-    relation.joint.known();
+    relation.joint.known(); // the system is well formed
     if !relation.related(start) {
         return finish(put_unrelated(out), Status::No);
     }

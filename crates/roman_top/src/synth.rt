@@ -37,7 +37,7 @@ fn report<O: Sink>(session: &Session, out: &mut O) -> Status
     ensures told { IsTold result }
     ensures out { SinkCause (O.faults out.old) (O.faults out.new) result }
 {
-    session.known();
+    session.known(); // the situation is well formed
     let status = status_of(session.composes());
     finish(session.report(out), status)
 }

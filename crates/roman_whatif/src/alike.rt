@@ -14,7 +14,6 @@ pub(crate) fn is_repeated(base: &Relation, p: u32, k: u8) -> bool
     requires place { k < length base.now.joint.seats }
     ensures { IsTrue result → IsRepeated base.now.joint p k }
 {
-    base.joint.known();
     if k == 0 {
         return false;
     }

@@ -28,7 +28,6 @@ const NOTHING: Outlook = Outlook {
 };
 
 /// The outlooks of a pair of a relation after one service or two fail, in either way.
-#[derive(Drop)]
 pub struct Losses {
     /// The number of the pair in the relation from which the losses were built.
     pub pair: u32,
@@ -38,6 +37,17 @@ pub struct Losses {
     pub frozen: Vec<Outlook>,
     /// The outlooks after services die, at the same places as in `frozen`.
     pub gone: Vec<Outlook>,
+}
+
+// One call. At each exit of a function that owns losses, a derived drop would be a step for each vector.
+impl Drop for Losses {
+    fn drop(self) {
+        let Losses {
+            pair: _,
+            frozen: _,
+            gone: _,
+        } = self;
+    }
 }
 
 impl Losses {
@@ -148,7 +158,6 @@ fn try_all<L: Ledger>(
     ensures told { IfOk result (λ table. AreTold base.now.joint p way table.items) }
     ensures trials { AreTrialsOf base.now.joint trials.new }
 {
-    base.joint.known();
     let seats = base.joint.seats();
     let mut table = vec![in alloc; NOTHING; PLACES * seats as usize]?;
     for j in 0..seats {

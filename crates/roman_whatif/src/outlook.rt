@@ -29,7 +29,7 @@ pub fn now(relation: &Relation, p: u32) -> Outlook
     ensures outlook { let s = system_of relation.now.joint in told result ≡ outlook s (pair_at (sizes_of s) p) }
     ensures great { let s = system_of relation.now.joint in IsTrue result.composes ↔ Great s (pair_at (sizes_of s) p) }
 {
-    relation.joint.known();
+    relation.joint.known(); // the system is well formed
     Outlook {
         composes: relation.related(p),
         related: relation.count(),

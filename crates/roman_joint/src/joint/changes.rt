@@ -96,7 +96,7 @@ impl Joint {
             ≡ sizes_of (system_of (record self.now { seats = self.now.seats ++ seat.now ∷ [] }))) }
         ensures known { IsSome result → IsNamedSys (record self.now { seats = self.now.seats ++ seat.now ∷ [] }) }
     {
-        self.known();
+        self.known(); // the system is well formed and within its limit
         let behaviour = &self.catalogue()[seat.behaviour as usize];
         let size = behaviour.states().len() as u8;
         let cap = self.limit() / self.environment().actions().len();

@@ -6,13 +6,12 @@ ghost use Rattle.roman_model.specs.Numbers.{sizes_of, count, number, pair_at, nu
 ghost use Rattle.roman_model.specs.declared.limits.TheConstants.{MAX_CELLS};
 ghost use Rattle.roman_radix.specs.Radix.{stride_of, env_stride_of, moved};
 ghost use Rattle.roman_joint.specs.NamedSys.{system_of};
-ghost use Rattle.roman_joint.specs.TargetViews.{IsTargetView};
+ghost use Rattle.roman_joint.specs.TargetViews.{AreTargetViews, IsTargetView};
 ghost use Rattle.roman_rules.specs.Finding.{HasFinding};
 ghost use Rattle.roman_joint.specs.Outcomes.{outcome_number, outcome_numbers, IsPairWith};
 
 use super::Joint;
 use crate::outcomes::Outcomes;
-use crate::seats::are_final;
 use crate::target_view::TargetView;
 use roman_io::Steps;
 use roman_radix::Shape;
@@ -27,20 +26,29 @@ impl Joint {
         requires action { a < (system_of self.now).env.actions }
         ensures { result ≡ (numbered (system_of self.now)).allows p a }
     {
-        let t = self.shape.target_of(p);
-        let e = self.shape.env_of(p);
-        self.target.allows(&self.environment, t, e, a)
+        self.known(); // the system is well formed
+        let t = self.shape().target_of(p);
+        let e = self.shape().env_of(p);
+        self.target().allows(self.environment(), t, e, a)
+    }
+
+    // Returns the target views, ordered by the target's state and then by the environment's.
+    fn target_views(&self) -> &[TargetView]
+        ensures { AreTargetViews (system_of self.now).env (system_of self.now).target result.now }
+    {
+        &self.target_views
     }
 
     // Returns the target view of a pair: its states of the target and the environment, and their
     // actions.
-    #[tactic(auto, using(crate::proofs::Shown::Shows, std::proofs::lemmas::Nat::div_below, crate::proofs::SplitLemmas::positive_of, crate::proofs::Shown::shown))]
+    #[tactic(auto, using(std::proofs::lemmas::Nat::div_below, crate::proofs::SplitLemmas::joint_sizes, crate::proofs::SplitLemmas::positive_of))]
     pub(super) fn target_view_at(&self, p: u32) -> TargetView
         requires { p < count (sizes_of (system_of self.now)) }
         ensures { let s = system_of self.now in
             IsTargetView s.env s.target (pair_at (sizes_of s) p).t (pair_at (sizes_of s) p).e result }
     {
-        self.target_views[(p / self.shape.env_stride()) as usize]
+        self.known(); // a pair's number fits 32 bits
+        self.target_views()[(p / self.shape().env_stride()) as usize]
     }
 
     /// Returns whether the pair `p` meets clause 2 of an ND-simulation: where the target's state is
@@ -49,10 +57,9 @@ impl Joint {
         requires { p < count (sizes_of (system_of self.now)) }
         ensures { result ≡ (numbered (system_of self.now)).fine p }
     {
-        if !self.target.is_final(self.shape.target_of(p)) {
-            return true;
-        }
-        are_final(&self.catalogue, &self.seats, &self.shape, p)
+        let lanes = self.lanes();
+        let row = self.row(p / lanes);
+        (self.unfine(&row) >> (p % lanes)) & 1 != 1
     }
 
     /// Examines the outcomes of the action `a` at the pair `p`, delegated to the service `k`, and
@@ -107,7 +114,7 @@ impl Joint {
         ensures some { IsFalse (is_empty result.envs.now) }
         ensures few { count (sizes_of (system_of self.now)) ≤ MAX_CELLS }
     {
-        self.known();
+        self.known(); // behaviours are over the environment, a pair's number fits 32 bits
         let shape = self.shape();
         let e = shape.env_of(p);
         let b = shape.part_of(p, k);
@@ -131,15 +138,16 @@ impl Joint {
         ensures below { result < (system_of self.now).target.states }
         ensures action { a < (system_of self.now).env.actions }
     {
-        let t = self.shape.target_of(p);
-        self.target.step(t, e, a).unwrap()
+        self.known(); // the target is over the environment
+        let t = self.shape().target_of(p);
+        self.target().step(t, e, a).unwrap()
     }
 }
 
 /// Returns the number of the pair that has the target's state `to`, the environment's state 0 and the
 /// state 0 of component `k`, and otherwise the states of pair `p`. Requires that component `k` has
 /// state `b` at pair `p`.
-fn first_outcome(shape: &Shape, p: u32, to: u8, k: u8, b: u8) -> u32
+pub(super) fn first_outcome(shape: &Shape, p: u32, to: u8, k: u8, b: u8) -> u32
     requires pair { p < count shape.now }
     requires target { to < shape.now.target }
     requires component { k < length shape.now.seats }
@@ -147,7 +155,7 @@ fn first_outcome(shape: &Shape, p: u32, to: u8, k: u8, b: u8) -> u32
     ensures { (e b : ℕ) → result + e * env_stride_of shape.now + b * stride_of shape.now k
         ≡ number shape.now (moved (pair_at shape.now p) to e k b) }
 {
-    shape.known();
+    shape.known(); // a pair's number fits 32 bits
     let row = u32::from(to) * shape.target_stride() + p % shape.env_stride();
     row - u32::from(b) * shape.stride(k)
 }

@@ -47,7 +47,7 @@ impl Joint {
         requires state { b < slice_index (sizes_of (system_of self.now)).seats k }
         ensures { result.now ≡ name_at (seat_names (names_in self.now) k).states b }
     {
-        self.known();
+        self.known(); // behaviours are over the environment
         self.behaviour(k).states().at(u32::from(b))
     }
 }

@@ -65,7 +65,7 @@ impl Joint {
             (y i lane : ℕ) → IsRow s (y * band_in s) row.now → i < band_in s → lane < lanes_in s →
             HasBits result ((numbered s).allows ((y * band_in s + i) * lanes_in s + lane)) }
     {
-        self.known();
+        self.known(); // allowed actions are actions of the system
         row.allowed
     }
 }

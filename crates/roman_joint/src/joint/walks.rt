@@ -8,8 +8,9 @@ ghost use Rattle.roman_joint.specs.NamedSys.{system_of};
 ghost use Rattle.roman_joint.specs.Walks.{goal_of, IsWalk, WalkGoesOn, left, left_of_seat, left_of_target, left_of_env, left_of_action, left_of_all};
 
 use super::Joint;
+use super::looks::first_outcome;
 use crate::states::prev_states;
-use crate::walk::{Walk, first_env, moved, one_more};
+use crate::walk::Walk;
 use roman_io::Steps;
 use roman_model::MAX_STATES;
 use std::sync::ledger::Ledger;
@@ -22,20 +23,15 @@ impl Joint {
         ensures walk { IsWalk (system_of self.now) result }
         ensures left { HoldsEachOnce (left (system_of self.now) result) (back (numbered (system_of self.now)) p2) }
     {
-        let target_view = self.target_view_at(p2);
+        self.known(); // the system is well formed
         Walk {
             pair: p2,
-            to_target: target_view.target,
-            to_env: target_view.env,
-            to_states: self.shape.parts_of(p2),
-            leading: target_view.leading,
             action: 0,
             envs_taken: 0,
-            env: target_view.env,
+            env: 0,
             targets_taken: MAX_STATES,
-            target: target_view.target,
-            row: p2,
-            seat: self.seats.len() as u8,
+            target: 0,
+            seat: self.seats(),
             states_taken: 0,
         }
     }
@@ -62,8 +58,7 @@ impl Joint {
     }
 
     // Takes a state of the current service from which it goes to its state at the walk's pair. Returns
-    // the pair in which it has that state, and the service. After the last such state, moves on to the
-    // next service.
+    // the pair in which it has that state, and the service.
     fn take_state(&self, walk: &mut Walk) -> Option<(u32, u8)>
         requires { IsWalk (system_of self.now) walk.old }
         ensures walk { IsWalk (system_of self.now) walk.new }
@@ -71,19 +66,22 @@ impl Joint {
         ensures taken { MatchOption result ((walk.new ≡ walk.old) × (left_of_seat (system_of self.now) walk.old ≡ []))
             (λ x. left (system_of self.now) walk.old ≡ record { node = x.0; action = walk.old.action; seat = x.1 } ∷ left (system_of self.now) walk.new) }
     {
-        self.known();
+        self.known(); // the system is well formed, a pair's number fits 32 bits
         let place = walk.seat;
         if place >= self.seats() {
             return None;
         }
-        let to = walk.to_states[place as usize];
+        let shape = self.shape();
+        let to = shape.part_of(walk.pair, place);
         let states = prev_states(self, place, to, walk.env, walk.action);
         let taken = walk.states_taken as usize;
         if taken >= states.len() {
             return None;
         }
-        let pair = moved(walk.row, to, states[taken], self.shape().stride(place));
-        walk.pass_state(states.len());
+        let first = first_outcome(shape, walk.pair, walk.target, place, to);
+        let from = first + u32::from(walk.env) * shape.env_stride();
+        let pair = from + u32::from(states[taken]) * shape.stride(place);
+        walk.states_taken += 1;
         Some((pair, place))
     }
 
@@ -108,7 +106,7 @@ impl Joint {
         ensures { MatchBool result (WalkGoesOn (system_of self.now) walk.old walk.new)
             ((walk.new ≡ walk.old) × (left_of_target (system_of self.now) walk.old ≡ [])) }
     {
-        self.known();
+        self.known(); // the system is well formed
         if walk.seat + 1 >= self.seats() {
             return false;
         }
@@ -126,19 +124,14 @@ impl Joint {
         ensures { MatchBool result (WalkGoesOn (system_of self.now) walk.old walk.new)
             ((walk.new ≡ walk.old) × (left_of_env (system_of self.now) walk.old ≡ [])) }
     {
-        self.known();
-        if walk.targets_taken >= MAX_STATES {
-            return false;
-        }
+        self.known(); // the system is well formed, a pair's number fits 32 bits
         let targets = self.targets_before(walk);
         let taken = walk.targets_taken as usize;
         if taken >= targets.len() {
             return false;
         }
-        let next = targets[taken];
-        walk.row = moved(walk.row, walk.target, next, self.shape().target_stride());
-        walk.target = next;
-        walk.targets_taken = one_more(walk.targets_taken, targets.len());
+        walk.target = targets[taken];
+        walk.targets_taken += 1;
         walk.seat = 0;
         walk.states_taken = 0;
         true
@@ -150,10 +143,10 @@ impl Joint {
         requires { IsWalk (system_of self.now) walk.now }
         ensures prev { result.now ≡ beh_prev (system_of self.now).target (goal_of (system_of self.now) walk.now).t walk.now.env walk.now.action }
         ensures below { All (λ t. t < (system_of self.now).target.states) result.now }
-        ensures few { length result.now ≤ 64 }
     {
-        let target = &self.target;
-        target.into(walk.to_target, walk.env, walk.action)
+        self.known(); // the target is over the environment
+        let t = self.shape().target_of(walk.pair);
+        self.target().into(t, walk.env, walk.action)
     }
 
     // Moves on to the environment's next predecessor state, at which no state of the target is taken
@@ -167,19 +160,14 @@ impl Joint {
         ensures { MatchBool result (WalkGoesOn (system_of self.now) walk.old walk.new)
             ((walk.new ≡ walk.old) × (left_of_action (system_of self.now) walk.old ≡ [])) }
     {
-        self.known();
-        if walk.envs_taken >= MAX_STATES {
-            return false;
-        }
+        self.known(); // the system is well formed, a pair's number fits 32 bits
         let envs = self.envs_before(walk);
         let taken = walk.envs_taken as usize;
         if taken >= envs.len() {
             return false;
         }
-        let next = envs[taken];
-        walk.row = moved(walk.row, walk.env, next, self.shape().env_stride());
-        walk.env = next;
-        walk.envs_taken = one_more(walk.envs_taken, envs.len());
+        walk.env = envs[taken];
+        walk.envs_taken += 1;
         walk.targets_taken = 0;
         walk.seat = self.seats();
         walk.states_taken = 0;
@@ -188,18 +176,18 @@ impl Joint {
 
     // Returns the environment's predecessor states, in rising order: those from which it goes to its
     // state at the pair.
-    #[tactic(auto, using(crate::proofs::WalkLemmas::few_prev))]
     fn envs_before(&self, walk: &Walk) -> &[u8]
         requires { IsWalk (system_of self.now) walk.now }
         ensures prev { result.now ≡ env_prev (system_of self.now).env (goal_of (system_of self.now) walk.now).e walk.now.action }
         ensures below { All (λ e. e < (system_of self.now).env.states) result.now }
-        ensures few { length result.now ≤ 64 }
     {
-        self.environment.prev(walk.to_env, walk.action)
+        self.known(); // the environment is well formed
+        let e = self.shape().env_of(walk.pair);
+        self.environment().prev(e, walk.action)
     }
 
-    // Moves on to the next action, and returns whether there is one. No state of the environment is
-    // taken there yet, or all of them if the action doesn't lead to the pair.
+    // Moves on to the next action, at which no state of the environment is taken yet, and returns
+    // whether there is one.
     #[tactic(auto, using(crate::proofs::WalkLemmas::passed))]
     fn next_action(&self, walk: &mut Walk) -> bool
         requires walk { IsWalk (system_of self.now) walk.old }
@@ -210,12 +198,12 @@ impl Joint {
         ensures { MatchBool result (WalkGoesOn (system_of self.now) walk.old walk.new)
             ((walk.new ≡ walk.old) × (left_of_all (system_of self.now) walk.old ≡ [])) }
     {
-        self.known();
+        self.known(); // the system is well formed
         if u32::from(walk.action) + 1 >= self.environment().actions().len() {
             return false;
         }
         walk.action += 1;
-        walk.envs_taken = first_env(walk.leading, walk.action);
+        walk.envs_taken = 0;
         walk.targets_taken = MAX_STATES;
         walk.seat = self.seats();
         walk.states_taken = 0;

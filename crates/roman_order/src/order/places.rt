@@ -1,14 +1,13 @@
 //! The places of pairs in the list.
-ghost use Rattle.std.specs.Prelude.{◌≡◌, ℕ, ◌+◌, ◌-◌, ◌*◌, ◌^◌, ◌<◌, ◌≤◌, ◌==◌, ◌&&◌, true, ◌++◌, List, length, map, slice_index, slice_get, Some};
+ghost use Rattle.std.specs.Prelude.{◌≡◌, ℕ, ◌+◌, ◌-◌, ◌*◌, ◌^◌, ◌<◌, ◌≤◌, ◌==◌, ◌&&◌, true, length, map, slice_index};
 ghost use Rattle.std.specs.List.{AllByRecursion, IsDistinct, filter};
 ghost use Rattle.roman_model.specs.Lists.{below};
-ghost use Rattle.roman_model.specs.Arena.{Entry};
-ghost use Rattle.roman_model.specs.declared.reason.Reason.{Reason as ReasonOf};
 ghost use Rattle.roman_lanes.specs.Rows.{is_on};
-ghost use Rattle.roman_order.specs.Board.{pairs_of, as_entry, set_lanes, nodes_of, place_in_list};
+ghost use Rattle.roman_order.specs.Board.{pairs_of, set_lanes, nodes_of, place_in_list};
 ghost use Rattle.roman_order.specs.Events.{IsEvent, entries_of};
-ghost use Rattle.roman_order.specs.Sound.{IsPlaced, AreStamps};
+ghost use Rattle.roman_order.specs.Sound.{AreStamps, with_stamps};
 
+use super::reading::event_in;
 use super::{Order, refill};
 use crate::event::Event;
 use crate::flags::{lanes_in, lowest};
@@ -63,14 +62,6 @@ fn place_in(events: &[Event], lanes: u32, p: u32) -> Option<u32>
     None
 }
 
-/// Returns the event at place `j` of a table.
-fn event_in(events: &[Event], j: usize) -> Event
-    requires { j < length events.now }
-    ensures { slice_get events.now j ≡ Some result }
-{
-    events[j]
-}
-
 /// Returns whether `row` is the row `x`, and its word has the lane.
 fn has_lane(row: u32, word: u64, x: u32, lane: u32) -> bool
     requires { lane < 64 }
@@ -90,10 +81,12 @@ fn lanes_before(word: u64, lane: u32) -> u32
 /// Writes each entry's place as the stamp of its pair. Requires a table without stamps.
 fn write_stamps(stamps: &mut [u32], events: &[Event], lanes: u32)
     requires blank { (p : ℕ) → p < length stamps.old → slice_index stamps.old p ≡ 2 ^ 32 - 1 }
-    requires placed { IsPlaced (length stamps.old) (entries_of lanes events.now) }
-    requires lanes { lanes ≤ 64 }
+    requires apart { IsDistinct (λ x y. x == y) (nodes_of (entries_of lanes events.now)) }
+    requires rows { (rows : ℕ) × (rows * lanes ≡ length stamps.old) × AllByRecursion (λ e. e.row < rows) events.now }
+    requires lanes { 0 < lanes }
     requires each { AllByRecursion (IsEvent lanes) events.now }
     requires few { length stamps.old < 2 ^ 32 }
+    requires fits { length (entries_of lanes events.now) < 2 ^ 32 }
     ensures { AreStamps (entries_of lanes events.now) stamps.new }
 {
     let mut place = 0;
@@ -108,10 +101,7 @@ fn write_event(stamps: &mut [u32], first: u32, word: u64, place: u32) -> u32
     requires within { (lane : ℕ) → is_on word lane ≡ true → first + lane < length stamps.old }
     requires few { length stamps.old < 2 ^ 32 }
     requires fits { place + length (set_lanes word) < 2 ^ 32 }
-    ensures stamped { (D R : List (Entry ℕ)) (reason : ReasonOf) →
-        IsDistinct (λ x y. x == y) (nodes_of (D ++ (map (λ lane. as_entry (first + lane, reason)) (set_lanes word) ++ R))) →
-        length D ≡ place → AreStamps D stamps.old →
-        AreStamps (D ++ map (λ lane. as_entry (first + lane, reason)) (set_lanes word)) stamps.new }
+    ensures stamped { stamps.new ≡ with_stamps place (map (λ lane. first + lane) (set_lanes word)) stamps.old }
     ensures long { length stamps.new ≡ length stamps.old }
     ensures next { result ≡ place + length (set_lanes word) }
 {

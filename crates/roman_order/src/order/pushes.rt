@@ -15,8 +15,7 @@ impl Order {
         requires alive { has_entry self.old.list p ≡ false }
         ensures { self.new ≡ record self.old { list = self.old.list ++ as_entry (p, reason) ∷ [] } }
     {
-        let x = p / self.lanes;
-        self.push_at(x, p % self.lanes, reason);
+        self.push_at(p / self.lanes, p % self.lanes, reason);
     }
 
     /// Adds an entry for the pair at a lane of the row `x` at the end of the list. Requires a pair
@@ -33,6 +32,7 @@ impl Order {
 
     /// Adds an entry for each pair of the row `x` whose lane is a bit of `lost`, with rising lanes,
     /// all for one reason. Requires pairs that aren't listed.
+    #[inline(always)]
     pub fn push_lanes(&mut self, x: u32, lost: u64, reason: Reason)
         requires row { x < self.old.rows }
         requires within { (lane : ℕ) → is_on lost lane ≡ true → lane < self.old.lanes }
@@ -62,19 +62,9 @@ impl Order {
         requires alive { (i lane : ℕ) → is_on (slice_index lost.now i) lane ≡ true → has_entry self.old.list ((x + i) * self.old.lanes + lane) ≡ false }
         ensures { self.new ≡ record self.old { list = self.old.list ++ entries_in_rows self.old.lanes x (length lost.now) lost.now reason } }
     {
-        self.stamps.clear();
-        let mut count = self.count;
+        prove!(x as usize + lost.len() <= self.rows as usize);
         for i in 0..lost.len() {
-            let lanes = lost[i];
-            if lanes == 0 {
-                continue;
-            }
-            let row = x + i as u32;
-            self.words[row as usize] &= !lanes;
-            self.firsts.push_reserved(count);
-            self.events.push_reserved(Event { row, reason, lanes });
-            count += lanes_in(lanes);
+            self.push_lanes(x + i as u32, lost[i], reason);
         }
-        self.count = count;
     }
 }

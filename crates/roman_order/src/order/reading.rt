@@ -1,5 +1,5 @@
 //! Reading the list.
-ghost use Rattle.std.specs.Prelude.{◌≡◌, ℕ, ◌+◌, ◌-◌, ◌<◌, ◌≤◌, true, false, ◌++◌, length, take, drop, slice_get, slice_index, Some};
+ghost use Rattle.std.specs.Prelude.{◌≡◌, ℕ, ◌+◌, ◌-◌, ◌<◌, ◌≤◌, true, false, ◌∷◌, ◌++◌, length, take, drop, slice_get, slice_index, slice_index_or, Some};
 ghost use Rattle.std.specs.List.{AllByRecursion};
 ghost use Rattle.roman_lanes.specs.Rows.{is_on};
 ghost use Rattle.roman_model.specs.Lists.{IsIn};
@@ -34,8 +34,9 @@ impl Order {
         ensures row { result.row < self.now.rows }
     {
         let place = place_of(&self.firsts, i, near);
-        let event = self.events[place];
-        let lanes = without_lowest(event.lanes, i - self.firsts[place]);
+        let first = self.firsts[place];
+        let event = event_in(&self.events, place);
+        let lanes = without_lowest(event.lanes, i - first);
         Event {
             row: event.row,
             reason: event.reason,
@@ -64,7 +65,7 @@ impl Order {
         requires { i < length self.now.list }
         ensures { slice_get self.now.list i ≡ Some (as_entry result) }
     {
-        self.known();
+        self.known(); // a pair's number fits 32 bits
         let event = self.event_at(i, usize::MAX);
         (event.row * self.lanes + lowest(event.lanes), event.reason)
     }
@@ -96,11 +97,18 @@ fn place_of(firsts: &[u32], i: u32, near: usize) -> usize
     low
 }
 
+/// Returns the event at place `j` of a table.
+pub(super) fn event_in(events: &[Event], j: usize) -> Event
+    requires { j < length events.now }
+    ensures { drop j events.now ≡ result ∷ drop (j + 1) events.now }
+{
+    events[j]
+}
+
 /// Returns the place of the first entry of event `j`. After the last event it is `count`, the length of
 /// the list.
 fn first_of(firsts: &[u32], j: usize, count: u32) -> u32
-    ensures at { j < length firsts.now → result ≡ slice_index firsts.now j }
-    ensures end { length firsts.now ≤ j → result ≡ count }
+    ensures { result ≡ slice_index_or firsts.now j count }
 {
     if j < firsts.len() { firsts[j] } else { count }
 }

@@ -18,7 +18,7 @@ impl Order {
         ensures entry { slice_get self.now.list i ≡ Some (as_entry result) }
         ensures ahead { IsAhead self.now (i + 1) ahead.new }
     {
-        self.known();
+        self.known(); // a pair's number fits 32 bits
         self.read_ahead(i, ahead);
         let event = ahead.event;
         let lane = lowest(event.lanes);

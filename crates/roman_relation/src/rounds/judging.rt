@@ -1,16 +1,17 @@
 //! Judging the marked bands against the kept words.
 ghost use Rattle.std.specs.Prelude.{◌≡◌, ℕ, ◌+◌, ◌*◌, ◌/◌, ◌<◌, ◌≤◌, ◌⊎◌, true, false, IsTrue};
-ghost use Rattle.std.specs.Prelude.{length};
+ghost use Rattle.std.specs.Prelude.{length, take};
 ghost use Rattle.roman_model.specs.Arena.{is_listed};
 ghost use Rattle.roman_lanes.specs.Rows.{is_on};
 ghost use Rattle.roman_order.specs.Board.{is_marked};
 ghost use Rattle.roman_relation.specs.Shaped.{IsShaped};
 ghost use Rattle.roman_relation.specs.Settled.{Begins};
-ghost use Rattle.roman_relation.specs.Rounds.{InRound, IsJudged, IsPairJudged};
+ghost use Rattle.roman_relation.specs.Rounds.{AreLostRows, InRound, IsJudged, IsPairJudged};
 
+use super::listing::{are_listed, band_start, push_lost};
 use roman_model::Reason;
 use roman_order::Order;
-use roman_rules::{Rules, are_clear, copy_rows};
+use roman_rules::{Rules, copy_rows};
 
 /// The greatest number of rows in a band.
 const BAND: usize = 64;
@@ -32,7 +33,7 @@ pub(crate) fn judge_marked<J: Rules>(joint: &J, order: &mut Order)
         (start p : ℕ) → InRound A (J.lanes joint.now) start order.old → p < length A.nodes →
         is_marked order.old (p / J.lanes joint.now / J.band joint.now) ≡ true → IsPairJudged A start order.new p }
 {
-    joint.known();
+    joint.known(); // a row has 1 to 64 lanes, a band has 1 to 64 rows
     let bands = joint.bands();
     let mut words = [0; BAND];
     let left = &mut words[..joint.band() as usize];
@@ -83,12 +84,10 @@ fn judge<J: Rules>(joint: &J, order: &mut Order, y: u32, left: &mut [u64])
         (start i lane : ℕ) → InRound A (J.lanes joint.now) start order.old → i < J.band joint.now → lane < J.lanes joint.now →
         IsPairJudged A start order.new ((y * J.band joint.now + i) * J.lanes joint.now + lane) }
 {
-    joint.known();
-    order.known();
-    let band = joint.band();
-    let x = y * band;
-    let words = order.words();
-    if are_clear(&words[x as usize..(x + band) as usize]) {
+    joint.known(); // a pair's number fits 32 bits, a row has 1 to 64 lanes
+    order.known(); // a row has 1 to 64 lanes
+    let x = band_start(joint, order, y);
+    if are_listed(joint, order, x) {
         return;
     }
     let row = joint.first_row(y);
@@ -136,12 +135,28 @@ fn judge_on<J: Rules>(
         (start i lane : ℕ) → InRound A (J.lanes joint.now) start order.old → is_allowed ≡ true → i < J.band joint.now → lane < J.lanes joint.now →
         IsJudged A start order.new ((x + i) * J.lanes joint.now + lane) a }
 {
-    joint.known();
-    order.known();
     if !is_allowed {
         return;
     }
+    find_unserved(joint, order, row, x, a, left);
+    push_lost(joint, order, x, left, Reason::Act(a));
+}
+
+/// Finds the pairs that the band whose first row is `x` loses for the action `a`.
+fn find_unserved<J: Rules>(joint: &J, order: &Order, row: &J::Row, x: u32, a: u8, left: &mut [u64])
+    requires shaped { IsShaped (J.arena joint.now) (J.lanes joint.now) order.now }
+    requires first { (y : ℕ) × (x ≡ y * J.band joint.now) }
+    requires band { x + J.band joint.now ≤ order.now.rows }
+    requires row { J.is_row joint.now x row.now }
+    requires action { a < (J.arena joint.now).actions }
+    requires left { length left.old ≡ J.band joint.now }
+    ensures long { length left.new ≡ length left.old }
+    ensures lost { let A = J.arena joint.now in
+        (start : ℕ) → InRound A (J.lanes joint.now) start order.now →
+        AreLostRows A (is_listed A (take start order.now.list)) order.now.list (J.lanes joint.now) x (J.band joint.now) (Reason.Act a) left.new }
+{
+    joint.known(); // a row has 1 to 64 lanes, a pair's number fits 32 bits
+    order.known(); // each row has a kept word
     copy_rows(order.words(), x, left);
     joint.unserved_band(row, order.before(), a, left);
-    order.push_rows(x, left, Reason::Act(a));
 }

@@ -6,7 +6,7 @@ ghost use Rattle.roman_model.specs.Arena.{Entry, is_listed, IsOrder, fall};
 ghost use Rattle.roman_order.specs.Events.{IsEvent, entries_at};
 ghost use Rattle.roman_order.specs.Walks.{AreUnkept};
 ghost use Rattle.roman_relation.specs.Shaped.{IsShaped};
-ghost use Rattle.roman_relation.specs.Rounds.{IsMarking, AreGoneBack, moves_to_all, on_at};
+ghost use Rattle.roman_relation.specs.Rounds.{InRound, IsMarking, AreGoneBack, moves_to_all, on_at};
 
 use roman_io::Steps;
 use roman_order::{Event, Order};
@@ -24,17 +24,14 @@ pub(crate) fn mark_losses<J: Rules, L: Ledger>(
     steps: &mut Steps<L>,
 )
     requires shaped { IsShaped (J.arena joint.now) (J.lanes joint.now) order.old }
-    requires start { start ≤ length order.old.list }
-    requires valid { IsOrder (J.arena joint.now) order.old.list }
-    requires marking { IsMarking (J.arena joint.now) (J.lanes joint.now) (J.band joint.now) start start order.old }
-    requires back { AreGoneBack (J.arena joint.now) (J.lanes joint.now) (J.band joint.now) start [] order.old }
+    requires round { InRound (J.arena joint.now) (J.lanes joint.now) start order.old }
     ensures marking { IsMarking (J.arena joint.now) (J.lanes joint.now) (J.band joint.now) start (length order.new.list) order.new }
     ensures rest { order.new ≡ record order.old { marks = order.new.marks; before = order.new.before } }
     ensures cost { steps.new ≤ steps.old + fall (J.arena joint.now) (drop start order.new.list) }
     ensures steps { steps.new ≡ steps.old + moves_to_all (J.arena joint.now) (J.lanes joint.now) (J.band joint.now) (J.mid joint.now) order.old.rows (drop start order.new.list) }
 {
-    joint.known();
-    order.known();
+    joint.known(); // a row has 1 to 64 lanes, pairs are told apart by their numbers
+    order.known(); // listed pairs are pairs of the system
     let end = order.len();
     let mut guess = near;
     let mut i = start;
@@ -82,8 +79,8 @@ fn mark_event<J: Rules, L: Ledger>(joint: &J, order: &mut Order, event: Event, s
         × (steps.new + moves_to_all A lanes band (J.mid joint.now) order.old.rows L
         ≡ steps.old + moves_to_all A lanes band (J.mid joint.now) order.old.rows (L ++ entries_at lanes event)) }
 {
-    joint.known();
-    order.known();
+    joint.known(); // a row has 1 to 64 lanes, a band has 1 to 64 rows
+    order.known(); // each row has a kept word
     let before = order.before()[event.row as usize];
     if !meets(before, event.lanes) {
         return;

@@ -35,7 +35,7 @@ pub(crate) fn unlisted(order: &Order, gathered: &Event, x: u32) -> u64
     requires gathered { IsGathered order.now gathered.now }
     ensures { HasLanes order.now.lanes x (λ p. not (has_entry (list_and order.now gathered.now) p)) result }
 {
-    order.known();
+    order.known(); // a row has 1 to 64 lanes
     let word = order.words()[x as usize];
     if gathered.row == x {
         return other_lanes(word, gathered.lanes);

@@ -15,7 +15,7 @@ ghost use Rattle.roman_repair.specs.Deaths.{CanRename, HasRenamed, IsPart, IsWit
 
 use super::gathering::{gather, push_gathered, unlisted};
 use super::states::may_go;
-use crate::lanes::filled_parts;
+use crate::lanes::first_part;
 use roman_joint::Joint;
 use roman_model::Reason;
 use roman_order::{Event, Order};
@@ -29,7 +29,7 @@ fn part_width(shape: &Shape, k: u8) -> u32
     ensures part { IsPart shape.now.seats k result }
     ensures few { (0 < result) × (result ≤ 64) }
 {
-    shape.known();
+    shape.known(); // no size is 0
     if k < shape.low() {
         return shape.lanes();
     }
@@ -63,12 +63,9 @@ fn rename_part(
     requires part { (width : ℕ) × (j : ℕ) × IsPart (sizes_of (system_of joint.now)).seats leaver.k width × (first ≡ j * width) × ((i : ℕ) → is_on word i ≡ true → i < width) }
     ensures { HasRenamed (system_of joint.now) leaver.k (entries_from first word reason) order.old order.new gathered.old gathered.new }
 {
-    joint.known();
-    order.known();
+    joint.known(); // the system is well formed
+    order.known(); // a row has 1 to 64 lanes
     let shape = joint.shape();
-    if word == 0 {
-        return;
-    }
     if !may_go(joint, leaver.k, shape.part_of(first, leaver.k)) {
         return;
     }
@@ -85,15 +82,14 @@ fn rename_row(joint: &Joint, order: &mut Order, gathered: &mut Event, leaver: Le
     requires within { IsWithin (system_of joint.now) event }
     ensures { HasRenamed (system_of joint.now) leaver.k (entries_at (lanes_in (system_of joint.now)) event) order.old order.new gathered.old gathered.new }
 {
-    joint.known();
+    joint.known(); // the system is well formed
     let shape = joint.shape();
-    shape.known();
+    shape.known(); // no size is 0, a pair's number fits 32 bits
     let width = part_width(shape, leaver.k);
-    let wide = shape.lanes();
-    let first = event.row * wide;
-    let (begin, end) = filled_parts(event.lanes, width, wide / width);
-    for i in begin..end {
-        let part = (event.lanes >> (i * width)) & (u64::MAX >> (64 - width));
+    let first = event.row * shape.lanes();
+    let mut left = event.lanes;
+    'left: while left != 0 {
+        let (i, part, rest) = first_part(left, width);
         rename_part(
             joint,
             order,
@@ -103,6 +99,7 @@ fn rename_row(joint: &Joint, order: &mut Order, gathered: &mut Event, leaver: Le
             part,
             event.reason,
         );
+        left = rest;
     }
 }
 
@@ -119,10 +116,10 @@ pub(crate) fn rename_list(joint: &Joint, order: &mut Order, k: u8)
     ensures caps { order.new.cap_pairs ≡ order.old.cap_pairs }
     ensures idle { order.new.waiting ≡ [] }
 {
-    joint.known();
+    joint.known(); // the system is well formed
     let shape = joint.shape();
-    shape.known();
-    order.known();
+    shape.known(); // no size is 0
+    order.known(); // listed pairs are pairs of the system, a row has 1 to 64 lanes
     let small = shape.shrink(k);
     let lanes = small.lanes();
     let leaver = Leaver { k, lanes };

@@ -15,7 +15,7 @@ pub(crate) fn may_go(joint: &Joint, k: u8, b: u8) -> bool
     ensures { (seat : Seat) → CanChange (Die k seat) (system_of joint.now) →
         result ≡ (not seat.rests || is_final seat.beh b) }
 {
-    joint.known();
+    joint.known(); // behaviours are over the environment
     let rests = joint.seat(k).rests;
     !rests || joint.behaviour(k).is_final(b)
 }

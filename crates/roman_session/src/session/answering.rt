@@ -48,10 +48,10 @@ impl Session {
         ensures related { SeenStaysRelated self.old line.now self.new }
         ensures phase { IsPhase self.new self.new.phase }
     {
-        self.known();
+        self.known(); // the situation is well formed
         let mut page = Page::new();
         let answered = self.answer_on(line, &mut page, out, steps);
-        self.known();
+        self.known(); // the situation is well formed
         let next = answered?;
         page.flush(out)?;
         Ok(next)

@@ -37,7 +37,7 @@ impl Session {
         } = seat_library(alloc, library)?;
         let target = joint.target().start();
         let env = joint.environment().start();
-        joint.known();
+        joint.known(); // the system is well formed
         let relation = Relation::build(alloc, joint, steps)?;
         Ok(Session {
             relation,

@@ -82,7 +82,7 @@ impl Session {
         ensures { Freezes self.old k (reply_text result) self.new }
     {
         let tally = freeze(&mut self.relation, k, steps);
-        self.relation.joint.known();
+        self.relation.joint.known(); // the system is well formed
         kept(tally)
     }
 
@@ -94,7 +94,7 @@ impl Session {
         ensures { Thaws self.old k (reply_text result) self.new }
     {
         let tally = thaw(&mut self.relation, k, steps);
-        self.relation.joint.known();
+        self.relation.joint.known(); // the system is well formed
         kept(tally)
     }
 
@@ -105,7 +105,7 @@ impl Session {
         ensures { Dies self.old k (reply_text result) self.new }
     {
         let tally = die(&mut self.relation, k, steps);
-        self.relation.joint.known();
+        self.relation.joint.known(); // the system is well formed
         let _state = self.states.remove(k as usize);
         self.number = number_of(&self.relation.joint, self.target, self.env, &self.states);
         kept(tally)
@@ -120,7 +120,7 @@ impl Session {
     {
         match join(&mut self.relation, joining.seat, steps) {
             Ok(tally) => {
-                self.relation.joint.known();
+                self.relation.joint.known(); // the system is well formed
                 self.states.push_reserved(joining.state);
                 self.number = number_of(&self.relation.joint, self.target, self.env, &self.states);
                 kept(tally)

@@ -38,7 +38,7 @@ impl Session {
         ensures gathers { Gathers (O.written out.old) (O.written out.new) page.new (page.old ++ offer_text self.now a) result }
         ensures cause { HasCause (O.faults out.old) (O.faults out.new) result }
     {
-        self.known();
+        self.known(); // an open request can be served
         let mask = self.offered(a);
         page.push(b"offer", out)?;
         push_served(&self.relation.joint, mask, page, out)?;
@@ -111,7 +111,7 @@ impl Session {
         ensures gathers { Gathers (O.written out.old) (O.written out.new) page.new (page.old ++ lines_text (offer_line self.now.parts self.now.here a)) result }
         ensures cause { HasCause (O.faults out.old) (O.faults out.new) result }
     {
-        self.known();
+        self.known(); // allowed actions are actions of the system
         let mask = self.offers(a);
         let line = ReportLine::Offer(*self.relation.joint.action_name(a));
         page.push_report_line(&line, out)?;

@@ -80,7 +80,7 @@ impl Session {
             Ok(sight) => sight,
             Err(refusal) => return page.push_reply(&refusal, out),
         };
-        self.known();
+        self.known(); // the situation is well formed
         let joint = &self.relation.joint;
         let Some(to) = next_target(joint, self.target, self.env, &self.states, sight) else {
             return page.push_reply(&Reply::Impossible, out);

@@ -1,9 +1,8 @@
-use Rattle.roman_check.proofs.Common.{◌++◌, take, refl, ◌∙◌, subst, arith, length-append, length-drop, length-take-le, Gave-then, IsReading}
-use Rattle.std.proofs.lemmas.List.{length-take}
+use Rattle.roman_check.proofs.Common.{◌++◌, take, ◌∙◌, subst, arith, length-append, length-take-le, Gave-then, length-take}
 use Rattle.std.proofs.lemmas.Result.{err_from_is_err_and}
-use Rattle.roman_io.proofs.CallerLemmas.{gave_at_most, had_all}
+use Rattle.roman_io.proofs.CallerLemmas.{had_all}
 use Rattle.roman_io.specs.Faults.{Rose}
-use Rattle.roman_check.proofs.SourceSteps.{at_end, failed_clean, cut_piece, rejected_at, passed_limit}
+use Rattle.roman_check.proofs.SourceSteps.{at_end, failed_clean, gave_within, rejected_at, passed_limit, read_on}
 use Rattle.roman_check.proofs.certificate.read.Goals as goal
 
 pub returns-in_err-count-clause-comes : goal.returns-in_err-count-clause-comes
@@ -29,56 +28,42 @@ returns-then-count-eq0-clause-comes g c = record {
 }
 
 pub returns-then-count-eq0-clause-taken : goal.returns-then-count-eq0-clause-taken
-returns-then-count-eq0-clause-taken g c =
-    gave_at_most 268439552 (g.S.Source.rest c.args.source.now) (g.S.Source.rest c.takes.source) (g.S.Source.rest c.take.new.self) c.takes.invariant.taken (take c.in_ok-count.count c.take.new.into)
-    c.takes.invariant.gave c.in_ok-count.ensures.moves (omega (arith, c.takes.invariant.room, c.takes.invariant.piece, c.take.auto.into, c.in_ok-count.ensures.bound, length-take-le c.in_ok-count.count c.take.new.into c.in_ok-count.ensures.bound))
+returns-then-count-eq0-clause-taken g c = gave_within _ _ _ _ _ _ _ c.takes.invariant.gave c.in_ok-count.ensures.moves c.in_ok-count.ensures.bound (c.take.auto.into ∙ c.takes.invariant.piece) c.takes.invariant.room
 
 pub returns-then-count-eq0-clause-whole : goal.returns-then-count-eq0-clause-whole
 returns-then-count-eq0-clause-whole g c says =
     at_end (g.S.Source.rest c.takes.source) (g.S.Source.rest c.take.new.self) c.take.new.into c.in_ok-count.count c.in_ok-count.ensures.moves (c.in_ok-count.ensures.ends (omega (arith, c.takes.invariant.piece, c.take.auto.into))) c.if-count-eq0.true
 
 pub returns-in-Some-clause-comes : goal.returns-in-Some-clause-comes
-returns-in-Some-clause-comes g c =
-    record {
-      is = (
-        rejected_at _ _ _ _ _ _ _ _ _ _ _ c.takes.invariant.gave c.in_ok-count.ensures.moves (cut_piece _ _ _ (omega (arith, c.min-due.ensures)))
-            (omega (arith, c.takes.invariant.room, c.min-due.ensures, length-take c.min-due.result c.take.new.into))
-            (c.in-Some.ensures.fed.stops c.takes.invariant.taken c.in-Some.why c.takes.invariant.reading refl),
-        c.in_ok-count.ensures.cause.stays ∙ c.takes.invariant.faults,
-      );
-    }
+returns-in-Some-clause-comes g c = record {
+  is = (
+    rejected_at _ _ _ _ _ _ _ _ _ _ _ _ c.takes.invariant.reading c.takes.invariant.gave c.in_ok-count.ensures.moves (omega (arith, c.min-due.ensures)) c.in_ok-count.ensures.bound _ c.feed.ensures c.in-Some.why (omega (arith, c.takes.invariant.room, c.min-due.ensures)) c.in-Some.is,
+    c.in_ok-count.ensures.cause.stays ∙ c.takes.invariant.faults,
+  );
+}
 
 pub returns-in-Some-clause-taken : goal.returns-in-Some-clause-taken
-returns-in-Some-clause-taken g c =
-    gave_at_most 268439552 (g.S.Source.rest c.args.source.now) (g.S.Source.rest c.takes.source) (g.S.Source.rest c.take.new.self) c.takes.invariant.taken (take c.in_ok-count.count c.take.new.into)
-    c.takes.invariant.gave c.in_ok-count.ensures.moves (omega (arith, c.takes.invariant.room, c.takes.invariant.piece, c.take.auto.into, c.in_ok-count.ensures.bound, length-take-le c.in_ok-count.count c.take.new.into c.in_ok-count.ensures.bound))
+returns-in-Some-clause-taken g c = gave_within _ _ _ _ _ _ _ c.takes.invariant.gave c.in_ok-count.ensures.moves c.in_ok-count.ensures.bound (c.take.auto.into ∙ c.takes.invariant.piece) c.takes.invariant.room
 
 pub returns-then-due-count-clause-comes : goal.returns-then-due-count-clause-comes
-returns-then-due-count-clause-comes g c =
-    record {
-      is = (
-        passed_limit _ _ _ _ _ _ _ _ _ _ c.takes.invariant.gave c.in_ok-count.ensures.moves (cut_piece _ _ _ (omega (arith, c.min-due.ensures)))
-            (omega (arith, c.takes.invariant.room, c.min-due.ensures, c.if-due-count.true, c.in_ok-count.ensures.bound, length-take c.min-due.result c.take.new.into))
-            (omega (arith, c.if-due-count.true, c.in_ok-count.ensures.bound, length-drop c.min-due.result (take c.in_ok-count.count c.take.new.into), length-take c.in_ok-count.count c.take.new.into))
-            (c.feed.ensures.fed.reads c.takes.invariant.taken c.takes.invariant.reading c.in_default.is),
-        c.in_ok-count.ensures.cause.stays ∙ c.takes.invariant.faults,
-      );
-    }
+returns-then-due-count-clause-comes g c = record {
+  is = (
+    passed_limit _ _ _ _ _ _ _ _ _ _ _ _ c.takes.invariant.reading c.takes.invariant.gave c.in_ok-count.ensures.moves (omega (arith, c.min-due.ensures)) c.in_ok-count.ensures.bound _ c.feed.ensures (omega (arith, c.takes.invariant.room, c.min-due.ensures, c.if-due-count.true)) c.if-due-count.true c.in_default.is,
+    c.in_ok-count.ensures.cause.stays ∙ c.takes.invariant.faults,
+  );
+}
 
 pub returns-then-due-count-clause-taken : goal.returns-then-due-count-clause-taken
-returns-then-due-count-clause-taken g c =
-    gave_at_most 268439552 (g.S.Source.rest c.args.source.now) (g.S.Source.rest c.takes.source) (g.S.Source.rest c.take.new.self) c.takes.invariant.taken (take c.in_ok-count.count c.take.new.into)
-    c.takes.invariant.gave c.in_ok-count.ensures.moves (omega (arith, c.takes.invariant.room, c.takes.invariant.piece, c.take.auto.into, c.in_ok-count.ensures.bound, length-take-le c.in_ok-count.count c.take.new.into c.in_ok-count.ensures.bound))
+returns-then-due-count-clause-taken g c = gave_within _ _ _ _ _ _ _ c.takes.invariant.gave c.in_ok-count.ensures.moves c.in_ok-count.ensures.bound (c.take.auto.into ∙ c.takes.invariant.piece) c.takes.invariant.room
 
 pub takes-preserved : goal.takes-preserved
 takes-preserved g c = record {
   taken = c.takes.invariant.taken ++ take c.in_ok-count.count c.take.new.into;
-  gave = Gave-then (g.S.Source.rest c.args.source.now) (g.S.Source.rest c.takes.source) (g.S.Source.rest c.take.new.self) c.takes.invariant.taken (take c.in_ok-count.count c.take.new.into) c.takes.invariant.gave c.in_ok-count.ensures.moves;
-  reading = subst (λ n. IsReading (g.J.Rules.arena c.args.joint.now) (c.takes.invariant.taken ++ take n c.take.new.into) c.feed.new.self) (omega (arith, c.min-due.ensures, c.if-due-count.false))
-      (c.feed.ensures.fed.reads c.takes.invariant.taken c.takes.invariant.reading c.in_default.is);
+  gave = Gave-then _ _ _ _ _ c.takes.invariant.gave c.in_ok-count.ensures.moves;
+  reading = read_on _ c.args.start _ _ _ _ _ _ _ _ _ _ c.takes.invariant.reading c.takes.invariant.gave c.in_ok-count.ensures.moves (omega (arith, c.min-due.ensures)) c.in_ok-count.ensures.bound _ c.feed.ensures (omega (arith, c.min-due.ensures, c.if-due-count.false)) c.in_default.is;
   room = omega (arith, c.takes.invariant.room, c.min-due.ensures, c.if-due-count.false, length-append c.takes.invariant.taken (take c.in_ok-count.count c.take.new.into), length-take-le c.in_ok-count.count c.take.new.into c.in_ok-count.ensures.bound);
-  lines = omega (arith, c.takes.invariant.lines, c.min-due.ensures, c.if-due-count.false, c.feed.ensures.lines, length-take c.min-due.result c.take.new.into);
-  shaped = c.feed.ensures.shaped;
+  lines = omega (arith, c.takes.invariant.lines, c.min-due.ensures, c.if-due-count.false, c.feed.ensures.read.lines, c.feed.ensures.read.high, length-take c.min-due.result c.take.new.into);
+  shaped = c.feed.ensures.read.shaped;
   piece = c.take.auto.into ∙ c.takes.invariant.piece;
   faults = c.in_ok-count.ensures.cause.stays ∙ c.takes.invariant.faults;
   borrowed = c.in_ok-count.ensures.borrowed ∙ c.takes.invariant.borrowed;

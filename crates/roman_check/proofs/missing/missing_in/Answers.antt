@@ -1,23 +1,17 @@
-use Rattle.roman_check.proofs.Common.{ℕ, ◌≡◌, ◌<◌, ◌≤◌, bit_and, ◌-◌, ◌/◌, ◌^◌, ◌+◌, ◌*◌, ◌&&◌, ap, ◌∙◌, arith, get_or, list_any, and_right, is_listed, is_justified, reasons, is_on, on_and, on_full, on_full_past, on_zero}
-use Rattle.roman_check.proofs.ReasonLemmas.{and_all}
+use Rattle.roman_check.proofs.Common.{◌≡◌, ◌&&◌, not, arith, subst, list_any, reasons, is_listed, is_justified, HasLanes}
+use Rattle.roman_check.proofs.ReasonLemmas.{final_lanes, more_lanes}
 use Rattle.roman_check.proofs.missing.missing_in.Goals as goal
 
--- a lane of a row's pairs that are left
-left_on : (w lanes lane : ℕ) → lanes ≤ 64 → lane < lanes → is_on (bit_and w ((2 ^ 64 - 1) / 2 ^ (64 - lanes))) lane ≡ is_on w lane
-left_on w lanes lane few l = on_and w ((2 ^ 64 - 1) / 2 ^ (64 - lanes)) lane ∙ and_all (is_on w lane) (is_on ((2 ^ 64 - 1) / 2 ^ (64 - lanes)) lane) (on_full lanes lane few l)
+pub loop-a-init : goal.loop-a-init
+loop-a-init g c L rows = final_lanes (g.J.Rules.arena c.args.joint.now) (is_listed (g.J.Rules.arena c.args.joint.now) L) _ _ _ _ (c.unfine.ensures c.args.x c.row-row.ensures) (rows.each c.args.x c.requires.row)
 
-pub returns-then-left-eq0-clause-missing : goal.returns-then-left-eq0-clause-missing
-returns-then-left-eq0-clause-missing g c L rows lane m = grind (arith, left_on, on_zero)
+pub loop-a-preserved : goal.loop-a-preserved
+loop-a-preserved g c L rows =
+    let gone = is_listed (g.J.Rules.arena c.args.joint.now) L in
+    more_lanes (g.J.Rules.arena c.args.joint.now) gone _ _ _ _ _ c.loop-a.a (c.loop-a.invariant L rows) (rows.each c.args.x c.requires.row) (c.unserved-missing.ensures.lost c.args.x gone c.row-row.ensures rows) c.unserved-missing.ensures.within
 
-pub returns-then-left-eq0-clause-within : goal.returns-then-left-eq0-clause-within
-returns-then-left-eq0-clause-within g c lane past = on_zero lane
-
-pub returns-clause-missing : goal.returns-clause-missing
-returns-clause-missing g c L rows lane m =
+pub returns : goal.returns
+returns g c L rows =
     let A = g.J.Rules.arena c.args.joint.now in
-    let p = c.args.x * g.J.Rules.lanes c.args.joint.now + lane in
-    let left = left_on (get_or c.args.words.now c.args.x 0) c.lanes.result lane (omega (arith, c.lanes.ensures.few)) (omega (arith, c.lanes.ensures.value)) ∙ (rows.each c.args.x c.requires.row).each lane m in
-    c.missing_among.ensures.missing c.args.x (is_listed A L) c.row-row.ensures rows lane m ∙ ap (λ b. b && list_any (is_justified A (is_listed A L) p) (reasons A.actions)) left
-
-pub returns-clause-within : goal.returns-clause-within
-returns-clause-within g c lane past = grind (arith, and_right, on_and, on_full_past)
+    let all : c.loop-a.a ≡ A.actions = omega (arith, c.loop-a.auto.a-end, c.loop-a-test.false, c.actions-a-end.ensures) in
+    subst (λ n. HasLanes (g.J.Rules.lanes c.args.joint.now) c.args.x (λ p. not (is_listed A L p) && list_any (is_justified A (is_listed A L) p) (reasons n)) c.loop-a.missing) all (c.loop-a.invariant L rows)

@@ -1,8 +1,8 @@
 use Rattle.roman_hearing.proofs.Common.{◌++◌, [], inr, take, refl, ◌∙◌, arith, length-append, Gave-then}
-use Rattle.std.proofs.Common.{length-take-le}
+use Rattle.std.proofs.Common.{length-take-le, rules}
 use Rattle.roman_io.proofs.CallerLemmas.{Gave-nil, gave_at_most}
 use Rattle.roman_hearing.proofs.HearingLemmas.{hearing_starts}
-use Rattle.roman_hearing.proofs.HearingEnds.{rest_out, rest_stops_short, rest_prefixes, rest_not_read, rest_not_long, out_at_quit, gave_quit, piece_cut_off, piece_stops_short, piece_prefixes, piece_not_read}
+use Rattle.roman_hearing.proofs.HearingEnds.{rest_ends, out_at_quit, gave_quit, piece_ends}
 use Rattle.roman_hearing.proofs.hearing.hear.Goals as goal
 
 pub takes-init : goal.takes-init
@@ -21,41 +21,26 @@ takes-init g c = record {
 
 -- ---- at the end of the source
 
-pub returns-then-count-eq0-clause-ok : goal.returns-then-count-eq0-clause-ok
-returns-then-count-eq0-clause-ok g c =
-    rest_out c.args.session.now c.hear_rest.new.session (g.S.Source.rest c.args.source.now) (g.S.Source.rest c.takes.source) c.takes.invariant.taken c.in-Ok.count
+pub returns-then-count-eq0 : goal.returns-then-count-eq0
+returns-then-count-eq0 g c =
+    let ends = rest_ends c.args.session.now c.hear_rest.new.session (g.S.Source.rest c.args.source.now) (g.S.Source.rest c.takes.source) c.takes.invariant.taken c.in-Ok.count
     (g.O.Sink.written c.args.out.now) (g.O.Sink.written c.hear_rest.new.out) c.takes.invariant.gave (c.in-Ok.ensures.ends (omega (arith, c.takes.invariant.piece, c.take.auto.into))) c.if-count-eq0.true
-    (omega (arith, c.takes.invariant.room)) c.hear_rest.result (c.hear_rest.ensures.hears c.args.session.now (g.O.Sink.written c.args.out.now) c.takes.invariant.taken c.takes.invariant.hearing)
-
-pub returns-then-count-eq0-clause-too_long : goal.returns-then-count-eq0-clause-too_long
-returns-then-count-eq0-clause-too_long g c is =
-    absurd (rest_not_long c.args.session.now c.hear_rest.new.session c.takes.invariant.taken (g.O.Sink.written c.args.out.now) (g.O.Sink.written c.hear_rest.new.out) c.hear_rest.result
-    (c.hear_rest.ensures.hears c.args.session.now (g.O.Sink.written c.args.out.now) c.takes.invariant.taken c.takes.invariant.hearing) is)
-
-pub returns-then-count-eq0-clause-read_fault : goal.returns-then-count-eq0-clause-read_fault
-returns-then-count-eq0-clause-read_fault g c is =
-    absurd (rest_not_read c.args.session.now c.hear_rest.new.session c.takes.invariant.taken (g.O.Sink.written c.args.out.now) (g.O.Sink.written c.hear_rest.new.out) c.hear_rest.result
-    (c.hear_rest.ensures.hears c.args.session.now (g.O.Sink.written c.args.out.now) c.takes.invariant.taken c.takes.invariant.hearing) is)
-
-pub returns-then-count-eq0-clause-write_fault : goal.returns-then-count-eq0-clause-write_fault
-returns-then-count-eq0-clause-write_fault g c is =
-    rest_stops_short c.args.session.now c.hear_rest.new.session (g.S.Source.rest c.args.source.now) (g.S.Source.rest c.takes.source) (g.S.Source.rest c.take.new.self) c.takes.invariant.taken
-    c.take.new.into c.in-Ok.count (g.O.Sink.written c.args.out.now) (g.O.Sink.written c.hear_rest.new.out) c.hear_rest.result c.takes.invariant.gave c.in-Ok.ensures.moves
-    (c.in-Ok.ensures.ends (omega (arith, c.takes.invariant.piece, c.take.auto.into))) c.if-count-eq0.true (omega (arith, c.takes.invariant.room))
-    (c.hear_rest.ensures.hears c.args.session.now (g.O.Sink.written c.args.out.now) c.takes.invariant.taken c.takes.invariant.hearing) is
-
-pub returns-then-count-eq0-clause-prefix : goal.returns-then-count-eq0-clause-prefix
-returns-then-count-eq0-clause-prefix g c is behaviours =
-    rest_prefixes c.args.session.now c.hear_rest.new.session (g.S.Source.rest c.args.source.now) (g.S.Source.rest c.takes.source) c.takes.invariant.taken c.in-Ok.count
-    (g.O.Sink.written c.args.out.now) (g.O.Sink.written c.hear_rest.new.out) c.takes.invariant.gave (c.in-Ok.ensures.ends (omega (arith, c.takes.invariant.piece, c.take.auto.into))) c.if-count-eq0.true
-    (omega (arith, c.takes.invariant.room)) c.hear_rest.result (c.hear_rest.ensures.hears c.args.session.now (g.O.Sink.written c.args.out.now) c.takes.invariant.taken c.takes.invariant.hearing) is
-
-pub returns-then-count-eq0-clause-reads : goal.returns-then-count-eq0-clause-reads
-returns-then-count-eq0-clause-reads g c = record {
-  rose = λ is. absurd (rest_not_read c.args.session.now c.hear_rest.new.session c.takes.invariant.taken (g.O.Sink.written c.args.out.now) (g.O.Sink.written c.hear_rest.new.out) c.hear_rest.result
-      (c.hear_rest.ensures.hears c.args.session.now (g.O.Sink.written c.args.out.now) c.takes.invariant.taken c.takes.invariant.hearing) is);
-  stayed = λ is. c.in-Ok.ensures.cause.stays ∙ c.takes.invariant.reads;
-}
+    (omega (arith, c.takes.invariant.room)) (g.S.Source.rest c.take.new.self) c.take.new.into c.hear_rest.result c.in-Ok.ensures.moves
+    (c.hear_rest.ensures.hears c.args.session.now (g.O.Sink.written c.args.out.now) c.takes.invariant.taken c.takes.invariant.hearing) in
+    record {
+      ok = ends.ok;
+      too_long = ends.too_long;
+      read_fault = λ is. absurd (ends.untroubled is);
+      write_fault = ends.write_fault;
+      prefix = ends.prefix;
+      reads = record { rose = λ is. absurd (ends.untroubled is); stayed = λ is. c.in-Ok.ensures.cause.stays ∙ c.takes.invariant.reads };
+      writes = search rules;
+      taken = gave_at_most 16781312 (g.S.Source.rest c.args.source.now) (g.S.Source.rest c.takes.source) (g.S.Source.rest c.take.new.self) c.takes.invariant.taken (take c.in-Ok.count c.take.new.into)
+          c.takes.invariant.gave c.in-Ok.ensures.moves (omega (arith, c.takes.invariant.room, c.takes.invariant.piece, c.take.auto.into, c.in-Ok.ensures.bound, length-take-le c.in-Ok.count c.take.new.into c.in-Ok.ensures.bound));
+      past = search rules;
+      borrowed = search rules;
+      texts = search rules;
+    }
 
 -- ---- within a piece
 
@@ -104,39 +89,22 @@ returns-in-Ok-Quit-clause-past g c =
     (omega (arith, c.takes.invariant.piece, c.take.auto.into, c.in-Ok.ensures.bound, length-take-le c.in-Ok.count c.take.new.into c.in-Ok.ensures.bound))
     (rw c.in-Ok-Quit.field-0-is at (c.in-Ok-Quit.ensures.hears c.args.session.now (g.O.Sink.written c.args.out.now) c.takes.invariant.taken c.takes.invariant.hearing)))
 
-pub returns-in-Err-clause-too_long : goal.returns-in-Err-clause-too_long
-returns-in-Err-clause-too_long g c is =
-    piece_cut_off c.args.session.now c.hear_piece.new.session (g.S.Source.rest c.args.source.now) (g.S.Source.rest c.takes.source) (g.S.Source.rest c.take.new.self) c.takes.invariant.taken
+pub returns-in-Err : goal.returns-in-Err
+returns-in-Err g c =
+    let ends = piece_ends c.args.session.now c.hear_piece.new.session (g.S.Source.rest c.args.source.now) (g.S.Source.rest c.takes.source) (g.S.Source.rest c.take.new.self) c.takes.invariant.taken
     (take c.in-Ok.count c.take.new.into) c.takes.room (g.O.Sink.written c.args.out.now) (g.O.Sink.written c.hear_piece.new.out) c.takes.invariant.gave c.in-Ok.ensures.moves c.takes.invariant.room
-    c.hear_piece.new.splitter c.in-Err.error (c.in-Err.ensures.hears c.args.session.now (g.O.Sink.written c.args.out.now) c.takes.invariant.taken c.takes.invariant.hearing) cc
-
-pub returns-in-Err-clause-read_fault : goal.returns-in-Err-clause-read_fault
-returns-in-Err-clause-read_fault g c is =
-    absurd (piece_not_read c.args.session.now c.hear_piece.new.session (g.S.Source.rest c.args.source.now) (g.S.Source.rest c.takes.source) (g.S.Source.rest c.take.new.self) c.takes.invariant.taken
-    (take c.in-Ok.count c.take.new.into) c.takes.room (g.O.Sink.written c.args.out.now) (g.O.Sink.written c.hear_piece.new.out) c.takes.invariant.gave c.in-Ok.ensures.moves c.takes.invariant.room
-    c.hear_piece.new.splitter c.in-Err.error (c.in-Err.ensures.hears c.args.session.now (g.O.Sink.written c.args.out.now) c.takes.invariant.taken c.takes.invariant.hearing) cc)
-
-pub returns-in-Err-clause-write_fault : goal.returns-in-Err-clause-write_fault
-returns-in-Err-clause-write_fault g c is =
-    piece_stops_short c.args.session.now c.hear_piece.new.session (g.S.Source.rest c.args.source.now) (g.S.Source.rest c.takes.source) (g.S.Source.rest c.take.new.self) c.takes.invariant.taken
-    (take c.in-Ok.count c.take.new.into) c.takes.room (g.O.Sink.written c.args.out.now) (g.O.Sink.written c.hear_piece.new.out) c.takes.invariant.gave c.in-Ok.ensures.moves c.takes.invariant.room
-    c.hear_piece.new.splitter c.in-Err.error (c.in-Err.ensures.hears c.args.session.now (g.O.Sink.written c.args.out.now) c.takes.invariant.taken c.takes.invariant.hearing) cc
-
-pub returns-in-Err-clause-prefix : goal.returns-in-Err-clause-prefix
-returns-in-Err-clause-prefix g c is behaviours =
-    piece_prefixes c.args.session.now c.hear_piece.new.session (g.S.Source.rest c.args.source.now) (g.S.Source.rest c.takes.source) (g.S.Source.rest c.take.new.self) c.takes.invariant.taken
-    (take c.in-Ok.count c.take.new.into) c.takes.room (g.O.Sink.written c.args.out.now) (g.O.Sink.written c.hear_piece.new.out) c.takes.invariant.gave c.in-Ok.ensures.moves c.takes.invariant.room
-    c.hear_piece.new.splitter c.in-Err.error (c.in-Err.ensures.hears c.args.session.now (g.O.Sink.written c.args.out.now) c.takes.invariant.taken c.takes.invariant.hearing) (cc) behaviours
-
-pub returns-in-Err-clause-reads : goal.returns-in-Err-clause-reads
-returns-in-Err-clause-reads g c = record {
-  rose = λ is. absurd (piece_not_read c.args.session.now c.hear_piece.new.session (g.S.Source.rest c.args.source.now) (g.S.Source.rest c.takes.source) (g.S.Source.rest c.take.new.self) c.takes.invariant.taken
-      (take c.in-Ok.count c.take.new.into) c.takes.room (g.O.Sink.written c.args.out.now) (g.O.Sink.written c.hear_piece.new.out) c.takes.invariant.gave c.in-Ok.ensures.moves c.takes.invariant.room
-      c.hear_piece.new.splitter c.in-Err.error (c.in-Err.ensures.hears c.args.session.now (g.O.Sink.written c.args.out.now) c.takes.invariant.taken c.takes.invariant.hearing) cc);
-  stayed = λ is. c.in-Ok.ensures.cause.stays ∙ c.takes.invariant.reads;
-}
-
-pub returns-in-Err-clause-taken : goal.returns-in-Err-clause-taken
-returns-in-Err-clause-taken g c =
-    gave_at_most 16781312 (g.S.Source.rest c.args.source.now) (g.S.Source.rest c.takes.source) (g.S.Source.rest c.take.new.self) c.takes.invariant.taken (take c.in-Ok.count c.take.new.into)
-    c.takes.invariant.gave c.in-Ok.ensures.moves (omega (arith, c.takes.invariant.room, c.takes.invariant.piece, c.take.auto.into, c.in-Ok.ensures.bound, length-take-le c.in-Ok.count c.take.new.into c.in-Ok.ensures.bound))
+    c.hear_piece.new.splitter c.in-Err.error (c.in-Err.ensures.hears c.args.session.now (g.O.Sink.written c.args.out.now) c.takes.invariant.taken c.takes.invariant.hearing) in
+    record {
+      ok = search rules;
+      too_long = ends.too_long;
+      read_fault = λ is. absurd (ends.untroubled is);
+      write_fault = ends.write_fault;
+      prefix = ends.prefix;
+      reads = record { rose = λ is. absurd (ends.untroubled is); stayed = λ is. c.in-Ok.ensures.cause.stays ∙ c.takes.invariant.reads };
+      writes = search rules;
+      taken = gave_at_most 16781312 (g.S.Source.rest c.args.source.now) (g.S.Source.rest c.takes.source) (g.S.Source.rest c.take.new.self) c.takes.invariant.taken (take c.in-Ok.count c.take.new.into)
+          c.takes.invariant.gave c.in-Ok.ensures.moves (omega (arith, c.takes.invariant.room, c.takes.invariant.piece, c.take.auto.into, c.in-Ok.ensures.bound, length-take-le c.in-Ok.count c.take.new.into c.in-Ok.ensures.bound));
+      past = search rules;
+      borrowed = search rules;
+      texts = search rules;
+    }

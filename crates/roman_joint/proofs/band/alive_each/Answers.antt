@@ -1,34 +1,25 @@
-use Rattle.roman_joint.proofs.Common.{ℕ, ◌+◌, ◌-◌, ◌*◌, ◌<◌, ◌∙◌, not, ◌&&◌, ap, drop, get_or, length, slice_index, arith, get_or_append_left, list_any, is_on, system_of, band_in, turn_at, length-take}
+use Rattle.roman_joint.proofs.Common.{◌+◌, ◌-◌, ◌*◌, ◌<◌, ◌∙◌, not, ◌&&◌, ap, drop, get_or, length, slice_index, arith, get_or_append_left, length-take, list_any, is_on, system_of, band_in}
 use Rattle.roman_joint.proofs.Finds.{in_at}
-use Rattle.roman_joint.proofs.SplitLemmas.{joint_sizes}
-use Rattle.roman_joint.proofs.GoodLemmas.{known, RowsThere}
-use Rattle.roman_joint.proofs.BandLemmas.{first_in, there_at, alive_at}
+use Rattle.roman_joint.proofs.GoodLemmas.{known}
+use Rattle.roman_joint.proofs.BandLemmas.{BandThere, band_there, alive_at}
 use Rattle.roman_joint.proofs.band.alive_each.Goals as goal
 use Rattle.roman_joint.proofs.band.alive_each.Goals.{After-layout-rows}
 
-there : (c : After-layout-rows) (i : ℕ) → i < band_in (system_of c.args.joint.now) → RowsThere c.layout-rows.result.now (turn_at c.args.turn.now.to i) (length c.args.turn.now.words.now)
-there c i l =
+all : (c : After-layout-rows) → BandThere (system_of c.args.joint.now) c.layout-rows.result.now c.args.turn.now.to (length c.args.turn.now.words.now)
+all c =
     let (y, is) = c.requires.turn in
-    let row = c.args.turn.now.row.now in
-    let n = c.args.joint.now in
-    let s = system_of n in
-    there_at s c.layout-rows.result.now y c.args.turn.now.action row c.args.turn.now.to (known n (y * band_in s) row c.layout-rows.ensures.known is.row) c.layout-rows.ensures.rows is.to i (length c.args.turn.now.words.now) l is.room
-
-some_row : (c : After-layout-rows) → 0 < band_in (system_of c.args.joint.now)
-some_row c = first_in (system_of c.args.joint.now) (joint_sizes c.args.joint.now c.layout-rows.ensures.known)
+    let s = system_of c.args.joint.now in
+    band_there s _ y _ _ _ (known c.args.joint.now (y * band_in s) c.args.turn.now.row.now c.layout-rows.ensures.known is.row) c.layout-rows.ensures.rows is.to _ is.room
 
 pub rows_alive_each-requires-clause-fits : goal.rows_alive_each-requires-clause-fits
 rows_alive_each-requires-clause-fits c i d l =
-    let at = (goal.at.rows_alive_each-requires-clause-fits c).After-layout-rows in
-    let all = there at 0 (some_row at) in
+    let all = all (goal.at.rows_alive_each-requires-clause-fits c).After-layout-rows in
     omega (arith, all.there (get_or c.args.turn.now.to.envs.now i d) (in_at c.args.turn.now.to.envs.now i d l), all.few)
 
 pub rows_alive_each-requires-clause-within : goal.rows_alive_each-requires-clause-within
 rows_alive_each-requires-clause-within c i d l =
-    let at = (goal.at.rows_alive_each-requires-clause-within c).After-layout-rows in
-    let some = some_row at in
-    let last = band_in (system_of c.args.joint.now) - 1 in
-    omega (arith, some, c.layout-rows.ensures.rows.band, c.set_first.ensures.long, length-take c.layout-rows.result.now.band c.args.alive.now, c.requires.long, (there at last (omega (arith, some))).there (get_or c.args.turn.now.to.envs.now i d) (in_at c.args.turn.now.to.envs.now i d l))
+    let all = all (goal.at.rows_alive_each-requires-clause-within c).After-layout-rows in
+    omega (arith, all.there (get_or c.args.turn.now.to.envs.now i d) (in_at c.args.turn.now.to.envs.now i d l), c.layout-rows.ensures.rows.band, c.set_first.ensures.long, length-take c.layout-rows.result.now.band c.args.alive.now, c.requires.long)
 
 pub returns-clause-alive : goal.returns-clause-alive
 returns-clause-alive c gone rows =

@@ -1,7 +1,6 @@
 use Rattle.roman_joint.proofs.Common.{◌/◌, ◌&&◌, slice_get, slice_index, ap, ◌∙◌, arith, le-ltb, lt-ltb, mod_below, sizes_of, stride_of, AreSizes-index, system_of, lane_state_of, may_rest, on_zero}
 use Rattle.roman_joint.proofs.SplitLemmas.{joint_sizes}
-use Rattle.roman_joint.proofs.GoodLemmas.{within, below_more, state_is}
-use Rattle.roman_joint.proofs.AllowedLemmas.{same_state}
+use Rattle.roman_joint.proofs.GoodLemmas.{within, one_more, state_is}
 use Rattle.roman_joint.proofs.fine.rests_within.Goals as goal
 
 pub state_lanes-in_state-requires-clause-state : goal.state_lanes-in_state-requires-clause-state
@@ -18,7 +17,7 @@ pub loop-b-init : goal.loop-b-init
 loop-b-init c lane l = grind (arith, le-ltb, on_zero)
 
 pub loop-b-preserved : goal.loop-b-preserved
-loop-b-preserved c lane l = grind (arith, below_more, same_state, state_is)
+loop-b-preserved c lane l = grind (arith, one_more, state_is)
 
 pub returns : goal.returns
 returns c lane l =

@@ -1,5 +1,4 @@
-use Rattle.roman_joint.proofs.Common.{ℕ, get_or, sym, ◌∙◌, arith, take_all, shr_and_one, system_of, env_steps, MarksEnv}
-use Rattle.std.proofs.lemmas.List.Sums.{sum_by_more}
+use Rattle.roman_joint.proofs.Common.{ℕ, get_or, sym, ◌∙◌, arith, take_all, shr_and_one, system_of, env_steps, MarksEnv, sum_by_more}
 use Rattle.roman_joint.proofs.MarkLemmas.{grows_on, env_on, more_below, each_in, none_leads}
 use Rattle.roman_joint.proofs.marks.mark_action.Goals as goal
 

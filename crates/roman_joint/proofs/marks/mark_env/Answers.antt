@@ -1,5 +1,4 @@
-use Rattle.roman_joint.proofs.Common.{ℕ, get_or, arith, take_all, system_of, turn_steps, MarksTurn}
-use Rattle.std.proofs.lemmas.List.Sums.{sum_by_more}
+use Rattle.roman_joint.proofs.Common.{ℕ, get_or, arith, take_all, system_of, turn_steps, MarksTurn, sum_by_more}
 use Rattle.roman_joint.proofs.MarkLemmas.{grows_on, turn_on, more_below, each_in}
 use Rattle.roman_joint.proofs.marks.mark_env.Goals as goal
 

@@ -1,4 +1,4 @@
-use Rattle.roman_joint.proofs.Common.{ℕ, ◌+◌, ◌≡◌, ◌/◌, ◌<◌, sum_by, below, system_of, seat_steps, band_in, Grows, IsMarked, row_at, MarksSeat}
+use Rattle.roman_joint.proofs.Common.{ℕ, ◌+◌, ◌≡◌, ◌/◌, ◌<◌, sum_by, below, system_of, seat_steps, Grows, IsMarked, row_at, MarksSeat, band_in}
 use Rattle.roman_joint.proofs.marks.mark_turn.Given as goal
 
 -- the bands of the seats so far are marked

@@ -1,26 +1,22 @@
-use Rattle.roman_relation.proofs.Common.{◌≡◌, ℕ, ◌+◌, ◌*◌, length, sum_by, ap, ◌∙◌, arith, below, is_listed, mask, sum_by_same, sum_below_more}
+use Rattle.roman_relation.proofs.Common.{◌≡◌, ℕ, ◌+◌, ◌*◌, length, sum_by, ap, ◌∙◌, arith, below, is_listed, mask, sum_by_same}
+use Rattle.roman_rules.proofs.CallerLemmas.{sum_below_more}
 use Rattle.roman_rules.proofs.CallerLemmas.{sum_turned}
 use Rattle.roman_relation.proofs.Bands.{band_begins}
-use Rattle.roman_relation.proofs.Lanes.{words_rows, shaped_pairs}
+use Rattle.roman_relation.proofs.Lanes.{words_rows}
 use Rattle.roman_relation.proofs.masks.band_choices.Goals as goal
 
 pub first_row-row-requires : goal.first_row-row-requires
-first_row-row-requires g c =
-    let A = g.J.Rules.arena c.args.joint.now in
-    let n = g.J.Rules.lanes c.args.joint.now in
-    let b = c.args.order.now in
-    omega (arith, band_begins n (c.args.y * g.J.Rules.band c.args.joint.now) b.rows c.requires.band c.known.ensures.lanes.0, shaped_pairs A n b c.requires.shaped)
+first_row-row-requires g c = band_begins _ _ _ c.args.order.now c.requires.shaped c.requires.band c.known.ensures.lanes.0
 
 pub loop-a-preserved : goal.loop-a-preserved
 loop-a-preserved g c =
     let A = g.J.Rules.arena c.args.joint.now in
     let n = g.J.Rules.lanes c.args.joint.now in
     let w = g.J.Rules.band c.args.joint.now in
-    let b = c.args.order.now in
-    let words = c.words-words.result.now in
-    let rows = words_rows A c.known.ensures.numbered n b words c.requires.shaped c.words-words.ensures.alive in
-    let counted = c.choices.ensures.counted c.args.y (is_listed A b.list) c.first_row-row.ensures rows in
-    let more = sum_below_more (λ a. sum_by (λ i. sum_by (λ lane. length (mask A (is_listed A b.list) ((c.args.y * w + i) * n + lane) a)) (below n)) (below w)) c.loop-a.a in
+    let gone = is_listed A c.args.order.now.list in
+    let rows = words_rows A c.known.ensures.numbered _ _ _ c.requires.shaped c.words-words.ensures.alive in
+    let counted = c.choices.ensures.counted c.args.y gone c.first_row-row.ensures rows in
+    let more = sum_below_more (λ a. sum_by (λ i. sum_by (λ lane. length (mask A gone ((c.args.y * w + i) * n + lane) a)) (below n)) (below w)) c.loop-a.a in
     record {
       counted = omega (arith, c.loop-a.invariant.counted, c.from-count.ensures, counted, more);
       bound = omega (arith, c.loop-a.invariant.bound, c.from-count.ensures, c.choices.ensures.few);

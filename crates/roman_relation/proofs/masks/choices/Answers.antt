@@ -1,19 +1,11 @@
-use Rattle.roman_relation.proofs.Common.{◌≡◌, ℕ, ◌+◌, ◌*◌, length, sum_by, sym, ap, ◌∙◌, arith, below, is_listed, mask, sum_below_more}
-use Rattle.roman_relation.proofs.Bands.{band_ends, whole_bands}
+use Rattle.roman_relation.proofs.Common.{◌≡◌, ℕ, ◌+◌, ◌*◌, length, sum_by, sym, ap, ◌∙◌, arith, below, is_listed, mask}
+use Rattle.roman_relation.proofs.Bands.{band_inside}
 use Rattle.roman_relation.proofs.Choosing.{sum_rows}
 use Rattle.roman_relation.proofs.masks.choices.Goals as goal
 
 pub band_choices-count-requires-clause-band : goal.band_choices-count-requires-clause-band
 band_choices-count-requires-clause-band g c =
-    let A = g.J.Rules.arena c.args.joint.now in
-    let n = g.J.Rules.lanes c.args.joint.now in
-    let w = g.J.Rules.band c.args.joint.now in
-    let m = c.bands-y-end.result in
-    let rows = whole_bands A n w m c.args.order.now c.requires c.known.ensures.lanes.0 c.bands-y-end.ensures in
-    omega (arith, band_ends w c.loop-y.y m c.loop-y-test.true, rows, c.known.ensures.band.0)
-
-pub loop-y-preserved : goal.loop-y-preserved
-loop-y-preserved g c = grind (arith, sum_below_more)
+    omega (arith, band_inside _ _ _ _ _ c.args.order.now c.requires c.known.ensures.lanes.0 c.bands-y-end.ensures c.loop-y-test.true, c.known.ensures.band.0)
 
 pub returns : goal.returns
 returns g c =

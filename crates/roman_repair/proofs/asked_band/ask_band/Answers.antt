@@ -1,25 +1,28 @@
-use Rattle.roman_repair.proofs.Common.{◌+◌, ◌*◌, IsTrue, length, sym, ap, subst, arith, is_justified, readings_of_reason, readings_of-allowed, is_possible}
-use Rattle.roman_repair.proofs.BandAnswers.{full_lane, kept_of_all}
+use Rattle.roman_repair.proofs.Common.{arith, readings_of-allowed}
+use Rattle.roman_repair.proofs.BandAnswers.{full_lane, kept_full}
 use Rattle.roman_repair.proofs.asked_band.ask_band.Goals as goal
 
-pub returns-in-Final-clause-holds : goal.returns-in-Final-clause-holds
-returns-in-Final-clause-holds g c gone words i lane h l =
-    let A = g.J.Rules.arena c.args.joint.now in
-    let p = (c.args.y * g.J.Rules.band c.args.joint.now + i) * g.J.Rules.lanes c.args.joint.now + lane in
-    let few = c.lanes.ensures.few.1 in
-    let full = full_lane c.fill.new.self (length c.args.held.now) c.lanes.result i lane (c.fill.ensures.after (λ y same. same)) (omega (arith, c.requires.long, h)) few (omega (arith, c.lanes.ensures.value, l)) in
-    kept_of_all _ _ _ _ ((c.unfine_band.ensures.unfine c.args.y c.first_row-row.ensures).each i lane h l) full (ap (is_justified A gone p) (sym c.in-Final.is))
+pub returns-in-None-clause-passes : goal.returns-in-None-clause-passes
+returns-in-None-clause-passes g c gone words i lane h l =
+    rw (c.in-None.is, c.in-Final.is)
+    (kept_full _ _ _ _ _ _ _ i lane _ (c.fill.ensures.after (λ y same. same)) c.requires.long c.lanes.ensures.value c.lanes.ensures.few.1 (c.unfine_band.ensures.unfine c.args.y c.first_row-row.ensures) h l)
 
-pub returns-clause-holds : goal.returns-clause-holds
-returns-clause-holds g c gone words i lane h l =
-    let A = g.J.Rules.arena c.args.joint.now in
-    let p = (c.args.y * g.J.Rules.band c.args.joint.now + i) * g.J.Rules.lanes c.args.joint.now + lane in
-    let few = c.lanes.ensures.few.1 in
-    let full = full_lane c.fill.new.self (length c.args.held.now) c.lanes.result i lane (c.fill.ensures.after (λ y same. same)) (omega (arith, c.requires.long, h)) few (omega (arith, c.lanes.ensures.value, l)) in
-    kept_of_all _ _ _ _ ((c.unserved_band.ensures.lost c.args.y gone c.first_row-row.ensures words).each i lane h l) full (ap (is_justified A gone p) (sym c.in-Act.is))
+pub returns-in-Final-clause-passes : goal.returns-in-Final-clause-passes
+returns-in-Final-clause-passes g c gone words i lane h l =
+    rw (c.in-Some.is, c.in-Final.is)
+    (full_lane c.fill.new.self _ _ i lane (c.fill.ensures.after (λ y same. same)) (omega (arith, c.requires.long, h)) c.lanes.ensures.few.1 (omega (arith, c.lanes.ensures.value, l)))
 
-pub returns-clause-cost : goal.returns-clause-cost
-returns-clause-cost g c p possible =
-    let A = g.J.Rules.arena c.args.joint.now in
-    let allowed : IsTrue (A.allows p c.in-Act.a) = subst (λ r. IsTrue (is_possible A p r)) c.in-Act.is possible in
-    omega (arith, c.tick_seats.ensures, ap (readings_of_reason A p) c.in-Act.is, readings_of-allowed A p c.in-Act.a allowed)
+pub returns-in-None-alone-clause-passes : goal.returns-in-None-alone-clause-passes
+returns-in-None-alone-clause-passes g c gone words i lane h l =
+    rw (c.in-None-alone.is, c.in-Act.is)
+    (kept_full _ _ _ _ _ _ _ i lane _ (c.fill.ensures.after (λ y same. same)) c.requires.long c.lanes.ensures.value c.lanes.ensures.few.1 (c.unserved_band.ensures.lost c.args.y gone c.first_row-row.ensures words) h l)
+
+pub returns-in-None-alone-clause-cost : goal.returns-in-None-alone-clause-cost
+returns-in-None-alone-clause-cost g c p possible =
+    let allowed = rw c.in-Act.is at possible in
+    rw (c.in-None-alone.is, c.in-Act.is) (omega (arith, c.tick_seats.ensures, readings_of-allowed (g.J.Rules.arena c.args.joint.now) p c.in-Act.a allowed))
+
+pub returns-clause-passes : goal.returns-clause-passes
+returns-clause-passes g c gone words i lane h l =
+    rw (c.in-Some-alone.is, c.in-Act.is)
+    (kept_full _ _ _ _ _ _ _ i lane _ (c.fill.ensures.after (λ y same. same)) c.requires.long c.lanes.ensures.value c.lanes.ensures.few.1 (c.clear_served.ensures.left c.args.y gone c.first_row-row.ensures words) h l)

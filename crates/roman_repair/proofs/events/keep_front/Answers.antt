@@ -1,58 +1,50 @@
-use Rattle.roman_repair.proofs.Common.{◌≡◌, ℕ, ◌-◌, ◌++◌, true, IsTrue, IsFalse, sym, ap, ◌∙◌, arith, refl, append_assoc, map-append, as_entry, ◌+◌, ◌*◌, in_lanes, is_listed, is_justified, is_on, set_lanes, with_replay, words_rows, none-some}
-use Rattle.roman_order.proofs.CallerLemmas.{some_lane}
-use Rattle.roman_repair.specs.Judging.{lane_entries}
-use Rattle.roman_repair.proofs.Keeping.{with_replay_append}
-use Rattle.roman_repair.proofs.Fronts.{word_fits, judged_row, on_not_off, with_replay_all, with_replay_none}
-use Rattle.roman_repair.proofs.Replayed.{lane_possible, entries_by, paid, some_judged, never_both, judged}
+use Rattle.roman_repair.proofs.Common.{refl, sym, ◌∙◌, subst, arith, is_listed}
+use Rattle.roman_relation.proofs.CallerLemmas.{words_rows}
+use Rattle.roman_repair.specs.Lanes.{HasFront}
+use Rattle.roman_repair.proofs.Replayed.{dropped, in_row, lane_alive, listed, row_there, seat_in}
 use Rattle.roman_repair.proofs.events.keep_front.Goals as goal
 
-pub returns-then-front-ne0 : goal.returns-then-front-ne0
-returns-then-front-ne0 g c =
+pub returns-then-holds : goal.returns-then-holds
+returns-then-holds g c =
     let A = g.J.Rules.arena c.args.joint.now in
-    let n = g.J.Rules.lanes c.args.joint.now in
-    let L = c.args.order.now.list in
-    let e = c.args.event in
-    let split = c.split_lanes-front.ensures in
-    let front = set_lanes c.split_lanes-front.result.0 in
-    let event = c.requires.event in
-    judged A n _ e c.args.order.now _ _ _ _ _ front front event.shaped split.parts (split.some c.if-front-ne0.true) split.in_rest
-    (with_replay_all A L (lane_entries n e front) (entries_by n e front (λ y. IsTrue (is_justified A (is_listed A L) y.node y.reason)) (λ lane i.
-    let (l, on) = in_lanes c.split_lanes-front.result.0 lane i in
-    c.known_at.ensures A n (is_listed A L) event.ready.known lane (event.within lane (split.in_front lane on)) (on_not_off c.known_at.result lane c.known_at.type_inv l (split.apart lane on)))))
-    c.push_lanes.ensures (λ k t. (t, refl)) event.ready.known (omega arith)
+    let known = c.requires.ready.1.known in
+    let done = listed A (g.J.Rules.lanes c.args.joint.now) _ _ _ c.args.event c.args.order.now _ _ _ _ _ c.requires (subst (HasFront _ _ _ _) c.if-holds.true c.first_alike-front.ensures)
+    (c.known_at-known.ensures A _ (is_listed A c.args.order.now.list) known).each refl known (λ lane l possible. omega arith) c.push_lanes.ensures in
+    record { fewer = done.0; judged = done.1 }
 
-pub ask-held-requires-clause-ask : goal.ask-held-requires-clause-ask
-ask-held-requires-clause-ask g c =
-    let row = judged_row _ _ _ _ _ _ c.known.ensures.numbered c.known.ensures.lanes.1 c.requires in
-    record { row = row.node; reason = row.action; room = grind arith }
+pub ask-held-requires : goal.ask-held-requires
+ask-held-requires g c =
+    let row = in_row _ _ _ _ _ c.known.ensures.numbered c.requires in
+    record { seat = seat_in (g.J.Rules.arena c.args.joint.now) _ _ _ c.requires.ready.1.may; row = row.node; reason = row.action; room = grind arith }
+
+pub returns-then-holds-2 : goal.returns-then-holds-2
+returns-then-holds-2 g c =
+    let A = g.J.Rules.arena c.args.joint.now in
+    let L = c.args.order.now.list in
+    let held = c.ask-held.ensures in
+    let rows = words_rows A c.known.ensures.numbered _ c.args.order.now c.words.result.now c.requires.shaped c.words.ensures.alive in
+    let done = listed A (g.J.Rules.lanes c.args.joint.now) _ _ _ c.args.event c.args.order.now _ _ _ _ _ c.requires (subst (HasFront _ _ _ _) c.if-holds-2.true c.first_alike-front-2.ensures)
+    (λ lane l on. sym (held.holds (is_listed A L) rows lane l) ∙ on) held.alone (held.known (is_listed A L) rows c.requires.ready.1.known) (λ lane l possible. omega (arith, held.cost lane l possible)) c.push_lanes-then-holds-2.ensures in
+    record { fewer = done.0; judged = done.1 }
 
 pub returns : goal.returns
 returns g c =
     let A = g.J.Rules.arena c.args.joint.now in
-    let n = g.J.Rules.lanes c.args.joint.now in
     let L = c.args.order.now.list in
-    let e = c.args.event in
-    let held = c.ask-held.result in
-    let event = c.requires.event in
-    let first = c.split_lanes-from_held.ensures in
-    let second = c.split_lanes-front-2.ensures in
-    let off = set_lanes c.split_lanes-from_held.result.0 in
-    let front = set_lanes c.split_lanes-front-2.result.0 in
-    let rest = set_lanes c.split_lanes-front-2.result.1 in
-    let rows = words_rows A c.known.ensures.numbered n c.args.order.now c.words.result.now event.shaped c.words.ensures.alive in
-    let holds = λ (lane : ℕ) (on : is_on e.lanes lane ≡ true). c.ask-held.ensures.holds (is_listed A L) rows lane (event.within lane on) in
-    let parts : set_lanes e.lanes ≡ (off ++ front) ++ rest = first.parts ∙ ap (λ ls. off ++ ls) second.parts ∙ sym (append_assoc off front rest) in
-    let some = some_judged held _ (set_lanes e.lanes) off _ front rest (λ lane l. never_both held lane c.ask-held.type_inv l) (some_lane e.lanes c.requires.some (word_fits e.lanes n c.known.ensures.lanes.1 event.within))
-    (λ lane i. (in_lanes e.lanes lane i).0) first.parts second.parts first.next second.next in
-    let alone = c.ask-held.ensures.alone ∙ c.requires.alone in
-    let reading : ℕ = c.ask-held.new.steps - c.args.steps.now in
-    let cost = paid A n e (off ++ front) rest reading parts some (λ lane l on. omega (arith, c.ask-held.ensures.cost lane (event.within lane on) (lane_possible A n _ _ e lane event l on))) in
-    judged A n _ e c.args.order.now _ _ _ _ _ (off ++ front) front event.shaped parts some (λ lane on. first.in_rest lane (second.in_rest lane on))
-    (ap (with_replay A L) (map-append (λ lane. as_entry (e.row * n + lane, e.reason)) off front) ∙ with_replay_append A L (lane_entries n e off) (lane_entries n e front)
-    ∙ ap (λ K. with_replay A K (lane_entries n e front)) (with_replay_none A L (lane_entries n e off) (entries_by n e off (λ y. IsFalse (is_justified A (is_listed A L) y.node y.reason)) (λ lane i.
-    let (l, on) = in_lanes c.split_lanes-from_held.result.0 lane i in
-    sym (holds lane (first.in_front lane on)) ∙ first.apart lane on)))
-    ∙ with_replay_all A L (lane_entries n e front) (entries_by n e front (λ y. IsTrue (is_justified A (is_listed A L) y.node y.reason)) (λ lane i.
-    let (l, on) = in_lanes c.split_lanes-front-2.result.0 lane i in
-    sym (holds lane (first.in_rest lane (second.in_front lane on))) ∙ on_not_off held lane c.ask-held.type_inv l (second.apart lane on))))
-    c.push_lanes-2.ensures (λ k t. absurd (none-some k (sym alone ∙ t))) (c.ask-held.ensures.known (is_listed A L) rows event.ready.known) (omega (arith, cost))
+    let held = c.ask-held.ensures in
+    let rows = words_rows A c.known.ensures.numbered _ c.args.order.now c.words.result.now c.requires.shaped c.words.ensures.alive in
+    let done = dropped A (g.J.Rules.lanes c.args.joint.now) _ _ _ c.args.event c.args.order.now _ _ _ _ c.requires (subst (HasFront _ _ _ _) c.if-holds-2.false c.first_alike-front-2.ensures) (held.holds (is_listed A L) rows) c.ask_all.ensures.alone
+    (c.ask_all.ensures.known A _ (is_listed A L) (held.known (is_listed A L) rows c.requires.ready.1.known)) (λ lane l possible. omega (arith, held.cost lane l possible)) in
+    record { fewer = done.0; judged = done.1 }
+
+pub push_lanes-requires-clause-row : goal.push_lanes-requires-clause-row
+push_lanes-requires-clause-row g c = row_there _ _ _ _ _ c.requires c.known.ensures.numbered
+
+pub push_lanes-requires-clause-alive : goal.push_lanes-requires-clause-alive
+push_lanes-requires-clause-alive g c lane on = lane_alive _ _ _ _ _ lane c.requires c.known.ensures.lanes.1 (c.first_alike-front.ensures.in_front lane on)
+
+pub push_lanes-requires-then-holds-2-clause-row : goal.push_lanes-requires-then-holds-2-clause-row
+push_lanes-requires-then-holds-2-clause-row g c = row_there _ _ _ _ _ c.requires c.known.ensures.numbered
+
+pub push_lanes-requires-then-holds-2-clause-alive : goal.push_lanes-requires-then-holds-2-clause-alive
+push_lanes-requires-then-holds-2-clause-alive g c lane on = lane_alive _ _ _ _ _ lane c.requires c.known.ensures.lanes.1 (c.first_alike-front-2.ensures.in_front lane on)

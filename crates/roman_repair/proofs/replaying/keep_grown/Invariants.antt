@@ -1,11 +1,15 @@
-use Rattle.roman_repair.proofs.Common.{◌≡◌, ◌*◌, HasReplayed}
-use Rattle.roman_repair.proofs.Growing.{grown_below}
+use Rattle.roman_repair.proofs.Common.{◌≢◌, ◌<◌, length, set_lanes}
+use Rattle.roman_repair.specs.Growing.{entries_grown}
+use Rattle.roman_repair.specs.Judging.{HasJudged}
 use Rattle.roman_repair.proofs.replaying.keep_grown.Given as goal
 
--- the parts so far are replayed
-abbrev pub invariant-loop-i : goal.invariant-loop-i
-invariant-loop-i g l = record {
-  replayed : HasReplayed (g.J.Rules.arena l.joint) (g.J.Rules.lanes l.joint) (grown_below l.fn.newcomer.states l.fn.newcomer.lanes l.event.row l.event.lanes (l.i * l.slices) l.event.reason)
-      l.fn.order.list l.order.list l.fn.asked l.asked l.fn.steps l.steps;
-  rest : l.order ≡ record l.fn.order { list = l.order.list };
+-- what the remaining lanes stand for is left
+abbrev pub invariant-left : goal.invariant-left
+invariant-left g l = record {
+  judged : HasJudged (g.J.Rules.arena l.joint) (g.J.Rules.lanes l.joint) (entries_grown l.fn.newcomer) l.event l.left l.fn.order l.order l.fn.asked l.asked l.fn.steps l.steps;
+  some : l.left ≢ 0 → 0 < length (set_lanes l.left);
 }
+
+-- each turn takes at least one lane
+abbrev pub decreases-left : goal.decreases-left
+decreases-left g l = length (set_lanes l.left)

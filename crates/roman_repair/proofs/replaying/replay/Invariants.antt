@@ -1,10 +1,12 @@
-use Rattle.roman_repair.proofs.Common.{flat_map, length, grown_numbers}
-use Rattle.roman_repair.proofs.Replayed.{IsReplaying}
+use Rattle.roman_repair.proofs.Common.{◌≡◌, length, GoesOnTo, candidates}
 use Rattle.roman_repair.proofs.replaying.replay.Given as goal
 
--- the candidates of the waiting entries so far are replayed
+-- the candidates of the entries that still wait are left
 abbrev pub invariant-replay : goal.invariant-replay
-invariant-replay g l = IsReplaying (g.J.Rules.arena l.joint) (g.J.Rules.lanes l.joint) (flat_map (grown_numbers l.newcomer.states)) l.fn.order l.order l.initial.asked l.asked l.fn.steps l.steps
+invariant-replay g l = record {
+  goes : GoesOnTo (g.J.Rules.arena l.joint) (g.J.Rules.lanes l.joint) (candidates l.newcomer.states l.fn.order) (candidates l.newcomer.states l.order) l.fn.order.list l.order.list l.asked l.fn.steps l.steps;
+  rest : l.order ≡ record l.fn.order { list = l.order.list; waiting = l.order.waiting };
+}
 
 -- each turn takes a waiting entry
 abbrev pub decreases-replay : goal.decreases-replay

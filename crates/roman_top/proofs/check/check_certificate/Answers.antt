@@ -8,6 +8,6 @@ returns-in-Err g c = record { served = away_served IsSeated c.args.system.now (C
 
 pub returns : goal.returns
 returns g c = record {
-  served = check_served c.args.system.now c.args.certificate.now c.in-Ok.seated _ _ _ _ _ _ _ _ _ _ _ _ c.verdict_on.result c.tell.result
+  served = check_served c.args.system.now c.args.certificate.now c.in-Ok.seated _ _ _ c.verdict_on.result c.tell.result
       c.in-Ok.ensures.opens c.verdict_on.ensures.finds c.verdict_on.ensures.texts c.verdict_on.ensures.cause c.tell.ensures.writes c.tell.ensures.stops c.tell.ensures.shelf c.tell.ensures.out;
 }

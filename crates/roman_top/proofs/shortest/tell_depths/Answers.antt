@@ -1,3 +1,4 @@
+use Rattle.roman_io.proofs.CallerLemmas.{Wrote-nil}
 use Rattle.roman_top.specs.declared.status.Status.TheVariants as status
 use Rattle.roman_top.proofs.EndingLemmas.{finished_spoken, finished_sink}
 use Rattle.roman_top.proofs.ShortestLemmas.{shortened}
@@ -13,3 +14,6 @@ returns-in-Ok-build-clause-spoken g c = finished_spoken status.Done _ _ c.finish
 
 pub returns-in-Ok-build-clause-out : goal.returns-in-Ok-build-clause-out
 returns-in-Ok-build-clause-out g c = finished_sink status.Done _ _ c.finish.result c.write_depths.result (λ same. same) c.finish.ensures c.write_depths.ensures.cause
+
+pub returns-clause-spoken : goal.returns-clause-spoken
+returns-clause-spoken g c = Wrote-nil (g.O.Sink.written c.args.out.now)

@@ -1,4 +1,4 @@
-use Rattle.roman_top.proofs.Common.{None, inr, IsStart, Run}
+use Rattle.roman_top.proofs.Common.{refl, None, inr, IsStart, Run, outputs}
 use Rattle.roman_top.proofs.ServedLemmas.{away_served}
 use Rattle.roman_top.proofs.TalkLemmas.{input_done}
 use Rattle.roman_top.proofs.talking.talk_input.Goals as goal
@@ -10,8 +10,8 @@ returns-in-Err-clause-served g c =
 pub returns : goal.returns
 returns g c =
     let (served, took) =
-    input_done c.args.system.now c.in-Ok.session c.hear.new.session _ _ _ _ (g.I.Source.rest c.args.input.now) (g.I.Source.rest c.hear.new.source) (g.I.Source.faults c.args.input.now)
-    (g.I.Source.faults c.hear.new.source) _ _ (g.O.Sink.written c.hear.new.out) _ _ (g.O.Sink.faults c.hear.new.out) c.hear.result c.status_after.result c.in-Ok.ensures.opens c.in-Ok.ensures.behaviours
+    input_done c.args.system.now c.in-Ok.session c.hear.new.session _ _ (outputs _ _ (g.O.Sink.written c.hear.new.out) (g.O.Sink.faults c.hear.new.out)) (g.I.Source.rest c.args.input.now) (g.I.Source.rest c.hear.new.source)
+    (g.I.Source.faults c.args.input.now) (g.I.Source.faults c.hear.new.source) c.hear.result c.status_after.result c.in-Ok.ensures.opens c.in-Ok.ensures.behaviours
     (record {
       ok = c.hear.ensures.ok;
       too_long = c.hear.ensures.too_long;
@@ -20,5 +20,5 @@ returns g c =
       prefix = c.hear.ensures.prefix;
       taken = c.hear.ensures.taken;
       past = c.hear.ensures.past;
-    }) c.hear.ensures.reads c.hear.ensures.writes c.status_after.ensures in
+    }) c.hear.ensures.reads c.hear.ensures.writes c.status_after.ensures refl refl in
     record { served = served; input = inr took }

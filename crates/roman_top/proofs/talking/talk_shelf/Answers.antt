@@ -8,6 +8,6 @@ returns-in-Err g c = record { served = away_served IsStart c.args.system.now (Ru
 
 pub returns : goal.returns
 returns g c = record {
-  served = shelf_served c.args.system.now c.args.name.now c.in-Ok.session c.hear_text.new.session _ _ _ _ _ _ _ _ _ _ _ _ c.hear_text.result c.status_after.result
+  served = shelf_served c.args.system.now c.args.name.now c.in-Ok.session c.hear_text.new.session _ _ _ c.hear_text.result c.status_after.result
       c.in-Ok.ensures.opens c.in-Ok.ensures.behaviours c.hear_text.ensures.hears c.hear_text.ensures.reads c.hear_text.ensures.writes c.hear_text.ensures.texts c.status_after.ensures;
 }

@@ -2,9 +2,6 @@ use Rattle.roman_check.proofs.Common.{◌≡◌, ◌+◌, ◌-◌, ◌<◌, ◌�
 use Rattle.roman_check.proofs.PatternLemmas.{parts_same, large_number}
 use Rattle.roman_check.proofs.pattern.Pattern.learn.Goals as goal
 
-pub overflow_sub-self : goal.overflow_sub-self
-overflow_sub-self c = grind (arith, large_number)
-
 pub returns-clause-pattern : goal.returns-clause-pattern
 returns-clause-pattern c =
     let parts = c.requires.parts in

@@ -1,18 +1,13 @@
-use Rattle.roman_check.proofs.Common.{◌≡◌, ◌+◌, ◌-◌, ◌≤◌, length, Body, Reader, IsPattern, IsReadTo, IsInRows}
+use Rattle.roman_check.proofs.Common.{◌≡◌, ◌-◌, None, length, IsPattern, IsBetween, ReadsPart}
 use Rattle.roman_check.proofs.reader.Reader.read_alike.Given as goal
 
--- the entries so far are read, and nothing else has changed
+-- the entries so far are read, and the row that was asked last stays
 abbrev pub invariant-loop-start : goal.invariant-loop-start
 invariant-loop-start g l = record {
   pattern : IsPattern l.text l.shape;
   asked : l.self.audit.asked ≡ l.initial.self.audit.asked;
-  low : l.from ≤ l.start;
-  high : l.start ≤ length l.piece;
-  reads : (before : Reader) → IsReadTo (g.J.Rules.arena l.joint) before l.initial.self l.piece l.from → IsReadTo (g.J.Rules.arena l.joint) before l.self l.piece l.start;
-  due : l.self.audit.due ≡ Body;
-  line : l.self.line ≡ l.initial.self.line;
-  shaped : IsInRows (g.J.Rules.lanes l.joint) (length (g.J.Rules.arena l.joint).nodes) l.self.audit;
-  lines : l.self.lines ≤ l.initial.self.lines + (l.start - l.from);
+  read : ReadsPart (g.J.Rules.arena l.joint) (g.J.Rules.lanes l.joint) l.initial.self l.self l.piece l.from l.start None;
+  between : IsBetween l.self;
 }
 
 abbrev pub decreases-loop-start : goal.decreases-loop-start

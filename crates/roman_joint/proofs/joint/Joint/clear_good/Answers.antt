@@ -1,4 +1,4 @@
-use Rattle.roman_joint.proofs.Common.{◌+◌, ◌*◌, not, sym, ap, ◌∙◌, arith, is_beaten, numbered, sizes_of, on_zero, row_sizes, lanes_few, system_of, band_in}
+use Rattle.roman_joint.proofs.Common.{◌+◌, ◌*◌, ◌∙◌, arith, is_beaten, numbered, sizes_of, row_sizes, lanes_few, system_of, band_in}
 use Rattle.roman_joint.proofs.ArenaFacts.{joint_numbered}
 use Rattle.roman_joint.proofs.SplitLemmas.{joint_sizes}
 use Rattle.roman_joint.proofs.AllowedLemmas.{unopened}
@@ -11,11 +11,8 @@ returns-in_default-clause-left c y gone ok rows =
     let n = c.args.self.now in
     let s = system_of n in
     let x = y * band_in s in
-    keeps_all s x (band_in s) (λ p. is_beaten (numbered s) gone p c.args.a c.args.k) c.args.left.now (λ i l. record {
-      each = λ lane m. on_zero lane ∙ sym (ap not (unopened s (row_in s (x + i) c.args.row.now) (x + i) c.args.a c.args.k lane gone (joint_numbered n c.known.ensures)
-          (in_band s y i c.args.row.now (joint_sizes n c.known.ensures) ok l).looked m c.in_default.ensures));
-      rest = λ lane m. on_zero lane;
-    })
+    keeps_all s x (band_in s) (λ p. is_beaten (numbered s) gone p c.args.a c.args.k) c.args.left.now (λ i lane l m.
+    unopened s (row_in s (x + i) c.args.row.now) (x + i) c.args.a c.args.k lane gone (joint_numbered n c.known.ensures) (in_band s y i c.args.row.now (joint_sizes n c.known.ensures) ok l).looked m c.in_default.ensures)
 
 pub alive_each-requires-clause-long : goal.alive_each-requires-clause-long
 alive_each-requires-clause-long c = lanes_few (row_sizes (sizes_of (system_of c.args.self.now))).seats

@@ -1,5 +1,4 @@
-use Rattle.roman_joint.proofs.Common.{Some, None, IsFalse, get_or, sym, ap, ◌∙◌, subst, arith, find, is_empty, sizes_of, system_of, IsPairWith}
-use Rattle.roman_joint.specs.Outcomes.{outcome_number}
+use Rattle.roman_joint.proofs.Common.{Some, None, IsFalse, get_or, sym, ap, ◌∙◌, subst, arith, find, is_empty, sizes_of, system_of, IsPairWith, outcome_number}
 use Rattle.roman_joint.proofs.Finds.{in_at, if_some, find_numbers, no_numbers, some_numbers, none_there, some_there}
 use Rattle.roman_joint.proofs.joint.Joint.examine.Goals as goal
 

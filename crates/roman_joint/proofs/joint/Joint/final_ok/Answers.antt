@@ -1,9 +1,13 @@
-use Rattle.roman_joint.proofs.Common.{map, sym, ap, ap₂, ◌∙◌, Sizes, beh_at}
-use Rattle.roman_joint.proofs.SeatLemmas.{same_sizes}
+use Rattle.roman_joint.proofs.Common.{◌≡◌, ◌+◌, ◌*◌, ◌/◌, ◌%◌, not, eqb, sym, ap, ◌∙◌, arith, div-add-mod', mod_below, shr_and_one, numbered, is_on, system_of, lanes_in}
+use Rattle.roman_joint.proofs.WordLemmas.{not_not}
 use Rattle.roman_joint.proofs.joint.Joint.final_ok.Goals as goal
 
-pub are_final-requires-clause-sizes : goal.are_final-requires-clause-sizes
-are_final-requires-clause-sizes c =
-    let a = c.self.inside in
-    ap (λ (m : Sizes). m.seats) c.self.invariant.shape ∙ (sym (same_sizes _ _)
-    ∙ ap₂ (λ behs seats. map (λ seat. (beh_at behs seat.behaviour).states) seats) (sym c.deref.ensures.value) (sym c.deref-2.ensures.value))
+pub returns : goal.returns
+unfolding is_on
+returns c =
+    let s = system_of c.args.self.now in
+    let p = c.args.p in
+    let w = c.lanes-lanes.result in
+    let place : p / w * lanes_in s + p % w ≡ p = ap (λ m. p / w * m + p % w) (sym c.lanes-lanes.ensures.value) ∙ div-add-mod' p w in
+    let word = (c.unfine.ensures (p / w) c.row-row.ensures).each (p % w) (omega (arith, mod_below p w, c.lanes-lanes.ensures)) in
+    ap (λ b. not (eqb b 1)) (shr_and_one c.unfine.result (p % w)) ∙ (ap not word ∙ (sym (not_not ((numbered s).fine (p / w * lanes_in s + p % w))) ∙ ap (λ q. (numbered s).fine q) place))

@@ -23,5 +23,5 @@ returns c lane l =
     let n = c.args.self.now in
     let s = system_of n in
     let seats : length s.seats ≡ length n.seats = length-map n.seats (seat_of n.catalogue) in
-    let end : c.loop-k.k ≡ length s.seats = omega (arith, seats, c.loop-k-test.false, c.seats-k-end.ensures.count, c.loop-k.auto.k-end (omega (arith, seats, c.seats-k-end.ensures.count, c.layout-rows.ensures.rows.low, low_seats s))) in
+    let end : c.loop-k.k ≡ length s.seats = omega (arith, seats, c.loop-k.auto.k-end (omega (arith, seats, low_seats s))) in
     c.loop-k.invariant lane l ∙ ap (all_below (λ k. ltb k (low_in s) || may_rest (slice_get s.seats k) (lane_state_of (sizes_of s) k lane))) end

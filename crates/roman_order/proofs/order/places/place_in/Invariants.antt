@@ -1,9 +1,10 @@
-use Rattle.roman_order.proofs.Common.{◌≡◌, false, length, take, has_entry, entries_of}
+use Rattle.roman_order.proofs.Common.{◌≡◌, ℕ, ◌+◌, length, drop, eqb, position_from, AllByRecursion, Entry, IsEvent, entries_of, place_in_list}
 use Rattle.roman_order.proofs.order.places.place_in.Given as goal
 
--- the pair isn't among the entries of the events before place j
+-- the place is found by a search of the events from place j on
 abbrev pub invariant-loop-j : goal.invariant-loop-j
 invariant-loop-j l = record {
-  place : l.place ≡ length (entries_of l.lanes (take l.j l.events));
-  none : has_entry (entries_of l.lanes (take l.j l.events)) l.p ≡ false;
+  each : AllByRecursion (IsEvent l.lanes) (drop l.j l.events);
+  place : l.place + length (entries_of l.lanes (drop l.j l.events)) ≡ length (entries_of l.lanes l.events);
+  found : position_from (λ (y : Entry ℕ). eqb l.p y.node) l.place (entries_of l.lanes (drop l.j l.events)) ≡ place_in_list (entries_of l.lanes l.events) l.p;
 }

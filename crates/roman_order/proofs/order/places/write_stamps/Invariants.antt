@@ -1,10 +1,10 @@
-use Rattle.roman_order.proofs.Common.{◌≡◌, length, take, entries_of, AreStamps}
+use Rattle.roman_order.proofs.Common.{◌≡◌, ◌+◌, length, drop, entries_of, IsEvent, nodes_of, with_stamps, AllByRecursion}
 use Rattle.roman_order.proofs.order.places.write_stamps.Given as goal
 
--- the entries of the events before place j have their stamps
+-- with the stamps of the events from place j on, the table is as it shall be
 abbrev pub invariant-loop-j : goal.invariant-loop-j
 invariant-loop-j l = record {
-  place : l.place ≡ length (entries_of l.lanes (take l.j l.events));
-  long : length l.stamps ≡ length l.fn.stamps;
-  stamped : AreStamps (entries_of l.lanes (take l.j l.events)) l.stamps;
+  each : AllByRecursion (IsEvent l.lanes) (drop l.j l.events);
+  place : l.place + length (entries_of l.lanes (drop l.j l.events)) ≡ length (entries_of l.lanes l.events);
+  stamped : with_stamps l.place (nodes_of (entries_of l.lanes (drop l.j l.events))) l.stamps ≡ with_stamps 0 (nodes_of (entries_of l.lanes l.events)) l.fn.stamps;
 }

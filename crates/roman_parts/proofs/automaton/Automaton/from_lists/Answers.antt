@@ -1,16 +1,12 @@
-use Rattle.roman_parts.proofs.Common.{◌≡◌, ◌*◌, ℕ, List, length, arith}
+use Rattle.roman_parts.proofs.Common.{arith}
 use Rattle.roman_parts.proofs.TableLemmas.{laid_moves}
 use Rattle.roman_parts.proofs.automaton.Automaton.from_lists.Goals as goal
 
 pub invariant_of-result : goal.invariant_of-result
 invariant_of-result c =
     let n = c.args.cells in
-    let to : List ℕ = c.in_ok-out_masks.field-0.items in
-    let from : List ℕ = c.in_ok-into_masks.field-0.items in
-    let to_len : length to ≡ n.states * n.env_states * n.actions = omega (arith, c.in_ok-out_masks.ensures.len) in
-    let from_len : length from ≡ n.states * n.env_states * n.actions = omega (arith, c.in_ok-into_masks.ensures.len) in
-    let laid = laid_moves n.states n.env_states n.actions c.args.start c.args.finals.now c.args.steps.now c.mask_of.result to from
-    c.requires.states c.requires.env_states c.requires.actions c.requires.start c.requires.finals c.requires.steps c.mask_of.ensures to_len from_len
+    let laid = laid_moves n.states n.env_states n.actions c.args.start c.args.finals.now c.args.steps.now c.mask_of.result c.in_ok-out_masks.field-0.items c.in_ok-into_masks.field-0.items
+    c.requires.states c.requires.env_states c.requires.actions c.requires.start c.requires.finals c.requires.steps c.mask_of.ensures (omega (arith, c.in_ok-out_masks.ensures.len)) (omega (arith, c.in_ok-into_masks.ensures.len))
     c.in_ok-out_masks.ensures.has c.in_ok-into_masks.ensures.has in
     rw (
       c.in_ok-next.ensures.rows,
@@ -25,12 +21,8 @@ invariant_of-result c =
 pub returns-clause-normal : goal.returns-clause-normal
 returns-clause-normal c =
     let n = c.args.cells in
-    let to : List ℕ = c.in_ok-out_masks.field-0.items in
-    let from : List ℕ = c.in_ok-into_masks.field-0.items in
-    let to_len : length to ≡ n.states * n.env_states * n.actions = omega (arith, c.in_ok-out_masks.ensures.len) in
-    let from_len : length from ≡ n.states * n.env_states * n.actions = omega (arith, c.in_ok-into_masks.ensures.len) in
-    let laid = laid_moves n.states n.env_states n.actions c.args.start c.args.finals.now c.args.steps.now c.mask_of.result to from
-    c.requires.states c.requires.env_states c.requires.actions c.requires.start c.requires.finals c.requires.steps c.mask_of.ensures to_len from_len
+    let laid = laid_moves n.states n.env_states n.actions c.args.start c.args.finals.now c.args.steps.now c.mask_of.result c.in_ok-out_masks.field-0.items c.in_ok-into_masks.field-0.items
+    c.requires.states c.requires.env_states c.requires.actions c.requires.start c.requires.finals c.requires.steps c.mask_of.ensures (omega (arith, c.in_ok-out_masks.ensures.len)) (omega (arith, c.in_ok-into_masks.ensures.len))
     c.in_ok-out_masks.ensures.has c.in_ok-into_masks.ensures.has in
     rw (
       c.in_ok-next.ensures.rows,

@@ -1,5 +1,5 @@
-use Rattle.roman_repair.proofs.Common.{◌≡◌, ◌+◌, ◌*◌, ◌/◌, ◌%◌, ◌-◌, ◌<◌, refl, sym, ap, ◌∙◌, arith, div-add-mod', mod_below, is_justified}
-use Rattle.roman_repair.proofs.BandAnswers.{band_before, row_held, known_whole}
+use Rattle.roman_repair.proofs.Common.{◌≡◌, ◌+◌, ◌*◌, ◌/◌, ◌%◌, ◌-◌, ◌<◌, refl, sym, ap, ◌∙◌, arith, div-add-mod', mod_below, passes}
+use Rattle.roman_repair.proofs.BandAnswers.{band_before, row_held}
 use Rattle.roman_repair.proofs.asked_band.AskedBand.ask_whole.Goals as goal
 
 pub ask_band-requires-clause-band : goal.ask_band-requires-clause-band
@@ -7,11 +7,10 @@ ask_band-requires-clause-band g c =
     let n = g.J.Rules.lanes c.args.joint.now in
     let w = g.J.Rules.band c.args.joint.now in
     let same = ap (λ b. c.args.event.row / b * w * n) c.band-band.ensures.value in
-    omega (arith, same, band_before n w c.args.event.row _ c.requires.ask.row)
+    omega (arith, same, band_before n w c.args.event.row _ c.requires.row)
 
 pub returns : goal.returns
 returns g c =
-    let A = g.J.Rules.arena c.args.joint.now in
     let n = g.J.Rules.lanes c.args.joint.now in
     let w = g.J.Rules.band c.args.joint.now in
     let e = c.args.event in
@@ -21,9 +20,15 @@ returns g c =
     let x : e.row / b * w + i ≡ e.row = ap (λ m. e.row / b * m + i) (sym c.band-band.ensures.value) ∙ div-add-mod' e.row b in
     let first : e.row - e.row % b ≡ e.row / b * w = omega (arith, div-add-mod' e.row b, ap (λ m. e.row / b * m) c.band-band.ensures.value) in
     record {
-      holds = λ gone words lane l. row_held c.ask_band.new.held _ i lane (omega (arith, h, c.ask_band.ensures.long)) ∙ (c.ask_band.ensures.holds gone words i lane h l ∙ ap (λ m. is_justified A gone (m * n + lane) e.reason) x);
-      known = λ gone words known. known_whole A n (e.row / b * w) gone _ c.ask_band.new.held _ c.requires.alone known.row refl first (c.ask_band.ensures.long ∙ sym c.band-band.ensures.value)
-          (λ i lane m l. c.ask_band.ensures.holds gone words i lane (omega (arith, m, c.band-band.ensures.value)) l);
+      holds = λ gone words lane l. row_held c.ask_band.new.held _ i lane (omega (arith, h, c.ask_band.ensures.long)) ∙ c.ask_band.ensures.passes gone words i lane h l ∙ ap (λ m. passes (g.J.Rules.arena c.args.joint.now) gone c.args.self.now.alone (m * n + lane) e.reason) x;
+      known = λ gone words known. record {
+        row = known.row;
+        rows = λ j m. record {
+          each = λ lane l on.
+              let inner : j < w = omega (arith, m, c.band-band.ensures.value) in
+              rw first (sym (row_held c.ask_band.new.held _ j lane (omega (arith, inner, c.ask_band.ensures.long)) ∙ c.ask_band.ensures.passes gone words j lane inner l) ∙ on);
+        };
+      };
       alone = refl;
       cost = λ lane l possible. c.ask_band.ensures.cost (e.row * n + lane) possible;
     }

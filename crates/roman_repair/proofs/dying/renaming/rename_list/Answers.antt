@@ -1,5 +1,6 @@
-use Rattle.roman_repair.proofs.Common.{◌≡◌, ℕ, List, [], ◌++◌, refl, sym, ap, ap₂, ◌∙◌, subst, arith, IsIn, Entry, sizes_of, count, Final, length-below, system_of, lanes_in, Board, entries_in, listed_numbers, list_and, list_with}
-use Rattle.roman_repair.proofs.DeathEntries.{event_in_range, list_with_append, fewer_pairs, small_pairs}
+use Rattle.roman_repair.proofs.Common.{◌≡◌, ℕ, List, [], ◌++◌, refl, sym, ap, ap₂, ◌∙◌, subst, arith, IsIn, Entry, sizes_of, Final, length-below, system_of, lanes_in, Board, entries_in, entries_at, in_append_left, in_append_right, listed_numbers, list_and, list_with}
+use Rattle.roman_order.specs.Events.{IsEvent}
+use Rattle.roman_repair.proofs.DeathEntries.{list_with_append, fewer_pairs, small_pairs}
 use Rattle.roman_repair.proofs.Gathering.{no_entries, nothing_gathered, still_gathered}
 use Rattle.roman_repair.proofs.dying.renaming.rename_list.Goals as goal
 
@@ -20,9 +21,11 @@ waiting-init c =
 pub rename_row-requires-clause-within : goal.rename_row-requires-clause-within
 rename_row-requires-clause-within c =
     let wide = ap (λ (b : Board). b.waiting_lanes) c.waiting.invariant.rest ∙ ap (λ (b : Board). b.waiting_lanes) c.reopen.ensures.moved ∙ c.requires.shaped.lanes in
-    let is = event_in_range c.waiting.order.waiting_lanes (lanes_in (system_of c.args.joint.now)) (count (sizes_of (system_of c.args.joint.now))) c.waiting.order.waiting c.next_waiting_event.new.self.waiting
-    c.in-Some.event wide (omega (arith, c.known-3.ensures.lanes.1, c.requires.shaped.lanes)) c.in-Some.ensures.first c.in-Some.ensures.event c.waiting.invariant.waiting in
-    record { each = is.within; row = is.row }
+    let e = c.in-Some.event in
+    record {
+      event = subst (λ m. IsEvent m e) wide c.in-Some.ensures.event;
+      nodes = λ x i. c.waiting.invariant.waiting x (subst (IsIn x) (sym c.in-Some.ensures.first) (in_append_left x (entries_at c.waiting.order.waiting_lanes e) c.next_waiting_event.new.self.waiting (subst (λ m. IsIn x (entries_at m e)) (sym wide) i)));
+    }
 
 pub rename_row-requires-clause-ready : goal.rename_row-requires-clause-ready
 rename_row-requires-clause-ready c = record {
@@ -43,8 +46,6 @@ waiting-preserved c =
     let list : list_and mid c.waiting.gathered ≡ L = ap (λ (y : Board). list_and y c.waiting.gathered) c.next_waiting_event.ensures.rest in
     let waiting : new.waiting ≡ mid.waiting = ap (λ (y : Board). y.waiting) c.rename_row.ensures.rest in
     let wide = ap (λ (b : Board). b.waiting_lanes) c.waiting.invariant.rest ∙ ap (λ (b : Board). b.waiting_lanes) c.reopen.ensures.moved ∙ c.requires.shaped.lanes in
-    let is = event_in_range c.waiting.order.waiting_lanes lanes (count n) c.waiting.order.waiting mid.waiting e wide (omega (arith, c.known-3.ensures.lanes.1, c.requires.shaped.lanes)) c.in-Some.ensures.first
-    c.in-Some.ensures.event c.waiting.invariant.waiting in
     let part = entries_in lanes e.row e.lanes e.reason in
     let first : c.waiting.order.waiting ≡ part ++ mid.waiting = c.in-Some.ensures.first ∙ ap (λ m. entries_in m e.row e.lanes e.reason ++ mid.waiting) wide in
     record {
@@ -53,7 +54,7 @@ waiting-preserved c =
           ap₂ (λ M W. list_with n c.args.k seat M W) done waiting ∙ sym (list_with_append n c.args.k seat L part mid.waiting)
           ∙ ap (list_with n c.args.k seat L) (sym first) ∙ c.waiting.invariant.list seat seated;
       gathered = c.rename_row.ensures.gathered;
-      waiting = λ y i. is.others y (subst (λ W. IsIn y W) waiting i);
+      waiting = λ y i. c.waiting.invariant.waiting y (subst (IsIn y) (sym c.in-Some.ensures.first) (in_append_right y (entries_at c.waiting.order.waiting_lanes e) mid.waiting (subst (IsIn y) waiting i)));
       rest = c.rename_row.ensures.rest ∙ ap (λ (y : Board). record y { list = new.list }) c.next_waiting_event.ensures.rest
           ∙ ap (λ (y : Board). record y { list = new.list; waiting = mid.waiting }) c.waiting.invariant.rest
           ∙ ap (λ (W : List (Entry ℕ)). record c.reopen.new.self { list = new.list; waiting = W }) (sym waiting);

@@ -2,15 +2,8 @@ use Rattle.roman_repair.proofs.Common.{◌*◌, ◌/◌, ◌%◌, ◌^◌, ◌++
 use Rattle.roman_model.specs.Change.{without}
 use Rattle.roman_model.proofs.CallerLemmas.{number_without-is}
 use Rattle.roman_repair.proofs.DeathStates.{seat_in_sizes}
-use Rattle.roman_repair.proofs.DeathEntries.{left_row, nothing_left, part_stays, part_left, lost_within}
+use Rattle.roman_repair.proofs.DeathEntries.{left_row, part_stays, part_left, lost_within}
 use Rattle.roman_repair.proofs.dying.renaming.rename_part.Goals as goal
-
-pub returns-then-word-eq0 : goal.returns-then-word-eq0
-returns-then-word-eq0 c = record {
-  list = λ seat seated. nothing_left (sizes_of (system_of c.args.joint.now)) c.args.leaver.k seat c.args.first c.args.word c.args.reason (list_and c.args.order.now c.args.gathered.now) c.if-word-eq0.true;
-  gathered = c.requires.ready.gathered;
-  rest = refl;
-}
 
 pub part_of-requires-clause-pair : goal.part_of-requires-clause-pair
 part_of-requires-clause-pair c = omega (arith, c.requires.first, ap count c.shape-shape.ensures)

@@ -1,9 +1,16 @@
-use Rattle.roman_repair.proofs.Common.{◌*◌, system_of, lanes_in}
-use Rattle.roman_repair.specs.Deaths.{HasRenamed}
-use Rattle.roman_repair.proofs.DeathEntries.{entries_below}
+use Rattle.roman_repair.proofs.Common.{◌≡◌, ◌≢◌, ℕ, ◌<◌, true, length, is_on, set_lanes, Seat, CanChange, Die, sizes_of, system_of, lanes_in, entries_at, list_and, list_with, IsGathered}
 use Rattle.roman_repair.proofs.dying.renaming.rename_row.Given as goal
 
--- the parts so far are renamed
-abbrev pub invariant-loop-i : goal.invariant-loop-i
-invariant-loop-i l =
-    HasRenamed (system_of l.joint) l.leaver.k (entries_below (lanes_in (system_of l.joint)) l.event.row l.event.lanes (l.i * l.width) l.event.reason) l.fn.order l.order l.fn.gathered l.gathered
+-- the entries for the remaining lanes are still to be renamed
+abbrev pub invariant-left : goal.invariant-left
+invariant-left l = let s = system_of l.joint in record {
+  list : (seat : Seat) → CanChange (Die l.leaver.k seat) s → list_with (sizes_of s) l.leaver.k seat (list_and l.order l.gathered) (entries_at (lanes_in s) (record l.event { lanes = l.left })) ≡ list_with (sizes_of s) l.leaver.k seat (list_and l.fn.order l.fn.gathered) (entries_at (lanes_in s) l.event);
+  gathered : IsGathered l.order l.gathered;
+  rest : l.order ≡ record l.fn.order { list = l.order.list };
+  within : (lane : ℕ) → is_on l.left lane ≡ true → is_on l.event.lanes lane ≡ true;
+  some : l.left ≢ 0 → 0 < length (set_lanes l.left);
+}
+
+-- each turn takes at least one lane
+abbrev pub decreases-left : goal.decreases-left
+decreases-left l = length (set_lanes l.left)

@@ -1,8 +1,0 @@
-use Rattle.roman_check.proofs.Common.{◌≡◌, take, AllDigits, digits_value}
-use Rattle.roman_check.proofs.numbers.digits.Given as goal
-
-abbrev pub invariant-loop-byte : goal.invariant-loop-byte
-invariant-loop-byte l = record {
-  digits : AllDigits 10 (take l.byte-index l.text);
-  value : l.value ≡ digits_value 10 (take l.byte-index l.text);
-}

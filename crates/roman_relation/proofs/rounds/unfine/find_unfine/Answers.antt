@@ -1,0 +1,12 @@
+use Rattle.roman_relation.proofs.Common.{◌∙◌, arith, is_listed}
+use Rattle.roman_relation.proofs.Lanes.{words_rows}
+use Rattle.roman_relation.proofs.Pushing.{are_lost}
+use Rattle.roman_relation.proofs.rounds.unfine.find_unfine.Goals as goal
+
+pub returns-clause-lost : goal.returns-clause-lost
+returns-clause-lost g c =
+    let (y, first) = c.requires.first in
+    let gone = is_listed (g.J.Rules.arena c.args.joint.now) c.args.order.now.list in
+    let keeps = c.unfine_band.ensures.unfine y (rw first at c.requires.row) in
+    are_lost _ gone _ _ _ _ _ c.words.result.now c.copy_rows.new.to _ c.known.ensures.lanes.1 (words_rows _ c.known.ensures.numbered _ _ _ c.requires.shaped c.words.ensures.alive)
+    (omega (arith, c.requires.band, c.words.ensures.long)) (c.copy_rows.ensures.long ∙ c.requires.left) (λ i h. c.copy_rows.ensures.each i (omega (arith, c.requires.left, h))) (rw first keeps)
