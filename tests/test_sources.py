@@ -17,6 +17,7 @@ MODULE = re.compile(r"(?: *--.*\n)* *module (?:.*\n)*?.*\bwhere\n")
 DEFINED = re.compile(r"^(?:abbrev pub|unfoldable pub|pub record|pub data) +([A-Za-z_]+)", re.M)
 IMPORTED = re.compile(r"^use Rattle\.(roman_\w+\.specs[\w.]*)\.\{([^}]*)\}", re.M)
 COMMON = re.compile(r"use Rattle\.(roman_\w+)\.proofs\.Common\.\{(.*)\}$")
+TAKEN = re.compile(r"use (\S+)\.\{(.*)\}$")
 PASSED_ON = re.compile(r"(?:unfoldable )?pub use \S+\.\{(.*)\}$")
 HEAD = re.compile(r"(?:abbrev |unfoldable )?(?:pub )?(?:record |data )?([^\s:(){}]+)")
 
@@ -135,8 +136,8 @@ class Sources(unittest.TestCase):
                         inside.append(f"{file.relative_to(TOP)}: {found[0]}")
         self.assertEqual(inside, [])
 
-    def test_the_page_of_common_names_passes_on_what_several_pages_cite(self) -> None:
-        alone: List[str] = []
+    def test_the_page_of_common_names_passes_on_what_pages_cite(self) -> None:
+        unused: List[str] = []
         for file in sources("proofs", "Common.antt"):
             folder = file.parent
             taken: Counter = Counter()
@@ -147,8 +148,25 @@ class Sources(unittest.TestCase):
                         taken.update(found[2].split(", "))
             for line in file.read_text(encoding="utf-8").splitlines():
                 passed = PASSED_ON.match(line)
-                alone += [f"{file.relative_to(TOP)}: {name}" for name in passed[1].split(", ") if taken[name] < 2] if passed else []
-        self.assertEqual(alone, [])
+                unused += [f"{file.relative_to(TOP)}: {name}" for name in passed[1].split(", ") if not taken[name]] if passed else []
+        self.assertEqual(unused, [])
+
+    def test_pages_take_names_from_elsewhere_by_the_page_of_common_names(self) -> None:
+        direct: List[str] = []
+        for file in sources("proofs", "Common.antt"):
+            folder = file.parent
+            passed = {name for line in file.read_text(encoding="utf-8").splitlines()
+                      for found in [PASSED_ON.match(line)] if found for name in found[1].split(", ")}
+            for page in folder.rglob("*.antt"):
+                if page.name in ("Lib.antt", "CallerLemmas.antt", "Common.antt"):
+                    continue
+                for line in page.read_text(encoding="utf-8").splitlines():
+                    found = TAKEN.match(line)
+                    if found and not found[1].startswith(f"Rattle.{folder.parent.name}.proofs."):
+                        # A name that two pages elsewhere declare can be passed on from one of them only.
+                        direct += [f"{page.relative_to(TOP)}: {name}" for name in found[2].split(", ")
+                                   if name not in passed and " as " not in name]
+        self.assertEqual(direct, [])
 
     def test_a_definition_s_name_stands_for_one_thing(self) -> None:
         places: Dict[str, List[str]] = defaultdict(list)

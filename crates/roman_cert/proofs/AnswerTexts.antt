@@ -1,12 +1,6 @@
 -- The lines of the services that may answer an entry, one after the other.
-use Rattle.roman_cert.proofs.Common.{◌≡◌, ℕ, ◌+◌, ◌<◌, ◌≤◌, true, List, [], ◌∷◌, ◌++◌, map, length, drop, filter, Option, Some, IsTrue, IsFalse, refl, sym, ap, ap₂, ◌∙◌, arith, add-one, drop-cons, drop_all, length-map, cond-true, cond-false, text_of_lines, below, Pair, IsSys, arena, Entry, sizes_of, count, pair_at, entry_at, Final, Act, answer, length-below, AreNumbers, get_in, NamedSys, system_of, IsNamedSys, names_in, Board, pairs_of, as_entry, has_entry, arena_of, listed_numbers, answers_text}
+use Rattle.roman_cert.proofs.Common.{◌≡◌, ℕ, ◌+◌, ◌<◌, ◌≤◌, true, List, [], ◌∷◌, ◌++◌, map, length, drop, filter, Option, Some, IsTrue, IsFalse, refl, sym, ap, ap₂, ◌∙◌, arith, add-one, drop-cons, drop_all, length-map, cond-true, cond-false, text_of_lines, below, Pair, IsSys, arena, Entry, sizes_of, count, pair_at, entry_at, Final, Act, answer, length-below, AreNumbers, get_in, NamedSys, system_of, IsNamedSys, names_in, Board, pairs_of, as_entry, has_entry, arena_of, listed_numbers, answers_text, option_map, answer_line, seat_of, is_ready, numbered, get_or-below, answer_at}
 use Rattle.std.proofs.Common.{slice_get}
-use Rattle.std.specs.Option.{option_map}
-use Rattle.roman_model.specs.Explanation.{answer_line}
-use Rattle.roman_joint.specs.NamedSys.{seat_of}
-use Rattle.roman_model.specs.SystemArena.{is_ready}
-use Rattle.roman_model.specs.Numbers.{numbered}
-use Rattle.roman_model.proofs.CallerLemmas.{get_or-below, answer_at}
 use Rattle.roman_cert.proofs.Texts.{text_of_lines-append}
 
 numbers_from : (n k : ℕ) → k < n → drop k (below n) ≡ k ∷ drop (k + 1) (below n)

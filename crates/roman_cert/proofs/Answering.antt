@@ -1,18 +1,5 @@
 -- The entries before a place of a removal list, and the defeating answers among them.
-use Rattle.roman_cert.proofs.Common.{◌≡◌, ℕ, zero, suc, ◌+◌, ◌<◌, ◌≤◌, Bool, true, false, ◌||◌, ◌⊎◌, List, [], ◌∷◌, ◌++◌, length, take, drop, Option, Some, IsTrue, IsFalse, refl, sym, ap, ap₂, ◌∙◌, subst, inl, inr, arith, take-append-drop, list_any, slice_get, list_any-append, Arena, Entry, is_listed, IsOrder, entries_before, answer, Act, by_test, any_from, get_in, IsSame, order_middle, before_is, IsNumbered, Leaves, numbered_same, Board, pairs_of, has_entry}
-use Rattle.std.proofs.Common.{cond, eqb, None, find}
-use Rattle.std.proofs.Math.Dec.{ltb}
-use Rattle.std.specs.List.{position_from}
-use Rattle.std.proofs.lemmas.Bool.{cases_Bool, or_parts, both_ways, le-ltb, lt-ltb, eq-eqb}
-use Rattle.roman_model.specs.Arena.{is_justified}
-use Rattle.roman_model.specs.Numbers.{Sizes}
-use Rattle.roman_model.proofs.CallerLemmas.{empty_is, not_empty_in, find_some, justified_is}
-use Rattle.roman_rules.specs.Finding.{IsFinding, HasFinding}
-use Rattle.roman_rules.specs.declared.finding.Finding.{Finding}
-use Rattle.roman_rules.specs.declared.finding.Finding.TheVariants.{Good, NoOutcome}
-use Rattle.roman_order.specs.Board.{place_in_list}
-use Rattle.roman_order.proofs.CallerLemmas.{is_some-place_in_list}
-use Rattle.roman_relation.proofs.CallerLemmas.{listed_is}
+use Rattle.roman_cert.proofs.Common.{◌≡◌, ℕ, zero, suc, ◌+◌, ◌<◌, ◌≤◌, Bool, true, false, ◌||◌, ◌⊎◌, List, [], ◌∷◌, ◌++◌, length, take, drop, Option, Some, IsTrue, IsFalse, refl, sym, ap, ap₂, ◌∙◌, subst, inl, inr, arith, take-append-drop, list_any, slice_get, list_any-append, Arena, Entry, is_listed, IsOrder, entries_before, answer, Act, by_test, any_from, get_in, IsSame, order_middle, before_is, IsNumbered, Leaves, numbered_same, Board, pairs_of, has_entry, cond, eqb, None, find, ltb, position_from, cases_Bool, or_parts, both_ways, le-ltb, lt-ltb, eq-eqb, is_justified, Sizes, empty_is, not_empty_in, find_some, justified_is, IsFinding, HasFinding, Finding, Good, NoOutcome, place_in_list, is_some-place_in_list, listed_is}
 use Rattle.roman_cert.proofs.Texts.{drop_at}
 
 -- Places

@@ -1,12 +1,5 @@
 -- The parts of a certificate, and its verdict.
-use Rattle.roman_cert.proofs.Common.{◌≡◌, ℕ, ◌+◌, ◌*◌, ◌/◌, ◌<◌, ◌≤◌, List, [], ◌∷◌, ◌++◌, map, length, drop, codes, Option, Some, Result, decimal, append_assoc, append-nil, refl, sym, ap, ◌∙◌, inl, inr, arith, slice_get, drop_all, Puts, IsIn, text_of_lines, IsSys, Entry, sizes_of, count, pair_at, entry_at, IsCompleteList, reason_text, entry_line, cert_text, AreNumbers, NamedSys, system_of, IsNamedSys}
-use Rattle.std.proofs.Common.{Ok, Err, OnOk, mul-le-mul}
-use Rattle.roman_model.specs.Lists.{product_of}
-use Rattle.std.proofs.Math.Nat.{div-lt_iff_lt-mul}
-use Rattle.roman_model.specs.System.{Sys, Seat, IsPair}
-use Rattle.roman_model.specs.Certificate.{head_line, count_line, end_line, IsWithinCells}
-use Rattle.roman_model.proofs.CallerLemmas.{in_map, written_is_greatest}
-use Rattle.roman_cert.specs.Certified.{WroteGreatest}
+use Rattle.roman_cert.proofs.Common.{◌≡◌, ℕ, ◌+◌, ◌*◌, ◌/◌, ◌<◌, ◌≤◌, List, [], ◌∷◌, ◌++◌, map, length, drop, codes, Option, Some, Result, decimal, append_assoc, append-nil, refl, sym, ap, ◌∙◌, inl, inr, arith, slice_get, drop_all, Puts, IsIn, text_of_lines, IsSys, Entry, sizes_of, count, pair_at, entry_at, IsCompleteList, reason_text, entry_line, cert_text, AreNumbers, NamedSys, system_of, IsNamedSys, Ok, Err, OnOk, mul-le-mul, product_of, div-lt_iff_lt-mul, Sys, Seat, IsPair, head_line, count_line, end_line, IsWithinCells, in_map, written_is_greatest, WroteGreatest}
 use Rattle.roman_cert.proofs.Texts.{text_of_lines-append, drop_at}
 
 -- the lines of the entries from a place on, and the last line

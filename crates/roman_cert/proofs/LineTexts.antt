@@ -1,10 +1,6 @@
 -- The lines of an explanation, in the parts in which they are pushed.
-use Rattle.roman_cert.proofs.Common.{◌≡◌, ℕ, ◌+◌, ◌<◌, ◌≤◌, List, [], ◌∷◌, ◌++◌, length, drop, codes, sym, ap, ap₂, ◌∙◌, arith, append-nil, append_assoc, add-one, drop-cons, drop_all, length-map, text_of_lines, Pair, sizes_of, pair_at, Entry, Reason, lost_line, NamedSys, system_of, names_in, lost_text}
-use Rattle.std.proofs.Common.{slice_index, slice_index_or}
-use Rattle.std.specs.List.{flat_map, join_with_byte}
-use Rattle.roman_model.specs.Explanation.{Names, SeatNames, name_at, seat_names, state_names, reason_name}
-use Rattle.roman_model.proofs.CallerLemmas.{length-states_at}
-use Rattle.roman_joint.specs.Names.{names_of_seat}
+use Rattle.roman_cert.proofs.Common.{◌≡◌, ℕ, ◌+◌, ◌<◌, ◌≤◌, List, [], ◌∷◌, ◌++◌, length, drop, codes, sym, ap, ap₂, ◌∙◌, arith, append-nil, append_assoc, add-one, drop-cons, drop_all, length-map, text_of_lines, Pair, sizes_of, pair_at, Entry, Reason, lost_line, NamedSys, system_of, names_in, lost_text, slice_index, slice_index_or, join_with_byte, Names, SeatNames, name_at, seat_names, state_names, reason_name, length-states_at, names_of_seat}
+use Rattle.std.specs.List.{flat_map}
 
 -- The line of a seat
 

@@ -1,12 +1,6 @@
 -- Marks that are set from the end of a removal list: each entry on which p's entry depends is marked
 -- before it is reached.
-use Rattle.roman_cert.proofs.Common.{◌≡◌, ℕ, ◌+◌, ◌<◌, ◌≤◌, Bool, true, false, ◌||◌, ◌⊎◌, List, [], ◌∷◌, ◌++◌, length, take, drop, Option, Some, IsTrue, IsFalse, filter, refl, sym, ap, ap₂, ◌∙◌, subst, inl, inr, arith, append_assoc, take-append-drop, list_any, slice_get, or-false, cond-true, cond-false, list_any-append, slice_get_within, IsIn, below, Arena, Entry, is_listed, IsOrder, entries_before, answer, rests_on, Act, any_from, by_test, IsSame, order_middle, before_is, IsNumbered, Board, is_marked}
-use Rattle.std.proofs.Common.{◌≢◌, ◌-◌, ◌&&◌, length-append, length-take}
-use Rattle.std.specs.Option.{option_to_list}
-use Rattle.std.proofs.lemmas.Bool.{or_cases, or_left, or_right, and_parts, false≢true}
-use Rattle.roman_model.specs.Arena.{is_among}
-use Rattle.roman_model.specs.Explanation.{ready_seats, answers}
-use Rattle.roman_model.proofs.CallerLemmas.{same_test, any_true, any_within, in_append_right, from_append, split_at, list_any-flat_map, among_in, before_falls, answer_before, rests_is}
+use Rattle.roman_cert.proofs.Common.{◌≡◌, ℕ, ◌+◌, ◌<◌, ◌≤◌, Bool, true, false, ◌||◌, ◌⊎◌, List, [], ◌∷◌, ◌++◌, length, take, drop, Option, Some, IsTrue, IsFalse, filter, refl, sym, ap, ap₂, ◌∙◌, subst, inl, inr, arith, append_assoc, take-append-drop, list_any, slice_get, or-false, cond-true, cond-false, list_any-append, slice_get_within, IsIn, below, Arena, Entry, is_listed, IsOrder, entries_before, answer, rests_on, Act, any_from, by_test, IsSame, order_middle, before_is, IsNumbered, Board, is_marked, ◌≢◌, ◌-◌, ◌&&◌, length-append, length-take, option_to_list, or_cases, or_left, or_right, and_parts, false≢true, is_among, ready_seats, answers, same_test, any_true, any_within, in_append_right, from_append, split_at, list_any-flat_map, among_in, before_falls, answer_before, rests_is}
 use Rattle.roman_cert.proofs.Texts.{drop_at, some_at}
 use Rattle.roman_cert.proofs.Answering.{entries_at, unready_answer}
 

@@ -1,8 +1,6 @@
 -- The entries of an explanation, one after the other.
-use Rattle.roman_cert.proofs.Common.{◌≡◌, ℕ, ◌+◌, ◌<◌, ◌≤◌, true, List, [], ◌∷◌, ◌++◌, length, drop, filter, Some, IsTrue, IsFalse, refl, ap, ◌∙◌, codes, flat_map, append_assoc, arith, drop_all, cond-true, cond-false, Entry, IsOrder, sizes_of, count, Reason, Final, Act, get_in, NamedSys, system_of, IsNamedSys, Board, pairs_of, has_entry, is_marked, arena_of, listed_numbers, lost_text, answers_text, entry_text, marked_entries, slice_text}
+use Rattle.roman_cert.proofs.Common.{◌≡◌, ℕ, ◌+◌, ◌<◌, ◌≤◌, true, List, [], ◌∷◌, ◌++◌, length, drop, filter, Some, IsTrue, IsFalse, refl, ap, ◌∙◌, codes, flat_map, append_assoc, arith, drop_all, cond-true, cond-false, Entry, IsOrder, sizes_of, count, Reason, Final, Act, get_in, NamedSys, system_of, IsNamedSys, Board, pairs_of, has_entry, is_marked, arena_of, listed_numbers, lost_text, answers_text, entry_text, marked_entries, slice_text, numbered_is_arena, NamesAction}
 use Rattle.std.proofs.Common.{slice_get}
-use Rattle.roman_model.proofs.CallerLemmas.{numbered_is_arena}
-use Rattle.roman_cert.specs.Reasons.{NamesAction}
 use Rattle.roman_cert.proofs.Texts.{drop_at}
 use Rattle.roman_cert.proofs.Answering.{entry_allowed}
 

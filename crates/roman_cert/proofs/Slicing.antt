@@ -1,9 +1,5 @@
 -- The explanation of a pair, as it is printed and as a refutation.
-use Rattle.roman_cert.proofs.Common.{◌≡◌, ℕ, ◌<◌, List, [], ◌∷◌, ◌++◌, map, filter, flat_map, length, codes, Option, Result, IsTrue, refl, sym, ap, ap₂, ◌∙◌, subst, arith, Puts, text_of_lines, Entry, is_listed, arena, sizes_of, count, pair_at, entry_at, IsCompleteList, rests_on, lost_line, AreNumbers, NamedSys, system_of, IsNamedSys, names_in, Board, is_marked, arena_of, lost_text, answers_text, entry_text, marked_entries, slice_text}
-use Rattle.roman_model.specs.Composition.{Great}
-use Rattle.roman_model.specs.Explanation.{explanation, answer_lines, entry_lines, explain_text, ExplainedOrder}
-use Rattle.roman_model.specs.Play.{OpponentWins}
-use Rattle.roman_model.proofs.CallerLemmas.{filter_same, numbers_are_pairs, explanation_is_least, explanation_is_order, explanation_at, order_won}
+use Rattle.roman_cert.proofs.Common.{◌≡◌, ℕ, ◌<◌, List, [], ◌∷◌, ◌++◌, map, filter, flat_map, length, codes, Option, Result, IsTrue, refl, sym, ap, ap₂, ◌∙◌, subst, arith, Puts, text_of_lines, Entry, is_listed, arena, sizes_of, count, pair_at, entry_at, IsCompleteList, rests_on, lost_line, AreNumbers, NamedSys, system_of, IsNamedSys, names_in, Board, is_marked, arena_of, lost_text, answers_text, entry_text, marked_entries, slice_text, Great, explanation, answer_lines, entry_lines, explain_text, ExplainedOrder, OpponentWins, filter_same, numbers_are_pairs, explanation_is_least, explanation_is_order, explanation_at, order_won}
 use Rattle.roman_cert.proofs.Texts.{text_of_lines-append}
 
 -- What is printed

@@ -1,9 +1,6 @@
 -- Lines that are made from the line before.
-use Rattle.roman_cert.proofs.Common.{◌≡◌, ℕ, suc, ◌+◌, ◌*◌, ◌/◌, ◌<◌, ◌≤◌, List, [], ◌∷◌, ◌++◌, length, take, drop, decimal, sym, ap, ap₂, ◌∙◌, arith, append_assoc, IsTemplate}
-use Rattle.std.proofs.Common.{◌%◌, ◌^◌, get_or, set}
-use Rattle.std.proofs.lemmas.Fmt.{decimal_step}
-use Rattle.std.proofs.lemmas.List.{take-take, drop-take, take-append-drop, drop_more, take-set-le, get_or-set_same, get_or-set_other, length-set}
-use Rattle.roman_cert.specs.declared.template.Template.{Template}
+use Rattle.roman_cert.proofs.Common.{◌≡◌, ℕ, suc, ◌+◌, ◌*◌, ◌/◌, ◌<◌, ◌≤◌, List, [], ◌∷◌, ◌++◌, length, take, drop, decimal, sym, ap, ap₂, ◌∙◌, arith, append_assoc, IsTemplate, ◌%◌, ◌^◌, get_or, set, decimal_step, take-take, drop-take, drop_more, take-set-le, get_or-set_same, get_or-set_other, length-set, Template}
+use Rattle.std.proofs.lemmas.List.{take-append-drop}
 
 two_more : (q a b : ℕ) → 0 < q → a < 10 → b < 10 → q < 2 ^ 32 → decimal (q * 100 + (a * 10 + b)) ≡ decimal q ++ (48 + a) ∷ (48 + b) ∷ []
 two_more q a b some tens ones small =

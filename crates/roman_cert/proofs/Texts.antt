@@ -1,7 +1,5 @@
 -- Texts of lines, and rests of lists.
-use Rattle.roman_cert.proofs.Common.{◌≡◌, ℕ, zero, suc, ◌+◌, ◌<◌, List, [], ◌∷◌, ◌++◌, length, drop, Some, refl, sym, ap₂, ◌∙◌, arith, add-one, drop-cons, slice_get, slice_get_within, text_of_lines}
-use Rattle.std.proofs.lemmas.Option.{get_or_from_slice_get}
-use Rattle.std.proofs.lemmas.Grind.{flat_map-append}
+use Rattle.roman_cert.proofs.Common.{◌≡◌, ℕ, zero, suc, ◌+◌, ◌<◌, List, [], ◌∷◌, ◌++◌, length, drop, Some, refl, sym, ap₂, ◌∙◌, arith, add-one, drop-cons, slice_get, slice_get_within, text_of_lines, get_or_from_slice_get, flat_map-append}
 
 -- the text of some lines and then of others
 pub text_of_lines-append : (ls ms : List (List ℕ)) → text_of_lines (ls ++ ms) ≡ text_of_lines ls ++ text_of_lines ms

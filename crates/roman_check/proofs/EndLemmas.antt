@@ -1,10 +1,6 @@
 -- The verdict at the end of a text, and at a line at fault.
-use Rattle.roman_check.proofs.Common.{◌≡◌, ◌≢◌, ℕ, ◌+◌, ◌<◌, ◌≤◌, Bool, not, List, [], ◌∷◌, ◌++◌, length, drop, Some, None, count_by, codes, decimal, refl, sym, ap, ap₂, ◌∙◌, subst, arith, cons_option, cond-true, below, lines, Arena, Entry, is_listed, head_line, count_line, entry_of, entries_on, line_fault, MAX_CERTIFICATE_BYTES, by_test, entry_of_other, fault_in_body, fault_after_end, IsNumbered, Audit, Nothing, Reader, HasListed, HasRead, HasLines}
-use Rattle.roman_model.specs.Certificate.{unless_is}
-use Rattle.std.proofs.lemmas.List.Sums.{length-filter}
+use Rattle.roman_check.proofs.Common.{◌≡◌, ◌≢◌, ℕ, ◌+◌, ◌<◌, ◌≤◌, Bool, not, List, [], ◌∷◌, ◌++◌, length, drop, Some, None, count_by, codes, decimal, refl, sym, ap, ap₂, ◌∙◌, subst, arith, cons_option, cond-true, below, lines, Arena, Entry, is_listed, head_line, count_line, entry_of, entries_on, line_fault, MAX_CERTIFICATE_BYTES, by_test, entry_of_other, fault_in_body, fault_after_end, IsNumbered, Audit, Nothing, Reader, HasListed, HasRead, HasLines, unless_is, length-filter, IsClean, unlisted, cert_verdict, due_is, verdict_ended, verdict_accepted}
 use Rattle.roman_model.specs.Certificate as text
-use Rattle.roman_model.specs.Certificate.{IsClean, unlisted, cert_verdict}
-use Rattle.roman_model.proofs.CallerLemmas.{due_is, verdict_ended, verdict_accepted}
 use Rattle.roman_check.proofs.AuditLemmas.{few_numbered, lines_due}
 
 -- Whether the text may end

@@ -1,8 +1,5 @@
 -- Lines that are read as entries.
-use Rattle.roman_check.proofs.Common.{◌≡◌, ◌≢◌, ℕ, suc, ◌+◌, ◌-◌, ◌^◌, ◌<◌, Bool, List, ◌∷◌, ◌++◌, length, take, drop, get_or, None, Some, IsTrue, IsFalse, decimal, codes, refl, sym, ap, ap₂, ◌∙◌, subst, inl, arith, length-append, AllDigits, both_ways, ne_eqb, take_all, take_at, IsIn, has, same_numbers, Entry, Reason, Final, Act, count_line, reason_text, entry_line, reasons, entry_of, from_map, from_below, same_numbers_itself, AreFew, act_reason, from_possible, possible_small, entry_of_none, IsNumberTo}
-use Rattle.std.proofs.lemmas.List.{drop_more, get_or_at}
-use Rattle.roman_model.proofs.CallerLemmas.{IsSmall, cut_at, decimal_without, in_possible, entry_of-line}
-use Rattle.roman_check.specs.Readings.{ReadsOff}
+use Rattle.roman_check.proofs.Common.{◌≡◌, ◌≢◌, ℕ, suc, ◌+◌, ◌-◌, ◌^◌, ◌<◌, Bool, List, ◌∷◌, ◌++◌, length, take, drop, get_or, None, Some, IsTrue, IsFalse, decimal, codes, refl, sym, ap, ap₂, ◌∙◌, subst, inl, arith, length-append, AllDigits, both_ways, ne_eqb, take_all, take_at, IsIn, has, same_numbers, Entry, Reason, Final, Act, count_line, reason_text, entry_line, reasons, entry_of, from_map, from_below, same_numbers_itself, AreFew, act_reason, from_possible, possible_small, entry_of_none, IsNumberTo, drop_more, get_or_at, IsSmall, cut_at, decimal_without, in_possible, entry_of-line, ReadsOff}
 use Rattle.roman_check.proofs.DigitLemmas.{decimal_shape, no_stop_digit}
 use Rattle.roman_check.proofs.Texts.{same_from, clear_before, taken_more}
 

@@ -1,9 +1,5 @@
 -- Lines that differ in the last two digits of the pair.
-use Rattle.roman_check.proofs.Common.{◌≡◌, ℕ, ◌+◌, ◌-◌, ◌*◌, ◌/◌, ◌%◌, ◌^◌, ◌<◌, ◌≤◌, List, [], ◌∷◌, ◌++◌, length, take, drop, get_or, set, decimal, sym, ap, ap₂, ◌∙◌, inl, inr, arith, append_assoc, length-append, length-take-le, cases_lt, decimal_digit, take_at, take-take, drop-take, get_or-take, get_or-drop, get_or-set_other, length-set, IsIn, reasons, entry_of, Reason, HasEntry, HasParts, entry_with, IsPattern}
-use Rattle.std.proofs.lemmas.Fmt.{decimal_step}
-use Rattle.std.proofs.lemmas.Grind.{same_number_lists}
-use Rattle.std.proofs.lemmas.List.{take_more_set, drop-set-lt}
-use Rattle.roman_check.specs.declared.pattern.Shape.{Shape}
+use Rattle.roman_check.proofs.Common.{◌≡◌, ℕ, ◌+◌, ◌-◌, ◌*◌, ◌/◌, ◌%◌, ◌^◌, ◌<◌, ◌≤◌, List, [], ◌∷◌, ◌++◌, length, take, drop, get_or, set, decimal, sym, ap, ap₂, ◌∙◌, inl, inr, arith, append_assoc, length-append, length-take-le, cases_lt, decimal_digit, take_at, take-take, drop-take, get_or-take, get_or-drop, get_or-set_other, length-set, IsIn, reasons, entry_of, Reason, HasEntry, HasParts, entry_with, IsPattern, decimal_step, same_number_lists, take_more_set, drop-set-lt, Shape}
 use Rattle.roman_check.proofs.DigitLemmas.{decimal_shape}
 use Rattle.roman_check.proofs.EntryLemmas.{few_of, cut_to, some_entry}
 

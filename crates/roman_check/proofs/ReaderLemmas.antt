@@ -1,15 +1,5 @@
 -- Texts that are read byte by byte.
-use Rattle.roman_check.proofs.Common.{◌≡◌, ℕ, ◌+◌, ◌-◌, ◌<◌, ◌≤◌, List, [], ◌∷◌, ◌++◌, length, take, drop, get_or, Option, Some, None, option_map, refl, sym, ap, ap₂, ◌∙◌, subst, inl, inr, arith, append_assoc, append-nil, length-append, take_rest, take_all, take-append-drop, get_or-drop, cases_lt, lines, text_of_lines, IsLine, Arena, Entry, Reader, Audit, Why, Form, fault_of, HasRead, TakesEntry, Judges, IsInRows, possible_small, entry_of-is, IsEndedAt, HasEntry, HasLines, IsReading, IsBetween, ReadsPart, IsNumbered}
-use Rattle.std.proofs.Common.{length-drop}
-use Rattle.roman_model.proofs.CallerLemmas.{entry_is_line}
-use Rattle.roman_check.specs.Lines.{Holds}
-use Rattle.roman_check.specs.Readers.{IsAtFault, EndsLine}
-use Rattle.std.proofs.lemmas.List.{nil_from_length, take_more}
-use Rattle.roman_model.specs.Lines.{AreLines}
-use Rattle.roman_model.specs.Certificate.{Rejected}
-use Rattle.roman_model.proofs.CallerLemmas.{from_push, text_of_lines-push, lines-text, lines_last, append_line, clean_push, verdict_at}
-use Rattle.roman_check.specs.declared.line.Line.{Line}
-use Rattle.roman_check.specs.Readers.{Closes, one_if_clean}
+use Rattle.roman_check.proofs.Common.{◌≡◌, ℕ, ◌+◌, ◌-◌, ◌<◌, ◌≤◌, List, [], ◌∷◌, ◌++◌, length, take, drop, get_or, Option, Some, None, option_map, refl, sym, ap, ap₂, ◌∙◌, subst, inl, inr, arith, append_assoc, append-nil, length-append, take_rest, take_all, take-append-drop, get_or-drop, cases_lt, lines, text_of_lines, IsLine, Arena, Entry, Reader, Audit, Why, Form, fault_of, HasRead, TakesEntry, Judges, IsInRows, possible_small, entry_of-is, IsEndedAt, HasEntry, HasLines, IsReading, IsBetween, ReadsPart, IsNumbered, length-drop, entry_is_line, Holds, IsAtFault, EndsLine, nil_from_length, take_more, AreLines, Rejected, from_push, text_of_lines-push, lines-text, lines_last, append_line, clean_push, verdict_at, Line, Closes, one_if_clean}
 use Rattle.roman_check.proofs.Texts.{taken_more}
 use Rattle.roman_check.proofs.AuditLemmas.{few_numbered}
 use Rattle.roman_check.proofs.LongLines.{long_line}

@@ -1,12 +1,5 @@
 -- Reasons that hold, and pairs that are missing.
-use Rattle.roman_check.proofs.Common.{◌≡◌, ◌≢◌, ℕ, ◌+◌, ◌-◌, ◌*◌, ◌^◌, ◌/◌, ◌%◌, ◌<◌, ◌≤◌, Bool, true, false, not, ◌&&◌, ◌||◌, List, get_or, [], ◌∷◌, length, Some, None, find, sym, ap, ap₂, ◌∙◌, subst, inl, inr, arith, add-one, bit_and, list_any, trailing_zeros, w64, or-false, cases_lt, eq-eqb, false≢true, mul-le, same_from_place, list_any-append, IsIn, below, Arena, Entry, is_justified, is_listed, Reason, Act, could_be_listed, reasons, from_map, from_below, is_on, AreRows, HasLanes, on_and, on_zero, IsNumbered, NoneMissing}
-use Rattle.std.proofs.Common.{bit_or, eqb}
-use Rattle.std.specs.Int.{bit_at}
-use Rattle.std.proofs.Math.Bool.{and_comm}
-use Rattle.std.proofs.lemmas.Nat.{div-add-mod', div_below, le-div, row_fits}
-use Rattle.std.proofs.lemmas.Nat.Bits.{bit_at-trailing_zeros}
-use Rattle.roman_lanes.proofs.CallerLemmas.{on_or}
-use Rattle.roman_model.proofs.CallerLemmas.{none_from, find_first, find_not_found, list_any-map}
+use Rattle.roman_check.proofs.Common.{◌≡◌, ◌≢◌, ℕ, ◌+◌, ◌-◌, ◌*◌, ◌^◌, ◌/◌, ◌%◌, ◌<◌, ◌≤◌, Bool, true, false, not, ◌&&◌, ◌||◌, List, get_or, [], ◌∷◌, length, Some, None, find, sym, ap, ap₂, ◌∙◌, subst, inl, inr, arith, add-one, bit_and, list_any, trailing_zeros, w64, or-false, cases_lt, eq-eqb, false≢true, mul-le, same_from_place, list_any-append, IsIn, below, Arena, Entry, is_justified, is_listed, Reason, Act, could_be_listed, reasons, from_map, from_below, is_on, AreRows, HasLanes, on_and, on_zero, IsNumbered, NoneMissing, bit_or, eqb, bit_at, and_comm, div-add-mod', div_below, le-div, row_fits, bit_at-trailing_zeros, on_or, none_from, find_first, find_not_found, list_any-map}
 
 -- Reasons
 

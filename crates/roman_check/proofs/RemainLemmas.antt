@@ -1,14 +1,5 @@
 -- Tables of the pairs that remain.
-use Rattle.roman_check.proofs.Common.{◌≡◌, ◌≢◌, ℕ, zero, suc, ◌+◌, ◌-◌, ◌*◌, ◌/◌, ◌^◌, ◌<◌, ◌≤◌, ◌==◌, Bool, true, false, not, ◌&&◌, ◌||◌, List, length, get_or, set, count_by, bit_and, IsFalse, refl, sym, ap, ◌∙◌, inl, inr, arith, add-one, or-false, ne_eqb, eq-eqb, get_or-set_other, length-set, same_from_place, below, from_below, is_on, AreRows, HasLanes, on_and, Clears}
-use Rattle.std.proofs.lemmas.Bool.{cases_eq}
-use Rattle.roman_lanes.proofs.CallerLemmas.{on_full, on_full_past}
-use Rattle.std.proofs.Common.{cond, replicate}
-use Rattle.std.proofs.lemmas.Bool.{or_right}
-use Rattle.std.proofs.lemmas.List.{length-replicate, get_or-replicate, get_or-set_same}
-use Rattle.std.proofs.lemmas.List.Sums.{sum_by_push}
-use Rattle.roman_model.proofs.CallerLemmas.{sum_by_same}
-use Rattle.roman_check.specs.Remain.{Remain}
-use Rattle.roman_check.specs.declared.table.Remaining.{Remaining}
+use Rattle.roman_check.proofs.Common.{◌≡◌, ◌≢◌, ℕ, zero, suc, ◌+◌, ◌-◌, ◌*◌, ◌/◌, ◌^◌, ◌<◌, ◌≤◌, ◌==◌, Bool, true, false, not, ◌&&◌, ◌||◌, List, length, get_or, set, count_by, bit_and, IsFalse, refl, sym, ap, ◌∙◌, inl, inr, arith, add-one, or-false, ne_eqb, eq-eqb, get_or-set_other, length-set, same_from_place, below, from_below, is_on, AreRows, HasLanes, on_and, Clears, cases_eq, on_full, on_full_past, cond, replicate, or_right, length-replicate, get_or-replicate, get_or-set_same, sum_by_push, sum_by_same, Remain, Remaining}
 
 -- Words
 

@@ -1,13 +1,6 @@
 -- Certificates that are taken from a source piece by piece.
-use Rattle.roman_check.proofs.Common.{◌≡◌, ℕ, ◌+◌, ◌<◌, ◌≤◌, List, [], ◌∷◌, ◌++◌, length, take, drop, Option, Some, sym, ap, ◌∙◌, subst, arith, append_assoc, append-nil, length-append, length-take-le, None, take-append-drop, take-take, take_at, take_all, length-take, Gave, Gave-then, text_of_lines, Arena, MAX_CERTIFICATE_BYTES, Reader, Why, fault_of, IsReading}
-use Rattle.roman_check.specs.Readers.{ReadsPiece}
-use Rattle.roman_io.specs.Source.{EndsAt, GaveAtMost, IsAtEnd}
-use Rattle.roman_io.proofs.CallerLemmas.{gave_at_most, had_more}
-use Rattle.roman_model.specs.Lines.{ended_lines}
+use Rattle.roman_check.proofs.Common.{◌≡◌, ℕ, ◌+◌, ◌<◌, ◌≤◌, List, [], ◌∷◌, ◌++◌, length, take, drop, Option, Some, sym, ap, ◌∙◌, subst, arith, append_assoc, append-nil, length-append, length-take-le, None, take-append-drop, take-take, take_at, take_all, length-take, Gave, Gave-then, text_of_lines, Arena, MAX_CERTIFICATE_BYTES, Reader, Why, fault_of, IsReading, ReadsPiece, EndsAt, GaveAtMost, IsAtEnd, gave_at_most, had_more, ended_lines, faults, ended_lines-text, ended_lines_last, faults_none, verdict_rejected, verdict_too_long, HaveVerdict, NoneAtFault}
 use Rattle.roman_model.specs.Certificate as text
-use Rattle.roman_model.specs.Certificate.{faults}
-use Rattle.roman_model.proofs.CallerLemmas.{ended_lines-text, ended_lines_last, faults_none, verdict_rejected, verdict_too_long}
-use Rattle.roman_check.specs.Checks.{HaveVerdict, NoneAtFault}
 
 -- a source that gives nothing is at its end
 pub at_end : (mid now : Option (List ℕ)) (into : List ℕ) (n : ℕ) → Gave mid now (take n into) → EndsAt mid n → n ≡ 0 → IsAtEnd now

@@ -1,16 +1,5 @@
 -- Equal texts, and texts that don't have a byte.
-use Rattle.roman_check.proofs.Common.{◌≡◌, ℕ, zero, suc, ◌+◌, ◌<◌, ◌==◌, Bool, List, [], ◌∷◌, ◌++◌, length, take, drop, get_or, None, Option, Some, refl, sym, ap₂, ◌∙◌, subst, inl, inr, arith, IsTrue, IsFalse, IsLine, IsEndedAt, Decides-eqb, eqb-true, cases_lt, cond-true, take_all, take-take, drop-take, take-append-drop, has, same_numbers, same_numbers_is, same_numbers_itself}
-use Rattle.std.specs.List.{position}
-use Rattle.std.proofs.Common.{nat_lt}
-use Rattle.std.specs.Prelude.{MatchOption}
-use Rattle.std.specs.List.{position_or_len}
-use Rattle.std.specs.Cmp.Lexicographic.{pointwise}
-use Rattle.std.proofs.lemmas.Slice.Eq.{slice_eq-Decides}
-use Rattle.std.proofs.lemmas.Bool.{or_from, lt-ltb}
-use Rattle.std.proofs.lemmas.List.Sums.{fails_before_first}
-use Rattle.std.proofs.lemmas.List.Quantifiers.{position-Some}
-use Rattle.std.proofs.lemmas.Option.{none-some}
-use Rattle.roman_model.proofs.CallerLemmas.{same_test}
+use Rattle.roman_check.proofs.Common.{◌≡◌, ℕ, zero, suc, ◌+◌, ◌<◌, ◌==◌, Bool, List, [], ◌∷◌, ◌++◌, length, take, drop, get_or, None, Option, Some, refl, sym, ap₂, ◌∙◌, subst, inl, inr, arith, IsTrue, IsFalse, IsLine, IsEndedAt, Decides-eqb, eqb-true, cases_lt, cond-true, take_all, take-take, drop-take, take-append-drop, has, same_numbers, same_numbers_is, same_numbers_itself, position, nat_lt, MatchOption, position_or_len, pointwise, slice_eq-Decides, or_from, lt-ltb, fails_before_first, position-Some, none-some, same_test}
 
 -- a test that is true exactly for equal texts is the model's test
 pub same_from : (b : Bool) (xs ys : List ℕ) → (IsTrue b → xs ≡ ys) → (xs ≡ ys → IsTrue b) → b ≡ same_numbers xs ys

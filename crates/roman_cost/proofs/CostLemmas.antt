@@ -1,10 +1,5 @@
 -- Listed costs, and their cells.
-use Rattle.roman_cost.proofs.Common.{◌≡◌, ◌≢◌, ℕ, zero, suc, ◌+◌, ◌-◌, ◌*◌, ◌<◌, ◌≤◌, Bool, true, false, cond, List, [], ◌∷◌, ◌++◌, length, get_or, Option, Some, None, unwrap_or, slice_index, All, IsTrue, IsFalse, inl, inr, refl, sym, ap, ◌∙◌, subst, arith, cond-false, cond-true, mul-add-lt, by_test, NamedSys, CostTable, listed_cost, seat_costs, cell_of, Listed, MAX_COST}
-use Rattle.std.proofs.Common.{◌==◌, ◌&&◌, set}
-use Rattle.std.specs.Option.{option_or}
-use Rattle.std.proofs.lemmas.Bool.{cases_order, eq-eqb, eqb-true, and_parts, and_from}
-use Rattle.std.proofs.lemmas.List.{get_or-set_same, get_or-set_other, length-set}
-use Rattle.roman_cost.specs.Tables.{HoldsCosts, cost_of}
+use Rattle.roman_cost.proofs.Common.{◌≡◌, ◌≢◌, ℕ, zero, suc, ◌+◌, ◌-◌, ◌*◌, ◌<◌, ◌≤◌, Bool, true, false, cond, List, [], ◌∷◌, ◌++◌, length, get_or, Option, Some, None, unwrap_or, slice_index, All, IsTrue, IsFalse, inl, inr, refl, sym, ap, ◌∙◌, subst, arith, cond-false, cond-true, mul-add-lt, by_test, NamedSys, CostTable, listed_cost, seat_costs, cell_of, Listed, MAX_COST, ◌==◌, ◌&&◌, set, option_or, cases_order, eq-eqb, eqb-true, and_parts, and_from, get_or-set_same, get_or-set_other, length-set, HoldsCosts, cost_of}
 
 -- One item more.
 

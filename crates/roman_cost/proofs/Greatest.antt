@@ -1,7 +1,6 @@
 -- Loops that keep the greatest value so far.
-use Rattle.roman_cost.proofs.Common.{◌≡◌, ℕ, ◌+◌, ◌<◌, List, [], ◌∷◌, map, length, get_or, take, refl, sym, ap, ap₂, ◌∙◌, arith, max, take_more, max_over}
+use Rattle.roman_cost.proofs.Common.{◌≡◌, ℕ, ◌+◌, ◌<◌, List, [], ◌∷◌, map, length, get_or, take, refl, sym, ap, ap₂, ◌∙◌, arith, max, take_more, max_over, max_over_push, max_over-map, max_over-append}
 use Rattle.std.proofs.Common.{flat_map}
-use Rattle.roman_model.proofs.CallerLemmas.{max_over_push, max_over-map, max_over-append}
 
 -- the greatest value after one element more
 pub max_stepped : {X : Type 0} (f : X → ℕ) (xs : List X) (i : ℕ) (d : X) (best value new : ℕ) → best ≡ max_over f (take i xs) → i < length xs →

@@ -1,15 +1,7 @@
 -- The text of advice, one line after the other.
-use Rattle.roman_cost.proofs.Common.{◌≡◌, ℕ, suc, ◌+◌, ◌-◌, ◌<◌, ◌≤◌, List, [], ◌∷◌, ◌++◌, IsTrue, IsFalse, codes, decimal, length, drop, map, get_or, slice_get, Option, Some, refl, sym, ap, ap₂, ◌∙◌, arith, add-one, append_assoc, flat_map, cond-true, cond-false, length-map, get_or-map, below, Sys, Pair, IsSys, is_allowed, sizes_of, count, pair_at, is_related, Costs, allowed_actions, least, least_at, choice, through, related_great, length-below, get_or-below, numbers_are_pairs, choice_is, IsFilling, NamedSys, system_of, seat_of, worst_line, choice_line, value_line, value_lines, certificate_text, advice_text, seat_costs, Listed}
-use Rattle.roman_joint.specs.declared.seat.Seat.{Seat}
+use Rattle.roman_cost.proofs.Common.{◌≡◌, ℕ, suc, ◌+◌, ◌-◌, ◌<◌, ◌≤◌, List, [], ◌∷◌, ◌++◌, IsTrue, IsFalse, codes, decimal, length, drop, map, get_or, slice_get, Option, Some, refl, sym, ap, ap₂, ◌∙◌, arith, add-one, append_assoc, flat_map, cond-true, cond-false, length-map, get_or-map, below, Sys, Pair, IsSys, is_allowed, sizes_of, count, pair_at, is_related, Costs, allowed_actions, least, least_at, choice, through, related_great, length-below, get_or-below, numbers_are_pairs, choice_is, IsFilling, NamedSys, system_of, seat_of, worst_line, choice_line, value_line, value_lines, certificate_text, advice_text, seat_costs, Listed, Seat, option_map, drop-cons, drop_all, slice_get-map, get_or_from_slice_get, name_at, fill_whole, seat_name, value_head, value_tail, service_text}
 use Rattle.std.specs.List.{filter}
-use Rattle.std.specs.Option.{option_map}
-use Rattle.std.proofs.Math.Seq.{drop-cons}
-use Rattle.std.proofs.lemmas.List.{append-nil, drop_all}
-use Rattle.std.proofs.lemmas.Option.{slice_get-map, get_or_from_slice_get}
-use Rattle.roman_model.specs.Explanation.{name_at}
-use Rattle.roman_text.proofs.CallerLemmas.{fill_whole}
-use Rattle.roman_joint.specs.Names.{seat_name}
-use Rattle.roman_cost.specs.AdviceText.{value_head, value_tail, service_text}
+use Rattle.std.proofs.lemmas.List.{append-nil}
 use Rattle.roman_cost.proofs.OfferedSeats.{offered}
 
 -- the places from k on

@@ -1,8 +1,6 @@
 -- The offered seats of a related pair: each has outcomes, all of them are related, and its cost is the one that the definition gives.
-use Rattle.roman_cost.proofs.Common.{◌≡◌, ◌≢◌, ℕ, suc, ◌+◌, ◌*◌, ◌<◌, ◌≤◌, Bool, List, [], ◌∷◌, map, length, filter, slice_index, inl, inr, IsTrue, All, refl, sym, ap, ◌∙◌, subst, arith, IsIn, below, Sys, Pair, IsSys, IsPair, has, outcomes, is_allowed, sizes_of, count, pair_at, number, numbered, is_related, offers, Costs, max_over, first_least, least, least_at, choice, through, from_map, in_map, not_empty_in, ne_not_empty, outcome_pair, great_related, offer_is, numbers_are_pairs, max_over_le, number_listed, cond-true, has_seat_is, related_pairs, HavePlaces, ranked, IsRanked, AreSmall, MAX_COST, MAX_REQUESTS}
+use Rattle.roman_cost.proofs.Common.{◌≡◌, ◌≢◌, ℕ, suc, ◌+◌, ◌*◌, ◌<◌, ◌≤◌, Bool, List, [], ◌∷◌, map, length, filter, slice_index, inl, inr, IsTrue, All, refl, sym, ap, ◌∙◌, subst, arith, IsIn, below, Sys, Pair, IsSys, IsPair, has, outcomes, is_allowed, sizes_of, count, pair_at, number, numbered, is_related, offers, Costs, max_over, first_least, least, least_at, choice, through, from_map, in_map, not_empty_in, ne_not_empty, outcome_pair, great_related, offer_is, numbers_are_pairs, max_over_le, number_listed, cond-true, has_seat_is, related_pairs, HavePlaces, ranked, IsRanked, AreSmall, MAX_COST, MAX_REQUESTS, not_empty_ne, in_not_empty, outcome_seat, through_numbered, max_over_same, HasBits, has_seat}
 use Rattle.std.proofs.Common.{flat_map}
-use Rattle.roman_model.proofs.CallerLemmas.{not_empty_ne, in_not_empty, outcome_seat, through_numbered, max_over_same}
-use Rattle.roman_rules.specs.Bits.{HasBits, has_seat}
 use Rattle.roman_cost.proofs.Best.{filter_has, first_least_same}
 use Rattle.roman_cost.proofs.Rows.{all_from}
 use Rattle.roman_cost.proofs.Ranks.{in_related, ranked_value}

@@ -1,15 +1,5 @@
 -- The plans by offers are those by seats that serve, and their worst-case costs are the greatest that can occur.
-use Rattle.roman_cost.proofs.Common.{◌≡◌, ℕ, zero, suc, ◌+◌, ◌<◌, ◌≤◌, List, [], ◌∷◌, IsTrue, inl, inr, refl, sym, ap, ◌∙◌, subst, arith, max, IsIn, below, Sys, Pair, IsSys, IsPair, outcomes, is_allowed, Great, offers, Costs, max_over, allowed_actions, least, through, choice, by_test, in_filter, in_below, not_empty_in, ne_not_empty, allowed_in_range, from_allowed, outcome_pair, offer_is, choice_is}
-use Rattle.std.proofs.Common.{◌⊎◌}
-use Rattle.std.proofs.Math.Nat.{le-max_left, le-max_right, max-le}
-use Rattle.std.proofs.lemmas.Bool.{leb-true, leb-false}
-use Rattle.std.proofs.lemmas.Option.{slice_get_within}
-use Rattle.roman_model.specs.System.{Allows}
-use Rattle.roman_model.specs.Composition.{couple, Serves, GreatCouple}
-use Rattle.roman_model.specs.Plans.{Plan, Leaf, Node, IsPlan, worst, chosen}
-use Rattle.roman_model.proofs.CallerLemmas.{allowed_in, outcome_in, from_outcome, offers_are, plans_least}
-use Rattle.roman_model.specs.Outcomes.{LeadsTo}
-use Rattle.roman_cost.specs.ServingPlans.{IsServingPlan, Event, MayCome, cost_of_events, IsWorstCost, IsLeastCost, CostsBy, IsCheapest}
+use Rattle.roman_cost.proofs.Common.{◌≡◌, ℕ, zero, suc, ◌+◌, ◌<◌, ◌≤◌, List, [], ◌∷◌, IsTrue, inl, inr, refl, sym, ap, ◌∙◌, subst, arith, max, IsIn, below, Sys, Pair, IsSys, IsPair, outcomes, is_allowed, Great, offers, Costs, max_over, allowed_actions, least, through, choice, by_test, in_filter, in_below, not_empty_in, ne_not_empty, allowed_in_range, from_allowed, outcome_pair, offer_is, choice_is, ◌⊎◌, le-max_left, le-max_right, max-le, leb-true, leb-false, slice_get_within, Allows, couple, Serves, GreatCouple, Plan, Leaf, Node, IsPlan, worst, chosen, allowed_in, outcome_in, from_outcome, offers_are, plans_least, LeadsTo, IsServingPlan, Event, MayCome, cost_of_events, IsWorstCost, IsLeastCost, CostsBy, IsCheapest}
 
 -- Plans.
 

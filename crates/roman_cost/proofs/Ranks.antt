@@ -1,7 +1,5 @@
 -- The related pairs, and their ranks.
-use Rattle.roman_cost.proofs.Common.{◌≡◌, ℕ, zero, suc, ◌+◌, ◌*◌, ◌<◌, ◌≤◌, Bool, true, false, cond, List, [], ◌∷◌, ◌++◌, map, length, get_or, filter, slice_index, IsTrue, sym, ap, ◌∙◌, subst, arith, add-one, append-nil, length-append, length-map, get_or-map, map_push, IsIn, below, Sys, IsSys, IsPair, sizes_of, count, pair_at, is_related, Costs, least_at, Great, numbers_are_pairs, great_related, related_great, same_test, filter_in, in_filter, in_below, from_below, length-below, get_or-below, filter_below_more, rank, related_pairs, HavePlaces, AdviceTable, Advises, ranked}
-use Rattle.std.proofs.Common.{◌↔◌}
-use Rattle.roman_model.proofs.CallerLemmas.{rank_at, table_at}
+use Rattle.roman_cost.proofs.Common.{◌≡◌, ℕ, zero, suc, ◌+◌, ◌*◌, ◌<◌, ◌≤◌, Bool, true, false, cond, List, [], ◌∷◌, ◌++◌, map, length, get_or, filter, slice_index, IsTrue, sym, ap, ◌∙◌, subst, arith, add-one, append-nil, length-append, length-map, get_or-map, map_push, IsIn, below, Sys, IsSys, IsPair, sizes_of, count, pair_at, is_related, Costs, least_at, Great, numbers_are_pairs, great_related, related_great, same_test, filter_in, in_filter, in_below, from_below, length-below, get_or-below, filter_below_more, rank, related_pairs, HavePlaces, AdviceTable, Advises, ranked, ◌↔◌, rank_at, table_at}
 
 -- whether the pair with that number is related
 abbrev pub related_at : Sys → ℕ → Bool

@@ -1,10 +1,5 @@
 -- The values of the terms of related pairs.
-use Rattle.roman_cost.proofs.Common.{◌≡◌, ◌≢◌, ℕ, zero, suc, ◌+◌, ◌-◌, ◌*◌, ◌<◌, ◌≤◌, Bool, true, false, cond, List, [], ◌∷◌, ◌++◌, map, length, take, drop, filter, Option, Some, None, unwrap_or, slice_index, IsTrue, refl, sym, ap, ap₂, ◌∙◌, inl, inr, subst, arith, append_assoc, append-nil, add-one, max, flat_map, take_all, length-drop, IsIn, below, Sys, Pair, IsSys, is_allowed, sizes_of, count, pair_at, numbered, offers, Costs, max_over, least_from, first_least, least, least_at, choice, through, allowed_actions, filter_in, filter_below_more, max_over_le, related_great, numbers_are_pairs, choice_is, related_offers, related_pairs, HavePlaces, ranked, AreSmall, nothing_yet, worked_out, outcome_terms, service_terms, action_terms, pair_terms, MAX_COST, MAX_REQUESTS, Term}
-use Rattle.std.specs.Prelude.{min}
-use Rattle.std.proofs.lemmas.List.{take-append-drop, map-append}
-use Rattle.std.proofs.lemmas.Grind.{flat_map-append}
-use Rattle.roman_model.proofs.CallerLemmas.{in_append_left, in_append_right}
-use Rattle.roman_cost.specs.Terms.{cheaper_of}
+use Rattle.roman_cost.proofs.Common.{◌≡◌, ◌≢◌, ℕ, zero, suc, ◌+◌, ◌-◌, ◌*◌, ◌<◌, ◌≤◌, Bool, true, false, cond, List, [], ◌∷◌, ◌++◌, map, length, take, drop, filter, Option, Some, None, unwrap_or, slice_index, IsTrue, refl, sym, ap, ap₂, ◌∙◌, inl, inr, subst, arith, append_assoc, append-nil, add-one, max, flat_map, take_all, length-drop, IsIn, below, Sys, Pair, IsSys, is_allowed, sizes_of, count, pair_at, numbered, offers, Costs, max_over, least_from, first_least, least, least_at, choice, through, allowed_actions, filter_in, filter_below_more, max_over_le, related_great, numbers_are_pairs, choice_is, related_offers, related_pairs, HavePlaces, ranked, AreSmall, nothing_yet, worked_out, outcome_terms, service_terms, action_terms, pair_terms, MAX_COST, MAX_REQUESTS, Term, min, take-append-drop, map-append, flat_map-append, in_append_left, in_append_right, cheaper_of}
 use Rattle.roman_cost.specs.declared.terms.Term.TheVariants as term
 use Rattle.roman_cost.proofs.OfferedSeats.{cost_by, cost_is, best_is_choice}
 use Rattle.roman_cost.proofs.Ranks.{from_related, related_at}

@@ -1,17 +1,11 @@
 -- The lists of a document: their values, and their refusals.
-use Rattle.roman_document_laws.proofs.Common.{◌≡◌, ℕ, ◌≤◌, inl, inr, List, [], ◌∷◌, ◌++◌, length, codes, Result, Ok, Err, refl, sym, ap, ◌∙◌, subst, arith, Data, Texts, ◌>>=◌, same_ok, bind_ok, NamedEnv, NamedBeh, counted_items, PartError, behaviour_in, catalogue_in, service_of, services_of, placed, Service}
-use Rattle.roman_model.specs.declared.limits.TheConstants.{MAX_BEHAVIOURS, MAX_SERVICES}
+use Rattle.roman_document_laws.proofs.Common.{◌≡◌, ℕ, ◌≤◌, inl, inr, List, [], ◌∷◌, ◌++◌, length, codes, Result, Ok, Err, refl, sym, ap, ◌∙◌, subst, arith, Data, Texts, ◌>>=◌, same_ok, bind_ok, NamedEnv, NamedBeh, counted_items, PartError, behaviour_in, catalogue_in, service_of, services_of, placed, Service, MAX_BEHAVIOURS, MAX_SERVICES, behaviour_step, service_step, refused_list, BreaksService, ReadsServices, ReadsBehaviours, DocumentListsAreRead, refusal_of, Part, Refusal, placed_is}
 use Rattle.roman_document_laws.proofs.ListLemmas.{same_err, bind_err, IsStep, IsListing, list_gives, list_given, list_refuses, list_refused}
 use Rattle.roman_parts.specs.declared.error.List.{List as Place}
 use Rattle.roman_parts.specs.declared.error.List.TheVariants as list
 use Rattle.roman_document_laws.proofs.PartReadLemmas.{counted_listing}
-use Rattle.roman_library.specs.Documents.{listed_step, behaviour_step, service_step}
-use Rattle.roman_document_laws.specs.DocumentReads.{refused_list, BreaksService, ReadsServices, ReadsBehaviours, DocumentListsAreRead}
-use Rattle.roman_library.specs.Refusals.{refusal_of}
-use Rattle.roman_library.specs.declared.refusal.Part.{Part}
+use Rattle.roman_library.specs.Documents.{listed_step}
 use Rattle.roman_library.specs.declared.refusal.Part.TheVariants as part
-use Rattle.roman_library.specs.declared.refusal.Refusal.{Refusal}
-use Rattle.roman_library.proofs.CallerLemmas.{placed_is}
 
 placed_err : {X : Type 0} (document : List ℕ) (part : Part) (r : Result X PartError) (e : Refusal) → placed document part r ≡ Err e → (why : PartError) × (r ≡ Err why) × (e ≡ refusal_of document part why)
 placed_err document part (Ok y) e h = absurd (let f : ⊥ = cc in f)

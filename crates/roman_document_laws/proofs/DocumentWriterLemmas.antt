@@ -1,15 +1,8 @@
 -- The written value of a library means that library.
-use Rattle.roman_document_laws.proofs.Common.{◌≡◌, ℕ, zero, suc, ◌<◌, ◌≤◌, ◌&&◌, List, [], ◌∷◌, ◌++◌, map, length, Bool, Option, Some, nat_le, Ok, IsTrue, slice_get, inl, inr, refl, sym, ap, subst, arith, and_from, le-leb, length-map, Data, Texts, IsIn, HasNoRepeats, get_in, from_push, in_contains, AreItems, is_name, place_in, NamedEnv, NamedBeh, list_value, place_value, behaviour_value, IsSayableEnv, IsSayableBeh, IsSayableTarget, behaviour_in, catalogue_in, service_of, services_of, placed, Service}
-use Rattle.std.proofs.Common.{IfSome}
-use Rattle.std.proofs.lemmas.List.{map_push}
-use Rattle.roman_model.specs.declared.limits.TheConstants.{MAX_CELLS}
-use Rattle.roman_model.proofs.CallerLemmas.{in_map, there_is}
+use Rattle.roman_document_laws.proofs.Common.{◌≡◌, ℕ, zero, suc, ◌<◌, ◌≤◌, ◌&&◌, List, [], ◌∷◌, ◌++◌, map, length, Bool, Option, Some, nat_le, Ok, IsTrue, slice_get, inl, inr, refl, sym, ap, subst, arith, and_from, le-leb, length-map, Data, Texts, IsIn, HasNoRepeats, get_in, from_push, in_contains, AreItems, is_name, place_in, NamedEnv, NamedBeh, list_value, place_value, behaviour_value, IsSayableEnv, IsSayableBeh, IsSayableTarget, behaviour_in, catalogue_in, service_of, services_of, placed, Service, IfSome, map_push, MAX_CELLS, in_map, there_is, version_of, limit_in, limit_of, file_of, part_of, listed_in, new_name_of, environment_in, new_behaviour_of, target_in, parts_in, behaviour_place, state_of, frozen_of, rests_of, library_in, PlainLibrary, IsService, behaviour_name, service_name, catalogue_states, service_value, library_value, IsSayable, LibrariesAreSaid}
 use Rattle.roman_parts.specs.declared.error.List.TheVariants as list
 use Rattle.roman_document_laws.proofs.PartReadLemmas.{ok_place, absent_none}
 use Rattle.roman_document_laws.proofs.PartWriterLemmas.{is_place, name_said, parts_said}
-use Rattle.roman_library.specs.Documents.{version_of, limit_in, limit_of, file_of, part_of, listed_in, new_name_of, environment_in, new_behaviour_of, target_in, parts_in, behaviour_place, state_of, frozen_of, rests_of, library_in}
-use Rattle.roman_library.specs.Library.{PlainLibrary, IsService, behaviour_name, service_name}
-use Rattle.roman_document_laws.specs.DocumentWriter.{catalogue_states, service_value, library_value, IsSayable, LibrariesAreSaid}
 use Rattle.roman_library.specs.declared.refusal.Part.TheVariants as part
 use Rattle.roman_document_laws.proofs.DocumentReadLemmas.{document_lists_read}
 

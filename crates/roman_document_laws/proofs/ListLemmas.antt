@@ -1,8 +1,5 @@
 -- Lists whose items are read one by one: their values, or the refused item.
-use Rattle.roman_document_laws.proofs.Common.{◌≡◌, ℕ, suc, ◌⊎◌, inl, inr, List, [], ◌∷◌, ◌++◌, length, Result, Ok, Err, refl, sym, ap, ◌∙◌, subst, arith, Data, Items, no_items, item, items_len, items_of, ◌>>=◌, each_item, kind_of, IsListAt, MissesList, AreItems, Kind, Miss, same_ok, bind_ok}
-use Rattle.std.proofs.Common.{◌+◌, append_assoc, append-nil, length-append}
-use Rattle.roman_document_laws.specs.Listed.{FaultIn, IsListOf, BreaksList}
-use Rattle.roman_read.specs.declared.rules.Kind.TheVariants.{Count}
+use Rattle.roman_document_laws.proofs.Common.{◌≡◌, ℕ, suc, ◌⊎◌, inl, inr, List, [], ◌∷◌, ◌++◌, length, Result, Ok, Err, refl, sym, ap, ◌∙◌, subst, arith, Data, Items, no_items, item, items_len, items_of, ◌>>=◌, each_item, kind_of, IsListAt, MissesList, AreItems, Kind, Miss, same_ok, bind_ok, ◌+◌, append_assoc, append-nil, length-append, FaultIn, IsListOf, BreaksList, Count}
 
 pub same_err : {X E : Type 0} (d e : E) → ◌≡◌ {A = Result X E} (Err d) (Err e) → d ≡ e
 same_err d e h = cc

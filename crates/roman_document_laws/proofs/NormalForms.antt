@@ -1,11 +1,5 @@
 -- Normal forms rise, have the same steps, and are determined by them.
-use Rattle.roman_document_laws.proofs.Common.{◌≡◌, ◌≢◌, ℕ, inl, inr, List, [], ◌∷◌, map, refl, sym, ◌∙◌, subst, arith, filter, flat_map, IsIn, below, Triple, Env, Move, Beh, has_move, is_final, normal_env, normal_beh, from_flat_map, from_map, number_listed, listed_number, triple_listed, step_listed, listed_step, has_triple-normal, has_move-normal, is_final-normal, Rises, IsLess, IsNormalEnv, IsNormalBeh}
-use Rattle.roman_model.specs.System.{has_triple}
-use Rattle.roman_model.specs.SystemArena.{env_next}
-use Rattle.roman_model.specs.Made.{guarded_step}
-use Rattle.roman_laws.specs.Outcomes.{HasStep}
-use Rattle.roman_laws.proofs.CallerLemmas.{listed_triple}
-use Rattle.roman_document_laws.specs.Normals.{AreBefore, IsTripleBefore, IsMoveBefore, SameEnv, SameBeh, NormalFormsAreNormal, NormalFormsAreUnique}
+use Rattle.roman_document_laws.proofs.Common.{◌≡◌, ◌≢◌, ℕ, inl, inr, List, [], ◌∷◌, map, refl, sym, ◌∙◌, subst, arith, filter, flat_map, IsIn, below, Triple, Env, Move, Beh, has_move, is_final, normal_env, normal_beh, from_flat_map, from_map, number_listed, listed_number, triple_listed, step_listed, listed_step, has_triple-normal, has_move-normal, is_final-normal, Rises, IsLess, IsNormalEnv, IsNormalBeh, has_triple, env_next, guarded_step, HasStep, listed_triple, AreBefore, IsTripleBefore, IsMoveBefore, SameEnv, SameBeh, NormalFormsAreNormal, NormalFormsAreUnique}
 use Rattle.roman_document_laws.proofs.Rising.{rises_filter, rises_flat, rises_map, rises_same, rises_below}
 
 -- Normal forms rise

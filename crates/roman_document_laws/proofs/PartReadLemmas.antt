@@ -1,25 +1,9 @@
 -- Lists of names, final states and steps: their values, and their refusals.
-use Rattle.roman_document_laws.proofs.Common.{◌≡◌, ◌≢◌, ℕ, suc, ◌<◌, ◌≤◌, ◌⊎◌, ◌&&◌, inl, inr, Bool, true, false, List, [], ◌∷◌, ◌++◌, length, Option, Some, None, nat_le, codes, Result, Ok, Err, IsTrue, slice_get, refl, sym, ap, ◌∙◌, subst, arith, AllZip, and_parts, and_from, both_ways, le-leb, same_Some, Data, Items, no_items, item, items_len, items_of, IsIn, HasNoRepeats, Triple, Move, MAX_STEPS, by_test, from_push, get_in, ◌>>=◌, each_item, pushing, text_of, kind_of, IsListAt, MissesList, AreItems, is_name, Kind, Miss, same_ok, bind_ok, guarded_states, names_of, place_in, finals_of, counted_items, IsPlace, BreaksPlace, IsTripleItem, IsMoveItem, triples_of, moves_of, PartError}
-use Rattle.std.proofs.Common.{get_or, is_none, IsFalse, leb-true, true≢false}
-use Rattle.std.specs.Str.{bytes_eq}
-use Rattle.std.proofs.lemmas.Bool.{cases_order}
-use Rattle.std.proofs.lemmas.List.Quantifiers.{position-Some}
-use Rattle.std.proofs.lemmas.Option.{slice_get-get_or, get_or_from_slice_get}
-use Rattle.std.proofs.lemmas.Slice.Eq.{bytes_eq-Decides}
-use Rattle.roman_model.proofs.CallerLemmas.{any_true, in_push, in_append_left}
-use Rattle.roman_read.specs.Json.{list_of}
-use Rattle.roman_read.specs.Names.{place_of}
+use Rattle.roman_document_laws.proofs.Common.{◌≡◌, ◌≢◌, ℕ, suc, ◌<◌, ◌≤◌, ◌⊎◌, ◌&&◌, inl, inr, Bool, true, false, List, [], ◌∷◌, ◌++◌, length, Option, Some, None, nat_le, codes, Result, Ok, Err, IsTrue, slice_get, refl, sym, ap, ◌∙◌, subst, arith, AllZip, and_parts, and_from, both_ways, le-leb, same_Some, Data, Items, no_items, item, items_len, items_of, IsIn, HasNoRepeats, Triple, Move, MAX_STEPS, by_test, from_push, get_in, ◌>>=◌, each_item, pushing, text_of, kind_of, IsListAt, MissesList, AreItems, is_name, Kind, Miss, same_ok, bind_ok, guarded_states, names_of, place_in, finals_of, counted_items, IsPlace, BreaksPlace, IsTripleItem, IsMoveItem, triples_of, moves_of, PartError, get_or, is_none, IsFalse, leb-true, true≢false, bytes_eq, cases_order, position-Some, slice_get-get_or, get_or_from_slice_get, bytes_eq-Decides, any_true, in_push, in_append_left, list_of, place_of, place_of-absent, name_in, name_step, looked, found, check, items_at, IsNewName, BreaksName, IsNoRow, BreaksTriple, BreaksMove, ReadsList, AreNames, ListsAreRead, three_of, four_of, triple_item, move_item, Refused, check_is, found_is, none_is, there_some, none_absent}
 use Rattle.roman_read.specs.declared.rules.Kind.TheVariants as kind
-use Rattle.roman_read.proofs.CallerLemmas.{place_of-absent}
 use Rattle.roman_document_laws.proofs.ListLemmas.{same_err, bind_err, listed, items_listed, items_count, IsStep, IsListing, list_gives, list_given, list_refuses, list_refused}
-use Rattle.roman_parts.specs.Lists.{name_in, name_step}
-use Rattle.roman_parts.specs.Reading.{looked, found, check, items_at}
-use Rattle.roman_document_laws.specs.PartReads.{IsNewName, BreaksName, IsNoRow, BreaksTriple, BreaksMove, ReadsList, AreNames, ListsAreRead}
-use Rattle.roman_parts.specs.Steps.{three_of, four_of, triple_item, move_item}
 use Rattle.roman_parts.specs.declared.error.List.{List as Place}
 use Rattle.roman_parts.specs.declared.error.List.TheVariants as list
-use Rattle.roman_parts.specs.declared.error.PartError.TheVariants.{Refused}
-use Rattle.roman_parts.proofs.CallerLemmas.{check_is, found_is, none_is, there_some, none_absent}
 
 -- Looks and tests
 

@@ -1,26 +1,8 @@
 -- The written value of a part means that part.
-use Rattle.roman_document_laws.proofs.Common.{◌≡◌, ℕ, zero, suc, ◌<◌, ◌≤◌, ◌&&◌, Bool, true, false, List, [], ◌∷◌, ◌++◌, map, length, Option, None, Some, codes, Result, Ok, IsTrue, slice_get, inl, inr, refl, sym, ap, ◌∙◌, subst, arith, AllZip, and_parts, both_ways, cond-true, cond-false, length-map, same_Some, Data, items_of, IsIn, HasNoRepeats, below, Env, Beh, Triple, Move, has_move, is_final, normal_env, normal_beh, MAX_STEPS, by_test, get_in, in_contains, filter_in, number_listed, listed_number, triple_listed, step_listed, listed_step, ◌>>=◌, each_item, pushing, text_of, is_name, IsListAt, AreItems, guarded_states, names_of, finals_of, NamedEnv, NamedBeh, Rises, IsLess, IsNormalEnv, IsNormalBeh, IsPlace, BreaksPlace, IsTripleItem, IsMoveItem, triples_of, moves_of, list_value, place_value, behaviour_value, IsSayableEnv, IsSayableBeh, IsSayableTarget, PartError, has_triple-normal, has_move-normal, is_final-normal}
-use Rattle.std.proofs.Common.{◌==◌, not, cond, is_some, find, eqb-true}
-use Rattle.std.proofs.lemmas.Bool.{not-true, eq-eqb}
-use Rattle.serde_json.specs.Data.{string}
-use Rattle.serde_json.specs.Find.{as_object}
-use Rattle.roman_guard.specs.Meaning.{is_one_of, states_below}
-use Rattle.roman_guard.proofs.CallerLemmas.{in_states_below, states_below_are, states_below-suc, states_below-zero}
-use Rattle.roman_model.specs.Explanation.{name_at}
-use Rattle.roman_model.specs.System.{IsEnv, IsBeh, IsDeterministic, has}
-use Rattle.roman_model.specs.declared.limits.TheConstants.{MAX_STATES}
-use Rattle.roman_model.proofs.CallerLemmas.{same_test, none_from, find_not_found, contains_in}
-use Rattle.roman_read.specs.Json.{member_of}
+use Rattle.roman_document_laws.proofs.Common.{◌≡◌, ℕ, zero, suc, ◌<◌, ◌≤◌, ◌&&◌, Bool, true, false, List, [], ◌∷◌, ◌++◌, map, length, Option, None, Some, codes, Result, Ok, IsTrue, slice_get, inl, inr, refl, sym, ap, ◌∙◌, subst, arith, AllZip, and_parts, both_ways, cond-true, cond-false, length-map, same_Some, Data, items_of, IsIn, HasNoRepeats, below, Env, Beh, Triple, Move, has_move, is_final, normal_env, normal_beh, MAX_STEPS, by_test, get_in, in_contains, filter_in, number_listed, listed_number, triple_listed, step_listed, listed_step, ◌>>=◌, each_item, pushing, text_of, is_name, IsListAt, AreItems, guarded_states, names_of, finals_of, NamedEnv, NamedBeh, Rises, IsLess, IsNormalEnv, IsNormalBeh, IsPlace, BreaksPlace, IsTripleItem, IsMoveItem, triples_of, moves_of, list_value, place_value, behaviour_value, IsSayableEnv, IsSayableBeh, IsSayableTarget, PartError, has_triple-normal, has_move-normal, is_final-normal, ◌==◌, not, cond, is_some, find, eqb-true, not-true, eq-eqb, string, as_object, is_one_of, states_below, in_states_below, states_below_are, states_below-suc, states_below-zero, name_at, IsEnv, IsBeh, IsDeterministic, has, MAX_STATES, same_test, none_from, find_not_found, contains_in, member_of, choice_between, choice_at, choice_with, choice_of, refuse_choice, single_of, state_in, among_of, guard_of, start_of, NamedTarget, IsOver, environment_of, name_of, behaviour_of, target_of, names_value, places_value, triple_value, move_value, environment_value, target_value, CanList, PartsAreSaid, first_below-none, from_normal_triple, from_normal_move, env_read}
 use Rattle.roman_document_laws.proofs.ListLemmas.{all_given}
-use Rattle.roman_parts.specs.Choices.{choice_between, choice_at, choice_with, choice_of, refuse_choice, single_of}
-use Rattle.roman_parts.specs.Guards.{state_in, among_of, guard_of}
-use Rattle.roman_parts.specs.Lists.{start_of}
-use Rattle.roman_parts.specs.Named.{NamedTarget, IsOver}
-use Rattle.roman_parts.specs.Parts.{environment_of, name_of, behaviour_of, target_of}
-use Rattle.roman_document_laws.specs.PartWriter.{names_value, places_value, triple_value, move_value, environment_value, target_value, CanList, PartsAreSaid}
 use Rattle.roman_parts.specs.declared.error.List.{List as Place}
 use Rattle.roman_parts.specs.declared.error.List.TheVariants as list
-use Rattle.roman_parts.proofs.CallerLemmas.{first_below-none, from_normal_triple, from_normal_move, env_read}
 use Rattle.roman_document_laws.proofs.NormalForms.{forms_normal, forms_unique}
 use Rattle.roman_document_laws.proofs.PartReadLemmas.{ok_place, place_ok, place_err, err_place, pushing_steps, lists_read}
 use Rattle.roman_document_laws.proofs.Rising.{rises_same, rises_append}

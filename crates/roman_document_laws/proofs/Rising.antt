@@ -1,7 +1,5 @@
 -- Rising lists.
-use Rattle.roman_document_laws.proofs.Common.{◌≡◌, ℕ, zero, suc, ◌<◌, Bool, inl, inr, List, [], ◌∷◌, ◌++◌, map, refl, sym, ◌∙◌, subst, arith, filter, flat_map, cond-true, cond-false, IsIn, below, by_test, from_flat_map, from_map, filter_in, Rises, IsLess}
-use Rattle.std.proofs.Common.{ap₂}
-use Rattle.roman_model.proofs.CallerLemmas.{from_append, from_below}
+use Rattle.roman_document_laws.proofs.Common.{◌≡◌, ℕ, zero, suc, ◌<◌, Bool, inl, inr, List, [], ◌∷◌, ◌++◌, map, refl, sym, ◌∙◌, subst, arith, filter, flat_map, cond-true, cond-false, IsIn, below, by_test, from_flat_map, from_map, filter_in, Rises, IsLess, ap₂, from_append, from_below}
 
 module _ {X : Type 0} (Before : X → X → Type 0) where
   pub rises_append : (xs ys : List X) → Rises Before xs → Rises Before ys → ((x y : X) → IsIn x xs → IsIn y ys → Before x y) → Rises Before (xs ++ ys)

@@ -1,13 +1,5 @@
 -- Numbers by their decimal digits: one digit more, and the digits of a product.
-use Rattle.roman_extent.proofs.Common.{◌≡◌, ℕ, ◌+◌, ◌*◌, ◌/◌, ◌%◌, ◌^◌, ◌<◌, ◌≤◌, min, List, [], ◌∷◌, ◌++◌, length, length-append, get_or, take, refl, sym, ap, ◌∙◌, arith, add-one, take-suc, AllDigits, digits_value, product_of, AreDigits, number_with_digits}
-use Rattle.std.proofs.Common.{zero, suc, nat_le, length-take-le}
-use Rattle.std.proofs.Math.Nat.{pow-zero, pow-suc, min-eq_left, min-eq_right}
-use Rattle.std.proofs.lemmas.Bool.{leb-true, leb-false}
-use Rattle.std.specs.Char.{digit_value}
-use Rattle.std.proofs.lemmas.Int.Digits.{digits_value_push}
-use Rattle.std.proofs.lemmas.List.Elements.{All-push}
-use Rattle.std.proofs.lemmas.Str.{digit_value_digit}
-use Rattle.roman_model.proofs.CallerLemmas.{by_test}
+use Rattle.roman_extent.proofs.Common.{◌≡◌, ℕ, ◌+◌, ◌*◌, ◌/◌, ◌%◌, ◌^◌, ◌<◌, ◌≤◌, min, List, [], ◌∷◌, ◌++◌, length, length-append, get_or, take, refl, sym, ap, ◌∙◌, arith, add-one, take-suc, AllDigits, digits_value, product_of, AreDigits, number_with_digits, zero, suc, nat_le, length-take-le, pow-zero, pow-suc, min-eq_left, min-eq_right, leb-true, leb-false, digit_value, digits_value_push, All-push, digit_value_digit, by_test}
 use Rattle.roman_extent.proofs.ExtentLemmas.{product_push}
 
 number_push : (ds : List ℕ) (d : ℕ) → number_with_digits (ds ++ d ∷ []) ≡ number_with_digits ds + d * 10 ^ length ds

@@ -1,14 +1,5 @@
 -- The product of the sizes of a library is the number of cells of its system.
-use Rattle.roman_extent.proofs.Common.{◌≡◌, ℕ, ◌+◌, ◌*◌, ◌<◌, List, [], ◌∷◌, ◌++◌, map, length, get_or, take, refl, sym, ap, ap₂, ◌∙◌, subst, arith, add-one, take-suc, product_of, states_in}
-use Rattle.std.proofs.Common.{All}
-use Rattle.std.proofs.lemmas.List.{map_push}
-use Rattle.roman_model.specs.Numbers.{sizes_of}
-use Rattle.roman_parts.specs.Named.{NamedBeh}
-use Rattle.roman_joint.specs.NamedSys.{cells, system_of}
-use Rattle.roman_joint.proofs.CallerLemmas.{seat_beh_read}
-use Rattle.roman_library.specs.Library.{PlainLibrary, IsService}
-use Rattle.roman_library.specs.declared.library.Service.{Service}
-use Rattle.roman_start.specs.Starts.{parts_of}
+use Rattle.roman_extent.proofs.Common.{◌≡◌, ℕ, ◌+◌, ◌*◌, ◌<◌, List, [], ◌∷◌, ◌++◌, map, length, get_or, take, refl, sym, ap, ap₂, ◌∙◌, subst, arith, add-one, take-suc, product_of, states_in, All, map_push, sizes_of, NamedBeh, cells, system_of, seat_beh_read, PlainLibrary, IsService, Service, parts_of}
 
 -- one more service and its size
 module _ (library : PlainLibrary) (known : All (IsService library.catalogue) library.services) (k : ℕ) (x : Service) (y : NamedBeh) where

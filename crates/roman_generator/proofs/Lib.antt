@@ -1,3 +1,4 @@
+pub mod Common
 pub mod OfferLemmas
 pub mod MoveLemmas
 pub mod CallerLemmas

@@ -1,16 +1,5 @@
 -- Moves by a served request.
-use Rattle.std.proofs.Common.{◌≡◌, ℕ, ◌<◌, List, [], ◌∷◌, Option, Some, None, IsTrue, IsFalse, IfSome, IfNone, MatchOption, inl, length, slice_get, slice_index, refl, sym, ap, ◌∙◌, subst, arith}
-use Rattle.std.proofs.lemmas.List.{get_or-set_same, length-map}
-use Rattle.std.proofs.lemmas.Bool.{both_ways, not-true}
-use Rattle.std.proofs.lemmas.Option.{slice_get_within}
-use Rattle.roman_model.specs.Lists.{IsIn}
-use Rattle.roman_model.proofs.CallerLemmas.{listed_number, number_listed, size_at, in_env_next, from_env_next, in_beh_next, from_beh_next, move_in_range, triple_in_range, seat_in, numbers_are_pairs, AreBelow-length, AreBelow-index, states_below, IsPairOf-from, IsPairOf-moved, pair_at-number}
-use Rattle.roman_model.specs.System.{Sys, IsSys, Seat, Pair, IsPair, TStep, Allows, has, has_move}
-use Rattle.roman_model.specs.SystemArena.{env_next, beh_next, is_ready}
-use Rattle.roman_model.specs.Numbers.{sizes_of, count, number, pair_at}
-use Rattle.roman_radix.specs.Radix.{moved}
-use Rattle.roman_generator.specs.Moves.{CanMove, Becomes, IsServed}
-use Rattle.roman_generator.specs.declared.sight.Sight.{Sight}
+use Rattle.roman_generator.proofs.Common.{◌≡◌, ℕ, ◌<◌, List, [], ◌∷◌, Option, Some, None, IsTrue, IsFalse, IfSome, IfNone, MatchOption, inl, length, slice_get, slice_index, refl, sym, ap, ◌∙◌, subst, arith, get_or-set_same, length-map, both_ways, not-true, slice_get_within, IsIn, listed_number, number_listed, size_at, in_env_next, from_env_next, in_beh_next, from_beh_next, move_in_range, triple_in_range, seat_in, numbers_are_pairs, AreBelow-length, AreBelow-index, states_below, IsPairOf-from, IsPairOf-moved, pair_at-number, Sys, IsSys, Seat, Pair, IsPair, TStep, Allows, has, has_move, env_next, beh_next, is_ready, sizes_of, count, number, pair_at, moved, CanMove, Becomes, IsServed, Sight}
 
 -- a pair has a state for each seat
 pub states_long : (s : Sys) (p : Pair) → IsPair s p → length p.bs ≡ length s.seats

@@ -1,18 +1,5 @@
 -- The mask of a complete list is the set of offers.
-use Rattle.std.proofs.Common.{◌≡◌, ◌≢◌, ℕ, ◌<◌, true, List, IsTrue, ap, ◌∙◌, subst, arith}
-use Rattle.std.specs.Int.{bit_at}
-use Rattle.std.proofs.lemmas.Nat.Bits.{bit_at-zero}
-use Rattle.roman_model.specs.System.{has}
-use Rattle.roman_model.specs.SystemArena.{is_allowed}
-use Rattle.roman_model.specs.Arena.{is_listed, mask}
-use Rattle.roman_model.specs.Numbers.{sizes_of, count, pair_at}
-use Rattle.roman_model.specs.Offers.{is_related, offers}
-use Rattle.roman_model.proofs.CallerLemmas.{not_empty_in, ne_not_empty, listed_number, numbers_are_pairs, numbered_offers, related_offers, offer_is, related_great}
-use Rattle.roman_rules.specs.Bits.{HasBits, bit_of}
-use Rattle.roman_joint.specs.NamedSys.{NamedSys, system_of, IsNamedSys}
-use Rattle.roman_order.specs.Board.{Board, pairs_of, has_entry}
-use Rattle.roman_relation.specs.Greatest.{arena_of, IsRelation}
-use Rattle.roman_relation.proofs.CallerLemmas.{listed_numbers}
+use Rattle.roman_generator.proofs.Common.{◌≡◌, ◌≢◌, ℕ, ◌<◌, true, List, IsTrue, ap, ◌∙◌, subst, arith, bit_at, bit_at-zero, has, is_allowed, is_listed, mask, sizes_of, count, pair_at, is_related, offers, not_empty_in, ne_not_empty, listed_number, numbers_are_pairs, numbered_offers, related_offers, offer_is, related_great, HasBits, bit_of, NamedSys, system_of, IsNamedSys, Board, pairs_of, has_entry, arena_of, IsRelation, listed_numbers}
 
 -- the mask of the list has the bits of the offers
 pub mask_offers : (joint : NamedSys) (board : Board) (p a bits : ℕ) → IsNamedSys joint → IsRelation joint board → ((p : ℕ) → has_entry board.list p ≡ true → p < pairs_of board) →

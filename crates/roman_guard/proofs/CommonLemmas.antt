@@ -1,10 +1,5 @@
 -- The least number that passes a test, and the bits that two words share.
-use Rattle.std.proofs.Common.{◌≡◌, ℕ, zero, suc, ◌+◌, ◌<◌, ◌≤◌, ◌^◌, ◌==◌, ◌&&◌, min, inl, inr, Bool, true, false, Some, None, refl, ap, sym, ◌∙◌, arith, w64, bit_and}
-use Rattle.std.specs.Int.{bit_at, trailing_zeros}
-use Rattle.std.specs.List.{find, range_with_len}
-use Rattle.std.proofs.lemmas.Bool.{cases_order}
-use Rattle.std.proofs.lemmas.Nat.Bits.{bit_at-zero, bit_at-lt, bit_at_and, bit_at-trailing_zeros}
-use Rattle.roman_guard.specs.Meaning.{has_state, has_both, least_below}
+use Rattle.roman_guard.proofs.Common.{◌≡◌, ℕ, zero, suc, ◌+◌, ◌<◌, ◌≤◌, ◌^◌, ◌==◌, ◌&&◌, min, inl, inr, Bool, true, false, Some, None, refl, ap, sym, ◌∙◌, arith, w64, bit_and, bit_at, trailing_zeros, find, range_with_len, cases_order, bit_at-zero, bit_at-lt, bit_at_and, bit_at-trailing_zeros, has_state, has_both, least_below}
 
 found_from : (test : ℕ → Bool) (a m e : ℕ) → a ≤ e → e < a + m → test e ≡ true → ((k : ℕ) → a ≤ k → k < e → test k ≡ false) → find test (range_with_len a m) ≡ Some e
 found_from test a zero e low high passes before = absurd (omega arith)

@@ -1,7 +1,5 @@
 -- The meaning of a guard, by its variants.
-use Rattle.std.proofs.Common.{◌≡◌, ℕ, true, false, map, Vec, Box, Global, rules}
-use Rattle.roman_guard.specs.Meaning.{holds, is_one_of, complement, intersection, union}
-use Rattle.roman_guard.specs.declared.formula.Guard.{Guard, All, Never, Among, Not, Both, Either, the_lemmas}
+use Rattle.roman_guard.proofs.Common.{◌≡◌, ℕ, true, false, map, Vec, Box, Global, rules, holds, is_one_of, complement, intersection, union, Guard, All, Never, Among, Not, Both, Either, the_lemmas}
 
 pub holds-All : holds All ≡ (λ _. true)
 holds-All = search (rules, the_lemmas)

@@ -1,13 +1,5 @@
 -- A word whose bits are set one by one, and its states.
-use Rattle.std.proofs.Common.{◌≡◌, ℕ, ◌+◌, ◌-◌, ◌*◌, ◌%◌, ◌^◌, ◌<◌, ◌≤◌, ◌==◌, ◌↔◌, Bool, true, false, IsTrue, Contains, ap, sym, ◌∙◌, arith, inl, inr, w64, bit_or, below_more, true≢false}
-use Rattle.std.specs.Int.{bit_at}
-use Rattle.std.specs.Prelude.{if◌then◌else◌}
-use Rattle.std.proofs.Math.Pow.{pow-lt}
-use Rattle.std.proofs.Math.Nat.{mod-le}
-use Rattle.std.proofs.lemmas.Bool.{cases_lt}
-use Rattle.std.proofs.lemmas.Nat.{or_lt}
-use Rattle.std.proofs.lemmas.Nat.Bits.{bit_at_above, bit_at_set_same, bit_at_set_other}
-use Rattle.roman_guard.specs.Meaning.{has_state, states_below, states_of}
+use Rattle.roman_guard.proofs.Common.{◌≡◌, ℕ, ◌+◌, ◌-◌, ◌*◌, ◌%◌, ◌^◌, ◌<◌, ◌≤◌, ◌==◌, ◌↔◌, Bool, true, false, IsTrue, Contains, ap, sym, ◌∙◌, arith, inl, inr, w64, bit_or, below_more, true≢false, bit_at, if◌then◌else◌, pow-lt, mod-le, cases_lt, or_lt, bit_at_above, bit_at_set_same, bit_at_set_other, has_state, states_below, states_of}
 use Rattle.roman_guard.proofs.StateLemmas.{states_below-same, states_below-past, in_states_below, states_below_are}
 
 -- 1 for true and 0 for false

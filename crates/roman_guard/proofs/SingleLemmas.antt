@@ -1,10 +1,5 @@
 -- A word with one bit stands for one state.
-use Rattle.std.proofs.Common.{◌≡◌, ℕ, ◌+◌, ◌*◌, ◌%◌, ◌^◌, ◌<◌, ◌==◌, false, [], ◌∷◌, ◌++◌, zero, suc, add-one, refl, ap, sym, subst, ◌∙◌, arith}
-use Rattle.std.specs.Int.Bits.{or_zero_l}
-use Rattle.std.proofs.lemmas.Bool.{eq-eqb, ne_eqb}
-use Rattle.std.proofs.lemmas.Nat.{one_shl, pow_pos}
-use Rattle.std.proofs.lemmas.Nat.Bits.{bit_at-zero}
-use Rattle.roman_guard.specs.Meaning.{states_below, states_of}
+use Rattle.roman_guard.proofs.Common.{◌≡◌, ℕ, ◌+◌, ◌*◌, ◌%◌, ◌^◌, ◌<◌, ◌==◌, false, [], ◌∷◌, ◌++◌, zero, suc, add-one, refl, ap, sym, subst, ◌∙◌, arith, or_zero_l, eq-eqb, ne_eqb, one_shl, pow_pos, bit_at-zero, states_below, states_of}
 use Rattle.roman_guard.proofs.StateLemmas.{states_below-passing, states_below-failing, states_below-zero, states_below-same}
 use Rattle.roman_guard.proofs.MarkLemmas.{bit, Marks, marks_one, marked_states}
 

@@ -1,9 +1,6 @@
 -- Each line is read as its shape says.
-use Rattle.roman_hearing.proofs.Common.{◌≡◌, ℕ, ◌≤◌, Bool, true, false, List, [], ◌∷◌, length, cond, codes, Result, Ok, Err, IsTrue, IsFalse, inl, inr, nat_lt, refl, sym, ◌∙◌, subst, ltb-true, ltb-false, arith, bytes_eq, false≢true, both_ways, cond-true, cond-false, by_test, LineShape, nothing, ask, hand, saw, abort, freeze, thaw, die, join, jump, jump_env, report, explain, quit, shape_of, LineError}
-use Rattle.std.specs.Str.Lines.{strip_carriage_return}
-use Rattle.roman_text.specs.Shapes.{words_of, is_comment, by_words, shape_of_words, spelling}
-use Rattle.roman_text.specs.declared.errors.LineError.TheVariants.{Form, TooLong}
-use Rattle.roman_hearing.specs.Events.{Reads, LinesAreRead}
+use Rattle.roman_hearing.proofs.Common.{◌≡◌, ℕ, ◌≤◌, Bool, true, false, List, [], ◌∷◌, length, cond, codes, Result, Ok, Err, IsTrue, IsFalse, inl, inr, nat_lt, refl, sym, ◌∙◌, subst, ltb-true, ltb-false, arith, bytes_eq, false≢true, both_ways, cond-true, cond-false, by_test, LineShape, nothing, ask, hand, saw, abort, freeze, thaw, die, join, jump, jump_env, report, explain, quit, shape_of, LineError, strip_carriage_return, words_of, is_comment, by_words, shape_of_words, spelling, Form, Reads, LinesAreRead}
+use Rattle.roman_text.specs.declared.errors.LineError.TheVariants.{TooLong}
 
 -- words that aren't a comment are read as some event or an error
 

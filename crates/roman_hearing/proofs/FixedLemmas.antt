@@ -1,12 +1,6 @@
 -- What a report says of a state fixes its bytes.
-use Rattle.roman_hearing.proofs.Common.{◌≡◌, ◌≤◌, ℕ, List, [], ◌∷◌, ◌++◌, map, length, ◌↔◌, inl, inr, refl, sym, ◌∙◌, ap, ap₂, subst, arith, IsIn, below, Sys, Pair, system_of, seat_name, name_at, State, Counts}
-use Rattle.std.specs.List.{flat_map}
-use Rattle.roman_model.specs.Lists.{HasNoRepeats, IsSublist}
-use Rattle.roman_model.proofs.CallerLemmas.{HasNoRepeats-below, flat_map_same_in, no_longer, same_test, sublist_in}
-use Rattle.roman_text.specs.declared.report.ReportLine.{ReportLine}
+use Rattle.roman_hearing.proofs.Common.{◌≡◌, ◌≤◌, ℕ, List, [], ◌∷◌, ◌++◌, map, length, ◌↔◌, inl, inr, refl, sym, ◌∙◌, ap, ap₂, subst, arith, IsIn, below, Sys, Pair, system_of, seat_name, name_at, State, Counts, flat_map, HasNoRepeats, IsSublist, HasNoRepeats-below, flat_map_same_in, no_longer, same_test, sublist_in, ReportLine, ReportsAreFixed, AreServing}
 use Rattle.roman_text.specs.declared.report.ReportLine.TheVariants as line
-use Rattle.roman_hearing.specs.Laws.{ReportsAreFixed}
-use Rattle.roman_hearing.specs.Words.{AreServing}
 
 -- two sublists of a list without repeats are equal if they have the same elements
 sublists_same : {X : Type 0} (zs xs ys : List X) → HasNoRepeats zs → IsSublist xs zs → IsSublist ys zs → ((x : X) → IsIn x xs ↔ IsIn x ys) → xs ≡ ys

@@ -1,15 +1,5 @@
 -- How a session that is read from a source ends.
-use Rattle.roman_hearing.proofs.Common.{◌≡◌, ℕ, ◌+◌, ◌<◌, ◌≤◌, false, List, [], ◌∷◌, ◌++◌, length, take, drop, nat_le, Option, Result, Ok, Err, IsTrue, inl, inr, refl, sym, ap, ◌∙◌, subst, arith, append_assoc, append-nil, length-append, take-append-drop, cond-true, cond-false, or_from, or_left, or_right, Gave, Gave-then, lines, ended_lines, text_of_lines, MAX_SESSION_BYTES, by_test, unfinished, kept, lines_none, kept-nil, Situation, Told, AreBehaviours, has_quit, is_heard_out, heard_lines, cursor, Tells, TellsPrefix, reader_state, IsHearing, StopsAtQuit, FallsShort, FailsIn, HearsPiece}
-use Rattle.std.proofs.Common.{◌-◌, ltb, OnOk, IsErrOf, length-take, take_at, le-leb}
-use Rattle.std.proofs.Math.Seq.{take-append-add}
-use Rattle.std.proofs.lemmas.Bool.{lt-leb}
-use Rattle.roman_io.specs.Source.{EndsAt, Had}
-use Rattle.roman_io.proofs.CallerLemmas.{WrotePrefix-append, had_more, had_all}
-use Rattle.roman_text.proofs.CallerLemmas.{lines_are, lines_only}
-use Rattle.roman_hearing.specs.Hearing.{prefix_of, GaveQuit, StreamState, stream_state, IsHeardOut, IsCutOff, StopsShort, TellsPrefixOfAll}
-use Rattle.roman_hearing.specs.HearingBytes.{HearsRest}
-use Rattle.roman_hearing.specs.declared.hearing.HearError.{HearError}
-use Rattle.roman_hearing.specs.declared.hearing.HearError.TheVariants.{ReadFault, WriteFault, TooLong}
+use Rattle.roman_hearing.proofs.Common.{◌≡◌, ℕ, ◌+◌, ◌<◌, ◌≤◌, false, List, [], ◌∷◌, ◌++◌, length, take, drop, nat_le, Option, Result, Ok, Err, IsTrue, inl, inr, refl, sym, ap, ◌∙◌, subst, arith, append_assoc, append-nil, length-append, take-append-drop, cond-true, cond-false, or_from, or_left, or_right, Gave, Gave-then, lines, ended_lines, text_of_lines, MAX_SESSION_BYTES, by_test, unfinished, kept, lines_none, kept-nil, Situation, Told, AreBehaviours, has_quit, is_heard_out, heard_lines, cursor, Tells, TellsPrefix, reader_state, IsHearing, StopsAtQuit, FallsShort, FailsIn, HearsPiece, ◌-◌, ltb, OnOk, IsErrOf, length-take, take_at, le-leb, take-append-add, lt-leb, EndsAt, Had, WrotePrefix-append, had_more, had_all, lines_are, lines_only, prefix_of, GaveQuit, StreamState, stream_state, IsHeardOut, IsCutOff, StopsShort, TellsPrefixOfAll, HearsRest, HearError, ReadFault, WriteFault, TooLong}
 use Rattle.roman_hearing.proofs.HearingLines.{ended_more, lines_more, quit_left, told_stops}
 use Rattle.roman_hearing.proofs.HearingSteps.{told_more}
 use Rattle.roman_hearing.proofs.HearingLemmas.{whole_told}

@@ -1,16 +1,7 @@
 -- Every line has a step.
-use Rattle.roman_hearing.proofs.Common.{◌≡◌, ℕ, ◌<◌, Bool, true, List, [], ◌++◌, length, false, Result, Ok, Err, IsTrue, IsFalse, inl, inr, nat_lt, nat_le, slice_set, refl, sym, ap, subst, arith, ltb-true, leb-true, list_any, both_ways, length-map, get_or_from_slice_get, IsIn, Sys, Pair, is_allowed, outcomes, arena, Entry, IsComplete, name_at, explain_text, MAX_SERVICES, by_test, any_true, from_allowed, outcome_in, from_outcome, there_is, bind_ok, LineShape, nothing, ask, hand, saw, abort, freeze, thaw, die, join, jump, jump_env, report, explain, quit, shape_of, reply_text, LineError, Reply, IsNamedSys, seat_of, names_in, frozen_system, frozen_known, gone_system, gone_known, joined_system, joined_known, Situation, present_system, IsPhase, IsSituation, seat_at, asked, handed, seen, aborted, jumped, env_jumped, frozen, thawed, died, joining, join_of, unexplained, report_text, Asks, Hands, Sees, Aborts, Jumps, EnvJumps, Changing, Changes, Freezes, Thaws, Dies, Joins, freezing, thawing, dying, growing, Explains, Does, StepOn, StepBy, Step, parts_after, Handing, Joining, Jump, Sight, Phase, Idle, Offered, Delegated, seat_is, checked, asked_is, handed_is, jumped_is, env_jumped_is, frozen_is, thawed_is, died_is, joining_idle, cells_with, AreBehaviours}
-use Rattle.roman_model.specs.SystemArena.{same_numbers}
-use Rattle.std.proofs.lemmas.Bool.{and_from, and_parts}
-use Rattle.std.proofs.Common.{eq-eqb, eqb-true, ◌&&◌, ◌==◌}
-use Rattle.roman_model.specs.System.{TStep, SStep}
-use Rattle.roman_model.specs.Arena.{replay}
-use Rattle.roman_model.specs.Change.{CanChange, rename, after}
-use Rattle.roman_model.proofs.CallerLemmas.{any_false, sublist_in, replay_sublist, renaming_keeps, order_goes_on, same_numbers_is, same_numbers_itself}
+use Rattle.roman_hearing.proofs.Common.{◌≡◌, ℕ, ◌<◌, Bool, true, List, [], ◌++◌, length, false, Result, Ok, Err, IsTrue, IsFalse, inl, inr, nat_lt, nat_le, slice_set, refl, sym, ap, subst, arith, ltb-true, leb-true, list_any, both_ways, length-map, get_or_from_slice_get, IsIn, Sys, Pair, is_allowed, outcomes, arena, Entry, IsComplete, name_at, explain_text, MAX_SERVICES, by_test, any_true, from_allowed, outcome_in, from_outcome, there_is, bind_ok, LineShape, nothing, ask, hand, saw, abort, freeze, thaw, die, join, jump, jump_env, report, explain, quit, shape_of, reply_text, LineError, Reply, IsNamedSys, seat_of, names_in, frozen_system, frozen_known, gone_system, gone_known, joined_system, joined_known, Situation, present_system, IsPhase, IsSituation, seat_at, asked, handed, seen, aborted, jumped, env_jumped, frozen, thawed, died, joining, join_of, unexplained, report_text, Asks, Hands, Sees, Aborts, Jumps, EnvJumps, Changing, Changes, Freezes, Thaws, Dies, Joins, freezing, thawing, dying, growing, Explains, Does, StepOn, StepBy, Step, parts_after, Handing, Joining, Jump, Sight, Phase, Idle, Offered, Delegated, seat_is, checked, asked_is, handed_is, jumped_is, env_jumped_is, frozen_is, thawed_is, died_is, joining_idle, cells_with, AreBehaviours, same_numbers, and_from, and_parts, eq-eqb, eqb-true, ◌&&◌, ◌==◌, TStep, SStep, replay, CanChange, rename, after, any_false, sublist_in, replay_sublist, renaming_keeps, order_goes_on, same_numbers_is, same_numbers_itself, Says, CanBe, pair_after, seen_is}
 use Rattle.roman_text.specs.declared.replies.Reply.TheVariants as reply
 use Rattle.roman_joint.specs.NamedSys as joint
-use Rattle.roman_session.specs.Steps.{Says, CanBe, pair_after}
-use Rattle.roman_session.proofs.CallerLemmas.{seen_is}
 use Rattle.roman_hearing.proofs.WithinLemmas.{seat_within, joining_new, joining_beh}
 
 -- ---- situations from which a session can go on

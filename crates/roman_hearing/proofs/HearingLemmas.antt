@@ -1,17 +1,5 @@
 -- Bytes that are read one after another.
-use Rattle.roman_hearing.proofs.Common.{◌≡◌, ℕ, ◌+◌, ◌<◌, ◌≤◌, true, false, List, [], ◌∷◌, ◌++◌, length, take, nat_lt, Option, Result, Ok, Err, IsTrue, IsFalse, refl, sym, ap, ap₂, ◌∙◌, subst, arith, append_assoc, append-nil, ltb-false, cond-true, cond-false, kept-nil, lines_rest, lines_none, kept-again, lines, ended_lines, by_test, unfinished, kept, shape_of, Situation, IsSituation, Step, Next, ends_session, has_quit, cursor, Tells, TellsPrefix, reader_state, IsHearing, StopsAtQuit, FallsShort, FailsIn}
-use Rattle.std.proofs.Common.{min, IfOk}
-use Rattle.std.proofs.lemmas.List.{nil_from_length, take_all, take_min}
-use Rattle.roman_io.specs.Sink.{Wrote, WrotePrefix}
-use Rattle.roman_io.specs.declared.failed.Failed.{Failed}
-use Rattle.roman_io.proofs.CallerLemmas.{Wrote-then, WrotePrefix-after}
-use Rattle.roman_text.specs.Pages.{Gathered}
-use Rattle.roman_text.proofs.CallerLemmas.{Gathered-empty, Gathered-then, Gathered-put, WrotePrefix-gathered, ended_lines-newline, ended_lines-part, unfinished-newline, unfinished-nil, unfinished-part, kept-append}
-use Rattle.roman_model.specs.Lines.{IsLine}
-use Rattle.roman_session.specs.Answering.{AnsweredOn, next_of}
-use Rattle.roman_session.specs.declared.next.Next.TheVariants.{More, Quit}
-use Rattle.roman_hearing.specs.Hearing.{Cursor}
-use Rattle.roman_hearing.specs.HearingBytes.{TellsOnPage, HearsBytes}
+use Rattle.roman_hearing.proofs.Common.{◌≡◌, ℕ, ◌+◌, ◌<◌, ◌≤◌, true, false, List, [], ◌∷◌, ◌++◌, length, take, nat_lt, Option, Result, Ok, Err, IsTrue, IsFalse, refl, sym, ap, ap₂, ◌∙◌, subst, arith, append_assoc, append-nil, ltb-false, cond-true, cond-false, kept-nil, lines_rest, lines_none, kept-again, lines, ended_lines, by_test, unfinished, kept, shape_of, Situation, IsSituation, Step, Next, ends_session, has_quit, cursor, Tells, TellsPrefix, reader_state, IsHearing, StopsAtQuit, FallsShort, FailsIn, min, IfOk, nil_from_length, take_all, take_min, Wrote, WrotePrefix, Failed, Wrote-then, WrotePrefix-after, Gathered, Gathered-empty, Gathered-then, Gathered-put, WrotePrefix-gathered, ended_lines-newline, ended_lines-part, unfinished-newline, unfinished-nil, unfinished-part, kept-append, IsLine, AnsweredOn, next_of, More, Quit, Cursor, TellsOnPage, HearsBytes}
 use Rattle.roman_hearing.proofs.HearingLines.{quit_last, quitless_last, told_push}
 
 -- ---- one line

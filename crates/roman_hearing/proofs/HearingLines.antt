@@ -1,9 +1,5 @@
 -- The replies to consecutive lines, up to the first line that ends the session.
-use Rattle.roman_hearing.proofs.Common.{◌≡◌, ℕ, false, List, [], ◌∷◌, ◌++◌, length, take, drop, nat_lt, nat_le, IsTrue, IsFalse, refl, sym, ap, ◌∙◌, subst, append_assoc, append-nil, take-append-drop, arith, cond-true, cond-false, or_parts, or_from, or_left, or_right, lines, ended_lines, by_test, unfinished, kept, shape_of, lines_rest, lines_none, Situation, Step, until_quit, Answers, Told, MAX_SESSION_BYTES, ends_session, has_quit, is_heard_out, heard_lines}
-use Rattle.std.proofs.Common.{if◌then◌else◌}
-use Rattle.std.proofs.lemmas.List.Folds.{list_any-append}
-use Rattle.roman_text.proofs.CallerLemmas.{ended_lines-append}
-use Rattle.roman_session.specs.Steps.{is_quit}
+use Rattle.roman_hearing.proofs.Common.{◌≡◌, ℕ, false, List, [], ◌∷◌, ◌++◌, length, take, drop, nat_lt, nat_le, IsTrue, IsFalse, refl, sym, ap, ◌∙◌, subst, append_assoc, append-nil, take-append-drop, arith, cond-true, cond-false, or_parts, or_from, or_left, or_right, lines, ended_lines, by_test, unfinished, kept, shape_of, lines_rest, lines_none, Situation, Step, until_quit, Answers, Told, MAX_SESSION_BYTES, ends_session, has_quit, is_heard_out, heard_lines, if◌then◌else◌, list_any-append, ended_lines-append, is_quit}
 
 -- ---- lines of bytes with more bytes after them
 

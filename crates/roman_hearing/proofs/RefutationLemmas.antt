@@ -1,18 +1,5 @@
 -- The explanation of a pair that isn't related is a removal list in terms of steps, and the opponent who plays by it wins.
-use Rattle.roman_hearing.proofs.Common.{◌≡◌, ℕ, zero, suc, ◌+◌, ◌<◌, Bool, not, List, [], ◌∷◌, ◌++◌, length, codes, Option, None, Some, IsTrue, IsFalse, inl, inr, slice_get, refl, sym, ap, ◌∙◌, subst, arith, append_assoc, list_any, false≢true, both_ways, or_cases, or_parts, not-true, cond-true, cond-false, IsIn, below, text_of_lines, Sys, Pair, IsSys, is_final, arena, outcomes, Entry, is_beaten, Great, explain_text, by_test, empty_is, filter_in, in_filter, filter_sublist, in_below, listed_in, in_listed, from_allowed, from_outcome, outcome_in, names_in, Situation, present_system, IsSituation, shown, IsReady, Refutes, not-false, system_is_same}
-use Rattle.std.proofs.Common.{◌||◌, filter, find}
-use Rattle.roman_model.specs.Lists.{is_empty}
-use Rattle.std.specs.Option.{option_to_list}
-use Rattle.std.proofs.lemmas.Option.{none-some, slice_get_within}
-use Rattle.roman_model.specs.System.{all_final}
-use Rattle.roman_model.specs.SystemArena.{is_ready}
-use Rattle.roman_model.specs.Arena.{is_listed, is_justified, IsOrder}
-use Rattle.roman_model.specs.Explanation.{Names, entries_before, answer, ready_seats, answers, rests_on, explanation, lost_line, answer_lines, entry_lines}
-use Rattle.roman_model.specs.declared.reason.Reason.{Reason}
-use Rattle.roman_model.specs.declared.reason.Reason.TheVariants.{Final, Act}
-use Rattle.roman_model.proofs.CallerLemmas.{find_some, find_found, in_append_right, in_append_left, from_push, in_flat_map, flat_map_same, justified_is, order_middle, before_is, explanation_is_order, explanation_is_least}
-use Rattle.roman_hearing.specs.Refutations.{MayAnswer, IsLost, AreLost, WinsBy}
-use Rattle.roman_hearing.specs.Words.{lines_of_answers}
+use Rattle.roman_hearing.proofs.Common.{◌≡◌, ℕ, zero, suc, ◌+◌, ◌<◌, Bool, not, List, [], ◌∷◌, ◌++◌, length, codes, Option, None, Some, IsTrue, IsFalse, inl, inr, slice_get, refl, sym, ap, ◌∙◌, subst, arith, append_assoc, list_any, false≢true, both_ways, or_cases, or_parts, not-true, cond-true, cond-false, not-false, IsIn, below, text_of_lines, Sys, Pair, IsSys, is_final, arena, outcomes, Entry, is_beaten, Great, explain_text, by_test, empty_is, filter_in, in_filter, filter_sublist, in_below, listed_in, in_listed, from_allowed, from_outcome, outcome_in, system_is_same, names_in, Situation, present_system, IsSituation, shown, IsReady, Refutes, ◌||◌, filter, find, is_empty, option_to_list, none-some, slice_get_within, all_final, is_ready, is_listed, is_justified, IsOrder, Names, entries_before, answer, ready_seats, answers, rests_on, explanation, lost_line, answer_lines, entry_lines, Reason, Final, Act, find_some, find_found, in_append_right, in_append_left, from_push, in_flat_map, flat_map_same, justified_is, order_middle, before_is, explanation_is_order, explanation_is_least, MayAnswer, IsLost, AreLost, WinsBy, lines_of_answers}
 
 -- Losing more
 

@@ -1,10 +1,5 @@
 -- The report of a session equals the report of the library that begins in the present states of the session.
-use Rattle.roman_hearing.proofs.Common.{◌≡◌, ℕ, ◌<◌, List, [], ◌∷◌, map, refl, ap, arith, NamedBeh, NamedSys, seat_of, system_of, Beh, IsBeh, IsSys, IsPair, Situation, IsSituation, lines_text, report_text, afresh, shown, Seat}
-use Rattle.std.specs.List.{AllZip}
-use Rattle.roman_model.specs.System.{Env}
-use Rattle.roman_start.specs.Starts.{seat_of_service, parts_of, start_pair_of}
-use Rattle.roman_hearing.specs.Afresh.{services_in}
-use Rattle.roman_hearing.specs.Laws.{ReportsAreAfresh}
+use Rattle.roman_hearing.proofs.Common.{◌≡◌, ℕ, ◌<◌, List, [], ◌∷◌, map, refl, ap, arith, NamedBeh, NamedSys, seat_of, system_of, Beh, IsBeh, IsSys, IsPair, Situation, IsSituation, lines_text, report_text, afresh, shown, Seat, AllZip, Env, seat_of_service, parts_of, start_pair_of, services_in, ReportsAreAfresh}
 
 -- the present services give the same seats again
 seats_again : (catalogue : List NamedBeh) (seats : List Seat) (bs : List ℕ) → AllZip (λ seat b. b < seat.beh.states) (map (seat_of catalogue) seats) bs →

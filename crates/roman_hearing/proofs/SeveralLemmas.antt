@@ -1,21 +1,7 @@
 -- In a session of a document with several targets the present system combines them, after any lines.
-use Rattle.roman_hearing.proofs.Common.{◌≡◌, ◌↔◌, ℕ, zero, suc, ◌<◌, List, [], ◌∷◌, map, length, get_or, refl, sym, ap, ap₂, ◌∙◌, subst, arith, length-map, IsIn, Beh, Sys, Pair, IsBeh, IsPair, Great, from_map, there_is, NamedBeh, NamedSys, IsNamedSys, beh_at, seat_of, system_of, beh_read, Situation, Answers, until_quit, AreNamed, IsKnownSituation, Seat}
-use Rattle.std.proofs.Common.{All}
+use Rattle.roman_hearing.proofs.Common.{◌≡◌, ◌↔◌, ℕ, zero, suc, ◌<◌, List, [], ◌∷◌, map, length, get_or, refl, sym, ap, ap₂, ◌∙◌, subst, arith, length-map, IsIn, Beh, Sys, Pair, IsBeh, IsPair, Great, from_map, there_is, NamedBeh, NamedSys, IsNamedSys, beh_at, seat_of, system_of, beh_read, Situation, Answers, until_quit, AreNamed, IsKnownSituation, Seat, All, product_of, GreatAll, combined, combined_beh, combined_seat, couple_all, target_sizes, IsSeveral, MAX_STATES, Request, combined_is_all, NamedEnv, PlainCombined, combined_behaviour, combined_parts, machines, requests_in, good_count, all_in, machines_known, are_allowed, PlainLibrary, PlainTargets, CombinesTargets, libraries_known, behaviour_there, targets_combined, several_with, MeansAll, SeveralAreServed}
 use Rattle.std.proofs.lemmas.Bool.{ltb-false}
-use Rattle.roman_model.specs.Lists.{product_of}
 use Rattle.roman_model.specs.System as model
-use Rattle.roman_model.specs.Several.{GreatAll}
-use Rattle.roman_model.specs.Combined.{combined, combined_beh, combined_seat, couple_all, target_sizes, IsSeveral}
-use Rattle.roman_model.specs.declared.limits.TheConstants.{MAX_STATES}
-use Rattle.roman_model.specs.declared.request.Request.{Request}
-use Rattle.roman_model.proofs.CallerLemmas.{combined_is_all}
-use Rattle.roman_parts.specs.Named.{NamedEnv}
-use Rattle.roman_multi.specs.Combining.{PlainCombined, combined_behaviour, combined_parts, machines, requests_in}
-use Rattle.roman_multi.proofs.CallerLemmas.{good_count, all_in, machines_known, are_allowed}
-use Rattle.roman_library.specs.Library.{PlainLibrary}
-use Rattle.roman_library.specs.Targets.{PlainTargets, CombinesTargets}
-use Rattle.roman_library.proofs.CallerLemmas.{libraries_known, behaviour_there, targets_combined}
-use Rattle.roman_hearing.specs.Several.{several_with, MeansAll, SeveralAreServed}
 use Rattle.roman_hearing.proofs.KeepLemmas.{answers_keep}
 use Rattle.roman_hearing.proofs.KnownLemmas.{steps_known}
 

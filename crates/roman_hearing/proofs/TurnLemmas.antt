@@ -1,20 +1,8 @@
 -- Each step of a session is a turn.
-use Rattle.roman_hearing.proofs.Common.{◌≡◌, ℕ, ◌+◌, ◌<◌, ◌≤◌, Bool, true, false, not, List, [], map, length, get_or, Option, None, Some, ok_or, is_none, is_ok, Result, Ok, Err, IsTrue, IsFalse, inl, inr, slice_get, nat_lt, nat_le, refl, sym, ap, ◌∙◌, subst, arith, ltb-true, leb-true, bytes_eq, false≢true, both_ways, not-true, length-map, position-Some, get_or_from_slice_get, IsIn, Sys, is_allowed, Great, name_at, seat_names, is_related, offers, MAX_SERVICES, allowed_in, from_allowed, related_great, great_related, number_listed, is_name, place_of, reply_text, LineShape, nothing, ask, hand, saw, abort, freeze, thaw, die, join, jump, jump_env, report, explain, quit, shape_of, LineError, Reply, seat_of, system_of, seat_name, beh_name, states_of_behaviour, names_in, joined_system, Situation, present_system, is_idle, IsPhase, named, seat_at, asked, handed, seen, aborted, jumped, env_jumped, frozen, thawed, died, joining, join_of, unexplained, Asks, Hands, Sees, Aborts, Jumps, EnvJumps, Changing, Changes, Freezes, Thaws, Dies, Joins, freezing, thawing, dying, growing, Explains, Does, StepBy, Step, parts_after, Handing, Joining, Phase, Idle, Offered, Delegated, name_is_new, seat_is, cells_with, State, IsGreat, MayAsk, shown, IsKnownSituation, Counts, IsReady, Refutes, not-false}
+use Rattle.roman_hearing.proofs.Common.{◌≡◌, ℕ, ◌+◌, ◌<◌, ◌≤◌, Bool, true, false, not, List, [], map, length, get_or, Option, None, Some, ok_or, is_none, is_ok, Result, Ok, Err, IsTrue, IsFalse, inl, inr, slice_get, nat_lt, nat_le, refl, sym, ap, ◌∙◌, subst, arith, ltb-true, leb-true, bytes_eq, false≢true, both_ways, not-true, not-false, length-map, position-Some, get_or_from_slice_get, IsIn, Sys, is_allowed, Great, name_at, seat_names, is_related, offers, MAX_SERVICES, allowed_in, from_allowed, related_great, great_related, number_listed, is_name, place_of, reply_text, LineShape, nothing, ask, hand, saw, abort, freeze, thaw, die, join, jump, jump_env, report, explain, quit, shape_of, LineError, Reply, seat_of, system_of, seat_name, beh_name, states_of_behaviour, names_in, joined_system, Situation, present_system, is_idle, IsPhase, named, seat_at, asked, handed, seen, aborted, jumped, env_jumped, frozen, thawed, died, joining, join_of, unexplained, Asks, Hands, Sees, Aborts, Jumps, EnvJumps, Changing, Changes, Freezes, Thaws, Dies, Joins, freezing, thawing, dying, growing, Explains, Does, StepBy, Step, parts_after, Handing, Joining, Phase, Idle, Offered, Delegated, name_is_new, seat_is, cells_with, State, IsGreat, MayAsk, shown, IsKnownSituation, Counts, IsReady, Refutes, offer_text, lt-ltb, slice_get-get_or, same_Some, bytes_eq-Decides, has, get_in, listed_number, ◌>>=◌, cells, demand, check_idle, offered_action, delegation, with_room, ServesHere, Replies, OffersServing, CountsLost, Needs, Unless, Place, ComesTo, Refuses, StepsAreTurns}
 use Rattle.roman_model.specs.System.{Seat}
-use Rattle.roman_session.specs.Steps.{offer_text}
-use Rattle.std.proofs.lemmas.Bool.{lt-ltb, le-leb}
-use Rattle.std.proofs.lemmas.Option.{slice_get-get_or, same_Some}
-use Rattle.std.proofs.lemmas.Slice.Eq.{bytes_eq-Decides}
-use Rattle.roman_model.specs.System.{has}
-use Rattle.roman_model.proofs.CallerLemmas.{get_in, listed_number}
-use Rattle.roman_read.specs.Items.{◌>>=◌}
+use Rattle.std.proofs.lemmas.Bool.{le-leb}
 use Rattle.roman_text.specs.declared.replies.Reply.TheVariants as reply
-use Rattle.roman_joint.specs.NamedSys.{cells}
-use Rattle.roman_session.specs.Rulings.{demand, check_idle, offered_action, delegation, with_room}
-use Rattle.roman_hearing.specs.States.{ServesHere}
-use Rattle.roman_hearing.specs.Words.{Replies, OffersServing, CountsLost}
-use Rattle.roman_hearing.specs.Turns.{Needs, Unless, Place, ComesTo, Refuses}
-use Rattle.roman_hearing.specs.Laws.{StepsAreTurns}
 use Rattle.roman_hearing.proofs.RefutationLemmas.{refutes}
 use Rattle.roman_hearing.proofs.WithinLemmas.{seat_within}
 use Rattle.roman_hearing.proofs.WordLemmas.{offers_serving, lost_counted, reports_both}

@@ -1,16 +1,8 @@
 -- What an event names is in range: the place of a service, a state or a behaviour.
-use Rattle.roman_hearing.proofs.Common.{◌≡◌, ℕ, ◌<◌, Bool, List, [], map, length, Option, None, Some, ok_or, is_none, is_ok, false, Ok, IsTrue, slice_get, refl, sym, ap, ◌∙◌, subst, arith, length-map, position-Some, get_or_from_slice_get, IsBeh, Beh, seat_names, there_is, is_name, place_of, same_ok, bind_ok, NamedBeh, beh_at, seat_name, beh_name, states_of_behaviour, names_in, beh_read, Situation, present_system, is_idle, IsSituation, named, joining, Joining, name_is_new, checked, AreBehaviours}
-use Rattle.std.proofs.Common.{IfSome}
+use Rattle.roman_hearing.proofs.Common.{◌≡◌, ℕ, ◌<◌, Bool, List, [], map, length, Option, None, Some, ok_or, is_none, is_ok, false, Ok, IsTrue, slice_get, refl, sym, ap, ◌∙◌, subst, arith, length-map, position-Some, get_or_from_slice_get, IsBeh, Beh, seat_names, there_is, is_name, place_of, same_ok, bind_ok, NamedBeh, beh_at, seat_name, beh_name, states_of_behaviour, names_in, beh_read, Situation, present_system, is_idle, IsSituation, named, joining, Joining, name_is_new, checked, AreBehaviours, IfSome, All-get_or, IsBehaviour, beh_states, seat_read, CanJoin, service_named, state_named, mapped_at, states_named}
 use Rattle.roman_model.specs.System.{Seat}
-use Rattle.std.proofs.lemmas.List.Elements.{All-get_or}
 use Rattle.roman_text.specs.declared.replies.Reply.TheVariants as reply
-use Rattle.roman_parts.specs.Named.{IsBehaviour}
-use Rattle.roman_joint.specs.Names.{beh_states}
-use Rattle.roman_joint.proofs.CallerLemmas.{seat_read}
 use Rattle.roman_joint.specs.declared.seat.Seat.{Seat as Place}
-use Rattle.roman_session.specs.Joins.{CanJoin}
-use Rattle.roman_session.specs.Rulings.{service_named, state_named}
-use Rattle.roman_session.proofs.CallerLemmas.{mapped_at, states_named}
 
 -- the number of a name is below the number of names
 pub named_within : (names : List (List ℕ)) (name : List ℕ) (i : ℕ) → named names name ≡ Ok i → i < length names

@@ -1,7 +1,5 @@
 -- The delegations that are found backwards are those that lead to the pair.
-use Rattle.roman_joint.proofs.Common.{◌≡◌, ℕ, ◌<◌, Bool, true, false, cond, List, [], map, length, Option, Some, None, IsTrue, IsFalse, slice_get, slice_index, slice_set, refl, sym, ap, ◌∙◌, subst, arith, flat_map, IsIn, HasNoRepeats, HoldsEachOnce, below, Env, Sys, Seat, Pair, IsSys, IsPair, IsBeh, has_triple, has_move, env_prev, beh_prev, outcomes, Delegation, back, sizes_of, count, number, pair_at, numbered, in_map, from_map, in_flat_map, from_flat_map, in_below, from_below, HasNoRepeats-below, HasNoRepeats-filter, HasNoRepeats-map, triple_in_range, move_in_range, in_env_prev, in_beh_prev, seat_in, states_set, numbers_are_pairs, IsPairOf-from, AreBelow-length, numbered_is_arena, in_back, slice_get_within, get_or-set_same, length-map, seat_prev, from_seat, from_target, from_env, from_action, from_all}
-use Rattle.roman_model.proofs.CallerLemmas.{HasNoRepeats-flat_map, from_env_prev, from_beh_prev, outcome_in, from_outcome, outcome_pair, numbered_is_same, from_back}
-use Rattle.std.proofs.lemmas.List.{set-set, set-get_or}
+use Rattle.roman_joint.proofs.Common.{◌≡◌, ℕ, ◌<◌, Bool, true, false, cond, List, [], map, length, Option, Some, None, IsTrue, IsFalse, slice_get, slice_index, slice_set, refl, sym, ap, ◌∙◌, subst, arith, flat_map, IsIn, HasNoRepeats, HoldsEachOnce, below, Env, Sys, Seat, Pair, IsSys, IsPair, IsBeh, has_triple, has_move, env_prev, beh_prev, outcomes, Delegation, back, sizes_of, count, number, pair_at, numbered, in_map, from_map, in_flat_map, from_flat_map, in_below, from_below, HasNoRepeats-below, HasNoRepeats-filter, HasNoRepeats-map, triple_in_range, move_in_range, in_env_prev, in_beh_prev, seat_in, states_set, numbers_are_pairs, IsPairOf-from, AreBelow-length, numbered_is_arena, in_back, slice_get_within, get_or-set_same, length-map, seat_prev, from_seat, from_target, from_env, from_action, from_all, HasNoRepeats-flat_map, from_env_prev, from_beh_prev, outcome_in, from_outcome, outcome_pair, numbered_is_same, from_back, set-set, set-get_or}
 
 -- the delegation of a to the seat at k, from t, e and the seat's state b
 abbrev pub delegation : Sys → Pair → ℕ → ℕ → ℕ → ℕ → ℕ → Delegation ℕ

@@ -1,7 +1,5 @@
 -- Rows of a band.
-use Rattle.roman_joint.proofs.Common.{◌≡◌, ℕ, ◌+◌, ◌-◌, ◌*◌, ◌/◌, ◌%◌, ◌<◌, ◌≤◌, ◌^◌, Bool, true, false, not, ◌&&◌, List, [], length, slice_get, slice_index, IsFalse, inl, inr, refl, sym, ap, ap₂, ◌∙◌, subst, arith, list_any, set, cases_eq, cases_lt, mul-add-lt, mul-le, mod_below, get_or-set_same, get_or-set_other, IsIn, is_empty, product_of, all_below, any_same, from_seat_next, move_in_range, seat_in, part_at, Sys, IsSys, seat_next, is_beaten, sizes_of, count, pair_at, numbered, IsSizes, stride_of, low_of, row_sizes, env_rows_of, exact, lanes_few, AreSizes-index, low_of-le, lanes_positive, row_div, row_mod, row_below, env_rows_are, count_rows, length_rows, row_size, row_stride_of, IsSizes-rows, rows_are, is_on, HasLanes, AreRows, Keeps, lanes_in, low_in, lane_state_of, AreRowsOf, IsRow, IsTargetMove, AreAlive, mid_in, band_in, turn_at, AllAlive, AreRowsBefore, Rows, Row, TargetMove, and_assoc, on_zero, SuitsRows, Outcomes}
-use Rattle.std.proofs.Common.{ltb-false}
-use Rattle.std.proofs.lemmas.List.{get_or_past}
+use Rattle.roman_joint.proofs.Common.{◌≡◌, ℕ, ◌+◌, ◌-◌, ◌*◌, ◌/◌, ◌%◌, ◌<◌, ◌≤◌, ◌^◌, Bool, true, false, not, ◌&&◌, List, [], length, slice_get, slice_index, IsFalse, inl, inr, refl, sym, ap, ap₂, ◌∙◌, subst, arith, list_any, set, cases_eq, cases_lt, mul-add-lt, mul-le, mod_below, get_or-set_same, get_or-set_other, IsIn, is_empty, product_of, all_below, any_same, from_seat_next, move_in_range, seat_in, part_at, Sys, IsSys, seat_next, is_beaten, sizes_of, count, pair_at, numbered, IsSizes, stride_of, low_of, row_sizes, env_rows_of, exact, lanes_few, AreSizes-index, low_of-le, lanes_positive, row_div, row_mod, row_below, env_rows_are, count_rows, length_rows, row_size, row_stride_of, IsSizes-rows, rows_are, is_on, HasLanes, AreRows, Keeps, lanes_in, low_in, lane_state_of, AreRowsOf, IsRow, IsTargetMove, AreAlive, mid_in, band_in, turn_at, AllAlive, AreRowsBefore, Rows, Row, TargetMove, and_assoc, on_zero, SuitsRows, Outcomes, ltb-false, get_or_past}
 use Rattle.roman_joint.proofs.Rows.{size_of_seat}
 use Rattle.roman_joint.proofs.AllowedLemmas.{cut_off, and_nothing}
 use Rattle.roman_joint.proofs.WordLemmas.{not_not, all_pass}

@@ -1,6 +1,5 @@
 -- Facts about the behaviour of a service.
-use Rattle.roman_joint.proofs.Common.{◌≡◌, ℕ, zero, suc, ◌<◌, List, [], ◌∷◌, Some, length, slice_get, get_or, sym, ap, ◌∙◌, subst, arith, slice_index, option_map, slice_get-map, slice_get_within, get_or_from_slice_get, slice_get-get_or, length-map, NamedBeh, NamedSys, IsNamedSys, IsOverEnv, system_of, seat_of, beh_at, Beh, sizes_of, IsSeatBehaviour}
-use Rattle.std.proofs.lemmas.List.Elements.{All-get_or}
+use Rattle.roman_joint.proofs.Common.{◌≡◌, ℕ, zero, suc, ◌<◌, List, [], ◌∷◌, Some, length, slice_get, get_or, sym, ap, ◌∙◌, subst, arith, slice_index, option_map, slice_get-map, slice_get_within, get_or_from_slice_get, slice_get-get_or, length-map, NamedBeh, NamedSys, IsNamedSys, IsOverEnv, system_of, seat_of, beh_at, Beh, sizes_of, IsSeatBehaviour, All-get_or}
 use Rattle.roman_model.specs.System as model
 use Rattle.roman_joint.specs.declared.seat.Seat.{Seat}
 use Rattle.roman_joint.proofs.Rows.{size_of_seat}

@@ -1,10 +1,6 @@
 -- Searches for the first element that passes, step by step.
-use Rattle.roman_joint.proofs.Common.{◌≡◌, ℕ, zero, suc, ◌+◌, ◌<◌, ◌≤◌, ◌==◌, Bool, true, false, cond, List, [], ◌∷◌, map, length, drop, get_or, Option, Some, None, IsFalse, refl, sym, ap, ◌∙◌, subst, inl, inr, arith, find, flat_map, option_map, IsIn, is_empty, in_map, in_flat_map, drop_more, drop_all, map-append, false≢true, eqb-true}
-use Rattle.std.specs.Option.{option_or}
-use Rattle.roman_model.proofs.CallerLemmas.{in_not_empty}
+use Rattle.roman_joint.proofs.Common.{◌≡◌, ℕ, zero, suc, ◌+◌, ◌<◌, ◌≤◌, ◌==◌, Bool, true, false, cond, List, [], ◌∷◌, map, length, drop, get_or, Option, Some, None, IsFalse, refl, sym, ap, ◌∙◌, subst, inl, inr, arith, find, flat_map, option_map, IsIn, is_empty, in_map, in_flat_map, drop_more, drop_all, map-append, false≢true, eqb-true, option_or, in_not_empty, nil_from_length, find-append}
 use Rattle.std.specs.Option.{IfSome}
-use Rattle.std.proofs.lemmas.List.{nil_from_length}
-use Rattle.std.proofs.lemmas.List.Folds.{find-append}
 
 pub find_here : {X : Type 0} (p : X → Bool) (xs : List X) (i : ℕ) (d : X) → i < length xs → p (get_or xs i d) ≡ true → find p (drop i xs) ≡ Some (get_or xs i d)
 find_here p xs i d l h = ap (find p) (drop_more xs i d l) ∙ ap (λ b. cond b (Some (get_or xs i d)) (find p (drop (i + 1) xs))) h

@@ -1,7 +1,5 @@
 -- The pairs of a row at which a seat serves an action.
-use Rattle.roman_joint.proofs.Common.{◌≡◌, ◌⊎◌, ℕ, zero, suc, ◌+◌, ◌-◌, ◌*◌, ◌/◌, ◌%◌, ◌<◌, ◌≤◌, ◌^◌, Bool, true, false, not, ◌&&◌, ◌||◌, eqb, ltb, inl, inr, List, [], length, get_or, slice_get, slice_index, IsFalse, refl, sym, ap, ap₂, ◌∙◌, subst, arith, list_any, length-map, mul-add-lt, mul-le, mod_below, div_below, div-add-mod', cases_lt, ne_eqb, eqb-true, lt-ltb, le-ltb, eq-eqb, same_test, length-below, by_test, any_same, any_from, empty_is, not_empty_in, triple_in_range, from_env_next, move_in_range, from_seat_next, seat_in, nat_tests, IsIn, is_empty, Sys, Seat, IsSys, seat_next, is_beaten, Sizes, sizes_of, count, numbered, IsSizes, stride_of, env_stride_of, low_of, lanes_of, env_rows_of, target_rows_of, product_positive, low_of-le, lanes_few, lanes_positive, row_least, row_below, env_rows_are, is_on, HasLanes, AreRows, IsNumbered, NamedSys, system_of, seat_of, IsNamedSys, lanes_in, low_in, lane_has_state, lane_state_of, AreRowsOf, IsRow, IsTargetMove, AreAlive, Rows, Row, TargetMove, on_and, on_zero, mul-add-div_right, AreRowsBefore, SuitsRows, outcome_number, Outcomes}
-use Rattle.std.proofs.Math.Nat.{add-mod-mod, mod-eq_of_lt, mul-mod_left}
-use Rattle.std.proofs.Math.Bool.{and-false}
+use Rattle.roman_joint.proofs.Common.{◌≡◌, ◌⊎◌, ℕ, zero, suc, ◌+◌, ◌-◌, ◌*◌, ◌/◌, ◌%◌, ◌<◌, ◌≤◌, ◌^◌, Bool, true, false, not, ◌&&◌, ◌||◌, eqb, ltb, inl, inr, List, [], length, get_or, slice_get, slice_index, IsFalse, refl, sym, ap, ap₂, ◌∙◌, subst, arith, list_any, length-map, mul-add-lt, mul-le, mod_below, div_below, div-add-mod', cases_lt, ne_eqb, eqb-true, lt-ltb, le-ltb, eq-eqb, same_test, length-below, by_test, any_same, any_from, empty_is, not_empty_in, triple_in_range, from_env_next, move_in_range, from_seat_next, seat_in, nat_tests, IsIn, is_empty, Sys, Seat, IsSys, seat_next, is_beaten, Sizes, sizes_of, count, numbered, IsSizes, stride_of, env_stride_of, low_of, lanes_of, env_rows_of, target_rows_of, product_positive, low_of-le, lanes_few, lanes_positive, row_least, row_below, env_rows_are, is_on, HasLanes, AreRows, IsNumbered, NamedSys, system_of, seat_of, IsNamedSys, lanes_in, low_in, lane_has_state, lane_state_of, AreRowsOf, IsRow, IsTargetMove, AreAlive, Rows, Row, TargetMove, on_and, on_zero, mul-add-div_right, AreRowsBefore, SuitsRows, outcome_number, Outcomes, add-mod-mod, mod-eq_of_lt, mul-mod_left, and-false}
 use Rattle.roman_joint.proofs.ArenaFacts.{joint_numbered}
 use Rattle.roman_joint.proofs.OutcomeLemmas.{target_in_range}
 use Rattle.roman_joint.proofs.Finds.{in_at}

@@ -1,8 +1,5 @@
 -- The outcomes of a delegation, by rows and lanes.
-use Rattle.roman_joint.proofs.Common.{◌≡◌, ℕ, ◌+◌, ◌-◌, ◌*◌, ◌/◌, ◌%◌, ◌<◌, ◌≤◌, Bool, true, not, List, [], ◌∷◌, length, drop, map, slice_get, slice_index, IsTrue, IsFalse, refl, sym, ap, ap₂, ◌∙◌, subst, arith, list_any, flat_map, div-add-mod', mul-add-lt, mod_below, div_below, length-map, IsIn, is_empty, product_of, in_map, in_flat_map, any_same, not_empty_in, any_true, any_from, same_test, part_at, Sys, Seat, IsSys, env_next, beh_next, seat_next, Arena, is_beaten, Sizes, sizes_of, count, pair_at, numbered, IsSizes, stride_of, low_of, lanes_of, env_rows_of, target_rows_of, product_positive, AreSizes-drop, AreSizes-index, low_of-le, tails_from, row_mod, row_least, env_rows_are, IsNumbered, lanes_in, low_in, lane_state_of, IsRow, Row, mul-add-div_right}
-use Rattle.roman_radix.proofs.CallerLemmas.{product_more}
-use Rattle.std.proofs.Math.Nat.{mul-add-mod_self_right}
-use Rattle.roman_model.proofs.CallerLemmas.{list_any-map, list_any-flat_map}
+use Rattle.roman_joint.proofs.Common.{◌≡◌, ℕ, ◌+◌, ◌-◌, ◌*◌, ◌/◌, ◌%◌, ◌<◌, ◌≤◌, Bool, true, not, List, [], ◌∷◌, length, drop, map, slice_get, slice_index, IsTrue, IsFalse, refl, sym, ap, ap₂, ◌∙◌, subst, arith, list_any, flat_map, div-add-mod', mul-add-lt, mod_below, div_below, length-map, IsIn, is_empty, product_of, in_map, in_flat_map, any_same, not_empty_in, any_true, any_from, same_test, part_at, Sys, Seat, IsSys, env_next, beh_next, seat_next, Arena, is_beaten, Sizes, sizes_of, count, pair_at, numbered, IsSizes, stride_of, low_of, lanes_of, env_rows_of, target_rows_of, product_positive, AreSizes-drop, AreSizes-index, low_of-le, tails_from, row_mod, row_least, env_rows_are, IsNumbered, lanes_in, low_in, lane_state_of, IsRow, Row, mul-add-div_right, product_more, mul-add-mod_self_right, list_any-map, list_any-flat_map}
 use Rattle.roman_joint.proofs.OutcomeLemmas.{StartsAt, starts_at, numbers_are, target_in_range}
 use Rattle.roman_joint.proofs.Finds.{some_numbers, no_numbers}
 use Rattle.roman_joint.proofs.SplitLemmas.{target_rows_are}

@@ -1,12 +1,6 @@
 -- Marks on the bands from which a band can be reached.
-use Rattle.roman_joint.proofs.Common.{◌≡◌, ℕ, suc, ◌+◌, ◌-◌, ◌*◌, ◌/◌, ◌%◌, ◌^◌, ◌<◌, ◌≤◌, Bool, true, false, cond, List, [], ◌∷◌, length, get_or, take, Option, Some, slice_get, slice_index, IsTrue, IsFalse, inl, inr, refl, sym, ap, ap₂, ◌∙◌, subst, arith, sum_by, length-take, get_or-set_same, get_or-set_other, length-set, length-map, low_of, row_sizes, env_rows_of, target_rows_of, set, bit_or, bit_at, flat_map, filter, cases_eq, cases_lt, lt-ltb, le-ltb, slice_get_within, length-filter, div-add-mod', mod_below, div_below, IsIn, HasNoRepeats, HoldsEachOnce, below, product_of, by_test, in_below, from_below, from_map, from_flat_map, filter_in, in_filter, HasNoRepeats-below, HasNoRepeats-filter, HasNoRepeats-map, triple_in_range, move_in_range, in_env_prev, in_beh_prev, seat_in, in_back, AreBelow-length, IsPairOf-at, number-pair_at, numbered_is_arena, sum_by_same, Seat, Sys, Pair, IsSys, IsBeh, env_prev, beh_prev, Arena, Delegation, back, sizes_of, count, number, pair_at, numbered, IsSizes, stride_of, row_mod, env_rows_are, low_of-le, lanes_positive, length_rows, row_size, row_stride_of, IsSizes-rows, is_on, seat_prev, from_states, from_seat, from_target, from_env, from_action, from_all, lanes_in, low_in, lane_state_of, IsRow, mid_in, band_in, AreLeading, IsMarked, Grows, row_at, MarksSeat, MarksTurn, MarksEnv, MarksAction, seat_steps, turn_steps, env_steps, action_steps, Row, sum_cut}
-use Rattle.std.proofs.Common.{count_by}
-use Rattle.std.proofs.lemmas.List.Sums.{sum_by-append, sum_by-cons}
+use Rattle.roman_joint.proofs.Common.{◌≡◌, ℕ, suc, ◌+◌, ◌-◌, ◌*◌, ◌/◌, ◌%◌, ◌^◌, ◌<◌, ◌≤◌, Bool, true, false, cond, List, [], ◌∷◌, length, get_or, take, Option, Some, slice_get, slice_index, IsTrue, IsFalse, inl, inr, refl, sym, ap, ap₂, ◌∙◌, subst, arith, sum_by, length-take, get_or-set_same, get_or-set_other, length-set, length-map, low_of, row_sizes, env_rows_of, target_rows_of, set, bit_or, bit_at, flat_map, filter, cases_eq, cases_lt, lt-ltb, le-ltb, slice_get_within, length-filter, div-add-mod', mod_below, div_below, IsIn, HasNoRepeats, HoldsEachOnce, below, product_of, by_test, in_below, from_below, from_map, from_flat_map, filter_in, in_filter, HasNoRepeats-below, HasNoRepeats-filter, HasNoRepeats-map, triple_in_range, move_in_range, in_env_prev, in_beh_prev, seat_in, in_back, AreBelow-length, IsPairOf-at, number-pair_at, numbered_is_arena, sum_by_same, Seat, Sys, Pair, IsSys, IsBeh, env_prev, beh_prev, Arena, Delegation, back, sizes_of, count, number, pair_at, numbered, IsSizes, stride_of, row_mod, env_rows_are, low_of-le, lanes_positive, length_rows, row_size, row_stride_of, IsSizes-rows, is_on, seat_prev, from_states, from_seat, from_target, from_env, from_action, from_all, lanes_in, low_in, lane_state_of, IsRow, mid_in, band_in, AreLeading, IsMarked, Grows, row_at, MarksSeat, MarksTurn, MarksEnv, MarksAction, seat_steps, turn_steps, env_steps, action_steps, Row, sum_cut, count_by, sum_by-append, sum_by-cons, same_from_place, no_longer, number-moved, is_among, delegations, has_flag}
 use Rattle.std.specs.Prelude.{ltb}
-use Rattle.std.proofs.lemmas.Nat.{same_from_place}
-use Rattle.roman_model.proofs.CallerLemmas.{no_longer, number-moved}
-use Rattle.roman_model.specs.Arena.{is_among, delegations}
-use Rattle.roman_lanes.specs.Flags.{has_flag}
 use Rattle.roman_joint.proofs.BackwardLemmas.{once_by, delegation, Steps, Found, origin, in_seat_prev, leads_found, from_all_found, found_backwards}
 use Rattle.roman_joint.proofs.Rows.{size_of_seat}
 use Rattle.roman_joint.proofs.WordLemmas.{on_set_same, on_set_other}

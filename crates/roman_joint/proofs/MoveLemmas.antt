@@ -1,13 +1,7 @@
 -- Moves of services within the lanes.
-use Rattle.roman_joint.proofs.Common.{◌≡◌, ◌≢◌, ℕ, zero, suc, ◌+◌, ◌-◌, ◌*◌, ◌/◌, ◌%◌, ◌<◌, ◌≤◌, ◌==◌, Bool, true, false, not, ◌&&◌, cond, eqb, List, [], ◌∷◌, ◌++◌, length, drop, get_or, Some, slice_get, slice_index, slice_index_or, IsTrue, IsFalse, inl, inr, refl, sym, ap, ap₂, ◌∙◌, subst, arith, get_or-append_seam, mul-le-mul_right, list_any, filter, both_ways, cases_eq, cases_lt, ne_eqb, eqb-true, false≢true, and_parts, eq-eqb, div-mul-add, mod-mul-add, mod_below, mul-add-lt, length-map, length-append, map-append, append_assoc, get_or_append_left, drop_more, drop_all, take_all, length-filter, count_by-le-length, slice_get_within, slice_get-get_or, IsIn, is_empty, below, product_of, in_map, from_map, in_filter, filter_in, in_below, from_below, any_true, any_from, same_test, by_test, empty_is, length-below, seat_in, Sys, Seat, Beh, beh_next, is_ready, is_beaten, Sizes, sizes_of, numbered, AreSizes, IsSizes, stride_of, low_of, lanes_of, env_rows_of, AreSizes-index, AreSizes-drop, product_positive, lanes_few, is_on, HasLanes, NamedBeh, NamedSys, IsNamedSys, system_of, seat_of, lanes_in, low_in, lane_state_of, IsTargetMove, AreAlive, lane_moves_from, ways_room, HoldsSpans, HoldsMoves, IsKept, AreSeatsOf, Row, TargetMove, Move, Moves, with_frozen, on_zero}
-use Rattle.std.proofs.Common.{slice_range}
-use Rattle.std.proofs.lemmas.Bool.{not_from_false}
-use Rattle.std.proofs.lemmas.List.{length-drop, take-append-le, drop-append-le}
-use Rattle.roman_model.proofs.CallerLemmas.{filter_below_more}
+use Rattle.roman_joint.proofs.Common.{◌≡◌, ◌≢◌, ℕ, zero, suc, ◌+◌, ◌-◌, ◌*◌, ◌/◌, ◌%◌, ◌<◌, ◌≤◌, ◌==◌, Bool, true, false, not, ◌&&◌, cond, eqb, List, [], ◌∷◌, ◌++◌, length, drop, get_or, Some, slice_get, slice_index, slice_index_or, IsTrue, IsFalse, inl, inr, refl, sym, ap, ap₂, ◌∙◌, subst, arith, get_or-append_seam, mul-le-mul_right, list_any, filter, both_ways, cases_eq, cases_lt, ne_eqb, eqb-true, false≢true, and_parts, eq-eqb, div-mul-add, mod-mul-add, mod_below, mul-add-lt, length-map, length-append, map-append, append_assoc, get_or_append_left, drop_more, drop_all, take_all, length-filter, count_by-le-length, slice_get_within, slice_get-get_or, IsIn, is_empty, below, product_of, in_map, from_map, in_filter, filter_in, in_below, from_below, any_true, any_from, same_test, by_test, empty_is, length-below, seat_in, Sys, Seat, Beh, beh_next, is_ready, is_beaten, Sizes, sizes_of, numbered, AreSizes, IsSizes, stride_of, low_of, lanes_of, env_rows_of, AreSizes-index, AreSizes-drop, product_positive, lanes_few, is_on, HasLanes, NamedBeh, NamedSys, IsNamedSys, system_of, seat_of, lanes_in, low_in, lane_state_of, IsTargetMove, AreAlive, lane_moves_from, ways_room, HoldsSpans, HoldsMoves, IsKept, AreSeatsOf, Row, TargetMove, Move, Moves, with_frozen, on_zero, slice_range, not_from_false, take-append-le, drop-append-le, filter_below_more, GoesTo, AreMovesOf, AreWays, lane_move, within_in, IsSpan, IsAdded, Span, Ways}
+use Rattle.std.proofs.lemmas.List.{length-drop}
 use Rattle.roman_joint.specs.declared.seat.Seat as declared
-use Rattle.roman_joint.specs.Moves.{GoesTo, AreMovesOf, AreWays, lane_move, within_in, IsSpan, IsAdded}
-use Rattle.roman_joint.specs.declared.moves.Span.{Span}
-use Rattle.roman_joint.specs.declared.ways.Ways.{Ways}
 use Rattle.roman_joint.proofs.ArenaFacts.{beaten_where, joint_numbered}
 use Rattle.roman_joint.proofs.Rows.{size_of_seat}
 use Rattle.roman_joint.proofs.SeatChanges.{with_seats, frozen_sizes, frozen_at}

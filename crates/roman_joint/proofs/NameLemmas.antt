@@ -1,7 +1,5 @@
 -- The names of the states of services.
-use Rattle.roman_joint.proofs.Common.{◌≡◌, ℕ, ◌<◌, List, [], map, length, Some, slice_get, slice_index, sym, ap, ◌∙◌, subst, option_map, slice_get-map, get_or_from_slice_get, name_at, sizes_of, NamedBeh, NamedSys, IsNamedSys, system_of, IsSeatBehaviour}
-use Rattle.roman_model.specs.Explanation.{SeatNames, seat_names}
-use Rattle.roman_joint.specs.Names.{beh_states, names_in, names_of_seat}
+use Rattle.roman_joint.proofs.Common.{◌≡◌, ℕ, ◌<◌, List, [], map, length, Some, slice_get, slice_index, sym, ap, ◌∙◌, subst, option_map, slice_get-map, get_or_from_slice_get, name_at, sizes_of, NamedBeh, NamedSys, IsNamedSys, system_of, IsSeatBehaviour, SeatNames, seat_names, beh_states, names_in, names_of_seat}
 use Rattle.roman_joint.proofs.BehaviourLemmas.{behaves}
 
 -- a service has as many states as its behaviour

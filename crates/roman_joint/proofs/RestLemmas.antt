@@ -1,7 +1,5 @@
 -- The seats that may rest.
-use Rattle.roman_joint.proofs.Common.{◌≡◌, ℕ, ◌+◌, ◌*◌, ◌<◌, ◌≤◌, Bool, true, false, not, ◌&&◌, ◌||◌, inl, inr, ltb, length, slice_get, slice_index, ap, ap₂, ◌∙◌, sym, arith, and_parts, both_ways, cases_lt, lt-ltb, le-ltb, by_test, all_below_at, all_below_from, same_test, length-map, low_of-le, length_rows, row_sizes, all_below, is_final, Sys, Seat, is_on, sizes_of, numbered, pair_at, IsSizes, lanes_in, low_in, lane_state_of, IsRow, may_rest, mid_in, band_in, Row}
-use Rattle.std.proofs.lemmas.Bool.{or_right}
-use Rattle.roman_joint.specs.Rows.{HasResting}
+use Rattle.roman_joint.proofs.Common.{◌≡◌, ℕ, ◌+◌, ◌*◌, ◌<◌, ◌≤◌, Bool, true, false, not, ◌&&◌, ◌||◌, inl, inr, ltb, length, slice_get, slice_index, ap, ap₂, ◌∙◌, sym, arith, and_parts, both_ways, cases_lt, lt-ltb, le-ltb, by_test, all_below_at, all_below_from, same_test, length-map, low_of-le, length_rows, row_sizes, all_below, is_final, Sys, Seat, is_on, sizes_of, numbered, pair_at, IsSizes, lanes_in, low_in, lane_state_of, IsRow, may_rest, mid_in, band_in, Row, or_right, HasResting}
 use Rattle.roman_joint.proofs.AllowedLemmas.{fine_there}
 use Rattle.roman_joint.proofs.LeadLemmas.{lane_part}
 use Rattle.roman_joint.proofs.BandLemmas.{row_in, in_band}

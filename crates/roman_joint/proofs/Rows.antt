@@ -1,7 +1,5 @@
 -- The numbers of pairs, and the sizes of seats.
-use Rattle.roman_joint.proofs.Common.{IsNamedSys, NamedSys, system_of, IsWalk, goal_of, List, Some, [], ap, arith, false, length, map, slice_get, slice_index, slice_set, subst, suc, zero, ℕ, ◌*◌, ◌+◌, ◌-◌, ◌<◌, ◌∙◌, ◌∷◌, ◌≡◌, ◌≤◌, Seat, Sys, Walk, count, number, sizes_of, mul-le-mul_left, numbers_are_pairs, states_set, slice_get-get_or}
-use Rattle.roman_model.specs.declared.limits.TheConstants.{MAX_CELLS}
-use Rattle.roman_joint.specs.NamedSys.{still}
+use Rattle.roman_joint.proofs.Common.{IsNamedSys, NamedSys, system_of, IsWalk, goal_of, List, Some, [], ap, arith, false, length, map, slice_get, slice_index, slice_set, subst, suc, zero, ℕ, ◌*◌, ◌+◌, ◌-◌, ◌<◌, ◌∙◌, ◌∷◌, ◌≡◌, ◌≤◌, Seat, Sys, Walk, count, number, sizes_of, mul-le-mul_left, numbers_are_pairs, states_set, slice_get-get_or, MAX_CELLS, still}
 
 -- a joint has few enough pairs
 pub count_fits : (n : NamedSys) → IsNamedSys n → count (sizes_of (system_of n)) ≤ MAX_CELLS

@@ -1,6 +1,5 @@
 -- Places of words in blocks.
-use Rattle.roman_joint.proofs.Common.{◌≡◌, ℕ, ◌+◌, ◌*◌, ◌/◌, ◌%◌, ◌<◌, ◌≤◌, ap, ◌∙◌, arith, ap₂, div-mul-add, mod-mul-add, div-add-mod', mul-le}
-use Rattle.std.proofs.Math.Nat.{div-div-eq-div-mul, div-eq_of_lt-le}
+use Rattle.roman_joint.proofs.Common.{◌≡◌, ℕ, ◌+◌, ◌*◌, ◌/◌, ◌%◌, ◌<◌, ◌≤◌, ap, ◌∙◌, arith, ap₂, div-mul-add, mod-mul-add, div-add-mod', mul-le, div-div-eq-div-mul, div-eq_of_lt-le}
 
 -- the state at a place of a block
 pub state_at : (t b size stride j : ℕ) → b < size → j < stride → (t * (size * stride) + b * stride + j) / stride % size ≡ b

@@ -1,11 +1,6 @@
 -- The system after a service is frozen, dropped or added.
-use Rattle.roman_joint.proofs.Common.{◌≡◌, ℕ, zero, suc, ◌*◌, ◌/◌, ◌<◌, ◌≤◌, ◌↔◌, Bool, true, false, if◌then◌else◌, List, [], ◌∷◌, ◌++◌, Some, slice_get, slice_index, get_or, map, length, take, drop, refl, sym, ap, ap₂, ◌∙◌, subst, arith, All, slice_get-get_or, AllByRecursion, remove, set, mul-le-mul_left, mul-le-mul_right, le-div_iff_mul-le, map_push, map-append, length-map, All-from_recursion, IsIn, HasNoRepeats, Sys, IsSys, IsBeh, Join, Die, after, Sizes, sizes_of, count, MAX_SERVICES, seat_in, NamedBeh, NamedSys, beh_at, seat_of, system_of, cells, IsNamedSys, with_frozen, HasSameParts}
-use Rattle.std.proofs.lemmas.List.{take-map, drop-map}
-use Rattle.std.proofs.lemmas.List.Elements.{All-append, All-drop, All-push, All-take, recursion_from_All}
+use Rattle.roman_joint.proofs.Common.{◌≡◌, ℕ, zero, suc, ◌*◌, ◌/◌, ◌<◌, ◌≤◌, ◌↔◌, Bool, true, false, if◌then◌else◌, List, [], ◌∷◌, ◌++◌, Some, slice_get, slice_index, get_or, map, length, take, drop, refl, sym, ap, ap₂, ◌∙◌, subst, arith, All, slice_get-get_or, AllByRecursion, remove, set, mul-le-mul_left, mul-le-mul_right, le-div_iff_mul-le, map_push, map-append, length-map, All-from_recursion, IsIn, HasNoRepeats, Sys, IsSys, IsBeh, Join, Die, after, Sizes, sizes_of, count, MAX_SERVICES, seat_in, NamedBeh, NamedSys, beh_at, seat_of, system_of, cells, IsNamedSys, with_frozen, HasSameParts, take-map, drop-map, All-append, All-drop, All-push, All-take, recursion_from_All, Change, Freeze, Thaw, set_frozen, CanChange, grown_sizes, sizes_without, HasNoRepeats-push, states_frozen, remove_in, renaming_keeps, count-without}
 use Rattle.roman_model.specs.System as model
-use Rattle.roman_model.specs.Change.{Change, Freeze, Thaw, set_frozen, CanChange}
-use Rattle.roman_model.specs.Numbers.{grown_sizes, sizes_without}
-use Rattle.roman_model.proofs.CallerLemmas.{HasNoRepeats-push, states_frozen, remove_in, renaming_keeps, count-without}
 use Rattle.roman_joint.specs.declared.seat.Seat.{Seat}
 use Rattle.roman_joint.proofs.Rows.{size_of_seat}
 use Rattle.roman_joint.proofs.BehaviourLemmas.{seat_read}

@@ -1,9 +1,6 @@
 -- Services and their behaviours, read one after another.
-use Rattle.roman_joint.proofs.Common.{◌≡◌, ℕ, zero, suc, ◌+◌, ◌/◌, ◌%◌, ◌^◌, ◌<◌, ◌≤◌, List, [], ◌∷◌, ◌++◌, All, get_or, map, length, take, refl, sym, ap, ap₂, ◌∙◌, subst, inl, inr, arith, ◌==◌, AllByRecursion, set, take_more, map_push, length-set, length-map, All-from_recursion, IsIn, is_empty, Env, IsBeh, IsEnv, IsSys, sizes_of, Sizes, NamedEnv, NamedBeh, beh_at, seat_of, IsOverEnv, NamedSys, system_of, ne_eqb, MAX_SERVICES}
-use Rattle.std.proofs.lemmas.List.{take_more_set}
+use Rattle.roman_joint.proofs.Common.{◌≡◌, ℕ, zero, suc, ◌+◌, ◌/◌, ◌%◌, ◌^◌, ◌<◌, ◌≤◌, List, [], ◌∷◌, ◌++◌, All, get_or, map, length, take, refl, sym, ap, ap₂, ◌∙◌, subst, inl, inr, arith, ◌==◌, AllByRecursion, set, take_more, map_push, length-set, length-map, All-from_recursion, IsIn, is_empty, Env, IsBeh, IsEnv, IsSys, sizes_of, Sizes, NamedEnv, NamedBeh, beh_at, seat_of, IsOverEnv, NamedSys, system_of, ne_eqb, MAX_SERVICES, take_more_set, IsDeterministic, IsOver}
 use Rattle.roman_model.specs.System as model
-use Rattle.roman_model.specs.System.{IsDeterministic}
-use Rattle.roman_parts.specs.Named.{IsOver}
 use Rattle.roman_joint.specs.declared.seat.Seat.{Seat}
 
 -- the behaviour that is read at a place of the catalogue

@@ -1,9 +1,5 @@
 -- A joint's fields in terms of the system that it holds.
-use Rattle.roman_joint.proofs.Common.{◌≡◌, ◌≤◌, ◌&&◌, vec_capacity, sym, ◌∙◌, subst, arith, sizes_of, MAX_SERVICES, NamedSys, system_of, IsNamedSys, named_sys_in, AreRowsOf, HoldsMoves, IsKept, Moves}
-use Rattle.roman_joint.specs.TargetViews.{AreTargetViews}
-use Rattle.roman_joint.specs.declared.joint.Joint.TheInside.{Inside}
-use Rattle.roman_joint.specs.Layout.{IsJoint}
-use Rattle.roman_joint.specs.Moves.{HasRoom}
+use Rattle.roman_joint.proofs.Common.{◌≡◌, ◌≤◌, ◌&&◌, vec_capacity, sym, ◌∙◌, subst, arith, sizes_of, MAX_SERVICES, NamedSys, system_of, IsNamedSys, named_sys_in, AreRowsOf, HoldsMoves, IsKept, Moves, AreTargetViews, Inside, IsJoint, HasRoom}
 
 -- the fields of a joint fit the system that they hold
 pub record Fits (a : Inside) (n : NamedSys) : Type 0 where

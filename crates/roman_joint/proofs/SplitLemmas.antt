@@ -1,6 +1,5 @@
 -- How rows are made and looked up.
-use Rattle.roman_joint.proofs.Common.{◌≡◌, ℕ, zero, suc, ◌+◌, ◌*◌, ◌/◌, ◌%◌, ◌^◌, ◌<◌, cond, List, [], ◌∷◌, length, map, slice_index, inl, inr, refl, sym, ap, ap₂, ◌∙◌, subst, arith, ltb, cases_eq, lt-ltb, le-ltb, mul-add-lt, get_or-set_same, get_or-set_other, length-map, set, IsIn, product_of, Sys, Seat, IsBeh, Sizes, IsPairOf, sizes_of, count, pair_at, part_at, IsPairOf-at, AreSizes, IsSizes, stride_of, env_stride_of, target_stride_of, low_of, lanes_of, row_sizes, env_rows_of, target_rows_of, AreSizes-index, low_of-le, lanes_positive, tails_from, exact, row_div, row_least, row_below, env_rows_are, is_on, NamedSys, system_of, IsNamedSys, lanes_in, low_in, lane_has_state, AreRowsOf, IsRow, ArePermitted, AreLeading, Rows, Row}
-use Rattle.roman_model.proofs.CallerLemmas.{AreBelow-index}
+use Rattle.roman_joint.proofs.Common.{◌≡◌, ℕ, zero, suc, ◌+◌, ◌*◌, ◌/◌, ◌%◌, ◌^◌, ◌<◌, cond, List, [], ◌∷◌, length, map, slice_index, inl, inr, refl, sym, ap, ap₂, ◌∙◌, subst, arith, ltb, cases_eq, lt-ltb, le-ltb, mul-add-lt, get_or-set_same, get_or-set_other, length-map, set, IsIn, product_of, Sys, Seat, IsBeh, Sizes, IsPairOf, sizes_of, count, pair_at, part_at, IsPairOf-at, AreSizes, IsSizes, stride_of, env_stride_of, target_stride_of, low_of, lanes_of, row_sizes, env_rows_of, target_rows_of, AreSizes-index, low_of-le, lanes_positive, tails_from, exact, row_div, row_least, row_below, env_rows_are, is_on, NamedSys, system_of, IsNamedSys, lanes_in, low_in, lane_has_state, AreRowsOf, IsRow, ArePermitted, AreLeading, Rows, Row, AreBelow-index}
 use Rattle.roman_joint.proofs.Rows.{count_fits}
 
 -- the pairs of a joint have numbers of 32 bits

@@ -1,8 +1,6 @@
 -- One step of a walk backwards: the delegations that are left, and the new position.
-use Rattle.roman_joint.proofs.Common.{◌≡◌, ◌⊎◌, ℕ, zero, suc, ◌+◌, ◌<◌, ◌≤◌, Bool, true, false, cond, List, [], ◌∷◌, ◌++◌, length, drop, get_or, Option, None, Some, slice_get, slice_index, slice_set, inl, inr, refl, sym, ap, ◌∙◌, subst, arith, flat_map, cases_lt, drop_more, drop_all, append_assoc, length-map, length-filter, count_by-le-length, HoldsEachOnce, below, Env, Beh, Sys, Seat, Pair, IsSys, IsEnv, IsBeh, has_triple, has_move, env_prev, beh_prev, Delegation, back, sizes_of, count, number, pair_at, numbered, length-below, seat_in, Walk, seat_prev, from_states, from_seat, from_target, from_env, from_action, from_all, goal_of, IsWalk, states_before, left}
-use Rattle.roman_model.proofs.CallerLemmas.{get_or-below}
+use Rattle.roman_joint.proofs.Common.{◌≡◌, ◌⊎◌, ℕ, zero, suc, ◌+◌, ◌<◌, ◌≤◌, Bool, true, false, cond, List, [], ◌∷◌, ◌++◌, length, drop, get_or, Option, None, Some, slice_get, slice_index, slice_set, inl, inr, refl, sym, ap, ◌∙◌, subst, arith, flat_map, cases_lt, drop_more, drop_all, append_assoc, length-map, length-filter, count_by-le-length, HoldsEachOnce, below, Env, Beh, Sys, Seat, Pair, IsSys, IsEnv, IsBeh, has_triple, has_move, env_prev, beh_prev, Delegation, back, sizes_of, count, number, pair_at, numbered, length-below, seat_in, Walk, seat_prev, from_states, from_seat, from_target, from_env, from_action, from_all, goal_of, IsWalk, states_before, left, get_or-below, left_of_seat, left_of_target, left_of_env, left_of_action, left_of_all, WalkGoesOn}
 use Rattle.roman_joint.proofs.BackwardLemmas.{found_backwards}
-use Rattle.roman_joint.specs.Walks.{left_of_seat, left_of_target, left_of_env, left_of_action, left_of_all, WalkGoesOn}
 
 -- joined lists are the first one and the rest
 flat_map-drop : {X Y : Type 0} (f : X → List Y) (xs : List X) (i : ℕ) (d : X) → i < length xs → flat_map f (drop i xs) ≡ f (get_or xs i d) ++ flat_map f (drop (i + 1) xs)

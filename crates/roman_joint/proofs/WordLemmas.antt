@@ -1,10 +1,6 @@
 -- The lanes of words that are combined.
-use Rattle.roman_joint.proofs.Common.{◌≡◌, ℕ, ◌+◌, ◌-◌, ◌*◌, ◌/◌, ◌%◌, ◌^◌, ◌<◌, Bool, true, false, not, ◌&&◌, ◌||◌, List, [], ◌∷◌, length, take, drop, get_or, inl, inr, refl, sym, ap, ◌∙◌, arith, eqb, ltb, bit_and, and-true, bit_at, list_any, cases_lt, lt-ltb, le-ltb, shr_and_one, take_more, is_on, on_and}
-use Rattle.std.proofs.Common.{take_all, length-drop}
-use Rattle.std.proofs.Math.Bool.{or-false, not-not}
-use Rattle.std.proofs.lemmas.Nat.{shr-shr, pow_pos}
-use Rattle.std.proofs.lemmas.Nat.Bits.{bit_at-zero, bit_at_ones, bit_at_ones_above, bit_at_cat_low, bit_at_cat_high, bit_at_above}
-use Rattle.std.proofs.lemmas.List.Folds.{list_any-append}
+use Rattle.roman_joint.proofs.Common.{◌≡◌, ℕ, ◌+◌, ◌-◌, ◌*◌, ◌/◌, ◌%◌, ◌^◌, ◌<◌, Bool, true, false, not, ◌&&◌, ◌||◌, List, [], ◌∷◌, length, take, drop, get_or, inl, inr, refl, sym, ap, ◌∙◌, arith, eqb, ltb, bit_and, and-true, bit_at, list_any, cases_lt, lt-ltb, le-ltb, shr_and_one, take_more, is_on, on_and, length-drop, or-false, not-not, shr-shr, pow_pos, bit_at-zero, bit_at_ones, bit_at_ones_above, bit_at_cat_low, bit_at_cat_high, bit_at_above, list_any-append}
+use Rattle.std.proofs.Common.{take_all}
 pub use Rattle.roman_lanes.proofs.CallerLemmas.{on_set_same, on_set_other}
 
 -- the first lanes

@@ -1,9 +1,5 @@
 -- Loops over a list from its front, some places at a time.
-use Rattle.std.proofs.Common.{◌≡◌, ℕ, ◌+◌, ◌-◌, List, length, take, drop, sum_by, ap, ◌∙◌}
-use Rattle.std.specs.Simd.Lanes.{chunk}
-use Rattle.std.proofs.Math.Seq.{take-add}
-use Rattle.std.proofs.lemmas.List.{take_rest}
-use Rattle.std.proofs.lemmas.List.Sums.{sum_by-append, sum_by-take-drop}
+use Rattle.roman_lanes.proofs.Common.{◌≡◌, ℕ, ◌+◌, ◌-◌, List, length, take, drop, sum_by, ap, ◌∙◌, chunk, take-add, take_rest, sum_by-append, sum_by-take-drop}
 
 -- the count from i on is the count of the block at i plus that of the rest
 pub counted_block : (f : ℕ → ℕ) (xs : List ℕ) (i n : ℕ) → sum_by f (take (i + n) xs) ≡ sum_by f (take i xs) + sum_by f (chunk i n xs)

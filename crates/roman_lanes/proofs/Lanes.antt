@@ -1,9 +1,5 @@
 -- Vectors whose lanes are 0.
-use Rattle.std.proofs.Common.{◌≡◌, ℕ, ◌+◌, ◌-◌, ◌<◌, ◌≤◌, zero, suc, List, [], ◌∷◌, length, get_or, bit_or, refl, ◌∙◌, arith}
-use Rattle.std.specs.Simd.Lanes.{zip2, chunk}
-use Rattle.std.proofs.lemmas.Nat.{le_or_l, le_or_r}
-use Rattle.std.proofs.lemmas.List.{get_or-take, get_or-drop}
-use Rattle.roman_lanes.specs.Words.{AreClear}
+use Rattle.roman_lanes.proofs.Common.{◌≡◌, ℕ, ◌+◌, ◌-◌, ◌<◌, ◌≤◌, zero, suc, List, [], ◌∷◌, length, get_or, bit_or, refl, ◌∙◌, arith, zip2, chunk, le_or_l, le_or_r, get_or-take, get_or-drop, AreClear}
 
 -- where the bitwise or of two numbers is 0, both are 0
 none_of_either : (a b : ℕ) → bit_or a b ≡ 0 → (a ≡ 0) × (b ≡ 0)

@@ -1,3 +1,4 @@
+pub mod Common
 pub mod RowBits
 mod Lanes
 mod Blocks

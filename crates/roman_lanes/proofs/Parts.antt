@@ -1,8 +1,5 @@
 -- Lists of words of which a part is changed.
-use Rattle.std.proofs.Common.{◌≡◌, ℕ, ◌+◌, ◌-◌, ◌<◌, ◌≤◌, List, length, get_or, arith}
-use Rattle.std.specs.Simd.Lanes.{chunk, put_chunk}
-use Rattle.std.proofs.lemmas.Simd.{get_or-chunk, get_or-zip2, length-chunk, length-zip2, get_or-put_chunk_below, get_or-put_chunk_at, get_or-put_chunk_above}
-use Rattle.roman_lanes.specs.Words.{ChangesPart}
+use Rattle.roman_lanes.proofs.Common.{◌≡◌, ℕ, ◌+◌, ◌-◌, ◌<◌, ◌≤◌, List, length, get_or, arith, chunk, put_chunk, get_or-chunk, get_or-zip2, length-chunk, length-zip2, get_or-put_chunk_below, get_or-put_chunk_at, get_or-put_chunk_above, ChangesPart}
 
 -- a vector that is loaded, changed and stored changes the words of its places
 pub changes_block : (makes : ℕ → ℕ → ℕ → Type 0) (n at : ℕ) (words lanes : List ℕ) → at + n ≤ length words → length lanes ≡ n → ((k : ℕ) → k < n → makes (at + k) (get_or (chunk at n words) k 0) (get_or lanes k 0)) → ChangesPart makes at (at + n) words (put_chunk at words lanes)

@@ -1,10 +1,6 @@
 -- The lanes of words that are combined.
-use Rattle.std.proofs.Common.{◌≡◌, ◌≢◌, ◌⊎◌, ℕ, zero, ◌-◌, ◌*◌, ◌/◌, ◌%◌, ◌^◌, ◌<◌, ◌≤◌, min, max, true, false, not, ◌&&◌, ◌||◌, sym, ap, ◌∙◌, arith, eqb, bit_and}
-use Rattle.std.specs.Int.{bit_at, bit_not, w64}
+use Rattle.roman_lanes.proofs.Common.{◌≡◌, ◌≢◌, ◌⊎◌, ℕ, zero, ◌-◌, ◌*◌, ◌/◌, ◌%◌, ◌^◌, ◌<◌, ◌≤◌, min, max, true, false, not, ◌&&◌, ◌||◌, sym, ap, ◌∙◌, arith, eqb, bit_and, bit_at, bit_not, w64, cases_lt, eq-eqb, bit_at_and, bit_at_or, bit_at_not, bit_at-lt, bit_at-zero, bit_at_above, bit_at_ones, bit_at_ones_above, bit_at-pow_same, bit_at-pow_other, bit_at_set_same, bit_at_set_other, bit_at_clear_same, bit_at_clear_other, ones_shr, shr_and_one, is_on}
 use Rattle.std.specs.Prelude.{bit_or}
-use Rattle.std.proofs.lemmas.Bool.{cases_lt, eq-eqb}
-use Rattle.std.proofs.lemmas.Nat.Bits.{bit_at_and, bit_at_or, bit_at_not, bit_at-lt, bit_at-zero, bit_at_above, bit_at_ones, bit_at_ones_above, bit_at-pow_same, bit_at-pow_other, bit_at_set_same, bit_at_set_other, bit_at_clear_same, bit_at_clear_other, ones_shr, shr_and_one}
-use Rattle.roman_lanes.specs.Rows.{is_on}
 
 pub on_zero : (i : ℕ) → is_on zero i ≡ false
 unfolding is_on

@@ -1,10 +1,6 @@
 -- The requests of several targets, and the steps that they stand for.
-use Rattle.roman_laws.proofs.Common.{◌≡◌, ℕ, ◌==◌, ◌&&◌, not, map, length, Some, IsTrue, filter, slice_get, refl, sym, subst, false≢true, and_parts, Beh, has, has_move, Request, Several, all_requests, get_in, any_true, any_from}
-use Rattle.std.proofs.Common.{Option, None, eqb-true}
-use Rattle.std.proofs.lemmas.Bool.{not-true}
-use Rattle.roman_model.specs.Lists.{below, is_empty}
-use Rattle.roman_model.proofs.CallerLemmas.{from_map, from_flat_map, filter_in, not_empty_in, move_passes}
-use Rattle.roman_model.specs.Combined.{stands_in}
+use Rattle.roman_laws.proofs.Common.{◌≡◌, ℕ, ◌==◌, ◌&&◌, not, map, length, Some, IsTrue, filter, slice_get, refl, sym, subst, false≢true, and_parts, Beh, has, has_move, Request, Several, all_requests, get_in, any_true, any_from, Option, None, not-true, below, is_empty, from_map, from_flat_map, filter_in, not_empty_in, move_passes, stands_in}
+use Rattle.std.proofs.Common.{eqb-true}
 
 -- a target that has a step on the action, in the place of a target
 stands_target : (o : Option Beh) (a : ℕ) → IsTrue (stands_in o a) → (target : Beh) × (o ≡ Some target) × ((b : ℕ) × (e : ℕ) × (b' : ℕ) × IsTrue (has_move target b e a b'))

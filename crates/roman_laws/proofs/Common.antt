@@ -1,20 +1,35 @@
--- The names that several proof pages of this crate cite, passed on from one place. Declares nothing.
-pub use Rattle.std.proofs.Common.{Bool, IsFalse, IsTrue, List, Some, [], ap, ap₂, arith, cond, false, filter, inl, inr, length, map, not, refl, remove, slice_get, slice_index, slice_set, subst, suc, sym, true, zero, ℕ, ◌&&◌, ◌++◌, ◌+◌, ◌<◌, ◌==◌, ◌||◌, ◌∙◌, ◌∷◌, ◌≡◌}
-pub use Rattle.std.proofs.lemmas.Bool.{and_from, and_parts, both_ways, cond-false, cond-true, eqb-true, false≢true, not_from_false, or_cases, or_right}
+-- What the proof pages of this crate cite from elsewhere, passed on from one place. Declares nothing.
+pub use Rattle.std.proofs.Common.{Bool, IsFalse, IsTrue, List, None, Option, Some, [], ap, ap₂, arith, codes, cond, false, filter, if◌then◌else◌, inl, inr, length, map, not, refl, remove, slice_get, slice_index, slice_set, subst, suc, sym, true, zero, ℕ, ◌&&◌, ◌++◌, ◌+◌, ◌<◌, ◌==◌, ◌||◌, ◌∙◌, ◌∷◌, ◌≡◌, ◌≢◌, ◌≤◌}
+pub use Rattle.std.proofs.lemmas.Bool.{and_from, and_parts, both_ways, cond-false, cond-true, eq-eqb, eqb-true, false≢true, not-true, not_from_false, or_cases, or_from, or_left, or_parts, or_right}
+pub use Rattle.std.proofs.lemmas.List.{length-map, length-set}
 pub use Rattle.std.proofs.lemmas.Option.{none-some, same_Some, slice_get_within}
+unfoldable pub use Rattle.std.specs.Fmt.{digits}
 pub use Rattle.std.specs.List.{AllZip}
-pub use Rattle.roman_model.proofs.CallerLemmas.{allowed_in, any_from, any_true, by_test, from_allowed, from_append, from_outcome, get_in, great_meets, great_related, in_append_left, in_append_right, left, listed_number, number_listed, offer_is, offers_are, outcome_in, outcome_pair, related_great, related_offers, system_is_same}
-pub use Rattle.roman_model.specs.Arena.{Entry, IsOrder, replay}
-pub use Rattle.roman_model.specs.Change.{Join, after, set_frozen}
-pub use Rattle.roman_model.specs.Combined.{IsSeveral, all_requests, combined}
+pub use Rattle.roman_model.proofs.CallerLemmas.{AreBelow-at, IsPairOf-at, allowed_in, any_from, any_true, by_test, combined_is_all, combined_sstep, combined_system, combined_target_goes, combined_triple, filter_in, fine_from, fine_is, from_allowed, from_append, from_beh_next, from_combined_sstep, from_combined_target, from_combined_triple, from_flat_map, from_map, from_outcome, get_in, great_meets, great_related, great_survives, in_append_left, in_append_right, in_beh_next, in_filter, in_get, in_listed, in_map, in_not_empty, in_pairs, in_requests, join_once, justified_more, last_is_sim, leave_out_same, left, listed_number, listed_unrelated, lost_dead, lost_unrelated, meets_survives, move_passes, new_from_once, new_once, new_same, not_empty_in, not_empty_ne, number-pair_at, number_below, number_listed, offer_is, offers_are, order_new, other_zero, outcome_in, outcome_pair, pair_at-number, related_great, related_offers, renaming_keeps, replay_order, replay_sublist, same_test, states_at-number, states_length, states_number-at, states_number_below, sublist_length, sublist_skip, suc_same, system_is_same, zero_other}
+pub use Rattle.roman_model.specs.Arena.{AreNew, Arena, Entry, IsOrder, IsOrderFrom, depth, is_among, is_justified, loses, replay, replay_from}
+pub use Rattle.roman_model.specs.Certificate.{Form, Greatest, Rejected, Repeated, Unjustified, Unlisted, Verdict, cert_text, cert_verdict}
+pub use Rattle.roman_model.specs.Change.{CanChange, Change, Die, Freeze, Join, Thaw, after, may_go, rename, set_frozen, without}
+pub use Rattle.roman_model.specs.Combined.{IsSeveral, all_requests, combined, combined_seat, couple_all, stands_in, target_sizes}
+pub use Rattle.roman_model.specs.CompleteLists.{AreEntries}
 pub use Rattle.roman_model.specs.Composition.{Couple, Great, GreatCouple, Meets, Serves, couple}
-pub use Rattle.roman_model.specs.Lists.{IsIn}
-pub use Rattle.roman_model.specs.Offers.{is_related, offers}
-pub use Rattle.roman_model.specs.Several.{Several}
-pub use Rattle.roman_model.specs.System.{Beh, Env, IsBeh, IsPair, IsSys, Pair, SStep, Seat, Sys, Triple, all_final, has, has_move, has_triple, is_final}
-pub use Rattle.roman_model.specs.SystemArena.{arena, is_allowed, pairs}
+pub use Rattle.roman_model.specs.Explanation.{Names, explain_text}
+pub use Rattle.roman_model.specs.Lists.{IsIn, IsSublist, below, is_empty}
+pub use Rattle.roman_model.specs.Numbers.{numbered, states_at, states_number}
+pub use Rattle.roman_model.specs.Offers.{choice_count, is_related, offers}
+pub use Rattle.roman_model.specs.Several.{GreatAll, ServesAll, Several}
+pub use Rattle.roman_model.specs.System.{Beh, Env, IsBeh, IsPair, IsSys, Move, Pair, SStep, Seat, Sys, TStep, Triple, all_final, has, has_move, has_triple, is_final}
+pub use Rattle.roman_model.specs.SystemArena.{arena, beh_next, is_allowed, pairs}
 pub use Rattle.roman_model.specs.Without.{freeze_at, leave_out, pair_without, system_without}
+pub use Rattle.roman_model.specs.declared.limits.TheConstants.{MAX_SERVICES}
 pub use Rattle.roman_model.specs.declared.reason.Reason.TheVariants.{Act, Final}
 pub use Rattle.roman_model.specs.declared.request.Request.{Request}
 pub use Rattle.roman_model.specs.declared.way.Way.{Way}
-pub use Rattle.roman_laws.specs.Losing.{ArePart, GreatWithout}
+pub use Rattle.roman_laws.specs.Controllers.{CanGoOn, Controller, ControllersTakeOffers, IsHistory, Realises, Seen, TakesOffers, TakesServers, by_seen, now_at, seen_of, since}
+pub use Rattle.roman_laws.specs.Following.{Choice, FollowingStays, Follows, end_of}
+pub use Rattle.roman_laws.specs.Greatest.{GreatestIsGreatest, OrderRefutes, ReplayKeeps, UnrelatedLoses}
+pub use Rattle.roman_laws.specs.Losing.{ArePart, GreatWithout, IsLeastFailing, LeastFailingSuffice, LosingNeverHelps, MayAllGo, MayGoAt}
+pub use Rattle.roman_laws.specs.Numbers.{ShapesAreNumbered}
+pub use Rattle.roman_laws.specs.Outcomes.{HasStep, OutcomesAreSteps, TestsAreMembership}
+pub use Rattle.roman_laws.specs.Reduced.{ReducedAreSystems}
+pub use Rattle.roman_laws.specs.Repairs.{RepairsKeepTheMost, ReplaysKeepTheMost}
+pub use Rattle.roman_laws.specs.Requests.{IsMoveOf, IsRequestOf, RequestsOfTargets, TargetAllows, TurnsOfTargets}

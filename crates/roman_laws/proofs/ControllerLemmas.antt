@@ -1,10 +1,5 @@
 -- The controllers that realise the target are those that take offers.
-use Rattle.roman_laws.proofs.Common.{◌≡◌, ℕ, suc, ◌+◌, List, [], ◌∷◌, map, length, IsTrue, slice_index, inl, refl, sym, ap, ◌∙◌, subst, arith, cond-true, cond-false, slice_get_within, IsIn, Sys, Pair, has, has_move, IsSys, IsPair, is_allowed, Couple, couple, Serves, Meets, GreatCouple, Great, by_test, outcome_in, from_outcome, outcome_pair, allowed_in, from_allowed, number_listed, listed_number, offers_are, offer_is, related_offers, great_meets, offers}
-use Rattle.std.proofs.Common.{◌≢◌, if◌then◌else◌}
-use Rattle.roman_model.proofs.CallerLemmas.{in_not_empty, not_empty_ne, in_beh_next, from_beh_next}
-use Rattle.roman_model.specs.SystemArena.{beh_next}
-use Rattle.roman_laws.specs.Following.{Choice, Follows, end_of}
-use Rattle.roman_laws.specs.Controllers.{Controller, now_at, IsHistory, CanGoOn, Realises, TakesOffers, TakesServers, Seen, seen_of, by_seen, since, ControllersTakeOffers}
+use Rattle.roman_laws.proofs.Common.{◌≡◌, ℕ, suc, ◌+◌, List, [], ◌∷◌, map, length, IsTrue, slice_index, inl, refl, sym, ap, ◌∙◌, subst, arith, cond-true, cond-false, slice_get_within, IsIn, Sys, Pair, has, has_move, IsSys, IsPair, is_allowed, Couple, couple, Serves, Meets, GreatCouple, Great, by_test, outcome_in, from_outcome, outcome_pair, allowed_in, from_allowed, number_listed, listed_number, offers_are, offer_is, related_offers, great_meets, offers, ◌≢◌, if◌then◌else◌, in_not_empty, not_empty_ne, in_beh_next, from_beh_next, beh_next, Choice, Follows, end_of, Controller, now_at, IsHistory, CanGoOn, Realises, TakesOffers, TakesServers, Seen, seen_of, by_seen, since, ControllersTakeOffers}
 use Rattle.roman_laws.proofs.SimulationLemmas.{closed_great}
 
 -- A history continues by the choices of its controller.

@@ -1,8 +1,6 @@
 -- Seats that leave one after the other.
-use Rattle.roman_laws.proofs.Common.{◌≡◌, ℕ, zero, suc, ◌==◌, Bool, true, false, cond, not, ◌||◌, List, [], ◌∷◌, ◌++◌, Some, IsTrue, IsFalse, slice_get, slice_index, remove, refl, sym, ap, ap₂, ◌∙◌, subst, inl, inr, arith, both_ways, eqb-true, or_right, or_cases, none-some, IsIn, Sys, Pair, has, IsSys, IsPair, is_final, Great, leave_out, system_without, pair_without, by_test, in_append_left, in_append_right, from_append, number_listed, listed_number, left, GreatWithout, ArePart}
+use Rattle.roman_laws.proofs.Common.{◌≡◌, ℕ, zero, suc, ◌==◌, Bool, true, false, cond, not, ◌||◌, List, [], ◌∷◌, ◌++◌, Some, IsTrue, IsFalse, slice_get, slice_index, remove, refl, sym, ap, ap₂, ◌∙◌, subst, inl, inr, arith, both_ways, eqb-true, or_right, or_cases, none-some, IsIn, Sys, Pair, has, IsSys, IsPair, is_final, Great, leave_out, system_without, pair_without, by_test, in_append_left, in_append_right, from_append, number_listed, listed_number, left, GreatWithout, ArePart, leave_out_same, other_zero, suc_same, zero_other, same_test, MayGoAt}
 use Rattle.roman_model.specs.declared.way.Way.TheVariants as way
-use Rattle.roman_model.proofs.CallerLemmas.{leave_out_same, other_zero, suc_same, zero_other, same_test}
-use Rattle.roman_laws.specs.Losing.{MayGoAt}
 use Rattle.roman_laws.proofs.ReducedLemmas.{IsSys-reduced, IsPair-reduced}
 use Rattle.roman_laws.proofs.LosingLemmas.{great_with_gone}
 

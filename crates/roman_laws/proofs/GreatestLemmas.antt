@@ -1,12 +1,6 @@
 -- The related pairs are the greatest ND-simulation. No listed pair is related, depth is bounded, a replay keeps the most entries, and runs
 -- that follow the offers stay at related pairs.
-use Rattle.roman_laws.proofs.Common.{List, [], ◌∷◌, map, IsTrue, filter, inl, inr, sym, subst, arith, cond-true, cond-false, or_cases, or_right, not_from_false, Entry, IsOrder, replay, couple, is_related, pairs, arena, by_test, outcome_pair, system_is_same, great_meets, great_related, related_great, offer_is, related_offers}
-use Rattle.roman_model.specs.Lists.{IsSublist}
-use Rattle.std.proofs.lemmas.Bool.{or_left}
-use Rattle.roman_model.specs.Arena.{Arena, is_among, is_justified, IsOrderFrom, replay_from}
-use Rattle.roman_model.proofs.CallerLemmas.{in_map, in_filter, sublist_skip, in_pairs, in_listed, justified_more, replay_order, great_survives, last_is_sim, lost_unrelated, listed_unrelated}
-use Rattle.roman_laws.specs.Greatest.{GreatestIsGreatest, OrderRefutes, UnrelatedLoses, ReplayKeeps}
-use Rattle.roman_laws.specs.Following.{FollowingStays}
+use Rattle.roman_laws.proofs.Common.{List, [], ◌∷◌, map, IsTrue, filter, inl, inr, sym, subst, arith, cond-true, cond-false, or_cases, or_right, not_from_false, Entry, IsOrder, replay, couple, is_related, pairs, arena, by_test, outcome_pair, system_is_same, great_meets, great_related, related_great, offer_is, related_offers, IsSublist, or_left, Arena, is_among, is_justified, IsOrderFrom, replay_from, in_map, in_filter, sublist_skip, in_pairs, in_listed, justified_more, replay_order, great_survives, last_is_sim, lost_unrelated, listed_unrelated, GreatestIsGreatest, OrderRefutes, UnrelatedLoses, ReplayKeeps, FollowingStays}
 
 -- The related pairs are the greatest ND-simulation.
 pub greatest_is : GreatestIsGreatest

@@ -1,10 +1,6 @@
 -- A pair that is related with more seats frozen is related with fewer, and a pair that is related without a seat that may go is related with it.
-use Rattle.roman_laws.proofs.Common.{◌≡◌, ℕ, zero, suc, ◌<◌, Bool, true, not, ◌&&◌, ◌||◌, List, [], ◌∷◌, length, Some, IsTrue, IsFalse, slice_get, slice_index, slice_set, remove, refl, sym, ap, ap₂, ◌∙◌, subst, arith, none-some, same_Some, slice_get_within, IsIn, Beh, Seat, Sys, Pair, has, has_move, IsSys, IsPair, SStep, is_final, all_final, Couple, Meets, GreatCouple, Great, set_frozen, freeze_at, by_test, number_listed, listed_number, left, great_meets, GreatWithout, ArePart}
-use Rattle.std.proofs.lemmas.Bool.{or_parts, or_from}
-use Rattle.std.proofs.lemmas.List.{length-set}
-use Rattle.roman_model.specs.Change.{without, may_go}
+use Rattle.roman_laws.proofs.Common.{◌≡◌, ℕ, zero, suc, ◌<◌, Bool, true, not, ◌&&◌, ◌||◌, List, [], ◌∷◌, length, Some, IsTrue, IsFalse, slice_get, slice_index, slice_set, remove, refl, sym, ap, ap₂, ◌∙◌, subst, arith, none-some, same_Some, slice_get_within, IsIn, Beh, Seat, Sys, Pair, has, has_move, IsSys, IsPair, SStep, is_final, all_final, Couple, Meets, GreatCouple, Great, set_frozen, freeze_at, by_test, number_listed, listed_number, left, great_meets, GreatWithout, ArePart, or_parts, or_from, length-set, without, may_go, states_length}
 use Rattle.roman_model.specs.declared.way.Way.TheVariants as way
-use Rattle.roman_model.proofs.CallerLemmas.{states_length}
 use Rattle.roman_laws.proofs.SimulationLemmas.{closed_great}
 use Rattle.roman_laws.proofs.PlaceLemmas.{place_before, get_removed, index_removed, set_removed, index_other_set, final_with}
 

@@ -1,8 +1,5 @@
 -- The tests and lists of a system agree with its steps.
-use Rattle.roman_laws.proofs.Common.{◌≡◌, ℕ, zero, suc, ◌==◌, ◌&&◌, ◌||◌, not, ◌<◌, Bool, true, false, List, [], ◌∷◌, Some, IsTrue, slice_get, slice_index, refl, subst, arith, eqb-true, and_parts, and_from, AllZip, IsIn, Triple, Env, Beh, Seat, has_triple, has_move, is_final, all_final, any_true, any_from, number_listed, listed_number, outcome_in, from_outcome, allowed_in, from_allowed}
-use Rattle.std.proofs.lemmas.Bool.{eq-eqb}
-use Rattle.roman_model.proofs.CallerLemmas.{fine_is, fine_from}
-use Rattle.roman_laws.specs.Outcomes.{HasStep, OutcomesAreSteps, TestsAreMembership}
+use Rattle.roman_laws.proofs.Common.{◌≡◌, ℕ, zero, suc, ◌==◌, ◌&&◌, ◌||◌, not, ◌<◌, Bool, true, false, List, [], ◌∷◌, Some, IsTrue, slice_get, slice_index, refl, subst, arith, eqb-true, and_parts, and_from, AllZip, IsIn, Triple, Env, Beh, Seat, has_triple, has_move, is_final, all_final, any_true, any_from, number_listed, listed_number, outcome_in, from_outcome, allowed_in, from_allowed, eq-eqb, fine_is, fine_from, HasStep, OutcomesAreSteps, TestsAreMembership}
 
 -- Membership
 

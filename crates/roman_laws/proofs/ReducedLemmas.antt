@@ -1,9 +1,6 @@
 -- A system without some of its seats, and its pairs.
-use Rattle.roman_laws.proofs.Common.{◌≡◌, ℕ, suc, ◌<◌, Bool, true, false, cond, List, [], ◌∷◌, length, refl, sym, ap, subst, inl, inr, arith, AllZip, IsIn, Seat, Sys, Pair, has, IsSys, IsPair, IsBeh, leave_out, freeze_at, system_without, pair_without, Way, related_great, great_related}
-use Rattle.std.proofs.Common.{◌≤◌}
-use Rattle.roman_model.specs.declared.limits.TheConstants.{MAX_SERVICES}
+use Rattle.roman_laws.proofs.Common.{◌≡◌, ℕ, suc, ◌<◌, Bool, true, false, cond, List, [], ◌∷◌, length, refl, sym, ap, subst, inl, inr, arith, AllZip, IsIn, Seat, Sys, Pair, has, IsSys, IsPair, IsBeh, leave_out, freeze_at, system_without, pair_without, Way, related_great, great_related, ◌≤◌, MAX_SERVICES, ReducedAreSystems}
 use Rattle.roman_model.specs.declared.way.Way.TheVariants as way
-use Rattle.roman_laws.specs.Reduced.{ReducedAreSystems}
 
 pub leave_out_in : {X : Type 0} (at : ℕ → Bool) (xs : List X) (x : X) → IsIn x (leave_out at xs) → IsIn x xs
 leave_out_in at [] x i = absurd i

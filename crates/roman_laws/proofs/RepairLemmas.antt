@@ -1,10 +1,5 @@
 -- The renamed list of a change has distinct pairs, so its replay keeps the most.
-use Rattle.roman_laws.proofs.Common.{List, [], subst, arith, Sys, Pair, IsSys, arena, after, Join, Entry, IsOrder, replay, system_is_same}
-use Rattle.roman_model.specs.Change.{rename, Change, Freeze, Thaw, Die, CanChange}
-use Rattle.roman_model.specs.Arena.{AreNew}
-use Rattle.roman_model.specs.CompleteLists.{AreEntries}
-use Rattle.roman_model.proofs.CallerLemmas.{sublist_length, join_once, new_from_once, new_once, new_same, order_new, renaming_keeps, replay_sublist}
-use Rattle.roman_laws.specs.Repairs.{RepairsKeepTheMost, ReplaysKeepTheMost}
+use Rattle.roman_laws.proofs.Common.{List, [], subst, arith, Sys, Pair, IsSys, arena, after, Join, Entry, IsOrder, replay, system_is_same, rename, Change, Freeze, Thaw, Die, CanChange, AreNew, AreEntries, sublist_length, join_once, new_from_once, new_once, new_same, order_new, renaming_keeps, replay_sublist, RepairsKeepTheMost, ReplaysKeepTheMost}
 use Rattle.roman_laws.proofs.GreatestLemmas.{replay_kept}
 
 -- a renamed removal list has distinct pairs

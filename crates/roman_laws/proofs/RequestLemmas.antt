@@ -1,12 +1,5 @@
 -- The system that combines several targets allows the requests of its targets, and offers the seats that serve all of them.
-use Rattle.roman_laws.proofs.Common.{◌≡◌, ℕ, ◌<◌, List, length, Some, IsTrue, slice_get, slice_index, slice_set, sym, ap, ◌∙◌, subst, same_Some, Beh, Pair, has_move, SStep, IsPair, has_triple, is_allowed, couple, Serves, GreatCouple, Several, all_requests, combined, IsSeveral, Request, get_in, allowed_in, from_allowed, outcome_in, outcome_pair, offers_are}
-use Rattle.std.proofs.lemmas.List.{length-map}
-use Rattle.roman_model.specs.System.{TStep}
-use Rattle.roman_model.specs.Numbers.{states_number, states_at}
-use Rattle.roman_model.specs.Several.{ServesAll, GreatAll}
-use Rattle.roman_model.specs.Combined.{target_sizes, combined_seat, couple_all}
-use Rattle.roman_model.proofs.CallerLemmas.{in_get, from_combined_target, combined_target_goes, combined_is_all, combined_system, in_requests, from_combined_triple, combined_triple, from_combined_sstep, combined_sstep}
-use Rattle.roman_laws.specs.Requests.{TargetAllows, IsRequestOf, RequestsOfTargets, IsMoveOf, TurnsOfTargets}
+use Rattle.roman_laws.proofs.Common.{◌≡◌, ℕ, ◌<◌, List, length, Some, IsTrue, slice_get, slice_index, slice_set, sym, ap, ◌∙◌, subst, same_Some, Beh, Pair, has_move, SStep, IsPair, has_triple, is_allowed, couple, Serves, GreatCouple, Several, all_requests, combined, IsSeveral, Request, get_in, allowed_in, from_allowed, outcome_in, outcome_pair, offers_are, length-map, TStep, states_number, states_at, ServesAll, GreatAll, target_sizes, combined_seat, couple_all, in_get, from_combined_target, combined_target_goes, combined_is_all, combined_system, in_requests, from_combined_triple, combined_triple, from_combined_sstep, combined_sstep, TargetAllows, IsRequestOf, RequestsOfTargets, IsMoveOf, TurnsOfTargets}
 
 -- the states of the targets in a combined state
 abbrev pub targets_at : Several → ℕ → List ℕ

@@ -1,10 +1,5 @@
 -- The definitions of certificates and explanations, computed for one small system.
-use Rattle.roman_laws.proofs.Common.{◌≡◌, ℕ, false, List, [], ◌∷◌, ◌++◌, length, refl, Pair, Entry, Final, Act}
-use Rattle.std.proofs.Common.{codes}
-use Rattle.std.specs.Fmt.{digits}
-use Rattle.roman_model.specs.Numbers.{numbered}
-use Rattle.roman_model.specs.Certificate.{Verdict, Form, Repeated, Unjustified, Unlisted, Greatest, Rejected, cert_text, cert_verdict}
-use Rattle.roman_model.specs.Explanation.{Names, explain_text}
+use Rattle.roman_laws.proofs.Common.{◌≡◌, ℕ, false, List, [], ◌∷◌, ◌++◌, length, refl, Pair, Entry, Final, Act, codes, digits, numbered, Verdict, Form, Repeated, Unjustified, Unlisted, Greatest, Rejected, cert_text, cert_verdict, Names, explain_text}
 use Rattle.roman_laws.proofs.Examples.{flaky_system, pair_of}
 
 abbrev order : List (Entry ℕ)

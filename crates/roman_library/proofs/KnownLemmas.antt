@@ -1,21 +1,7 @@
 -- Each accepted document means a well-formed library.
-use Rattle.roman_library.proofs.Common.{◌≡◌, Bool, cond, All, ℕ, ◌+◌, ◌<◌, ◌≤◌, List, [], ◌∷◌, ◌++◌, map, length, Option, Some, None, IfSome, slice_get, Result, Ok, Err, refl, sym, ap, ◌∙◌, subst, arith, length-append, All-push, Data, Texts, MAX_BEHAVIOURS, MAX_CELLS, ◌>>=◌, each_item, place_of, same_ok, bind_ok, NamedEnv, NamedBeh, NamedTarget, IsBehaviour, IsTarget, name_of, target_of, PartError, behaviour_known, target_known, PartAt, ReadAfter, value_at, limit_of, version_of, listed_in, listed_step, environment_in, catalogue_in, targets_in, combined_of, parts_in, service_of, service_step, services_of, library_in, library_of, PlainCombined, target_name, forbidding, combined_parts, Named, PlainLibrary, ArePartsOf, IsService, IsCatalogue, AreServices, behaviour_name, service_name, placed, Service, Part}
-use Rattle.std.proofs.Common.{◌==◌, true, false, codes}
-use Rattle.std.proofs.lemmas.Bool.{and_parts}
-use Rattle.std.proofs.lemmas.List.Elements.{All-get_or}
-use Rattle.std.proofs.lemmas.Option.{get_or_from_slice_get, slice_get_within}
-use Rattle.serde_json.specs.Data.{Items, no_items, item}
-use Rattle.serde_json.specs.Events.{items_len}
-use Rattle.roman_model.specs.declared.limits.TheConstants.{MAX_SERVICES}
-use Rattle.roman_read.specs.Json.{member_of}
+use Rattle.roman_library.proofs.Common.{◌≡◌, Bool, cond, All, ℕ, ◌+◌, ◌<◌, ◌≤◌, List, [], ◌∷◌, ◌++◌, map, length, Option, Some, None, IfSome, slice_get, Result, Ok, Err, refl, sym, ap, ◌∙◌, subst, arith, length-append, All-push, Data, Texts, MAX_BEHAVIOURS, MAX_CELLS, ◌>>=◌, each_item, place_of, same_ok, bind_ok, NamedEnv, NamedBeh, NamedTarget, IsBehaviour, IsTarget, name_of, target_of, PartError, behaviour_known, target_known, PartAt, ReadAfter, value_at, limit_of, version_of, listed_in, listed_step, environment_in, catalogue_in, targets_in, combined_of, parts_in, service_of, service_step, services_of, library_in, library_of, PlainCombined, target_name, forbidding, combined_parts, Named, PlainLibrary, ArePartsOf, IsService, IsCatalogue, AreServices, behaviour_name, service_name, placed, Service, Part, ◌==◌, true, false, codes, and_parts, All-get_or, get_or_from_slice_get, slice_get_within, Items, no_items, item, items_len, MAX_SERVICES, member_of, environment_of, looked, found, counted_items, IsOver-start, check_is, found_is, none_is, counted_are, place_below, IsEnvironment, environment_known, part_of, limit_in, new_name_of, new_behaviour_of, target_in, named_target_of, behaviour_place, state_of, frozen_of, rests_of, IsKnownLibrary, LibrariesAreKnown, request_count}
 use Rattle.roman_read.specs.declared.rules.Kind.TheVariants as kind
-use Rattle.roman_parts.specs.Parts.{environment_of}
-use Rattle.roman_parts.specs.Reading.{looked, found, counted_items}
 use Rattle.roman_parts.specs.declared.error.List.TheVariants as list
-use Rattle.roman_parts.proofs.CallerLemmas.{IsOver-start, check_is, found_is, none_is, counted_are, place_below, IsEnvironment, environment_known}
-use Rattle.roman_library.specs.Documents.{part_of, limit_in, new_name_of, new_behaviour_of, target_in, named_target_of, behaviour_place, state_of, frozen_of, rests_of}
-use Rattle.roman_library.specs.Known.{IsKnownLibrary, LibrariesAreKnown}
-use Rattle.roman_multi.proofs.CallerLemmas.{request_count}
 use Rattle.roman_library.proofs.TargetLemmas.{combined_parts_known}
 use Rattle.roman_library.specs.declared.refusal.Part.TheVariants as part
 use Rattle.roman_library.proofs.LibraryLemmas.{no_behaviours, IsCatalogue-push, AreServices-push}

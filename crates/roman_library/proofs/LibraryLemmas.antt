@@ -1,9 +1,5 @@
 -- Properties of the parts of a library.
-use Rattle.roman_library.proofs.Common.{◌≡◌, ℕ, List, [], ◌∷◌, ◌++◌, map, None, Ok, sym, ◌∙◌, arith, All-push, Data, HasNoRepeats, place_of, NamedEnv, NamedBeh, NamedTarget, IsBehaviour, same_ok, behaviour_known, target_known, name_of, target_of, IsCatalogue, IsService, AreServices, behaviour_name, service_name, Service}
-use Rattle.std.proofs.lemmas.List.{map_push}
-use Rattle.roman_model.proofs.CallerLemmas.{HasNoRepeats-push}
-use Rattle.roman_parts.proofs.CallerLemmas.{none_absent}
-use Rattle.roman_parts.specs.Parts.{behaviour_of}
+use Rattle.roman_library.proofs.Common.{◌≡◌, ℕ, List, [], ◌∷◌, ◌++◌, map, None, Ok, sym, ◌∙◌, arith, All-push, Data, HasNoRepeats, place_of, NamedEnv, NamedBeh, NamedTarget, IsBehaviour, same_ok, behaviour_known, target_known, name_of, target_of, IsCatalogue, IsService, AreServices, behaviour_name, service_name, Service, map_push, HasNoRepeats-push, none_absent, behaviour_of}
 
 -- a behaviour that was read is over the environment over which it was read
 pub behaviour_is_over : (env : NamedEnv) (d : Data) (b : NamedBeh) → behaviour_of env d ≡ Ok b → (b.env_states ≡ env.env.states) × (b.actions ≡ env.env.actions)

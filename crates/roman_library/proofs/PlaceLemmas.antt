@@ -1,7 +1,5 @@
 -- Places of names in lists of named items.
-use Rattle.roman_library.proofs.Common.{◌≡◌, ◌+◌, ℕ, List, [], ◌∷◌, map, Bool, cond, ap, refl, length-map, bytes_eq, place_of}
-use Rattle.std.proofs.Common.{not}
-use Rattle.std.specs.List.{position, prefix_len}
+use Rattle.roman_library.proofs.Common.{◌≡◌, ◌+◌, ℕ, List, [], ◌∷◌, map, Bool, cond, ap, refl, length-map, bytes_eq, place_of, not, position, prefix_len}
 
 prefix_len-map : {X Y : Type 0} (f : X → Y) (p : Y → Bool) (xs : List X) → prefix_len p (map f xs) ≡ prefix_len (λ x. p (f x)) xs
 prefix_len-map f p [] = refl

@@ -1,9 +1,7 @@
 -- Parts with their documents, and the refusals that stop the reading of a document.
-use Rattle.roman_library.proofs.Common.{◌≡◌, ℕ, List, Option, Some, None, IfSome, Result, Ok, Err, ap, sym, subst, Data, Texts, ◌>>=◌, NamedEnv, NamedBeh, Gives, PartError, Named, Combined, version_of, limit_of, environment_in, catalogue_in, services_of, targets_in, combined_of, parts_in, library_in, Stops, placed, Service, LoadError, Part, Refusal}
-use Rattle.std.proofs.Common.{IfOk}
+use Rattle.roman_library.proofs.Common.{◌≡◌, ℕ, List, Option, Some, None, IfSome, Result, Ok, Err, ap, sym, subst, Data, Texts, ◌>>=◌, NamedEnv, NamedBeh, Gives, PartError, Named, Combined, version_of, limit_of, environment_in, catalogue_in, services_of, targets_in, combined_of, parts_in, library_in, Stops, placed, Service, LoadError, Part, Refusal, IfOk, Places, Loads}
 use Rattle.roman_parts.specs.declared.error.PartError.TheVariants as part_error
 use Rattle.roman_multi.specs.Combining as combining
-use Rattle.roman_library.specs.Refusals.{Places, Loads}
 use Rattle.roman_library.specs.declared.refusal.LoadError.TheVariants as error
 use Rattle.roman_library.specs.declared.refusal.Part.TheVariants as part
 

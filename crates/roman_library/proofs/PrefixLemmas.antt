@@ -1,9 +1,5 @@
 -- The growth of the prefix of a text.
-use Rattle.roman_library.proofs.Common.{◌≡◌, ℕ, ◌+◌, ◌≤◌, List, ◌++◌, length, sym, ◌∙◌, ap, subst, length-append, Option, None, Some, IfSome, Texts, shelf_text}
-use Rattle.std.proofs.Common.{take, drop}
-use Rattle.std.proofs.lemmas.List.{take-append-drop, length-take-le}
-use Rattle.std.proofs.Math.Seq.{take-append-add}
-use Rattle.roman_io.specs.Shelf.{Fetches}
+use Rattle.roman_library.proofs.Common.{◌≡◌, ℕ, ◌+◌, ◌≤◌, List, ◌++◌, length, sym, ◌∙◌, ap, subst, length-append, Option, None, Some, IfSome, Texts, shelf_text, take, drop, take-append-drop, length-take-le, take-append-add, Fetches}
 
 -- the bytes are a prefix of the text
 pub record IsPrefix (bytes text : List ℕ) : Type 0 where

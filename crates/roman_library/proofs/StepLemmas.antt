@@ -1,8 +1,5 @@
 -- Loops over the parts and the services of a document.
-use Rattle.roman_library.proofs.Common.{◌≡◌, ℕ, ◌+◌, ◌<◌, ◌≤◌, List, [], ◌∷◌, ◌++◌, length, get_or, Option, Some, None, IfSome, Result, Ok, Data, view, Texts, each_item, NamedEnv, NamedBeh, PartAt, ReadAfter, listed_in, listed_step, service_of, service_step, Stops, placed, Service, LoadError, Refusal}
-use Rattle.serde_json.specs.View.{items_view}
-use Rattle.serde_json.specs.declared.value.Value.{Value}
-use Rattle.roman_read.proofs.CallerLemmas.{IsLeft, goes_on, ends, is_done}
+use Rattle.roman_library.proofs.Common.{◌≡◌, ℕ, ◌+◌, ◌<◌, ◌≤◌, List, [], ◌∷◌, ◌++◌, length, get_or, Option, Some, None, IfSome, Result, Ok, Data, view, Texts, each_item, NamedEnv, NamedBeh, PartAt, ReadAfter, listed_in, listed_step, service_of, service_step, Stops, placed, Service, LoadError, Refusal, items_view, Value, IsLeft, goes_on, ends, is_done}
 use Rattle.roman_library.specs.declared.refusal.LoadError.TheVariants as error
 use Rattle.roman_library.specs.declared.refusal.Part.TheVariants as part
 

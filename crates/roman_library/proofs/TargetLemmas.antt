@@ -1,16 +1,7 @@
 -- Several targets of a document, and the parts made from them.
-use Rattle.roman_library.proofs.Common.{◌≡◌, ◌<◌, List, [], ◌∷◌, map, length, get_or, All, IfSome, Option, Some, None, Ok, Err, slice_get, refl, sym, ap, subst, length-map, HasNoRepeats, NamedEnv, NamedBeh, IsBehaviour, IsTarget, Gives, combined_parts, forbidding, Named, Combined, combined_of, ArePartsOf, IsCatalogue, IsService, AreServices, behaviour_name, Service}
-use Rattle.roman_multi.specs.declared.error.CombineError.{CombineError}
-use Rattle.std.proofs.lemmas.List.{get_or-map}
-use Rattle.std.proofs.lemmas.Option.{slice_get-map}
-use Rattle.std.specs.Option.{option_map}
-use Rattle.roman_model.specs.System.{IsEnv}
-use Rattle.roman_model.specs.declared.request.Request.{Request}
+use Rattle.roman_library.proofs.Common.{◌≡◌, ◌<◌, List, [], ◌∷◌, map, length, get_or, All, IfSome, Option, Some, None, Ok, Err, slice_get, refl, sym, ap, subst, length-map, HasNoRepeats, NamedEnv, NamedBeh, IsBehaviour, IsTarget, Gives, combined_parts, forbidding, Named, Combined, combined_of, ArePartsOf, IsCatalogue, IsService, AreServices, behaviour_name, Service, CombineError, get_or-map, slice_get-map, option_map, IsEnv, Request, KeepsRules, combined_behaviour, requests_in, state_count, combined_behaviour_over, combined_is_system, combined_target_over, broken_rule}
 use Rattle.roman_multi.specs.Combining as combining
-use Rattle.roman_multi.specs.Combining.{KeepsRules, combined_behaviour, requests_in}
 use Rattle.roman_multi.specs.declared.error.CombineError.TheVariants as error
-use Rattle.roman_multi.proofs.CallerLemmas.{state_count, combined_behaviour_over, combined_is_system, combined_target_over}
-use Rattle.roman_library.specs.Documents.{broken_rule}
 
 -- the combined parts, or the refusal of the combination
 pub made_gives : (env : NamedEnv) (catalogue : List NamedBeh) (targets : List Named) (made : Combined) → combining.plain_combined made ≡ combined_parts env catalogue targets → forbidding env targets ≡ None →

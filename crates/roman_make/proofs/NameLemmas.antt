@@ -1,10 +1,5 @@
 -- Words that are numbered as names, one by one.
-use Rattle.std.proofs.Common.{◌≡◌, ℕ, ◌+◌, ◌<◌, ◌++◌, ◌∷◌, [], List, length, get_or, take, drop, map, None, IsTrue, Bor, refl, ap, sym, ◌∙◌, subst, add-one, drop-cons, arith}
-use Rattle.std.proofs.lemmas.Bool.{and_parts}
-use Rattle.std.proofs.lemmas.List.{take_more, get_or-map, length-map, length_push}
-use Rattle.roman_read.specs.Names.{is_name, place_of}
-use Rattle.roman_parts.proofs.CallerLemmas.{none_is}
-use Rattle.roman_make.specs.Names.{are_new}
+use Rattle.roman_make.proofs.Common.{◌≡◌, ℕ, ◌+◌, ◌<◌, ◌++◌, ◌∷◌, [], List, length, get_or, take, drop, map, None, IsTrue, Bor, refl, ap, sym, ◌∙◌, subst, add-one, drop-cons, arith, and_parts, take_more, get_or-map, length-map, length_push, is_name, place_of, none_is, are_new}
 
 -- the word is a name and differs from each word before it, and the words after it are new too
 pub record IsNext (before : List (List ℕ)) (word : List ℕ) (rest : List (List ℕ)) : Type 0 where

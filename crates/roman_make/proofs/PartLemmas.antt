@@ -1,20 +1,6 @@
 -- The parts that are made are the parts of the definitions.
-use Rattle.std.proofs.Common.{◌≡◌, ℕ, ◌<◌, ◌==◌, ◌&&◌, ◌∷◌, [], List, length, get_or, map, take, Bor, Bool, true, IsTrue, nat_lt, codes, refl, ap, sym, ◌∙◌, subst, inl, inr, arith}
-use Rattle.std.specs.List.{list_all, AllByRecursion as ByRecursion}
-use Rattle.std.proofs.lemmas.Bool.{and_parts, eqb-true, ltb-true}
-use Rattle.std.proofs.lemmas.List.Elements.{All-from_recursion}
-use Rattle.std.proofs.lemmas.List.{take-map}
-use Rattle.std.proofs.lemmas.Simd.{map-map}
-use Rattle.roman_guard.specs.Meaning.{states_below}
-use Rattle.roman_model.specs.Lists.{IsIn}
-use Rattle.roman_model.specs.Normal.{normal_env, normal_beh}
-use Rattle.roman_model.specs.System.{Beh, Move, has_move, IsDeterministic}
-use Rattle.roman_model.proofs.CallerLemmas.{any_true, move_test}
-use Rattle.roman_parts.proofs.CallerLemmas.{from_normal_move}
-use Rattle.roman_parts.specs.Listed.{listed_env, listed_beh, AreMoves}
-use Rattle.roman_parts.specs.Named.{NamedEnv, NamedBeh, NamedTarget}
-use Rattle.roman_make.specs.Made.{idle_worker, floor, floor_states, floor_actions, worker, worker_states, shift, shift_states}
-use Rattle.roman_make.specs.declared.tables.TheConstants.{FLOOR_STEPS, WORKER_STEPS, SHIFT_STEPS}
+use Rattle.roman_make.proofs.Common.{◌≡◌, ℕ, ◌<◌, ◌==◌, ◌&&◌, ◌∷◌, [], List, list_all, length, get_or, map, take, Bor, Bool, true, IsTrue, nat_lt, codes, refl, ap, sym, ◌∙◌, subst, inl, inr, arith, and_parts, eqb-true, ltb-true, All-from_recursion, take-map, map-map, states_below, IsIn, normal_env, normal_beh, Beh, Move, has_move, IsDeterministic, any_true, move_test, from_normal_move, listed_env, listed_beh, AreMoves, NamedEnv, NamedBeh, NamedTarget, idle_worker, floor, floor_states, floor_actions, worker, worker_states, shift, shift_states, FLOOR_STEPS, WORKER_STEPS, SHIFT_STEPS}
+use Rattle.std.specs.List.{AllByRecursion as ByRecursion}
 
 -- ---- the environment
 

@@ -1,14 +1,5 @@
 -- The library that is made is the library of the definition, and is well formed.
-use Rattle.std.proofs.Common.{◌≡◌, ℕ, zero, suc, ◌≤◌, ◌∷◌, [], List, length, map, take, inl, inr, lit<, lit≤, arith}
-use Rattle.std.proofs.lemmas.List.{length-map, length-take-le}
-use Rattle.std.proofs.lemmas.List.Elements.{All-cons, All-map}
-use Rattle.std.proofs.lemmas.Simd.{map-map}
-use Rattle.roman_model.specs.Lists.{IsIn, HasNoRepeats}
-use Rattle.roman_model.specs.System.{IsEnv}
-use Rattle.roman_model.proofs.CallerLemmas.{HasNoRepeats-below, HasNoRepeats-map, in_map}
-use Rattle.roman_parts.specs.Named.{NamedEnv, NamedBeh, NamedTarget, IsBehaviour, IsTarget}
-use Rattle.roman_library.specs.Library.{PlainLibrary, IsLibrary, AreServices, IsService, service_name}
-use Rattle.roman_make.specs.Made.{number_in, floor, worker, worker_names, idle_worker, shift, made}
+use Rattle.roman_make.proofs.Common.{◌≡◌, ℕ, zero, suc, ◌≤◌, ◌∷◌, [], List, length, map, take, inl, inr, lit<, lit≤, arith, length-map, length-take-le, All-cons, All-map, map-map, IsIn, HasNoRepeats, IsEnv, HasNoRepeats-below, HasNoRepeats-map, in_map, NamedEnv, NamedBeh, NamedTarget, IsBehaviour, IsTarget, PlainLibrary, IsLibrary, AreServices, IsService, service_name, number_in, floor, worker, worker_names, idle_worker, shift, made}
 
 -- ---- distinct names
 

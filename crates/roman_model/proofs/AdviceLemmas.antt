@@ -1,6 +1,5 @@
 -- Least worst-case costs, computed one action, one seat and one outcome at a time.
-use Rattle.roman_model.proofs.Common.{◌≡◌, ℕ, zero, suc, ◌+◌, ◌*◌, ◌<◌, ◌≤◌, cond, List, [], ◌∷◌, ◌++◌, map, nat_le, refl, ap, ◌∙◌, arith, max, Sys, Pair, IsSys, outcomes, sizes_of, pair_at, number, count, numbered, Costs, max_over, allowed_actions, least_from, through, least, choice}
-use Rattle.roman_model.specs.Plans.{least_at}
+use Rattle.roman_model.proofs.Common.{◌≡◌, ℕ, zero, suc, ◌+◌, ◌*◌, ◌<◌, ◌≤◌, cond, List, [], ◌∷◌, ◌++◌, map, nat_le, refl, ap, ◌∙◌, arith, max, Sys, Pair, IsSys, outcomes, sizes_of, pair_at, number, count, numbered, Costs, max_over, allowed_actions, least_from, through, least, choice, least_at}
 use Rattle.roman_model.proofs.SystemLemmas.{outcome_pair}
 use Rattle.roman_model.proofs.NumberLemmas.{numbers_are_pairs}
 use Rattle.roman_model.proofs.PlanLemmas.{max_over_le, max_over_same}

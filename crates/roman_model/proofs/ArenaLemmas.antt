@@ -1,6 +1,5 @@
 -- Lemmas on any arena: listed nodes, beaten seats, reasons, masks, and nodes that survive.
-use Rattle.roman_model.proofs.Common.{inr, reasons, ◌≡◌, ◌≢◌, ℕ, ◌<◌, ◌≤◌, Bool, not, ◌&&◌, ◌||◌, ◌⊎◌, List, [], ◌∷◌, ◌++◌, map, IsTrue, IsFalse, filter, flat_map, inl, refl, sym, ap, ◌∙◌, subst, arith, rules, list_any, or-false, both_ways, or_cases, or_parts, or_left, or_right, or_from, and_parts, and_from, and_cases, and_left, not-true, not_from_false, eqb-true, eq-eqb, cond-true, cond-false, list_any-append, IsIn, HasNoRepeats, below, all_below, is_empty, has, Arena, Entry, is_among, is_listed, is_beaten, is_justified, mask, back, Reason, Final, Act}
-use Rattle.roman_model.specs.Arena.{Delegation, delegations}
+use Rattle.roman_model.proofs.Common.{inr, ◌≡◌, ◌≢◌, ℕ, ◌<◌, ◌≤◌, Bool, not, ◌&&◌, ◌||◌, ◌⊎◌, List, [], ◌∷◌, ◌++◌, map, IsTrue, IsFalse, filter, flat_map, inl, refl, sym, ap, ◌∙◌, subst, arith, rules, reasons, list_any, or-false, both_ways, or_cases, or_parts, or_left, or_right, or_from, and_parts, and_from, and_cases, and_left, not-true, not_from_false, eqb-true, eq-eqb, cond-true, cond-false, list_any-append, IsIn, HasNoRepeats, below, all_below, is_empty, has, Arena, Entry, is_among, is_listed, is_beaten, is_justified, mask, back, Reason, Final, Act, Delegation, delegations}
 use Rattle.roman_model.proofs.Lists.{by_test, same_test, in_map, from_map, in_flat_map, from_flat_map, in_filter, filter_in, any_true, any_from, any_false, none_from, any_more, any_same, list_any-map, empty_is, not_empty_ne, ne_not_empty, in_below, from_below, all_below_at, all_below_from, all_below_false, all_below_more, all_below_same, filter_same}
 
 -- the arena's test of two nodes is equality

@@ -1,14 +1,5 @@
 -- The certificate of a complete list is accepted, and an accepted certificate is complete.
-use Rattle.roman_model.proofs.Common.{Verdict, ◌≡◌, ℕ, zero, suc, ◌+◌, ◌*◌, ◌^◌, ◌<◌, ◌≤◌, Bool, false, not, ◌&&◌, List, [], ◌∷◌, ◌++◌, map, length, take, Option, Some, None, IsTrue, IsFalse, if◌then◌else◌, filter, find, option_map, slice_get, slice_index_or, codes, decimal, nat_le, refl, sym, ap, ap₂, ◌∙◌, subst, inl, inr, arith, append_assoc, append-nil, length-append, list_any, cons_option, cases_lt, both_ways, or_from, and_left, not-false, not_from_true, not_from_false, cond-true, cond-false, and_from, length-map, filter_map-append, list_any-append, none-some, IsIn, below, lines, ended_lines, text_of_lines, IsLine, AreLines, Sys, IsSys, pairs, same_numbers, arena, Arena, Entry, is_listed, is_justified, IsOrder, Great, sizes_of, count, pair_at, numbered, entry_at, IsCompleteList, is_related, head_line, count_line, reason_text, entry_line, end_line, Why, TooLong, reasons, possible_entries, entry_of, entries_on, unless_over, body_fault, line_fault, faults, unlisted, cert_verdict, IsClean, MAX_CERTIFICATE_BYTES, Reason, Final, Act}
-use Rattle.std.proofs.Common.{le-leb}
-use Rattle.roman_model.specs.Certificate.{cert_text, Form, Repeated, Unjustified, Unlisted, Greatest}
-use Rattle.std.proofs.Math.Bool.{not-not}
-use Rattle.std.proofs.lemmas.Bool.{lt-leb}
-use Rattle.std.proofs.lemmas.List.{map_push}
-use Rattle.std.proofs.lemmas.Nat.{mul-le}
-use Rattle.std.proofs.lemmas.Fmt.{length-decimal-le}
-use Rattle.roman_model.specs.Certificate.{cert_lines, unless_is, entry_fault, could_be_listed, end_fault, greatest, IsWithinCells, WrittenIsGreatest, GreatestIsComplete}
-use Rattle.roman_model.specs.declared.limits.TheConstants.{MAX_CELLS}
+use Rattle.roman_model.proofs.Common.{Verdict, head_line, count_line, reason_text, entry_line, end_line, Why, TooLong, reasons, possible_entries, entry_of, entries_on, unless_over, body_fault, line_fault, faults, unlisted, cert_verdict, IsClean, ◌≡◌, ℕ, zero, suc, ◌+◌, ◌*◌, ◌^◌, ◌<◌, ◌≤◌, Bool, false, not, ◌&&◌, List, [], ◌∷◌, ◌++◌, map, length, take, Option, Some, None, IsTrue, IsFalse, if◌then◌else◌, filter, find, option_map, slice_get, slice_index_or, codes, decimal, nat_le, refl, sym, ap, ap₂, ◌∙◌, subst, inl, inr, arith, append_assoc, append-nil, length-append, list_any, cons_option, cases_lt, both_ways, or_from, and_left, not-false, not_from_true, not_from_false, cond-true, cond-false, and_from, length-map, filter_map-append, list_any-append, none-some, IsIn, below, lines, ended_lines, text_of_lines, IsLine, AreLines, Sys, IsSys, pairs, same_numbers, arena, Arena, Entry, is_listed, is_justified, IsOrder, Great, sizes_of, count, pair_at, numbered, entry_at, IsCompleteList, is_related, MAX_CERTIFICATE_BYTES, Reason, Final, Act, le-leb, cert_text, Form, Repeated, Unjustified, Unlisted, Greatest, not-not, lt-leb, map_push, mul-le, length-decimal-le, cert_lines, unless_is, entry_fault, could_be_listed, end_fault, greatest, IsWithinCells, WrittenIsGreatest, GreatestIsComplete, MAX_CELLS}
 use Rattle.roman_model.proofs.Lists.{by_test, none_from, any_from, from_map, in_append_left, in_append_right, from_append, in_push, in_filter, filter_in, in_below, from_below, filter_same, find_not_found, length-below, same_length, HasNoRepeats-filter, filter-map, any_false, find_none, from_push}
 use Rattle.roman_model.proofs.SystemLemmas.{same_numbers_is, same_numbers_itself, pairs_once}
 use Rattle.roman_model.proofs.ArenaLemmas.{reason_in, unjustified}

@@ -1,9 +1,5 @@
 -- Lines of certificates: the entry that a line states, and the first fault.
-use Rattle.std.proofs.lemmas.Option.{slice_get_past}
-use Rattle.roman_model.proofs.Common.{◌≡◌, ℕ, zero, suc, ◌+◌, ◌%◌, ◌^◌, ◌<◌, ◌≤◌, ◌==◌, false, ◌⊎◌, List, [], ◌∷◌, ◌++◌, map, length, take, Option, Some, None, IsFalse, option_map, slice_get, codes, decimal, refl, sym, ap, ap₂, ◌∙◌, subst, inl, inr, arith, length-append, cons_option, both_ways, or_parts, or_from, eq-eqb, cases_lt, list_any-append, filter_map-append, IsIn, below, IsLine, has, same_numbers, Arena, Entry, head_line, count_line, reason_text, entry_line, end_line, Why, Verdict, Rejected, reasons, possible_entries, entry_of, entries_on, line_fault, IsClean, faults, Reason, Final, Act}
-use Rattle.std.proofs.lemmas.Bool.{ne_eqb}
-use Rattle.std.proofs.lemmas.List.{take-append-le, take_all, take_at}
-use Rattle.std.proofs.lemmas.Fmt.{decimal_by_steps, decimal_injective, decimal_nonempty}
+use Rattle.roman_model.proofs.Common.{slice_get_past, ◌≡◌, ℕ, zero, suc, ◌+◌, ◌%◌, ◌^◌, ◌<◌, ◌≤◌, ◌==◌, false, ◌⊎◌, List, [], ◌∷◌, ◌++◌, map, length, take, Option, Some, None, IsFalse, option_map, slice_get, codes, decimal, refl, sym, ap, ap₂, ◌∙◌, subst, inl, inr, arith, length-append, cons_option, both_ways, or_parts, or_from, eq-eqb, cases_lt, list_any-append, filter_map-append, IsIn, below, IsLine, has, same_numbers, Arena, Entry, head_line, count_line, reason_text, entry_line, end_line, Why, Verdict, Rejected, reasons, possible_entries, entry_of, entries_on, line_fault, IsClean, faults, Reason, Final, Act, ne_eqb, take-append-le, take_all, take_at, decimal_by_steps, decimal_injective, decimal_nonempty}
 use Rattle.roman_model.proofs.Lists.{by_test, none_from, in_map, from_map, in_flat_map, from_flat_map, from_push, in_below, from_below, find_some, find_found, find_not_found, any_from}
 use Rattle.roman_model.proofs.SystemLemmas.{same_numbers_is, same_numbers_itself}
 

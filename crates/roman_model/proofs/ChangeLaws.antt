@@ -1,6 +1,5 @@
 -- The replay of a renamed list is a removal list after each change.
-use Rattle.roman_model.proofs.Common.{arith, false, List, sym, subst, rules, Sys, Pair, arena, Entry, IsOrder, replay, Freeze, Thaw, Join, Die, rename}
-use Rattle.roman_model.specs.Change.{RenamingKeeps}
+use Rattle.roman_model.proofs.Common.{arith, false, List, sym, subst, rules, Sys, Pair, arena, Entry, IsOrder, replay, Freeze, Thaw, Join, Die, rename, RenamingKeeps}
 use Rattle.roman_model.proofs.OrderLemmas.{order_new, new_once, replay_order, replay_whole}
 use Rattle.roman_model.proofs.CompositionLemmas.{system_is_same}
 use Rattle.roman_model.proofs.ChangeLemmas.{turned, IsSys-turned, IsPair-turned, freeze_order, new_same, new_from_once, joined, IsSys-joined, join_entries, join_once, left, IsSys-left, die_order, die_entries}

@@ -1,9 +1,6 @@
 -- The effect of a change of the seats on systems, pairs, outcomes and removal lists.
-use Rattle.roman_model.proofs.Common.{take, drop, length-append, length-map, IsPairOf, sizes_of, grown_sizes, sizes_without, AllZip-long, ◌≡◌, ℕ, zero, suc, ◌<◌, ◌≤◌, Bool, true, not, ◌&&◌, ◌||◌, List, [], ◌∷◌, ◌++◌, map, length, Some, IsTrue, IsFalse, filter, flat_map, slice_get, slice_index, slice_set, remove, refl, sym, ap, ap₂, ◌∙◌, subst, inl, inr, arith, rules, list_any, AllZip, cases_eq, both_ways, or_cases, or_left, or_right, and_parts, and_from, cond-true, cond-false, map-append, length_push, flat_map-map, none-some, same_Some, slice_get_within, IsIn, HasNoRepeats, below, all_below, Seat, Sys, Pair, IsBeh, IsSys, IsPair, is_final, all_final, env_next, beh_next, seat_next, outcomes_by, outcomes, is_allowed, is_fine, same_pair, arena, Entry, is_among, is_beaten, is_justified, IsOrderFrom, AreNew, AreEntries, Join, Die, set_frozen, grown, without, may_go, firsts, entry_without, rename, MAX_SERVICES, Reason, Final, Act}
-use Rattle.std.proofs.Common.{length-take, length-drop}
-use Rattle.std.proofs.lemmas.List.{take-map, drop-map}
+use Rattle.roman_model.proofs.Common.{take, drop, length-append, ◌≡◌, ℕ, zero, suc, ◌<◌, ◌≤◌, Bool, true, not, ◌&&◌, ◌||◌, List, [], ◌∷◌, ◌++◌, map, length, Some, IsTrue, IsFalse, filter, flat_map, slice_get, slice_index, slice_set, remove, refl, sym, ap, ap₂, ◌∙◌, subst, inl, inr, arith, rules, length-map, map-append, length_push, IsPairOf, sizes_of, grown_sizes, sizes_without, AllZip-long, list_any, AllZip, cases_eq, both_ways, or_cases, or_left, or_right, and_parts, and_from, cond-true, cond-false, flat_map-map, none-some, same_Some, slice_get_within, IsIn, HasNoRepeats, below, all_below, Seat, Sys, Pair, IsBeh, IsSys, IsPair, is_final, all_final, env_next, beh_next, seat_next, outcomes_by, outcomes, is_allowed, is_fine, same_pair, arena, Entry, is_among, is_beaten, is_justified, IsOrderFrom, AreNew, AreEntries, Join, Die, set_frozen, grown, without, may_go, firsts, entry_without, rename, MAX_SERVICES, Reason, Final, Act, length-take, length-drop, take-map, drop-map, same_from_push}
 use Rattle.roman_model.proofs.NumberLemmas.{IsPair-from, IsPairOf-from, IsPairOf-grown, IsPairOf-without}
-use Rattle.std.proofs.lemmas.List.{same_from_push}
 use Rattle.roman_model.proofs.Lists.{by_test, any_true, any_from, list_any-map, is_empty-map, from_push, in_map, from_map, from_flat_map, filter_in, from_below, all_below_at, all_below_from, HasNoRepeats-map, HasNoRepeats-flat_map, HasNoRepeats-below}
 use Rattle.roman_model.proofs.SystemLemmas.{same_pair_is, same_pair_from, from_moved}
 

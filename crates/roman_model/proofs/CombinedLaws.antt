@@ -1,10 +1,5 @@
 -- The combined target stands for several targets: the ND-simulations of the combined system are those of the members.
-use Rattle.roman_model.proofs.Common.{◌≡◌, ℕ, ◌<◌, ◌≤◌, Bool, ◌&&◌, List, [], ◌∷◌, map, length, Some, IsTrue, filter, slice_get, slice_index, slice_set, inl, inr, refl, sym, ap, ◌∙◌, subst, arith, and_parts, and_from, length-map, same_Some, IsIn, Env, Beh, Seat, has_triple, has_move, IsBeh, IsSys, SStep, is_final, same_numbers, MAX_SERVICES, Couple, couple, Serves, Meets, GreatCouple, Request, Several, of_one, are_final, AreBelow, has_triple_on, has_move_on, targets_go, target_sizes, combined_start, combined_seat, all_requests, combined, IsSeveral}
-use Rattle.std.proofs.Common.{nat_lt}
-use Rattle.std.proofs.lemmas.Bool.{ltb-true, lt-ltb}
-use Rattle.roman_model.specs.System.{IsDeterministic}
-use Rattle.roman_model.specs.Several.{CoupleAll, ServesAll, MeetsAll, GreatAll}
-use Rattle.roman_model.specs.Combined.{CombinedIsAll}
+use Rattle.roman_model.proofs.Common.{◌≡◌, ℕ, ◌<◌, ◌≤◌, Bool, ◌&&◌, List, [], ◌∷◌, map, length, Some, IsTrue, filter, slice_get, slice_index, slice_set, inl, inr, refl, sym, ap, ◌∙◌, subst, arith, and_parts, and_from, length-map, same_Some, IsIn, Env, Beh, Seat, has_triple, has_move, IsBeh, IsSys, SStep, is_final, same_numbers, MAX_SERVICES, Couple, couple, Serves, Meets, GreatCouple, Request, Several, of_one, are_final, AreBelow, has_triple_on, has_move_on, targets_go, target_sizes, combined_start, combined_seat, all_requests, combined, IsSeveral, nat_lt, ltb-true, lt-ltb, IsDeterministic, CoupleAll, ServesAll, MeetsAll, GreatAll, CombinedIsAll}
 use Rattle.roman_model.proofs.Places.{get_in, in_get}
 use Rattle.roman_model.proofs.Lists.{in_map, from_map, in_filter, filter_in}
 use Rattle.roman_model.proofs.SystemLemmas.{same_numbers_is, same_numbers_itself, move_in_range}

@@ -1,6 +1,5 @@
 -- The depths of a system's pairs, and the opponent's game by depth.
-use Rattle.roman_model.proofs.Common.{◌≡◌, ℕ, zero, suc, ◌≤◌, List, [], ◌∷◌, length, Option, Some, None, IsTrue, IsFalse, inl, inr, refl, sym, ap, ◌∙◌, subst, arith, rules, list_any, both_ways, or_cases, not_from_false, cases_lt, IsIn, below, Sys, Pair, IsSys, IsPair, pairs, arena, is_justified, loses, depth, Great, Couple, couple, GreatCouple, has_ready, WinsWithin, AreSeats, Act}
-use Rattle.roman_model.specs.Play.{refuting, request_at, depth_play_at, depth_play, DepthWins, DepthIsLeast, HoldsOut}
+use Rattle.roman_model.proofs.Common.{◌≡◌, ℕ, zero, suc, ◌≤◌, List, [], ◌∷◌, length, Option, Some, None, IsTrue, IsFalse, inl, inr, refl, sym, ap, ◌∙◌, subst, arith, rules, list_any, both_ways, or_cases, not_from_false, cases_lt, IsIn, below, Sys, Pair, IsSys, IsPair, pairs, arena, is_justified, loses, depth, Great, Couple, couple, GreatCouple, has_ready, WinsWithin, AreSeats, Act, refuting, request_at, depth_play_at, depth_play, DepthWins, DepthIsLeast, HoldsOut}
 use Rattle.roman_model.proofs.Lists.{by_test, find_some, find_found}
 use Rattle.roman_model.proofs.SystemLemmas.{in_pairs, from_pairs, outcome_pair}
 use Rattle.roman_model.proofs.ArenaLemmas.{survives_more, survivor_within}

@@ -1,6 +1,5 @@
 -- The arenas over numbers of pairs and over pairs carry over to each other.
-use Rattle.roman_model.proofs.Common.{Sizes, ◌≡◌, ℕ, ◌<◌, ◌==◌, List, [], ◌∷◌, map, IsTrue, refl, sym, ap, ap₂, ◌∙◌, subst, inl, inr, eqb-true, eq-eqb, IsIn, Sys, Pair, IsSys, IsPair, outcomes, is_allowed, is_fine, same_pair, arena, Entry, is_listed, mask, IsOrder, is_justified, Reason, AreEntries, sizes_of, count, number, pair_at, numbered, entry_at, OrderCompletes}
-use Rattle.roman_model.specs.Laws.{NumberedCompletes}
+use Rattle.roman_model.proofs.Common.{Sizes, sizes_of, count, number, pair_at, numbered, entry_at, ◌≡◌, ℕ, ◌<◌, ◌==◌, List, [], ◌∷◌, map, IsTrue, refl, sym, ap, ap₂, ◌∙◌, subst, inl, inr, eqb-true, eq-eqb, IsIn, Sys, Pair, IsSys, IsPair, outcomes, is_allowed, is_fine, same_pair, arena, Entry, is_listed, mask, IsOrder, is_justified, Reason, AreEntries, OrderCompletes, NumberedCompletes}
 use Rattle.roman_model.proofs.Lists.{same_test, from_map}
 use Rattle.roman_model.proofs.SystemLemmas.{same_pair_is, same_pair_from, outcome_pair}
 use Rattle.roman_model.proofs.NumberLemmas.{number-pair_at, numbers_are_pairs}

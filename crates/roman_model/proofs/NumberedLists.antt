@@ -1,8 +1,5 @@
 -- Removal lists over the numbers of pairs: the laws of their arena, complete lists, and counts of pairs.
-use Rattle.roman_model.proofs.Common.{◌≡◌, ℕ, ◌+◌, ◌<◌, not, List, [], map, length, IsTrue, IsFalse, filter, sum_by, refl, sym, ◌∙◌, subst, arith, rules, both_ways, eqb-true, eq-eqb, not-false, length-map, IsIn, HasNoRepeats, below, Sys, Pair, IsSys, IsPair, pairs, outcomes, arena, Entry, is_listed, is_justified, mask, IsOrder, loses, IsComplete, sizes_of, count, number, pair_at, numbered, entry_at, IsCompleteList, is_related, offers, Reason, Final, Act}
-use Rattle.roman_model.specs.Offers.{choice_count}
-use Rattle.std.proofs.lemmas.List.Filters.{length-filter_both}
-use Rattle.roman_model.specs.Arena.{choices}
+use Rattle.roman_model.proofs.Common.{◌≡◌, ℕ, ◌+◌, ◌<◌, not, List, [], map, length, IsTrue, IsFalse, filter, sum_by, refl, sym, ◌∙◌, subst, arith, rules, both_ways, eqb-true, eq-eqb, not-false, length-map, IsIn, HasNoRepeats, below, Sys, Pair, IsSys, IsPair, pairs, outcomes, arena, Entry, is_listed, is_justified, mask, IsOrder, loses, IsComplete, sizes_of, count, number, pair_at, numbered, entry_at, IsCompleteList, is_related, offers, Reason, Final, Act, choice_count, length-filter_both, choices}
 use Rattle.roman_model.proofs.Lists.{in_map, from_map, in_filter, filter_in, in_below, from_below, length-below, same_length, sum_by-map, sum_by_same, sum_by_within, HasNoRepeats-map, HasNoRepeats-filter, HasNoRepeats-below}
 use Rattle.roman_model.proofs.SystemLemmas.{in_pairs, from_pairs, pairs_once, outcome_pair}
 use Rattle.roman_model.proofs.ArenaLemmas.{IsSame, IsArena, in_listed, listed_in, mask_empty, mask_same}

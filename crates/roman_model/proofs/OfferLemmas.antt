@@ -1,6 +1,5 @@
 -- The offers, and the pairs to which they lead.
-use Rattle.roman_model.proofs.Common.{arith, ◌≡◌, ◌≢◌, ℕ, ◌<◌, not, List, [], length, IsTrue, rules, not-false, not_from_true, IsIn, Sys, Pair, IsSys, IsPair, outcomes, is_allowed, arena, Entry, is_listed, mask, GreatCouple, Great, IsComplete, is_related, offers}
-use Rattle.roman_model.specs.Offers.{OffersAreGenerator}
+use Rattle.roman_model.proofs.Common.{arith, ◌≡◌, ◌≢◌, ℕ, ◌<◌, not, List, [], length, IsTrue, rules, not-false, not_from_true, IsIn, Sys, Pair, IsSys, IsPair, outcomes, is_allowed, arena, Entry, is_listed, mask, GreatCouple, Great, IsComplete, is_related, offers, OffersAreGenerator}
 use Rattle.roman_model.proofs.Lists.{in_not_empty, not_empty_ne}
 use Rattle.roman_model.proofs.SystemLemmas.{outcome_pair}
 use Rattle.roman_model.proofs.ArenaLemmas.{unbeaten_is, unbeaten_from, in_mask, from_mask, mask_same}

@@ -1,7 +1,5 @@
 -- The items of a list at their places.
-use Rattle.roman_model.proofs.Common.{◌≡◌, ℕ, zero, suc, ◌+◌, ◌<◌, ◌≤◌, List, [], ◌∷◌, map, length, drop, Some, slice_get, slice_index, slice_set, inl, inr, refl, sym, ap, ap₂, ◌∙◌, arith, add-one, none-some, same_Some, IsIn, below}
-use Rattle.std.proofs.Common.{drop-cons}
-use Rattle.std.proofs.lemmas.List.{drop_all}
+use Rattle.roman_model.proofs.Common.{◌≡◌, ℕ, zero, suc, ◌+◌, ◌<◌, ◌≤◌, List, [], ◌∷◌, map, length, drop, Some, slice_get, slice_index, slice_set, inl, inr, refl, sym, ap, ap₂, ◌∙◌, arith, add-one, none-some, same_Some, IsIn, below, drop-cons, drop_all}
 use Rattle.roman_model.proofs.Lists.{length-below, get_or-below}
 
 -- there is an item at each place of the list

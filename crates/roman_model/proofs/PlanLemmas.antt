@@ -1,8 +1,5 @@
 -- The plan of the choices costs least of all plans at a related pair.
-use Rattle.roman_model.proofs.Common.{cases_lt, ◌≡◌, ◌≢◌, ℕ, zero, suc, ◌+◌, ◌-◌, ◌<◌, ◌≤◌, Bool, true, false, cond, ◌⊎◌, List, [], ◌∷◌, ◌++◌, IsTrue, filter, nat_le, inl, inr, refl, sym, ap, ap₂, ◌∙◌, subst, arith, rules, max, cond-true, cond-false, IsIn, below, Sys, Pair, IsSys, IsPair, outcomes, is_allowed, Great, offers, Costs, max_over, allowed_actions, least_from, through, least, choice}
-use Rattle.std.proofs.Math.Nat.{le-max_left, le-max_right, max-le}
-use Rattle.std.proofs.lemmas.Bool.{leb-true, leb-false}
-use Rattle.roman_model.specs.Plans.{Plan, Leaf, Node, IsPlan, worst, first_least, chosen, IsChoice, PlansCostLeast}
+use Rattle.roman_model.proofs.Common.{cases_lt, cond-true, cond-false, ◌≡◌, ◌≢◌, ℕ, zero, suc, ◌+◌, ◌-◌, ◌<◌, ◌≤◌, Bool, true, false, cond, ◌⊎◌, List, [], ◌∷◌, ◌++◌, IsTrue, filter, nat_le, inl, inr, refl, sym, ap, ap₂, ◌∙◌, subst, arith, rules, max, IsIn, below, Sys, Pair, IsSys, IsPair, outcomes, is_allowed, Great, offers, Costs, max_over, allowed_actions, least_from, through, least, choice, le-max_left, le-max_right, max-le, leb-true, leb-false, Plan, Leaf, Node, IsPlan, worst, first_least, chosen, IsChoice, PlansCostLeast}
 use Rattle.roman_model.proofs.Lists.{by_test, filter_in, from_below, from_push, not_empty_in, ne_not_empty}
 use Rattle.roman_model.proofs.SystemLemmas.{outcome_pair}
 use Rattle.roman_model.proofs.OfferLemmas.{offer_is, related_offers}

@@ -1,8 +1,6 @@
 -- The opponent's game, by a removal list and by depth.
-use Rattle.roman_model.proofs.Common.{Bool, find, IsIn, ◌≡◌, ℕ, zero, suc, ◌<◌, ◌≤◌, not, if◌then◌else◌, List, [], ◌∷◌, ◌++◌, length, Option, Some, None, IsTrue, IsFalse, inl, inr, sym, ap, ap₂, ◌∙◌, subst, arith, or_parts, cond-true, cond-false, is_empty, Sys, Pair, outcomes, arena, Entry, is_listed, is_justified, IsOrder, entries_before, has_ready, WinsWithin, AreSeats, Reason, Final, Act}
-use Rattle.roman_model.specs.Play.{went_on}
+use Rattle.roman_model.proofs.Common.{Bool, find, ◌≡◌, ℕ, zero, suc, ◌<◌, ◌≤◌, not, if◌then◌else◌, List, [], ◌∷◌, ◌++◌, length, Option, Some, None, IsTrue, IsFalse, inl, inr, sym, ap, ap₂, ◌∙◌, subst, arith, IsIn, is_empty, or_parts, cond-true, cond-false, Sys, Pair, outcomes, arena, Entry, is_listed, is_justified, IsOrder, entries_before, has_ready, WinsWithin, AreSeats, Reason, Final, Act, went_on, reason_of, play_at, play, OrderWins}
 use Rattle.std.specs.Option.{option_map}
-use Rattle.roman_model.specs.Play.{reason_of, play_at, play, OrderWins}
 use Rattle.roman_model.proofs.Lists.{by_test, find_some, find_found, any_from, split_at}
 use Rattle.roman_model.proofs.ArenaLemmas.{listed_in, justified_is, beaten_is}
 use Rattle.roman_model.proofs.WorkLemmas.{order_middle}

@@ -1,7 +1,5 @@
 -- Lemmas on the pairs of a system, its steps and outcomes.
-use Rattle.roman_model.proofs.Common.{◌≡◌, ℕ, ◌<◌, ◌==◌, not, ◌&&◌, List, [], ◌∷◌, map, length, Option, Some, None, IsTrue, IsFalse, flat_map, slice_get, slice_index, slice_set, inl, inr, refl, sym, ap, ◌∙◌, subst, arith, rules, AllZip, false≢true, and_parts, and_from, not-true, not_from_false, eqb-true, eq-eqb, cond-true, cond-false, slice_get_within, IsIn, HasNoRepeats, below, is_empty, Env, Beh, Seat, Sys, Pair, has, has_triple, has_move, IsEnv, IsBeh, IsSys, IsPair, SStep, pairs, env_next, beh_next, seat_next, outcomes_by, outcomes, is_allowed, same_numbers, same_pair, Move}
-use Rattle.roman_model.specs.System.{TStep, Allows}
-use Rattle.roman_model.specs.SystemArena.{combinations, env_prev, beh_prev, is_ready}
+use Rattle.roman_model.proofs.Common.{◌≡◌, ℕ, ◌<◌, ◌==◌, not, ◌&&◌, List, [], ◌∷◌, map, length, Option, Some, None, IsTrue, IsFalse, flat_map, slice_get, slice_index, slice_set, inl, inr, refl, sym, ap, ◌∙◌, subst, arith, rules, AllZip, false≢true, and_parts, and_from, not-true, not_from_false, eqb-true, eq-eqb, cond-true, cond-false, slice_get_within, IsIn, HasNoRepeats, below, is_empty, Env, Beh, Seat, Sys, Pair, has, has_triple, has_move, IsEnv, IsBeh, IsSys, IsPair, SStep, Move, pairs, env_next, beh_next, seat_next, outcomes_by, outcomes, is_allowed, same_numbers, same_pair, TStep, Allows, combinations, env_prev, beh_prev, is_ready}
 use Rattle.roman_model.proofs.NumberLemmas.{AreBelow-set, below_states, size_at, states_below}
 use Rattle.roman_model.proofs.Places.{get_in}
 use Rattle.roman_model.proofs.Lists.{by_test, in_map, from_map, in_flat_map, from_flat_map, in_filter, filter_in, any_true, any_from, in_not_empty, not_empty_in, in_below, from_below, HasNoRepeats-map, HasNoRepeats-flat_map, HasNoRepeats-below}

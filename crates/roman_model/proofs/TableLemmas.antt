@@ -1,7 +1,5 @@
 -- Tables of rows with a place for each of some elements, and the rank of a number among the numbers that pass a test.
-use Rattle.roman_model.proofs.Common.{◌≡◌, ℕ, zero, suc, ◌+◌, ◌*◌, ◌<◌, Bool, cond, List, [], ◌∷◌, ◌++◌, map, length, get_or, filter, flat_map, IsTrue, sym, ap, ◌∙◌, subst, arith, inl, inr, length-append, append-nil, cases_eq, mul-add-lt, get_or_append_left, get_or_push, length-map, below}
-use Rattle.std.proofs.lemmas.List.{get_or-append-add, get_or-map}
-use Rattle.std.proofs.lemmas.Grind.{flat_map-append}
+use Rattle.roman_model.proofs.Common.{◌≡◌, ℕ, zero, suc, ◌+◌, ◌*◌, ◌<◌, Bool, cond, List, [], ◌∷◌, ◌++◌, map, length, get_or, filter, flat_map, IsTrue, sym, ap, ◌∙◌, subst, arith, inl, inr, length-append, append-nil, cases_eq, mul-add-lt, get_or_append_left, get_or_push, length-map, below, get_or-append-add, get_or-map, flat_map-append}
 use Rattle.roman_model.proofs.Lists.{filter_below_more}
 
 -- a table with one more row

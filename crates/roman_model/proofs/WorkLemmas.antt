@@ -1,10 +1,5 @@
 -- Lemmas for working through a removal list: entries by their place, the delegations that lead to a node, and sums.
-use Rattle.roman_model.proofs.Common.{◌≡◌, ℕ, ◌+◌, ◌<◌, ◌≤◌, ◌&&◌, ◌||◌, List, [], ◌∷◌, ◌++◌, length, get_or, take, drop, IsTrue, IsFalse, sum_by, sym, ap, ◌∙◌, subst, arith, length-map, sum_by-append, IsIn, HasNoRepeats, below, Arena, Entry, is_among, is_listed, is_justified, IsOrderFrom, IsOrder, back}
-use Rattle.std.proofs.Common.{count_by, take-append-drop}
-use Rattle.std.proofs.lemmas.List.{drop_more}
-use Rattle.std.proofs.lemmas.List.Sums.{sum_by_push, length-filter}
-use Rattle.std.proofs.lemmas.List.Concat.{length-flat_map}
-use Rattle.roman_model.specs.Arena.{fall, readings}
+use Rattle.roman_model.proofs.Common.{◌≡◌, ℕ, ◌+◌, ◌<◌, ◌≤◌, ◌&&◌, ◌||◌, List, [], ◌∷◌, ◌++◌, length, get_or, take, drop, IsTrue, IsFalse, sum_by, sym, ap, ◌∙◌, subst, arith, length-map, sum_by-append, IsIn, HasNoRepeats, below, Arena, Entry, is_among, is_listed, is_justified, IsOrderFrom, IsOrder, back, count_by, take-append-drop, drop_more, sum_by_push, length-filter, length-flat_map, fall, readings}
 use Rattle.roman_model.proofs.Lists.{filter-map, filter-flat_map, sum_by_same, sum_by_within}
 use Rattle.roman_model.proofs.ArenaLemmas.{justified_same}
 

@@ -1,12 +1,6 @@
 -- The rule that forbids the targets to be combined.
-use Rattle.roman_multi.proofs.Common.{All, ◌≡◌, ℕ, ◌<◌, ◌≤◌, List, [], ◌∷◌, map, length, Some, None, Err, IsTrue, IsFalse, refl, sym, subst, ap, ap₂, ◌∙◌, arith, IsTarget, NamedEnv, NamedBeh, ltb-false, length-map, below, product_of, target_sizes, count, MAX_STATES, MAX_ACTIONS, Request, length-below, machines, requests_in, has_many_states, has_bad_count, has_long_name, has_one_name, forbidding, combined_behaviour, flat, Named, IsMerge, Merge}
-use Rattle.std.proofs.lemmas.Bool.{lt-ltb, le-ltb, true≢false}
-use Rattle.roman_parts.specs.Named.{NamedTarget}
-use Rattle.roman_multi.specs.Combining.{PlainCombined, combined_state_names, request_names, KeepsRules, combined_parts}
-use Rattle.roman_multi.specs.Lists.{AreCombinedNames}
-use Rattle.roman_multi.specs.declared.error.CombineError.{CombineError}
+use Rattle.roman_multi.proofs.Common.{All, ◌≡◌, ℕ, ◌<◌, ◌≤◌, List, [], ◌∷◌, map, length, Some, None, Err, IsTrue, IsFalse, refl, sym, subst, ap, ap₂, ◌∙◌, arith, IsTarget, NamedEnv, NamedBeh, ltb-false, length-map, below, product_of, target_sizes, count, MAX_STATES, MAX_ACTIONS, Request, length-below, machines, requests_in, has_many_states, has_bad_count, has_long_name, has_one_name, forbidding, combined_behaviour, flat, Named, IsMerge, Merge, lt-ltb, le-ltb, true≢false, NamedTarget, PlainCombined, combined_state_names, request_names, KeepsRules, combined_parts, AreCombinedNames, CombineError, combined_environment, one_target}
 use Rattle.roman_multi.specs.declared.error.CombineError.TheVariants as error
-use Rattle.roman_multi.specs.Merges.{combined_environment, one_target}
 use Rattle.roman_multi.proofs.FlatLemmas.{fits_within}
 use Rattle.roman_multi.proofs.MoveLemmas.{requests_in_range}
 

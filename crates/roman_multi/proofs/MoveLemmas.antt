@@ -1,13 +1,7 @@
 -- The steps that the loops list are the steps of the combined behaviours, and the requests are the combined actions.
-use Rattle.roman_multi.proofs.Common.{◌≡◌, ℕ, ◌<◌, ◌≤◌, ◌^◌, ◌==◌, ◌&&◌, Bool, List, [], ◌∷◌, map, length, Option, Some, None, IsTrue, flat_map, filter, slice_get, inl, inr, refl, sym, ap, ap₂, ◌∙◌, subst, get_or, arith, All, IsIn, below, Beh, Env, has, has_move, is_final, IsBeh, beh_next, normal_beh, beh_from, combined_beh, Request, listed_beh, AreMoves, listed_moves, moves_on, used_at, same_test, any_true, any_from, in_map, from_map, in_flat_map, from_flat_map, in_below, from_below, in_beh_next, from_beh_next, beh_from_same, listed_number, number_listed, get_in, length-map, NamedEnv, IsTarget, machines, requests_in, Named, has_filter}
-use Rattle.roman_guard.specs.Meaning.{states_of}
-use Rattle.roman_model.specs.System.{Move}
-use Rattle.roman_model.specs.Combined.{has_move_on, stands_in, uses, requests_of}
-use Rattle.roman_parts.specs.Listed.{move_of}
-use Rattle.roman_model.proofs.CallerLemmas.{filter_in, filter_same, flat_map_same_in, move_test, move_passes, stands_uses}
+use Rattle.roman_multi.proofs.Common.{◌≡◌, ℕ, ◌<◌, ◌≤◌, ◌^◌, ◌==◌, ◌&&◌, Bool, List, [], ◌∷◌, map, length, Option, Some, None, IsTrue, flat_map, filter, slice_get, inl, inr, refl, sym, ap, ap₂, ◌∙◌, subst, get_or, arith, All, IsIn, below, Beh, Env, has, has_move, is_final, IsBeh, beh_next, normal_beh, beh_from, combined_beh, Request, listed_beh, AreMoves, listed_moves, moves_on, used_at, same_test, any_true, any_from, in_map, from_map, in_flat_map, from_flat_map, in_below, from_below, in_beh_next, from_beh_next, beh_from_same, listed_number, number_listed, get_in, length-map, NamedEnv, IsTarget, machines, requests_in, Named, has_filter, states_of, Move, has_move_on, stands_in, uses, requests_of, move_of, filter_in, filter_same, flat_map_same_in, move_test, move_passes, stands_uses, states_of-single}
 use Rattle.roman_multi.proofs.KnownLemmas.{machines_known}
 use Rattle.roman_multi.proofs.TripleLemmas.{get_or_in}
-use Rattle.roman_guard.proofs.CallerLemmas.{states_of-single}
 
 from_moves : (env_states actions states : ℕ) (next : ℕ → ℕ → ℕ → List ℕ) (x : ℕ × ℕ × ℕ × ℕ) → IsIn x (listed_moves env_states actions states next) →
     (e : ℕ) × (e < env_states) × (x.0 < states) × (x.2 < actions) × (x.1 ≡ 2 ^ e) × IsIn x.3 (next x.0 x.2 e)

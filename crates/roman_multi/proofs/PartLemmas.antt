@@ -1,7 +1,5 @@
 -- The behaviour built from the lists is the combined behaviour.
-use Rattle.roman_multi.proofs.Common.{◌≡◌, ℕ, ◌<◌, List, length, filter, slice_get, Err, All, sym, ap₂, ◌∙◌, arith, below, IsEnv, is_final, normal_beh, combined_beh, Request, listed_beh, AreMoves, NamedEnv, NamedBeh, IsOver, combined_behaviour, listed_moves, moves_on}
-use Rattle.std.proofs.Common.{Result, Ok, IfOk}
-use Rattle.roman_multi.specs.Combining.{IsBehaviourOf}
+use Rattle.roman_multi.proofs.Common.{◌≡◌, ℕ, ◌<◌, List, length, filter, slice_get, Err, All, sym, ap₂, ◌∙◌, arith, below, IsEnv, is_final, normal_beh, combined_beh, Request, listed_beh, AreMoves, NamedEnv, NamedBeh, IsOver, combined_behaviour, listed_moves, moves_on, Result, Ok, IfOk, IsBehaviourOf}
 use Rattle.roman_multi.proofs.MoveLemmas.{combined_beh_is, moves_in_range, moves_on_below, passing_below}
 
 pub if_ok_three : {X E : Type 0} (P Q R S : X → Type 0) (r : Result X E) → ((x : X) → P x → Q x → R x → S x) → IfOk r P → IfOk r Q → IfOk r R → IfOk r S

@@ -1,11 +1,5 @@
 -- Lists of words, and the tables of words that are names.
-use Rattle.roman_multi.proofs.Common.{◌≡◌, ℕ, ◌+◌, ◌<◌, List, [], ◌∷◌, ◌++◌, map, length, take, get_or, All, Option, Some, None, IsTrue, IsFalse, is_some, refl, sym, ap, ap₂, ◌∙◌, subst, arith, list_any, take_more, length-map, below, none-some, same_Some, is_name, is_long, stands_before, is_word}
-use Rattle.std.proofs.Common.{IsSome}
-use Rattle.std.specs.Option.{SomeIff}
-use Rattle.std.proofs.lemmas.List.{get_or-map}
-use Rattle.roman_model.proofs.CallerLemmas.{any_false}
-use Rattle.roman_read.specs.Names.{place_of}
-use Rattle.roman_multi.specs.Combining.{has_repeats}
+use Rattle.roman_multi.proofs.Common.{◌≡◌, ℕ, ◌+◌, ◌<◌, List, [], ◌∷◌, ◌++◌, map, length, take, get_or, All, Option, Some, None, IsTrue, IsFalse, is_some, refl, sym, ap, ap₂, ◌∙◌, subst, arith, list_any, take_more, length-map, below, none-some, same_Some, is_name, is_long, stands_before, is_word, IsSome, SomeIff, get_or-map, any_false, place_of, has_repeats}
 use Rattle.roman_multi.proofs.ListLemmas.{none_more, any_at}
 use Rattle.roman_multi.proofs.TripleLemmas.{get_or_in}
 use Rattle.roman_multi.proofs.WordLemmas.{word_is_name}

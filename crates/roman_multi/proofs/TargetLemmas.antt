@@ -1,11 +1,6 @@
 -- The steps that the loops list are the steps of the combined target.
-use Rattle.roman_multi.proofs.Common.{◌≡◌, ℕ, zero, suc, ◌^◌, ◌&&◌, ◌++◌, ◌<◌, ◌≤◌, Bool, drop, filter, All, List, [], ◌∷◌, length, Option, Some, None, IsTrue, slice_get, slice_index, slice_set, refl, sym, ap, ap₂, ◌∙◌, subst, arith, none-some, same_Some, IsIn, below, product_of, Beh, has, has_move, is_final, IsEnv, beh_next, normal_beh, states_number, states_at, Several, are_final, target_sizes, combined_target, combined, IsSeveral, Request, listed_beh, AreMoves, moves_in, listed_moves, same_test, in_map, from_map, in_beh_next, from_beh_next, beh_from_same, get_in, listed_number, number_listed, has_filter, machines, MAX_ACTIONS, IsMerge, next_in, Merge}
-use Rattle.roman_multi.specs.Merges.{state_total}
+use Rattle.roman_multi.proofs.Common.{◌≡◌, ℕ, zero, suc, ◌^◌, ◌&&◌, ◌++◌, ◌<◌, ◌≤◌, Bool, drop, filter, All, List, [], ◌∷◌, length, Option, Some, None, IsTrue, slice_get, slice_index, slice_set, refl, sym, ap, ap₂, ◌∙◌, subst, arith, none-some, same_Some, IsIn, below, product_of, Beh, has, has_move, is_final, IsEnv, beh_next, normal_beh, states_number, states_at, Several, are_final, target_sizes, combined_target, combined, IsSeveral, Request, listed_beh, AreMoves, moves_in, listed_moves, same_test, in_map, from_map, in_beh_next, from_beh_next, beh_from_same, get_in, listed_number, number_listed, has_filter, machines, MAX_ACTIONS, IsMerge, next_in, Merge, state_total, append-nil, combined_start, targets_go, all_requests, member_next, next_of_all, states_number-at, from_made_move, made_move, IsMemberStep, from_combined_target, combined_target_goes}
 use Rattle.roman_multi.proofs.KnownLemmas.{several, several_is}
-use Rattle.std.proofs.lemmas.List.{append-nil}
-use Rattle.roman_model.specs.Combined.{combined_start, targets_go, all_requests}
-use Rattle.roman_multi.specs.Lists.{member_next, next_of_all}
-use Rattle.roman_model.proofs.CallerLemmas.{states_number-at, from_made_move, made_move, IsMemberStep, from_combined_target, combined_target_goes}
 use Rattle.roman_multi.proofs.MoveLemmas.{listed_moves_made, moves_in_range, passing_below}
 
 from_next_of_all : (targets : List Beh) (ts : List ℕ) (e : ℕ) (o : Option Request) (t' : ℕ) → IsIn t' (next_of_all targets ts e o) →

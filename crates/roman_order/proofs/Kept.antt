@@ -1,11 +1,6 @@
 -- Events whose pairs have no bits in the kept words.
-use Rattle.roman_order.proofs.Common.{◌≡◌, ℕ, suc, ◌+◌, ◌-◌, ◌*◌, ◌/◌, ◌%◌, ◌<◌, ◌≤◌, true, false, List, [], ◌∷◌, ◌++◌, length, get_or, take, drop, bit_and, inl, inr, sym, ap, ◌∙◌, subst, arith, length-append, length-drop, take-append-drop, AllByRecursion, both_ways, flat_map-append, on_zero, on_and, Entry, IsIn, is_on, as_entry, set_lanes, entries_at, entries_of, IsEvent, IsApart, IsSound, board_of, Event, Inside, take-append_seam, take-add}
-use Rattle.std.proofs.Common.{ap₂}
-use Rattle.roman_order.specs.Walks.{AreUnkept}
-use Rattle.std.specs.Prelude.{slice_index}
-use Rattle.std.proofs.Math.Seq.{get_or-drop, take-suc}
-use Rattle.std.proofs.lemmas.Bool.{and_from, false_from_ne_true}
-use Rattle.roman_model.proofs.CallerLemmas.{from_flat_map, from_map, from_push, in_append_left, in_append_right}
+use Rattle.roman_order.proofs.Common.{◌≡◌, ℕ, suc, ◌+◌, ◌-◌, ◌*◌, ◌/◌, ◌%◌, ◌<◌, ◌≤◌, true, false, List, [], ◌∷◌, ◌++◌, length, get_or, take, drop, bit_and, inl, inr, sym, ap, ◌∙◌, subst, arith, length-append, length-drop, take-append-drop, AllByRecursion, both_ways, flat_map-append, on_zero, on_and, Entry, IsIn, is_on, as_entry, set_lanes, entries_at, entries_of, IsEvent, IsApart, IsSound, board_of, Event, Inside, take-append_seam, take-add, ap₂, AreUnkept, slice_index, take-suc, and_from, false_from_ne_true, from_flat_map, from_map, from_push, in_append_left, in_append_right}
+use Rattle.std.proofs.Math.Seq.{get_or-drop}
 use Rattle.roman_order.proofs.Lanes.{in_lanes, lane_place}
 use Rattle.roman_order.proofs.Reading.{begins_at, entries_split, from_event}
 

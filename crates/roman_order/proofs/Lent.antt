@@ -1,6 +1,5 @@
 -- Marks that were lent.
-use Rattle.roman_order.proofs.Common.{◌≡◌, ℕ, List, ◌++◌, length, take, drop, sym, ap, ◌∙◌, take-append_seam}
-use Rattle.roman_order.specs.Lending.{rewritten}
+use Rattle.roman_order.proofs.Common.{◌≡◌, ℕ, List, ◌++◌, length, take, drop, sym, ap, ◌∙◌, take-append_seam, rewritten}
 
 -- new words of the same number as the marks replace all of them
 pub rewritten_whole : (xs ys : List ℕ) → length ys ≡ length xs → rewritten xs ys ≡ ys

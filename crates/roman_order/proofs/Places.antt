@@ -1,13 +1,5 @@
 -- Lists with one more entry.
-use Rattle.roman_order.proofs.Common.{◌≡◌, ◌≢◌, ℕ, ◌+◌, ◌-◌, ◌^◌, ◌<◌, ◌≤◌, Bool, true, false, List, [], ◌∷◌, ◌++◌, length, Some, None, refl, ap, sym, ◌∙◌, inl, inr, arith, eqb, ◌||◌, list_any, position_from, IsDistinct, or-false, cases_eq, ne_eqb, length-map, list_any-append, Entry, list_any-map, nodes_of, has_entry, place_in_list, IsPlaced}
-use Rattle.std.proofs.lemmas.Bool.{cases_Bool}
-use Rattle.std.proofs.lemmas.List.{map_push}
-use Rattle.std.proofs.Common.{is_some}
-use Rattle.std.proofs.lemmas.Bool.{false≢true}
-use Rattle.std.proofs.lemmas.Cmp.{nat_eq_equiv}
-use Rattle.std.proofs.lemmas.Map.Keys.{IsDistinct-push}
-use Rattle.std.proofs.lemmas.Map.Steps.{length-le_from_distinct_below}
-use Rattle.roman_order.specs.Sound.{stamp_of}
+use Rattle.roman_order.proofs.Common.{◌≡◌, ◌≢◌, ℕ, ◌+◌, ◌-◌, ◌^◌, ◌<◌, ◌≤◌, Bool, true, false, List, [], ◌∷◌, ◌++◌, length, Some, None, refl, ap, sym, ◌∙◌, inl, inr, arith, eqb, ◌||◌, list_any, position_from, IsDistinct, or-false, cases_eq, ne_eqb, length-map, list_any-append, Entry, list_any-map, nodes_of, has_entry, place_in_list, IsPlaced, cases_Bool, map_push, is_some, false≢true, nat_eq_equiv, IsDistinct-push, length-le_from_distinct_below, stamp_of}
 
 -- ---- places
 

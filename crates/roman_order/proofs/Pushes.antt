@@ -1,6 +1,5 @@
 -- Adding entries to a list.
-use Rattle.roman_order.proofs.Common.{◌≡◌, ℕ, ◌+◌, ◌*◌, ◌<◌, false, List, [], ◌∷◌, ◌++◌, map, sym, ◌∙◌, subst, inl, inr, refl, arith, append_assoc, append-nil, Entry, IsIn, HasNoRepeats, Reason, as_entry, has_entry, IsPlaced}
-use Rattle.std.proofs.lemmas.Nat.{mul-add-lt}
+use Rattle.roman_order.proofs.Common.{◌≡◌, ℕ, ◌+◌, ◌*◌, ◌<◌, false, List, [], ◌∷◌, ◌++◌, map, sym, ◌∙◌, subst, inl, inr, refl, arith, append_assoc, append-nil, Entry, IsIn, HasNoRepeats, Reason, as_entry, has_entry, IsPlaced, mul-add-lt}
 use Rattle.roman_order.proofs.Places.{IsPlaced-push, has_entry-push_other}
 
 -- the pair at a lane of a row is in range

@@ -1,11 +1,5 @@
 -- The entries from a place of the list on.
-use Rattle.roman_order.proofs.Common.{◌≡◌, ◌≢◌, ℕ, zero, suc, ◌+◌, ◌-◌, ◌*◌, ◌%◌, ◌^◌, ◌<◌, ◌≤◌, true, false, List, [], ◌∷◌, ◌++◌, map, length, get_or, take, drop, Some, inl, inr, refl, sym, ap, ◌∙◌, subst, arith, eqb, bit_not, w64, length-append, AllByRecursion, cases_lt, eq-eqb, or_right, length-drop, take-append-drop, take_all, list_any-append, flat_map-append, Entry, Board, as_entry, is_on, set_lanes, has_entry, IsEvent, entries_at, entries_of, board_of, firsts_of, AreCounted, CanWait, IsSound, Event, Inside, get_or_past}
-use Rattle.std.proofs.Common.{slice_get}
-use Rattle.std.proofs.lemmas.Bool.{or_left}
-use Rattle.std.proofs.Math.Nat.{lt_of_mul-lt-mul_right}
-use Rattle.std.proofs.Math.Seq.{drop-append_seam}
-use Rattle.std.proofs.lemmas.List.{drop-append-le, drop-drop, drop-map, get_or_default}
-use Rattle.std.proofs.lemmas.Nat.{and_le_r}
+use Rattle.roman_order.proofs.Common.{◌≡◌, ◌≢◌, ℕ, zero, suc, ◌+◌, ◌-◌, ◌*◌, ◌%◌, ◌^◌, ◌<◌, ◌≤◌, true, false, List, [], ◌∷◌, ◌++◌, map, length, get_or, take, drop, Some, inl, inr, refl, sym, ap, ◌∙◌, subst, arith, eqb, length-append, bit_not, w64, AllByRecursion, cases_lt, eq-eqb, or_right, length-drop, take-append-drop, take_all, get_or_past, list_any-append, flat_map-append, Entry, Board, as_entry, set_lanes, has_entry, is_on, IsEvent, entries_at, entries_of, board_of, firsts_of, AreCounted, CanWait, IsSound, Event, Inside, slice_get, or_left, lt_of_mul-lt-mul_right, drop-append_seam, drop-append-le, drop-drop, drop-map, get_or_default, and_le_r}
 use Rattle.roman_order.proofs.Tables.{few}
 use Rattle.roman_order.proofs.Lanes.{set_lanes-first, set_lanes-zero, some_lane, without_first, without_lane, without_lane-on}
 use Rattle.roman_order.proofs.Events.{fewer, later, length-entries_at, length-firsts_of, rest_waits}

@@ -1,7 +1,5 @@
 -- The contents of an order's tables, and the room in them.
-use Rattle.roman_order.proofs.Common.{◌≡◌, ◌≢◌, ℕ, ◌+◌, ◌-◌, ◌*◌, ◌/◌, ◌^◌, ◌<◌, ◌≤◌, true, false, not, [], ◌∷◌, ◌++◌, length, drop, get_or, replicate, sym, ◌∙◌, subst, arith, bit_and, length-append, List, take, ap, w64, bit_not, set, length-replicate, get_or-replicate, length-drop, length-take-le, get_or-append_right, get_or-drop, get_or-take, get_or_append_left, Reason, is_on, AreRows, full_word, Board, set_lanes, entries_in, has_entry, entries_at, AreCounted, board_of, IsPlaced, CanWait, IsSound, Event, Inside}
-use Rattle.roman_order.specs.Sound.{IsSized}
-use Rattle.roman_order.specs.Sound.{removal_list}
+use Rattle.roman_order.proofs.Common.{◌≡◌, ◌≢◌, ℕ, ◌+◌, ◌-◌, ◌*◌, ◌/◌, ◌^◌, ◌<◌, ◌≤◌, true, false, not, [], ◌∷◌, ◌++◌, length, drop, get_or, replicate, sym, ◌∙◌, subst, arith, bit_and, length-append, List, take, ap, w64, bit_not, set, length-replicate, get_or-replicate, length-drop, length-take-le, get_or-append_right, get_or-drop, get_or-take, get_or_append_left, Reason, is_on, AreRows, full_word, Board, set_lanes, entries_in, has_entry, entries_at, AreCounted, board_of, IsPlaced, CanWait, IsSound, Event, Inside, IsSized, removal_list}
 use Rattle.roman_order.proofs.Lanes.{AreRows-full, AreRows-pushed, in_lanes, lanes_once, some_lane}
 use Rattle.roman_order.proofs.Places.{IsPlaced-nil, length-le_from_apart}
 use Rattle.roman_order.proofs.Events.{few_events, length-firsts_of, length-entries_at, AreCounted-push, AreCounted-nil}

@@ -1,7 +1,5 @@
 -- Flags, 64 to a word.
-use Rattle.roman_order.proofs.Common.{◌≡◌, ◌≢◌, ℕ, zero, ◌+◌, ◌-◌, ◌*◌, ◌/◌, ◌%◌, ◌^◌, ◌<◌, ◌≤◌, false, List, ◌++◌, length, take, get_or, drop, replicate, ap, sym, ◌∙◌, inl, inr, arith, set, cases_eq, cases_lt, get_or-set_same, get_or-set_other, get_or-replicate, length-replicate, length-take-le, get_or_append_left, get_or-append_right, get_or-drop, is_on, has_flag, on_zero, on_ones, on_ones_above, get_or_past}
-use Rattle.std.proofs.Common.{ltb}
-use Rattle.std.proofs.lemmas.Bool.{lt-ltb, le-ltb}
+use Rattle.roman_order.proofs.Common.{◌≡◌, ◌≢◌, ℕ, zero, ◌+◌, ◌-◌, ◌*◌, ◌/◌, ◌%◌, ◌^◌, ◌<◌, ◌≤◌, false, List, ◌++◌, length, take, get_or, drop, replicate, ap, sym, ◌∙◌, inl, inr, arith, set, cases_eq, cases_lt, get_or-set_same, get_or-set_other, get_or-replicate, length-replicate, length-take-le, get_or_append_left, get_or-append_right, get_or-drop, get_or_past, is_on, has_flag, on_zero, on_ones, on_ones_above, ltb, lt-ltb, le-ltb}
 
 -- ---- tables that are blank from some place on
 

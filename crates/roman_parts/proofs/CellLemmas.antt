@@ -1,14 +1,5 @@
 -- The cells of a table after one more step.
-use Rattle.roman_parts.proofs.Common.{◌≡◌, ℕ, ◌+◌, ◌*◌, ◌%◌, ◌^◌, ◌<◌, ◌==◌, ◌&&◌, ◌||◌, Bool, true, false, List, [], length, get_or, take, replicate, refl, sym, ap, ap₂, ◌∙◌, subst, inl, inr, arith, w64, true≢false, cases_eq, cases_lt, cases_order, eq-eqb, ne_eqb, eqb-true, and_parts, and_from, list_any_more, bit_at-zero, same_test, has_state, cell_has, is_triple, leads, leads_back, HasCells, is_move, goes, goes_back, HasGuardedCells}
-use Rattle.std.proofs.Common.{nat_lt, set}
-use Rattle.std.specs.Int.{bit_at}
-use Rattle.std.specs.Int.RustNames.{bit_or}
-use Rattle.std.specs.List.{list_any}
-use Rattle.std.proofs.lemmas.Bool.{false≢true, lt-ltb, le-ltb}
-use Rattle.std.proofs.lemmas.List.{get_or-set_same, get_or-set_other, get_or-replicate, get_or_past, length-replicate}
-use Rattle.std.proofs.lemmas.Nat.{same_from_place}
-use Rattle.std.proofs.lemmas.Nat.Bits.{bit_at_set_same, bit_at_set_other}
-use Rattle.roman_parts.specs.Cells.{PutsIntoCell, MarksMove}
+use Rattle.roman_parts.proofs.Common.{◌≡◌, ℕ, ◌+◌, ◌*◌, ◌%◌, ◌^◌, ◌<◌, ◌==◌, ◌&&◌, ◌||◌, Bool, true, false, List, [], length, get_or, take, replicate, refl, sym, ap, ap₂, ◌∙◌, subst, inl, inr, arith, w64, true≢false, cases_eq, cases_lt, cases_order, eq-eqb, ne_eqb, eqb-true, and_parts, and_from, list_any_more, bit_at-zero, same_test, has_state, cell_has, is_triple, leads, leads_back, HasCells, is_move, goes, goes_back, HasGuardedCells, nat_lt, set, bit_at, bit_or, list_any, false≢true, lt-ltb, le-ltb, get_or-set_same, get_or-set_other, get_or-replicate, get_or_past, length-replicate, same_from_place, bit_at_set_same, bit_at_set_other, PutsIntoCell, MarksMove}
 
 or_false : (x : Bool) → x ≡ (x || false)
 or_false true = refl

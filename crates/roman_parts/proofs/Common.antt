@@ -1,31 +1,60 @@
--- The names that several proof pages of this crate cite, passed on from one place. Declares nothing.
-pub use Rattle.std.proofs.Common.{All, Bool, IsTrue, List, None, Ok, Option, Some, [], add-one, ap, append_assoc, ap₂, arith, cond, false, filter, get_or, inl, inr, is_some, length, length-append, map, not, option_map, refl, replicate, slice_get, subst, suc, sym, take, true, zero, ℕ, ◌%◌, ◌&&◌, ◌*◌, ◌++◌, ◌+◌, ◌<◌, ◌==◌, ◌^◌, ◌||◌, ◌∙◌, ◌∷◌, ◌≡◌, ◌≤◌}
-pub use Rattle.std.proofs.lemmas.Bool.{and_from, and_parts, cases_eq, cases_lt, cases_order, cond-true, eq-eqb, eqb-true, ne_eqb, true≢false}
+-- What the proof pages of this crate cite from elsewhere, passed on from one place. Declares nothing.
+pub use Rattle.std.proofs.Common.{All, Bool, Err, IsTrue, List, MatchOption, None, Ok, Option, Result, Some, [], add-one, ap, append-nil, append_assoc, ap₂, arith, below_more, codes, cond, drop, drop-cons, false, filter, find, get_or, inl, inr, is_none, is_some, length, length-append, map, nat_lt, not, option_map, refl, replicate, rules, set, slice_get, slice_range, string_bytes, subst, suc, sym, take, true, zero, ℕ, ◌%◌, ◌&&◌, ◌*◌, ◌++◌, ◌+◌, ◌-◌, ◌<◌, ◌==◌, ◌^◌, ◌||◌, ◌∙◌, ◌∷◌, ◌≡◌, ◌≢◌, ◌≤◌}
+pub use Rattle.std.proofs.lemmas.Bool.{and_from, and_parts, cases_eq, cases_lt, cases_order, cond-false, cond-true, cond_both, eq-eqb, eqb-true, false_from_ne_true, false≢true, le-ltb, lt-ltb, ne_eqb, true≢false}
 pub use Rattle.std.proofs.lemmas.Grind.{common_steps}
-pub use Rattle.std.proofs.lemmas.List.{get_or-map, length-map, map_push, take_at}
+pub use Rattle.std.proofs.lemmas.List.{drop_all, drop_at, get_or-map, get_or-replicate, get_or-set_other, get_or-set_same, get_or-take, get_or_append_left, get_or_past, get_or_push, length-map, length-replicate, length-take, length_push, map_more, map_push, take-append-le, take_all, take_at}
+pub use Rattle.std.proofs.lemmas.List.Elements.{All-contains, All-filter, All-same, filter-append}
 pub use Rattle.std.proofs.lemmas.List.Folds.{list_any_more}
-pub use Rattle.std.proofs.lemmas.Nat.Bits.{bit_at-zero}
-pub use Rattle.std.proofs.lemmas.Option.{get_or_from_slice_get, same_Some, slice_get-get_or, slice_get_within}
-pub use Rattle.std.specs.Int.{w64}
-pub use Rattle.roman_guard.proofs.CallerLemmas.{states_below-suc, states_below-zero}
-pub use Rattle.roman_guard.specs.Meaning.{has_state, states_of}
-unfoldable pub use Rattle.roman_guard.specs.Meaning.{states_below}
-pub use Rattle.roman_model.proofs.CallerLemmas.{any_from, any_true, filter_in, filter_same, from_below, in_below, in_contains, same_test}
-pub use Rattle.roman_model.specs.Lists.{IsIn, below}
+pub use Rattle.std.proofs.lemmas.List.Quantifiers.{position-Some}
+pub use Rattle.std.proofs.lemmas.Nat.{mul-add-lt, same_from_place}
+pub use Rattle.std.proofs.lemmas.Nat.Bits.{bit_at-trailing_zeros, bit_at-zero, bit_at_above, bit_at_clear_other, bit_at_clear_same, bit_at_set_other, bit_at_set_same}
+pub use Rattle.std.proofs.lemmas.Option.{get_or_from_slice_get, none-some, same_Some, slice_get-get_or, slice_get_within}
+pub use Rattle.std.proofs.lemmas.Slice.{between_is}
+pub use Rattle.std.proofs.lemmas.Slice.Eq.{bytes_eq-Decides}
+pub use Rattle.std.specs.Int.{bit_at, bit_not, trailing_zeros, w64}
+pub use Rattle.std.specs.Int.RustNames.{bit_and, bit_or}
+pub use Rattle.std.specs.List.{list_any, position_or_len, range_with_len}
+pub use Rattle.std.specs.Option.{option_and_then}
+pub use Rattle.std.specs.Str.{bytes_eq}
+pub use Rattle.roman_guard.proofs.CallerLemmas.{holds-All, holds-Among, holds-Both, holds-Either, holds-Never, holds-Not, states_below-past, states_below-same, states_below-suc, states_below-zero, states_below_are}
+pub use Rattle.roman_guard.specs.Meaning.{has_both, has_state, holds, states_of}
+unfoldable pub use Rattle.roman_guard.specs.Meaning.{least_below, states_below}
+pub use Rattle.roman_guard.specs.declared.formula.Guard.{Guard}
+pub use Rattle.roman_model.proofs.CallerLemmas.{HasNoRepeats-below, HasNoRepeats-filter, IsBeh-made, IsEnv-made, any_from, any_same, any_true, by_test, filter_in, filter_same, find_first, find_found, find_least, find_not_found, find_some, flat_map_same_in, from_below, from_made_final, from_made_move, from_made_triple, get_or-below, in_below, in_contains, in_filter, length-below, list_any-map, made_final, made_move, made_triple, move_test, none_from, same_test}
+pub use Rattle.roman_model.specs.Lists.{HasNoRepeats, IsIn, below}
+pub use Rattle.roman_model.specs.Made.{guarded_step}
 pub use Rattle.roman_model.specs.Normal.{normal_beh, normal_env}
-pub use Rattle.roman_model.specs.System.{Beh, Env, IsDeterministic, IsEnv, Move, has, has_move, has_triple}
+pub use Rattle.roman_model.specs.System.{Beh, Env, IsBeh, IsDeterministic, IsEnv, Move, Triple, has, has_move, has_triple, is_final}
 pub use Rattle.roman_model.specs.SystemArena.{beh_next, beh_prev, env_next, env_prev}
 pub use Rattle.roman_model.specs.declared.limits.TheConstants.{MAX_ACTIONS, MAX_STATES}
-pub use Rattle.roman_read.proofs.CallerLemmas.{IsLeft}
-pub use Rattle.roman_read.specs.Items.{pushing}
+pub use Rattle.roman_read.proofs.CallerLemmas.{IsLeft, at_start, bind_ok, is_done, place_of-present, pushed_ends, pushed_on, same_ok}
+pub use Rattle.roman_read.specs.Items.{pushing, ◌>>=◌}
 unfoldable pub use Rattle.roman_read.specs.Items.{each_item}
-pub use Rattle.serde_json.specs.Data.{Data, Items, depth}
-pub use Rattle.serde_json.specs.Find.{as_object}
-pub use Rattle.serde_json.specs.View.{items_view, view}
+pub use Rattle.roman_read.specs.Json.{list_of}
+pub use Rattle.roman_read.specs.Names.{place_of}
+pub use Rattle.roman_read.specs.declared.rules.Kind.{Kind}
+pub use Rattle.serde_json.proofs.Views.{Entry, items_len-items_view}
+pub use Rattle.serde_json.specs.Data.{Data, Items, array, boolean, depth, item, items_depth, member, no_items, no_members, null, number, object, string}
+pub use Rattle.serde_json.specs.Events.{items_len}
+pub use Rattle.serde_json.specs.Find.{as_array, as_bool, as_object}
+pub use Rattle.serde_json.specs.View.{items_view, members_view, view}
 pub use Rattle.serde_json.specs.declared.value.Value.{Value}
-pub use Rattle.roman_parts.specs.Cells.{HasCells, HasGuardedCells}
+pub use mir.Val.{bits}
+pub use Rattle.roman_parts.specs.Cells.{HasCells, HasGuardedCells, MarksMove, PutsIntoCell}
 unfoldable pub use Rattle.roman_parts.specs.Cells.{cell_has, goes, goes_back, is_move, is_triple, leads, leads_back}
 unfoldable pub use Rattle.roman_parts.specs.Choices.{choice_at, choice_between, choice_of, choice_with, first_below, single_of}
+pub use Rattle.roman_parts.specs.Guards.{among_of, each_guard, guard_of, guards_of, no_guard, operator_of, sole_member, sole_of, state_in}
 pub use Rattle.roman_parts.specs.Listed.{AreMoves, AreTriples, listed_beh, listed_env, move_of, triple_of}
-unfoldable pub use Rattle.roman_parts.specs.Lists.{name_step, place_in}
-pub use Rattle.roman_parts.specs.Named.{NamedEnv}
+pub use Rattle.roman_parts.specs.Lists.{finals_of}
+unfoldable pub use Rattle.roman_parts.specs.Lists.{name_step, names_of, place_in, start_of}
+pub use Rattle.roman_parts.specs.Named.{IsBehaviour, IsOver, IsTarget, NamedBeh, NamedEnv, NamedTarget}
+pub use Rattle.roman_parts.specs.Parts.{name_of}
+unfoldable pub use Rattle.roman_parts.specs.Parts.{behaviour_of, environment_of, target_of}
+pub use Rattle.roman_parts.specs.Reading.{check, found, items_at, looked}
+unfoldable pub use Rattle.roman_parts.specs.Reading.{counted_items}
+pub use Rattle.roman_parts.specs.Rows.{IsCut, pieces}
+pub use Rattle.roman_parts.specs.Steps.{four_of, move_item, moves_of, three_of, triple_item, triples_of}
+pub use Rattle.roman_parts.specs.Tables.{GuardedBeh, HasGuardedRows, HasRows}
+unfoldable pub use Rattle.roman_parts.specs.Tables.{row_moves, row_triples}
+pub use Rattle.roman_parts.specs.declared.error.List.TheVariants.{Finals, Steps}
+pub use Rattle.roman_parts.specs.declared.error.PartError.{PartError}

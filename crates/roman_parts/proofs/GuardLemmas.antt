@@ -1,21 +1,7 @@
 -- The meaning of a guard, by the form of its value.
-use Rattle.roman_parts.proofs.Common.{◌≡◌, ℕ, zero, suc, ◌+◌, ◌<◌, ◌≤◌, List, [], ◌∷◌, ◌++◌, length, get_or, map, Bool, Some, None, Ok, refl, sym, ap, ◌∙◌, arith, add-one, append_assoc, slice_get, map_push, Data, Items, depth, as_object, view, items_view, Value}
-use Rattle.std.proofs.Common.{drop, Result, Err, drop-cons, string_bytes}
-use Rattle.std.proofs.lemmas.List.{drop_all, append-nil}
-use Rattle.serde_json.specs.Data.{null, boolean, number, string, array, object, no_members, member, items_depth}
-use Rattle.serde_json.specs.Find.{as_bool, as_array}
-use Rattle.serde_json.specs.View.{members_view}
-use Rattle.serde_json.proofs.Views.{Entry}
-use Rattle.roman_read.specs.Items.{◌>>=◌}
-use Rattle.roman_read.specs.Json.{list_of}
-use Rattle.roman_guard.specs.Meaning.{holds}
-use Rattle.roman_guard.specs.declared.formula.Guard.{Guard}
-use Rattle.roman_guard.proofs.CallerLemmas.{holds-All, holds-Never, holds-Among, holds-Not, holds-Both, holds-Either}
-use Rattle.roman_parts.specs.Reading.{looked}
-use Rattle.roman_parts.specs.Guards.{sole_member, sole_of, no_guard, among_of, operator_of, guard_of, guards_of, each_guard}
+use Rattle.roman_parts.proofs.Common.{◌≡◌, ℕ, zero, suc, ◌+◌, ◌<◌, ◌≤◌, List, [], ◌∷◌, ◌++◌, length, get_or, map, Bool, Some, None, Ok, refl, sym, ap, ◌∙◌, arith, add-one, append_assoc, slice_get, map_push, Data, Items, depth, as_object, view, items_view, Value, drop, Result, Err, drop-cons, string_bytes, drop_all, null, boolean, number, string, array, object, no_members, member, items_depth, as_bool, as_array, members_view, Entry, ◌>>=◌, list_of, holds, Guard, holds-All, holds-Never, holds-Among, holds-Not, holds-Both, holds-Either, looked, sole_member, sole_of, no_guard, among_of, operator_of, guard_of, guards_of, each_guard, Steps, PartError}
+use Rattle.std.proofs.lemmas.List.{append-nil}
 use Rattle.roman_parts.specs.declared.error.List.{List as Place}
-use Rattle.roman_parts.specs.declared.error.List.TheVariants.{Steps}
-use Rattle.roman_parts.specs.declared.error.PartError.{PartError}
 
 -- ---- the only member
 

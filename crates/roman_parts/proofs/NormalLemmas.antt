@@ -1,11 +1,5 @@
 -- The normal form has the same steps, and its numbers are in range.
-use Rattle.roman_parts.proofs.Common.{◌≡◌, ℕ, ◌<◌, ◌≤◌, IsTrue, List, [], ◌∷◌, refl, subst, inl, inr, slice_get, IsIn, below, Env, Beh, has_triple, has_move, IsEnv, IsDeterministic, env_next, env_prev, beh_next, beh_prev, MAX_STATES, MAX_ACTIONS, normal_env, normal_beh, same_test, filter_in, from_below, filter_same}
-use Rattle.std.proofs.Common.{MatchOption, rules}
-use Rattle.roman_model.specs.Lists.{HasNoRepeats}
-use Rattle.roman_model.specs.System.{IsBeh, is_final}
-use Rattle.roman_parts.specs.Named.{IsOver}
-use Rattle.roman_model.proofs.CallerLemmas.{HasNoRepeats-below, HasNoRepeats-filter}
-use Rattle.roman_model.proofs.CallerLemmas.{IsEnv-made, IsBeh-made, from_made_triple, made_triple, from_made_move, made_move, from_made_final, made_final}
+use Rattle.roman_parts.proofs.Common.{◌≡◌, ℕ, ◌<◌, ◌≤◌, IsTrue, List, [], ◌∷◌, refl, subst, inl, inr, slice_get, IsIn, below, Env, Beh, has_triple, has_move, IsEnv, IsDeterministic, env_next, env_prev, beh_next, beh_prev, MAX_STATES, MAX_ACTIONS, normal_env, normal_beh, same_test, filter_in, from_below, filter_same, MatchOption, rules, HasNoRepeats, IsBeh, is_final, IsOver, HasNoRepeats-below, HasNoRepeats-filter, IsEnv-made, IsBeh-made, from_made_triple, made_triple, from_made_move, made_move, from_made_final, made_final}
 
 -- a triple of the normal form is a triple of the environment, in range
 pub from_normal_triple : (env : Env) (e a e' : ℕ) → IsTrue (has_triple (normal_env env) e a e') →

@@ -1,22 +1,6 @@
 -- The value of a document that is read as a part is well formed.
-use Rattle.roman_parts.proofs.Common.{◌≡◌, ℕ, ◌+◌, ◌<◌, ◌≤◌, ◌&&◌, Bool, true, false, List, [], ◌∷◌, ◌++◌, length, Option, Some, None, is_some, Ok, IsTrue, refl, sym, ap, ◌∙◌, subst, arith, length-append, and_parts, Data, Items, as_object, IsIn, normal_env, Beh, Move, IsEnv, MAX_STATES, MAX_ACTIONS, each_item, any_from, choice_of, single_of, name_step, place_in, NamedEnv}
-use Rattle.std.proofs.Common.{is_none, codes}
-use Rattle.std.specs.List.{position_or_len}
-use Rattle.std.specs.Str.{bytes_eq}
-use Rattle.std.proofs.lemmas.List.Quantifiers.{position-Some}
-use Rattle.std.proofs.lemmas.Slice.Eq.{bytes_eq-Decides}
-use Rattle.serde_json.specs.Data.{no_items, item}
-use Rattle.serde_json.specs.Events.{items_len}
-use Rattle.roman_model.specs.System.{Triple}
-use Rattle.roman_read.specs.Names.{place_of}
-use Rattle.roman_read.specs.declared.rules.Kind.{Kind}
+use Rattle.roman_parts.proofs.Common.{◌≡◌, ℕ, ◌+◌, ◌<◌, ◌≤◌, ◌&&◌, Bool, true, false, List, [], ◌∷◌, ◌++◌, length, Option, Some, None, is_some, Ok, IsTrue, refl, sym, ap, ◌∙◌, subst, arith, length-append, and_parts, Data, Items, as_object, IsIn, normal_env, Beh, Move, IsEnv, MAX_STATES, MAX_ACTIONS, each_item, any_from, choice_of, single_of, name_step, place_in, NamedEnv, is_none, codes, position_or_len, bytes_eq, position-Some, bytes_eq-Decides, no_items, item, items_len, Triple, place_of, Kind, same_ok, bind_ok, place_of-present, names_of, start_of, finals_of, NamedBeh, NamedTarget, IsBehaviour, IsTarget, environment_of, name_of, behaviour_of, target_of, found, check, items_at, counted_items, triples_of, moves_of}
 use Rattle.roman_read.specs.declared.rules.Kind.TheVariants as kind
-use Rattle.roman_read.proofs.CallerLemmas.{same_ok, bind_ok, place_of-present}
-use Rattle.roman_parts.specs.Lists.{names_of, start_of, finals_of}
-use Rattle.roman_parts.specs.Named.{NamedBeh, NamedTarget, IsBehaviour, IsTarget}
-use Rattle.roman_parts.specs.Parts.{environment_of, name_of, behaviour_of, target_of}
-use Rattle.roman_parts.specs.Reading.{found, check, items_at, counted_items}
-use Rattle.roman_parts.specs.Steps.{triples_of, moves_of}
 use Rattle.roman_parts.specs.declared.error.List.{List as Place}
 use Rattle.roman_parts.specs.declared.error.List.TheVariants as list
 use Rattle.roman_parts.proofs.NormalLemmas.{IsEnv-normal, IsOver-normal}

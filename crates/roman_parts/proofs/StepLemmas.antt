@@ -1,7 +1,5 @@
 -- Lists of three and four items, and lists of steps that are read item by item.
-use Rattle.roman_parts.proofs.Common.{◌≡◌, List, [], ◌∷◌, length, get_or, Some, None, refl, arith, map_push, view, items_view, Value}
-use Rattle.roman_read.proofs.CallerLemmas.{at_start, pushed_on, pushed_ends, is_done}
-use Rattle.roman_parts.specs.Steps.{three_of, four_of}
+use Rattle.roman_parts.proofs.Common.{◌≡◌, List, [], ◌∷◌, length, get_or, Some, None, refl, arith, map_push, view, items_view, Value, at_start, pushed_on, pushed_ends, is_done, three_of, four_of}
 
 pub three_of-items : (items : List Value) (a b c : Value) → length items ≡ 3 → a ≡ get_or items 0 a → b ≡ get_or items 1 b → c ≡ get_or items 2 c
     → three_of (items_view items) ≡ Some (view a, view b, view c)

@@ -1,13 +1,5 @@
 -- Rows made from the masks of a list of steps hold the steps of the record in normal form.
-use Rattle.roman_parts.proofs.Common.{◌≡◌, ℕ, zero, suc, ◌+◌, ◌*◌, ◌<◌, ◌≤◌, ◌==◌, Bool, false, IsTrue, List, [], ◌∷◌, ◌++◌, map, length, All, Some, slice_get, filter, refl, sym, ap, ◌∙◌, subst, arith, and_parts, eqb-true, eq-eqb, get_or-map, length-map, slice_get-get_or, get_or_from_slice_get, same_Some, below, Env, Beh, has_triple, has_move, has, env_next, env_prev, beh_next, beh_prev, normal_env, normal_beh, MAX_STATES, MAX_ACTIONS, same_test, any_true, any_from, in_contains, in_below, from_below, filter_in, filter_same, has_state, states_below, states_of, states_below-zero, states_below-suc, triple_of, listed_env, listed_beh, AreTriples, AreMoves, cell_has, is_triple, leads, leads_back, HasCells, is_move, goes, goes_back, HasGuardedCells}
-use Rattle.std.proofs.Common.{◌-◌}
-use Rattle.std.proofs.lemmas.Bool.{false_from_ne_true}
-use Rattle.std.proofs.lemmas.List.Elements.{filter-append, All-filter, All-contains, All-same}
-use Rattle.std.proofs.lemmas.Nat.{mul-add-lt}
-use Rattle.roman_model.specs.Made.{guarded_step}
-use Rattle.roman_model.proofs.CallerLemmas.{any_same, in_filter, list_any-map, length-below, get_or-below, flat_map_same_in}
-use Rattle.roman_guard.proofs.CallerLemmas.{states_below-same, states_below-past}
-use Rattle.roman_parts.specs.Tables.{row_triples, HasRows, GuardedBeh, row_moves, HasGuardedRows}
+use Rattle.roman_parts.proofs.Common.{◌≡◌, ℕ, zero, suc, ◌+◌, ◌*◌, ◌<◌, ◌≤◌, ◌==◌, Bool, false, IsTrue, List, [], ◌∷◌, ◌++◌, map, length, All, Some, slice_get, filter, refl, sym, ap, ◌∙◌, subst, arith, and_parts, eqb-true, eq-eqb, get_or-map, length-map, slice_get-get_or, get_or_from_slice_get, same_Some, below, Env, Beh, has_triple, has_move, has, env_next, env_prev, beh_next, beh_prev, normal_env, normal_beh, MAX_STATES, MAX_ACTIONS, same_test, any_true, any_from, in_contains, in_below, from_below, filter_in, filter_same, has_state, states_below, states_of, states_below-zero, states_below-suc, triple_of, listed_env, listed_beh, AreTriples, AreMoves, cell_has, is_triple, leads, leads_back, HasCells, is_move, goes, goes_back, HasGuardedCells, ◌-◌, false_from_ne_true, filter-append, All-filter, All-contains, All-same, mul-add-lt, guarded_step, any_same, in_filter, list_any-map, length-below, get_or-below, flat_map_same_in, states_below-same, states_below-past, row_triples, HasRows, GuardedBeh, row_moves, HasGuardedRows}
 use Rattle.roman_parts.proofs.NormalLemmas.{env_next-normal, env_prev-normal, IsEnv-normal, beh_next-normal, beh_prev-normal, IsOver-normal, is_final-normal}
 
 -- the numbers below a bound that pass

@@ -1,12 +1,22 @@
--- The names that several proof pages of this crate cite, passed on from one place. Declares nothing.
-pub use Rattle.std.proofs.Common.{List, [], add-one, ap, arith, drop, get_or, length, refl, replicate, slice_index, subst, suc, sym, take, zero, ℕ, ◌%◌, ◌*◌, ◌++◌, ◌+◌, ◌-◌, ◌/◌, ◌<◌, ◌^◌, ◌∙◌, ◌∷◌, ◌≡◌, ◌≤◌}
+-- What the proof pages of this crate cite from elsewhere, passed on from one place. Declares nothing.
+pub use Rattle.std.proofs.Common.{List, [], add-one, ap, ap₂, arith, cond, drop, get_or, length, mul-le-mul, refl, replicate, slice_index, subst, suc, sym, take, zero, ℕ, ◌%◌, ◌*◌, ◌++◌, ◌+◌, ◌-◌, ◌/◌, ◌<◌, ◌^◌, ◌∙◌, ◌∷◌, ◌≡◌, ◌≤◌}
 pub use Rattle.std.proofs.Math.ListN.{set}
-pub use Rattle.std.proofs.Math.Nat.{mul-le-mul_left}
-pub use Rattle.std.proofs.lemmas.List.{append_assoc, drop_all, drop_more, get_or-take, length-append, length-take-le, replicate_more, set_at}
+pub use Rattle.std.proofs.Math.Nat.{mul-le-mul_left, mul-pos}
+pub use Rattle.std.proofs.lemmas.Bool.{cases_lt, le-ltb, lt-ltb}
+pub use Rattle.std.proofs.lemmas.List.{append_assoc, drop-replicate, drop_all, drop_more, ext_get_or, get_or-set_other, get_or-set_same, get_or-take, get_or_append_left, length-append, length-replicate, length-set, length-take, length-take-le, replicate-append-replicate, replicate_more, set_at, take-append-le, take_at, take_rest}
+pub use Rattle.std.proofs.lemmas.List.Edits.{length-remove, remove-append_left}
+pub use Rattle.std.proofs.lemmas.List.Elements.{All-drop, recursion_from_All}
+pub use Rattle.std.proofs.lemmas.Nat.{div-add-mod', div-mul-add, mul-le}
+pub use Rattle.std.specs.List.{All, AllByRecursion, copy_within, remove}
+pub use Rattle.roman_model.proofs.CallerLemmas.{AreBelow-length, IsPairOf-at, IsPairOf-grown, IsPairOf-moved, IsPairOf-without, count-grown, count-without, number-grown, number-pair_at, number-set, number_below, number_without-is, part_at, parts_of_number}
+pub use Rattle.roman_model.specs.Change.{grown, without}
 pub use Rattle.roman_model.specs.Lists.{product_of}
-pub use Rattle.roman_model.specs.Numbers.{Sizes, count, grown_sizes, number, pair_at, sizes_without, states_number}
+pub use Rattle.roman_model.specs.Numbers.{IsPairOf, Sizes, count, grown_sizes, number, pair_at, sizes_without, states_number}
+pub use Rattle.roman_model.specs.System.{Pair}
 pub use Rattle.roman_model.specs.declared.limits.TheConstants.{MAX_SERVICES}
 pub use native.Mathlib.Nat.{div-div-eq-div-mul}
+pub use Rattle.roman_radix.specs.Layout.{IsLaidOut, sizes_in}
 pub use Rattle.roman_radix.specs.Places.{padded, strides_of}
-pub use Rattle.roman_radix.specs.Radix.{AreSizes, IsSizes, env_stride_of, stride_of}
-pub use Rattle.roman_radix.specs.Rows.{lanes_of, low_of, row_sizes}
+pub use Rattle.roman_radix.specs.Radix.{AreSizes, IsSizes, env_stride_of, moved, stride_of, target_stride_of, with_part}
+pub use Rattle.roman_radix.specs.Rows.{env_rows_of, lanes_of, low_of, row_sizes}
+pub use Rattle.roman_radix.specs.declared.shape.Shape.TheInside.{Inside}

@@ -1,9 +1,5 @@
 -- Rows and lanes.
-use Rattle.roman_radix.proofs.Common.{◌≡◌, ℕ, zero, suc, ◌+◌, ◌*◌, ◌/◌, ◌%◌, ◌<◌, ◌≤◌, List, [], ◌∷◌, length, take, drop, slice_index, sym, ap, ◌∙◌, arith, div-div-eq-div-mul, get_or-take, length-take-le, product_of, Sizes, count, AreSizes, IsSizes, env_stride_of, stride_of, low_of, lanes_of, row_sizes}
-use Rattle.std.proofs.Common.{cond}
-use Rattle.std.proofs.lemmas.Nat.{div-mul-add, div-add-mod', mul-le}
-use Rattle.std.proofs.lemmas.Bool.{cases_lt, lt-ltb, le-ltb}
-use Rattle.roman_radix.specs.Rows.{env_rows_of}
+use Rattle.roman_radix.proofs.Common.{◌≡◌, ℕ, zero, suc, ◌+◌, ◌*◌, ◌/◌, ◌%◌, ◌<◌, ◌≤◌, List, [], ◌∷◌, length, take, drop, slice_index, sym, ap, ◌∙◌, arith, div-div-eq-div-mul, get_or-take, length-take-le, product_of, Sizes, count, AreSizes, IsSizes, env_stride_of, stride_of, low_of, lanes_of, row_sizes, cond, div-mul-add, div-add-mod', mul-le, cases_lt, lt-ltb, le-ltb, env_rows_of}
 use Rattle.roman_radix.proofs.Strides.{product_positive, product_drop-le, AreSizes-drop}
 
 pub low_of-le : (ns : List ℕ) → low_of ns ≤ length ns

@@ -1,10 +1,5 @@
 -- A shape's fields in terms of the sizes that it holds.
-use Rattle.std.proofs.lemmas.List.{take-append-le}
-use Rattle.roman_radix.specs.declared.shape.Shape.TheInside.{Inside}
-use Rattle.roman_radix.specs.Radix.{target_stride_of}
-use Rattle.roman_radix.specs.Layout.{IsLaidOut, sizes_in}
-use Rattle.std.proofs.Common.{ap₂}
-use Rattle.roman_radix.proofs.Common.{◌≡◌, ℕ, ◌-◌, ◌≤◌, ◌∙◌, take, replicate, sym, ap, subst, length-append, MAX_SERVICES, AreSizes, row_sizes, ◌+◌, ◌^◌, ◌<◌, length, get_or, slice_index, arith, Sizes, count, IsSizes, stride_of, env_stride_of, padded, strides_of, low_of, lanes_of}
+use Rattle.roman_radix.proofs.Common.{take-append-le, Inside, target_stride_of, IsLaidOut, sizes_in, ap₂, ◌≡◌, ℕ, ◌-◌, ◌≤◌, ◌∙◌, take, replicate, sym, ap, subst, ◌+◌, ◌^◌, ◌<◌, length, get_or, slice_index, arith, length-append, MAX_SERVICES, AreSizes, IsSizes, stride_of, env_stride_of, row_sizes, low_of, lanes_of, Sizes, count, padded, strides_of}
 use Rattle.roman_radix.proofs.Strides.{product_positive, AreSizes-drop, AreSizes-index, stride_at, size_at}
 use Rattle.roman_radix.proofs.RowLemmas.{AreSizes-take, lanes_few, lanes_positive, low_of-le}
 

@@ -1,10 +1,5 @@
 -- Products of sizes, and the table of strides.
-use Rattle.roman_radix.proofs.Common.{◌≡◌, ℕ, zero, suc, ◌+◌, ◌-◌, ◌*◌, ◌^◌, ◌<◌, ◌≤◌, List, [], ◌∷◌, ◌++◌, length, take, drop, get_or, replicate, refl, sym, ap, ◌∙◌, arith, add-one, set, set_at, replicate_more, append_assoc, length-append, drop_all, drop_more, mul-le-mul_left, product_of, MAX_SERVICES, AreSizes, padded, strides_of}
-use Rattle.std.proofs.Common.{mul-le-mul}
-use Rattle.std.proofs.Math.Nat.{mul-pos}
-use Rattle.std.proofs.lemmas.List.{get_or_append_left, replicate-append-replicate, length-replicate, length-take}
-use Rattle.std.specs.List.{All, AllByRecursion}
-use Rattle.std.proofs.lemmas.List.Elements.{recursion_from_All, All-drop}
+use Rattle.roman_radix.proofs.Common.{◌≡◌, ℕ, zero, suc, ◌+◌, ◌-◌, ◌*◌, ◌^◌, ◌<◌, ◌≤◌, List, [], ◌∷◌, ◌++◌, length, take, drop, get_or, replicate, refl, sym, ap, ◌∙◌, arith, add-one, set, set_at, replicate_more, append_assoc, length-append, drop_all, drop_more, mul-le-mul_left, product_of, MAX_SERVICES, AreSizes, padded, strides_of, mul-le-mul, mul-pos, get_or_append_left, replicate-append-replicate, length-replicate, length-take, All, AllByRecursion, recursion_from_All, All-drop}
 
 -- a product of positive numbers is positive
 pub product_positive : (ns : List ℕ) → AreSizes ns → 0 < product_of ns

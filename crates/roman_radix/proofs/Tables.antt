@@ -1,9 +1,5 @@
 -- Tables of sizes after a size is added or dropped, and the sizes themselves.
-use Rattle.roman_radix.proofs.Common.{◌≡◌, ℕ, zero, suc, ◌+◌, ◌-◌, ◌*◌, ◌^◌, ◌<◌, ◌≤◌, List, [], ◌∷◌, ◌++◌, length, take, drop, get_or, replicate, refl, sym, ap, ◌∙◌, arith, add-one, set, mul-le-mul_left, append_assoc, set_at, length-append, replicate_more, drop_more, drop_all, Sizes, grown_sizes, sizes_without, count, MAX_SERVICES, AreSizes, IsSizes, padded}
-use Rattle.std.specs.List.{copy_within, remove}
-use Rattle.std.proofs.lemmas.List.{take_at, drop-replicate, take_rest}
-use Rattle.std.proofs.lemmas.List.Edits.{length-remove, remove-append_left}
-use Rattle.roman_model.proofs.CallerLemmas.{count-grown, count-without}
+use Rattle.roman_radix.proofs.Common.{◌≡◌, ℕ, zero, suc, ◌+◌, ◌-◌, ◌*◌, ◌^◌, ◌<◌, ◌≤◌, List, [], ◌∷◌, ◌++◌, length, take, drop, get_or, replicate, refl, sym, ap, ◌∙◌, arith, add-one, set, mul-le-mul_left, append_assoc, set_at, length-append, replicate_more, drop_more, drop_all, Sizes, grown_sizes, sizes_without, count, MAX_SERVICES, AreSizes, IsSizes, padded, copy_within, remove, take_at, drop-replicate, take_rest, length-remove, remove-append_left, count-grown, count-without}
 use Rattle.roman_radix.proofs.RowLemmas.{AreSizes-take}
 use Rattle.roman_radix.proofs.Shown.{shown}
 use Rattle.roman_radix.proofs.Strides.{length-padded, AreSizes-drop, AreSizes-index}

@@ -1,19 +1,5 @@
 -- The levels of a list, assigned to its nodes.
-use Rattle.roman_rank.proofs.Common.{◌≡◌, ◌≢◌, ℕ, zero, suc, ◌+◌, ◌-◌, ◌^◌, ◌<◌, ◌≤◌, ◌==◌, true, List, [], ◌∷◌, ◌++◌, length, take, slice_index, Some, IsTrue, IsFalse, inl, inr, refl, sym, ap, ◌∙◌, subst, arith, add-one, take-length, both_ways, eqb-true, eq-eqb, cases_eq, cases_lt, get_or_past, Arena, loses, by_test, last_is_steady, IsNumbered, numbered_arena, in_nodes, has_entry, IsRank, AreRanks, AreRanksBelow, GivesLevel, HoldsAllLost}
-use Rattle.std.proofs.Common.{set, slice_get}
-use Rattle.std.specs.Prelude.{min}
-use Rattle.std.specs.List.{IsDistinct}
-use Rattle.std.proofs.Math.Seq.{take-append_seam}
-use Rattle.std.proofs.lemmas.Bool.{or_cases, or_left, or_right, false≢true}
-use Rattle.std.proofs.lemmas.List.{get_or-map, get_or-set_same, get_or-set_other}
-use Rattle.std.proofs.lemmas.Option.{get_or_from_slice_get, slice_get_within}
-use Rattle.std.proofs.lemmas.Map.Keys.{apart_from_distinct}
-use Rattle.roman_model.specs.Arena.{Entry, is_listed}
-use Rattle.roman_model.proofs.CallerLemmas.{loses_down}
-use Rattle.roman_order.specs.Board.{nodes_of}
-use Rattle.roman_relation.specs.Settled.{AreLevels}
-use Rattle.roman_relation.proofs.CallerLemmas.{listed_is}
-use Rattle.roman_rank.specs.Ranking.{loses_before}
+use Rattle.roman_rank.proofs.Common.{◌≡◌, ◌≢◌, ℕ, zero, suc, ◌+◌, ◌-◌, ◌^◌, ◌<◌, ◌≤◌, ◌==◌, true, List, [], ◌∷◌, ◌++◌, length, take, slice_index, Some, IsTrue, IsFalse, inl, inr, refl, sym, ap, ◌∙◌, subst, arith, add-one, take-length, both_ways, eqb-true, eq-eqb, cases_eq, cases_lt, get_or_past, Arena, loses, by_test, last_is_steady, IsNumbered, numbered_arena, in_nodes, has_entry, IsRank, AreRanks, AreRanksBelow, GivesLevel, HoldsAllLost, set, slice_get, min, IsDistinct, take-append_seam, or_cases, or_left, or_right, false≢true, get_or-map, get_or-set_same, get_or-set_other, get_or_from_slice_get, slice_get_within, apart_from_distinct, Entry, is_listed, loses_down, nodes_of, AreLevels, listed_is, loses_before}
 
 -- ---- places in a list
 

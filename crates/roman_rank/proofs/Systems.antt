@@ -1,16 +1,5 @@
 -- Facts about a complete relation for ranking its pairs.
-use Rattle.roman_rank.proofs.Common.{◌≡◌, ℕ, ◌-◌, ◌^◌, ◌<◌, true, length, IsFalse, inl, inr, sym, ◌∙◌, subst, arith, not_from_false, cases_lt, Arena, sizes_of, count, pair_at, by_test, length-below, related_great, numbers_are_pairs, numbered_loses, last_is_steady, system_of, has_entry, arena_of, IsNumbered, numbered_arena, in_nodes, HoldsAllLost}
-use Rattle.roman_model.specs.Offers.{is_related}
-use Rattle.roman_model.proofs.CallerLemmas.{lost_unrelated, loses_up}
-use Rattle.std.proofs.Math.Nat.{mul-le-mul_left}
-use Rattle.roman_model.proofs.CallerLemmas.{numbered_listed, settled_exact}
-use Rattle.roman_joint.specs.NamedSys.{NamedSys, IsNamedSys}
-use Rattle.roman_order.specs.Board.{Board, pairs_of}
-use Rattle.roman_relation.specs.Shaped.{IsShaped}
-use Rattle.roman_relation.specs.Settled.{IsSettled}
-use Rattle.roman_relation.specs.Greatest.{row_lanes, HasCompleteList}
-use Rattle.roman_relation.proofs.CallerLemmas.{listed_numbers}
-use Rattle.roman_rules.proofs.CallerLemmas.{from_nodes}
+use Rattle.roman_rank.proofs.Common.{◌≡◌, ℕ, ◌-◌, ◌^◌, ◌<◌, true, length, IsFalse, inl, inr, sym, ◌∙◌, subst, arith, not_from_false, cases_lt, Arena, sizes_of, count, pair_at, by_test, length-below, related_great, numbers_are_pairs, numbered_loses, last_is_steady, system_of, has_entry, arena_of, IsNumbered, numbered_arena, in_nodes, HoldsAllLost, is_related, lost_unrelated, loses_up, mul-le-mul_left, numbered_listed, settled_exact, NamedSys, IsNamedSys, Board, pairs_of, IsShaped, IsSettled, row_lanes, HasCompleteList, listed_numbers, from_nodes}
 
 -- a joint has far fewer pairs than a number of 32 bits has values
 pub few_pairs : (n : NamedSys) → IsNamedSys n → length (arena_of n).nodes < 2 ^ 32 - 1

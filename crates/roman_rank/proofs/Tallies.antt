@@ -1,9 +1,5 @@
 -- How often a number occurs in a table.
-use Rattle.roman_rank.proofs.Common.{◌≡◌, ◌≢◌, ℕ, zero, suc, ◌+◌, ◌-◌, ◌^◌, ◌<◌, ◌≤◌, ◌==◌, true, cond, List, [], ◌∷◌, ◌++◌, length, take, get_or, slice_index, IsTrue, inl, inr, refl, sym, ap, ◌∙◌, subst, arith, add-one, count_by, take-length, cases_eq, cases_lt, cond-true, cond-false, eq-eqb, ne_eqb, below, by_test, AreCounts}
-use Rattle.std.proofs.Common.{Bool}
-use Rattle.std.proofs.lemmas.List.{take_more}
-use Rattle.std.proofs.lemmas.List.Sums.{sum_by_push, sum_by-cons, count_by_more_yes, count_by_more_no}
-use Rattle.roman_rank.specs.Ranking.{HasOneMore}
+use Rattle.roman_rank.proofs.Common.{◌≡◌, ◌≢◌, ℕ, zero, suc, ◌+◌, ◌-◌, ◌^◌, ◌<◌, ◌≤◌, ◌==◌, true, cond, List, [], ◌∷◌, ◌++◌, length, take, get_or, slice_index, IsTrue, inl, inr, refl, sym, ap, ◌∙◌, subst, arith, add-one, count_by, take-length, cases_eq, cases_lt, cond-true, cond-false, eq-eqb, ne_eqb, below, by_test, AreCounts, Bool, take_more, sum_by_push, sum_by-cons, count_by_more_yes, count_by_more_no, HasOneMore}
 
 -- the number that a test adds to a count
 abbrev pub one_if : Bool → ℕ

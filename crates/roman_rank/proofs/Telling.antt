@@ -1,19 +1,5 @@
 -- What a table of depths states about its system.
-use Rattle.roman_rank.proofs.Common.{◌≡◌, ◌≢◌, ℕ, suc, ◌+◌, ◌-◌, ◌^◌, ◌<◌, ◌≤◌, ◌==◌, cond, List, [], ◌++◌, length, drop, get_or, slice_index, Some, inl, inr, refl, sym, ap, ◌∙◌, subst, arith, add-one, count_by, both_ways, cases_lt, cond-true, cond-false, eqb-true, eq-eqb, ne_eqb, not_from_false, get_or_past, below, loses, sizes_of, count, pair_at, by_test, related_great, numbers_are_pairs, numbered_loses, IsRank, AreRanks, level_lines, none-some, IsLeast, Counts}
-use Rattle.std.proofs.Common.{◌⊎◌, ◌↔◌, filter, Option, None, Result, ap₂, append_assoc, append-nil, drop-cons}
-use Rattle.std.specs.Prelude.{IfSome}
-use Rattle.std.proofs.lemmas.Bool.{cases_order}
-use Rattle.std.proofs.lemmas.List.Sums.{length-filter}
-use Rattle.roman_io.specs.Sink.{Puts}
-use Rattle.roman_model.specs.System.{Sys, Pair, IsSys, IsPair}
-use Rattle.roman_model.specs.SystemArena.{pairs, arena}
-use Rattle.roman_model.specs.Composition.{couple, Great}
-use Rattle.roman_model.specs.Numbers.{number, numbered}
-use Rattle.roman_model.specs.Play.{DepthPlayWins}
-use Rattle.roman_model.proofs.CallerLemmas.{in_filter, filter_in, HasNoRepeats-filter, depth_won, depth_least, great_holds, lost_fails, unlost_holds, in_pairs, from_pairs, pairs_once, sum_over_pairs}
-use Rattle.roman_rank.specs.Depths.{IsDepth, IsGreatest}
-use Rattle.roman_rank.specs.Ranking.{depth_in, AreDepths, IsRanking}
-use Rattle.roman_rank.specs.DepthText.{head_lines, level_line, last_lines, TellsDepths, PutsDepths}
+use Rattle.roman_rank.proofs.Common.{◌≡◌, ◌≢◌, ℕ, suc, ◌+◌, ◌-◌, ◌^◌, ◌<◌, ◌≤◌, ◌==◌, cond, List, [], ◌++◌, length, drop, get_or, slice_index, Some, inl, inr, refl, sym, ap, ◌∙◌, subst, arith, add-one, count_by, both_ways, cases_lt, cond-true, cond-false, eqb-true, eq-eqb, ne_eqb, not_from_false, get_or_past, below, loses, sizes_of, count, pair_at, by_test, related_great, numbers_are_pairs, numbered_loses, IsRank, AreRanks, level_lines, none-some, IsLeast, Counts, ◌⊎◌, ◌↔◌, filter, Option, None, Result, ap₂, append_assoc, append-nil, drop-cons, IfSome, cases_order, length-filter, Puts, Sys, Pair, IsSys, IsPair, pairs, arena, couple, Great, number, numbered, DepthPlayWins, in_filter, filter_in, HasNoRepeats-filter, depth_won, depth_least, great_holds, lost_fails, unlost_holds, in_pairs, from_pairs, pairs_once, sum_over_pairs, IsDepth, IsGreatest, depth_in, AreDepths, IsRanking, head_lines, level_line, last_lines, TellsDepths, PutsDepths}
 use Rattle.roman_rank.proofs.Tallies.{count_places, count_there, count_place}
 
 -- ---- the depth of a pair

@@ -1,14 +1,6 @@
 -- The bands that were noted in a round.
-use Rattle.roman_relation.proofs.Common.{◌≡◌, ℕ, zero, suc, ◌+◌, ◌-◌, ◌*◌, ◌/◌, ◌%◌, ◌<◌, ◌≤◌, true, false, cond, ◌||◌, ◌==◌, List, [], ◌∷◌, ◌++◌, length, take, drop, slice_index, IsTrue, IsFalse, inl, inr, refl, sym, ap, ◌∙◌, subst, arith, take-append-drop, append_assoc, not, take-length, cases_eq, both_ways, eqb-true, or_right, or_parts, false_from_ne_true, not_from_true, eq-eqb, ne_eqb, not_from_false, take-take, length-take-le, list_any-append, sum_by_push, IsIn, below, Arena, Entry, is_listed, IsOrder, fall, IsNumbered, by_test, sum_by_same, any_from, from_map, in_map, listed_append, any_true, is_on, Board, as_entry, set_lanes, has_entry, pairs_of, IsEvent, entries_at, Event, in_lanes, lane_place, InRound, IsMarking, moves_to_all, on_at, IsShaped}
-use Rattle.roman_relation.specs.Rounds.{AreGoneBack}
-use Rattle.std.proofs.Common.{length-drop}
-use Rattle.std.proofs.lemmas.Bool.{cases_Bool}
-use Rattle.std.proofs.Math.Bool.{or-false}
-use Rattle.std.proofs.Math.Seq.{drop-append_seam}
-use Rattle.roman_model.proofs.CallerLemmas.{in_append_left, in_append_right, none_from, split_at, order_middle}
-use Rattle.roman_relation.specs.Rounds.{has_band, moves_to}
+use Rattle.roman_relation.proofs.Common.{◌≡◌, ℕ, zero, suc, ◌+◌, ◌-◌, ◌*◌, ◌/◌, ◌%◌, ◌<◌, ◌≤◌, true, false, cond, ◌||◌, ◌==◌, List, [], ◌∷◌, ◌++◌, length, take, drop, slice_index, IsTrue, IsFalse, inl, inr, refl, sym, ap, ◌∙◌, subst, arith, take-append-drop, append_assoc, not, take-length, cases_eq, both_ways, eqb-true, or_right, or_parts, false_from_ne_true, not_from_true, eq-eqb, ne_eqb, not_from_false, take-take, length-take-le, list_any-append, sum_by_push, IsIn, below, Arena, Entry, is_listed, IsOrder, fall, IsNumbered, by_test, sum_by_same, any_from, from_map, in_map, listed_append, any_true, is_on, Board, as_entry, set_lanes, has_entry, pairs_of, IsEvent, entries_at, Event, in_lanes, lane_place, InRound, IsMarking, moves_to_all, on_at, IsShaped, AreGoneBack, length-drop, cases_Bool, or-false, drop-append_seam, in_append_left, in_append_right, none_from, split_at, order_middle, has_band, moves_to, AreUnkept}
 use Rattle.roman_relation.proofs.Beginnings.{take_listed}
-use Rattle.roman_order.specs.Walks.{AreUnkept}
 use Rattle.roman_relation.proofs.Lanes.{at_pair}
 use Rattle.roman_relation.proofs.Losses.{fall_entries, first_lane, lane_in, noted_entries, take_entries}
 use Rattle.roman_relation.proofs.Marks.{IsNoted, noted_own, noted_other, sum_one_more}

@@ -1,6 +1,5 @@
 -- Rows as parts of bands.
-use Rattle.roman_relation.proofs.Common.{◌≡◌, ℕ, ◌+◌, ◌*◌, ◌/◌, ◌%◌, ◌<◌, ◌≤◌, ◌-◌, ◌⊎◌, length, ap, ◌∙◌, arith, cases_lt, mul-le, mul-add-lt, div_below, div-add-mod', mod_below, Arena, Board, IsShaped, lane_place}
-use Rattle.std.proofs.Math.Nat.{div-le_self}
+use Rattle.roman_relation.proofs.Common.{◌≡◌, ℕ, ◌+◌, ◌*◌, ◌/◌, ◌%◌, ◌<◌, ◌≤◌, ◌-◌, ◌⊎◌, length, ap, ◌∙◌, arith, cases_lt, mul-le, mul-add-lt, div_below, div-add-mod', mod_below, Arena, Board, IsShaped, lane_place, div-le_self}
 use Rattle.roman_relation.proofs.Lanes.{shaped_pairs, shaped_row, shaped_rows}
 
 -- a pair from its band, its row within the band, and its lane

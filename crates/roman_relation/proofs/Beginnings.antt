@@ -1,7 +1,5 @@
 -- Lists of entries that begin with other lists.
-use Rattle.roman_relation.proofs.Common.{◌≡◌, ℕ, ◌<◌, ◌≤◌, ◌==◌, List, length, take, drop, IsTrue, IsFalse, sym, ap, ◌∙◌, subst, arith, take-append-drop, ◌++◌, take-length, take-append_seam, both_ways, or_left, false_from_ne_true, take-take, get_or-take, Arena, Entry, is_listed, any_same, listed_append, IsNumbered, has_entry, Begins}
-use Rattle.std.proofs.Common.{get_or}
-use Rattle.std.proofs.lemmas.List.{length-take}
+use Rattle.roman_relation.proofs.Common.{◌≡◌, ℕ, ◌<◌, ◌≤◌, ◌==◌, List, length, take, drop, IsTrue, IsFalse, sym, ap, ◌∙◌, subst, arith, take-append-drop, ◌++◌, take-length, take-append_seam, both_ways, or_left, false_from_ne_true, take-take, get_or-take, Arena, Entry, is_listed, any_same, listed_append, IsNumbered, has_entry, Begins, get_or, length-take}
 
 -- a node is listed where the order has an entry for it
 pub listed_is : (A : Arena ℕ) → IsNumbered A → (L : List (Entry ℕ)) (p : ℕ) → is_listed A L p ≡ has_entry L p

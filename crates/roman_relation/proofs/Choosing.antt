@@ -1,6 +1,5 @@
 -- The number of seats in all masks.
-use Rattle.roman_relation.proofs.Common.{◌≡◌, ℕ, zero, suc, ◌+◌, ◌*◌, sum_by, sym, ap, ◌∙◌, arith, sum_by_push, below}
-use Rattle.roman_rules.proofs.CallerLemmas.{sum_further}
+use Rattle.roman_relation.proofs.Common.{◌≡◌, ℕ, zero, suc, ◌+◌, ◌*◌, sum_by, sym, ap, ◌∙◌, arith, sum_by_push, below, sum_further}
 
 -- a sum over rows and lanes is a sum over all pairs
 pub sum_rows : (f : ℕ → ℕ) (lanes rows : ℕ) → sum_by (λ row. sum_by (λ lane. f (row * lanes + lane)) (below lanes)) (below rows) ≡ sum_by f (below (rows * lanes))

@@ -1,8 +1,5 @@
 -- Pairs as lanes of rows.
-use Rattle.roman_relation.proofs.Common.{◌≡◌, ℕ, ◌+◌, ◌*◌, ◌/◌, ◌%◌, ◌<◌, Bool, false, not, List, length, slice_index, IsTrue, sym, ap, ◌∙◌, arith, by_test, both_ways, not_from_false, div-add-mod', div_below, mod_below, Arena, Entry, is_listed, is_on, HasLanes, on_zero, IsNumbered, Board, has_entry, IsShaped, AreUnlisted, on_at, lane_place}
-use Rattle.std.proofs.Common.{ap₂}
-use Rattle.std.proofs.lemmas.Nat.{same_from_place}
-use Rattle.roman_lanes.specs.Rows.{AreRows}
+use Rattle.roman_relation.proofs.Common.{◌≡◌, ℕ, ◌+◌, ◌*◌, ◌/◌, ◌%◌, ◌<◌, Bool, false, not, List, length, slice_index, IsTrue, sym, ap, ◌∙◌, arith, by_test, both_ways, not_from_false, div-add-mod', div_below, mod_below, Arena, Entry, is_listed, is_on, HasLanes, on_zero, IsNumbered, Board, has_entry, IsShaped, AreUnlisted, on_at, lane_place, ap₂, same_from_place, AreRows}
 use Rattle.roman_relation.proofs.Beginnings.{listed_is}
 
 -- a word of the pairs without an entry is a word of the pairs that aren't listed

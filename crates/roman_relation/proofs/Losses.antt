@@ -1,12 +1,5 @@
 -- Noting the entries of an event together.
-use Rattle.roman_relation.proofs.Common.{◌≡◌, ◌≢◌, ℕ, ◌+◌, ◌*◌, ◌<◌, ◌≤◌, true, false, ◌&&◌, List, [], ◌∷◌, ◌++◌, length, take, drop, IsTrue, inl, inr, refl, sym, ap, ◌∙◌, subst, arith, take-append-drop, ◌==◌, and_parts, or_cases, or_left, or_right, eq-eqb, length-take-le, take-append_seam, listed_append, fall_append, in_map, from_map, in_below, listed_in, numbered_same, list_any-append, IsIn, below, Arena, Entry, is_listed, fall, is_on, IsNumbered, Board, as_entry, set_lanes, has_entry, IsEvent, entries_at, Event, in_lanes, IsMarking, on_at}
-use Rattle.roman_model.specs.Arena.{back}
-use Rattle.std.proofs.Common.{◌^◌, bit_and}
-use Rattle.std.proofs.Math.Seq.{take-append-add}
-use Rattle.std.proofs.lemmas.Nat.{and_le_l}
-use Rattle.roman_model.proofs.CallerLemmas.{in_filter, sum_by_within}
-use Rattle.roman_lanes.proofs.CallerLemmas.{on_and}
-use Rattle.roman_order.proofs.CallerLemmas.{has_entry-event, some_lane}
+use Rattle.roman_relation.proofs.Common.{◌≡◌, ◌≢◌, ℕ, ◌+◌, ◌*◌, ◌<◌, ◌≤◌, true, false, ◌&&◌, List, [], ◌∷◌, ◌++◌, length, take, drop, IsTrue, inl, inr, refl, sym, ap, ◌∙◌, subst, arith, take-append-drop, ◌==◌, and_parts, or_cases, or_left, or_right, eq-eqb, length-take-le, take-append_seam, listed_append, fall_append, in_map, from_map, in_below, listed_in, numbered_same, list_any-append, IsIn, below, Arena, Entry, is_listed, fall, is_on, IsNumbered, Board, as_entry, set_lanes, has_entry, IsEvent, entries_at, Event, in_lanes, IsMarking, on_at, back, ◌^◌, bit_and, take-append-add, and_le_l, in_filter, sum_by_within, on_and, has_entry-event, some_lane}
 use Rattle.roman_relation.proofs.Beginnings.{listed_is}
 
 -- ---- words that meet

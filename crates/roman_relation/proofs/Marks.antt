@@ -1,8 +1,5 @@
 -- Clearing marks one by one, and noting bands.
-use Rattle.roman_relation.proofs.Common.{◌≡◌, ◌≢◌, sum_by, ℕ, zero, suc, ◌+◌, ◌*◌, ◌/◌, ◌%◌, ◌<◌, Bool, true, false, cond, not, List, [], ◌∷◌, ◌++◌, length, Some, slice_get, slice_index, IsTrue, inl, inr, sym, ap, ◌∙◌, arith, count_by, cases_eq, cases_lt, both_ways, not_from_true, not_from_false, not-true, false_from_ne_true, sum_by_push, get_or_past, get_or_from_slice_get, slice_get_within, mod_below, div-add-mod', IsIn, below, Arena, Entry, is_listed, sum_by_same, in_listed, is_on, HasLanes, has_flag, IsNumbered, numbered_same, Board, is_marked, IsMarking, on_at}
-use Rattle.roman_model.proofs.CallerLemmas.{from_below}
-use Rattle.std.proofs.lemmas.Nat.Bits.{bit_at-zero}
-use Rattle.roman_model.proofs.CallerLemmas.{contains_in}
+use Rattle.roman_relation.proofs.Common.{◌≡◌, ◌≢◌, sum_by, ℕ, zero, suc, ◌+◌, ◌*◌, ◌/◌, ◌%◌, ◌<◌, Bool, true, false, cond, not, List, [], ◌∷◌, ◌++◌, length, Some, slice_get, slice_index, IsTrue, inl, inr, sym, ap, ◌∙◌, arith, count_by, cases_eq, cases_lt, both_ways, not_from_true, not_from_false, not-true, false_from_ne_true, sum_by_push, get_or_past, get_or_from_slice_get, slice_get_within, mod_below, div-add-mod', IsIn, below, Arena, Entry, is_listed, sum_by_same, in_listed, is_on, HasLanes, has_flag, IsNumbered, numbered_same, Board, is_marked, IsMarking, on_at, from_below, bit_at-zero, contains_in}
 use Rattle.roman_relation.proofs.Beginnings.{take_listed}
 
 -- ---- fewer marks

@@ -1,9 +1,5 @@
 -- A whole round.
-use Rattle.roman_relation.proofs.Common.{◌≡◌, ℕ, suc, ◌*◌, ◌/◌, ◌<◌, ◌≤◌, true, false, not, length, take, IsTrue, IsFalse, inl, inr, sym, ap, ◌∙◌, subst, arith, take-length, both_ways, or_cases, or_left, or_right, not_from_true, not_from_false, not-true, false_from_ne_true, mul-add-lt, IsIn, below, Arena, is_listed, is_justified, IsOrder, Reason, Act, by_test, any_same, in_listed, any_true, IsNumbered, numbered_same, Board, has_entry, is_marked, Begins, IsSettled, HoldsLost, AreUnlisted, AwaitsRound, InRound, IsPairJudged, IsMarking, on_at}
-use Rattle.roman_model.specs.declared.reason.Reason.TheVariants.{Final}
-use Rattle.std.specs.List.{list_any}
-use Rattle.roman_model.specs.Arena.{loses}
-use Rattle.roman_model.proofs.CallerLemmas.{same_test, justified_same}
+use Rattle.roman_relation.proofs.Common.{◌≡◌, ℕ, suc, ◌*◌, ◌/◌, ◌<◌, ◌≤◌, true, false, not, length, take, IsTrue, IsFalse, inl, inr, sym, ap, ◌∙◌, subst, arith, take-length, both_ways, or_cases, or_left, or_right, not_from_true, not_from_false, not-true, false_from_ne_true, mul-add-lt, IsIn, below, Arena, is_listed, is_justified, IsOrder, Reason, Act, by_test, any_same, in_listed, any_true, IsNumbered, numbered_same, Board, has_entry, is_marked, Begins, IsSettled, HoldsLost, AreUnlisted, AwaitsRound, InRound, IsPairJudged, IsMarking, on_at, Final, list_any, loses, same_test, justified_same}
 use Rattle.roman_relation.proofs.Beginnings.{listed_is, begins_listed, begins_unlisted, take_listed}
 use Rattle.roman_relation.proofs.Lanes.{at_pair, on_lane}
 

@@ -1,17 +1,6 @@
 -- Lists with entries for the lanes of a row.
-use Rattle.roman_relation.proofs.Common.{◌≡◌, ℕ, zero, suc, ◌+◌, ◌*◌, ◌/◌, ◌<◌, ◌≤◌, ◌⊎◌, Bool, true, false, not, ◌&&◌, ◌||◌, List, [], ◌∷◌, ◌++◌, length, take, slice_index, IsTrue, IsFalse, inl, inr, refl, sym, ap, ◌∙◌, subst, arith, append_assoc, both_ways, cases_lt, cases_eq, false_from_ne_true, or_cases, or_parts, or_left, and_parts, not_from_false, not-true, ne_eqb, get_or_past, IsIn, below, Arena, Entry, is_listed, is_justified, IsOrder, Reason, Act, from_map, any_from, in_below, listed_append, listed_in, is_on, on_zero, IsNumbered, numbered_same, Board, as_entry, set_lanes, has_entry, in_lanes, lane_place, Begins, AreUnlisted, InRound, IsJudged}
-use Rattle.roman_model.proofs.CallerLemmas.{listed_push}
-use Rattle.roman_lanes.specs.Rows.{Keeps}
-use Rattle.roman_order.specs.Board.{entries_in_rows}
-use Rattle.std.proofs.lemmas.Bool.{and_from}
-use Rattle.std.proofs.Common.{map}
-use Rattle.std.proofs.lemmas.Bool.{or_from}
+use Rattle.roman_relation.proofs.Common.{◌≡◌, ℕ, zero, suc, ◌+◌, ◌*◌, ◌/◌, ◌<◌, ◌≤◌, ◌⊎◌, Bool, true, false, not, ◌&&◌, ◌||◌, List, [], ◌∷◌, ◌++◌, length, take, slice_index, IsTrue, IsFalse, inl, inr, refl, sym, ap, ◌∙◌, subst, arith, append_assoc, both_ways, cases_lt, cases_eq, false_from_ne_true, or_cases, or_parts, or_left, and_parts, not_from_false, not-true, ne_eqb, get_or_past, IsIn, below, Arena, Entry, is_listed, is_justified, IsOrder, Reason, Act, from_map, any_from, in_below, listed_append, listed_in, is_on, on_zero, IsNumbered, numbered_same, Board, as_entry, set_lanes, has_entry, in_lanes, lane_place, Begins, AreUnlisted, InRound, IsJudged, listed_push, Keeps, entries_in_rows, and_from, map, or_from, HasNoRepeats, justified_more, order_push, entries_in, lanes_once, has_entry-lane, has_entry-later, entries_in_rows-row, AddsLost, AreLostRows}
 use Rattle.std.proofs.lemmas.List.{append-nil}
-use Rattle.roman_model.specs.Lists.{HasNoRepeats}
-use Rattle.roman_model.proofs.CallerLemmas.{justified_more, order_push}
-use Rattle.roman_order.specs.Board.{entries_in}
-use Rattle.roman_order.proofs.CallerLemmas.{lanes_once, has_entry-lane, has_entry-later, entries_in_rows-row}
-use Rattle.roman_relation.specs.Rounds.{AddsLost, AreLostRows}
 use Rattle.roman_relation.proofs.Beginnings.{begins_append, begins_itself, begins_length, begins_listed, begins_on, begins_same, begins_unlisted, listed_is, take_listed}
 
 -- ---- a removal list with the entries of some lanes, for one reason that held before them

@@ -1,17 +1,5 @@
 -- Relations with a complete list, and the greatest ND-simulation.
-use Rattle.roman_relation.proofs.Common.{◌≡◌, ◌≢◌, ℕ, ◌+◌, ◌<◌, ◌≤◌, ◌⊎◌, Bool, true, not, List, [], ◌∷◌, length, IsTrue, inl, inr, refl, sym, ap, ◌∙◌, subst, arith, below, Arena, Entry, is_listed, sizes_of, count, length-below, in_listed, system_of, Board, pairs_of, has_entry, IsSettled, AreLevels, arena_of}
-use Rattle.std.proofs.Common.{◌↔◌, filter}
-use Rattle.std.proofs.Math.Bool.{not-not}
-use Rattle.std.proofs.Math.Nat.{le-div_iff_mul-le}
-use Rattle.roman_model.specs.System.{Sys}
-use Rattle.roman_model.specs.SystemArena.{pairs}
-use Rattle.roman_model.specs.Arena.{choices}
-use Rattle.roman_model.specs.Composition.{Great}
-use Rattle.roman_model.specs.Numbers.{pair_at, numbered}
-use Rattle.roman_model.specs.Offers.{is_related, choice_count}
-use Rattle.roman_model.proofs.CallerLemmas.{related_great, great_related, numbers_are_pairs, AreNumbers, numbered_is_same, numbered_completed_by, numbered_listed, numbered_choices, numbered_related_count}
-use Rattle.roman_joint.specs.NamedSys.{NamedSys, IsNamedSys}
-use Rattle.roman_relation.specs.Greatest.{HasCaps, HasCompleteList}
+use Rattle.roman_relation.proofs.Common.{◌≡◌, ◌≢◌, ℕ, ◌+◌, ◌<◌, ◌≤◌, ◌⊎◌, Bool, true, not, List, [], ◌∷◌, length, IsTrue, inl, inr, refl, sym, ap, ◌∙◌, subst, arith, below, Arena, Entry, is_listed, sizes_of, count, length-below, in_listed, system_of, Board, pairs_of, has_entry, IsSettled, AreLevels, arena_of, ◌↔◌, filter, not-not, le-div_iff_mul-le, Sys, pairs, choices, Great, pair_at, numbered, is_related, choice_count, related_great, great_related, numbers_are_pairs, AreNumbers, numbered_is_same, numbered_completed_by, numbered_listed, numbered_choices, numbered_related_count, NamedSys, IsNamedSys, HasCaps, HasCompleteList}
 
 -- there are no levels, or they are those of the list
 pub either_levels : (A : Arena ℕ) (L : List (Entry ℕ)) (board : Board) → (L ≡ [] → AreLevels A board.levels board.list) → (L ≢ [] → board.levels ≡ []) → (board.levels ≡ []) ⊎ AreLevels A board.levels board.list

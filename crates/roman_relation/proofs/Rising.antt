@@ -1,8 +1,5 @@
 -- Lists whose entries rise by depth.
-use Rattle.roman_relation.proofs.Common.{◌≡◌, ℕ, suc, ◌<◌, ◌≤◌, true, List, [], ◌∷◌, ◌++◌, length, take, slice_get, Some, IsFalse, inl, inr, sym, ap, ◌∙◌, subst, arith, cases_lt, both_ways, false_from_ne_true, take-take, length_push, take-length, get_or_from_slice_get, slice_get_within, Arena, Entry, is_listed, IsOrder, IsNumbered, has_entry, Begins, HoldsLost, RisesByDepth, AreLevels}
-use Rattle.std.proofs.lemmas.List.{get_or_append_left, get_or-append_right}
-use Rattle.std.proofs.lemmas.Option.{slice_get-get_or}
-use Rattle.roman_model.proofs.CallerLemmas.{loses_up, order_entry}
+use Rattle.roman_relation.proofs.Common.{◌≡◌, ℕ, suc, ◌<◌, ◌≤◌, true, List, [], ◌∷◌, ◌++◌, length, take, slice_get, Some, IsFalse, inl, inr, sym, ap, ◌∙◌, subst, arith, cases_lt, both_ways, false_from_ne_true, take-take, length_push, take-length, get_or_from_slice_get, slice_get_within, Arena, Entry, is_listed, IsOrder, IsNumbered, has_entry, Begins, HoldsLost, RisesByDepth, AreLevels, get_or_append_left, get_or-append_right, slice_get-get_or, loses_up, order_entry}
 use Rattle.roman_relation.proofs.Beginnings.{listed_is, begins_get, begins_length, begins_same, begins_listed}
 use Rattle.roman_relation.proofs.Marks.{entry_listed}
 

@@ -1,10 +1,5 @@
 -- The answers of a band of rows.
-use Rattle.roman_repair.proofs.Common.{◌≡◌, ℕ, ◌+◌, ◌-◌, ◌*◌, ◌/◌, ◌^◌, ◌<◌, ◌≤◌, Bool, true, ◌&&◌, ◌||◌, List, [], ◌∷◌, ◌++◌, length, slice_index, Option, None, Some, IsTrue, inl, inr, ap, ◌∙◌, arith, or_cases, or_left, or_right, div-add-mod', mul-le-mul_left, is_on, on_full, list_any, is_empty, any_from, any_true, Arena, Entry, is_listed, Reason, Final, Act, justified_more, listed_append, HoldsInBand, IsKnown, passes}
-use Rattle.std.proofs.lemmas.List.{get_or-replicate}
-use Rattle.std.proofs.Common.{replicate}
-use Rattle.std.proofs.lemmas.List.{get_or_append_left}
-use Rattle.roman_lanes.specs.Rows.{Keeps}
-use Rattle.roman_repair.specs.declared.asked_band.AskedBand.{AskedBand}
+use Rattle.roman_repair.proofs.Common.{◌≡◌, ℕ, ◌+◌, ◌-◌, ◌*◌, ◌/◌, ◌^◌, ◌<◌, ◌≤◌, Bool, true, ◌&&◌, ◌||◌, List, [], ◌∷◌, ◌++◌, length, slice_index, Option, None, Some, IsTrue, inl, inr, ap, ◌∙◌, arith, or_cases, or_left, or_right, div-add-mod', mul-le-mul_left, is_on, on_full, list_any, is_empty, any_from, any_true, justified_more, listed_append, Arena, Entry, is_listed, Reason, Final, Act, HoldsInBand, IsKnown, passes, get_or-replicate, replicate, get_or_append_left, Keeps, AskedBand}
 
 -- a word that is full of lanes has each of them
 pub full_lane : (words : List ℕ) (rows n i lane : ℕ) → words ≡ replicate rows ((2 ^ 64 - 1) / 2 ^ (64 - n)) → i < rows → n ≤ 64 → lane < n → is_on (slice_index words i) lane ≡ true

@@ -1,11 +1,5 @@
 -- The entries of a removal list after a death.
-use Rattle.roman_repair.proofs.Common.{◌≡◌, ℕ, ◌+◌, ◌-◌, ◌*◌, ◌/◌, ◌%◌, ◌^◌, ◌<◌, ◌≤◌, Bool, true, false, not, ◌||◌, if◌then◌else◌, cond, List, [], ◌∷◌, ◌++◌, map, length, filter, remove, slice_index, IsFalse, inl, inr, refl, sym, ap, ap₂, ◌∙◌, subst, arith, append-nil, append_assoc, bit_and, ◌==◌, cases_lt, both_ways, and_parts, eqb-true, false_from_ne_true, div-add-mod', mod_below, map-append, list_any-append, mul-le-mul_left, IsIn, HasNoRepeats, Seat, Sys, is_final, Entry, Sizes, sizes_of, sizes_without, count, pair_at, numbered, number_without, Reason, map-map, list_any-map, length-below, is_on, HasLanes, on_and, lanes_of, NamedSys, system_of, lanes_in, Board, as_entry, pairs_of, has_entry, nodes_of, set_lanes, entries_in, in_lanes, IsShaped, list_with, entries_from, IsPart, list_any}
-use Rattle.roman_radix.specs.Radix.{IsSizes}
-use Rattle.roman_model.specs.Change.{may_go}
-use Rattle.roman_model.specs.NumberedChange.{number_entry_without, first_numbers}
-use Rattle.roman_model.proofs.CallerLemmas.{filter_same, left, count-without, sizes-left}
-use Rattle.roman_radix.proofs.CallerLemmas.{AreSizes-index}
-use Rattle.roman_order.proofs.CallerLemmas.{lanes_once}
+use Rattle.roman_repair.proofs.Common.{◌≡◌, ℕ, ◌+◌, ◌-◌, ◌*◌, ◌/◌, ◌%◌, ◌^◌, ◌<◌, ◌≤◌, Bool, true, false, not, ◌||◌, if◌then◌else◌, cond, List, [], ◌∷◌, ◌++◌, map, length, filter, remove, slice_index, IsFalse, inl, inr, refl, sym, ap, ap₂, ◌∙◌, subst, arith, append-nil, append_assoc, bit_and, ◌==◌, cases_lt, both_ways, and_parts, eqb-true, false_from_ne_true, div-add-mod', mod_below, map-append, list_any-append, mul-le-mul_left, IsIn, HasNoRepeats, Seat, Sys, is_final, Entry, Sizes, sizes_of, sizes_without, count, pair_at, numbered, number_without, Reason, map-map, list_any-map, length-below, is_on, HasLanes, on_and, lanes_of, NamedSys, system_of, lanes_in, Board, as_entry, pairs_of, has_entry, nodes_of, set_lanes, entries_in, in_lanes, IsShaped, list_with, entries_from, IsPart, list_any, IsSizes, may_go, number_entry_without, first_numbers, filter_same, left, count-without, sizes-left, AreSizes-index, lanes_once}
 use Rattle.roman_repair.proofs.DeathStates.{seat_in_sizes}
 use Rattle.roman_repair.proofs.DeathParts.{part_number, part_state, part_place, row_of_left, moved_lanes}
 use Rattle.roman_repair.proofs.Joined.{map_as}

@@ -1,13 +1,6 @@
 -- The parts of rows that stay together when a service dies.
-use Rattle.roman_repair.proofs.Common.{◌≡◌, ℕ, zero, suc, ◌+◌, ◌-◌, ◌*◌, ◌/◌, ◌%◌, ◌^◌, ◌<◌, ◌≤◌, Bool, true, false, ◌&&◌, List, [], ◌∷◌, map, length, drop, filter, eqb, remove, slice_index, inl, inr, refl, sym, ap, ap₂, ◌∙◌, subst, arith, bit_and, mul-le-mul_left, cases_lt, div-add-mod', below, product_of, Sizes, count, pair_at, number_without, is_on, on_and, AreSizes, low_of, lanes_of, row_mod, lanes_few, set_lanes, IsPart, by_test, Sys, Event, lanes_in, sizes_of, in_lanes, IsIn, as_entry, in_map}
-use Rattle.std.specs.Int.{bit_at}
-use Rattle.std.proofs.lemmas.Nat.{pow_pos}
-use Rattle.std.proofs.lemmas.Nat.Bits.{bit_at-zero, bit_at_cat_low, bit_at_cat_high}
-use Rattle.roman_model.proofs.CallerLemmas.{part_at}
-use Rattle.roman_radix.proofs.CallerLemmas.{tails_from, row_div, row_below, lanes_positive}
+use Rattle.roman_repair.proofs.Common.{◌≡◌, ℕ, zero, suc, ◌+◌, ◌-◌, ◌*◌, ◌/◌, ◌%◌, ◌^◌, ◌<◌, ◌≤◌, Bool, true, false, ◌&&◌, List, [], ◌∷◌, map, length, drop, filter, eqb, remove, slice_index, inl, inr, refl, sym, ap, ap₂, ◌∙◌, subst, arith, bit_and, mul-le-mul_left, cases_lt, div-add-mod', below, product_of, IsIn, Sizes, count, pair_at, sizes_of, number_without, is_on, on_and, AreSizes, low_of, lanes_of, row_mod, lanes_few, set_lanes, as_entry, IsPart, by_test, in_map, Sys, Event, lanes_in, in_lanes, bit_at, pow_pos, bit_at-zero, bit_at_cat_low, bit_at_cat_high, part_at, tails_from, row_div, row_below, lanes_positive, IsWithin, IsFirstPart}
 use Rattle.roman_repair.proofs.Joined.{positive, grown_within, whole_row, shorter_row, few_behind, part_of_more}
-use Rattle.roman_repair.specs.Deaths.{IsWithin}
-use Rattle.roman_repair.specs.Lanes.{IsFirstPart}
 use Rattle.roman_repair.proofs.Fronts.{on_in, some_in, moved_so_far, only_so_far}
 
 -- ---- the width of the parts

@@ -1,11 +1,6 @@
 -- The service that dies, and the states that it may leave behind.
-use Rattle.roman_repair.proofs.Common.{◌≡◌, ℕ, ◌<◌, Bool, not, ◌||◌, length, IsTrue, IsFalse, slice_get, slice_index, sym, ap, ◌∙◌, arith, Some, length-map, Seat, is_final, Die, CanChange, sizes_of, NamedSys, IsNamedSys, system_of, seat_of}
-use Rattle.std.proofs.lemmas.Option.{same_Some}
-use Rattle.roman_model.proofs.CallerLemmas.{size_at, there_is}
-use Rattle.roman_parts.specs.Named.{NamedBeh}
-use Rattle.roman_joint.specs.Behaviours.{IsSeatBehaviour}
+use Rattle.roman_repair.proofs.Common.{◌≡◌, ℕ, ◌<◌, Bool, not, ◌||◌, length, IsTrue, IsFalse, slice_get, slice_index, sym, ap, ◌∙◌, arith, Some, length-map, Seat, is_final, Die, CanChange, sizes_of, NamedSys, IsNamedSys, system_of, seat_of, same_Some, size_at, there_is, NamedBeh, IsSeatBehaviour, Behaves, behaves, seat_read}
 use Rattle.roman_joint.specs.declared.seat.Seat as joint
-use Rattle.roman_joint.proofs.CallerLemmas.{Behaves, behaves, seat_read}
 
 pub seat_there : (n : NamedSys) (k : ℕ) → k < length n.seats → (seat : Seat) × CanChange (Die k seat) (system_of n)
 seat_there n k l = there_is (system_of n).seats k (omega (arith, length-map n.seats (seat_of n.catalogue)))

@@ -1,15 +1,5 @@
 -- The lanes of words.
-use Rattle.roman_repair.proofs.Common.{◌≡◌, ◌≢◌, ℕ, zero, suc, ◌+◌, ◌-◌, ◌*◌, ◌/◌, ◌%◌, ◌^◌, ◌<◌, ◌≤◌, Bool, true, false, not, ◌&&◌, List, [], ◌∷◌, ◌++◌, map, length, filter, cond, inl, inr, refl, sym, ap, ap₂, ◌∙◌, arith, append-nil, append_assoc, bit_and, eqb, trailing_zeros, w64, bit_not, cases_lt, both_ways, and_parts, eq-eqb, false_from_ne_true, map-append, IsIn, below, filter_below_more, in_below, is_on, on_and, on_full, on_not, on_zero, set_lanes, map-map, Reason, as_entry, entries_in, entries_from, length-map}
-use Rattle.roman_lanes.proofs.CallerLemmas.{on_less, on_ones, on_ones_above, on_full_past}
-use Rattle.std.proofs.Common.{length-append}
-use Rattle.std.proofs.Math.Pow.{pow-lt}
-use Rattle.std.proofs.Math.Bool.{and-true}
-use Rattle.std.proofs.lemmas.Bool.{and_right, ne_eqb}
-use Rattle.std.proofs.lemmas.Nat.{and_le_l, shr-shr}
-use Rattle.std.proofs.lemmas.Nat.Bits.{bit_at-trailing_zeros, shr_and_one}
-use Rattle.roman_model.proofs.CallerLemmas.{in_filter}
-use Rattle.roman_order.proofs.CallerLemmas.{no_lane}
-use Rattle.roman_repair.specs.Lanes.{HasFront, HasLanesBetween, IsCutAt, IsFirstPart}
+use Rattle.roman_repair.proofs.Common.{◌≡◌, ◌≢◌, ℕ, zero, suc, ◌+◌, ◌-◌, ◌*◌, ◌/◌, ◌%◌, ◌^◌, ◌<◌, ◌≤◌, Bool, true, false, not, ◌&&◌, List, [], ◌∷◌, ◌++◌, map, length, filter, cond, inl, inr, refl, sym, ap, ap₂, ◌∙◌, arith, append-nil, append_assoc, bit_and, eqb, trailing_zeros, w64, bit_not, cases_lt, both_ways, and_parts, eq-eqb, false_from_ne_true, map-append, length-map, IsIn, below, filter_below_more, in_below, map-map, is_on, on_and, on_full, on_not, on_zero, set_lanes, as_entry, entries_in, Reason, entries_from, on_less, on_ones, on_ones_above, on_full_past, length-append, pow-lt, and-true, and_right, ne_eqb, and_le_l, shr-shr, bit_at-trailing_zeros, shr_and_one, in_filter, no_lane, HasFront, HasLanesBetween, IsCutAt, IsFirstPart}
 
 -- ---- the first lane of a word
 

@@ -1,10 +1,5 @@
 -- Entries that are gathered for the end of a list.
-use Rattle.roman_repair.proofs.Common.{false_from_ne_true, set_lanes, ◌≡◌, ◌≢◌, ℕ, ◌+◌, ◌-◌, ◌*◌, ◌/◌, ◌^◌, ◌<◌, ◌≤◌, Bool, true, false, not, ◌&&◌, ◌||◌, eqb, List, [], ◌++◌, map, map-append, inl, inr, refl, sym, ap, ap₂, ◌∙◌, subst, arith, append-nil, append_assoc, bit_or, trailing_zeros, w64, cases_lt, both_ways, list_any-append, same_from_place, Entry, Reason, Final, list_any-map, is_on, HasLanes, on_or, on_zero, Board, as_entry, has_entry, entries_in, entries_at, Event, in_lanes, set_lanes-zero, list_and, IsGathered}
-use Rattle.std.proofs.Common.{◌⊎◌}
-use Rattle.std.proofs.Math.Bool.{or-false}
-use Rattle.std.proofs.lemmas.Bool.{ne_eqb, or_parts}
-use Rattle.roman_model.proofs.CallerLemmas.{none_from}
-use Rattle.roman_order.proofs.CallerLemmas.{has_entry-lane, some_lane}
+use Rattle.roman_repair.proofs.Common.{false_from_ne_true, cases_lt, both_ways, set_lanes, Board, as_entry, has_entry, entries_in, ◌≡◌, ◌≢◌, ℕ, ◌+◌, ◌-◌, ◌*◌, ◌/◌, ◌^◌, ◌<◌, ◌≤◌, Bool, true, false, not, ◌&&◌, ◌||◌, eqb, List, [], ◌++◌, map, inl, inr, refl, sym, ap, ap₂, ◌∙◌, subst, arith, append-nil, append_assoc, bit_or, map-append, trailing_zeros, w64, list_any-append, same_from_place, Entry, Reason, Final, list_any-map, is_on, HasLanes, on_or, on_zero, entries_at, Event, in_lanes, set_lanes-zero, list_and, IsGathered, ◌⊎◌, or-false, ne_eqb, or_parts, none_from, has_entry-lane, some_lane}
 use Rattle.roman_repair.proofs.Fronts.{cut_lanes, first_lane, first_low, from_first, on_lowered}
 
 -- a word without lanes has no entries

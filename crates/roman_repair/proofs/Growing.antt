@@ -1,14 +1,5 @@
 -- The replay of a row's entries that stand for several pairs each, part by part.
-use Rattle.roman_repair.proofs.Common.{Bool, cases_lt, ◌≡◌, ℕ, zero, suc, ◌+◌, ◌-◌, ◌*◌, ◌/◌, ◌%◌, ◌<◌, ◌≤◌, true, false, ◌||◌, append-nil, List, [], ◌∷◌, ◌++◌, map, flat_map, filter, cond, sym, ap, ap₂, ◌∙◌, subst, arith, append_assoc, bit_or, not, ◌^◌, inl, inr, filter_below_more, bit_not, w64, cases_eq, both_ways, on_not, on_or, mul-le-mul_left, below, Arena, Entry, grown_numbers, Reason, is_on, as_entry, Event, entries_at, set_lanes, entries_in, entries_from, AreSlices, candidates, CanReplay, CanReplayEvent, GoesOnTo, with_replay, Replays, Board, IsIn, in_append_left, in_below, in_map, length}
-use Rattle.std.proofs.lemmas.List.Concat.{flat_map-append}
-use Rattle.std.proofs.Math.Bool.{or-false}
-use Rattle.std.proofs.lemmas.Nat.{div-mul-add}
-use Rattle.roman_model.proofs.CallerLemmas.{in_flat_map}
-use Rattle.roman_order.specs.Events.{IsEvent}
-use Rattle.roman_repair.specs.Growing.{CanGrow, HasReplayedAll, IsGrown, entries_grown}
-use Rattle.roman_repair.specs.Lanes.{HasLanesBetween, IsFirstPart, IsSpread}
-use Rattle.roman_repair.specs.declared.asked_band.AskedBand.{AskedBand}
-use Rattle.roman_repair.specs.declared.replaying.Newcomer.{Newcomer}
+use Rattle.roman_repair.proofs.Common.{Bool, ◌≡◌, ℕ, zero, suc, ◌+◌, ◌-◌, ◌*◌, ◌/◌, ◌%◌, ◌<◌, ◌≤◌, true, false, ◌||◌, append-nil, List, [], ◌∷◌, ◌++◌, map, flat_map, filter, cond, sym, ap, ap₂, ◌∙◌, subst, arith, append_assoc, bit_or, not, ◌^◌, inl, inr, length, cases_lt, cases_eq, both_ways, filter_below_more, in_append_left, in_below, in_map, bit_not, w64, on_not, on_or, mul-le-mul_left, below, IsIn, Arena, Entry, grown_numbers, Reason, is_on, as_entry, set_lanes, entries_in, Board, Event, entries_at, entries_from, AreSlices, candidates, with_replay, CanReplay, CanReplayEvent, GoesOnTo, Replays, flat_map-append, or-false, div-mul-add, in_flat_map, IsEvent, CanGrow, HasReplayedAll, IsGrown, entries_grown, HasLanesBetween, IsFirstPart, IsSpread, AskedBand, Newcomer}
 use Rattle.roman_repair.proofs.Waiting.{grown_by_one}
 use Rattle.roman_repair.proofs.Joined.{positive, grown_part}
 use Rattle.roman_repair.proofs.Replayed.{further, replays_front, replays_whole}

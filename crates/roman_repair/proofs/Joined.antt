@@ -1,9 +1,5 @@
 -- The candidates for a system that a service has joined.
-use Rattle.roman_repair.proofs.Common.{◌≡◌, ℕ, ◌+◌, ◌*◌, ◌%◌, ◌<◌, ◌≤◌, List, [], ◌∷◌, ◌++◌, map, flat_map, drop, cond, zero, suc, IsTrue, inl, inr, refl, sym, ap, ap₂, ◌∙◌, subst, arith, mul-le-mul_left, cases_lt, same_from_place, mod_below, IsIn, HasNoRepeats, below, product_of, Sys, Seat, IsSys, Entry, Join, after, CanChange, Sizes, sizes_of, count, pair_at, numbered, Reason, Final, Act, grown_numbers, from_map, in_append_right, length-below, map-map, NumbersReplay, from_below, pair_at-grown, sizes-joined, AreSizes, low_of, lanes_of, row_mod, lanes_few, lanes_in, NamedSys, system_of, IsNamedSys, nodes_of, as_entry, set_lanes, entries_in, is_possible, AreCandidates, AreSlices, length_push}
-use Rattle.std.proofs.lemmas.Bool.{lt-ltb, le-ltb}
-use Rattle.std.proofs.lemmas.List.Folds.{flat_map-map}
-use Rattle.roman_model.specs.SystemArena.{is_allowed}
-use Rattle.roman_model.proofs.CallerLemmas.{from_flat_map, HasNoRepeats-map, HasNoRepeats-flat_map, HasNoRepeats-below, flat_map_same, map-flat_map}
+use Rattle.roman_repair.proofs.Common.{◌≡◌, ℕ, ◌+◌, ◌*◌, ◌%◌, ◌<◌, ◌≤◌, List, [], ◌∷◌, ◌++◌, map, flat_map, drop, cond, zero, suc, IsTrue, inl, inr, refl, sym, ap, ap₂, ◌∙◌, subst, arith, mul-le-mul_left, cases_lt, same_from_place, mod_below, IsIn, HasNoRepeats, below, product_of, Sys, Seat, IsSys, Entry, Join, after, CanChange, Sizes, sizes_of, count, pair_at, numbered, Reason, Final, Act, grown_numbers, from_map, in_append_right, length-below, map-map, NumbersReplay, from_below, pair_at-grown, sizes-joined, AreSizes, low_of, lanes_of, row_mod, lanes_few, lanes_in, NamedSys, system_of, IsNamedSys, nodes_of, as_entry, set_lanes, entries_in, is_possible, AreCandidates, AreSlices, length_push, lt-ltb, le-ltb, flat_map-map, is_allowed, from_flat_map, HasNoRepeats-map, HasNoRepeats-flat_map, HasNoRepeats-below, flat_map_same, map-flat_map}
 use Rattle.roman_repair.proofs.Keeping.{grown_number}
 
 -- the new system shows that the service could join

@@ -1,10 +1,5 @@
 -- What a replay keeps, candidate by candidate.
-use Rattle.roman_repair.proofs.Common.{◌≡◌, ℕ, ◌+◌, ◌*◌, ◌<◌, ◌≤◌, Bool, true, false, if◌then◌else◌, ◌&&◌, List, [], ◌∷◌, ◌++◌, length, IsTrue, count_by, inl, inr, refl, sym, ap, ◌∙◌, subst, arith, append-nil, append_assoc, false_from_ne_true, eqb-true, map-append, sum_by-cons, list_any-append, IsIn, below, Arena, Entry, is_listed, is_justified, readings, is_among, Reason, Final, Act, grown_numbers, in_map, from_map, in_below, IsNumbered, IsReasonOf, readings_of_reason, readings_of-allowed, nodes_of, is_possible, AreCandidates, with_replay, readings_of_entries}
-use Rattle.std.proofs.Common.{sum_by}
-use Rattle.std.proofs.lemmas.Bool.{or_from}
-use Rattle.roman_model.specs.Arena.{replay_from}
-use Rattle.roman_model.proofs.CallerLemmas.{sum_by_within, listed_among, justified_same, replay_from_same, middle_first, readings_at, readings_within}
-use Rattle.roman_rules.specs.Asked.{readings_of}
+use Rattle.roman_repair.proofs.Common.{◌≡◌, ℕ, ◌+◌, ◌*◌, ◌<◌, ◌≤◌, Bool, true, false, if◌then◌else◌, ◌&&◌, List, [], ◌∷◌, ◌++◌, length, IsTrue, count_by, inl, inr, refl, sym, ap, ◌∙◌, subst, arith, append-nil, append_assoc, false_from_ne_true, eqb-true, map-append, sum_by-cons, list_any-append, IsIn, below, Arena, Entry, is_listed, is_justified, readings, is_among, Reason, Final, Act, grown_numbers, in_map, from_map, in_below, IsNumbered, IsReasonOf, readings_of_reason, readings_of-allowed, nodes_of, is_possible, AreCandidates, with_replay, readings_of_entries, sum_by, or_from, replay_from, sum_by_within, listed_among, justified_same, replay_from_same, middle_first, readings_at, readings_within, readings_of}
 
 -- a possible reason names an action of the system
 pub possible_reason : (A : Arena ℕ) → IsNumbered A → (p : ℕ) (reason : Reason) → IsTrue (is_possible A p reason) → IsReasonOf A reason

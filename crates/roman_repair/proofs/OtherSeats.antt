@@ -1,13 +1,5 @@
 -- After a thaw or a join each entry of the old list would be kept if the changed seat had no outcomes.
-use Rattle.roman_repair.proofs.Common.{◌≡◌, ℕ, zero, suc, ◌+◌, ◌*◌, ◌%◌, ◌<◌, ◌==◌, Bool, true, false, not, ◌&&◌, ◌||◌, List, [], ◌∷◌, ◌++◌, map, flat_map, length, Some, IsTrue, IsFalse, if◌then◌else◌, slice_get, slice_index, inl, inr, refl, sym, ap, ◌∙◌, subst, arith, append-nil, append_assoc, both_ways, eqb-true, or_left, and_from, and_parts, eq-eqb, or_cases, or_right, IsIn, below, product_of, all_below, is_empty, Arena, Entry, IsOrder, is_listed, is_justified, is_among, Reason, Final, Act, length-map, length_push, Sys, Seat, IsSys, is_final, Sizes, sizes_of, count, pair_at, numbered, number, turned, sizes-turned, in_map, from_map, AreNumbers, in_below, justified_more, listed_append, map-map, all_below_from, any_from, any_true, by_test, from_below, justified_is, number_allows-turned, pair_at-grown, sizes-joined, grown_numbers, NamedSys, system_of, IsNamedSys, Board, pairs_of, has_entry, IsRelation, listed_numbers, list_any, is_ready, without_seat, MayAskAlone}
-use Rattle.roman_repair.specs.Alone.{AreKept}
-use Rattle.std.proofs.lemmas.Option.{slice_get-get_or}
-use Rattle.std.proofs.lemmas.List.{get_or_append_left, set-append_left}
-use Rattle.roman_model.specs.Arena.{IsOrderFrom}
-use Rattle.roman_model.specs.Change.{grown, set_frozen}
-use Rattle.roman_model.specs.System.{Pair, all_final}
-use Rattle.roman_model.specs.SystemArena.{is_fine, outcomes, outcomes_by, seat_next}
-use Rattle.roman_model.proofs.CallerLemmas.{IsPairOf-from, is_fine-turned, length-set_frozen, length-states_at, number-grown, numbers_are_pairs, outcome_pair, moved_named, outcomes-turned}
+use Rattle.roman_repair.proofs.Common.{◌≡◌, ℕ, zero, suc, ◌+◌, ◌*◌, ◌%◌, ◌<◌, ◌==◌, Bool, true, false, not, ◌&&◌, ◌||◌, List, [], ◌∷◌, ◌++◌, map, flat_map, length, Some, IsTrue, IsFalse, if◌then◌else◌, slice_get, slice_index, inl, inr, refl, sym, ap, ◌∙◌, subst, arith, append-nil, append_assoc, both_ways, eqb-true, or_left, and_from, and_parts, eq-eqb, or_cases, or_right, IsIn, below, product_of, all_below, is_empty, Arena, Entry, IsOrder, is_listed, is_justified, is_among, Reason, Final, Act, length-map, length_push, Sys, Seat, IsSys, is_final, Sizes, sizes_of, count, pair_at, numbered, number, turned, sizes-turned, in_map, from_map, AreNumbers, in_below, justified_more, listed_append, map-map, all_below_from, any_from, any_true, by_test, from_below, justified_is, number_allows-turned, pair_at-grown, sizes-joined, grown_numbers, NamedSys, system_of, IsNamedSys, Board, pairs_of, has_entry, IsRelation, listed_numbers, list_any, is_ready, without_seat, MayAskAlone, AreKept, slice_get-get_or, get_or_append_left, set-append_left, IsOrderFrom, grown, set_frozen, Pair, all_final, is_fine, outcomes, outcomes_by, seat_next, IsPairOf-from, is_fine-turned, length-set_frozen, length-states_at, number-grown, numbers_are_pairs, outcome_pair, moved_named, outcomes-turned}
 use Rattle.roman_repair.proofs.Repairing.{numbers_order}
 use Rattle.roman_repair.proofs.Joined.{map_as, possible-joined}
 

@@ -1,7 +1,5 @@
 -- The lists that are readmitted after a thaw or a join.
-use Rattle.roman_repair.proofs.Common.{◌≡◌, ℕ, ◌<◌, true, false, [], IsFalse, length, refl, sym, ap, ◌∙◌, subst, arith, Seat, Join, after, AreSizes, Sizes, sizes_of, lanes_of, lanes_few, numbered, sizes-turned, turned, NamedSys, system_of, IsNamedSys, lanes_in, Board, pairs_of, has_entry, HasCaps, IsRelation, AreCandidates}
-use Rattle.roman_model.specs.Change.{Thaw}
-use Rattle.roman_repair.specs.declared.replaying.Newcomer.{Newcomer}
+use Rattle.roman_repair.proofs.Common.{◌≡◌, ℕ, ◌<◌, true, false, [], IsFalse, length, refl, sym, ap, ◌∙◌, subst, arith, Seat, Join, after, AreSizes, Sizes, sizes_of, numbered, lanes_of, lanes_few, sizes-turned, turned, NamedSys, system_of, IsNamedSys, lanes_in, Board, pairs_of, has_entry, HasCaps, IsRelation, AreCandidates, Thaw, Newcomer}
 use Rattle.roman_repair.proofs.Repairing.{relation_replays}
 use Rattle.roman_repair.proofs.Waiting.{IsReadmission, grown_by_one, relation_candidates, turned_candidates}
 use Rattle.roman_repair.proofs.Joined.{joined_can, joined_candidates, joined_lanes}

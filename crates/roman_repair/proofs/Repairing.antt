@@ -1,12 +1,6 @@
 -- The end of a repair, in numbers of pairs.
-use Rattle.roman_repair.proofs.Common.{◌≡◌, ℕ, ◌+◌, ◌<◌, true, List, [], length, ap, ◌∙◌, arith, length-map, Sys, IsSys, Entry, IsOrder, replay, Change, after, CanChange, sizes_of, pair_at, numbered, rename_numbers, NumbersReplay, AreNumbers, NamedSys, system_of, IsNamedSys, Board, pairs_of, has_entry, HasCaps, IsRelation, listed_numbers, Tally, IsRepaired, IsSettledOn}
-use Rattle.std.proofs.lemmas.List.{take-map}
-use Rattle.roman_model.specs.SystemArena.{arena}
-use Rattle.roman_model.specs.Numbers.{IsCompleteList}
-use Rattle.roman_model.proofs.CallerLemmas.{order_named, numbers_replay, IsNumber, numbers_rename}
+use Rattle.roman_repair.proofs.Common.{◌≡◌, ℕ, ◌+◌, ◌<◌, true, List, [], length, ap, ◌∙◌, arith, length-map, Sys, IsSys, Entry, IsOrder, replay, Change, after, CanChange, sizes_of, pair_at, numbered, rename_numbers, NumbersReplay, AreNumbers, NamedSys, system_of, IsNamedSys, Board, pairs_of, has_entry, HasCaps, IsRelation, listed_numbers, Tally, IsRepaired, IsSettledOn, take-map, arena, IsCompleteList, order_named, numbers_replay, IsNumber, numbers_rename, Begins, GoesOnFromReplay}
 use Rattle.roman_joint.specs.declared.seat.Seat.{Seat}
-use Rattle.roman_relation.specs.Settled.{Begins}
-use Rattle.roman_repair.specs.Repairs.{GoesOnFromReplay}
 
 -- the replay of the renamed old list, in numbers
 abbrev pub numbers_replayed : Change → Sys → List (Entry ℕ) → List (Entry ℕ)

@@ -1,14 +1,5 @@
 -- Replays that go on, and the replay of an event lane by lane.
-use Rattle.roman_repair.proofs.Common.{◌≡◌, ℕ, zero, suc, ◌+◌, ◌*◌, ◌<◌, ◌≤◌, ◌==◌, Bool, true, false, cond, if◌then◌else◌, ◌||◌, List, [], ◌∷◌, ◌++◌, map, length, Option, None, Some, IsTrue, IsFalse, count_by, inl, inr, refl, sym, ap, ◌∙◌, subst, arith, append-nil, append_assoc, both_ways, and_from, eqb-true, false_from_ne_true, cases_eq, cases_lt, mul-le-mul_left, map-append, sum_by-cons, IsIn, below, all_below, is_empty, list_any, Arena, Entry, is_listed, is_justified, Reason, Final, Act, all_below_from, by_test, justified_is, in_append_left, in_map, from_map, is_on, readings_of_reason, readings_of-allowed, IsReasonOf, IsNumbered, Board, as_entry, has_entry, set_lanes, set_lanes-zero, in_lanes, entries_in, entries_at, Event, IsShaped, HoldsInBand, is_possible, AreCandidates, with_replay, readings_of_entries, MayAskAlone, passes, without_seat, CanReplay, CanReplayEvent, GoesOnTo, Replays}
-use Rattle.roman_model.specs.Arena.{is_beaten}
-use Rattle.std.proofs.Common.{add-one, length-append}
-use Rattle.std.proofs.lemmas.Bool.{false≢true}
-use Rattle.std.proofs.lemmas.List.Sums.{sum_by-append}
-use Rattle.roman_rules.proofs.CallerLemmas.{count_below_more}
-use Rattle.roman_repair.specs.Alone.{IsSeatOf, questions_of}
-use Rattle.roman_repair.specs.Lanes.{HasFront}
-use Rattle.roman_repair.specs.Judging.{HasJudged}
-use Rattle.roman_repair.specs.declared.asked_band.AskedBand.{AskedBand}
+use Rattle.roman_repair.proofs.Common.{◌≡◌, ℕ, zero, suc, ◌+◌, ◌*◌, ◌<◌, ◌≤◌, ◌==◌, Bool, true, false, cond, if◌then◌else◌, ◌||◌, List, [], ◌∷◌, ◌++◌, map, length, Option, None, Some, IsTrue, IsFalse, count_by, inl, inr, refl, sym, ap, ◌∙◌, subst, arith, append-nil, append_assoc, both_ways, and_from, eqb-true, false_from_ne_true, cases_eq, cases_lt, mul-le-mul_left, map-append, sum_by-cons, IsIn, below, all_below, is_empty, list_any, Arena, Entry, is_listed, is_justified, Reason, Final, Act, all_below_from, by_test, justified_is, in_append_left, in_map, from_map, is_on, readings_of_reason, IsReasonOf, readings_of-allowed, IsNumbered, Board, as_entry, has_entry, set_lanes, entries_in, set_lanes-zero, in_lanes, entries_at, Event, IsShaped, HoldsInBand, is_possible, AreCandidates, with_replay, readings_of_entries, MayAskAlone, passes, without_seat, CanReplay, CanReplayEvent, GoesOnTo, Replays, is_beaten, add-one, length-append, false≢true, sum_by-append, count_below_more, IsSeatOf, questions_of, HasFront, HasJudged, AskedBand}
 use Rattle.roman_repair.proofs.BandAnswers.{known_more, listed_more, passes_more}
 use Rattle.roman_repair.proofs.Keeping.{candidates_step, possible_reason, with_one, with_replay_step}
 use Rattle.roman_repair.proofs.Fronts.{on_in, some_in}

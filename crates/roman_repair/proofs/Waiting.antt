@@ -1,9 +1,5 @@
 -- Orders that are reopened for a changed system, and their replay.
-use Rattle.roman_repair.proofs.Common.{◌≡◌, ℕ, ◌*◌, ◌<◌, ◌≤◌, Bool, true, List, [], ◌∷◌, ◌++◌, flat_map, length, IsTrue, refl, ap, ap₂, ◌∙◌, arith, below, Sys, Arena, Entry, is_justified, IsOrder, replay, Change, after, Sizes, sizes_of, count, numbered, Reason, Final, Act, grown_numbers, rename_numbers, length-below, turned, AreNumbers, sizes-turned, NumbersReplay, justified_is, number_allows-turned, lanes_of, NamedSys, system_of, IsNamedSys, lanes_in, Board, pairs_of, has_entry, IsShaped, arena_of, HasCaps, IsRelation, listed_numbers, Tally, IsRepaired, IsSettledOn, is_possible, AreCandidates, AreSlices, MayAskAlone, Some, sym, subst}
-use Rattle.roman_model.proofs.CallerLemmas.{order_new, new_once, order_justified, numbered_is_same}
-use Rattle.roman_relation.proofs.CallerLemmas.{room_for_pairs}
-use Rattle.roman_repair.specs.Growing.{CanReadmit, list_grown, replay_grown}
-use Rattle.roman_repair.specs.declared.replaying.Newcomer.{Newcomer}
+use Rattle.roman_repair.proofs.Common.{◌≡◌, ℕ, ◌*◌, ◌<◌, ◌≤◌, Bool, true, List, [], ◌∷◌, ◌++◌, flat_map, length, IsTrue, refl, ap, ap₂, ◌∙◌, arith, Some, sym, subst, below, Sys, Arena, Entry, is_justified, IsOrder, replay, Change, after, Sizes, sizes_of, count, numbered, Reason, Final, Act, grown_numbers, rename_numbers, length-below, turned, AreNumbers, sizes-turned, NumbersReplay, justified_is, number_allows-turned, lanes_of, NamedSys, system_of, IsNamedSys, lanes_in, Board, pairs_of, has_entry, IsShaped, arena_of, HasCaps, IsRelation, listed_numbers, Tally, IsRepaired, IsSettledOn, is_possible, AreCandidates, AreSlices, MayAskAlone, order_new, new_once, order_justified, numbered_is_same, room_for_pairs, CanReadmit, list_grown, replay_grown, Newcomer}
 use Rattle.roman_repair.proofs.Keeping.{grown_once}
 use Rattle.roman_repair.proofs.Repairing.{numbers_order, numbers_replayed, repaired_from}
 

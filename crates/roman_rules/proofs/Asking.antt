@@ -1,15 +1,6 @@
 -- Known answers of a row stay right, and counts of the numbers below a bound.
-use Rattle.std.proofs.Common.{◌≡◌, ℕ, ◌+◌, ◌<◌, Bool, true, false, cond, [], ◌∷◌, count_by, IsTrue, IsFalse, refl, ◌∙◌, arith}
-use Rattle.std.proofs.lemmas.Bool.{cond-true}
-use Rattle.roman_model.specs.Lists.{below}
-use Rattle.roman_model.specs.Arena.{Arena}
-use Rattle.roman_model.proofs.CallerLemmas.{justified_more, unallowed_unjustified}
-use Rattle.roman_lanes.proofs.CallerLemmas.{on_zero, on_full}
-use Rattle.std.proofs.lemmas.Nat.Bits.{shr_and_one}
+use Rattle.roman_rules.proofs.Common.{◌≡◌, ℕ, ◌+◌, ◌<◌, Bool, true, false, cond, [], ◌∷◌, count_by, IsTrue, IsFalse, refl, ◌∙◌, arith, cond-true, below, Arena, justified_more, unallowed_unjustified, on_zero, on_full, shr_and_one, bit_of, HoldsWhereKept, readings_of, Asked}
 use Rattle.roman_rules.proofs.Serving.{sum_below_more}
-use Rattle.roman_rules.specs.Bits.{bit_of}
-use Rattle.roman_rules.specs.Asked.{HoldsWhereKept, readings_of}
-use Rattle.roman_rules.specs.declared.asked.Asked.{Asked}
 
 -- known answers stay right after more pairs are gone
 pub known_more : (A : Arena ℕ) (lanes : ℕ) (gone more : ℕ → Bool) (asked : Asked) → ((q : ℕ) → IsTrue (gone q) → IsTrue (more q)) → HoldsWhereKept A lanes gone asked → HoldsWhereKept A lanes more asked

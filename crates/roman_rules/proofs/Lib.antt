@@ -1,3 +1,4 @@
+pub mod Common
 pub mod NumberedFacts
 pub mod Asking
 pub mod Serving

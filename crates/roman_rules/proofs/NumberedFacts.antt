@@ -1,10 +1,5 @@
 -- Arenas over numbers keep the laws of arenas.
-use Rattle.std.proofs.Common.{ℕ, ◌<◌, length, sym, subst, arith}
-use Rattle.std.proofs.lemmas.Bool.{eqb-true, eq-eqb}
-use Rattle.roman_model.specs.Lists.{IsIn, HasNoRepeats}
-use Rattle.roman_model.specs.Arena.{Arena}
-use Rattle.roman_model.proofs.CallerLemmas.{in_below, from_below, HasNoRepeats-below, IsSame, IsArena}
-use Rattle.roman_rules.specs.Numbered.{IsNumbered}
+use Rattle.roman_rules.proofs.Common.{ℕ, ◌<◌, length, sym, subst, arith, eqb-true, eq-eqb, IsIn, HasNoRepeats, Arena, in_below, from_below, HasNoRepeats-below, IsSame, IsArena, IsNumbered}
 
 pub numbered_same : (A : Arena ℕ) → IsNumbered A → IsSame A
 numbered_same A ok = grind (arith, eq-eqb, eqb-true)

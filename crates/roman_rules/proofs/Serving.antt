@@ -1,18 +1,5 @@
 -- The bits of masks, and the number of seats in the masks of a row's pairs.
-use Rattle.std.proofs.Common.{◌≡◌, ℕ, zero, suc, ◌+◌, ◌-◌, ◌*◌, ◌%◌, ◌^◌, ◌<◌, ◌≤◌, Bool, cond, not, [], length, filter, sum_by, count_ones, IsTrue, IsFalse, inl, inr, refl, sym, ap, ◌∙◌, arith}
-use Rattle.std.specs.Int.{bit_at}
-use Rattle.std.proofs.Math.Pow.{pow_pos}
-use Rattle.std.proofs.lemmas.Bool.{cases_eq, cases_lt, cond-true, cond-false, both_ways, not_from_true, eq-eqb, ne_eqb}
-use Rattle.std.proofs.lemmas.List.Sums.{sum_by_push, length-filter}
-use Rattle.std.proofs.lemmas.Nat.{ones-le, ones_cat, ones_le_self, zero_from_ones, mod-pow-add}
-use Rattle.std.proofs.lemmas.Nat.Bits.{bit_at-lt, bit_at-zero}
-use Rattle.roman_model.specs.Lists.{below, is_empty}
-use Rattle.roman_model.specs.System.{has}
-use Rattle.roman_model.specs.Arena.{Arena, is_beaten, mask}
-use Rattle.roman_model.proofs.CallerLemmas.{by_test, from_below, sum_by_same, empty_is, not_empty_in, mask_none, mask_has, mask_has_past, beaten_none}
-use Rattle.roman_lanes.specs.Rows.{is_on, HasLanes}
-use Rattle.roman_rules.specs.Bits.{HasBits, bit_of, has_seat}
-use Rattle.roman_rules.specs.Numbered.{IsNumbered}
+use Rattle.roman_rules.proofs.Common.{◌≡◌, ℕ, zero, suc, ◌+◌, ◌-◌, ◌*◌, ◌%◌, ◌^◌, ◌<◌, ◌≤◌, Bool, cond, not, [], length, filter, sum_by, count_ones, IsTrue, IsFalse, inl, inr, refl, sym, ap, ◌∙◌, arith, bit_at, pow_pos, cases_eq, cases_lt, cond-true, cond-false, both_ways, not_from_true, eq-eqb, ne_eqb, sum_by_push, length-filter, ones-le, ones_cat, ones_le_self, zero_from_ones, mod-pow-add, bit_at-lt, bit_at-zero, below, is_empty, has, Arena, is_beaten, mask, by_test, from_below, sum_by_same, empty_is, not_empty_in, mask_none, mask_has, mask_has_past, beaten_none, is_on, HasLanes, HasBits, bit_of, has_seat, IsNumbered}
 
 -- ---- an action that isn't allowed
 

@@ -1,13 +1,6 @@
 -- What follows from the step of an answer.
-use Rattle.roman_session.proofs.Common.{◌≡◌, ℕ, List, [], ◌++◌, Option, Result, Ok, Err, refl, sym, ap, ◌∙◌, subst, arith, Puts, Puts-after_Gathered, reply_text, Reply, Situation, IsSituation, asked, Does, offer_text, Phase, Offered}
-use Rattle.roman_session.specs.Steps.{Asks}
-use Rattle.roman_text.specs.Pages.{Gathered, Gathers}
-use Rattle.roman_text.proofs.CallerLemmas.{Gathered-put}
-use Rattle.roman_text.specs.Shapes.{LineShape, ask, shape_of}
-use Rattle.roman_text.specs.declared.errors.LineError.{LineError}
+use Rattle.roman_session.proofs.Common.{◌≡◌, ℕ, List, [], ◌++◌, Option, Result, Ok, Err, refl, sym, ap, ◌∙◌, subst, arith, Puts, Puts-after_Gathered, reply_text, Reply, Situation, IsSituation, asked, Does, offer_text, Phase, Offered, Asks, Gathered, Gathers, Gathered-put, LineShape, ask, shape_of, LineError, Step, StepOn, StepBy, Answered, AnsweredOn, DoneOn, NamesSome, SeenStaysRelated}
 use Rattle.roman_text.specs.declared.replies.Reply.TheVariants as reply
-use Rattle.roman_session.specs.Steps.{Step, StepOn, StepBy}
-use Rattle.roman_session.specs.Answering.{Answered, AnsweredOn, DoneOn, NamesSome, SeenStaysRelated}
 use Rattle.roman_session.proofs.StepLemmas.{requests_offered, outcomes_related}
 
 -- the line that offers services doesn't depend on the phase

@@ -1,11 +1,5 @@
 -- A session begins in the starting states of its library.
-use Rattle.roman_session.proofs.Common.{◌≡◌, ℕ, ◌≤◌, length, sym, subst, arith, Pair, IsPair, MAX_BEHAVIOURS, NamedSys, system_of, IsNamedSys, Relation, situation_in, IsSession, Idle, Inside}
-use Rattle.roman_relation.specs.Greatest.{IsRelation}
-use Rattle.roman_library.specs.Library.{PlainLibrary}
-use Rattle.roman_start.specs.Starts.{start_pair_of}
-use Rattle.roman_start.specs.Seating.{IsSeated}
-use Rattle.roman_start.specs.declared.seating.Seated.{Seated}
-use Rattle.roman_session.specs.Starts.{IsStart}
+use Rattle.roman_session.proofs.Common.{◌≡◌, ℕ, ◌≤◌, length, sym, subst, arith, Pair, IsPair, MAX_BEHAVIOURS, NamedSys, system_of, IsNamedSys, Relation, situation_in, IsSession, Idle, Inside, IsRelation, PlainLibrary, start_pair_of, IsSeated, Seated, IsStart}
 
 -- the fields hold a starting situation
 pub record HasBegun (library : PlainLibrary) (a : Inside) : Type 0 where

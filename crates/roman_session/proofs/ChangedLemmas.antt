@@ -1,19 +1,8 @@
 -- A session after its services changed.
-use Rattle.roman_session.proofs.Common.{◌≡◌, ℕ, ◌<◌, ◌≤◌, ◌+◌, Bool, List, [], ◌∷◌, ◌++◌, true, false, Some, IsTrue, IsFalse, not, map, length, drop, slice_get, vec_capacity, refl, sym, ap, ap₂, ◌∙◌, subst, arith, length-map, get_or_from_slice_get, Sys, Pair, IsPair, is_ready, arena, Join, Sizes, sizes_of, number, MAX_BEHAVIOURS, MAX_SERVICES, there_is, NamedSys, IsNamedSys, Relation, reply_text, Reply, Situation, present_system, IsPhase, seat_at, with_room, CanJoin, Joining, states_long, cases_lt, freezing, thawing, dying, Does, Changes, situation_in, IsSession, Phase, Idle, Offered, Inside}
-use Rattle.std.proofs.Common.{take, Vec, Global, vec_len, inl, inr, take-append-drop, length-drop}
-use Rattle.std.proofs.lemmas.List.{length-take}
-use Rattle.std.specs.List.{remove}
+use Rattle.roman_session.proofs.Common.{◌≡◌, ℕ, ◌<◌, ◌≤◌, ◌+◌, Bool, List, [], ◌∷◌, ◌++◌, true, false, Some, IsTrue, IsFalse, not, map, length, drop, slice_get, vec_capacity, refl, sym, ap, ap₂, ◌∙◌, subst, arith, length-map, get_or_from_slice_get, Sys, Pair, IsPair, is_ready, arena, Join, Sizes, sizes_of, number, MAX_BEHAVIOURS, MAX_SERVICES, there_is, NamedSys, IsNamedSys, Relation, reply_text, Reply, Situation, present_system, IsPhase, seat_at, with_room, CanJoin, Joining, states_long, cases_lt, freezing, thawing, dying, Does, Changes, situation_in, IsSession, Phase, Idle, Offered, Inside, take, Vec, Global, vec_len, inl, inr, take-append-drop, length-drop, length-take, remove, Entry, replay, IsComplete, CanChange, Freeze, Thaw, Die, rename, entry_at, turned, IsPair-turned, IsPair-grown, IsPair-without, sizes-turned, IsRepaired, Tally, Changing, growing, parts_after, Joins}
 use Rattle.roman_model.specs.System.{Seat}
-use Rattle.roman_model.specs.Arena.{Entry, replay}
-use Rattle.roman_model.specs.CompleteLists.{IsComplete}
-use Rattle.roman_model.specs.Change.{CanChange, Freeze, Thaw, Die, rename}
-use Rattle.roman_model.specs.Numbers.{entry_at}
-use Rattle.roman_model.proofs.CallerLemmas.{turned, IsPair-turned, IsPair-grown, IsPair-without, sizes-turned}
 use Rattle.roman_joint.specs.NamedSys as joint
-use Rattle.roman_repair.specs.Repairs.{IsRepaired}
-use Rattle.roman_repair.specs.declared.tally.Tally.{Tally}
 use Rattle.roman_text.specs.declared.replies.Reply.TheVariants as reply
-use Rattle.roman_session.specs.Steps.{Changing, growing, parts_after, Joins}
 use Rattle.roman_session.proofs.RulingLemmas.{cells_with, with_room_is, no_room_is}
 
 -- the seat of a present service

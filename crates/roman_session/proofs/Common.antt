@@ -1,47 +1,74 @@
--- The names that several proof pages of this crate cite, passed on from one place. Declares nothing.
-pub use Rattle.std.proofs.Common.{Bool, Err, IfSome, IsFalse, IsTrue, List, Ok, Option, Result, Some, [], ap, ap₂, arith, codes, drop, false, get_or, length, map, not, refl, slice_get, slice_index, slice_set, subst, sym, true, vec_capacity, ℕ, ◌++◌, ◌+◌, ◌<◌, ◌∙◌, ◌∷◌, ◌≡◌, ◌≤◌}
-pub use Rattle.std.proofs.lemmas.Bool.{both_ways, cases_lt, cond-false, cond-true}
-pub use Rattle.std.proofs.lemmas.List.{length-map}
-pub use Rattle.std.proofs.lemmas.Option.{get_or_from_slice_get}
-pub use Rattle.std.proofs.lemmas.Result.{err_from_is_err_and}
-pub use Rattle.std.specs.List.{filter, flat_map}
+-- What the proof pages of this crate cite from elsewhere, passed on from one place. Declares nothing.
+pub use Rattle.std.proofs.Common.{Bool, Err, Global, IfSome, IsFalse, IsTrue, List, None, Ok, Option, Result, Some, Vec, [], add-one, ap, append_assoc, ap₂, arith, codes, drop, false, get_or, inl, inr, is_ok, length, length-drop, map, not, refl, rules, slice_get, slice_index, slice_index_or, slice_set, subst, sym, take, take-append-drop, true, vec_capacity, vec_len, ℕ, ◌&&◌, ◌++◌, ◌+◌, ◌<◌, ◌↔◌, ◌∙◌, ◌∷◌, ◌≡◌, ◌≢◌, ◌≤◌}
+pub use Rattle.std.proofs.Math.Seq.{drop-cons}
+pub use Rattle.std.proofs.lemmas.Bool.{both_ways, cases_lt, cond-false, cond-true, le-leb, lt-ltb, not-true}
+pub use Rattle.std.proofs.lemmas.Bool.Decides.{leb_tells}
+pub use Rattle.std.proofs.lemmas.List.{append-nil, drop_all, get_or-set_same, get_or_read, length-map, length-take}
+pub use Rattle.std.proofs.lemmas.List.Elements.{Contains-get_or}
+pub use Rattle.std.proofs.lemmas.List.Quantifiers.{position-Some}
+pub use Rattle.std.proofs.lemmas.Option.{get_or_from_slice_get, slice_get-get_or, slice_get-map, slice_get_within}
+pub use Rattle.std.proofs.lemmas.Result.{IfOk-weaker, err_from_is_err_and}
+pub use Rattle.std.proofs.lemmas.Slice.Eq.{bytes_eq-Decides}
+pub use Rattle.std.specs.List.{filter, flat_map, position, position_or_len, remove}
+pub use Rattle.std.specs.Option.{option_map}
 pub use Rattle.std.specs.Str.{bytes_eq}
-pub use Rattle.roman_generator.proofs.CallerLemmas.{states_long}
+pub use Rattle.roman_generator.proofs.CallerLemmas.{state_within, states_long}
 pub use Rattle.roman_generator.specs.declared.sight.Sight.{Sight}
 pub use Rattle.roman_io.specs.Sink.{Puts}
-pub use Rattle.roman_joint.proofs.CallerLemmas.{behaves}
+pub use Rattle.roman_joint.proofs.CallerLemmas.{behaves, seat_beh_read, states_range}
 pub use Rattle.roman_joint.specs.Behaviours.{IsSeatBehaviour}
-pub use Rattle.roman_joint.specs.NamedSys.{IsNamedSys, NamedSys, seat_of, system_of}
+pub use Rattle.roman_joint.specs.NamedSys.{IsNamedSys, NamedSys, beh_at, cells, seat_of, system_of}
 pub use Rattle.roman_joint.specs.Names.{names_in, seat_name}
 pub use Rattle.roman_joint.specs.declared.seat.Seat.{Seat}
-pub use Rattle.roman_model.proofs.CallerLemmas.{from_end, from_place, great_related, numbers_are_pairs, offer_is, related_great, there_is}
-pub use Rattle.roman_model.specs.Change.{Join}
+pub use Rattle.roman_library.specs.Library.{PlainLibrary, plain}
+pub use Rattle.roman_model.proofs.CallerLemmas.{AreBelow-index, IsPair-grown, IsPair-turned, IsPair-without, IsPairOf-from, allowed_in_range, any_from, by_test, contains_in, filter_same, from_below, from_end, from_place, great_related, in_contains, length-pairs, mask_has, ne_not_empty, none_from, not_empty_in, number_listed, numbers_are_pairs, offer_is, outcome_in, outcome_pair, outcome_seat, related_great, related_offers, seat_in, sizes-turned, states_below, states_set, there_is, turned}
+pub use Rattle.roman_model.specs.Arena.{Entry, is_beaten, mask, replay}
+pub use Rattle.roman_model.specs.Change.{CanChange, Die, Freeze, Join, Thaw, after, rename}
+pub use Rattle.roman_model.specs.CompleteLists.{IsComplete}
 pub use Rattle.roman_model.specs.Composition.{Great}
-pub use Rattle.roman_model.specs.Explanation.{name_at}
+pub use Rattle.roman_model.specs.Explanation.{explain_text, name_at, seat_names}
 pub use Rattle.roman_model.specs.Lists.{IsIn, below}
-pub use Rattle.roman_model.specs.Numbers.{Sizes, number, pair_at, sizes_of}
+pub use Rattle.roman_model.specs.Numbers.{IsPairOf, Sizes, entry_at, number, pair_at, sizes_of}
 pub use Rattle.roman_model.specs.Offers.{is_related, offers}
-pub use Rattle.roman_model.specs.System.{Beh, IsPair, Pair, Sys, has}
-pub use Rattle.roman_model.specs.SystemArena.{arena, is_allowed, is_ready}
+pub use Rattle.roman_model.specs.System.{Beh, IsPair, Pair, SStep, Sys, has}
+pub use Rattle.roman_model.specs.SystemArena.{arena, is_allowed, is_ready, outcomes}
 pub use Rattle.roman_model.specs.declared.limits.TheConstants.{MAX_BEHAVIOURS, MAX_SERVICES}
 pub use Rattle.roman_parts.specs.Named.{NamedBeh}
 pub use Rattle.roman_radix.specs.Radix.{moved}
+pub use Rattle.roman_read.proofs.CallerLemmas.{bind_ok, place_of-present, position-none, position-some, same_ok}
+pub use Rattle.roman_read.specs.Items.{◌>>=◌}
+pub use Rattle.roman_read.specs.Names.{place_of}
+pub use Rattle.roman_relation.specs.Greatest.{IsRelation}
 pub use Rattle.roman_relation.specs.declared.relation.Relation.{Relation}
+pub use Rattle.roman_repair.specs.Repairs.{IsRepaired}
+pub use Rattle.roman_repair.specs.declared.tally.Tally.{Tally}
+pub use Rattle.roman_rules.proofs.CallerLemmas.{has_seat_is}
 pub use Rattle.roman_rules.specs.Bits.{HasBits, has_seat}
-pub use Rattle.roman_text.proofs.CallerLemmas.{IsFilling, Puts-after_Gathered, fill_behind, fill_end, fill_failed, fill_last, fill_more, fill_same}
+pub use Rattle.roman_start.specs.Seating.{IsSeated}
+pub use Rattle.roman_start.specs.Starts.{start_pair_of}
+pub use Rattle.roman_start.specs.declared.seating.Seated.{Seated}
+pub use Rattle.roman_text.proofs.CallerLemmas.{Gathered-put, Gathers-flushed, IsFilling, Puts-after_Gathered, fill_behind, fill_end, fill_failed, fill_last, fill_more, fill_same, gathers_failed}
+pub use Rattle.roman_text.specs.Lines.{with_newline}
+pub use Rattle.roman_text.specs.Pages.{Gathered, Gathers}
 pub use Rattle.roman_text.specs.Replies.{reply_text}
+pub use Rattle.roman_text.specs.Report.{line_text}
+pub use Rattle.roman_text.specs.Shapes.{LineShape, ask, shape_of}
+pub use Rattle.roman_text.specs.declared.errors.LineError.{LineError}
 pub use Rattle.roman_text.specs.declared.replies.Reply.{Reply}
+pub use Rattle.roman_text.specs.declared.report.ReportLine.{ReportLine}
+pub use Rattle.roman_session.specs.Answering.{Answered, AnsweredOn, DoneOn, NamesSome, SeenStaysRelated}
 pub use Rattle.roman_session.specs.Joins.{CanJoin}
 pub use Rattle.roman_session.specs.Layout.{IsSession, situation_in}
-pub use Rattle.roman_session.specs.Reports.{offer_lines, service_lines}
-unfoldable pub use Rattle.roman_session.specs.Reports.{lines_text}
-pub use Rattle.roman_session.specs.Rulings.{named, seat_at, with_room}
-unfoldable pub use Rattle.roman_session.specs.Rulings.{asked, seen}
+pub use Rattle.roman_session.specs.Reports.{offer_line, offer_lines, report_head, service_line, service_lines}
+unfoldable pub use Rattle.roman_session.specs.Reports.{lines_text, report_text}
+pub use Rattle.roman_session.specs.Rulings.{delegation, demand, named, offered_action, seat_at, service_named, state_named, with_room}
+unfoldable pub use Rattle.roman_session.specs.Rulings.{asked, died, env_jumped, frozen, handed, joining, jumped, seen, thawed, unexplained}
 pub use Rattle.roman_session.specs.Serving.{seats_set, served}
 unfoldable pub use Rattle.roman_session.specs.Serving.{served_text}
-pub use Rattle.roman_session.specs.Situations.{IsPhase, IsSituation, Situation, present_system}
-pub use Rattle.roman_session.specs.Steps.{Changes, Does, HasMoved, dying, freezing, service_at, thawing}
-unfoldable pub use Rattle.roman_session.specs.Steps.{offer_text}
+pub use Rattle.roman_session.specs.Situations.{IsOpen, IsPhase, IsSituation, Situation, is_idle, present_system}
+pub use Rattle.roman_session.specs.Starts.{IsStart}
+pub use Rattle.roman_session.specs.Steps.{Asks, Changes, Changing, Does, Hands, HasMoved, Joins, Jumps, Moves, StepBy, StepOn, dying, freezing, growing, pair_after, parts_after, service_at, thawing}
+unfoldable pub use Rattle.roman_session.specs.Steps.{Step, offer_text}
 pub use Rattle.roman_session.specs.declared.events.Handing.{Handing}
 pub use Rattle.roman_session.specs.declared.events.Joining.{Joining}
 pub use Rattle.roman_session.specs.declared.events.Jump.{Jump}

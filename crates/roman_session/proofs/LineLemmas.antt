@@ -1,16 +1,8 @@
 -- Report lines, one after another.
-use Rattle.roman_session.proofs.Common.{◌≡◌, ℕ, ◌<◌, ◌≤◌, ◌+◌, Bool, List, [], ◌∷◌, ◌++◌, Some, IsTrue, IsFalse, length, drop, map, get_or, not, slice_get, slice_index, refl, sym, ap, ap₂, ◌∙◌, subst, arith, filter, flat_map, cond-true, cond-false, length-map, get_or_from_slice_get, below, Pair, IsPair, has, is_allowed, name_at, is_related, offers, from_place, from_end, there_is, reply_text, NamedBeh, HasBits, NamedSys, IsNamedSys, system_of, seat_of, Seat, seat_name, Situation, seats_set, served, served_text, service_lines, offer_lines, lines_text, offer_text, service_at, states_long}
-use Rattle.std.proofs.Common.{add-one, append_assoc}
-use Rattle.roman_session.specs.Reports.{report_text}
-use Rattle.std.proofs.Math.Seq.{drop-cons}
-use Rattle.std.proofs.lemmas.List.{append-nil, drop_all}
-use Rattle.std.proofs.lemmas.Option.{slice_get_within}
-use Rattle.roman_text.specs.Report.{line_text}
+use Rattle.roman_session.proofs.Common.{◌≡◌, ℕ, ◌<◌, ◌≤◌, ◌+◌, Bool, List, [], ◌∷◌, ◌++◌, Some, IsTrue, IsFalse, length, drop, map, get_or, not, slice_get, slice_index, refl, sym, ap, ap₂, ◌∙◌, subst, arith, filter, flat_map, cond-true, cond-false, length-map, get_or_from_slice_get, below, Pair, IsPair, has, is_allowed, name_at, is_related, offers, from_place, from_end, there_is, reply_text, NamedBeh, HasBits, NamedSys, IsNamedSys, system_of, seat_of, Seat, seat_name, Situation, seats_set, served, served_text, service_lines, offer_lines, lines_text, offer_text, service_at, states_long, add-one, append_assoc, report_text, drop-cons, append-nil, drop_all, slice_get_within, line_text, ReportLine, report_head, service_line, offer_line}
 use Rattle.roman_text.specs.declared.replies.Reply.TheVariants as reply
-use Rattle.roman_text.specs.declared.report.ReportLine.{ReportLine}
 use Rattle.roman_text.specs.declared.report.ReportLine.TheVariants as line
 use Rattle.roman_session.specs.Situations as situation
-use Rattle.roman_session.specs.Reports.{report_head, service_line, offer_line}
 use Rattle.roman_session.proofs.SituationLemmas.{mapped_at}
 use Rattle.roman_session.proofs.ServingLemmas.{offers_set}
 

@@ -1,14 +1,5 @@
 -- Places of names.
-use Rattle.roman_session.proofs.Common.{◌≡◌, ℕ, ◌<◌, ◌≤◌, Bool, true, false, List, [], Some, Result, Err, map, length, get_or, ap, ◌∙◌, subst, arith, bytes_eq, both_ways, cases_lt, get_or_from_slice_get, length-map, IsIn, Reply, Seat, seat_name, named}
-use Rattle.std.proofs.Common.{None, is_ok}
-use Rattle.std.specs.List.{position, position_or_len}
-use Rattle.std.proofs.lemmas.List.Quantifiers.{position-Some}
-use Rattle.std.proofs.lemmas.Option.{slice_get-get_or}
-use Rattle.std.proofs.lemmas.List.Elements.{Contains-get_or}
-use Rattle.roman_model.proofs.CallerLemmas.{any_from, none_from, in_contains, contains_in}
-use Rattle.roman_read.specs.Names.{place_of}
-use Rattle.roman_read.proofs.CallerLemmas.{position-none, position-some, place_of-present}
-use Rattle.std.proofs.lemmas.Slice.Eq.{bytes_eq-Decides}
+use Rattle.roman_session.proofs.Common.{◌≡◌, ℕ, ◌<◌, ◌≤◌, Bool, true, false, List, [], Some, Result, Err, map, length, get_or, ap, ◌∙◌, subst, arith, bytes_eq, both_ways, cases_lt, get_or_from_slice_get, length-map, IsIn, Reply, Seat, seat_name, named, None, is_ok, position, position_or_len, position-Some, slice_get-get_or, Contains-get_or, any_from, none_from, in_contains, contains_in, place_of, position-none, position-some, place_of-present, bytes_eq-Decides}
 use Rattle.roman_text.specs.declared.replies.Reply.TheVariants as reply
 
 -- the first place at which a test passes is unique

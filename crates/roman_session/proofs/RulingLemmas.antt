@@ -1,15 +1,6 @@
 -- What holds if an event isn't refused.
-use Rattle.roman_session.proofs.Common.{◌≡◌, ℕ, ◌<◌, ◌≤◌, Bool, true, false, List, length, Result, Ok, Err, IsTrue, IsFalse, refl, ap₂, arith, has, is_allowed, is_related, offers, Join, MAX_SERVICES, Reply, seat_of, Situation, present_system, named, seat_at, asked, seen, with_room, Joining, Jump, Sight, Phase, Idle, Offered, Delegated, Handing}
-use Rattle.std.proofs.lemmas.Bool.{not-true, lt-ltb, le-leb}
-use Rattle.std.proofs.lemmas.Bool.Decides.{leb_tells}
-use Rattle.roman_session.specs.Rulings.{demand}
-use Rattle.roman_model.specs.Change.{after}
-use Rattle.roman_read.specs.Items.{◌>>=◌}
-use Rattle.roman_read.proofs.CallerLemmas.{bind_ok, same_ok}
+use Rattle.roman_session.proofs.Common.{◌≡◌, ℕ, ◌<◌, ◌≤◌, Bool, true, false, List, length, Result, Ok, Err, IsTrue, IsFalse, refl, ap₂, arith, has, is_allowed, is_related, offers, Join, MAX_SERVICES, Reply, seat_of, Situation, present_system, named, seat_at, asked, seen, with_room, Joining, Jump, Sight, Phase, Idle, Offered, Delegated, Handing, not-true, lt-ltb, le-leb, leb_tells, demand, after, ◌>>=◌, bind_ok, same_ok, cells, is_idle, service_named, state_named, delegation, offered_action, handed, jumped, env_jumped, frozen, thawed, died, joining}
 use Rattle.roman_text.specs.declared.replies.Reply.TheVariants as reply
-use Rattle.roman_joint.specs.NamedSys.{cells}
-use Rattle.roman_session.specs.Situations.{is_idle}
-use Rattle.roman_session.specs.Rulings.{service_named, state_named, delegation, offered_action, handed, jumped, env_jumped, frozen, thawed, died, joining}
 
 -- a test that holds leads on to the checks that follow
 pub checked : {Y : Type 0} (test : Bool) (refusal : Reply) (f : Unit {0} → Result Y Reply) (y : Y) → (demand test refusal >>= f) ≡ Ok y → IsTrue test × (f tt ≡ Ok y)

@@ -1,9 +1,5 @@
 -- The seats of a mask, one after another.
-use Rattle.roman_session.proofs.Common.{◌≡◌, ℕ, ◌<◌, ◌≤◌, ◌+◌, Bool, List, [], ◌++◌, Some, IsTrue, IsFalse, length, drop, slice_get, sym, ap, ◌∙◌, arith, not, filter, flat_map, cond-true, cond-false, IsIn, below, Sys, Pair, has, is_allowed, arena, is_related, offers, from_place, from_end, HasBits, has_seat, NamedSys, Seat, seats_set, served, served_text, codes}
-use Rattle.std.proofs.Common.{◌&&◌}
-use Rattle.roman_model.specs.Arena.{is_beaten, mask}
-use Rattle.roman_model.proofs.CallerLemmas.{from_below, filter_same, mask_has}
-use Rattle.roman_rules.proofs.CallerLemmas.{has_seat_is}
+use Rattle.roman_session.proofs.Common.{◌≡◌, ℕ, ◌<◌, ◌≤◌, ◌+◌, Bool, List, [], ◌++◌, Some, IsTrue, IsFalse, length, drop, slice_get, sym, ap, ◌∙◌, arith, not, codes, filter, flat_map, cond-true, cond-false, IsIn, below, Sys, Pair, has, is_allowed, arena, is_related, offers, from_place, from_end, HasBits, has_seat, NamedSys, Seat, seats_set, served, served_text, ◌&&◌, is_beaten, mask, from_below, filter_same, mask_has, has_seat_is}
 use Rattle.roman_session.proofs.SituationLemmas.{mapped_at}
 
 -- a seat of the mask comes next

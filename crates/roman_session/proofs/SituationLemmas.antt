@@ -1,15 +1,7 @@
 -- What the fields of a session and the calls of its parts say of the situation.
-use Rattle.roman_session.proofs.Common.{◌≡◌, ℕ, ◌<◌, Bool, List, [], Option, Some, IfSome, IsTrue, IsFalse, map, length, slice_get, slice_set, slice_index, sym, ap, ◌∙◌, subst, arith, get_or_from_slice_get, length-map, both_ways, Sys, Pair, IsPair, is_ready, sizes_of, number, pair_at, IsIn, is_related, offers, Great, related_great, great_related, offer_is, numbers_are_pairs, there_is, moved, NamedBeh, NamedSys, Seat, IsSeatBehaviour, seat_name, names_in, states_long, Situation, present_system, IsPhase, IsSituation, service_at, situation_in, IsSession, Phase, Idle, Offered, Delegated, Inside}
-use Rattle.std.proofs.Common.{◌↔◌, slice_index_or}
-use Rattle.std.specs.Option.{option_map}
-use Rattle.std.proofs.lemmas.Option.{slice_get-map}
-use Rattle.std.proofs.lemmas.List.{get_or-set_same}
-use Rattle.roman_model.specs.SystemArena.{outcomes}
+use Rattle.roman_session.proofs.Common.{◌≡◌, ℕ, ◌<◌, Bool, List, [], Option, Some, IfSome, IsTrue, IsFalse, map, length, slice_get, slice_set, slice_index, sym, ap, ◌∙◌, subst, arith, get_or_from_slice_get, length-map, both_ways, Sys, Pair, IsPair, is_ready, sizes_of, number, pair_at, IsIn, is_related, offers, Great, related_great, great_related, offer_is, numbers_are_pairs, there_is, moved, NamedBeh, NamedSys, Seat, IsSeatBehaviour, seat_name, names_in, states_long, Situation, present_system, IsPhase, IsSituation, service_at, situation_in, IsSession, Phase, Idle, Offered, Delegated, Inside, ◌↔◌, slice_index_or, option_map, slice_get-map, get_or-set_same, outcomes, seat_names, not_empty_in, ne_not_empty, by_test, outcome_seat, states_set, states_below, AreBelow-index, IsOpen}
 use Rattle.roman_model.specs.System.{Seat as Seat'}
-use Rattle.roman_model.specs.Explanation.{seat_names}
-use Rattle.roman_model.proofs.CallerLemmas.{not_empty_in, ne_not_empty, by_test, outcome_seat, states_set, states_below, AreBelow-index}
 use Rattle.roman_joint.specs.NamedSys as joint
-use Rattle.roman_session.specs.Situations.{IsOpen}
 
 -- the situation in the fields is well formed
 pub situation_known : (a : Inside) (s : Situation) → IsSession a → situation_in a ≡ s → IsSituation s

@@ -1,8 +1,5 @@
 -- What follows from offers and outcomes.
-use Rattle.roman_session.proofs.Common.{◌≡◌, ℕ, List, [], Ok, IsTrue, sym, subst, IsIn, IsPair, Great, is_related, offers, related_great, great_related, offer_is, Situation, present_system, IsSituation, IsPhase, asked, seen, Sight, HasMoved}
-use Rattle.std.proofs.Common.{◌≢◌}
-use Rattle.roman_model.proofs.CallerLemmas.{related_offers, outcome_in, outcome_pair}
-use Rattle.roman_session.specs.Steps.{Moves, pair_after}
+use Rattle.roman_session.proofs.Common.{◌≡◌, ℕ, List, [], Ok, IsTrue, sym, subst, IsIn, IsPair, Great, is_related, offers, related_great, great_related, offer_is, Situation, present_system, IsSituation, IsPhase, asked, seen, Sight, HasMoved, ◌≢◌, related_offers, outcome_in, outcome_pair, Moves, pair_after}
 use Rattle.roman_session.proofs.RulingLemmas.{asked_is, seen_is}
 
 -- the current pair is related if the test holds

@@ -1,3 +1,4 @@
+pub mod Common
 pub mod StartLemmas
 pub mod SeatingLemmas
 pub mod CallerLemmas

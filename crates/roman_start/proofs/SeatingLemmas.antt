@@ -1,13 +1,5 @@
 -- The seating of a library.
-use Rattle.std.proofs.Common.{◌≡◌, ℕ, ◌<◌, ◌≤◌, List, vec_capacity, sym, subst, arith}
-use Rattle.roman_model.specs.System.{IsPair}
-use Rattle.roman_model.specs.Numbers.{sizes_of, count, number}
-use Rattle.roman_model.specs.declared.limits.TheConstants.{MAX_SERVICES}
-use Rattle.roman_joint.specs.NamedSys.{NamedSys, system_of}
-use Rattle.roman_library.specs.Library.{PlainLibrary, IsLibrary}
-use Rattle.roman_start.specs.Starts.{parts_of, start_pair_of, starting}
-use Rattle.roman_start.specs.Seating.{IsSeated}
-use Rattle.roman_start.specs.declared.seating.Seated.{Seated}
+use Rattle.roman_start.proofs.Common.{◌≡◌, ℕ, ◌<◌, ◌≤◌, List, vec_capacity, sym, subst, arith, IsPair, sizes_of, count, number, MAX_SERVICES, NamedSys, system_of, PlainLibrary, IsLibrary, parts_of, start_pair_of, starting, IsSeated, Seated}
 use Rattle.roman_start.proofs.StartLemmas.{start_pair}
 
 -- the start pair, for a system and states that are those of the library

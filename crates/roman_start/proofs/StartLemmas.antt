@@ -1,16 +1,5 @@
 -- The services of a library have their seats, and start in states of their behaviours.
-use Rattle.std.proofs.Common.{◌≡◌, ℕ, ◌<◌, List, [], ◌∷◌, Option, Some, IfSome, All, map, length, get_or, slice_get, refl, sym, ap, subst}
-use Rattle.std.specs.List.{AllByRecursion, AllZip}
-use Rattle.std.proofs.lemmas.List.Elements.{All-from_recursion, recursion_from_All}
-use Rattle.std.proofs.lemmas.Option.{slice_get-get_or}
-use Rattle.roman_model.specs.Lists.{HasNoRepeats}
-use Rattle.roman_model.specs.System.{Beh, IsPair}
-use Rattle.roman_parts.specs.Named.{NamedBeh}
-use Rattle.roman_joint.specs.NamedSys.{beh_at, seat_of, still, system_of}
-use Rattle.roman_joint.proofs.CallerLemmas.{beh_read}
-use Rattle.roman_library.specs.Library.{PlainLibrary, IsService, IsLibrary, service_name}
-use Rattle.roman_library.specs.declared.library.Service.{Service}
-use Rattle.roman_start.specs.Starts.{seat_of_service, state_of_service, parts_of, start_pair_of}
+use Rattle.roman_start.proofs.Common.{◌≡◌, ℕ, ◌<◌, List, [], ◌∷◌, Option, Some, IfSome, All, map, length, get_or, slice_get, refl, sym, ap, subst, AllByRecursion, AllZip, All-from_recursion, recursion_from_All, slice_get-get_or, HasNoRepeats, Beh, IsPair, NamedBeh, beh_at, seat_of, still, system_of, beh_read, PlainLibrary, IsService, IsLibrary, service_name, Service, seat_of_service, state_of_service, parts_of, start_pair_of}
 
 -- the behaviours of the services are the behaviours of their seats
 seats_within : (catalogue : List NamedBeh) (services : List Service) → AllByRecursion (IsService catalogue) services →

@@ -1,16 +1,31 @@
--- The names that several proof pages of this crate cite, passed on from one place. Declares nothing.
-pub use Rattle.std.proofs.Common.{Bool, Err, List, None, Ok, Option, Result, Some, [], ap, append_assoc, ap₂, arith, cond, drop, drop-cons, false, get_or, length, length-append, length-drop, not, refl, subst, suc, sym, take, true, ℕ, ◌++◌, ◌+◌, ◌-◌, ◌<◌, ◌∙◌, ◌∷◌, ◌≡◌, ◌≤◌}
+-- What the proof pages of this crate cite from elsewhere, passed on from one place. Declares nothing.
+pub use Rattle.std.proofs.Common.{Bool, Err, List, None, Ok, Option, Result, Some, [], ap, append_assoc, ap₂, arith, codes, cond, decimal, drop, drop-cons, false, filter, get_or, inl, inr, length, length-append, length-drop, length-take-le, map, min, nat_eq, not, refl, subst, suc, sym, take, take-add, true, unwrap_or, w8, zero, ℕ, ◌&&◌, ◌++◌, ◌+◌, ◌-◌, ◌/◌, ◌<◌, ◌==◌, ◌||◌, ◌∙◌, ◌∷◌, ◌≡◌, ◌≢◌, ◌≤◌}
 pub use Rattle.std.proofs.Math.Dec.{ltb}
+pub use Rattle.std.proofs.lemmas.Bool.{both_ways, cond-true, lt-ltb, or_from}
 pub use Rattle.std.proofs.lemmas.Fmt.{length-decimal-le}
-pub use Rattle.std.proofs.lemmas.List.{append-nil, length-take, take_all}
-pub use Rattle.std.proofs.lemmas.List.Sums.{passes_at_first}
-pub use Rattle.std.proofs.lemmas.Simd.{length-chunk}
-pub use Rattle.std.specs.List.{position, position_or_len}
-pub use Rattle.roman_io.proofs.CallerLemmas.{Wrote-nil, WrotePrefix-append}
-pub use Rattle.roman_io.specs.Sink.{Puts, WrotePrefix}
-pub use borrow.Author.Tests.{ltb-true}
-pub use lib.Lanes.{chunk}
-pub use Rattle.roman_text.specs.Lines.{is_newline}
-unfoldable pub use Rattle.roman_text.specs.Lines.{kept}
+pub use Rattle.std.proofs.lemmas.List.{append-nil, append_cancel_left, drop_all, drop_at, length-take, take-append-drop, take-append-le, take_all, take_at, take_min}
+pub use Rattle.std.proofs.lemmas.List.Folds.{list_any-append}
+pub use Rattle.std.proofs.lemmas.List.Splits.{slice_split-cons_no, slice_split-cons_yes}
+pub use Rattle.std.proofs.lemmas.List.Sums.{passes_at_first, position_or_len_is}
+pub use Rattle.std.proofs.lemmas.Result.{err_from_is_err_and}
+pub use Rattle.std.proofs.lemmas.Simd.{bitmask_splat, length-chunk, put_chunk_whole, run_in_chunk_fails, run_in_chunk_stops, trailing_mask_l}
+pub use Rattle.std.proofs.lemmas.Slice.Eq.{bytes_eq-Decides}
+pub use Rattle.std.specs.List.{position, position_or_len, slice_split}
+pub use Rattle.std.specs.Str.{bytes_eq}
+pub use Rattle.std.specs.Str.Lines.{strip_carriage_return}
+pub use Rattle.itoa.proofs.Decimal.{length_four, length_one, length_pair, length_two}
+pub use Rattle.roman_io.proofs.CallerLemmas.{Puts-after, Wrote-nil, Wrote-then, WrotePrefix-after, WrotePrefix-append}
+pub use Rattle.roman_io.specs.Sink.{Puts, Wrote, WrotePrefix}
+pub use Rattle.roman_model.proofs.CallerLemmas.{ended_lines-text, ended_lines_last, from_push, lines-text, lines_last, text_of_lines-push}
+pub use Rattle.roman_model.specs.Lines.{IsLine, ended_lines, lines, onto_ended_line, text_of_lines}
+pub use Rattle.roman_model.specs.System.{has}
+pub use borrow.Author.Tests.{eqb-true, le-ltb, ltb-false, ltb-true, not-true}
+pub use lib.Count.{count_trailing_zeros}
+pub use lib.Lanes.{chunk, mask_l}
+pub use Rattle.roman_text.specs.Lines.{IsSplit, is_newline}
+unfoldable pub use Rattle.roman_text.specs.Lines.{kept, unfinished}
 pub use Rattle.roman_text.specs.Pages.{Gathered, Gathers}
-unfoldable pub use Rattle.roman_text.specs.Shapes.{words_of}
+pub use Rattle.roman_text.specs.Shapes.{LineShape, abort, alone, ask, by_words, die, explain, freeze, hand, has_bytes, is_blank, is_comment, is_part, join, jump, jump_env, nothing, quit, report, saw, shape_of_words, spelling, thaw, with_four, with_one, with_three, with_two}
+unfoldable pub use Rattle.roman_text.specs.Shapes.{shape_of, words_of}
+pub use Rattle.roman_text.specs.declared.errors.LineError.{LineError}
+pub use Rattle.roman_text.specs.declared.errors.LineError.TheVariants.{Form, TooLong}

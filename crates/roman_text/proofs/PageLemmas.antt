@@ -1,7 +1,5 @@
 -- What a page writes and holds, over several calls.
-use Rattle.roman_text.proofs.Common.{◌≡◌, ℕ, List, [], ◌++◌, Option, Result, Ok, Err, sym, ap, ◌∙◌, append_assoc, append-nil, WrotePrefix, Puts, Wrote-nil, WrotePrefix-append, Gathered, Gathers}
-use Rattle.roman_io.specs.Sink.{Wrote}
-use Rattle.roman_io.proofs.CallerLemmas.{Wrote-then, WrotePrefix-after, Puts-after}
+use Rattle.roman_text.proofs.Common.{◌≡◌, ℕ, List, [], ◌++◌, Option, Result, Ok, Err, sym, ap, ◌∙◌, append_assoc, append-nil, WrotePrefix, Puts, Wrote-nil, WrotePrefix-append, Gathered, Gathers, Wrote, Wrote-then, WrotePrefix-after, Puts-after}
 
 -- ---- for callers that fill a page: the beginning, one more text, a fault, and the end
 

@@ -1,13 +1,6 @@
 -- The shape of a line, from its words.
-use Rattle.roman_text.proofs.Common.{◌≡◌, ℕ, ◌<◌, ◌≤◌, List, [], ◌∷◌, length, Bool, true, false, cond, Result, Ok, Err, refl, sym, ap, ◌∙◌, arith, ltb, kept, words_of}
-use Rattle.std.proofs.Common.{◌&&◌, codes}
-use borrow.Author.Tests.{lt-ltb, le-ltb}
-use Rattle.std.specs.Str.Lines.{strip_carriage_return}
-use Rattle.roman_text.specs.declared.errors.LineError.{LineError}
-use Rattle.roman_text.specs.declared.errors.LineError.TheVariants.{Form, TooLong}
-use Rattle.std.specs.Str.{bytes_eq}
-use Rattle.std.proofs.lemmas.Slice.Eq.{bytes_eq-Decides}
-use Rattle.roman_text.specs.Shapes.{ask, hand, saw, abort, freeze, thaw, die, join, jump, jump_env, report, explain, quit, spelling, LineShape, nothing, is_comment, by_words, shape_of_words, alone, with_one, with_two, with_three, with_four, shape_of}
+use Rattle.roman_text.proofs.Common.{◌≡◌, ℕ, ◌<◌, ◌≤◌, List, [], ◌∷◌, length, Bool, true, false, cond, Result, Ok, Err, refl, sym, ap, ◌∙◌, arith, ltb, kept, words_of, ◌&&◌, codes, le-ltb, strip_carriage_return, LineError, Form, TooLong, bytes_eq, bytes_eq-Decides, ask, hand, saw, abort, freeze, thaw, die, join, jump, jump_env, report, explain, quit, spelling, LineShape, nothing, is_comment, by_words, shape_of_words, alone, with_one, with_two, with_three, with_four, shape_of}
+use borrow.Author.Tests.{lt-ltb}
 use Rattle.roman_text.proofs.LineLemmas.{kept-short, length-kept}
 
 -- a longer line

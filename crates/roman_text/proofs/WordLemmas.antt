@@ -1,11 +1,5 @@
 -- The words of a line, from its first word on.
-use Rattle.roman_text.proofs.Common.{◌≡◌, ℕ, suc, ◌+◌, ◌<◌, ◌≤◌, List, [], ◌∷◌, length, take, drop, get_or, Bool, true, false, not, cond, None, Some, refl, sym, ap, ◌∙◌, arith, drop-cons, ltb-true, passes_at_first, ltb, position, position_or_len, words_of}
-use Rattle.std.proofs.Common.{filter, unwrap_or}
-use borrow.Author.Tests.{ltb-false, not-true}
-use Rattle.std.proofs.lemmas.List.{drop_all}
-use Rattle.std.proofs.lemmas.List.Splits.{slice_split-cons_yes, slice_split-cons_no}
-use Rattle.std.specs.List.{slice_split}
-use Rattle.roman_text.specs.Shapes.{is_blank, is_part, has_bytes}
+use Rattle.roman_text.proofs.Common.{◌≡◌, ℕ, suc, ◌+◌, ◌<◌, ◌≤◌, List, [], ◌∷◌, length, take, drop, get_or, Bool, true, false, not, cond, None, Some, refl, sym, ap, ◌∙◌, arith, drop-cons, ltb-true, passes_at_first, ltb, position, position_or_len, words_of, filter, unwrap_or, ltb-false, not-true, drop_all, slice_split-cons_yes, slice_split-cons_no, slice_split, is_blank, is_part, has_bytes}
 
 -- ---- places in a list
 

@@ -1,19 +1,7 @@
 -- Writing advice by accepted costs as part of a run.
-use Rattle.roman_top.proofs.Common.{◌≡◌, ◌≢◌, ◌↔◌, ℕ, ◌*◌, ◌<◌, ◌≤◌, Bool, IsTrue, IsFalse, List, Option, Some, IfSome, Result, Ok, Err, refl, sym, ap, ◌∙◌, subst, arith, cond-true, cond-false, lt-ltb, cases_lt, Texts, Puts, Sys, Pair, IsSys, sizes_of, count, pair_at, is_related, related_count, by_test, related_great, great_related, numbers_are_pairs, NamedSys, system_of, PlainLibrary, parts_of, start_pair_of, IsSeated, Seated, Advising, Unrelated, TooMany, Told, advice_text, advised_by, Listed, SaysAdvice, GivesAdvice, SinkCause, Advise, On, IsAnswered, Accepts, Opens, Finishes, EndsBare, Writes, WritesText, document_opening, OnOpening, ServedBeside, Status, Outputs}
-use Rattle.roman_parts.specs.declared.error.PartError.{PartError}
-use Rattle.roman_top.specs.Advice.{OnCosts}
-use Rattle.std.proofs.lemmas.Bool.{le-ltb}
-use Rattle.roman_model.specs.Composition.{Great}
-use Rattle.roman_model.proofs.CallerLemmas.{same_test}
-use Rattle.roman_cost.specs.Costs.{costs_of}
-use Rattle.roman_cost.specs.Refusals.{ReadsAs, HasCostCause}
-use Rattle.roman_cost.specs.Tables.{CostTable}
-use Rattle.roman_cost.specs.declared.error.CostError.{CostError}
+use Rattle.roman_top.proofs.Common.{◌≡◌, ◌≢◌, ◌↔◌, ℕ, ◌*◌, ◌<◌, ◌≤◌, Bool, IsTrue, IsFalse, List, Option, Some, IfSome, Result, Ok, Err, refl, sym, ap, ◌∙◌, subst, arith, cond-true, cond-false, lt-ltb, cases_lt, Texts, Puts, Sys, Pair, IsSys, sizes_of, count, pair_at, is_related, related_count, by_test, related_great, great_related, numbers_are_pairs, NamedSys, system_of, PlainLibrary, parts_of, start_pair_of, IsSeated, Seated, Advising, Unrelated, TooMany, Told, advice_text, advised_by, Listed, SaysAdvice, GivesAdvice, SinkCause, Advise, On, IsAnswered, Accepts, Opens, Finishes, EndsBare, Writes, WritesText, document_opening, OnOpening, ServedBeside, Status, Outputs, PartError, OnCosts, le-ltb, Great, same_test, costs_of, ReadsAs, HasCostCause, CostTable, CostError, AdviceError, MAX_VALUES, Affords, TellsRead, CausedByRead}
 use Rattle.roman_cost.specs.declared.error.CostError.TheVariants as cost
-use Rattle.roman_cost.specs.declared.error.AdviceError.{AdviceError}
 use Rattle.roman_cost.specs.declared.error.AdviceError.TheVariants as advice_error
-use Rattle.roman_cost.specs.declared.limits.TheConstants.{MAX_VALUES}
-use Rattle.roman_top.specs.Advice.{Affords, TellsRead, CausedByRead}
 use Rattle.roman_top.proofs.EndingLemmas.{told_both, on_accepted, writes_put, writes_weaker}
 use Rattle.roman_top.proofs.ServedLemmas.{job_served, opened_from}
 

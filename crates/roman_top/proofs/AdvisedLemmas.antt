@@ -1,9 +1,5 @@
 -- The text of `advise` is right by the greatest ND-simulation and by plans.
-use Rattle.roman_top.proofs.Common.{ℕ, List, sym, subst, arith, Texts, Pair, IsSys, IsPair, is_related, by_test, related_great, great_related, NamedSys, system_of, PlainLibrary, parts_of, start_pair_of, Advising, advised_by, Listed, SaysAdvice, GivesAdvice, Status, related_count}
-use Rattle.roman_cost.specs.Laws.{TellsLeast}
-use Rattle.roman_cost.specs.Tables.{seat_costs}
-use Rattle.roman_cost.proofs.CallerLemmas.{advice_least}
-use Rattle.roman_top.specs.HeadlineAdvise.{AdvisesBy, KeepsAdvice}
+use Rattle.roman_top.proofs.Common.{ℕ, List, sym, subst, arith, Texts, Pair, IsSys, IsPair, is_related, related_count, by_test, related_great, great_related, NamedSys, system_of, PlainLibrary, parts_of, start_pair_of, Advising, advised_by, Listed, SaysAdvice, GivesAdvice, Status, TellsLeast, seat_costs, advice_least, AdvisesBy, KeepsAdvice}
 use Rattle.roman_top.proofs.AdviseLemmas.{advised_unrelated, advised_many, advised_told}
 use Rattle.roman_top.proofs.ServingLemmas.{related_all}
 

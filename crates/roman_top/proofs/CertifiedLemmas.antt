@@ -1,8 +1,5 @@
 -- A complete removal list over numbers lists exactly the pairs that aren't related, validly.
-use Rattle.roman_top.proofs.Common.{◌≡◌, ℕ, zero, suc, ◌*◌, ◌<◌, List, [], ◌∷◌, map, IsTrue, IsFalse, inl, inr, refl, sym, ap₂, ◌∙◌, subst, arith, list_any, both_ways, or_cases, not-true, IsIn, is_empty, product_of, Sys, Pair, IsSys, IsPair, is_final, all_final, pairs, outcomes, same_pair, is_fine, arena, Entry, is_among, is_justified, IsOrderFrom, IsComplete, cert_text, sizes_of, count, number, pair_at, entry_at, IsCompleteList, Reason, Final, Act, any_true, any_from, in_map, from_map, from_allowed, outcome_in, from_outcome, listed_in, in_listed, length-pairs, numbers_are_pairs, map-map, HoldsReason, AreValid, ListsUnrelated, numbered_entry, CertifiesUnrelated, system_is_same}
-use Rattle.std.proofs.Math.Nat.{div-lt_iff_lt-mul}
-use Rattle.std.proofs.lemmas.Bool.{or_parts, not-false}
-use Rattle.roman_model.proofs.CallerLemmas.{justified_is, in_not_empty}
+use Rattle.roman_top.proofs.Common.{◌≡◌, ℕ, zero, suc, ◌*◌, ◌<◌, List, [], ◌∷◌, map, IsTrue, IsFalse, inl, inr, refl, sym, ap₂, ◌∙◌, subst, arith, list_any, both_ways, or_cases, not-true, IsIn, is_empty, product_of, Sys, Pair, IsSys, IsPair, is_final, all_final, pairs, outcomes, same_pair, is_fine, arena, Entry, is_among, is_justified, IsOrderFrom, IsComplete, cert_text, sizes_of, count, number, pair_at, entry_at, IsCompleteList, Reason, Final, Act, any_true, any_from, in_map, from_map, from_allowed, outcome_in, from_outcome, listed_in, in_listed, length-pairs, numbers_are_pairs, map-map, system_is_same, HoldsReason, AreValid, ListsUnrelated, numbered_entry, CertifiesUnrelated, div-lt_iff_lt-mul, or_parts, not-false, justified_is, in_not_empty}
 
 -- Reasons.
 

@@ -1,8 +1,5 @@
 -- Writing certificates as part of a run.
-use Rattle.roman_top.proofs.Common.{◌≡◌, ℕ, List, Option, Result, subst, arith, Puts, sizes_of, count, cert_text, NamedSys, system_of, PlainLibrary, IsSeated, Seated, Finishes, Writes, CertifiesSystem, Status}
-use Rattle.roman_order.specs.Board.{Board}
-use Rattle.roman_relation.specs.Greatest.{HasCompleteList}
-use Rattle.roman_top.specs.Run.{Certifies}
+use Rattle.roman_top.proofs.Common.{◌≡◌, ℕ, List, Option, Result, subst, arith, Puts, sizes_of, count, cert_text, NamedSys, system_of, PlainLibrary, IsSeated, Seated, Finishes, Writes, CertifiesSystem, Status, Board, HasCompleteList, Certifies}
 use Rattle.roman_top.specs.declared.status.Status.TheVariants as status
 use Rattle.roman_top.proofs.EndingLemmas.{writes_put}
 

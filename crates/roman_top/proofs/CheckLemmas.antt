@@ -1,16 +1,9 @@
 -- The check of a certificate, as part of a run.
-use Rattle.roman_top.proofs.Common.{◌≡◌, ℕ, Bool, List, Option, None, Some, IfSome, Result, Ok, Err, refl, sym, ap, ◌∙◌, subst, arith, Texts, shelf_text, rest_from, numbered, TooLong, cert_verdict, system_of, IsSeated, Seated, verdict_of, fault_of, SinkCause, Check, On, Accepts, Opens, EndsBare, Writes, document_opening, OnOpening, SaysVerdict, ServedBeside, greatest_text, rejected_text, Status, Outputs}
-use Rattle.std.proofs.Common.{IfOk}
+use Rattle.roman_top.proofs.Common.{◌≡◌, ℕ, Bool, List, Option, None, Some, IfSome, Result, Ok, Err, refl, sym, ap, ◌∙◌, subst, arith, Texts, shelf_text, rest_from, numbered, TooLong, cert_verdict, system_of, IsSeated, Seated, verdict_of, fault_of, SinkCause, Check, On, Accepts, Opens, EndsBare, Writes, document_opening, OnOpening, SaysVerdict, ServedBeside, greatest_text, rejected_text, Status, Outputs, IfOk, Arena, HaveVerdict, Why, CheckError, FindsVerdict, CheckCause, JudgesCheck, CausedByCheck, Checks}
 use Rattle.std.specs.Result.{IsErrOf}
-use Rattle.roman_model.specs.Arena.{Arena}
-use Rattle.roman_check.specs.Checks.{HaveVerdict}
-use Rattle.roman_check.specs.declared.verdict.Why.{Why}
 use Rattle.roman_check.specs.declared.verdict.Verdict.{Verdict}
 use Rattle.roman_check.specs.declared.verdict.Verdict.TheVariants as checked_as
-use Rattle.roman_check.specs.declared.error.CheckError.{CheckError}
 use Rattle.roman_check.specs.declared.error.CheckError.TheVariants as check
-use Rattle.roman_top.specs.Endings.{FindsVerdict, CheckCause, JudgesCheck, CausedByCheck}
-use Rattle.roman_top.specs.Run.{Checks}
 use Rattle.roman_top.specs.declared.status.Status.TheVariants as status
 use Rattle.roman_top.proofs.EndingLemmas.{told_both, on_accepted, writes_weaker}
 use Rattle.roman_top.proofs.ServedLemmas.{job_served, opened_from}

@@ -1,13 +1,5 @@
 -- A certificate that `check` accepts lists exactly the pairs that aren't related, and each one that does is accepted.
-use Rattle.roman_top.proofs.Common.{◌≡◌, ℕ, ◌<◌, Bool, List, [], ◌∷◌, map, length, IsTrue, inl, inr, refl, sym, ap, ◌∙◌, subst, arith, list_any, both_ways, or_cases, not-true, lines, IsIn, all_below, is_empty, Sys, Pair, IsSys, IsPair, is_final, all_final, pairs, outcomes, same_pair, is_allowed, is_fine, arena, Entry, is_among, is_justified, IsOrderFrom, IsComplete, Verdict, Greatest, Rejected, TooLong, cert_text, cert_verdict, IsWithinCells, GreatestIsComplete, is_related, sizes_of, count, number, pair_at, numbered, entry_at, IsCompleteList, Reason, Final, Act, by_test, any_from, any_true, in_map, from_map, allowed_in, outcome_in, from_outcome, listed_in, in_listed, length-pairs, length-below, numbers_are_pairs, map-map, related_great, great_related, HoldsReason, AreValid, ListsUnrelated, numbered_entry, CertifiesUnrelated, SaysVerdict, greatest_text, Status, system_is_same, related_count}
-use Rattle.std.proofs.Common.{not}
-use Rattle.roman_model.specs.Arena.{is_listed, is_beaten}
-use Rattle.std.specs.List.{filter_map}
-use Rattle.std.proofs.lemmas.Bool.{or_left, or_right, not_from_false, and_from}
-use Rattle.roman_model.specs.CompleteLists.{AreEntries}
-use Rattle.roman_model.specs.Certificate.{entries_on, entry_of, greatest}
-use Rattle.roman_model.proofs.CallerLemmas.{not_empty_in, all_below_from, written_is_greatest}
-use Rattle.roman_top.specs.HeadlineCheck.{TellsGreatest, certified_entries, JudgesCertificate}
+use Rattle.roman_top.proofs.Common.{◌≡◌, ℕ, ◌<◌, Bool, List, [], ◌∷◌, map, length, IsTrue, inl, inr, refl, sym, ap, ◌∙◌, subst, arith, list_any, both_ways, or_cases, not-true, lines, IsIn, all_below, is_empty, Sys, Pair, IsSys, IsPair, is_final, all_final, pairs, outcomes, same_pair, is_allowed, is_fine, arena, Entry, is_among, is_justified, IsOrderFrom, IsComplete, Verdict, Greatest, Rejected, TooLong, cert_text, cert_verdict, IsWithinCells, GreatestIsComplete, is_related, related_count, sizes_of, count, number, pair_at, numbered, entry_at, IsCompleteList, Reason, Final, Act, by_test, any_from, any_true, in_map, from_map, allowed_in, outcome_in, from_outcome, listed_in, in_listed, length-pairs, length-below, numbers_are_pairs, map-map, related_great, great_related, system_is_same, HoldsReason, AreValid, ListsUnrelated, numbered_entry, CertifiesUnrelated, SaysVerdict, greatest_text, Status, not, is_listed, is_beaten, filter_map, or_left, or_right, not_from_false, and_from, AreEntries, entries_on, entry_of, greatest, not_empty_in, all_below_from, written_is_greatest, TellsGreatest, certified_entries, JudgesCertificate}
 use Rattle.roman_top.proofs.CertifiedLemmas.{lists_unrelated}
 use Rattle.roman_top.proofs.ServingLemmas.{related_all}
 

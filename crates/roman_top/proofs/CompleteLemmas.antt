@@ -1,7 +1,5 @@
 -- Commands are answered.
-use Rattle.roman_top.proofs.Common.{◌≡◌, ◌≢◌, ℕ, Bool, true, false, IsTrue, MatchBool, List, Option, None, Some, IfSome, refl, sym, subst, false≢true, Texts, shelf_text, lines, ended_lines, Sys, Pair, sizes_of, number, numbered, Verdict, Greatest, Rejected, TooLong, cert_verdict, PlainLibrary, start_pair_of, prefix_of, is_heard_out, Job, Synth, Run, Certify, Check, Shortest, Advise, Resilience, Command, On, Make, IsAnswered, library_system, document_opening, EndsBy, SaysVerdict, Talks, JobDoes, IsSessionText, HasRun, Served, ToldFromStart, World, Status}
-use Rattle.roman_top.specs.Complete.{Suffices, CanAnswer, IsUndisturbed, AnswersWherePossible}
-use Rattle.roman_top.specs.Run.{texts_for}
+use Rattle.roman_top.proofs.Common.{◌≡◌, ◌≢◌, ℕ, Bool, true, false, IsTrue, MatchBool, List, Option, None, Some, IfSome, refl, sym, subst, false≢true, Texts, shelf_text, lines, ended_lines, Sys, Pair, sizes_of, number, numbered, Verdict, Greatest, Rejected, TooLong, cert_verdict, PlainLibrary, start_pair_of, prefix_of, is_heard_out, Job, Synth, Run, Certify, Check, Shortest, Advise, Resilience, Command, On, Make, IsAnswered, library_system, document_opening, EndsBy, SaysVerdict, Talks, JobDoes, IsSessionText, HasRun, Served, ToldFromStart, World, Status, Suffices, CanAnswer, IsUndisturbed, AnswersWherePossible, texts_for}
 use Rattle.roman_top.specs.declared.status.Status.TheVariants as status
 use Rattle.roman_top.proofs.AdviseLemmas.{advice_answered}
 use Rattle.roman_top.proofs.EndingLemmas.{told_all, told_more, work_of}

@@ -1,9 +1,5 @@
 -- How the parts of a run end.
-use Rattle.roman_top.proofs.Common.{◌≡◌, ℕ, ◌<◌, Bool, true, false, IsTrue, IsFalse, MatchBool, List, Option, None, Some, IfSome, Result, Ok, Err, sym, ap, ◌∙◌, subst, arith, false≢true, cond-true, lt-ltb, HasCause, Texts, Puts, cells, library_of, PlainLibrary, Refusal, ShelfCause, SinkCause, WritesText, Writes, EndsBare, TurnsAway, Finishes, IsSpoken, Accepted, document_opening, OnOpening, library_system, is_past_limit, limit_line, refusal_line, Status, refl, ◌≤◌, cond-false}
-use Rattle.roman_top.specs.Opening.{Past, opening_of}
-use Rattle.std.proofs.lemmas.Bool.{true≢false, le-ltb}
-use Rattle.roman_top.specs.Endings.{ReadsTo, OpensTo}
-use Rattle.roman_top.specs.Opening.{Opening, Refused}
+use Rattle.roman_top.proofs.Common.{◌≡◌, ℕ, ◌<◌, Bool, true, false, IsTrue, IsFalse, MatchBool, List, Option, None, Some, IfSome, Result, Ok, Err, sym, ap, ◌∙◌, subst, arith, refl, ◌≤◌, false≢true, cond-true, lt-ltb, cond-false, HasCause, Texts, Puts, cells, library_of, PlainLibrary, Refusal, ShelfCause, SinkCause, WritesText, Writes, EndsBare, TurnsAway, Finishes, IsSpoken, Accepted, document_opening, OnOpening, library_system, is_past_limit, limit_line, refusal_line, Status, Past, opening_of, true≢false, le-ltb, ReadsTo, OpensTo, Opening, Refused}
 use Rattle.roman_top.specs.declared.status.Status.TheVariants as status
 
 -- properties of the value that an option may hold

@@ -1,19 +1,11 @@
 -- The text of a session keeps its promise.
-use Rattle.roman_top.proofs.Common.{◌≡◌, ℕ, Bool, true, false, MatchBool, List, length, take, nat_le, Option, Some, sym, subst, arith, Texts, Wrote, GreatestIsComplete, lines, ended_lines, IsIn, MAX_SESSION_BYTES, PlainLibrary, Situation, report_text, parts_of, start_pair_of, Answers, prefix_of, is_heard_out, State, start_state, IsState, LinesAreRead, Synth, Run, Command, On, IsFree, MeansTargets, IsTurnOfTargets, Turn, Accepted, document_opening, Talks, Synthesises, HasRun, Served, ToldFromStart, World, Status, PlainTargets, library_of}
-use Rattle.std.proofs.Common.{cond, if◌then◌else◌}
-use Rattle.roman_library.proofs.CallerLemmas.{targets_combined}
-use Rattle.roman_hearing.specs.Words.{ReportsGreat}
-use Rattle.roman_hearing.proofs.CallerLemmas.{reports_great, answered_heard}
-use Rattle.roman_top.specs.Headline.{KeepsPromise, HasHeadline, HasReported}
-use Rattle.roman_top.specs.HeadlineTargets.{KeepsTargets, HasAnsweredTargets}
-use Rattle.roman_top.specs.HeadlineTurns.{Means, HasAnsweredLines}
+use Rattle.roman_top.proofs.Common.{◌≡◌, ℕ, Bool, true, false, MatchBool, List, length, take, nat_le, Option, Some, sym, subst, arith, Texts, Wrote, GreatestIsComplete, lines, ended_lines, IsIn, MAX_SESSION_BYTES, PlainLibrary, Situation, report_text, parts_of, start_pair_of, Answers, prefix_of, is_heard_out, State, start_state, IsState, LinesAreRead, Synth, Run, Command, On, IsFree, MeansTargets, IsTurnOfTargets, Turn, Accepted, document_opening, Talks, Synthesises, HasRun, Served, ToldFromStart, World, Status, PlainTargets, library_of, cond, if◌then◌else◌, targets_combined, ReportsGreat, reports_great, answered_heard, KeepsPromise, HasHeadline, HasReported, KeepsTargets, HasAnsweredTargets, Means, HasAnsweredLines, NamesTargets}
 use Rattle.roman_top.specs.declared.status.Status.TheVariants as status
 use Rattle.roman_top.proofs.EndingLemmas.{told_more, work_of, opens_within}
 use Rattle.roman_top.proofs.JobLemmas.{keeps_text}
 use Rattle.roman_top.proofs.StartsKnown.{starts_known, some_start}
 use Rattle.roman_top.proofs.TargetLemmas.{means_targets, steps_tell}
 use Rattle.roman_top.proofs.TurnLemmas.{StepsTell, HasTurns, state_known, start_seen, start_from, turns_of}
-use Rattle.roman_library.specs.Targets.{NamesTargets}
 
 -- the document is accepted, and its library is within the limit
 means_accepted : (texts : Texts) (system : List ℕ) (library : PlainLibrary) → Means texts system library → document_opening texts system ≡ Accepted library

@@ -1,11 +1,8 @@
 -- The system and the pair that are left after one or two services fail, and what `resilience` writes of them.
-use Rattle.roman_top.proofs.Common.{◌≡◌, ℕ, zero, suc, ◌+◌, ◌<◌, ◌≤◌, true, List, [], ◌∷◌, map, length, drop, Some, slice_get, inl, inr, refl, sym, subst, arith, cases_lt, length-map, IsIn, below, Sys, Pair, IsSys, IsPair, outlook, system_without, pair_without, Way, from_map, from_flat_map, from_place, from_end, there_is, NamedSys, seat_of, system_of, TellsLosses, lines_without, outlook_text}
-use Rattle.std.proofs.Common.{remove}
+use Rattle.roman_top.proofs.Common.{◌≡◌, ℕ, zero, suc, ◌+◌, ◌<◌, ◌≤◌, true, List, [], ◌∷◌, map, length, drop, Some, slice_get, inl, inr, refl, sym, subst, arith, cases_lt, length-map, IsIn, below, Sys, Pair, IsSys, IsPair, outlook, system_without, pair_without, Way, from_map, from_flat_map, from_place, from_end, there_is, NamedSys, seat_of, system_of, TellsLosses, lines_without, outlook_text, remove, Change, Freeze, after, without, CanChange, from_below, IsPair-turned, IsPair-without, length-set_frozen, length-remove, renaming_keeps, without_changes, AreFailing}
 use Rattle.roman_model.specs.System.{Seat}
-use Rattle.roman_model.specs.Change.{Change, Freeze, Die, after, without, CanChange}
+use Rattle.roman_model.specs.Change.{Die}
 use Rattle.roman_model.specs.declared.way.Way.TheVariants as way
-use Rattle.roman_model.proofs.CallerLemmas.{from_below, IsPair-turned, IsPair-without, length-set_frozen, length-remove, renaming_keeps, without_changes}
-use Rattle.roman_top.specs.HeadlineResilience.{AreFailing}
 use Rattle.roman_top.proofs.ServingLemmas.{outlook_right}
 
 -- the system is well formed, and the pair is one of its pairs

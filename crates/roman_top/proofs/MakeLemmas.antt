@@ -1,9 +1,5 @@
 -- Made systems, as part of a run.
-use Rattle.roman_top.proofs.Common.{◌≡◌, ℕ, ◌<◌, ◌≤◌, ◌++◌, Bool, IsTrue, IsFalse, List, length, Option, Result, nat_le, refl, sym, subst, arith, Puts, all_below, by_test, PlainLibrary, IsLibrary, made, cells, Situation, IsStart, IsKnownSituation, made_line, stages, Passes, library_system, is_past_limit, Makes, Finishes, Writes, Status}
-use Rattle.std.proofs.Common.{ltb-true}
-use Rattle.std.proofs.lemmas.Bool.{leb-true}
-use Rattle.roman_model.proofs.CallerLemmas.{all_below_at}
-use Rattle.roman_make.specs.Made.{floor, worker, shift}
+use Rattle.roman_top.proofs.Common.{◌≡◌, ℕ, ◌<◌, ◌≤◌, ◌++◌, Bool, IsTrue, IsFalse, List, length, Option, Result, nat_le, refl, sym, subst, arith, Puts, all_below, by_test, PlainLibrary, IsLibrary, made, cells, Situation, IsStart, IsKnownSituation, made_line, stages, Passes, library_system, is_past_limit, Makes, Finishes, Writes, Status, ltb-true, leb-true, all_below_at, floor, worker, shift}
 use Rattle.roman_top.specs.declared.status.Status.TheVariants as status
 use Rattle.roman_top.proofs.EndingLemmas.{writes_put}
 use Rattle.roman_top.proofs.StartsKnown.{start_known}

@@ -1,8 +1,5 @@
 -- Opening documents, and how a run ends without one.
-use Rattle.roman_top.proofs.Common.{◌≡◌, ℕ, ◌<◌, List, [], Option, IfSome, Result, Ok, Err, refl, sym, ◌∙◌, subst, HasCause, Texts, Wrote, Puts, cells, library_of, PlainLibrary, Refusal, Opens, Finishes, library_system, limit_line, refusal_line, outputs, Status, ◌≤◌, Accepts, document_opening}
-use Rattle.roman_io.specs.Faults.{Rose}
-use Rattle.roman_io.proofs.CallerLemmas.{Wrote-nil}
-use Rattle.roman_top.specs.Endings.{Leaves, OpensLibrary}
+use Rattle.roman_top.proofs.Common.{◌≡◌, ℕ, ◌<◌, List, [], Option, IfSome, Result, Ok, Err, refl, sym, ◌∙◌, subst, ◌≤◌, HasCause, Texts, Wrote, Puts, cells, library_of, PlainLibrary, Refusal, Opens, Finishes, Accepts, library_system, limit_line, document_opening, refusal_line, outputs, Status, Rose, Wrote-nil, Leaves, OpensLibrary}
 use Rattle.roman_top.specs.declared.status.Status.TheVariants as status
 use Rattle.roman_top.proofs.EndingLemmas.{told_all, refused, exceeded, told_more, opens_within}
 

@@ -1,12 +1,6 @@
 -- The lines of `resilience`, pushed one after another.
-use Rattle.roman_top.proofs.Common.{◌≡◌, ℕ, ◌+◌, ◌<◌, ◌≤◌, List, [], ◌∷◌, ◌++◌, map, length, drop, Some, slice_get, codes, decimal, refl, sym, ap, ap₂, ◌∙◌, append_assoc, arith, flat_map, append-nil, below, Pair, outlook, system_without, pair_without, Way, Die, from_place, from_end, NamedSys, system_of, outlook_words, service_names, lines_without, ones, twos, outlook_text}
-use Rattle.std.proofs.lemmas.List.Concat.{flat_map-append}
-use Rattle.roman_model.specs.Without.{Outlook}
+use Rattle.roman_top.proofs.Common.{◌≡◌, ℕ, ◌+◌, ◌<◌, ◌≤◌, List, [], ◌∷◌, ◌++◌, map, length, drop, Some, slice_get, codes, decimal, refl, sym, ap, ap₂, ◌∙◌, append_assoc, arith, flat_map, append-nil, below, Pair, outlook, system_without, pair_without, Way, Die, from_place, from_end, NamedSys, system_of, outlook_words, service_names, lines_without, ones, twos, outlook_text, flat_map-append, Outlook, seat_name, Seat, mapped_at, way_word, line_without, head_text}
 use Rattle.roman_model.specs.declared.way.Way.TheVariants.{Freeze}
-use Rattle.roman_joint.specs.Names.{seat_name}
-use Rattle.roman_joint.specs.declared.seat.Seat.{Seat}
-use Rattle.roman_session.proofs.CallerLemmas.{mapped_at}
-use Rattle.roman_top.specs.Outlooks.{way_word, line_without, head_text}
 
 -- Names.
 

@@ -1,6 +1,5 @@
 -- The line of a refusal from its pieces.
-use Rattle.roman_top.proofs.Common.{◌≡◌, ℕ, List, [], ◌++◌, codes, append_assoc, append-nil, Refusal, refusal_line}
-use Rattle.roman_top.specs.RefusalLine.{rule_text}
+use Rattle.roman_top.proofs.Common.{◌≡◌, ℕ, List, [], ◌++◌, codes, append_assoc, append-nil, Refusal, refusal_line, rule_text}
 
 regroup : (a b c : List ℕ) → a ++ (b ++ (c ++ [])) ≡ a ++ b ++ c
 regroup a b c = simp (append_assoc, append-nil)

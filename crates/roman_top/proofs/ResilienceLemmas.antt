@@ -1,6 +1,5 @@
 -- Writing outlooks as part of a run.
-use Rattle.roman_top.proofs.Common.{◌≡◌, ℕ, List, Option, Result, refl, ap, ◌∙◌, subst, Puts, sizes_of, pair_at, numbers_are_pairs, NamedSys, system_of, PlainLibrary, IsSeated, parts_of, start_pair_of, Seated, Finishes, Writes, EndsSaying, library_system, outlook_text, Status}
-use Rattle.roman_top.specs.Run.{Foresees}
+use Rattle.roman_top.proofs.Common.{◌≡◌, ℕ, List, Option, Result, refl, ap, ◌∙◌, subst, Puts, sizes_of, pair_at, numbers_are_pairs, NamedSys, system_of, PlainLibrary, IsSeated, parts_of, start_pair_of, Seated, Finishes, Writes, EndsSaying, library_system, outlook_text, Status, Foresees}
 use Rattle.roman_top.specs.declared.status.Status.TheVariants as status
 use Rattle.roman_top.proofs.EndingLemmas.{writes_put}
 

@@ -1,16 +1,7 @@
 -- What a call does, derived from what its parts do.
-use Rattle.roman_top.proofs.Common.{◌≡◌, ℕ, List, [], Option, None, Some, Result, Ok, Err, inl, refl, sym, subst, arith, HasCause, Texts, Puts, PlainLibrary, SinkCause, Job, Run, Command, On, Make, Writes, EndsBare, TurnsAway, Opens, Finishes, IsSpoken, IsFree, document_opening, JobDoes, Makes, IsSessionText, HasRun, Served, ServedBeside, World, outputs, Status, IfSome, ShelfCause, Talks, Accepts, Outputs, beside, HasRunPrefix}
-use Rattle.roman_top.specs.Causes.{InputCause}
-use Rattle.roman_io.specs.Source.{Gave}
-use Rattle.roman_io.proofs.CallerLemmas.{Gave-nil}
-use Rattle.roman_top.specs.Command.{usage_line}
-use Rattle.roman_top.specs.Endings.{WritesPrefix, DoesJob, IsAway}
-use Rattle.roman_top.specs.World.{IsUnwritten, world}
+use Rattle.roman_top.proofs.Common.{◌≡◌, ℕ, List, [], Option, None, Some, Result, Ok, Err, inl, refl, sym, subst, arith, IfSome, HasCause, Texts, Puts, PlainLibrary, SinkCause, ShelfCause, Job, Run, Command, On, Make, Writes, EndsBare, TurnsAway, Opens, Finishes, IsSpoken, Accepts, IsFree, HasRunPrefix, document_opening, JobDoes, Makes, IsSessionText, HasRun, Talks, Served, ServedBeside, World, outputs, Outputs, beside, Status, InputCause, Gave, Gave-nil, usage_line, WritesPrefix, DoesJob, IsAway, IsUnwritten, world, IsSome, Runs, WithTexts, AtReadFault, AtWriteFault, AtMemory, AtShelfFault, EndsInput, IsOfTaken}
 use Rattle.roman_top.specs.declared.status.Status.TheVariants as status
 use Rattle.roman_top.proofs.EndingLemmas.{told_more, writes_weaker, spoken_stops, spoken_shelf, away_is_run, on_accepted}
-use Rattle.std.proofs.Common.{IsSome}
-use Rattle.roman_top.specs.Run.{Runs, WithTexts}
-use Rattle.roman_top.specs.Faults.{AtReadFault, AtWriteFault, AtMemory, AtShelfFault, EndsInput, IsOfTaken}
 
 -- equal commands do the same
 pub served_as : (asked other : Option Command) (old new : World) (result : Status) → asked ≡ other → Served other old new result → Served asked old new result

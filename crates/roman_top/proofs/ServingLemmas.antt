@@ -1,13 +1,6 @@
 -- Outlooks are right: they count the related pairs, and the cases in which a seat serves an action.
-use Rattle.roman_top.proofs.Common.{◌≡◌, ℕ, List, [], map, length, IsTrue, refl, sym, ap, ◌∙◌, subst, arith, cond-true, cond-false, length-map, slice_get_within, IsIn, below, Sys, Pair, IsSys, IsPair, pairs, is_allowed, is_related, outlook, by_test, in_map, from_map, from_flat_map, allowed_in, from_allowed, related_great, great_related, related_count}
-use Rattle.std.proofs.Common.{filter, flat_map}
-use Rattle.std.proofs.lemmas.List.Concat.{length-flat_map}
-use Rattle.roman_model.specs.Lists.{HasNoRepeats}
-use Rattle.roman_model.specs.Offers.{offers, choice_count}
-use Rattle.roman_model.proofs.CallerLemmas.{in_flat_map, in_filter, filter_in, in_below, HasNoRepeats-map, HasNoRepeats-flat_map, HasNoRepeats-filter, HasNoRepeats-below, sum_by_same, in_pairs, from_pairs, pairs_once, allowed_in_range, offers_are, offer_is}
-use Rattle.roman_model.specs.Composition.{Great}
-use Rattle.roman_model.specs.Counting.{Counts}
-use Rattle.roman_top.specs.HeadlineResilience.{Serving, IsServing, AreServings, IsRightOutlook}
+use Rattle.roman_top.proofs.Common.{◌≡◌, ℕ, List, [], map, length, IsTrue, refl, sym, ap, ◌∙◌, subst, arith, cond-true, cond-false, length-map, slice_get_within, IsIn, below, Sys, Pair, IsSys, IsPair, pairs, is_allowed, is_related, related_count, outlook, by_test, in_map, from_map, from_flat_map, allowed_in, from_allowed, related_great, great_related, filter, length-flat_map, HasNoRepeats, offers, choice_count, in_flat_map, in_filter, filter_in, in_below, HasNoRepeats-map, HasNoRepeats-flat_map, HasNoRepeats-filter, HasNoRepeats-below, sum_by_same, in_pairs, from_pairs, pairs_once, allowed_in_range, offers_are, offer_is, Great, Counts, Serving, IsServing, AreServings, IsRightOutlook}
+use Rattle.std.proofs.Common.{flat_map}
 
 -- The related pairs.
 

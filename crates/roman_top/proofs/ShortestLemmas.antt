@@ -1,7 +1,5 @@
 -- Writing depths as part of a run.
-use Rattle.roman_top.proofs.Common.{◌≡◌, ℕ, ◌<◌, List, Option, Result, refl, sym, ap, ◌∙◌, subst, arith, Pair, sizes_of, count, pair_at, numbers_are_pairs, NamedSys, system_of, PlainLibrary, IsSeated, start_pair_of, Seated, Finishes, Writes, library_system, TellsShortestOf, Status}
-use Rattle.roman_rank.specs.DepthText.{PutsDepths}
-use Rattle.roman_top.specs.Run.{TellsShortest}
+use Rattle.roman_top.proofs.Common.{◌≡◌, ℕ, ◌<◌, List, Option, Result, refl, sym, ap, ◌∙◌, subst, arith, Pair, sizes_of, count, pair_at, numbers_are_pairs, NamedSys, system_of, PlainLibrary, IsSeated, start_pair_of, Seated, Finishes, Writes, library_system, TellsShortestOf, Status, PutsDepths, TellsShortest}
 use Rattle.roman_top.specs.declared.status.Status.TheVariants as status
 use Rattle.roman_top.proofs.EndingLemmas.{writes_put}
 

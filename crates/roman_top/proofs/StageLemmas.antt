@@ -1,9 +1,5 @@
 -- Lines of a script, answered one after another.
-use Rattle.roman_top.proofs.Common.{◌≡◌, ℕ, ◌+◌, ◌-◌, ◌<◌, ◌≤◌, List, [], ◌∷◌, ◌++◌, length, take, drop, Option, Some, Result, slice_get, codes, refl, sym, ap, ◌∙◌, subst, arith, append_assoc, append-nil, get_or_from_slice_get, script_lines, Situation, Step, Answers, made_line, standing, stages, Passes, HasComeTo, line_of_stage, lines_of}
-use Rattle.std.proofs.Common.{get_or, add-one, drop-cons}
-use Rattle.std.proofs.lemmas.List.{drop_all, get_or-drop, length-drop, take_more}
-use Rattle.roman_session.specs.Answering.{Answered}
-use Rattle.roman_top.specs.declared.stage.Stage.{Stage}
+use Rattle.roman_top.proofs.Common.{◌≡◌, ℕ, ◌+◌, ◌-◌, ◌<◌, ◌≤◌, List, [], ◌∷◌, ◌++◌, length, take, drop, Option, Some, Result, slice_get, codes, refl, sym, ap, ◌∙◌, subst, arith, append_assoc, append-nil, get_or_from_slice_get, script_lines, Situation, Step, Answers, made_line, standing, stages, Passes, HasComeTo, line_of_stage, lines_of, get_or, add-one, drop-cons, drop_all, get_or-drop, length-drop, take_more, Answered, Stage}
 
 -- one more line is answered
 Answers-push : (old : Situation) (ls : List (List ℕ)) (text : List ℕ) (mid : Situation) (line more : List ℕ) (new : Situation) → Answers old ls text mid → Step mid line more new → Answers old (ls ++ line ∷ []) (text ++ more) new

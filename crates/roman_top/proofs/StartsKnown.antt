@@ -1,20 +1,8 @@
 -- Sessions of accepted documents begin in well-formed situations.
-use Rattle.roman_top.proofs.Common.{◌≡◌, ℕ, List, [], map, IsFalse, refl, sym, ap, ◌∙◌, subst, arith, both_ways, lt-ltb, length-map, Texts, IsIn, IsSys, from_map, there_is, seat_of, system_of, cells, library_of, PlainLibrary, IsLibrary, Situation, Idle, parts_of, start_pair_of, IsStart, start_pair, IsKnownSituation, Accepted, document_opening, is_past_limit, libraries_known}
-use Rattle.roman_model.specs.System.{IsBeh}
+use Rattle.roman_top.proofs.Common.{◌≡◌, ℕ, List, [], map, IsFalse, refl, sym, ap, ◌∙◌, subst, arith, both_ways, lt-ltb, length-map, Texts, IsIn, IsSys, from_map, there_is, seat_of, system_of, cells, library_of, PlainLibrary, IsLibrary, Situation, Idle, parts_of, start_pair_of, IsStart, start_pair, IsKnownSituation, Accepted, document_opening, is_past_limit, libraries_known, IsBeh, in_contains, order_goes_on, IsNamedSys, beh_at, beh_read, IsService, Service, seat_of_service, is_within, behaviours_within, names_once, StartsAreKnown, IsKnownLibrary, behaviour_there}
 use Rattle.roman_model.specs.System as model
-use Rattle.roman_model.proofs.CallerLemmas.{in_contains, order_goes_on}
-use Rattle.roman_joint.specs.NamedSys.{IsNamedSys, beh_at}
-use Rattle.roman_joint.proofs.CallerLemmas.{beh_read}
-use Rattle.roman_library.specs.Library.{IsService}
-use Rattle.roman_library.specs.declared.library.Service.{Service}
 use Rattle.roman_session.specs.Situations as situation
-use Rattle.roman_start.specs.Starts.{seat_of_service}
-use Rattle.roman_session.proofs.CallerLemmas.{is_within}
-use Rattle.roman_start.proofs.CallerLemmas.{behaviours_within, names_once}
-use Rattle.roman_top.specs.Accepted.{StartsAreKnown}
 use Rattle.roman_top.proofs.EndingLemmas.{accepted_is}
-use Rattle.roman_library.specs.Known.{IsKnownLibrary}
-use Rattle.roman_library.proofs.CallerLemmas.{behaviour_there}
 
 -- the behaviour of a service is over the environment
 service_beh : (library : PlainLibrary) (x : Service) → IsLibrary library → IsIn x library.services → IsBeh library.environment.env (beh_at library.catalogue x.behaviour)

@@ -1,8 +1,6 @@
 -- Writing reports as part of a run.
-use Rattle.roman_top.proofs.Common.{◌≡◌, ℕ, Bool, true, false, List, Option, Result, refl, sym, subst, arith, both_ways, Puts, is_related, related_great, great_related, PlainLibrary, Situation, present_system, report_text, IsStart, Finishes, IsSpoken, Reports, Writes, EndsBy, Synthesises, Status}
+use Rattle.roman_top.proofs.Common.{◌≡◌, ℕ, Bool, true, false, List, Option, Result, refl, sym, subst, arith, both_ways, Puts, is_related, related_great, great_related, PlainLibrary, Situation, present_system, report_text, IsStart, Finishes, IsSpoken, Reports, Writes, EndsBy, Synthesises, Status, IsSituation, IsTold, status_of}
 use Rattle.roman_joint.specs.NamedSys as joint
-use Rattle.roman_session.specs.Situations.{IsSituation}
-use Rattle.roman_top.specs.Endings.{IsTold, status_of}
 use Rattle.roman_top.specs.declared.status.Status.TheVariants as status
 use Rattle.roman_top.proofs.EndingLemmas.{writes_put}
 

@@ -1,18 +1,7 @@
 -- Sessions, as part of a run.
-use Rattle.roman_top.proofs.Common.{◌≡◌, ℕ, ◌+◌, ◌-◌, List, Option, None, Some, IfSome, Result, Ok, Err, IsTrue, IsFalse, refl, sym, subst, arith, cond-true, cond-false, Texts, rest_from, lines, ended_lines, MAX_SESSION_BYTES, by_test, Situation, IsStart, prefix_of, is_heard_out, Run, On, Accepts, Opens, HasRunPrefix, document_opening, Talks, IsSessionText, HasRun, Served, ServedBeside, World, Status, inr, Outputs, beside, shelf_text}
-use Rattle.std.proofs.Common.{OnOk, IsErrOf, ◌⊎◌, cond}
-use Rattle.roman_io.specs.Source.{Had, IsAtEnd, GaveAtMost}
-use Rattle.roman_io.proofs.CallerLemmas.{Gave-told}
-use Rattle.roman_model.specs.declared.limits.TheConstants.{PIECE_BYTES}
+use Rattle.roman_top.proofs.Common.{◌≡◌, ℕ, ◌+◌, ◌-◌, List, Option, None, Some, IfSome, Result, Ok, Err, IsTrue, IsFalse, refl, sym, subst, arith, inr, cond-true, cond-false, Texts, rest_from, shelf_text, lines, ended_lines, MAX_SESSION_BYTES, by_test, Situation, IsStart, prefix_of, is_heard_out, Run, On, Accepts, Opens, HasRunPrefix, document_opening, Talks, IsSessionText, HasRun, Served, ServedBeside, World, Outputs, beside, Status, OnOk, IsErrOf, ◌⊎◌, cond, Had, IsAtEnd, GaveAtMost, Gave-told, PIECE_BYTES, GaveQuit, StreamState, stream_state, cursor, IsHeardOut, IsCutOff, GoesOn, StopsShort, TellsPrefixOfAll, CausedBy, AreBehaviours, HearError, short_out, GoesOnFrom, HearsText, heard_status, HasAnswered, HasPrefixOfTaken, IsOfSession, TakesInput, HasAnsweredPrefix, HasAnsweredInput, Runs}
 use Rattle.roman_hearing.specs.Told.{Told}
-use Rattle.roman_hearing.specs.Hearing.{GaveQuit, StreamState, stream_state, cursor, IsHeardOut, IsCutOff, GoesOn, StopsShort, TellsPrefixOfAll, CausedBy}
-use Rattle.roman_hearing.specs.Known.{AreBehaviours}
-use Rattle.roman_hearing.specs.declared.hearing.HearError.{HearError}
 use Rattle.roman_hearing.specs.declared.hearing.HearError.TheVariants as hear
-use Rattle.roman_hearing.proofs.CallerLemmas.{short_out}
-use Rattle.roman_top.specs.Endings.{GoesOnFrom, HearsText, heard_status}
-use Rattle.roman_top.specs.Faults.{HasAnswered, HasPrefixOfTaken, IsOfSession, TakesInput, HasAnsweredPrefix, HasAnsweredInput}
-use Rattle.roman_top.specs.Run.{Runs}
 use Rattle.roman_top.specs.declared.status.Status.TheVariants as status
 use Rattle.roman_top.proofs.EndingLemmas.{told_more, match_true, match_false, on_accepted, told_known}
 use Rattle.roman_top.proofs.ServedLemmas.{served_by, opened_from}

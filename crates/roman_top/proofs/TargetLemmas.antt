@@ -1,30 +1,6 @@
 -- A turn of a session on a document with several targets, target by target.
-use Rattle.roman_top.proofs.Common.{◌≡◌, ◌↔◌, ℕ, ◌<◌, List, [], length, Result, Ok, Some, IsTrue, inl, inr, slice_get, sym, ap, ◌∙◌, subst, arith, length-map, slice_get_within, get_or_from_slice_get, below, product_of, Sys, IsPair, length-below, there_is, LineShape, LineError, NamedSys, seat_of, system_of, PlainLibrary, PlainTargets, Situation, Idle, shown, IsKnownSituation, State, TurnsInto, open_great, MeansTargets, IsTurnOfTargets}
-use Rattle.std.proofs.Common.{slice_set}
-use Rattle.roman_hearing.specs.States.{IsOpenGreat}
-use Rattle.std.proofs.lemmas.Option.{slice_get-get_or}
-use Rattle.roman_model.specs.Lists.{IsSublist}
-use Rattle.roman_model.specs.System.{Beh, has_move, TStep, SStep, Allows}
-use Rattle.roman_model.specs.Composition.{couple, Serves, GreatCouple}
-use Rattle.roman_model.specs.Explanation.{name_at}
-use Rattle.roman_model.specs.Numbers.{states_at}
-use Rattle.roman_model.specs.Several.{Several, of_one, ServesAll, GreatAll}
-use Rattle.roman_model.specs.Combined.{all_requests, couple_all, target_sizes}
-use Rattle.roman_model.specs.declared.request.Request.{Request}
-use Rattle.roman_model.proofs.CallerLemmas.{from_get_map, get_map, get_or-below, move_in_range}
-use Rattle.roman_laws.specs.Requests.{TargetAllows, IsRequestOf, IsMoveOf, TurnsAreOf}
-use Rattle.roman_laws.proofs.CallerLemmas.{request_at, turns_of}
-use Rattle.roman_text.specs.Replies.{reply_text}
-use Rattle.roman_text.specs.Shapes.{ask, hand, saw}
+use Rattle.roman_top.proofs.Common.{◌≡◌, ◌↔◌, ℕ, ◌<◌, List, [], length, Result, Ok, Some, IsTrue, inl, inr, slice_get, sym, ap, ◌∙◌, subst, arith, length-map, slice_get_within, get_or_from_slice_get, below, product_of, Sys, IsPair, length-below, there_is, LineShape, LineError, NamedSys, seat_of, system_of, PlainLibrary, PlainTargets, Situation, Idle, shown, IsKnownSituation, State, TurnsInto, open_great, MeansTargets, IsTurnOfTargets, slice_set, IsOpenGreat, slice_get-get_or, IsSublist, Beh, has_move, TStep, SStep, Allows, couple, Serves, GreatCouple, name_at, states_at, Several, of_one, ServesAll, GreatAll, all_requests, couple_all, target_sizes, Request, from_get_map, get_map, get_or-below, move_in_range, TargetAllows, IsRequestOf, IsMoveOf, TurnsAreOf, request_at, turns_of, reply_text, ask, hand, saw, PlainCombined, machines, requests_in, joined, names_at, combined_state_names, request_name, request_names, combined_parts, CombinesTargets, MeansAll, several_with, MayAsk, ServesHere, Needs, Replies, OffersServing, means_all, parts_are, parts_in, couple_now, TargetAction, OffersServingAll, MovesOne, TellsTarget}
 use Rattle.roman_text.specs.declared.replies.Reply.TheVariants as reply
-use Rattle.roman_multi.specs.Combining.{PlainCombined, machines, requests_in, joined, names_at, combined_state_names, request_name, request_names, combined_parts}
-use Rattle.roman_library.specs.Targets.{CombinesTargets}
-use Rattle.roman_hearing.specs.Several.{MeansAll, several_with}
-use Rattle.roman_hearing.specs.States.{MayAsk, ServesHere}
-use Rattle.roman_hearing.specs.Turns.{Needs}
-use Rattle.roman_hearing.specs.Words.{Replies, OffersServing}
-use Rattle.roman_hearing.proofs.CallerLemmas.{means_all, parts_are, parts_in}
-use Rattle.roman_top.specs.HeadlineTargets.{couple_now, TargetAction, OffersServingAll, MovesOne, TellsTarget}
 use Rattle.roman_top.proofs.TurnLemmas.{IsFrom, StepsTell}
 
 -- a condition in place of an equivalent one

@@ -1,17 +1,8 @@
 -- What remains after a change, and after two.
-use Rattle.roman_whatif.proofs.Common.{◌≡◌, ℕ, ◌<◌, Bool, true, false, not, List, [], ◌∷◌, length, Some, IsTrue, slice_get, refl, sym, ap, ap₂, ◌∙◌, subst, arith, length-map, Seat, Sys, Pair, Sizes, sizes_of, count, pair_at, is_related, related_count, choice_count, Outlook, outlook, system_without, pair_without, Way, same_test, leave_one, freeze_one, NamedSys, seat_of, system_of, IsLeft, left_of}
-use Rattle.std.proofs.Common.{◌/◌, ◌↔◌}
-use Rattle.roman_model.specs.SystemArena.{is_ready}
-use Rattle.roman_model.specs.Composition.{Great}
-use Rattle.roman_model.specs.Change.{Freeze, Die, after, without}
-use Rattle.roman_model.specs.Numbers.{sizes_without, number}
+use Rattle.roman_whatif.proofs.Common.{◌≡◌, ℕ, ◌<◌, Bool, true, false, not, List, [], ◌∷◌, length, Some, IsTrue, slice_get, refl, sym, ap, ap₂, ◌∙◌, subst, arith, length-map, Seat, Sys, Pair, Sizes, sizes_of, count, pair_at, is_related, related_count, choice_count, Outlook, outlook, system_without, pair_without, Way, same_test, leave_one, freeze_one, NamedSys, seat_of, system_of, IsLeft, left_of, ◌/◌, ◌↔◌, is_ready, Great, after, without, sizes_without, number, number_without-is, pair_at-without, numbers_are_pairs, related_great, great_related, sizes-turned, sizes-left, length-remove, length-set_frozen, get_map, without_changes, IsNamedSys, HasSameParts, Board, IsRelation}
+use Rattle.roman_model.specs.Change.{Freeze, Die}
 use Rattle.roman_model.specs.declared.way.Way.TheVariants as way
-use Rattle.roman_model.proofs.CallerLemmas.{number_without-is, pair_at-without, numbers_are_pairs, related_great, great_related, sizes-turned, sizes-left, length-remove, length-set_frozen, get_map, without_changes}
-use Rattle.roman_joint.specs.NamedSys.{IsNamedSys}
-use Rattle.roman_joint.specs.Parts.{HasSameParts}
 use Rattle.roman_joint.specs.declared.seat.Seat as joint
-use Rattle.roman_order.specs.Board.{Board}
-use Rattle.roman_relation.specs.Greatest.{IsRelation}
 use Rattle.roman_whatif.proofs.LaterFirst.{system_later, pair_later}
 
 -- Outlooks.

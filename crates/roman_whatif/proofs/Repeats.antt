@@ -1,13 +1,6 @@
 -- The outlooks of failures of services that are alike.
-use Rattle.roman_whatif.proofs.Common.{◌≡◌, ℕ, zero, suc, ◌+◌, ◌-◌, ◌*◌, ◌<◌, true, false, List, [], ◌∷◌, map, length, Some, slice_get, slice_index, refl, sym, ap, ap₂, ◌∙◌, subst, inl, inr, arith, length-map, cases_lt, has, Sizes, sizes_of, pair_at, Way, NamedSys, seat_of, system_of, left_of, told_at, IsToldOf}
-use Rattle.std.proofs.Common.{◌%◌}
-use Rattle.std.proofs.lemmas.Bool.Decides.{nat_tests}
-use Rattle.std.proofs.lemmas.Option.{slice_get-get_or}
-use Rattle.roman_model.specs.Lists.{product_of}
-use Rattle.roman_model.proofs.CallerLemmas.{length-states_at}
-use Rattle.roman_joint.specs.NamedSys.{beh_at}
+use Rattle.roman_whatif.proofs.Common.{◌≡◌, ℕ, zero, suc, ◌+◌, ◌-◌, ◌*◌, ◌<◌, true, false, List, [], ◌∷◌, map, length, Some, slice_get, slice_index, refl, sym, ap, ap₂, ◌∙◌, subst, inl, inr, arith, length-map, cases_lt, has, Sizes, sizes_of, pair_at, Way, NamedSys, seat_of, system_of, left_of, told_at, IsToldOf, ◌%◌, nat_tests, slice_get-get_or, product_of, length-states_at, beh_at, AreAlike, IsRepeated}
 use Rattle.roman_joint.specs.declared.seat.Seat as joint
-use Rattle.roman_whatif.specs.Alike.{AreAlike, IsRepeated}
 use Rattle.roman_whatif.specs.declared.outlook.Outlook as declared
 use Rattle.roman_whatif.proofs.Swaps.{other, moved_on}
 use Rattle.roman_whatif.proofs.Lasting.{seat_at_place}

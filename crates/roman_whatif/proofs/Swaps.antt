@@ -1,17 +1,6 @@
 -- Two neighbouring seats in each other's place: the outlook of a pair stays the same.
-use Rattle.roman_whatif.proofs.Common.{◌≡◌, ℕ, zero, suc, ◌+◌, ◌<◌, Bool, true, false, not, List, [], ◌∷◌, map, length, IsTrue, slice_get, slice_index, refl, sym, ap, ap₂, ◌∙◌, subst, arith, eqb-true, length-set, Seat, Sys, Pair, has, is_related, related_count, choice_count, leave_out, freeze_at, outlook, system_without, pair_without, Way, same_test}
-use Rattle.std.proofs.Common.{◌≤◌, cond, ◌&&◌, ◌||◌, filter, flat_map, slice_set, sum_by}
-use Rattle.std.specs.List.{list_any, AllZip}
-use Rattle.std.proofs.lemmas.Bool.{eq-eqb}
-use Rattle.std.proofs.lemmas.List.Sums.{sum_by-cons, length-filter}
-use Rattle.std.proofs.lemmas.Slice.Zip.{AllZip-long}
-use Rattle.std.proofs.lemmas.Option.{same_Some}
-use Rattle.roman_model.specs.Lists.{IsIn, HasNoRepeats, below, all_below, is_empty}
-use Rattle.roman_model.specs.System.{IsPair, all_final, is_final}
-use Rattle.roman_model.specs.SystemArena.{pairs, env_next, beh_next, seat_next, outcomes_by, outcomes, is_allowed, arena}
-use Rattle.roman_model.specs.Arena.{is_beaten, mask, loses}
+use Rattle.roman_whatif.proofs.Common.{◌≡◌, ℕ, zero, suc, ◌+◌, ◌<◌, Bool, true, false, not, List, [], ◌∷◌, map, length, IsTrue, slice_get, slice_index, refl, sym, ap, ap₂, ◌∙◌, subst, arith, eqb-true, length-set, Seat, Sys, Pair, has, is_related, related_count, choice_count, leave_out, freeze_at, outlook, system_without, pair_without, Way, same_test, ◌≤◌, cond, ◌&&◌, ◌||◌, filter, flat_map, slice_set, sum_by, list_any, AllZip, eq-eqb, sum_by-cons, length-filter, AllZip-long, same_Some, IsIn, HasNoRepeats, below, all_below, is_empty, IsPair, all_final, is_final, pairs, env_next, beh_next, seat_next, outcomes_by, outcomes, is_allowed, arena, is_beaten, mask, loses, any_same, list_any-map, all_below_at, all_below_from, from_map, from_below, in_below, HasNoRepeats-below, HasNoRepeats-map, sum_by_same, sum_by_within, map-map, map-flat_map, from_outcome, in_pairs, from_pairs, pairs_once}
 use Rattle.roman_model.specs.declared.way.Way.TheVariants as way
-use Rattle.roman_model.proofs.CallerLemmas.{any_same, list_any-map, all_below_at, all_below_from, from_map, from_below, in_below, HasNoRepeats-below, HasNoRepeats-map, sum_by_same, sum_by_within, map-map, map-flat_map, from_outcome, in_pairs, from_pairs, pairs_once}
 
 -- the list with the elements at the places k and k + 1 in each other's place
 abbrev pub swapped : {X : Type 0} → ℕ → List X → List X

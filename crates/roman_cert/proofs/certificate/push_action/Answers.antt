@@ -1,8 +1,4 @@
-use Rattle.roman_cert.proofs.Common.{◌≡◌, ℕ, List, [], ◌∷◌, ◌++◌, codes, decimal, refl, sym, ap, ◌∙◌, subst, append_assoc, decimal_digit, err_from_is_err_and, Act, text_of_lines, entry_line, as_entry}
-use Rattle.roman_io.specs.Sink.{WrotePrefix}
-use Rattle.roman_io.proofs.CallerLemmas.{WrotePrefix-append}
-use Rattle.roman_text.specs.Pages.{Gathers}
-use Rattle.roman_text.proofs.CallerLemmas.{Gathers-after}
+use Rattle.roman_cert.proofs.Common.{◌≡◌, ℕ, List, [], ◌∷◌, ◌++◌, codes, decimal, refl, sym, ap, ◌∙◌, subst, append_assoc, decimal_digit, err_from_is_err_and, Act, text_of_lines, entry_line, as_entry, WrotePrefix, WrotePrefix-append, Gathers, Gathers-after}
 use Rattle.roman_cert.proofs.Certificates.{entry_parts}
 use Rattle.roman_cert.proofs.certificate.push_action.Goals as goal
 

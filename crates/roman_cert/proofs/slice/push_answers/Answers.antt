@@ -1,5 +1,4 @@
-use Rattle.roman_cert.proofs.Common.{refl, sym, ◌∙◌, arith, err_from_is_err_and, length-below, fill_behind, fill_same, fill_more, fill_failed, fill_end}
-use Rattle.roman_joint.proofs.CallerLemmas.{if_some}
+use Rattle.roman_cert.proofs.Common.{refl, sym, ◌∙◌, arith, err_from_is_err_and, length-below, fill_behind, fill_same, fill_more, fill_failed, fill_end, if_some}
 use Rattle.roman_cert.proofs.AnswerTexts.{answers_begin, answers_next, answers_skip, answers_end}
 use Rattle.roman_cert.proofs.slice.push_answers.Goals as goal
 

@@ -1,5 +1,4 @@
-use Rattle.roman_cert.proofs.Common.{◌≡◌, ℕ, length, ap, sym, subst, ◌∙◌, arith, IsOrder, rests_on, sizes_of, count, length-below, system_of, Board, is_marked, arena_of, listed_numbers}
-use Rattle.roman_model.proofs.CallerLemmas.{complete_order}
+use Rattle.roman_cert.proofs.Common.{◌≡◌, ℕ, length, ap, sym, subst, ◌∙◌, arith, IsOrder, rests_on, sizes_of, count, length-below, system_of, Board, is_marked, arena_of, listed_numbers, complete_order}
 use Rattle.roman_cert.proofs.Slicing.{explanation_written, unrelated_explained, unrelated_wins}
 use Rattle.roman_cert.proofs.slice.write_slice.Goals as goal
 

@@ -1,7 +1,4 @@
-use Rattle.roman_check.proofs.Common.{◌++◌, take, ◌∙◌, subst, arith, length-append, length-take-le, Gave-then, length-take}
-use Rattle.std.proofs.lemmas.Result.{err_from_is_err_and}
-use Rattle.roman_io.proofs.CallerLemmas.{had_all}
-use Rattle.roman_io.specs.Faults.{Rose}
+use Rattle.roman_check.proofs.Common.{◌++◌, take, ◌∙◌, subst, arith, length-append, length-take-le, Gave-then, length-take, err_from_is_err_and, had_all, Rose}
 use Rattle.roman_check.proofs.SourceSteps.{at_end, failed_clean, gave_within, rejected_at, passed_limit, read_on}
 use Rattle.roman_check.proofs.certificate.read.Goals as goal
 

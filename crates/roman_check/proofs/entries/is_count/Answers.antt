@@ -1,5 +1,4 @@
-use Rattle.roman_check.proofs.Common.{Decides-eqb, Some}
-use Rattle.std.proofs.lemmas.Slice.Eq.{strip_prefix_is}
+use Rattle.roman_check.proofs.Common.{Decides-eqb, Some, strip_prefix_is}
 use Rattle.roman_check.proofs.EntryLemmas.{counted}
 use Rattle.roman_check.proofs.entries.is_count.Goals as goal
 

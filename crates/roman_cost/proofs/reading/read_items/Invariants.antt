@@ -1,10 +1,4 @@
-use Rattle.roman_cost.proofs.Common.{[], map}
-use Rattle.serde_json.specs.View.{items_view}
-use Rattle.roman_read.specs.Items.{each_item}
-use Rattle.roman_read.proofs.CallerLemmas.{IsLeft}
-use Rattle.roman_joint.specs.Names.{beh_name}
-use Rattle.roman_cost.specs.Costs.{cost_step}
-use Rattle.roman_cost.specs.Tables.{AreOf}
+use Rattle.roman_cost.proofs.Common.{[], map, items_view, each_item, IsLeft, beh_name, cost_step, AreOf}
 use Rattle.roman_cost.proofs.reading.read_items.Given as goal
 
 -- the costs so far are of the system, and the rest of the items gives what all items give

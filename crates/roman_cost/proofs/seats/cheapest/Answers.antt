@@ -1,7 +1,4 @@
-use Rattle.roman_cost.proofs.Common.{◌≡◌, ℕ, List, Option, Some, ◌<◌, ◌≤◌, length, filter, IsTrue, refl, sym, ap, ◌∙◌, subst, arith, length-map, IsIn, below, sizes_of, count, pair_at, is_related, offers, first_least, least, choice, through, choice_is, related_great, numbers_are_pairs, related_offers, has, Sys, Pair, is_allowed, has_seat_is, NamedSys, system_of, seat_of, seat_costs, Listed}
-use Rattle.std.proofs.Common.{IsSome}
-use Rattle.std.proofs.lemmas.Option.{same_Some}
-use Rattle.roman_joint.specs.NamedSys.{IsNamedSys}
+use Rattle.roman_cost.proofs.Common.{◌≡◌, ℕ, List, Option, Some, ◌<◌, ◌≤◌, length, filter, IsTrue, refl, sym, ap, ◌∙◌, subst, arith, length-map, IsIn, below, sizes_of, count, pair_at, is_related, offers, first_least, least, choice, through, choice_is, related_great, numbers_are_pairs, related_offers, has, Sys, Pair, is_allowed, has_seat_is, NamedSys, system_of, seat_of, seat_costs, Listed, IsSome, same_Some, IsNamedSys}
 use Rattle.roman_cost.proofs.Best.{best_of, best_of-taken, best_of-passed, best_of-first}
 use Rattle.roman_cost.proofs.OfferedSeats.{seat_in, offered, offered_ranked, offers_among, cost_by, cost_is, best_is_choice}
 use Rattle.roman_cost.proofs.seats.cheapest.Goals as goal

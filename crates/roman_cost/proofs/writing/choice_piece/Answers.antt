@@ -1,5 +1,4 @@
-use Rattle.roman_cost.proofs.Common.{◌≡◌, ℕ, ◌-◌, List, Some, slice_get, sym, ap, ap₂, ◌∙◌, sizes_of, pair_at, system_of, choice_line, seat_costs}
-use Rattle.roman_parts.specs.Named.{NamedEnv}
+use Rattle.roman_cost.proofs.Common.{◌≡◌, ℕ, ◌-◌, List, Some, slice_get, sym, ap, ap₂, ◌∙◌, sizes_of, pair_at, system_of, choice_line, seat_costs, NamedEnv}
 use Rattle.roman_cost.proofs.Lines.{chosen_seat, choice_line_is}
 use Rattle.roman_cost.proofs.writing.choice_piece.Goals as goal
 

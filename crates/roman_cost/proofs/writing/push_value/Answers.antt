@@ -1,8 +1,4 @@
-use Rattle.roman_cost.proofs.Common.{◌≡◌, ℕ, List, ◌++◌, codes, decimal, ◌∙◌, subst, append_assoc, err_from_is_err_and}
-use Rattle.roman_io.specs.Sink.{WrotePrefix}
-use Rattle.roman_io.proofs.CallerLemmas.{WrotePrefix-append}
-use Rattle.roman_text.specs.Pages.{Gathers}
-use Rattle.roman_text.proofs.CallerLemmas.{Gathered-then, Gathers-after, WrotePrefix-gathered}
+use Rattle.roman_cost.proofs.Common.{◌≡◌, ℕ, List, ◌++◌, codes, decimal, ◌∙◌, subst, append_assoc, err_from_is_err_and, WrotePrefix, WrotePrefix-append, Gathers, Gathered-then, Gathers-after, WrotePrefix-gathered}
 use Rattle.roman_cost.proofs.writing.push_value.Goals as goal
 
 -- the line in three parts, after the content of the page

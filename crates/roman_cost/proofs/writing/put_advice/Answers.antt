@@ -1,6 +1,5 @@
-use Rattle.roman_cost.proofs.Common.{◌++◌, [], codes, sym, ◌∙◌, subst, err_from_is_err_and, IsIn, system_of, fill_more, fill_failed}
+use Rattle.roman_cost.proofs.Common.{◌++◌, [], codes, sym, ◌∙◌, subst, err_from_is_err_and, IsIn, system_of, fill_more, fill_failed, fill_put}
 use Rattle.roman_cost.proofs.Ranks.{in_related}
-use Rattle.roman_text.proofs.CallerLemmas.{fill_put}
 use Rattle.roman_cost.proofs.Lines.{choices_text, values_text, advice_begins}
 use Rattle.roman_cost.proofs.writing.put_advice.Goals as goal
 

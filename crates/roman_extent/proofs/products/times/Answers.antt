@@ -1,5 +1,4 @@
-use Rattle.roman_extent.proofs.Common.{◌∙◌, ap, sym, subst, List, ℕ, length, length-append, ◌+◌, ◌*◌, ◌/◌, ◌%◌, ◌^◌, ◌<◌, ◌≤◌, ◌∷◌, [], arith, AreDigits, number_with_digits}
-use Rattle.std.proofs.Math.Nat.{mul-le-mul_right}
+use Rattle.roman_extent.proofs.Common.{◌∙◌, ap, sym, subst, List, ℕ, length, length-append, ◌+◌, ◌*◌, ◌/◌, ◌%◌, ◌^◌, ◌<◌, ◌≤◌, ◌∷◌, [], arith, AreDigits, number_with_digits, mul-le-mul_right}
 use Rattle.roman_extent.proofs.DigitLemmas.{carry_step, times_step, digits_push}
 use Rattle.roman_extent.proofs.products.times.Goals as goal
 

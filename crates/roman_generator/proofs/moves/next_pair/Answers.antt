@@ -1,12 +1,4 @@
-use Rattle.std.proofs.Common.{◌≡◌, ◌<◌, slice_index, sym, ap, ◌∙◌, subst, arith}
-use Rattle.std.proofs.lemmas.List.{length-map}
-use Rattle.std.proofs.lemmas.Option.{slice_get_within}
-use Rattle.roman_model.specs.Numbers.{Sizes, sizes_of, count, number, pair_at}
-use Rattle.roman_model.proofs.CallerLemmas.{from_allowed, move_in_range, triple_in_range, numbers_are_pairs}
-use Rattle.roman_radix.specs.Radix.{moved}
-use Rattle.roman_joint.specs.NamedSys.{system_of}
-use Rattle.roman_generator.specs.Moves.{CanMove}
-use Rattle.roman_generator.specs.declared.sight.Sight.{Sight}
+use Rattle.roman_generator.proofs.Common.{◌≡◌, ◌<◌, slice_index, sym, ap, ◌∙◌, subst, arith, length-map, slice_get_within, Sizes, sizes_of, count, number, pair_at, from_allowed, move_in_range, triple_in_range, numbers_are_pairs, moved, system_of, CanMove, Sight}
 use Rattle.roman_generator.proofs.MoveLemmas.{ready_seat, state_seated, served_is, served_within, all_move}
 use Rattle.roman_generator.proofs.moves.next_pair.Goals as goal
 

@@ -1,8 +1,4 @@
-use Rattle.std.proofs.Common.{arith}
-use Rattle.std.proofs.lemmas.Option.{slice_get_within}
-use Rattle.roman_model.specs.System.{Pair}
-use Rattle.roman_model.proofs.CallerLemmas.{from_allowed}
-use Rattle.roman_joint.specs.NamedSys.{system_of}
+use Rattle.roman_generator.proofs.Common.{arith, slice_get_within, Pair, from_allowed, system_of}
 use Rattle.roman_generator.proofs.MoveLemmas.{ready_seat, states_long, state_seated, none_moves}
 use Rattle.roman_generator.proofs.moves.next_target.Goals as goal
 

@@ -1,9 +1,4 @@
-use Rattle.std.proofs.Common.{◌≡◌, ℕ, ◌<◌, List, [], ◌∷◌, MatchOption, sym, ap, ◌∙◌, subst, arith}
-use Rattle.roman_model.specs.System.{Beh, has}
-use Rattle.roman_model.specs.SystemArena.{env_next, beh_next}
-use Rattle.roman_parts.specs.Named.{NamedEnv, NamedTarget}
-use Rattle.roman_joint.specs.NamedSys.{system_of}
-use Rattle.roman_joint.proofs.CallerLemmas.{behaves, seat_within}
+use Rattle.roman_generator.proofs.Common.{◌≡◌, ℕ, ◌<◌, List, [], ◌∷◌, MatchOption, sym, ap, ◌∙◌, subst, arith, Beh, has, env_next, beh_next, NamedEnv, NamedTarget, system_of, behaves, seat_within}
 use Rattle.roman_generator.proofs.MoveLemmas.{ready_seat, env_stays, seat_stays, served_from, target_goes, target_there, allowed_within, state_of_seat}
 use Rattle.roman_generator.proofs.moves.target_after.Goals as goal
 

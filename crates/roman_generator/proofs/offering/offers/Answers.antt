@@ -1,6 +1,4 @@
-use Rattle.roman_joint.specs.NamedSys.{system_of}
-use Rattle.roman_model.specs.Numbers.{sizes_of, pair_at}
-use Rattle.roman_model.proofs.CallerLemmas.{allowed_in_range}
+use Rattle.roman_generator.proofs.Common.{system_of, sizes_of, pair_at, allowed_in_range}
 use Rattle.roman_generator.proofs.OfferLemmas.{mask_offers, offers_set}
 use Rattle.roman_generator.proofs.offering.offers.Goals as goal
 

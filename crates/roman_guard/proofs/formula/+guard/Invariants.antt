@@ -1,6 +1,5 @@
 -- The remaining guards give the result of all guards.
-use Rattle.std.proofs.Common.{◌≡◌, map, drop}
-use Rattle.roman_guard.specs.Meaning.{holds, intersection, union}
+use Rattle.roman_guard.proofs.Common.{◌≡◌, map, drop, holds, intersection, union}
 use Rattle.roman_guard.proofs.formula.+guard.Given as goal
 
 abbrev pub invariant-all_hold-loop-part : goal.invariant-all_hold-loop-part

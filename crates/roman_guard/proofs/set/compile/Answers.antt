@@ -1,6 +1,5 @@
 -- A state in which the guard holds gets its bit, and the others are skipped.
-use Rattle.std.proofs.Common.{◌≡◌, arith, sym, ◌∙◌}
-use Rattle.roman_guard.specs.Meaning.{holds}
+use Rattle.roman_guard.proofs.Common.{◌≡◌, arith, sym, ◌∙◌, holds}
 use Rattle.roman_guard.proofs.MarkLemmas.{marks_one, marks_skip, marked_states, marked_has_exactly}
 use Rattle.roman_guard.proofs.set.compile.Goals as goal
 use Rattle.roman_guard.proofs.set.compile.Goals.{then-holds_at, else-holds_at}

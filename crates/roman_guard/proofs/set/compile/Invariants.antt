@@ -1,5 +1,5 @@
 -- The word has the bits of the states before.
-use Rattle.roman_guard.specs.Meaning.{holds}
+use Rattle.roman_guard.proofs.Common.{holds}
 use Rattle.roman_guard.proofs.MarkLemmas.{Marks}
 use Rattle.roman_guard.proofs.set.compile.Given as goal
 

@@ -1,6 +1,4 @@
-use Rattle.roman_hearing.proofs.Common.{◌++◌, [], inr, take, refl, ◌∙◌, arith, length-append, Gave-then}
-use Rattle.std.proofs.Common.{length-take-le, rules}
-use Rattle.roman_io.proofs.CallerLemmas.{Gave-nil, gave_at_most}
+use Rattle.roman_hearing.proofs.Common.{◌++◌, [], inr, take, refl, ◌∙◌, arith, length-append, Gave-then, length-take-le, rules, Gave-nil, gave_at_most}
 use Rattle.roman_hearing.proofs.HearingLemmas.{hearing_starts}
 use Rattle.roman_hearing.proofs.HearingEnds.{rest_ends, out_at_quit, gave_quit, piece_ends}
 use Rattle.roman_hearing.proofs.hearing.hear.Goals as goal

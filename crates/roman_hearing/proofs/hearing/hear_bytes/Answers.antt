@@ -1,5 +1,4 @@
-use Rattle.roman_hearing.proofs.Common.{◌∷◌, ◌++◌, [], List, ℕ, refl, sym, ap, subst, ◌∙◌, append_assoc, append-nil, cursor, reader_state, IsHearing}
-use Rattle.std.proofs.lemmas.Result.{err_from_is_err_and}
+use Rattle.roman_hearing.proofs.Common.{◌∷◌, ◌++◌, [], List, ℕ, refl, sym, ap, subst, ◌∙◌, append_assoc, append-nil, cursor, reader_state, IsHearing, err_from_is_err_and}
 use Rattle.roman_hearing.proofs.HearingLemmas.{hears_part, stops_after, fails_after}
 use Rattle.roman_hearing.proofs.hearing.hear_bytes.Goals as goal
 

@@ -1,4 +1,4 @@
-use Rattle.roman_session.proofs.CallerLemmas.{requests_offered}
+use Rattle.roman_hearing.proofs.Common.{requests_offered}
 use Rattle.roman_hearing.proofs.laws.requests_are_offered.Goals as goal
 
 pub returns : goal.returns

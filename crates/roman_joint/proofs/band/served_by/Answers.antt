@@ -1,5 +1,4 @@
-use Rattle.roman_joint.proofs.Common.{◌≡◌, ℕ, ◌+◌, ◌*◌, ◌<◌, true, not, ◌&&◌, slice_index, sum_by, ap, ap₂, ◌∙◌, arith, below, is_beaten, sizes_of, numbered, lanes_few, is_on, HasLanes, sum_below_more, served_by, system_of, lanes_in, band_in}
-use Rattle.roman_rules.proofs.CallerLemmas.{ones_counted, ones_few}
+use Rattle.roman_joint.proofs.Common.{◌≡◌, ℕ, ◌+◌, ◌*◌, ◌<◌, true, not, ◌&&◌, slice_index, sum_by, ap, ap₂, ◌∙◌, arith, below, is_beaten, sizes_of, numbered, lanes_few, is_on, HasLanes, sum_below_more, served_by, system_of, lanes_in, band_in, ones_counted, ones_few}
 use Rattle.roman_joint.proofs.GoodLemmas.{full_on, full_off}
 use Rattle.roman_joint.proofs.band.served_by.Goals as goal
 

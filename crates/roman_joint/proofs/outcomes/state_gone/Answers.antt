@@ -1,5 +1,4 @@
-use Rattle.roman_joint.proofs.Common.{◌+◌, ◌*◌, get_or, sym, ◌∙◌, not-true}
-use Rattle.std.proofs.lemmas.Bool.{not-false}
+use Rattle.roman_joint.proofs.Common.{◌+◌, ◌*◌, get_or, sym, ◌∙◌, not-true, not-false}
 use Rattle.roman_joint.proofs.Finds.{find_here, find_on, find_end}
 use Rattle.roman_joint.proofs.outcomes.state_gone.Goals as goal
 

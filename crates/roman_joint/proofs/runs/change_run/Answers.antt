@@ -1,5 +1,4 @@
-use Rattle.roman_joint.proofs.Common.{◌≡◌, ℕ, ◌+◌, ◌-◌, ◌*◌, Bool, not, ◌&&◌, List, length, take, drop, get_or, slice_index, sym, ap, ◌∙◌, arith, take_all, list_any, is_on}
-use Rattle.std.proofs.lemmas.List.{get_or-take}
+use Rattle.roman_joint.proofs.Common.{◌≡◌, ℕ, ◌+◌, ◌-◌, ◌*◌, Bool, not, ◌&&◌, List, length, take, drop, get_or, slice_index, sym, ap, ◌∙◌, arith, take_all, list_any, is_on, get_or-take}
 use Rattle.std.proofs.lemmas.List.{get_or-drop}
 use Rattle.roman_joint.proofs.WordLemmas.{some_more, not_not}
 use Rattle.roman_joint.proofs.runs.change_run.Goals as goal

@@ -1,5 +1,4 @@
-use Rattle.roman_joint.proofs.Common.{◌≡◌, ◌≢◌, ℕ, ◌-◌, ◌*◌, ◌/◌, ◌%◌, ◌<◌, ◌≤◌, false, length, slice_index, is_on}
-use Rattle.roman_joint.specs.Bands.{LosesRun}
+use Rattle.roman_joint.proofs.Common.{◌≡◌, ◌≢◌, ℕ, ◌-◌, ◌*◌, ◌/◌, ◌%◌, ◌<◌, ◌≤◌, false, length, slice_index, is_on, LosesRun}
 use Rattle.roman_joint.proofs.runs.clear_state.Given as goal
 
 -- the blocks so far are cleared

@@ -1,6 +1,4 @@
-use Rattle.roman_joint.proofs.Common.{◌≡◌, ◌/◌, ◌<◌, ◌≤◌, ◌↔◌, All, take, length, sym, ap, ◌∙◌, subst, arith, le-div_iff_mul-le, Sizes, sizes_of, count, system_of, cells}
-use Rattle.std.proofs.Common.{IfSome}
-use Rattle.roman_joint.specs.Parts.{named_in}
+use Rattle.roman_joint.proofs.Common.{◌≡◌, ◌/◌, ◌<◌, ◌≤◌, ◌↔◌, All, take, length, sym, ap, ◌∙◌, subst, arith, le-div_iff_mul-le, Sizes, sizes_of, count, system_of, cells, IfSome, named_in}
 use Rattle.roman_joint.proofs.SeatLemmas.{sizes_counted, makes_system, positive_sizes}
 use Rattle.roman_joint.proofs.seats.shape_of.Goals as goal
 

@@ -1,6 +1,4 @@
-use Rattle.roman_joint.proofs.Common.{get_or, replicate, sym, ap, ◌∙◌, arith, bit_or, length-zip2, length-replicate, get_or-zip2, get_or-replicate, is_on, on_or}
-use Rattle.std.specs.Int.{bit_not, w64}
-use Rattle.roman_lanes.proofs.CallerLemmas.{on_not}
+use Rattle.roman_joint.proofs.Common.{get_or, replicate, sym, ap, ◌∙◌, arith, bit_or, length-zip2, length-replicate, get_or-zip2, get_or-replicate, is_on, on_or, bit_not, w64, on_not}
 use Rattle.roman_joint.proofs.words.unmoved.Goals as goal
 
 pub returns : goal.returns

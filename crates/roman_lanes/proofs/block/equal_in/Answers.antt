@@ -1,7 +1,4 @@
-use Rattle.std.proofs.Common.{◌==◌, ◌∙◌, ap, arith, eqb, count_ones, w32}
-use Rattle.std.proofs.lemmas.Simd.{bitmask_splat, length-chunk, ones-mask_l}
-use Rattle.std.proofs.lemmas.List.Sums.{count_by-le-length}
-use Rattle.std.specs.Simd.Lanes.{chunk}
+use Rattle.roman_lanes.proofs.Common.{◌==◌, ◌∙◌, ap, arith, eqb, count_ones, w32, bitmask_splat, length-chunk, ones-mask_l, count_by-le-length, chunk}
 use Rattle.roman_lanes.proofs.block.equal_in.Goals as goal
 
 pub returns-clause-counted : goal.returns-clause-counted

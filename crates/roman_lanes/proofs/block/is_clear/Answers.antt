@@ -1,5 +1,4 @@
-use Rattle.std.proofs.Common.{◌+◌, inl, inr, arith}
-use Rattle.std.proofs.lemmas.Bool.{cases_lt}
+use Rattle.roman_lanes.proofs.Common.{◌+◌, inl, inr, arith, cases_lt}
 use Rattle.roman_lanes.proofs.Lanes.{clear_in}
 use Rattle.roman_lanes.proofs.block.is_clear.Goals as goal
 

@@ -1,4 +1,4 @@
-use Rattle.std.proofs.Common.{ℕ, ◌*◌, ◌+◌, ◌/◌, ◌≡◌, ◌==◌, arith, cond, length}
+use Rattle.roman_lanes.proofs.Common.{ℕ, ◌*◌, ◌+◌, ◌/◌, ◌≡◌, ◌==◌, arith, cond, length}
 use Rattle.roman_lanes.proofs.Blocks.{counted_block, counted_rest}
 use Rattle.roman_lanes.proofs.cells.count_equal.Goals as goal
 

@@ -1,4 +1,4 @@
-use Rattle.std.proofs.Common.{◌≡◌, ◌*◌, ◌≤◌, ◌==◌, take, count_by}
+use Rattle.roman_lanes.proofs.Common.{◌≡◌, ◌*◌, ◌≤◌, ◌==◌, take, count_by}
 use Rattle.roman_lanes.proofs.cells.count_equal.Given as goal
 
 -- the count of the blocks so far

@@ -1,5 +1,4 @@
-use Rattle.std.proofs.Common.{◌-◌, ◌≤◌, length}
-use Rattle.roman_lanes.specs.Words.{ChangesPart}
+use Rattle.roman_lanes.proofs.Common.{◌-◌, ◌≤◌, length, ChangesPart}
 use Rattle.roman_lanes.proofs.change.change_each.Given as goal
 
 -- the change is made to the words so far

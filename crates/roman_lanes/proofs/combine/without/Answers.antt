@@ -1,8 +1,4 @@
-use Rattle.std.proofs.Common.{get_or, map, bit_and, Fits, sym, ap, ◌∙◌, arith}
-use Rattle.std.specs.Int.{bit_not, w64}
-use Rattle.std.proofs.lemmas.List.{get_or-map, length-map}
-use Rattle.std.proofs.lemmas.Simd.{length-zip2, get_or-zip2, Each1-get_or}
-use Rattle.roman_lanes.specs.Rows.{is_on}
+use Rattle.roman_lanes.proofs.Common.{get_or, map, bit_and, Fits, sym, ap, ◌∙◌, arith, bit_not, w64, get_or-map, length-map, length-zip2, get_or-zip2, Each1-get_or, is_on}
 use Rattle.roman_lanes.proofs.RowBits.{on_without}
 use Rattle.roman_lanes.proofs.combine.without.Goals as goal
 

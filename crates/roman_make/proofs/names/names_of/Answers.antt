@@ -1,4 +1,4 @@
-use Rattle.std.proofs.Common.{◌∷◌, ◌++◌, [], refl, ap, ◌∙◌, arith}
+use Rattle.roman_make.proofs.Common.{◌∷◌, ◌++◌, [], refl, ap, ◌∙◌, arith}
 use Rattle.roman_make.proofs.NameLemmas.{next_numbered, numbers_next}
 use Rattle.roman_make.proofs.names.names_of.Goals as goal
 

@@ -1,5 +1,4 @@
-use Rattle.std.proofs.Common.{◌≡◌, map, take}
-use Rattle.roman_make.specs.Made.{idle_worker}
+use Rattle.roman_make.proofs.Common.{◌≡◌, map, take, idle_worker}
 use Rattle.roman_make.proofs.parts.idle_workers.Given as goal
 
 abbrev pub invariant-loop-name : goal.invariant-loop-name

@@ -1,4 +1,4 @@
-use Rattle.std.proofs.Common.{◌∙◌}
+use Rattle.roman_make.proofs.Common.{◌∙◌}
 use Rattle.roman_make.proofs.PartLemmas.{shift_moves, shift_single, shift_is}
 use Rattle.roman_make.proofs.parts.make_shift.Goals as goal
 

@@ -1,4 +1,4 @@
-use Rattle.std.proofs.Common.{◌∙◌}
+use Rattle.roman_make.proofs.Common.{◌∙◌}
 use Rattle.roman_make.proofs.PartLemmas.{worker_moves, worker_is}
 use Rattle.roman_make.proofs.parts.make_worker.Goals as goal
 

@@ -1,4 +1,4 @@
-use Rattle.std.proofs.Common.{◌∷◌, [], ◌∙◌, ap, refl}
+use Rattle.roman_make.proofs.Common.{◌∷◌, [], ◌∙◌, ap, refl}
 use Rattle.roman_make.proofs.SystemLemmas.{library_is, library_known}
 use Rattle.roman_make.proofs.system.make_library.Goals as goal
 

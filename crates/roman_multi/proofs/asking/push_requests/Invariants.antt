@@ -1,5 +1,4 @@
-use Rattle.roman_multi.proofs.Common.{◌≡◌, ◌++◌}
-use Rattle.roman_multi.specs.Lists.{used_by}
+use Rattle.roman_multi.proofs.Common.{◌≡◌, ◌++◌, used_by}
 use Rattle.roman_multi.proofs.asking.push_requests.Given as goal
 
 abbrev pub invariant-loop-a : goal.invariant-loop-a

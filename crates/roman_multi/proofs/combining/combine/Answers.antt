@@ -1,5 +1,4 @@
-use Rattle.roman_multi.proofs.Common.{◌≡◌, ◌<◌, sym, subst, ◌∙◌, refl, All, arith, false≢true, target_sizes, machines}
-use Rattle.std.proofs.lemmas.Result.{err_from_is_err_and}
+use Rattle.roman_multi.proofs.Common.{◌≡◌, ◌<◌, sym, subst, ◌∙◌, refl, All, arith, false≢true, target_sizes, machines, err_from_is_err_and}
 use Rattle.roman_multi.proofs.CombineLemmas.{forbids_states, forbids_actions, forbids_none, names_forbid, few_states, good_counts, many_states, merge_is}
 use Rattle.roman_multi.proofs.FlatLemmas.{fits_within, within_fits}
 use Rattle.roman_multi.proofs.KnownLemmas.{sizes_positive}

@@ -1,5 +1,4 @@
-use Rattle.roman_multi.proofs.Common.{refl, ap, ◌∙◌, map, slice_get, next_on}
-use Rattle.roman_model.specs.SystemArena.{env_next}
+use Rattle.roman_multi.proofs.Common.{refl, ap, ◌∙◌, map, slice_get, next_on, env_next}
 use Rattle.roman_multi.proofs.ListLemmas.{flat_map_pushed, read_get}
 use Rattle.roman_multi.proofs.environment.push_row.Goals as goal
 

@@ -1,5 +1,4 @@
-use Rattle.roman_multi.proofs.Common.{◌≡◌, flat_map, below}
-use Rattle.roman_multi.specs.Lists.{triples_by}
+use Rattle.roman_multi.proofs.Common.{◌≡◌, flat_map, below, triples_by}
 use Rattle.roman_multi.proofs.environment.triples_of.Given as goal
 
 abbrev pub invariant-loop-e : goal.invariant-loop-e

@@ -1,5 +1,4 @@
-use Rattle.roman_multi.proofs.Common.{◌≡◌, map, take, All, IsTrue, is_word}
-use Rattle.roman_multi.specs.Combining.{request_name}
+use Rattle.roman_multi.proofs.Common.{◌≡◌, map, take, All, IsTrue, is_word, request_name}
 use Rattle.roman_multi.proofs.words.request_words.Given as goal
 
 abbrev pub invariant-loop-request : goal.invariant-loop-request

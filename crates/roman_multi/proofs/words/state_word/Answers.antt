@@ -1,5 +1,4 @@
-use Rattle.roman_multi.proofs.Common.{◌≡◌, ◌<◌, ◌==◌, ◌++◌, ◌∷◌, [], ap, ap₂, sym, ◌∙◌, length, slice_index, get_or, subst, arith, List, ℕ, if◌then◌else◌, slice_index_or, take_all, target_sizes, states_at, length-states_at, machines, names_at}
-use Rattle.std.proofs.lemmas.Option.{get_or_from_slice_get}
+use Rattle.roman_multi.proofs.Common.{◌≡◌, ◌<◌, ◌==◌, ◌++◌, ◌∷◌, [], ap, ap₂, sym, ◌∙◌, length, slice_index, get_or, subst, arith, List, ℕ, if◌then◌else◌, slice_index_or, take_all, target_sizes, states_at, length-states_at, machines, names_at, get_or_from_slice_get}
 use Rattle.roman_multi.proofs.KnownLemmas.{sizes_length}
 use Rattle.roman_multi.proofs.FlatLemmas.{part_is, part_below}
 use Rattle.roman_multi.proofs.WordLemmas.{joined_more, names_at_length, names_at_get, is_word_from}

@@ -1,6 +1,4 @@
-use Rattle.roman_order.proofs.Common.{◌≡◌, ℕ, ◌*◌, ◌/◌, ◌<◌, ◌≤◌, List, length, take, get_or, Some, None, false, arith, cases_lt, length-take-le, get_or-take, has_flag}
-use Rattle.std.proofs.Common.{Option}
-use Rattle.std.specs.Option.{IfNone}
+use Rattle.roman_order.proofs.Common.{◌≡◌, ℕ, ◌*◌, ◌/◌, ◌<◌, ◌≤◌, List, length, take, get_or, Some, None, false, arith, cases_lt, length-take-le, get_or-take, has_flag, Option, IfNone}
 use Rattle.roman_order.proofs.Words.{flag_off}
 use Rattle.roman_order.proofs.flags.next_word.Goals as goal
 

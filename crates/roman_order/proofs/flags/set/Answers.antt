@@ -1,5 +1,4 @@
-use Rattle.roman_order.proofs.Common.{◌%◌, ◌/◌, refl, ◌∙◌, arith}
-use Rattle.roman_lanes.proofs.CallerLemmas.{on_set_same, on_set_other}
+use Rattle.roman_order.proofs.Common.{◌%◌, ◌/◌, refl, ◌∙◌, arith, on_set_same, on_set_other}
 use Rattle.roman_order.proofs.Words.{has_flag-written, has_flag-others}
 use Rattle.roman_order.proofs.flags.set.Goals as goal
 

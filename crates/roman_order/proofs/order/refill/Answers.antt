@@ -1,5 +1,4 @@
-use Rattle.roman_order.proofs.Common.{arith, length-replicate, take_all}
-use Rattle.std.proofs.lemmas.List.{replicate-append-replicate}
+use Rattle.roman_order.proofs.Common.{arith, length-replicate, take_all, replicate-append-replicate}
 use Rattle.roman_order.proofs.order.refill.Goals as goal
 
 pub pieces-preserved : goal.pieces-preserved

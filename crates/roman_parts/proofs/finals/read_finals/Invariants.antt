@@ -1,7 +1,6 @@
 -- The final states so far are in range, and the remaining items give the result of all items.
-use Rattle.roman_parts.proofs.Common.{◌<◌, [], length, items_view, each_item, pushing, IsLeft, place_in}
+use Rattle.roman_parts.proofs.Common.{◌<◌, [], length, items_view, each_item, pushing, IsLeft, place_in, Finals}
 use Rattle.std.specs.List.{All}
-use Rattle.roman_parts.specs.declared.error.List.TheVariants.{Finals}
 use Rattle.roman_parts.proofs.finals.read_finals.Given as goal
 
 abbrev pub invariant-loop-i : goal.invariant-loop-i

@@ -1,6 +1,5 @@
 -- The remaining items give the result of all items.
-use Rattle.roman_parts.proofs.Common.{[], items_view, each_item, pushing, IsLeft}
-use Rattle.roman_parts.specs.Guards.{state_in}
+use Rattle.roman_parts.proofs.Common.{[], items_view, each_item, pushing, IsLeft, state_in}
 use Rattle.roman_parts.proofs.guards.read_places.Given as goal
 
 abbrev pub invariant-loop-item : goal.invariant-loop-item

@@ -1,5 +1,4 @@
-use Rattle.roman_parts.proofs.Common.{◌<◌, ◌^◌, append_assoc, arith}
-use Rattle.std.proofs.Common.{append-nil}
+use Rattle.roman_parts.proofs.Common.{◌<◌, ◌^◌, append_assoc, arith, append-nil}
 use Rattle.roman_parts.proofs.SetLemmas.{states_of-next, states_of-zero}
 use Rattle.roman_parts.proofs.rows.push_states.Goals as goal
 

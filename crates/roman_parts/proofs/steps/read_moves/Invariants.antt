@@ -1,7 +1,6 @@
 -- The steps so far are in range and as many as the items so far, and the remaining items give the result of all items.
-use Rattle.roman_parts.proofs.Common.{◌≡◌, ◌<◌, ◌^◌, [], length, map, items_view, each_item, pushing, IsLeft, move_of, AreMoves}
+use Rattle.roman_parts.proofs.Common.{◌≡◌, ◌<◌, ◌^◌, [], length, map, items_view, each_item, pushing, IsLeft, move_of, AreMoves, move_item}
 use Rattle.std.specs.List.{All}
-use Rattle.roman_parts.specs.Steps.{move_item}
 use Rattle.roman_parts.proofs.steps.read_moves.Given as goal
 
 abbrev pub invariant-loop-i : goal.invariant-loop-i

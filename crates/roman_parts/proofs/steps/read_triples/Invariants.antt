@@ -1,6 +1,5 @@
 -- The steps so far are in range, and the remaining items give the result of all items.
-use Rattle.roman_parts.proofs.Common.{[], length, map, items_view, each_item, pushing, IsLeft, triple_of, AreTriples}
-use Rattle.roman_parts.specs.Steps.{triple_item}
+use Rattle.roman_parts.proofs.Common.{[], length, map, items_view, each_item, pushing, IsLeft, triple_of, AreTriples, triple_item}
 use Rattle.roman_parts.proofs.steps.read_triples.Given as goal
 
 abbrev pub invariant-loop-i : goal.invariant-loop-i

@@ -1,5 +1,4 @@
-use Rattle.roman_rank.proofs.Common.{◌≡◌, ◌+◌, ◌-◌, ◌^◌, ◌<◌, ℕ, length, take, get_or, refl, sym, subst, arith, AreCounts}
-use Rattle.std.proofs.Common.{Vec, Global}
+use Rattle.roman_rank.proofs.Common.{◌≡◌, ◌+◌, ◌-◌, ◌^◌, ◌<◌, ℕ, length, take, get_or, refl, sym, subst, arith, AreCounts, Vec, Global}
 use Rattle.roman_rank.proofs.Tallies.{counts_passed, counts_more}
 use Rattle.roman_rank.proofs.counting.counts_of.Goals as goal
 use Rattle.roman_rank.proofs.counting.counts_of.Goals.{then-depth+in_ok-count_one, else-depth}

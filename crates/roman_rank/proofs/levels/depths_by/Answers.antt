@@ -1,5 +1,4 @@
-use Rattle.roman_rank.proofs.Common.{◌≡◌, ◌+◌, ◌-◌, ◌^◌, ◌<◌, ◌++◌, length, take, drop, slice_index, sym, ap, ◌∙◌, subst, arith, add-one, AreRanksBelow, GivesLevel}
-use Rattle.std.proofs.lemmas.List.{length-map}
+use Rattle.roman_rank.proofs.Common.{◌≡◌, ◌+◌, ◌-◌, ◌^◌, ◌<◌, ◌++◌, length, take, drop, slice_index, sym, ap, ◌∙◌, subst, arith, add-one, AreRanksBelow, GivesLevel, length-map}
 use Rattle.roman_rank.proofs.Giving.{start_of, start_next, front_is, ranks_more, ranks_all}
 use Rattle.roman_rank.proofs.levels.depths_by.Goals as goal
 

@@ -1,5 +1,4 @@
-use Rattle.roman_rank.proofs.Common.{◌<◌, length, refl, arith}
-use Rattle.roman_order.specs.Board.{as_entry}
+use Rattle.roman_rank.proofs.Common.{◌<◌, length, refl, arith, as_entry}
 use Rattle.roman_rank.proofs.Giving.{node_at, node_entry, gives_more}
 use Rattle.roman_rank.proofs.levels.give_depth.Goals as goal
 

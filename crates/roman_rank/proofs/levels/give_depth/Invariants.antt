@@ -1,6 +1,4 @@
-use Rattle.roman_rank.proofs.Common.{◌≤◌, GivesLevel}
-use Rattle.std.specs.Prelude.{max}
-use Rattle.roman_order.specs.Walks.{IsAhead}
+use Rattle.roman_rank.proofs.Common.{◌≤◌, GivesLevel, max, IsAhead}
 use Rattle.roman_rank.proofs.levels.give_depth.Given as goal
 
 -- the pairs of the entries so far have the depth

@@ -1,5 +1,4 @@
-use Rattle.roman_rank.proofs.Common.{◌∙◌, arith, err_from_is_err_and, fill_more, fill_failed}
-use Rattle.roman_text.proofs.CallerLemmas.{fill_same}
+use Rattle.roman_rank.proofs.Common.{◌∙◌, arith, err_from_is_err_and, fill_more, fill_failed, fill_same}
 use Rattle.roman_rank.proofs.Telling.{next_line}
 use Rattle.roman_rank.proofs.text.push_levels.Goals as goal
 

@@ -1,5 +1,4 @@
-use Rattle.roman_rank.proofs.Common.{◌≡◌, ◌++◌, drop, level_lines}
-use Rattle.roman_text.proofs.CallerLemmas.{IsFilling}
+use Rattle.roman_rank.proofs.Common.{◌≡◌, ◌++◌, drop, level_lines, IsFilling}
 use Rattle.roman_rank.proofs.text.push_levels.Given as goal
 
 -- the lines so far are pushed

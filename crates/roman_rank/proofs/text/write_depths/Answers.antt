@@ -1,5 +1,4 @@
-use Rattle.roman_rank.proofs.Common.{[], ◌∙◌, err_from_is_err_and, fill_more, fill_failed, level_lines}
-use Rattle.roman_text.proofs.CallerLemmas.{fill_whole, fill_put}
+use Rattle.roman_rank.proofs.Common.{[], ◌∙◌, err_from_is_err_and, fill_more, fill_failed, level_lines, fill_whole, fill_put}
 use Rattle.roman_rank.proofs.Telling.{whole_pieces, told_puts}
 use Rattle.roman_rank.proofs.text.write_depths.Goals as goal
 

@@ -1,6 +1,4 @@
-use Rattle.roman_relation.proofs.Common.{◌≡◌, ℕ, ◌+◌, ◌*◌, length, sum_by, ap, ◌∙◌, arith, below, is_listed, mask, sum_by_same}
-use Rattle.roman_rules.proofs.CallerLemmas.{sum_below_more}
-use Rattle.roman_rules.proofs.CallerLemmas.{sum_turned}
+use Rattle.roman_relation.proofs.Common.{◌≡◌, ℕ, ◌+◌, ◌*◌, length, sum_by, ap, ◌∙◌, arith, below, is_listed, mask, sum_by_same, sum_below_more, sum_turned}
 use Rattle.roman_relation.proofs.Bands.{band_begins}
 use Rattle.roman_relation.proofs.Lanes.{words_rows}
 use Rattle.roman_relation.proofs.masks.band_choices.Goals as goal

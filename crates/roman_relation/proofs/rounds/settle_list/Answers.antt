@@ -1,5 +1,4 @@
-use Rattle.roman_relation.proofs.Common.{◌≡◌, suc, ◌<◌, [], ◌∷◌, ◌++◌, length, refl, ap, ◌∙◌, arith, eqb-true, length_push, fall, Board, Begins}
-use Rattle.std.proofs.lemmas.List.{nil_from_length}
+use Rattle.roman_relation.proofs.Common.{◌≡◌, suc, ◌<◌, [], ◌∷◌, ◌++◌, length, refl, ap, ◌∙◌, arith, eqb-true, length_push, fall, Board, Begins, nil_from_length}
 use Rattle.roman_relation.proofs.Beginnings.{begins_on, begins_length}
 use Rattle.roman_relation.proofs.Going.{fall_added, rest_from}
 use Rattle.roman_relation.proofs.Rising.{rises_start, rises_more, levels_first, levels_more}

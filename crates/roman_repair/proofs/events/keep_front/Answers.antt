@@ -1,6 +1,4 @@
-use Rattle.roman_repair.proofs.Common.{refl, sym, ◌∙◌, subst, arith, is_listed}
-use Rattle.roman_relation.proofs.CallerLemmas.{words_rows}
-use Rattle.roman_repair.specs.Lanes.{HasFront}
+use Rattle.roman_repair.proofs.Common.{refl, sym, ◌∙◌, subst, arith, is_listed, words_rows, HasFront}
 use Rattle.roman_repair.proofs.Replayed.{dropped, in_row, lane_alive, listed, row_there, seat_in}
 use Rattle.roman_repair.proofs.events.keep_front.Goals as goal
 

@@ -1,4 +1,4 @@
-use Rattle.roman_order.proofs.CallerLemmas.{some_lane}
+use Rattle.roman_repair.proofs.Common.{some_lane}
 use Rattle.roman_repair.proofs.Replayed.{judge_rest, judged_all, judged_none, judged_on, no_entries}
 use Rattle.roman_repair.proofs.events.keep_lanes.Goals as goal
 

@@ -1,5 +1,4 @@
-use Rattle.roman_repair.proofs.Common.{◌≢◌, ◌<◌, length, set_lanes, entries_at}
-use Rattle.roman_repair.specs.Judging.{HasJudged}
+use Rattle.roman_repair.proofs.Common.{◌≢◌, ◌<◌, length, set_lanes, entries_at, HasJudged}
 use Rattle.roman_repair.proofs.events.keep_lanes.Given as goal
 
 -- the entries for the remaining lanes are left

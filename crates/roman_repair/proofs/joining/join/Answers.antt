@@ -1,4 +1,4 @@
-use Rattle.roman_repair.proofs.Common.{[], ◌∷◌, ◌++◌, Seat, Join, AreSizes, Sizes, lanes_of, length-map, refl, sym, ap, ◌∙◌, subst, seat_of}
+use Rattle.roman_repair.proofs.Common.{[], ◌∷◌, ◌++◌, refl, sym, ap, ◌∙◌, subst, Seat, Join, AreSizes, Sizes, lanes_of, length-map, seat_of}
 use Rattle.roman_repair.proofs.Repairing.{caps_kept}
 use Rattle.roman_repair.proofs.Waiting.{can_readmit, readmitted}
 use Rattle.roman_repair.proofs.Readmitted.{join_readmits, same_newcomer}

@@ -1,5 +1,4 @@
-use Rattle.roman_repair.proofs.Common.{◌≡◌, ◌+◌, ◌*◌, ◌/◌, ◌<◌, ◌≤◌, arith, trailing_zeros, w64}
-use Rattle.std.proofs.Math.Nat.{div-mul-le_self, lt-div-mul-add}
+use Rattle.roman_repair.proofs.Common.{◌≡◌, ◌+◌, ◌*◌, ◌/◌, ◌<◌, ◌≤◌, arith, trailing_zeros, w64, div-mul-le_self, lt-div-mul-add}
 use Rattle.roman_repair.proofs.Fronts.{first_low, first_part_is}
 use Rattle.roman_repair.proofs.lanes.first_part.Goals as goal
 

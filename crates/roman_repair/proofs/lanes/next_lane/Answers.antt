@@ -1,5 +1,4 @@
-use Rattle.roman_repair.proofs.Common.{◌≡◌, ◌+◌, ◌-◌, ◌/◌, ◌^◌, ◌<◌, sym, ap, ◌∙◌, arith, trailing_zeros, w64, is_on}
-use Rattle.std.proofs.lemmas.Nat.{shr_le}
+use Rattle.roman_repair.proofs.Common.{◌≡◌, ◌+◌, ◌-◌, ◌/◌, ◌^◌, ◌<◌, sym, ap, ◌∙◌, arith, trailing_zeros, w64, is_on, shr_le}
 use Rattle.roman_repair.proofs.Fronts.{first_lane, on_lowered}
 use Rattle.roman_repair.proofs.lanes.next_lane.Goals as goal
 

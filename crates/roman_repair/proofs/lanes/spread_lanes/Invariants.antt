@@ -1,5 +1,4 @@
-use Rattle.roman_repair.proofs.Common.{◌≡◌, ◌-◌, ◌<◌, ◌≤◌, true, is_on}
-use Rattle.roman_repair.specs.Lanes.{IsSpread}
+use Rattle.roman_repair.proofs.Common.{◌≡◌, ◌-◌, ◌<◌, ◌≤◌, true, is_on, IsSpread}
 use Rattle.roman_repair.proofs.lanes.spread_lanes.Given as goal
 
 -- the lanes before the next one are spread

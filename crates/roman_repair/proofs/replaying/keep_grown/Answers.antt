@@ -1,6 +1,4 @@
-use Rattle.roman_repair.proofs.Common.{[], sym, ap, ◌∙◌, append-nil, flat_map, grown_numbers}
-use Rattle.roman_order.proofs.CallerLemmas.{some_lane}
-use Rattle.roman_repair.specs.Growing.{entries_grown}
+use Rattle.roman_repair.proofs.Common.{[], sym, ap, ◌∙◌, append-nil, flat_map, grown_numbers, some_lane, entries_grown}
 use Rattle.roman_repair.proofs.Replayed.{judge_rest, judged_all, judged_none, judged_on, no_entries, replays_front}
 use Rattle.roman_repair.proofs.Growing.{can_grow, grown_itself, grown_ready, stays_event}
 use Rattle.roman_repair.proofs.replaying.keep_grown.Goals as goal

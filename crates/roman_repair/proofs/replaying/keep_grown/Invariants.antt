@@ -1,6 +1,4 @@
-use Rattle.roman_repair.proofs.Common.{◌≢◌, ◌<◌, length, set_lanes}
-use Rattle.roman_repair.specs.Growing.{entries_grown}
-use Rattle.roman_repair.specs.Judging.{HasJudged}
+use Rattle.roman_repair.proofs.Common.{◌≢◌, ◌<◌, length, set_lanes, entries_grown, HasJudged}
 use Rattle.roman_repair.proofs.replaying.keep_grown.Given as goal
 
 -- what the remaining lanes stand for is left

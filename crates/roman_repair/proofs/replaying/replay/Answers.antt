@@ -1,5 +1,4 @@
-use Rattle.roman_repair.proofs.Common.{[], ◌++◌, refl, sym, ap, ◌∙◌, subst, arith, is_listed, Board, MayAskAlone, candidates}
-use Rattle.roman_order.specs.Events.{IsEvent}
+use Rattle.roman_repair.proofs.Common.{[], ◌++◌, refl, sym, ap, ◌∙◌, subst, arith, is_listed, Board, MayAskAlone, candidates, IsEvent}
 use Rattle.roman_repair.proofs.Growing.{next_ready, replay_on, replayed_all}
 use Rattle.roman_repair.proofs.Replayed.{stays}
 use Rattle.roman_repair.proofs.replaying.replay.Goals as goal

@@ -1,6 +1,4 @@
-use Rattle.roman_repair.proofs.Common.{[], sym, ap, ap₂, ◌∙◌, subst, arith, Some, flat_map, grown_numbers, readings, NamedSys, arena_of, IsSettledOn, AreCandidates, MayAskAlone, readings_of_entries, with_replay, ◌≡◌}
-use Rattle.roman_joint.proofs.CallerLemmas.{joint_numbered}
-use Rattle.roman_repair.specs.Growing.{list_grown, replay_grown}
+use Rattle.roman_repair.proofs.Common.{[], sym, ap, ap₂, ◌∙◌, subst, arith, Some, flat_map, ◌≡◌, grown_numbers, readings, NamedSys, arena_of, IsSettledOn, AreCandidates, readings_of_entries, with_replay, MayAskAlone, joint_numbered, list_grown, replay_grown}
 use Rattle.roman_repair.proofs.Keeping.{candidates_readings}
 use Rattle.roman_repair.proofs.settling.replay_and_settle_on.Goals as goal
 

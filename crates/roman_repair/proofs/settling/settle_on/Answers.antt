@@ -1,6 +1,4 @@
-use Rattle.roman_repair.proofs.Common.{◌+◌, ◌≤◌, drop, sym, ap, ap₂, subst, NamedSys, arena_of}
-use Rattle.roman_model.specs.Arena.{fall}
-use Rattle.roman_relation.specs.declared.relation.Relation.{Relation}
+use Rattle.roman_repair.proofs.Common.{◌+◌, ◌≤◌, drop, sym, ap, ap₂, subst, NamedSys, arena_of, fall, Relation}
 use Rattle.roman_repair.proofs.settling.settle_on.Goals as goal
 
 pub returns-clause-cost : goal.returns-clause-cost

@@ -1,6 +1,4 @@
-use Rattle.roman_repair.proofs.Common.{◌≡◌, ◌<◌, Sizes, lanes_of, false, length, refl, ap, ◌∙◌, arith, length-map, system_of, seat_of}
-use Rattle.roman_model.specs.Change.{Thaw}
-use Rattle.roman_joint.specs.Changes.{with_frozen}
+use Rattle.roman_repair.proofs.Common.{◌≡◌, ◌<◌, false, length, refl, ap, ◌∙◌, arith, Sizes, lanes_of, length-map, system_of, seat_of, Thaw, with_frozen}
 use Rattle.roman_repair.proofs.Repairing.{caps_kept}
 use Rattle.roman_repair.proofs.Waiting.{can_readmit, readmitted}
 use Rattle.roman_repair.proofs.Readmitted.{thaw_readmits}

@@ -1,5 +1,4 @@
-use Rattle.std.proofs.Common.{◌≡◌, ◌+◌, count_by}
-use Rattle.roman_model.specs.Lists.{below}
+use Rattle.roman_rules.proofs.Common.{◌≡◌, ◌+◌, count_by, below}
 use Rattle.roman_rules.proofs.asked.tick_ready.Given as goal
 
 -- one step for each ready seat so far

@@ -1,6 +1,4 @@
-use Rattle.std.proofs.Common.{arith}
-use Rattle.std.specs.Int.{w32}
-use Rattle.std.proofs.lemmas.Nat.Bits.{bit_at_set_same, bit_at_set_other}
+use Rattle.roman_rules.proofs.Common.{arith, w32, bit_at_set_same, bit_at_set_other}
 use Rattle.roman_rules.proofs.bits.with_bit.Goals as goal
 
 pub returns-then-is_in-clause-own : goal.returns-then-is_in-clause-own

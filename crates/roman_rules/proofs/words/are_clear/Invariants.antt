@@ -1,4 +1,4 @@
-use Rattle.std.proofs.Common.{◌≡◌, ℕ, ◌<◌, slice_index}
+use Rattle.roman_rules.proofs.Common.{◌≡◌, ℕ, ◌<◌, slice_index}
 use Rattle.roman_rules.proofs.words.are_clear.Given as goal
 
 -- where the words so far, joined, are 0, each of them is

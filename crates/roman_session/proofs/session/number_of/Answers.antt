@@ -1,6 +1,4 @@
-use Rattle.roman_session.proofs.Common.{sym, subst, Pair, Sizes, system_of}
-use Rattle.roman_model.specs.Numbers.{IsPairOf}
-use Rattle.roman_model.proofs.CallerLemmas.{IsPairOf-from}
+use Rattle.roman_session.proofs.Common.{sym, subst, Pair, Sizes, system_of, IsPairOf, IsPairOf-from}
 use Rattle.roman_session.proofs.session.number_of.Goals as goal
 
 pub number-requires : goal.number-requires

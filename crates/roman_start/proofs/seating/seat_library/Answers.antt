@@ -1,8 +1,4 @@
-use Rattle.std.proofs.Common.{◌≡◌, ◌<◌, List, All, map, length, sym, ap, ◌∙◌, subst, arith}
-use Rattle.roman_model.specs.Lists.{HasNoRepeats}
-use Rattle.roman_joint.specs.declared.seat.Seat.{Seat}
-use Rattle.roman_library.specs.Library.{plain}
-use Rattle.roman_start.specs.Starts.{seat_of_service, state_of_service, parts_of, start_pair_of}
+use Rattle.roman_start.proofs.Common.{◌≡◌, ◌<◌, List, All, map, length, sym, ap, ◌∙◌, subst, arith, HasNoRepeats, Seat, plain, seat_of_service, state_of_service, parts_of, start_pair_of}
 use Rattle.roman_start.proofs.StartLemmas.{behaviours_within, names_once}
 use Rattle.roman_start.proofs.SeatingLemmas.{seated_pair, seated}
 use Rattle.roman_start.proofs.seating.seat_library.Goals as goal

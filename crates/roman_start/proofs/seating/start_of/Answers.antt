@@ -1,8 +1,4 @@
-use Rattle.std.proofs.Common.{ℕ, sym, ap, ap₂, ◌∙◌, subst}
-use Rattle.roman_model.specs.System.{Pair}
-use Rattle.roman_model.specs.Numbers.{Sizes, sizes_of, IsPairOf}
-use Rattle.roman_model.proofs.CallerLemmas.{IsPairOf-from}
-use Rattle.roman_joint.specs.NamedSys.{system_of}
+use Rattle.roman_start.proofs.Common.{ℕ, sym, ap, ap₂, ◌∙◌, subst, Pair, Sizes, sizes_of, IsPairOf, IsPairOf-from, system_of}
 use Rattle.roman_start.proofs.seating.start_of.Goals as goal
 
 pub number-requires : goal.number-requires

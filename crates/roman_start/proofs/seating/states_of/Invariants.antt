@@ -1,6 +1,4 @@
-use Rattle.std.proofs.Common.{◌≡◌, ◌≤◌, map, take, vec_capacity}
-use Rattle.roman_model.specs.declared.limits.TheConstants.{MAX_SERVICES}
-use Rattle.roman_start.specs.Starts.{state_of_service}
+use Rattle.roman_start.proofs.Common.{◌≡◌, ◌≤◌, map, take, vec_capacity, MAX_SERVICES, state_of_service}
 use Rattle.roman_start.proofs.seating.states_of.Given as goal
 
 -- the states so far

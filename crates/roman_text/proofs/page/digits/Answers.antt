@@ -1,6 +1,4 @@
-use Rattle.roman_text.proofs.Common.{arith}
-use Rattle.std.proofs.Common.{◌/◌}
-use Rattle.itoa.proofs.Decimal.{length_one, length_two, length_pair, length_four}
+use Rattle.roman_text.proofs.Common.{arith, ◌/◌, length_one, length_two, length_pair, length_four}
 use Rattle.roman_text.proofs.page.digits.Goals as goal
 
 pub returns-in-0-to-9 : goal.returns-in-0-to-9

@@ -1,5 +1,4 @@
-use Rattle.roman_io.proofs.CallerLemmas.{Wrote-nil}
-use Rattle.roman_top.proofs.Common.{subst, Puts}
+use Rattle.roman_top.proofs.Common.{Wrote-nil, subst, Puts}
 use Rattle.roman_top.specs.declared.status.Status.TheVariants as status
 use Rattle.roman_top.proofs.EndingLemmas.{finished_spoken, finished_sink}
 use Rattle.roman_top.proofs.ResilienceLemmas.{text_at, foreseen}

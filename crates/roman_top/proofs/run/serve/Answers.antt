@@ -1,5 +1,4 @@
-use Rattle.roman_top.proofs.Common.{None, Some, ◌∙◌, sym, ap, command_as}
-use Rattle.std.specs.Option.{option_map}
+use Rattle.roman_top.proofs.Common.{None, Some, ◌∙◌, sym, ap, command_as, option_map}
 use Rattle.roman_top.proofs.CompleteLemmas.{completes}
 use Rattle.roman_top.proofs.HeadlineLemmas.{has_headline}
 use Rattle.roman_top.proofs.ServedLemmas.{served_as, usage_served}

@@ -1,4 +1,4 @@
-use Rattle.roman_io.proofs.CallerLemmas.{Wrote-nil}
+use Rattle.roman_top.proofs.Common.{Wrote-nil}
 use Rattle.roman_top.specs.declared.status.Status.TheVariants as status
 use Rattle.roman_top.proofs.EndingLemmas.{finished_spoken, finished_sink}
 use Rattle.roman_top.proofs.ShortestLemmas.{shortened}

@@ -1,6 +1,4 @@
-use Rattle.roman_whatif.proofs.Common.{◌≡◌, ◌-◌, Bool, true, false, not, refl, arith, eqb-true}
-use Rattle.std.proofs.Math.Bool.{beq}
-use Rattle.std.proofs.lemmas.Bool.{true≢false}
+use Rattle.roman_whatif.proofs.Common.{◌≡◌, ◌-◌, Bool, true, false, not, refl, arith, eqb-true, beq, true≢false}
 use Rattle.roman_whatif.proofs.Repeats.{repeated_when}
 use Rattle.roman_whatif.proofs.alike.is_repeated.Goals as goal
 

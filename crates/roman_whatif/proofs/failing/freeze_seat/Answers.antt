@@ -1,5 +1,4 @@
-use Rattle.roman_whatif.proofs.Common.{true, seat_of}
-use Rattle.roman_joint.specs.Changes.{with_frozen}
+use Rattle.roman_whatif.proofs.Common.{true, seat_of, with_frozen}
 use Rattle.roman_whatif.proofs.Lasting.{parts_with_seats, seat_at_place, is_ready_there, left_frozen, left_freezing}
 use Rattle.roman_whatif.proofs.failing.freeze_seat.Goals as goal
 

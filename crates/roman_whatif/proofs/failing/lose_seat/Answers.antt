@@ -1,5 +1,4 @@
-use Rattle.roman_whatif.proofs.Common.{◌<◌, false, length, remove, sym, ap, ◌∙◌, subst, length-map, Seat, count, seat_of, system_of}
-use Rattle.roman_joint.specs.NamedSys.{still}
+use Rattle.roman_whatif.proofs.Common.{◌<◌, false, length, remove, sym, ap, ◌∙◌, subst, length-map, Seat, count, seat_of, system_of, still}
 use Rattle.roman_whatif.proofs.Lasting.{parts_with_seats, left_dying}
 use Rattle.roman_whatif.proofs.failing.lose_seat.Goals as goal
 

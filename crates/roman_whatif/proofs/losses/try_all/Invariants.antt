@@ -1,5 +1,4 @@
-use Rattle.roman_whatif.proofs.Common.{◌≡◌, ℕ, ◌*◌, ◌<◌, length, IsToldOf}
-use Rattle.roman_whatif.specs.Trials.{AreTrialsOf}
+use Rattle.roman_whatif.proofs.Common.{◌≡◌, ℕ, ◌*◌, ◌<◌, length, IsToldOf, AreTrialsOf}
 use Rattle.roman_whatif.proofs.losses.try_all.Given as goal
 
 -- the table has the outlooks for the seats so far

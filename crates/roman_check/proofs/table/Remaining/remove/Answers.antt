@@ -1,5 +1,4 @@
-use Rattle.roman_check.proofs.Common.{◌≡◌, ◌+◌, ◌%◌, ◌<◌, ◌^◌, get_or, refl, rules, subst, arith, Clears}
-use Rattle.std.proofs.lemmas.List.{get_or_read}
+use Rattle.roman_check.proofs.Common.{◌≡◌, ◌+◌, ◌%◌, ◌<◌, ◌^◌, get_or, refl, rules, subst, arith, Clears, get_or_read}
 use Rattle.roman_check.proofs.RemainLemmas.{rows_less, counted_less}
 use Rattle.roman_check.proofs.table.Remaining.remove.Goals as goal
 

@@ -1,5 +1,4 @@
-use Rattle.roman_joint.proofs.Common.{◌≡◌, system_of, IsWalk, left}
-use Rattle.roman_joint.specs.Walks.{way_left}
+use Rattle.roman_joint.proofs.Common.{◌≡◌, system_of, IsWalk, left, way_left}
 use Rattle.roman_joint.proofs.joint.Joint.back.Given as goal
 
 -- no delegation was returned yet

@@ -1,5 +1,4 @@
-use Rattle.roman_joint.proofs.Common.{List, refl, ap, ◌∙◌, arith, AreSeatsOf}
-use Rattle.roman_joint.specs.NamedSys.{named_parts}
+use Rattle.roman_joint.proofs.Common.{List, refl, ap, ◌∙◌, arith, AreSeatsOf, named_parts}
 use Rattle.roman_joint.specs.declared.seat.Seat.{Seat}
 use Rattle.roman_joint.proofs.Shown.{is_joint}
 use Rattle.roman_joint.proofs.joint.Joint.build.Goals as goal

@@ -1,5 +1,4 @@
-use Rattle.roman_joint.proofs.Common.{◌≡◌, ℕ, ◌+◌, ◌*◌, length, sum_by, sym, ap, ◌∙◌, arith, length-map, below, mask, sizes_of, numbered, row_sizes, lanes_few, sum_below_more, served_by, sum_cut, system_of, seat_of, lanes_in, band_in, sum_by_same}
-use Rattle.roman_rules.proofs.CallerLemmas.{sum_turned, action_counted, none_chosen}
+use Rattle.roman_joint.proofs.Common.{◌≡◌, ℕ, ◌+◌, ◌*◌, length, sum_by, sym, ap, ◌∙◌, arith, length-map, below, mask, sizes_of, numbered, row_sizes, lanes_few, sum_below_more, served_by, sum_cut, system_of, seat_of, lanes_in, band_in, sum_by_same, sum_turned, action_counted, none_chosen}
 use Rattle.roman_joint.proofs.ArenaFacts.{joint_numbered}
 use Rattle.roman_joint.proofs.SplitLemmas.{joint_sizes}
 use Rattle.roman_joint.proofs.AllowedLemmas.{open_here}

@@ -1,5 +1,4 @@
-use Rattle.roman_joint.proofs.Common.{◌≡◌, ◌+◌, ◌*◌, ◌^◌, ◌/◌, ◌<◌, eqb, bit_and, sym, ap, subst, ◌∙◌, arith, shr_and_one, length-map, has, mask, numbered, is_on, HasBits, system_of, seat_of, lanes_in, AreAlive}
-use Rattle.roman_rules.proofs.CallerLemmas.{has_good, mask_more, mask_all}
+use Rattle.roman_joint.proofs.Common.{◌≡◌, ◌+◌, ◌*◌, ◌^◌, ◌/◌, ◌<◌, eqb, bit_and, sym, ap, subst, ◌∙◌, arith, shr_and_one, length-map, has, mask, numbered, is_on, HasBits, system_of, seat_of, lanes_in, AreAlive, has_good, mask_more, mask_all}
 use Rattle.roman_joint.proofs.ArenaFacts.{joint_numbered}
 use Rattle.roman_joint.proofs.GoodLemmas.{known, beaten_dead}
 use Rattle.roman_joint.proofs.joint.Joint.mask.Goals as goal

@@ -1,5 +1,4 @@
-use Rattle.roman_joint.proofs.Common.{◌≡◌, ◌≤◌, List, length, get_or, sym, ap, ◌∙◌, subst, Beh, IsBeh, Join, after, NamedBeh, beh_at, seat_of, system_of, cells, IsOverEnv}
-use Rattle.std.specs.Option.{IsSome}
+use Rattle.roman_joint.proofs.Common.{◌≡◌, ◌≤◌, List, length, get_or, sym, ap, ◌∙◌, subst, Beh, IsBeh, Join, after, NamedBeh, beh_at, seat_of, system_of, cells, IsOverEnv, IsSome}
 use Rattle.roman_joint.proofs.SeatLemmas.{seat_beh_read}
 use Rattle.roman_joint.proofs.SeatChanges.{joined_known, joined_sizes, joined_test}
 use Rattle.roman_joint.proofs.joint.Joint.shape_with.Goals as goal

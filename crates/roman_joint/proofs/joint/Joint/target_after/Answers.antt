@@ -1,5 +1,4 @@
-use Rattle.roman_joint.proofs.Common.{sizes_of, pair_at, system_of}
-use Rattle.roman_model.proofs.CallerLemmas.{allowed_in_range}
+use Rattle.roman_joint.proofs.Common.{sizes_of, pair_at, system_of, allowed_in_range}
 use Rattle.roman_joint.proofs.joint.Joint.target_after.Goals as goal
 
 pub step-requires-clause-action : goal.step-requires-clause-action

@@ -1,5 +1,4 @@
-use Rattle.roman_order.proofs.Common.{arith, length-set}
-use Rattle.std.proofs.lemmas.List.{drop-set}
+use Rattle.roman_order.proofs.Common.{arith, length-set, drop-set}
 use Rattle.roman_order.proofs.Lanes.{no_lane, without_lane}
 use Rattle.roman_order.proofs.Reading.{first_waits}
 use Rattle.roman_order.proofs.order.Order.next_waiting.Goals as goal

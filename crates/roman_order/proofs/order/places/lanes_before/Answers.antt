@@ -1,5 +1,4 @@
-use Rattle.roman_order.proofs.Common.{arith, pow-lt}
-use Rattle.std.proofs.lemmas.Nat.{and_mask}
+use Rattle.roman_order.proofs.Common.{arith, pow-lt, and_mask}
 use Rattle.roman_order.proofs.Ones.{ones_before}
 use Rattle.roman_order.proofs.order.places.lanes_before.Goals as goal
 

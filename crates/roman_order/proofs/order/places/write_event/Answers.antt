@@ -1,5 +1,4 @@
-use Rattle.roman_order.proofs.Common.{◌≡◌, ◌∷◌, ap, arith, length, set_lanes}
-use Rattle.std.proofs.lemmas.Nat.{and_le_l}
+use Rattle.roman_order.proofs.Common.{◌≡◌, ◌∷◌, ap, arith, length, set_lanes, and_le_l}
 use Rattle.roman_order.proofs.Lanes.{without_lane, without_lane-on, without_first, without_first-less, set_lanes-first, set_lanes-zero}
 use Rattle.roman_order.proofs.order.places.write_event.Goals as goal
 

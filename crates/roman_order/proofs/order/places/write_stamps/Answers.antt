@@ -1,5 +1,4 @@
-use Rattle.roman_order.proofs.Common.{subst, arith, ◌*◌, ◌+◌, ap, sym, drop, length, length-append, AreStamps, entries_at, entries_of, set_lanes}
-use Rattle.std.proofs.Math.ListN.{drop_of_length-le}
+use Rattle.roman_order.proofs.Common.{subst, arith, ◌*◌, ◌+◌, ap, sym, drop, length, length-append, AreStamps, entries_at, entries_of, set_lanes, drop_of_length-le}
 use Rattle.roman_order.proofs.Events.{length-entries_at}
 use Rattle.roman_order.proofs.Stamps.{stamps_of, with_stamps-lanes}
 use Rattle.roman_order.proofs.order.places.write_stamps.Goals as goal

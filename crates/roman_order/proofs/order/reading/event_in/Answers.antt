@@ -1,5 +1,4 @@
-use Rattle.roman_order.proofs.Common.{arith, add-one}
-use Rattle.std.proofs.Math.Seq.{drop-cons}
+use Rattle.roman_order.proofs.Common.{arith, add-one, drop-cons}
 use Rattle.roman_order.proofs.order.reading.event_in.Goals as goal
 
 pub returns : goal.returns

@@ -1,5 +1,4 @@
-use Rattle.roman_parts.proofs.Common.{get_or, ap, length, arith, length-append, states_of}
-use Rattle.std.proofs.lemmas.List.{map_more}
+use Rattle.roman_parts.proofs.Common.{get_or, ap, length, arith, length-append, states_of, map_more}
 use Rattle.roman_parts.proofs.SetLemmas.{length-states_of}
 use Rattle.roman_parts.proofs.RowLemmas.{laid_more}
 use Rattle.roman_parts.proofs.rows.Rows.of_masks.Goals as goal

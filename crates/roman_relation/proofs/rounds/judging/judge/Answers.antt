@@ -1,7 +1,4 @@
-use Rattle.roman_relation.proofs.Common.{◌≡◌, ℕ, ◌+◌, ◌*◌, ◌/◌, ◌<◌, inl, inr, ap, ◌∙◌, arith, cases_eq, eq-eqb, by_test, is_on, Board}
-use Rattle.std.specs.Int.{bit_at}
-use Rattle.roman_model.proofs.CallerLemmas.{unallowed_unjustified}
-use Rattle.roman_rules.specs.Bits.{bit_of}
+use Rattle.roman_relation.proofs.Common.{◌≡◌, ℕ, ◌+◌, ◌*◌, ◌/◌, ◌<◌, inl, inr, ap, ◌∙◌, arith, cases_eq, eq-eqb, by_test, is_on, Board, bit_at, unallowed_unjustified, bit_of}
 use Rattle.roman_relation.proofs.Beginnings.{begins_on}
 use Rattle.roman_relation.proofs.Bands.{band_at, band_begins}
 use Rattle.roman_relation.proofs.Pushing.{judged_on}

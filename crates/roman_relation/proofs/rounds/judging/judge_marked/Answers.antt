@@ -1,5 +1,4 @@
-use Rattle.roman_relation.proofs.Common.{◌≡◌, ℕ, ◌+◌, ◌*◌, ◌/◌, ◌%◌, ◌<◌, length, inl, inr, refl, sym, ap, ◌∙◌, subst, arith, rules, InRound, IsPairJudged, cases_eq, both_ways, lt-ltb, mod_below, has_flag, Board, Begins}
-use Rattle.std.proofs.lemmas.Bool.{ltb-true}
+use Rattle.roman_relation.proofs.Common.{◌≡◌, ℕ, ◌+◌, ◌*◌, ◌/◌, ◌%◌, ◌<◌, length, inl, inr, refl, sym, ap, ◌∙◌, subst, arith, rules, InRound, IsPairJudged, cases_eq, both_ways, lt-ltb, mod_below, has_flag, Board, Begins, ltb-true}
 use Rattle.roman_relation.proofs.Bands.{band_inside, band_of, pair_in}
 use Rattle.roman_relation.proofs.Beginnings.{begins_on}
 use Rattle.roman_relation.proofs.Marks.{count_falls, marked_within, still_marked}

@@ -1,8 +1,5 @@
-use Rattle.roman_relation.proofs.Common.{take, IsFalse, ◌≡◌, ℕ, ◌+◌, ◌*◌, ◌/◌, ◌%◌, ◌<◌, ◌≤◌, true, false, ◌++◌, length, slice_index, refl, sym, ap, ◌∙◌, subst, arith, rules, not_from_true, mod_below, div-add-mod', mul-le, IsIn, is_on, count_by, Board, entries_at, moves_to_all, on_at, lane_place}
-use Rattle.std.proofs.Common.{ltb}
-use Rattle.std.proofs.lemmas.List.Sums.{count_by-le-length}
-use Rattle.roman_model.specs.Arena.{is_listed, Delegation, back as back_of}
-use Rattle.roman_order.proofs.CallerLemmas.{rewritten_whole}
+use Rattle.roman_relation.proofs.Common.{take, IsFalse, ◌≡◌, ℕ, ◌+◌, ◌*◌, ◌/◌, ◌%◌, ◌<◌, ◌≤◌, true, false, ◌++◌, length, slice_index, refl, sym, ap, ◌∙◌, subst, arith, rules, not_from_true, mod_below, div-add-mod', mul-le, IsIn, is_on, count_by, Board, entries_at, moves_to_all, on_at, lane_place, ltb, count_by-le-length, rewritten_whole, is_listed, Delegation}
+use Rattle.roman_model.specs.Arena.{back as back_of}
 use Rattle.roman_relation.proofs.Backs.{back_now, back_over, band_is_new}
 use Rattle.roman_relation.proofs.Bands.{band_begins, in_band, outside_band, pair_in, pair_inside, row_band, row_of_band}
 use Rattle.roman_relation.proofs.Lanes.{on_lane, unlisted_row}

@@ -1,6 +1,4 @@
-use Rattle.roman_relation.proofs.Common.{◌≡◌, ◌+◌, ◌*◌, ◌<◌, ℕ, ◌≤◌, true, false, [], ◌++◌, length, take, drop, refl, sym, ap, ◌∙◌, subst, arith, on_at, moves_to_all, IsOrder, fall, is_on, has_entry, Board, set_lanes, pairs_of, entries_at, IsShaped}
-use Rattle.std.proofs.Common.{append-nil}
-use Rattle.roman_order.proofs.CallerLemmas.{length-entries_at}
+use Rattle.roman_relation.proofs.Common.{◌≡◌, ◌+◌, ◌*◌, ◌<◌, ℕ, ◌≤◌, true, false, [], ◌++◌, length, take, drop, refl, sym, ap, ◌∙◌, subst, arith, on_at, moves_to_all, IsOrder, fall, is_on, has_entry, Board, set_lanes, pairs_of, entries_at, IsShaped, append-nil, length-entries_at}
 use Rattle.roman_relation.proofs.Backs.{IsReached, all_back, event_new, none_back, none_moves, passed_unkept, reached_on}
 use Rattle.roman_relation.proofs.Losses.{event_listed, entries_each}
 use Rattle.roman_relation.proofs.Lanes.{shaped_pairs}

@@ -1,5 +1,4 @@
-use Rattle.roman_relation.proofs.Common.{◌*◌, arith, rules, inl, inr, not-true}
-use Rattle.std.proofs.lemmas.Bool.{not-false}
+use Rattle.roman_relation.proofs.Common.{◌*◌, arith, rules, inl, inr, not-true, not-false}
 use Rattle.roman_relation.proofs.Bands.{band_begins}
 use Rattle.roman_relation.proofs.rounds.unfine.list_unfine_band.Goals as goal
 

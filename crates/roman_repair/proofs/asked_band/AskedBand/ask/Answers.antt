@@ -1,4 +1,4 @@
-use Rattle.roman_repair.proofs.Common.{refl, ap, not, ◌∙◌, arith, on_not, ◌+◌, ◌*◌, ◌<◌}
+use Rattle.roman_repair.proofs.Common.{refl, ap, not, ◌∙◌, arith, ◌+◌, ◌*◌, ◌<◌, on_not}
 use Rattle.roman_repair.proofs.Fronts.{none_on, not_twice}
 use Rattle.roman_repair.proofs.asked_band.AskedBand.ask.Goals as goal
 

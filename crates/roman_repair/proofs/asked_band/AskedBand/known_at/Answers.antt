@@ -1,5 +1,4 @@
-use Rattle.roman_repair.proofs.Common.{◌≡◌, ◌+◌, ◌-◌, sym, subst, arith, IsKnown, slice_index}
-use Rattle.std.proofs.Common.{rules}
+use Rattle.roman_repair.proofs.Common.{◌≡◌, ◌+◌, ◌-◌, sym, subst, arith, slice_index, IsKnown, rules}
 use Rattle.roman_repair.proofs.Fronts.{none_on}
 use Rattle.roman_repair.proofs.asked_band.AskedBand.known_at.Goals as goal
 

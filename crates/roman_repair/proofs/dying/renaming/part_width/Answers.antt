@@ -1,5 +1,4 @@
-use Rattle.roman_repair.proofs.Common.{◌≤◌, sym, subst, arith, low_of, IsPart}
-use Rattle.roman_radix.specs.Radix.{stride_of}
+use Rattle.roman_repair.proofs.Common.{◌≤◌, sym, subst, arith, low_of, IsPart, stride_of}
 use Rattle.roman_repair.proofs.DeathParts.{part_before, part_within, part_few}
 use Rattle.roman_repair.proofs.dying.renaming.part_width.Goals as goal
 

@@ -1,5 +1,4 @@
-use Rattle.roman_repair.proofs.Common.{◌≡◌, ℕ, List, [], ◌++◌, refl, sym, ap, ap₂, ◌∙◌, subst, arith, IsIn, Entry, sizes_of, Final, length-below, system_of, lanes_in, Board, entries_in, entries_at, in_append_left, in_append_right, listed_numbers, list_and, list_with}
-use Rattle.roman_order.specs.Events.{IsEvent}
+use Rattle.roman_repair.proofs.Common.{◌≡◌, ℕ, List, [], ◌++◌, refl, sym, ap, ap₂, ◌∙◌, subst, arith, IsIn, Entry, sizes_of, Final, length-below, in_append_left, in_append_right, system_of, lanes_in, Board, entries_in, entries_at, listed_numbers, list_and, list_with, IsEvent}
 use Rattle.roman_repair.proofs.DeathEntries.{list_with_append, fewer_pairs, small_pairs}
 use Rattle.roman_repair.proofs.Gathering.{no_entries, nothing_gathered, still_gathered}
 use Rattle.roman_repair.proofs.dying.renaming.rename_list.Goals as goal

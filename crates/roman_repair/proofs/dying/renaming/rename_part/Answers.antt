@@ -1,6 +1,4 @@
-use Rattle.roman_repair.proofs.Common.{◌*◌, ◌/◌, ◌%◌, ◌^◌, ◌++◌, ◌||◌, not, bit_and, slice_index, refl, sym, ap, ◌∙◌, subst, arith, is_final, Sizes, sizes_of, sizes_without, count, pair_at, number, HasLanes, system_of, has_entry, entries_in, list_and}
-use Rattle.roman_model.specs.Change.{without}
-use Rattle.roman_model.proofs.CallerLemmas.{number_without-is}
+use Rattle.roman_repair.proofs.Common.{◌*◌, ◌/◌, ◌%◌, ◌^◌, ◌++◌, ◌||◌, not, bit_and, slice_index, refl, sym, ap, ◌∙◌, subst, arith, is_final, Sizes, sizes_of, sizes_without, count, pair_at, number, HasLanes, system_of, has_entry, entries_in, list_and, without, number_without-is}
 use Rattle.roman_repair.proofs.DeathStates.{seat_in_sizes}
 use Rattle.roman_repair.proofs.DeathEntries.{left_row, part_stays, part_left, lost_within}
 use Rattle.roman_repair.proofs.dying.renaming.rename_part.Goals as goal

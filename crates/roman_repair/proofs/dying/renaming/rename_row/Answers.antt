@@ -1,5 +1,4 @@
-use Rattle.roman_repair.proofs.Common.{◌≡◌, [], ◌+◌, ◌*◌, sym, ap, ◌∙◌, subst, arith, append-nil, Sizes, sizes_of, count, lanes_of, lanes_few, system_of, lanes_in, Board, IsPart, list_and, list_with, entries_from, entries_in}
-use Rattle.roman_order.proofs.CallerLemmas.{some_lane}
+use Rattle.roman_repair.proofs.Common.{◌≡◌, [], ◌+◌, ◌*◌, sym, ap, ◌∙◌, subst, arith, append-nil, Sizes, sizes_of, count, lanes_of, lanes_few, system_of, lanes_in, Board, entries_in, IsPart, list_and, list_with, entries_from, some_lane}
 use Rattle.roman_repair.proofs.DeathParts.{first_pair, part_begins, part_in, row_in}
 use Rattle.roman_repair.proofs.DeathEntries.{list_with_append}
 use Rattle.roman_repair.proofs.Fronts.{part_entries}

@@ -1,7 +1,4 @@
-use Rattle.roman_session.proofs.Common.{◌<◌, ◌++◌, ℕ, List, Result, codes, length, sym, ap, subst, Reply, offers, Situation, present_system, Does, Handing}
-use Rattle.roman_text.specs.Lines.{with_newline}
-use Rattle.roman_model.proofs.CallerLemmas.{number_listed}
-use Rattle.roman_session.specs.Steps.{Hands}
+use Rattle.roman_session.proofs.Common.{◌<◌, ◌++◌, ℕ, List, Result, codes, length, sym, ap, subst, Reply, offers, Situation, present_system, Does, Handing, with_newline, number_listed, Hands}
 use Rattle.roman_session.proofs.AnswerLemmas.{done}
 use Rattle.roman_session.proofs.RulingLemmas.{handed_is}
 use Rattle.roman_session.proofs.SituationLemmas.{situation_known, parts_shown, offered_open, offered_within, service_named_at}

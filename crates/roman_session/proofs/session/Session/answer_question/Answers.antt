@@ -1,5 +1,4 @@
-use Rattle.roman_session.proofs.Common.{arith}
-use Rattle.roman_session.specs.Rulings.{unexplained}
+use Rattle.roman_session.proofs.Common.{arith, unexplained}
 use Rattle.roman_session.proofs.AnswerLemmas.{done}
 use Rattle.roman_session.proofs.session.Session.answer_question.Goals as goal
 

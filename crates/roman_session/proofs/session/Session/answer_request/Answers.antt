@@ -1,5 +1,4 @@
-use Rattle.std.proofs.Common.{sym}
-use Rattle.roman_session.proofs.Common.{offer_text}
+use Rattle.roman_session.proofs.Common.{sym, offer_text}
 use Rattle.roman_session.proofs.AnswerLemmas.{asks_said, done}
 use Rattle.roman_session.proofs.RulingLemmas.{asked_is}
 use Rattle.roman_session.proofs.session.Session.answer_request.Goals as goal

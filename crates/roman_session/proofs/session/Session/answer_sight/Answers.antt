@@ -1,5 +1,4 @@
-use Rattle.roman_session.proofs.Common.{ℕ, List, IsTrue, slice_get, slice_set, sym, subst, is_allowed, is_ready, Situation, present_system, HasMoved, situation_in}
-use Rattle.roman_model.specs.System.{SStep}
+use Rattle.roman_session.proofs.Common.{ℕ, List, IsTrue, slice_get, slice_set, sym, subst, is_allowed, is_ready, Situation, present_system, HasMoved, situation_in, SStep}
 use Rattle.roman_session.proofs.RulingLemmas.{seen_is}
 use Rattle.roman_session.proofs.SituationLemmas.{delegated_is, delegate_ready, offered_within}
 use Rattle.roman_session.proofs.StepLemmas.{moved_pair}

@@ -1,5 +1,4 @@
-use Rattle.roman_session.proofs.Common.{ap, ◌∙◌}
-use Rattle.roman_library.specs.Library.{plain}
+use Rattle.roman_session.proofs.Common.{ap, ◌∙◌, plain}
 use Rattle.roman_session.proofs.BeginLemmas.{begun}
 use Rattle.roman_session.proofs.session.Session.build.Goals as goal
 

@@ -1,6 +1,4 @@
-use Rattle.roman_session.proofs.Common.{◌≡◌, ℕ, List, sym, ap, ◌∙◌, subst, arith, err_from_is_err_and, sizes_of, number, Puts, names_in, Situation, present_system, situation_in}
-use Rattle.roman_model.specs.Explanation.{explain_text}
-use Rattle.roman_text.proofs.CallerLemmas.{Gathers-flushed, gathers_failed}
+use Rattle.roman_session.proofs.Common.{◌≡◌, ℕ, List, sym, ap, ◌∙◌, subst, arith, err_from_is_err_and, sizes_of, number, Puts, names_in, Situation, present_system, situation_in, explain_text, Gathers-flushed, gathers_failed}
 use Rattle.roman_session.proofs.AnswerLemmas.{puts_gathered}
 use Rattle.roman_session.proofs.SituationLemmas.{situation_known, parts_shown, here_pair, unrelated_there}
 use Rattle.roman_session.proofs.session.Session.explain.Goals as goal

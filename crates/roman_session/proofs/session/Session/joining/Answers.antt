@@ -1,6 +1,4 @@
-use Rattle.roman_session.proofs.Common.{◌≡◌, ◌<◌, ℕ, List, map, length, refl, sym, ap, ◌∙◌, subst, arith, IsIn, Beh, NamedBeh, NamedSys, seat_name}
-use Rattle.roman_joint.specs.NamedSys.{beh_at}
-use Rattle.roman_joint.proofs.CallerLemmas.{seat_beh_read, states_range}
+use Rattle.roman_session.proofs.Common.{◌≡◌, ◌<◌, ℕ, List, map, length, refl, sym, ap, ◌∙◌, subst, arith, IsIn, Beh, NamedBeh, NamedSys, seat_name, beh_at, seat_beh_read, states_range}
 use Rattle.roman_session.proofs.NameLemmas.{name_is_new}
 use Rattle.roman_session.proofs.SituationLemmas.{parts_shown}
 use Rattle.roman_session.proofs.session.Session.joining.Goals as goal

@@ -1,6 +1,5 @@
-use Rattle.roman_session.proofs.Common.{◌≡◌, ℕ, Result, slice_set, refl, sym, ap, ap₂, ◌∙◌, subst, arith, moved, reply_text, Reply, Situation, Does, Jump, Phase, Idle}
+use Rattle.roman_session.proofs.Common.{◌≡◌, ℕ, Result, slice_set, refl, sym, ap, ap₂, ◌∙◌, subst, arith, moved, reply_text, Reply, Situation, Does, Jump, Phase, Idle, Jumps}
 use Rattle.roman_text.specs.declared.replies.Reply.TheVariants as reply
-use Rattle.roman_session.specs.Steps.{Jumps}
 use Rattle.roman_session.proofs.RulingLemmas.{jumped_is}
 use Rattle.roman_session.proofs.SituationLemmas.{situation_known, jumped_pair}
 use Rattle.roman_session.proofs.session.Session.jump.Goals as goal

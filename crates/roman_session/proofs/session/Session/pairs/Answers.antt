@@ -1,5 +1,4 @@
-use Rattle.roman_session.proofs.Common.{arith}
-use Rattle.roman_model.proofs.CallerLemmas.{length-pairs}
+use Rattle.roman_session.proofs.Common.{arith, length-pairs}
 use Rattle.roman_session.proofs.SituationLemmas.{parts_shown}
 use Rattle.roman_session.proofs.session.Session.pairs.Goals as goal
 

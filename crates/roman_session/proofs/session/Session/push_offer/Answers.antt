@@ -1,5 +1,4 @@
-use Rattle.roman_session.proofs.Common.{◌<◌, refl, sym, ap, ◌∙◌, subst, err_from_is_err_and, name_at, NamedSys, system_of, present_system, fill_behind, fill_more, fill_failed, fill_last}
-use Rattle.roman_model.proofs.CallerLemmas.{allowed_in_range}
+use Rattle.roman_session.proofs.Common.{◌<◌, refl, sym, ap, ◌∙◌, subst, err_from_is_err_and, name_at, NamedSys, system_of, present_system, fill_behind, fill_more, fill_failed, fill_last, allowed_in_range}
 use Rattle.roman_session.proofs.LineLemmas.{offer_line_is}
 use Rattle.roman_session.proofs.SituationLemmas.{parts_shown}
 use Rattle.roman_session.proofs.session.Session.push_offer.Goals as goal

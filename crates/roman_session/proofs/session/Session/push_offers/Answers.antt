@@ -1,5 +1,4 @@
-use Rattle.roman_session.proofs.Common.{◌≡◌, sym, arith, err_from_is_err_and, fill_behind, fill_same, fill_more, fill_failed, fill_end}
-use Rattle.std.proofs.Common.{rules}
+use Rattle.roman_session.proofs.Common.{◌≡◌, sym, arith, err_from_is_err_and, fill_behind, fill_same, fill_more, fill_failed, fill_end, rules}
 use Rattle.roman_session.proofs.LineLemmas.{next_offer, next_unallowed, no_offer, offers_begin, no_offers}
 use Rattle.roman_session.proofs.session.Session.push_offers.Goals as goal
 

@@ -1,6 +1,4 @@
-use Rattle.roman_session.proofs.Common.{◌<◌, ℕ, slice_index, sym, ap, ◌∙◌, subst, arith, Situation, present_system}
-use Rattle.std.proofs.lemmas.List.{get_or_read}
-use Rattle.roman_generator.proofs.CallerLemmas.{state_within}
+use Rattle.roman_session.proofs.Common.{◌<◌, ℕ, slice_index, sym, ap, ◌∙◌, subst, arith, Situation, present_system, get_or_read, state_within}
 use Rattle.roman_session.proofs.SituationLemmas.{situation_known, state_there}
 use Rattle.roman_session.proofs.session.Session.state.Goals as goal
 

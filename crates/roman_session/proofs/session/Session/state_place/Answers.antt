@@ -1,7 +1,5 @@
-use Rattle.roman_session.proofs.Common.{ℕ, ◌<◌, List, Option, IfSome, length, slice_get, sym, ap, ◌∙◌, subst, arith, Beh, NamedSys, system_of, IsSeatBehaviour, behaves, present_system, named}
-use Rattle.std.proofs.lemmas.Result.{IfOk-weaker}
+use Rattle.roman_session.proofs.Common.{ℕ, ◌<◌, List, Option, IfSome, length, slice_get, sym, ap, ◌∙◌, subst, arith, Beh, NamedSys, system_of, IsSeatBehaviour, behaves, present_system, named, IfOk-weaker, seat_in}
 use Rattle.roman_model.specs.System.{Seat}
-use Rattle.roman_model.proofs.CallerLemmas.{seat_in}
 use Rattle.roman_session.proofs.SituationLemmas.{situation_known, parts_shown, states_named}
 use Rattle.roman_session.proofs.session.Session.state_place.Goals as goal
 

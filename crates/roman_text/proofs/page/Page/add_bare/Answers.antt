@@ -1,6 +1,4 @@
-use Rattle.roman_text.proofs.Common.{◌≡◌, ℕ, ◌+◌, ◌≤◌, List, ◌++◌, length, take, ap, ap₂, ◌∙◌, arith, length-take}
-use Rattle.std.proofs.Common.{take-add, length-take-le}
-use Rattle.std.proofs.lemmas.List.{take_at, drop_at, take-append-le}
+use Rattle.roman_text.proofs.Common.{◌≡◌, ℕ, ◌+◌, ◌≤◌, List, ◌++◌, length, take, ap, ap₂, ◌∙◌, arith, length-take, take-add, length-take-le, take_at, drop_at, take-append-le}
 use Rattle.roman_text.proofs.page.Page.add_bare.Goals as goal
 
 -- bytes after a beginning, of which some are kept

@@ -1,6 +1,4 @@
-use Rattle.roman_text.proofs.Common.{List, ℕ, ap, subst, arith, append_assoc, length, length-append, length-decimal-le, WrotePrefix, WrotePrefix-append, Gathers}
-use Rattle.std.proofs.lemmas.Result.{err_from_is_err_and}
-use Rattle.std.proofs.Common.{decimal}
+use Rattle.roman_text.proofs.Common.{List, ℕ, ap, subst, arith, append_assoc, length, length-append, length-decimal-le, WrotePrefix, WrotePrefix-append, Gathers, err_from_is_err_and, decimal}
 use Rattle.roman_text.proofs.PageLemmas.{Gathers-after}
 use Rattle.roman_text.proofs.page.Page.push_number_then.Goals as goal
 

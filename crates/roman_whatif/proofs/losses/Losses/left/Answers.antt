@@ -1,5 +1,4 @@
-use Rattle.roman_whatif.proofs.Common.{sym, ap, ◌∙◌, subst, Freeze, Die, places, left_of}
-use Rattle.roman_whatif.specs.Losses.{AreTold}
+use Rattle.roman_whatif.proofs.Common.{sym, ap, ◌∙◌, subst, Freeze, Die, places, left_of, AreTold}
 use Rattle.roman_whatif.proofs.losses.Losses.left.Goals as goal
 
 pub returns-in-Freeze : goal.returns-in-Freeze

@@ -1,0 +1,21 @@
+-- What the proof pages of this crate cite from elsewhere, passed on from one place. Declares nothing.
+pub use Rattle.std.proofs.Common.{Bool, Bor, IsTrue, List, None, [], add-one, ap, arith, codes, drop, drop-cons, get_or, inl, inr, length, lit<, lit≤, map, nat_lt, refl, subst, suc, sym, take, true, zero, ℕ, ◌&&◌, ◌++◌, ◌+◌, ◌<◌, ◌==◌, ◌∙◌, ◌∷◌, ◌≡◌, ◌≤◌}
+pub use Rattle.std.proofs.lemmas.Bool.{and_parts, eqb-true, ltb-true}
+pub use Rattle.std.proofs.lemmas.List.{get_or-map, length-map, length-take-le, length_push, take-map, take_more}
+pub use Rattle.std.proofs.lemmas.List.Elements.{All-cons, All-from_recursion, All-map}
+pub use Rattle.std.proofs.lemmas.Simd.{map-map}
+pub use Rattle.std.specs.List.{list_all}
+unfoldable pub use Rattle.roman_guard.specs.Meaning.{states_below}
+pub use Rattle.roman_library.specs.Library.{AreServices, IsLibrary, IsService, PlainLibrary, service_name}
+pub use Rattle.roman_model.proofs.CallerLemmas.{HasNoRepeats-below, HasNoRepeats-map, any_true, in_map, move_test}
+pub use Rattle.roman_model.specs.Lists.{HasNoRepeats, IsIn}
+pub use Rattle.roman_model.specs.Normal.{normal_beh, normal_env}
+pub use Rattle.roman_model.specs.System.{Beh, IsDeterministic, IsEnv, Move, has_move}
+pub use Rattle.roman_parts.proofs.CallerLemmas.{from_normal_move, none_is}
+pub use Rattle.roman_parts.specs.Listed.{AreMoves, listed_beh, listed_env}
+pub use Rattle.roman_parts.specs.Named.{IsBehaviour, IsTarget, NamedBeh, NamedEnv, NamedTarget}
+pub use Rattle.roman_read.specs.Names.{is_name, place_of}
+pub use Rattle.roman_make.specs.Made.{floor_actions, floor_states, idle_worker, number_in, shift_states, worker_names, worker_states}
+unfoldable pub use Rattle.roman_make.specs.Made.{floor, made, shift, worker}
+pub use Rattle.roman_make.specs.Names.{are_new}
+pub use Rattle.roman_make.specs.declared.tables.TheConstants.{FLOOR_STEPS, SHIFT_STEPS, WORKER_STEPS}
