@@ -31,8 +31,7 @@ pub use Rattle.roman_model.specs.declared.limits.TheConstants.{MAX_BEHAVIOURS, M
 pub use Rattle.roman_parts.proofs.CallerLemmas.{check_is, env_read, first_below-none, found_is, from_normal_move, from_normal_triple, has_move-normal, has_triple-normal, is_final-normal, none_absent, none_is, there_some}
 pub use Rattle.roman_parts.specs.Choices.{refuse_choice}
 unfoldable pub use Rattle.roman_parts.specs.Choices.{choice_at, choice_between, choice_of, choice_with, single_of}
-pub use Rattle.roman_parts.specs.Guards.{guard_of}
-unfoldable pub use Rattle.roman_parts.specs.Guards.{among_of, guarded_states, state_in}
+unfoldable pub use Rattle.roman_parts.specs.Guards.{among_of, guard_of, guarded_states, state_in}
 pub use Rattle.roman_parts.specs.Lists.{name_in}
 unfoldable pub use Rattle.roman_parts.specs.Lists.{finals_of, name_step, names_of, place_in, start_of}
 pub use Rattle.roman_parts.specs.Named.{IsOver, NamedBeh, NamedEnv, NamedTarget}

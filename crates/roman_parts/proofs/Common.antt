@@ -43,7 +43,8 @@ pub use mir.Val.{bits}
 pub use Rattle.roman_parts.specs.Cells.{HasCells, HasGuardedCells, MarksMove, PutsIntoCell}
 unfoldable pub use Rattle.roman_parts.specs.Cells.{cell_has, goes, goes_back, is_move, is_triple, leads, leads_back}
 unfoldable pub use Rattle.roman_parts.specs.Choices.{choice_at, choice_between, choice_of, choice_with, first_below, single_of}
-pub use Rattle.roman_parts.specs.Guards.{among_of, each_guard, guard_of, guards_of, no_guard, operator_of, sole_member, sole_of, state_in}
+pub use Rattle.roman_parts.specs.Guards.{among_of, each_guard, no_guard, operator_of, sole_member, sole_of, state_in}
+unfoldable pub use Rattle.roman_parts.specs.Guards.{guard_of, guards_of}
 pub use Rattle.roman_parts.specs.Listed.{AreMoves, AreTriples, listed_beh, listed_env, move_of, triple_of}
 pub use Rattle.roman_parts.specs.Lists.{finals_of}
 unfoldable pub use Rattle.roman_parts.specs.Lists.{name_step, names_of, place_in, start_of}
