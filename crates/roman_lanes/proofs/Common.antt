@@ -1,8 +1,8 @@
 -- What the proof pages of this crate cite from elsewhere, passed on from one place. Declares nothing.
-pub use Rattle.std.proofs.Common.{Fits, List, [], ap, arith, bit_and, bit_or, cond, count_by, count_ones, drop, eqb, false, get_or, inl, inr, length, map, max, min, not, refl, slice_index, suc, sum_by, sym, take, true, w32, zero, ℕ, ◌%◌, ◌&&◌, ◌*◌, ◌+◌, ◌-◌, ◌/◌, ◌<◌, ◌==◌, ◌^◌, ◌||◌, ◌∙◌, ◌∷◌, ◌≡◌, ◌≢◌, ◌≤◌, ◌⊎◌}
+pub use Rattle.std.proofs.Common.{Fits, List, ap, arith, bit_and, bit_or, count_by, count_ones, eqb, false, get_or, length, map, not, slice_index, sym, take, true, w32, zero, ℕ, ◌%◌, ◌&&◌, ◌*◌, ◌+◌, ◌-◌, ◌/◌, ◌<◌, ◌==◌, ◌^◌, ◌||◌, ◌∙◌, ◌≡◌, ◌≢◌, ◌≤◌}
 pub use Rattle.std.proofs.Math.Seq.{take-add}
 pub use Rattle.std.proofs.lemmas.Bool.{cases_lt, eq-eqb}
-pub use Rattle.std.proofs.lemmas.List.{get_or-drop, get_or-map, get_or-take, length-map, take_rest}
+pub use Rattle.std.proofs.lemmas.List.{get_or-map, get_or_past, length-map, take_rest}
 pub use Rattle.std.proofs.lemmas.List.Sums.{count_by-le-length, sum_by-append, sum_by-take-drop}
 pub use Rattle.std.proofs.lemmas.Nat.{le_or_l, le_or_r}
 pub use Rattle.std.proofs.lemmas.Nat.Bits.{bit_at-lt, bit_at-pow_other, bit_at-pow_same, bit_at-zero, bit_at_above, bit_at_and, bit_at_clear_other, bit_at_clear_same, bit_at_not, bit_at_ones, bit_at_ones_above, bit_at_or, bit_at_set_other, bit_at_set_same, ones_shr, shr_and_one}

@@ -1,5 +1,5 @@
 -- The lanes of words that are combined.
-use Rattle.roman_lanes.proofs.Common.{◌≡◌, ◌≢◌, ◌⊎◌, ℕ, zero, ◌-◌, ◌*◌, ◌/◌, ◌%◌, ◌^◌, ◌<◌, ◌≤◌, min, max, true, false, not, ◌&&◌, ◌||◌, sym, ap, ◌∙◌, arith, eqb, bit_and, bit_at, bit_not, w64, cases_lt, eq-eqb, bit_at_and, bit_at_or, bit_at_not, bit_at-lt, bit_at-zero, bit_at_above, bit_at_ones, bit_at_ones_above, bit_at-pow_same, bit_at-pow_other, bit_at_set_same, bit_at_set_other, bit_at_clear_same, bit_at_clear_other, ones_shr, shr_and_one, is_on}
+use Rattle.roman_lanes.proofs.Common.{◌≡◌, ◌≢◌, ℕ, zero, ◌-◌, ◌*◌, ◌/◌, ◌%◌, ◌^◌, ◌<◌, ◌≤◌, true, false, not, ◌&&◌, ◌||◌, sym, ap, ◌∙◌, arith, eqb, bit_and, bit_at, bit_not, w64, cases_lt, eq-eqb, bit_at_and, bit_at_or, bit_at_not, bit_at-lt, bit_at-zero, bit_at_above, bit_at_ones, bit_at_ones_above, bit_at-pow_same, bit_at-pow_other, bit_at_set_same, bit_at_set_other, bit_at_clear_same, bit_at_clear_other, ones_shr, shr_and_one, is_on}
 use Rattle.std.specs.Prelude.{bit_or}
 
 pub on_zero : (i : ℕ) → is_on zero i ≡ false
@@ -26,29 +26,17 @@ on_full lanes lane few within = ap (λ word. is_on word lane) (full_word lanes f
 pub on_full_past : (lanes lane : ℕ) → lanes ≤ 64 → lanes ≤ lane → is_on ((2 ^ 64 - 1) / 2 ^ (64 - lanes)) lane ≡ false
 on_full_past lanes lane few past = ap (λ word. is_on word lane) (full_word lanes few) ∙ on_ones_above lanes lane past
 
-bit_cases : (m : ℕ) → m < 2 → (m ≡ 0) ⊎ (m ≡ 1)
-bit_cases m few = grind arith
-
-min_on : (m n : ℕ) → m < 2 → n < 2 → eqb (min m n) 1 ≡ (eqb m 1 && eqb n 1)
-min_on m n a b = grind (arith, bit_cases)
-
-max_on : (m n : ℕ) → m < 2 → n < 2 → eqb (max m n) 1 ≡ (eqb m 1 || eqb n 1)
-max_on m n a b = grind (arith, bit_cases)
-
-not_on : (m : ℕ) → m < 2 → eqb (1 - m) 1 ≡ not (eqb m 1)
-not_on m a = grind (arith, bit_cases)
-
 pub on_and : (a b i : ℕ) → is_on (bit_and a b) i ≡ (is_on a i && is_on b i)
 unfolding is_on
-on_and a b i = ap (λ n. eqb n 1) (bit_at_and a b i) ∙ min_on (bit_at a i) (bit_at b i) (bit_at-lt a i) (bit_at-lt b i)
+on_and a b i = grind (arith, bit_at_and, bit_at-lt)
 
 pub on_or : (a b i : ℕ) → is_on (bit_or a b) i ≡ (is_on a i || is_on b i)
 unfolding is_on
-on_or a b i = ap (λ n. eqb n 1) (bit_at_or a b i) ∙ max_on (bit_at a i) (bit_at b i) (bit_at-lt a i) (bit_at-lt b i)
+on_or a b i = grind (arith, bit_at_or, bit_at-lt)
 
 pub on_not : (a i : ℕ) → a < 2 ^ 64 → i < 64 → is_on (bit_not w64 a) i ≡ not (is_on a i)
 unfolding is_on
-on_not a i h l = ap (λ n. eqb n 1) (bit_at_not w64 a i h l) ∙ not_on (bit_at a i) (bit_at-lt a i)
+on_not a i h l = grind (arith, (bit_at_not w64 a i h l), bit_at-lt)
 
 -- the word with one lane set
 pub on_pow_same : (i : ℕ) → is_on (2 ^ i) i ≡ true
@@ -89,11 +77,7 @@ pub off_tested : (w i : ℕ) → bit_and (w / 2 ^ i) 1 ≡ 0 → is_on w i ≡ f
 unfolding is_on
 off_tested w i none = ap (λ n. eqb n 1) (sym (shr_and_one w i) ∙ none)
 
--- past its 64 bits a word has no bit
-on_past : (a i : ℕ) → a < 2 ^ 64 → 64 ≤ i → is_on a i ≡ false
-unfolding is_on
-on_past a i h l = ap (λ n. eqb n 1) (bit_at_above a 64 i h l)
-
 -- the lanes of one word that aren't lanes of another, past the 64 bits too
 pub on_without : (word other lane : ℕ) → word < 2 ^ 64 → other < 2 ^ 64 → is_on (bit_and word (bit_not w64 other)) lane ≡ (is_on word lane && not (is_on other lane))
-on_without word other lane l m = grind (arith, cases_lt, on_and, on_not, on_past)
+unfolding is_on
+on_without word other lane l m = grind (arith, cases_lt, on_and, on_not, (bit_at_above word 64 lane l))

@@ -28,18 +28,9 @@ pub(crate) fn is_clear(words: &[u64], at: usize) -> bool
     requires { at + 32 ≤ length words.now }
     ensures { IsTrue result → (i : ℕ) → at ≤ i → i < at + 32 → slice_index words.now i ≡ 0 }
 {
-    let front = either(part(words, at), part(words, at + 8));
-    let back = either(part(words, at + 16), part(words, at + 24));
+    let front = either(load(words, at), load(words, at + 8));
+    let back = either(load(words, at + 16), load(words, at + 24));
     are_clear(either(front, back))
-}
-
-/// Returns the eight words from `at` on.
-#[inline(always)]
-fn part(words: &[u64], at: usize) -> u64x8
-    requires { at + 8 ≤ length words.now }
-    ensures { result ≡ chunk at 8 words.now }
-{
-    u64x8::from_slice(&words[at..])
 }
 
 /// Returns the N words from `at` on.
@@ -55,7 +46,7 @@ pub fn load<const N: usize>(words: &[u64], at: usize) -> Simd<u64, N>
 
 /// Returns the bitwise or of the two vectors.
 #[inline(always)]
-#[tactic(auto, using(crate::proofs::Lanes::either_clear))]
+#[tactic(auto, using(crate::proofs::Parts::either_clear))]
 fn either(a: u64x8, b: u64x8) -> u64x8
     ensures { AreClear result → AreClear a × AreClear b }
 {

@@ -8,6 +8,4 @@ returns-clause-counted c =
     ∙ ones-mask_l (λ x. x == c.args.value) lanes
 
 pub returns-clause-bound : goal.returns-clause-bound
-returns-clause-bound c =
-    let lanes = chunk c.args.at 16 c.args.values.now in
-    omega (arith, returns-clause-counted c, count_by-le-length (λ x. x == c.args.value) lanes, length-chunk c.args.at 16 c.args.values.now c.requires)
+returns-clause-bound c = grind (arith, (returns-clause-counted c), count_by-le-length, length-chunk)

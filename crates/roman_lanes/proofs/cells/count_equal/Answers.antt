@@ -1,13 +1,8 @@
-use Rattle.roman_lanes.proofs.Common.{ℕ, ◌*◌, ◌+◌, ◌/◌, ◌≡◌, ◌==◌, arith, cond, length}
-use Rattle.roman_lanes.proofs.Blocks.{counted_block, counted_rest}
+use Rattle.roman_lanes.proofs.Common.{◌*◌, arith, take-add, take_rest, sum_by-append, sum_by-take-drop}
 use Rattle.roman_lanes.proofs.cells.count_equal.Goals as goal
 
--- 1 where two values are equal, else 0: the term that a count adds
-abbrev one_if_equal : ℕ → ℕ → ℕ
-one_if_equal value x = cond (x == value) 1 0
-
 pub loop-block-preserved : goal.loop-block-preserved
-loop-block-preserved c = grind (arith, (counted_block (one_if_equal c.args.value) c.args.values.now (c.loop-block.block * 16) 16))
+loop-block-preserved c = grind (arith, (take-add (c.loop-block.block * 16) 16 c.args.values.now), sum_by-append)
 
 pub returns : goal.returns
-returns c = grind (arith, (counted_rest (one_if_equal c.args.value) c.args.values.now (length c.args.values.now / 16 * 16)))
+returns c = grind (arith, take_rest, sum_by-take-drop)
