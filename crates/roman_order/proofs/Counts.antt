@@ -1,5 +1,5 @@
 -- The number of pairs that aren't listed.
-use Rattle.roman_order.proofs.Common.{◌≡◌, ℕ, zero, suc, ◌+◌, ◌<◌, ◌≤◌, Bool, true, false, cond, not, ◌||◌, eqb, List, [], ◌∷◌, length, refl, sym, ◌∙◌, inl, inr, arith, list_any, IsDistinct, AllByRecursion, cases_lt, eq-eqb, ne_eqb, or_right, sum_by_push, IsDistinct-head, IsDistinct-tail, Entry, below, from_below, sum_by_same, nodes_of, has_entry, or_from, count_by}
+use Rattle.roman_order.proofs.Common.{◌≡◌, ℕ, zero, suc, ◌+◌, ◌<◌, ◌≤◌, Bool, true, false, cond, not, ◌||◌, eqb, List, [], ◌∷◌, length, refl, sym, ◌∙◌, inl, inr, arith, list_any, IsDistinct, AllByRecursion, cases_lt, eq-eqb, ne_eqb, or_right, or_from, sum_by_push, IsDistinct-head, IsDistinct-tail, Entry, below, from_below, sum_by_same, nodes_of, has_entry, count_by}
 use Rattle.roman_order.proofs.Places.{has_entry-nodes}
 
 -- the count of the numbers below n when one of them no longer passes

@@ -1,18 +1,12 @@
 -- Events whose pairs have no bits in the kept words.
-use Rattle.roman_order.proofs.Common.{◌≡◌, ℕ, suc, ◌+◌, ◌-◌, ◌*◌, ◌/◌, ◌%◌, ◌<◌, ◌≤◌, true, false, List, [], ◌∷◌, ◌++◌, length, get_or, take, drop, bit_and, inl, inr, sym, ap, ◌∙◌, subst, arith, length-append, length-drop, take-append-drop, AllByRecursion, both_ways, flat_map-append, on_zero, on_and, Entry, IsIn, is_on, as_entry, set_lanes, entries_at, entries_of, IsEvent, IsApart, IsSound, board_of, Event, Inside, take-append_seam, take-add, ap₂, AreUnkept, slice_index, take-suc, and_from, false_from_ne_true, from_flat_map, from_map, from_push, in_append_left, in_append_right}
-use Rattle.std.proofs.Math.Seq.{get_or-drop}
+use Rattle.roman_order.proofs.Common.{◌≡◌, ℕ, suc, ◌+◌, ◌-◌, ◌*◌, ◌/◌, ◌%◌, ◌<◌, ◌≤◌, true, false, List, [], ◌∷◌, ◌++◌, length, get_or, take, drop, bit_and, inl, inr, sym, ap, ◌∙◌, subst, arith, length-append, ap₂, length-drop, take-append-drop, both_ways, and_from, false_from_ne_true, flat_map-append, on_zero, on_and, Entry, IsIn, is_on, as_entry, set_lanes, entries_at, entries_of, IsEvent, IsApart, IsSound, board_of, Event, Inside, take-append_seam, take-add, take-suc, get_or-drop, AreUnkept, slice_index, from_flat_map, from_map, from_push, in_append_left, in_append_right}
 use Rattle.roman_order.proofs.Lanes.{in_lanes, lane_place}
-use Rattle.roman_order.proofs.Reading.{begins_at, entries_split, from_event}
+use Rattle.roman_order.proofs.Reading.{all_in, begins_at, entries_split, from_event}
 
 -- words without a common bit have no lane in common
 pub apart_words : (word other lane : ℕ) → bit_and word other ≡ 0 → is_on other lane ≡ true → is_on word lane ≡ false
 apart_words word other lane none on =
     false_from_ne_true (is_on word lane) (λ t. both_ways (is_on (bit_and word other) lane) (ap (λ w. is_on w lane) none ∙ on_zero lane) (on_and word other lane ∙ and_from (is_on word lane) (is_on other lane) t on))
-
-all_in : {X : Type 0} (P : X → Type 0) (xs : List X) (x : X) → AllByRecursion P xs → IsIn x xs → P x
-all_in P [] x all i = absurd i
-all_in P (y ∷ ys) x all (inl same) = subst P (sym same) all.0
-all_in P (y ∷ ys) x all (inr i) = all_in P ys x all.1 i
 
 -- the entries of an event that has no lane in its row's word
 entry_unkept : (lanes : ℕ) (words : List ℕ) (e : Event) (x : Entry ℕ) → IsEvent lanes e → IsApart words e → IsIn x (entries_at lanes e) → is_on (slice_index words (x.node / lanes)) (x.node % lanes) ≡ false
@@ -46,8 +40,8 @@ passed_over a near j i m sound l h start end apart =
     let place : near + (j - near) ≡ j = omega (arith, l) in
     let front : entries_of n (take j es) ≡ entries_of n (take near es) ++ F =
     ap (λ q. entries_of n (take q es)) (sym place) ∙ (ap (entries_of n) (take-add near (j - near) es) ∙ flat_map-append (entries_at n) (take near es) events) in
-    let first : i ≡ length (entries_of n (take near es)) = start ∙ begins_at n a.count a.firsts.items es near sound.counted (omega (arith, l, h)) in
-    let last : m ≡ length (entries_of n (take j es)) = end ∙ begins_at n a.count a.firsts.items es j sound.counted h in
+    let first : i ≡ length (entries_of n (take near es)) = start ∙ begins_at n a.count a.firsts.items es near sound.counted in
+    let last : m ≡ length (entries_of n (take j es)) = end ∙ begins_at n a.count a.firsts.items es j sound.counted in
     let long : m ≡ i + length F = omega (arith, last, ap length front, length-append (entries_of n (take near es)) F, first) in
     let rest : drop i (entries_of n es) ≡ F ++ G = rw first (from_event n es near ∙ entries_split n (drop near es) (j - near)) in
     let between : take (m - i) (drop i (entries_of n es)) ≡ F = rw rest (ap (λ q. take q (F ++ G)) (omega (arith, long)) ∙ take-append_seam F G) in

@@ -1,5 +1,5 @@
 -- The lanes of a word, and the entries of the pairs at them.
-use Rattle.roman_order.proofs.Common.{◌≡◌, ◌≢◌, ℕ, zero, suc, ◌+◌, ◌-◌, ◌*◌, ◌/◌, ◌%◌, ◌^◌, ◌<◌, ◌≤◌, Bool, true, false, not, ◌&&◌, ◌||◌, eqb, List, [], ◌∷◌, ◌++◌, map, length, get_or, refl, ap, sym, ◌∙◌, subst, inl, inr, arith, filter, bit_and, append-nil, append_assoc, list_any, w64, bit_not, set, or-false, pow-lt, cases_eq, and_parts, eq-eqb, ne_eqb, eqb-true, both_ways, length-set, get_or-set_same, get_or-set_other, list_any-append, div-add-mod', mod_below, same_from_place, bit_at-trailing_zeros, IsIn, HasNoRepeats, below, Entry, Reason, list_any-map, none_from, filter_in, from_below, is_on, HasLanes, AreRows, on_zero, on_ones, on_ones_above, on_clear_same, on_clear_other, on_and, as_entry, set_lanes, entries_in, entries_in_rows, has_entry, filter_below_more, IsTrue, flat_map_row, any_true, any_from, in_filter, in_below, same_test, HasNoRepeats-filter, HasNoRepeats-below, on_less, on_pow_same, on_pow_other}
+use Rattle.roman_order.proofs.Common.{◌≡◌, ◌≢◌, ℕ, zero, suc, ◌+◌, ◌-◌, ◌*◌, ◌/◌, ◌%◌, ◌^◌, ◌<◌, ◌≤◌, Bool, true, false, not, ◌&&◌, ◌||◌, eqb, List, [], ◌∷◌, ◌++◌, map, length, get_or, refl, ap, sym, ◌∙◌, subst, inl, inr, arith, filter, bit_and, append-nil, append_assoc, IsTrue, list_any, w64, bit_not, set, or-false, pow-lt, cases_eq, and_parts, eq-eqb, ne_eqb, eqb-true, both_ways, length-set, get_or-set_same, get_or-set_other, list_any-append, div-add-mod', mod_below, same_from_place, and_le_l, bit_at-trailing_zeros, IsIn, HasNoRepeats, below, Entry, Reason, list_any-map, none_from, filter_in, from_below, filter_below_more, flat_map_row, any_true, any_from, in_filter, in_below, same_test, HasNoRepeats-filter, HasNoRepeats-below, is_on, HasLanes, AreRows, on_zero, on_ones, on_ones_above, on_clear_same, on_clear_other, on_and, on_less, on_pow_same, on_pow_other, as_entry, set_lanes, entries_in, entries_in_rows, has_entry}
 
 -- ---- the first lane of a word, and the rest
 
@@ -38,9 +38,6 @@ without_lane n t = bit_and n (bit_not w64 (1 * 2 ^ t % 2 ^ 64))
 pub without_first : (n t : ℕ) → t < 64 → is_on n t ≡ true → ((i : ℕ) → i < t → is_on n i ≡ false) → IsFirstOf n (without_lane n t) t
 without_first n t low on before = grind (arith, on_clear_other, on_clear_same)
 
-pub without_first-less : (n m t : ℕ) → IsFirstOf n m t → m ≤ n → m < n
-without_first-less n m t is h = elim (cases_eq m n) [ inl e ↦ absurd (both_ways (is_on n t) (sym (ap (λ w. is_on w t) e) ∙ is.off) is.on) | inr ne ↦ omega arith ]
-
 pub without_lane-on : (n t lane : ℕ) → is_on (without_lane n t) lane ≡ true → is_on n lane ≡ true
 without_lane-on n t lane on = (and_parts (is_on n lane) (is_on (bit_not w64 (1 * 2 ^ t % 2 ^ 64)) lane) (sym (on_and n _ lane) ∙ on)).0
 
@@ -54,6 +51,9 @@ some_lane word some fits =
 
 pub no_lane : (word : ℕ) → 0 < length (set_lanes word) → word ≢ 0
 no_lane word some none = omega (arith, ap (λ w. length (set_lanes w)) none, ap length set_lanes-zero, some)
+
+-- the lowest lane of a word, and the rest
+pub ruleset lane_rules = (and_le_l, no_lane, some_lane, set_lanes-first, set_lanes-zero, without_first, without_lane, without_lane-on)
 
 -- the word with one lane, as it is computed
 one_pow : (k : ℕ) → k < 64 → 1 * 2 ^ k % 2 ^ 64 ≡ 2 ^ k

@@ -1,5 +1,5 @@
 -- The number of lanes of a word.
-use Rattle.roman_order.proofs.Common.{◌≡◌, ℕ, zero, suc, ◌%◌, ◌^◌, ◌<◌, cond, filter, length, inl, inr, sym, ap, ◌∙◌, arith, bit_at, cases_eq, eq-eqb, ne_eqb, sum_by_push, below, sum_by_same, is_on, set_lanes, count_ones, sum_by, pow_pos, cond-true, cond-false, length-filter, ones_cat, ones_le_self, zero_from_ones, mod-pow-add, bit_at-lt}
+use Rattle.roman_order.proofs.Common.{◌≡◌, ℕ, zero, suc, ◌%◌, ◌^◌, ◌<◌, cond, filter, length, inl, inr, sym, ap, ◌∙◌, arith, count_ones, sum_by, bit_at, cases_eq, eq-eqb, ne_eqb, cond-true, cond-false, sum_by_push, length-filter, below, sum_by_same, is_on, set_lanes, pow_pos, ones_cat, ones_le_self, zero_from_ones, mod-pow-add, bit_at-lt}
 
 bit_ones : (b : ℕ) → b < 2 → count_ones b ≡ b
 bit_ones b l = elim (cases_eq (count_ones b) 0) [ inl e ↦ e ∙ sym (zero_from_ones b e) | inr some ↦ omega (arith, ones_le_self b) ]

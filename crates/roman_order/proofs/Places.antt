@@ -1,5 +1,5 @@
 -- Lists with one more entry.
-use Rattle.roman_order.proofs.Common.{◌≡◌, ◌≢◌, ℕ, ◌+◌, ◌-◌, ◌^◌, ◌<◌, ◌≤◌, Bool, true, false, List, [], ◌∷◌, ◌++◌, length, Some, None, refl, ap, sym, ◌∙◌, inl, inr, arith, eqb, ◌||◌, list_any, position_from, IsDistinct, or-false, cases_eq, ne_eqb, length-map, list_any-append, Entry, list_any-map, nodes_of, has_entry, place_in_list, IsPlaced, cases_Bool, map_push, is_some, false≢true, nat_eq_equiv, IsDistinct-push, length-le_from_distinct_below, stamp_of}
+use Rattle.roman_order.proofs.Common.{◌≡◌, ◌≢◌, ℕ, ◌+◌, ◌-◌, ◌^◌, ◌<◌, ◌≤◌, Bool, true, false, List, [], ◌∷◌, ◌++◌, length, Some, None, refl, ap, sym, ◌∙◌, inl, inr, arith, eqb, ◌||◌, is_some, list_any, position_from, IsDistinct, or-false, cases_eq, ne_eqb, cases_Bool, false≢true, length-map, map_push, list_any-append, Entry, list_any-map, nodes_of, has_entry, place_in_list, IsPlaced, stamp_of, nat_eq_equiv, IsDistinct-push, length-le_from_distinct_below}
 
 -- ---- places
 

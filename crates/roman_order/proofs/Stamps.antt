@@ -1,5 +1,5 @@
 -- Places and stamps.
-use Rattle.roman_order.proofs.Common.{◌≡◌, ℕ, zero, suc, ◌+◌, ◌-◌, ◌*◌, ◌^◌, ◌<◌, ◌≤◌, Bool, true, false, cond, ◌&&◌, filter, List, [], ◌∷◌, ◌++◌, map, length, get_or, Some, None, refl, sym, ap, ◌∙◌, inl, inr, arith, eqb, append_assoc, list_any, position_from, IsDistinct, AllByRecursion, set, same_from_place, cases_eq, eq-eqb, ne_eqb, length-map, length-set, get_or-set_same, get_or-set_other, IsDistinct-head, IsDistinct-tail, Entry, Reason, as_entry, set_lanes, nodes_of, has_entry, below, list_any-map, none_from, filter_in, from_below, is_on, IsEvent, entries_at, AreStamps, with_stamps, Event, unwrap_or, or_parts, map-append, filter-append}
+use Rattle.roman_order.proofs.Common.{◌≡◌, ℕ, zero, suc, ◌+◌, ◌-◌, ◌*◌, ◌^◌, ◌<◌, ◌≤◌, Bool, true, false, cond, ◌&&◌, filter, List, [], ◌∷◌, ◌++◌, map, length, get_or, Some, None, refl, sym, ap, ◌∙◌, inl, inr, arith, eqb, append_assoc, list_any, position_from, IsDistinct, AllByRecursion, set, same_from_place, cases_eq, eq-eqb, ne_eqb, or_parts, length-map, length-set, get_or-set_same, get_or-set_other, map-append, IsDistinct-head, IsDistinct-tail, Entry, Reason, as_entry, set_lanes, nodes_of, has_entry, below, list_any-map, none_from, filter_in, from_below, is_on, IsEvent, entries_at, AreStamps, with_stamps, Event, unwrap_or, filter-append}
 use Rattle.roman_order.proofs.Lanes.{has_entry-lane, has_entry-elsewhere}
 
 -- ---- places

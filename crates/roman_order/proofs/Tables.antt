@@ -1,5 +1,5 @@
 -- The contents of an order's tables, and the room in them.
-use Rattle.roman_order.proofs.Common.{◌≡◌, ◌≢◌, ℕ, ◌+◌, ◌-◌, ◌*◌, ◌/◌, ◌^◌, ◌<◌, ◌≤◌, true, false, not, [], ◌∷◌, ◌++◌, length, drop, get_or, replicate, sym, ◌∙◌, subst, arith, bit_and, length-append, List, take, ap, w64, bit_not, set, length-replicate, get_or-replicate, length-drop, length-take-le, get_or-append_right, get_or-drop, get_or-take, get_or_append_left, Reason, is_on, AreRows, full_word, Board, set_lanes, entries_in, has_entry, entries_at, AreCounted, board_of, IsPlaced, CanWait, IsSound, Event, Inside, IsSized, removal_list}
+use Rattle.roman_order.proofs.Common.{◌≡◌, ◌≢◌, ℕ, ◌+◌, ◌-◌, ◌*◌, ◌/◌, ◌^◌, ◌<◌, ◌≤◌, true, false, not, [], ◌∷◌, ◌++◌, length, drop, get_or, replicate, sym, ◌∙◌, subst, arith, bit_and, length-append, ap, w64, bit_not, set, length-replicate, get_or-replicate, Reason, is_on, AreRows, full_word, Board, set_lanes, entries_in, has_entry, entries_at, AreCounted, board_of, IsPlaced, CanWait, IsSound, IsSized, removal_list, Event, Inside}
 use Rattle.roman_order.proofs.Lanes.{AreRows-full, AreRows-pushed, in_lanes, lanes_once, some_lane}
 use Rattle.roman_order.proofs.Places.{IsPlaced-nil, length-le_from_apart}
 use Rattle.roman_order.proofs.Events.{few_events, length-firsts_of, length-entries_at, AreCounted-push, AreCounted-nil}
@@ -68,18 +68,3 @@ pushed a b x lost reason is sound row within alive fits some =
       some = some_lane lost some fits;
       row = r;
     }
-
--- ---- words that are copied
-
--- after the words of k places from x on were copied, they are read at their places
-pub kept_part : (xs words ys zs : List ℕ) (n x k y : ℕ) → x + k ≤ length xs → x + k ≤ length words → ys ≡ take k (drop x words) → x ≤ y → y < x + k → y < n →
-    get_or (take n ((take x xs ++ (ys ++ drop k (drop x xs))) ++ zs)) y 0 ≡ get_or words y 0
-kept_part xs words ys zs n x k y inside long same low high short =
-    let place : x + (y - x) ≡ y = omega (arith, low) in
-    let front : length (take x xs) ≡ x = length-take-le x xs (omega (arith, inside)) in
-    let many : length ys ≡ k = ap length same ∙ length-take-le k (drop x words) (omega (arith, long, length-drop x words)) in
-    get_or-take n _ y 0 short
-    ∙ (get_or_append_left (take x xs ++ (ys ++ drop k (drop x xs))) zs 0 y (omega (arith, length-append (take x xs) (ys ++ drop k (drop x xs)), length-append ys (drop k (drop x xs)), front, many, low, high))
-    ∙ (get_or-append_right (take x xs) (ys ++ drop k (drop x xs)) x y 0 front low
-    ∙ (get_or_append_left ys (drop k (drop x xs)) 0 (y - x) (omega (arith, many, low, high))
-    ∙ (ap (λ ws. get_or ws (y - x) 0) same ∙ (get_or-take k (drop x words) (y - x) 0 (omega (arith, low, high)) ∙ (get_or-drop x words (y - x) 0 ∙ ap (λ j. get_or words j 0) place))))))

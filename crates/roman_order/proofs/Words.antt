@@ -1,15 +1,9 @@
 -- Flags, 64 to a word.
-use Rattle.roman_order.proofs.Common.{◌≡◌, ◌≢◌, ℕ, zero, ◌+◌, ◌-◌, ◌*◌, ◌/◌, ◌%◌, ◌^◌, ◌<◌, ◌≤◌, false, List, ◌++◌, length, take, get_or, drop, replicate, ap, sym, ◌∙◌, inl, inr, arith, set, cases_eq, cases_lt, get_or-set_same, get_or-set_other, get_or-replicate, length-replicate, length-take-le, get_or_append_left, get_or-append_right, get_or-drop, get_or_past, is_on, has_flag, on_zero, on_ones, on_ones_above, ltb, lt-ltb, le-ltb}
+use Rattle.roman_order.proofs.Common.{◌≡◌, ◌≢◌, ℕ, zero, ◌+◌, ◌-◌, ◌*◌, ◌/◌, ◌%◌, ◌^◌, ◌<◌, ◌≤◌, false, List, ◌++◌, length, get_or, replicate, ap, sym, ◌∙◌, inl, inr, arith, ltb, set, cases_eq, cases_lt, lt-ltb, le-ltb, get_or-set_same, get_or-set_other, get_or-replicate, length-replicate, get_or_past, full_word, on_zero, on_ones, on_ones_above, is_on, has_flag}
 
--- ---- tables that are blank from some place on
-
--- past an overwritten front, the table is unchanged
-get_or-overwritten : {X : Type 0} (xs ys : List X) (n i : ℕ) (d : X) → length xs ≡ n → n ≤ i → get_or (xs ++ drop n ys) i d ≡ get_or ys i d
-get_or-overwritten xs ys n i d e h = grind (arith, get_or-append_right, get_or-drop)
-
--- a blank table reads as blank at each place, also past its end
-get_or-all_blank : {X : Type 0} (n i : ℕ) (d : X) → get_or (replicate n d) i d ≡ d
-get_or-all_blank n i d = grind (arith, cases_lt, get_or-replicate, get_or_past, length-replicate)
+-- a blank table has zeros at each place, also past its end
+pub blank_at : (n i : ℕ) → get_or (replicate n zero) i 0 ≡ 0
+blank_at n i = grind (arith, cases_lt, get_or-replicate, get_or_past, length-replicate)
 
 -- ---- a word that is written
 
@@ -35,7 +29,7 @@ unfolding has_flag is_on
 flag_off words p none = ap (λ w. is_on w (p % 64)) none ∙ on_zero (p % 64)
 
 pub no_flags : (n p : ℕ) → has_flag (replicate n zero) p ≡ false
-no_flags n p = flag_off (replicate n zero) p (get_or-all_blank n (p / 64) zero)
+no_flags n p = flag_off (replicate n zero) p (blank_at n (p / 64))
 
 -- ---- the flags below a number
 
@@ -47,16 +41,5 @@ has_flag-front words end whole part rest p = elim (cases_lt (p / 64) (end / 64))
   | inr h ↦ grind (arith, cases_eq, cases_lt, on_ones, lt-ltb, on_ones_above, le-ltb, on_zero)
 ]
 
--- a table of n words: the first are full, and the others are 0
-abbrev pub front_table : ℕ → ℕ → List ℕ
-front_table whole n = replicate whole (2 ^ 64 - 1) ++ drop whole (replicate n zero)
-
-pub front_filled : (whole n : ℕ) (zeros full : List ℕ) → whole ≤ n → zeros ≡ replicate n zero →
-    full ≡ replicate (length (take whole zeros)) (2 ^ 64 - 1) → full ++ drop whole zeros ≡ front_table whole n
-front_filled whole n zeros full h z f = grind (arith, length-replicate, length-take-le)
-
-pub front_full : (whole n i : ℕ) → i < whole → get_or (front_table whole n) i 0 ≡ 2 ^ 64 - 1
-front_full whole n i h = grind (arith, get_or-replicate, get_or_append_left, length-replicate)
-
-pub front_rest : (whole n i : ℕ) → whole ≤ i → get_or (front_table whole n) i 0 ≡ 0
-front_rest whole n i h = get_or-overwritten (replicate whole (2 ^ 64 - 1)) (replicate n zero) whole i 0 (length-replicate whole (2 ^ 64 - 1)) h ∙ get_or-all_blank n i zero
+-- the words with the flags below a number
+pub ruleset front_rules = (full_word, get_or-set_other, get_or-set_same, has_flag-front, set)

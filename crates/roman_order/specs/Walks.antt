@@ -1,11 +1,12 @@
 -- Walks through the list of an order.
-use Rattle.std.specs.Prelude.{◌≡◌, ℕ, ◌+◌, ◌-◌, ◌<◌, ◌≤◌, ◌++◌, true, false, length, take, drop}
+use Rattle.std.specs.Prelude.{◌≡◌, ℕ, ◌+◌, ◌-◌, ◌<◌, ◌≤◌, ◌++◌, true, false, List, length, take, drop}
 use Rattle.roman_model.specs.Arena.{Entry}
 use Rattle.roman_model.specs.Lists.{IsIn}
 use Rattle.roman_lanes.specs.Rows.{is_on}
 use Rattle.roman_order.specs.Board.{Board, is_kept, set_lanes}
-use Rattle.roman_order.specs.Events.{entries_at}
+use Rattle.roman_order.specs.Events.{IsEvent, entries_at}
 use Rattle.roman_order.specs.declared.ahead.Ahead.{Ahead}
+use Rattle.roman_order.specs.declared.event.Event.{Event}
 
 -- the entries that were read ahead are those from place i of the list on
 pub record IsAhead (order : Board) (i : ℕ) (ahead : Ahead) : Type 0 where
@@ -17,3 +18,12 @@ pub record AreUnkept (order : Board) (i j : ℕ) : Type 0 where
   pub from : i ≤ j
   pub to : j ≤ length order.list
   pub unkept : (x : Entry ℕ) → IsIn x (take (j - i) (drop i order.list)) → is_kept order x.node ≡ false
+
+-- the entry at place i of the list is an entry of the event e, which begins at the place first
+pub record IsEventOf (rows lanes : ℕ) (L : List (Entry ℕ)) (i first : ℕ) (e : Event) : Type 0 where
+  pub parts : drop first L ≡ entries_at lanes e ++ drop (first + length (set_lanes e.lanes)) L
+  pub from : first ≤ i
+  pub within : i < first + length (set_lanes e.lanes)
+  pub to : first + length (set_lanes e.lanes) ≤ length L
+  pub event : IsEvent lanes e
+  pub row : e.row < rows

@@ -1,5 +1,5 @@
 //! Flags, 64 to a word.
-ghost use Rattle.std.specs.Prelude.{◌≡◌, ◌≢◌, ℕ, ◌+◌, ◌*◌, ◌/◌, ◌^◌, ◌<◌, ◌≤◌, true, false, nat_lt, length, replicate, slice_index, IfSome, IfNone};
+ghost use Rattle.std.specs.Prelude.{◌≡◌, ◌≢◌, ℕ, ◌+◌, ◌-◌, ◌*◌, ◌/◌, ◌^◌, ◌<◌, ◌≤◌, ◌∷◌, true, false, nat_lt, length, slice_index, IfSome, IfNone};
 ghost use Rattle.roman_lanes.specs.Rows.{is_on};
 ghost use Rattle.roman_lanes.specs.Flags.{has_flag};
 ghost use Rattle.roman_order.specs.Board.{set_lanes};
@@ -31,23 +31,35 @@ pub(crate) fn set(words: &mut [u64], p: u32)
 }
 
 /// Sets the flags below `end`. Requires that no flag is set.
+#[tactic(auto, using(crate::proofs::Words::front_rules))]
 pub(crate) fn set_front(words: &mut [u64], end: u32)
-    requires clear { words.old ≡ replicate (length words.old) 0 }
+    requires clear { (i : ℕ) → slice_index words.old i ≡ 0 }
     requires end { end ≤ 64 * length words.old }
     ensures { (p : ℕ) → has_flag words.new p ≡ nat_lt p end }
 {
     let whole = (end / 64) as usize;
-    words[..whole].fill(u64::MAX);
+    fill_front(words, whole);
     if end % 64 != 0 {
         words[whole] = u64::MAX >> (64 - end % 64);
     }
 }
 
+/// Sets all flags of the first `many` words.
+#[inline(always)]
+fn fill_front(words: &mut [u64], many: usize)
+    requires { many ≤ length words.old }
+    ensures full { (i : ℕ) → i < many → slice_index words.new i ≡ 2 ^ 64 - 1 }
+    ensures others { (i : ℕ) → many ≤ i → slice_index words.new i ≡ slice_index words.old i }
+    ensures long { length words.new ≡ length words.old }
+{
+    words[..many].fill(u64::MAX);
+}
+
 /// Returns the place of the next of the first `many` words with a set flag, from `from` on, then from
-/// the start. Returns `None` exactly where these words have no set flag.
+/// the start. Returns `None` exactly where all of these words are 0.
 pub(crate) fn next_word(words: &[u64], many: usize, from: usize) -> Option<usize>
     requires { many ≤ length words.now }
-    ensures none { IfNone result ((p : ℕ) → p < 64 * many → has_flag words.now p ≡ false) }
+    ensures none { IfNone result ((i : ℕ) → i < many → slice_index words.now i ≡ 0) }
     ensures some { IfSome result (λ i. (i < many) × (slice_index words.now i ≢ 0)) }
 {
     let front = &words[..many];
@@ -66,6 +78,20 @@ pub(crate) fn lowest(word: u64) -> u32
     ensures first { (bit : ℕ) → bit < result → is_on word bit ≡ false }
 {
     word.trailing_zeros()
+}
+
+/// Returns the lowest lane of a word, and the word without it. Requires a word that isn't 0.
+#[inline(always)]
+#[tactic(auto, using(crate::proofs::Lanes::lane_rules))]
+pub(crate) fn first_lane(word: u64) -> (u32, u64)
+    requires { word ≢ 0 }
+    ensures on { is_on word result.0 ≡ true }
+    ensures rest { set_lanes word ≡ result.0 ∷ set_lanes result.1 }
+    ensures some { result.1 ≢ 0 → 0 < length (set_lanes result.1) }
+    ensures fewer { (lane : ℕ) → is_on result.1 lane ≡ true → is_on word lane ≡ true }
+{
+    let lane = lowest(word);
+    (lane, word & !(1 << lane))
 }
 
 /// Returns the number of lanes of a word: of its set bits.

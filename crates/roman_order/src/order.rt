@@ -16,7 +16,7 @@ mod words;
 
 use self::reading::event_in;
 use crate::event::Event;
-use crate::flags::{self, lowest};
+use crate::flags::{self, first_lane};
 use roman_model::Reason;
 use std::alloc::{AllocError, Global};
 use std::marker::Model;
@@ -256,6 +256,7 @@ impl Order {
 
     /// Takes the first waiting entry: a pair of the shape before the order was reopened, with its
     /// reason. Returns `None` exactly where no entry waits.
+    #[tactic(auto, using(crate::proofs::Reading::waiting_rules))]
     pub fn next_waiting(&mut self) -> Option<(u32, Reason)>
         ensures none { IfNone result ((self.old.waiting ≡ []) × (self.new ≡ self.old)) }
         ensures first { IfSome result (λ x. self.old.waiting ≡ as_entry x ∷ self.new.waiting) }
@@ -265,9 +266,8 @@ impl Order {
             return None;
         }
         let first = event_in(&self.waiting, self.next);
-        let lane = lowest(first.lanes);
+        let (lane, left) = first_lane(first.lanes);
         let pair = first.row * self.waiting_lanes + lane;
-        let left = first.lanes & !(1 << lane);
         if left == 0 {
             self.next += 1;
         } else {
@@ -281,6 +281,7 @@ impl Order {
 
     /// Takes the waiting entries of the first event together, as an event of the shape before the
     /// order was reopened. Returns `None` exactly where no entry waits.
+    #[tactic(auto, using(crate::proofs::Events::rest_waits))]
     pub fn next_waiting_event(&mut self) -> Option<Event>
         ensures none { IfNone result ((self.old.waiting ≡ []) × (self.new ≡ self.old)) }
         ensures first { IfSome result (λ e. self.old.waiting ≡ entries_at self.old.waiting_lanes e ++ self.new.waiting) }

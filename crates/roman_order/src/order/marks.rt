@@ -29,6 +29,7 @@ impl Order {
     }
 
     /// Marks the numbers below `end`, and clears all other marks.
+    #[tactic(auto, using(crate::proofs::Words::blank_at))]
     pub fn mark_front(&mut self, end: u32)
         requires { end ≤ pairs_of self.old }
         ensures marked { (p : ℕ) → is_marked self.new p ≡ nat_lt p end }
@@ -45,6 +46,7 @@ impl Order {
     /// numbers, and the search can find those. Returns `None` exactly where none of these words has a
     /// set flag. The search continues at the word of the last mark found, and goes round once, so the
     /// numbers don't come in rising order.
+    #[tactic(auto, using(crate::proofs::Words::flag_off))]
     pub fn next_marked(&mut self, end: u32) -> Option<u32>
         requires { end ≤ pairs_of self.old }
         ensures none { IfNone result ((p : ℕ) → p < end → is_marked self.old p ≡ false) }

@@ -10,7 +10,7 @@ ghost use Rattle.roman_order.specs.Sound.{AreStamps, with_stamps};
 use super::reading::event_in;
 use super::{Order, refill};
 use crate::event::Event;
-use crate::flags::{lanes_in, lowest};
+use crate::flags::{first_lane, lanes_in};
 
 impl Order {
     /// Returns the place of the pair `p` in the list, from 0, or `None` where it isn't listed. Looks
@@ -97,6 +97,7 @@ fn write_stamps(stamps: &mut [u32], events: &[Event], lanes: u32)
 }
 
 /// Writes the places of an event's entries, from `place` on, and returns the next place.
+#[tactic(auto, using(crate::proofs::Lanes::lane_rules))]
 fn write_event(stamps: &mut [u32], first: u32, word: u64, place: u32) -> u32
     requires within { (lane : ℕ) → is_on word lane ≡ true → first + lane < length stamps.old }
     requires few { length stamps.old < 2 ^ 32 }
@@ -108,9 +109,9 @@ fn write_event(stamps: &mut [u32], first: u32, word: u64, place: u32) -> u32
     let mut rest = word;
     let mut next = place;
     'rest: while rest != 0 {
-        let lane = lowest(rest);
+        let (lane, left) = first_lane(rest);
         stamps[(first + lane) as usize] = next;
-        rest &= !(1 << lane);
+        rest = left;
         next += 1;
     }
     next

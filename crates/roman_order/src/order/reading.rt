@@ -5,12 +5,13 @@ ghost use Rattle.roman_lanes.specs.Rows.{is_on};
 ghost use Rattle.roman_model.specs.Lists.{IsIn};
 ghost use Rattle.roman_order.specs.Board.{as_entry, set_lanes};
 ghost use Rattle.roman_order.specs.Events.{IsApart, IsEvent, entries_at, entries_of};
-ghost use Rattle.roman_order.specs.Walks.{AreUnkept};
+ghost use Rattle.roman_order.specs.Walks.{AreUnkept, IsEventOf};
 ghost use Rattle.roman_order.specs.declared.event.Event.{Event};
 
 use super::Order;
+use crate::ahead::Ahead;
 use crate::event::Event;
-use crate::flags::lowest;
+use crate::flags::first_lane;
 use roman_model::Reason;
 
 impl Order {
@@ -25,6 +26,7 @@ impl Order {
     /// Returns the entries from place `i` of the list on, up to the end of their event: the whole
     /// event, or its last entries. `near` is a guess of the event's place among all events, and can
     /// be any number. A wrong guess costs a search.
+    #[tactic(auto, using(crate::proofs::Reading::event_rules))]
     pub fn event_at(&self, i: u32, near: usize) -> Event
         requires { i < length self.now.list }
         ensures entries { drop i self.now.list
@@ -33,15 +35,20 @@ impl Order {
         ensures within { i + length (set_lanes result.lanes) ≤ length self.now.list }
         ensures row { result.row < self.now.rows }
     {
-        let place = place_of(&self.firsts, i, near);
-        let first = self.firsts[place];
-        let event = event_in(&self.events, place);
+        let (event, first) = self.event_of(i, near);
         let lanes = without_lowest(event.lanes, i - first);
-        Event {
-            row: event.row,
-            reason: event.reason,
-            lanes,
-        }
+        Event { lanes, ..event }
+    }
+
+    /// Returns the event with the entry at place `i` of the list, and the place of its first entry.
+    #[inline(always)]
+    #[tactic(auto, using(crate::proofs::Reading::event_rules))]
+    fn event_of(&self, i: u32, near: usize) -> (Event, u32)
+        requires { i < length self.now.list }
+        ensures { IsEventOf self.now.rows self.now.lanes self.now.list i result.1 result.0 }
+    {
+        let place = place_of(&self.firsts, i, near);
+        (event_in(&self.events, place), self.firsts[place])
     }
 
     /// Passes over entries from place `i` of the list on whose pairs have no bit in the kept words,
@@ -65,9 +72,8 @@ impl Order {
         requires { i < length self.now.list }
         ensures { slice_get self.now.list i ≡ Some (as_entry result) }
     {
-        self.known(); // a pair's number fits 32 bits
         let event = self.event_at(i, usize::MAX);
-        (event.row * self.lanes + lowest(event.lanes), event.reason)
+        self.take_ahead(i, &mut Ahead { event, next: 0 })
     }
 }
 
@@ -121,15 +127,13 @@ fn next_kept(events: &[Event], words: &[u64], from: usize) -> usize
     ensures within { (from ≤ result) × (result ≤ length events.now) }
     ensures apart { (e : Event) → IsIn e (take (result - from) (drop from events.now)) → IsApart words.now e }
 {
-    let mut j = from;
-    'events: while j < events.len() {
+    for j in from..events.len() {
         let event = events[j];
         if !is_apart(words[event.row as usize], event.lanes) {
             return j;
         }
-        j += 1;
     }
-    j
+    events.len()
 }
 
 // Returns whether two words have no lane in common.
@@ -147,11 +151,8 @@ fn without_lowest(word: u64, n: u32) -> u64
     ensures fewer { (lane : ℕ) → is_on result lane ≡ true → is_on word lane ≡ true }
 {
     let mut rest = word;
-    let mut taken = 0;
-    'taken: while taken < n {
-        let lane = lowest(rest);
-        rest &= !(1 << lane);
-        taken += 1;
+    for _taken in 0..n {
+        (_, rest) = first_lane(rest);
     }
     rest
 }

@@ -6,7 +6,7 @@ ghost use Rattle.roman_order.specs.Walks.{IsAhead};
 use super::Order;
 use crate::ahead::Ahead;
 use crate::event::Event;
-use crate::flags::lowest;
+use crate::flags::first_lane;
 use roman_model::Reason;
 
 impl Order {
@@ -18,11 +18,24 @@ impl Order {
         ensures entry { slice_get self.now.list i ≡ Some (as_entry result) }
         ensures ahead { IsAhead self.now (i + 1) ahead.new }
     {
-        self.known(); // a pair's number fits 32 bits
         self.read_ahead(i, ahead);
+        self.take_ahead(i, ahead)
+    }
+
+    /// Takes the first of the entries that were read ahead: the entry at place `i` of the list.
+    #[inline(always)]
+    #[tactic(auto, using(crate::proofs::Lanes::no_lane, crate::proofs::Reading::drop_next, crate::proofs::Reading::get_first))]
+    pub(super) fn take_ahead(&self, i: u32, ahead: &mut Ahead) -> (u32, Reason)
+        requires place { i < length self.now.list }
+        requires ahead { IsAhead self.now i ahead.old }
+        requires some { 0 < length (set_lanes ahead.old.event.lanes) }
+        ensures entry { slice_get self.now.list i ≡ Some (as_entry result) }
+        ensures ahead { IsAhead self.now (i + 1) ahead.new }
+    {
+        self.known(); // a pair's number fits 32 bits
         let event = ahead.event;
-        let lane = lowest(event.lanes);
-        ahead.event.lanes = event.lanes & !(1 << lane);
+        let (lane, rest) = first_lane(event.lanes);
+        ahead.event.lanes = rest;
         (event.row * self.lanes + lane, event.reason)
     }
 

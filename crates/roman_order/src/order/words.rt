@@ -40,7 +40,17 @@ impl Order {
         ensures rest { self.new ≡ record self.old { before = self.new.before } }
     {
         let from = x as usize;
-        let to = from + many as usize;
-        self.before[from..to].copy_from_slice(&self.words[from..to]);
+        copy_part(&mut self.before, &self.words, from, from + many as usize);
     }
+}
+
+/// Copies the words from place `from` to before place `to`.
+#[inline(always)]
+fn copy_part(table: &mut [u64], words: &[u64], from: usize, to: usize)
+    requires { (from ≤ to) × (to ≤ length table.old) × (to ≤ length words.now) }
+    ensures copied { (i : ℕ) → from ≤ i → i < to → slice_index table.new i ≡ slice_index words.now i }
+    ensures others { (i : ℕ) → (i < from) ⊎ (to ≤ i) → slice_index table.new i ≡ slice_index table.old i }
+    ensures long { length table.new ≡ length table.old }
+{
+    table[from..to].copy_from_slice(&words[from..to]);
 }

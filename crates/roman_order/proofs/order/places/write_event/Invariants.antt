@@ -10,4 +10,4 @@ invariant-rest l = record {
 }
 
 abbrev pub decreases-rest : goal.decreases-rest
-decreases-rest l = l.rest
+decreases-rest l = length (set_lanes l.rest)
