@@ -1,5 +1,5 @@
 -- How a pair's number changes with its states.
-use Rattle.roman_radix.proofs.Common.{◌^◌, ◌≡◌, ℕ, ◌+◌, ◌-◌, ◌*◌, ◌/◌, ◌%◌, ◌<◌, ◌≤◌, List, length, take, drop, slice_index, get_or, sym, ap, ◌∙◌, arith, div-div-eq-div-mul, drop_more, drop_all, get_or-take, length-take-le, product_of, Sizes, grown_sizes, sizes_without, count, states_number, number, pair_at, IsSizes, stride_of, MAX_SERVICES, Pair, IsPairOf, get_or-set_same, get_or-set_other, ext_get_or, length-set, grown, without, parts_of_number, number-pair_at, IsPairOf-at, number-set, IsPairOf-moved, IsPairOf-grown, number-grown, IsPairOf-without, number_without-is, AreBelow-length, number_below, part_at, moved, with_part}
+use Rattle.roman_radix.proofs.Common.{◌^◌, ◌≡◌, ℕ, ◌+◌, ◌-◌, ◌*◌, ◌/◌, ◌%◌, ◌<◌, ◌≤◌, List, length, take, drop, slice_index, get_or, sym, ap, ◌∙◌, arith, div-div-eq-div-mul, drop_more, drop_all, get_or-take, length-take-le, get_or-set_same, get_or-set_other, ext_get_or, length-set, product_of, Sizes, grown_sizes, sizes_without, count, states_number, number, pair_at, IsPairOf, IsSizes, stride_of, moved, with_part, MAX_SERVICES, Pair, grown, without, parts_of_number, number-pair_at, IsPairOf-at, number-set, IsPairOf-moved, IsPairOf-grown, number-grown, IsPairOf-without, number_without-is, AreBelow-length, number_below, part_at}
 
 -- component k gets another state; the numbers in the code are equal to those of the sizes
 pub record Replaced (n : Sizes) (p k b part state stride : ℕ) : Type 0 where

@@ -1,6 +1,6 @@
 -- Rows and lanes.
-use Rattle.roman_radix.proofs.Common.{◌≡◌, ℕ, zero, suc, ◌+◌, ◌*◌, ◌/◌, ◌%◌, ◌<◌, ◌≤◌, List, [], ◌∷◌, length, take, drop, slice_index, sym, ap, ◌∙◌, arith, div-div-eq-div-mul, get_or-take, length-take-le, product_of, Sizes, count, AreSizes, IsSizes, env_stride_of, stride_of, low_of, lanes_of, row_sizes, cond, div-mul-add, div-add-mod', mul-le, cases_lt, lt-ltb, le-ltb, env_rows_of}
-use Rattle.roman_radix.proofs.Strides.{product_positive, product_drop-le, AreSizes-drop}
+use Rattle.roman_radix.proofs.Common.{◌≡◌, ℕ, zero, suc, ◌+◌, ◌*◌, ◌/◌, ◌%◌, ◌<◌, ◌≤◌, List, [], ◌∷◌, length, take, drop, slice_index, sym, ap, ◌∙◌, arith, cond, mul-le-mul, div-div-eq-div-mul, get_or-take, length-take-le, product_of, Sizes, count, AreSizes, IsSizes, env_stride_of, stride_of, low_of, lanes_of, row_sizes, env_rows_of, div-mul-add, div-add-mod', mul-le, cases_lt, lt-ltb, le-ltb}
+use Rattle.roman_radix.proofs.Strides.{product_positive, AreSizes-drop}
 
 pub low_of-le : (ns : List ℕ) → low_of ns ≤ length ns
 low_of-le [] = omega arith
@@ -21,34 +21,31 @@ low_is (n ∷ ns) (suc k) h few more within =
     ap (λ b. cond b (suc (low_of ns)) 0) (lt-ltb 64 (product_of (n ∷ ns)) (more 0 (omega arith)))
     ∙ ap suc (low_is ns k h.2 few (λ j l. more (suc j) (omega arith)) (omega arith))
 
--- where the product from a component on exceeds 64, so does the product from each component before
-pub too_many_from : (ns : List ℕ) (k j : ℕ) → AreSizes ns → j ≤ k → 64 < product_of (drop k ns) → 64 < product_of (drop j ns)
-too_many_from ns k zero h l more = let less : product_of (drop k ns) ≤ product_of ns = product_drop-le k ns h in omega arith
-too_many_from [] zero (suc j) h l more = absurd (omega arith)
-too_many_from [] (suc k) (suc j) h l more = more
-too_many_from (n ∷ ns) zero (suc j) h l more = absurd (omega arith)
-too_many_from (n ∷ ns) (suc k) (suc j) h l more = too_many_from ns k j h.2 (omega arith) more
-
--- the product of the last numbers divides that of all
-pub tails : (ns : List ℕ) (j : ℕ) → (m : ℕ) × (product_of ns ≡ m * product_of (drop j ns))
-tails ns zero = (1, omega arith)
-tails [] (suc j) = (1, omega arith)
-tails (n ∷ ns) (suc j) =
-    let (m, e) = tails ns j in
-    let whole : n * product_of ns ≡ n * (m * product_of (drop j ns)) = ap (λ x. n * x) e in
-    (n * m, omega arith)
-
-pub tails_from : (ns : List ℕ) (i j : ℕ) → i ≤ j → (m : ℕ) × (product_of (drop i ns) ≡ m * product_of (drop j ns))
-tails_from ns zero j l = tails ns j
-tails_from [] (suc i) zero l = absurd (omega arith)
-tails_from [] (suc i) (suc j) l = (1, omega arith)
-tails_from (n ∷ ns) (suc i) zero l = absurd (omega arith)
-tails_from (n ∷ ns) (suc i) (suc j) l = tails_from ns i j (omega arith)
+pub AreSizes-take : (k : ℕ) (ns : List ℕ) → AreSizes ns → AreSizes (take k ns)
+AreSizes-take zero ns h = tt
+AreSizes-take (suc k) [] h = tt
+AreSizes-take (suc k) (n ∷ ns) h = (h.0, h.1, AreSizes-take k ns h.2)
 
 pub product_split : (ns : List ℕ) (j : ℕ) → product_of (take j ns) * product_of (drop j ns) ≡ product_of ns
 product_split ns zero = omega arith
 product_split [] (suc j) = omega arith
 product_split (n ∷ ns) (suc j) = grind (arith, (product_split ns j))
+
+-- the product from place j on is split at place k
+pub product_middle : (ns : List ℕ) (j k : ℕ) → j ≤ k → product_of (drop j (take k ns)) * product_of (drop k ns) ≡ product_of (drop j ns)
+product_middle ns zero k l = product_split ns k
+product_middle [] (suc j) zero l = absurd (omega arith)
+product_middle [] (suc j) (suc k) l = omega arith
+product_middle (n ∷ ns) (suc j) zero l = absurd (omega arith)
+product_middle (n ∷ ns) (suc j) (suc k) l = product_middle ns j k (omega arith)
+
+-- the product from a later place on is at most that from an earlier one
+pub product_drop-le : (ns : List ℕ) (j k : ℕ) → AreSizes ns → j ≤ k → product_of (drop k ns) ≤ product_of (drop j ns)
+product_drop-le ns j k h l = grind (arith, mul-le-mul, (product_middle ns j k l), (product_positive (drop j (take k ns)) (AreSizes-drop j (take k ns) (AreSizes-take k ns h))))
+
+-- the product of the last numbers divides that of all
+pub tails_from : (ns : List ℕ) (i j : ℕ) → i ≤ j → (m : ℕ) × (product_of (drop i ns) ≡ m * product_of (drop j ns))
+tails_from ns i j l = (product_of (drop i (take j ns)), sym (product_middle ns i j l))
 
 -- the rows for a state of the environment, times the lanes, are the environment's stride
 pub env_rows_are : (n : Sizes) → env_rows_of n * lanes_of n.seats ≡ env_stride_of n
@@ -82,24 +79,11 @@ row_below row w lane rows l = grind (arith, cases_lt, mul-le)
 -- the number of pairs is a multiple of the lanes
 pub rows_are : (n : Sizes) → IsSizes n → count n / lanes_of n.seats * lanes_of n.seats ≡ count n
 rows_are n h =
-    let (m, e) = tails n.seats (low_of n.seats) in
+    let (m, e) = tails_from n.seats 0 (low_of n.seats) (omega arith) in
     let whole : count n ≡ n.target * n.env * m * lanes_of n.seats = ap (λ x. n.target * n.env * x) e ∙ omega arith in
     exact (count n) (n.target * n.env * m) (lanes_of n.seats) (lanes_positive n.seats h.seats) whole
 
 -- Rows are numbered like pairs of the sizes before the lanes.
-
-pub AreSizes-take : (k : ℕ) (ns : List ℕ) → AreSizes ns → AreSizes (take k ns)
-AreSizes-take zero ns h = tt
-AreSizes-take (suc k) [] h = tt
-AreSizes-take (suc k) (n ∷ ns) h = (h.0, h.1, AreSizes-take k ns h.2)
-
--- the product from place j on is split at place k
-pub product_middle : (ns : List ℕ) (j k : ℕ) → j ≤ k → product_of (drop j (take k ns)) * product_of (drop k ns) ≡ product_of (drop j ns)
-product_middle ns zero k l = product_split ns k
-product_middle [] (suc j) zero l = absurd (omega arith)
-product_middle [] (suc j) (suc k) l = omega arith
-product_middle (n ∷ ns) (suc j) zero l = absurd (omega arith)
-product_middle (n ∷ ns) (suc j) (suc k) l = product_middle ns j k (omega arith)
 
 -- the number of pairs of the sizes before the lanes is the number of rows
 pub count_rows : (n : Sizes) → count (row_sizes n) * lanes_of n.seats ≡ count n

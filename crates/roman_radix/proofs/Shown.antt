@@ -1,5 +1,5 @@
 -- A shape's fields in terms of the sizes that it holds.
-use Rattle.roman_radix.proofs.Common.{take-append-le, Inside, target_stride_of, IsLaidOut, sizes_in, ap₂, ◌≡◌, ℕ, ◌-◌, ◌≤◌, ◌∙◌, take, replicate, sym, ap, subst, ◌+◌, ◌^◌, ◌<◌, length, get_or, slice_index, arith, length-append, MAX_SERVICES, AreSizes, IsSizes, stride_of, env_stride_of, row_sizes, low_of, lanes_of, Sizes, count, padded, strides_of}
+use Rattle.roman_radix.proofs.Common.{take-append-le, length-append, Inside, target_stride_of, AreSizes, IsSizes, stride_of, env_stride_of, IsLaidOut, sizes_in, ap₂, ◌≡◌, ℕ, ◌-◌, ◌≤◌, ◌∙◌, take, replicate, sym, ap, subst, ◌+◌, ◌<◌, length, get_or, slice_index, arith, MAX_SERVICES, row_sizes, low_of, lanes_of, Sizes, count, padded, strides_of}
 use Rattle.roman_radix.proofs.Strides.{product_positive, AreSizes-drop, AreSizes-index, stride_at, size_at}
 use Rattle.roman_radix.proofs.RowLemmas.{AreSizes-take, lanes_few, lanes_positive, low_of-le}
 
@@ -23,7 +23,7 @@ pub stride_is : (a : Inside) (k : ℕ) → IsLaidOut a → k < length (sizes_in 
 stride_is a k h l = grind (arith, (AreSizes-drop (k + 1) (sizes_in a).seats h.sizes.seats), product_positive, (stride_at (sizes_in a).seats a.strides k h.strides l))
 
 pub size_is : (a : Inside) (k : ℕ) → IsLaidOut a → k < length (sizes_in a).seats → (get_or a.sizes k 0 ≡ slice_index (sizes_in a).seats k) × (0 < get_or a.sizes k 0)
-size_is a k h l = grind (arith, (AreSizes-index (sizes_in a).seats k h.sizes.seats l), (size_at (sizes_in a).seats a.sizes k h.places l))
+size_is a k h l = grind (arith, (AreSizes-index (sizes_in a).seats k h.sizes.seats l), (size_at (sizes_in a).seats a.sizes k h.places))
 
 -- the first sizes are the sizes before the lanes
 pub first_sizes : (a : Inside) → IsLaidOut a → (take a.low a.sizes ≡ (row_sizes (sizes_in a)).seats) × AreSizes (take a.low a.sizes) × (a.low ≤ length a.sizes)

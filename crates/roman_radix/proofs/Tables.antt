@@ -1,8 +1,8 @@
 -- Tables of sizes after a size is added or dropped, and the sizes themselves.
-use Rattle.roman_radix.proofs.Common.{◌≡◌, ℕ, zero, suc, ◌+◌, ◌-◌, ◌*◌, ◌^◌, ◌<◌, ◌≤◌, List, [], ◌∷◌, ◌++◌, length, take, drop, get_or, replicate, refl, sym, ap, ◌∙◌, arith, add-one, set, mul-le-mul_left, append_assoc, set_at, length-append, replicate_more, drop_more, drop_all, Sizes, grown_sizes, sizes_without, count, MAX_SERVICES, AreSizes, IsSizes, padded, copy_within, remove, take_at, drop-replicate, take_rest, length-remove, remove-append_left, count-grown, count-without}
+use Rattle.roman_radix.proofs.Common.{◌≡◌, ℕ, zero, suc, ◌+◌, ◌-◌, ◌*◌, ◌^◌, ◌<◌, ◌≤◌, List, [], ◌∷◌, ◌++◌, length, take, drop, get_or, replicate, refl, ap, ◌∙◌, arith, set, mul-le-mul_left, length-append, take_at, drop-replicate, get_or-append_right, get_or_past, get_or-set_other, get_or-set_same, get_or_append_left, length-set, Sizes, grown_sizes, sizes_without, count, MAX_SERVICES, AreSizes, IsSizes, padded, remove, length-remove, get_or-remove_above, get_or-remove_below, count-grown, count-without, cases_lt}
 use Rattle.roman_radix.proofs.RowLemmas.{AreSizes-take}
 use Rattle.roman_radix.proofs.Shown.{shown}
-use Rattle.roman_radix.proofs.Strides.{length-padded, AreSizes-drop, AreSizes-index}
+use Rattle.roman_radix.proofs.Strides.{length-padded, padded_from, size_at, AreSizes-drop, AreSizes-index}
 
 -- a table that holds these numbers, followed by zeros
 pub record Has (table ns : List ℕ) (c : ℕ) : Type 0 where
@@ -17,35 +17,16 @@ has_copied copied ns zeros is e = grind (arith, (drop-replicate (length ns) MAX_
 
 pub has_pushed : (table ns : List ℕ) (c size : ℕ) → table ≡ padded ns → c ≡ length ns → length ns < MAX_SERVICES → Has (set table c size) (ns ++ size ∷ []) (c + 1)
 has_pushed table ns c size e here room =
-    let rest : ℕ = MAX_SERVICES - (length ns + 1) in
-    let zeros : replicate (MAX_SERVICES - length ns) zero ≡ zero ∷ replicate rest zero = ap (λ n. replicate n zero) (let more : MAX_SERVICES - length ns ≡ suc rest = omega arith in more) in
-    let written : set table c size ≡ ns ++ size ∷ replicate rest zero =
-    ap (λ xs. set xs c size) (e ∙ ap (λ zs. ns ++ zs) zeros) ∙ set_at ns zero (replicate rest zero) size c (sym here) in
     let long : length (ns ++ size ∷ []) ≡ length ns + 1 = length-append ns (size ∷ []) in
-    has _ _ _ (written ∙ (sym (append_assoc ns (size ∷ []) (replicate rest zero)) ∙ ap (λ n. (ns ++ size ∷ []) ++ replicate (MAX_SERVICES - n) zero) (sym long)))
-    (long ∙ ap (λ n. n + 1) (sym here))
+    let all = length-padded ns (omega arith) in
+    has _ _ _ (padded_from (set table c size) (ns ++ size ∷ []) (grind (arith, length-set)) (omega arith) (λ k. grind (arith, cases_lt, get_or-append_right, get_or-set_other, get_or-set_same, get_or_append_left, get_or_past, (size_at ns table k e)))) (omega arith)
 
-pub has_shrunk : (table ns moved : List ℕ) (c k : ℕ) → table ≡ padded ns → c ≡ length ns → length ns ≤ MAX_SERVICES → k < length ns →
-    moved ≡ copy_within table (k + 1) (length table) k → Has (set moved (MAX_SERVICES - 1) zero) (remove ns k) (c - 1)
-has_shrunk table ns moved c k e here room component is =
-    let whole : length table ≡ MAX_SERVICES = ap length e ∙ length-padded _ room in
-    let last : ℕ = MAX_SERVICES - 1 in
-    let tail : k + (length table - (k + 1)) ≡ last = omega arith in
-    let final : drop last table ≡ get_or table last 0 ∷ [] =
-    drop_more table last 0 (omega arith) ∙ ap (λ xs. get_or table last 0 ∷ xs) (drop_all (last + 1) table (omega arith)) in
-    let split : moved ≡ remove table k ++ get_or table last 0 ∷ [] =
-    is ∙ (ap (λ xs. take k table ++ xs ++ drop (k + (length table - (k + 1))) table) (take_rest table (k + 1))
-    ∙ (ap (λ n. take k table ++ drop (k + 1) table ++ drop n table) tail ∙ (ap (λ xs. take k table ++ drop (k + 1) table ++ xs) final
-    ∙ ap (λ n. take k table ++ drop n table ++ get_or table last 0 ∷ []) (add-one k)))) in
-    let long : length (remove table k) ≡ last = let one = length-remove table k (omega arith) in omega arith in
-    let zeros : List ℕ = replicate (MAX_SERVICES - length ns) zero in
-    let kept : remove table k ≡ remove ns k ++ zeros = ap (λ xs. remove xs k) e ∙ remove-append_left ns zeros k component in
-    let fewer : length (remove ns k) + 1 ≡ length ns = length-remove ns k component in
-    let more : MAX_SERVICES - length ns + 1 ≡ MAX_SERVICES - length (remove ns k) = omega arith in
-    let written : set moved last zero ≡ remove table k ++ zero ∷ [] =
-    ap (λ xs. set xs last zero) split ∙ set_at (remove table k) (get_or table last 0) [] zero last long in
-    has _ _ _ (written ∙ (ap (λ xs. xs ++ zero ∷ []) kept ∙ (append_assoc (remove ns k) zeros (zero ∷ [])
-    ∙ (ap (λ xs. remove ns k ++ xs) (replicate_more (MAX_SERVICES - length ns) zero) ∙ ap (λ n. remove ns k ++ replicate n zero) more)))) (omega arith)
+pub has_shrunk : (table ns moved : List ℕ) (c k : ℕ) → table ≡ padded ns → c ≡ length ns → length ns ≤ MAX_SERVICES → k < length ns → length moved ≡ length table →
+    ((i : ℕ) → i < k → get_or moved i 0 ≡ get_or table i 0) → ((i : ℕ) → k ≤ i → get_or moved i 0 ≡ get_or table (i + 1) 0) → Has moved (remove ns k) (c - 1)
+has_shrunk table ns moved c k e here room component long below above =
+    let fewer = length-remove ns k component in
+    let all = length-padded ns room in
+    has _ _ _ (padded_from moved (remove ns k) (omega (arith, ap length e)) (omega arith) (λ i. grind (arith, cases_lt, get_or-remove_above, get_or-remove_below, (above i), (below i), (size_at ns table i e), (size_at ns table (i + 1) e)))) (omega arith)
 
 AreSizes-append : (ms ns : List ℕ) → AreSizes ms → AreSizes ns → AreSizes (ms ++ ns)
 AreSizes-append [] ns h g = g

@@ -1,6 +1,6 @@
 //! Shapes: the numbers of states of the parts of a pair, and the numbers of pairs.
 
-ghost use Rattle.std.specs.Prelude.{◌≡◌, ◌*◌, ◌/◌, ◌%◌, ◌^◌, ◌<◌, ◌≤◌, ◌↔◌, length, take, slice_index, IsTrue, IsSome, IfSome, All};
+ghost use Rattle.std.specs.Prelude.{◌≡◌, ℕ, ◌+◌, ◌*◌, ◌/◌, ◌%◌, ◌^◌, ◌<◌, ◌≤◌, ◌↔◌, length, take, slice_index, IsTrue, IsSome, IfSome, All};
 ghost use Rattle.roman_model.specs.Lists.{product_of};
 ghost use Rattle.roman_model.specs.Numbers.{IsPairOf, grown_sizes, sizes_without, count, number, pair_at};
 ghost use Rattle.roman_model.specs.Change.{grown, without};
@@ -315,9 +315,7 @@ impl Shape {
         requires { k < length self.now.seats }
         ensures { result ≡ sizes_without k self.now }
     {
-        let mut places = self.sizes;
-        places.copy_within(k as usize + 1.., k as usize);
-        places[PLACES - 1] = 0;
+        let places = without_place(self.sizes, k as usize);
         lay_out(self.target, self.env, self.components - 1, places)
     }
 
@@ -434,6 +432,20 @@ fn lanes_over(components: u8, sizes: &[u8; PLACES]) -> (u8, u32)
         low -= 1;
     }
     (low, lanes)
+}
+
+/// Returns the sizes without the one at place `k`. Later sizes move up by one place, and a zero
+/// follows.
+#[inline(always)]
+fn without_place(mut sizes: [u8; PLACES], k: usize) -> [u8; PLACES]
+    requires { k < length sizes }
+    ensures long { length result ≡ length sizes }
+    ensures below { (i : ℕ) → i < k → slice_index result i ≡ slice_index sizes i }
+    ensures above { (i : ℕ) → k ≤ i → slice_index result i ≡ slice_index sizes (i + 1) }
+{
+    sizes.copy_within(k + 1.., k);
+    sizes[PLACES - 1] = 0;
+    sizes
 }
 
 /// Returns the shape of these sizes, which are padded with zeros.

@@ -1,25 +1,17 @@
-use Rattle.roman_radix.proofs.Common.{◌≡◌, ◌-◌, ◌*◌, ◌≤◌, length, take, drop, get_or, sym, ◌∙◌, arith, get_or-take, product_of}
-use Rattle.roman_radix.proofs.Strides.{length_first, strides_none, product_none, strides_more, product_more, product_drop-le, strides_all}
+use Rattle.roman_radix.proofs.Common.{◌-◌, arith, refl, get_or-set_other, get_or-set_same, get_or-take, length-set, cases_eq}
+use Rattle.roman_radix.proofs.Strides.{length_first, product_none, product_more, strides_all, zero_at}
+use Rattle.roman_radix.proofs.RowLemmas.{product_drop-le}
 use Rattle.roman_radix.proofs.shape.strides_over.Goals as goal
 
 pub loop-k-init : goal.loop-k-init
-loop-k-init c = grind (arith, product_none, strides_none)
+loop-k-init c = record { within = omega arith; product = product_none c.args.components c.args.sizes.now; long = refl; table = λ i low high. absurd (omega arith); rest = λ i past. zero_at 32 _ i refl }
 
 -- the product of some of the sizes doesn't overflow
 pub overflow_mul-stride : goal.overflow_mul-stride
-overflow_mul-stride c =
-    let sizes = c.args.sizes.now in
-    let ns = take c.args.components sizes in
-    let k = c.loop-k.k in
-    let long : length ns ≡ c.args.components = length_first c.args.components sizes c.requires.padded c.requires.few in
-    let size : c.from-stride.result ≡ get_or ns (k - 1) 0 = c.from-stride.ensures ∙ sym (get_or-take c.args.components sizes (k - 1) 0 (omega arith)) in
-    let more : c.loop-k.stride * c.from-stride.result ≡ product_of (drop (k - 1) ns) =
-    product_more ns (k - 1) k c.loop-k.stride c.from-stride.result (omega arith) (omega arith) size c.loop-k.invariant.product in
-    let whole : product_of (drop (k - 1) ns) ≤ product_of ns = product_drop-le (k - 1) ns c.requires.positive in
-    omega arith
+overflow_mul-stride c = grind (arith, get_or-take, length_first, product_more, (product_drop-le _ 0 (c.loop-k.k - 1) c.requires.positive))
 
 pub loop-k-preserved : goal.loop-k-preserved
-loop-k-preserved c = grind (arith, get_or-take, length_first, product_more, strides_more)
+loop-k-preserved c = grind (arith, cases_eq, get_or-set_other, get_or-set_same, get_or-take, length-set, length_first, product_more)
 
 pub returns-clause-strides : goal.returns-clause-strides
 returns-clause-strides c = grind (arith, length_first, strides_all)

@@ -1,4 +1,4 @@
-use Rattle.roman_radix.proofs.Common.{◌≡◌, ◌-◌, ◌≤◌, ◌++◌, take, drop, replicate, product_of, MAX_SERVICES, strides_of}
+use Rattle.roman_radix.proofs.Common.{◌≡◌, ℕ, ◌+◌, ◌<◌, ◌≤◌, length, get_or, take, drop, product_of}
 use Rattle.roman_radix.proofs.shape.strides_over.Given as goal
 
 abbrev pub invariant-loop-k : goal.invariant-loop-k
@@ -7,7 +7,9 @@ invariant-loop-k l =
     record {
       within : l.k ≤ l.components;
       product : l.stride ≡ product_of (drop l.k ns);
-      table : l.strides ≡ replicate l.k 0 ++ (strides_of (drop l.k ns) ++ replicate (MAX_SERVICES - l.components) 0);
+      long : length l.strides ≡ 32;
+      table : (i : ℕ) → l.k ≤ i → i < l.components → get_or l.strides i 0 ≡ product_of (drop (i + 1) ns);
+      rest : (i : ℕ) → l.components ≤ i → get_or l.strides i 0 ≡ 0;
     }
 
 abbrev pub decreases-loop-k : goal.decreases-loop-k

@@ -1,4 +1,4 @@
-use Rattle.roman_radix.proofs.Common.{◌≡◌, ◌+◌, ◌*◌, ◌∷◌, ◌++◌, [], refl, ◌∙◌, subst, arith, set, count, grown_sizes, IsSizes, count-grown}
+use Rattle.roman_radix.proofs.Common.{◌≡◌, ◌+◌, ◌*◌, ◌∷◌, ◌++◌, [], refl, subst, arith, set, count, grown_sizes, IsSizes, count-grown}
 use Rattle.roman_radix.proofs.Tables.{Has, has_pushed, IsSizes-grown, same_sizes}
 use Rattle.roman_radix.proofs.Shown.{Shows, shown}
 use Rattle.roman_radix.proofs.shape.Shape.grow.Goals as goal

@@ -1,4 +1,4 @@
-use Rattle.roman_radix.proofs.Common.{◌-◌, subst, arith, IsSizes}
+use Rattle.roman_radix.proofs.Common.{subst, arith, IsSizes}
 use Rattle.roman_radix.proofs.Tables.{has_shrunk, IsSizes-without, same_sizes}
 use Rattle.roman_radix.proofs.Shown.{Shows, shown}
 use Rattle.roman_radix.proofs.shape.Shape.shrink.Goals as goal
@@ -8,7 +8,7 @@ lay_out-requires c =
     let a = c.self.inside in
     let n = c.args.self.now in
     let fields : Shows a n = shown a n c.self.invariant c.self.view_is in
-    let table = has_shrunk a.sizes n.seats c.copy_within.new.self a.components c.args.k fields.places fields.components fields.sizes.few c.requires c.copy_within.ensures.after in
+    let table = has_shrunk a.sizes n.seats _ a.components c.args.k fields.places fields.components fields.sizes.few c.requires c.without_place-places.ensures.long c.without_place-places.ensures.below c.without_place-places.ensures.above in
     record {
       few = omega (arith, fields.components, fields.sizes.few);
       padded = table.padded;
