@@ -1,5 +1,5 @@
 -- Rows as parts of bands.
-use Rattle.roman_relation.proofs.Common.{◌≡◌, ℕ, ◌+◌, ◌*◌, ◌/◌, ◌%◌, ◌<◌, ◌≤◌, ◌-◌, ◌⊎◌, length, ap, ◌∙◌, arith, cases_lt, mul-le, mul-add-lt, div_below, div-add-mod', mod_below, Arena, Board, IsShaped, lane_place, div-le_self}
+use Rattle.roman_relation.proofs.Common.{◌≡◌, ℕ, ◌+◌, ◌*◌, ◌/◌, ◌%◌, ◌<◌, ◌≤◌, ◌-◌, ◌⊎◌, length, ap, ◌∙◌, arith, cases_lt, mul-le, div_below, div-add-mod', mod_below, Arena, Board, IsShaped, lane_place, div-le_self}
 use Rattle.roman_relation.proofs.Lanes.{shaped_pairs, shaped_row, shaped_rows}
 
 -- a pair from its band, its row within the band, and its lane
@@ -55,7 +55,3 @@ pair_past lanes band y p some h l =
 -- a band's number is at most that of any of its rows
 pub row_of_band : (band row rows : ℕ) → row < rows → row / band < rows
 row_of_band band row rows l = let h = div-le_self row band in omega arith
-
--- the pairs of the order's rows are nodes of the arena
-pub pair_inside : (A : Arena ℕ) (lanes row lane : ℕ) (b : Board) → IsShaped A lanes b → row < b.rows → lane < lanes → row * lanes + lane < length A.nodes
-pair_inside A lanes row lane b shaped l h = let m = mul-add-lt row lanes lane b.rows l h in omega (arith, m, shaped_pairs A lanes b shaped)

@@ -1,5 +1,5 @@
 -- Lists of entries that begin with other lists.
-use Rattle.roman_relation.proofs.Common.{◌≡◌, ℕ, ◌<◌, ◌≤◌, ◌==◌, List, length, take, drop, IsTrue, IsFalse, sym, ap, ◌∙◌, subst, arith, take-append-drop, ◌++◌, take-length, take-append_seam, both_ways, or_left, false_from_ne_true, take-take, get_or-take, Arena, Entry, is_listed, any_same, listed_append, IsNumbered, has_entry, Begins, get_or, length-take}
+use Rattle.roman_relation.proofs.Common.{◌≡◌, ℕ, ◌≤◌, ◌==◌, List, length, take, drop, IsTrue, IsFalse, sym, ap, ◌∙◌, subst, arith, take-append-drop, ◌++◌, take-append_seam, both_ways, or_left, false_from_ne_true, take-take, length-take, Arena, Entry, is_listed, any_same, listed_append, IsNumbered, has_entry, Begins}
 
 -- a node is listed where the order has an entry for it
 pub listed_is : (A : Arena ℕ) → IsNumbered A → (L : List (Entry ℕ)) (p : ℕ) → is_listed A L p ≡ has_entry L p
@@ -7,9 +7,6 @@ listed_is A ok L p = any_same (λ (x : Entry ℕ). A.same p x.node) (λ (x : Ent
 
 pub begins_length : (L M : List (Entry ℕ)) → Begins L M → length L ≤ length M
 begins_length L M b = let same : length (take (length L) M) ≡ length L = ap length b in omega (arith, length-take (length L) M)
-
-pub begins_itself : (L : List (Entry ℕ)) → Begins L L
-begins_itself L = take-length L
 
 pub begins_append : (L M : List (Entry ℕ)) → Begins L (L ++ M)
 begins_append L M = take-append_seam L M
@@ -20,9 +17,6 @@ begins_same L M i b l = sym (take-take i (length L) M l) ∙ ap (take i) b
 
 pub begins_on : (L M N : List (Entry ℕ)) → Begins L M → Begins M N → Begins L N
 begins_on L M N b c = begins_same M N (length L) c (begins_length L M b) ∙ b
-
-pub begins_get : (L M : List (Entry ℕ)) (i : ℕ) (d : Entry ℕ) → Begins L M → i < length L → get_or M i d ≡ get_or L i d
-begins_get L M i d b l = sym (get_or-take (length L) M i d l) ∙ ap (λ N. get_or N i d) b
 
 -- a node that a prefix of a list lists is listed in the list
 pub take_listed : (A : Arena ℕ) (i : ℕ) (L : List (Entry ℕ)) (p : ℕ) → IsTrue (is_listed A (take i L) p) → IsTrue (is_listed A L p)

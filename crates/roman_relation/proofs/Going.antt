@@ -1,13 +1,9 @@
 -- Orders that extend others.
-use Rattle.roman_relation.proofs.Common.{◌≡◌, ℕ, ◌+◌, ◌*◌, List, ◌++◌, length, take, drop, sym, ap, ◌∙◌, take-append-drop, arith, take-length, Arena, Entry, fall, fall_append, Board, IsShaped, Begins, SettlesOn}
+use Rattle.roman_relation.proofs.Common.{◌≡◌, ℕ, ◌+◌, List, ◌++◌, length, take, drop, sym, ap, ◌∙◌, take-append-drop, arith, take-length, Arena, Entry, fall, fall_append, Board, IsShaped, Begins, SettlesOn}
 use Rattle.roman_relation.proofs.Beginnings.{begins_on}
 
 pub goes_on_on : (A : Arena ℕ) (a b c : Board) → SettlesOn A a b → SettlesOn A b c → SettlesOn A a c
 goes_on_on A a b c p q = grind (arith, begins_on)
-
--- the second order has the room and the shape of the first, and the same entries wait
-abbrev pub SameFrame : Board → Board → Type 0
-SameFrame b c = (c.cap_pairs ≡ b.cap_pairs) × (c.rows ≡ b.rows) × (c.lanes ≡ b.lanes) × (c.waiting ≡ b.waiting) × (c.waiting_lanes ≡ b.waiting_lanes)
 
 -- an order that extends another keeps its shape
 pub shaped_on : (A : Arena ℕ) (lanes : ℕ) (b c : Board) → IsShaped A lanes b → SettlesOn A b c → IsShaped A lanes c
@@ -21,8 +17,3 @@ fall_added A L M b =
 -- a list that begins with a list of the same length is that list
 pub same_list : (L M : List (Entry ℕ)) → Begins L M → length M ≡ length L → M ≡ L
 same_list L M b e = sym (take-length M) ∙ (ap (λ n. take n M) e ∙ b)
-
--- an order with the same frame differs only in what rounds change
-pub rest_from : (b c : Board) → SameFrame b c → c ≡ record b { list = c.list; marks = c.marks; before = c.before; levels = c.levels }
-rest_from b c (room, rows, lanes, waiting, waiting_lanes) =
-    λ i. record { cap_pairs = room i; rows = rows i; lanes = lanes i; list = c.list; waiting = waiting i; waiting_lanes = waiting_lanes i; marks = c.marks; before = c.before; levels = c.levels }

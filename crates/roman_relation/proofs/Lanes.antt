@@ -1,19 +1,10 @@
 -- Pairs as lanes of rows.
-use Rattle.roman_relation.proofs.Common.{◌≡◌, ℕ, ◌+◌, ◌*◌, ◌/◌, ◌%◌, ◌<◌, Bool, false, not, List, length, slice_index, IsTrue, sym, ap, ◌∙◌, arith, by_test, both_ways, not_from_false, div-add-mod', div_below, mod_below, Arena, Entry, is_listed, is_on, HasLanes, on_zero, IsNumbered, Board, has_entry, IsShaped, AreUnlisted, on_at, lane_place, ap₂, same_from_place, AreRows}
+use Rattle.roman_relation.proofs.Common.{◌≡◌, ℕ, ◌+◌, ◌*◌, ◌/◌, ◌<◌, false, not, List, length, slice_index, IsTrue, sym, ap, ◌∙◌, arith, by_test, both_ways, not_from_false, div_below, same_from_place, Arena, Entry, is_listed, is_on, HasLanes, AreRows, on_zero, IsNumbered, Board, has_entry, IsShaped, AreUnlisted}
 use Rattle.roman_relation.proofs.Beginnings.{listed_is}
 
 -- a word of the pairs without an entry is a word of the pairs that aren't listed
 pub unlisted_row : (A : Arena ℕ) → IsNumbered A → (lanes row : ℕ) (L : List (Entry ℕ)) (word : ℕ) → HasLanes lanes row (λ p. not (has_entry L p)) word → HasLanes lanes row (λ p. not (is_listed A L p)) word
 unlisted_row A ok lanes row L word is = record { each = λ lane l. is.each lane l ∙ ap not (sym (listed_is A ok L (row * lanes + lane))); rest = is.rest }
-
--- the bit of a pair is that of its lane in the word of its row
-pub on_lane : (lanes row lane : ℕ) (words : List ℕ) → lane < lanes → on_at lanes words (row * lanes + lane) ≡ is_on (slice_index words row) lane
-on_lane lanes row lane words l = let (e, f) = lane_place lanes row lane l in ap₂ (λ x y. is_on (slice_index words x) y) e f
-
--- the bit of a pair is the result of its test
-pub at_pair : (lanes : ℕ) (test : ℕ → Bool) (words : List ℕ) (p : ℕ) → 0 < lanes → p < length words * lanes → AreRows lanes test words → on_at lanes words p ≡ test p
-at_pair lanes test words p some l are =
-    (are.each (p / lanes) (div_below p lanes (length words) some l)).each (p % lanes) (mod_below p lanes some) ∙ ap test (div-add-mod' p lanes)
 
 -- the words have the bits of the pairs that aren't listed
 pub words_rows : (A : Arena ℕ) → IsNumbered A → (lanes : ℕ) (b : Board) (words : List ℕ) → IsShaped A lanes b →

@@ -7,7 +7,7 @@ pub mod Pushing
 pub mod Playing
 pub mod Marks
 pub mod Losses
-pub mod Backs
+pub mod Noting
 pub mod Rising
 pub mod Choosing
 pub mod Relating

@@ -1,5 +1,5 @@
 -- Relations with a complete list, and the greatest ND-simulation.
-use Rattle.roman_relation.proofs.Common.{◌≡◌, ◌≢◌, ℕ, ◌+◌, ◌<◌, ◌≤◌, ◌⊎◌, Bool, true, not, List, [], ◌∷◌, length, IsTrue, inl, inr, refl, sym, ap, ◌∙◌, subst, arith, below, Arena, Entry, is_listed, sizes_of, count, length-below, in_listed, system_of, Board, pairs_of, has_entry, IsSettled, AreLevels, arena_of, ◌↔◌, filter, not-not, le-div_iff_mul-le, Sys, pairs, choices, Great, pair_at, numbered, is_related, choice_count, related_great, great_related, numbers_are_pairs, AreNumbers, numbered_is_same, numbered_completed_by, numbered_listed, numbered_choices, numbered_related_count, NamedSys, IsNamedSys, HasCaps, HasCompleteList}
+use Rattle.roman_relation.proofs.Common.{◌≡◌, ◌≢◌, ℕ, ◌+◌, ◌<◌, ◌≤◌, ◌⊎◌, Bool, true, not, List, [], ◌∷◌, length, IsTrue, inl, inr, refl, sym, ap, ◌∙◌, subst, arith, ◌↔◌, filter, below, Arena, Entry, is_listed, choices, sizes_of, count, pair_at, numbered, length-below, in_listed, related_great, great_related, numbers_are_pairs, AreNumbers, numbered_is_same, numbered_completed_by, numbered_listed, numbered_choices, numbered_related_count, system_of, NamedSys, IsNamedSys, Board, pairs_of, has_entry, IsSettled, AreLevels, arena_of, HasCaps, HasCompleteList, not-not, le-div_iff_mul-le, Sys, pairs, Great, is_related, choice_count}
 
 -- there are no levels, or they are those of the list
 pub either_levels : (A : Arena ℕ) (L : List (Entry ℕ)) (board : Board) → (L ≡ [] → AreLevels A board.levels board.list) → (L ≢ [] → board.levels ≡ []) → (board.levels ≡ []) ⊎ AreLevels A board.levels board.list

@@ -66,7 +66,6 @@ pub fn play_round<J: Rules, L: Ledger>(joint: &J, order: &mut Order, steps: &mut
     let near = order.events().len();
     judge_marked(joint, order);
     mark_losses(joint, order, start, near, steps);
-    order.known(); // each row has a kept word
 }
 
 /// Extends a removal list to a complete one, to which no reason adds a pair, by rounds. Requires a
@@ -96,8 +95,8 @@ pub fn settle_list<J: Rules, L: Ledger>(joint: &J, order: &mut Order, steps: &mu
     let is_fresh = order.len() == 0;
     order.forget_levels();
     begin_rounds(joint, order);
-    order.known(); // listed pairs are pairs of the system
     'rounds: loop {
+        order.known(); // there is room for the pairs
         end_level(order, is_fresh);
         let start = order.len();
         play_round(joint, order, steps);

@@ -1,12 +1,9 @@
 //! Judging the marked bands against the kept words.
-ghost use Rattle.std.specs.Prelude.{◌≡◌, ℕ, ◌+◌, ◌*◌, ◌/◌, ◌<◌, ◌≤◌, ◌⊎◌, true, false, IsTrue};
-ghost use Rattle.std.specs.Prelude.{length, take};
-ghost use Rattle.roman_model.specs.Arena.{is_listed};
-ghost use Rattle.roman_lanes.specs.Rows.{is_on};
+ghost use Rattle.std.specs.Prelude.{◌≡◌, ℕ, ◌+◌, ◌*◌, ◌/◌, ◌<◌, ◌≤◌, Bool, true, not, IsTrue, length};
+ghost use Rattle.roman_lanes.specs.Rows.{is_on, AreRows};
 ghost use Rattle.roman_order.specs.Board.{is_marked};
 ghost use Rattle.roman_relation.specs.Shaped.{IsShaped};
-ghost use Rattle.roman_relation.specs.Settled.{Begins};
-ghost use Rattle.roman_relation.specs.Rounds.{AreLostRows, InRound, IsJudged, IsPairJudged};
+ghost use Rattle.roman_relation.specs.Rounds.{AreLostRows, AddsLost, AddsTo, IsJudged, falls};
 
 use super::listing::{are_listed, band_start, push_lost};
 use roman_model::Reason;
@@ -19,19 +16,14 @@ const BAND: usize = 64;
 /// Judges the marked bands, and clears their marks.
 pub(crate) fn judge_marked<J: Rules>(joint: &J, order: &mut Order)
     requires shaped { IsShaped (J.arena joint.now) (J.lanes joint.now) order.old }
-    requires round { (start : ℕ) × InRound (J.arena joint.now) (J.lanes joint.now) start order.old }
-    ensures round { let A = J.arena joint.now in
-        (start : ℕ) → InRound A (J.lanes joint.now) start order.old → InRound A (J.lanes joint.now) start order.new }
-    ensures begins { Begins order.old.list order.new.list }
+    requires kept { (gone : ℕ → Bool) × AreRows (J.lanes joint.now) (λ p. not (gone p)) order.old.before }
     ensures rest { order.new ≡ record order.old { list = order.new.list; marks = order.new.marks } }
-    ensures unmarked { let A = J.arena joint.now in
-        (p : ℕ) → p < length A.nodes → is_marked order.new (p / J.lanes joint.now / J.band joint.now) ≡ false }
-    ensures only { let A = J.arena joint.now in
-        (p : ℕ) → IsTrue (is_listed A order.new.list p) →
-        IsTrue (is_listed A order.old.list p) ⊎ (is_marked order.old (p / J.lanes joint.now / J.band joint.now) ≡ true) }
+    ensures adds { let A = J.arena joint.now in
+        (gone : ℕ → Bool) → AreRows (J.lanes joint.now) (λ p. not (gone p)) order.old.before →
+        AddsTo A gone (λ p. IsTrue (falls A gone p) × (is_marked order.old (p / J.lanes joint.now / J.band joint.now) ≡ true)) order.old.list order.new.list }
     ensures done { let A = J.arena joint.now in
-        (start p : ℕ) → InRound A (J.lanes joint.now) start order.old → p < length A.nodes →
-        is_marked order.old (p / J.lanes joint.now / J.band joint.now) ≡ true → IsPairJudged A start order.new p }
+        (gone : ℕ → Bool) (p : ℕ) → AreRows (J.lanes joint.now) (λ p. not (gone p)) order.old.before → p < length A.nodes →
+        is_marked order.old (p / J.lanes joint.now / J.band joint.now) ≡ true → IsJudged A gone order.new.list p }
 {
     joint.known(); // a row has 1 to 64 lanes, a band has 1 to 64 rows
     let bands = joint.bands();
@@ -45,20 +37,17 @@ pub(crate) fn judge_marked<J: Rules>(joint: &J, order: &mut Order)
 /// Judges the band `y` if `is_band` is true.
 fn judge_if<J: Rules>(joint: &J, order: &mut Order, y: u32, is_band: bool, left: &mut [u64])
     requires shaped { IsShaped (J.arena joint.now) (J.lanes joint.now) order.old }
-    requires round { (start : ℕ) × InRound (J.arena joint.now) (J.lanes joint.now) start order.old }
+    requires kept { (gone : ℕ → Bool) × AreRows (J.lanes joint.now) (λ p. not (gone p)) order.old.before }
     requires left { length left.old ≡ J.band joint.now }
     requires band { is_band ≡ true → y * J.band joint.now + J.band joint.now ≤ order.old.rows }
-    ensures round { let A = J.arena joint.now in
-        (start : ℕ) → InRound A (J.lanes joint.now) start order.old → InRound A (J.lanes joint.now) start order.new }
-    ensures begins { Begins order.old.list order.new.list }
     ensures rest { order.new ≡ record order.old { list = order.new.list } }
     ensures long { length left.new ≡ length left.old }
-    ensures only { let A = J.arena joint.now in
-        (p : ℕ) → IsTrue (is_listed A order.new.list p) →
-        IsTrue (is_listed A order.old.list p) ⊎ (p / J.lanes joint.now / J.band joint.now ≡ y) }
+    ensures adds { let A = J.arena joint.now in
+        (gone : ℕ → Bool) → AreRows (J.lanes joint.now) (λ p. not (gone p)) order.old.before →
+        AddsTo A gone (λ p. IsTrue (falls A gone p) × (p / J.lanes joint.now / J.band joint.now ≡ y)) order.old.list order.new.list }
     ensures done { let A = J.arena joint.now in
-        (start i lane : ℕ) → InRound A (J.lanes joint.now) start order.old → is_band ≡ true → i < J.band joint.now → lane < J.lanes joint.now →
-        IsPairJudged A start order.new ((y * J.band joint.now + i) * J.lanes joint.now + lane) }
+        (gone : ℕ → Bool) (i lane : ℕ) → AreRows (J.lanes joint.now) (λ p. not (gone p)) order.old.before → is_band ≡ true → i < J.band joint.now → lane < J.lanes joint.now →
+        IsJudged A gone order.new.list ((y * J.band joint.now + i) * J.lanes joint.now + lane) }
 {
     if is_band {
         judge(joint, order, y, left);
@@ -69,20 +58,17 @@ fn judge_if<J: Rules>(joint: &J, order: &mut Order, y: u32, is_band: bool, left:
 /// the least such action.
 fn judge<J: Rules>(joint: &J, order: &mut Order, y: u32, left: &mut [u64])
     requires shaped { IsShaped (J.arena joint.now) (J.lanes joint.now) order.old }
-    requires round { (start : ℕ) × InRound (J.arena joint.now) (J.lanes joint.now) start order.old }
+    requires kept { (gone : ℕ → Bool) × AreRows (J.lanes joint.now) (λ p. not (gone p)) order.old.before }
     requires left { length left.old ≡ J.band joint.now }
     requires band { y * J.band joint.now + J.band joint.now ≤ order.old.rows }
-    ensures round { let A = J.arena joint.now in
-        (start : ℕ) → InRound A (J.lanes joint.now) start order.old → InRound A (J.lanes joint.now) start order.new }
-    ensures begins { Begins order.old.list order.new.list }
     ensures rest { order.new ≡ record order.old { list = order.new.list } }
     ensures long { length left.new ≡ length left.old }
-    ensures only { let A = J.arena joint.now in
-        (p : ℕ) → IsTrue (is_listed A order.new.list p) →
-        IsTrue (is_listed A order.old.list p) ⊎ (p / J.lanes joint.now / J.band joint.now ≡ y) }
+    ensures adds { let A = J.arena joint.now in
+        (gone : ℕ → Bool) → AreRows (J.lanes joint.now) (λ p. not (gone p)) order.old.before →
+        AddsTo A gone (λ p. IsTrue (falls A gone p) × (p / J.lanes joint.now / J.band joint.now ≡ y)) order.old.list order.new.list }
     ensures done { let A = J.arena joint.now in
-        (start i lane : ℕ) → InRound A (J.lanes joint.now) start order.old → i < J.band joint.now → lane < J.lanes joint.now →
-        IsPairJudged A start order.new ((y * J.band joint.now + i) * J.lanes joint.now + lane) }
+        (gone : ℕ → Bool) (i lane : ℕ) → AreRows (J.lanes joint.now) (λ p. not (gone p)) order.old.before → i < J.band joint.now → lane < J.lanes joint.now →
+        IsJudged A gone order.new.list ((y * J.band joint.now + i) * J.lanes joint.now + lane) }
 {
     joint.known(); // a pair's number fits 32 bits, a row has 1 to 64 lanes
     order.known(); // a row has 1 to 64 lanes
@@ -93,7 +79,10 @@ fn judge<J: Rules>(joint: &J, order: &mut Order, y: u32, left: &mut [u64])
     let row = joint.first_row(y);
     let allowed = joint.row_actions(&row);
     for a in 0..joint.actions() {
-        judge_on(joint, order, &row, x, a, is_in(allowed, a), left);
+        if !is_in(allowed, a) {
+            continue;
+        }
+        judge_on(joint, order, &row, x, a, left);
     }
 }
 
@@ -106,38 +95,21 @@ fn is_in(actions: u32, a: u8) -> bool
     (actions >> a) & 1 == 1
 }
 
-/// Judges the band whose first row is `x` for the action `a`, if `is_allowed` is true.
-fn judge_on<J: Rules>(
-    joint: &J,
-    order: &mut Order,
-    row: &J::Row,
-    x: u32,
-    a: u8,
-    is_allowed: bool,
-    left: &mut [u64],
-)
+/// Judges the band whose first row is `x` for the action `a`.
+fn judge_on<J: Rules>(joint: &J, order: &mut Order, row: &J::Row, x: u32, a: u8, left: &mut [u64])
     requires shaped { IsShaped (J.arena joint.now) (J.lanes joint.now) order.old }
-    requires round { (start : ℕ) × InRound (J.arena joint.now) (J.lanes joint.now) start order.old }
+    requires kept { (gone : ℕ → Bool) × AreRows (J.lanes joint.now) (λ p. not (gone p)) order.old.before }
     requires first { (y : ℕ) × (x ≡ y * J.band joint.now) }
     requires band { x + J.band joint.now ≤ order.old.rows }
     requires row { J.is_row joint.now x row.now }
     requires action { a < (J.arena joint.now).actions }
     requires left { length left.old ≡ J.band joint.now }
-    ensures round { let A = J.arena joint.now in
-        (start : ℕ) → InRound A (J.lanes joint.now) start order.old → InRound A (J.lanes joint.now) start order.new }
-    ensures begins { Begins order.old.list order.new.list }
     ensures rest { order.new ≡ record order.old { list = order.new.list } }
     ensures long { length left.new ≡ length left.old }
-    ensures only { let A = J.arena joint.now in
-        (p : ℕ) → IsTrue (is_listed A order.new.list p) →
-        IsTrue (is_listed A order.old.list p) ⊎ ((x ≤ p / J.lanes joint.now) × (p / J.lanes joint.now < x + J.band joint.now)) }
-    ensures judged { let A = J.arena joint.now in
-        (start i lane : ℕ) → InRound A (J.lanes joint.now) start order.old → is_allowed ≡ true → i < J.band joint.now → lane < J.lanes joint.now →
-        IsJudged A start order.new ((x + i) * J.lanes joint.now + lane) a }
+    ensures adds { let A = J.arena joint.now in
+        (gone : ℕ → Bool) → AreRows (J.lanes joint.now) (λ p. not (gone p)) order.old.before →
+        AddsLost A gone (J.lanes joint.now) x (J.band joint.now) (Reason.Act a) order.old.list order.new.list }
 {
-    if !is_allowed {
-        return;
-    }
     find_unserved(joint, order, row, x, a, left);
     push_lost(joint, order, x, left, Reason::Act(a));
 }
@@ -152,8 +124,8 @@ fn find_unserved<J: Rules>(joint: &J, order: &Order, row: &J::Row, x: u32, a: u8
     requires left { length left.old ≡ J.band joint.now }
     ensures long { length left.new ≡ length left.old }
     ensures lost { let A = J.arena joint.now in
-        (start : ℕ) → InRound A (J.lanes joint.now) start order.now →
-        AreLostRows A (is_listed A (take start order.now.list)) order.now.list (J.lanes joint.now) x (J.band joint.now) (Reason.Act a) left.new }
+        (gone : ℕ → Bool) → AreRows (J.lanes joint.now) (λ p. not (gone p)) order.now.before →
+        AreLostRows A gone order.now.list (J.lanes joint.now) x (J.band joint.now) (Reason.Act a) left.new }
 {
     joint.known(); // a row has 1 to 64 lanes, a pair's number fits 32 bits
     order.known(); // each row has a kept word

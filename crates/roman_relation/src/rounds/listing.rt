@@ -51,4 +51,5 @@ pub(crate) fn push_lost<J: Rules>(
 {
     joint.known(); // pairs are told apart by their numbers
     order.push_rows(x, lost, reason);
+    order.known(); // no pair is listed twice
 }

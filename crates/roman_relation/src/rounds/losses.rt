@@ -1,12 +1,14 @@
 //! Marking the bands that lead to the pairs that a round has listed.
-ghost use Rattle.std.specs.Prelude.{◌≡◌, ℕ, ◌+◌, ◌*◌, ◌/◌, ◌<◌, ◌≤◌, true, false, List, [], ◌++◌};
+ghost use Rattle.std.specs.Prelude.{◌≡◌, ◌≢◌, ℕ, ◌+◌, ◌*◌, ◌/◌, ◌<◌, ◌≤◌, Bool, true, false};
 ghost use Rattle.std.specs.Prelude.{length, take, drop, IsTrue, IsFalse};
 ghost use Rattle.roman_lanes.specs.Rows.{is_on};
-ghost use Rattle.roman_model.specs.Arena.{Entry, is_listed, IsOrder, fall};
+ghost use Rattle.roman_model.specs.Arena.{is_listed, fall};
+ghost use Rattle.roman_model.specs.Lists.{IsIn};
+ghost use Rattle.roman_order.specs.Board.{is_marked};
 ghost use Rattle.roman_order.specs.Events.{IsEvent, entries_at};
 ghost use Rattle.roman_order.specs.Walks.{AreUnkept};
 ghost use Rattle.roman_relation.specs.Shaped.{IsShaped};
-ghost use Rattle.roman_relation.specs.Rounds.{InRound, IsMarking, AreGoneBack, moves_to_all, on_at};
+ghost use Rattle.roman_relation.specs.Rounds.{AreUnlisted, AreNoted, moves_noted, moves_to_all};
 
 use roman_io::Steps;
 use roman_order::{Event, Order};
@@ -24,8 +26,12 @@ pub(crate) fn mark_losses<J: Rules, L: Ledger>(
     steps: &mut Steps<L>,
 )
     requires shaped { IsShaped (J.arena joint.now) (J.lanes joint.now) order.old }
-    requires round { InRound (J.arena joint.now) (J.lanes joint.now) start order.old }
-    ensures marking { IsMarking (J.arena joint.now) (J.lanes joint.now) (J.band joint.now) start (length order.new.list) order.new }
+    requires begun { start ≤ length order.old.list }
+    requires kept { AreUnlisted (J.arena joint.now) (J.lanes joint.now) (take start order.old.list) order.old.before }
+    ensures kept { AreUnlisted (J.arena joint.now) (J.lanes joint.now) order.new.list order.new.before }
+    ensures marked { let A = J.arena joint.now in
+        (p q a k : ℕ) → p < length A.nodes → IsIn q (A.outcomes p a k) → IsTrue (is_listed A order.new.list q) → IsFalse (is_listed A (take start order.new.list) q) →
+        is_marked order.new (p / J.lanes joint.now / J.band joint.now) ≡ true }
     ensures rest { order.new ≡ record order.old { marks = order.new.marks; before = order.new.before } }
     ensures cost { steps.new ≤ steps.old + fall (J.arena joint.now) (drop start order.new.list) }
     ensures steps { steps.new ≡ steps.old + moves_to_all (J.arena joint.now) (J.lanes joint.now) (J.band joint.now) (J.mid joint.now) order.old.rows (drop start order.new.list) }
@@ -42,6 +48,7 @@ pub(crate) fn mark_losses<J: Rules, L: Ledger>(
         i = next;
         guess = near;
     }
+    order.known(); // each row has a kept word
 }
 
 /// Passes over entries from place `i` of the list on whose bands are noted, and returns the place after
@@ -65,19 +72,15 @@ fn mark_event<J: Rules, L: Ledger>(joint: &J, order: &mut Order, event: Event, s
     requires event { IsEvent (J.lanes joint.now) event }
     requires listed { (lane : ℕ) → is_on event.lanes lane ≡ true →
         IsTrue (is_listed (J.arena joint.now) order.old.list (event.row * J.lanes joint.now + lane)) }
-    ensures marking { let A = J.arena joint.now in
-        (start end : ℕ) → IsMarking A (J.lanes joint.now) (J.band joint.now) start end order.old →
-        IsMarking A (J.lanes joint.now) (J.band joint.now) start end order.new }
-    ensures noted { (lane : ℕ) → is_on event.lanes lane ≡ true →
-        on_at (J.lanes joint.now) order.new.before (event.row * J.lanes joint.now + lane) ≡ false }
     ensures rest { order.new ≡ record order.old { marks = order.new.marks; before = order.new.before } }
     ensures cost { steps.new ≤ steps.old + fall (J.arena joint.now) (entries_at (J.lanes joint.now) event) }
-    ensures back { let A = J.arena joint.now in let lanes = J.lanes joint.now in let band = J.band joint.now in
-        (start : ℕ) (L : List (Entry ℕ)) → AreGoneBack A lanes band start L order.old →
+    ensures noted { let A = J.arena joint.now in let lanes = J.lanes joint.now in let band = J.band joint.now in let y = event.row / band in
+        (start : ℕ) (noted more : ℕ → Bool) → AreNoted A lanes band start noted order.old →
         ((lane : ℕ) → is_on event.lanes lane ≡ true → IsFalse (is_listed A (take start order.old.list) (event.row * lanes + lane))) →
-        AreGoneBack A lanes band start (L ++ entries_at lanes event) order.new
-        × (steps.new + moves_to_all A lanes band (J.mid joint.now) order.old.rows L
-        ≡ steps.old + moves_to_all A lanes band (J.mid joint.now) order.old.rows (L ++ entries_at lanes event)) }
+        more y ≡ true → ((z : ℕ) → z ≢ y → more z ≡ noted z) →
+        AreNoted A lanes band start more order.new
+        × (steps.new + moves_noted A lanes band (J.mid joint.now) order.old.rows noted
+        ≡ steps.old + moves_noted A lanes band (J.mid joint.now) order.old.rows more) }
 {
     joint.known(); // a row has 1 to 64 lanes, a band has 1 to 64 rows
     order.known(); // each row has a kept word

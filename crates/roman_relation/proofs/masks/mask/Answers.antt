@@ -1,4 +1,4 @@
-use Rattle.roman_relation.proofs.Common.{◌≡◌, ◌+◌, ◌*◌, ◌/◌, ◌%◌, ◌∙◌, div-add-mod', is_listed, mask}
+use Rattle.roman_relation.proofs.Common.{◌≡◌, ◌+◌, ◌*◌, ◌/◌, ◌%◌, div-add-mod', is_listed}
 use Rattle.roman_relation.proofs.Lanes.{words_rows}
 use Rattle.roman_relation.proofs.masks.mask.Goals as goal
 

@@ -1,4 +1,4 @@
-use Rattle.roman_relation.proofs.Common.{arith, ◌∙◌, both_ways, lt-ltb}
+use Rattle.roman_relation.proofs.Common.{◌∙◌, both_ways, lt-ltb}
 use Rattle.roman_relation.proofs.Bands.{band_of}
 use Rattle.roman_relation.proofs.Going.{shaped_on}
 use Rattle.roman_relation.proofs.Lanes.{words_rows}

@@ -1,7 +1,7 @@
-use Rattle.roman_relation.proofs.Common.{◌≡◌, suc, ◌<◌, [], ◌∷◌, ◌++◌, length, refl, ap, ◌∙◌, arith, eqb-true, length_push, fall, Board, Begins, nil_from_length}
+use Rattle.roman_relation.proofs.Common.{◌≡◌, ◌<◌, [], length, sym, ap, ◌∙◌, arith, rules, common_steps, eq-eqb, eqb-true, fall, Board, Begins, nil_from_length}
 use Rattle.roman_relation.proofs.Beginnings.{begins_on, begins_length}
-use Rattle.roman_relation.proofs.Going.{fall_added, rest_from}
-use Rattle.roman_relation.proofs.Rising.{rises_start, rises_more, levels_first, levels_more}
+use Rattle.roman_relation.proofs.Going.{fall_added}
+use Rattle.roman_relation.proofs.Rising.{levels_first, levels_more, levels_rise}
 use Rattle.roman_relation.proofs.rounds.settle_list.Goals as goal
 
 pub rounds-init : goal.rounds-init
@@ -16,20 +16,12 @@ rounds-init g c =
     record {
       ready = c.begin_rounds.ensures.ready;
       begins = begins;
-      rest = rest_from b d (rw (goes.rest, c.forget_levels.ensures) (refl, refl, refl, refl, refl));
+      rest = search rules;
       fresh = λ t.
           let empty : b.list ≡ [] = nil_from_length b.list (omega (arith, eqb-true c.len-is_fresh.result 0 t, c.len-is_fresh.ensures.value)) in
-          let lost = c.begin_rounds.ensures.lost (of_f ∙ empty) in (
-            0,
-            ap length none,
-            lost,
-            rises_start A c.known.ensures.numbered d.list (λ p t. omega (arith, c.known-2.ensures.in_range p t, c.begin_rounds.ensures.ready.shaped.pairs)) lost,
-            rw none (levels_first A d.list lost),
-          );
+          rw none (levels_first A d.list (c.begin_rounds.ensures.lost (of_f ∙ empty)));
       stale = λ f. none;
       few = omega (arith, ap length none);
-      bound = c.known-2.ensures.bound;
-      room = c.known-2.ensures.room;
       cost = omega (arith, fall_added A b.list d.list begins);
     }
 
@@ -42,30 +34,28 @@ rounds-preserved g c =
     let d = c.play_round.new.order in
     let goes = c.play_round.ensures.goes_on in
     let is = c.end_level.ensures in
+    let inv = c.rounds.invariant in
     let levels : d.levels ≡ e.levels = ap (λ (y : Board). y.levels) goes.rest in
     let list : e.list ≡ old.list = ap (λ (y : Board). y.list) is.rest in
     let begins : Begins old.list d.list = rw list at goes.begins in
     let longer : length old.list < length d.list = omega (arith, begins_length old.list d.list begins, c.len-start.ensures.value, c.len.ensures.value, c.if-len-start.false, ap length list) in
     record {
       ready = c.play_round.ensures.ready;
-      begins = begins_on b.list old.list d.list c.rounds.invariant.begins begins;
-      rest = rest_from b d (rw (goes.rest, is.rest, c.rounds.invariant.rest) (refl, refl, refl, refl, refl));
-      fresh = λ t.
-          let (n, long, lost, rises, are) = c.rounds.invariant.fresh t in
-          let more = c.play_round.ensures.lost n (rw list lost) in
-          let long_now : length e.levels ≡ suc n = omega (arith, ap length (is.kept t), length_push old.levels (length old.list), long) in (
-            suc n,
-            ap length levels ∙ long_now,
-            more,
-            rises_more A c.known.ensures.numbered n old.list d.list begins goes.valid (λ p t. omega (arith, c.known-in-rounds.ensures.in_range p t, c.play_round.ensures.ready.shaped.pairs)) lost more rises,
-            rw levels (levels_more A n e.levels old.list d.list begins long_now more (rw (is.kept t) are)),
-          );
-      stale = λ f. levels ∙ (is.left f ∙ c.rounds.invariant.stale f);
-      few = omega (arith, is.few, ap length levels, c.rounds.invariant.few, longer);
-      bound = c.known-in-rounds.ensures.bound;
-      room = c.known-in-rounds.ensures.room;
-      cost = omega (arith, c.rounds.invariant.cost, c.play_round.ensures.cost, fall_added A e.list d.list goes.begins, ap (fall A) list);
+      begins = begins_on b.list old.list d.list inv.begins begins;
+      rest = goes.rest ∙ (ap (λ (y : Board). record y { list = d.list; marks = d.marks; before = d.before }) (is.rest ∙ ap (λ (y : Board). record y { levels = e.levels }) inv.rest)
+          ∙ ap (λ ls. record b { list = d.list; marks = d.marks; before = d.before; levels = ls }) (sym levels));
+      fresh = λ t. rw (levels, is.kept t) (levels_more A old.levels old.list d.list begins (λ holds. c.play_round.ensures.lost (length old.levels) (rw list holds)) (inv.fresh t));
+      stale = λ f. levels ∙ (is.left f ∙ inv.stale f);
+      few = omega (arith, is.few, ap length levels, inv.few, longer);
+      cost = omega (arith, inv.cost, c.play_round.ensures.cost, fall_added A e.list d.list goes.begins, ap (fall A) list);
     }
 
 pub returns-then-len-start-clause-cost : goal.returns-then-len-start-clause-cost
 returns-then-len-start-clause-cost g c = grind (arith, begins_on, fall_added)
+
+pub returns-then-len-start-clause-rises : goal.returns-then-len-start-clause-rises
+returns-then-len-start-clause-rises g c empty =
+    let old = c.rounds.order in
+    let fresh = eq-eqb c.len-is_fresh.result 0 (omega (arith, c.len-is_fresh.ensures.value, ap length empty)) in
+    let rises = levels_rise _ c.known.ensures.numbered _ old.list (c.rounds.invariant.fresh fresh) c.rounds.invariant.ready.valid (λ p t. omega (arith, c.known-in-rounds.ensures.in_range p t, c.rounds.invariant.ready.shaped.pairs)) in
+    grind (arith, common_steps, rises)

@@ -1,7 +1,7 @@
-use Rattle.roman_relation.proofs.Common.{◌≡◌, ℕ, ◌+◌, ◌-◌, ◌<◌, ◌≤◌, ◌∷◌, ◌++◌, true, false, [], length, fall, pairs_of, Begins, HoldsLost, RisesByDepth, AreLevels, AwaitsRound}
+use Rattle.roman_relation.proofs.Common.{◌≡◌, ◌+◌, ◌-◌, ◌≤◌, ◌∷◌, ◌++◌, true, false, [], length, fall, pairs_of, Begins, AreLevels, AwaitsRound}
 use Rattle.roman_relation.proofs.rounds.settle_list.Given as goal
 
--- rounds were played; from an empty list, the list has the pairs that are lost within as many requests, and is the next level
+-- rounds were played; from an empty list, the list is the next level
 abbrev pub invariant-rounds : goal.invariant-rounds
 invariant-rounds g l =
     let A = g.J.Rules.arena l.joint in
@@ -9,11 +9,9 @@ invariant-rounds g l =
       ready : AwaitsRound A (g.J.Rules.lanes l.joint) (g.J.Rules.band l.joint) l.order;
       begins : Begins l.fn.order.list l.order.list;
       rest : l.order ≡ record l.fn.order { list = l.order.list; marks = l.order.marks; before = l.order.before; levels = l.order.levels };
-      fresh : l.is_fresh ≡ true → (n : ℕ) × (length l.order.levels ≡ n) × HoldsLost A n l.order.list × RisesByDepth A l.order.list × AreLevels A (l.order.levels ++ length l.order.list ∷ []) l.order.list;
+      fresh : l.is_fresh ≡ true → AreLevels A (l.order.levels ++ length l.order.list ∷ []) l.order.list;
       stale : l.is_fresh ≡ false → l.order.levels ≡ [];
       few : length l.order.levels ≤ length l.order.list;
-      bound : length l.order.list ≤ pairs_of l.order;
-      room : pairs_of l.order ≤ l.order.cap_pairs;
       cost : l.steps + fall A l.fn.order.list ≤ l.fn.steps + fall A l.order.list;
     }
 

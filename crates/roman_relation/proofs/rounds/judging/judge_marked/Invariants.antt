@@ -1,4 +1,4 @@
-use Rattle.roman_relation.proofs.Common.{◌≡◌, ℕ, ◌*◌, ◌/◌, ◌<◌, ◌⊎◌, true, length, IsTrue, count_by, below, is_listed, is_marked, Begins, InRound, IsPairJudged}
+use Rattle.roman_relation.proofs.Common.{◌≡◌, ℕ, ◌*◌, ◌/◌, ◌<◌, ◌⊎◌, Bool, true, not, length, IsTrue, count_by, below, is_marked, AreRows, AddsTo, falls, IsJudged}
 use Rattle.roman_relation.proofs.rounds.judging.judge_marked.Given as goal
 
 -- the pairs of each band that was marked are judged, or the band is still marked
@@ -8,14 +8,12 @@ invariant-bands g l =
     let n = g.J.Rules.lanes l.joint in
     let w = g.J.Rules.band l.joint in
     record {
-      round : (start : ℕ) → InRound A n start l.fn.order → InRound A n start l.order;
-      begins : Begins l.fn.order.list l.order.list;
       rest : l.order ≡ record l.fn.order { list = l.order.list; marks = l.order.marks };
       long : length l.left ≡ w;
       fewer : (z : ℕ) → is_marked l.order z ≡ true → is_marked l.fn.order z ≡ true;
-      only : (q : ℕ) → IsTrue (is_listed A l.order.list q) → IsTrue (is_listed A l.fn.order.list q) ⊎ (is_marked l.fn.order (q / n / w) ≡ true);
-      done : (start p : ℕ) → InRound A n start l.fn.order → p < length A.nodes → is_marked l.fn.order (p / n / w) ≡ true →
-          (is_marked l.order (p / n / w) ≡ true) ⊎ IsPairJudged A start l.order p;
+      adds : (gone : ℕ → Bool) → AreRows n (λ p. not (gone p)) l.fn.order.before → AddsTo A gone (λ p. IsTrue (falls A gone p) × (is_marked l.fn.order (p / n / w) ≡ true)) l.fn.order.list l.order.list;
+      done : (gone : ℕ → Bool) (p : ℕ) → AreRows n (λ q. not (gone q)) l.fn.order.before → p < length A.nodes → is_marked l.fn.order (p / n / w) ≡ true →
+          (is_marked l.order (p / n / w) ≡ true) ⊎ IsJudged A gone l.order.list p;
     }
 
 -- each turn clears a mark

@@ -1,5 +1,4 @@
-use Rattle.roman_relation.proofs.Common.{◌≡◌, ℕ, ◌+◌, ◌-◌, ◌<◌, ◌≤◌, List, length, take, slice_index, arith, drop, get_or-take, length-take-le, get_or-drop}
-use Rattle.std.proofs.lemmas.List.{length-drop}
+use Rattle.roman_relation.proofs.Common.{◌≡◌, ℕ, ◌+◌, ◌-◌, ◌<◌, ◌≤◌, List, length, take, slice_index, arith, drop, get_or-take, length-take-le, get_or-drop, length-drop}
 use Rattle.roman_relation.proofs.Lanes.{all_listed}
 use Rattle.roman_relation.proofs.rounds.listing.are_listed.Goals as goal
 

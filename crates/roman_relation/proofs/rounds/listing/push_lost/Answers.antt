@@ -1,4 +1,4 @@
-use Rattle.roman_relation.proofs.Common.{arith, rules, ◌∙◌}
+use Rattle.roman_relation.proofs.Common.{arith}
 use Rattle.roman_relation.proofs.Pushing.{lost_free, rows_added}
 use Rattle.roman_relation.proofs.rounds.listing.push_lost.Goals as goal
 
@@ -13,4 +13,4 @@ push_rows-requires g c =
 
 pub returns-clause-adds : goal.returns-clause-adds
 returns-clause-adds g c gone are =
-    rw (c.push_rows.ensures, c.requires.shaped.lanes, c.requires.long) (rows_added _ c.known.ensures.numbered gone _ _ _ _ _ _ are _ (omega arith))
+    rw (c.push_rows.ensures, c.requires.shaped.lanes, c.requires.long) (rows_added _ c.known.ensures.numbered gone _ _ _ _ _ _ are (rw (c.push_rows.ensures, c.requires.shaped.lanes, c.requires.long) at c.known-2.ensures.distinct))

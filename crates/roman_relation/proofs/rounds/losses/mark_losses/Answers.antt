@@ -1,29 +1,24 @@
-use Rattle.roman_relation.proofs.Common.{◌≡◌, ◌+◌, ◌*◌, ◌<◌, ℕ, ◌≤◌, true, false, [], ◌++◌, length, take, drop, refl, sym, ap, ◌∙◌, subst, arith, on_at, moves_to_all, IsOrder, fall, is_on, has_entry, Board, set_lanes, pairs_of, entries_at, IsShaped, append-nil, length-entries_at}
-use Rattle.roman_relation.proofs.Backs.{IsReached, all_back, event_new, none_back, none_moves, passed_unkept, reached_on}
-use Rattle.roman_relation.proofs.Losses.{event_listed, entries_each}
-use Rattle.roman_relation.proofs.Lanes.{shaped_pairs}
-use Rattle.roman_relation.proofs.Playing.{marking_starts}
+use Rattle.roman_relation.proofs.Common.{◌≡◌, ◌+◌, ◌*◌, [], ◌++◌, length, take, drop, refl, sym, ap, ◌∙◌, subst, arith, ◌==◌, moves_noted, has_band, IsDistinct, nodes_of, as_entry, Board, set_lanes, fall_append, in_append_left, IsIn, entries_at, length-entries_at, drop_all, length-take, take-length, take-append_seam}
+use Rattle.roman_relation.proofs.Losses.{event_listed, in_entries}
+use Rattle.roman_relation.proofs.Noting.{IsReached, kept_ends, more_new, new_band, none_moves, other_band, own_band, passed_unkept}
+use Rattle.roman_relation.proofs.Pushing.{entry_new}
 use Rattle.roman_relation.proofs.rounds.losses.mark_losses.Goals as goal
 
 pub losses-init : goal.losses-init
 losses-init g c =
     let b = c.args.order.now in
-    let nothing = none_moves (g.J.Rules.arena c.args.joint.now) (g.J.Rules.lanes c.args.joint.now) (g.J.Rules.band c.args.joint.now) (g.J.Rules.mid c.args.joint.now) b.rows in
-    let long : length b.before * g.J.Rules.lanes c.args.joint.now ≡ length (g.J.Rules.arena c.args.joint.now).nodes = rw c.known-2.ensures.before (shaped_pairs _ _ b c.requires.shaped) in
+    let A = g.J.Rules.arena c.args.joint.now in
+    let nothing = none_moves A (g.J.Rules.lanes c.args.joint.now) (g.J.Rules.band c.args.joint.now) (g.J.Rules.mid c.args.joint.now) b.rows in
+    let none : drop c.args.start (take c.args.start b.list) ≡ [] = drop_all c.args.start (take c.args.start b.list) (omega (arith, length-take c.args.start b.list)) in
     record {
-      within = omega (arith, c.requires.round.begun, c.len-end.ensures.value);
-      rest = refl;
       start = omega arith;
-      reached = (
-        [],
-        record {
-          marking = marking_starts _ _ _ c.args.start b c.known.ensures.lanes.0 (omega (arith, long)) c.requires.round;
-          parts = sym (append-nil (take c.args.start b.list));
-          back = none_back _ _ _ c.args.start b c.known.ensures.lanes.0 (omega (arith, long)) c.requires.round;
-          cost = omega (arith, nothing);
-        },
-        omega (arith, nothing),
-      );
+      within = omega (arith, c.requires.begun, c.len-end.ensures.value);
+      rest = refl;
+      reached = rw none (record {
+        noted = record { fresh = λ row l on. cc; stale = λ row l off. c.requires.kept.each row (omega (arith, l, c.known-2.ensures.before)); marked = λ p q a k l on. cc };
+        spent = omega (arith, nothing);
+        cost = omega arith;
+      });
     }
 
 pub mark_event-requires-clause-listed : goal.mark_event-requires-clause-listed
@@ -41,43 +36,53 @@ losses-preserved g c =
     let i = c.losses.i in
     let e = c.event_at-event.result in
     let new = c.mark_event.new.order in
-    let next = c.next_loss-next.result.0 in
+    let j = i + c.len.result in
     let M = entries_at n e in
-    let R = drop (i + length (set_lanes e.lanes)) d.list in
     let inv = c.losses.invariant in
-    let ok = c.known.ensures.numbered in
-    let same : new.list ≡ d.list = ap (λ (y : Board). y.list) c.mark_event.ensures.rest in
     let rest = c.mark_event.ensures.rest ∙ ap (λ (y : Board). record y { marks = new.marks; before = new.before }) inv.rest in
-    let list : new.list ≡ b.list = ap (λ (y : Board). y.list) rest in
+    let old : d.list ≡ b.list = ap (λ (y : Board). y.list) inv.rest in
+    let list : new.list ≡ d.list = ap (λ (y : Board). y.list) c.mark_event.ensures.rest in
+    let distinct : IsDistinct (λ p q. p == q) (nodes_of d.list) = rw old c.known-2.ensures.distinct in
     let lanes : d.lanes ≡ n = ap (λ (y : Board). y.lanes) inv.rest ∙ c.requires.shaped.lanes in
-    let order : IsOrder A new.list = rw list c.requires.round.valid in
-    let here : drop i new.list ≡ M ++ R = rw (same, ← lanes) c.event_at-event.ensures.entries in
     let event = rw lanes at c.event_at-event.ensures.event in
-    let (P, is, steps) = inv.reached in
-    let fresh = λ (lane : ℕ) (on : is_on e.lanes lane ≡ true). rw same at (event_new A n new.list R start i e lane order inv.start here (omega (arith, event.within lane on, c.known.ensures.lanes.1)) on) in
-    let (after, moved) = c.mark_event.ensures.back start P is.back fresh in
-    let counts = ap (λ k. moves_to_all A n w mid k (P ++ M)) (ap (λ (y : Board). y.rows) c.mark_event.ensures.rest) in
-    let end : i + c.len.result ≤ length new.list = omega (arith, c.event_at-event.ensures.within, c.len.ensures, ap length same) in
-    let reached = reached_on A ok n w mid start i P M R new (omega (arith, end)) here (entries_each (λ p. on_at n new.before p ≡ false) n e c.mark_event.ensures.noted)
-    (c.mark_event.ensures.marking start i is.marking) (rw same is.parts) after (omega (arith, is.cost, c.mark_event.ensures.cost, moved, ap (λ L. fall A (take i L)) same, ap (λ L. fall A (take start L)) same, counts)) in
-    let long : i + length M ≡ i + c.len.result = omega (arith, length-entries_at n e, c.len.ensures) in
-    let shaped : IsShaped A n new = rw rest (record { pairs = c.requires.shaped.pairs; lanes = c.requires.shaped.lanes }) in
-    let in_range : (p : ℕ) → has_entry new.list p ≡ true → p < pairs_of new = rw rest c.known-2.ensures.in_range in
-    let over = c.next_loss-next.ensures in
-    let (Q, past, sum) = passed_unkept A ok n w mid start (i + c.len.result) next (P ++ M) new order shaped in_range (omega (arith, inv.start)) over (subst (λ k. IsReached A n w mid start k (P ++ M) new) long reached) in
+    let L = drop start (take i d.list) in
+    let R = drop (i + length (set_lanes e.lanes)) d.list in
+    let entries : drop i d.list ≡ M ++ R = rw lanes at c.event_at-event.ensures.entries in
+    let long : c.len.result ≡ length M = c.len.ensures ∙ sym (length-entries_at n e) in
+    let here : take c.len.result (drop i d.list) ≡ M = rw (long, entries) (take-append_seam M R) in
+    let upto : drop start (take j new.list) ≡ L ++ M = rw list (more_new d.list start i c.len.result inv.start (omega (arith, c.event_at-event.ensures.within)) ∙ ap (λ N. L ++ N) here) in
+    let (noted, moved) = c.mark_event.ensures.noted start (has_band n w L) (has_band n w (L ++ M)) inv.reached.noted
+    (λ lane on. entry_new A c.known.ensures.numbered d.list start i (as_entry (e.row * n + lane, e.reason)) distinct inv.start
+    (subst (IsIn _) (sym entries) (in_append_left _ M R (in_entries n e.row e.lanes lane e.reason (omega (arith, event.within lane on, c.known.ensures.lanes.1)) on))))
+    (own_band n w L e event) (λ z ne. other_band n w z L e event ne) in
+    let reached : IsReached A n w mid start c.args.steps.now c.mark_event.new.steps (L ++ M) new = record {
+      noted = noted;
+      spent = omega (arith, inv.reached.spent, moved, ap (λ k. moves_noted A n w mid k (has_band n w (L ++ M))) (ap (λ (y : Board). y.rows) c.mark_event.ensures.rest));
+      cost = omega (arith, inv.reached.cost, c.mark_event.ensures.cost, fall_append A L M);
+    } in
     record {
-      within = omega (arith, over.to, c.len-end.ensures.value, ap length list);
+      start = omega (arith, inv.start, c.next_loss-next.ensures.from);
+      within = omega (arith, c.next_loss-next.ensures.to, c.len-end.ensures.value, ap length list, ap length old);
       rest = rest;
-      start = omega (arith, inv.start, over.from);
-      reached = (Q, past, omega (arith, steps, moved, sum, counts));
+      reached = passed_unkept A n w mid start _ _ j _ new c.known.ensures.numbered (rw list distinct) (rw rest c.requires.shaped.lanes) c.known.ensures.lanes.0 (rw rest c.known-2.ensures.in_range) (omega (arith, inv.start)) c.next_loss-next.ensures (rw upto reached);
     }
 
-pub returns-clause-steps : goal.returns-clause-steps
-returns-clause-steps g c =
-    let inv = c.losses.invariant in
+pub returns : goal.returns
+returns g c =
+    let A = g.J.Rules.arena c.args.joint.now in
+    let n = g.J.Rules.lanes c.args.joint.now in
+    let w = g.J.Rules.band c.args.joint.now in
+    let mid = g.J.Rules.mid c.args.joint.now in
+    let start = c.args.start in
     let d = c.losses.order in
-    let list = ap (λ (y : Board). y.list) inv.rest in
-    let end : c.losses.i ≡ length d.list = omega (arith, c.losses-test.false, inv.within, c.len-end.ensures.value, ap length list) in
-    let (L, is, steps) = inv.reached in
-    let all : L ≡ drop c.args.start d.list = all_back d.list L c.args.start (omega (arith, c.requires.round.begun, ap length list)) (rw end at is.parts) in
-    rw (ap (λ (y : Board). y.rows) inv.rest, all) at steps
+    let inv = c.losses.invariant in
+    let end : c.losses.i ≡ length d.list = omega (arith, c.losses-test.false, inv.within, c.len-end.ensures.value, ap (λ (y : Board). length y.list) inv.rest) in
+    let all : take c.losses.i d.list ≡ d.list = rw end (take-length d.list) in
+    let reached : IsReached A n w mid start c.args.steps.now c.losses.steps (drop start d.list) d = rw all at inv.reached in
+    record {
+      kept = kept_ends A c.known.ensures.numbered n w start d c.known-3.ensures.before reached.noted;
+      marked = λ p q a k l i t off. reached.noted.marked p q a k l (new_band A c.known.ensures.numbered n w start d.list q t off) i;
+      rest = inv.rest;
+      cost = reached.cost;
+      steps = reached.spent ∙ ap (λ (y : Board). c.args.steps.now + moves_noted A n w mid y.rows (has_band n w (drop start d.list))) inv.rest;
+    }
