@@ -130,7 +130,6 @@ impl Relation {
         ensures { let A = arena_of self.now.joint in
             HasBits result (has (mask A (is_listed A self.now.order.list) p a)) }
     {
-        self.joint.known(); // the system is well formed
         masks::mask(&self.joint, &self.order, p, a)
     }
 
