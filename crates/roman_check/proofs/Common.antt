@@ -6,7 +6,7 @@ pub use Rattle.std.proofs.lemmas.Bool.Decides.{Decides-eqb}
 pub use Rattle.std.proofs.lemmas.Fmt.{decimal-digits_value, decimal_digit, decimal_is_IsNumeral, decimal_step, first_decimal, length-decimal-le}
 pub use Rattle.std.proofs.lemmas.Grind.{same_number_lists}
 pub use Rattle.std.proofs.lemmas.Int.Digits.{digits_more, digits_value_more}
-pub use Rattle.std.proofs.lemmas.List.{drop-set-lt, drop-take, drop_more, get_or-drop, get_or-replicate, get_or-set_other, get_or-set_same, get_or-take, get_or_at, get_or_read, length-replicate, length-set, length-take, nil_from_length, take-append-drop, take-take, take_all, take_at, take_more, take_more_set, take_rest}
+pub use Rattle.std.proofs.lemmas.List.{drop-take, drop_more, get_or-drop, get_or-replicate, get_or-set_other, get_or-set_same, get_or-take, get_or_at, get_or_read, length-replicate, length-set, length-take, nil_from_length, take-append-drop, take-take, take_all, take_at, take_more, take_rest}
 pub use Rattle.std.proofs.lemmas.List.Elements.{filter_map-append}
 pub use Rattle.std.proofs.lemmas.List.Folds.{list_any-append}
 pub use Rattle.std.proofs.lemmas.List.Quantifiers.{position-Some}
@@ -49,7 +49,7 @@ pub use Rattle.roman_check.specs.Decimals.{HasDigits, IsNumberTo, IsTrim}
 pub use Rattle.roman_check.specs.Lines.{Holds}
 pub use Rattle.roman_check.specs.Missing.{NoneMissing}
 pub use Rattle.roman_check.specs.Patterns.{IsPattern}
-pub use Rattle.roman_check.specs.Readers.{Closes, EndsLine, HasLines, IsAtFault, IsBetween, IsReading, ReadsPart, ReadsPiece, one_if_clean}
+pub use Rattle.roman_check.specs.Readers.{Closes, EndsLine, HasLines, HasReached, IsBetween, IsReading, IsSplit, ReadsPart, ReadsPiece, one_if_clean}
 pub use Rattle.roman_check.specs.Readings.{HasEntry, HasParts, IsEndedAt, ReadsOff, entry_with}
 pub use Rattle.roman_check.specs.Remain.{Clears, Remain, Removes}
 pub use Rattle.roman_check.specs.Verdicts.{fault_of}

