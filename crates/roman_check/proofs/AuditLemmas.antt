@@ -1,5 +1,5 @@
 -- Lines that are judged by those that were read.
-use Rattle.roman_check.proofs.Common.{◌≡◌, ℕ, ◌+◌, ◌*◌, ◌<◌, ◌==◌, Bool, true, false, not, ◌||◌, List, [], ◌∷◌, ◌++◌, length, Option, Some, None, IsTrue, IsFalse, option_map, find, refl, sym, ap, ◌∙◌, subst, arith, append-nil, list_any, cons_option, or-false, cond-true, cond-false, list_any-append, IsIn, same_numbers, Arena, Entry, is_listed, is_justified, head_line, count_line, reasons, entry_of, entries_on, could_be_listed, end_line, same_numbers_is, AreFew, from_possible, possible_small, entry_of-is, entry_of_other, fault_in_body, fault_after_end, Reason, Final, Act, AreRows, IsNumbered, Audit, Nothing, Why, Form, fault_of, IsInRows, HasListed, Judges, TakesEntry, Removes, not-true, entry_fault, HoldsWhereKept, Body, if◌then◌else◌, or_left, not-false, filter_map-append, end_fault, body_fault, entry_is_no_end, IsReasonOf, known_more, Due, Head, Count, due_after}
+use Rattle.roman_check.proofs.Common.{◌≡◌, ℕ, ◌+◌, ◌*◌, ◌<◌, ◌==◌, Bool, true, false, not, ◌||◌, List, [], ◌∷◌, ◌++◌, length, Option, Some, None, IsTrue, IsFalse, option_map, find, refl, sym, ap, ◌∙◌, subst, arith, append-nil, if◌then◌else◌, list_any, cons_option, or-false, cond-true, cond-false, not-true, or_left, not-false, list_any-append, IsIn, same_numbers, Arena, Entry, is_listed, is_justified, head_line, count_line, reasons, entry_of, entries_on, could_be_listed, end_line, entry_fault, end_fault, body_fault, same_numbers_is, AreFew, from_possible, possible_small, entry_of-is, entry_of_other, fault_in_body, fault_after_end, entry_is_no_end, Reason, Final, Act, AreRows, IsNumbered, Audit, Nothing, Body, Head, Count, Why, Form, fault_of, IsInRows, HasListed, Judges, TakesEntry, due_after, Removes, HoldsWhereKept, IsReasonOf, filter_map-append, known_more, Due}
 use Rattle.roman_model.specs.Certificate as text
 use Rattle.roman_check.proofs.ReasonLemmas.{given_action, row_ends, row_within}
 

@@ -1,5 +1,5 @@
 -- Decimal texts.
-use Rattle.roman_check.proofs.Common.{◌≡◌, ◌≢◌, ℕ, ◌+◌, ◌-◌, ◌*◌, ◌^◌, ◌<◌, ◌≤◌, List, length, take, get_or, decimal, arith, subst, sym, ap, ◌∙◌, inl, inr, length-take-le, AllDigits, digits_value, cases_lt, get_or-take, take_all, IsNumberTo, length-decimal-le, IsInRange, IsOutOfRange, digit_value, cases_order, digit_value_digit, IsNumeralModel, numerals_by_value, tells_digits, digit_at, digits_value_short, digits_more, digits_value_more, HasDigits, IsTrim, decimal_is_IsNumeral, first_decimal, decimal-digits_value}
+use Rattle.roman_check.proofs.Common.{◌≡◌, ◌≢◌, ℕ, ◌+◌, ◌-◌, ◌*◌, ◌^◌, ◌<◌, ◌≤◌, List, length, take, get_or, decimal, arith, subst, sym, ap, ◌∙◌, inl, inr, length-take-le, AllDigits, digits_value, cases_lt, cases_order, get_or-take, take_all, IsNumberTo, HasDigits, IsTrim, length-decimal-le, decimal_is_IsNumeral, first_decimal, decimal-digits_value, IsInRange, IsOutOfRange, digit_value, digit_value_digit, IsNumeralModel, numerals_by_value, tells_digits, digit_at, digits_value_short, digits_more, digits_value_more}
 
 own : IsNumeralModel (AllDigits 10) (digits_value 10)
 own = numerals_by_value (AllDigits 10) tells_digits

@@ -1,5 +1,5 @@
 -- The verdict at the end of a text, and at a line at fault.
-use Rattle.roman_check.proofs.Common.{◌≡◌, ◌≢◌, ℕ, ◌+◌, ◌<◌, ◌≤◌, Bool, not, List, [], ◌∷◌, ◌++◌, length, drop, Some, None, count_by, codes, decimal, refl, sym, ap, ap₂, ◌∙◌, subst, arith, cons_option, cond-true, below, lines, Arena, Entry, is_listed, head_line, count_line, entry_of, entries_on, line_fault, MAX_CERTIFICATE_BYTES, by_test, entry_of_other, fault_in_body, fault_after_end, IsNumbered, Audit, Nothing, Reader, HasListed, HasRead, HasLines, unless_is, length-filter, IsClean, unlisted, cert_verdict, due_is, verdict_ended, verdict_accepted}
+use Rattle.roman_check.proofs.Common.{◌≡◌, ◌≢◌, ℕ, ◌+◌, ◌<◌, ◌≤◌, Bool, not, List, [], ◌∷◌, ◌++◌, length, drop, Some, None, count_by, codes, decimal, refl, sym, ap, ap₂, ◌∙◌, subst, arith, cons_option, cond-true, below, lines, Arena, Entry, is_listed, head_line, count_line, entry_of, entries_on, line_fault, unless_is, IsClean, unlisted, cert_verdict, MAX_CERTIFICATE_BYTES, by_test, entry_of_other, fault_in_body, fault_after_end, due_is, verdict_ended, verdict_accepted, IsNumbered, Audit, Nothing, Reader, HasListed, HasRead, HasLines, length-filter}
 use Rattle.roman_model.specs.Certificate as text
 use Rattle.roman_check.proofs.AuditLemmas.{few_numbered, lines_due}
 

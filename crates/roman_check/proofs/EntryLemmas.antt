@@ -1,5 +1,5 @@
 -- Lines that are read as entries.
-use Rattle.roman_check.proofs.Common.{◌≡◌, ◌≢◌, ℕ, suc, ◌+◌, ◌-◌, ◌^◌, ◌<◌, Bool, List, ◌∷◌, ◌++◌, length, take, drop, get_or, None, Some, IsTrue, IsFalse, decimal, codes, refl, sym, ap, ap₂, ◌∙◌, subst, inl, arith, length-append, AllDigits, both_ways, ne_eqb, take_all, take_at, IsIn, has, same_numbers, Entry, Reason, Final, Act, count_line, reason_text, entry_line, reasons, entry_of, from_map, from_below, same_numbers_itself, AreFew, act_reason, from_possible, possible_small, entry_of_none, IsNumberTo, drop_more, get_or_at, IsSmall, cut_at, decimal_without, in_possible, entry_of-line, ReadsOff}
+use Rattle.roman_check.proofs.Common.{◌≡◌, ◌≢◌, ℕ, suc, ◌+◌, ◌-◌, ◌^◌, ◌<◌, Bool, List, ◌∷◌, ◌++◌, length, take, drop, get_or, None, Some, IsTrue, IsFalse, decimal, codes, refl, sym, ap, ap₂, ◌∙◌, subst, inl, arith, length-append, AllDigits, both_ways, ne_eqb, take_all, take_at, drop_more, get_or_at, IsIn, has, same_numbers, Entry, Reason, Final, Act, count_line, reason_text, entry_line, reasons, entry_of, from_map, from_below, same_numbers_itself, AreFew, act_reason, from_possible, possible_small, entry_of_none, IsSmall, cut_at, decimal_without, in_possible, entry_of-line, IsNumberTo, ReadsOff}
 use Rattle.roman_check.proofs.DigitLemmas.{decimal_shape, no_stop_digit}
 use Rattle.roman_check.proofs.Texts.{same_from, clear_before, taken_more}
 

@@ -1,5 +1,5 @@
 -- Lines that are longer than any that is due.
-use Rattle.roman_check.proofs.Common.{◌≡◌, ℕ, ◌^◌, ◌<◌, ◌≤◌, List, [], ◌∷◌, length, Some, None, IsFalse, decimal, ap, arith, length-append, cond-false, length-decimal-le, IsIn, same_numbers, Arena, Entry, Reason, Final, Act, count_line, reason_text, entry_line, reasons, entry_of, line_fault, by_test, same_numbers_is, from_possible, entry_of_none, fault_in_body, fault_after_end, IsNumbered, possible_entries}
+use Rattle.roman_check.proofs.Common.{◌≡◌, ℕ, ◌^◌, ◌<◌, ◌≤◌, List, [], ◌∷◌, length, Some, None, IsFalse, decimal, ap, arith, length-append, cond-false, length-decimal-le, IsIn, same_numbers, Arena, Entry, Reason, Final, Act, count_line, reason_text, entry_line, reasons, entry_of, line_fault, possible_entries, by_test, same_numbers_is, from_possible, entry_of_none, fault_in_body, fault_after_end, IsNumbered}
 use Rattle.roman_model.specs.Certificate.{Form}
 use Rattle.roman_check.proofs.ReasonLemmas.{given_action}
 

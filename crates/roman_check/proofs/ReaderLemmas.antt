@@ -1,5 +1,5 @@
 -- Texts that are read byte by byte.
-use Rattle.roman_check.proofs.Common.{◌≡◌, ℕ, ◌+◌, ◌-◌, ◌<◌, ◌≤◌, List, [], ◌∷◌, ◌++◌, length, take, drop, get_or, Option, Some, None, option_map, refl, sym, ap, ap₂, ◌∙◌, subst, inl, inr, arith, append_assoc, append-nil, length-append, take_rest, take_all, take-append-drop, get_or-drop, cases_lt, lines, text_of_lines, IsLine, Arena, Entry, Reader, Audit, Why, Form, fault_of, HasRead, TakesEntry, Judges, IsInRows, possible_small, entry_of-is, IsEndedAt, HasEntry, HasLines, IsReading, IsBetween, ReadsPart, IsNumbered, length-drop, entry_is_line, Holds, IsAtFault, EndsLine, nil_from_length, take_more, AreLines, Rejected, from_push, text_of_lines-push, lines-text, lines_last, append_line, clean_push, verdict_at, Line, Closes, one_if_clean}
+use Rattle.roman_check.proofs.Common.{◌≡◌, ℕ, ◌+◌, ◌-◌, ◌<◌, ◌≤◌, List, [], ◌∷◌, ◌++◌, length, take, drop, get_or, Option, Some, None, refl, sym, ap, ◌∙◌, subst, inl, inr, arith, append_assoc, append-nil, length-append, length-drop, take_rest, take_all, take-append-drop, get_or-drop, nil_from_length, take_more, cases_lt, lines, text_of_lines, IsLine, AreLines, Arena, Entry, Reader, Audit, Why, Form, fault_of, HasRead, TakesEntry, Judges, IsInRows, possible_small, entry_of-is, entry_is_line, from_push, text_of_lines-push, lines-text, lines_last, append_line, clean_push, verdict_at, IsEndedAt, HasEntry, HasLines, IsReading, IsBetween, ReadsPart, EndsLine, one_if_clean, Closes, HasReached, IsSplit, IsNumbered, Holds, Rejected, line_fault, Line}
 use Rattle.roman_check.proofs.Texts.{taken_more}
 use Rattle.roman_check.proofs.AuditLemmas.{few_numbered}
 use Rattle.roman_check.proofs.LongLines.{long_line}
@@ -21,20 +21,21 @@ at_most_one : (fault : Option Why) → one_if_clean fault ≤ 1
 at_most_one None = omega arith
 at_most_one (Some why) = omega arith
 
--- a line at fault isn't counted
-stopped : (A : Arena ℕ) (lanes : ℕ) (old new : Reader) (last : List ℕ) (fault : Option Why) (why : Why) → EndsLine A lanes old new last fault → fault ≡ Some why → new.lines ≡ old.lines
-stopped A lanes old new last fault why ends some = omega (arith, ends.lines ∙ ap (λ f. old.lines + one_if_clean f) some)
+-- a line is read after the others, or is at fault and isn't counted
+abbrev IsJudged : Arena ℕ → List (List ℕ) → List ℕ → Reader → Option Why → Type 0
+IsJudged A text line new None = HasLines A (text ++ line ∷ []) new
+IsJudged A text line new (Some why) = (line_fault A text (Some line) ≡ Some (fault_of why)) × (new.lines ≡ length text)
 
--- the line that follows is read
-has_more : (A : Arena ℕ) (lanes : ℕ) (old new : Reader) (text : List (List ℕ)) (partial last : List ℕ) (fault : Option Why) → HasLines A text old → Holds old.line partial → EndsLine A lanes old new last fault → fault ≡ None →
-    HasLines A (text ++ (partial ++ last) ∷ []) new
-has_more A lanes old new text partial last fault has held ends none =
+judged_line : (A : Arena ℕ) (lanes : ℕ) (old new : Reader) (text : List (List ℕ)) (partial last : List ℕ) (fault : Option Why) → HasLines A text old → Holds old.line partial → EndsLine A lanes old new last fault →
+    IsJudged A text (partial ++ last) new fault
+judged_line A lanes old new text partial last None has held ends =
     let judged = ends.judged partial held in
     record {
-      clean = clean_push A text (partial ++ last) has.clean (sym (judged.named text has.read) ∙ ap (option_map fault_of) none);
-      read = judged.read text has.read none;
-      counted = ends.lines ∙ ap₂ (λ n f. n + one_if_clean f) has.counted none ∙ sym (length-append text ((partial ++ last) ∷ []));
+      clean = clean_push A text (partial ++ last) has.clean (sym (judged.named text has.read));
+      read = judged.read text has.read refl;
+      counted = omega (arith, ends.lines, has.counted, length-append text ((partial ++ last) ∷ []));
     }
+judged_line A lanes old new text partial last (Some why) has held ends = (sym ((ends.judged partial held).named text has.read), omega (arith, ends.lines, has.counted))
 
 -- Pieces
 
@@ -45,15 +46,28 @@ reads_then A lanes old mid new piece from at to fault first second = record {
   high = second.high;
   lines = omega (arith, first.lines, second.lines);
   shaped = second.shaped;
-  reads = λ taken r none. second.reads taken (first.reads taken r refl) none;
-  stops = λ taken why r some. second.stops taken why (first.reads taken r refl) some;
+  reads = λ taken r. second.reads taken (first.reads taken r);
 }
 
 -- the text so far with the rest of a line and its newline
-ended_split : (text : List (List ℕ)) (partial last : List ℕ) → (text_of_lines text ++ partial) ++ (last ++ 10 ∷ []) ≡ text_of_lines (text ++ (partial ++ last) ∷ []) ++ []
-ended_split text partial last =
-    append_assoc (text_of_lines text) partial (last ++ 10 ∷ []) ∙ ap (λ bs. text_of_lines text ++ bs) (sym (append_assoc partial last (10 ∷ [])))
-    ∙ sym (append_assoc (text_of_lines text) (partial ++ last) (10 ∷ [])) ∙ sym (text_of_lines-push _ _) ∙ sym (append-nil (text_of_lines (text ++ (partial ++ last) ∷ [])))
+split_more : (bytes : List ℕ) (text : List (List ℕ)) (partial last : List ℕ) → IsSplit bytes text partial → IsLine partial → IsLine last → IsSplit (bytes ++ (last ++ 10 ∷ [])) (text ++ (partial ++ last) ∷ []) []
+split_more bytes text partial last split front line = record {
+  is = rw split.is (simp (append_assoc, text_of_lines-push, append-nil));
+  whole = lines_push text (partial ++ last) split.whole (append_line partial last front line);
+}
+
+line_reached : (A : Arena ℕ) (lanes : ℕ) (old new : Reader) (last bytes : List ℕ) (fault : Option Why) → IsLine last → EndsLine A lanes old new last fault → IsReading A bytes old → HasReached A (bytes ++ (last ++ 10 ∷ [])) new fault
+line_reached A lanes old new last bytes None line ends r = record {
+  text = r.text ++ (r.partial ++ last) ∷ [];
+  partial = [];
+  split = split_more bytes r.text r.partial last r.split r.unended line;
+  unended = refl;
+  has = judged_line A lanes old new r.text r.partial last None r.has r.held ends;
+  held = ends.cleared refl;
+}
+line_reached A lanes old new last bytes (Some why) line ends r =
+    let (is, counted) = judged_line A lanes old new r.text r.partial last (Some why) r.has r.held ends in
+    record { text = r.text; line = r.partial ++ last; more = []; split = split_more bytes r.text r.partial last r.split r.unended line; clean = r.has.clean; fault = is; counted = counted }
 
 module _ (A : Arena ℕ) (lanes : ℕ) (old new : Reader) (piece : List ℕ) (from len : ℕ) where
   abbrev rest : List ℕ
@@ -61,9 +75,8 @@ module _ (A : Arena ℕ) (lanes : ℕ) (old new : Reader) (piece : List ℕ) (fr
 
   line_more : (taken : List ℕ) → from + len < length piece → IsEndedAt rest len → (taken ++ take from piece) ++ (take len rest ++ 10 ∷ []) ≡ taken ++ take (from + len + 1) piece
   line_more taken within ended =
-      append_assoc taken (take from piece) (take len rest ++ 10 ∷ []) ∙ ap (λ bs. taken ++ bs) (sym (append_assoc (take from piece) (take len rest) (10 ∷ []))
-      ∙ ap₂ (λ bs b. bs ++ b ∷ []) (ap (λ bs. take from piece ++ take len bs) (take_rest piece from) ∙ taken_more piece from len)
-      (sym (sym (get_or-drop from piece len 0) ∙ ap (λ bs. get_or bs len 0) (sym (take_rest piece from)) ∙ ended.newline)) ∙ sym (take_more piece (from + len) 0 within))
+      let newline : get_or piece (from + len) 0 ≡ 10 = sym (get_or-drop from piece len 0) ∙ rw (take_rest piece from) at ended.newline in
+      rw (take_rest piece from, take_more piece (from + len) 0 within, newline, ← taken_more piece from len) (simp append_assoc)
 
   -- a line is read to its end
   pub line_read : (fault : Option Why) → from ≤ length piece → IsEndedAt rest len → IsLine (take len rest) → EndsLine A lanes old new (take len rest) fault → ReadsPart A lanes old new piece from (from + len + 1) fault
@@ -72,25 +85,7 @@ module _ (A : Arena ℕ) (lanes : ℕ) (old new : Reader) (piece : List ℕ) (fr
     high = omega (arith, inside);
     lines = omega (arith, ends.lines, at_most_one fault);
     shaped = ends.shaped;
-    reads = λ taken r none. subst (λ bs. IsReading A bs new) (line_more taken inside ended) (record {
-      text = r.text ++ (r.partial ++ take len rest) ∷ [];
-      partial = [];
-      split = ap (λ bs. bs ++ (take len rest ++ 10 ∷ [])) r.split ∙ ended_split r.text r.partial (take len rest);
-      whole = lines_push r.text (r.partial ++ take len rest) r.whole (append_line r.partial (take len rest) r.unended line);
-      unended = refl;
-      has = has_more A lanes old new r.text r.partial (take len rest) fault r.has r.held ends none;
-      held = ends.cleared none;
-    });
-    stops = λ taken why r some. subst (λ bs. IsAtFault A bs new.lines why) (line_more taken inside ended) (record {
-      text = r.text;
-      line = r.partial ++ take len rest;
-      more = [];
-      split = ap (λ bs. bs ++ (take len rest ++ 10 ∷ [])) r.split ∙ ended_split r.text r.partial (take len rest);
-      whole = lines_push r.text (r.partial ++ take len rest) r.whole (append_line r.partial (take len rest) r.unended line);
-      clean = r.has.clean;
-      fault = sym ((ends.judged r.partial r.held).named r.text r.has.read) ∙ ap (option_map fault_of) some;
-      counted = stopped A lanes old new (take len rest) fault why ends some ∙ r.has.counted;
-    });
+    reads = λ taken r. subst (λ bs. HasReached A bs new fault) (line_more taken inside ended) (line_reached A lanes old new (take len rest) (taken ++ take from piece) fault line ends r);
   }
     where
       inside : from + len < length piece
@@ -116,42 +111,35 @@ rest_read A lanes old new piece rest from within is line shaped same count pushe
   high = omega arith;
   lines = omega (arith, count);
   shaped = subst (IsInRows lanes (length A.nodes)) (sym same) shaped;
-  reads = λ taken r none. subst (λ bs. IsReading A bs new) (whole taken) (record {
+  reads = λ taken r. subst (λ bs. IsReading A bs new) (whole taken) (record {
     text = r.text;
     partial = r.partial ++ rest;
-    split = ap (λ bs. bs ++ rest) r.split ∙ append_assoc (text_of_lines r.text) r.partial rest;
-    whole = r.whole;
+    split = record { is = ap (λ bs. bs ++ rest) r.split.is ∙ append_assoc (text_of_lines r.text) r.partial rest; whole = r.split.whole };
     unended = append_line r.partial rest r.unended line;
     has = record { clean = r.has.clean; read = subst (λ audit. HasRead A r.text audit) (sym same) r.has.read; counted = count ∙ r.has.counted };
     held = pushed r.partial r.held;
   });
-  stops = λ taken why r some. (let h : ⊥ = cc in absurd h);
 }
   where
     whole : (taken : List ℕ) → (taken ++ take from piece) ++ rest ≡ taken ++ take (length piece) piece
-    whole taken =
-        append_assoc taken (take from piece) rest ∙ ap (λ bs. taken ++ bs) (ap (λ bs. take from piece ++ bs) is ∙ take-append-drop from piece ∙ sym (take_all (length piece) piece (omega arith)))
+    whole taken = rw (is, take_all (length piece) piece (omega arith), append_assoc, take-append-drop from piece)
 
 -- The end
 
 text_lines : (A : Arena ℕ) (bytes : List ℕ) (reader : Reader) (r : IsReading A bytes reader) → lines bytes ≡ r.text ++ lines r.partial
-text_lines A bytes reader r = ap lines r.split ∙ lines-text r.text r.partial r.whole
+text_lines A bytes reader r = ap lines r.split.is ∙ lines-text r.text r.partial r.split.whole
 
 -- the text ends with a newline, or is empty
 pub closed_empty : (A : Arena ℕ) (old : Reader) → Holds old.line [] → Closes A old old None
-closed_empty A old empty = record {
-  reads = λ bytes r none. subst (λ ls. HasLines A ls old) (sym (text_lines A bytes old r ∙ ap (λ bs. r.text ++ lines bs) (alone old.line r.partial empty r.held) ∙ append-nil r.text)) r.has;
-  stops = λ start why some. (let h : ⊥ = cc in absurd h);
-}
+closed_empty A old empty = λ bytes r. subst (λ ls. HasLines A ls old) (sym (text_lines A bytes old r ∙ ap (λ bs. r.text ++ lines bs) (alone old.line r.partial empty r.held) ∙ append-nil r.text)) r.has
 
 -- the last line ends without a newline
+last_line : (A : Arena ℕ) (bytes : List ℕ) (reader : Reader) (r : IsReading A bytes reader) → (Holds reader.line [] → ⊥) → lines bytes ≡ r.text ++ (r.partial ++ []) ∷ []
+last_line A bytes reader r some =
+    text_lines A bytes reader r ∙ ap (λ ls. r.text ++ ls) (lines_last r.partial r.unended (λ e. some (subst (Holds reader.line) e r.held)) ∙ ap (λ bs. bs ∷ []) (sym (append-nil r.partial)))
+
 pub closed_line : (A : Arena ℕ) (lanes : ℕ) (old new : Reader) (fault : Option Why) → (Holds old.line [] → ⊥) → EndsLine A lanes old new [] fault → Closes A old new fault
-closed_line A lanes old new fault some ends = record {
-  reads = λ bytes r none. subst (λ ls. HasLines A ls new) (sym (last_line bytes r)) (has_more A lanes old new r.text r.partial [] fault r.has r.held ends none);
-  stops = λ start why is bytes r short.
-      verdict_at A start bytes r.text (r.partial ++ []) [] (fault_of why) short (last_line bytes r) r.has.clean (sym ((ends.judged r.partial r.held).named r.text r.has.read) ∙ ap (option_map fault_of) is)
-      ∙ ap (λ n. Rejected (n + 1) (fault_of why)) (sym (stopped A lanes old new [] fault why ends is ∙ r.has.counted));
-}
-  where
-    last_line : (bytes : List ℕ) (r : IsReading A bytes old) → lines bytes ≡ r.text ++ (r.partial ++ []) ∷ []
-    last_line bytes r = text_lines A bytes old r ∙ ap (λ ls. r.text ++ ls) (lines_last r.partial r.unended (λ e. some (subst (Holds old.line) e r.held)) ∙ ap (λ bs. bs ∷ []) (sym (append-nil r.partial)))
+closed_line A lanes old new None some ends = λ bytes r. subst (λ ls. HasLines A ls new) (sym (last_line A bytes old r some)) (judged_line A lanes old new r.text r.partial [] None r.has r.held ends)
+closed_line A lanes old new (Some why) some ends = λ start bytes r short.
+    let (is, counted) = judged_line A lanes old new r.text r.partial [] (Some why) r.has r.held ends in
+    verdict_at A start bytes r.text (r.partial ++ []) [] (fault_of why) short (last_line A bytes old r some) r.has.clean is ∙ ap (λ n. Rejected (n + 1) (fault_of why)) (sym counted)

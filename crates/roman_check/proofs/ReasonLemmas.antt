@@ -1,5 +1,5 @@
 -- Reasons that hold, and pairs that are missing.
-use Rattle.roman_check.proofs.Common.{◌≡◌, ◌≢◌, ℕ, ◌+◌, ◌-◌, ◌*◌, ◌^◌, ◌/◌, ◌%◌, ◌<◌, ◌≤◌, Bool, true, false, not, ◌&&◌, ◌||◌, List, get_or, [], ◌∷◌, length, Some, None, find, sym, ap, ap₂, ◌∙◌, subst, inl, inr, arith, add-one, bit_and, list_any, trailing_zeros, w64, or-false, cases_lt, eq-eqb, false≢true, mul-le, same_from_place, list_any-append, IsIn, below, Arena, Entry, is_justified, is_listed, Reason, Act, could_be_listed, reasons, from_map, from_below, is_on, AreRows, HasLanes, on_and, on_zero, IsNumbered, NoneMissing, bit_or, eqb, bit_at, and_comm, div-add-mod', div_below, le-div, row_fits, bit_at-trailing_zeros, on_or, none_from, find_first, find_not_found, list_any-map}
+use Rattle.roman_check.proofs.Common.{◌≡◌, ◌≢◌, ℕ, ◌+◌, ◌-◌, ◌*◌, ◌^◌, ◌/◌, ◌%◌, ◌<◌, ◌≤◌, Bool, true, false, not, ◌&&◌, ◌||◌, List, get_or, [], ◌∷◌, length, Some, None, find, sym, ap, ap₂, ◌∙◌, subst, inl, inr, arith, add-one, bit_and, bit_or, eqb, list_any, trailing_zeros, w64, bit_at, or-false, and_comm, cases_lt, eq-eqb, false≢true, mul-le, same_from_place, div-add-mod', div_below, le-div, row_fits, list_any-append, IsIn, below, Arena, Entry, is_justified, is_listed, Reason, Act, could_be_listed, reasons, from_map, from_below, none_from, find_first, find_not_found, list_any-map, is_on, AreRows, HasLanes, on_and, on_zero, on_or, IsNumbered, NoneMissing, bit_at-trailing_zeros}
 
 -- Reasons
 

@@ -1,5 +1,5 @@
 -- Tables of the pairs that remain.
-use Rattle.roman_check.proofs.Common.{◌≡◌, ◌≢◌, ℕ, zero, suc, ◌+◌, ◌-◌, ◌*◌, ◌/◌, ◌^◌, ◌<◌, ◌≤◌, ◌==◌, Bool, true, false, not, ◌&&◌, ◌||◌, List, length, get_or, set, count_by, bit_and, IsFalse, refl, sym, ap, ◌∙◌, inl, inr, arith, add-one, or-false, ne_eqb, eq-eqb, get_or-set_other, length-set, same_from_place, below, from_below, is_on, AreRows, HasLanes, on_and, Clears, cases_eq, on_full, on_full_past, cond, replicate, or_right, length-replicate, get_or-replicate, get_or-set_same, sum_by_push, sum_by_same, Remain, Remaining}
+use Rattle.roman_check.proofs.Common.{◌≡◌, ◌≢◌, ℕ, zero, suc, ◌+◌, ◌-◌, ◌*◌, ◌/◌, ◌^◌, ◌<◌, ◌≤◌, ◌==◌, Bool, true, false, not, ◌&&◌, ◌||◌, List, length, get_or, set, count_by, bit_and, IsFalse, refl, sym, ap, ◌∙◌, inl, inr, arith, add-one, cond, replicate, or-false, ne_eqb, eq-eqb, cases_eq, or_right, get_or-set_other, length-set, length-replicate, get_or-replicate, get_or-set_same, same_from_place, below, from_below, sum_by_same, is_on, AreRows, HasLanes, on_and, on_full, on_full_past, Clears, Remain, sum_by_push, Remaining}
 
 -- Words
 

@@ -1,5 +1,5 @@
 -- Certificates that are taken from a source piece by piece.
-use Rattle.roman_check.proofs.Common.{◌≡◌, ℕ, ◌+◌, ◌<◌, ◌≤◌, List, [], ◌∷◌, ◌++◌, length, take, drop, Option, Some, sym, ap, ◌∙◌, subst, arith, append_assoc, append-nil, length-append, length-take-le, None, take-append-drop, take-take, take_at, take_all, length-take, Gave, Gave-then, text_of_lines, Arena, MAX_CERTIFICATE_BYTES, Reader, Why, fault_of, IsReading, ReadsPiece, EndsAt, GaveAtMost, IsAtEnd, gave_at_most, had_more, ended_lines, faults, ended_lines-text, ended_lines_last, faults_none, verdict_rejected, verdict_too_long, HaveVerdict, NoneAtFault}
+use Rattle.roman_check.proofs.Common.{◌≡◌, ℕ, ◌+◌, ◌<◌, ◌≤◌, List, [], ◌∷◌, ◌++◌, length, take, drop, Option, Some, sym, ap, ◌∙◌, subst, arith, append_assoc, append-nil, length-append, length-take-le, None, take-append-drop, take-take, take_at, take_all, length-take, Gave, EndsAt, GaveAtMost, IsAtEnd, Gave-then, gave_at_most, had_more, text_of_lines, ended_lines, Arena, MAX_CERTIFICATE_BYTES, Reader, Why, fault_of, IsReading, ReadsPiece, faults, ended_lines-text, ended_lines_last, faults_none, verdict_rejected, verdict_too_long, HaveVerdict, NoneAtFault}
 use Rattle.roman_model.specs.Certificate as text
 
 -- a source that gives nothing is at its end
@@ -17,7 +17,7 @@ gave_within before mid now taken into count room first second bound piece left =
 -- the whole lines of what is read are clean
 ended_text : (A : Arena ℕ) (taken : List ℕ) (reader : Reader) (r : IsReading A taken reader) → ended_lines taken ≡ r.text
 ended_text A taken reader r =
-    ap ended_lines r.split ∙ ended_lines-text r.text r.partial r.whole ∙ ap (λ ls. r.text ++ ls) (ended_lines_last r.partial r.unended) ∙ append-nil r.text
+    ap ended_lines r.split.is ∙ ended_lines-text r.text r.partial r.split.whole ∙ ap (λ ls. r.text ++ ls) (ended_lines_last r.partial r.unended) ∙ append-nil r.text
 
 pub failed_clean : (A : Arena ℕ) (before mid now : Option (List ℕ)) (taken : List ℕ) (reader : Reader) → IsReading A taken reader → Gave before mid taken → Gave mid now [] → NoneAtFault A before now
 failed_clean A before mid now taken reader r first second = record {
@@ -62,21 +62,21 @@ module _ (A : Arena ℕ) (start : ℕ) (before mid now : Option (List ℕ)) (tak
   pub rejected_at : (why : Why) → length taken + due ≤ MAX_CERTIFICATE_BYTES → fault ≡ Some why → HaveVerdict A start before (text.Rejected (new.lines + 1) (fault_of why))
   rejected_at why within some =
       let (after, had) = had_more before now (taken ++ got) (Gave-then before mid now taken got first second) in
-      let at = fed.read.stops taken why next some in
+      let at = rw some at (fed.read.reads taken next) in
       let lines = text_of_lines (at.text ++ at.line ∷ []) in
       record {
         bytes = (taken ++ got) ++ after;
         had = had;
         judged = verdict_rejected A start ((taken ++ got) ++ after) at.text at.line (at.more ++ (rest ++ after)) (fault_of why)
-            (whole after ∙ ap (λ bs. bs ++ (rest ++ after)) at.split ∙ append_assoc lines at.more (rest ++ after)) at.whole
-            (omega (arith, short, ap length at.split, length-append lines at.more, length-append taken front)) at.clean at.fault ∙ ap (λ m. text.Rejected (m + 1) (fault_of why)) (sym at.counted);
+            (whole after ∙ ap (λ bs. bs ++ (rest ++ after)) at.split.is ∙ append_assoc lines at.more (rest ++ after)) at.split.whole
+            (omega (arith, short, ap length at.split.is, length-append lines at.more, length-append taken front)) at.clean at.fault ∙ ap (λ m. text.Rejected (m + 1) (fault_of why)) (sym at.counted);
       }
 
   -- the limit is passed, and no line that ends within it is at fault
   pub passed_limit : length taken + due ≡ MAX_CERTIFICATE_BYTES → due < count → fault ≡ None → HaveVerdict A start before text.TooLong
   passed_limit limit more none =
       let (after, had) = had_more before now (taken ++ got) (Gave-then before mid now taken got first second) in
-      let read = fed.read.reads taken next none in
+      let read = rw none at (fed.read.reads taken next) in
       record {
         bytes = (taken ++ got) ++ after;
         had = had;
@@ -87,4 +87,4 @@ module _ (A : Arena ℕ) (start : ℕ) (before mid now : Option (List ℕ)) (tak
 
   -- all of the bytes are read
   pub read_on : due ≡ count → fault ≡ None → IsReading A (taken ++ got) new
-  read_on all none = subst (λ bs. IsReading A (taken ++ bs) new) (take_all fed.to (take due into) (omega (arith, fed.whole none)) ∙ ap (λ n. take n into) all) (fed.read.reads taken next none)
+  read_on all none = subst (λ bs. IsReading A (taken ++ bs) new) (take_all fed.to (take due into) (omega (arith, fed.whole none)) ∙ ap (λ n. take n into) all) (rw none at (fed.read.reads taken next))

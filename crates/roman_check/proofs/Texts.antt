@@ -1,5 +1,5 @@
 -- Equal texts, and texts that don't have a byte.
-use Rattle.roman_check.proofs.Common.{◌≡◌, ℕ, zero, suc, ◌+◌, ◌<◌, ◌==◌, Bool, List, [], ◌∷◌, ◌++◌, length, take, drop, get_or, None, Option, Some, refl, sym, ap₂, ◌∙◌, subst, inl, inr, arith, IsTrue, IsFalse, IsLine, IsEndedAt, Decides-eqb, eqb-true, cases_lt, cond-true, take_all, take-take, drop-take, take-append-drop, has, same_numbers, same_numbers_is, same_numbers_itself, position, nat_lt, MatchOption, position_or_len, pointwise, slice_eq-Decides, or_from, lt-ltb, fails_before_first, position-Some, none-some, same_test}
+use Rattle.roman_check.proofs.Common.{◌≡◌, ℕ, zero, suc, ◌+◌, ◌<◌, ◌==◌, Bool, List, [], ◌∷◌, ◌++◌, length, take, drop, get_or, None, Option, Some, refl, sym, ap₂, ◌∙◌, subst, inl, inr, arith, IsTrue, IsFalse, nat_lt, IsLine, IsEndedAt, Decides-eqb, eqb-true, cases_lt, cond-true, or_from, lt-ltb, take_all, take-take, drop-take, take-append-drop, has, same_numbers, same_numbers_is, same_numbers_itself, same_test, position, position_or_len, MatchOption, pointwise, slice_eq-Decides, fails_before_first, position-Some, none-some}
 
 -- a test that is true exactly for equal texts is the model's test
 pub same_from : (b : Bool) (xs ys : List ℕ) → (IsTrue b → xs ≡ ys) → (xs ≡ ys → IsTrue b) → b ≡ same_numbers xs ys

@@ -19,12 +19,16 @@ pub record HasLines (A : Arena ℕ) (text : List (List ℕ)) (reader : Reader) :
   pub read : HasRead A text reader.audit
   pub counted : reader.lines ≡ length text
 
+-- the bytes are these lines with their newlines, and these bytes behind them
+pub record IsSplit (bytes : List ℕ) (text : List (List ℕ)) (more : List ℕ) : Type 0 where
+  pub is : bytes ≡ text_of_lines text ++ more
+  pub whole : AreLines text
+
 -- the bytes taken were read: whole lines without a fault, and the first bytes of the next line
 pub record IsReading (A : Arena ℕ) (taken : List ℕ) (reader : Reader) : Type 0 where
   pub text : List (List ℕ)
   pub partial : List ℕ
-  pub split : taken ≡ text_of_lines text ++ partial
-  pub whole : AreLines text
+  pub split : IsSplit taken text partial
   pub unended : IsLine partial
   pub has : HasLines A text reader
   pub held : Holds reader.line partial
@@ -39,11 +43,15 @@ pub record IsAtFault (A : Arena ℕ) (bytes : List ℕ) (clean_lines : ℕ) (why
   pub text : List (List ℕ)
   pub line : List ℕ
   pub more : List ℕ
-  pub split : bytes ≡ text_of_lines (text ++ line ∷ []) ++ more
-  pub whole : AreLines (text ++ line ∷ [])
+  pub split : IsSplit bytes (text ++ line ∷ []) more
   pub clean : IsClean A text (length text)
   pub fault : line_fault A text (Some line) ≡ Some (fault_of why)
   pub counted : clean_lines ≡ length text
+
+-- the bytes were read, or a line of them is at fault and those before it are counted
+abbrev pub HasReached : Arena ℕ → List ℕ → Reader → Option Why → Type 0
+HasReached A bytes reader None = IsReading A bytes reader
+HasReached A bytes reader (Some why) = IsAtFault A bytes reader.lines why
 
 -- where the piece was read to the first place, it is read to the second, or the line that ends there is at fault; the table keeps its rows
 pub record ReadsPart (A : Arena ℕ) (lanes : ℕ) (old new : Reader) (piece : List ℕ) (from to : ℕ) (fault : Option Why) : Type 0 where
@@ -51,8 +59,7 @@ pub record ReadsPart (A : Arena ℕ) (lanes : ℕ) (old new : Reader) (piece : L
   pub high : to ≤ length piece
   pub lines : new.lines + from ≤ old.lines + to
   pub shaped : IsInRows lanes (length A.nodes) new.audit
-  pub reads : (taken : List ℕ) → IsReading A (taken ++ take from piece) old → fault ≡ None → IsReading A (taken ++ take to piece) new
-  pub stops : (taken : List ℕ) (why : Why) → IsReading A (taken ++ take from piece) old → fault ≡ Some why → IsAtFault A (taken ++ take to piece) new.lines why
+  pub reads : (taken : List ℕ) → IsReading A (taken ++ take from piece) old → HasReached A (taken ++ take to piece) new fault
 
 -- the whole piece is read, or a line that ends in it is at fault
 pub record ReadsPiece (A : Arena ℕ) (lanes : ℕ) (old new : Reader) (piece : List ℕ) (fault : Option Why) : Type 0 where
@@ -77,6 +84,6 @@ abbrev pub Decides : Arena ℕ → ℕ → (List ℕ → Type 0) → Verdict →
 Decides A start IsRead verdict = (bytes : List ℕ) → IsRead bytes → length bytes ≤ MAX_CERTIFICATE_BYTES → cert_verdict A start bytes ≡ verdict_of verdict
 
 -- all lines of the ended text were read, or its last line is at fault
-pub record Closes (A : Arena ℕ) (old new : Reader) (fault : Option Why) : Type 0 where
-  pub reads : (bytes : List ℕ) → IsReading A bytes old → fault ≡ None → HasLines A (lines bytes) new
-  pub stops : (start : ℕ) (why : Why) → fault ≡ Some why → Decides A start (λ bytes. IsReading A bytes old) (Rejected (new.lines + 1) why)
+abbrev pub Closes : Arena ℕ → Reader → Reader → Option Why → Type 0
+Closes A old new None = (bytes : List ℕ) → IsReading A bytes old → HasLines A (lines bytes) new
+Closes A old new (Some why) = (start : ℕ) → Decides A start (λ bytes. IsReading A bytes old) (Rejected (new.lines + 1) why)

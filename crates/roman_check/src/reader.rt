@@ -52,6 +52,7 @@ impl Reader {
     }
 
     /// Judges the line that the buffered bytes and the bytes `last` make up.
+    #[tactic(auto, using(crate::proofs::ReaderLemmas::alone))]
     fn judge<J: Rules, L: Ledger>(
         &mut self,
         joint: &J,
@@ -202,6 +203,7 @@ impl Reader {
     }
 
     /// Reads the last line where its newline is missing. Returns its fault, if it has one.
+    #[tactic(auto, using(crate::proofs::ReaderLemmas::closed_line))]
     fn close<J: Rules, L: Ledger>(&mut self, joint: &J, steps: &mut Steps<L>) -> Option<Why>
         requires shaped { IsInRows (J.lanes joint.now) (length (J.arena joint.now).nodes) self.old.audit }
         requires room { self.old.lines ≤ MAX_CERTIFICATE_BYTES }

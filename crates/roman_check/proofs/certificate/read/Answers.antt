@@ -1,4 +1,4 @@
-use Rattle.roman_check.proofs.Common.{◌++◌, take, ◌∙◌, subst, arith, length-append, length-take-le, Gave-then, length-take, err_from_is_err_and, had_all, Rose}
+use Rattle.roman_check.proofs.Common.{◌++◌, take, ◌∙◌, subst, arith, length-append, length-take-le, Gave-then, had_all, length-take, err_from_is_err_and, Rose}
 use Rattle.roman_check.proofs.SourceSteps.{at_end, failed_clean, gave_within, rejected_at, passed_limit, read_on}
 use Rattle.roman_check.proofs.certificate.read.Goals as goal
 

@@ -1,4 +1,4 @@
-use Rattle.roman_check.proofs.Common.{◌+◌, ◌*◌, ◌&&◌, ◌||◌, length, sym, ap, ap₂, ◌∙◌, arith, list_any, or-false, is_listed, is_justified, reasons, Act, is_on, on_zero, slice_index}
+use Rattle.roman_check.proofs.Common.{◌+◌, ◌*◌, ◌&&◌, ◌||◌, length, sym, ap, ap₂, ◌∙◌, arith, slice_index, list_any, or-false, is_listed, is_justified, reasons, Act, is_on, on_zero}
 use Rattle.roman_check.proofs.ReasonLemmas.{one_more, copied_on, is_off, row_ends}
 use Rattle.roman_check.proofs.missing.misses_some.Goals as goal
 

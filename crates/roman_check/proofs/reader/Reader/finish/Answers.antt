@@ -1,5 +1,4 @@
-use Rattle.roman_check.proofs.Common.{refl}
 use Rattle.roman_check.proofs.reader.Reader.finish.Goals as goal
 
 pub returns-in-Some : goal.returns-in-Some
-returns-in-Some g c = c.in-Some.ensures.closed.stops c.args.start c.in-Some.why refl
+returns-in-Some g c = c.in-Some.ensures.closed c.args.start
