@@ -1,6 +1,6 @@
 -- What the proof pages of this crate cite from elsewhere, passed on from one place. Declares nothing.
-pub use Rattle.std.proofs.Common.{Bool, IsFalse, IsTrue, List, None, Option, Some, [], add-one, ap, append-nil, append_assoc, ap₂, arith, bit_and, bit_or, codes, cond, count_by, decimal, drop, eqb, false, find, get_or, if◌then◌else◌, inl, inr, length, length-append, length-drop, length-take-le, nat_lt, not, option_map, refl, replicate, rules, set, slice_index, subst, suc, sym, take, true, zero, ℕ, ◌%◌, ◌&&◌, ◌*◌, ◌++◌, ◌+◌, ◌-◌, ◌/◌, ◌<◌, ◌==◌, ◌^◌, ◌||◌, ◌∙◌, ◌∷◌, ◌≡◌, ◌≢◌, ◌≤◌}
-pub use Rattle.std.proofs.Math.Bool.{and_comm, or-false}
+pub use Rattle.std.proofs.Common.{Bool, IsFalse, IsTrue, List, None, Option, Some, [], add-one, ap, append-nil, append_assoc, ap₂, arith, bit_and, bit_or, codes, cond, count_by, decimal, drop, eqb, false, find, get_or, if◌then◌else◌, inl, inr, length, length-append, length-drop, length-take-le, nat_lt, not, option_map, refl, replicate, rules, set, subst, suc, sym, take, true, zero, ℕ, ◌%◌, ◌&&◌, ◌*◌, ◌++◌, ◌+◌, ◌-◌, ◌/◌, ◌<◌, ◌==◌, ◌^◌, ◌||◌, ◌∙◌, ◌∷◌, ◌≡◌, ◌≢◌, ◌≤◌}
+pub use Rattle.std.proofs.Math.Bool.{or-false}
 pub use Rattle.std.proofs.lemmas.Bool.{both_ways, cases_eq, cases_lt, cases_order, cond-false, cond-true, eq-eqb, eqb-true, false≢true, lt-ltb, ne_eqb, not-false, not-true, or_from, or_left, or_right}
 pub use Rattle.std.proofs.lemmas.Bool.Decides.{Decides-eqb}
 pub use Rattle.std.proofs.lemmas.Fmt.{decimal-digits_value, decimal_digit, decimal_is_IsNumeral, decimal_step, first_decimal, length-decimal-le}
@@ -11,7 +11,7 @@ pub use Rattle.std.proofs.lemmas.List.Elements.{filter_map-append}
 pub use Rattle.std.proofs.lemmas.List.Folds.{list_any-append}
 pub use Rattle.std.proofs.lemmas.List.Quantifiers.{position-Some}
 pub use Rattle.std.proofs.lemmas.List.Sums.{fails_before_first, length-filter, sum_by_push}
-pub use Rattle.std.proofs.lemmas.Nat.{div-add-mod', div_below, le-div, mul-le, row_fits, same_from_place}
+pub use Rattle.std.proofs.lemmas.Nat.{mul-le, row_fits, same_from_place}
 pub use Rattle.std.proofs.lemmas.Nat.Bits.{bit_at-trailing_zeros}
 pub use Rattle.std.proofs.lemmas.Option.{none-some}
 pub use Rattle.std.proofs.lemmas.Result.{err_from_is_err_and}
@@ -47,9 +47,9 @@ pub use Rattle.roman_check.specs.Audits.{HasListed, HasRead, IsInRows, Judges, T
 pub use Rattle.roman_check.specs.Checks.{HaveVerdict, NoneAtFault}
 pub use Rattle.roman_check.specs.Decimals.{HasDigits, IsNumberTo, IsTrim}
 pub use Rattle.roman_check.specs.Lines.{Holds}
-pub use Rattle.roman_check.specs.Missing.{NoneMissing}
+pub use Rattle.roman_check.specs.Missing.{NoneMissing, could_be_by}
 pub use Rattle.roman_check.specs.Patterns.{IsPattern}
-pub use Rattle.roman_check.specs.Readers.{Closes, EndsLine, HasLines, HasReached, IsBetween, IsReading, IsSplit, ReadsPart, ReadsPiece, one_if_clean}
+pub use Rattle.roman_check.specs.Readers.{Closes, EndsLine, HasLines, HasReached, IsAtFault, IsBetween, IsReading, IsSplit, ReadsPart, one_if_clean}
 pub use Rattle.roman_check.specs.Readings.{HasEntry, HasParts, IsEndedAt, ReadsOff, entry_with}
 pub use Rattle.roman_check.specs.Remain.{Clears, Remain, Removes}
 pub use Rattle.roman_check.specs.Verdicts.{fault_of}

@@ -1,5 +1,5 @@
 -- Reasons that hold, and pairs that are missing.
-use Rattle.roman_check.proofs.Common.{◌≡◌, ◌≢◌, ℕ, ◌+◌, ◌-◌, ◌*◌, ◌^◌, ◌/◌, ◌%◌, ◌<◌, ◌≤◌, Bool, true, false, not, ◌&&◌, ◌||◌, List, get_or, [], ◌∷◌, length, Some, None, find, sym, ap, ap₂, ◌∙◌, subst, inl, inr, arith, add-one, bit_and, bit_or, eqb, list_any, trailing_zeros, w64, bit_at, or-false, and_comm, cases_lt, eq-eqb, false≢true, mul-le, same_from_place, div-add-mod', div_below, le-div, row_fits, list_any-append, IsIn, below, Arena, Entry, is_justified, is_listed, Reason, Act, could_be_listed, reasons, from_map, from_below, none_from, find_first, find_not_found, list_any-map, is_on, AreRows, HasLanes, on_and, on_zero, on_or, IsNumbered, NoneMissing, bit_at-trailing_zeros}
+use Rattle.roman_check.proofs.Common.{◌≡◌, ◌≢◌, ℕ, ◌+◌, ◌-◌, ◌*◌, ◌^◌, ◌/◌, ◌%◌, ◌<◌, ◌≤◌, Bool, true, false, not, ◌&&◌, ◌||◌, List, get_or, [], ◌∷◌, length, Some, None, find, sym, ap, ap₂, ◌∙◌, subst, inl, inr, arith, add-one, bit_or, eqb, zero, suc, refl, bit_and, list_any, trailing_zeros, w64, bit_at, or-false, cases_lt, eq-eqb, false≢true, mul-le, same_from_place, row_fits, list_any-append, IsIn, below, Arena, Entry, is_justified, is_listed, Reason, Act, could_be_listed, reasons, could_be_by, NoneMissing, from_map, from_below, none_from, find_first, find_not_found, list_any-map, is_on, AreRows, HasLanes, on_zero, on_or, on_and, IsNumbered, bit_at-trailing_zeros}
 
 -- Reasons
 
@@ -18,33 +18,33 @@ any_below_more test n =
 pub one_more : (left : Bool) (test : Reason → Bool) (a : ℕ) → ((left && list_any test (reasons a)) || (left && test (Act a))) ≡ (left && list_any test (reasons (a + 1)))
 one_more left test a = grind (arith, any_below_more, list_any-map)
 
--- the pairs of a row that are missing by clause 2
-pub final_lanes : (A : Arena ℕ) (gone : ℕ → Bool) (lanes x unfine left : ℕ) → HasLanes lanes x (λ p. not (A.fine p)) unfine → HasLanes lanes x (λ p. not (gone p)) left →
-    HasLanes lanes x (λ p. not (gone p) && list_any (is_justified A gone p) (reasons 0)) (bit_and unfine left)
-final_lanes A gone lanes x unfine left fine rest = record {
-  each = λ lane l. on_and unfine left lane ∙ ap₂ (λ a b. a && b) (fine.each lane l) (rest.each lane l) ∙ and_comm (not (A.fine (x * lanes + lane))) (not (gone (x * lanes + lane))) ∙ ap (λ b. not (gone (x * lanes + lane)) && b) (sym (or-false (not (A.fine (x * lanes + lane)))));
-  rest = λ lane l. on_and unfine left lane ∙ ap (λ b. b && is_on left lane) (fine.rest lane l);
-}
+-- all actions were asked about
+pub all_asked : (A : Arena ℕ) (L : List (Entry ℕ)) (lanes x word actions : ℕ) → HasLanes lanes x (could_be_by A L actions) word → actions ≡ A.actions → HasLanes lanes x (could_be_listed A L) word
+all_asked A L lanes x word actions has all = subst (λ n. HasLanes lanes x (could_be_by A L n) word) all has
 
--- the same where one more action is asked about
-pub more_lanes : (A : Arena ℕ) (gone : ℕ → Bool) (lanes x missing left lost a : ℕ) → HasLanes lanes x (λ p. not (gone p) && list_any (is_justified A gone p) (reasons a)) missing → HasLanes lanes x (λ p. not (gone p)) left →
-    ((lane : ℕ) → lane < lanes → is_on lost lane ≡ (is_on left lane && is_justified A gone (x * lanes + lane) (Act a))) → ((lane : ℕ) → is_on left lane ≡ false → is_on lost lane ≡ false) →
-    HasLanes lanes x (λ p. not (gone p) && list_any (is_justified A gone p) (reasons (a + 1))) (bit_or missing lost)
-more_lanes A gone lanes x missing left lost a so_far rest here none = record {
-  each = λ lane l. on_or missing lost lane ∙ ap₂ (λ b d. b || d) (so_far.each lane l) (here lane l ∙ ap (λ b. b && is_justified A gone (x * lanes + lane) (Act a)) (rest.each lane l)) ∙ one_more (not (gone (x * lanes + lane))) (is_justified A gone (x * lanes + lane)) a;
-  rest = λ lane l. on_or missing lost lane ∙ ap₂ (λ b d. b || d) (so_far.rest lane l) (none lane (rest.rest lane l));
-}
-
--- Bands
+pub and_lanes : (lanes x a b : ℕ) (test : ℕ → Bool) → HasLanes lanes x test b → (lane : ℕ) → lane < lanes → is_on (bit_and a b) lane ≡ (is_on a lane && test (x * lanes + lane))
+and_lanes lanes x a b test has lane l = on_and a b lane ∙ ap (λ t. is_on a lane && t) (has.each lane l)
 
 -- the words of a band are those of its rows
-pub copied_on : (lanes x from i lane : ℕ) (gone : ℕ → Bool) (words : List ℕ) (word : ℕ) → AreRows lanes (λ q. not (gone q)) words → x + i < length words → lane < lanes → from ≡ x → word ≡ get_or words (from + i) 0 →
-    is_on word lane ≡ not (gone ((x + i) * lanes + lane))
-copied_on lanes x from i lane gone words word rows within l start same = ap (λ w. is_on w lane) (same ∙ ap (λ m. get_or words (m + i) 0) start) ∙ (rows.each (x + i) within).each lane l
+pub copied : (lanes x from i word : ℕ) (gone : ℕ → Bool) (words : List ℕ) → AreRows lanes (λ q. not (gone q)) words → x + i < length words → from ≡ x → word ≡ get_or words (from + i) 0 → HasLanes lanes (x + i) (λ q. not (gone q)) word
+copied lanes x from i word gone words rows within start same = subst (HasLanes lanes (x + i) (λ q. not (gone q))) (sym (same ∙ ap (λ m. get_or words (m + i) 0) start)) (rows.each (x + i) within)
 
--- where no lane is on, no pair is both left and passes the test
-pub is_off : (word lane : ℕ) (left test : Bool) → word ≡ 0 → is_on word lane ≡ (left && test) → left && test ≡ false
-is_off word lane left test none is = sym is ∙ (ap (λ w. is_on w lane) none ∙ on_zero lane)
+module _ (A : Arena ℕ) (L : List (Entry ℕ)) (lanes x left lost : ℕ) (rest : HasLanes lanes x (λ p. not (is_listed A L p)) left) (none : (lane : ℕ) → is_on left lane ≡ false → is_on lost lane ≡ false) where
+  -- where no pair of a row is left, none is missing
+  pub none_left : left ≡ 0 → HasLanes lanes x (could_be_listed A L) 0
+  none_left empty = record { each = grind (arith, rest.each, on_zero, empty); rest = λ lane l. on_zero lane }
+
+  -- the pairs of a row that are missing by clause 2
+  pub final_lanes : ((lane : ℕ) → lane < lanes → is_on lost lane ≡ (is_on left lane && not (A.fine (x * lanes + lane)))) → HasLanes lanes x (could_be_by A L 0) lost
+  final_lanes here = record { each = λ lane l. grind (arith, here lane l, rest.each lane l, or-false); rest = λ lane l. none lane (rest.rest lane l) }
+
+  -- the same where one more action is asked about
+  pub more_lanes : (missing a : ℕ) → HasLanes lanes x (could_be_by A L a) missing → ((lane : ℕ) → lane < lanes → is_on lost lane ≡ (is_on left lane && is_justified A (is_listed A L) (x * lanes + lane) (Act a))) →
+      HasLanes lanes x (could_be_by A L (a + 1)) (bit_or missing lost)
+  more_lanes missing a so_far here = record {
+    each = λ lane l. on_or missing lost lane ∙ ap₂ (λ b d. b || d) (so_far.each lane l) (here lane l ∙ ap (λ b. b && is_justified A (is_listed A L) (x * lanes + lane) (Act a)) (rest.each lane l)) ∙ one_more (not (is_listed A L (x * lanes + lane))) (is_justified A (is_listed A L) (x * lanes + lane)) a;
+    rest = λ lane l. on_or missing lost lane ∙ ap₂ (λ b d. b || d) (so_far.rest lane l) (none lane (rest.rest lane l));
+  }
 
 -- The least one
 
@@ -74,20 +74,6 @@ module _ (A : Arena ℕ) (lanes : ℕ) (words : List ℕ) where
   abbrev Unlisted : List (Entry ℕ) → Type 0
   Unlisted L = AreRows lanes (λ p. not (is_listed A L p)) words
 
-  -- no pair of the rows from row x on, as many as there are, is missing
-  pub rows_searched : (x many : ℕ) → 0 < lanes → NoneMissing A lanes words (x * lanes) → ((L : List (Entry ℕ)) → Unlisted L → (i lane : ℕ) → i < many → lane < lanes → could_be_listed A L ((x + i) * lanes + lane) ≡ false) →
-      NoneMissing A lanes words ((x + many) * lanes)
-  rows_searched x many some so_far none = record {
-    none = λ L rows q l. elim (cases_lt q (x * lanes)) [
-      | inl less ↦ so_far.none L rows q less
-      | inr more ↦
-          let low : x ≤ q / lanes = le-div x q lanes some more in
-          let high : q / lanes < x + many = div_below q lanes (x + many) some l in
-          let row : x + (q / lanes - x) ≡ q / lanes = omega arith in
-          subst (λ p. could_be_listed A L p ≡ false) (ap (λ n. n * lanes + q % lanes) row ∙ div-add-mod' q lanes) (none L rows (q / lanes - x) (q % lanes) (omega arith) (omega arith))
-    ];
-  }
-
   module _ (x word : ℕ) (so_far : NoneMissing A lanes words (x * lanes)) (has : (L : List (Entry ℕ)) → Unlisted L → HasLanes lanes x (could_be_listed A L) word) where
     -- no pair before a lane of the row is missing, where the word has no bit before it
     before_lane : (lane : ℕ) → lane ≤ lanes → ((i : ℕ) → i < lane → is_on word i ≡ false) → NoneMissing A lanes words (x * lanes + lane)
@@ -113,6 +99,12 @@ module _ (A : Arena ℕ) (lanes : ℕ) (words : List ℕ) where
         let fits : (x * lanes + lane) % 2 ^ 32 ≡ x * lanes + lane = omega (arith, ok.few_nodes) in
         ap Some fits ∙ sym (ap (find (could_be_listed A L)) ok.nodes ∙ find_first (could_be_listed A L) (length A.nodes) (x * lanes + lane) (omega arith) (sym ((has L rows).each lane l) ∙ on)
         ((before_lane lane (omega arith) before).none L rows))
+
+  -- no pair of the rows from row x on, as many as there are, is missing
+  pub rows_searched : (x many : ℕ) → NoneMissing A lanes words (x * lanes) → ((L : List (Entry ℕ)) → Unlisted L → (i : ℕ) → i < many → HasLanes lanes (x + i) (could_be_listed A L) 0) → NoneMissing A lanes words ((x + many) * lanes)
+  rows_searched x zero so_far none = subst (NoneMissing A lanes words) (omega arith) so_far
+  rows_searched x (suc many) so_far none =
+      subst (NoneMissing A lanes words) (omega arith) (row_searched (x + many) 0 (rows_searched x many so_far (λ L rows i l. none L rows i (omega arith))) (λ L rows. none L rows many (omega arith)) refl)
 
   -- no pair is missing
   pub all_searched : (bound : ℕ) → IsNumbered A → length A.nodes ≤ bound → NoneMissing A lanes words bound → (L : List (Entry ℕ)) → Unlisted L → None ≡ find (could_be_listed A L) A.nodes

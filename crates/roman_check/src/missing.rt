@@ -21,7 +21,7 @@ fn missing_in<J: Rules>(joint: &J, words: &[u64], x: u32) -> u64
     joint.known(); // a row has 1 to 64 lanes
     let left = words[x as usize];
     let row = joint.row(x);
-    let mut missing = joint.unfine(&row) & left;
+    let mut missing = left & joint.unfine(&row);
     for a in 0..joint.actions() {
         missing |= joint.unserved(&row, words, a, left);
     }
@@ -38,7 +38,7 @@ fn misses_some<J: Rules>(joint: &J, words: &[u64], y: u32, resting: u64, left: &
     ensures long { length left.new ≡ length left.old }
     ensures none { let A = J.arena joint.now in let lanes = J.lanes joint.now in
         result ≡ false → (L : List (Entry ℕ)) → AreRows lanes (λ p. not (is_listed A L p)) words.now →
-        (i lane : ℕ) → i < J.band joint.now → lane < lanes → could_be_listed A L ((y * J.band joint.now + i) * lanes + lane) ≡ false }
+        (i : ℕ) → i < J.band joint.now → HasLanes lanes (y * J.band joint.now + i) (could_be_listed A L) 0 }
 {
     joint.known(); // a row has 1 to 64 lanes, a band has 1 to 64 rows
     let x = y * joint.band();

@@ -1,4 +1,4 @@
-use Rattle.roman_check.proofs.Common.{◌≡◌, ℕ, ◌+◌, ◌*◌, ◌<◌, ◌&&◌, false, not, List, length, list_any, Entry, is_listed, is_justified, reasons, AreRows}
+use Rattle.roman_check.proofs.Common.{◌≡◌, ℕ, ◌+◌, ◌*◌, ◌<◌, not, List, length, Entry, is_listed, AreRows, HasLanes, could_be_by}
 use Rattle.roman_check.proofs.missing.misses_some.Given as goal
 
 -- clause 2 and the actions so far aren't reasons at the band's pairs that aren't listed
@@ -9,6 +9,5 @@ invariant-loop-a g l =
     let w = g.J.Rules.band l.joint in
     record {
       long : length l.left ≡ length l.fn.left;
-      none : (L : List (Entry ℕ)) → AreRows n (λ p. not (is_listed A L p)) l.words → (i lane : ℕ) → i < w → lane < n →
-          not (is_listed A L ((l.y * w + i) * n + lane)) && list_any (is_justified A (is_listed A L) ((l.y * w + i) * n + lane)) (reasons l.a) ≡ false;
+      none : (L : List (Entry ℕ)) → AreRows n (λ p. not (is_listed A L p)) l.words → (i : ℕ) → i < w → HasLanes n (l.y * w + i) (could_be_by A L l.a) 0;
     }

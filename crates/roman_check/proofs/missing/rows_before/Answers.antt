@@ -9,7 +9,7 @@ loop-y-preserved g c =
     let next : c.loop-y.y * band + band ≡ (c.loop-y.y + 1) * band = omega arith in
     record {
       long = c.misses_some.ensures.long ∙ c.loop-y.invariant.long;
-      none = subst (λ n. NoneMissing (g.J.Rules.arena c.args.joint.now) lanes c.args.words.now (n * lanes)) next (rows_searched _ _ _ (c.loop-y.y * band) band c.known.ensures.lanes.0 c.loop-y.invariant.none (c.misses_some.ensures.none c.if-misses_some.false));
+      none = subst (λ n. NoneMissing (g.J.Rules.arena c.args.joint.now) lanes c.args.words.now (n * lanes)) next (rows_searched _ _ _ (c.loop-y.y * band) band c.loop-y.invariant.none (c.misses_some.ensures.none c.if-misses_some.false));
     }
 
 pub returns-then-misses_some : goal.returns-then-misses_some
