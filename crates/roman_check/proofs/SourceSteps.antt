@@ -1,5 +1,5 @@
 -- Certificates that are taken from a source piece by piece.
-use Rattle.roman_check.proofs.Common.{◌≡◌, ℕ, ◌+◌, ◌<◌, ◌≤◌, List, [], ◌∷◌, ◌++◌, length, take, drop, Option, Some, sym, ap, ◌∙◌, subst, arith, append_assoc, append-nil, length-append, length-take-le, None, take-append-drop, take-take, take_at, take_all, length-take, Gave, EndsAt, GaveAtMost, IsAtEnd, Gave-then, gave_at_most, had_more, text_of_lines, ended_lines, Arena, MAX_CERTIFICATE_BYTES, Reader, Why, fault_of, IsReading, ReadsPiece, faults, ended_lines-text, ended_lines_last, faults_none, verdict_rejected, verdict_too_long, HaveVerdict, NoneAtFault}
+use Rattle.roman_check.proofs.Common.{◌≡◌, ℕ, ◌+◌, ◌<◌, ◌≤◌, List, [], ◌∷◌, ◌++◌, length, take, drop, Option, Some, sym, ap, ◌∙◌, subst, arith, append_assoc, append-nil, length-append, length-take-le, None, length-drop, take-append-drop, take-take, take_at, length-take, Gave, EndsAt, GaveAtMost, IsAtEnd, Gave-then, gave_at_most, had_more, text_of_lines, ended_lines, Arena, MAX_CERTIFICATE_BYTES, Reader, Why, fault_of, IsAtFault, HasReached, ReadsPart, IsReading, faults, cert_verdict, ended_lines-text, ended_lines_last, faults_none, verdict_rejected, verdict_too_long, HaveVerdict, NoneAtFault}
 use Rattle.roman_model.specs.Certificate as text
 
 -- a source that gives nothing is at its end
@@ -28,63 +28,35 @@ failed_clean A before mid now taken reader r first second = record {
 
 -- Pieces
 
--- the bytes taken so far were read; then `count` bytes were taken into `into`, and the first `due` of them are read
-module _ (A : Arena ℕ) (start : ℕ) (before mid now : Option (List ℕ)) (taken into : List ℕ) (due count lanes : ℕ) (old new : Reader) (r : IsReading A taken old) (first : Gave before mid taken) (second : Gave mid now (take count into))
-    (least : due ≤ count) (bound : count ≤ length into) (fault : Option Why) (fed : ReadsPiece A lanes old new (take due into) fault) where
-  abbrev got : List ℕ
-  got = take count into
+-- what was read of a piece: of the first `due` bytes that were taken into `into`
+pub first_part : (A : Arena ℕ) (lanes : ℕ) (old new : Reader) (into taken : List ℕ) (due to : ℕ) (fault : Option Why) → ReadsPart A lanes old new (take due into) 0 to fault → IsReading A taken old → HasReached A (taken ++ take to into) new fault
+first_part A lanes old new into taken due to fault part r =
+    subst (λ bs. HasReached A (taken ++ bs) new fault) (take-take to due into (omega (arith, part.high, length-take due into))) (part.reads taken (subst (λ bs. IsReading A bs old) (sym (append-nil taken)) r))
 
-  abbrev front : List ℕ
-  front = take fed.to (take due into)
+-- the bytes taken so far were read; then `count` bytes were taken into `into`, and those before a place were read; the verdict on what was read stays that on all bytes
+pub told : (A : Arena ℕ) (start : ℕ) (before mid now : Option (List ℕ)) (taken into : List ℕ) (count to : ℕ) (verdict : text.Verdict) → Gave before mid taken → Gave mid now (take count into) → to ≤ count → count ≤ length into →
+    ((more : List ℕ) → length (taken ++ take to into) ≡ length taken + to → count ≤ to + length more → cert_verdict A start ((taken ++ take to into) ++ more) ≡ verdict) → HaveVerdict A start before verdict
+told A start before mid now taken into count to verdict first second low bound judged =
+    let got = take count into in
+    let (after, had) = had_more before now (taken ++ got) (Gave-then before mid now taken got first second) in
+    let more = drop to got ++ after in
+    let cut : got ≡ take to into ++ drop to got = sym (take-append-drop to got) ∙ ap (λ bs. bs ++ drop to got) (take-take to count into low) in
+    let whole : (taken ++ got) ++ after ≡ (taken ++ take to into) ++ more = ap (λ bs. (taken ++ bs) ++ after) cut ∙ simp append_assoc in
+    record {
+      bytes = (taken ++ got) ++ after;
+      had = had;
+      judged = ap (cert_verdict A start) whole ∙ judged more (omega (arith, length-append taken (take to into), length-take-le to into (omega arith)))
+          (omega (arith, length-append (drop to got) after, length-drop to got, length-take-le count into bound));
+    }
 
-  abbrev rest : List ℕ
-  rest = drop fed.to got
+-- a line at fault ends within the limit
+pub rejected_at : (A : Arena ℕ) (start : ℕ) (bytes more : List ℕ) (clean_lines : ℕ) (why : Why) → IsAtFault A bytes clean_lines why → length bytes ≤ MAX_CERTIFICATE_BYTES → cert_verdict A start (bytes ++ more) ≡ text.Rejected (clean_lines + 1) (fault_of why)
+rejected_at A start bytes more clean_lines why at short =
+    let lines = text_of_lines (at.text ++ at.line ∷ []) in
+    verdict_rejected A start (bytes ++ more) at.text at.line (at.more ++ more) (fault_of why) (ap (λ bs. bs ++ more) at.split.is ∙ append_assoc lines at.more more) at.split.whole
+    (omega (arith, ap length at.split.is, length-append lines at.more)) at.clean at.fault ∙ ap (λ m. text.Rejected (m + 1) (fault_of why)) (sym at.counted)
 
-  -- the bytes that are read next
-  next : IsReading A (taken ++ []) old
-  next = subst (λ bs. IsReading A bs old) (sym (append-nil taken)) r
-
-  -- what was read, at most `due` bytes more
-  short : length front ≤ due
-  short = omega (arith, length-take fed.to (take due into), length-take due into)
-
-  -- all of the piece
-  full : fault ≡ None → (fed.to ≡ due) × (length front ≡ due)
-  full none = (omega (arith, fed.whole none, length-take-le due into), omega (arith, fed.whole none, length-take-le due into, length-take fed.to (take due into)))
-
-  cut : got ≡ front ++ rest
-  cut = sym (take-append-drop fed.to got) ∙ ap (λ bs. bs ++ rest) (take-take fed.to count into (omega (arith, fed.read.high, length-take due into)) ∙ sym (take-take fed.to due into (omega (arith, fed.read.high, length-take due into))))
-
-  whole : (after : List ℕ) → (taken ++ got) ++ after ≡ (taken ++ front) ++ (rest ++ after)
-  whole after = ap (λ bs. (taken ++ bs) ++ after) cut ∙ ap (λ bs. bs ++ after) (sym (append_assoc taken front rest)) ∙ append_assoc (taken ++ front) rest after
-
-  -- a line at fault ends within the limit
-  pub rejected_at : (why : Why) → length taken + due ≤ MAX_CERTIFICATE_BYTES → fault ≡ Some why → HaveVerdict A start before (text.Rejected (new.lines + 1) (fault_of why))
-  rejected_at why within some =
-      let (after, had) = had_more before now (taken ++ got) (Gave-then before mid now taken got first second) in
-      let at = rw some at (fed.read.reads taken next) in
-      let lines = text_of_lines (at.text ++ at.line ∷ []) in
-      record {
-        bytes = (taken ++ got) ++ after;
-        had = had;
-        judged = verdict_rejected A start ((taken ++ got) ++ after) at.text at.line (at.more ++ (rest ++ after)) (fault_of why)
-            (whole after ∙ ap (λ bs. bs ++ (rest ++ after)) at.split.is ∙ append_assoc lines at.more (rest ++ after)) at.split.whole
-            (omega (arith, short, ap length at.split.is, length-append lines at.more, length-append taken front)) at.clean at.fault ∙ ap (λ m. text.Rejected (m + 1) (fault_of why)) (sym at.counted);
-      }
-
-  -- the limit is passed, and no line that ends within it is at fault
-  pub passed_limit : length taken + due ≡ MAX_CERTIFICATE_BYTES → due < count → fault ≡ None → HaveVerdict A start before text.TooLong
-  passed_limit limit more none =
-      let (after, had) = had_more before now (taken ++ got) (Gave-then before mid now taken got first second) in
-      let read = rw none at (fed.read.reads taken next) in
-      record {
-        bytes = (taken ++ got) ++ after;
-        had = had;
-        judged = verdict_too_long A start ((taken ++ got) ++ after) read.text
-            (omega (arith, more, length-append (taken ++ got) after, length-append taken got, length-take-le count into bound))
-            (ap ended_lines (ap (take MAX_CERTIFICATE_BYTES) (whole after) ∙ take_at (taken ++ front) (rest ++ after) MAX_CERTIFICATE_BYTES (omega (arith, full none, length-append taken front))) ∙ ended_text A (taken ++ front) new read) read.has.clean;
-      }
-
-  -- all of the bytes are read
-  pub read_on : due ≡ count → fault ≡ None → IsReading A (taken ++ got) new
-  read_on all none = subst (λ bs. IsReading A (taken ++ bs) new) (take_all fed.to (take due into) (omega (arith, fed.whole none)) ∙ ap (λ n. take n into) all) (rw none at (fed.read.reads taken next))
+-- the limit is passed, and no line that ends within it is at fault
+pub passed_limit : (A : Arena ℕ) (start : ℕ) (bytes more : List ℕ) (reader : Reader) → IsReading A bytes reader → length bytes ≡ MAX_CERTIFICATE_BYTES → 0 < length more → cert_verdict A start (bytes ++ more) ≡ text.TooLong
+passed_limit A start bytes more reader r full some =
+    verdict_too_long A start (bytes ++ more) r.text (omega (arith, length-append bytes more)) (ap ended_lines (take_at bytes more MAX_CERTIFICATE_BYTES full) ∙ ended_text A bytes reader r) r.has.clean
