@@ -1,5 +1,5 @@
 -- Lines that are read as entries.
-use Rattle.roman_check.proofs.Common.{◌≡◌, ◌≢◌, ℕ, suc, ◌+◌, ◌-◌, ◌^◌, ◌<◌, Bool, List, ◌∷◌, ◌++◌, length, take, drop, get_or, None, Some, IsTrue, IsFalse, decimal, codes, refl, sym, ap, ap₂, ◌∙◌, subst, inl, arith, length-append, AllDigits, both_ways, ne_eqb, take_all, take_at, drop_more, get_or_at, IsIn, has, same_numbers, Entry, Reason, Final, Act, count_line, reason_text, entry_line, reasons, entry_of, from_map, from_below, same_numbers_itself, AreFew, act_reason, from_possible, possible_small, entry_of_none, IsSmall, cut_at, decimal_without, in_possible, entry_of-line, IsNumberTo, ReadsOff}
+use Rattle.roman_check.proofs.Common.{◌≡◌, ◌≢◌, ℕ, suc, ◌+◌, ◌-◌, ◌^◌, ◌<◌, Bool, List, ◌∷◌, ◌++◌, length, take, drop, get_or, None, Some, IsTrue, IsFalse, decimal, codes, refl, sym, ap, ap₂, ◌∙◌, subst, inl, arith, length-append, both_ways, ne_eqb, take_all, take_at, drop_more, get_or_at, IsIn, has, same_numbers, Entry, Reason, Final, Act, count_line, reason_text, entry_line, reasons, entry_of, from_map, from_below, same_numbers_itself, AreFew, act_reason, from_possible, possible_small, entry_of_none, IsSmall, cut_at, decimal_without, in_possible, entry_of-line, IsNumberTo, ReadsOff}
 use Rattle.roman_check.proofs.DigitLemmas.{decimal_shape, no_stop_digit}
 use Rattle.roman_check.proofs.Texts.{same_from, clear_before, taken_more}
 
@@ -56,19 +56,15 @@ entry_parts line front back x cut small e =
 -- a line that doesn't begin with digits and a space isn't the line of an entry
 pub no_number : (pairs actions : ℕ) (line : List ℕ) → pairs < 2 ^ 32 → ((i : ℕ) → IsNumberTo 32 line i → ⊥) → entry_of pairs actions line ≡ None
 no_number pairs actions line few none = entry_of_none pairs actions line (λ x i e.
-    let l : x.node < pairs = (from_possible pairs actions x i).0 in
-    none (length (decimal x.node)) (subst (λ bs. IsNumberTo 32 bs (length (decimal x.node))) e (begins x (omega arith))))
-  where
-    begins : (x : Entry ℕ) → x.node < 2 ^ 32 → IsNumberTo 32 (entry_line x) (length (decimal x.node))
-    begins x small =
-        let ds = decimal x.node in
-        let (all, trim, value) = decimal_shape x.node ds small refl in
-        record {
-          few = trim.few;
-          within = omega (arith, length-append ds (32 ∷ reason_text x.reason));
-          digits = subst (AllDigits 10) (sym (take_at ds (32 ∷ reason_text x.reason) (length ds) refl)) all;
-          stops = get_or_at ds 32 (reason_text x.reason) 0 (length ds) refl;
-        }
+    let ds = decimal x.node in
+    let inside : x.node < pairs = (from_possible pairs actions x i).0 in
+    let (all, trim, value) = decimal_shape x.node ds (omega arith) refl in
+    none (length ds) (subst (λ bs. IsNumberTo 32 bs (length ds)) e (record {
+      few = trim.few;
+      within = omega (arith, length-append ds (32 ∷ reason_text x.reason));
+      digits = rw (take_at ds (32 ∷ reason_text x.reason) (length ds) refl) all;
+      stops = get_or_at ds 32 (reason_text x.reason) 0 (length ds) refl;
+    })))
 
 -- a line whose parts aren't the number of a pair and the text of a reason isn't the line of an entry
 pub no_parts : (pairs actions : ℕ) (line front back : List ℕ) → AreFew pairs actions → IsCut line front back →
