@@ -1,5 +1,5 @@
 -- Lines that are judged by those that were read.
-use Rattle.roman_check.proofs.Common.{◌≡◌, ℕ, ◌+◌, ◌*◌, ◌<◌, ◌==◌, Bool, true, false, not, ◌||◌, List, [], ◌∷◌, ◌++◌, length, Option, Some, None, IsTrue, IsFalse, option_map, find, refl, sym, ap, ◌∙◌, subst, arith, append-nil, if◌then◌else◌, list_any, cons_option, or-false, cond-true, cond-false, not-true, or_left, not-false, list_any-append, IsIn, same_numbers, Arena, Entry, is_listed, is_justified, head_line, count_line, reasons, entry_of, entries_on, could_be_listed, end_line, entry_fault, end_fault, body_fault, same_numbers_is, AreFew, from_possible, possible_small, entry_of-is, entry_of_other, fault_in_body, fault_after_end, entry_is_no_end, Reason, Final, Act, AreRows, IsNumbered, Audit, Nothing, Body, Head, Count, Why, Form, fault_of, IsInRows, HasListed, Judges, TakesEntry, due_after, Removes, HoldsWhereKept, IsReasonOf, filter_map-append, known_more, Due}
+use Rattle.roman_check.proofs.Common.{◌≡◌, ℕ, ◌+◌, ◌*◌, ◌<◌, ◌==◌, Bool, true, false, not, ◌||◌, List, [], ◌∷◌, ◌++◌, length, Option, Some, None, IsTrue, IsFalse, option_map, find, refl, sym, ap, ◌∙◌, subst, arith, append-nil, if◌then◌else◌, list_any, cons_option, or-false, cond-true, cond-false, not-true, or_left, not-false, list_any-append, IsIn, same_numbers, Arena, Entry, is_listed, is_justified, head_line, count_line, reasons, entry_of, entries_on, could_be_listed, end_line, entry_fault, end_fault, body_fault, same_numbers_is, AreFew, from_possible, possible_small, entry_of-is, entry_of_other, fault_in_body, fault_after_end, entry_is_no_end, Reason, Final, Act, AreRows, IsNumbered, Audit, Nothing, Body, Head, Count, Why, Form, fault_of, IsInRows, HasListed, Judges, TakesEntry, due_after, Removes, HoldsWhereKept, IsReasonOf, filter_map-append, known_more, Due, Asked, Remaining}
 use Rattle.roman_model.specs.Certificate as text
 use Rattle.roman_check.proofs.ReasonLemmas.{given_action, row_ends, row_within}
 
@@ -23,8 +23,8 @@ listed_more : (A : Arena ℕ) → IsNumbered A → (L : List (Entry ℕ)) (x : E
 listed_more A ok L x q = list_any-append (λ y. A.same q y.node) L (x ∷ []) ∙ ap (λ b. is_listed A L q || b) (or-false (A.same q x.node) ∙ ok.same q x.node)
 
 -- what an audit holds, by the lanes of the system
-pub listed_rows : (A : Arena ℕ) (L : List (Entry ℕ)) (audit : Audit) (lanes : ℕ) → HasListed A L audit → audit.left.lanes ≡ lanes → (words : List ℕ) → words ≡ audit.left.words.items → AreRows lanes (λ q. not (is_listed A L q)) words
-listed_rows A L audit lanes has shaped words same = subst (AreRows lanes (λ q. not (is_listed A L q))) (sym same) (subst (λ m. AreRows m (λ q. not (is_listed A L q)) audit.left.words.items) shaped has.left.rows)
+pub listed_rows : (A : Arena ℕ) (L : List (Entry ℕ)) (left : Remaining) (asked : Asked) (lanes : ℕ) → HasListed A L left asked → left.lanes ≡ lanes → (words : List ℕ) → words ≡ left.words.items → AreRows lanes (λ q. not (is_listed A L q)) words
+listed_rows A L left asked lanes has shaped words same = subst (AreRows lanes (λ q. not (is_listed A L q))) (sym same) (subst (λ m. AreRows m (λ q. not (is_listed A L q)) left.words.items) shaped has.remain.rows)
 
 reason_given : (A : Arena ℕ) (r : Reason) → IsIn r (reasons A.actions) → IsReasonOf A r
 reason_given A Final i = tt
@@ -37,12 +37,12 @@ entry_given A line x e =
     (i, reason_given A x.reason given)
 
 -- the row of a pair is one of the table
-pub pair_within : (lanes pairs : ℕ) (audit : Audit) → IsInRows lanes pairs audit → (p row lane : ℕ) → row * audit.left.lanes + lane ≡ p → p < pairs → row < length audit.left.words.items
-pair_within lanes pairs audit shaped p row lane e l = grind (arith, row_within)
+pub pair_within : (lanes pairs : ℕ) (left : Remaining) → IsInRows lanes pairs left → (p row lane : ℕ) → row * left.lanes + lane ≡ p → p < pairs → row < length left.words.items
+pair_within lanes pairs left shaped p row lane e l = grind (arith, row_within)
 
 -- a place of the table is that of a pair
-pub place_within : (lanes pairs : ℕ) (audit : Audit) → IsInRows lanes pairs audit → (row lane : ℕ) → row < length audit.left.words.items → lane < audit.left.lanes → row * audit.left.lanes + lane < pairs
-place_within lanes pairs audit shaped row lane l m = omega (arith, row_ends row (length audit.left.words.items) audit.left.lanes l, ap (λ n. length audit.left.words.items * n) shaped.in_rows ∙ shaped.room)
+pub place_within : (lanes pairs : ℕ) (left : Remaining) → IsInRows lanes pairs left → (row lane : ℕ) → row < length left.words.items → lane < left.lanes → row * left.lanes + lane < pairs
+place_within lanes pairs left shaped row lane l m = omega (arith, row_ends row (length left.words.items) left.lanes l, ap (λ n. length left.words.items * n) shaped.in_rows ∙ shaped.room)
 
 -- the last line, where this pair or no pair is missing
 pub end_judged : (A : Arena ℕ) (L : List (Entry ℕ)) (line : List ℕ) (found : Option ℕ) → found ≡ find (could_be_listed A L) A.nodes → IsTrue (same_numbers end_line line) → option_map text.Unlisted found ≡ body_fault A L (Some line)
@@ -86,20 +86,16 @@ lines_due due lines e = subst (λ due. IsDue due lines) (sym e) (due_so_far line
 
 -- The first two lines
 
--- a change of the line that is due doesn't change the list
-pub same_listed : (A : Arena ℕ) (L : List (Entry ℕ)) (old new : Audit) → new.left ≡ old.left → new.asked ≡ old.asked → HasListed A L old → HasListed A L new
-same_listed A L old new left asked has = grind arith
-
 opening_fault : (b : Bool) (fault : Option Why) → fault ≡ (if b then None else Some Form) → option_map fault_of fault ≡ (if b then None else Some text.Form)
 opening_fault b fault e = grind arith
 
 pub judged_head : (A : Arena ℕ) (old new : Audit) (line : List ℕ) (fault : Option Why) → old.due ≡ Head → fault ≡ (if same_numbers head_line line then None else Some Form) →
     (fault ≡ None → new.due ≡ Count) → new ≡ record old { due = new.due } → Judges A old new line fault
-judged_head A old new line fault due named next same = grind (arith, lines_due Head, opening_fault, same_listed)
+judged_head A old new line fault due named next same = grind (arith, lines_due Head, opening_fault)
 
 pub judged_count : (A : Arena ℕ) (old new : Audit) (line : List ℕ) (fault : Option Why) → old.due ≡ Count → fault ≡ (if same_numbers (count_line (length A.nodes)) line then None else Some Form) →
     (fault ≡ None → new.due ≡ Body) → new ≡ record old { due = new.due } → Judges A old new line fault
-judged_count A old new line fault due named next same = grind (arith, lines_due, opening_fault, same_listed)
+judged_count A old new line fault due named next same = grind (arith, lines_due, opening_fault)
 
 -- The lines after them
 
@@ -108,47 +104,36 @@ due_more : (body : List (List ℕ)) (line : List ℕ) (due : Due) → IsFalse (l
 due_more body line due none is = grind (arith, list_any-append, or-false)
 
 pub judged_body : (A : Arena ℕ) (old new : Audit) (line : List ℕ) (fault : Option Why) → old.due ≡ Body →
-    ((L : List (Entry ℕ)) → HasListed A L old → option_map fault_of fault ≡ body_fault A L (Some line)) →
-    ((L : List (Entry ℕ)) → HasListed A L old → fault ≡ None → HasListed A (L ++ entries_on A (line ∷ [])) new) →
+    ((L : List (Entry ℕ)) → HasListed A L old.left old.asked → option_map fault_of fault ≡ body_fault A L (Some line)) →
+    ((L : List (Entry ℕ)) → HasListed A L old.left old.asked → fault ≡ None → HasListed A (L ++ entries_on A (line ∷ [])) new.left new.asked) →
     new.due ≡ (if same_numbers end_line line then Nothing else old.due) → Judges A old new line fault
 judged_body A old new line fault due named list next = grind (arith, lines_due Body, due_more, fault_in_body, filter_map-append)
 
--- a line of an entry
-judged_entry : (A : Arena ℕ) → IsNumbered A → (old new : Audit) (x : Entry ℕ) (fault : Option Why) → old.due ≡ Body →
-    ((L : List (Entry ℕ)) → HasListed A L old → option_map fault_of fault ≡ entry_fault A L (Some x)) →
-    ((L : List (Entry ℕ)) → HasListed A L old → fault ≡ None → HasListed A (L ++ x ∷ []) new) → new.due ≡ old.due → (line : List ℕ) → entry_of (length A.nodes) A.actions line ≡ Some x → Judges A old new line fault
-judged_entry A ok old new x fault due named list same line is =
-    let (i, e) = entry_of-is (length A.nodes) A.actions line x is in
-    let other : IsFalse (same_numbers end_line line) = subst (λ bs. IsFalse (same_numbers end_line bs)) e (entry_is_no_end x (possible_small (length A.nodes) A.actions x (few_numbered A ok) i)) in
-    judged_body A old new line fault due (λ L has. entry_judged A L line (option_map fault_of fault) (named L has ∙ sym (ap (entry_fault A L) is)) other)
-    (λ L has none. subst (λ o. HasListed A (L ++ cons_option o []) new) (sym is) (list L has none))
-    (same ∙ sym (cond-false (same_numbers end_line line) Nothing old.due other))
-
--- an entry at fault
-pub entry_refused : (A : Arena ℕ) → IsNumbered A → (lanes : ℕ) (old new : Audit) (x : Entry ℕ) (why : Why) → old.due ≡ Body → IsInRows lanes (length A.nodes) old → new.due ≡ old.due → x.node < length A.nodes → new.left ≡ old.left →
-    ((L : List (Entry ℕ)) → HasListed A L old → Some (fault_of why) ≡ entry_fault A L (Some x)) → TakesEntry A lanes old new x (Some why)
-entry_refused A ok lanes old new x why due shaped same inside left named = record {
+-- an entry is judged by the list
+pub entry_takes : (A : Arena ℕ) → IsNumbered A → (lanes : ℕ) (old new : Audit) (x : Entry ℕ) (fault : Option Why) → old.due ≡ Body → new.due ≡ old.due → x.node < length A.nodes → IsInRows lanes (length A.nodes) new.left →
+    ((L : List (Entry ℕ)) → HasListed A L old.left old.asked → option_map fault_of fault ≡ entry_fault A L (Some x)) →
+    ((L : List (Entry ℕ)) → HasListed A L old.left old.asked → fault ≡ None → HasListed A (L ++ x ∷ []) new.left new.asked) → TakesEntry A lanes old new x fault
+entry_takes A ok lanes old new x fault due same inside shaped named list = record {
+  judged = λ line is.
+      let (i, e) = entry_of-is (length A.nodes) A.actions line x is in
+      let other : IsFalse (same_numbers end_line line) = subst (λ bs. IsFalse (same_numbers end_line bs)) e (entry_is_no_end x (possible_small (length A.nodes) A.actions x (few_numbered A ok) i)) in
+      judged_body A old new line fault due (λ L has. entry_judged A L line (option_map fault_of fault) (named L has ∙ sym (ap (entry_fault A L) is)) other)
+      (λ L has none. subst (λ o. HasListed A (L ++ cons_option o []) new.left new.asked) (sym is) (list L has none))
+      (same ∙ sym (cond-false (same_numbers end_line line) Nothing old.due other));
   inside = inside;
-  judged = judged_entry A ok old new x (Some why) due named (λ L has none. (let h : ⊥ = cc in absurd h)) same;
-  shaped = grind arith;
+  shaped = shaped;
   due = same;
 }
 
 -- an entry without a fault
-pub entry_taken : (A : Arena ℕ) → IsNumbered A → (lanes : ℕ) (old new : Audit) (x : Entry ℕ) → old.due ≡ Body → IsInRows lanes (length A.nodes) old → new.due ≡ old.due → x.node < length A.nodes → Removes old.left new.left x.node →
-    ((L : List (Entry ℕ)) → HasListed A L old → (true ≡ not (is_listed A L x.node)) × IsTrue (is_justified A (is_listed A L) x.node x.reason) × HoldsWhereKept A old.left.lanes (is_listed A L) new.asked) → TakesEntry A lanes old new x None
-entry_taken A ok lanes old new x due shaped same inside removes holds = record {
-  inside = inside;
-  judged = judged_entry A ok old new x None due (λ L has. clean_entry A L x (holds L has).0 (holds L has).1) (λ L has none. listed L has) same;
-  shaped = record { in_rows = removes.lanes ∙ shaped.in_rows; room = ap (λ n. n * lanes) removes.rows ∙ shaped.room };
-  due = same;
-}
-  where
-    listed : (L : List (Entry ℕ)) → HasListed A L old → HasListed A (L ++ x ∷ []) new
-    listed L has = record {
-      left = removes.removed (length A.nodes) (is_listed A L) (is_listed A (L ++ x ∷ [])) has.left inside (not-true (is_listed A L x.node) (sym (holds L has).0)) (listed_more A ok L x);
+pub entry_taken : (A : Arena ℕ) → IsNumbered A → (lanes : ℕ) (old new : Audit) (x : Entry ℕ) → old.due ≡ Body → IsInRows lanes (length A.nodes) old.left → new.due ≡ old.due → x.node < length A.nodes → Removes old.left new.left x.node →
+    ((L : List (Entry ℕ)) → HasListed A L old.left old.asked → (true ≡ not (is_listed A L x.node)) × IsTrue (is_justified A (is_listed A L) x.node x.reason) × HoldsWhereKept A old.left.lanes (is_listed A L) new.asked) → TakesEntry A lanes old new x None
+entry_taken A ok lanes old new x due shaped same inside removes holds =
+    entry_takes A ok lanes old new x None due same inside (record { in_rows = removes.lanes ∙ shaped.in_rows; room = ap (λ n. n * lanes) removes.rows ∙ shaped.room })
+    (λ L has. clean_entry A L x (holds L has).0 (holds L has).1) (λ L has none. record {
+      remain = removes.removed (length A.nodes) (is_listed A L) (is_listed A (L ++ x ∷ [])) has.remain inside (not-true (is_listed A L x.node) (sym (holds L has).0)) (listed_more A ok L x);
       known = known_more A new.left.lanes _ _ _ (λ q gone. listed_more A ok L x q ∙ or_left _ _ gone) (subst (λ m. HoldsWhereKept A m (is_listed A L) new.asked) (sym removes.lanes) (holds L has).2);
-    }
+    })
 
 pub judged_after_end : (A : Arena ℕ) (old new : Audit) (line : List ℕ) → old.due ≡ Nothing → Judges A old new line (Some Form)
 judged_after_end A old new line due = grind (arith, lines_due, fault_after_end)

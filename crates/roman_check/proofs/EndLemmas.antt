@@ -38,10 +38,10 @@ counted_unlisted : (A : Arena ℕ) → IsNumbered A → (start : ℕ) (L : List 
 counted_unlisted A ok start L related alive count starts = grind (arith, length-filter)
 
 pub ended_greatest : (A : Arena ℕ) → IsNumbered A → (start : ℕ) (bytes : List ℕ) (reader : Reader) (alive : Bool) → HasLines A (lines bytes) reader → length bytes ≤ MAX_CERTIFICATE_BYTES → reader.audit.due ≡ Nothing →
-    ((L : List (Entry ℕ)) → HasListed A L reader.audit → alive ≡ not (is_listed A L start)) → cert_verdict A start bytes ≡ text.Greatest reader.audit.left.count alive
+    ((L : List (Entry ℕ)) → HasListed A L reader.audit.left reader.audit.asked → alive ≡ not (is_listed A L start)) → cert_verdict A start bytes ≡ text.Greatest reader.audit.left.count alive
 ended_greatest A ok start bytes reader alive has short ended starts =
     let (head, size, body, e, some) = lines_due Nothing (lines bytes) (sym ended ∙ has.read.due) in
     let L = entries_on A (drop 2 (lines bytes)) in
     verdict_accepted A start bytes (lines bytes) short refl has.clean (may_end A (lines bytes) reader.audit has.read ended)
     ∙ ap (unlisted A start) (opening_unread A ok (lines bytes) head size body e has.clean)
-    ∙ counted_unlisted A ok start L reader.audit.left.count alive has.read.list.left.counted (starts L has.read.list)
+    ∙ counted_unlisted A ok start L reader.audit.left.count alive has.read.list.remain.counted (starts L has.read.list)

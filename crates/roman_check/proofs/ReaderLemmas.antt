@@ -104,13 +104,13 @@ module _ (A : Arena ℕ) (lanes : ℕ) (old new : Reader) (piece : List ℕ) (fr
       })
 
 -- the bytes behind the last newline of a piece
-pub rest_read : (A : Arena ℕ) (lanes : ℕ) (old new : Reader) (piece rest : List ℕ) (from : ℕ) → from ≤ length piece → rest ≡ drop from piece → IsLine rest → IsInRows lanes (length A.nodes) old.audit → new.audit ≡ old.audit → new.lines ≡ old.lines →
+pub rest_read : (A : Arena ℕ) (lanes : ℕ) (old new : Reader) (piece rest : List ℕ) (from : ℕ) → from ≤ length piece → rest ≡ drop from piece → IsLine rest → IsInRows lanes (length A.nodes) old.audit.left → new.audit ≡ old.audit → new.lines ≡ old.lines →
     ((bytes : List ℕ) → Holds old.line bytes → Holds new.line (bytes ++ rest)) → ReadsPart A lanes old new piece from (length piece) None
 rest_read A lanes old new piece rest from within is line shaped same count pushed = record {
   low = within;
   high = omega arith;
   lines = omega (arith, count);
-  shaped = subst (IsInRows lanes (length A.nodes)) (sym same) shaped;
+  shaped = subst (λ audit. IsInRows lanes (length A.nodes) audit.left) (sym same) shaped;
   reads = λ taken r. subst (λ bs. IsReading A bs new) (whole taken) (record {
     text = r.text;
     partial = r.partial ++ rest;

@@ -25,9 +25,9 @@ due_after (head ∷ []) = Count
 due_after (head ∷ size ∷ body) = if list_any (same_numbers end_line) body then Nothing else Body
 
 -- the table has one bit for each of the pairs, in rows of this number of lanes
-pub record IsInRows (lanes pairs : ℕ) (audit : Audit) : Type 0 where
-  pub in_rows : audit.left.lanes ≡ lanes
-  pub room : length audit.left.words.items * lanes ≡ pairs
+pub record IsInRows (lanes pairs : ℕ) (left : Remaining) : Type 0 where
+  pub in_rows : left.lanes ≡ lanes
+  pub room : length left.words.items * lanes ≡ pairs
 
 -- the row that was asked last, which is one of the table
 pub record IsFront (audit : Audit) (front : Front) : Type 0 where
@@ -50,15 +50,15 @@ pub record IsQuestion (A : Arena ℕ) (width : ℕ) (left : Remaining) (place : 
   pub lane : place.1 < left.lanes
   pub reason : IsReasonOf A asked
 
--- the entries read so far are those of the list
-pub record HasListed (A : Arena ℕ) (L : List (Entry ℕ)) (audit : Audit) : Type 0 where
-  pub left : Remain (length A.nodes) (is_listed A L) audit.left
-  pub known : HoldsWhereKept A audit.left.lanes (is_listed A L) audit.asked
+-- the table has the pairs that the list doesn't name, and the stored answer of a row is right
+pub record HasListed (A : Arena ℕ) (L : List (Entry ℕ)) (left : Remaining) (asked : Asked) : Type 0 where
+  pub remain : Remain (length A.nodes) (is_listed A L) left
+  pub known : HoldsWhereKept A left.lanes (is_listed A L) asked
 
 -- the lines read so far are those of the text
 pub record HasRead (A : Arena ℕ) (text : List (List ℕ)) (audit : Audit) : Type 0 where
   pub due : audit.due ≡ due_after text
-  pub list : HasListed A (entries_on A (drop 2 text)) audit
+  pub list : HasListed A (entries_on A (drop 2 text)) audit.left audit.asked
 
 -- the next line's fault is returned, and a line without a fault is read
 pub record Judges (A : Arena ℕ) (old new : Audit) (line : List ℕ) (fault : Option Why) : Type 0 where
@@ -69,5 +69,5 @@ pub record Judges (A : Arena ℕ) (old new : Audit) (line : List ℕ) (fault : O
 pub record TakesEntry (A : Arena ℕ) (lanes : ℕ) (old new : Audit) (x : Entry ℕ) (fault : Option Why) : Type 0 where
   pub judged : (line : List ℕ) → entry_of (length A.nodes) A.actions line ≡ Some x → Judges A old new line fault
   pub inside : x.node < length A.nodes
-  pub shaped : IsInRows lanes (length A.nodes) new
+  pub shaped : IsInRows lanes (length A.nodes) new.left
   pub due : new.due ≡ old.due

@@ -58,7 +58,7 @@ pub record ReadsPart (A : Arena ℕ) (lanes : ℕ) (old new : Reader) (piece : L
   pub low : from ≤ to
   pub high : to ≤ length piece
   pub lines : new.lines + from ≤ old.lines + to
-  pub shaped : IsInRows lanes (length A.nodes) new.audit
+  pub shaped : IsInRows lanes (length A.nodes) new.audit.left
   pub reads : (taken : List ℕ) → IsReading A (taken ++ take from piece) old → HasReached A (taken ++ take to piece) new fault
 
 -- the whole piece is read, or a line that ends in it is at fault
@@ -75,7 +75,7 @@ one_if_clean (Some why) = 0
 -- the line that the buffered bytes and the last bytes make up is judged, and the next one begins where it has no fault
 pub record EndsLine (A : Arena ℕ) (lanes : ℕ) (old new : Reader) (last : List ℕ) (fault : Option Why) : Type 0 where
   pub judged : (bytes : List ℕ) → Holds old.line bytes → Judges A old.audit new.audit (bytes ++ last) fault
-  pub shaped : IsInRows lanes (length A.nodes) new.audit
+  pub shaped : IsInRows lanes (length A.nodes) new.audit.left
   pub lines : new.lines ≡ old.lines + one_if_clean fault
   pub cleared : fault ≡ None → Holds new.line []
 

@@ -94,8 +94,8 @@ impl Audit {
     /// Begins an audit, before the first line. Fails only when out of memory.
     pub(crate) fn build<J: Rules>(alloc: Global, joint: &J) -> Result<Audit, AllocError>
         ensures due { IfOk result (λ audit. audit.due ≡ Due.Head) }
-        ensures list { IfOk result (HasListed (J.arena joint.now) []) }
-        ensures shaped { IfOk result (IsInRows (J.lanes joint.now) (length (J.arena joint.now).nodes)) }
+        ensures list { IfOk result (λ audit. HasListed (J.arena joint.now) [] audit.left audit.asked) }
+        ensures shaped { IfOk result (λ audit. IsInRows (J.lanes joint.now) (length (J.arena joint.now).nodes) audit.left) }
     {
         Ok(Audit {
             due: Due::Head,
@@ -129,7 +129,7 @@ impl Audit {
         reason: Reason,
         steps: &mut Steps<L>,
     ) -> Option<Why>
-        requires shaped { IsInRows (J.lanes joint.now) (length (J.arena joint.now).nodes) self.old }
+        requires shaped { IsInRows (J.lanes joint.now) (length (J.arena joint.now).nodes) self.old.left }
         requires due { self.old.due ≡ Due.Body }
         requires entry { (pair < length (J.arena joint.now).nodes) × IsReasonOf (J.arena joint.now) reason }
         ensures { TakesEntry (J.arena joint.now) (J.lanes joint.now) self.old self.new (entry_with (pair, reason)) result }
@@ -167,7 +167,7 @@ impl Audit {
     /// about is known to hold there. Returns whether it did, and changes nothing otherwise.
     #[inline(always)]
     pub(crate) fn take_known<J: Rules>(&mut self, joint: &J, front: Front, pair: u64) -> bool
-        requires shaped { IsInRows (J.lanes joint.now) (length (J.arena joint.now).nodes) self.old }
+        requires shaped { IsInRows (J.lanes joint.now) (length (J.arena joint.now).nodes) self.old.left }
         requires due { self.old.due ≡ Due.Body }
         requires front { IsFront self.old front }
         ensures taken { IsTrue result → TakesEntry (J.arena joint.now) (J.lanes joint.now) self.old self.new (entry_with (pair, self.old.asked.reason)) None }
@@ -192,10 +192,10 @@ impl Audit {
         line: &[u8],
         steps: &mut Steps<L>,
     ) -> Option<Why>
-        requires shaped { IsInRows (J.lanes joint.now) (length (J.arena joint.now).nodes) self.old }
+        requires shaped { IsInRows (J.lanes joint.now) (length (J.arena joint.now).nodes) self.old.left }
         requires due { self.old.due ≡ Due.Body }
         ensures judged { Judges (J.arena joint.now) self.old self.new line.now result }
-        ensures shaped { IsInRows (J.lanes joint.now) (length (J.arena joint.now).nodes) self.new }
+        ensures shaped { IsInRows (J.lanes joint.now) (length (J.arena joint.now).nodes) self.new.left }
     {
         joint.known(); // a pair's number fits 32 bits
         if !is_end(line) {
@@ -219,9 +219,9 @@ impl Audit {
         line: &[u8],
         steps: &mut Steps<L>,
     ) -> Option<Why>
-        requires shaped { IsInRows (J.lanes joint.now) (length (J.arena joint.now).nodes) self.old }
+        requires shaped { IsInRows (J.lanes joint.now) (length (J.arena joint.now).nodes) self.old.left }
         ensures judged { Judges (J.arena joint.now) self.old self.new line.now result }
-        ensures shaped { IsInRows (J.lanes joint.now) (length (J.arena joint.now).nodes) self.new }
+        ensures shaped { IsInRows (J.lanes joint.now) (length (J.arena joint.now).nodes) self.new.left }
     {
         match self.due {
             Due::Head => self.judge_opening(is_head(line), Due::Count),
@@ -234,7 +234,7 @@ impl Audit {
     /// Returns whether no entry read so far names the pair `p`.
     pub(crate) fn is_left(&self, p: u32) -> bool
         requires { p < length self.now.left.words.items * self.now.left.lanes }
-        ensures { (A : Arena ℕ) (L : List (Entry ℕ)) → HasListed A L self.now → result ≡ not (is_listed A L p) }
+        ensures { (A : Arena ℕ) (L : List (Entry ℕ)) → HasListed A L self.now.left self.now.asked → result ≡ not (is_listed A L p) }
     {
         let (row, lane) = self.left.place(self.asked.row, p);
         self.left.has(row, lane)

@@ -26,7 +26,7 @@ fn read<J: Rules, S: Source, L: Ledger>(
     steps: &mut Steps<L>,
 ) -> Result<Verdict, CheckError>
     requires start { start < length (J.arena joint.now).nodes }
-    requires shaped { IsInRows (J.lanes joint.now) (length (J.arena joint.now).nodes) reader.old.audit }
+    requires shaped { IsInRows (J.lanes joint.now) (length (J.arena joint.now).nodes) reader.old.audit.left }
     requires lines { reader.old.lines ≡ 0 }
     requires reading { IsReading (J.arena joint.now) [] reader.old }
     ensures comes { Comes (J.arena joint.now) start (S.rest source.old) (S.rest source.new) (S.faults source.old) (S.faults source.new) result }

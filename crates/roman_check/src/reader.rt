@@ -41,7 +41,7 @@ impl Reader {
     /// Begins a check, before the first byte. Fails only when out of memory.
     pub(crate) fn build<J: Rules>(alloc: Global, joint: &J) -> Result<Reader, AllocError>
         ensures reading { IfOk result (IsReading (J.arena joint.now) []) }
-        ensures shaped { IfOk result (λ reader. IsInRows (J.lanes joint.now) (length (J.arena joint.now).nodes) reader.audit) }
+        ensures shaped { IfOk result (λ reader. IsInRows (J.lanes joint.now) (length (J.arena joint.now).nodes) reader.audit.left) }
         ensures lines { IfOk result (λ reader. reader.lines ≡ 0) }
     {
         Ok(Reader {
@@ -59,10 +59,10 @@ impl Reader {
         last: &[u8],
         steps: &mut Steps<L>,
     ) -> Option<Why>
-        requires shaped { IsInRows (J.lanes joint.now) (length (J.arena joint.now).nodes) self.old.audit }
+        requires shaped { IsInRows (J.lanes joint.now) (length (J.arena joint.now).nodes) self.old.audit.left }
         ensures judged { (bytes : List ℕ) → Holds self.old.line bytes →
             Judges (J.arena joint.now) self.old.audit self.new.audit (bytes ++ last.now) result }
-        ensures shaped { IsInRows (J.lanes joint.now) (length (J.arena joint.now).nodes) self.new.audit }
+        ensures shaped { IsInRows (J.lanes joint.now) (length (J.arena joint.now).nodes) self.new.audit.left }
         ensures lines { self.new.lines ≡ self.old.lines }
     {
         joint.known(); // a pair's number fits 32 bits
@@ -83,7 +83,7 @@ impl Reader {
         last: &[u8],
         steps: &mut Steps<L>,
     ) -> Option<Why>
-        requires shaped { IsInRows (J.lanes joint.now) (length (J.arena joint.now).nodes) self.old.audit }
+        requires shaped { IsInRows (J.lanes joint.now) (length (J.arena joint.now).nodes) self.old.audit.left }
         requires room { self.old.lines ≤ MAX_CERTIFICATE_BYTES }
         ensures { EndsLine (J.arena joint.now) (J.lanes joint.now) self.old self.new last.now result }
     {
@@ -104,7 +104,7 @@ impl Reader {
         piece: &[u8],
         from: usize,
     ) -> usize
-        requires shaped { IsInRows (J.lanes joint.now) (length (J.arena joint.now).nodes) self.old.audit }
+        requires shaped { IsInRows (J.lanes joint.now) (length (J.arena joint.now).nodes) self.old.audit.left }
         requires place { from ≤ length piece.now }
         requires room { self.old.lines + length piece.now ≤ MAX_CERTIFICATE_BYTES + from }
         requires between { IsBetween self.old }
@@ -145,7 +145,7 @@ impl Reader {
         from: usize,
         steps: &mut Steps<L>,
     ) -> Result<usize, Why>
-        requires shaped { IsInRows (J.lanes joint.now) (length (J.arena joint.now).nodes) self.old.audit }
+        requires shaped { IsInRows (J.lanes joint.now) (length (J.arena joint.now).nodes) self.old.audit.left }
         requires place { from ≤ length piece.now }
         requires room { self.old.lines + length piece.now ≤ MAX_CERTIFICATE_BYTES + from }
         ensures read { IfOk result (λ start. ReadsPart (J.arena joint.now) (J.lanes joint.now) self.old self.new piece.now from start None) }
@@ -180,7 +180,7 @@ impl Reader {
         piece: &[u8],
         steps: &mut Steps<L>,
     ) -> Option<Why>
-        requires shaped { IsInRows (J.lanes joint.now) (length (J.arena joint.now).nodes) self.old.audit }
+        requires shaped { IsInRows (J.lanes joint.now) (length (J.arena joint.now).nodes) self.old.audit.left }
         requires room { self.old.lines + length piece.now ≤ MAX_CERTIFICATE_BYTES }
         ensures { ReadsPiece (J.arena joint.now) (J.lanes joint.now) self.old self.new piece.now result }
     {
@@ -205,10 +205,10 @@ impl Reader {
     /// Reads the last line where its newline is missing. Returns its fault, if it has one.
     #[tactic(auto, using(crate::proofs::ReaderLemmas::closed_line))]
     fn close<J: Rules, L: Ledger>(&mut self, joint: &J, steps: &mut Steps<L>) -> Option<Why>
-        requires shaped { IsInRows (J.lanes joint.now) (length (J.arena joint.now).nodes) self.old.audit }
+        requires shaped { IsInRows (J.lanes joint.now) (length (J.arena joint.now).nodes) self.old.audit.left }
         requires room { self.old.lines ≤ MAX_CERTIFICATE_BYTES }
         ensures closed { Closes (J.arena joint.now) self.old self.new result }
-        ensures shaped { IsInRows (J.lanes joint.now) (length (J.arena joint.now).nodes) self.new.audit }
+        ensures shaped { IsInRows (J.lanes joint.now) (length (J.arena joint.now).nodes) self.new.audit.left }
         ensures lines { self.new.lines ≤ self.old.lines + 1 }
     {
         if self.line.is_empty() {
@@ -243,7 +243,7 @@ impl Reader {
         start: u32,
         steps: &mut Steps<L>,
     ) -> Verdict
-        requires shaped { IsInRows (J.lanes joint.now) (length (J.arena joint.now).nodes) self.old.audit }
+        requires shaped { IsInRows (J.lanes joint.now) (length (J.arena joint.now).nodes) self.old.audit.left }
         requires room { self.old.lines ≤ MAX_CERTIFICATE_BYTES }
         requires start { start < length (J.arena joint.now).nodes }
         ensures { Decides (J.arena joint.now) start (λ bytes. IsReading (J.arena joint.now) bytes self.old) result }

@@ -8,7 +8,7 @@ invariant-takes g l = record {
   reading : IsReading (g.J.Rules.arena l.joint) taken l.reader;
   room : l.room + length taken ≡ MAX_CERTIFICATE_BYTES;
   lines : l.reader.lines + l.room ≤ MAX_CERTIFICATE_BYTES;
-  shaped : IsInRows (g.J.Rules.lanes l.joint) (length (g.J.Rules.arena l.joint).nodes) l.reader.audit;
+  shaped : IsInRows (g.J.Rules.lanes l.joint) (length (g.J.Rules.arena l.joint).nodes) l.reader.audit.left;
   piece : length l.piece ≡ 4096;
   faults : g.S.Source.faults l.source ≡ g.S.Source.faults l.initial.source;
   borrowed : g.S.Source.borrowed l.source ≡ g.S.Source.borrowed l.initial.source;

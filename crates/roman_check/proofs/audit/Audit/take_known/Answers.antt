@@ -12,7 +12,7 @@ returns-clause-taken g c t =
     let at : c.args.front.row * old.left.lanes + c.in-Some.lane ≡ c.args.pair = omega (arith, place, is.first) in
     let inside = subst (λ p. p < length A.nodes) at (place_within _ _ _ c.requires.shaped _ _ is.inside lane) in
     entry_taken A c.known.ensures.numbered _ _ _ _ c.requires.due c.requires.shaped refl inside (subst (λ p. Removes old.left c.remove.new.self p) at c.remove.ensures) (λ L has.
-    let (known, left) = c.has_known.ensures (length A.nodes) c.args.pair (is_listed A L) at has.left c.if-not-has_known.false in (
+    let (known, left) = c.has_known.ensures (length A.nodes) c.args.pair (is_listed A L) at has.remain c.if-not-has_known.false in (
       sym left,
       ap (λ p. is_justified A (is_listed A L) p old.asked.reason) (sym at ∙ ap (λ r. r * old.left.lanes + c.in-Some.lane) is.row) ∙ has.known.each c.in-Some.lane lane (ap (λ w. is_on w c.in-Some.lane) (sym is.known) ∙ known),
       has.known,
