@@ -1,5 +1,5 @@
 -- Lines that are judged by those that were read.
-use Rattle.roman_check.proofs.Common.{◌≡◌, ℕ, ◌+◌, ◌*◌, ◌<◌, ◌==◌, Bool, true, false, not, ◌||◌, List, [], ◌∷◌, ◌++◌, length, Option, Some, None, IsTrue, IsFalse, option_map, find, refl, sym, ap, ◌∙◌, subst, arith, append-nil, if◌then◌else◌, list_any, cons_option, or-false, cond-true, cond-false, not-true, or_left, not-false, list_any-append, IsIn, same_numbers, Arena, Entry, is_listed, is_justified, head_line, count_line, reasons, entry_of, entries_on, could_be_listed, end_line, entry_fault, end_fault, body_fault, same_numbers_is, AreFew, from_possible, possible_small, entry_of-is, entry_of_other, fault_in_body, fault_after_end, entry_is_no_end, Reason, Final, Act, AreRows, IsNumbered, Audit, Nothing, Body, Head, Count, Why, Form, fault_of, IsInRows, HasListed, Judges, TakesEntry, due_after, Removes, HoldsWhereKept, IsReasonOf, filter_map-append, known_more, Due, Asked, Remaining}
+use Rattle.roman_check.proofs.Common.{◌≡◌, ℕ, ◌+◌, ◌*◌, ◌<◌, ◌==◌, Bool, true, false, not, ◌||◌, List, [], ◌∷◌, ◌++◌, length, Option, Some, None, IsTrue, IsFalse, option_map, find, refl, sym, ap, ◌∙◌, subst, arith, append-nil, if◌then◌else◌, list_any, cons_option, or-false, cond-true, cond-false, not-true, or_left, not-false, list_any-append, IsIn, same_numbers, Arena, Entry, is_listed, is_justified, head_line, count_line, reasons, entry_of, entries_on, could_be_listed, end_line, entry_fault, end_fault, body_fault, same_numbers_is, AreFew, from_possible, possible_small, entry_of-is, entry_of_other, fault_in_body, fault_after_end, entry_is_no_end, by_test, Reason, Final, Act, AreRows, IsNumbered, Audit, Nothing, Body, Head, Count, Why, Form, fault_of, IsInRows, HasListed, Judges, TakesEntry, due_after, Removes, HoldsWhereKept, IsReasonOf, filter_map-append, known_more, Due, Asked, Remaining}
 use Rattle.roman_model.specs.Certificate as text
 use Rattle.roman_check.proofs.ReasonLemmas.{given_action, row_ends, row_within}
 
@@ -8,15 +8,11 @@ use Rattle.roman_check.proofs.ReasonLemmas.{given_action, row_ends, row_within}
 pub few_numbered : (A : Arena ℕ) → IsNumbered A → AreFew (length A.nodes) A.actions
 few_numbered A ok = grind arith
 
-module _ (A : Arena ℕ) (L : List (Entry ℕ)) (x : Entry ℕ) where
-  pub repeated_entry : false ≡ not (is_listed A L x.node) → Some text.Repeated ≡ entry_fault A L (Some x)
-  repeated_entry listed = rw (not-false (is_listed A L x.node) (sym listed)) refl
-
-  pub unjustified_entry : true ≡ not (is_listed A L x.node) → IsFalse (is_justified A (is_listed A L) x.node x.reason) → Some text.Unjustified ≡ entry_fault A L (Some x)
-  unjustified_entry new fails = rw (not-true (is_listed A L x.node) (sym new), fails) refl
-
-  clean_entry : true ≡ not (is_listed A L x.node) → IsTrue (is_justified A (is_listed A L) x.node x.reason) → None ≡ entry_fault A L (Some x)
-  clean_entry new holds = rw (not-true (is_listed A L x.node) (sym new), holds) refl
+-- the fault of an entry, where it is known whether its pair is new and whether its reason holds
+pub fault_by : (A : Arena ℕ) (L : List (Entry ℕ)) (x : Entry ℕ) (new holds : Bool) → new ≡ not (is_listed A L x.node) → holds ≡ is_justified A (is_listed A L) x.node x.reason →
+    (if new then (if holds then None else Some text.Unjustified) else Some text.Repeated) ≡ entry_fault A L (Some x)
+fault_by A L x true holds e is = rw (not-true (is_listed A L x.node) (sym e), is) refl
+fault_by A L x false holds e is = rw (not-false (is_listed A L x.node) (sym e)) refl
 
 -- the pairs of the entries, with one more
 listed_more : (A : Arena ℕ) → IsNumbered A → (L : List (Entry ℕ)) (x : Entry ℕ) (q : ℕ) → is_listed A (L ++ x ∷ []) q ≡ (is_listed A L q || q == x.node)
@@ -54,13 +50,10 @@ pub entry_judged : (A : Arena ℕ) (L : List (Entry ℕ)) (line : List ℕ) (fau
 entry_judged A L line fault e other = e ∙ sym (cond-false (same_numbers end_line line) (end_fault A L) (entry_fault A L (entry_of (length A.nodes) A.actions line)) other)
 
 -- the last line isn't the line of an entry
-pub end_is_no_entry : (pairs actions : ℕ) (line : List ℕ) → AreFew pairs actions → IsTrue (same_numbers end_line line) → entry_of pairs actions line ≡ None
-end_is_no_entry pairs actions line few is =
-    subst (λ bs. entry_of pairs actions bs ≡ None) (same_numbers_is end_line line is) (entry_of_other pairs actions 101 (110 ∷ 100 ∷ []) few (omega arith))
-
 pub ended_list : (A : Arena ℕ) → IsNumbered A → (L : List (Entry ℕ)) (line : List ℕ) → IsTrue (same_numbers end_line line) → L ≡ L ++ entries_on A (line ∷ [])
 ended_list A ok L line is =
-    sym (ap (λ o. L ++ cons_option o []) (end_is_no_entry (length A.nodes) A.actions line (few_numbered A ok) is) ∙ append-nil L)
+    let none : entry_of (length A.nodes) A.actions end_line ≡ None = entry_of_other (length A.nodes) A.actions 101 (110 ∷ 100 ∷ []) (few_numbered A ok) (omega arith) in
+    sym (ap (λ o. L ++ cons_option o []) (rw (same_numbers_is end_line line is) at none) ∙ append-nil L)
 
 -- What was read, by what is due
 
@@ -74,11 +67,7 @@ IsDue Nothing lines = (head : List ℕ) × (size : List ℕ) × (body : List (Li
 due_so_far : (lines : List (List ℕ)) → IsDue (due_after lines) lines
 due_so_far [] = refl
 due_so_far (head ∷ []) = (head, refl)
-due_so_far (head ∷ size ∷ body) = by_end (list_any (same_numbers end_line) body) refl
-  where
-    by_end : (b : Bool) → list_any (same_numbers end_line) body ≡ b → IsDue (if b then Nothing else Body) (head ∷ size ∷ body)
-    by_end true e = (head, size, body, refl, e)
-    by_end false e = (head, size, body, refl, e)
+due_so_far (head ∷ size ∷ body) = by_test (list_any (same_numbers end_line) body) (λ t. rw t (head, size, body, refl, t)) (λ f. rw f (head, size, body, refl, f))
 
 -- the same, where it is known which line is due
 pub lines_due : (due : Due) (lines : List (List ℕ)) → due ≡ due_after lines → IsDue due lines
@@ -130,7 +119,7 @@ pub entry_taken : (A : Arena ℕ) → IsNumbered A → (lanes : ℕ) (old new : 
     ((L : List (Entry ℕ)) → HasListed A L old.left old.asked → (true ≡ not (is_listed A L x.node)) × IsTrue (is_justified A (is_listed A L) x.node x.reason) × HoldsWhereKept A old.left.lanes (is_listed A L) new.asked) → TakesEntry A lanes old new x None
 entry_taken A ok lanes old new x due shaped same inside removes holds =
     entry_takes A ok lanes old new x None due same inside (record { in_rows = removes.lanes ∙ shaped.in_rows; room = ap (λ n. n * lanes) removes.rows ∙ shaped.room })
-    (λ L has. clean_entry A L x (holds L has).0 (holds L has).1) (λ L has none. record {
+    (λ L has. fault_by A L x true true (holds L has).0 (sym (holds L has).1)) (λ L has none. record {
       remain = removes.removed (length A.nodes) (is_listed A L) (is_listed A (L ++ x ∷ [])) has.remain inside (not-true (is_listed A L x.node) (sym (holds L has).0)) (listed_more A ok L x);
       known = known_more A new.left.lanes _ _ _ (λ q gone. listed_more A ok L x q ∙ or_left _ _ gone) (subst (λ m. HoldsWhereKept A m (is_listed A L) new.asked) (sym removes.lanes) (holds L has).2);
     })

@@ -48,22 +48,18 @@ decimal_shape n ds small e =
     let wide : n < 2 ^ 64 = omega arith in
     let ((some, all), value) = decimal_is_IsNumeral n wide in
     let P : List ℕ → Type 0 = λ ds. AllDigits 10 ds × IsTrim ds × (digits_value 10 ds ≡ n) in
-    subst P e (all, record { some = some; few = length-decimal-le 10 n (omega arith) (omega arith) wide; first = no_zero wide }, value)
-  where
-    no_zero : n < 2 ^ 64 → 1 < length (decimal n) → get_or (decimal n) 0 0 ≢ 48
-    no_zero wide long zero = elim (cases_lt 0 n) [
-      | inl more ↦ (let first : 48 < get_or (decimal n) 0 0 = first_decimal n more wide in omega arith)
-      | inr none ↦ (let one : length (decimal n) ≤ 1 = length-decimal-le 1 n (omega arith) (omega arith) wide in omega arith)
-    ]
+    let first : 1 < length (decimal n) → get_or (decimal n) 0 0 ≢ 48 = λ long zero. elim (cases_lt 0 n) [
+      | inl more ↦ omega (arith, first_decimal n more wide)
+      | inr none ↦ omega (arith, length-decimal-le 1 n (omega arith) (omega arith) wide)
+    ] in
+    subst P e (all, record { some = some; few = length-decimal-le 10 n (omega arith) (omega arith) wide; first = first }, value)
 
 -- digits without a leading zero are the text of their value
 pub decimal_from_digits : (ds : List ℕ) (n : ℕ) → AllDigits 10 ds → IsTrim ds → digits_value 10 ds ≡ n → decimal n ≡ ds
 decimal_from_digits ds n all trim is =
     let value : digits_value 10 ds < 10 ^ 10 = digits_value_short own ds 10 all trim.few in
+    let one : get_or ds 0 0 ≡ 48 → length ds ≡ 1 = λ zero. elim (cases_lt 1 (length ds)) [ inl more ↦ absurd (trim.first more zero) | inr less ↦ omega (arith, trim.some) ] in
     ap decimal (sym is) ∙ decimal-digits_value own ds all trim.some one (omega arith)
-  where
-    one : get_or ds 0 0 ≡ 48 → length ds ≡ 1
-    one zero = elim (cases_lt 1 (length ds)) [ inl more ↦ absurd (trim.first more zero) | inr less ↦ (let some : 0 < length ds = trim.some in omega arith) ]
 
 -- digits whose value is too great, or that aren't trim, aren't the decimal text of a number below the bound
 pub no_small_number : (ds : List ℕ) (value bound n : ℕ) → value ≡ digits_value 10 ds → bound < 2 ^ 32 → bound ≤ value → n < bound → decimal n ≢ ds

@@ -1,5 +1,5 @@
 -- Lines that are read as entries.
-use Rattle.roman_check.proofs.Common.{◌≡◌, ◌≢◌, ℕ, suc, ◌+◌, ◌-◌, ◌^◌, ◌<◌, Bool, List, ◌∷◌, ◌++◌, length, take, drop, get_or, None, Some, IsTrue, IsFalse, decimal, codes, refl, sym, ap, ap₂, ◌∙◌, subst, inl, arith, length-append, both_ways, ne_eqb, take_all, take_at, drop_more, get_or_at, IsIn, has, same_numbers, Entry, Reason, Final, Act, count_line, reason_text, entry_line, reasons, entry_of, from_map, from_below, same_numbers_itself, AreFew, act_reason, from_possible, possible_small, entry_of_none, IsSmall, cut_at, decimal_without, in_possible, entry_of-line, IsNumberTo, ReadsOff}
+use Rattle.roman_check.proofs.Common.{◌≡◌, ◌≢◌, ℕ, suc, ◌+◌, ◌-◌, ◌^◌, ◌<◌, Bool, List, ◌∷◌, ◌++◌, length, take, drop, get_or, None, Some, IsTrue, IsFalse, decimal, codes, refl, sym, ap, ap₂, ◌∙◌, subst, inl, arith, length-append, both_ways, ne_eqb, take_all, take_at, drop_more, get_or_at, IsIn, has, same_numbers, Reason, Final, Act, count_line, reason_text, reasons, entry_of, from_map, from_below, same_numbers_itself, AreFew, act_reason, from_possible, possible_small, entry_of_none, cut_at, decimal_without, in_possible, entry_of-line, IsNumberTo, ReadsOff}
 use Rattle.roman_check.proofs.DigitLemmas.{decimal_shape, no_stop_digit}
 use Rattle.roman_check.proofs.Texts.{same_from, clear_before, taken_more}
 
@@ -48,11 +48,6 @@ cut_from line i number =
     let l : i < length line = number.within in
     subst (λ bs. IsCut bs (take i line) (after line i)) (take_all (i + 1 + (length line - (i + 1))) line (omega arith)) (cut_to line i (length line - (i + 1)) number)
 
--- the parts of an entry's line
-entry_parts : (line front back : List ℕ) (x : Entry ℕ) → IsCut line front back → IsSmall x → entry_line x ≡ line → (decimal x.node ≡ front) × (reason_text x.reason ≡ back)
-entry_parts line front back x cut small e =
-    cut_at 32 (decimal x.node) front (reason_text x.reason) back (decimal_without x.node 32 small.0 (inl (omega arith))) cut.clear (e ∙ cut.whole)
-
 -- a line that doesn't begin with digits and a space isn't the line of an entry
 pub no_number : (pairs actions : ℕ) (line : List ℕ) → pairs < 2 ^ 32 → ((i : ℕ) → IsNumberTo 32 line i → ⊥) → entry_of pairs actions line ≡ None
 no_number pairs actions line few none = entry_of_none pairs actions line (λ x i e.
@@ -70,7 +65,7 @@ no_number pairs actions line few none = entry_of_none pairs actions line (λ x i
 pub no_parts : (pairs actions : ℕ) (line front back : List ℕ) → AreFew pairs actions → IsCut line front back →
     ((n : ℕ) (r : Reason) → n < pairs → IsIn r (reasons actions) → decimal n ≡ front → reason_text r ≢ back) → entry_of pairs actions line ≡ None
 no_parts pairs actions line front back few cut none = entry_of_none pairs actions line (λ x i e.
-    let (number, text) = entry_parts line front back x cut (possible_small pairs actions x few i) e in
+    let (number, text) = cut_at 32 (decimal x.node) front (reason_text x.reason) back (decimal_without x.node 32 (possible_small pairs actions x few i).0 (inl (omega arith))) cut.clear (e ∙ cut.whole) in
     let (inside, given) = from_possible pairs actions x i in
     none x.node x.reason inside given number text)
 

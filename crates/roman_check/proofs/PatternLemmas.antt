@@ -61,16 +61,12 @@ same_ends xs ys w last len m n long short left right front back k l = elim (case
 
 two_digits : (q a b : ℕ) → 0 < q → a < 10 → b < 10 → q < 2 ^ 32 → decimal (q * 100 + a * 10 + b) ≡ decimal q ++ (48 + a) ∷ (48 + b) ∷ []
 two_digits q a b some tens ones small =
+    let high : (q * 100 + a * 10 + b) / 10 ≡ q * 10 + a = omega arith in
+    let low : (q * 100 + a * 10 + b) % 10 ≡ b = omega arith in
     decimal_step (q * 100 + a * 10 + b) (omega arith) (omega arith)
     ∙ ap₂ (λ m c. decimal m ++ c ∷ []) high (ap (λ c. 48 + c) low)
     ∙ ap (λ ds. ds ++ (48 + b) ∷ []) (decimal_step (q * 10 + a) (omega arith) (omega arith) ∙ ap₂ (λ m c. decimal m ++ c ∷ []) (omega arith) (ap (λ c. 48 + c) (omega arith)))
     ∙ append_assoc (decimal q) ((48 + a) ∷ []) ((48 + b) ∷ [])
-  where
-    high : (q * 100 + a * 10 + b) / 10 ≡ q * 10 + a
-    high = omega arith
-
-    low : (q * 100 + a * 10 + b) % 10 ≡ b
-    low = omega arith
 
 -- a number from 100 on ends with two digits
 last_two : (pair : ℕ) → 100 ≤ pair → pair < 2 ^ 32 → decimal pair ≡ decimal (pair / 100) ++ (48 + pair / 10 % 10) ∷ (48 + pair % 10) ∷ []

@@ -80,16 +80,15 @@ module _ (A : Arena ℕ) (lanes : ℕ) (old new : Reader) (piece : List ℕ) (fr
 
   -- a line is read to its end
   pub line_read : (fault : Option Why) → from ≤ length piece → IsEndedAt rest len → IsLine (take len rest) → EndsLine A lanes old new (take len rest) fault → ReadsPart A lanes old new piece from (from + len + 1) fault
-  line_read fault within ended line ends = record {
-    low = omega arith;
-    high = omega (arith, inside);
-    lines = omega (arith, ends.lines, at_most_one fault);
-    shaped = ends.shaped;
-    reads = λ taken r. subst (λ bs. HasReached A bs new fault) (line_more taken inside ended) (line_reached A lanes old new (take len rest) (taken ++ take from piece) fault line ends r);
-  }
-    where
-      inside : from + len < length piece
-      inside = omega (arith, ended.within, ap length (take_rest piece from), length-drop from piece)
+  line_read fault within ended line ends =
+      let inside : from + len < length piece = omega (arith, ended.within, ap length (take_rest piece from), length-drop from piece) in
+      record {
+        low = omega arith;
+        high = omega (arith, inside);
+        lines = omega (arith, ends.lines, at_most_one fault);
+        shaped = ends.shaped;
+        reads = λ taken r. subst (λ bs. HasReached A bs new fault) (line_more taken inside ended) (line_reached A lanes old new (take len rest) (taken ++ take from piece) fault line ends r);
+      }
 
   -- an entry is read at once
   pub entry_read : IsNumbered A → (x : Entry ℕ) (fault : Option Why) → from ≤ length piece → IsBetween old → HasEntry (length A.nodes) A.actions rest len x → TakesEntry A lanes old.audit new.audit x fault →
@@ -111,7 +110,7 @@ rest_read A lanes old new piece rest from within is line shaped same count pushe
   high = omega arith;
   lines = omega (arith, count);
   shaped = subst (λ audit. IsInRows lanes (length A.nodes) audit.left) (sym same) shaped;
-  reads = λ taken r. subst (λ bs. IsReading A bs new) (whole taken) (record {
+  reads = λ taken r. subst (λ bs. IsReading A bs new) (rw (is, take_all (length piece) piece (omega arith), append_assoc, take-append-drop from piece)) (record {
     text = r.text;
     partial = r.partial ++ rest;
     split = record { is = ap (λ bs. bs ++ rest) r.split.is ∙ append_assoc (text_of_lines r.text) r.partial rest; whole = r.split.whole };
@@ -120,9 +119,6 @@ rest_read A lanes old new piece rest from within is line shaped same count pushe
     held = pushed r.partial r.held;
   });
 }
-  where
-    whole : (taken : List ℕ) → (taken ++ take from piece) ++ rest ≡ taken ++ take (length piece) piece
-    whole taken = rw (is, take_all (length piece) piece (omega arith), append_assoc, take-append-drop from piece)
 
 -- The end
 
