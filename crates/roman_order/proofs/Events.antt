@@ -24,11 +24,7 @@ length-firsts_of n (e ∷ es) = ap suc (length-firsts_of (n + length (set_lanes 
 
 firsts_of-push : (lanes n : ℕ) (es : List Event) (e : Event) → firsts_of n (es ++ e ∷ []) ≡ firsts_of n es ++ (n + length (entries_of lanes es)) ∷ []
 firsts_of-push lanes n [] e = let same : n ≡ n + 0 = omega arith in ap (λ m. m ∷ []) same
-firsts_of-push lanes n (x ∷ es) e =
-    let next : ℕ = n + length (set_lanes x.lanes) in
-    let same : next + length (entries_of lanes es) ≡ n + length (entries_at lanes x ++ entries_of lanes es) =
-    omega (arith, length-append (entries_at lanes x) (entries_of lanes es), length-entries_at lanes x) in
-    ap (λ ms. n ∷ ms) (firsts_of-push lanes next es e ∙ ap (λ m. firsts_of next es ++ m ∷ []) same)
+firsts_of-push lanes n (x ∷ es) e = grind (arith, length-append, length-entries_at, (firsts_of-push lanes (n + length (set_lanes x.lanes)) es e))
 
 pub AreCounted-push : (lanes count : ℕ) (firsts : List ℕ) (es : List Event) (e : Event) → AreCounted lanes count firsts es → IsEvent lanes e →
     AreCounted lanes (count + length (set_lanes e.lanes)) (firsts ++ count ∷ []) (es ++ e ∷ [])

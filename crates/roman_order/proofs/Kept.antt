@@ -1,5 +1,5 @@
 -- Events whose pairs have no bits in the kept words.
-use Rattle.roman_order.proofs.Common.{◌≡◌, ℕ, suc, ◌+◌, ◌-◌, ◌*◌, ◌/◌, ◌%◌, ◌<◌, ◌≤◌, true, false, List, [], ◌∷◌, ◌++◌, length, get_or, take, drop, bit_and, inl, inr, sym, ap, ◌∙◌, subst, arith, length-append, ap₂, length-drop, take-append-drop, both_ways, and_from, false_from_ne_true, flat_map-append, on_zero, on_and, Entry, IsIn, is_on, as_entry, set_lanes, entries_at, entries_of, IsEvent, IsApart, IsSound, board_of, Event, Inside, take-append_seam, take-add, take-suc, get_or-drop, AreUnkept, slice_index, from_flat_map, from_map, from_push, in_append_left, in_append_right}
+use Rattle.roman_order.proofs.Common.{◌≡◌, ℕ, suc, ◌+◌, ◌-◌, ◌*◌, ◌/◌, ◌%◌, ◌<◌, ◌≤◌, true, false, List, ◌++◌, length, get_or, take, drop, bit_and, sym, ap, ◌∙◌, subst, arith, length-append, ap₂, length-drop, take-append-drop, both_ways, and_from, false_from_ne_true, flat_map-append, on_zero, on_and, Entry, IsIn, is_on, as_entry, set_lanes, entries_at, entries_of, IsEvent, IsApart, IsSound, board_of, Event, Inside, take-append_seam, take-add, take-suc, get_or-drop, AreUnkept, slice_index, from_flat_map, from_map, from_push, in_append_left, in_append_right}
 use Rattle.roman_order.proofs.Lanes.{in_lanes, lane_place}
 use Rattle.roman_order.proofs.Reading.{all_in, begins_at, entries_split, from_event}
 
@@ -20,13 +20,10 @@ entry_unkept lanes words e x is apart i =
 -- one more event
 pub apart_more : (words : List ℕ) (es : List Event) (from j : ℕ) (d : Event) → from ≤ j → j < length es → IsApart words (get_or es j d) →
     ((x : Event) → IsIn x (take (j - from) (drop from es)) → IsApart words x) → (x : Event) → IsIn x (take (j + 1 - from) (drop from es)) → IsApart words x
-apart_more words es from j d l h own rest x i =
-    let k : ℕ = j - from in
-    let one : j + 1 - from ≡ suc k = omega (arith, l) in
-    let place : from + k ≡ j = omega (arith, l) in
-    let more : take (suc k) (drop from es) ≡ take k (drop from es) ++ get_or es j d ∷ [] =
-    take-suc (drop from es) k d (omega (arith, length-drop from es, l, h)) ∙ ap (λ y. take k (drop from es) ++ y ∷ []) (get_or-drop from es k d ∙ ap (λ n. get_or es n d) place) in
-    elim (from_push x (get_or es j d) (take k (drop from es)) (subst (IsIn x) (ap (λ n. take n (drop from es)) one ∙ more) i)) [ inl y ↦ rest x y | inr same ↦ subst (IsApart words) (sym same) own ]
+apart_more words es from j d l h own rest x i lane on =
+    let one : j + 1 - from ≡ suc (j - from) = omega (arith, l) in
+    let place : from + (j - from) ≡ j = omega (arith, l) in
+    grind (arith, (from_push x (get_or es j d) (take (j - from) (drop from es))), (get_or-drop from es (j - from) d), (take-suc (drop from es) (j - from) d), (length-drop from es))
 
 -- what is known of the entries from place i to place m of the list, once their events were passed over
 pub passed_over : (a : Inside) (near j i m : ℕ) → IsSound a → near ≤ j → j ≤ length a.events.items → i ≡ get_or a.firsts.items near a.count → m ≡ get_or a.firsts.items j a.count →

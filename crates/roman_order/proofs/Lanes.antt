@@ -18,10 +18,7 @@ pub record IsFirstOf (n m t : ℕ) : Type 0 where
 
 first_then : (n m t k : ℕ) → IsFirstOf n m t → t < k → k ≤ 64 → filter (is_on n) (below k) ≡ t ∷ filter (is_on m) (below k)
 first_then n m t zero is h l = absurd (omega arith)
-first_then n m t (suc k) is h l = elim (cases_eq k t) [
-  | inl e ↦ grind (arith, none_before, filter_below_more)
-  | inr ne ↦ rw (filter_below_more (is_on n) k, filter_below_more (is_on m) k, first_then n m t k is (omega arith) (omega arith), is.same k (omega arith) ne) refl
-]
+first_then n m t (suc k) is h l = grind (arith, cases_eq, none_before, filter_below_more, (first_then n m t k is))
 
 pub set_lanes-first : (n m t : ℕ) → IsFirstOf n m t → set_lanes n ≡ t ∷ set_lanes m
 unfolding set_lanes
@@ -66,6 +63,9 @@ set_lanes-one k l =
 pub one_lane : (k lane : ℕ) → k < 64 → is_on (1 * 2 ^ k % 2 ^ 64) lane ≡ true → lane ≡ k
 one_lane k lane l t = elim (cases_eq lane k) [ inl e ↦ e | inr ne ↦ absurd (both_ways (is_on (2 ^ k) lane) (on_pow_other k lane ne) (rw one_pow at t)) ]
 
+-- a row with one lane
+pub ruleset one_rules = (one_lane, set_lanes-one)
+
 pub in_lanes : (word lane : ℕ) → IsIn lane (set_lanes word) → (lane < 64) × (is_on word lane ≡ true)
 unfolding set_lanes
 in_lanes word lane i = let (j, t) = filter_in (is_on word) lane (below 64) i in (from_below 64 lane j, t)
@@ -101,11 +101,7 @@ has_entry-elsewhere L first lost p reason apart = grind (arith, has_entry-lanes,
 
 -- the row and the lane of a pair
 pub lane_place : (lanes row lane : ℕ) → lane < lanes → ((row * lanes + lane) / lanes ≡ row) × ((row * lanes + lane) % lanes ≡ lane)
-lane_place lanes row lane l =
-    let some : 0 < lanes = omega arith in
-    let p = row * lanes + lane in
-    let same = same_from_place (p / lanes) (p % lanes) row lane lanes (mod_below p lanes some) l (div-add-mod' p lanes) in
-    (same.0, same.1)
+lane_place lanes row lane l = grind (arith, div-add-mod', mod_below, (same_from_place ((row * lanes + lane) / lanes) ((row * lanes + lane) % lanes) row lane lanes))
 
 -- ---- entries of neighbouring rows
 

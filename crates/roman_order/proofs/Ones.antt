@@ -13,13 +13,11 @@ bit_is : (word lane : ℕ) → bit_at word lane ≡ cond (is_on word lane) 1 0
 unfolding is_on
 bit_is word lane = grind (arith, bit_at-lt, cases_eq, cond-false, cond-true, eq-eqb, ne_eqb)
 
--- a word has as many ones as lanes
-pub ones_of : (word : ℕ) → word < 2 ^ 64 → count_ones word ≡ length (set_lanes word)
-unfolding set_lanes
-ones_of word fits =
-    let whole : word % 2 ^ 64 ≡ word = omega arith in
-    sym (ap count_ones whole) ∙ (low_ones word 64 ∙ (sum_by_same (bit_at word) (λ lane. cond (is_on word lane) 1 0) (below 64) (λ lane i. bit_is word lane) ∙ sym (length-filter (is_on word) (below 64))))
-
 -- the number of lanes below a lane
 pub ones_before : (word lane : ℕ) → count_ones (word % 2 ^ lane) ≡ length (filter (is_on word) (below lane))
 ones_before word lane = low_ones word lane ∙ (sum_by_same (bit_at word) (λ l. cond (is_on word l) 1 0) (below lane) (λ l i. bit_is word l) ∙ sym (length-filter (is_on word) (below lane)))
+
+-- a word has as many ones as lanes
+pub ones_of : (word : ℕ) → word < 2 ^ 64 → count_ones word ≡ length (set_lanes word)
+unfolding set_lanes
+ones_of word fits = let whole : word % 2 ^ 64 ≡ word = omega arith in sym (ap count_ones whole) ∙ ones_before word 64

@@ -6,14 +6,7 @@ use Rattle.roman_order.proofs.Common.{◌≡◌, ◌≢◌, ℕ, ◌+◌, ◌-�
 -- a found place is within the list
 pub position_from-bound : {X : Type 0} (test : X → Bool) (i : ℕ) (xs : List X) (j : ℕ) → position_from test i xs ≡ Some j → j < i + length xs
 position_from-bound test i [] j e = cc
-position_from-bound test i (x ∷ xs) j e =
-    elim (cases_Bool (test x)) [
-      | inl t ↦ grind arith
-      | inr f ↦
-          let later = rw f at e in
-          let bound = position_from-bound test (i + 1) xs j later in
-          omega arith
-    ]
+position_from-bound test i (x ∷ xs) j e = grind (arith, cases_Bool, (position_from-bound test (i + 1) xs j))
 
 -- ---- entries
 

@@ -57,22 +57,17 @@ pub rows_within : (rows lanes : ℕ) (es : List Event) → ((p : ℕ) → has_en
 rows_within rows lanes [] in_range all = tt
 rows_within rows lanes (e ∷ es) in_range all =
     let (lane, listed) = first_listed lanes e (entries_of lanes es) (set_lanes e.lanes) all.0.some in
-    let below = in_range (e.row * lanes + lane) listed in (
-      lt_of_mul-lt-mul_right lanes {m = e.row} {n = rows} (omega (arith, below)),
-      rows_within rows lanes es (λ p h. in_range p (list_any-append (λ (x : Entry ℕ). eqb p x.node) (entries_at lanes e) (entries_of lanes es) ∙ or_right (has_entry (entries_at lanes e) p) _ h)) all.1,
-    )
+    let low = in_range (e.row * lanes + lane) listed in
+    let rest = rows_within rows lanes es (λ p h. in_range p (grind (arith, list_any-append, or_right))) all.1 in
+    (lt_of_mul-lt-mul_right lanes {m = e.row} {n = rows} (omega arith), rest)
 
 -- the entries from place i on begin with those of the lanes that are left of the event
 pub event_rest : (rows lanes : ℕ) (L : List (Entry ℕ)) (i first : ℕ) (e : Event) (left : ℕ) → IsEventOf rows lanes L i first e → set_lanes left ≡ drop (i - first) (set_lanes e.lanes) →
     drop i L ≡ entries_at lanes (later e left) ++ drop (i + length (set_lanes left)) L
 event_rest rows lanes L i first e left is rest =
-    let k : ℕ = i - first in
-    let S = entries_at lanes e in
-    let after = drop (first + length (set_lanes e.lanes)) L in
-    let here : first + k ≡ i = omega (arith, is.from) in
-    let ends : first + length (set_lanes e.lanes) ≡ i + length (set_lanes left) = omega (arith, ap length rest, length-drop k (set_lanes e.lanes), is.from, is.within) in
-    let front : drop k (S ++ after) ≡ drop k S ++ after = drop-append-le k S after (omega (arith, length-entries_at lanes e, is.within)) in
-    let same : drop k S ≡ entries_at lanes (later e left) = grind (arith, drop-map, later) in
+    let front = drop-append-le (i - first) (entries_at lanes e) (drop (first + length (set_lanes e.lanes)) L) (omega (arith, length-entries_at lanes e, is.within)) in
+    let same : drop (i - first) (entries_at lanes e) ≡ entries_at lanes (later e left) = grind (arith, drop-map, later) in
+    let ends : first + length (set_lanes e.lanes) ≡ i + length (set_lanes left) = omega (arith, ap length rest, length-drop (i - first) (set_lanes e.lanes), is.from, is.within) in
     grind (arith, drop-drop)
 
 -- ---- the tables of an order

@@ -7,10 +7,7 @@ use Rattle.roman_order.proofs.Lanes.{has_entry-lane, has_entry-elsewhere}
 -- the search goes past elements that don't pass
 pub position_from-past : {X : Type 0} (test : X → Bool) (i : ℕ) (xs ys : List X) → list_any test xs ≡ false → position_from test i (xs ++ ys) ≡ position_from test (i + length xs) ys
 position_from-past test i [] ys none = let same : i ≡ i + 0 = omega arith in ap (λ j. position_from test j ys) same
-position_from-past test i (x ∷ xs) ys none =
-    let (here, later) = or_parts (test x) (list_any test xs) none in
-    let same : i + 1 + length xs ≡ i + suc (length xs) = omega arith in
-    ap (λ b. cond b (Some i) (position_from test (i + 1) (xs ++ ys))) here ∙ (position_from-past test (i + 1) xs ys later ∙ ap (λ j. position_from test j ys) same)
+position_from-past test i (x ∷ xs) ys none = grind (arith, or_parts, (position_from-past test (i + 1) xs ys))
 
 -- a place among the pairs of a list is one among its entries
 position_from-nodes : (p i : ℕ) (L : List (Entry ℕ)) → position_from (eqb p) i (nodes_of L) ≡ position_from (λ x. eqb p x.node) i L
@@ -27,9 +24,7 @@ length-with_stamps i (p ∷ ps) stamps = length-with_stamps (i + 1) ps (set stam
 pub with_stamps-lanes : (first : ℕ) (reason : Reason) (i : ℕ) (ls : List ℕ) (L : List (Entry ℕ)) (stamps : List ℕ) →
     with_stamps i (nodes_of (map (λ lane. as_entry (first + lane, reason)) ls ++ L)) stamps ≡ with_stamps (i + length ls) (nodes_of L) (with_stamps i (map (λ lane. first + lane) ls) stamps)
 with_stamps-lanes first reason i [] L stamps = let same : i ≡ i + 0 = omega arith in ap (λ j. with_stamps j (nodes_of L) stamps) same
-with_stamps-lanes first reason i (l ∷ ls) L stamps =
-    let same : i + 1 + length ls ≡ i + suc (length ls) = omega arith in
-    with_stamps-lanes first reason (i + 1) ls L (set stamps (first + l) i) ∙ ap (λ j. with_stamps j (nodes_of L) (with_stamps i (map (λ lane. first + lane) (l ∷ ls)) stamps)) same
+with_stamps-lanes first reason i (l ∷ ls) L stamps = grind (arith, (with_stamps-lanes first reason (i + 1) ls L (set stamps (first + l) i)))
 
 -- a number that no element is has no place
 no_place : (p i : ℕ) (ps : List ℕ) → AllByRecursion (λ q. eqb p q ≡ false) ps → position_from (eqb p) i ps ≡ None
@@ -41,12 +36,8 @@ stamp_at : (i p : ℕ) (ps stamps : List ℕ) → IsDistinct eqb ps → p < leng
 stamp_at i p [] stamps apart low = refl
 stamp_at i p (q ∷ ps) stamps apart low =
     let rest = stamp_at (i + 1) p ps (set stamps q i) (IsDistinct-tail eqb q ps apart) (rw (length-set stamps q i) low) in
-    elim (cases_eq p q) [
-      | inl e ↦
-          let none : position_from (eqb p) (i + 1) ps ≡ None = rw e (no_place q (i + 1) ps (IsDistinct-head eqb q ps apart)) in
-          grind (arith, eq-eqb, get_or-set_same)
-      | inr ne ↦ grind (arith, ne_eqb, get_or-set_other)
-    ]
+    let none = no_place q (i + 1) ps (IsDistinct-head eqb q ps apart) in
+    elim (cases_eq p q) [ inl e ↦ grind (arith, eq-eqb, get_or-set_same) | inr ne ↦ grind (arith, ne_eqb, get_or-set_other) ]
 
 -- written over a blank table, the places of the entries are their stamps
 pub stamps_of : (L : List (Entry ℕ)) (stamps : List ℕ) → IsDistinct eqb (nodes_of L) → ((p : ℕ) → p < length stamps → get_or stamps p 0 ≡ 2 ^ 32 - 1) → AreStamps L (with_stamps 0 (nodes_of L) stamps)
@@ -69,8 +60,8 @@ has_entry-event lanes e x lane few low is = elim (cases_eq e.row x) [
 below_split : (n k : ℕ) → k < n → (more : List ℕ) × (below n ≡ below k ++ (k ∷ more))
 below_split zero k h = absurd (omega arith)
 below_split (suc n) k h = elim (cases_eq k n) [
-  | inl e ↦ ([], ap (λ m. below m ++ n ∷ []) (sym e) ∙ ap (λ m. below k ++ m ∷ []) (sym e))
-  | inr ne ↦ let (more, same) = below_split n k (omega arith) in (more ++ n ∷ [], ap (λ ms. ms ++ n ∷ []) same ∙ append_assoc (below k) (k ∷ more) (n ∷ []))
+  | inl e ↦ ([], grind arith)
+  | inr ne ↦ let (more, same) = below_split n k (omega arith) in (more ++ n ∷ [], grind (arith, append_assoc))
 ]
 
 -- the search for the pair of a lane of an event gives the number of lanes before it

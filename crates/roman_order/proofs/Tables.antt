@@ -1,8 +1,8 @@
 -- The contents of an order's tables, and the room in them.
-use Rattle.roman_order.proofs.Common.{◌≡◌, ◌≢◌, ℕ, ◌+◌, ◌-◌, ◌*◌, ◌/◌, ◌^◌, ◌<◌, ◌≤◌, true, false, not, [], ◌∷◌, ◌++◌, length, drop, get_or, replicate, sym, ◌∙◌, subst, arith, bit_and, length-append, ap, w64, bit_not, set, length-replicate, get_or-replicate, Reason, is_on, AreRows, full_word, Board, set_lanes, entries_in, has_entry, entries_at, AreCounted, board_of, IsPlaced, CanWait, IsSound, IsSized, removal_list, Event, Inside}
+use Rattle.roman_order.proofs.Common.{◌≡◌, ◌≢◌, ℕ, ◌+◌, ◌-◌, ◌*◌, ◌/◌, ◌^◌, ◌<◌, ◌≤◌, true, false, not, [], ◌∷◌, ◌++◌, length, drop, get_or, replicate, sym, ◌∙◌, subst, arith, bit_and, length-append, ap, w64, bit_not, set, length-replicate, get_or-replicate, length-take-le, replicate-append-replicate, take_all, Reason, is_on, AreRows, full_word, Board, set_lanes, entries_in, has_entry, entries_at, AreCounted, board_of, IsPlaced, CanWait, IsSound, IsSized, removal_list, Event, Inside, take-add}
 use Rattle.roman_order.proofs.Lanes.{AreRows-full, AreRows-pushed, in_lanes, lanes_once, some_lane}
-use Rattle.roman_order.proofs.Places.{IsPlaced-nil, length-le_from_apart}
-use Rattle.roman_order.proofs.Events.{few_events, length-firsts_of, length-entries_at, AreCounted-push, AreCounted-nil}
+use Rattle.roman_order.proofs.Places.{IsPlaced-nil, length-le_from_apart, place_in_list-from_greatest}
+use Rattle.roman_order.proofs.Events.{CanWait-nil, few_events, length-firsts_of, length-entries_at, AreCounted-push, AreCounted-nil}
 use Rattle.roman_order.proofs.Pushes.{pair_below, IsPlaced-lanes}
 
 -- the list has at most as many entries as there are pairs
@@ -38,6 +38,15 @@ blank_sound a sized waits events firsts count stamps words =
           (AreRows-full a.lanes (replicate a.rows full) (λ y h. get_or-replicate a.rows y full 0 (omega (arith, h, length-replicate a.rows full)) ∙ full_word a.lanes sized.few_lanes.1));
       sized = sized;
     }
+
+-- a table that is written piece by piece
+pub ruleset piece_rules = (length-replicate, length-take-le, replicate-append-replicate, take-add, take_all)
+
+-- an order that is made equal to another one
+pub ruleset reset_rules = (CanWait-nil, few)
+
+-- the stamps of the pairs
+pub ruleset stamp_rules = (few, few_listed, place_in_list-from_greatest)
 
 -- ---- entries for the lanes of a row
 

@@ -14,14 +14,25 @@ pub(crate) fn words_for(flags: u32) -> usize
 }
 
 /// Returns whether flag `p` is set.
+#[tactic(auto, unfolding(roman_lanes::specs::Flags::has_flag, roman_lanes::specs::Rows::is_on))]
 pub(crate) fn has(words: &[u64], p: u32) -> bool
     requires { p / 64 < length words.now }
     ensures { result ≡ has_flag words.now p }
 {
-    (words[(p / 64) as usize] >> (p % 64)) & 1 == 1
+    is_set(words[(p / 64) as usize], p % 64)
+}
+
+/// Returns whether a bit of a word is set.
+#[inline(always)]
+pub(crate) fn is_set(word: u64, bit: u32) -> bool
+    requires { bit < 64 }
+    ensures { result ≡ is_on word bit }
+{
+    (word >> bit) & 1 == 1
 }
 
 /// Sets flag `p`.
+#[tactic(auto, using(crate::proofs::Words::flag_rules))]
 pub(crate) fn set(words: &mut [u64], p: u32)
     requires { p / 64 < length words.old }
     ensures set { has_flag words.new p ≡ true }
@@ -103,6 +114,7 @@ pub(crate) fn lanes_in(word: u64) -> u32
 
 /// Clears the lowest set flag of word `i`, and returns its number among all flags. Requires a word
 /// that isn't 0.
+#[tactic(auto, using(crate::proofs::Words::flag_rules))]
 pub(crate) fn take_first(words: &mut [u64], i: usize) -> u32
     requires place { i < length words.old }
     requires some { slice_index words.old i ≢ 0 }

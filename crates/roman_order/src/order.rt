@@ -164,7 +164,7 @@ impl Order {
     /// Makes this order equal to `from`, in one pass over the contents of its tables, whatever
     /// their capacity. Requires that `from` has the same room and no waiting entries. Takes no
     /// memory.
-    #[tactic(auto, using(crate::proofs::Tables::few))]
+    #[tactic(auto, using(crate::proofs::Tables::reset_rules))]
     pub fn reset_to(&mut self, from: &Order)
         requires room { self.old.cap_pairs ≡ from.now.cap_pairs }
         requires idle { from.now.waiting ≡ [] }
@@ -320,6 +320,7 @@ impl Order {
 
     /// Returns the number of pairs that aren't listed: the number of pairs minus the length of the
     /// list, without a pass over them.
+    #[tactic(auto, using(crate::proofs::Counts::counted_unlisted))]
     pub fn unlisted(&self) -> u32
         ensures counted { result ≡ count_by (λ p. not (has_entry self.now.list p)) (below (pairs_of self.now)) }
         ensures rest { result + length self.now.list ≡ pairs_of self.now }
@@ -333,7 +334,7 @@ impl Order {
         requires { p < pairs_of self.now }
         ensures { result ≡ not (has_entry self.now.list p) }
     {
-        (self.words[(p / self.lanes) as usize] >> (p % self.lanes)) & 1 == 1
+        flags::is_set(self.words[(p / self.lanes) as usize], p % self.lanes)
     }
 }
 
@@ -349,6 +350,7 @@ fn copied<T: Copy>(alloc: Global, items: &[T], room: usize) -> Result<Vec<T>, Al
 
 /// Replaces the items of a table, which must have room for the new ones. Copies them piece by piece:
 /// glibc copies longer pieces by `rep movsb`, which a count of instructions takes byte by byte.
+#[tactic(auto, using(crate::proofs::Tables::piece_rules))]
 fn rewrite<T: Copy + Drop>(table: &mut Vec<T>, items: &[T])
     requires { length items.now ≤ vec_capacity table.old }
     ensures items { table.new.items ≡ items.now }
@@ -368,6 +370,7 @@ fn rewrite<T: Copy + Drop>(table: &mut Vec<T>, items: &[T])
 /// Replaces the items of a table by `n` copies of a value. Requires room for them. Writes them piece
 /// by piece: glibc fills longer pieces by `rep stosb`, which a count of instructions takes byte by
 /// byte.
+#[tactic(auto, using(crate::proofs::Tables::piece_rules))]
 fn refill<T: Copy + Drop>(table: &mut Vec<T>, n: usize, value: T)
     requires { n ≤ vec_capacity table.old }
     ensures items { table.new.items ≡ replicate n value }

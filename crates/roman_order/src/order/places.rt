@@ -10,12 +10,13 @@ ghost use Rattle.roman_order.specs.Sound.{AreStamps, with_stamps};
 use super::reading::event_in;
 use super::{Order, refill};
 use crate::event::Event;
-use crate::flags::{first_lane, lanes_in};
+use crate::flags::{first_lane, is_set, lanes_in};
 
 impl Order {
     /// Returns the place of the pair `p` in the list, from 0, or `None` where it isn't listed. Looks
     /// it up if [`place_all`](Order::place_all) was called since the list last changed, and otherwise
     /// searches for it event by event.
+    #[tactic(auto, using(crate::proofs::Tables::stamp_rules))]
     pub fn stamp(&self, p: u32) -> Option<u32>
         requires { p < pairs_of self.now }
         ensures { result ≡ place_in_list self.now.list p }
@@ -67,7 +68,7 @@ fn has_lane(row: u32, word: u64, x: u32, lane: u32) -> bool
     requires { lane < 64 }
     ensures { result ≡ (row == x && is_on word lane) }
 {
-    row == x && (word >> lane) & 1 == 1
+    row == x && is_set(word, lane)
 }
 
 /// Returns the number of a word's lanes below `lane`.

@@ -20,6 +20,7 @@ impl Order {
 
     /// Adds an entry for the pair at a lane of the row `x` at the end of the list. Requires a pair
     /// that isn't listed.
+    #[tactic(auto, using(crate::proofs::Lanes::one_rules))]
     pub fn push_at(&mut self, x: u32, lane: u32, reason: Reason)
         requires row { x < self.old.rows }
         requires lane { lane < self.old.lanes }

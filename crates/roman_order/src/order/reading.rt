@@ -55,6 +55,7 @@ impl Order {
     /// event by event, and returns the place after them, at most the length of the list, with a guess
     /// of its event. `near` is a guess of the event of place `i`. After a wrong guess no entry is
     /// passed over.
+    #[tactic(auto, using(crate::proofs::Tables::few))]
     pub fn past_unkept(&self, i: u32, near: usize) -> (u32, usize)
         requires { i ≤ length self.now.list }
         ensures { AreUnkept self.now i result.0 }

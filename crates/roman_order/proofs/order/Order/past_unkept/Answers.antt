@@ -1,11 +1,7 @@
 use Rattle.roman_order.proofs.Common.{◌<◌, ◌∙◌, arith, length, sym, get_or_read}
 use Rattle.roman_order.proofs.Kept.{passed_over}
 use Rattle.roman_order.proofs.Reading.{rows_within}
-use Rattle.roman_order.proofs.Tables.{few}
 use Rattle.roman_order.proofs.order.Order.past_unkept.Goals as goal
-
-pub next_kept-next-requires-clause-from : goal.next_kept-next-requires-clause-from
-next_kept-next-requires-clause-from c = grind (arith, few)
 
 pub next_kept-next-requires-clause-rows : goal.next_kept-next-requires-clause-rows
 next_kept-next-requires-clause-rows c =

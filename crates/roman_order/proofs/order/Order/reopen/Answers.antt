@@ -1,9 +1,6 @@
-use Rattle.roman_order.proofs.Common.{vec_capacity, ap, ◌∙◌, arith, rules, length-replicate, Board}
+use Rattle.roman_order.proofs.Common.{vec_capacity, ap, ◌∙◌, rules, length-replicate}
 use Rattle.roman_order.proofs.Tables.{list_waits, blank_sound}
 use Rattle.roman_order.proofs.order.Order.reopen.Goals as goal
-
-pub overflow_mul-pairs : goal.overflow_mul-pairs
-overflow_mul-pairs c = omega (arith, ap (λ (b : Board). b.cap_pairs) c.self.view_is, c.self.invariant.sized.few)
 
 pub invariant_of-self : goal.invariant_of-self
 invariant_of-self c =

@@ -1,4 +1,4 @@
-use Rattle.roman_order.proofs.Common.{subst, arith, ◌*◌, ◌+◌, ap, sym, drop, length, length-append, AreStamps, entries_at, entries_of, set_lanes, drop_of_length-le}
+use Rattle.roman_order.proofs.Common.{subst, arith, ◌*◌, ◌+◌, sym, drop, length-append, AreStamps, entries_of, set_lanes, drop_of_length-le}
 use Rattle.roman_order.proofs.Events.{length-entries_at}
 use Rattle.roman_order.proofs.Stamps.{stamps_of, with_stamps-lanes}
 use Rattle.roman_order.proofs.order.places.write_stamps.Goals as goal
@@ -6,14 +6,8 @@ use Rattle.roman_order.proofs.order.places.write_stamps.Goals as goal
 pub loop-j-preserved : goal.loop-j-preserved
 loop-j-preserved c =
     let e = c.event_in-event.result in
-    let lanes = c.args.lanes in
-    let rest = entries_of lanes (drop (c.loop-j.j + 1) c.args.events.now) in
-    record {
-      each = (rw c.event_in-event.ensures at c.loop-j.invariant.each).1;
-      place = omega (arith, ap (λ es. length (entries_of lanes es)) c.event_in-event.ensures, length-entries_at lanes e, length-append (entries_at lanes e) rest);
-      stamped = rw (c.write_event-place.ensures.next, c.write_event-place.ensures.stamped, ← with_stamps-lanes (e.row * lanes) e.reason c.loop-j.place (set_lanes e.lanes) rest c.loop-j.stamps)
-          (rw c.event_in-event.ensures at c.loop-j.invariant.stamped);
-    }
+    let rest = entries_of c.args.lanes (drop (c.loop-j.j + 1) c.args.events.now) in
+    grind (arith, length-append, length-entries_at, (with_stamps-lanes (e.row * c.args.lanes) e.reason c.loop-j.place (set_lanes e.lanes) rest c.loop-j.stamps))
 
 pub returns : goal.returns
 returns c =
