@@ -1,5 +1,5 @@
 -- Arenas over numbers keep the laws of arenas.
-use Rattle.roman_rules.proofs.Common.{ℕ, ◌<◌, length, sym, subst, arith, eqb-true, eq-eqb, IsIn, HasNoRepeats, Arena, in_below, from_below, HasNoRepeats-below, IsSame, IsArena, IsNumbered}
+use Rattle.roman_rules.proofs.Common.{ℕ, ◌<◌, length, sym, subst, arith, rules, eqb-true, eq-eqb, IsIn, HasNoRepeats, Arena, in_below, from_below, HasNoRepeats-below, IsSame, IsArena, IsNumbered}
 
 pub numbered_same : (A : Arena ℕ) → IsNumbered A → IsSame A
 numbered_same A ok = grind (arith, eq-eqb, eqb-true)
@@ -12,10 +12,6 @@ pub from_nodes : (A : Arena ℕ) → IsNumbered A → (p : ℕ) → IsIn p A.nod
 from_nodes A ok p i = from_below (length A.nodes) p (subst (λ ps. IsIn p ps) ok.nodes i)
 
 pub numbered_arena : (A : Arena ℕ) → IsNumbered A → IsArena A
-numbered_arena A ok = record {
-  same = numbered_same A ok;
-  allowed = ok.allowed;
-  closed = λ p i a k q j. in_nodes A ok q (ok.closed p a k q (from_nodes A ok p i) j);
-  served = ok.served;
-  once = subst HasNoRepeats (sym ok.nodes) (HasNoRepeats-below (length A.nodes));
-}
+numbered_arena A ok =
+    let once : HasNoRepeats A.nodes = subst HasNoRepeats (sym ok.nodes) (HasNoRepeats-below (length A.nodes)) in
+    search (rules, from_nodes, in_nodes, numbered_same, ok.allowed, ok.closed, ok.served)

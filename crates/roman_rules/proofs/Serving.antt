@@ -1,5 +1,5 @@
 -- The bits of masks, and the number of seats in the masks of a row's pairs.
-use Rattle.roman_rules.proofs.Common.{◌≡◌, ℕ, zero, suc, ◌+◌, ◌-◌, ◌*◌, ◌%◌, ◌^◌, ◌<◌, ◌≤◌, Bool, cond, not, [], length, filter, sum_by, count_ones, IsTrue, IsFalse, inl, inr, refl, sym, ap, ◌∙◌, arith, bit_at, pow_pos, cases_eq, cases_lt, cond-true, cond-false, both_ways, not_from_true, eq-eqb, ne_eqb, sum_by_push, length-filter, ones-le, ones_cat, ones_le_self, zero_from_ones, mod-pow-add, bit_at-lt, bit_at-zero, below, is_empty, has, Arena, is_beaten, mask, by_test, from_below, sum_by_same, empty_is, not_empty_in, mask_none, mask_has, mask_has_past, beaten_none, is_on, HasLanes, HasBits, bit_of, has_seat, IsNumbered}
+use Rattle.roman_rules.proofs.Common.{◌≡◌, ℕ, zero, suc, ◌+◌, ◌-◌, ◌*◌, ◌%◌, ◌^◌, ◌<◌, ◌≤◌, Bool, cond, not, length, sum_by, count_ones, IsTrue, IsFalse, inl, inr, refl, sym, ap, ◌∙◌, arith, bit_at, pow_pos, cases_eq, cases_lt, cond-true, cond-false, both_ways, not_from_true, eq-eqb, ne_eqb, sum_by_push, length-filter, add-suc, add-zero, ones-le, ones_cat, ones_le_self, zero_from_ones, mod-pow-add, bit_at-lt, bit_at-zero, below, is_empty, has, Arena, is_beaten, mask, by_test, from_below, sum_by_same, empty_is, not_empty_in, mask_none, mask_has, mask_has_past, beaten_none, is_on, HasLanes, HasBits, bit_of, has_seat, IsNumbered}
 
 -- ---- an action that isn't allowed
 
@@ -44,32 +44,25 @@ sum_plus : (f g : ℕ → ℕ) (n : ℕ) → sum_by (λ i. f i + g i) (below n) 
 sum_plus f g zero = refl
 sum_plus f g (suc n) = omega (arith, sum_by_push (λ i. f i + g i) (below n) n, sum_by_push f (below n) n, sum_by_push g (below n) n, sum_plus f g n)
 
-sum_none : (n : ℕ) → sum_by (λ i. 0) (below n) ≡ 0
-sum_none zero = refl
-sum_none (suc n) = omega (arith, sum_by_push (λ i. 0) (below n) n, sum_none n)
+sum_zero : (f : ℕ → ℕ) (n : ℕ) → ((i : ℕ) → i < n → f i ≡ 0) → sum_by f (below n) ≡ 0
+sum_zero f zero none = refl
+sum_zero f (suc n) none = omega (arith, sum_by_push f (below n) n, none n (omega arith), sum_zero f n (λ i l. none i (omega arith)))
 
 -- a double sum in the other order
 pub sum_turned : (f : ℕ → ℕ → ℕ) (m n : ℕ) → sum_by (λ i. sum_by (λ j. f i j) (below n)) (below m) ≡ sum_by (λ j. sum_by (λ i. f i j) (below m)) (below n)
-sum_turned f zero n = sym (sum_none n)
-sum_turned f (suc m) n =
-    sum_by_push (λ i. sum_by (λ j. f i j) (below n)) (below m) m ∙ (ap (λ x. x + sum_by (λ j. f m j) (below n)) (sum_turned f m n)
-    ∙ (sym (sum_plus (λ j. sum_by (λ i. f i j) (below m)) (λ j. f m j) n)
-    ∙ sum_by_same (λ j. sum_by (λ i. f i j) (below m) + f m j) (λ j. sum_by (λ i. f i j) (below (suc m))) (below n) (λ j i. sym (sum_by_push (λ i. f i j) (below m) m))))
+sum_turned f zero n = sym (sum_zero (λ j. 0) n (λ j l. refl))
+sum_turned f (suc m) n = simp (sum_by_push, sum_plus) (ap (λ x. x + sum_by (λ j. f m j) (below n)) (sum_turned f m n))
 
 -- a sum over a + n numbers is split after the first a
 pub sum_further : (f : ℕ → ℕ) (a n : ℕ) → sum_by f (below (a + n)) ≡ sum_by f (below a) + sum_by (λ i. f (a + i)) (below n)
-sum_further f a zero = (let same : a + zero ≡ a = omega arith in ap (λ m. sum_by f (below m)) same) ∙ (let none : sum_by f (below a) ≡ sum_by f (below a) + 0 = omega arith in none)
-sum_further f a (suc n) =
-    let next : a + suc n ≡ suc (a + n) = omega arith in
-    ap (λ m. sum_by f (below m)) next ∙ omega (arith, sum_by_push f (below (a + n)) (a + n), sum_further f a n, sum_by_push (λ i. f (a + i)) (below n) n)
+sum_further f a zero = grind (arith, add-zero)
+sum_further f a (suc n) = simp (add-suc, sum_by_push) (omega (arith, sum_further f a n))
 
 -- numbers at which the term is 0 don't change a sum
 pub sum_cut : (f : ℕ → ℕ) (m n : ℕ) → m ≤ n → ((i : ℕ) → m ≤ i → i < n → f i ≡ 0) → sum_by f (below m) ≡ sum_by f (below n)
 sum_cut f m n l none =
     let rest : m + (n - m) ≡ n = omega arith in
-    let further = sum_further f m (n - m) in
-    let nothing = sum_by_same (λ i. f (m + i)) (λ i. 0) (below (n - m)) (λ i j. none (m + i) (omega arith) (let k = from_below (n - m) i j in omega (arith, k))) in
-    omega (arith, ap (λ k. sum_by f (below k)) rest, further, nothing, sum_none (n - m))
+    omega (arith, ap (λ k. sum_by f (below k)) rest, sum_further f m (n - m), sum_zero (λ i. f (m + i)) (n - m) (λ i h. none (m + i) (omega arith) (omega arith)))
 
 -- ---- the ones of a word
 
@@ -81,8 +74,7 @@ low_ones : (n k : ℕ) → count_ones (n % 2 ^ k) ≡ sum_by (bit_at n) (below k
 low_ones n zero = let none : n % 1 ≡ 0 = omega arith in ap count_ones none ∙ bit_ones 0 (omega arith)
 low_ones n (suc k) =
     let split : n % 2 ^ suc k ≡ bit_at n k * 2 ^ k + n % 2 ^ k = (let same : suc k ≡ 1 + k = omega arith in ap (λ j. n % 2 ^ j) same) ∙ mod-pow-add n 1 k in
-    let small : n % 2 ^ k < 2 ^ k = omega (arith, pow_pos k) in
-    omega (arith, ap count_ones split, ones_cat k (bit_at n k) (n % 2 ^ k) small, bit_ones (bit_at n k) (bit_at-lt n k), low_ones n k, sum_by_push (bit_at n) (below k) k)
+    omega (arith, ap count_ones split, ones_cat k (bit_at n k) (n % 2 ^ k) (omega (arith, pow_pos k)), bit_ones (bit_at n k) (bit_at-lt n k), low_ones n k, sum_by_push (bit_at n) (below k) k)
 
 bit_is : (word lane : ℕ) → bit_at word lane ≡ cond (is_on word lane) 1 0
 unfolding is_on
@@ -103,10 +95,7 @@ ones_few word fits = ones-le 64 word fits
 -- ---- the seats of a mask
 
 pub mask_counted : (A : Arena ℕ) → IsNumbered A → (gone : ℕ → Bool) (p a : ℕ) → length (mask A gone p a) ≡ sum_by (λ k. cond (not (is_beaten A gone p a k)) 1 0) (below A.seats)
-mask_counted A ok gone p a = by_test (A.allows p a)
-    (λ t. ap length (cond-true (A.allows p a) (filter (λ k. not (is_beaten A gone p a k)) (below A.seats)) [] t) ∙ length-filter (λ k. not (is_beaten A gone p a k)) (below A.seats))
-    (λ f. ap length (mask_none A gone p a f)
-    ∙ sym (sum_by_same (λ k. cond (not (is_beaten A gone p a k)) 1 0) (λ k. 0) (below A.seats) (λ k i. cond-false (not (is_beaten A gone p a k)) 1 0 (not_from_true (is_beaten A gone p a k) (refused_beaten A ok gone p a k f))) ∙ sum_none A.seats))
+mask_counted A ok gone p a = grind (arith, by_test, cond-false, cond-true, length-filter, mask_none, not_from_true, refused_beaten, sum_zero)
 
 -- the number of pairs of a row at which a seat serves the action
 abbrev pub served_by : Arena ℕ → (ℕ → Bool) → ℕ → ℕ → ℕ → ℕ → ℕ
@@ -115,14 +104,10 @@ served_by A gone lanes row a k = sum_by (λ lane. cond (not (is_beaten A gone (r
 -- the number of seats in an action's masks in a row, summed seat by seat
 pub action_counted : (A : Arena ℕ) → IsNumbered A → (gone : ℕ → Bool) (lanes row a : ℕ) →
     sum_by (served_by A gone lanes row a) (below A.seats) ≡ sum_by (λ lane. length (mask A gone (row * lanes + lane) a)) (below lanes)
-action_counted A ok gone lanes row a =
-    sum_turned (λ k lane. cond (not (is_beaten A gone (row * lanes + lane) a k)) 1 0) A.seats lanes
-    ∙ sum_by_same (λ lane. sum_by (λ k. cond (not (is_beaten A gone (row * lanes + lane) a k)) 1 0) (below A.seats)) (λ lane. length (mask A gone (row * lanes + lane) a)) (below lanes)
-    (λ lane i. sym (mask_counted A ok gone (row * lanes + lane) a))
+action_counted A ok gone lanes row a = simp (mask_counted A ok gone) (sum_turned (λ k lane. cond (not (is_beaten A gone (row * lanes + lane) a k)) 1 0) A.seats lanes)
 
 -- where an action is allowed at no pair of a row, its masks there are empty
 pub none_chosen : (A : Arena ℕ) (gone : ℕ → Bool) (lanes row a : ℕ) → ((lane : ℕ) → lane < lanes → IsFalse (A.allows (row * lanes + lane) a)) →
     0 ≡ sum_by (λ lane. length (mask A gone (row * lanes + lane) a)) (below lanes)
 none_chosen A gone lanes row a none =
-    sym (sum_by_same (λ lane. length (mask A gone (row * lanes + lane) a)) (λ lane. 0) (below lanes)
-    (λ lane i. ap length (mask_none A gone (row * lanes + lane) a (none lane (from_below lanes lane i)))) ∙ sum_none lanes)
+    sym (sum_zero (λ lane. length (mask A gone (row * lanes + lane) a)) lanes (λ lane l. ap length (mask_none A gone (row * lanes + lane) a (none lane l))))
