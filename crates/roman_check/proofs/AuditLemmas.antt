@@ -1,7 +1,6 @@
 -- Lines that are judged by those that were read.
-use Rattle.roman_check.proofs.Common.{◌≡◌, ℕ, ◌+◌, ◌*◌, ◌<◌, ◌==◌, Bool, true, false, not, ◌||◌, List, [], ◌∷◌, ◌++◌, length, Option, Some, None, IsTrue, IsFalse, option_map, find, refl, sym, ap, ◌∙◌, subst, arith, append-nil, if◌then◌else◌, list_any, cons_option, or-false, cond-true, cond-false, not-true, or_left, not-false, list_any-append, IsIn, same_numbers, Arena, Entry, is_listed, is_justified, head_line, count_line, reasons, entry_of, entries_on, could_be_listed, end_line, entry_fault, end_fault, body_fault, same_numbers_is, AreFew, from_possible, possible_small, entry_of-is, entry_of_other, fault_in_body, fault_after_end, entry_is_no_end, by_test, Reason, Final, Act, AreRows, IsNumbered, Audit, Nothing, Body, Head, Count, Why, Form, fault_of, IsInRows, HasListed, Judges, TakesEntry, due_after, Removes, HoldsWhereKept, IsReasonOf, filter_map-append, known_more, Due, Asked, Remaining}
+use Rattle.roman_check.proofs.Common.{◌≡◌, ℕ, ◌+◌, ◌*◌, ◌<◌, ◌==◌, Bool, true, false, not, ◌||◌, List, [], ◌∷◌, ◌++◌, length, Option, Some, None, IsTrue, IsFalse, option_map, find, refl, sym, ap, ◌∙◌, subst, arith, append-nil, if◌then◌else◌, inl, inr, list_any, cons_option, or-false, cond-true, cond-false, not-true, or_left, not-false, cases_lt, list_any-append, IsIn, below, same_numbers, Arena, Entry, is_listed, is_justified, head_line, count_line, reasons, entry_of, entries_on, could_be_listed, end_line, entry_fault, end_fault, body_fault, same_numbers_is, AreFew, from_possible, possible_small, entry_of-is, entry_of_other, fault_in_body, fault_after_end, entry_is_no_end, by_test, from_below, from_map, Reason, Final, Act, AreRows, IsNumbered, Audit, Nothing, Body, Head, Count, Why, Form, fault_of, IsInRows, HasListed, Judges, TakesEntry, due_after, Removes, HoldsWhereKept, IsReasonOf, filter_map-append, known_more, Due, Asked, Remaining, mul-le}
 use Rattle.roman_model.specs.Certificate as text
-use Rattle.roman_check.proofs.ReasonLemmas.{given_action, row_ends, row_within}
 
 -- Entries
 
@@ -22,9 +21,13 @@ listed_more A ok L x q = list_any-append (λ y. A.same q y.node) L (x ∷ []) �
 pub listed_rows : (A : Arena ℕ) (L : List (Entry ℕ)) (left : Remaining) (asked : Asked) (lanes : ℕ) → HasListed A L left asked → left.lanes ≡ lanes → (words : List ℕ) → words ≡ left.words.items → AreRows lanes (λ q. not (is_listed A L q)) words
 listed_rows A L left asked lanes has shaped words same = subst (AreRows lanes (λ q. not (is_listed A L q))) (sym same) (subst (λ m. AreRows m (λ q. not (is_listed A L q)) left.words.items) shaped has.remain.rows)
 
-reason_given : (A : Arena ℕ) (r : Reason) → IsIn r (reasons A.actions) → IsReasonOf A r
+pub reason_given : (A : Arena ℕ) (r : Reason) → IsIn r (reasons A.actions) → IsReasonOf A r
 reason_given A Final i = tt
-reason_given A (Act a) i = given_action A.actions a i
+reason_given A (Act a) (inl wrong) = (let h : ⊥ = cc in absurd h)
+reason_given A (Act a) (inr i) =
+    let (b, j, same) = from_map Act (Act a) (below A.actions) i in
+    let is : a ≡ b = cc in
+    subst (λ n. n < A.actions) (sym is) (from_below A.actions b j)
 
 -- the entry read off a line is in range
 pub entry_given : (A : Arena ℕ) (line : List ℕ) (x : Entry ℕ) → Some x ≡ entry_of (length A.nodes) A.actions line → (x.node < length A.nodes) × IsReasonOf A x.reason
@@ -34,11 +37,7 @@ entry_given A line x e =
 
 -- the row of a pair is one of the table
 pub pair_within : (lanes pairs : ℕ) (left : Remaining) → IsInRows lanes pairs left → (p row lane : ℕ) → row * left.lanes + lane ≡ p → p < pairs → row < length left.words.items
-pair_within lanes pairs left shaped p row lane e l = grind (arith, row_within)
-
--- a place of the table is that of a pair
-pub place_within : (lanes pairs : ℕ) (left : Remaining) → IsInRows lanes pairs left → (row lane : ℕ) → row < length left.words.items → lane < left.lanes → row * left.lanes + lane < pairs
-place_within lanes pairs left shaped row lane l m = omega (arith, row_ends row (length left.words.items) left.lanes l, ap (λ n. length left.words.items * n) shaped.in_rows ∙ shaped.room)
+pair_within lanes pairs left shaped p row lane e l = grind (arith, cases_lt, mul-le)
 
 -- the last line, where this pair or no pair is missing
 pub end_judged : (A : Arena ℕ) (L : List (Entry ℕ)) (line : List ℕ) (found : Option ℕ) → found ≡ find (could_be_listed A L) A.nodes → IsTrue (same_numbers end_line line) → option_map text.Unlisted found ≡ body_fault A L (Some line)

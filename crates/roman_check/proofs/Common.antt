@@ -32,7 +32,7 @@ pub use Rattle.roman_lanes.specs.Rows.{AreRows, HasLanes}
 unfoldable pub use Rattle.roman_lanes.specs.Rows.{is_on}
 pub use Rattle.roman_model.proofs.CallerLemmas.{AreFew, act_reason, append_line, by_test, clean_push, cut_at, decimal_without, due_is, ended_lines-text, ended_lines_last, entry_is_line, entry_is_no_end, entry_of-is, entry_of-line, entry_of_none, entry_of_other, fault_after_end, fault_in_body, faults_none, find_first, find_not_found, from_below, from_map, from_possible, from_push, in_possible, lines-text, lines_last, list_any-map, none_from, possible_small, same_numbers_is, same_numbers_itself, same_test, sum_by_same, text_of_lines-push, verdict_accepted, verdict_at, verdict_ended, verdict_rejected, verdict_too_long}
 pub use Rattle.roman_model.specs.Arena.{Arena, Entry, is_justified, is_listed}
-pub use Rattle.roman_model.specs.Certificate.{IsClean, Rejected, body_fault, cert_verdict, could_be_listed, count_line, end_fault, end_line, entries_on, entry_fault, entry_line, entry_of, faults, head_line, line_fault, possible_entries, reason_text, reasons, unless_is, unlisted}
+pub use Rattle.roman_model.specs.Certificate.{IsClean, Rejected, body_fault, cert_verdict, could_be_listed, count_line, end_fault, end_line, entries_on, entry_fault, entry_of, faults, head_line, line_fault, reason_text, reasons, unless_is, unlisted}
 pub use Rattle.roman_model.specs.Lines.{AreLines, IsLine, ended_lines, lines, text_of_lines}
 pub use Rattle.roman_model.specs.Lists.{IsIn, below}
 pub use Rattle.roman_model.specs.System.{has}

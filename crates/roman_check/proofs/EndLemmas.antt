@@ -1,5 +1,5 @@
 -- The verdict at the end of a text, and at a line at fault.
-use Rattle.roman_check.proofs.Common.{◌≡◌, ◌≢◌, ℕ, ◌+◌, ◌<◌, ◌≤◌, Bool, not, List, [], ◌∷◌, ◌++◌, length, drop, Some, None, count_by, codes, decimal, refl, sym, ap, ap₂, ◌∙◌, subst, arith, cons_option, cond-true, below, lines, Arena, Entry, is_listed, head_line, count_line, entry_of, entries_on, line_fault, unless_is, IsClean, unlisted, cert_verdict, MAX_CERTIFICATE_BYTES, by_test, entry_of_other, fault_in_body, fault_after_end, due_is, verdict_ended, verdict_accepted, IsNumbered, Audit, Nothing, Reader, HasListed, HasRead, HasLines, length-filter}
+use Rattle.roman_check.proofs.Common.{◌≡◌, ◌≢◌, ℕ, ◌+◌, ◌<◌, ◌≤◌, Bool, not, List, [], ◌∷◌, ◌++◌, length, drop, Some, None, count_by, codes, decimal, refl, sym, ap, ap₂, ◌∙◌, arith, cons_option, cond-true, below, lines, Arena, Entry, is_listed, head_line, count_line, entry_of, entries_on, line_fault, unless_is, IsClean, unlisted, cert_verdict, MAX_CERTIFICATE_BYTES, by_test, entry_of_other, fault_in_body, fault_after_end, due_is, verdict_ended, verdict_accepted, IsNumbered, Audit, Nothing, Reader, HasListed, HasRead, HasLines, length-filter}
 use Rattle.roman_model.specs.Certificate as text
 use Rattle.roman_check.proofs.AuditLemmas.{few_numbered, lines_due}
 
@@ -22,15 +22,15 @@ ended_early A start bytes reader has short other =
 -- What is read where nothing is missing
 
 -- the first two lines are no entries
-opening_unread : (A : Arena ℕ) → IsNumbered A → (ls : List (List ℕ)) (head size : List ℕ) (body : List (List ℕ)) → ls ≡ head ∷ size ∷ body → IsClean A ls (length ls) → entries_on A ls ≡ entries_on A (drop 2 ls)
-opening_unread A ok ls head size body e clean =
-    let n = length A.nodes in
-    let cleaned = subst (λ ms. IsClean A ms (length ms)) e clean in
-    subst (λ ms. entries_on A ms ≡ entries_on A (drop 2 ms)) (sym e) (ap₂ (λ o p. cons_option o (cons_option p (entries_on A body)))
-    (unread head_line head 114 (codes "oman-order 1") (cleaned 0 (omega arith)) refl (omega arith)) (unread (count_line n) size 112 (codes "airs " ++ decimal n) (cleaned 1 (omega arith)) refl (omega arith)))
-  where
-    unread : (due line : List ℕ) (b : ℕ) (bs : List ℕ) → unless_is due (Some line) ≡ None → due ≡ b ∷ bs → 57 < b → entry_of (length A.nodes) A.actions line ≡ None
-    unread due line b bs e is other = subst (λ l. entry_of (length A.nodes) A.actions l ≡ None) (sym (due_is due line e ∙ is)) (entry_of_other (length A.nodes) A.actions b bs (few_numbered A ok) other)
+unread : (A : Arena ℕ) → IsNumbered A → (due line : List ℕ) (b : ℕ) (bs : List ℕ) → unless_is due (Some line) ≡ None → due ≡ b ∷ bs → 57 < b → entry_of (length A.nodes) A.actions line ≡ None
+unread A ok due line b bs e is other = rw (due_is due line e, is) (entry_of_other (length A.nodes) A.actions b bs (few_numbered A ok) other)
+
+opening_unread : (A : Arena ℕ) → IsNumbered A → (ls : List (List ℕ)) → IsClean A ls (length ls) → entries_on A ls ≡ entries_on A (drop 2 ls)
+opening_unread A ok [] clean = refl
+opening_unread A ok (head ∷ []) clean = ap (λ o. cons_option o []) (unread A ok head_line head 114 (codes "oman-order 1") (clean 0 (omega arith)) refl (omega arith))
+opening_unread A ok (head ∷ size ∷ body) clean = ap₂ (λ o p. cons_option o (cons_option p (entries_on A body)))
+    (unread A ok head_line head 114 (codes "oman-order 1") (clean 0 (omega arith)) refl (omega arith))
+    (unread A ok (count_line (length A.nodes)) size 112 (codes "airs " ++ decimal (length A.nodes)) (clean 1 (omega arith)) refl (omega arith))
 
 -- the number of remaining pairs is their count
 counted_unlisted : (A : Arena ℕ) → IsNumbered A → (start : ℕ) (L : List (Entry ℕ)) (related : ℕ) (alive : Bool) → related ≡ count_by (λ p. not (is_listed A L p)) (below (length A.nodes)) → alive ≡ not (is_listed A L start) →
@@ -40,8 +40,7 @@ counted_unlisted A ok start L related alive count starts = grind (arith, length-
 pub ended_greatest : (A : Arena ℕ) → IsNumbered A → (start : ℕ) (bytes : List ℕ) (reader : Reader) (alive : Bool) → HasLines A (lines bytes) reader → length bytes ≤ MAX_CERTIFICATE_BYTES → reader.audit.due ≡ Nothing →
     ((L : List (Entry ℕ)) → HasListed A L reader.audit.left reader.audit.asked → alive ≡ not (is_listed A L start)) → cert_verdict A start bytes ≡ text.Greatest reader.audit.left.count alive
 ended_greatest A ok start bytes reader alive has short ended starts =
-    let (head, size, body, e, some) = lines_due Nothing (lines bytes) (sym ended ∙ has.read.due) in
     let L = entries_on A (drop 2 (lines bytes)) in
     verdict_accepted A start bytes (lines bytes) short refl has.clean (may_end A (lines bytes) reader.audit has.read ended)
-    ∙ ap (unlisted A start) (opening_unread A ok (lines bytes) head size body e has.clean)
+    ∙ ap (unlisted A start) (opening_unread A ok (lines bytes) has.clean)
     ∙ counted_unlisted A ok start L reader.audit.left.count alive has.read.list.remain.counted (starts L has.read.list)

@@ -1,5 +1,5 @@
 -- Lines that are read as entries.
-use Rattle.roman_check.proofs.Common.{◌≡◌, ◌≢◌, ℕ, suc, ◌+◌, ◌-◌, ◌^◌, ◌<◌, Bool, List, ◌∷◌, ◌++◌, length, take, drop, get_or, None, Some, IsTrue, IsFalse, decimal, codes, refl, sym, ap, ap₂, ◌∙◌, subst, inl, arith, length-append, both_ways, ne_eqb, take_all, take_at, drop_more, get_or_at, IsIn, has, same_numbers, Reason, Final, Act, count_line, reason_text, reasons, entry_of, from_map, from_below, same_numbers_itself, AreFew, act_reason, from_possible, possible_small, entry_of_none, cut_at, decimal_without, in_possible, entry_of-line, IsNumberTo, ReadsOff}
+use Rattle.roman_check.proofs.Common.{◌≡◌, ◌≢◌, ℕ, suc, ◌+◌, ◌-◌, ◌^◌, ◌<◌, Bool, List, ◌∷◌, ◌++◌, length, take, drop, get_or, None, Some, IsTrue, IsFalse, decimal, codes, refl, sym, ap, ap₂, ◌∙◌, subst, inl, arith, length-append, length-take-le, ◌≤◌, both_ways, ne_eqb, take_all, take_at, drop_more, get_or_at, IsIn, has, same_numbers, Reason, Final, Act, count_line, reason_text, reasons, entry_of, from_map, from_below, same_numbers_itself, AreFew, act_reason, from_possible, possible_small, entry_of_none, cut_at, decimal_without, in_possible, entry_of-line, IsNumberTo, ReadsOff, HasEntry, Entry}
 use Rattle.roman_check.proofs.DigitLemmas.{decimal_shape, no_stop_digit}
 use Rattle.roman_check.proofs.Texts.{same_from, clear_before, taken_more}
 
@@ -75,3 +75,18 @@ pub some_entry : (pairs actions : ℕ) (line front back : List ℕ) (n : ℕ) (r
 some_entry pairs actions line front back n r few cut l e i same =
     ap (entry_of pairs actions) (cut.whole ∙ ap₂ (λ bs cs. bs ++ 32 ∷ cs) (sym e) (sym same))
     ∙ entry_of-line pairs actions (record { node = n; reason = r }) few (in_possible pairs actions (record { node = n; reason = r }) l i)
+
+-- the line that begins the bytes is that of the entry
+pub entry_there : (pairs actions : ℕ) (bytes : List ℕ) (end : ℕ) (x : Entry ℕ) → pairs < 2 ^ 32 → actions < 2 ^ 8 → HasEntry pairs actions bytes end x → entry_of pairs actions (take end bytes) ≡ Some x
+entry_there pairs actions bytes end x pairs_fit actions_fit has =
+    let parts = has.parts in
+    let space = has.space in
+    let before : space < end = parts.rest.before in
+    let within : end < length bytes = parts.rest.ended.within in
+    let inside : x.node < pairs = has.inside in
+    let long : length (take space bytes) ≡ space = length-take-le space bytes (omega arith) in
+    let (all, trim, value) = decimal_shape _ _ (omega arith) parts.number in
+    let short : length (take space bytes) ≤ 10 = trim.few in
+    let whole : space + 1 + (end - (space + 1)) ≡ end = omega arith in
+    ap (λ k. entry_of pairs actions (take k bytes)) (sym whole) ∙ some_entry _ _ _ _ _ _ _ (few_of pairs actions pairs_fit actions_fit)
+    (cut_to _ _ _ (record { few = omega arith; within = omega arith; digits = all; stops = parts.rest.stop })) inside parts.number has.given parts.rest.text

@@ -1,24 +1,5 @@
 -- Lines that differ in the last two digits of the pair.
-use Rattle.roman_check.proofs.Common.{◌≡◌, ℕ, ◌+◌, ◌-◌, ◌*◌, ◌/◌, ◌%◌, ◌^◌, ◌<◌, ◌≤◌, List, [], ◌∷◌, ◌++◌, length, take, drop, get_or, decimal, sym, ap, ap₂, ◌∙◌, inl, inr, arith, append_assoc, length-append, length-take-le, length-drop, ◌≢◌, cases_lt, decimal_digit, decimal_step, take_at, take-take, get_or-take, get_or-drop, length-take, take_more, IsIn, reasons, entry_of, Reason, HasEntry, HasParts, entry_with, IsPattern, same_number_lists, Shape}
-use Rattle.roman_check.proofs.DigitLemmas.{decimal_shape}
-use Rattle.roman_check.proofs.EntryLemmas.{few_of, cut_to, some_entry}
-
--- Parts of a line
-
--- these parts are the line of an entry
-pub parts_entry : (pairs actions : ℕ) (bytes : List ℕ) (n space end : ℕ) (r : Reason) → pairs < 2 ^ 32 → actions < 2 ^ 8 → HasParts bytes n r space end → n < pairs → IsIn r (reasons actions) → HasEntry pairs actions bytes end (entry_with (n, r))
-parts_entry pairs actions bytes n space end r pairs_fit actions_fit parts l given =
-    let before : space < end = parts.rest.before in
-    let within : end < length bytes = parts.rest.ended.within in
-    let long : length (take space bytes) ≡ space = length-take-le space bytes (omega arith) in
-    let (all, trim, value) = decimal_shape _ _ (omega arith) parts.number in
-    let short : length (take space bytes) ≤ 10 = trim.few in
-    let whole : space + 1 + (end - (space + 1)) ≡ end = omega arith in
-    record {
-      ended = parts.rest.ended;
-      entry = ap (λ k. entry_of pairs actions (take k bytes)) (sym whole) ∙ some_entry _ _ _ _ _ _ _ (few_of pairs actions pairs_fit actions_fit)
-          (cut_to _ _ _ (record { few = omega arith; within = omega arith; digits = all; stops = parts.rest.stop })) l parts.number given parts.rest.text;
-    }
+use Rattle.roman_check.proofs.Common.{◌≡◌, ℕ, ◌+◌, ◌-◌, ◌*◌, ◌/◌, ◌%◌, ◌^◌, ◌<◌, ◌≤◌, List, [], ◌∷◌, ◌++◌, length, take, drop, get_or, decimal, sym, ap, ap₂, ◌∙◌, inl, inr, arith, append_assoc, length-append, length-take-le, length-drop, ◌≢◌, cases_lt, decimal_digit, decimal_step, take_at, take-take, get_or-take, get_or-drop, length-take, take_more, HasParts, IsPattern, same_number_lists, Shape}
 
 -- The same bytes
 

@@ -2,6 +2,7 @@
 use Rattle.roman_check.proofs.Common.{◌≡◌, ℕ, ◌+◌, ◌-◌, ◌<◌, ◌≤◌, List, [], ◌∷◌, ◌++◌, length, take, drop, get_or, Option, Some, None, refl, sym, ap, ◌∙◌, subst, inl, inr, arith, append_assoc, append-nil, length-append, length-drop, take_rest, take_all, take-append-drop, get_or-drop, nil_from_length, take_more, cases_lt, lines, text_of_lines, IsLine, AreLines, Arena, Entry, Reader, Audit, Why, Form, fault_of, HasRead, TakesEntry, Judges, IsInRows, possible_small, entry_of-is, entry_is_line, from_push, text_of_lines-push, lines-text, lines_last, append_line, clean_push, verdict_at, IsEndedAt, HasEntry, HasLines, IsReading, IsBetween, ReadsPart, EndsLine, one_if_clean, Closes, HasReached, IsSplit, IsNumbered, Holds, Rejected, line_fault, Line}
 use Rattle.roman_check.proofs.Texts.{taken_more}
 use Rattle.roman_check.proofs.AuditLemmas.{few_numbered}
+use Rattle.roman_check.proofs.EntryLemmas.{entry_there}
 use Rattle.roman_check.proofs.LongLines.{long_line}
 
 -- One line
@@ -94,9 +95,10 @@ module _ (A : Arena ℕ) (lanes : ℕ) (old new : Reader) (piece : List ℕ) (fr
   pub entry_read : IsNumbered A → (x : Entry ℕ) (fault : Option Why) → from ≤ length piece → IsBetween old → HasEntry (length A.nodes) A.actions rest len x → TakesEntry A lanes old.audit new.audit x fault →
       new.line ≡ old.line → new.lines ≡ old.lines + one_if_clean fault → ReadsPart A lanes old new piece from (from + len + 1) fault
   entry_read ok x fault within between has takes same counted =
-      let (i, e) = entry_of-is (length A.nodes) A.actions (take len rest) x has.entry in
-      line_read fault within has.ended (subst IsLine e (entry_is_line x (possible_small (length A.nodes) A.actions x (few_numbered A ok) i))) (record {
-        judged = λ bytes held. subst (λ front. Judges A old.audit new.audit (front ++ take len rest) fault) (sym (alone old.line bytes between.line held)) (takes.judged (take len rest) has.entry);
+      let entry = entry_there (length A.nodes) A.actions rest len x ok.few_nodes (omega (arith, ok.few_actions)) has in
+      let (i, e) = entry_of-is (length A.nodes) A.actions (take len rest) x entry in
+      line_read fault within has.parts.rest.ended (subst IsLine e (entry_is_line x (possible_small (length A.nodes) A.actions x (few_numbered A ok) i))) (record {
+        judged = λ bytes held. subst (λ front. Judges A old.audit new.audit (front ++ take len rest) fault) (sym (alone old.line bytes between.line held)) (takes.judged (take len rest) entry);
         shaped = takes.shaped;
         lines = counted;
         cleared = λ none. subst (λ line. Holds line []) (sym same) between.line;

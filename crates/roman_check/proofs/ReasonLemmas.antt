@@ -1,14 +1,7 @@
 -- Reasons that hold, and pairs that are missing.
-use Rattle.roman_check.proofs.Common.{◌≡◌, ◌≢◌, ℕ, ◌+◌, ◌-◌, ◌*◌, ◌^◌, ◌/◌, ◌%◌, ◌<◌, ◌≤◌, Bool, true, false, not, ◌&&◌, ◌||◌, List, get_or, [], ◌∷◌, length, Some, None, find, sym, ap, ap₂, ◌∙◌, subst, inl, inr, arith, add-one, bit_or, eqb, zero, suc, refl, bit_and, list_any, trailing_zeros, w64, bit_at, or-false, cases_lt, eq-eqb, false≢true, mul-le, same_from_place, row_fits, list_any-append, IsIn, below, Arena, Entry, is_justified, is_listed, Reason, Act, could_be_listed, reasons, could_be_by, NoneMissing, from_map, from_below, none_from, find_first, find_not_found, list_any-map, is_on, AreRows, HasLanes, on_zero, on_or, on_and, IsNumbered, bit_at-trailing_zeros}
+use Rattle.roman_check.proofs.Common.{◌≡◌, ◌≢◌, ℕ, ◌+◌, ◌-◌, ◌*◌, ◌^◌, ◌/◌, ◌%◌, ◌<◌, ◌≤◌, Bool, true, false, not, ◌&&◌, ◌||◌, List, get_or, [], ◌∷◌, length, Some, None, find, sym, ap, ap₂, ◌∙◌, subst, inl, inr, arith, add-one, bit_or, eqb, zero, suc, refl, bit_and, list_any, trailing_zeros, w64, bit_at, or-false, cases_lt, eq-eqb, false≢true, same_from_place, row_fits, list_any-append, below, Arena, Entry, is_justified, is_listed, Reason, Act, could_be_listed, reasons, could_be_by, NoneMissing, from_below, none_from, find_first, find_not_found, list_any-map, is_on, AreRows, HasLanes, on_zero, on_or, on_and, IsNumbered, bit_at-trailing_zeros}
 
 -- Reasons
-
-pub given_action : (actions a : ℕ) → IsIn (Act a) (reasons actions) → a < actions
-given_action actions a (inl wrong) = (let h : ⊥ = cc in absurd h)
-given_action actions a (inr i) =
-    let (b, j, same) = from_map Act (Act a) (below actions) i in
-    let is : a ≡ b = cc in
-    subst (λ n. n < actions) (sym is) (from_below actions b j)
 
 any_below_more : (test : ℕ → Bool) (n : ℕ) → list_any test (below (n + 1)) ≡ (list_any test (below n) || test n)
 any_below_more test n =
@@ -64,10 +57,6 @@ same_rows rows words lanes some e = (same_from_place rows 0 words 0 lanes some s
 -- each row, or band, ends within all of them
 pub row_ends : (x rows lanes : ℕ) → x < rows → x * lanes + lanes ≤ rows * lanes
 row_ends x rows lanes l = row_fits x lanes rows lanes l (omega arith)
-
--- the row of a pair
-pub row_within : (row lane lanes rows p : ℕ) → row * lanes + lane ≡ p → p < rows * lanes → row < rows
-row_within row lane lanes rows p e l = grind (arith, cases_lt, mul-le)
 
 module _ (A : Arena ℕ) (lanes : ℕ) (words : List ℕ) where
   -- the words have the bits of the pairs that aren't listed

@@ -3,7 +3,7 @@ use Rattle.std.specs.Prelude.{◌≡◌, ◌≢◌, ℕ, ◌+◌, ◌-◌, ◌<�
 use Rattle.roman_model.specs.Lists.{IsIn}
 use Rattle.roman_model.specs.Arena.{Entry}
 use Rattle.roman_model.specs.declared.reason.Reason.{Reason}
-use Rattle.roman_model.specs.Certificate.{reason_text, entry_of}
+use Rattle.roman_model.specs.Certificate.{reason_text, reasons}
 
 -- the entry of a pair and a reason
 abbrev pub entry_with : ℕ × Reason → Entry ℕ
@@ -35,7 +35,9 @@ pub record HasParts (bytes : List ℕ) (pair : ℕ) (reason : Reason) (space end
   pub number : decimal pair ≡ take space bytes
   pub rest : HasReason bytes reason space end
 
--- the bytes begin with the line of this entry, whose newline stands at this place
+-- the bytes begin with the line of this entry, which is one of the possible ones; its newline stands at this place
 pub record HasEntry (pairs actions : ℕ) (bytes : List ℕ) (end : ℕ) (x : Entry ℕ) : Type 0 where
-  pub ended : IsEndedAt bytes end
-  pub entry : entry_of pairs actions (take end bytes) ≡ Some x
+  pub space : ℕ
+  pub parts : HasParts bytes x.node x.reason space end
+  pub inside : x.node < pairs
+  pub given : IsIn x.reason (reasons actions)

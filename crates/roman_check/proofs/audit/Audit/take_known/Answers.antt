@@ -1,5 +1,6 @@
 use Rattle.roman_check.proofs.Common.{◌≡◌, ◌+◌, ◌*◌, ◌<◌, length, refl, ◌∙◌, sym, ap, subst, arith, is_on, is_listed, is_justified, Removes}
-use Rattle.roman_check.proofs.AuditLemmas.{entry_taken, place_within}
+use Rattle.roman_check.proofs.AuditLemmas.{entry_taken}
+use Rattle.roman_check.proofs.ReasonLemmas.{row_ends}
 use Rattle.roman_check.proofs.audit.Audit.take_known.Goals as goal
 
 pub returns-clause-taken : goal.returns-clause-taken
@@ -10,7 +11,8 @@ returns-clause-taken g c t =
     let is = c.requires.front in
     let lane : c.in-Some.lane < old.left.lanes = subst (λ n. c.in-Some.lane < n) is.lanes low in
     let at : c.args.front.row * old.left.lanes + c.in-Some.lane ≡ c.args.pair = omega (arith, place, is.first) in
-    let inside = subst (λ p. p < length A.nodes) at (place_within _ _ _ c.requires.shaped _ _ is.inside lane) in
+    let rows : length old.left.words.items * old.left.lanes ≡ length A.nodes = ap (λ n. length old.left.words.items * n) c.requires.shaped.in_rows ∙ c.requires.shaped.room in
+    let inside : c.args.pair < length A.nodes = omega (arith, row_ends c.args.front.row (length old.left.words.items) old.left.lanes is.inside) in
     entry_taken A c.known.ensures.numbered _ _ _ _ c.requires.due c.requires.shaped refl inside (subst (λ p. Removes old.left c.remove.new.self p) at c.remove.ensures) (λ L has.
     let (known, left) = c.has_known.ensures (length A.nodes) c.args.pair (is_listed A L) at has.remain c.if-not-has_known.false in (
       sym left,

@@ -1,5 +1,4 @@
 use Rattle.roman_check.proofs.Common.{◌≡◌, ◌+◌, None, refl, sym, ap, ◌∙◌, subst, rules, arith, ReadsPart, TakesEntry, entry_with}
-use Rattle.roman_check.proofs.PatternLemmas.{parts_entry}
 use Rattle.roman_check.proofs.ReaderLemmas.{entry_read, reads_then}
 use Rattle.roman_check.proofs.reader.Reader.read_alike.Goals as goal
 
@@ -16,8 +15,8 @@ loop-start-preserved g c =
     let same : shape.reason ≡ c.args.self.now.audit.asked.reason = search rules in
     let asked = ap (λ a. a.reason) c.loop-start.invariant.asked ∙ sym same in
     let taken = subst (λ r. TakesEntry A lanes mid.audit c.take_known.new.self (entry_with (c.in-Some-fit.pair, r)) None) asked (c.take_known.ensures.taken c.if-not-take_known.false) in
-    let has = parts_entry _ _ _ _ _ _ _ ok.few_nodes (omega (arith, ok.few_actions)) c.in-Some-fit.ensures.pair taken.inside c.requires.reason in
-    let read = entry_read A lanes mid new c.args.piece.now start shape.len ok _ None c.loop-start.invariant.read.high c.loop-start.invariant.between has taken refl refl in
+    let read = entry_read A lanes mid new c.args.piece.now start shape.len ok (entry_with (c.in-Some-fit.pair, shape.reason)) None c.loop-start.invariant.read.high c.loop-start.invariant.between
+    (record { space = shape.place + 2; parts = c.in-Some-fit.ensures.pair; inside = taken.inside; given = c.requires.reason }) taken refl refl in
     record {
       pattern = c.fit.ensures.pattern;
       asked = c.take_known.ensures.asked ∙ c.loop-start.invariant.asked;

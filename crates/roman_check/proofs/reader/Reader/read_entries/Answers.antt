@@ -1,12 +1,12 @@
-use Rattle.roman_check.proofs.Common.{◌+◌, sym, Some, refl, arith, entry_with}
-use Rattle.roman_check.proofs.AuditLemmas.{entry_given}
+use Rattle.roman_check.proofs.Common.{◌+◌, Some, refl, arith}
+use Rattle.roman_check.proofs.AuditLemmas.{reason_given}
 use Rattle.roman_check.proofs.ReaderLemmas.{entry_read, reads_then}
 use Rattle.roman_check.proofs.reader.Reader.read_entries.Goals as goal
 
 pub take_entry-requires-clause-entry : goal.take_entry-requires-clause-entry
 take_entry-requires-clause-entry g c =
     let has = rw (c.pairs-pairs.ensures, c.actions-actions.ensures) at c.in-Some.ensures.read in
-    entry_given (g.J.Rules.arena c.args.joint.now) _ (entry_with (c.in-Some.pair, c.in-Some.reason)) (sym has.entry)
+    (has.inside, reason_given (g.J.Rules.arena c.args.joint.now) c.in-Some.reason has.given)
 
 pub returns-in-Some-take_entry-clause-fault : goal.returns-in-Some-take_entry-clause-fault
 returns-in-Some-take_entry-clause-fault g c =
