@@ -1,5 +1,9 @@
 -- The answers of a band of rows.
-use Rattle.roman_repair.proofs.Common.{◌≡◌, ℕ, ◌+◌, ◌-◌, ◌*◌, ◌/◌, ◌^◌, ◌<◌, ◌≤◌, Bool, true, ◌&&◌, ◌||◌, List, [], ◌∷◌, ◌++◌, length, slice_index, Option, None, Some, IsTrue, inl, inr, ap, ◌∙◌, arith, or_cases, or_left, or_right, div-add-mod', mul-le-mul_left, is_on, on_full, list_any, is_empty, any_from, any_true, justified_more, listed_append, Arena, Entry, is_listed, Reason, Final, Act, HoldsInBand, IsKnown, passes, get_or-replicate, replicate, get_or_append_left, Keeps, AskedBand}
+use Rattle.roman_repair.proofs.Common.{◌≡◌, ℕ, ◌+◌, ◌-◌, ◌*◌, ◌/◌, ◌^◌, ◌<◌, ◌≤◌, Bool, true, ◌&&◌, ◌||◌, List, [], ◌∷◌, ◌++◌, length, slice_index, Option, None, Some, IsTrue, ap, ◌∙◌, arith, replicate, or_cases, or_left, or_right, both_ways, div-add-mod', mul-le-mul_left, is_on, Keeps, on_full, on_zero, any_from, any_true, justified_more, listed_append, Arena, Entry, is_listed, Reason, Final, Act, HoldsInBand, IsKnown, passes, get_or-replicate, get_or_append_left, AskedBand}
+
+-- a word of no lanes says nothing
+pub none_known : (A : Arena ℕ) (lanes : ℕ) (gone : ℕ → Bool) (alone : Option ℕ) (x : ℕ) (reason : Reason) → IsKnown A lanes gone alone x reason 0
+none_known A lanes gone alone x reason = record { each = λ lane l on. absurd (both_ways (is_on 0 lane) (on_zero lane) on) }
 
 -- a word that is full of lanes has each of them
 pub full_lane : (words : List ℕ) (rows n i lane : ℕ) → words ≡ replicate rows ((2 ^ 64 - 1) / 2 ^ (64 - n)) → i < rows → n ≤ 64 → lane < n → is_on (slice_index words i) lane ≡ true
@@ -27,12 +31,7 @@ row_held held rest i lane l = ap (λ w. is_on w lane) (get_or_append_left held r
 pub passes_more : (A : Arena ℕ) (gone more : ℕ → Bool) (alone : Option ℕ) (p : ℕ) (reason : Reason) → ((q : ℕ) → IsTrue (gone q) → IsTrue (more q)) → IsTrue (passes A gone alone p reason) → IsTrue (passes A more alone p reason)
 passes_more A gone more None p reason within passes = justified_more A gone more p reason (λ a k q i. within q) passes
 passes_more A gone more (Some k) p Final within passes = passes
-passes_more A gone more (Some k) p (Act a) within passes = elim (or_cases (is_empty (A.outcomes p a k)) (list_any gone (A.outcomes p a k)) passes) [
-  | inl none ↦ or_left (is_empty (A.outcomes p a k)) (list_any more (A.outcomes p a k)) none
-  | inr some ↦
-      let (q, i, t) = any_true gone (A.outcomes p a k) some in
-      or_right (is_empty (A.outcomes p a k)) (list_any more (A.outcomes p a k)) (any_from more q (A.outcomes p a k) i (within q t))
-]
+passes_more A gone more (Some k) p (Act a) within passes = grind (arith, any_from, any_true, or_cases, or_left, or_right, (within))
 
 -- more entries are gone where more are listed
 pub listed_more : (A : Arena ℕ) (kept L : List (Entry ℕ)) (q : ℕ) → IsTrue (is_listed A kept q) → IsTrue (is_listed A (kept ++ L) q)

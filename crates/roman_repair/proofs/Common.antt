@@ -1,4 +1,4 @@
--- What the proof pages of this crate cite from elsewhere, passed on from one place. Declares nothing.
+-- The names that several proof pages of this crate cite, passed on from one place. Declares nothing.
 pub use Rattle.std.proofs.Common.{Bool, IsFalse, IsTrue, List, None, Option, Some, [], add-one, ap, append-nil, append_assoc, ap₂, arith, bit_and, bit_or, cond, count_by, drop, eqb, false, filter, flat_map, if◌then◌else◌, inl, inr, length, length-append, map, not, refl, remove, replicate, rules, slice_get, slice_index, subst, suc, sum_by, sym, true, zero, ℕ, ◌%◌, ◌&&◌, ◌*◌, ◌++◌, ◌+◌, ◌-◌, ◌/◌, ◌<◌, ◌==◌, ◌^◌, ◌||◌, ◌∙◌, ◌∷◌, ◌≡◌, ◌≢◌, ◌≤◌, ◌⊎◌}
 pub use Rattle.std.proofs.Math.Bool.{and-true, or-false}
 pub use Rattle.std.proofs.Math.Nat.{div-mul-le_self, lt-div-mul-add, mul-le-mul_left}
@@ -22,7 +22,7 @@ pub use Rattle.roman_lanes.proofs.CallerLemmas.{on_and, on_full, on_full_past, o
 pub use Rattle.roman_lanes.specs.Rows.{HasLanes, Keeps}
 unfoldable pub use Rattle.roman_lanes.specs.Rows.{is_on}
 pub use Rattle.roman_model.proofs.CallerLemmas.{AreNumbers, HasNoRepeats-below, HasNoRepeats-flat_map, HasNoRepeats-map, IsNumber, IsPairOf-from, NumbersReplay, all_below_from, any_from, any_true, by_test, count-without, filter_below_more, filter_same, flat_map_same, from_below, from_flat_map, from_map, in_append_left, in_append_right, in_below, in_filter, in_flat_map, in_map, is_fine-turned, justified_is, justified_more, justified_same, left, length-below, length-set_frozen, length-states_at, list_any-map, listed_among, listed_append, map-flat_map, map-map, middle_first, moved_named, new_once, none_from, number-grown, number_allows-turned, number_without-is, numbered_is_same, numbers_are_pairs, numbers_rename, numbers_replay, order_justified, order_named, order_new, outcome_pair, outcomes-turned, pair_at-grown, part_at, readings_at, readings_within, replay_from_same, size_at, sizes-joined, sizes-left, sizes-turned, sum_by_within, there_is, turned}
-pub use Rattle.roman_model.specs.Arena.{Arena, Entry, IsOrder, IsOrderFrom, fall, is_among, is_beaten, is_justified, is_listed, readings, replay, replay_from}
+pub use Rattle.roman_model.specs.Arena.{Arena, Entry, IsOrder, IsOrderFrom, fall, is_among, is_beaten, is_justified, is_listed, readings, replay}
 pub use Rattle.roman_model.specs.Change.{CanChange, Change, Die, Freeze, Join, KeepsAll, Thaw, after, grown, may_go, set_frozen, without}
 pub use Rattle.roman_model.specs.Lists.{HasNoRepeats, IsIn, all_below, below, is_empty, product_of}
 pub use Rattle.roman_model.specs.NumberedChange.{first_numbers, grown_numbers, number_entry_without, number_without, rename_numbers}
@@ -46,11 +46,11 @@ pub use Rattle.roman_relation.specs.Settled.{Begins}
 pub use Rattle.roman_relation.specs.Shaped.{IsShaped}
 pub use Rattle.roman_relation.specs.declared.relation.Relation.{Relation}
 pub use Rattle.roman_rules.proofs.CallerLemmas.{count_below_more, readings_of-allowed}
-pub use Rattle.roman_rules.specs.Asked.{IsReasonOf, readings_of, readings_of_reason}
+pub use Rattle.roman_rules.specs.Asked.{IsReasonOf, readings_of_reason}
 pub use Rattle.roman_rules.specs.Numbered.{IsNumbered}
 pub use Rattle.roman_repair.specs.Alone.{AreKept, IsSeatOf, MayAskAlone, passes, questions_of, without_seat}
 pub use Rattle.roman_repair.specs.AskedBands.{HoldsInBand, IsKnown}
-pub use Rattle.roman_repair.specs.Deaths.{IsGathered, IsPart, IsWithin, entries_from, list_and, list_with}
+pub use Rattle.roman_repair.specs.Deaths.{AreInPart, GathersTo, IsGathered, IsPart, IsWithin, Renames, entries_from, list_and, list_with}
 pub use Rattle.roman_repair.specs.Growing.{CanGrow, CanReadmit, HasReplayedAll, IsGrown, entries_grown, list_grown, replay_grown}
 pub use Rattle.roman_repair.specs.Judging.{CanReplay, CanReplayEvent, GoesOnTo, HasJudged, Replays}
 pub use Rattle.roman_repair.specs.Lanes.{HasFront, HasLanesBetween, IsCutAt, IsFirstPart, IsSpread}

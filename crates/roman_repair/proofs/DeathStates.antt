@@ -15,18 +15,14 @@ seat_is n k here seat there seated = same_Some (seat_of n.catalogue here) seat (
 -- a service that doesn't rest may leave any state behind
 pub loose_goes : (n : NamedSys) (k b : ℕ) (here : joint.Seat) (seat : Seat) → slice_get n.seats k ≡ Some here → CanChange (Die k seat) (system_of n) → IsFalse here.rests →
     not here.rests ≡ (not seat.rests || is_final seat.beh b)
-loose_goes n k b here seat there seated loose =
-    let rests : here.rests ≡ seat.rests = ap (λ (x : Seat). x.rests) (seat_is n k here seat there seated) in
-    ap not loose ∙ sym (ap (λ r. not r || is_final seat.beh b) (sym rests ∙ loose))
+loose_goes n k b here seat there seated loose = grind (arith, (ap (λ (x : Seat). x.rests) (seat_is n k here seat there seated)))
 
 -- a service that rests may leave its final states behind
 pub final_goes : (n : NamedSys) (k b : ℕ) (here : joint.Seat) (beh : NamedBeh) (final : Bool) (seat : Seat) → IsNamedSys n → slice_get n.seats k ≡ Some here → IsSeatBehaviour n k beh →
     IsTrue here.rests → final ≡ is_final beh.beh b → CanChange (Die k seat) (system_of n) → final ≡ (not seat.rests || is_final seat.beh b)
 final_goes n k b here beh final seat known there of rest is seated =
     let at : Behaves n k beh = behaves n k beh known of in
-    let rests : here.rests ≡ seat.rests = ap (λ (x : Seat). x.rests) (seat_is n k here seat there seated) in
-    let same : at.seat ≡ seat = same_Some at.seat seat (sym at.seated ∙ seated) in
-    is ∙ ap (λ x. is_final x b) (sym at.is ∙ ap (λ (x : Seat). x.beh) same) ∙ sym (ap (λ r. not r || is_final seat.beh b) (sym rests ∙ rest))
+    grind (arith, at.is, (ap (λ (x : Seat). x.rests) (seat_is n k here seat there seated)), (ap (λ (x : Seat). x.beh) (same_Some at.seat seat (sym at.seated ∙ seated))))
 
 -- the size of a service is its number of states
 pub size_is : (n : NamedSys) (k : ℕ) (beh : NamedBeh) → IsNamedSys n → IsSeatBehaviour n k beh → slice_index (sizes_of (system_of n)).seats k ≡ beh.beh.states

@@ -1,5 +1,5 @@
 -- The lanes of words.
-use Rattle.roman_repair.proofs.Common.{◌≡◌, ◌≢◌, ℕ, zero, suc, ◌+◌, ◌-◌, ◌*◌, ◌/◌, ◌%◌, ◌^◌, ◌<◌, ◌≤◌, Bool, true, false, not, ◌&&◌, List, [], ◌∷◌, ◌++◌, map, length, filter, cond, inl, inr, refl, sym, ap, ap₂, ◌∙◌, arith, append-nil, append_assoc, bit_and, eqb, trailing_zeros, w64, bit_not, cases_lt, both_ways, and_parts, eq-eqb, false_from_ne_true, map-append, length-map, IsIn, below, filter_below_more, in_below, map-map, is_on, on_and, on_full, on_not, on_zero, set_lanes, as_entry, entries_in, Reason, entries_from, on_less, on_ones, on_ones_above, on_full_past, length-append, pow-lt, and-true, and_right, ne_eqb, and_le_l, shr-shr, bit_at-trailing_zeros, shr_and_one, in_filter, no_lane, HasFront, HasLanesBetween, IsCutAt, IsFirstPart}
+use Rattle.roman_repair.proofs.Common.{◌≡◌, ◌≢◌, ℕ, zero, suc, ◌+◌, ◌-◌, ◌*◌, ◌/◌, ◌%◌, ◌^◌, ◌<◌, ◌≤◌, Bool, true, false, not, ◌&&◌, List, [], ◌∷◌, ◌++◌, map, length, filter, cond, inl, inr, refl, sym, ap, ap₂, ◌∙◌, arith, append-nil, append_assoc, bit_and, eqb, length-append, trailing_zeros, w64, bit_not, cases_lt, both_ways, and_parts, eq-eqb, false_from_ne_true, and_right, ne_eqb, map-append, length-map, IsIn, below, filter_below_more, in_below, map-map, in_filter, filter_same, from_below, is_on, on_and, on_full, on_not, on_zero, on_less, on_ones, on_ones_above, on_full_past, set_lanes, as_entry, entries_in, Reason, entries_from, pow-lt, and-true, and_le_l, shr-shr, bit_at-trailing_zeros, shr_and_one, no_lane, HasFront, HasLanesBetween, IsCutAt, IsFirstPart}
 
 -- ---- the first lane of a word
 
@@ -31,40 +31,30 @@ pub on_lowered : (a d i : ℕ) → is_on (a / 2 ^ d) i ≡ is_on a (d + i)
 unfolding is_on
 on_lowered a d i = ap (λ n. eqb n 1) (sym (shr_and_one (a / 2 ^ d) i) ∙ (ap (λ n. bit_and n 1) (shr-shr a d i) ∙ shr_and_one a (d + i)))
 
--- no lane of 0 is on
-pub none_on : {P : Type 0} (lane : ℕ) → is_on 0 lane ≡ true → P
-none_on lane on = absurd (both_ways (is_on 0 lane) (on_zero lane) on)
-
 pub not_twice : (b : Bool) → not (not b) ≡ b
 not_twice true = refl
 not_twice false = refl
 
 -- ---- the numbers that pass
 
+-- all elements pass, or none
+pub filter_alike : {X : Type 0} (p : X → Bool) (b : Bool) (xs : List X) → ((x : X) → IsIn x xs → p x ≡ b) → filter p xs ≡ cond b xs []
+filter_alike p true [] same = refl
+filter_alike p false [] same = refl
+filter_alike p true (x ∷ xs) same = ap₂ (λ b ys. cond b (x ∷ ys) ys) (same x (inl refl)) (filter_alike p true xs (λ y i. same y (inr i)))
+filter_alike p false (x ∷ xs) same = ap₂ (λ b ys. cond b (x ∷ ys) ys) (same x (inl refl)) (filter_alike p false xs (λ y i. same y (inr i)))
+
 -- the list is empty where no lane passes so far
 pub none_so_far : (p : ℕ → Bool) (m : ℕ) → ((lane : ℕ) → lane < m → p lane ≡ false) → filter p (below m) ≡ []
-none_so_far p zero off = refl
-none_so_far p (suc m) off = rw (filter_below_more p m, none_so_far p m (λ lane l. off lane (omega arith)), off m (omega arith)) refl
+none_so_far p m off = filter_alike p false (below m) (λ i j. off i (from_below m i j))
 
 pub same_so_far : (p q : ℕ → Bool) (m : ℕ) → ((lane : ℕ) → lane < m → p lane ≡ q lane) → filter p (below m) ≡ filter q (below m)
-same_so_far p q zero same = refl
-same_so_far p q (suc m) same = rw (filter_below_more p m, filter_below_more q m, same_so_far p q m (λ lane l. same lane (omega arith)), same m (omega arith)) refl
+same_so_far p q m same = filter_same p q (below m) (λ i j. same i (from_below m i j))
 
 -- the numbers below b that pass, and those from b on
 pub filter_split : (q : ℕ → Bool) (b m : ℕ) → filter q (below (b + m)) ≡ filter q (below b) ++ map (λ i. b + i) (filter (λ i. q (b + i)) (below m))
-filter_split q b zero = (let end : b + 0 ≡ b = omega arith in ap (λ n. filter q (below n)) end) ∙ sym (append-nil (filter q (below b)))
-filter_split q b (suc m) =
-    let next : b + suc m ≡ suc (b + m) = omega arith in
-    let last : List ℕ = cond (q (b + m)) (m ∷ []) [] in
-    ap (λ n. filter q (below n)) next
-    ∙ filter_below_more q (b + m)
-    ∙ ap₂ (λ L M. L ++ M) (filter_split q b m) (by_last (q (b + m)))
-    ∙ append_assoc (filter q (below b)) (map (λ i. b + i) (filter (λ i. q (b + i)) (below m))) (map (λ i. b + i) last)
-    ∙ ap (λ L. filter q (below b) ++ L) (sym (map-append (λ i. b + i) (filter (λ i. q (b + i)) (below m)) last) ∙ ap (map (λ i. b + i)) (sym (filter_below_more (λ i. q (b + i)) m)))
-  where
-    by_last : (x : Bool) → cond x ((b + m) ∷ []) [] ≡ map (λ i. b + i) (cond x (m ∷ []) [])
-    by_last true = refl
-    by_last false = refl
+filter_split q b zero = grind (arith, append-nil)
+filter_split q b (suc m) = grind (arith, append_assoc, filter_below_more, map-append, (filter_split q b m), (ap (λ n. filter q (below n)) (let next : b + suc m ≡ suc (b + m) = omega arith in next)))
 
 -- no number below b passes, and the numbers from b on pass as others do from 0 on
 pub moved_so_far : (p q : ℕ → Bool) (b m : ℕ) → ((i : ℕ) → i < b → q i ≡ false) → ((i : ℕ) → i < m → q (b + i) ≡ p i) → filter q (below (b + m)) ≡ map (λ i. b + i) (filter p (below m))
@@ -74,11 +64,6 @@ moved_so_far p q b m off same = filter_split q b m ∙ ap₂ (λ L M. L ++ map (
 pub only_so_far : (q : ℕ → Bool) (b m : ℕ) → ((i : ℕ) → i < m → q (b + i) ≡ false) → filter q (below (b + m)) ≡ filter q (below b)
 only_so_far q b m off = filter_split q b m ∙ ap (λ M. filter q (below b) ++ map (λ i. b + i) M) (none_so_far (λ i. q (b + i)) m off) ∙ append-nil (filter q (below b))
 
--- all numbers below m pass
-pub all_so_far : (p : ℕ → Bool) (m : ℕ) → ((i : ℕ) → i < m → p i ≡ true) → filter p (below m) ≡ below m
-all_so_far p zero on = refl
-all_so_far p (suc m) on = filter_below_more p m ∙ ap₂ (λ L x. L ++ cond x (m ∷ []) []) (all_so_far p m (λ i l. on i (omega arith))) (on m (omega arith))
-
 -- ---- a word that is split in two
 
 -- the list splits into the lanes below the cut and those from there on
@@ -86,18 +71,20 @@ pub cut_lanes : (word front rest cut : ℕ) → cut ≤ 64 → ((lane : ℕ) →
     ((lane : ℕ) → lane < 64 → cut ≤ lane → (is_on front lane ≡ false) × (is_on rest lane ≡ is_on word lane)) → set_lanes word ≡ set_lanes front ++ set_lanes rest
 unfolding set_lanes
 cut_lanes word front rest cut few low high =
-    let whole : 64 ≡ cut + (64 - cut) = omega (arith, few) in
-    let parts = λ (q : ℕ → Bool). ap (λ n. filter q (below n)) whole in
-    parts (is_on word) ∙ filter_split (is_on word) cut (64 - cut)
-    ∙ sym (ap₂ (λ L M. L ++ M)
-    (parts (is_on front) ∙ only_so_far (is_on front) cut (64 - cut) (λ i l. (high (cut + i) (omega arith) (omega arith)).0) ∙ same_so_far (is_on front) (is_on word) cut (λ i l. (low i l).0))
-    (parts (is_on rest) ∙ moved_so_far (λ i. is_on word (cut + i)) (is_on rest) cut (64 - cut) (λ i l. (low i l).1) (λ i l. (high (cut + i) (omega arith) (omega arith)).1)))
+    let whole : below 64 ≡ below (cut + (64 - cut)) = (let all : 64 ≡ cut + (64 - cut) = omega (arith, few) in ap below all) in
+    grind (
+      arith,
+      whole,
+      (filter_split (is_on word) cut (64 - cut)),
+      (only_so_far (is_on front) cut (64 - cut) (λ i l. (high (cut + i) (omega arith) (omega arith)).0)),
+      (same_so_far (is_on front) (is_on word) cut (λ i l. (low i l).0)),
+      (moved_so_far (λ i. is_on word (cut + i)) (is_on rest) cut (64 - cut) (λ i l. (low i l).1) (λ i l. (high (cut + i) (omega arith) (omega arith)).1)),
+    )
 
 -- as the code splits it
 pub is_cut : (word cut : ℕ) → word < 2 ^ 64 → cut ≤ 64 → let front = bit_and word ((2 ^ 64 - 1) / 2 ^ (64 - cut)) in IsCutAt word front (bit_and word (bit_not w64 front)) cut
 is_cut word cut fits few = record {
-  parts = cut_lanes word front rest cut few (λ lane l. (low lane l, less lane (omega (arith, l)) ∙ ap (λ b. is_on word lane && not b) (low lane l) ∙ never (is_on word lane)))
-      (λ lane l past. (high lane past, less lane l ∙ ap (λ b. is_on word lane && not b) (high lane past) ∙ and-true (is_on word lane)));
+  parts = cut_lanes word front rest cut few (λ lane l. grind (arith, (low lane l), (less lane))) (λ lane l past. grind (arith, (high lane past), (less lane l)));
   low = low;
   high = high;
   in_front = of_word ((2 ^ 64 - 1) / 2 ^ (64 - cut));
@@ -122,10 +109,6 @@ is_cut word cut fits few = record {
 
     less : (lane : ℕ) → lane < 64 → is_on rest lane ≡ (is_on word lane && not (is_on front lane))
     less lane l = on_less word front lane (both_fit word _ fits) l
-
-    never : (b : Bool) → (b && not b) ≡ false
-    never true = refl
-    never false = refl
 
 -- a lane that is on is one of a word's lanes
 pub on_in : (word lane : ℕ) → lane < 64 → is_on word lane ≡ true → IsIn lane (set_lanes word)

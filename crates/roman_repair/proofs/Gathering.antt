@@ -1,5 +1,5 @@
 -- Entries that are gathered for the end of a list.
-use Rattle.roman_repair.proofs.Common.{false_from_ne_true, cases_lt, both_ways, set_lanes, Board, as_entry, has_entry, entries_in, ◌≡◌, ◌≢◌, ℕ, ◌+◌, ◌-◌, ◌*◌, ◌/◌, ◌^◌, ◌<◌, ◌≤◌, Bool, true, false, not, ◌&&◌, ◌||◌, eqb, List, [], ◌++◌, map, inl, inr, refl, sym, ap, ap₂, ◌∙◌, subst, arith, append-nil, append_assoc, bit_or, map-append, trailing_zeros, w64, list_any-append, same_from_place, Entry, Reason, Final, list_any-map, is_on, HasLanes, on_or, on_zero, entries_at, Event, in_lanes, set_lanes-zero, list_and, IsGathered, ◌⊎◌, or-false, ne_eqb, or_parts, none_from, has_entry-lane, some_lane}
+use Rattle.roman_repair.proofs.Common.{false_from_ne_true, cases_lt, both_ways, ne_eqb, or_parts, or_cases, set_lanes, Board, as_entry, has_entry, entries_in, ◌≡◌, ◌≢◌, ℕ, ◌+◌, ◌-◌, ◌*◌, ◌/◌, ◌^◌, ◌<◌, ◌≤◌, true, false, not, ◌&&◌, ◌||◌, eqb, List, [], ◌++◌, map, inl, inr, sym, ap, ap₂, ◌∙◌, subst, arith, append-nil, append_assoc, bit_or, ◌⊎◌, map-append, trailing_zeros, w64, list_any-append, same_from_place, Entry, Reason, Final, list_any-map, none_from, is_on, HasLanes, on_or, on_zero, entries_at, Event, in_lanes, set_lanes-zero, has_entry-lane, some_lane, list_and, IsGathered, GathersTo, or-false}
 use Rattle.roman_repair.proofs.Fronts.{cut_lanes, first_lane, first_low, from_first, on_lowered}
 
 -- a word without lanes has no entries
@@ -11,29 +11,17 @@ no_entries n x word reason L none =
 -- entries of another row aren't of this row's pairs
 other_row : (n row word x lane : ℕ) (reason : Reason) (L : List (Entry ℕ)) → row ≢ x → lane < n → ((l : ℕ) → is_on word l ≡ true → l < n) → has_entry (L ++ entries_in n row word reason) (x * n + lane) ≡ has_entry L (x * n + lane)
 other_row n row word x lane reason L ne l within =
-    list_any-append (λ (y : Entry ℕ). eqb (x * n + lane) y.node) L (entries_in n row word reason)
-    ∙ ap (λ b. has_entry L (x * n + lane) || b) (list_any-map (λ m. as_entry (row * n + m, reason)) (λ (y : Entry ℕ). eqb (x * n + lane) y.node) (set_lanes word)
-    ∙ none_from (λ m. eqb (x * n + lane) (row * n + m)) (set_lanes word) (λ m i. ne_eqb (x * n + lane) (row * n + m) (λ e. ne (sym (same_from_place x lane row m n l (within m (in_lanes word m i).1) e).0))))
-    ∙ or-false (has_entry L (x * n + lane))
+    let none = none_from (λ m. eqb (x * n + lane) (row * n + m)) (set_lanes word) (λ m i. ne_eqb (x * n + lane) (row * n + m) (λ e. ne (sym (same_from_place x lane row m n l (within m (in_lanes word m i).1) e).0))) in
+    grind (arith, list_any-append, list_any-map, none, or-false)
 
 -- the lanes of a row that neither the list nor the gathered entries have
 pub fresh_same : (board : Board) (e : Event) (x word rest : ℕ) → board.lanes ≤ 64 → e.row ≡ x → HasLanes board.lanes x (λ p. not (has_entry board.list p)) word →
     ((lane : ℕ) → lane < 64 → is_on rest lane ≡ (is_on word lane && not (is_on e.lanes lane))) → ((lane : ℕ) → is_on word lane ≡ false → is_on rest lane ≡ false) →
     HasLanes board.lanes x (λ p. not (has_entry (list_and board e) p)) rest
 fresh_same board e x word rest few same rows less none = record {
-  each = λ lane l.
-      let low : lane < 64 = omega arith in
-      less lane low
-      ∙ ap (λ b. b && not (is_on e.lanes lane)) (rows.each lane l)
-      ∙ sym (neither (has_entry board.list (x * board.lanes + lane)) (is_on e.lanes lane))
-      ∙ ap not (sym (has_entry-lane board.list (x * board.lanes) e.lanes lane e.reason low))
-      ∙ ap (λ r. not (has_entry (board.list ++ entries_in board.lanes r e.lanes e.reason) (x * board.lanes + lane))) (sym same);
+  each = λ lane l. grind (arith, (less lane), (rows.each lane l), (has_entry-lane board.list (x * board.lanes) e.lanes lane e.reason));
   rest = λ lane l. none lane (rows.rest lane l);
 }
-  where
-    neither : (a b : Bool) → not (a || b) ≡ (not a && not b)
-    neither true b = refl
-    neither false b = refl
 
 pub fresh_other : (board : Board) (e : Event) (x word : ℕ) → IsGathered board e → e.row ≢ x → HasLanes board.lanes x (λ p. not (has_entry board.list p)) word →
     HasLanes board.lanes x (λ p. not (has_entry (list_and board e) p)) word
@@ -52,30 +40,18 @@ still_gathered old new e rest is = subst (λ (b : Board). IsGathered b e) (sym r
 -- lanes that stand past all others come last
 lanes_joined : (word more cut : ℕ) → cut ≤ 64 → ((bit : ℕ) → is_on word bit ≡ true → bit < cut) → ((bit : ℕ) → is_on more bit ≡ true → cut ≤ bit) → set_lanes (bit_or word more) ≡ set_lanes word ++ set_lanes more
 lanes_joined word more cut few low high = cut_lanes (bit_or word more) word more cut few
-    (λ lane under.
-    let off : is_on more lane ≡ false = false_from_ne_true (is_on more lane) (λ t. let past : cut ≤ lane = high lane t in omega (arith, past, under)) in
-    (sym (on_or word more lane ∙ ap (λ b. is_on word lane || b) off ∙ or-false (is_on word lane)), off))
-    (λ lane l past.
-    let off : is_on word lane ≡ false = false_from_ne_true (is_on word lane) (λ t. let under : lane < cut = low lane t in omega (arith, past, under)) in
-    (off, sym (on_or word more lane ∙ ap (λ b. b || is_on more lane) off)))
+    (λ lane under. grind (arith, on_or, or-false, (false_from_ne_true (is_on more lane)), (high lane)))
+    (λ lane l past. grind (arith, on_or, (false_from_ne_true (is_on word lane)), (low lane)))
 
 -- a word that has nothing from the first lane of another on has lower lanes
 pub all_lower : (word more l m : ℕ) → word / 2 ^ trailing_zeros w64 more ≡ 0 → more ≢ 0 → more < 2 ^ 64 → is_on word l ≡ true → is_on more m ≡ true → l < m
 all_lower word more l m none some fits on there = elim (cases_lt l cut) [
   | inl under ↦ omega (arith, under, from_first more fits m there)
-  | inr past ↦
-      let place : cut + (l - cut) ≡ l = omega arith in
-      let off : is_on word l ≡ false = ap (is_on word) (sym place) ∙ sym (on_lowered word cut (l - cut)) ∙ ap (λ w. is_on w (l - cut)) none ∙ on_zero (l - cut) in
-      absurd (both_ways (is_on word l) off on)
+  | inr past ↦ grind (arith, both_ways, on_zero, (on_lowered word cut (l - cut)))
 ]
   where
     cut : ℕ
     cut = trailing_zeros w64 more
-
--- the lists are one, and the gathered entries are still of unlisted pairs of one row
-pub record GathersTo (old new : Board) (before now : Event) (x lost : ℕ) (reason : Reason) : Type 0 where
-  pub list : list_and new now ≡ list_and old before ++ entries_in old.lanes x lost reason
-  pub gathered : IsGathered new now
 
 -- where the lanes are higher both are one event
 pub gathers_on : (board : Board) (e : Event) (x lost : ℕ) (reason : Reason) → IsGathered board e → e.row ≡ x → e.reason ≡ reason → ((l m : ℕ) → is_on e.lanes l ≡ true → is_on lost m ≡ true → l < m) → lost ≢ 0 → lost < 2 ^ 64 → x < board.rows →
@@ -103,11 +79,7 @@ gathers_on board e x lost reason is row why higher some fits l within alive = re
     high = from_first lost fits
 
     either : (lane : ℕ) → is_on (bit_or e.lanes lost) lane ≡ true → (is_on e.lanes lane ≡ true) ⊎ (is_on lost lane ≡ true)
-    either lane on = by_answer (is_on e.lanes lane) refl
-      where
-        by_answer : (b : Bool) → is_on e.lanes lane ≡ b → (is_on e.lanes lane ≡ true) ⊎ (is_on lost lane ≡ true)
-        by_answer true t = inl t
-        by_answer false f = inr (sym (ap (λ b. b || is_on lost lane) f) ∙ sym (on_or e.lanes lost lane) ∙ on)
+    either lane on = or_cases (is_on e.lanes lane) (is_on lost lane) (sym (on_or e.lanes lost lane) ∙ on)
 
     left_out : (lane : ℕ) → has_entry (list_and board e) (x * board.lanes + lane) ≡ false → has_entry board.list (x * board.lanes + lane) ≡ false
     left_out lane f = (or_parts (has_entry board.list (x * board.lanes + lane)) _ (sym (list_any-append (λ (y : Entry ℕ). eqb (x * board.lanes + lane) y.node) board.list (entries_at board.lanes e)) ∙ f)).0

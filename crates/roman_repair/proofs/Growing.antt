@@ -1,9 +1,9 @@
 -- The replay of a row's entries that stand for several pairs each, part by part.
-use Rattle.roman_repair.proofs.Common.{Bool, ◌≡◌, ℕ, zero, suc, ◌+◌, ◌-◌, ◌*◌, ◌/◌, ◌%◌, ◌<◌, ◌≤◌, true, false, ◌||◌, append-nil, List, [], ◌∷◌, ◌++◌, map, flat_map, filter, cond, sym, ap, ap₂, ◌∙◌, subst, arith, append_assoc, bit_or, not, ◌^◌, inl, inr, length, cases_lt, cases_eq, both_ways, filter_below_more, in_append_left, in_below, in_map, bit_not, w64, on_not, on_or, mul-le-mul_left, below, IsIn, Arena, Entry, grown_numbers, Reason, is_on, as_entry, set_lanes, entries_in, Board, Event, entries_at, entries_from, AreSlices, candidates, with_replay, CanReplay, CanReplayEvent, GoesOnTo, Replays, flat_map-append, or-false, div-mul-add, in_flat_map, IsEvent, CanGrow, HasReplayedAll, IsGrown, entries_grown, HasLanesBetween, IsFirstPart, IsSpread, AskedBand, Newcomer}
+use Rattle.roman_repair.proofs.Common.{Bool, ◌≡◌, ℕ, zero, suc, ◌+◌, ◌-◌, ◌*◌, ◌/◌, ◌%◌, ◌<◌, ◌≤◌, true, false, ◌||◌, append-nil, List, [], ◌∷◌, ◌++◌, map, flat_map, filter, cond, sym, ap, ap₂, ◌∙◌, subst, arith, append_assoc, bit_or, not, ◌^◌, inl, inr, length, cases_lt, cases_eq, both_ways, filter_below_more, in_append_left, in_below, in_map, in_flat_map, from_below, bit_not, w64, on_not, on_or, mul-le-mul_left, below, IsIn, Arena, Entry, grown_numbers, Reason, is_on, as_entry, set_lanes, entries_in, Board, Event, entries_at, IsEvent, AreSlices, candidates, with_replay, CanReplay, CanReplayEvent, GoesOnTo, Replays, flat_map-append, or-false, div-mul-add, CanGrow, HasReplayedAll, IsGrown, entries_grown, HasLanesBetween, IsFirstPart, IsSpread, AskedBand, Newcomer}
 use Rattle.roman_repair.proofs.Waiting.{grown_by_one}
 use Rattle.roman_repair.proofs.Joined.{positive, grown_part}
-use Rattle.roman_repair.proofs.Replayed.{further, replays_front, replays_whole}
-use Rattle.roman_repair.proofs.Fronts.{all_so_far, filter_split, has_some, lanes_below, none_so_far, not_twice, part_entries, some_in}
+use Rattle.roman_repair.proofs.Replayed.{replayed_on}
+use Rattle.roman_repair.proofs.Fronts.{filter_alike, filter_split, has_some, lanes_below, none_so_far, not_twice, part_entries, some_in}
 
 -- ---- spread lanes
 
@@ -17,27 +17,21 @@ spread_list word spread lanes width few is =
     sym (lanes_below spread (lanes * width) few (λ bit on. elim (cases_lt bit (lanes * width)) [ inl l ↦ l | inr past ↦ absurd (both_ways (is_on spread bit) (is.past bit past) on) ])) ∙ blocks lanes is.each
   where
     block : (m : ℕ) (b : Bool) → ((i : ℕ) → i < width → is_on spread (m * width + i) ≡ b) → map (λ i. m * width + i) (filter (λ i. is_on spread (m * width + i)) (below width)) ≡ flat_map (λ lane. map (λ i. lane * width + i) (below width)) (cond b (m ∷ []) [])
-    block m true same = ap (map (λ i. m * width + i)) (all_so_far (λ i. is_on spread (m * width + i)) width same) ∙ sym (append-nil (map (λ i. m * width + i) (below width)))
+    block m true same = ap (map (λ i. m * width + i)) (filter_alike (λ i. is_on spread (m * width + i)) true (below width) (λ i j. same i (from_below width i j))) ∙ sym (append-nil (map (λ i. m * width + i) (below width)))
     block m false same = ap (map (λ i. m * width + i)) (none_so_far (λ i. is_on spread (m * width + i)) width same)
 
     blocks : (m : ℕ) → ((lane i : ℕ) → lane < m → i < width → is_on spread (lane * width + i) ≡ is_on word lane) → filter (is_on spread) (below (m * width)) ≡ spread_below word m width
     blocks zero each = (let none : 0 * width ≡ 0 = omega arith in ap (λ n. filter (is_on spread) (below n)) none)
     blocks (suc m) each =
-        let f = λ (lane : ℕ). map (λ i. lane * width + i) (below width) in
         let next : suc m * width ≡ m * width + width = omega arith in
-        ap (λ n. filter (is_on spread) (below n)) next ∙ filter_split (is_on spread) (m * width) width
-        ∙ ap₂ (λ L M. L ++ M) (blocks m (λ lane i l h. each lane i (omega (arith, l)) h)) (block m (is_on word m) (λ i h. each m i (omega arith) h))
-        ∙ sym (ap (flat_map f) (filter_below_more (is_on word) m) ∙ flat_map-append f (filter (is_on word) (below m)) (cond (is_on word m) (m ∷ []) []))
+        grind (arith, filter_below_more, filter_split, flat_map-append, (ap (λ n. filter (is_on spread) (below n)) next), (blocks m (λ lane i l h. each lane i (omega (arith, l)) h)), (block m (is_on word m) (λ i h. each m i (omega arith) h)))
 
 -- the first lane that isn't the word's ends a run of lanes that are
 pub run_lanes : (word lane end : ℕ) → word < 2 ^ 64 → end ≤ 64 → ((l : ℕ) → lane ≤ l → l < end → is_on (bit_not w64 word) l ≡ false) → (l : ℕ) → lane ≤ l → l < end → is_on word l ≡ true
 run_lanes word lane end fits few off l past less = sym (not_twice (is_on word l)) ∙ ap not (sym (on_not word l fits (omega (arith, less, few))) ∙ off l past less)
 
 pub run_some : (word lane end lanes : ℕ) → word < 2 ^ 64 → lanes ≤ 64 → lane < lanes → lane ≤ end → is_on word lane ≡ true → (end < lanes → is_on (bit_not w64 word) end ≡ true) → lane < end
-run_some word lane end lanes fits few less past here next = elim (cases_eq end lane) [
-  | inl e ↦ absurd (both_ways (is_on (bit_not w64 word) lane) (on_not word lane fits (omega (arith, less, few)) ∙ ap not here) (ap (is_on (bit_not w64 word)) (sym e) ∙ next (omega (arith, e, less))))
-  | inr ne ↦ omega (arith, ne, past)
-]
+run_some word lane end lanes fits few less past here next = grind (arith, both_ways, cases_eq, (on_not word lane fits), next)
 
 -- a run of lanes is spread, and the lanes after it that the word doesn't have
 pub spread_more : (word spread block lane end next width : ℕ) → IsSpread word spread lane width → HasLanesBetween block (lane * width) (end * width) → lane ≤ end → end ≤ next → ((l : ℕ) → lane ≤ l → l < end → is_on word l ≡ true) → ((l : ℕ) → end ≤ l → l < next → is_on word l ≡ false) →
@@ -45,17 +39,8 @@ pub spread_more : (word spread block lane end next width : ℕ) → IsSpread wor
 spread_more word spread block lane end next width is run less more on off = record {
   each = λ l i h inner.
       let bit = l * width + i in
-      on_or spread block bit ∙ elim (cases_lt l lane) [
-        | inl before ↦
-            let under : width * (l + 1) ≤ width * lane = mul-le-mul_left width (omega (arith, before)) in
-            ap₂ (λ a b. a || b) (is.each l i before inner) (run.low bit (omega (arith, under, inner))) ∙ or-false (is_on word l)
-        | inr past ↦
-            let over : width * lane ≤ width * l = mul-le-mul_left width past in
-            ap (λ a. a || is_on block bit) (is.past bit (omega (arith, over))) ∙ elim (cases_lt l end) [
-              | inl within ↦ (let under : width * (l + 1) ≤ width * end = mul-le-mul_left width (omega (arith, within)) in run.mid bit (omega (arith, over)) (omega (arith, under, inner)) ∙ sym (on l past within))
-              | inr after ↦ (let above : width * end ≤ width * l = mul-le-mul_left width after in run.high bit (omega (arith, above)) ∙ sym (off l after h))
-            ]
-      ];
+      let up = λ (a b : ℕ) (less : a ≤ b). mul-le-mul_left width less in
+      grind (arith, cases_lt, (is.each l i), (is.past bit), (off l), (on l), (on_or spread block bit), (or-false (is_on word l)), (run.high bit), (run.low bit), (run.mid bit), (up (l + 1) lane), (up lane l), (up (l + 1) end), (up end l));
   past = λ bit far.
       let over : width * lane ≤ width * end = mul-le-mul_left width less in
       let above : width * end ≤ width * next = mul-le-mul_left width more in
@@ -98,10 +83,13 @@ grown_itself states lanes n e one same = sym (ap (λ s. flat_map (grown_numbers 
 pub grown_first : (n lanes states slices many x word i part rest spread : ℕ) (reason : Reason) → IsSliced n lanes states slices many → IsFirstPart word slices i part rest → set_lanes spread ≡ spread_below part slices states →
     flat_map (grown_numbers states) (entries_in lanes x word reason) ≡ entries_in n (x * many + i) spread reason ++ flat_map (grown_numbers states) (entries_in lanes x rest reason)
 grown_first n lanes states slices many x word i part rest spread reason is first wide =
-    ap (flat_map (grown_numbers states)) (part_entries lanes x word slices i part rest reason first)
-    ∙ flat_map-append (grown_numbers states) (entries_from (x * lanes + i * slices) part reason) (entries_in lanes x rest reason)
-    ∙ ap (λ L. L ++ flat_map (grown_numbers states) (entries_in lanes x rest reason)) (sym (grown_part n slices many states lanes x i spread reason (set_lanes part) is.whole is.parts
-    (wide ∙ ap (flat_map (λ lane. map (λ i. lane * states + i) (below states))) (lanes_below part slices is.few (λ lane on. (first.in_part lane on).0)))))
+    grind (
+      arith,
+      (part_entries lanes x word slices i part rest reason first),
+      (flat_map-append (grown_numbers states)),
+      (lanes_below part slices is.few (λ lane on. (first.in_part lane on).0)),
+      (grown_part n slices many states lanes x i spread reason (set_lanes part) is.whole is.parts),
+    )
 
 -- a spread word has a lane where the word has one
 pub spread_some : (word spread lanes width : ℕ) → 0 < width → lanes ≤ 64 → ((lane : ℕ) → is_on word lane ≡ true → lane < lanes) → 0 < length (set_lanes word) → set_lanes spread ≡ spread_below word lanes width → 0 < length (set_lanes spread)
@@ -169,12 +157,8 @@ pub replay_on : (A : Arena ℕ) (n : ℕ) (newcomer : Newcomer) (start now next 
     Replays A n (entries_grown newcomer e) [] next.list new.list on last between after → new ≡ record next { list = new.list } → GoesOnTo A n (candidates newcomer.states start) (candidates newcomer.states now) start.list now.list on before between →
     GoesOnTo A n (candidates newcomer.states start) (candidates newcomer.states new) start.list new.list last before after
 replay_on A n newcomer start now next new on last e before between after same first rest replayed kept goes =
-    let those = candidates newcomer.states in
-    further A n (those start) (those now) (those new) start.list now.list new.list on last before between after goes
-    (replays_whole A n (those now) (those new) now.list new.list on last between after
-    (replays_front A n (entries_grown newcomer e) (those new) (those now) now.list new.list on last between after
-    (waiting_first newcomer now next e same first ∙ ap (λ W. entries_grown newcomer e ++ flat_map (grown_numbers newcomer.states) W) (sym (ap (λ (b : Board). b.waiting) kept)))
-    (subst (λ K. Replays A n (entries_grown newcomer e) [] K new.list on last between after) (ap (λ (b : Board). b.list) rest) replayed)) goes.can)
+    let those = waiting_first newcomer now next e same first ∙ ap (λ W. entries_grown newcomer e ++ flat_map (grown_numbers newcomer.states) W) (sym (ap (λ (b : Board). b.waiting) kept)) in
+    replayed_on _ _ _ _ _ _ _ _ _ _ _ _ _ _ goes those (subst (λ K. Replays A n (entries_grown newcomer e) [] K new.list on last between after) (ap (λ (b : Board). b.list) rest) replayed)
 
 -- at the end all were
 pub replayed_all : (A : Arena ℕ) (n : ℕ) (newcomer : Newcomer) (start now last : Board) (on : AskedBand) (before after : ℕ) → GoesOnTo A n (candidates newcomer.states start) (candidates newcomer.states now) start.list now.list on before after → now ≡ record start { list = now.list; waiting = now.waiting } →

@@ -1,5 +1,5 @@
 -- The candidates for a system that a service has joined.
-use Rattle.roman_repair.proofs.Common.{◌≡◌, ℕ, ◌+◌, ◌*◌, ◌%◌, ◌<◌, ◌≤◌, List, [], ◌∷◌, ◌++◌, map, flat_map, drop, cond, zero, suc, IsTrue, inl, inr, refl, sym, ap, ap₂, ◌∙◌, subst, arith, mul-le-mul_left, cases_lt, same_from_place, mod_below, IsIn, HasNoRepeats, below, product_of, Sys, Seat, IsSys, Entry, Join, after, CanChange, Sizes, sizes_of, count, pair_at, numbered, Reason, Final, Act, grown_numbers, from_map, in_append_right, length-below, map-map, NumbersReplay, from_below, pair_at-grown, sizes-joined, AreSizes, low_of, lanes_of, row_mod, lanes_few, lanes_in, NamedSys, system_of, IsNamedSys, nodes_of, as_entry, set_lanes, entries_in, is_possible, AreCandidates, AreSlices, length_push, lt-ltb, le-ltb, flat_map-map, is_allowed, from_flat_map, HasNoRepeats-map, HasNoRepeats-flat_map, HasNoRepeats-below, flat_map_same, map-flat_map}
+use Rattle.roman_repair.proofs.Common.{◌≡◌, ℕ, ◌+◌, ◌*◌, ◌%◌, ◌<◌, ◌≤◌, List, [], ◌∷◌, ◌++◌, map, flat_map, drop, cond, zero, suc, IsTrue, inl, inr, refl, sym, ap, ap₂, ◌∙◌, subst, arith, mul-le-mul_left, cases_lt, lt-ltb, le-ltb, same_from_place, mod_below, IsIn, HasNoRepeats, below, product_of, Sys, Seat, IsSys, Entry, Join, after, CanChange, Sizes, sizes_of, count, pair_at, numbered, Reason, Final, Act, grown_numbers, from_map, in_append_right, length-below, map-map, NumbersReplay, from_below, pair_at-grown, sizes-joined, from_flat_map, HasNoRepeats-map, HasNoRepeats-flat_map, HasNoRepeats-below, flat_map_same, map-flat_map, AreSizes, low_of, lanes_of, row_mod, lanes_few, lanes_in, NamedSys, system_of, IsNamedSys, nodes_of, as_entry, set_lanes, entries_in, is_possible, AreCandidates, AreSlices, length_push, flat_map-map, is_allowed}
 use Rattle.roman_repair.proofs.Keeping.{grown_number}
 
 -- the new system shows that the service could join
@@ -41,9 +41,7 @@ joined_candidates s seat L are replays = record {
     possible x i =
         let (y, j, k) = from_flat_map (grown_numbers seat.beh.states) x L i in
         let (b, l, e) = from_map (grown_number seat.beh.states y) x (below seat.beh.states) k in
-        let pair : y.node < count (sizes_of s) = subst (λ n. y.node < n) (length-below (count (sizes_of s))) (are.nodes y j) in
-        subst (λ (z : Entry ℕ). IsTrue (is_possible (numbered (after (Join seat) s)) z.node z.reason)) (sym e)
-        (possible-joined s seat y.node b y.reason pair (from_below seat.beh.states b l) ∙ are.possible y j)
+        grind (arith, e, (are.nodes y j), (are.possible y j), (from_below seat.beh.states b l), (length-below (count (sizes_of s))), (possible-joined s seat y.node b y.reason))
 
 -- ---- the rows of the grown pairs
 
@@ -123,7 +121,5 @@ positive (suc m) (suc n) some = (omega arith, omega arith)
 pub grown_within : (n m states pair : ℕ) → n ≡ m * states → 0 < n → pair * states % n + states ≤ n
 grown_within n m states pair is some =
     let both = positive m states (omega (arith, is, some)) in
-    let place : pair * states % (m * states) ≡ pair % m * states = (let none : pair * states + 0 ≡ pair * states = omega arith in ap (λ p. p % (m * states)) (sym none) ∙ (row_mod pair states 0 m both.1 ∙ (let none : pair % m * states + 0 ≡ pair % m * states = omega arith in none))) in
-    let below : pair % m < m = mod_below pair m both.0 in
-    let slices : states * (pair % m + 1) ≤ states * m = mul-le-mul_left states (omega arith) in
-    omega (arith, is, ap (λ k. pair * states % k) is, place, slices)
+    let slices : states * (pair % m + 1) ≤ states * m = mul-le-mul_left states (let below = mod_below pair m both.0 in omega arith) in
+    grind (arith, slices, (row_mod pair states 0 m both.1))

@@ -1,5 +1,5 @@
 -- What a replay keeps, candidate by candidate.
-use Rattle.roman_repair.proofs.Common.{◌≡◌, ℕ, ◌+◌, ◌*◌, ◌<◌, ◌≤◌, Bool, true, false, if◌then◌else◌, ◌&&◌, List, [], ◌∷◌, ◌++◌, length, IsTrue, count_by, inl, inr, refl, sym, ap, ◌∙◌, subst, arith, append-nil, append_assoc, false_from_ne_true, eqb-true, map-append, sum_by-cons, list_any-append, IsIn, below, Arena, Entry, is_listed, is_justified, readings, is_among, Reason, Final, Act, grown_numbers, in_map, from_map, in_below, IsNumbered, IsReasonOf, readings_of_reason, readings_of-allowed, nodes_of, is_possible, AreCandidates, with_replay, readings_of_entries, sum_by, or_from, replay_from, sum_by_within, listed_among, justified_same, replay_from_same, middle_first, readings_at, readings_within, readings_of}
+use Rattle.roman_repair.proofs.Common.{◌≡◌, ℕ, ◌+◌, ◌*◌, ◌<◌, ◌≤◌, if◌then◌else◌, ◌&&◌, List, [], ◌∷◌, ◌++◌, length, IsTrue, count_by, inl, inr, refl, sym, ap, ◌∙◌, subst, arith, append-nil, append_assoc, sum_by, false_from_ne_true, eqb-true, or_from, map-append, sum_by-cons, list_any-append, IsIn, below, Arena, Entry, is_listed, is_justified, readings, is_among, Reason, Final, Act, grown_numbers, in_map, from_map, in_below, sum_by_within, listed_among, justified_same, replay_from_same, middle_first, readings_at, readings_within, IsNumbered, IsReasonOf, readings_of_reason, readings_of-allowed, nodes_of, is_possible, AreCandidates, with_replay, readings_of_entries}
 
 -- a possible reason names an action of the system
 pub possible_reason : (A : Arena ℕ) → IsNumbered A → (p : ℕ) (reason : Reason) → IsTrue (is_possible A p reason) → IsReasonOf A reason
@@ -18,19 +18,7 @@ last_first A kept x q =
     ∙ ap (λ ps. is_among A (x.node ∷ ps) q) (append-nil (nodes_of kept))
 
 pub with_replay_step : (A : Arena ℕ) (kept : List (Entry ℕ)) (x : Entry ℕ) (L : List (Entry ℕ)) → with_replay A kept (x ∷ L) ≡ with_replay A (with_one A kept x) L
-with_replay_step A kept x L =
-    ap (λ b. kept ++ (if b then x ∷ replay_from A (x.node ∷ nodes_of kept) L else replay_from A (nodes_of kept) L))
-    (justified_same A (is_among A (nodes_of kept)) (is_listed A kept) x.node x.reason (λ a k q i. sym (listed_among A kept q)))
-    ∙ by_answer (is_justified A (is_listed A kept) x.node x.reason)
-  where
-    pushed : kept ++ x ∷ replay_from A (x.node ∷ nodes_of kept) L ≡ with_replay A (kept ++ x ∷ []) L
-    pushed =
-        ap (λ M. kept ++ x ∷ M) (sym (replay_from_same A (nodes_of (kept ++ x ∷ [])) (x.node ∷ nodes_of kept) L (last_first A kept x)))
-        ∙ sym (append_assoc kept (x ∷ []) (replay_from A (nodes_of (kept ++ x ∷ [])) L))
-
-    by_answer : (b : Bool) → kept ++ (if b then x ∷ replay_from A (x.node ∷ nodes_of kept) L else replay_from A (nodes_of kept) L) ≡ with_replay A (if b then kept ++ x ∷ [] else kept) L
-    by_answer true = pushed
-    by_answer false = refl
+with_replay_step A kept x L = grind (arith, append_assoc, (justified_same A (is_among A (nodes_of kept)) (is_listed A kept) x.node x.reason (λ a k q i. sym (listed_among A kept q))), (replay_from_same A (nodes_of (kept ++ x ∷ [])) (x.node ∷ nodes_of kept) L (last_first A kept x)))
 
 -- Candidates.
 
@@ -53,17 +41,13 @@ grown_once states x one = grind arith
 reading_le : (A : Arena ℕ) (p : ℕ) (reason : Reason) → IsNumbered A → IsTrue (is_possible A p reason) → readings_of_reason A p reason ≤ readings_at A p
 reading_le A p Final ok possible = omega arith
 reading_le A p (Act a) ok possible =
-    let some : sum_by (λ b. count_by (λ k. A.allows p b && A.ready k) (below A.seats)) (a ∷ []) ≤ readings_at A p =
-    sum_by_within (λ b. count_by (λ k. A.allows p b && A.ready k) (below A.seats)) (a ∷ []) (below A.actions) (λ i. absurd i, tt)
-    (λ b i. elim i [ inl e ↦ in_below A.actions b (subst (λ c. c < A.actions) (sym e) (ok.allowed p a possible)) | inr none ↦ absurd none ]) in
-    let same : readings_of A p a ≡ count_by (λ k. A.allows p a && A.ready k) (below A.seats) = readings_of-allowed A p a possible ∙ ap (λ b. count_by (λ k. b && A.ready k) (below A.seats)) (sym possible) in
-    omega (arith, same, sum_by-cons (λ b. count_by (λ k. A.allows p b && A.ready k) (below A.seats)) a [])
+    let each = λ (b : ℕ). count_by (λ k. A.allows p b && A.ready k) (below A.seats) in
+    let some : sum_by each (a ∷ []) ≤ readings_at A p = sum_by_within each (a ∷ []) (below A.actions) (λ i. absurd i, tt) (λ b i. elim i [ inl e ↦ subst (λ c. IsIn c (below A.actions)) (sym e) (in_below A.actions a (ok.allowed p a possible)) | inr none ↦ absurd none ]) in
+    grind (arith, some, (readings_of-allowed A p a possible), (sum_by-cons each a []))
 
 entries_le : (A : Arena ℕ) (L : List (Entry ℕ)) → IsNumbered A → ((x : Entry ℕ) → IsIn x L → IsTrue (is_possible A x.node x.reason)) → readings_of_entries A L ≤ sum_by (readings_at A) (nodes_of L)
 entries_le A [] ok possible = omega arith
-entries_le A (x ∷ L) ok possible =
-    let rest : readings_of_entries A L ≤ sum_by (readings_at A) (nodes_of L) = entries_le A L ok (λ y i. possible y (inr i)) in
-    omega (arith, reading_le A x.node x.reason ok (possible x (inl refl)), sum_by-cons (λ (y : Entry ℕ). readings_of_reason A y.node y.reason) x L, sum_by-cons (readings_at A) x.node (nodes_of L))
+entries_le A (x ∷ L) ok possible = omega (arith, entries_le A L ok (λ y i. possible y (inr i)), reading_le A x.node x.reason ok (possible x (inl refl)), sum_by-cons (λ (y : Entry ℕ). readings_of_reason A y.node y.reason) x L, sum_by-cons (readings_at A) x.node (nodes_of L))
 
 -- the candidates have at most the readings of the whole system
 pub candidates_readings : (A : Arena ℕ) (kept L : List (Entry ℕ)) → IsNumbered A → AreCandidates A kept L → readings_of_entries A L ≤ readings A

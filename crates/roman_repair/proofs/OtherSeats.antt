@@ -1,5 +1,5 @@
 -- After a thaw or a join each entry of the old list would be kept if the changed seat had no outcomes.
-use Rattle.roman_repair.proofs.Common.{◌≡◌, ℕ, zero, suc, ◌+◌, ◌*◌, ◌%◌, ◌<◌, ◌==◌, Bool, true, false, not, ◌&&◌, ◌||◌, List, [], ◌∷◌, ◌++◌, map, flat_map, length, Some, IsTrue, IsFalse, if◌then◌else◌, slice_get, slice_index, inl, inr, refl, sym, ap, ◌∙◌, subst, arith, append-nil, append_assoc, both_ways, eqb-true, or_left, and_from, and_parts, eq-eqb, or_cases, or_right, IsIn, below, product_of, all_below, is_empty, Arena, Entry, IsOrder, is_listed, is_justified, is_among, Reason, Final, Act, length-map, length_push, Sys, Seat, IsSys, is_final, Sizes, sizes_of, count, pair_at, numbered, number, turned, sizes-turned, in_map, from_map, AreNumbers, in_below, justified_more, listed_append, map-map, all_below_from, any_from, any_true, by_test, from_below, justified_is, number_allows-turned, pair_at-grown, sizes-joined, grown_numbers, NamedSys, system_of, IsNamedSys, Board, pairs_of, has_entry, IsRelation, listed_numbers, list_any, is_ready, without_seat, MayAskAlone, AreKept, slice_get-get_or, get_or_append_left, set-append_left, IsOrderFrom, grown, set_frozen, Pair, all_final, is_fine, outcomes, outcomes_by, seat_next, IsPairOf-from, is_fine-turned, length-set_frozen, length-states_at, number-grown, numbers_are_pairs, outcome_pair, moved_named, outcomes-turned}
+use Rattle.roman_repair.proofs.Common.{◌≡◌, ℕ, zero, suc, ◌+◌, ◌*◌, ◌%◌, ◌<◌, ◌==◌, Bool, true, false, not, ◌&&◌, ◌||◌, List, [], ◌∷◌, ◌++◌, map, flat_map, length, Some, IsTrue, IsFalse, if◌then◌else◌, slice_get, slice_index, inl, inr, refl, sym, ap, ◌∙◌, subst, arith, append-nil, append_assoc, both_ways, eqb-true, or_left, and_from, and_parts, eq-eqb, or_cases, or_right, IsIn, below, product_of, all_below, is_empty, Arena, Entry, IsOrder, is_listed, is_justified, is_among, IsOrderFrom, Reason, Final, Act, length-map, length_push, get_or_append_left, set-append_left, Sys, Seat, IsSys, is_final, Pair, all_final, Sizes, sizes_of, count, pair_at, numbered, number, turned, sizes-turned, in_map, from_map, AreNumbers, in_below, justified_more, listed_append, map-map, all_below_from, any_from, any_true, by_test, from_below, justified_is, number_allows-turned, pair_at-grown, sizes-joined, IsPairOf-from, is_fine-turned, length-set_frozen, length-states_at, number-grown, numbers_are_pairs, outcome_pair, moved_named, outcomes-turned, grown_numbers, NamedSys, system_of, IsNamedSys, Board, pairs_of, has_entry, IsRelation, listed_numbers, list_any, is_ready, is_fine, outcomes, outcomes_by, seat_next, without_seat, MayAskAlone, AreKept, slice_get-get_or, grown, set_frozen}
 use Rattle.roman_repair.proofs.Repairing.{numbers_order}
 use Rattle.roman_repair.proofs.Joined.{map_as, possible-joined}
 
@@ -113,9 +113,7 @@ get_before xs x j l =
 final_fewer : (seats : List Seat) (seat : Seat) (bs : List ℕ) (b : ℕ) → IsTrue (all_final (seats ++ seat ∷ []) (bs ++ b ∷ [])) → length bs ≡ length seats → IsTrue (all_final seats bs)
 final_fewer [] seat bs b f long = refl
 final_fewer (x ∷ seats) seat [] b f long = absurd (omega arith)
-final_fewer (x ∷ seats) seat (c ∷ bs) b f long =
-    let (first, rest) = and_parts (not x.rests || is_final x.beh c) (all_final (seats ++ seat ∷ []) (bs ++ b ∷ [])) f in
-    and_from (not x.rests || is_final x.beh c) (all_final seats bs) first (final_fewer seats seat bs b rest (omega arith))
+final_fewer (x ∷ seats) seat (c ∷ bs) b f long = grind (arith, and_from, and_parts, (final_fewer seats seat bs b))
 
 -- the system with a new last seat
 abbrev pub with_last : Sys → Seat → Sys
@@ -157,9 +155,8 @@ join_carries s seat ok = record {
     long p = length-states_at n.seats (p % product_of n.seats) ∙ length-map s.seats (λ (x : Seat). x.beh.states)
 
     still_unfine : (final all more : Bool) → (IsTrue more → IsTrue all) → IsTrue (not (not final || all)) → IsTrue (not (not final || more))
-    still_unfine final all true fewer f = subst (λ x. IsTrue (not (not final || x))) (fewer refl) f
-    still_unfine true all false fewer f = refl
-    still_unfine false all false fewer f = f
+    still_unfine final all true fewer f = grind (arith, (fewer refl))
+    still_unfine final all false fewer f = grind arith
 
 -- ---- the changed seat may be asked alone
 

@@ -1,5 +1,5 @@
 -- The end of a repair, in numbers of pairs.
-use Rattle.roman_repair.proofs.Common.{◌≡◌, ℕ, ◌+◌, ◌<◌, true, List, [], length, ap, ◌∙◌, arith, length-map, Sys, IsSys, Entry, IsOrder, replay, Change, after, CanChange, sizes_of, pair_at, numbered, rename_numbers, NumbersReplay, AreNumbers, NamedSys, system_of, IsNamedSys, Board, pairs_of, has_entry, HasCaps, IsRelation, listed_numbers, Tally, IsRepaired, IsSettledOn, take-map, arena, IsCompleteList, order_named, numbers_replay, IsNumber, numbers_rename, Begins, GoesOnFromReplay}
+use Rattle.roman_repair.proofs.Common.{◌≡◌, ℕ, ◌+◌, ◌<◌, true, List, [], length, ap, ◌∙◌, arith, length-map, take-map, Sys, IsSys, Entry, IsOrder, replay, Change, after, CanChange, sizes_of, pair_at, numbered, IsCompleteList, rename_numbers, NumbersReplay, AreNumbers, order_named, numbers_replay, IsNumber, numbers_rename, NamedSys, system_of, IsNamedSys, Board, pairs_of, has_entry, HasCaps, IsRelation, listed_numbers, Tally, IsRepaired, IsSettledOn, GoesOnFromReplay, arena, Begins}
 use Rattle.roman_joint.specs.declared.seat.Seat.{Seat}
 
 -- the replay of the renamed old list, in numbers

@@ -1,5 +1,5 @@
 -- Replays that go on, and the replay of an event lane by lane.
-use Rattle.roman_repair.proofs.Common.{◌≡◌, ℕ, zero, suc, ◌+◌, ◌*◌, ◌<◌, ◌≤◌, ◌==◌, Bool, true, false, cond, if◌then◌else◌, ◌||◌, List, [], ◌∷◌, ◌++◌, map, length, Option, None, Some, IsTrue, IsFalse, count_by, inl, inr, refl, sym, ap, ◌∙◌, subst, arith, append-nil, append_assoc, both_ways, and_from, eqb-true, false_from_ne_true, cases_eq, cases_lt, mul-le-mul_left, map-append, sum_by-cons, IsIn, below, all_below, is_empty, list_any, Arena, Entry, is_listed, is_justified, Reason, Final, Act, all_below_from, by_test, justified_is, in_append_left, in_map, from_map, is_on, readings_of_reason, IsReasonOf, readings_of-allowed, IsNumbered, Board, as_entry, has_entry, set_lanes, entries_in, set_lanes-zero, in_lanes, entries_at, Event, IsShaped, HoldsInBand, is_possible, AreCandidates, with_replay, readings_of_entries, MayAskAlone, passes, without_seat, CanReplay, CanReplayEvent, GoesOnTo, Replays, is_beaten, add-one, length-append, false≢true, sum_by-append, count_below_more, IsSeatOf, questions_of, HasFront, HasJudged, AskedBand}
+use Rattle.roman_repair.proofs.Common.{◌≡◌, ℕ, zero, suc, ◌+◌, ◌*◌, ◌<◌, ◌≤◌, ◌==◌, Bool, true, false, if◌then◌else◌, ◌||◌, List, [], ◌∷◌, ◌++◌, map, length, Option, None, Some, IsTrue, IsFalse, count_by, inl, inr, refl, sym, ap, ◌∙◌, subst, arith, append-nil, append_assoc, add-one, length-append, both_ways, and_from, eqb-true, false_from_ne_true, cases_eq, cases_lt, false≢true, mul-le-mul_left, map-append, sum_by-cons, sum_by-append, IsIn, below, all_below, is_empty, list_any, Arena, Entry, is_listed, is_justified, is_beaten, Reason, Final, Act, all_below_from, by_test, justified_is, in_append_left, in_map, from_map, is_on, readings_of_reason, IsReasonOf, readings_of-allowed, count_below_more, IsNumbered, Board, as_entry, has_entry, set_lanes, entries_in, set_lanes-zero, in_lanes, entries_at, Event, IsShaped, HoldsInBand, is_possible, AreCandidates, with_replay, readings_of_entries, MayAskAlone, passes, without_seat, IsSeatOf, questions_of, CanReplay, CanReplayEvent, GoesOnTo, Replays, HasJudged, HasFront, AskedBand}
 use Rattle.roman_repair.proofs.BandAnswers.{known_more, listed_more, passes_more}
 use Rattle.roman_repair.proofs.Keeping.{candidates_step, possible_reason, with_one, with_replay_step}
 use Rattle.roman_repair.proofs.Fronts.{on_in, some_in}
@@ -36,12 +36,7 @@ may_step A (Some k) kept x L may = (may.0, may.1, may.2.1)
 
 some_counted : (f : ℕ → Bool) (n k : ℕ) → k < n → IsTrue (f k) → 0 < count_by f (below n)
 some_counted f zero k l t = absurd (omega arith)
-some_counted f (suc n) k l t =
-    let last : count_by f (below (suc n)) ≡ count_by f (below n) + cond (f n) 1 0 = ap (λ m. count_by f (below m)) (sym (add-one n)) ∙ count_below_more f n in
-    elim (cases_eq k n) [
-      | inl e ↦ (let one : cond (f n) 1 0 ≡ suc 0 = ap (λ b. cond b 1 0) (subst (λ i. IsTrue (f i)) e t) in omega (arith, last, one))
-      | inr ne ↦ (let before : 0 < count_by f (below n) = some_counted f n k (omega arith) t in omega (arith, last, before))
-    ]
+some_counted f (suc n) k l t = grind (arith, add-one, cases_eq, (count_below_more f n), (some_counted f n k))
 
 -- the questions about an entry are at most its readings
 few_questions : (A : Arena ℕ) (alone : Option ℕ) (kept L : List (Entry ℕ)) (p : ℕ) (reason : Reason) → MayAskAlone A alone kept L → IsTrue (is_possible A p reason) → questions_of A alone p reason ≤ readings_of_reason A p reason
@@ -57,10 +52,13 @@ pub all_kept : (A : Arena ℕ) (alone : Option ℕ) (kept L N : List (Entry ℕ)
 all_kept A alone kept [] N are may each = subst (λ K. (with_replay A K N ≡ with_replay A kept N) × AreCandidates A K N × MayAskAlone A alone K N) (sym (append-nil kept)) (refl, are, may)
 all_kept A alone kept (x ∷ L) N are may each =
     let first : with_one A kept x ≡ kept ++ x ∷ [] = ap (λ b. if b then kept ++ x ∷ [] else kept) (justified A alone kept x (L ++ N) may (each x (inl refl))) in
-    let (same, still, more) = all_kept A alone (kept ++ x ∷ []) L N (subst (λ K. AreCandidates A K (L ++ N)) first (candidates_step A kept x (L ++ N) are)) (may_step A alone kept x (L ++ N) may)
-    (λ y i. passes_more A _ _ alone y.node y.reason (listed_more A kept (x ∷ [])) (each y (inr i))) in
-    subst (λ K. (with_replay A K N ≡ with_replay A kept (x ∷ (L ++ N))) × AreCandidates A K N × MayAskAlone A alone K N) (append_assoc kept (x ∷ []) L)
-    (same ∙ sym (with_replay_step A kept x (L ++ N) ∙ ap (λ K. with_replay A K (L ++ N)) first), still, more)
+    grind (
+      arith,
+      (append_assoc kept (x ∷ []) L),
+      (with_replay_step A kept x (L ++ N)),
+      (all_kept A alone (kept ++ x ∷ []) L N (subst (λ K. AreCandidates A K (L ++ N)) first (candidates_step A kept x (L ++ N) are)) (may_step A alone kept x (L ++ N) may)
+          (λ y i. passes_more A _ _ alone y.node y.reason (listed_more A kept (x ∷ [])) (each y (inr i)))),
+    )
 
 -- a replay of entries of which none is justified drops them
 pub none_kept : (A : Arena ℕ) (kept L N : List (Entry ℕ)) → AreCandidates A kept (L ++ N) → ((x : Entry ℕ) → IsIn x L → IsFalse (is_justified A (is_listed A kept) x.node x.reason)) →
@@ -68,16 +66,19 @@ pub none_kept : (A : Arena ℕ) (kept L N : List (Entry ℕ)) → AreCandidates 
 none_kept A kept [] N are each = (refl, are)
 none_kept A kept (x ∷ L) N are each =
     let first : with_one A kept x ≡ kept = ap (λ b. if b then kept ++ x ∷ [] else kept) (each x (inl refl)) in
-    let (same, still) = none_kept A kept L N (subst (λ K. AreCandidates A K (L ++ N)) first (candidates_step A kept x (L ++ N) are)) (λ y i. each y (inr i)) in
-    (same ∙ sym (with_replay_step A kept x (L ++ N) ∙ ap (λ K. with_replay A K (L ++ N)) first), still)
+    grind (arith, (none_kept A kept L N (subst (λ K. AreCandidates A K (L ++ N)) first (candidates_step A kept x (L ++ N) are)) (λ y i. each y (inr i))), (with_replay_step A kept x (L ++ N)))
 
 -- ---- replays that follow one another
 
 pub stays : (A : Arena ℕ) (n : ℕ) (L kept : List (Entry ℕ)) (asked : AskedBand) (steps : ℕ) → CanReplay A n kept asked L → GoesOnTo A n L L kept kept asked steps steps
 stays A n L kept asked steps can = record { list = refl; can = can; cost = omega arith }
 
-pub further : (A : Arena ℕ) (n : ℕ) (L M N kept mid now : List (Entry ℕ)) (on last : AskedBand) (before between after : ℕ) → GoesOnTo A n L M kept mid on before between → GoesOnTo A n M N mid now last between after → GoesOnTo A n L N kept now last before after
-further A n L M N kept mid now on last before between after first second = record { list = second.list ∙ first.list; can = second.can; cost = omega (arith, first.cost, second.cost) }
+-- a replay that has gone on to X goes on past the front of X
+pub replayed_on : (A : Arena ℕ) (n : ℕ) (L E M X kept mid now : List (Entry ℕ)) (on last : AskedBand) (before between after : ℕ) → GoesOnTo A n L X kept mid on before between → X ≡ E ++ M → Replays A n E [] mid now on last between after →
+    GoesOnTo A n L M kept now last before after
+replayed_on A n L E M X kept mid now on last before between after first parts second =
+    let done = second.goes_on M (subst (CanReplay A n mid on) parts first.can) in
+    record { list = done.list ∙ ap (with_replay A mid) (sym parts) ∙ first.list; can = done.can; cost = omega (arith, done.cost, first.cost, ap (readings_of_entries A) parts) }
 
 pub replays_none : (A : Arena ℕ) (n : ℕ) (L kept : List (Entry ℕ)) (asked : AskedBand) (steps : ℕ) → Replays A n L L kept kept asked asked steps steps
 replays_none A n L kept asked steps = record { goes_on = λ N can. stays A n (L ++ N) kept asked steps can }
@@ -85,7 +86,11 @@ replays_none A n L kept asked steps = record { goes_on = λ N can. stays A n (L 
 pub replays_both : (A : Arena ℕ) (n : ℕ) (L M N kept mid now : List (Entry ℕ)) (asked on last : AskedBand) (before between after : ℕ) → Replays A n L M kept mid asked on before between → Replays A n M N mid now on last between after →
     Replays A n L N kept now asked last before after
 replays_both A n L M N kept mid now asked on last before between after first second = record {
-  goes_on = λ K can. (let done = first.goes_on K can in further A n (L ++ K) (M ++ K) (N ++ K) kept mid now on last before between after done (second.goes_on K done.can));
+  goes_on = λ K can. (
+      let done = first.goes_on K can in
+      let more = second.goes_on K done.can in
+      record { list = more.list ∙ done.list; can = more.can; cost = omega (arith, done.cost, more.cost) }
+      );
 }
 
 -- ---- an event
@@ -113,9 +118,6 @@ in_row A n order asked e ok can =
       action = possible_reason A ok (e.row * n + lane) e.reason (ready.candidates.possible (as_entry (e.row * n + lane, e.reason)) i);
     }
 
-pub row_there : (A : Arena ℕ) (n : ℕ) (order : Board) (asked : AskedBand) (e : Event) → CanReplayEvent A n n (entries_at n) order asked e → IsNumbered A → e.row < order.rows
-row_there A n order asked e can ok = (in_row A n order asked e ok can).row
-
 -- an entry of the event isn't listed
 pub lane_alive : (A : Arena ℕ) (n : ℕ) (order : Board) (asked : AskedBand) (e : Event) (lane : ℕ) → CanReplayEvent A n n (entries_at n) order asked e → n ≤ 64 → is_on e.lanes lane ≡ true → has_entry order.list (e.row * order.lanes + lane) ≡ false
 lane_alive A n order asked e lane can few on =
@@ -128,10 +130,7 @@ each_in n x reason word P each y i = let (lane, j, same) = from_map (λ lane. as
 
 paid : (A : Arena ℕ) (x : Entry ℕ) (L : List (Entry ℕ)) → IsIn x L → readings_of_reason A x.node x.reason ≤ readings_of_entries A L
 paid A x [] i = absurd i
-paid A x (y ∷ L) i = elim i [
-  | inl e ↦ omega (arith, sum_by-cons (λ (z : Entry ℕ). readings_of_reason A z.node z.reason) y L, ap (λ (z : Entry ℕ). readings_of_reason A z.node z.reason) e)
-  | inr j ↦ omega (arith, sum_by-cons (λ (z : Entry ℕ). readings_of_reason A z.node z.reason) y L, paid A x L j)
-]
+paid A x (y ∷ L) i = grind (arith, (paid A x L), (sum_by-cons (λ (z : Entry ℕ). readings_of_reason A z.node z.reason) y L))
 
 -- the first entries were judged: the replay goes on from the others, and the questions about the first one pay for the steps
 judged : (A : Arena ℕ) (n rest front held : ℕ) (holds : Bool) (e : Event) (old new : Board) (asked now : AskedBand) (before after : ℕ) → HasFront e.lanes held front rest holds →
@@ -234,8 +233,3 @@ replays_front A n L M X kept now asked on before after parts is = record {
       let same : X ++ N ≡ L ++ (M ++ N) = ap (λ Y. Y ++ N) parts ∙ append_assoc L M N in
       subst (λ Y. GoesOnTo A n Y (M ++ N) kept now on before after) (sym same) (is.goes_on (M ++ N) (subst (CanReplay A n kept asked) same can)));
 }
-
--- all entries
-pub replays_whole : (A : Arena ℕ) (n : ℕ) (L M kept now : List (Entry ℕ)) (asked on : AskedBand) (before after : ℕ) → Replays A n L M kept now asked on before after → CanReplay A n kept asked L → GoesOnTo A n L M kept now on before after
-replays_whole A n L M kept now asked on before after is can =
-    subst (λ X. GoesOnTo A n X M kept now on before after) (append-nil L) (subst (λ X. GoesOnTo A n (L ++ []) X kept now on before after) (append-nil M) (is.goes_on [] (subst (CanReplay A n kept asked) (sym (append-nil L)) can)))

@@ -1,5 +1,5 @@
 -- Changes that keep the whole renamed list: a freeze or a death.
-use Rattle.roman_repair.proofs.Common.{cases_lt, ◌≡◌, ℕ, ◌<◌, Bool, List, [], length, IsTrue, slice_get, sym, ◌∙◌, arith, Sys, Seat, Entry, Change, after, sizes_of, numbered, rename_numbers, turned, sizes-turned, NumbersReplay, NamedSys, system_of, lanes_in, Board, IsShaped, arena_of, HasCaps, is_ready, IsBegun, slice_get_past, KeepsAll}
+use Rattle.roman_repair.proofs.Common.{cases_lt, ◌≡◌, ℕ, ◌<◌, Bool, List, [], length, IsTrue, slice_get, sym, ◌∙◌, arith, Sys, Seat, Entry, Change, after, KeepsAll, sizes_of, numbered, rename_numbers, turned, sizes-turned, NumbersReplay, NamedSys, system_of, lanes_in, Board, IsShaped, arena_of, HasCaps, is_ready, IsBegun, slice_get_past}
 use Rattle.roman_joint.specs.declared.seat.Seat as joint
 use Rattle.roman_repair.proofs.Repairing.{numbers_replayed, caps_kept}
 use Rattle.roman_repair.proofs.Waiting.{nodes-turned}

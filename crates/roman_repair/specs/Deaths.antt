@@ -12,7 +12,7 @@ use Rattle.roman_radix.specs.Rows.{lanes_of}
 use Rattle.roman_lanes.specs.Rows.{is_on}
 use Rattle.roman_joint.specs.NamedSys.{NamedSys, system_of}
 use Rattle.roman_joint.specs.Rows.{lanes_in}
-use Rattle.roman_order.specs.Board.{Board, as_entry, pairs_of, nodes_of, set_lanes, has_entry}
+use Rattle.roman_order.specs.Board.{Board, as_entry, pairs_of, nodes_of, set_lanes, entries_in, has_entry}
 use Rattle.roman_order.specs.Events.{IsEvent, entries_at}
 use Rattle.roman_order.specs.declared.event.Event.{Event}
 use Rattle.roman_repair.specs.declared.dying.renaming.Leaver.{Leaver}
@@ -45,6 +45,11 @@ pub record IsGathered (board : Board) (e : Event) : Type 0 where
   pub within : (lane : ℕ) → is_on e.lanes lane ≡ true → lane < board.lanes
   pub alive : (lane : ℕ) → is_on e.lanes lane ≡ true → has_entry board.list (e.row * board.lanes + lane) ≡ false
 
+-- the entries for the lanes `lost` of the row x were put after the gathered ones, which are still of unlisted pairs of one row
+pub record GathersTo (old new : Board) (before now : Event) (x lost : ℕ) (reason : Reason) : Type 0 where
+  pub list : list_and new now ≡ list_and old before ++ entries_in old.lanes x lost reason
+  pub gathered : IsGathered new now
+
 -- the order has the shape of the system without the service that dies, and the gathered entries can go after its list
 pub record CanRename (joint : NamedSys) (leaver : Leaver) (order : Board) (e : Event) : Type 0 where
   pub seat : leaver.k < length joint.seats
@@ -57,8 +62,13 @@ pub record IsWithin (s : Sys) (e : Event) : Type 0 where
   pub event : IsEvent (lanes_in s) e
   pub nodes : (x : Entry ℕ) → IsIn x (entries_at (lanes_in s) e) → x.node < count (sizes_of s)
 
--- the entries are renamed, and their first ones are gathered after the list
-pub record HasRenamed (s : Sys) (k : ℕ) (L : List (Entry ℕ)) (old new : Board) (e now : Event) : Type 0 where
-  pub list : (seat : Seat) → CanChange (Die k seat) s → list_and new now ≡ list_with (sizes_of s) k seat (list_and old e) L
-  pub gathered : IsGathered new now
-  pub rest : new ≡ record old { list = new.list }
+-- the pairs `first + i`, where i is a bit of the word, are pairs of one part
+pub record AreInPart (n : Sizes) (k first word : ℕ) : Type 0 where
+  pub seat : k < length n.seats
+  pub inside : first < count n
+  pub pair : (i : ℕ) → is_on word i ≡ true → first + i < count n
+  pub part : (width : ℕ) × (j : ℕ) × IsPart n.seats k width × (first ≡ j * width) × ((i : ℕ) → is_on word i ≡ true → i < width)
+
+-- a renaming of the entries L after the list `old` has gone on to one of M after the list `new`: it comes to the same end
+pub record Renames (s : Sys) (k : ℕ) (L M old new : List (Entry ℕ)) : Type 0 where
+  pub list : (seat : Seat) → CanChange (Die k seat) s → list_with (sizes_of s) k seat new M ≡ list_with (sizes_of s) k seat old L

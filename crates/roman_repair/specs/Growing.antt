@@ -2,14 +2,14 @@
 use Rattle.std.specs.Prelude.{◌≡◌, ℕ, ◌+◌, ◌<◌, ◌≤◌, ◌^◌, true, List, [], ◌++◌, Some, flat_map, length}
 use Rattle.roman_lanes.specs.Rows.{is_on}
 use Rattle.roman_model.specs.Lists.{IsIn}
+use Rattle.roman_model.specs.System.{Sys}
+use Rattle.roman_model.specs.Numbers.{numbered}
 use Rattle.roman_model.specs.Arena.{Arena, Entry, IsOrder, replay}
 use Rattle.roman_model.specs.NumberedChange.{grown_numbers}
 use Rattle.roman_order.specs.Board.{Board, set_lanes}
 use Rattle.roman_order.specs.Events.{IsEvent, entries_at}
 use Rattle.roman_order.specs.declared.event.Event.{Event}
-use Rattle.roman_joint.specs.NamedSys.{NamedSys, system_of}
 use Rattle.roman_joint.specs.Rows.{lanes_in}
-use Rattle.roman_relation.specs.Greatest.{HasCaps, arena_of}
 use Rattle.roman_relation.specs.Shaped.{IsShaped}
 use Rattle.roman_repair.specs.Alone.{MayAskAlone}
 use Rattle.roman_repair.specs.Replays.{AreCandidates, AreSlices, candidates, readings_of_entries, with_replay}
@@ -52,16 +52,15 @@ pub record HasReplayedAll (A : Arena ℕ) (L : List (Entry ℕ)) (old new : Boar
 abbrev pub list_grown : Newcomer → Board → List (Entry ℕ)
 list_grown newcomer order = flat_map (grown_numbers newcomer.states) order.list
 
--- its replay in the joint's system
-abbrev pub replay_grown : NamedSys → Newcomer → Board → List (Entry ℕ)
-replay_grown joint newcomer order = replay (arena_of joint) (list_grown newcomer order)
+-- its replay in a system
+abbrev pub replay_grown : Sys → Newcomer → Board → List (Entry ℕ)
+replay_grown s newcomer order = replay (numbered s) (list_grown newcomer order)
 
--- what the list grows to can be replayed in the joint's system, and is a removal list there; the newcomer may be asked alone, and the order has room
-pub record CanReadmit (joint : NamedSys) (newcomer : Newcomer) (order : Board) : Type 0 where
-  pub caps : HasCaps joint order
+-- what the list grows to can be replayed in the system, and its replay is a removal list there; the newcomer may be asked alone
+pub record CanReadmit (s : Sys) (newcomer : Newcomer) (order : Board) : Type 0 where
   pub idle : order.waiting ≡ []
   pub lanes : order.lanes ≡ newcomer.lanes
-  pub slices : AreSlices (lanes_in (system_of joint)) newcomer.lanes newcomer.states
-  pub are : AreCandidates (arena_of joint) [] (list_grown newcomer order)
-  pub may : MayAskAlone (arena_of joint) (Some newcomer.k) [] (list_grown newcomer order)
-  pub valid : IsOrder (arena_of joint) (replay_grown joint newcomer order)
+  pub slices : AreSlices (lanes_in s) newcomer.lanes newcomer.states
+  pub are : AreCandidates (numbered s) [] (list_grown newcomer order)
+  pub may : MayAskAlone (numbered s) (Some newcomer.k) [] (list_grown newcomer order)
+  pub valid : IsOrder (numbered s) (replay_grown s newcomer order)

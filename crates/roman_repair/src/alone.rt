@@ -35,10 +35,12 @@ pub(crate) trait OneSeat: Rules {
 }
 
 impl OneSeat for Joint {
+    #[tactic(auto, using(crate::proofs::Waiting::counted))]
     fn served(&self, row: &Row, words: &[u64], a: u8, k: u8) -> u64 {
         self.good(row, words, a, k)
     }
 
+    #[tactic(auto, using(crate::proofs::Waiting::counted))]
     fn clear_served(&self, row: &Row, words: &[u64], a: u8, k: u8, left: &mut [u64]) {
         self.clear_good(row, words, a, k, left);
     }

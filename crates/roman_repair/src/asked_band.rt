@@ -156,6 +156,7 @@ impl AskedBand {
 
     /// Returns the lanes of the row `x` at which the reason is known to hold: none where another row
     /// and another band were asked, or about another reason.
+    #[tactic(auto, using(crate::proofs::BandAnswers::none_known))]
     pub(crate) fn known_at(&self, x: u32, reason: Reason) -> u64
         ensures { (A : Arena ℕ) (lanes : ℕ) (gone : ℕ → Bool) → HoldsInBand A lanes gone self.now → IsKnown A lanes gone self.now.alone x reason result }
     {

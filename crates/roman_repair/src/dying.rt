@@ -38,7 +38,6 @@ pub fn die<L: Ledger>(relation: &mut Relation, k: u8, steps: &mut Steps<L>) -> T
     relation.joint.known(); // the system is well formed
     relation.order.known(); // listed pairs are pairs of the system
     rename_list(&relation.joint, &mut relation.order, k);
-    relation.order.known(); // listed pairs are pairs of the system
     relation.joint.drop_seat(k);
     settle_on(relation, steps)
 }

@@ -45,9 +45,8 @@ pub fn join<L: Ledger>(
     relation.joint.known(); // the system is well formed
     relation.order.known(); // listed pairs are pairs of the system
     let states = states_of(&relation.joint, &seat);
-    let shape = relation.joint.shape();
-    shape.known(); // no size is 0
-    let lanes = shape.lanes();
+    relation.joint.shape().known(); // no size is 0
+    let lanes = relation.joint.lanes();
     let k = relation.joint.seats();
     let newcomer = Newcomer { k, states, lanes };
     relation.joint.push_seat(seat)?;

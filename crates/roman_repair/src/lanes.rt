@@ -42,6 +42,7 @@ pub(crate) fn first_part(word: u64, width: u32) -> (u32, u64, u64)
 
 /// Returns the word with the lanes from `begin` to `end - 1`. Requires `begin < end` and `end` at
 /// most 64.
+#[tactic(auto, using(crate::proofs::Fronts::is_between))]
 fn lanes_between(begin: u32, end: u32) -> u64
     requires { (begin < end) × (end ≤ 64) }
     ensures { HasLanesBetween result begin end }

@@ -10,6 +10,7 @@ use roman_order::Order;
 
 /// Makes all entries of the list wait, and begins an empty list for the pairs of the changed joint.
 /// Requires that no entry waits.
+#[tactic(auto, using(crate::proofs::Waiting::counted))]
 pub(crate) fn reopen(joint: &Joint, order: &mut Order)
     requires caps { HasCaps joint.now order.old }
     requires idle { order.old.waiting ≡ [] }
@@ -20,6 +21,5 @@ pub(crate) fn reopen(joint: &Joint, order: &mut Order)
     ensures caps { HasCaps joint.now order.new }
 {
     joint.known(); // a pair's number fits 32 bits
-    let shape = joint.shape();
-    order.reopen(shape.rows(), shape.lanes());
+    order.reopen(joint.rows(), joint.lanes());
 }

@@ -1,5 +1,7 @@
 //! Completes and counts the list, at the end of each repair.
 ghost use Rattle.std.specs.Prelude.{◌+◌, ◌≤◌};
+ghost use Rattle.roman_joint.specs.NamedSys.{system_of};
+ghost use Rattle.roman_relation.specs.Greatest.{HasCaps};
 ghost use Rattle.roman_repair.specs.Growing.{CanReadmit, replay_grown};
 ghost use Rattle.roman_repair.specs.Repairs.{IsBegun, IsSettledOn, IsWithinReading, fall_of};
 
@@ -33,8 +35,9 @@ pub(crate) fn replay_and_settle_on<L: Ledger>(
     newcomer: Newcomer,
     steps: &mut Steps<L>,
 ) -> Tally
-    requires { CanReadmit relation.old.joint newcomer relation.old.order }
-    ensures settled { IsSettledOn relation.old.joint (replay_grown relation.old.joint newcomer relation.old.order) relation.new.joint relation.new.order result }
+    requires caps { HasCaps relation.old.joint relation.old.order }
+    requires ready { CanReadmit (system_of relation.old.joint) newcomer relation.old.order }
+    ensures settled { IsSettledOn relation.old.joint (replay_grown (system_of relation.old.joint) newcomer relation.old.order) relation.new.joint relation.new.order result }
     ensures cost { IsWithinReading relation.new.joint relation.new.order result steps.old steps.new }
 {
     relation.joint.known(); // allowed actions are actions of the system

@@ -30,8 +30,7 @@ pub fn thaw<L: Ledger>(relation: &mut Relation, k: u8, steps: &mut Steps<L>) -> 
 {
     relation.joint.known(); // the system is well formed
     relation.order.known(); // listed pairs are pairs of the system
-    let shape = relation.joint.shape();
-    let lanes = shape.lanes();
+    let lanes = relation.joint.lanes();
     let newcomer = Newcomer {
         k,
         states: 1,

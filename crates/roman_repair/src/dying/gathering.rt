@@ -1,9 +1,8 @@
 //! Gathers renamed entries that stand together into one event.
-ghost use Rattle.std.specs.Prelude.{◌≡◌, ◌≢◌, ℕ, ◌+◌, ◌*◌, ◌<◌, ◌&&◌, not, true, false, ◌++◌};
+ghost use Rattle.std.specs.Prelude.{◌≡◌, ◌≢◌, ℕ, ◌+◌, ◌*◌, ◌<◌, ◌&&◌, not, true, false};
 ghost use Rattle.roman_lanes.specs.Rows.{is_on, HasLanes};
-ghost use Rattle.roman_order.specs.Board.{entries_in, has_entry};
-ghost use Rattle.roman_order.specs.Events.{entries_at};
-ghost use Rattle.roman_repair.specs.Deaths.{list_and, IsGathered};
+ghost use Rattle.roman_order.specs.Board.{has_entry};
+ghost use Rattle.roman_repair.specs.Deaths.{list_and, GathersTo, IsGathered};
 
 use roman_model::Reason;
 use roman_order::{Event, Order};
@@ -63,8 +62,7 @@ pub(crate) fn gather(order: &mut Order, gathered: &mut Event, x: u32, lost: u64,
     requires row { x < order.old.rows }
     requires within { (lane : ℕ) → is_on lost lane ≡ true → lane < order.old.lanes }
     requires alive { (lane : ℕ) → is_on lost lane ≡ true → has_entry (list_and order.old gathered.old) (x * order.old.lanes + lane) ≡ false }
-    ensures list { list_and order.new gathered.new ≡ list_and order.old gathered.old ++ entries_in order.old.lanes x lost reason }
-    ensures gathered { IsGathered order.new gathered.new }
+    ensures gathers { GathersTo order.old order.new gathered.old gathered.new x lost reason }
     ensures rest { order.new ≡ record order.old { list = order.new.list } }
 {
     if lost == 0 {

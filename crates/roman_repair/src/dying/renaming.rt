@@ -1,9 +1,8 @@
 //! Renames the entries of a removal list after a service's death.
-ghost use Rattle.std.specs.Prelude.{◌≡◌, ℕ, ◌+◌, ◌*◌, ◌<◌, ◌≤◌, true, [], length};
-ghost use Rattle.roman_lanes.specs.Rows.{is_on};
+ghost use Rattle.std.specs.Prelude.{◌≡◌, ◌+◌, ◌*◌, ◌<◌, ◌≤◌, [], length};
 ghost use Rattle.roman_model.specs.System.{Seat};
 ghost use Rattle.roman_model.specs.Change.{Die, CanChange};
-ghost use Rattle.roman_model.specs.Numbers.{Sizes, sizes_of, sizes_without, count, numbered};
+ghost use Rattle.roman_model.specs.Numbers.{sizes_of, sizes_without, count, numbered};
 ghost use Rattle.roman_model.specs.NumberedChange.{rename_numbers};
 ghost use Rattle.roman_radix.specs.Rows.{lanes_of};
 ghost use Rattle.roman_joint.specs.NamedSys.{system_of};
@@ -11,7 +10,7 @@ ghost use Rattle.roman_joint.specs.Rows.{lanes_in};
 ghost use Rattle.roman_order.specs.Board.{pairs_of};
 ghost use Rattle.roman_order.specs.Events.{entries_at};
 ghost use Rattle.roman_relation.specs.Shaped.{IsShaped};
-ghost use Rattle.roman_repair.specs.Deaths.{CanRename, HasRenamed, IsPart, IsWithin, entries_from};
+ghost use Rattle.roman_repair.specs.Deaths.{AreInPart, CanRename, IsGathered, IsPart, IsWithin, Renames, entries_from, list_and};
 
 use super::gathering::{gather, push_gathered, unlisted};
 use super::states::may_go;
@@ -48,6 +47,7 @@ pub(crate) struct Leaver {
 /// Renames the entries for pairs of one part, and gathers them after the list: one for each renamed
 /// pair of which there is no entry yet. Gathers nothing where the service may not leave its state
 /// behind. The bits of `word` give the pairs, counted from `first`.
+#[tactic(auto, using(crate::proofs::DeathEntries::left_row))]
 fn rename_part(
     joint: &Joint,
     order: &mut Order,
@@ -58,17 +58,16 @@ fn rename_part(
     reason: Reason,
 )
     requires ready { CanRename joint.now leaver order.old gathered.old }
-    requires first { first < count (sizes_of (system_of joint.now)) }
-    requires pair { (i : ℕ) → is_on word i ≡ true → first + i < count (sizes_of (system_of joint.now)) }
-    requires part { (width : ℕ) × (j : ℕ) × IsPart (sizes_of (system_of joint.now)).seats leaver.k width × (first ≡ j * width) × ((i : ℕ) → is_on word i ≡ true → i < width) }
-    ensures { HasRenamed (system_of joint.now) leaver.k (entries_from first word reason) order.old order.new gathered.old gathered.new }
+    requires part { AreInPart (sizes_of (system_of joint.now)) leaver.k first word }
+    ensures list { Renames (system_of joint.now) leaver.k (entries_from first word reason) [] (list_and order.old gathered.old) (list_and order.new gathered.new) }
+    ensures gathered { IsGathered order.new gathered.new }
+    ensures rest { order.new ≡ record order.old { list = order.new.list } }
 {
-    joint.known(); // the system is well formed
     order.known(); // a row has 1 to 64 lanes
-    let shape = joint.shape();
-    if !may_go(joint, leaver.k, shape.part_of(first, leaver.k)) {
+    if !may_go(joint, leaver.k, first) {
         return;
     }
+    let shape = joint.shape();
     let left = shape.without(first, leaver.k);
     let x = left / leaver.lanes;
     let lost = (word << (left % leaver.lanes)) & unlisted(order, gathered, x);
@@ -80,13 +79,14 @@ fn rename_part(
 fn rename_row(joint: &Joint, order: &mut Order, gathered: &mut Event, leaver: Leaver, event: Event)
     requires ready { CanRename joint.now leaver order.old gathered.old }
     requires within { IsWithin (system_of joint.now) event }
-    ensures { HasRenamed (system_of joint.now) leaver.k (entries_at (lanes_in (system_of joint.now)) event) order.old order.new gathered.old gathered.new }
+    ensures list { Renames (system_of joint.now) leaver.k (entries_at (lanes_in (system_of joint.now)) event) [] (list_and order.old gathered.old) (list_and order.new gathered.new) }
+    ensures gathered { IsGathered order.new gathered.new }
+    ensures rest { order.new ≡ record order.old { list = order.new.list } }
 {
-    joint.known(); // the system is well formed
     let shape = joint.shape();
     shape.known(); // no size is 0, a pair's number fits 32 bits
     let width = part_width(shape, leaver.k);
-    let first = event.row * shape.lanes();
+    let first = event.row * joint.lanes();
     let mut left = event.lanes;
     'left: while left != 0 {
         let (i, part, rest) = first_part(left, width);
@@ -105,6 +105,7 @@ fn rename_row(joint: &Joint, order: &mut Order, gathered: &mut Event, leaver: Le
 
 /// Renames the list to the pairs without the service `k`, and shapes the order for them. Requires
 /// that no entry waits.
+#[tactic(auto, using(crate::proofs::DeathEntries::renaming))]
 pub(crate) fn rename_list(joint: &Joint, order: &mut Order, k: u8)
     requires shaped { IsShaped (numbered (system_of joint.now)) (lanes_in (system_of joint.now)) order.old }
     requires seat { k < length joint.now.seats }

@@ -8,21 +8,13 @@ use Rattle.roman_repair.proofs.dying.die.Goals as goal
 pub settle_on-requires : goal.settle_on-requires
 settle_on-requires g c =
     let n = c.args.relation.now.joint in
-    let old = c.args.relation.now.order in
-    let new = c.rename_list.new.order in
     let (seat, seated) = seat_there n c.args.k c.requires.seat in
-    let replays = relation_replays (Die c.args.k seat) n old c.known.ensures c.requires.relation c.known-2.ensures.in_range seated in
-    whole_begun (Die c.args.k seat) n c.drop_seat.new.self (remove n.seats c.args.k) old new replays tt c.requires.relation.caps c.drop_seat.ensures.seats (c.drop_seat.ensures.system seat)
-    (c.rename_list.ensures.list seat seated)
-    (subst (λ (t : Sys). IsShaped (numbered t) (lanes_in t) new) (sym (c.drop_seat.ensures.system seat)) (left_shaped (system_of n) c.args.k new c.rename_list.ensures.pairs c.rename_list.ensures.lanes))
+    let replays = relation_replays (Die c.args.k seat) n _ c.known.ensures c.requires.relation c.known-2.ensures.in_range seated in
+    whole_begun _ _ c.drop_seat.new.self (remove n.seats c.args.k) _ c.rename_list.new.order replays tt c.requires.relation.caps c.drop_seat.ensures.seats (c.drop_seat.ensures.system seat) (c.rename_list.ensures.list seat seated)
+    (subst (λ (t : Sys). IsShaped (numbered t) (lanes_in t) c.rename_list.new.order) (sym (c.drop_seat.ensures.system seat)) (left_shaped (system_of n) c.args.k _ c.rename_list.ensures.pairs c.rename_list.ensures.lanes))
     c.rename_list.ensures.caps c.rename_list.ensures.idle
 
 pub returns-clause-repaired : goal.returns-clause-repaired
 returns-clause-repaired g c seat seated =
-    let n = c.args.relation.now.joint in
-    let old = c.args.relation.now.order in
-    let new = c.rename_list.new.order in
-    let last = c.settle_on in
-    let replays = relation_replays (Die c.args.k seat) n old c.known.ensures c.requires.relation c.known-2.ensures.in_range seated in
-    repaired_from (Die c.args.k seat) n old new.list _ last.new.relation.joint last.new.relation.order last.result replays
-    (whole_replay (Die c.args.k seat) (system_of n) old.list new.list replays tt (c.rename_list.ensures.list seat seated)) (c.drop_seat.ensures.system seat) last.ensures.settled
+    let replays = relation_replays (Die c.args.k seat) _ _ c.known.ensures c.requires.relation c.known-2.ensures.in_range seated in
+    repaired_from _ _ _ _ _ _ _ _ replays (whole_replay _ _ _ _ replays tt (c.rename_list.ensures.list seat seated)) (c.drop_seat.ensures.system seat) c.settle_on.ensures.settled

@@ -1,5 +1,5 @@
 use Rattle.roman_repair.proofs.Common.{refl, sym, ◌∙◌, subst, arith, is_listed, words_rows, HasFront}
-use Rattle.roman_repair.proofs.Replayed.{dropped, in_row, lane_alive, listed, row_there, seat_in}
+use Rattle.roman_repair.proofs.Replayed.{dropped, in_row, lane_alive, listed, seat_in}
 use Rattle.roman_repair.proofs.events.keep_front.Goals as goal
 
 pub returns-then-holds : goal.returns-then-holds
@@ -36,13 +36,13 @@ returns g c =
     record { fewer = done.0; judged = done.1 }
 
 pub push_lanes-requires-clause-row : goal.push_lanes-requires-clause-row
-push_lanes-requires-clause-row g c = row_there _ _ _ _ _ c.requires c.known.ensures.numbered
+push_lanes-requires-clause-row g c = (in_row _ _ _ _ _ c.known.ensures.numbered c.requires).row
 
 pub push_lanes-requires-clause-alive : goal.push_lanes-requires-clause-alive
 push_lanes-requires-clause-alive g c lane on = lane_alive _ _ _ _ _ lane c.requires c.known.ensures.lanes.1 (c.first_alike-front.ensures.in_front lane on)
 
 pub push_lanes-requires-then-holds-2-clause-row : goal.push_lanes-requires-then-holds-2-clause-row
-push_lanes-requires-then-holds-2-clause-row g c = row_there _ _ _ _ _ c.requires c.known.ensures.numbered
+push_lanes-requires-then-holds-2-clause-row g c = (in_row _ _ _ _ _ c.known.ensures.numbered c.requires).row
 
 pub push_lanes-requires-then-holds-2-clause-alive : goal.push_lanes-requires-then-holds-2-clause-alive
 push_lanes-requires-then-holds-2-clause-alive g c lane on = lane_alive _ _ _ _ _ lane c.requires c.known.ensures.lanes.1 (c.first_alike-front-2.ensures.in_front lane on)

@@ -6,17 +6,11 @@ use Rattle.roman_repair.proofs.freezing.freeze.Goals as goal
 pub settle_on-requires : goal.settle_on-requires
 settle_on-requires g c =
     let n = c.args.relation.now.joint in
-    let old = c.args.relation.now.order in
-    let replays = relation_replays (Freeze c.args.k) n old c.known.ensures c.requires.relation c.known-2.ensures.in_range
-    (ready_there (system_of n).seats c.args.k c.requires.ready) in
-    whole_begun (Freeze c.args.k) n c.set_frozen.new.self (with_frozen n.seats c.args.k true) old old replays tt c.requires.relation.caps c.set_frozen.ensures.seats c.set_frozen.ensures.system refl
-    (subst (λ (t : Sys). IsShaped (numbered t) (lanes_in t) old) (sym c.set_frozen.ensures.system) (shaped_turned (system_of n) c.args.k true old c.requires.relation.shaped)) refl
-    c.requires.relation.complete.idle
+    let replays = relation_replays (Freeze c.args.k) n _ c.known.ensures c.requires.relation c.known-2.ensures.in_range (ready_there _ _ c.requires.ready) in
+    whole_begun _ _ c.set_frozen.new.self (with_frozen n.seats c.args.k true) _ c.args.relation.now.order replays tt c.requires.relation.caps c.set_frozen.ensures.seats c.set_frozen.ensures.system refl
+    (subst (λ (t : Sys). IsShaped (numbered t) (lanes_in t) c.args.relation.now.order) (sym c.set_frozen.ensures.system) (shaped_turned (system_of n) c.args.k true _ c.requires.relation.shaped)) refl c.requires.relation.complete.idle
 
 pub returns-clause-repaired : goal.returns-clause-repaired
 returns-clause-repaired g c =
-    let n = c.args.relation.now.joint in
-    let old = c.args.relation.now.order in
-    let replays = relation_replays _ _ _ c.known.ensures c.requires.relation c.known-2.ensures.in_range
-    (ready_there _ _ c.requires.ready) in
+    let replays = relation_replays _ _ _ c.known.ensures c.requires.relation c.known-2.ensures.in_range (ready_there _ _ c.requires.ready) in
     repaired_from _ _ _ _ _ _ _ _ replays (whole_replay _ _ _ _ replays tt refl) c.set_frozen.ensures.system c.settle_on.ensures.settled

@@ -1,21 +1,21 @@
-use Rattle.roman_repair.proofs.Common.{◌≤◌, sym, subst, arith, low_of, IsPart, stride_of}
-use Rattle.roman_repair.proofs.DeathParts.{part_before, part_within, part_few}
+use Rattle.roman_repair.proofs.Common.{◌+◌, ◌≤◌, sym, subst, arith, low_of, IsPart, stride_of}
+use Rattle.roman_repair.proofs.DeathParts.{part_from, part_few}
 use Rattle.roman_repair.proofs.dying.renaming.part_width.Goals as goal
 
 pub returns-then-k-low-clause-part : goal.returns-then-k-low-clause-part
 returns-then-k-low-clause-part c =
     let n = c.args.shape.now in
-    subst (IsPart n.seats c.args.k) (sym c.lanes.ensures.value) (part_before n.seats c.args.k c.known.ensures.seats (omega (arith, c.if-k-low.true, c.low.ensures.value)))
+    subst (IsPart n.seats c.args.k) (sym c.lanes.ensures.value) (part_from n.seats c.args.k (low_of n.seats) c.known.ensures.seats (omega (arith, c.if-k-low.true, c.low.ensures.value)) c.requires (omega arith))
 
 pub returns-clause-part : goal.returns-clause-part
 returns-clause-part c =
     let n = c.args.shape.now in
     let past : low_of n.seats ≤ c.args.k = omega (arith, c.if-k-low.false, c.low.ensures.value) in
-    subst (IsPart n.seats c.args.k) (sym c.stride.ensures) (part_within n.seats c.args.k c.known.ensures.seats past c.requires)
+    subst (IsPart n.seats c.args.k) (sym c.stride.ensures) (part_from n.seats c.args.k (c.args.k + 1) c.known.ensures.seats (omega arith) c.requires (omega (arith, past)))
 
 pub returns-clause-few : goal.returns-clause-few
 returns-clause-few c =
     let n = c.args.shape.now in
     let past : low_of n.seats ≤ c.args.k = omega (arith, c.if-k-low.false, c.low.ensures.value) in
-    let few = part_few n.seats c.args.k (stride_of n c.args.k) c.known.ensures.seats (part_within n.seats c.args.k c.known.ensures.seats past c.requires) in
+    let few = part_few n.seats c.args.k (stride_of n c.args.k) c.known.ensures.seats (part_from n.seats c.args.k (c.args.k + 1) c.known.ensures.seats (omega arith) c.requires (omega (arith, past))) in
     (omega (arith, few.0, c.stride.ensures), omega (arith, few.1, c.stride.ensures))
