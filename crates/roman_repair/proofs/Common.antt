@@ -42,7 +42,6 @@ pub use Rattle.roman_radix.specs.Radix.{AreSizes, IsSizes, stride_of}
 pub use Rattle.roman_radix.specs.Rows.{lanes_of, low_of}
 pub use Rattle.roman_relation.proofs.CallerLemmas.{listed_numbers, room_for_pairs, words_rows}
 pub use Rattle.roman_relation.specs.Greatest.{HasCaps, IsRelation, arena_of}
-pub use Rattle.roman_relation.specs.Settled.{Begins}
 pub use Rattle.roman_relation.specs.Shaped.{IsShaped}
 pub use Rattle.roman_relation.specs.declared.relation.Relation.{Relation}
 pub use Rattle.roman_rules.proofs.CallerLemmas.{count_below_more, readings_of-allowed}
@@ -54,7 +53,7 @@ pub use Rattle.roman_repair.specs.Deaths.{AreInPart, GathersTo, IsGathered, IsPa
 pub use Rattle.roman_repair.specs.Growing.{CanGrow, CanReadmit, HasReplayedAll, IsGrown, entries_grown, list_grown, replay_grown}
 pub use Rattle.roman_repair.specs.Judging.{CanReplay, CanReplayEvent, GoesOnTo, HasJudged, Replays}
 pub use Rattle.roman_repair.specs.Lanes.{HasFront, HasLanesBetween, IsCutAt, IsFirstPart, IsSpread}
-pub use Rattle.roman_repair.specs.Repairs.{GoesOnFromReplay, IsBegun, IsRepaired, IsSettledOn}
+pub use Rattle.roman_repair.specs.Repairs.{IsBegun, IsRepaired, IsSettledOn}
 pub use Rattle.roman_repair.specs.Replays.{AreCandidates, AreSlices, candidates, is_possible, readings_of_entries, with_replay}
 pub use Rattle.roman_repair.specs.declared.asked_band.AskedBand.{AskedBand}
 pub use Rattle.roman_repair.specs.declared.replaying.Newcomer.{Newcomer}

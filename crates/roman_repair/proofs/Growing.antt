@@ -57,19 +57,16 @@ pub record IsSliced (n lanes states slices many : ℕ) : Type 0 where
   pub few : slices ≤ 64
   pub fits : slices * states ≤ 64
 
-slices_are : (n lanes states : ℕ) → AreSlices n lanes states → 0 < n → n ≤ 64 → IsSliced n lanes states (n / states) (lanes / (n / states))
-slices_are n lanes states is some few =
+-- as they are computed
+pub sliced : (n lanes states row width : ℕ) → row ≡ n → width ≡ states → AreSlices n lanes states → 0 < n → n ≤ 64 → IsSliced n lanes states (row / width) (lanes / (row / width))
+sliced n lanes states row width same wide is some few =
     let (m, whole, d, parts) = is.slices in
     let (pos, states_pos) = positive m states (omega (arith, some, whole)) in
     let less : m * 1 ≤ m * states = mul-le-mul_left m states_pos in
-    let slices : n / states ≡ m = (let same : m * states ≡ m * states + 0 = omega arith in ap (λ k. k / states) (whole ∙ same) ∙ div-mul-add m states 0 states_pos) in
-    let many : lanes / (n / states) ≡ d = (let same : d * m ≡ d * m + 0 = omega arith in ap₂ (λ a b. a / b) (parts ∙ same) slices ∙ div-mul-add d m 0 pos) in
-    subst (λ s. IsSliced n lanes states s (lanes / (n / states))) (sym slices) (subst (IsSliced n lanes states m) (sym many)
+    let slices : row / width ≡ m = grind (arith, (div-mul-add m states 0 states_pos)) in
+    let many : lanes / (row / width) ≡ d = grind (arith, slices, (div-mul-add d m 0 pos)) in
+    subst (λ s. IsSliced n lanes states s (lanes / (row / width))) (sym slices) (subst (IsSliced n lanes states m) (sym many)
     (record { whole = whole; parts = parts; some_states = states_pos; some = pos; few = omega (arith, less, whole, few); fits = omega (arith, whole, few) }))
-
--- as they are computed
-pub sliced : (n lanes states row width : ℕ) → row ≡ n → width ≡ states → AreSlices n lanes states → 0 < n → n ≤ 64 → IsSliced n lanes states (row / width) (lanes / (row / width))
-sliced n lanes states row width same wide is some few = subst (λ k. IsSliced n lanes states k (lanes / k)) (sym (ap₂ (λ a b. a / b) same wide)) (slices_are n lanes states is some few)
 
 -- rows that stay as they are
 pub same_slices : (row lanes : ℕ) → row ≡ lanes → lanes ≤ 64 → AreSlices row lanes 1

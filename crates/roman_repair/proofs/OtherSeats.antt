@@ -1,5 +1,5 @@
 -- After a thaw or a join each entry of the old list would be kept if the changed seat had no outcomes.
-use Rattle.roman_repair.proofs.Common.{◌≡◌, ℕ, zero, suc, ◌+◌, ◌*◌, ◌%◌, ◌<◌, ◌==◌, Bool, true, false, not, ◌&&◌, ◌||◌, List, [], ◌∷◌, ◌++◌, map, flat_map, length, Some, IsTrue, IsFalse, if◌then◌else◌, slice_get, slice_index, inl, inr, refl, sym, ap, ◌∙◌, subst, arith, append-nil, append_assoc, both_ways, eqb-true, or_left, and_from, and_parts, eq-eqb, or_cases, or_right, IsIn, below, product_of, all_below, is_empty, Arena, Entry, IsOrder, is_listed, is_justified, is_among, IsOrderFrom, Reason, Final, Act, length-map, length_push, get_or_append_left, set-append_left, Sys, Seat, IsSys, is_final, Pair, all_final, Sizes, sizes_of, count, pair_at, numbered, number, turned, sizes-turned, in_map, from_map, AreNumbers, in_below, justified_more, listed_append, map-map, all_below_from, any_from, any_true, by_test, from_below, justified_is, number_allows-turned, pair_at-grown, sizes-joined, IsPairOf-from, is_fine-turned, length-set_frozen, length-states_at, number-grown, numbers_are_pairs, outcome_pair, moved_named, outcomes-turned, grown_numbers, NamedSys, system_of, IsNamedSys, Board, pairs_of, has_entry, IsRelation, listed_numbers, list_any, is_ready, is_fine, outcomes, outcomes_by, seat_next, without_seat, MayAskAlone, AreKept, slice_get-get_or, grown, set_frozen}
+use Rattle.roman_repair.proofs.Common.{◌≡◌, ℕ, zero, suc, ◌+◌, ◌*◌, ◌%◌, ◌<◌, ◌==◌, Bool, true, false, not, ◌&&◌, ◌||◌, List, [], ◌∷◌, ◌++◌, map, flat_map, length, Some, IsTrue, IsFalse, if◌then◌else◌, slice_get, slice_index, inl, inr, refl, sym, ap, ◌∙◌, subst, arith, append-nil, append_assoc, both_ways, eqb-true, or_left, and_from, and_parts, eq-eqb, or_cases, or_right, IsIn, below, product_of, all_below, is_empty, Arena, Entry, is_listed, is_justified, is_among, IsOrderFrom, Reason, Final, Act, length-map, length_push, get_or_append_left, set-append_left, Sys, Seat, IsSys, is_final, Pair, all_final, Sizes, sizes_of, count, pair_at, numbered, number, turned, sizes-turned, in_map, from_map, AreNumbers, in_below, justified_more, listed_append, map-map, all_below_from, any_from, any_true, by_test, from_below, justified_is, number_allows-turned, pair_at-grown, sizes-joined, IsPairOf-from, is_fine-turned, length-set_frozen, length-states_at, number-grown, numbers_are_pairs, outcome_pair, moved_named, outcomes-turned, grown_numbers, NamedSys, system_of, IsNamedSys, Board, pairs_of, has_entry, IsRelation, listed_numbers, list_any, is_ready, is_fine, outcomes, outcomes_by, seat_next, without_seat, MayAskAlone, AreKept, slice_get-get_or, grown, set_frozen}
 use Rattle.roman_repair.proofs.Repairing.{numbers_order}
 use Rattle.roman_repair.proofs.Joined.{map_as, possible-joined}
 
@@ -73,9 +73,12 @@ carried_kept s t k m over before kept (x ∷ L) are carry order =
       | inr rest ↦ or_left (is_listed (numbered t) kept (q * m + b)) (is_listed (numbered t) (grown_numbers m x) (q * m + b)) (carry q b h rest)
     ]
 
-pub order_kept : (s t : Sys) (k m : ℕ) → CarriesOver s t k m → (L : List (Entry ℕ)) → ((x : Entry ℕ) → IsIn x L → x.node < count (sizes_of s)) → IsOrder (numbered s) L →
-    AreKept (without_seat (numbered t) k) [] (flat_map (grown_numbers m) L)
-order_kept s t k m over L are order = carried_kept s t k m over [] [] L are (λ q b h none. none) order
+-- and so each that the list of a relation stands for
+relation_kept : (joint : NamedSys) (old : Board) (t : Sys) (k m : ℕ) → IsNamedSys joint → IsRelation joint old → ((p : ℕ) → has_entry old.list p ≡ true → p < pairs_of old) → CarriesOver (system_of joint) t k m →
+    AreKept (without_seat (numbered t) k) [] (flat_map (grown_numbers m) old.list)
+relation_kept joint old t k m known relation in_range over =
+    let are : AreNumbers (system_of joint) old.list = listed_numbers (system_of joint) old relation.shaped.pairs in_range in
+    carried_kept (system_of joint) t k m over [] [] old.list are (λ q b h none. none) (numbers_order (system_of joint) old.list known.system are relation.complete.list)
 
 -- ---- a thaw
 
@@ -173,13 +176,11 @@ pub thaw_alone : (joint : NamedSys) (old : Board) (k : ℕ) → IsNamedSys joint
     MayAskAlone (numbered (turned (system_of joint) k false)) (Some k) [] (flat_map (grown_numbers 1) old.list)
 thaw_alone joint old k known relation in_range l =
     let s = system_of joint in
-    let are : AreNumbers s old.list = listed_numbers s old relation.shaped.pairs in_range in
-    (subst (λ n. k < n) (sym (length-set_frozen s.seats k false)) l, thawed_ready s.seats k l, order_kept s (turned s k false) k 1 (thaw_carries s k) old.list are (numbers_order s old.list known.system are relation.complete.list))
+    (subst (λ n. k < n) (sym (length-set_frozen s.seats k false)) l, thawed_ready s.seats k l, relation_kept joint old (turned s k false) k 1 known relation in_range (thaw_carries s k))
 
 pub join_alone : (joint : NamedSys) (old : Board) (seat : Seat) → IsNamedSys joint → IsRelation joint old → ((p : ℕ) → has_entry old.list p ≡ true → p < pairs_of old) → IsFalse seat.frozen →
     MayAskAlone (numbered (with_last (system_of joint) seat)) (Some (length (system_of joint).seats)) [] (flat_map (grown_numbers seat.beh.states) old.list)
 join_alone joint old seat known relation in_range thawed =
     let s = system_of joint in
-    let are : AreNumbers s old.list = listed_numbers s old relation.shaped.pairs in_range in
     let more : length (s.seats ++ seat ∷ []) ≡ length s.seats + 1 = length_push s.seats seat in
-    (omega (arith, more), last_ready s.seats seat thawed, order_kept s (with_last s seat) (length s.seats) seat.beh.states (join_carries s seat known.system) old.list are (numbers_order s old.list known.system are relation.complete.list))
+    (omega (arith, more), last_ready s.seats seat thawed, relation_kept joint old (with_last s seat) (length s.seats) seat.beh.states known relation in_range (join_carries s seat known.system))

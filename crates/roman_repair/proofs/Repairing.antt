@@ -1,15 +1,10 @@
 -- The end of a repair, in numbers of pairs.
-use Rattle.roman_repair.proofs.Common.{◌≡◌, ℕ, ◌+◌, ◌<◌, true, List, [], length, ap, ◌∙◌, arith, length-map, take-map, Sys, IsSys, Entry, IsOrder, replay, Change, after, CanChange, sizes_of, pair_at, numbered, IsCompleteList, rename_numbers, NumbersReplay, AreNumbers, order_named, numbers_replay, IsNumber, numbers_rename, NamedSys, system_of, IsNamedSys, Board, pairs_of, has_entry, HasCaps, IsRelation, listed_numbers, Tally, IsRepaired, IsSettledOn, GoesOnFromReplay, arena, Begins}
+use Rattle.roman_repair.proofs.Common.{◌≡◌, ℕ, ◌+◌, ◌<◌, true, List, [], ap, ◌∙◌, arith, length-map, take-map, Sys, IsSys, Entry, IsOrder, replay, Change, after, CanChange, sizes_of, pair_at, numbered, IsCompleteList, rename_numbers, NumbersReplay, AreNumbers, order_named, numbers_replay, IsNumber, numbers_rename, NamedSys, system_of, IsNamedSys, Board, pairs_of, has_entry, HasCaps, IsRelation, listed_numbers, Tally, IsRepaired, IsSettledOn, arena}
 use Rattle.roman_joint.specs.declared.seat.Seat.{Seat}
 
 -- the replay of the renamed old list, in numbers
 abbrev pub numbers_replayed : Change → Sys → List (Entry ℕ) → List (Entry ℕ)
 numbers_replayed change s old = replay (numbered (after change s)) (rename_numbers change (sizes_of s) old)
-
--- a list that begins with that replay
-pub goes_on_from : (change : Change) (s : Sys) (old start new : List (Entry ℕ)) (tally : Tally) → NumbersReplay change s old → start ≡ numbers_replayed change s old → Begins start new →
-    tally.kept ≡ length start → tally.kept + tally.added ≡ length new → GoesOnFromReplay change s old new tally
-goes_on_from change s old start new tally replays is begins kept added = grind (arith, length-map, take-map)
 
 -- a complete list is an order of the numbers
 pub numbers_order : (s : Sys) (L : List (Entry ℕ)) → IsSys s → AreNumbers s L → IsCompleteList s L → IsOrder (numbered s) L
@@ -29,7 +24,7 @@ pub repaired_from : (change : Change) (old_joint : NamedSys) (old : Board) (star
 repaired_from change old_joint old start mid joint new tally replays is system settled = record {
   system = ap system_of settled.joint ∙ system;
   relation = settled.relation;
-  list = goes_on_from change (system_of old_joint) old.list start new.list tally replays is settled.begins settled.kept settled.added;
+  list = grind (arith, length-map, take-map);
 }
 
 -- an order keeps its room where only the seats of the joint change

@@ -15,6 +15,7 @@ fn cut_at(word: u64, end: u32) -> (u64, u64)
 
 /// Splits off the first lanes of `word` that `held` has too if it has the first one, and else those that it
 /// doesn't have. Returns them, the other lanes, and whether `held` has them. Requires a lane.
+#[tactic(auto, using(crate::proofs::Fronts::first_low, crate::proofs::Fronts::held_front, crate::proofs::Fronts::other_front))]
 pub(crate) fn first_alike(word: u64, held: u64) -> (u64, u64, bool)
     requires { 0 < length (set_lanes word) }
     ensures { HasFront word held result.0 result.1 result.2 }
