@@ -144,6 +144,7 @@ alike_front word held mask holds fits some off same = (
     ];
     in_front = cut.in_front;
     in_rest = cut.in_rest;
+    fits = cut.fits;
   },
 )
   where

@@ -3,7 +3,7 @@ use Rattle.roman_repair.proofs.Common.{Bool, ◌≡◌, ℕ, zero, suc, ◌+◌,
 use Rattle.roman_repair.proofs.Waiting.{grown_by_one}
 use Rattle.roman_repair.proofs.Joined.{positive, grown_part}
 use Rattle.roman_repair.proofs.Replayed.{replayed_on}
-use Rattle.roman_repair.proofs.Fronts.{filter_alike, filter_split, has_some, lanes_below, none_so_far, not_twice, part_entries, some_in}
+use Rattle.roman_repair.proofs.Fronts.{filter_alike, filter_split, has_some, lanes_below, not_twice, part_entries, some_in}
 
 -- ---- spread lanes
 
@@ -17,8 +17,7 @@ spread_list word spread lanes width few is =
     sym (lanes_below spread (lanes * width) few (λ bit on. elim (cases_lt bit (lanes * width)) [ inl l ↦ l | inr past ↦ absurd (both_ways (is_on spread bit) (is.past bit past) on) ])) ∙ blocks lanes is.each
   where
     block : (m : ℕ) (b : Bool) → ((i : ℕ) → i < width → is_on spread (m * width + i) ≡ b) → map (λ i. m * width + i) (filter (λ i. is_on spread (m * width + i)) (below width)) ≡ flat_map (λ lane. map (λ i. lane * width + i) (below width)) (cond b (m ∷ []) [])
-    block m true same = ap (map (λ i. m * width + i)) (filter_alike (λ i. is_on spread (m * width + i)) true (below width) (λ i j. same i (from_below width i j))) ∙ sym (append-nil (map (λ i. m * width + i) (below width)))
-    block m false same = ap (map (λ i. m * width + i)) (none_so_far (λ i. is_on spread (m * width + i)) width same)
+    block m b same = grind (arith, append-nil, (filter_alike (λ i. is_on spread (m * width + i)) b (below width) (λ i j. same i (from_below width i j))))
 
     blocks : (m : ℕ) → ((lane i : ℕ) → lane < m → i < width → is_on spread (lane * width + i) ≡ is_on word lane) → filter (is_on spread) (below (m * width)) ≡ spread_below word m width
     blocks zero each = (let none : 0 * width ≡ 0 = omega arith in ap (λ n. filter (is_on spread) (below n)) none)

@@ -40,13 +40,10 @@ carried_justified s t k m over p b l h gone lost carry (Act a) j =
     let B = without_seat (numbered t) k in
     let blank : ℕ → Bool → Bool = λ i none. is_empty (if none then [] else (numbered t).outcomes (p * m + b) a i) || list_any lost (if none then [] else (numbered t).outcomes (p * m + b) a i) in
     and_from (B.allows (p * m + b) a) (all_below (λ i. blank i (i == k)) B.seats) (over.allows p b a l h allowed)
-    (all_below_from (λ i. blank i (i == k)) B.seats (λ i below_i. by_test (i == k)
-    (λ same. subst (λ none. IsTrue (blank i none)) (sym same) refl)
+    (all_below_from (λ i. blank i (i == k)) B.seats (λ i inner. by_test (i == k) (λ same. grind (arith, same))
     (λ other.
     let ne : i ≡ k → ⊥ = λ e. both_ways (i == k) other (eq-eqb i k e) in
-    subst (λ none. IsTrue (blank i none)) (sym other)
-    (subst (λ qs. IsTrue (is_empty qs || list_any lost qs)) (sym (over.outcomes p b a i l h below_i ne))
-    (beaten_map (λ q. q * m + b) gone lost ((numbered s).outcomes p a i) carry (each i (over.seat i below_i ne)))))))
+    grind (arith, other, (over.outcomes p b a i l h inner ne), (beaten_map (λ q. q * m + b) gone lost ((numbered s).outcomes p a i) carry (each i (over.seat i inner ne)))))))
 
 -- each entry that a removal list of the old system stands for would be kept
 carried_kept : (s t : Sys) (k m : ℕ) → CarriesOver s t k m → (before : List ℕ) (kept L : List (Entry ℕ)) → ((x : Entry ℕ) → IsIn x L → x.node < count (sizes_of s)) →

@@ -47,10 +47,3 @@ join_readmits n joint order seat newcomer known relation in_range new_known syst
         valid = replays.order;
       };
     })
-
--- newcomers with the same fields
-abbrev pub IsSame : Newcomer → Newcomer → Type 0
-IsSame m n = m ≡ n
-
-pub same_newcomer : (k j states size lanes wide : ℕ) → k ≡ j → states ≡ size → lanes ≡ wide → IsSame (record { k = k; states = states; lanes = lanes }) (record { k = j; states = size; lanes = wide })
-same_newcomer k j states size lanes wide place count row = λ i. record { k = place i; states = count i; lanes = row i }

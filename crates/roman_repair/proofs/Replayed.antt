@@ -1,5 +1,5 @@
 -- Replays that go on, and the replay of an event lane by lane.
-use Rattle.roman_repair.proofs.Common.{◌≡◌, ℕ, zero, suc, ◌+◌, ◌*◌, ◌<◌, ◌≤◌, ◌==◌, Bool, true, false, if◌then◌else◌, ◌||◌, List, [], ◌∷◌, ◌++◌, map, length, Option, None, Some, IsTrue, IsFalse, count_by, inl, inr, refl, sym, ap, ◌∙◌, subst, arith, append-nil, append_assoc, add-one, length-append, both_ways, and_from, eqb-true, false_from_ne_true, cases_eq, cases_lt, false≢true, mul-le-mul_left, map-append, sum_by-cons, sum_by-append, IsIn, below, all_below, is_empty, list_any, Arena, Entry, is_listed, is_justified, is_beaten, Reason, Final, Act, all_below_from, by_test, justified_is, in_append_left, in_map, from_map, is_on, readings_of_reason, IsReasonOf, readings_of-allowed, count_below_more, IsNumbered, Board, as_entry, has_entry, set_lanes, entries_in, set_lanes-zero, in_lanes, entries_at, Event, IsShaped, HoldsInBand, is_possible, AreCandidates, with_replay, readings_of_entries, MayAskAlone, passes, without_seat, IsSeatOf, questions_of, CanReplay, CanReplayEvent, GoesOnTo, Replays, HasJudged, HasFront, AskedBand}
+use Rattle.roman_repair.proofs.Common.{◌≡◌, ◌≢◌, ℕ, zero, suc, ◌+◌, ◌*◌, ◌<◌, ◌≤◌, ◌==◌, Bool, true, false, if◌then◌else◌, ◌||◌, List, [], ◌∷◌, ◌++◌, map, length, Option, None, Some, IsTrue, IsFalse, count_by, inl, inr, refl, sym, ap, ◌∙◌, subst, arith, append-nil, append_assoc, add-one, length-append, some_lane, set_lanes-zero, in_lanes, both_ways, and_from, eqb-true, false_from_ne_true, cases_eq, cases_lt, false≢true, mul-le-mul_left, map-append, sum_by-cons, sum_by-append, IsIn, below, all_below, is_empty, list_any, Arena, Entry, is_listed, is_justified, is_beaten, Reason, Final, Act, all_below_from, by_test, justified_is, in_append_left, in_map, from_map, is_on, readings_of_reason, IsReasonOf, readings_of-allowed, count_below_more, IsNumbered, Board, as_entry, has_entry, set_lanes, entries_in, entries_at, Event, IsShaped, HoldsInBand, is_possible, AreCandidates, with_replay, readings_of_entries, MayAskAlone, passes, without_seat, IsSeatOf, questions_of, CanReplay, CanReplayEvent, GoesOnTo, Replays, HasJudged, HasFront, AskedBand}
 use Rattle.roman_repair.proofs.BandAnswers.{known_more, listed_more, passes_more}
 use Rattle.roman_repair.proofs.Keeping.{candidates_step, possible_reason, with_one, with_replay_step}
 use Rattle.roman_repair.proofs.Fronts.{on_in, some_in}
@@ -140,6 +140,7 @@ judged : (A : Arena ℕ) (n rest front held : ℕ) (holds : Bool) (e : Event) (o
 judged A n rest front held holds e old new asked now before after split step cost is = (
   omega (arith, ap length split.parts, length-append (set_lanes front) (set_lanes rest), split.some),
   record {
+    some = λ ne. some_lane rest ne split.fits;
     within = split.in_rest;
     rest = is;
     replayed = record {
@@ -196,21 +197,22 @@ dropped A n rest front held e old asked now before after can split each all know
 
 -- what the remaining lanes stand for can be replayed
 pub judge_rest : (A : Arena ℕ) (row lanes : ℕ) (entries : Event → List (Entry ℕ)) (left : ℕ) (e : Event) (old new : Board) (asked now : AskedBand) (before after : ℕ) → CanReplayEvent A row lanes entries old asked e → HasJudged A row entries e left old new asked now before after →
-    0 < length (set_lanes left) → CanReplayEvent A row lanes entries new now (record e { lanes = left })
-judge_rest A row lanes entries left e old new asked now before after can is some = record {
+    left ≢ 0 → CanReplayEvent A row lanes entries new now (record e { lanes = left })
+judge_rest A row lanes entries left e old new asked now before after can is ne = record {
   shaped = subst (IsShaped A row) (sym is.rest) (record { pairs = can.shaped.pairs; lanes = can.shaped.lanes });
-  event = record { some = some; within = λ lane on. can.event.within lane (is.within lane on) };
+  event = record { some = is.some ne; within = λ lane on. can.event.within lane (is.within lane on) };
   ready = (let (N, ready) = can.ready in (N, (is.replayed.goes_on N ready).can));
 }
 
 -- nothing was judged yet
-pub judged_none : (A : Arena ℕ) (row : ℕ) (entries : Event → List (Entry ℕ)) (e : Event) (order : Board) (asked : AskedBand) (steps : ℕ) → HasJudged A row entries e e.lanes order order asked asked steps steps
-judged_none A row entries e order asked steps = record { within = λ lane on. on; replayed = replays_none A row (entries e) order.list asked steps; rest = refl }
+pub judged_none : (A : Arena ℕ) (row : ℕ) (entries : Event → List (Entry ℕ)) (e : Event) (order : Board) (asked : AskedBand) (steps : ℕ) → 0 < length (set_lanes e.lanes) → HasJudged A row entries e e.lanes order order asked asked steps steps
+judged_none A row entries e order asked steps some = record { some = λ ne. some; within = λ lane on. on; replayed = replays_none A row (entries e) order.list asked steps; rest = refl }
 
 -- more lanes were judged
 pub judged_on : (A : Arena ℕ) (row : ℕ) (entries : Event → List (Entry ℕ)) (left rest : ℕ) (e : Event) (old mid new : Board) (asked on now : AskedBand) (before between after : ℕ) → HasJudged A row entries e left old mid asked on before between →
     HasJudged A row entries (record e { lanes = left }) rest mid new on now between after → HasJudged A row entries e rest old new asked now before after
 judged_on A row entries left rest e old mid new asked on now before between after first second = record {
+  some = second.some;
   within = λ lane at. first.within lane (second.within lane at);
   replayed = replays_both A row _ _ _ old.list mid.list new.list asked on now before between after first.replayed second.replayed;
   rest = second.rest ∙ ap (λ (b : Board). record b { list = new.list }) first.rest;

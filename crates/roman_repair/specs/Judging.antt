@@ -1,8 +1,8 @@
 -- What a replay has before it, and how it goes on.
-use Rattle.std.specs.Prelude.{◌≡◌, ℕ, ◌+◌, ◌≤◌, true, List, ◌++◌}
+use Rattle.std.specs.Prelude.{◌≡◌, ◌≢◌, ℕ, ◌+◌, ◌<◌, ◌≤◌, true, List, ◌++◌, length}
 use Rattle.roman_lanes.specs.Rows.{is_on}
 use Rattle.roman_model.specs.Arena.{Arena, Entry, is_listed}
-use Rattle.roman_order.specs.Board.{Board}
+use Rattle.roman_order.specs.Board.{Board, set_lanes}
 use Rattle.roman_order.specs.Events.{IsEvent}
 use Rattle.roman_order.specs.declared.event.Event.{Event}
 use Rattle.roman_relation.specs.Shaped.{IsShaped}
@@ -35,6 +35,7 @@ pub record CanReplayEvent (A : Arena ℕ) (row lanes : ℕ) (entries : Event →
 
 -- what an event stands for was replayed, up to its lanes `left`
 pub record HasJudged (A : Arena ℕ) (row : ℕ) (entries : Event → List (Entry ℕ)) (e : Event) (left : ℕ) (old new : Board) (asked on : AskedBand) (before after : ℕ) : Type 0 where
+  pub some : left ≢ 0 → 0 < length (set_lanes left)
   pub within : (lane : ℕ) → is_on left lane ≡ true → is_on e.lanes lane ≡ true
   pub replayed : Replays A row (entries e) (entries (record e { lanes = left })) old.list new.list asked on before after
   pub rest : new ≡ record old { list = new.list }

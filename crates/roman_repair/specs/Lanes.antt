@@ -19,6 +19,7 @@ pub record HasFront (word held front rest : ℕ) (holds : Bool) : Type 0 where
   pub alike : (lane : ℕ) → is_on front lane ≡ true → is_on held lane ≡ holds
   pub in_front : (lane : ℕ) → is_on front lane ≡ true → is_on word lane ≡ true
   pub in_rest : (lane : ℕ) → is_on rest lane ≡ true → is_on word lane ≡ true
+  pub fits : rest < 2 ^ 64
 
 -- the lanes of part i, counted from its first one, and those of the parts after it, where the parts before it have none
 pub record IsFirstPart (word width i part rest : ℕ) : Type 0 where

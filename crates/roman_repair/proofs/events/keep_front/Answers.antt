@@ -1,13 +1,12 @@
-use Rattle.roman_repair.proofs.Common.{refl, sym, ◌∙◌, subst, arith, is_listed, words_rows, HasFront}
+use Rattle.roman_repair.proofs.Common.{refl, sym, ◌∙◌, subst, arith, words_rows, HasFront}
 use Rattle.roman_repair.proofs.Replayed.{dropped, in_row, lane_alive, listed, seat_in}
 use Rattle.roman_repair.proofs.events.keep_front.Goals as goal
 
 pub returns-then-holds : goal.returns-then-holds
 returns-then-holds g c =
-    let A = g.J.Rules.arena c.args.joint.now in
     let known = c.requires.ready.1.known in
-    let done = listed A (g.J.Rules.lanes c.args.joint.now) _ _ _ c.args.event c.args.order.now _ _ _ _ _ c.requires (subst (HasFront _ _ _ _) c.if-holds.true c.first_alike-front.ensures)
-    (c.known_at-known.ensures A _ (is_listed A c.args.order.now.list) known).each refl known (λ lane l possible. omega arith) c.push_lanes.ensures in
+    let done = listed _ (g.J.Rules.lanes c.args.joint.now) _ _ _ c.args.event c.args.order.now _ _ _ _ _ c.requires (subst (HasFront _ _ _ _) c.if-holds.true c.first_alike-front.ensures)
+    (c.known_at-known.ensures _ _ _ known).each refl known (λ lane l possible. omega arith) c.push_lanes.ensures in
     record { fewer = done.0; judged = done.1 }
 
 pub ask-held-requires : goal.ask-held-requires
@@ -17,22 +16,18 @@ ask-held-requires g c =
 
 pub returns-then-holds-2 : goal.returns-then-holds-2
 returns-then-holds-2 g c =
-    let A = g.J.Rules.arena c.args.joint.now in
-    let L = c.args.order.now.list in
     let held = c.ask-held.ensures in
-    let rows = words_rows A c.known.ensures.numbered _ c.args.order.now c.words.result.now c.requires.shaped c.words.ensures.alive in
-    let done = listed A (g.J.Rules.lanes c.args.joint.now) _ _ _ c.args.event c.args.order.now _ _ _ _ _ c.requires (subst (HasFront _ _ _ _) c.if-holds-2.true c.first_alike-front-2.ensures)
-    (λ lane l on. sym (held.holds (is_listed A L) rows lane l) ∙ on) held.alone (held.known (is_listed A L) rows c.requires.ready.1.known) (λ lane l possible. omega (arith, held.cost lane l possible)) c.push_lanes-then-holds-2.ensures in
+    let rows = words_rows _ c.known.ensures.numbered _ c.args.order.now c.words.result.now c.requires.shaped c.words.ensures.alive in
+    let done = listed _ (g.J.Rules.lanes c.args.joint.now) _ _ _ c.args.event c.args.order.now _ _ _ _ _ c.requires (subst (HasFront _ _ _ _) c.if-holds-2.true c.first_alike-front-2.ensures)
+    (λ lane l on. sym (held.holds _ rows lane l) ∙ on) held.alone (held.known _ rows c.requires.ready.1.known) (λ lane l possible. omega (arith, held.cost lane l possible)) c.push_lanes-then-holds-2.ensures in
     record { fewer = done.0; judged = done.1 }
 
 pub returns : goal.returns
 returns g c =
-    let A = g.J.Rules.arena c.args.joint.now in
-    let L = c.args.order.now.list in
     let held = c.ask-held.ensures in
-    let rows = words_rows A c.known.ensures.numbered _ c.args.order.now c.words.result.now c.requires.shaped c.words.ensures.alive in
-    let done = dropped A (g.J.Rules.lanes c.args.joint.now) _ _ _ c.args.event c.args.order.now _ _ _ _ c.requires (subst (HasFront _ _ _ _) c.if-holds-2.false c.first_alike-front-2.ensures) (held.holds (is_listed A L) rows) c.ask_all.ensures.alone
-    (c.ask_all.ensures.known A _ (is_listed A L) (held.known (is_listed A L) rows c.requires.ready.1.known)) (λ lane l possible. omega (arith, held.cost lane l possible)) in
+    let rows = words_rows _ c.known.ensures.numbered _ c.args.order.now c.words.result.now c.requires.shaped c.words.ensures.alive in
+    let done = dropped _ (g.J.Rules.lanes c.args.joint.now) _ _ _ c.args.event c.args.order.now _ _ _ _ c.requires (subst (HasFront _ _ _ _) c.if-holds-2.false c.first_alike-front-2.ensures) (held.holds _ rows) c.ask_all.ensures.alone
+    (c.ask_all.ensures.known _ _ _ (held.known _ rows c.requires.ready.1.known)) (λ lane l possible. omega (arith, held.cost lane l possible)) in
     record { fewer = done.0; judged = done.1 }
 
 pub push_lanes-requires-clause-row : goal.push_lanes-requires-clause-row

@@ -12,26 +12,25 @@ returns-then-newcomer-lanes-clause-replayed g c =
     replays_front _ _ _ [] _ _ _ _ _ _ _ (sym same ∙ sym (append-nil _)) c.keep_lanes.ensures.replayed
 
 pub left-init : goal.left-init
-left-init g c = record { judged = judged_none _ _ _ c.args.event _ _ _; some = λ ne. c.requires.ready.event.some }
+left-init g c = judged_none _ _ _ c.args.event _ _ _ c.requires.ready.event.some
 
 pub first_grown-rest-requires : goal.first_grown-rest-requires
 first_grown-rest-requires g c =
-    can_grow _ _ _ c.left.order c.left.asked _ c.requires.slices (judge_rest _ _ _ (entries_grown c.args.newcomer) _ _ _ _ _ _ _ _ c.requires.ready c.left.invariant.judged (c.left.invariant.some c.left-test.true))
+    can_grow _ _ _ c.left.order c.left.asked _ c.requires.slices (judge_rest _ _ _ (entries_grown c.args.newcomer) _ _ _ _ _ _ _ _ c.requires.ready c.left.invariant c.left-test.true)
 
 pub keep_lanes-requires-in-left : goal.keep_lanes-requires-in-left
 keep_lanes-requires-in-left g c =
-    grown_ready _ _ c.args.newcomer _ _ _ _ _ (judge_rest _ _ _ (entries_grown c.args.newcomer) _ _ _ _ _ _ _ _ c.requires.ready c.left.invariant.judged (c.left.invariant.some c.left-test.true)) c.first_grown-rest.ensures
+    grown_ready _ _ c.args.newcomer _ _ _ _ _ (judge_rest _ _ _ (entries_grown c.args.newcomer) _ _ _ _ _ _ _ _ c.requires.ready c.left.invariant c.left-test.true) c.first_grown-rest.ensures
 
 pub left-preserved : goal.left-preserved
-left-preserved g c = record {
-  judged = judged_on _ _ (entries_grown c.args.newcomer) _ _ c.args.event _ _ _ _ _ _ _ _ _ c.left.invariant.judged (record {
-    within = c.first_grown-rest.ensures.in_rest;
-    replayed = replays_front _ _ _ _ _ _ _ _ _ _ _ c.first_grown-rest.ensures.parts c.keep_lanes-in-left.ensures.replayed;
-    rest = c.keep_lanes-in-left.ensures.rest;
-  });
-  some = λ ne. some_lane c.first_grown-rest.result.1 ne c.first_grown-rest.ensures.fits;
-}
+left-preserved g c =
+    judged_on _ _ (entries_grown c.args.newcomer) _ _ c.args.event _ _ _ _ _ _ _ _ _ c.left.invariant (record {
+      some = λ ne. some_lane c.first_grown-rest.result.1 ne c.first_grown-rest.ensures.fits;
+      within = c.first_grown-rest.ensures.in_rest;
+      replayed = replays_front _ _ _ _ _ _ _ _ _ _ _ c.first_grown-rest.ensures.parts c.keep_lanes-in-left.ensures.replayed;
+      rest = c.keep_lanes-in-left.ensures.rest;
+    })
 
 pub returns-clause-replayed : goal.returns-clause-replayed
 returns-clause-replayed g c =
-    judged_all _ _ (entries_grown c.args.newcomer) _ c.args.event _ _ _ _ _ _ c.left.invariant.judged c.left-test.false (ap (flat_map (grown_numbers c.args.newcomer.states)) (no_entries _ c.args.event.row c.args.event.reason))
+    judged_all _ _ (entries_grown c.args.newcomer) _ c.args.event _ _ _ _ _ _ c.left.invariant c.left-test.false (ap (flat_map (grown_numbers c.args.newcomer.states)) (no_entries _ c.args.event.row c.args.event.reason))

@@ -1,12 +1,9 @@
-use Rattle.roman_repair.proofs.Common.{◌≢◌, ◌<◌, length, set_lanes, entries_grown, HasJudged}
+use Rattle.roman_repair.proofs.Common.{length, set_lanes, entries_grown, HasJudged}
 use Rattle.roman_repair.proofs.replaying.keep_grown.Given as goal
 
 -- what the remaining lanes stand for is left
 abbrev pub invariant-left : goal.invariant-left
-invariant-left g l = record {
-  judged : HasJudged (g.J.Rules.arena l.joint) (g.J.Rules.lanes l.joint) (entries_grown l.fn.newcomer) l.event l.left l.fn.order l.order l.fn.asked l.asked l.fn.steps l.steps;
-  some : l.left ≢ 0 → 0 < length (set_lanes l.left);
-}
+invariant-left g l = HasJudged (g.J.Rules.arena l.joint) (g.J.Rules.lanes l.joint) (entries_grown l.fn.newcomer) l.event l.left l.fn.order l.order l.fn.asked l.asked l.fn.steps l.steps
 
 -- each turn takes at least one lane
 abbrev pub decreases-left : goal.decreases-left
