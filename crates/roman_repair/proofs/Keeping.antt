@@ -58,4 +58,4 @@ candidates_readings A kept L ok are =
     in_nodes : (p : ℕ) → IsIn p (nodes_of L) → IsIn p A.nodes
     in_nodes p i =
         let (x, j, e) = from_map (λ (x : Entry ℕ). x.node) p L i in
-        subst (IsIn p) (sym ok.nodes) (in_below (length A.nodes) p (subst (λ q. q < length A.nodes) (sym e) (are.nodes x j)))
+        grind (arith, e, ok.nodes, (in_below (length A.nodes) x.node (are.nodes x j)))

@@ -117,7 +117,6 @@ pub(crate) fn rename_list(joint: &Joint, order: &mut Order, k: u8)
     ensures caps { order.new.cap_pairs ≡ order.old.cap_pairs }
     ensures idle { order.new.waiting ≡ [] }
 {
-    joint.known(); // the system is well formed
     let shape = joint.shape();
     shape.known(); // no size is 0
     order.known(); // listed pairs are pairs of the system, a row has 1 to 64 lanes

@@ -10,7 +10,7 @@ waiting-init c =
     record {
       renamed = record { list = λ seat seated. ap₂ (λ L W. list_with (sizes_of (system_of c.args.joint.now)) c.args.k seat L W) (sym (no_entries c.reopen.new.self.lanes 0 0 Final c.reopen.new.self.list refl) ∙ list) waiting };
       gathered = nothing_gathered c.reopen.new.self;
-      waiting = λ x i. listed_numbers (system_of c.args.joint.now) c.args.order.now c.requires.shaped.pairs c.known-3.ensures.in_range x (subst (λ W. IsIn x W) waiting i);
+      waiting = λ x i. listed_numbers (system_of c.args.joint.now) c.args.order.now c.requires.shaped.pairs c.known-2.ensures.in_range x (subst (λ W. IsIn x W) waiting i);
       rest = refl;
     }
 
