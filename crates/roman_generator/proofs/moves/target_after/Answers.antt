@@ -2,52 +2,37 @@ use Rattle.roman_generator.proofs.Common.{◌≡◌, ℕ, ◌<◌, List, [], ◌
 use Rattle.roman_generator.proofs.MoveLemmas.{ready_seat, env_stays, seat_stays, served_from, target_goes, target_there, allowed_within, state_of_seat}
 use Rattle.roman_generator.proofs.moves.target_after.Goals as goal
 
-pub next-requires-clause-state : goal.next-requires-clause-state
-next-requires-clause-state c =
+pub next-requires : goal.next-requires
+next-requires c =
     let within = allowed_within (system_of c.args.joint.now) c.args.t c.args.e c.args.sight.action c.known.ensures.system c.requires.allowed in
-    subst (λ (env : NamedEnv). c.args.e < env.env.states) (sym c.environment.ensures) within.1
-
-pub next-requires-clause-action : goal.next-requires-clause-action
-next-requires-clause-action c =
-    let within = allowed_within (system_of c.args.joint.now) c.args.t c.args.e c.args.sight.action c.known.ensures.system c.requires.allowed in
-    subst (λ (env : NamedEnv). c.args.sight.action < env.env.actions) (sym c.environment.ensures) within.2
+    record {
+      state = subst (λ (env : NamedEnv). c.args.e < env.env.states) (sym c.environment.ensures) within.1;
+      action = subst (λ (env : NamedEnv). c.args.sight.action < env.env.actions) (sym c.environment.ensures) within.2;
+    }
 
 pub behaviour-behaviour-requires : goal.behaviour-behaviour-requires
 behaviour-behaviour-requires c = grind (arith, ready_seat, seat_within)
 
-pub out-requires-clause-state : goal.out-requires-clause-state
-out-requires-clause-state c =
+pub out-requires : goal.out-requires
+out-requires c =
     let n = c.args.joint.now in
     let k = c.args.sight.seat in
+    let within = allowed_within (system_of n) c.args.t c.args.e c.args.sight.action c.known.ensures.system c.requires.allowed in
     let of = behaves n k c.behaviour-behaviour.result.now c.known.ensures c.behaviour-behaviour.ensures in
-    omega (arith, state_of_seat (system_of n) k c.args.b of.seat of.seated c.requires.state, ap (λ (b : Beh). b.states) of.is)
+    record {
+      state = omega (arith, state_of_seat (system_of n) k c.args.b of.seat of.seated c.requires.state, ap (λ (b : Beh). b.states) of.is);
+      env_state = omega (arith, within.1, of.env_states);
+      action = omega (arith, within.2, of.actions);
+    }
 
-pub out-requires-clause-env_state : goal.out-requires-clause-env_state
-out-requires-clause-env_state c =
-    let n = c.args.joint.now in
-    let of = behaves n c.args.sight.seat c.behaviour-behaviour.result.now c.known.ensures c.behaviour-behaviour.ensures in
-    omega (arith, (allowed_within (system_of n) c.args.t c.args.e c.args.sight.action c.known.ensures.system c.requires.allowed).1, of.env_states)
-
-pub out-requires-clause-action : goal.out-requires-clause-action
-out-requires-clause-action c =
-    let n = c.args.joint.now in
-    let of = behaves n c.args.sight.seat c.behaviour-behaviour.result.now c.known.ensures c.behaviour-behaviour.ensures in
-    omega (arith, (allowed_within (system_of n) c.args.t c.args.e c.args.sight.action c.known.ensures.system c.requires.allowed).2, of.actions)
-
-pub step-requires-clause-state : goal.step-requires-clause-state
-step-requires-clause-state c =
+pub step-requires : goal.step-requires
+step-requires c =
     let within = allowed_within (system_of c.args.joint.now) c.args.t c.args.e c.args.sight.action c.known.ensures.system c.requires.allowed in
-    omega (arith, within.0, ap (λ (t : NamedTarget). t.beh.states) c.target.ensures)
-
-pub step-requires-clause-env_state : goal.step-requires-clause-env_state
-step-requires-clause-env_state c =
-    let within = allowed_within (system_of c.args.joint.now) c.args.t c.args.e c.args.sight.action c.known.ensures.system c.requires.allowed in
-    omega (arith, within.1, c.known.ensures.target.0, ap (λ (t : NamedTarget). t.env_states) c.target.ensures)
-
-pub step-requires-clause-action : goal.step-requires-clause-action
-step-requires-clause-action c =
-    let within = allowed_within (system_of c.args.joint.now) c.args.t c.args.e c.args.sight.action c.known.ensures.system c.requires.allowed in
-    omega (arith, within.2, c.known.ensures.target.1, ap (λ (t : NamedTarget). t.actions) c.target.ensures)
+    record {
+      state = omega (arith, within.0, ap (λ (t : NamedTarget). t.beh.states) c.target.ensures);
+      env_state = omega (arith, within.1, c.known.ensures.target.0, ap (λ (t : NamedTarget). t.env_states) c.target.ensures);
+      action = omega (arith, within.2, c.known.ensures.target.1, ap (λ (t : NamedTarget). t.actions) c.target.ensures);
+    }
 
 pub returns-then-not-holds-clause-none : goal.returns-then-not-holds-clause-none
 returns-then-not-holds-clause-none c =
@@ -66,8 +51,8 @@ returns-then-not-holds-2-clause-none c =
     c.holds-2.ensures ∙ ap (λ (xs : List ℕ). has xs x.state) (c.out.ensures.next ∙ ap (λ (beh : Beh). beh_next beh c.args.b c.args.e x.action) (sym of.is)) in
     seat_stays (system_of n) c.args.e c.args.b x of.seat c.known.ensures.system of.seated (sym has_state ∙ c.if-not-holds-2.true)
 
-pub returns-clause-moves : goal.returns-clause-moves
-returns-clause-moves c =
+pub returns : goal.returns
+returns c =
     let n = c.args.joint.now in
     let s = system_of n in
     let x = c.args.sight in
@@ -77,12 +62,8 @@ returns-clause-moves c =
     let has_state : c.holds-2.result ≡ has (beh_next of.seat.beh c.args.b c.args.e x.action) x.state =
     c.holds-2.ensures ∙ ap (λ (xs : List ℕ). has xs x.state) (c.out.ensures.next ∙ ap (λ (beh : Beh). beh_next beh c.args.b c.args.e x.action) (sym of.is)) in
     let served = served_from s c.args.e c.args.b x of.seat of.seated c.requires.ready (sym has_env ∙ c.if-not-holds.false) (sym has_state ∙ c.if-not-holds-2.false) in
-    target_goes s c.args.t c.args.e c.args.b x c.step.result served
-    (subst (λ (t : NamedTarget). MatchOption c.step.result (beh_next t.beh c.args.t c.args.e x.action ≡ []) (λ to. beh_next t.beh c.args.t c.args.e x.action ≡ to ∷ [])) c.target.ensures c.step.ensures.next)
-
-pub returns-clause-none : goal.returns-clause-none
-returns-clause-none c =
-    let s = system_of c.args.joint.now in
-    let x = c.args.sight in
-    target_there s c.args.t c.args.e c.args.b x c.step.result c.known.ensures.system c.requires.allowed
-    (subst (λ (t : NamedTarget). MatchOption c.step.result (beh_next t.beh c.args.t c.args.e x.action ≡ []) (λ to. beh_next t.beh c.args.t c.args.e x.action ≡ to ∷ [])) c.target.ensures c.step.ensures.next)
+    let next = subst (λ (t : NamedTarget). MatchOption c.step.result (beh_next t.beh c.args.t c.args.e x.action ≡ []) (λ to. beh_next t.beh c.args.t c.args.e x.action ≡ to ∷ [])) c.target.ensures c.step.ensures.next in
+    record {
+      moves = target_goes s c.args.t c.args.e c.args.b x c.step.result served next;
+      none = target_there s c.args.t c.args.e c.args.b x c.step.result c.known.ensures.system c.requires.allowed next;
+    }

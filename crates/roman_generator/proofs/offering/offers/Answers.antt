@@ -7,11 +7,8 @@ mask-requires-clause-action c =
     let s = system_of c.args.relation.now.joint in
     allowed_in_range s (pair_at (sizes_of s) c.args.p) c.args.a c.known.ensures.system c.requires.allowed
 
-pub returns-clause-offers : goal.returns-clause-offers
-returns-clause-offers c =
-    mask_offers c.args.relation.now.joint c.args.relation.now.order c.args.p c.args.a c.mask.result c.known.ensures c.requires.complete c.known-2.ensures.in_range c.requires.pair c.mask.ensures
-
-pub returns-clause-some : goal.returns-clause-some
-returns-clause-some c =
-    offers_set c.args.relation.now.joint c.args.p c.args.a c.mask.result c.known.ensures c.requires.pair c.requires.related c.requires.allowed
-    (mask_offers c.args.relation.now.joint c.args.relation.now.order c.args.p c.args.a c.mask.result c.known.ensures c.requires.complete c.known-2.ensures.in_range c.requires.pair c.mask.ensures)
+pub returns : goal.returns
+returns c =
+    let relation = c.args.relation.now in
+    let has = mask_offers relation.joint relation.order c.args.p c.args.a c.mask.result c.known.ensures c.requires.complete c.known-2.ensures.in_range c.requires.pair c.mask.ensures in
+    record { offers = has; some = offers_set relation.joint c.args.p c.args.a c.mask.result c.known.ensures c.requires.pair c.requires.related c.requires.allowed has }
