@@ -5,20 +5,18 @@ use Rattle.roman_generator.proofs.moves.next_pair.Goals as goal
 pub part_of-b-requires-clause-component : goal.part_of-b-requires-clause-component
 part_of-b-requires-clause-component c = grind (arith, length-map, ready_seat, slice_get_within)
 
-pub target_after-requires-clause-allowed : goal.target_after-requires-clause-allowed
-target_after-requires-clause-allowed c =
+pub target_after-requires : goal.target_after-requires
+target_after-requires c =
     let s = system_of c.args.joint.now in
     let q = pair_at (sizes_of s) c.args.p in
     let t : c.target_of-t.result ≡ q.t = c.target_of-t.ensures.value ∙ ap (λ (m : Sizes). (pair_at m c.args.p).t) c.shape-shape.ensures in
     let e : c.env_of-e.result ≡ q.e = c.env_of-e.ensures.value ∙ ap (λ (m : Sizes). (pair_at m c.args.p).e) c.shape-shape.ensures in
-    rw (t, e) (from_allowed s q c.args.a c.requires.allowed)
-
-pub target_after-requires-clause-state : goal.target_after-requires-clause-state
-target_after-requires-clause-state c =
-    let s = system_of c.args.joint.now in
-    let q = pair_at (sizes_of s) c.args.p in
     let part : c.part_of-b.result ≡ slice_index q.bs c.args.k = c.part_of-b.ensures.value ∙ ap (λ (m : Sizes). slice_index (pair_at m c.args.p).bs c.args.k) c.shape-shape.ensures in
-    rw part (state_seated s q c.args.k ((numbers_are_pairs s).pair c.args.p c.requires.pair) c.requires.ready)
+    record {
+      allowed = rw (t, e) (from_allowed s q c.args.a c.requires.allowed);
+      ready = c.requires.ready;
+      state = rw part (state_seated s q c.args.k ((numbers_are_pairs s).pair c.args.p c.requires.pair) c.requires.ready);
+    }
 
 pub returns-in_err-to-clause-none : goal.returns-in_err-to-clause-none
 returns-in_err-to-clause-none c =
