@@ -1,5 +1,5 @@
 //! Judging the marked bands against the kept words.
-ghost use Rattle.std.specs.Prelude.{◌≡◌, ℕ, ◌+◌, ◌*◌, ◌/◌, ◌<◌, ◌≤◌, Bool, true, not, IsTrue, length};
+ghost use Rattle.std.specs.Prelude.{◌≡◌, ℕ, ◌+◌, ◌*◌, ◌/◌, ◌<◌, ◌≤◌, Bool, true, false, not, IsTrue, length};
 ghost use Rattle.roman_lanes.specs.Rows.{is_on, AreRows};
 ghost use Rattle.roman_order.specs.Board.{is_marked};
 ghost use Rattle.roman_relation.specs.Shaped.{IsShaped};
@@ -18,6 +18,8 @@ pub(crate) fn judge_marked<J: Rules>(joint: &J, order: &mut Order)
     requires shaped { IsShaped (J.arena joint.now) (J.lanes joint.now) order.old }
     requires kept { (gone : ℕ → Bool) × AreRows (J.lanes joint.now) (λ p. not (gone p)) order.old.before }
     ensures rest { order.new ≡ record order.old { list = order.new.list; marks = order.new.marks } }
+    ensures unmarked { let A = J.arena joint.now in
+        (p : ℕ) → p < length A.nodes → is_marked order.new (p / J.lanes joint.now / J.band joint.now) ≡ false }
     ensures adds { let A = J.arena joint.now in
         (gone : ℕ → Bool) → AreRows (J.lanes joint.now) (λ p. not (gone p)) order.old.before →
         AddsTo A gone (λ p. IsTrue (falls A gone p) × (is_marked order.old (p / J.lanes joint.now / J.band joint.now) ≡ true)) order.old.list order.new.list }

@@ -54,6 +54,10 @@ bands-smaller g c =
     let fewer = count_falls (has_flag old.marks) (has_flag c.next_marked.new.self.marks) (64 * length old.marks) c.in-Some.y (marked_within old.marks c.in-Some.y c.in-Some.ensures.some) c.in-Some.ensures.some c.in-Some.ensures.taken c.in-Some.ensures.others in
     rw (marks, c.in-Some.ensures.long) fewer
 
+pub returns-clause-unmarked : goal.returns-clause-unmarked
+returns-clause-unmarked g c p l =
+    rw c.in_default.ensures.same (c.in_default.ensures.none _ (band_of _ _ _ _ p c.args.order.now c.requires.shaped c.known.ensures.lanes.0 c.known.ensures.band.0 c.bands-bands.ensures l))
+
 pub returns-clause-done : goal.returns-clause-done
 returns-clause-done g c gone p kept l on =
     let none = c.in_default.ensures.none _ (band_of _ _ _ _ p c.args.order.now c.requires.shaped c.known.ensures.lanes.0 c.known.ensures.band.0 c.bands-bands.ensures l) in
