@@ -1,5 +1,5 @@
 -- The delegations that are found backwards are those that lead to the pair.
-use Rattle.roman_joint.proofs.Common.{◌≡◌, ℕ, ◌<◌, Bool, true, false, cond, List, [], map, length, Option, Some, None, IsTrue, IsFalse, slice_get, slice_index, slice_set, refl, sym, ap, ◌∙◌, subst, arith, flat_map, IsIn, HasNoRepeats, HoldsEachOnce, below, Env, Sys, Seat, Pair, IsSys, IsPair, IsBeh, has_triple, has_move, env_prev, beh_prev, outcomes, Delegation, back, sizes_of, count, number, pair_at, numbered, in_map, from_map, in_flat_map, from_flat_map, in_below, from_below, HasNoRepeats-below, HasNoRepeats-filter, HasNoRepeats-map, triple_in_range, move_in_range, in_env_prev, in_beh_prev, seat_in, states_set, numbers_are_pairs, IsPairOf-from, AreBelow-length, numbered_is_arena, in_back, slice_get_within, get_or-set_same, length-map, seat_prev, from_seat, from_target, from_env, from_action, from_all, HasNoRepeats-flat_map, from_env_prev, from_beh_prev, outcome_in, from_outcome, outcome_pair, numbered_is_same, from_back, set-set, set-get_or}
+use Rattle.roman_joint.proofs.Common.{AreBelow-length, Bool, Delegation, Env, HasNoRepeats, HasNoRepeats-below, HasNoRepeats-filter, HasNoRepeats-flat_map, HasNoRepeats-map, HoldsEachOnce, IsBeh, IsFalse, IsIn, IsPair, IsPairOf-from, IsSys, IsTrue, List, None, Option, Pair, Seat, Some, Sys, [], ap, arith, back, beh_prev, below, cond, count, env_prev, false, flat_map, from_action, from_all, from_back, from_beh_prev, from_below, from_env, from_env_prev, from_flat_map, from_map, from_outcome, from_seat, from_target, get_or-set_same, has_move, has_triple, in_back, in_beh_prev, in_below, in_env_prev, in_flat_map, in_map, length, length-map, map, move_in_range, number, numbered, numbered_is_arena, numbered_is_same, numbers_are_pairs, outcome_in, outcome_pair, outcomes, pair_at, refl, seat_in, seat_prev, set-get_or, set-set, sizes_of, slice_get, slice_get_within, slice_index, slice_set, states_set, subst, sym, triple_in_range, true, ℕ, ◌-◌, ◌<◌, ◌∙◌, ◌≡◌}
 
 -- the delegation of a to the seat at k, from t, e and the seat's state b
 abbrev pub delegation : Sys → Pair → ℕ → ℕ → ℕ → ℕ → ℕ → Delegation ℕ
@@ -97,6 +97,14 @@ pub record Comes (s : Sys) (q p : Pair) (a k : ℕ) : Type 0 where
 outcome_steps : (s : Sys) (q p : Pair) (a k : ℕ) → IsPair s p → IsIn q (outcomes s p a k) → Comes s q p a k
 outcome_steps s q p a k ok i = grind (arith, from_outcome, get_or-set_same, length_of_pair, set-get_or, set-set, slice_get_within)
 
+-- the same by numbers
+pub pair_comes : (s : Sys) (p r a k : ℕ) → IsSys s → p < count (sizes_of s) → IsIn r ((numbered s).outcomes p a k) → Comes s (pair_at (sizes_of s) r) (pair_at (sizes_of s) p) a k
+pair_comes s p r a k sys below_p led =
+    let ok : IsPair s (pair_at (sizes_of s) p) = (numbers_are_pairs s).pair p below_p in
+    let (x, l, same) = from_map (number (sizes_of s)) r (outcomes s (pair_at (sizes_of s) p) a k) led in
+    let here : pair_at (sizes_of s) r ≡ x = ap (pair_at (sizes_of s)) same ∙ (numbers_are_pairs s).back x (outcome_pair s (pair_at (sizes_of s) p) a k x sys ok l) in
+    outcome_steps s _ _ a k ok (subst (λ y. IsIn y (outcomes s (pair_at (sizes_of s) p) a k)) (sym here) l)
+
 -- each delegation that is found leads to q
 pub found_leads : (s : Sys) (p : ℕ) (d : Delegation ℕ) → IsSys s → p < count (sizes_of s) → IsIn d (from_all s (pair_at (sizes_of s) p)) → IsIn d (back (numbered s) p)
 found_leads s p d sys below_p i =
@@ -115,16 +123,12 @@ found_leads s p d sys below_p i =
 -- each delegation that leads to q is found
 pub leads_found : (s : Sys) (p : ℕ) (d : Delegation ℕ) → IsSys s → p < count (sizes_of s) → IsIn d (back (numbered s) p) → IsIn d (from_all s (pair_at (sizes_of s) p))
 leads_found s p d sys below_p i =
-    let q : Pair = pair_at (sizes_of s) p in
     let (in_nodes, action, seat, j) = from_back (numbered s) (numbered_is_same s) p d i in
     let below_d : d.node < count (sizes_of s) = from_below (count (sizes_of s)) d.node in_nodes in
     let r : Pair = pair_at (sizes_of s) d.node in
-    let ok_r : IsPair s r = (numbers_are_pairs s).pair d.node below_d in
-    let (x, l, same) = from_map (number (sizes_of s)) p (outcomes s r d.action d.seat) j in
-    let here : q ≡ x = ap (pair_at (sizes_of s)) same ∙ (numbers_are_pairs s).back x (outcome_pair s r d.action d.seat x sys ok_r l) in
-    let comes : Comes s q r d.action d.seat = outcome_steps s q r d.action d.seat ok_r (subst (λ y. IsIn y (outcomes s r d.action d.seat)) (sym here) l) in
-    let node : number (sizes_of s) (origin q r.e r.t d.seat (slice_index r.bs d.seat)) ≡ d.node = ap (number (sizes_of s)) comes.from ∙ (numbers_are_pairs s).there d.node below_d in
-    rw node at (in_all s q d.action r.e r.t d.seat (slice_index r.bs d.seat) sys comes.steps)
+    let comes = pair_comes s d.node p d.action d.seat sys below_d j in
+    let node : number (sizes_of s) (origin (pair_at (sizes_of s) p) r.e r.t d.seat (slice_index r.bs d.seat)) ≡ d.node = ap (number (sizes_of s)) comes.from ∙ (numbers_are_pairs s).there d.node below_d in
+    rw node at (in_all s (pair_at (sizes_of s) p) d.action r.e r.t d.seat (slice_index r.bs d.seat) sys comes.steps)
 
 -- the states and the seat of a delegation are those by which it was found
 pub record FoundAt (s : Sys) (q : Pair) (a e t k : ℕ) (d : Delegation ℕ) : Type 0 where

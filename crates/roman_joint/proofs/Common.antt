@@ -44,7 +44,7 @@ pub use Rattle.roman_joint.specs.Bands.{AllAlive, AreRowsBefore, LosesRun, band_
 pub use Rattle.roman_joint.specs.Behaviours.{IsSeatBehaviour}
 pub use Rattle.roman_joint.specs.Changes.{with_frozen}
 pub use Rattle.roman_joint.specs.Layout.{IsJoint, named_sys_in}
-pub use Rattle.roman_joint.specs.Marks.{Grows, IsMarked, MarksAction, MarksEnv, MarksSeat, MarksTurn, action_steps, env_steps, row_at, seat_steps, turn_steps}
+pub use Rattle.roman_joint.specs.Marks.{AnyOf, Grows, IsBeforeAction, IsBeforeEnv, IsBeforeSeat, IsBeforeTurn, IsMarked, IsMoved, Marks, action_steps, env_steps, row_at, seat_steps, turn_steps}
 pub use Rattle.roman_joint.specs.Moves.{AreMovesOf, AreSeatsOf, AreWays, GoesTo, HasRoom, HoldsMoves, HoldsSpans, IsAdded, IsKept, IsSpan, lane_move, lane_moves_from, ways_room, within_in}
 pub use Rattle.roman_joint.specs.NamedSys.{IsNamedSys, IsOverEnv, NamedSys, beh_at, cells, named_parts, seat_of, still, system_of}
 pub use Rattle.roman_joint.specs.Names.{beh_states, names_in, names_of_seat}

@@ -1,5 +1,5 @@
 -- The outcomes of a delegation, by rows and lanes.
-use Rattle.roman_joint.proofs.Common.{◌≡◌, ℕ, ◌+◌, ◌-◌, ◌*◌, ◌/◌, ◌%◌, ◌<◌, ◌≤◌, Bool, true, not, List, [], ◌∷◌, length, drop, map, slice_get, slice_index, IsTrue, IsFalse, refl, sym, ap, ap₂, ◌∙◌, subst, arith, list_any, flat_map, div-add-mod', mul-add-lt, mod_below, div_below, length-map, IsIn, is_empty, product_of, in_map, in_flat_map, any_same, not_empty_in, any_true, any_from, same_test, part_at, Sys, Seat, IsSys, env_next, beh_next, seat_next, Arena, is_beaten, Sizes, sizes_of, count, pair_at, numbered, IsSizes, stride_of, low_of, lanes_of, env_rows_of, target_rows_of, product_positive, AreSizes-drop, AreSizes-index, low_of-le, tails_from, row_mod, row_least, env_rows_are, IsNumbered, lanes_in, low_in, lane_state_of, IsRow, Row, mul-add-div_right, product_more, mul-add-mod_self_right, list_any-map, list_any-flat_map}
+use Rattle.roman_joint.proofs.Common.{AreSizes-drop, AreSizes-index, Arena, Bool, IsFalse, IsIn, IsNumbered, IsRow, IsSizes, IsSys, IsTrue, List, Row, Seat, Sizes, Sys, [], any_from, any_same, any_true, ap, ap₂, arith, beh_next, below, count, div-add-mod', div_below, drop, env_next, env_rows_are, env_rows_of, flat_map, in_flat_map, in_map, is_beaten, is_empty, lane_state_of, lanes_in, length, length-map, list_any, list_any-flat_map, list_any-map, low_in, low_of-le, map, mod_below, mul-add-div_right, mul-add-lt, mul-add-mod_self_right, not, not_empty_in, number, numbered, outcomes, pair_at, part_at, product_more, product_of, product_positive, refl, row_least, row_mod, same_test, seat_next, sizes_of, slice_get, slice_index, stride_of, subst, sym, tails_from, target_rows_of, true, ℕ, ◌%◌, ◌*◌, ◌+◌, ◌-◌, ◌/◌, ◌<◌, ◌∙◌, ◌∷◌, ◌≡◌, ◌≤◌}
 use Rattle.roman_joint.proofs.OutcomeLemmas.{StartsAt, starts_at, numbers_are, target_in_range}
 use Rattle.roman_joint.proofs.Finds.{some_numbers, no_numbers}
 use Rattle.roman_joint.proofs.SplitLemmas.{target_rows_are}
@@ -52,7 +52,7 @@ row_moves to_rows rest u w lane r part e b h l =
         omega arith
 
 -- the first number for a seat
-start_row : (s : Sys) (row : Row) (x lane k to part stride : ℕ) → IsRow s x row → lane < lanes_in s → k < length (sizes_of s).seats → to < s.target.states →
+pub start_row : (s : Sys) (row : Row) (x lane k to part stride : ℕ) → IsRow s x row → lane < lanes_in s → k < length (sizes_of s).seats → to < s.target.states →
     part ≡ slice_index (pair_at (sizes_of s) (x * lanes_in s + lane)).bs k → stride ≡ stride_of (sizes_of s) k →
     StartsAt (sizes_of s) (x * lanes_in s + lane) k to (to * target_rows_of (sizes_of s) * lanes_in s + (row.part * lanes_in s + lane)) part (env_rows_of (sizes_of s) * lanes_in s) stride
 start_row s row x lane k to part stride ok in_lanes seat in_target is_part is_stride =
@@ -100,10 +100,10 @@ leads_before s row x lane a k to base u envs states sys ok in_lanes before strid
     leads_row s row x lane a k to part (u * w) envs states (λ e b. (base + e * R + b * u) * w + lane) sys ok in_lanes (omega (arith, low_of-le n.seats)) (sym (ok.states k lane before in_lanes)) stride target is_envs is_states
     (λ taken e b. ap (λ m. (m + e * R + b * u) * w + lane) is_base ∙ sym (row_moves (to * target_rows_of n) row.part u w lane R part e b in_lanes taken))
 
--- the state of a seat within the lanes
-pub record LaneState (n : Sizes) (k lane : ℕ) : Type 0 where
+-- the state of a seat that is one of those from `from` on, at a lane of these
+pub record LaneState (n : Sizes) (from k lane : ℕ) : Type 0 where
   pub taken : lane_state_of n k lane * stride_of n k ≤ lane
-  pub moves : (b : ℕ) → b < slice_index n.seats k → lane + b * stride_of n k - lane_state_of n k lane * stride_of n k < lanes_of n.seats
+  pub moves : (b : ℕ) → b < slice_index n.seats k → lane + b * stride_of n k - lane_state_of n k lane * stride_of n k < product_of (drop from n.seats)
 
 lane_moves : (lane st size m : ℕ) → 0 < st → 0 < size → lane < m * size * st → (lane / st % size * st ≤ lane) × ((b : ℕ) → b < size → lane + b * st - lane / st % size * st < m * size * st)
 lane_moves lane st size m pos some h =
@@ -123,17 +123,17 @@ lane_moves lane st size m pos some h =
           omega arith,
     )
 
--- the stride times the size of a seat within the lanes divides the lanes
-pub lanes_parts : (n : Sizes) (k : ℕ) → low_of n.seats ≤ k → k < length n.seats → (m : ℕ) × (lanes_of n.seats ≡ m * slice_index n.seats k * stride_of n k)
-lanes_parts n k within seat =
-    let (m, e) = tails_from n.seats (low_of n.seats) k within in
+-- the stride times the size of a seat divides the product of the sizes from an earlier seat on, such as the lanes
+pub lanes_parts : {from : ℕ} (n : Sizes) (k : ℕ) → from ≤ k → k < length n.seats → (m : ℕ) × (product_of (drop from n.seats) ≡ m * slice_index n.seats k * stride_of n k)
+lanes_parts {from} n k within seat =
+    let (m, e) = tails_from n.seats from k within in
     let next : product_of (drop (k + 1) n.seats) * slice_index n.seats k ≡ product_of (drop k n.seats) = product_more n.seats k (k + 1) (product_of (drop (k + 1) n.seats)) (slice_index n.seats k) refl seat refl refl in
     (m, e ∙ (ap (λ x. m * x) (sym next) ∙ omega arith))
 
 pub stride_positive : (n : Sizes) (k : ℕ) → IsSizes n → 0 < stride_of n k
 stride_positive n k h = product_positive (drop (k + 1) n.seats) (AreSizes-drop (k + 1) n.seats h.seats)
 
-pub lane_state : (n : Sizes) (k lane : ℕ) → IsSizes n → low_of n.seats ≤ k → k < length n.seats → lane < lanes_of n.seats → LaneState n k lane
+pub lane_state : {from : ℕ} (n : Sizes) (k lane : ℕ) → IsSizes n → from ≤ k → k < length n.seats → lane < product_of (drop from n.seats) → LaneState n from k lane
 lane_state n k lane h within seat l =
     let (m, e) = lanes_parts n k within seat in
     let (taken, moves) = lane_moves lane (stride_of n k) (slice_index n.seats k) m (stride_positive n k h) (AreSizes-index n.seats k h.seats seat).0 (subst (λ x. lane < x) e l) in
@@ -148,11 +148,11 @@ digit_at row lane st size m pos =
     let whole : row * (m * size * st) + lane ≡ row * m * size * st + lane = omega arith in
     ap (λ x. x / st % size) whole ∙ (ap (λ x. x % size) (mul-add-div_right pos (row * m * size) lane) ∙ mul-add-mod_self_right (row * m) size (lane / st))
 
-pub lane_part : (n : Sizes) (x lane k : ℕ) → IsSizes n → x * lanes_of n.seats + lane < count n → low_of n.seats ≤ k → k < length n.seats →
-    slice_index (pair_at n (x * lanes_of n.seats + lane)).bs k ≡ lane_state_of n k lane
-lane_part n x lane k h inside within seat =
+pub lane_part : {from : ℕ} (n : Sizes) (x lane k : ℕ) → IsSizes n → x * product_of (drop from n.seats) + lane < count n → from ≤ k → k < length n.seats →
+    slice_index (pair_at n (x * product_of (drop from n.seats) + lane)).bs k ≡ lane_state_of n k lane
+lane_part {from} n x lane k h inside within seat =
     let (m, e) = lanes_parts n k within seat in
-    part_at n (x * lanes_of n.seats + lane) k inside seat
+    part_at n (x * product_of (drop from n.seats) + lane) k inside seat
     ∙ (ap (λ w. (x * w + lane) / stride_of n k % slice_index n.seats k) e ∙ digit_at x lane (stride_of n k) (slice_index n.seats k) m (stride_positive n k h))
 
 -- the outcomes of a delegation to a seat within the lanes

@@ -1,5 +1,5 @@
 -- Marks on the bands from which a band can be reached.
-use Rattle.std.specs.Prelude.{◌≡◌, ℕ, ◌+◌, ◌*◌, ◌/◌, ◌<◌, List, true, length, sum_by, slice_get, slice_index, IsTrue}
+use Rattle.std.specs.Prelude.{◌≡◌, ℕ, ◌+◌, ◌*◌, ◌/◌, ◌<◌, ◌⊎◌, List, true, length, sum_by, slice_get, slice_index, IsTrue}
 use Rattle.roman_model.specs.Lists.{IsIn, below}
 use Rattle.roman_model.specs.System.{Sys}
 use Rattle.roman_model.specs.SystemArena.{env_prev, beh_prev}
@@ -33,23 +33,41 @@ pub record IsArrival (by : Arrival) : Type 0 where
   pub env : by.env < (system_of by.joint.now).env.states
   pub action : by.action < (system_of by.joint.now).env.actions
 
--- the bands are marked from which seat k goes by a, in environment state e, to its state in the row; `base` is the earlier row with the seat unmoved, u its stride in rows
-pub record MarksSeat (s : Sys) (row : Row) (marks : List ℕ) (a e base k : ℕ) : Type 0 where
-  pub moved : (u b x : ℕ) → u * lanes_in s ≡ stride_of (sizes_of s) k → IsIn b (seat_prev (slice_get s.seats k) (slice_index row.states k) e a) →
-      x + slice_index row.states k * u ≡ base + b * u → IsMarked marks (x / band_in s)
+-- P holds of one of the elements and y
+pub record AnyOf (P : ℕ → ℕ → Type 0) (xs : List ℕ) (y : ℕ) : Type 0 where
+  pub one : ℕ
+  pub among : IsIn one xs
+  pub holds : P one y
 
--- the bands at the target's t and the environment's e from which a leads to the row's band are marked
-pub record MarksTurn (s : Sys) (row : Row) (marks : List ℕ) (a e t : ℕ) : Type 0 where
-  pub own : IsMarked marks (row_at s row e t / band_in s)
-  pub seats : (k : ℕ) → k < mid_in s → MarksSeat s row marks a e (row_at s row e t) k
+-- the bands of which P holds are marked, no mark is removed, and n steps are counted
+pub record Marks (P : ℕ → Type 0) (n : ℕ) (old new : List ℕ) (before after : ℕ) : Type 0 where
+  pub grows : Grows old new
+  pub marked : (y : ℕ) → P y → IsMarked new y
+  pub steps : after ≡ before + n
 
--- the bands at the environment's e from which a leads to the row's band are marked
-pub record MarksEnv (s : Sys) (row : Row) (marks : List ℕ) (a e : ℕ) : Type 0 where
-  pub turns : (t : ℕ) → IsIn t (beh_prev s.target row.target e a) → MarksTurn s row marks a e t
+-- y is the band of the row base + b * stride - taken
+pub record IsMoved (base stride taken band b y : ℕ) : Type 0 where
+  pub row : ℕ
+  pub moved : row + taken ≡ base + b * stride
+  pub band_of : y ≡ row / band
 
--- the bands from which a leads to the row's band are marked
-pub record MarksAction (s : Sys) (row : Row) (marks : List ℕ) (a : ℕ) : Type 0 where
-  pub envs : (e : ℕ) → IsIn e (env_prev s.env row.env a) → MarksEnv s row marks a e
+-- from the band, seat k goes by a, in environment state e, to its state in the row; `base` is the earlier row with the seat unmoved
+abbrev pub IsBeforeSeat : Sys → Row → ℕ → ℕ → ℕ → ℕ → ℕ → Type 0
+IsBeforeSeat s row a e base k =
+    let stride = stride_of (sizes_of s) k / lanes_in s in
+    AnyOf (IsMoved base stride (slice_index row.states k * stride) (band_in s)) (seat_prev (slice_get s.seats k) (slice_index row.states k) e a)
+
+-- from the band, at the target's t and the environment's e, a leads to the row's band
+pub record IsBeforeTurn (s : Sys) (row : Row) (a e t y : ℕ) : Type 0 where
+  pub either : (y ≡ row_at s row e t / band_in s) ⊎ AnyOf (IsBeforeSeat s row a e (row_at s row e t)) (below (mid_in s)) y
+
+-- from the band, at the environment's e, a leads to the row's band
+abbrev pub IsBeforeEnv : Sys → Row → ℕ → ℕ → ℕ → Type 0
+IsBeforeEnv s row a e = AnyOf (IsBeforeTurn s row a e) (beh_prev s.target row.target e a)
+
+-- from the band, a leads to the row's band
+abbrev pub IsBeforeAction : Sys → Row → ℕ → ℕ → Type 0
+IsBeforeAction s row a = AnyOf (IsBeforeEnv s row a) (env_prev s.env row.env a)
 
 -- each band with a pair that has a pair of the row's band as an outcome is marked
 abbrev pub MarksBefore : Sys → Row → List ℕ → Type 0
@@ -59,7 +77,7 @@ MarksBefore s row marks =
 
 -- the steps for seat k: one for each state from which it goes by a, in environment state e, to its state in the row
 abbrev pub seat_steps : Sys → Row → ℕ → ℕ → ℕ → ℕ
-seat_steps s row a e k = length (seat_prev (slice_get s.seats k) (slice_index row.states k) e a)
+seat_steps s row a e k = sum_by (λ b. 1) (seat_prev (slice_get s.seats k) (slice_index row.states k) e a)
 
 -- the steps for the seats before the band's own, by a in environment state e
 abbrev pub turn_steps : Sys → Row → ℕ → ℕ → ℕ

@@ -6,7 +6,7 @@ ghost use Rattle.roman_lanes.specs.Flags.{has_flag};
 ghost use Rattle.roman_joint.specs.NamedSys.{system_of};
 ghost use Rattle.roman_joint.specs.Rows.{lanes_in, IsRow};
 ghost use Rattle.roman_joint.specs.Bands.{mid_in, band_in};
-ghost use Rattle.roman_joint.specs.Marks.{IsMarked, Grows, IsArrival, MarksSeat, MarksTurn, MarksEnv, MarksAction, MarksBefore, seat_steps, turn_steps, env_steps, action_steps};
+ghost use Rattle.roman_joint.specs.Marks.{IsMarked, Grows, Marks, IsArrival, IsMoved, IsBeforeSeat, IsBeforeTurn, IsBeforeEnv, IsBeforeAction, MarksBefore, row_at, seat_steps, turn_steps, env_steps, action_steps};
 
 use crate::joint::Joint;
 use crate::row::Row;
@@ -36,13 +36,21 @@ fn times(state: u8, stride: u32) -> u64
 }
 
 /// Marks the band of the row `base + b * stride - taken`: the row in which a seat is in state `b`.
-/// `taken` is the offset of the seat's current state.
-fn mark_moved(marks: &mut [u64], base: u64, b: u8, stride: u32, taken: u64, band: u32)
+/// `taken` is the offset of the seat's current state. Counts one step.
+fn mark_moved<L: Ledger>(
+    marks: &mut [u64],
+    base: u64,
+    b: u8,
+    stride: u32,
+    taken: u64,
+    band: u32,
+    steps: &mut Steps<L>,
+)
     requires base { base < 2 ^ 50 }
     requires band { 0 < band }
-    ensures grows { Grows marks.old marks.new }
-    ensures marked { (x : ℕ) → x + taken ≡ base + b * stride → IsMarked marks.new (x / band) }
+    ensures { Marks (IsMoved base stride taken band b) 1 marks.old marks.new steps.old steps.new }
 {
+    steps.tick();
     let whole = base + times(b, stride);
     if whole < taken {
         return;
@@ -66,9 +74,8 @@ fn mark_seat<L: Ledger>(by: &Arrival<'_>, marks: &mut [u64], base: u64, k: u8, s
     requires arrival { IsArrival by.now }
     requires base { base < 2 ^ 50 }
     requires seat { k < mid_in (system_of by.now.joint.now) }
-    ensures grows { Grows marks.old marks.new }
-    ensures marks { MarksSeat (system_of by.now.joint.now) by.now.row.now marks.new by.now.action by.now.env base k }
-    ensures steps { steps.new ≡ steps.old + seat_steps (system_of by.now.joint.now) by.now.row.now by.now.action by.now.env k }
+    ensures { let s = system_of by.now.joint.now in
+        Marks (IsBeforeSeat s by.now.row.now by.now.action by.now.env base k) (seat_steps s by.now.row.now by.now.action by.now.env k) marks.old marks.new steps.old steps.new }
 {
     by.joint.known(); // there are at most 32 seats
     let rows = by.joint.layout();
@@ -77,8 +84,7 @@ fn mark_seat<L: Ledger>(by: &Arrival<'_>, marks: &mut [u64], base: u64, k: u8, s
     let stride = rows.strides[k as usize];
     let taken = times(own, stride);
     for b in states {
-        steps.tick();
-        mark_moved(marks, base, *b, stride, taken, rows.band);
+        mark_moved(marks, base, *b, stride, taken, rows.band, steps);
     }
 }
 
@@ -88,9 +94,8 @@ fn mark_seat<L: Ledger>(by: &Arrival<'_>, marks: &mut [u64], base: u64, k: u8, s
 #[tactic(auto, using(crate::proofs::GoodLemmas::turn_fits))]
 fn mark_turn<L: Ledger>(by: &Arrival<'_>, marks: &mut [u64], t: u8, steps: &mut Steps<L>)
     requires { IsArrival by.now }
-    ensures grows { Grows marks.old marks.new }
-    ensures marks { MarksTurn (system_of by.now.joint.now) by.now.row.now marks.new by.now.action by.now.env t }
-    ensures steps { steps.new ≡ steps.old + turn_steps (system_of by.now.joint.now) by.now.row.now by.now.action by.now.env }
+    ensures { let s = system_of by.now.joint.now in
+        Marks (IsBeforeTurn s by.now.row.now by.now.action by.now.env t) (turn_steps s by.now.row.now by.now.action by.now.env) marks.old marks.new steps.old steps.new }
 {
     by.joint.known(); // a pair's number fits 32 bits
     let rows = by.joint.layout();
@@ -104,9 +109,8 @@ fn mark_turn<L: Ledger>(by: &Arrival<'_>, marks: &mut [u64], t: u8, steps: &mut 
 /// Marks the bands from which the action leads to the row's band in the state of the environment.
 fn mark_env<L: Ledger>(by: &Arrival<'_>, marks: &mut [u64], steps: &mut Steps<L>)
     requires { IsArrival by.now }
-    ensures grows { Grows marks.old marks.new }
-    ensures marks { MarksEnv (system_of by.now.joint.now) by.now.row.now marks.new by.now.action by.now.env }
-    ensures steps { steps.new ≡ steps.old + env_steps (system_of by.now.joint.now) by.now.row.now by.now.action by.now.env }
+    ensures { let s = system_of by.now.joint.now in
+        Marks (IsBeforeEnv s by.now.row.now by.now.action by.now.env) (env_steps s by.now.row.now by.now.action by.now.env) marks.old marks.new steps.old steps.new }
 {
     by.joint.known(); // the target is over the environment
     let targets = by.joint.target().into(by.row.target, by.env, by.action);
@@ -119,9 +123,8 @@ fn mark_env<L: Ledger>(by: &Arrival<'_>, marks: &mut [u64], steps: &mut Steps<L>
 fn mark_action<L: Ledger>(joint: &Joint, row: &Row, marks: &mut [u64], a: u8, steps: &mut Steps<L>)
     requires row { (x : ℕ) × IsRow (system_of joint.now) x row.now }
     requires action { a < (system_of joint.now).env.actions }
-    ensures grows { Grows marks.old marks.new }
-    ensures marks { MarksAction (system_of joint.now) row.now marks.new a }
-    ensures steps { steps.new ≡ steps.old + action_steps (system_of joint.now) row.now a }
+    ensures { let s = system_of joint.now in
+        Marks (IsBeforeAction s row.now a) (action_steps s row.now a) marks.old marks.new steps.old steps.new }
 {
     joint.known(); // there are at most 32 actions
     if (row.leading >> a) & 1 == 0 {

@@ -1,11 +1,12 @@
-use Rattle.roman_joint.proofs.Common.{ℕ, ◌+◌, ◌≡◌, ◌/◌, ◌<◌, sum_by, below, system_of, seat_steps, Grows, IsMarked, row_at, MarksSeat, band_in}
+use Rattle.roman_joint.proofs.Common.{◌/◌, sum_by, below, system_of, band_in, AnyOf, IsBeforeSeat, IsMarked, Marks, row_at, seat_steps}
 use Rattle.roman_joint.proofs.marks.mark_turn.Given as goal
 
--- the bands of the seats so far are marked
+-- the band of the seats that kept their states is marked, and the bands of the seats so far
 abbrev pub invariant-loop-k : goal.invariant-loop-k
-invariant-loop-k g l = record {
-  grows : Grows l.fn.marks l.marks;
-  own : IsMarked l.marks (row_at (system_of l.by.joint.now) l.by.row.now l.by.env l.t / band_in (system_of l.by.joint.now));
-  seats : (k : ℕ) → k < l.k → MarksSeat (system_of l.by.joint.now) l.by.row.now l.marks l.by.action l.by.env (row_at (system_of l.by.joint.now) l.by.row.now l.by.env l.t) k;
-  steps : l.steps ≡ l.fn.steps + sum_by (seat_steps (system_of l.by.joint.now) l.by.row.now l.by.action l.by.env) (below l.k);
-}
+invariant-loop-k g l =
+    let s = system_of l.by.joint.now in
+    let at = row_at s l.by.row.now l.by.env l.t in
+    record {
+      own : IsMarked l.marks (at / band_in s);
+      seats : Marks (AnyOf (IsBeforeSeat s l.by.row.now l.by.action l.by.env at) (below l.k)) (sum_by (seat_steps s l.by.row.now l.by.action l.by.env) (below l.k)) l.fn.marks l.marks l.fn.steps l.steps;
+    }
