@@ -9,7 +9,7 @@ pub use Rattle.std.proofs.lemmas.Bool.Decides.{nat_tests}
 pub use Rattle.std.proofs.lemmas.List.{append-nil, append_assoc, drop-append-le, drop-map, drop_all, drop_more, get_or-set_other, get_or-set_same, get_or-take, get_or_append_left, get_or_past, length-append, length-map, length-set, length-take, map-append, map_push, nil_from_length, set-get_or, set-set, take-append-le, take-map, take_all, take_more, take_more_set}
 pub use Rattle.std.proofs.lemmas.List.Elements.{All-append, All-drop, All-from_recursion, All-get_or, All-push, All-take, recursion_from_All}
 pub use Rattle.std.proofs.lemmas.List.Folds.{find-append, list_any-append}
-pub use Rattle.std.proofs.lemmas.List.Sums.{count_by-le-length, length-filter, sum_by-append, sum_by-cons, sum_by_more}
+pub use Rattle.std.proofs.lemmas.List.Sums.{count_by-le-length, length-filter, sum_by-append, sum_by-cons}
 pub use Rattle.std.proofs.lemmas.Nat.{div-add-mod', div-mul-add, div_below, mod-mul-add, mod_below, mul-add-lt, mul-le, pow_pos, same_from_place, shr-shr}
 pub use Rattle.std.proofs.lemmas.Nat.Bits.{bit_at-zero, bit_at_above, bit_at_cat_high, bit_at_cat_low, bit_at_ones, bit_at_ones_above, shr_and_one}
 pub use Rattle.std.proofs.lemmas.Option.{get_or_from_slice_get, slice_get-get_or, slice_get-map, slice_get_within}
@@ -22,7 +22,7 @@ pub use Rattle.roman_lanes.proofs.CallerLemmas.{on_and, on_not, on_or, on_zero}
 unfoldable pub use Rattle.roman_lanes.specs.Flags.{has_flag}
 pub use Rattle.roman_lanes.specs.Rows.{AreRows, HasLanes, Keeps}
 unfoldable pub use Rattle.roman_lanes.specs.Rows.{is_on}
-pub use Rattle.roman_model.proofs.CallerLemmas.{AreBelow-index, AreBelow-length, HasNoRepeats-below, HasNoRepeats-filter, HasNoRepeats-flat_map, HasNoRepeats-map, HasNoRepeats-push, IsArena, IsPairOf-at, IsPairOf-from, all_below_at, all_below_from, allowed_in_range, any_from, any_same, any_true, by_test, count-without, empty_is, filter_below_more, filter_in, from_back, from_beh_next, from_beh_prev, from_below, from_env_next, from_env_prev, from_flat_map, from_map, from_outcome, from_push, from_seat_next, get_or-below, in_back, in_beh_prev, in_below, in_env_prev, in_filter, in_flat_map, in_map, in_not_empty, length-below, list_any-flat_map, list_any-map, move_in_range, no_longer, not_empty_in, number-moved, number-pair_at, number_below, numbered_is_arena, numbered_is_same, numbers_are_pairs, outcome_in, outcome_pair, part_at, parts_of_number, remove_in, renaming_keeps, same_test, seat_in, states_frozen, states_number-set, states_set, sum_by_same, triple_in_range}
+pub use Rattle.roman_model.proofs.CallerLemmas.{AreBelow-index, AreBelow-length, HasNoRepeats-below, HasNoRepeats-filter, HasNoRepeats-flat_map, HasNoRepeats-map, HasNoRepeats-push, IsArena, IsPairOf-at, IsPairOf-from, all_below_at, all_below_from, allowed_in_range, any_from, any_same, any_true, by_test, count-without, empty_is, filter_below_more, filter_in, from_back, from_beh_next, from_beh_prev, from_below, from_env_next, from_env_prev, from_flat_map, from_map, from_outcome, from_push, from_seat_next, get_or-below, in_back, in_beh_prev, in_below, in_env_prev, in_filter, in_flat_map, in_map, in_not_empty, length-below, list_any-flat_map, list_any-map, move_in_range, no_longer, not_empty_in, number-pair_at, number_below, numbered_is_arena, numbered_is_same, numbers_are_pairs, outcome_in, outcome_pair, part_at, parts_of_number, remove_in, renaming_keeps, same_test, seat_in, states_frozen, states_number-set, states_set, sum_by_same, triple_in_range}
 pub use Rattle.roman_model.specs.Arena.{Arena, Delegation, back, delegations, is_among, is_beaten, is_justified, mask}
 pub use Rattle.roman_model.specs.Change.{CanChange, Change, Die, Freeze, Join, Thaw, after, set_frozen}
 pub use Rattle.roman_model.specs.Explanation.{SeatNames, name_at, seat_names}
@@ -45,7 +45,7 @@ pub use Rattle.roman_joint.specs.Behaviours.{IsSeatBehaviour}
 pub use Rattle.roman_joint.specs.Changes.{with_frozen}
 pub use Rattle.roman_joint.specs.Layout.{IsJoint, named_sys_in}
 pub use Rattle.roman_joint.specs.Marks.{AnyOf, Grows, IsBeforeAction, IsBeforeEnv, IsBeforeSeat, IsBeforeTurn, IsMarked, IsMoved, Marks, action_steps, env_steps, row_at, seat_steps, turn_steps}
-pub use Rattle.roman_joint.specs.Moves.{AreMovesOf, AreSeatsOf, AreWays, GoesTo, HasRoom, HoldsMoves, HoldsSpans, IsAdded, IsKept, IsSpan, lane_move, lane_moves_from, ways_room, within_in}
+pub use Rattle.roman_joint.specs.Moves.{AreMovesOf, AreSeatsIn, AreWays, HoldsMoves, HoldsSpans, HoldsTurns, IsAdded, IsKept, IsSpan, SuitsEnv, lane_move, lane_moves_from, span_place, system_in, ways_room, within_in}
 pub use Rattle.roman_joint.specs.NamedSys.{IsNamedSys, IsOverEnv, NamedSys, beh_at, cells, named_parts, seat_of, still, system_of}
 pub use Rattle.roman_joint.specs.Names.{beh_states, names_in, names_of_seat}
 pub use Rattle.roman_joint.specs.Outcomes.{IsPairWith, SuitsRows, outcome_number}
@@ -60,6 +60,7 @@ pub use Rattle.roman_joint.specs.declared.moves.Move.{Move}
 pub use Rattle.roman_joint.specs.declared.moves.Moves.{Moves}
 pub use Rattle.roman_joint.specs.declared.moves.Span.{Span}
 pub use Rattle.roman_joint.specs.declared.outcomes.Outcomes.{Outcomes}
+pub use Rattle.roman_joint.specs.declared.parts.Parts.{Parts}
 pub use Rattle.roman_joint.specs.declared.row.Row.{Row}
 pub use Rattle.roman_joint.specs.declared.target_view.TargetView.{TargetView}
 pub use Rattle.roman_joint.specs.declared.turn.TargetMove.{TargetMove}

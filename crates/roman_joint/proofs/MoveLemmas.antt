@@ -1,5 +1,5 @@
 -- Moves of services within the lanes.
-use Rattle.roman_joint.proofs.Common.{◌≡◌, ◌≢◌, ℕ, zero, suc, ◌+◌, ◌-◌, ◌*◌, ◌/◌, ◌%◌, ◌<◌, ◌≤◌, ◌==◌, Bool, true, false, not, ◌&&◌, cond, eqb, List, [], ◌∷◌, ◌++◌, length, drop, get_or, Some, slice_get, slice_index, slice_index_or, IsTrue, IsFalse, inl, inr, refl, sym, ap, ap₂, ◌∙◌, subst, arith, get_or-append_seam, mul-le-mul_right, list_any, filter, both_ways, cases_eq, cases_lt, ne_eqb, eqb-true, false≢true, and_parts, eq-eqb, div-mul-add, mod-mul-add, mod_below, mul-add-lt, length-map, length-append, map-append, append_assoc, get_or_append_left, drop_more, drop_all, take_all, length-filter, count_by-le-length, slice_get_within, slice_get-get_or, IsIn, is_empty, below, product_of, in_map, from_map, in_filter, filter_in, in_below, from_below, any_true, any_from, same_test, by_test, empty_is, length-below, seat_in, Sys, Seat, Beh, beh_next, is_ready, is_beaten, Sizes, sizes_of, numbered, AreSizes, IsSizes, stride_of, low_of, lanes_of, env_rows_of, AreSizes-index, AreSizes-drop, product_positive, lanes_few, is_on, HasLanes, NamedBeh, NamedSys, IsNamedSys, system_of, seat_of, lanes_in, low_in, lane_state_of, IsTargetMove, AreAlive, lane_moves_from, ways_room, HoldsSpans, HoldsMoves, IsKept, AreSeatsOf, Row, TargetMove, Move, Moves, with_frozen, on_zero, slice_range, not_from_false, take-append-le, drop-append-le, filter_below_more, GoesTo, AreMovesOf, AreWays, lane_move, within_in, IsSpan, IsAdded, Span, Ways}
+use Rattle.roman_joint.proofs.Common.{AreAlive, AreMovesOf, AreSeatsIn, AreSizes, AreSizes-drop, AreSizes-index, AreWays, Beh, Bool, Env, HasLanes, HoldsMoves, HoldsSpans, IsAdded, IsFalse, IsIn, IsKept, IsNamedSys, IsSizes, IsSpan, IsTargetMove, IsTrue, List, Move, Moves, NamedBeh, NamedSys, Parts, Row, Seat, Sizes, Some, Span, SuitsEnv, Sys, TargetMove, Ways, [], and_parts, any_from, any_true, ap, append_assoc, ap₂, arith, beh_next, below, both_ways, by_test, cases_eq, cases_lt, cond, count, count_by-le-length, div-add-mod', div_below, drop, drop-append-le, drop_all, drop_more, empty_is, env_rows_of, eq-eqb, eqb, eqb-true, false, false≢true, filter, filter_below_more, filter_in, from_below, from_map, get_or, get_or-append_seam, get_or_append_left, in_below, in_filter, in_map, inl, inr, is_beaten, is_empty, is_on, is_ready, lane_move, lane_moves_from, lane_state_of, lanes_few, lanes_in, lanes_of, length, length-append, length-below, length-filter, length-map, list_any, low_in, low_of, map-append, mod_below, mul-add-lt, mul-le-mul_right, named_in, ne_eqb, not, not_from_false, numbered, on_zero, product_of, product_positive, refl, same_from_place, same_test, seat_of, sizes_of, slice_get, slice_get-get_or, slice_get_within, slice_index, slice_index_or, slice_range, span_place, stride_of, subst, suc, sym, system_in, system_of, take-append-le, take_all, true, ways_room, with_frozen, within_in, zero, ℕ, ◌%◌, ◌&&◌, ◌*◌, ◌++◌, ◌+◌, ◌-◌, ◌/◌, ◌<◌, ◌==◌, ◌∙◌, ◌∷◌, ◌≡◌, ◌≢◌, ◌≤◌}
 use Rattle.std.proofs.lemmas.List.{length-drop}
 use Rattle.roman_joint.specs.declared.seat.Seat as declared
 use Rattle.roman_joint.proofs.ArenaFacts.{beaten_where, joint_numbered}
@@ -45,7 +45,7 @@ way_goes lane st last j digit b e taken = grind (arith, cases_lt)
 -- the moves of the ways are those of the service
 pub moves_made : (n : Sizes) (k last e a : ℕ) (beh : Beh) (ways : Ways) → IsSizes n → low_of n.seats ≤ k → k < length n.seats → beh.states ≡ slice_index n.seats k → last + 1 ≡ slice_index n.seats k →
     AreWays n k beh e a ways → AreMovesOf n k beh e a ways.some (lane_moves_from ways.lanes last (stride_of n k) (last + last + 1))
-moves_made n k last e a beh ways h within seat states size ok = assumption (ok, small_move, sound_move, whole_move)
+moves_made n k last e a beh ways h within seat states size ok = assumption (ok, small_move, within_move, lead)
   where
     st : ℕ
     st = stride_of n k
@@ -53,48 +53,58 @@ moves_made n k last e a beh ways h within seat states size ok = assumption (ok, 
     all : ℕ → Bool
     all j = not (slice_index ways.lanes j == 0)
 
+    moves : List Move
+    moves = lane_moves_from ways.lanes last st (last + last + 1)
+
+    digit : ℕ → ℕ
+    digit lane = lane_state_of n k lane
+
+    nexts : ℕ → List ℕ
+    nexts lane = beh_next beh (digit lane) e a
+
     less : (x : ℕ) → x ≤ last → x * st < 64
     less x l = let product : x * st ≤ last * st = mul-le-mul_right st l in omega (arith, product, state_below n k last h within seat (omega arith))
 
-    small_move : (move : Move) → IsIn move (lane_moves_from ways.lanes last st (last + last + 1)) → (move.from < 64) × (move.to < 64)
+    small_move : (move : Move) → IsIn move moves → (move.from < 64) × (move.to < 64)
     small_move move i =
         let (j, in_all, is) = from_map (lane_move ways.lanes last st) move (filter all (below (last + last + 1))) i in
         let l : j < last + last + 1 = from_below (last + last + 1) j (filter_in all j (below (last + last + 1)) in_all).0 in
         (subst (λ (m : Move). m.from < 64) (sym is) (less (last - j) (omega arith)), subst (λ (m : Move). m.to < 64) (sym is) (less (j - last) (omega arith)))
 
-    sound_move : (move : Move) (lane : ℕ) → IsIn move (lane_moves_from ways.lanes last st (last + last + 1)) → lane < lanes_of n.seats → is_on move.lanes lane ≡ true →
-        (b : ℕ) × IsIn b (beh_next beh (lane_state_of n k lane) e a) × GoesTo n k lane b move
-    sound_move move lane i l on =
+    sound : (move : Move) (lane : ℕ) → IsIn move moves → lane < lanes_of n.seats → is_on move.lanes lane ≡ true → (b : ℕ) × IsIn b (nexts lane) × (move.from ≤ lane) × (lane + move.to - move.from ≡ lane + b * st - digit lane * st)
+    sound move lane i l on =
         let (j, in_all, is) = from_map (lane_move ways.lanes last st) move (filter all (below (last + last + 1))) i in
-        let digit = lane_state_of n k lane in
-        let nexts = beh_next beh digit e a in
-        let test = λ (b : ℕ). b + slice_index n.seats k == j + 1 + digit in
-        let goes : list_any test nexts ≡ true = sym (ok.goes j lane l) ∙ (ap (λ (m : Move). is_on m.lanes lane) (sym is) ∙ on) in
-        let (b, in_states, t) = any_true test nexts goes in
-        let sum : b + slice_index n.seats k ≡ j + 1 + digit = eqb-true (b + slice_index n.seats k) (j + 1 + digit) t in
-        let sum_last : b + (last + 1) ≡ j + 1 + digit = ap (λ m. b + m) size ∙ sum in
-        let to = way_goes lane st last j digit b sum_last (lane_state n k lane h within seat l).taken in
-        (b, in_states, subst (GoesTo n k lane b) (sym is) (record { taken = to.0; there = to.1 }))
+        let test = λ (b : ℕ). b + slice_index n.seats k == j + 1 + digit lane in
+        let (b, in_states, t) = any_true test (nexts lane) (sym (ok.goes j lane l) ∙ (ap (λ (m : Move). is_on m.lanes lane) (sym is) ∙ on)) in
+        let sum : b + (last + 1) ≡ j + 1 + digit lane = ap (λ m. b + m) size ∙ eqb-true (b + slice_index n.seats k) (j + 1 + digit lane) t in
+        let (taken, there) = way_goes lane st last j (digit lane) b sum (lane_state n k lane h within seat l).taken in
+        (b, in_states, subst (λ (m : Move). m.from ≤ lane) (sym is) taken, subst (λ (m : Move). lane + m.to - m.from ≡ lane + b * st - digit lane * st) (sym is) there)
 
-    whole_move : (b lane : ℕ) → lane < lanes_of n.seats → IsIn b (beh_next beh (lane_state_of n k lane) e a) →
-        (move : Move) × IsIn move (lane_moves_from ways.lanes last st (last + last + 1)) × (is_on move.lanes lane ≡ true) × GoesTo n k lane b move
-    whole_move b lane l i =
-        let digit = lane_state_of n k lane in
-        let nexts = beh_next beh digit e a in
-        let j : ℕ = b + last - digit in
-        let in_size : b < slice_index n.seats k = subst (λ m. b < m) states (next_below beh digit e a b i) in
-        let digit_below : digit < slice_index n.seats k = mod_below (lane / st) (slice_index n.seats k) (AreSizes-index n.seats k h.seats seat).0 in
-        let sum : b + slice_index n.seats k ≡ j + 1 + digit = omega (arith, size, digit_below) in
-        let sum_last : b + (last + 1) ≡ j + 1 + digit = ap (λ m. b + m) size ∙ sum in
-        let on : is_on (slice_index ways.lanes j) lane ≡ true = ok.goes j lane l ∙ any_from (λ c. c + slice_index n.seats k == j + 1 + digit) b nexts i (eq-eqb (b + slice_index n.seats k) (j + 1 + digit) sum) in
+    state_of : (b lane : ℕ) → IsIn b (nexts lane) → b < slice_index n.seats k
+    state_of b lane i = subst (λ m. b < m) states (next_below beh (digit lane) e a b i)
+
+    within_move : (move : Move) (lane : ℕ) → IsIn move moves → lane < lanes_of n.seats → is_on move.lanes lane ≡ true → (move.from ≤ lane) × (lane + move.to - move.from < lanes_of n.seats)
+    within_move move lane i l on = let (b, in_states, taken, there) = sound move lane i l on in (taken, rw there ((lane_state n k lane h within seat l).moves b (state_of b lane in_states)))
+
+    lead : (test : ℕ → Bool) (lane : ℕ) → lane < lanes_of n.seats → list_any (λ move. is_on move.lanes lane && test (lane + move.to - move.from)) moves ≡ list_any (λ b. test (lane + b * st - digit lane * st)) (nexts lane)
+    lead test lane l = same_test _ _
+        (λ t.
+        let (move, i, u) = any_true (λ move. is_on move.lanes lane && test (lane + move.to - move.from)) moves t in
+        let (on, passes) = and_parts (is_on move.lanes lane) (test (lane + move.to - move.from)) u in
+        let (b, in_states, taken, there) = sound move lane i l on in
+        any_from (λ b. test (lane + b * st - digit lane * st)) b (nexts lane) in_states (ap test (sym there) ∙ passes))
+        (λ t.
+        let (b, i, u) = any_true (λ b. test (lane + b * st - digit lane * st)) (nexts lane) t in
+        let j : ℕ = b + last - digit lane in
+        let in_size : b < slice_index n.seats k = state_of b lane i in
+        let digit_below : digit lane < slice_index n.seats k = mod_below (lane / st) (slice_index n.seats k) (AreSizes-index n.seats k h.seats seat).0 in
+        let sum : b + slice_index n.seats k ≡ j + 1 + digit lane = omega (arith, size, digit_below) in
+        let on : is_on (slice_index ways.lanes j) lane ≡ true = ok.goes j lane l ∙ any_from (λ c. c + slice_index n.seats k == j + 1 + digit lane) b (nexts lane) i (eq-eqb (b + slice_index n.seats k) (j + 1 + digit lane) sum) in
         let some : slice_index ways.lanes j ≢ 0 = λ none. false≢true (sym (on_zero lane) ∙ (ap (λ w. is_on w lane) (sym none) ∙ on)) in
-        let there : j < last + last + 1 = omega (arith, size, in_size) in
-        let to = way_goes lane st last j digit b sum_last (lane_state n k lane h within seat l).taken in (
-          lane_move ways.lanes last st j,
-          in_map (lane_move ways.lanes last st) j (filter all (below (last + last + 1))) (in_filter all j (below (last + last + 1)) (in_below (last + last + 1) j there) (not_from_false (eqb (slice_index ways.lanes j) 0) (ne_eqb (slice_index ways.lanes j) 0 some))),
-          on,
-          record { taken = to.0; there = to.1 },
-        )
+        let in_all = in_filter all j (below (last + last + 1)) (in_below (last + last + 1) j (omega (arith, size, in_size))) (not_from_false (eqb (slice_index ways.lanes j) 0) (ne_eqb (slice_index ways.lanes j) 0 some)) in
+        let to = way_goes lane st last j (digit lane) b (ap (λ m. b + m) size ∙ sum) (lane_state n k lane h within seat l).taken in
+        any_from (λ move. is_on move.lanes lane && test (lane + move.to - move.from)) (lane_move ways.lanes last st j) moves (in_map (lane_move ways.lanes last st) j (filter all (below (last + last + 1))) in_all)
+        (ap₂ (λ y z. y && z) on (ap test to.1 ∙ u)))
 
 -- the pairs at which a service within the lanes serves, by its moves
 pub serves_within : (s : Sys) (x a k some good alive : ℕ) (row : Row) (turn : TargetMove) (seat : Seat) (moves : List Move) (gone : ℕ → Bool) → Known s x row → IsTargetMove s row a turn → low_in s ≤ k →
@@ -129,19 +139,6 @@ serves_within s x a k some good alive row turn seat moves gone h ok within seate
     dead : ℕ → ℕ → Bool
     dead lane b = not (is_on alive (lane + b * st - digit lane * st))
 
-    same_any : (lane : ℕ) → lane < lanes_in s → list_any (λ move. is_on move.lanes lane && not (is_on alive (lane + move.to - move.from))) moves ≡ list_any (dead lane) (states lane)
-    same_any lane l = same_test (list_any (λ move. is_on move.lanes lane && not (is_on alive (lane + move.to - move.from))) moves) (list_any (dead lane) (states lane))
-        (λ t.
-        let (move, i, u) = any_true (λ move. is_on move.lanes lane && not (is_on alive (lane + move.to - move.from))) moves t in
-        let (on, gone_there) = and_parts (is_on move.lanes lane) (not (is_on alive (lane + move.to - move.from))) u in
-        let (b, j, to) = are.sound move lane i l on in
-        any_from (dead lane) b (states lane) j (ap (λ y. not (is_on alive y)) (sym to.there) ∙ gone_there))
-        (λ t.
-        let (b, j, u) = any_true (dead lane) (states lane) t in
-        let (move, i, on, to) = are.whole b lane l j in
-        any_from (λ m. is_on m.lanes lane && not (is_on alive (lane + m.to - m.from))) move moves i
-        (ap₂ (λ y z. y && z) on (ap (λ y. not (is_on alive y)) to.there ∙ u)))
-
     leads : (lane : ℕ) → (l : lane < lanes_in s) → Leads (numbered s) (x * lanes_in s + lane) a k turn.envs.now (states lane) (λ e b. (turn.base + e * env_rows_of n) * lanes_in s + (lane + b * st - digit lane * st))
     leads lane l = leads_lanes s row x lane a k ok.to turn.base (digit lane) turn.envs.now (states lane) h.sys h.sizes h.looked l within in_seats refl ok.target ok.worlds (sym (ready_next (slice_get s.seats k) seat (digit lane) row.env a seated ready)) ok.base
 
@@ -155,9 +152,9 @@ serves_within s x a k some good alive row turn seat moves gone h ok within seate
         (λ none. off lane (are.each lane l ∙ ap not none)
         ∙ sym (ap not (leads_nothing (numbered s) gone (x * lanes_in s + lane) a k turn.envs.now (states lane) (λ e b. (turn.base + e * env_rows_of n) * lanes_in s + (lane + b * st - digit lane * st)) (leads lane l) (empty_is (states lane) none))))
         (λ full. told lane (omega (arith, lanes_few n.seats)) (λ move i on.
-        let (b, j, to) = are.sound move lane i l on in
-        (to.taken, omega (arith, to.there, there lane b l j, lanes_few n.seats)))
-        ∙ (ap₂ (λ y z. y && not z) (are.each lane l ∙ ap not full) (same_any lane l) ∙ all_alive lane l full))
+        let (taken, below) = are.within move lane i l on in
+        (taken, omega (arith, below, lanes_few n.seats)))
+        ∙ (ap₂ (λ y z. y && not z) (are.each lane l ∙ ap not full) (are.leads (λ y. not (is_on alive y)) lane l) ∙ all_alive lane l full))
 
 -- a frozen service serves at no pair
 pub beaten_frozen : (n : NamedSys) (p a k : ℕ) (seat : declared.Seat) (gone : ℕ → Bool) → IsNamedSys n → slice_get n.seats k ≡ Some seat → IsTrue seat.frozen → is_beaten (numbered (system_of n)) gone p a k ≡ true
@@ -173,45 +170,35 @@ range_more xs ys a b l = grind (arith, cases_lt, drop-append-le, length-drop, ta
 range_new : {X : Type 0} (xs ys : List X) (a b : ℕ) → a ≡ length xs → b ≡ length (xs ++ ys) → slice_range (xs ++ ys) a b ≡ ys
 range_new xs ys a b first end = grind (arith, drop-append-le, drop_all, length-append, take_all)
 
--- the place in the table of a seat within the lanes, an action and a state of the environment
-record IsPlaceOf (s : Sys) (k e a i : ℕ) : Type 0 where
-  seat : low_in s + i % within_in s ≡ k
-  env : i / within_in s / s.env.actions ≡ e
-  action : i / within_in s % s.env.actions ≡ a
-
-place_of : (s : Sys) (k e a i : ℕ) → k < length s.seats → low_in s ≤ k → a < s.env.actions → i ≡ (e * s.env.actions + a) * within_in s + (k - low_in s) → IsPlaceOf s k e a i
-place_of s k e a i in_seats within action is = grind (arith, div-mul-add, mod-mul-add)
-
--- the moves of a seat, at its place in the table
-pub span_at : (s : Sys) (k e a i : ℕ) (span : Span) (moves : List Move) (seat : Seat) → slice_get s.seats k ≡ Some seat → low_in s ≤ k → a < s.env.actions → i ≡ (e * s.env.actions + a) * within_in s + (k - low_in s) →
-    IsSpan s i span moves → AreMovesOf (sizes_of s) k seat.beh e a span.some (slice_range moves span.first span.end)
-span_at s k e a i span moves seat seated within action is ok =
-    let of = place_of s k e a i (slice_get_within s.seats k seat seated) within action is in
-    rw (of.seat, of.env, of.action) at (ok.moves_of seat (ap (slice_get s.seats) of.seat ∙ seated))
+-- a seat, an action and a state of the environment have a place of their own
+own_place : (s : Sys) (e a k f b j : ℕ) → k < length s.seats → j < length s.seats → low_in s ≤ k → low_in s ≤ j → a < s.env.actions → b < s.env.actions → span_place s e a k ≡ span_place s f b j → (e ≡ f) × (a ≡ b) × (k ≡ j)
+own_place s e a k f b j seat other low low_other action action_other is =
+    let (turns, places) = same_from_place (e * s.env.actions + a) (k - low_in s) (f * s.env.actions + b) (j - low_in s) (within_in s) (omega (arith, seat, low)) (omega (arith, other, low_other)) is in
+    let (envs, actions) = same_from_place e a f b s.env.actions action action_other turns in
+    (envs, actions, omega (arith, places, low, low_other))
 
 -- one more span
-pub spans_more : (s : Sys) (k e a : ℕ) (beh : Beh) (old new : Moves) (seat : Seat) → slice_get s.seats k ≡ Some seat → beh ≡ seat.beh → low_in s ≤ k → a < s.env.actions →
-    length old.spans.items ≡ (e * s.env.actions + a) * within_in s + (k - low_in s) → HoldsSpans s old.spans.items old.moves.items → IsAdded (sizes_of s) k beh e a old new → HoldsSpans s new.spans.items new.moves.items
-spans_more s k e a beh old new seat seated is_beh within action long held added = record { each = λ i span l at. each i span l at }
+pub spans_more : (s : Sys) (k e a : ℕ) (seat : Seat) (beh : Beh) (old new : Moves) → slice_get s.seats k ≡ Some seat → beh ≡ seat.beh → low_in s ≤ k → a < s.env.actions →
+    length old.spans.items ≡ span_place s e a k → HoldsSpans s old.spans.items old.moves.items → IsAdded (sizes_of s) k beh e a old new → HoldsSpans s new.spans.items new.moves.items
+spans_more s k e a seat beh old new seated is_beh within action long held added = record { each = λ i span l at. each i span l at }
   where
     moves_long : length new.moves.items ≡ length old.moves.items + length added.more
     moves_long = ap length added.moves ∙ length-append old.moves.items added.more
 
+    some_same : (x y : Seat) → Some x ≡ Some y → x ≡ y
+    some_same x y e = cc
+
     here : (i : ℕ) → i ≡ length old.spans.items → IsSpan s i added.span new.moves.items
-    here i at =
-        let of = place_of s k e a i (slice_get_within s.seats k seat seated) within action (at ∙ long) in
-        let range : slice_range new.moves.items added.span.first added.span.end ≡ added.more =
-        ap (λ ms. slice_range ms added.span.first added.span.end) added.moves ∙ range_new old.moves.items added.more added.span.first added.span.end added.first (added.end ∙ ap length added.moves) in
-        record {
-          first = omega (arith, added.first, added.end, moves_long);
-          last = omega (arith, added.end);
-          moves_of = λ other seated_there.
-              let same : other ≡ seat = some_same other seat (sym seated_there ∙ (ap (slice_get s.seats) of.seat ∙ seated)) in
-              rw (of.seat, of.env, of.action, range) (subst (λ b. AreMovesOf (sizes_of s) k b e a added.span.some added.more) (is_beh ∙ ap (λ (y : Seat). y.beh) (sym same)) added.moves_of);
-        }
-      where
-        some_same : (x y : Seat) → Some x ≡ Some y → x ≡ y
-        some_same x y e = cc
+    here i at = record {
+      first = omega (arith, added.first, added.end, moves_long);
+      last = omega (arith, added.end);
+      moves_of = λ f b j other is action_other low_other seated_there.
+          let (envs, actions, seats) = own_place s e a k f b j (slice_get_within s.seats k seat seated) (slice_get_within s.seats j other seated_there) within low_other action action_other (sym (at ∙ long) ∙ is) in
+          let same : seat ≡ other = some_same seat other (sym seated ∙ (ap (slice_get s.seats) seats ∙ seated_there)) in
+          let range : slice_range new.moves.items added.span.first added.span.end ≡ added.more =
+          ap (λ ms. slice_range ms added.span.first added.span.end) added.moves ∙ range_new old.moves.items added.more added.span.first added.span.end added.first (added.end ∙ ap length added.moves) in
+          rw (← envs, ← actions, ← seats, ← same, ← is_beh, range) added.moves_of;
+    }
 
     each : (i : ℕ) (span : Span) → i < length new.spans.items → span ≡ slice_index_or new.spans.items i span → IsSpan s i span new.moves.items
     each i span l at = elim (cases_eq i (length old.spans.items)) [
@@ -223,105 +210,57 @@ spans_more s k e a beh old new seat seated is_beh within action long held added 
           let there : IsSpan s i span old.moves.items = held.each i span before (at ∙ ap (λ xs. get_or xs i span) added.spans ∙ get_or_append_left old.spans.items (added.span ∷ []) span i before) in
           let range : slice_range new.moves.items span.first span.end ≡ slice_range old.moves.items span.first span.end =
           ap (λ ms. slice_range ms span.first span.end) added.moves ∙ range_more old.moves.items added.more span.first span.end there.last in
-          record { first = there.first; last = omega (arith, there.last, moves_long); moves_of = λ other_seat seated_there. rw range (there.moves_of other_seat seated_there) }
+          record { first = there.first; last = omega (arith, there.last, moves_long); moves_of = λ f b j other is action_other low_other seated_there. rw range (there.moves_of f b j other is action_other low_other seated_there) }
     ]
 
--- the place of a seat's span in a joint's table
-pub record StandsAt (s : Sys) (k e a i : ℕ) (table : Moves) : Type 0 where
-  pub place : i ≡ (e * s.env.actions + a) * within_in s + (k - low_in s)
-  pub inside : i < length table.spans.items
-  pub span : (span : Span) → span ≡ slice_index_or table.spans.items i span → IsSpan s i span table.moves.items
-
-pub stands_at : (s : Sys) (table : Moves) (k e a x y l j : ℕ) → HoldsMoves s table → low_in s ≤ k → k < length s.seats → e < s.env.states → a < s.env.actions →
-    x ≡ e → y ≡ a → l ≡ within_in s → j ≡ k - low_in s → StandsAt s k e a ((x * table.actions + y) * l + j) table
-stands_at s table k e a x y l j held within seat env action is_e is_a is_l is_j =
+-- a seat's span has a place in the table
+pub place_within : (s : Sys) (e a k : ℕ) → low_in s ≤ k → k < length s.seats → e < s.env.states → a < s.env.actions → span_place s e a k < s.env.states * s.env.actions * within_in s
+place_within s e a k within seat env action =
     let turn : e * s.env.actions + a < s.env.actions * s.env.states = mul-add-lt e s.env.actions a s.env.states env action in
-    let below : (e * s.env.actions + a) * within_in s + (k - low_in s) < within_in s * (s.env.actions * s.env.states) =
-    mul-add-lt (e * s.env.actions + a) (within_in s) (k - low_in s) (s.env.actions * s.env.states) turn (omega (arith, within, seat)) in
-    let same : within_in s * (s.env.actions * s.env.states) ≡ s.env.states * s.env.actions * within_in s = omega arith in
-    let place : (x * table.actions + y) * l + j ≡ (e * s.env.actions + a) * within_in s + (k - low_in s) = rw (is_e, held.actions, is_a, is_l, is_j) refl in
-    let inside : (x * table.actions + y) * l + j < length table.spans.items = omega (arith, place, below, same, held.long) in
-    record { place = place; inside = inside; span = λ span at. held.spans_at.each ((x * table.actions + y) * l + j) span inside at }
+    omega (arith, mul-add-lt (e * s.env.actions + a) (within_in s) (k - low_in s) (s.env.actions * s.env.states) turn (omega (arith, within, seat)))
 
--- Tables that are kept.
+pub suits_kept : (env : Env) (old new : Moves) → IsKept old new → SuitsEnv env old → SuitsEnv env new
+suits_kept env old new kept suits = grind arith
 
-pub kept_on : (a b c : Moves) → IsKept a b → IsKept b c → IsKept a c
-kept_on a b c x y = assumption (y.same_envs ∙ x.same_envs, y.same_actions ∙ x.same_actions, y.spans_room ∙ x.spans_room, y.moves_room ∙ x.moves_room)
+-- the action and the environment's state of a turn
+pub record TurnAt (env : Env) (actions turn : ℕ) : Type 0 where
+  pub env_state : turn / actions < env.states
+  pub action : turn % actions < env.actions
+  pub whole : turn ≡ turn / actions * env.actions + turn % actions
 
--- facts about a service that is read
-pub record SeatHere (n : NamedSys) (sizes : Sizes) (k : ℕ) (beh : Beh) : Type 0 where
-  pub seat : Seat
-  pub seated : slice_get (system_of n).seats k ≡ Some seat
-  pub beh_of : beh ≡ seat.beh
-  pub size : beh.states ≡ slice_index sizes.seats k
-  pub few : beh.states ≤ 64
-
-pub seat_here : (n : NamedSys) (catalogue : List NamedBeh) (seats : List declared.Seat) (sizes : Sizes) (envs actions k : ℕ) (x : declared.Seat) (y : NamedBeh) → AreSeatsOf n catalogue seats sizes envs actions →
-    k < length seats → x ≡ get_or seats k x → y ≡ get_or catalogue x.behaviour y → SeatHere n sizes k y.beh
-seat_here n catalogue seats sizes envs actions k x y of l at_seat at_beh =
-    let placed : slice_get n.seats k ≡ Some x = ap (λ xs. slice_get xs k) (sym of.seats_of) ∙ (slice_get-get_or seats k x l ∙ ap Some (sym at_seat)) in
-    let read : SeatRead n k x y = service_read n k x catalogue y of.known placed of.catalogue_of at_beh in
-    let ok = of.known.system.seats (seat_of n.catalogue x) (seat_in (system_of n).seats k (seat_of n.catalogue x) read.seated) in
-    record {
-      seat = seat_of n.catalogue x;
-      seated = read.seated;
-      beh_of = read.beh;
-      size = sym read.size ∙ ap (λ (m : Sizes). slice_index m.seats k) (sym of.sizes_are);
-      few = subst (λ (b : Beh). b.states ≤ 64) (sym read.beh) ok.states.1;
-    }
+pub turn_at : (env : Env) (table : Moves) (turn : ℕ) → SuitsEnv env table → turn < env.states * env.actions → 0 < env.actions → TurnAt env table.actions turn
+turn_at env table turn suits l some = rw suits.actions (record { env_state = div_below turn env.actions env.states some l; action = mod_below turn env.actions some; whole = sym (div-add-mod' turn env.actions) })
 
 -- there are as many sizes as services
-pub sizes_long : (n : NamedSys) (catalogue : List NamedBeh) (seats : List declared.Seat) (sizes : Sizes) (envs actions : ℕ) → AreSeatsOf n catalogue seats sizes envs actions → length sizes.seats ≡ length seats
-sizes_long n catalogue seats sizes envs actions of =
-    ap (λ (m : Sizes). length m.seats) of.sizes_are ∙ (length-map (system_of n).seats (λ (y : Seat). y.beh.states) ∙ (length-map n.seats (seat_of n.catalogue) ∙ ap length (sym of.seats_of)))
+pub sizes_long : (parts : Parts) (sizes : Sizes) → AreSeatsIn parts sizes → length sizes.seats ≡ length parts.seats.now
+sizes_long parts sizes of = ap (λ (m : Sizes). length m.seats) of.sizes_are ∙ (length-map (system_in parts).seats (λ (y : Seat). y.beh.states) ∙ length-map parts.seats.now (seat_of parts.catalogue.now))
+
+-- a service and its behaviour, as they are read from the parts of a joint
+pub seat_here : (parts : Parts) (sizes : Sizes) (k : ℕ) (x : declared.Seat) (y : NamedBeh) → (of : AreSeatsIn parts sizes) → k < length parts.seats.now → x ≡ get_or parts.seats.now k x →
+    y ≡ get_or parts.catalogue.now x.behaviour y → SeatRead (named_in parts of.limit) k x y
+seat_here parts sizes k x y of l at_seat at_beh = service_read (named_in parts of.limit) k x parts.catalogue.now y of.known (slice_get-get_or parts.seats.now k x l ∙ ap Some (sym at_seat)) refl at_beh
 
 pub room_more : (ns : List ℕ) (k : ℕ) → k < length ns → ways_room (drop k ns) ≡ 2 * get_or ns k 0 - 1 + ways_room (drop (k + 1) ns)
 room_more ns k l = ap ways_room (drop_more ns k 0 l)
 
--- one more service, for any system
-pub turn_more : (n : NamedSys) (catalogue : List NamedBeh) (seats : List declared.Seat) (sizes : Sizes) (k e a : ℕ) (beh : Beh) (first old new : Moves) → IsKept first old → IsAdded sizes k beh e a old new →
-    AreSeatsOf n catalogue seats sizes new.envs new.actions → SeatHere n sizes k beh → low_of sizes.seats ≤ k → a < first.actions →
-    length first.spans.items ≡ (e * first.actions + a) * (length seats - low_of sizes.seats) → length old.spans.items ≡ length first.spans.items + (k - low_of sizes.seats) →
-    HoldsSpans (system_of n) old.spans.items old.moves.items → HoldsSpans (system_of n) new.spans.items new.moves.items
-turn_more n catalogue seats sizes k e a beh first old new kept added of here low action start long held =
-    let s = system_of n in
-    let acts : first.actions ≡ s.env.actions = sym kept.same_actions ∙ (sym added.kept.same_actions ∙ of.actions_are) in
-    let is_low : low_of sizes.seats ≡ low_in s = ap (λ (m : Sizes). low_of m.seats) of.sizes_are in
-    let lows : length seats - low_of sizes.seats ≡ within_in s = ap₂ (λ x y. x - y) (ap length of.seats_of ∙ sym (length-map n.seats (seat_of n.catalogue))) is_low in
-    let place : length old.spans.items ≡ (e * s.env.actions + a) * within_in s + (k - low_in s) =
-    long ∙ ap₂ (λ x y. x + (k - y)) (start ∙ ap₂ (λ x y. (e * x + a) * y) acts lows) is_low in
-    spans_more s k e a beh old new here.seat here.seated here.beh_of (subst (λ m. m ≤ k) is_low low) (subst (λ m. a < m) acts action) place held
-    (subst (λ m. IsAdded m k beh e a old new) of.sizes_are added)
-
 -- A service that is frozen or made ready keeps its moves.
-
-within_same : (s t : Sys) → sizes_of t ≡ sizes_of s → within_in t ≡ within_in s
-within_same s t sizes = grind (arith, length-map)
-
-span_same : (s t : Sys) (i : ℕ) (span : Span) (moves : List Move) → sizes_of t ≡ sizes_of s → t.env.actions ≡ s.env.actions →
-    ((j : ℕ) (x : Seat) → slice_get t.seats j ≡ Some x → (y : Seat) × (slice_get s.seats j ≡ Some y) × (y.beh ≡ x.beh)) → IsSpan s i span moves → IsSpan t i span moves
-span_same s t i span moves sizes acts there ok = record {
-  first = ok.first;
-  last = ok.last;
-  moves_of = λ x seated.
-      let low : low_in t ≡ low_in s = ap (λ (m : Sizes). low_of m.seats) sizes in
-      let at : low_in t + i % within_in t ≡ low_in s + i % within_in s = ap₂ (λ m w. m + i % w) low (within_same s t sizes) in
-      let (y, seated_y, same) = there (low_in t + i % within_in t) x seated in
-      let turn : i / within_in t ≡ i / within_in s = ap (λ w. i / w) (within_same s t sizes) in
-      rw (at, turn, acts, sizes, ← same) (ok.moves_of y (ap (slice_get s.seats) (sym at) ∙ seated_y));
-}
 
 pub moves_frozen : (n : NamedSys) (k : ℕ) (frozen : Bool) (table : Moves) → HoldsMoves (system_of n) table → HoldsMoves (system_of (with_seats n (with_frozen n.seats k frozen))) table
 moves_frozen n k frozen table held =
     let s = system_of n in
     let t = system_of (with_seats n (with_frozen n.seats k frozen)) in
     let sizes : sizes_of t ≡ sizes_of s = frozen_sizes n k frozen in
-    record {
-      envs = held.envs;
-      actions = held.actions;
-      long = held.long ∙ ap (λ w. s.env.states * s.env.actions * w) (sym (within_same s t sizes));
-      spans_at = record { each = λ i span l at. span_same s t i span table.moves.items sizes refl (λ j x seated. frozen_at n.catalogue n.seats k frozen j x seated) (held.spans_at.each i span l at) };
-    }
+    let low : low_in t ≡ low_in s = ap (λ (m : Sizes). low_of m.seats) sizes in
+    let within : within_in t ≡ within_in s = grind (arith, length-map) in
+    let span : (i : ℕ) (span : Span) → IsSpan s i span table.moves.items → IsSpan t i span table.moves.items = λ i span ok. record {
+      first = ok.first;
+      last = ok.last;
+      moves_of = λ e a j x is action lanes seated.
+          let (y, seated_y, same) = frozen_at n.catalogue n.seats k frozen j x seated in
+          rw (sizes, ← same) (ok.moves_of e a j y (rw (within, low) at is) action (rw low at lanes) seated_y);
+    } in
+    let spans_at : HoldsSpans t table.spans.items table.moves.items = record { each = λ i x l at. span i x (held.turns.spans_at.each i x l at) } in
+    record { suits = held.suits; turns = record { long = rw within held.turns.long; few = held.turns.few; spans_at = spans_at } }
 
 -- the ways so far, with one more
 pub ruleset way_steps = (way_more, ways_few, append_assoc, length-append)

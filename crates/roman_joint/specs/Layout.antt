@@ -8,7 +8,7 @@ use Rattle.roman_joint.specs.declared.tables.Tables.{Tables}
 use Rattle.roman_joint.specs.NamedSys.{NamedSys, system_of, IsNamedSys}
 use Rattle.roman_joint.specs.TargetViews.{AreTargetViews}
 use Rattle.roman_joint.specs.Rows.{AreRowsOf}
-use Rattle.roman_joint.specs.Moves.{AreSeatsIn, HoldsMoves, HasRoom}
+use Rattle.roman_joint.specs.Moves.{HoldsMoves, system_in}
 
 -- the system with its names that the fields hold
 abbrev pub named_sys_in : Inside → NamedSys
@@ -26,7 +26,6 @@ pub record IsJoint (a : Inside) : Type 0 where
   pub shape : a.shape ≡ sizes_of (system_of (named_sys_in a))
   pub rows : AreRowsOf (sizes_of (system_of (named_sys_in a))) a.rows
   pub moves : HoldsMoves (system_of (named_sys_in a)) a.moves
-  pub moves_room : HasRoom a.moves
   pub target_views : AreTargetViews a.environment.env a.target.beh a.target_views.items
   pub room : MAX_SERVICES ≤ vec_capacity a.seats
 
@@ -36,5 +35,4 @@ pub record AreTables (parts : Parts) (sizes : Sizes) (tables : Tables) : Type 0 
   pub room : MAX_SERVICES ≤ vec_capacity tables.places
   pub target_views : AreTargetViews parts.environment.now.env parts.target.now.beh tables.target_views.items
   pub rows : AreRowsOf sizes tables.rows
-  pub moves : (n : NamedSys) → AreSeatsIn n parts sizes → HoldsMoves (system_of n) tables.moves
-  pub moves_room : HasRoom tables.moves
+  pub moves : HoldsMoves (system_in parts) tables.moves

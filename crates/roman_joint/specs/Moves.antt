@@ -1,38 +1,32 @@
 -- Moves of services within the lanes.
-use Rattle.std.specs.Prelude.{◌≡◌, ℕ, ◌+◌, ◌-◌, ◌*◌, ◌/◌, ◌%◌, ◌^◌, ◌<◌, ◌≤◌, ◌==◌, ◌&&◌, true, false, not, List, [], ◌∷◌, Some, map, length, slice_get, slice_index, slice_index_or, slice_range, ◌++◌, vec_capacity}
+use Rattle.std.specs.Prelude.{◌≡◌, ℕ, ◌+◌, ◌-◌, ◌*◌, ◌/◌, ◌%◌, ◌^◌, ◌<◌, ◌≤◌, ◌==◌, ◌&&◌, Bool, true, false, not, List, [], ◌∷◌, Some, map, length, slice_get, slice_index, slice_index_or, slice_range, ◌++◌, vec_capacity}
 use Rattle.std.specs.List.{list_any, filter}
 use Rattle.roman_model.specs.Lists.{IsIn, is_empty, below}
-use Rattle.roman_model.specs.System.{Sys, Beh, Seat}
+use Rattle.roman_model.specs.System.{Env, Sys, Beh, Seat}
 use Rattle.roman_model.specs.SystemArena.{beh_next}
 use Rattle.roman_model.specs.Numbers.{Sizes, sizes_of}
 use Rattle.roman_radix.specs.Radix.{stride_of}
 use Rattle.roman_radix.specs.Rows.{low_of, lanes_of}
 use Rattle.roman_lanes.specs.Rows.{is_on}
 use Rattle.roman_parts.specs.Named.{NamedBeh}
-use Rattle.roman_joint.specs.NamedSys.{NamedSys, system_of, IsNamedSys}
+use Rattle.roman_joint.specs.NamedSys.{system_of, IsNamedSys}
+use Rattle.roman_joint.specs.Parts.{named_in}
 use Rattle.roman_joint.specs.Rows.{low_in, lane_state_of, AreRowsOf}
 use Rattle.roman_joint.specs.declared.layout.Rows.{Rows}
-use Rattle.roman_joint.specs.declared.seat.Seat as declared
 use Rattle.roman_joint.specs.declared.moves.Move.{Move}
 use Rattle.roman_joint.specs.declared.moves.Span.{Span}
 use Rattle.roman_joint.specs.declared.moves.Moves.{Moves}
 use Rattle.roman_joint.specs.declared.parts.Parts.{Parts}
 use Rattle.roman_joint.specs.declared.ways.Ways.{Ways}
 
--- by the move, the lane goes to the lane of state b
-pub record GoesTo (n : Sizes) (k lane b : ℕ) (move : Move) : Type 0 where
-  pub taken : move.from ≤ lane
-  pub there : lane + move.to - move.from ≡ lane + b * stride_of n k - lane_state_of n k lane * stride_of n k
-
 -- these are the moves of seat k with the behaviour on a in environment state e, from each lane to those of its next states; `some` are the lanes with a next state
 pub record AreMovesOf (n : Sizes) (k : ℕ) (beh : Beh) (e a some : ℕ) (moves : List Move) : Type 0 where
   pub each : (lane : ℕ) → lane < lanes_of n.seats → is_on some lane ≡ not (is_empty (beh_next beh (lane_state_of n k lane) e a))
   pub rest : (lane : ℕ) → lanes_of n.seats ≤ lane → is_on some lane ≡ false
   pub small : (move : Move) → IsIn move moves → (move.from < 64) × (move.to < 64)
-  pub sound : (move : Move) (lane : ℕ) → IsIn move moves → lane < lanes_of n.seats → is_on move.lanes lane ≡ true →
-      (b : ℕ) × IsIn b (beh_next beh (lane_state_of n k lane) e a) × GoesTo n k lane b move
-  pub whole : (b lane : ℕ) → lane < lanes_of n.seats → IsIn b (beh_next beh (lane_state_of n k lane) e a) →
-      (move : Move) × IsIn move moves × (is_on move.lanes lane ≡ true) × GoesTo n k lane b move
+  pub within : (move : Move) (lane : ℕ) → IsIn move moves → lane < lanes_of n.seats → is_on move.lanes lane ≡ true → (move.from ≤ lane) × (lane + move.to - move.from < lanes_of n.seats)
+  pub leads : (test : ℕ → Bool) (lane : ℕ) → lane < lanes_of n.seats → list_any (λ move. is_on move.lanes lane && test (lane + move.to - move.from)) moves
+      ≡ list_any (λ b. test (lane + b * stride_of n k - lane_state_of n k lane * stride_of n k)) (beh_next beh (lane_state_of n k lane) e a)
 
 -- there are words of alive lanes for `many` rows, and the moves stay below 64 lanes
 pub record SuitsMoving (alive : List ℕ) (moves : List Move) (many : ℕ) : Type 0 where
@@ -80,30 +74,38 @@ ways_room (size ∷ sizes) = 2 * size - 1 + ways_room sizes
 abbrev pub within_in : Sys → ℕ
 within_in s = length s.seats - low_in s
 
--- the span at place i of a table is that of a seat within the lanes, an action and a state of the environment, where the seat's place changes fastest
+-- the place of a span in a table, where the seat's place changes fastest, then the action's, then that of the environment's state
+abbrev pub span_place : Sys → ℕ → ℕ → ℕ → ℕ
+span_place s e a k = (e * s.env.actions + a) * within_in s + (k - low_in s)
+
+-- the span at place i of a table has the moves of the seat, on the action in the environment's state, whose place that is
 pub record IsSpan (s : Sys) (i : ℕ) (span : Span) (moves : List Move) : Type 0 where
   pub first : span.first ≤ span.end
   pub last : span.end ≤ length moves
-  pub moves_of : (seat : Seat) → slice_get s.seats (low_in s + i % within_in s) ≡ Some seat →
-      AreMovesOf (sizes_of s) (low_in s + i % within_in s) seat.beh (i / within_in s / s.env.actions) (i / within_in s % s.env.actions) span.some (slice_range moves span.first span.end)
+  pub moves_of : (e a k : ℕ) (seat : Seat) → i ≡ span_place s e a k → a < s.env.actions → low_in s ≤ k → slice_get s.seats k ≡ Some seat →
+      AreMovesOf (sizes_of s) k seat.beh e a span.some (slice_range moves span.first span.end)
 
 -- each span of the table is right for its place
 pub record HoldsSpans (s : Sys) (spans : List Span) (moves : List Move) : Type 0 where
   pub each : (i : ℕ) (span : Span) → i < length spans → span ≡ slice_index_or spans i span → IsSpan s i span moves
 
--- the table has the moves of all seats within the lanes
-pub record HoldsMoves (s : Sys) (table : Moves) : Type 0 where
-  pub envs : table.envs ≡ s.env.states
-  pub actions : table.actions ≡ s.env.actions
-  pub long : length table.spans.items ≡ s.env.states * s.env.actions * within_in s
+-- the table has the moves of all seats within the lanes, on the first actions and states of the environment, as many as `turns`
+pub record HoldsTurns (s : Sys) (turns : ℕ) (table : Moves) : Type 0 where
+  pub long : length table.spans.items ≡ turns * within_in s
+  pub few : length table.moves.items ≤ turns * 160
   pub spans_at : HoldsSpans s table.spans.items table.moves.items
 
--- there is room for the moves of the greatest number of services
-pub record HasRoom (table : Moves) : Type 0 where
-  pub few_envs : table.envs ≤ 64
-  pub few_actions : table.actions ≤ 32
-  pub for_spans : vec_capacity table.spans ≡ table.envs * table.actions * 32
-  pub for_moves : vec_capacity table.moves ≡ table.envs * table.actions * 160
+-- the table is one for systems with this environment, and has room for the moves of the greatest number of services
+pub record SuitsEnv (env : Env) (table : Moves) : Type 0 where
+  pub envs : table.envs ≡ env.states
+  pub actions : table.actions ≡ env.actions
+  pub for_spans : vec_capacity table.spans ≡ env.states * env.actions * 32
+  pub for_moves : vec_capacity table.moves ≡ env.states * env.actions * 160
+
+-- the table has the moves of all seats within the lanes
+pub record HoldsMoves (s : Sys) (table : Moves) : Type 0 where
+  pub suits : SuitsEnv s.env table
+  pub turns : HoldsTurns s (s.env.states * s.env.actions) table
 
 -- the table has the same numbers of states of the environment and of actions as before, and the same room
 pub record IsKept (old new : Moves) : Type 0 where
@@ -112,30 +114,21 @@ pub record IsKept (old new : Moves) : Type 0 where
   pub spans_room : vec_capacity new.spans ≡ vec_capacity old.spans
   pub moves_room : vec_capacity new.moves ≡ vec_capacity old.moves
 
--- the services, their behaviours and their sizes are those of a system with these numbers of states of the environment and of actions
-pub record AreSeatsOf (n : NamedSys) (catalogue : List NamedBeh) (seats : List declared.Seat) (sizes : Sizes) (envs actions : ℕ) : Type 0 where
-  pub known : IsNamedSys n
-  pub catalogue_of : catalogue ≡ n.catalogue
-  pub seats_of : seats ≡ n.seats
-  pub sizes_are : sizes ≡ sizes_of (system_of n)
-  pub envs_are : envs ≡ n.environment.env.states
-  pub actions_are : actions ≡ n.environment.env.actions
+-- the system of the parts
+abbrev pub system_in : Parts → Sys
+system_in parts = system_of (named_in parts 0)
 
--- the parts and the sizes are those of a system
-abbrev pub AreSeatsIn : NamedSys → Parts → Sizes → Type 0
-AreSeatsIn n parts sizes = AreSeatsOf n parts.catalogue.now parts.seats.now sizes parts.environment.now.env.states parts.environment.now.env.actions
+-- the parts are those of a joint with these sizes
+pub record AreSeatsIn (parts : Parts) (sizes : Sizes) : Type 0 where
+  pub limit : ℕ
+  pub known : IsNamedSys (named_in parts limit)
+  pub sizes_are : sizes ≡ sizes_of (system_in parts)
 
--- there is room for the spans and the moves of one more turn, and places of moves are small
-pub record HasTurnRoom (table : Moves) : Type 0 where
-  pub few : length table.moves.items + 160 ≤ vec_capacity table.moves
-  pub place : length table.spans.items + 32 ≤ vec_capacity table.spans
+-- there is room for one more span, with so many moves, and places of moves are small
+pub record HasPlaces (many : ℕ) (table : Moves) : Type 0 where
+  pub few : length table.moves.items + many ≤ vec_capacity table.moves
+  pub place : length table.spans.items < vec_capacity table.spans
   pub small : vec_capacity table.moves < 2 ^ 31
-
--- the spans and the moves of one more turn of this many services are added
-pub record IsTurnAdded (services : ℕ) (old new : Moves) : Type 0 where
-  pub long : length new.spans.items ≡ length old.spans.items + services
-  pub few : length new.moves.items ≤ length old.moves.items + 160
-  pub kept : IsKept old new
 
 -- one more span, with its moves, is added at the end
 pub record IsAdded (n : Sizes) (k : ℕ) (beh : Beh) (e a : ℕ) (old new : Moves) : Type 0 where

@@ -2,10 +2,8 @@
 //! environment, the table has the lanes from which the behaviour has a step, grouped by the way in
 //! which they move. Moves don't depend on whether a service is frozen.
 ghost use Rattle.std.specs.Prelude.{◌≡◌, ◌+◌, ◌-◌, ◌*◌, ◌<◌, ◌≤◌, ◌++◌, ◌∷◌, [], ◌==◌, ◌^◌, if◌then◌else◌, length, slice_index, slice_range, vec_len, vec_capacity, IfOk};
-ghost use Rattle.roman_radix.specs.Rows.{low_of};
-ghost use Rattle.roman_joint.specs.NamedSys.{NamedSys, system_of};
 ghost use Rattle.roman_joint.specs.Rows.{AreRowsOf};
-ghost use Rattle.roman_joint.specs.Moves.{lane_moves_from, AreSeatsOf, AreSeatsIn, SuitsWays, HoldsSpans, HoldsMoves, HasRoom, HasTurnRoom, IsAdded, IsTurnAdded, IsKept};
+ghost use Rattle.roman_joint.specs.Moves.{lane_moves_from, system_in, AreSeatsIn, SuitsWays, SuitsEnv, HoldsTurns, HoldsMoves, HasPlaces, IsAdded};
 
 use crate::layout::Rows;
 use crate::parts::Parts;
@@ -108,7 +106,8 @@ impl Moves {
         requires few { (envs ≤ 64) × (actions ≤ 32) }
         ensures envs { IfOk result (λ moves. moves.envs ≡ envs) }
         ensures actions { IfOk result (λ moves. moves.actions ≡ actions) }
-        ensures room { IfOk result HasRoom }
+        ensures spans { IfOk result (λ moves. vec_capacity moves.spans ≡ envs * actions * 32) }
+        ensures moves { IfOk result (λ moves. vec_capacity moves.moves ≡ envs * actions * 160) }
     {
         let turns = envs * actions;
         let spans = Vec::with_capacity(alloc, (turns * MAX_SPANS) as usize)?;
@@ -125,9 +124,7 @@ impl Moves {
     #[tactic(auto, using(crate::proofs::GoodLemmas::state_below, crate::proofs::MoveLemmas::moves_made, crate::proofs::MoveLemmas::ways_few, crate::proofs::SplitLemmas::size_positive))]
     fn add(&mut self, shape: &Shape, rows: &Rows, behaviour: &Behaviour, k: u8, e: u8, a: u8)
         requires ways { SuitsWays shape.now rows.now k behaviour.now e a }
-        requires room { vec_len self.old.moves + (2 * slice_index shape.now.seats k - 1) ≤ vec_capacity self.old.moves }
-        requires small { vec_capacity self.old.moves < 2 ^ 31 }
-        requires place { vec_len self.old.spans < vec_capacity self.old.spans }
+        requires room { HasPlaces (2 * slice_index shape.now.seats k - 1) self.old }
         ensures added { IsAdded shape.now k behaviour.now.beh e a self.old self.new }
     {
         shape.known(); // no size is 0, there are at most 32 seats
@@ -143,42 +140,39 @@ impl Moves {
         });
     }
 
-    /// Adds the moves of all services within the lanes on an action in a state of the environment.
-    #[tactic(auto, using(crate::proofs::MoveLemmas::lanes_room, crate::proofs::MoveLemmas::room_more, crate::proofs::MoveLemmas::sizes_long))]
-    fn fill_turn(&mut self, parts: &Parts<'_>, shape: &Shape, rows: &Rows, e: u8, a: u8)
-        requires seats { (n : NamedSys) × AreSeatsOf n parts.now.catalogue.now parts.now.seats.now shape.now self.old.envs self.old.actions }
+    /// Adds the moves of all services within the lanes on the next action, in its state of the
+    /// environment.
+    fn fill_turn(&mut self, parts: &Parts<'_>, shape: &Shape, rows: &Rows, turn: u32)
+        requires seats { AreSeatsIn parts.now shape.now }
         requires rows { AreRowsOf shape.now rows.now }
-        requires env { e < self.old.envs }
-        requires action { a < self.old.actions }
-        requires long { length self.old.spans.items ≡ (e * self.old.actions + a) * (length parts.now.seats.now - low_of shape.now.seats) }
-        requires room { HasTurnRoom self.old }
-        requires spans { (n : NamedSys) → AreSeatsOf n parts.now.catalogue.now parts.now.seats.now shape.now self.old.envs self.old.actions → HoldsSpans (system_of n) self.old.spans.items self.old.moves.items }
-        ensures added { IsTurnAdded (length parts.now.seats.now - low_of shape.now.seats) self.old self.new }
-        ensures spans { (n : NamedSys) → AreSeatsOf n parts.now.catalogue.now parts.now.seats.now shape.now self.old.envs self.old.actions → HoldsSpans (system_of n) self.new.spans.items self.new.moves.items }
+        requires suits { SuitsEnv parts.now.environment.now.env self.old }
+        requires turn { turn < parts.now.environment.now.env.states * parts.now.environment.now.env.actions }
+        requires turns { HoldsTurns (system_in parts.now) turn self.old }
+        ensures suits { SuitsEnv parts.now.environment.now.env self.new }
+        ensures turns { HoldsTurns (system_in parts.now) (turn + 1) self.new }
     {
         shape.known(); // no size is 0, there are at most 32 seats
+        let e = (turn / self.actions) as u8;
+        let a = (turn % self.actions) as u8;
         let seats = parts.seats;
         let catalogue = parts.catalogue;
         for k in rows.low..seats.len() as u8 {
-            let behaviour = &catalogue[seats[k as usize].behaviour as usize];
-            self.add(shape, rows, behaviour, k, e, a);
+            let seat = &seats[k as usize];
+            self.add(shape, rows, &catalogue[seat.behaviour as usize], k, e, a);
         }
     }
 
     /// Replaces all moves by those of all services within the lanes.
     pub(crate) fn fill(&mut self, parts: &Parts<'_>, shape: &Shape, rows: &Rows)
-        requires seats { (n : NamedSys) × AreSeatsOf n parts.now.catalogue.now parts.now.seats.now shape.now self.old.envs self.old.actions }
+        requires seats { AreSeatsIn parts.now shape.now }
         requires rows { AreRowsOf shape.now rows.now }
-        requires room { HasRoom self.old }
-        ensures moves { (n : NamedSys) → AreSeatsOf n parts.now.catalogue.now parts.now.seats.now shape.now self.old.envs self.old.actions → HoldsMoves (system_of n) self.new }
-        ensures kept { IsKept self.old self.new }
+        requires suits { SuitsEnv parts.now.environment.now.env self.old }
+        ensures { HoldsMoves (system_in parts.now) self.new }
     {
         self.spans.clear();
         self.moves.clear();
         for turn in 0..self.envs * self.actions {
-            let e = (turn / self.actions) as u8;
-            let a = (turn % self.actions) as u8;
-            self.fill_turn(parts, shape, rows, e, a);
+            self.fill_turn(parts, shape, rows, turn);
         }
     }
 }
@@ -191,10 +185,9 @@ pub(crate) fn moves_of(
     shape: &Shape,
     rows: &Rows,
 ) -> Result<Moves, AllocError>
-    requires seats { (n : NamedSys) × AreSeatsIn n parts.now shape.now }
+    requires seats { AreSeatsIn parts.now shape.now }
     requires rows { AreRowsOf shape.now rows.now }
-    ensures moves { IfOk result (λ moves. (n : NamedSys) → AreSeatsIn n parts.now shape.now → HoldsMoves (system_of n) moves) }
-    ensures room { IfOk result HasRoom }
+    ensures { IfOk result (HoldsMoves (system_in parts.now)) }
 {
     let envs = parts.environment.states().len();
     let actions = parts.environment.actions().len();

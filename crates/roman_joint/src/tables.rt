@@ -1,6 +1,6 @@
 //! The tables of a joint, which are allocated once.
 ghost use Rattle.std.specs.Prelude.{IfOk};
-ghost use Rattle.roman_joint.specs.NamedSys.{NamedSys, TargetIsOverEnv};
+ghost use Rattle.roman_joint.specs.NamedSys.{TargetIsOverEnv};
 ghost use Rattle.roman_joint.specs.Moves.{AreSeatsIn};
 ghost use Rattle.roman_joint.specs.Layout.{AreTables};
 
@@ -30,7 +30,7 @@ pub(crate) fn tables_of(
     shape: &Shape,
 ) -> Result<Tables, AllocError>
     requires target { TargetIsOverEnv parts.now.environment.now parts.now.target.now }
-    requires seats { (n : NamedSys) × AreSeatsIn n parts.now shape.now }
+    requires seats { AreSeatsIn parts.now shape.now }
     ensures { IfOk result (AreTables parts.now shape.now) }
 {
     let rows = rows_of(shape);

@@ -1,24 +1,17 @@
-use Rattle.roman_joint.proofs.Common.{ap, ◌∙◌, arith, remove, Die, after, system_of, named_sys_in, AreSeatsOf}
-use Rattle.roman_joint.proofs.Shown.{is_joint, room_kept}
+use Rattle.roman_joint.proofs.Common.{Die, IsNamedSys, after, ap, arith, left, named_sys_in, remove, sizes_of, sizes_without, system_of, ◌-◌, ◌∙◌, ◌≡◌}
+use Rattle.roman_joint.proofs.Shown.{is_joint}
 use Rattle.roman_joint.proofs.SeatChanges.{with_seats, gone_known, gone_sizes, gone_system}
 use Rattle.roman_joint.proofs.joint.Joint.drop_seat.Goals as goal
-use Rattle.roman_joint.proofs.joint.Joint.drop_seat.Goals.{After-deref-2}
-
--- the services that are left
-left : (c : After-deref-2) → AreSeatsOf (with_seats (named_sys_in c.self.inside) (remove (named_sys_in c.self.inside).seats c.args.k))
-    c.deref.result.now c.deref-2.result.now c.shrink-self-inside.result c.self.inside.moves.envs c.self.inside.moves.actions
-left c = grind (arith, gone_known, gone_sizes)
 
 pub invariant_of-self : goal.invariant_of-self
 invariant_of-self c =
     let n = named_sys_in c.self.inside in
-    let of = left (goal.at.invariant_of-self c).After-deref-2 in
+    let sizes : c.shrink-self-inside.result ≡ sizes_of (system_of (with_seats n (remove n.seats c.args.k))) = c.shrink-self-inside.ensures ∙ (ap (sizes_without c.args.k) c.self.invariant.shape ∙ gone_sizes n c.args.k) in
     is_joint _ (with_seats n (remove n.seats c.args.k)) (ap (with_seats n) c.remove-seat.ensures.items) (record {
-      known = of.known;
-      shape = of.sizes_are;
-      rows = rw of.sizes_are at c.rows_of-self-inside.ensures;
-      moves = c.fill.ensures.moves (with_seats n (remove n.seats c.args.k)) of;
-      moves_room = room_kept c.self.inside.moves c.fill.new.self c.fill.ensures.kept c.self.invariant.moves_room;
+      known = grind (arith, gone_known);
+      shape = sizes;
+      rows = rw sizes at c.rows_of-self-inside.ensures;
+      moves = rw (c.deref.ensures.value, c.deref-2.ensures.value, c.remove-seat.ensures.items) at c.fill.ensures;
       target_views = c.self.invariant.target_views;
       room = omega (arith, c.remove-seat.ensures.capacity, c.self.invariant.room);
     })
@@ -29,4 +22,8 @@ returns-clause-system c = λ seat.
     ap (λ xs. system_of (with_seats n xs)) c.remove-seat.ensures.items ∙ (gone_system n c.args.k seat ∙ ap (λ m. after (Die c.args.k seat) (system_of m)) c.self.view_is)
 
 pub fill-requires-clause-seats : goal.fill-requires-clause-seats
-fill-requires-clause-seats c = (_, left (goal.at.fill-requires-clause-seats c).After-deref-2)
+fill-requires-clause-seats c =
+    let n = named_sys_in c.self.inside in
+    let left : IsNamedSys (with_seats n (remove n.seats c.args.k)) = grind (arith, gone_known) in
+    let sizes : c.shrink-self-inside.result ≡ sizes_of (system_of (with_seats n (remove n.seats c.args.k))) = c.shrink-self-inside.ensures ∙ (ap (sizes_without c.args.k) c.self.invariant.shape ∙ gone_sizes n c.args.k) in
+    rw (c.deref.ensures.value, c.deref-2.ensures.value, c.remove-seat.ensures.items) (record { limit = n.limit; known = left; sizes_are = sizes })

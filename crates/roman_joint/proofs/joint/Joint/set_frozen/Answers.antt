@@ -1,4 +1,4 @@
-use Rattle.roman_joint.proofs.Common.{◌<◌, length, sym, ap, ◌∙◌, named_sys_in, with_frozen}
+use Rattle.roman_joint.proofs.Common.{ap, length, named_sys_in, sym, with_frozen, ◌-◌, ◌<◌, ◌∙◌}
 use Rattle.roman_joint.proofs.Shown.{is_joint}
 use Rattle.roman_joint.proofs.MoveLemmas.{moves_frozen}
 use Rattle.roman_joint.proofs.SeatChanges.{with_seats, frozen_set, frozen_known, frozen_sizes}
@@ -15,7 +15,6 @@ invariant_of-self c =
       shape = c.self.invariant.shape ∙ sym (frozen_sizes n k frozen);
       rows = rw (sym (frozen_sizes n k frozen)) at c.self.invariant.rows;
       moves = moves_frozen n k frozen c.self.inside.moves c.self.invariant.moves;
-      moves_room = c.self.invariant.moves_room;
       target_views = c.self.invariant.target_views;
       room = c.self.invariant.room;
     })

@@ -1,12 +1,14 @@
-use Rattle.roman_joint.proofs.Common.{◌≡◌, ◌+◌, ◌-◌, ◌≤◌, length, drop, low_of, NamedSys, system_of, ways_room, AreSeatsOf, HoldsSpans, IsKept}
+use Rattle.roman_joint.proofs.Common.{HoldsSpans, SuitsEnv, drop, length, low_in, low_of, system_in, ways_room, within_in, ◌*◌, ◌+◌, ◌-◌, ◌≡◌, ◌≤◌}
 use Rattle.roman_joint.proofs.moves.Moves.fill_turn.Given as goal
 
 -- the spans of the services so far are there
 abbrev pub invariant-loop-k : goal.invariant-loop-k
-invariant-loop-k l = record {
-  from : low_of l.shape.seats ≤ l.k;
-  long : length l.self.spans.items ≡ length l.fn.self.spans.items + (l.k - low_of l.shape.seats);
-  few : length l.self.moves.items + ways_room (drop l.k l.shape.seats) ≤ length l.fn.self.moves.items + ways_room (drop (low_of l.shape.seats) l.shape.seats);
-  spans : (n : NamedSys) → AreSeatsOf n l.parts.catalogue.now l.parts.seats.now l.shape l.self.envs l.self.actions → HoldsSpans (system_of n) l.self.spans.items l.self.moves.items;
-  kept : IsKept l.fn.self l.self;
-}
+invariant-loop-k l =
+    let s = system_in l.parts in
+    record {
+      from : low_in s ≤ l.k;
+      long : length l.self.spans.items ≡ l.turn * within_in s + (l.k - low_in s);
+      few : length l.self.moves.items + ways_room (drop l.k l.shape.seats) ≤ l.turn * 160 + ways_room (drop (low_of l.shape.seats) l.shape.seats);
+      spans : HoldsSpans s l.self.spans.items l.self.moves.items;
+      suits : SuitsEnv l.parts.environment.now.env l.self;
+    }
