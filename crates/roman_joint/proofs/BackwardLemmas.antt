@@ -156,15 +156,6 @@ module _ (s : Sys) (q : Pair) (sys : IsSys s) (ok : IsPair s q) where
       let here : pair_at (sizes_of s) d.node ≡ origin q e t k b = ap (λ x. pair_at (sizes_of s) x.node) is ∙ back_at a e t k b (state_steps s q a e t k b in_env in_target j) in
       record { action = ap (λ x. x.action) is; env = ap (λ p. p.e) here; target = ap (λ p. p.t) here; seat = ap (λ x. x.seat) is }
 
-  target_at : (a e t : ℕ) (d : Delegation ℕ) → IsIn e (env_prev s.env q.e a) → IsIn t (beh_prev s.target q.t e a) → IsIn d (from_target s q a e t) → (k : ℕ) × FoundAt s q a e t k d
-  target_at a e t d in_env in_target i = let (k, j, l) = from_flat_map (from_seat s q a e t) d (below (length s.seats)) i in (k, seat_at a e t k d in_env in_target l)
-
-  env_at : (a e : ℕ) (d : Delegation ℕ) → IsIn e (env_prev s.env q.e a) → IsIn d (from_env s q a e) → (t : ℕ) × (k : ℕ) × FoundAt s q a e t k d
-  env_at a e d in_env i = let (t, j, l) = from_flat_map (from_target s q a e) d (beh_prev s.target q.t e a) i in let (k, at) = target_at a e t d in_env j l in (t, k, at)
-
-  action_at : (a : ℕ) (d : Delegation ℕ) → IsIn d (from_action s q a) → d.action ≡ a
-  action_at a d i = let (e, j, l) = from_flat_map (from_env s q a) d (env_prev s.env q.e a) i in (env_at a e d j l).2.action
-
   seat_once : (a e t k : ℕ) → IsIn e (env_prev s.env q.e a) → IsIn t (beh_prev s.target q.t e a) → HasNoRepeats (from_seat s q a e t k)
   seat_once a e t k in_env in_target =
       HasNoRepeats-map (delegation s q a e t k) (seat_prev (slice_get s.seats k) (slice_index q.bs k) e a)
@@ -184,9 +175,13 @@ module _ (s : Sys) (q : Pair) (sys : IsSys s) (ok : IsPair s q) where
       (λ t in_target. once_by (from_seat s q a e t) (λ d. d.seat) (below (length s.seats)) (HasNoRepeats-below (length s.seats))
       (λ k j. seat_once a e t k in_env in_target)
       (λ k d j l. (seat_at a e t k d in_env in_target l).seat))
-      (λ t d in_target l. (target_at a e t d in_env in_target l).1.target))
-      (λ e d in_env l. (env_at a e d in_env l).2.env))
-      (λ a d i l. action_at a d l)
+      (λ t d in_target l. grind (arith, from_flat_map, (seat_at a e t))))
+      (λ e d in_env l. grind (arith, from_flat_map, (seat_at a e))))
+      (λ a d i l.
+      let (e, in_env, j) = from_flat_map (from_env s q a) d (env_prev s.env q.e a) l in
+      let (t, in_target, m) = from_flat_map (from_target s q a e) d (beh_prev s.target q.t e a) j in
+      let (k, in_seats, h) = from_flat_map (from_seat s q a e t) d (below (length s.seats)) m in
+      (seat_at a e t k d in_env in_target h).action)
 
 -- the delegations that are found backwards are those that lead to the pair, each once
 pub found_backwards : (s : Sys) (p : ℕ) → IsSys s → p < count (sizes_of s) → HoldsEachOnce (from_all s (pair_at (sizes_of s) p)) (back (numbered s) p)

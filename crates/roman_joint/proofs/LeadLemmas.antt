@@ -35,22 +35,6 @@ leads_alive A gone p a k envs states to dead leads some_env some_state same =
     ap not (any_same dead (λ b. list_any (λ e. gone (to e b)) envs) states same ∙ any_turned (λ b e. gone (to e b)) states envs)
     ∙ leads_served A gone p a k envs states to (λ e b. gone (to e b)) leads some_env some_state (λ e b i j. refl)
 
--- an outcome's number by rows, for a seat that goes to state b
-pub row_moves : (to_rows rest u w lane r part e b : ℕ) → lane < w → part * (u * w) ≤ to_rows * w + (rest * w + lane) →
-    to_rows * w + (rest * w + lane) - part * (u * w) + e * (r * w) + b * (u * w) ≡ (to_rows + rest - part * u + e * r + b * u) * w + lane
-row_moves to_rows rest u w lane r part e b h l =
-    let sum : (to_rows + rest) * w + lane ≡ to_rows * w + (rest * w + lane) = omega arith in
-    let product : part * u * w ≡ part * (u * w) = omega arith in
-    let taken : part * u ≤ to_rows + rest = row_least (part * u) (to_rows + rest) w lane h (omega arith) in
-    by (to_rows + rest) (to_rows + rest - part * u) (part * u) u w lane r part e b (to_rows * w + (rest * w + lane)) (omega arith) (sym sum) product
-  where
-    by : (x y z u w lane r part e b whole : ℕ) → y + z ≡ x → whole ≡ x * w + lane → z * w ≡ part * (u * w) →
-        whole - part * (u * w) + e * (r * w) + b * (u * w) ≡ (y + e * r + b * u) * w + lane
-    by x y z u w lane r part e b whole d is product =
-        let split : x * w ≡ y * w + z * w = ap (λ n. n * w) (sym d) ∙ omega arith in
-        let spread : (y + e * r + b * u) * w ≡ y * w + e * (r * w) + b * (u * w) = omega arith in
-        omega arith
-
 -- the first number for a seat
 pub start_row : (s : Sys) (row : Row) (x lane k to part stride : ℕ) → IsRow s x row → lane < lanes_in s → k < length (sizes_of s).seats → to < s.target.states →
     part ≡ slice_index (pair_at (sizes_of s) (x * lanes_in s + lane)).bs k → stride ≡ stride_of (sizes_of s) k →
@@ -98,7 +82,10 @@ leads_before s row x lane a k to base u envs states sys ok in_lanes before strid
     let R = env_rows_of n in
     let part = slice_index row.states k in
     leads_row s row x lane a k to part (u * w) envs states (λ e b. (base + e * R + b * u) * w + lane) sys ok in_lanes (omega (arith, low_of-le n.seats)) (sym (ok.states k lane before in_lanes)) stride target is_envs is_states
-    (λ taken e b. ap (λ m. (m + e * R + b * u) * w + lane) is_base ∙ sym (row_moves (to * target_rows_of n) row.part u w lane R part e b in_lanes taken))
+    (λ taken e b.
+    let least : part * u ≤ to * target_rows_of n + row.part = row_least (part * u) (to * target_rows_of n + row.part) w lane in_lanes (omega (arith, taken)) in
+    let whole : base + part * u ≡ to * target_rows_of n + row.part = omega (arith, least, is_base) in
+    omega (arith, taken, ap (λ m. m * w) whole))
 
 -- the state of a seat that is one of those from `from` on, at a lane of these
 pub record LaneState (n : Sizes) (from k lane : ℕ) : Type 0 where
@@ -107,21 +94,9 @@ pub record LaneState (n : Sizes) (from k lane : ℕ) : Type 0 where
 
 lane_moves : (lane st size m : ℕ) → 0 < st → 0 < size → lane < m * size * st → (lane / st % size * st ≤ lane) × ((b : ℕ) → b < size → lane + b * st - lane / st % size * st < m * size * st)
 lane_moves lane st size m pos some h =
-    let split : lane / st * st + lane % st ≡ lane = div-add-mod' lane st in
-    let low : lane % st < st = mod_below lane st pos in
-    let digits : lane / st / size * size + lane / st % size ≡ lane / st = div-add-mod' (lane / st) size in
-    let parts : (lane / st / size * size + lane / st % size) * st ≡ lane / st * st = ap (λ x. x * st) digits in
-    let spread : (lane / st / size * size + lane / st % size) * st ≡ lane / st / size * size * st + lane / st % size * st = omega arith in
-    let high : lane / st < m * size = div_below lane st (m * size) pos h in
-    let top : lane / st / size < m = div_below (lane / st) size m some high in (
-      omega arith,
-      λ b l.
-          let digit : lane / st / size * size + b < size * m = mul-add-lt (lane / st / size) size b m top l in
-          let there : (lane / st / size * size + b) * st + lane % st < st * (size * m) = mul-add-lt (lane / st / size * size + b) st (lane % st) (size * m) digit low in
-          let same : st * (size * m) ≡ m * size * st = omega arith in
-          let apart : (lane / st / size * size + b) * st ≡ lane / st / size * size * st + b * st = omega arith in
-          omega arith,
-    )
+    let whole : (lane / st / size * size + lane / st % size) * st + lane % st ≡ lane = ap (λ x. x * st + lane % st) (div-add-mod' (lane / st) size) ∙ div-add-mod' lane st in
+    let top : lane / st / size < m = div_below (lane / st) size m some (div_below lane st (m * size) pos h) in
+    (omega (arith, whole), λ b l. omega (arith, whole, mul-add-lt (lane / st / size * size + b) st (lane % st) (size * m) (mul-add-lt (lane / st / size) size b m top l) (mod_below lane st pos)))
 
 -- the stride times the size of a seat divides the product of the sizes from an earlier seat on, such as the lanes
 pub lanes_parts : {from : ℕ} (n : Sizes) (k : ℕ) → from ≤ k → k < length n.seats → (m : ℕ) × (product_of (drop from n.seats) ≡ m * slice_index n.seats k * stride_of n k)

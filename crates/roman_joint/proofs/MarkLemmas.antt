@@ -1,5 +1,5 @@
 -- Marks on the bands from which a band can be reached.
-use Rattle.roman_joint.proofs.Common.{AnyOf, AreLeading, Arena, Bool, Delegation, Grows, HasNoRepeats, HasNoRepeats-below, HasNoRepeats-filter, HasNoRepeats-map, HoldsEachOnce, IsBeforeAction, IsBeforeSeat, IsBeh, IsFalse, IsIn, IsMarked, IsRow, IsSizes, IsSizes-rows, IsSys, IsTrue, List, Marks, Option, Pair, Row, Seat, Sizes, Some, Sys, [], action_steps, add-one, ap, ap₂, arith, back, band_in, beh_prev, below, bit_at, bit_or, by_test, cases_eq, cases_lt, cond, count, count_by, delegations, div-add-mod', div-div-eq-div-mul, div-mul-add, div_below, drop, env_prev, env_rows_are, env_rows_of, env_steps, false, filter, filter_in, flat_map, from_action, from_all, from_below, from_env, from_flat_map, from_map, from_push, from_seat, from_states, from_target, get_or, get_or-set_other, get_or-set_same, has_flag, in_beh_prev, in_below, in_env_prev, in_filter, inl, inr, is_among, is_on, lane_state_of, lanes_in, lanes_of, lanes_positive, le-ltb, length, length-filter, length-map, length-set, length-take, length_rows, low_of, low_of-le, lt-ltb, mid_in, mod_below, move_in_range, moved, mul-add-lt, no_longer, number, numbered, numbers_are_pairs, outcomes, pair_at, product_of, refl, row_at, row_mod, row_sizes, row_stride_of, same_from_place, seat_in, seat_prev, seat_steps, set, sizes_of, slice_get, slice_get_within, slice_index, still, stride_of, subst, suc, sum_by, sum_by-append, sum_by-cons, sum_by_same, sum_cut, sym, take, take_more, triple_in_range, true, turn_steps, zero, ℕ, ◌%◌, ◌*◌, ◌++◌, ◌+◌, ◌-◌, ◌/◌, ◌<◌, ◌^◌, ◌∙◌, ◌∷◌, ◌≡◌, ◌≤◌, ◌⊎◌}
+use Rattle.roman_joint.proofs.Common.{AnyOf, AreLeading, Arena, Bool, Delegation, Grows, HasNoRepeats, HasNoRepeats-below, HasNoRepeats-filter, HasNoRepeats-map, HoldsEachOnce, IsBeforeAction, IsBeforeEnv, IsBeforeSeat, IsBeh, IsFalse, IsIn, IsMarked, IsRow, IsSizes, IsSizes-rows, IsSys, IsTrue, List, Marks, Option, Pair, Row, Seat, Sizes, Some, Sys, [], action_steps, add-one, ap, ap₂, arith, back, band_in, beh_prev, below, bit_at, bit_or, by_test, cases_eq, cases_lt, cond, count, count_by, delegations, div-add-mod', div-div-eq-div-mul, div-mul-add, div_below, drop, env_prev, env_rows_are, env_rows_of, env_steps, false, filter, filter_in, flat_map, from_action, from_all, from_below, from_env, from_flat_map, from_map, from_push, from_seat, from_states, from_target, get_or, get_or-set_other, get_or-set_same, has_flag, in_beh_prev, in_below, in_env_prev, in_filter, inl, inr, is_among, is_on, lane_state_of, lanes_in, lanes_of, lanes_positive, le-ltb, length, length-filter, length-map, length-set, length-take, length_rows, low_of, low_of-le, lt-ltb, mid_in, mod_below, move_in_range, moved, mul-add-lt, no_longer, number, numbered, numbers_are_pairs, outcomes, pair_at, product_of, refl, row_at, row_mod, row_sizes, row_stride_of, same_from_place, seat_in, seat_prev, seat_steps, set, sizes_of, slice_get, slice_get_within, slice_index, still, stride_of, subst, suc, sum_by, sum_by-append, sum_by-cons, sum_by_same, sum_cut, sym, take, take_more, triple_in_range, true, turn_steps, zero, ℕ, ◌%◌, ◌*◌, ◌++◌, ◌+◌, ◌-◌, ◌/◌, ◌<◌, ◌^◌, ◌∙◌, ◌∷◌, ◌≡◌, ◌≤◌, ◌⊎◌}
 use Rattle.std.specs.Prelude.{ltb}
 use Rattle.roman_joint.proofs.BackwardLemmas.{once_by, delegation, Comes, origin, in_seat_prev, pair_comes, found_backwards}
 use Rattle.roman_joint.proofs.Rows.{size_of_seat}
@@ -17,13 +17,16 @@ mid_few ns = omega (arith, low_of-le (take (low_of ns) ns), low_of-le ns, length
 pub marked_on : (a b : List ℕ) (y : ℕ) → Grows a b → IsMarked a y → IsMarked b y
 marked_on a b y more m l = more.still y (m (subst (λ n. y < 64 * n) more.long l))
 
+any_of : (P : ℕ → ℕ → Type 0) (xs : List ℕ) (y x : ℕ) → IsIn x xs → P x y → AnyOf P xs y
+any_of P xs y x i h = record { one = x; among = i; holds = h }
+
 -- the marks and the steps of one more element
 marks_more : (P : ℕ → ℕ → Type 0) (f : ℕ → ℕ) (xs ys : List ℕ) (x : ℕ) (a b c : List ℕ) (l m n : ℕ) → ys ≡ xs ++ x ∷ [] → Marks (AnyOf P xs) (sum_by f xs) a b l m → Marks (P x) (f x) b c m n →
     Marks (AnyOf P ys) (sum_by f ys) a c l n
 marks_more P f xs ys x a b c l m n is old new = rw is (record {
   grows = record { long = new.grows.long ∙ old.grows.long; still = λ y t. new.grows.still y (old.grows.still y t) };
   marked = λ y any. elim (from_push any.one x xs any.among) [
-    | inl among ↦ marked_on b c y new.grows (old.marked y (record { one = any.one; among = among; holds = any.holds }))
+    | inl among ↦ marked_on b c y new.grows (old.marked y (any_of P xs y any.one among any.holds))
     | inr same ↦ new.marked y (subst (λ z. P z y) same any.holds)
   ];
   steps = omega (arith, old.steps, new.steps, sum_by-append f xs (x ∷ []));
@@ -75,14 +78,9 @@ first_at s row y e t sizes ok =
     let g = env_rows_of m in
     let vpos : 0 < v = lanes_positive m.seats (IsSizes-rows n sizes).seats in
     let whole : g * v ≡ env_rows_of n = env_rows_are m in
-    let part : row.part ≡ y % g * v + 0 = ok.part ∙ (ap₂ (λ a b. a % b) (first y v) (sym whole) ∙ row_mod y v 0 g vpos) in
-    (t * (n.env * g) + e * g + y % g, sums t n.env e g v (env_rows_of n) row.part (y % g) whole part)
-  where
-    first : (y v : ℕ) → y * v ≡ y * v + 0
-    first y v = omega arith
-
-    sums : (t m e g v r part d : ℕ) → g * v ≡ r → part ≡ d * v + 0 → t * (m * r) + e * r + part ≡ (t * (m * g) + e * g + d) * v
-    sums t m e g v r part d whole is = subst (λ x. t * (m * x) + e * x + part ≡ (t * (m * g) + e * g + d) * v) whole (omega arith)
+    let at : y * v ≡ y * v + 0 = omega arith in
+    let part : row.part ≡ y % g * v + 0 = ok.part ∙ (ap₂ (λ a b. a % b) at (sym whole) ∙ row_mod y v 0 g vpos) in
+    (t * (n.env * g) + e * g + y % g, omega (arith, part, ap (λ r. t * (n.env * r) + e * r) whole))
 
 -- a seat within the band keeps the band
 own_band : (p w v c j o b : ℕ) → o ≤ j → j + b - o < w * v → p + o ≡ c * (w * v) + j + b → p / w / v ≡ c
@@ -143,11 +141,10 @@ is_before s row y i lane p a k sys sizes first in_rows in_lanes below_p led =
           let z : ℕ = p / w / v in
           let bands_moved : z + own * h ≡ c + b * h = front_band p w v own b h c j (omega (arith, l)) l (omega (arith, sum, ap (λ z. own * z) whole, ap (λ z. b * z) whole)) in
           let moved : z * v + own * u ≡ row_at s row e t + b * u = omega (arith, bands, ap (λ m. m * v) bands_moved, ap (λ m. own * m) rows, ap (λ m. b * m) rows) in
-          inr (record { one = k; among = in_below (mid_in s) k front; holds = record {
-            one = b;
-            among = subst (λ d. IsIn b (seat_prev (slice_get s.seats k) d e a)) same in_seat;
-            holds = record { row = z * v; moved = subst (λ d. z * v + d * u ≡ row_at s row e t + b * u) same moved; band_of = sym (quotient (z * v) z v vpos refl) };
-          } })
+          let at_b : IsBeforeSeat s row a e (row_at s row e t) k z =
+          any_of _ _ z b (subst (λ d. IsIn b (seat_prev (slice_get s.seats k) d e a)) same in_seat)
+          (record { row = z * v; moved = subst (λ d. z * v + d * u ≡ row_at s row e t + b * u) same moved; band_of = sym (quotient (z * v) z v vpos refl) }) in
+          inr (any_of _ _ z k (in_below (mid_in s) k front) at_b)
       | inr past ↦
           let wide : v * w ≡ product_of (drop (mid_in s) n.seats) = band_lanes n (mid_in s) (mid_few n.seats) in
           let place : x * w + lane ≡ y * product_of (drop (mid_in s) n.seats) + j = omega (arith, ap (λ m. y * m) wide) in
@@ -158,15 +155,9 @@ is_before s row y i lane p a k sys sizes first in_rows in_lanes below_p led =
           let there : j + b * S - own * S < w * v = omega (arith, rw (← digit) at (within.moves b state), wide) in
           inl (own_band p w v c j (own * S) (b * S) taken there sum ∙ sym (quotient (row_at s row e t) c v vpos (sym bands)))
     ] in
-    record { one = a; among = in_below s.env.actions a (triple_in_range s.env e a q.e sys.env st.world).1; holds = record {
-      one = e;
-      among = subst (λ z. IsIn e (env_prev s.env z a)) (ok.envs lane in_lanes) (in_env_prev s.env e a q.e sys.env st.world);
-      holds = record {
-        one = t;
-        among = subst (λ z. IsIn t (beh_prev s.target z e a)) (ok.targets lane in_lanes) (in_beh_prev s.env s.target t e a q.t sys.target st.goal);
-        holds = record { either = either };
-      };
-    } }
+    let at_t : IsBeforeEnv s row a e (p / w / v) = any_of _ _ _ t (subst (λ z. IsIn t (beh_prev s.target z e a)) (ok.targets lane in_lanes) (in_beh_prev s.env s.target t e a q.t sys.target st.goal)) (record { either = either }) in
+    let at_e : IsBeforeAction s row a (p / w / v) = any_of _ _ _ e (subst (λ z. IsIn e (env_prev s.env z a)) (ok.envs lane in_lanes) (in_env_prev s.env e a q.e sys.env st.world)) at_t in
+    any_of _ _ _ a (in_below s.env.actions a (triple_in_range s.env e a q.e sys.env st.world).1) at_e
 
 -- the predecessor states of a ready seat are its behaviour's
 pub ready_prev : (o : Option Seat) (seat : Seat) (b e a : ℕ) → o ≡ Some seat → IsFalse seat.frozen → seat_prev o b e a ≡ beh_prev seat.beh b e a

@@ -1,14 +1,13 @@
 -- The names of the states of services.
-use Rattle.roman_joint.proofs.Common.{◌≡◌, ℕ, ◌<◌, List, [], map, length, Some, slice_get, slice_index, sym, ap, ◌∙◌, subst, option_map, slice_get-map, get_or_from_slice_get, name_at, sizes_of, NamedBeh, NamedSys, IsNamedSys, system_of, IsSeatBehaviour, SeatNames, seat_names, beh_states, names_in, names_of_seat}
+use Rattle.roman_joint.proofs.Common.{IsNamedSys, IsSeatBehaviour, List, NamedBeh, NamedSys, SeatNames, Some, [], ap, beh_states, below, get_or_from_slice_get, length, map, name_at, names_in, names_of_seat, option_map, seat_names, sizes_of, slice_get, slice_get-map, slice_index, subst, sym, system_of, ℕ, ◌-◌, ◌<◌, ◌∙◌, ◌≡◌}
 use Rattle.roman_joint.proofs.BehaviourLemmas.{behaves}
+use Rattle.roman_joint.proofs.Rows.{size_of_seat}
 
 -- a service has as many states as its behaviour
 pub state_within : (n : NamedSys) (k b : ℕ) (beh : NamedBeh) → IsNamedSys n → IsSeatBehaviour n k beh → length beh.states ≡ beh.beh.states → b < slice_index (sizes_of (system_of n)).seats k → b < length beh.states
 state_within n k b beh known of states below =
     let at = behaves n k beh known of in
-    let size : slice_index (sizes_of (system_of n)).seats k ≡ at.seat.beh.states =
-    get_or_from_slice_get (sizes_of (system_of n)).seats k at.seat.beh.states 0 (slice_get-map (λ seat. seat.beh.states) (system_of n).seats k ∙ ap (option_map (λ seat. seat.beh.states)) at.seated) in
-    subst (λ m. b < m) (size ∙ ap (λ y. y.states) at.is ∙ sym states) below
+    subst (λ m. b < m) (size_of_seat (system_of n).seats k at.seat at.seated ∙ ap (λ y. y.states) at.is ∙ sym states) below
 
 -- the names of a service's states are those of its behaviour's states
 pub states_are : (n : NamedSys) (k : ℕ) (beh : NamedBeh) → IsSeatBehaviour n k beh → (seat_names (names_in n) k).states ≡ beh.states

@@ -1,5 +1,5 @@
 -- The numbers of pairs, and the sizes of seats.
-use Rattle.roman_joint.proofs.Common.{IsNamedSys, NamedSys, system_of, IsWalk, goal_of, List, Some, [], ap, arith, false, length, map, slice_get, slice_index, slice_set, subst, suc, zero, ℕ, ◌*◌, ◌+◌, ◌-◌, ◌<◌, ◌∙◌, ◌∷◌, ◌≡◌, ◌≤◌, Seat, Sys, Walk, count, number, sizes_of, mul-le-mul_left, numbers_are_pairs, states_set, slice_get-get_or, MAX_CELLS, still}
+use Rattle.roman_joint.proofs.Common.{IsNamedSys, IsWalk, List, MAX_CELLS, NamedSys, Seat, Some, Sys, Walk, ap, arith, below, count, false, get_or_from_slice_get, goal_of, length, map, mul-le-mul_left, number, numbers_are_pairs, option_map, sizes_of, slice_get, slice_get-get_or, slice_get-map, slice_index, slice_set, states_set, still, subst, system_of, ℕ, ◌-◌, ◌<◌, ◌∙◌, ◌≡◌, ◌≤◌}
 
 -- a joint has few enough pairs
 pub count_fits : (n : NamedSys) → IsNamedSys n → count (sizes_of (system_of n)) ≤ MAX_CELLS
@@ -7,9 +7,7 @@ count_fits n known = grind (arith, mul-le-mul_left)
 
 -- the size at a place is the number of the seat's states
 pub size_of_seat : (seats : List Seat) (k : ℕ) (seat : Seat) → slice_get seats k ≡ Some seat → slice_index (map (λ x. x.beh.states) seats) k ≡ seat.beh.states
-size_of_seat [] k seat h = cc
-size_of_seat (x ∷ seats) zero seat h = let same : x ≡ seat = cc in ap (λ (y : Seat). y.beh.states) same
-size_of_seat (x ∷ seats) (suc k) seat h = size_of_seat seats k seat h
+size_of_seat seats k seat h = get_or_from_slice_get (map (λ x. x.beh.states) seats) k seat.beh.states 0 (slice_get-map (λ x. x.beh.states) seats k ∙ ap (option_map (λ x. x.beh.states)) h)
 
 -- the pair from which the walk takes a state of the current seat is in range
 pub walk_below : (s : Sys) (w : Walk) (b : ℕ) → IsWalk s w → w.seat < length s.seats → b < slice_index (sizes_of s).seats w.seat →

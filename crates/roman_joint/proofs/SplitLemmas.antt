@@ -1,5 +1,5 @@
 -- How rows are made and looked up.
-use Rattle.roman_joint.proofs.Common.{◌≡◌, ℕ, zero, suc, ◌+◌, ◌*◌, ◌/◌, ◌%◌, ◌^◌, ◌<◌, cond, List, [], ◌∷◌, length, map, slice_index, inl, inr, refl, sym, ap, ap₂, ◌∙◌, subst, arith, ltb, cases_eq, lt-ltb, le-ltb, mul-add-lt, get_or-set_same, get_or-set_other, length-map, set, IsIn, product_of, Sys, Seat, IsBeh, Sizes, IsPairOf, sizes_of, count, pair_at, part_at, IsPairOf-at, AreSizes, IsSizes, stride_of, env_stride_of, target_stride_of, low_of, lanes_of, row_sizes, env_rows_of, target_rows_of, AreSizes-index, low_of-le, lanes_positive, tails_from, exact, row_div, row_least, row_below, env_rows_are, is_on, NamedSys, system_of, IsNamedSys, lanes_in, low_in, lane_has_state, AreRowsOf, IsRow, ArePermitted, AreLeading, Rows, Row, AreBelow-index}
+use Rattle.roman_joint.proofs.Common.{AreBelow-index, AreLeading, ArePermitted, AreRowsOf, AreSizes, AreSizes-index, IsBeh, IsIn, IsNamedSys, IsPairOf, IsPairOf-at, IsRow, IsSizes, List, NamedSys, Row, Rows, Seat, Sizes, Sys, [], ap, ap₂, arith, below, cases_eq, count, env_rows_are, env_rows_of, exact, get_or-set_other, get_or-set_same, inl, inr, lanes_in, lanes_of, lanes_positive, length, length-map, low_in, low_of, low_of-le, map, mul-add-lt, pair_at, part_at, product_of, refl, row_below, row_div, row_least, set, sizes_of, slice_index, stride_of, subst, suc, sym, system_of, tails_from, target_rows_of, target_stride_of, zero, ℕ, ◌%◌, ◌*◌, ◌+◌, ◌-◌, ◌/◌, ◌<◌, ◌∙◌, ◌∷◌, ◌≡◌}
 use Rattle.roman_joint.proofs.Rows.{count_fits}
 
 -- the pairs of a joint have numbers of 32 bits
@@ -44,31 +44,6 @@ target_rows_are n = grind (arith, env_rows_are)
 -- a product divided by a factor
 pub quotient : (a m w : ℕ) → 0 < w → m * w ≡ a → a / w ≡ m
 quotient a m w pos is = factor (a / w) m w pos (exact a m w pos (sym is) ∙ sym is)
-
--- the rows of sizes
-pub rows_made : (n : Sizes) (r : Rows) → IsSizes n → r.low ≡ low_of n.seats → r.mid ≡ low_of (row_sizes n).seats → r.band ≡ lanes_of (row_sizes n).seats → r.lanes ≡ lanes_of n.seats → ((lane : ℕ) → is_on r.full lane ≡ ltb lane r.lanes) →
-    r.rows * lanes_of n.seats ≡ count n → r.env_rows ≡ env_stride_of n / r.lanes → r.target_rows ≡ target_stride_of n / r.lanes →
-    ((k : ℕ) → k < length n.seats → slice_index r.strides k ≡ cond (ltb k r.low) (stride_of n k / r.lanes) (stride_of n k)) →
-    ((k : ℕ) → k < length n.seats → slice_index r.sizes k ≡ slice_index n.seats k) →
-    ((k lane : ℕ) → k < length n.seats → lane < 64 → is_on (slice_index r.firsts k) lane ≡ lane_has_state (stride_of n k) (slice_index n.seats k) 0 lane) → AreRowsOf n r
-rows_made n r h is_low is_mid is_band is_lanes full rows env target strides sizes firsts = record {
-  low = is_low;
-  mid = is_mid;
-  band = is_band;
-  lanes = is_lanes;
-  full = λ lane. full lane ∙ ap (ltb lane) is_lanes;
-  rows = rows;
-  env = env ∙ (ap (λ w. env_stride_of n / w) is_lanes ∙ quotient (env_stride_of n) (env_rows_of n) (lanes_of n.seats) (lanes_positive n.seats h.seats) (env_rows_are n));
-  target = target ∙ (ap (λ w. target_stride_of n / w) is_lanes ∙ quotient (target_stride_of n) (target_rows_of n) (lanes_of n.seats) (lanes_positive n.seats h.seats) (target_rows_are n));
-  before = λ k l.
-      let within : k < length n.seats = omega (arith, low_of-le n.seats) in
-      let is : slice_index r.strides k ≡ stride_of n k / lanes_of n.seats =
-      strides k within ∙ (ap (λ b. cond b (stride_of n k / r.lanes) (stride_of n k)) (lt-ltb k r.low (omega (arith, is_low))) ∙ ap (λ w. stride_of n k / w) is_lanes) in
-      ap (λ x. x * lanes_of n.seats) is ∙ stride_rows n k h l;
-  within = λ k l m. strides k m ∙ ap (λ b. cond b (stride_of n k / r.lanes) (stride_of n k)) (le-ltb k r.low (omega (arith, is_low)));
-  sizes = sizes;
-  firsts = firsts;
-}
 
 -- the stride of a seat before the lanes, counted in rows
 pub row_stride : (n : Sizes) (r : Rows) (k : ℕ) → IsSizes n → AreRowsOf n r → k < low_of n.seats → slice_index r.strides k ≡ stride_of n k / lanes_of n.seats

@@ -1,5 +1,5 @@
 -- One step of a walk backwards: the delegations that are left, and the new position.
-use Rattle.roman_joint.proofs.Common.{◌≡◌, ◌⊎◌, ℕ, zero, suc, ◌+◌, ◌<◌, ◌≤◌, Bool, true, false, cond, List, [], ◌∷◌, ◌++◌, length, drop, get_or, Option, None, Some, slice_get, slice_index, slice_set, inl, inr, refl, sym, ap, ◌∙◌, subst, arith, flat_map, cases_lt, drop_more, drop_all, append_assoc, length-map, length-filter, count_by-le-length, HoldsEachOnce, below, Env, Beh, Sys, Seat, Pair, IsSys, IsEnv, IsBeh, has_triple, has_move, env_prev, beh_prev, Delegation, back, sizes_of, count, number, pair_at, numbered, length-below, seat_in, Walk, seat_prev, from_states, from_seat, from_target, from_env, from_action, from_all, goal_of, IsWalk, states_before, left, get_or-below, left_of_seat, left_of_target, left_of_env, left_of_action, left_of_all, WalkGoesOn}
+use Rattle.roman_joint.proofs.Common.{Beh, Bool, Delegation, Env, HoldsEachOnce, IsBeh, IsEnv, IsSys, IsWalk, List, None, Option, Pair, Seat, Some, Sys, Walk, WalkGoesOn, [], ap, append_assoc, arith, back, beh_prev, below, cases_lt, cond, count, count_by-le-length, drop, drop_all, drop_more, env_prev, false, flat_map, from_action, from_all, from_env, from_seat, from_states, from_target, get_or, get_or-below, goal_of, has_move, has_triple, inl, inr, left, left_of_action, left_of_all, left_of_env, left_of_seat, left_of_target, length, length-below, length-filter, length-map, number, numbered, pair_at, refl, seat_in, seat_prev, sizes_of, slice_get, slice_index, slice_set, states_before, subst, suc, sym, true, zero, ℕ, ◌++◌, ◌+◌, ◌-◌, ◌<◌, ◌∙◌, ◌∷◌, ◌≡◌, ◌≤◌}
 use Rattle.roman_joint.proofs.BackwardLemmas.{found_backwards}
 
 -- joined lists are the first one and the rest
@@ -46,14 +46,6 @@ seats_from s q a e t k = elim (cases_lt k (length s.seats)) [
     f : ℕ → List (Delegation ℕ)
     f = from_seat s q a e t
 
--- empty first parts can be left out
-after_none : {X : Type 0} (xs ys rest : List X) → xs ≡ [] → ys ≡ [] → xs ++ (ys ++ rest) ≡ rest
-after_none xs ys rest x y = ap (λ zs. zs ++ (ys ++ rest)) x ∙ ap (λ zs. zs ++ rest) y
-
--- the first part of a list goes to the front, past empty parts
-moved_on : {X : Type 0} (a b c first later rest : List X) → a ≡ [] → b ≡ [] → c ≡ first ++ later → first ++ (later ++ rest) ≡ a ++ (b ++ (c ++ rest))
-moved_on a b c first later rest x y is = sym (after_none a b (c ++ rest) x y ∙ (ap (λ xs. xs ++ rest) is ∙ append_assoc first later rest))
-
 -- a new count is within its bound
 none_taken : 0 ≤ 64
 none_taken = omega arith
@@ -63,17 +55,14 @@ module _ (s : Sys) (sys : IsSys s) (w : Walk) (ok : IsWalk s w) where
   abbrev pub seat_on : Walk
   seat_on = record w { seat = w.seat + 1; states_taken = 0 }
 
-  seat_walk : w.seat < length s.seats → IsWalk s seat_on
-  seat_walk within = let next : w.seat + 1 ≤ length s.seats = omega arith in assumption (none_taken)
-
-  seat_left : left_of_seat s w ≡ [] → left s seat_on ≡ left s w
-  seat_left no_states =
-      let rest = left_of_env s w ++ (left_of_action s w ++ left_of_all s w) in
-      sym (append_assoc (left_of_seat s seat_on) (left_of_target s seat_on) rest)
-      ∙ (ap (λ xs. xs ++ rest) (seats_from s (goal_of s w) w.action w.env w.target (w.seat + 1)) ∙ sym (ap (λ xs. xs ++ (left_of_target s w ++ rest)) no_states))
-
   pub goes_seat : left_of_seat s w ≡ [] → w.seat + 1 < length s.seats → WalkGoesOn s w seat_on
-  goes_seat no_states more = record { walk = seat_walk (omega arith); left = seat_left no_states; falls = omega arith }
+  goes_seat no_states more =
+      let next : w.seat + 1 ≤ length s.seats = omega arith in
+      record {
+        walk = assumption (none_taken);
+        left = rw (no_states, ← seats_from s (goal_of s w) w.action w.env w.target (w.seat + 1)) (sym (append_assoc (left_of_seat s seat_on) (left_of_target s seat_on) _));
+        falls = omega arith;
+      }
 
   -- the walk at the target's next predecessor state
   abbrev pub target_on : ℕ → Walk
@@ -83,25 +72,12 @@ module _ (s : Sys) (sys : IsSys s) (w : Walk) (ok : IsWalk s w) where
       t ≡ get_or (beh_prev s.target (goal_of s w).t w.env w.action) w.targets_taken 0 → t < s.target.states → WalkGoesOn s w (target_on t)
   goes_target t no_states no_seats more is within =
       let targets = beh_prev s.target (goal_of s w).t w.env w.action in
-      let rest = left_of_action s w ++ left_of_all s w in
       let f = from_target s (goal_of s w) w.action w.env in
       let new = target_on t in
       let next : left_of_env s w ≡ f t ++ left_of_env s new = flat_map-drop f targets w.targets_taken 0 more ∙ ap (λ u. f u ++ left_of_env s new) (sym is) in
       let first : 0 ≤ length s.seats = omega arith in
       let taken : w.targets_taken + 1 ≤ 64 = omega (arith, more, few_beh_prev s.env s.target (goal_of s w).t w.env w.action sys.target) in
-      record {
-        walk = assumption (none_taken);
-        left = sym (append_assoc (left_of_seat s new) (left_of_target s new) (left_of_env s new ++ rest))
-            ∙ (ap (λ xs. xs ++ (left_of_env s new ++ rest)) (seats_from s (goal_of s w) w.action w.env t 0)
-            ∙ moved_on (left_of_seat s w) (left_of_target s w) (left_of_env s w) (f t) (left_of_env s new) rest no_states no_seats next);
-        falls = omega (arith, sys.few, taken);
-      }
-
-  -- past the last seat, nothing is left of the target's state
-  no_seat_left : (e a k : ℕ) (rest : List (Delegation ℕ)) → length s.seats ≤ k →
-      from_seat s (goal_of s w) a e w.target k ++ (flat_map (from_seat s (goal_of s w) a e w.target) (drop (k + 1) (below (length s.seats))) ++ rest) ≡ rest
-  no_seat_left e a k rest past =
-      after_none _ _ rest (past_seat s (goal_of s w) a e w.target k 0 past) (below-past (from_seat s (goal_of s w) a e w.target) (length s.seats) (k + 1) (omega arith))
+      record { walk = assumption (none_taken); left = rw (no_states, no_seats, next, ← seats_from s (goal_of s w) w.action w.env t 0) (simp append_assoc); falls = omega (arith, sys.few, taken) }
 
   -- the walk at the environment's next predecessor state; k is the number of seats
   abbrev pub env_on : ℕ → ℕ → Walk
@@ -110,7 +86,6 @@ module _ (s : Sys) (sys : IsSys s) (w : Walk) (ok : IsWalk s w) where
   pub goes_env : (e k : ℕ) → left_of_seat s w ≡ [] → left_of_target s w ≡ [] → left_of_env s w ≡ [] → w.envs_taken < length (env_prev s.env (goal_of s w).e w.action) →
       e ≡ get_or (env_prev s.env (goal_of s w).e w.action) w.envs_taken 0 → e < s.env.states → k ≡ length s.seats → WalkGoesOn s w (env_on e k)
   goes_env e k no_states no_seats no_targets more is within all =
-      let rest = left_of_all s w in
       let f = from_env s (goal_of s w) w.action in
       let new = env_on e k in
       let past : k ≤ length s.seats = omega arith in
@@ -118,9 +93,8 @@ module _ (s : Sys) (sys : IsSys s) (w : Walk) (ok : IsWalk s w) where
       let taken : w.envs_taken + 1 ≤ 64 = omega (arith, more, few_prev s.env (goal_of s w).e w.action sys.env) in
       record {
         walk = assumption (none_taken);
-        left = no_seat_left e w.action k (f e ++ (left_of_action s new ++ rest)) (omega arith)
-            ∙ (moved_on (left_of_target s w) (left_of_env s w) (left_of_action s w) (f e) (left_of_action s new) rest no_seats no_targets next
-            ∙ ap (λ xs. xs ++ (left_of_target s w ++ (left_of_env s w ++ (left_of_action s w ++ rest)))) (sym no_states));
+        left = rw (no_states, no_seats, no_targets, next, past_seat s (goal_of s w) w.action e w.target k 0 (omega arith), below-past (from_seat s (goal_of s w) w.action e w.target) (length s.seats) (k + 1) (omega arith))
+            (sym (append_assoc (f e) (left_of_action s new) (left_of_all s w)));
         falls = omega (arith, sys.few, taken);
       }
 
@@ -136,14 +110,13 @@ module _ (s : Sys) (sys : IsSys s) (w : Walk) (ok : IsWalk s w) where
       let new = action_on k in
       let past : k ≤ length s.seats = omega arith in
       let next : left_of_all s w ≡ f a ++ left_of_all s new = flat_map-below f s.env.actions a more in
-      let old : left s w ≡ f a ++ left_of_all s new =
-      after_none (left_of_seat s w) (left_of_target s w) (left_of_env s w ++ (left_of_action s w ++ left_of_all s w)) no_states no_seats
-      ∙ (after_none (left_of_env s w) (left_of_action s w) (left_of_all s w) no_targets no_envs ∙ next) in
-      let targets : left_of_env s new ≡ [] = flat_map-past (from_target s q a w.env) (beh_prev s.target q.t w.env a) 64 (few_beh_prev s.env s.target q.t w.env a sys.target) in
-      let then : left s new ≡ f a ++ left_of_all s new =
-      no_seat_left w.env a k (left_of_env s new ++ (left_of_action s new ++ left_of_all s new)) (omega arith) ∙ ap (λ xs. xs ++ (left_of_action s new ++ left_of_all s new)) targets in
+      let targets = flat_map-past (from_target s q a w.env) (beh_prev s.target q.t w.env a) 64 (few_beh_prev s.env s.target q.t w.env a sys.target) in
       let taken : 64 ≤ 64 = omega arith in
-      record { walk = assumption (none_taken); left = then ∙ sym old; falls = omega (arith, sys.few) }
+      record {
+        walk = assumption (none_taken);
+        left = rw (no_states, no_seats, no_targets, no_envs, next, past_seat s q a w.env w.target k 0 (omega arith), below-past (from_seat s q a w.env w.target) (length s.seats) (k + 1) (omega arith), targets) refl;
+        falls = omega (arith, sys.few);
+      }
 
 -- a seat has at most 64 predecessor states
 pub few_seat_prev : (s : Sys) (k b' e a : ℕ) → IsSys s → length (seat_prev (slice_get s.seats k) b' e a) ≤ 64
@@ -193,9 +166,7 @@ begins s p m sys below_p is_m =
     let q : Pair = pair_at (sizes_of s) p in
     let w : Walk = first_walk p m in
     let nothing : left s w ≡ left_of_action s w ++ left_of_all s w =
-    after_none (left_of_seat s w) (left_of_target s w) (left_of_env s w ++ (left_of_action s w ++ left_of_all s w)) (past_seat s q 0 0 0 m 0 (omega arith))
-    (below-past (from_seat s q 0 0 0) (length s.seats) (m + 1) (omega arith))
-    ∙ ap (λ xs. xs ++ (left_of_action s w ++ left_of_all s w)) (flat_map-past (from_target s q 0 0) (beh_prev s.target q.t 0 0) 64 (few_beh_prev s.env s.target q.t 0 0 sys.target)) in
+    rw (past_seat s q 0 0 0 m 0 (omega arith), below-past (from_seat s q 0 0 0) (length s.seats) (m + 1) (omega arith), flat_map-past (from_target s q 0 0) (beh_prev s.target q.t 0 0) 64 (few_beh_prev s.env s.target q.t 0 0 sys.target)) refl in
     let all : from_all s q ≡ left_of_action s w ++ left_of_all s w = flat_map-below (from_action s q) s.env.actions 0 sys.env.actions.0 in
     record {
       walk = record {
