@@ -30,35 +30,6 @@ in_seat_prev env o seat b' e a b seated ok ready moves =
 state_steps : (s : Sys) (q : Pair) (a e t k b : ℕ) → IsIn e (env_prev s.env q.e a) → IsIn t (beh_prev s.target q.t e a) → IsIn b (seat_prev (slice_get s.seats k) (slice_index q.bs k) e a) → Steps s q a e t k b
 state_steps s q a e t k b in_env in_target in_states = grind (arith, from_beh_prev, from_env_prev, from_seat_prev)
 
--- each delegation that is found has such steps
-pub record Found (s : Sys) (q : Pair) (d : Delegation ℕ) : Type 0 where
-  pub e : ℕ
-  pub t : ℕ
-  pub b : ℕ
-  pub steps : Steps s q d.action e t d.seat b
-  pub is : d ≡ delegation s q d.action e t d.seat b
-
-pub from_all_found : (s : Sys) (q : Pair) (d : Delegation ℕ) → IsIn d (from_all s q) → Found s q d
-from_all_found s q d i =
-    let (a, in_actions, i1) = from_flat_map (from_action s q) d (below s.env.actions) i in
-    let (e, in_env, i2) = from_flat_map (from_env s q a) d (env_prev s.env q.e a) i1 in
-    let (t, in_target, i3) = from_flat_map (from_target s q a e) d (beh_prev s.target q.t e a) i2 in
-    let (k, in_seats, i4) = from_flat_map (from_seat s q a e t) d (below (length s.seats)) i3 in
-    let (b, in_states, is) = from_map (delegation s q a e t k) d (seat_prev (slice_get s.seats k) (slice_index q.bs k) e a) i4 in
-    let found : Found s q (delegation s q a e t k b) = record { e = e; t = t; b = b; steps = state_steps s q a e t k b in_env in_target in_states; is = refl } in
-    subst (Found s q) (sym is) found
-
--- each delegation with such steps is found
-pub in_all : (s : Sys) (q : Pair) (a e t k b : ℕ) → IsSys s → Steps s q a e t k b → IsIn (delegation s q a e t k b) (from_all s q)
-in_all s q a e t k b sys steps =
-    let d : Delegation ℕ = delegation s q a e t k b in
-    let ok : IsBeh s.env steps.seat.beh = sys.seats steps.seat (seat_in _ _ _ steps.seated) in
-    let states : IsIn b (seat_prev (slice_get s.seats k) (slice_index q.bs k) e a) =
-    in_seat_prev _ _ _ _ _ _ _ steps.seated ok steps.ready steps.moves in
-    in_flat_map _ _ _ _ (in_below _ _ (triple_in_range _ _ _ _ sys.env steps.world).1) (in_flat_map _ _ _ _ (in_env_prev _ _ _ _ sys.env steps.world)
-    (in_flat_map _ _ _ _ (in_beh_prev _ _ _ _ _ _ sys.target steps.goal) (in_flat_map _ _ _ _ (in_below _ _ (slice_get_within s.seats k steps.seat steps.seated))
-    (in_map _ _ _ states))))
-
 -- one state for each seat
 length_of_pair : (s : Sys) (p : Pair) → IsPair s p → length p.bs ≡ length s.seats
 length_of_pair s p ok = AreBelow-length (map (λ seat. seat.beh.states) s.seats) p.bs (IsPairOf-from s p ok).bs ∙ length-map s.seats (λ seat. seat.beh.states)
@@ -106,29 +77,37 @@ pair_comes s p r a k sys below_p led =
     outcome_steps s _ _ a k ok (subst (λ y. IsIn y (outcomes s (pair_at (sizes_of s) p) a k)) (sym here) l)
 
 -- each delegation that is found leads to q
-pub found_leads : (s : Sys) (p : ℕ) (d : Delegation ℕ) → IsSys s → p < count (sizes_of s) → IsIn d (from_all s (pair_at (sizes_of s) p)) → IsIn d (back (numbered s) p)
+found_leads : (s : Sys) (p : ℕ) (d : Delegation ℕ) → IsSys s → p < count (sizes_of s) → IsIn d (from_all s (pair_at (sizes_of s) p)) → IsIn d (back (numbered s) p)
 found_leads s p d sys below_p i =
-    let q : Pair = pair_at (sizes_of s) p in
+    let n = sizes_of s in
+    let q : Pair = pair_at n p in
     let ok : IsPair s q = (numbers_are_pairs s).pair p below_p in
-    let found : Found s q d = from_all_found s q d i in
-    let r : Pair = origin q found.e found.t d.seat found.b in
-    let ok_r : IsPair s r = origin_pair s q d.action found.e found.t d.seat found.b sys ok found.steps in
-    let lead : IsIn q (outcomes s r d.action d.seat) = steps_lead s q d.action found.e found.t d.seat found.b sys ok found.steps in
-    let numbers : IsIn p (map (number (sizes_of s)) (outcomes s r d.action d.seat)) = rw ((numbers_are_pairs s).there p below_p) at (in_map (number (sizes_of s)) q (outcomes s r d.action d.seat) lead) in
-    let there : IsIn p ((numbered s).outcomes (number (sizes_of s) r) d.action d.seat) =
-    subst (λ x. IsIn p (map (number (sizes_of s)) (outcomes s x d.action d.seat))) (sym ((numbers_are_pairs s).back r ok_r)) numbers in
-    subst (λ x. IsIn x (back (numbered s) p)) (sym found.is) (in_back (numbered s) (numbered_is_arena s sys) p (number (sizes_of s) r) d.action d.seat
-    (in_below (count (sizes_of s)) (number (sizes_of s) r) ((numbers_are_pairs s).below r ok_r)) there)
+    let (a, in_actions, i1) = from_flat_map (from_action s q) d (below s.env.actions) i in
+    let (e, in_env, i2) = from_flat_map (from_env s q a) d (env_prev s.env q.e a) i1 in
+    let (t, in_target, i3) = from_flat_map (from_target s q a e) d (beh_prev s.target q.t e a) i2 in
+    let (k, in_seats, i4) = from_flat_map (from_seat s q a e t) d (below (length s.seats)) i3 in
+    let (b, in_states, is) = from_map (delegation s q a e t k) d (seat_prev (slice_get s.seats k) (slice_index q.bs k) e a) i4 in
+    let steps = state_steps s q a e t k b in_env in_target in_states in
+    let r : Pair = origin q e t k b in
+    let ok_r : IsPair s r = origin_pair s q a e t k b sys ok steps in
+    let numbers : IsIn p (map (number n) (outcomes s r a k)) = rw ((numbers_are_pairs s).there p below_p) at (in_map (number n) q (outcomes s r a k) (steps_lead s q a e t k b sys ok steps)) in
+    let there : IsIn p ((numbered s).outcomes (number n r) a k) = subst (λ x. IsIn p (map (number n) (outcomes s x a k))) (sym ((numbers_are_pairs s).back r ok_r)) numbers in
+    subst (λ x. IsIn x (back (numbered s) p)) (sym is) (in_back (numbered s) (numbered_is_arena s sys) p (number n r) a k (in_below (count n) (number n r) ((numbers_are_pairs s).below r ok_r)) there)
 
 -- each delegation that leads to q is found
-pub leads_found : (s : Sys) (p : ℕ) (d : Delegation ℕ) → IsSys s → p < count (sizes_of s) → IsIn d (back (numbered s) p) → IsIn d (from_all s (pair_at (sizes_of s) p))
+leads_found : (s : Sys) (p : ℕ) (d : Delegation ℕ) → IsSys s → p < count (sizes_of s) → IsIn d (back (numbered s) p) → IsIn d (from_all s (pair_at (sizes_of s) p))
 leads_found s p d sys below_p i =
     let (in_nodes, action, seat, j) = from_back (numbered s) (numbered_is_same s) p d i in
     let below_d : d.node < count (sizes_of s) = from_below (count (sizes_of s)) d.node in_nodes in
     let r : Pair = pair_at (sizes_of s) d.node in
     let comes = pair_comes s d.node p d.action d.seat sys below_d j in
+    let steps = comes.steps in
+    let states = in_seat_prev _ _ _ _ _ _ _ steps.seated (sys.seats steps.seat (seat_in _ _ _ steps.seated)) steps.ready steps.moves in
     let node : number (sizes_of s) (origin (pair_at (sizes_of s) p) r.e r.t d.seat (slice_index r.bs d.seat)) ≡ d.node = ap (number (sizes_of s)) comes.from ∙ (numbers_are_pairs s).there d.node below_d in
-    rw node at (in_all s (pair_at (sizes_of s) p) d.action r.e r.t d.seat (slice_index r.bs d.seat) sys comes.steps)
+    let found : IsIn (delegation s (pair_at (sizes_of s) p) d.action r.e r.t d.seat (slice_index r.bs d.seat)) (from_all s (pair_at (sizes_of s) p)) =
+    in_flat_map _ _ _ _ (in_below _ _ (triple_in_range _ _ _ _ sys.env steps.world).1) (in_flat_map _ _ _ _ (in_env_prev _ _ _ _ sys.env steps.world)
+    (in_flat_map _ _ _ _ (in_beh_prev _ _ _ _ _ _ sys.target steps.goal) (in_flat_map _ _ _ _ (in_below _ _ (slice_get_within s.seats d.seat steps.seat steps.seated)) (in_map _ _ _ states)))) in
+    rw node at found
 
 -- the states and the seat of a delegation are those by which it was found
 pub record FoundAt (s : Sys) (q : Pair) (a e t k : ℕ) (d : Delegation ℕ) : Type 0 where

@@ -7,12 +7,12 @@ pub use Rattle.std.proofs.Math.Seq.{get_or-append_seam}
 pub use Rattle.std.proofs.lemmas.Bool.{and_parts, both_ways, cases_eq, cases_lt, eq-eqb, eqb-true, false≢true, le-ltb, lt-ltb, ne_eqb, not-false, not-true, not_from_false, or_right}
 pub use Rattle.std.proofs.lemmas.Bool.Decides.{nat_tests}
 pub use Rattle.std.proofs.lemmas.List.{append-nil, append_assoc, drop-append-le, drop-map, drop_all, drop_more, get_or-set_other, get_or-set_same, get_or-take, get_or_append_left, get_or_past, length-append, length-map, length-set, length-take, map-append, map_push, nil_from_length, set-get_or, set-set, take-append-le, take-map, take_all, take_more, take_more_set}
-pub use Rattle.std.proofs.lemmas.List.Elements.{All-append, All-drop, All-from_recursion, All-get_or, All-push, All-take, recursion_from_All}
+pub use Rattle.std.proofs.lemmas.List.Elements.{All-append, All-drop, All-from_recursion, All-get_or, All-map, All-push, All-take, recursion_from_All}
 pub use Rattle.std.proofs.lemmas.List.Folds.{find-append, list_any-append}
 pub use Rattle.std.proofs.lemmas.List.Sums.{count_by-le-length, length-filter, sum_by-append, sum_by-cons}
 pub use Rattle.std.proofs.lemmas.Nat.{div-add-mod', div-mul-add, div_below, mod-mul-add, mod_below, mul-add-lt, mul-le, pow_pos, same_from_place, shr-shr}
 pub use Rattle.std.proofs.lemmas.Nat.Bits.{bit_at-zero, bit_at_above, bit_at_cat_high, bit_at_cat_low, bit_at_ones, bit_at_ones_above, shr_and_one}
-pub use Rattle.std.proofs.lemmas.Option.{get_or_from_slice_get, slice_get-get_or, slice_get-map, slice_get_within}
+pub use Rattle.std.proofs.lemmas.Option.{get_or_from_slice_get, slice_get-get_or, slice_get-map, slice_get_past, slice_get_within}
 pub use Rattle.std.proofs.lemmas.Simd.{get_or-replicate, get_or-zip2, length-replicate, length-zip2, shifts_fit_splat}
 pub use Rattle.std.specs.Int.{bit_at, bit_not, w64}
 pub use Rattle.std.specs.List.{AllByRecursion, filter, find, flat_map, list_any, remove}
@@ -43,7 +43,7 @@ pub use Rattle.roman_joint.specs.Backward.{from_action, from_all, from_env, from
 pub use Rattle.roman_joint.specs.Bands.{AllAlive, AreRowsBefore, LosesRun, band_in, mid_in, turn_at}
 pub use Rattle.roman_joint.specs.Behaviours.{IsSeatBehaviour}
 pub use Rattle.roman_joint.specs.Changes.{with_frozen}
-pub use Rattle.roman_joint.specs.Layout.{IsJoint, named_sys_in}
+pub use Rattle.roman_joint.specs.Layout.{IsJoint, IsJointOf, named_sys_in}
 pub use Rattle.roman_joint.specs.Marks.{AnyOf, Grows, IsBeforeAction, IsBeforeEnv, IsBeforeSeat, IsBeforeTurn, IsMarked, IsMoved, Marks, action_steps, env_steps, row_at, seat_steps, turn_steps}
 pub use Rattle.roman_joint.specs.Moves.{AreMovesOf, AreSeatsIn, AreWays, HoldsMoves, HoldsSpans, HoldsTurns, IsAdded, IsKept, IsSpan, SuitsEnv, lane_move, lane_moves_from, span_place, system_in, ways_room, within_in}
 pub use Rattle.roman_joint.specs.NamedSys.{IsNamedSys, IsOverEnv, NamedSys, beh_at, cells, named_parts, seat_of, still, system_of}
@@ -52,7 +52,7 @@ pub use Rattle.roman_joint.specs.Outcomes.{IsPairWith, SuitsRows, outcome_number
 pub use Rattle.roman_joint.specs.Parts.{HasSameParts, named_in}
 pub use Rattle.roman_joint.specs.Rows.{AreAlive, AreRowsOf, HasResting, IsRow, IsTargetMove, is_open, lane_state_of, lanes_in, low_in, may_rest}
 unfoldable pub use Rattle.roman_joint.specs.Rows.{lane_has_state}
-pub use Rattle.roman_joint.specs.TargetViews.{AreLeading, ArePermitted, AreTargetViews, IsTargetView}
+pub use Rattle.roman_joint.specs.TargetViews.{AreLeading, ArePermitted, IsTargetView}
 pub use Rattle.roman_joint.specs.Walks.{IsWalk, WalkGoesOn, goal_of, left, left_of_action, left_of_all, left_of_env, left_of_seat, left_of_target, states_before, way_left}
 pub use Rattle.roman_joint.specs.declared.joint.Joint.TheInside.{Inside}
 pub use Rattle.roman_joint.specs.declared.layout.Rows.{Rows}

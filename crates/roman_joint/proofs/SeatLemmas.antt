@@ -1,13 +1,12 @@
 -- Services and their behaviours, read one after another.
-use Rattle.roman_joint.proofs.Common.{◌≡◌, ℕ, zero, suc, ◌+◌, ◌/◌, ◌%◌, ◌^◌, ◌<◌, ◌≤◌, List, [], ◌∷◌, ◌++◌, All, get_or, map, length, take, refl, sym, ap, ap₂, ◌∙◌, subst, inl, inr, arith, ◌==◌, AllByRecursion, set, take_more, map_push, length-set, length-map, All-from_recursion, IsIn, is_empty, Env, IsBeh, IsEnv, IsSys, sizes_of, Sizes, NamedEnv, NamedBeh, beh_at, seat_of, IsOverEnv, NamedSys, system_of, ne_eqb, MAX_SERVICES, take_more_set, IsDeterministic, IsOver}
+use Rattle.roman_joint.proofs.Common.{All, All-map, All-push, AllByRecursion, Env, IsBeh, IsDeterministic, IsEnv, IsIn, IsOver, IsOverEnv, IsSys, List, MAX_SERVICES, NamedBeh, NamedEnv, NamedSys, Sizes, Some, [], ap, ap₂, arith, beh_at, get_or, inl, inr, is_empty, length, length-map, length-set, map, map_push, ne_eqb, recursion_from_All, refl, seat_of, set, sizes_of, slice_get-get_or, subst, sym, system_of, take, take_more, take_more_set, ℕ, ◌++◌, ◌+◌, ◌-◌, ◌<◌, ◌==◌, ◌∙◌, ◌∷◌, ◌≡◌, ◌≤◌}
 use Rattle.roman_model.specs.System as model
 use Rattle.roman_joint.specs.declared.seat.Seat.{Seat}
+use Rattle.roman_joint.proofs.BehaviourLemmas.{beh_read}
 
 -- the behaviour that is read at a place of the catalogue
 pub seat_beh_read : (behs : List NamedBeh) (i : ℕ) (y : NamedBeh) → i < length behs → y ≡ get_or behs i y → y.beh ≡ beh_at behs i
-seat_beh_read [] i y l h = absurd (omega arith)
-seat_beh_read (beh ∷ behs) zero y l h = ap (λ (x : NamedBeh). x.beh) h
-seat_beh_read (beh ∷ behs) (suc i) y l h = seat_beh_read behs i y (omega arith) h
+seat_beh_read behs i y l h = sym (beh_read behs i y (slice_get-get_or behs i y l ∙ ap Some (sym h)))
 
 -- a behaviour has from 1 to 64 states, over any environment
 pub states_range : (y : NamedBeh) → IsOver y.env_states y.actions y.beh → (0 < y.beh.states) × (y.beh.states ≤ 64)
@@ -15,16 +14,11 @@ states_range y known =
     let env : Env = record { states = y.env_states; actions = y.actions; start = 0; triples = [] } in
     (known env refl refl).states
 
-recursion-push : {X : Type 0} (P : X → Type 0) (xs : List X) (x : X) → AllByRecursion P xs → P x → AllByRecursion P (xs ++ x ∷ [])
-recursion-push P [] x h p = (p, tt)
-recursion-push P (y ∷ xs) x h p = (h.0, recursion-push P xs x h.1 p)
-
 -- the first services are read: their sizes, and that their behaviours are in range over the environment
 pub record AreRead (catalogue : List NamedBeh) (seats : List Seat) (table : List ℕ) (k : ℕ) : Type 0 where
   pub sizes : take k table ≡ map (λ seat. (beh_at catalogue seat.behaviour).states) (take k seats)
   pub long : length table ≡ 32
-  pub known : (environment : NamedEnv) → All (IsOverEnv environment) catalogue →
-      AllByRecursion (λ seat. IsBeh environment.env (beh_at catalogue seat.behaviour)) (take k seats)
+  pub known : (environment : NamedEnv) → All (IsOverEnv environment) catalogue → All (λ seat. IsBeh environment.env (beh_at catalogue seat.behaviour)) (take k seats)
 
 pub one_read : (catalogue : List NamedBeh) (seats : List Seat) (sizes : List ℕ) (k size : ℕ) (x : Seat) (y : NamedBeh) → k < length seats → k < 32 →
     x ≡ get_or seats k x → y ≡ get_or catalogue x.behaviour y → x.behaviour < length catalogue → size ≡ y.beh.states → IsOver y.env_states y.actions y.beh →
@@ -41,7 +35,7 @@ one_read catalogue seats sizes k size x y within room at_seat at_beh place is ov
       known = λ environment are.
           let over_env : IsOverEnv environment y = subst (IsOverEnv environment) (sym at_beh) (are x.behaviour y place) in
           let beh : IsBeh environment.env (beh_at catalogue x.behaviour) = subst (IsBeh environment.env) read (over environment.env (sym over_env.0) (sym over_env.1)) in
-          subst (AllByRecursion (λ seat. IsBeh environment.env (beh_at catalogue seat.behaviour))) (sym more) (recursion-push _ _ _ (so_far.known environment are) beh);
+          subst (All (λ seat. IsBeh environment.env (beh_at catalogue seat.behaviour))) (sym more) (All-push (λ seat. IsBeh environment.env (beh_at catalogue seat.behaviour)) (take k seats) x (so_far.known environment are) beh);
     }
 
 -- the seats' sizes are those of the system
@@ -57,14 +51,8 @@ seats_known catalogue (seat ∷ seats) env h x (inl e) = subst (λ (y : model.Se
 seats_known catalogue (seat ∷ seats) env h x (inr i) = seats_known catalogue seats env h.1 x i
 
 -- each service has states
-pub positive_sizes : (catalogue : List NamedBeh) (seats : List Seat) (env : Env) → AllByRecursion (λ seat. IsBeh env (beh_at catalogue seat.behaviour)) seats →
-    All (λ size. 0 < size) (map (λ seat. (beh_at catalogue seat.behaviour).states) seats)
-positive_sizes catalogue seats env h = All-from_recursion (λ size. 0 < size) (map (λ seat. (beh_at catalogue seat.behaviour).states) seats) (each seats h)
-  where
-    each : (xs : List Seat) → AllByRecursion (λ seat. IsBeh env (beh_at catalogue seat.behaviour)) xs →
-        AllByRecursion (λ size. 0 < size) (map (λ seat. (beh_at catalogue seat.behaviour).states) xs)
-    each [] h = tt
-    each (x ∷ xs) h = (h.0.states.0, each xs h.1)
+pub positive_sizes : (catalogue : List NamedBeh) (seats : List Seat) (env : Env) → All (λ seat. IsBeh env (beh_at catalogue seat.behaviour)) seats → All (λ size. 0 < size) (map (λ seat. (beh_at catalogue seat.behaviour).states) seats)
+positive_sizes catalogue seats env h = All-map (λ size. 0 < size) (λ seat. (beh_at catalogue seat.behaviour).states) seats (λ k seat l. (h k seat l).states.0)
 
 pub len_empty : (xs : List ℕ) → (length xs == 0) ≡ is_empty xs
 len_empty [] = refl
@@ -77,7 +65,7 @@ pub sizes_counted : (n : NamedSys) (t e : ℕ) (table : List ℕ) → t ≡ n.ta
 sizes_counted n t e table is_t is_e is_table = rw (is_t, is_e, is_table ∙ same_sizes n.catalogue n.seats) refl
 
 pub makes_system : (n : NamedSys) → IsEnv n.environment.env → IsBeh n.environment.env n.target.beh → IsDeterministic n.target.beh →
-    AllByRecursion (λ seat. IsBeh n.environment.env (beh_at n.catalogue seat.behaviour)) n.seats → length n.seats ≤ MAX_SERVICES → IsSys (system_of n)
+    All (λ seat. IsBeh n.environment.env (beh_at n.catalogue seat.behaviour)) n.seats → length n.seats ≤ MAX_SERVICES → IsSys (system_of n)
 makes_system n env target single seats few =
     let all : length (system_of n).seats ≤ MAX_SERVICES = omega (arith, length-map n.seats (seat_of n.catalogue)) in
-    assumption (seats_known n.catalogue n.seats n.environment.env seats)
+    assumption (seats_known n.catalogue n.seats n.environment.env (recursion_from_All _ n.seats seats))

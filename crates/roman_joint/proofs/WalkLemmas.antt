@@ -1,5 +1,5 @@
 -- One step of a walk backwards: the delegations that are left, and the new position.
-use Rattle.roman_joint.proofs.Common.{Beh, Bool, Delegation, Env, HoldsEachOnce, IsBeh, IsEnv, IsSys, IsWalk, List, None, Option, Pair, Seat, Some, Sys, Walk, WalkGoesOn, [], ap, append_assoc, arith, back, beh_prev, below, cases_lt, cond, count, count_by-le-length, drop, drop_all, drop_more, env_prev, false, flat_map, from_action, from_all, from_env, from_seat, from_states, from_target, get_or, get_or-below, goal_of, has_move, has_triple, inl, inr, left, left_of_action, left_of_all, left_of_env, left_of_seat, left_of_target, length, length-below, length-filter, length-map, number, numbered, pair_at, refl, seat_in, seat_prev, sizes_of, slice_get, slice_index, slice_set, states_before, subst, suc, sym, true, zero, ℕ, ◌++◌, ◌+◌, ◌-◌, ◌<◌, ◌∙◌, ◌∷◌, ◌≡◌, ◌≤◌}
+use Rattle.roman_joint.proofs.Common.{Beh, Bool, Delegation, Env, HoldsEachOnce, IsBeh, IsEnv, IsSys, IsWalk, List, None, Option, Pair, Seat, Some, Sys, Walk, WalkGoesOn, [], ap, append_assoc, arith, back, beh_prev, below, cases_lt, cond, count, count_by-le-length, drop, drop_all, drop_more, env_prev, false, flat_map, from_action, from_all, from_env, from_seat, from_states, from_target, get_or, get_or-below, goal_of, has_move, has_triple, inl, inr, left, left_of_action, left_of_all, left_of_env, left_of_seat, left_of_target, length, length-below, length-filter, length-map, number, numbered, pair_at, refl, seat_in, seat_prev, sizes_of, slice_get, slice_get_past, slice_index, slice_set, states_before, subst, sym, true, ℕ, ◌++◌, ◌+◌, ◌-◌, ◌<◌, ◌∙◌, ◌∷◌, ◌≡◌, ◌≤◌}
 use Rattle.roman_joint.proofs.BackwardLemmas.{found_backwards}
 
 -- joined lists are the first one and the rest
@@ -17,12 +17,6 @@ flat_map-below f n i l =
 pub below-past : {Y : Type 0} (f : ℕ → List Y) (n i : ℕ) → n ≤ i → flat_map f (drop i (below n)) ≡ []
 below-past f n i l = flat_map-past f (below n) i (omega (arith, length-below n))
 
--- a place past the last seat has no predecessor states
-no_seat : (seats : List Seat) (k b' e a : ℕ) → length seats ≤ k → seat_prev (slice_get seats k) b' e a ≡ []
-no_seat [] k b' e a l = refl
-no_seat (seat ∷ seats) zero b' e a l = absurd (omega arith)
-no_seat (seat ∷ seats) (suc k) b' e a l = no_seat seats k b' e a (omega arith)
-
 pub few_prev : (env : Env) (e' a : ℕ) → IsEnv env → length (env_prev env e' a) ≤ 64
 few_prev env e' a ok = omega (arith, length-filter (λ e. has_triple env e a e') (below env.states), count_by-le-length (λ e. has_triple env e a e') (below env.states), length-below env.states, ok.states.1)
 
@@ -32,7 +26,7 @@ few_beh_prev env beh b' e a ok = omega (arith, length-filter (λ b. has_move beh
 -- nothing is left of a seat past the last
 past_seat : (s : Sys) (q : Pair) (a e t k n : ℕ) → length s.seats ≤ k → from_states s q a e t k (drop n (seat_prev (slice_get s.seats k) (slice_index q.bs k) e a)) ≡ []
 past_seat s q a e t k n past =
-    ap (λ bs. from_states s q a e t k (drop n bs)) (no_seat s.seats k (slice_index q.bs k) e a past) ∙ ap (from_states s q a e t k) (drop_all n [] (omega arith))
+    ap (λ o. from_states s q a e t k (drop n (seat_prev o (slice_index q.bs k) e a))) (slice_get_past s.seats k past) ∙ ap (from_states s q a e t k) (drop_all n [] (omega arith))
 
 -- the seats from one on are that seat and those after it
 seats_from : (s : Sys) (q : Pair) (a e t k : ℕ) →
@@ -131,15 +125,10 @@ few_seat_prev s k b' e a sys = by (slice_get s.seats k) (λ seat there. sys.seat
         of false few = few
 
 -- a predecessor state of the current seat is taken
-pub record Takes (s : Sys) (old new : Walk) (node : ℕ) : Type 0 where
-  pub walk : IsWalk s new
-  pub action : new.action ≡ old.action
-  pub left : left s old ≡ record { node = node; action = old.action; seat = old.seat } ∷ left s new
-
 module _ (s : Sys) (sys : IsSys s) (w : Walk) (ok : IsWalk s w) where
   pub takes_state : (node : ℕ) → w.states_taken < length (states_before s w) →
       node ≡ number (sizes_of s) (record { t = w.target; e = w.env; bs = slice_set (goal_of s w).bs w.seat (get_or (states_before s w) w.states_taken 0) }) →
-      Takes s w (record w { states_taken = w.states_taken + 1 }) node
+      let new : Walk = record w { states_taken = w.states_taken + 1 } in IsWalk s new × (left s w ≡ record { node = node; action = w.action; seat = w.seat } ∷ left s new)
   takes_state node more is =
       let q = goal_of s w in
       let few : length (states_before s w) ≤ 64 = few_seat_prev s w.seat (slice_index q.bs w.seat) w.env w.action sys in
@@ -147,40 +136,33 @@ module _ (s : Sys) (sys : IsSys s) (w : Walk) (ok : IsWalk s w) where
       let new : Walk = record w { states_taken = w.states_taken + 1 } in
       let split : left_of_seat s w ≡ delegation_of node w.action w.seat ∷ left_of_seat s new =
       ap (from_states s q w.action w.env w.target w.seat) (drop_more (states_before s w) w.states_taken 0 more) ∙ ap (λ x. delegation_of x w.action w.seat ∷ left_of_seat s new) (sym is) in
-      record { walk = assumption; action = refl; left = ap (λ xs. xs ++ (left_of_target s w ++ (left_of_env s w ++ (left_of_action s w ++ left_of_all s w)))) split }
+      (assumption, ap (λ xs. xs ++ (left_of_target s w ++ (left_of_env s w ++ (left_of_action s w ++ left_of_all s w)))) split)
     where
       delegation_of : ℕ → ℕ → ℕ → Delegation ℕ
       delegation_of node a k = record { node = node; action = a; seat = k }
-
--- a walk that begins: all delegations that lead to the pair are left
-pub record Begins (s : Sys) (p : ℕ) (w : Walk) : Type 0 where
-  pub walk : IsWalk s w
-  pub left : HoldsEachOnce (left s w) (back (numbered s) p)
 
 -- m is the number of seats
 abbrev pub first_walk : ℕ → ℕ → Walk
 first_walk p m = record { pair = p; action = 0; envs_taken = 0; env = 0; targets_taken = 64; target = 0; seat = m; states_taken = 0 }
 
-pub begins : (s : Sys) (p m : ℕ) → IsSys s → p < count (sizes_of s) → m ≡ length s.seats → Begins s p (first_walk p m)
+pub begins : (s : Sys) (p m : ℕ) → IsSys s → p < count (sizes_of s) → m ≡ length s.seats → IsWalk s (first_walk p m) × HoldsEachOnce (left s (first_walk p m)) (back (numbered s) p)
 begins s p m sys below_p is_m =
     let q : Pair = pair_at (sizes_of s) p in
     let w : Walk = first_walk p m in
     let nothing : left s w ≡ left_of_action s w ++ left_of_all s w =
     rw (past_seat s q 0 0 0 m 0 (omega arith), below-past (from_seat s q 0 0 0) (length s.seats) (m + 1) (omega arith), flat_map-past (from_target s q 0 0) (beh_prev s.target q.t 0 0) 64 (few_beh_prev s.env s.target q.t 0 0 sys.target)) refl in
     let all : from_all s q ≡ left_of_action s w ++ left_of_all s w = flat_map-below (from_action s q) s.env.actions 0 sys.env.actions.0 in
-    record {
-      walk = record {
-        pair = below_p;
-        action = sys.env.actions.0;
-        env = sys.env.states.0;
-        target = sys.target.states.0;
-        seat = omega arith;
-        states_taken = omega arith;
-        targets_taken = omega arith;
-        envs_taken = omega arith;
-      };
-      left = subst (λ xs. HoldsEachOnce xs (back (numbered s) p)) (all ∙ sym nothing) (found_backwards s p sys below_p);
-    }
+    let walk : IsWalk s w = record {
+      pair = below_p;
+      action = sys.env.actions.0;
+      env = sys.env.states.0;
+      target = sys.target.states.0;
+      seat = omega arith;
+      states_taken = omega arith;
+      targets_taken = omega arith;
+      envs_taken = omega arith;
+    } in
+    (walk, subst (λ xs. HoldsEachOnce xs (back (numbered s) p)) (all ∙ sym nothing) (found_backwards s p sys below_p))
 
 -- nothing is left past the last place
 pub ruleset passed = (below-past, flat_map-past, length-map)

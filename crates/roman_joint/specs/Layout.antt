@@ -20,14 +20,18 @@ named_sys_in a = record {
   limit = a.limit;
 }
 
--- the parts are those of a system, the tables are those of this system, and there is room for the greatest number of services
-pub record IsJoint (a : Inside) : Type 0 where
-  pub known : IsNamedSys (named_sys_in a)
-  pub shape : a.shape ≡ sizes_of (system_of (named_sys_in a))
-  pub rows : AreRowsOf (sizes_of (system_of (named_sys_in a))) a.rows
-  pub moves : HoldsMoves (system_of (named_sys_in a)) a.moves
+-- the parts are those of this system, the tables are its tables, and there is room for the greatest number of services
+pub record IsJointOf (a : Inside) (n : NamedSys) : Type 0 where
+  pub known : IsNamedSys n
+  pub shape : a.shape ≡ sizes_of (system_of n)
+  pub rows : AreRowsOf (sizes_of (system_of n)) a.rows
+  pub moves : HoldsMoves (system_of n) a.moves
   pub target_views : AreTargetViews a.environment.env a.target.beh a.target_views.items
   pub room : MAX_SERVICES ≤ vec_capacity a.seats
+
+-- the fields are those of a joint of the system that they hold
+abbrev pub IsJoint : Inside → Type 0
+IsJoint a = IsJointOf a (named_sys_in a)
 
 -- the tables are those of the parts and the sizes, and there is room for the greatest number of services
 pub record AreTables (parts : Parts) (sizes : Sizes) (tables : Tables) : Type 0 where

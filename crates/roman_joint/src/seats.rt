@@ -1,6 +1,5 @@
 //! The services of a joint: copies, sizes, and the shape of these sizes.
 ghost use Rattle.std.specs.Prelude.{◌≡◌, ◌≤◌, ◌<◌, ◌↔◌, All, length, map, take, IsSome, IfSome, IfOk, vec_capacity};
-ghost use Rattle.std.specs.List.{AllByRecursion};
 ghost use Rattle.roman_model.specs.System.{IsSys, IsBeh};
 ghost use Rattle.roman_model.specs.Numbers.{sizes_of};
 ghost use Rattle.roman_model.specs.declared.limits.TheConstants.{MAX_SERVICES};
@@ -31,7 +30,7 @@ pub(crate) fn sizes_of_seats(catalogue: &[Behaviour], seats: &[Seat]) -> [u8; PL
     requires behaviours { All (λ seat. seat.behaviour < length catalogue.now) seats.now }
     ensures sizes { take (length seats.now) result ≡ map (λ seat. (beh_at catalogue.now seat.behaviour).states) seats.now }
     ensures known { (environment : NamedEnv) → All (IsOverEnv environment) catalogue.now
-        → AllByRecursion (λ seat. IsBeh environment.env (beh_at catalogue.now seat.behaviour)) seats.now }
+        → All (λ seat. IsBeh environment.env (beh_at catalogue.now seat.behaviour)) seats.now }
 {
     let mut sizes = [0; PLACES];
     for (k, seat) in seats.iter().enumerate() {

@@ -1,4 +1,4 @@
-use Rattle.roman_joint.proofs.Common.{◌<◌, length, sym, ap, ◌∙◌, subst, arith}
+use Rattle.roman_joint.proofs.Common.{ap, arith, count, false, length, subst, sym, take_all, true, ◌-◌, ◌<◌, ◌∙◌}
 use Rattle.roman_joint.specs.declared.seat.Seat.{Seat}
 use Rattle.roman_joint.proofs.SeatLemmas.{one_read, states_range}
 use Rattle.roman_joint.proofs.seats.sizes_of_seats.Goals as goal
@@ -14,3 +14,6 @@ loop-k-preserved c =
     let place : x.behaviour < length c.args.catalogue.now = subst (λ (z : Seat). z.behaviour < length c.args.catalogue.now) (sym c.index-seats-k.is) (c.requires.behaviours k x c.loop-k-test.true) in
     one_read c.args.catalogue.now c.args.seats.now c.loop-k.sizes k c.len.result x y c.loop-k-test.true (omega (arith, c.requires.few)) c.index-seats-k.is c.index-catalogue-seat.is place
     (c.len.ensures.len ∙ (ap length c.states.ensures.names ∙ c.states.ensures.count)) c.states.ensures.known c.loop-k.invariant
+
+pub returns-clause-known : goal.returns-clause-known
+returns-clause-known c environment are = rw (take_all c.loop-k.k c.args.seats.now c.loop-k-test.false) at (c.loop-k.invariant.known environment are)

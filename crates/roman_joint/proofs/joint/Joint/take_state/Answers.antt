@@ -41,4 +41,4 @@ returns c =
     let prev : c.prev_states-states.result.now ≡ states_before s w = c.prev_states-states.ensures.prev ∙ ap (λ b. seat_prev (slice_get s.seats w.seat) b w.env w.action) (c.part_of-to.ensures.value ∙ ap (λ m. slice_index (pair_at m w.pair).bs w.seat) c.shape-shape.ensures) in
     let takes = takes_state s c.known.ensures.system w c.requires _ (omega (arith, ap length prev))
     (sym (node at.After-stride) ∙ ((there at.After-first_outcome-first).0 ∙ ap (λ xs. number (sizes_of s) (record { t = w.target; e = w.env; bs = slice_set (goal_of s w).bs w.seat (get_or xs w.states_taken 0) })) prev)) in
-    record { walk = takes.walk; action = takes.action; taken = takes.left }
+    record { walk = takes.0; action = refl; taken = takes.1 }

@@ -6,4 +6,4 @@ pub returns : goal.returns
 returns c =
     let n = c.args.self.now in
     let first = begins (system_of n) c.args.p2 c.seats.result c.known.ensures.system c.requires (c.seats.ensures.count ∙ sym (length-map n.seats (seat_of n.catalogue))) in
-    record { walk = first.walk; left = first.left }
+    record { walk = first.0; left = first.1 }
