@@ -77,7 +77,6 @@ fn mark_seat<L: Ledger>(by: &Arrival<'_>, marks: &mut [u64], base: u64, k: u8, s
     ensures { let s = system_of by.now.joint.now in
         Marks (IsBeforeSeat s by.now.row.now by.now.action by.now.env base k) (seat_steps s by.now.row.now by.now.action by.now.env k) marks.old marks.new steps.old steps.new }
 {
-    by.joint.known(); // there are at most 32 seats
     let rows = by.joint.layout();
     let own = by.row.states[k as usize];
     let states = prev_states(by.joint, k, own, by.env, by.action);
@@ -97,7 +96,6 @@ fn mark_turn<L: Ledger>(by: &Arrival<'_>, marks: &mut [u64], t: u8, steps: &mut 
     ensures { let s = system_of by.now.joint.now in
         Marks (IsBeforeTurn s by.now.row.now by.now.action by.now.env t) (turn_steps s by.now.row.now by.now.action by.now.env) marks.old marks.new steps.old steps.new }
 {
-    by.joint.known(); // a pair's number fits 32 bits
     let rows = by.joint.layout();
     let base = times(t, rows.target_rows) + times(by.env, rows.env_rows) + u64::from(by.row.part);
     mark(marks, base / u64::from(rows.band));
