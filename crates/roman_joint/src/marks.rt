@@ -1,12 +1,12 @@
 //! Marking the bands from which a band can be reached.
-ghost use Rattle.std.specs.Prelude.{◌≡◌, ℕ, ◌+◌, ◌*◌, ◌/◌, ◌^◌, ◌<◌, ◌≤◌, true, length, count_by, ltb};
+ghost use Rattle.std.specs.Prelude.{◌≡◌, ℕ, ◌+◌, ◌*◌, ◌^◌, ◌<◌, ◌≤◌, true, length, count_by, ltb};
 ghost use Rattle.roman_model.specs.Arena.{back};
 ghost use Rattle.roman_model.specs.Numbers.{sizes_of, count, numbered};
 ghost use Rattle.roman_lanes.specs.Flags.{has_flag};
 ghost use Rattle.roman_joint.specs.NamedSys.{system_of};
 ghost use Rattle.roman_joint.specs.Rows.{lanes_in, IsRow};
 ghost use Rattle.roman_joint.specs.Bands.{mid_in, band_in};
-ghost use Rattle.roman_joint.specs.Marks.{IsMarked, Grows, Marks, IsArrival, IsMoved, IsBeforeSeat, IsBeforeTurn, IsBeforeEnv, IsBeforeAction, MarksBefore, row_at, seat_steps, turn_steps, env_steps, action_steps};
+ghost use Rattle.roman_joint.specs.Marks.{IsMarked, Grows, Marks, IsArrival, IsMoved, IsBeforeSeat, IsBeforeTurn, IsBeforeEnv, IsBeforeAction, MarksBefore, seat_steps, turn_steps, env_steps, action_steps};
 
 use crate::joint::Joint;
 use crate::row::Row;

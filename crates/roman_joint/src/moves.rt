@@ -1,7 +1,7 @@
 //! Moves of services within the lanes. For each such service, each action and each state of the
 //! environment, the table has the lanes from which the behaviour has a step, grouped by the way in
 //! which they move. Moves don't depend on whether a service is frozen.
-ghost use Rattle.std.specs.Prelude.{◌≡◌, ◌+◌, ◌-◌, ◌*◌, ◌<◌, ◌≤◌, ◌++◌, ◌∷◌, [], ◌==◌, ◌^◌, if◌then◌else◌, length, slice_index, slice_range, vec_len, vec_capacity, IfOk};
+ghost use Rattle.std.specs.Prelude.{◌≡◌, ◌+◌, ◌-◌, ◌*◌, ◌<◌, ◌≤◌, ◌++◌, ◌∷◌, [], ◌==◌, if◌then◌else◌, length, slice_index, slice_range, vec_len, vec_capacity, IfOk};
 ghost use Rattle.roman_joint.specs.Rows.{AreRowsOf};
 ghost use Rattle.roman_joint.specs.Moves.{lane_moves_from, system_in, AreSeatsIn, SuitsWays, SuitsEnv, HoldsTurns, HoldsMoves, HasPlaces, IsAdded};
 
