@@ -1,11 +1,10 @@
 -- Rows of a band.
-use Rattle.roman_joint.proofs.Common.{◌≡◌, ℕ, ◌+◌, ◌-◌, ◌*◌, ◌/◌, ◌%◌, ◌<◌, ◌≤◌, ◌^◌, Bool, true, false, not, ◌&&◌, List, [], length, slice_get, slice_index, IsFalse, inl, inr, refl, sym, ap, ap₂, ◌∙◌, subst, arith, list_any, set, cases_eq, cases_lt, mul-add-lt, mul-le, mod_below, get_or-set_same, get_or-set_other, IsIn, is_empty, product_of, all_below, any_same, from_seat_next, move_in_range, seat_in, part_at, Sys, IsSys, seat_next, is_beaten, sizes_of, count, pair_at, numbered, IsSizes, stride_of, low_of, row_sizes, env_rows_of, exact, lanes_few, AreSizes-index, low_of-le, lanes_positive, row_div, row_mod, row_below, env_rows_are, count_rows, length_rows, row_size, row_stride_of, IsSizes-rows, rows_are, is_on, HasLanes, AreRows, Keeps, lanes_in, low_in, lane_state_of, AreRowsOf, IsRow, IsTargetMove, AreAlive, mid_in, band_in, turn_at, AllAlive, AreRowsBefore, Rows, Row, TargetMove, and_assoc, on_zero, SuitsRows, Outcomes, ltb-false, get_or_past}
-use Rattle.roman_joint.proofs.Rows.{size_of_seat}
+use Rattle.roman_joint.proofs.Common.{AreWithin, SuitsRows, ◌||◌, ◌≡◌, ℕ, ◌+◌, ◌-◌, ◌*◌, ◌/◌, ◌%◌, ◌<◌, ◌≤◌, ◌^◌, Bool, true, false, not, ◌&&◌, List, [], length, slice_get, slice_index, inl, inr, refl, sym, ap, ap₂, ◌∙◌, subst, arith, list_any, set, cases_eq, cases_lt, mul-add-lt, mul-le, mod_below, get_or-set_same, get_or-set_other, get_or_past, IsIn, is_empty, product_of, all_below, any_same, part_at, Sys, seat_next, is_beaten, sizes_of, count, pair_at, numbered, IsSizes, stride_of, low_of, row_sizes, env_rows_of, exact, lanes_few, AreSizes-index, low_of-le, lanes_positive, row_div, row_mod, row_below, env_rows_are, count_rows, length_rows, row_size, row_stride_of, IsSizes-rows, rows_are, is_on, AreRows, Keeps, lanes_in, low_in, lane_state_of, AreRowsOf, IsRow, IsTargetMove, mid_in, band_in, turn_at, AllAlive, AreRowsBefore, Rows, Row, TargetMove, and_assoc, on_zero, Outcomes}
 use Rattle.roman_joint.proofs.AllowedLemmas.{cut_off, and_nothing}
 use Rattle.roman_joint.proofs.WordLemmas.{not_not, all_pass}
-use Rattle.roman_joint.proofs.SplitLemmas.{factor, positive_of, quotient, stride_rows, row_number, row_made}
-use Rattle.roman_joint.proofs.LeadLemmas.{lanes_parts, stride_positive, lane_state, lane_part, leads_before, leads_alive}
-use Rattle.roman_joint.proofs.GoodLemmas.{Known, rows_there, full_on, alive_there, beaten_before, rows_few, suits_rows, before_there, serves_before}
+use Rattle.roman_joint.proofs.SplitLemmas.{factor, positive_of, stride_rows, row_number, row_made}
+use Rattle.roman_joint.proofs.LeadLemmas.{lanes_parts, stride_positive, lane_state, lane_part, leads_before, leads_beaten}
+use Rattle.roman_joint.proofs.GoodLemmas.{Known, are_within, next_few, rows_there, alive_there, beaten_before, rows_few, suits_rows, before_there, serves_before}
 
 -- the i-th row of a band, from the first
 abbrev pub row_in : Sys → ℕ → Row → Row
@@ -19,7 +18,6 @@ row_in s x first = record {
 }
 
 pub record InBand (s : Sys) (y i : ℕ) (first : Row) : Type 0 where
-  pub inside : y * band_in s + i < count (row_sizes (sizes_of s))
   pub looked : IsRow s (y * band_in s + i) (row_in s (y * band_in s + i) first)
   pub part : (y * band_in s + i) % env_rows_of (sizes_of s) ≡ first.part + i
   pub before : (k : ℕ) → k < mid_in s → slice_index (pair_at (row_sizes (sizes_of s)) (y * band_in s + i)).bs k ≡ slice_index first.states k
@@ -49,14 +47,11 @@ in_band s y i first sizes ok l =
     let part_here : (x + i) % env_rows_of n ≡ y % g * v + i = ap (λ b. (x + i) % b) (sym whole) ∙ row_mod y v i g l in
     let part_first : x % env_rows_of n ≡ y % g * v + 0 = ap₂ (λ a b. a % b) first_at (sym whole) ∙ row_mod y v 0 g vpos in
     let long : length m.seats ≡ low_of n.seats = length_rows n in
-    let state : (k : ℕ) → k < low_of n.seats → slice_index (pair_at m (x + i)).bs k ≡ (x + i) / stride_of m k % slice_index n.seats k = λ k less.
-    part_at m (x + i) k inside (omega (arith, less, long)) ∙ ap (λ b. (x + i) / stride_of m k % b) (row_size n k less) in
+    let state : (k : ℕ) → k < low_of n.seats → slice_index (pair_at m (x + i)).bs k ≡ lane_state_of m k (x + i) = λ k less. part_at m (x + i) k inside (omega (arith, less, long)) in
     record {
-      inside = inside;
       looked = row_made s (x + i) (row_in s (x + i) first) sizes (omega (arith, mul-add-lt (x + i) w 0 (count m) inside pos, rows)) (count m) rows refl
           (sym (ap (λ b. b / n.env) same ∙ ok.targets 0 pos)) (sym (ap (λ b. b % n.env) same ∙ ok.envs 0 pos))
-          (λ k less. state k less ∙ ap (λ b. (x + i) / b % slice_index n.seats k) (sym (quotient (stride_of n k) (stride_of m k) w pos (row_stride_of n k less))))
-          ok.allowed ok.leading;
+          state ok.allowed ok.leading;
       part = omega (arith, part_here, part_first, ok.part);
       before = λ k less.
           let low : k < low_of n.seats = omega (arith, less, low_of-le m.seats, long) in
@@ -65,7 +60,7 @@ in_band s y i first sizes ok l =
           let here : (x + i) / stride_of m k ≡ y / q = ap (λ b. (x + i) / b) (sym is) ∙ row_div y v i q l in
           let there : (x * w + 0) / stride_of n k ≡ y / q = ap (λ b. (x * w + 0) / b) (sym (row_stride_of n k low)) ∙ (row_div x w 0 (stride_of m k) pos
           ∙ (ap₂ (λ a b. a / b) first_at (sym is) ∙ row_div y v 0 q vpos)) in
-          state k low ∙ (ap (λ b. b % slice_index n.seats k) (here ∙ sym there)
+          state k low ∙ (ap₂ (λ b z. b % z) (here ∙ sym there) (row_size n k low)
           ∙ (sym (part_at n (x * w + 0) k (ok.below 0 pos) (omega (arith, low, low_of-le n.seats))) ∙ ok.states k 0 low pos));
       within = λ k past less. lane_part m y i k msizes inside past (omega (arith, less, long));
     }
@@ -77,12 +72,6 @@ mid_low s k l = omega (arith, l, low_of-le (row_sizes (sizes_of s)).seats, lengt
 pub first_in : (s : Sys) → IsSizes (sizes_of s) → 0 < band_in s
 first_in s h = lanes_positive (row_sizes (sizes_of s)).seats (IsSizes-rows (sizes_of s) h).seats
 
--- the rows to which a turn leads from the rows of a band
-pub record BandThere (s : Sys) (r : Rows) (turn : TargetMove) (long : ℕ) : Type 0 where
-  pub few : long < 2 ^ 32
-  pub some : 0 < band_in s
-  pub there : (e : ℕ) → IsIn e turn.envs.now → turn.base + e * r.env_rows + band_in s ≤ long
-
 module _ (s : Sys) (r : Rows) (y a : ℕ) (first : Row) (turn : TargetMove) (h : Known s (y * band_in s) first) (laid : AreRowsOf (sizes_of s) r) (ok : IsTargetMove s first a turn) where
   here : (i : ℕ) → i < band_in s → InBand s y i first
   here i l = in_band s y i first h.sizes h.looked l
@@ -93,17 +82,20 @@ module _ (s : Sys) (r : Rows) (y a : ℕ) (first : Row) (turn : TargetMove) (h :
   pub turned : (i : ℕ) → i < band_in s → IsTargetMove s (row_in s (y * band_in s + i) first) a (turn_at turn i)
   turned i l = record { to = ok.to; target = ok.target; base = omega (arith, ok.base, (here i l).part); worlds = ok.worlds; some = ok.some }
 
-  pub band_there : (long : ℕ) → long * lanes_in s ≡ count (sizes_of s) → BandThere s r turn long
+  -- the rows to which a turn leads from the rows of a band
+  pub band_there : (long : ℕ) → long * lanes_in s ≡ count (sizes_of s) → AreWithin turn.base r.env_rows (band_in s) long turn.envs.now
   band_there long room =
       let some : 0 < band_in s = first_in s h.sizes in
       let last = band_in s - 1 in
       let l : last < band_in s = omega (arith, some) in
       let there = rows_there s r (y * band_in s + last) a long (row_in s (y * band_in s + last) first) (turn_at turn last) (known_at last l) laid (turned last l) room in
-      record { few = there.few; some = some; there = λ e i. omega (arith, some, there.there e i) }
+      are_within turn.base r.env_rows (band_in s) long turn.envs.now there.few (λ e i. omega (arith, some, there.there e i))
 
-  pub alive_at : (i alive : ℕ) (words : List ℕ) (gone : ℕ → Bool) → i < band_in s → length words * lanes_in s ≡ count (sizes_of s) → AreRows (lanes_in s) (λ q. not (gone q)) words →
-      ((lane : ℕ) → is_on alive lane ≡ (is_on r.full lane && not (list_any (λ e. not (is_on (slice_index words (turn.base + i + e * r.env_rows)) lane)) turn.envs.now))) → AreAlive s gone (turn_at turn i) alive
-  alive_at i alive words gone l room rows told = alive_there s r (y * band_in s + i) a alive (row_in s (y * band_in s + i) first) (turn_at turn i) words gone (known_at i l) laid (turned i l) room rows told
+  pub alive_at : (alive words : List ℕ) (gone : ℕ → Bool) → length words * lanes_in s ≡ count (sizes_of s) → AreRows (lanes_in s) (λ q. not (gone q)) words →
+      ((i lane : ℕ) → i < band_in s → lane < lanes_in s → is_on (slice_index alive i) lane ≡ not (list_any (λ e. not (is_on (slice_index words (turn.base + i + e * r.env_rows)) lane)) turn.envs.now)) → AllAlive s gone turn alive
+  alive_at alive words gone room rows told = record {
+    each = λ i l. alive_there s r (y * band_in s + i) a (slice_index alive i) (row_in s (y * band_in s + i) first) (turn_at turn i) words gone (known_at i l) laid (turned i l) room rows (λ lane m. told i lane l m);
+  }
 
   -- the rows to which a seat before the band's own leads from row i
   pub band_before : (i k : ℕ) (to : Outcomes) → i < band_in s → k < mid_in s → AreRowsBefore s first turn a k to → AreRowsBefore s (row_in s (y * band_in s + i) first) (turn_at turn i) a k (record to { base = to.base + i })
@@ -131,12 +123,12 @@ module _ (s : Sys) (r : Rows) (y a : ℕ) (first : Row) (turn : TargetMove) (h :
             (band_before last k to l before of) long e b room i j,
       ))
 
-  pub serves_band : (i k word : ℕ) (to : Outcomes) (words : List ℕ) (gone : ℕ → Bool) → i < band_in s → k < mid_in s → length words * lanes_in s ≡ count (sizes_of s) → AreRowsBefore s first turn a k to → AreRows (lanes_in s) (λ q. not (gone q)) words →
-      ((lane : ℕ) → is_on word lane ≡ (is_on r.full lane && not (list_any (λ e. list_any (λ b. not (is_on (slice_index words (to.base + i + e * to.env_stride + b * to.stride)) lane)) to.states.now) to.envs.now))) →
-      HasLanes (lanes_in s) (y * band_in s + i) (λ p. not (is_beaten (numbered s) gone p a k)) word
-  serves_band i k word to words gone l before room of rows told =
+  pub serves_band : (i k word lane : ℕ) (to : Outcomes) (words : List ℕ) (gone : ℕ → Bool) → i < band_in s → k < mid_in s → length words * lanes_in s ≡ count (sizes_of s) → AreRowsBefore s first turn a k to → AreRows (lanes_in s) (λ q. not (gone q)) words → lane < lanes_in s →
+      is_on word lane ≡ not (list_any (λ e. list_any (λ b. not (is_on (slice_index words (to.base + i + e * to.env_stride + b * to.stride)) lane)) to.states.now) to.envs.now) →
+      is_on word lane ≡ not (is_beaten (numbered s) gone ((y * band_in s + i) * lanes_in s + lane) a k)
+  serves_band i k word lane to words gone l before room of rows m told =
       serves_before s (y * band_in s + i) a k (row_in s (y * band_in s + i) first) (turn_at turn i) (record to { base = to.base + i }) (known_at i l) (turned i l) (mid_low s k before) (band_before i k to l before of)
-      r word words gone laid room rows told
+      word lane words gone room rows m told
 
   pub beaten_band : (i k lane : ℕ) (gone : ℕ → Bool) → i < band_in s → k < mid_in s → seat_next (slice_get s.seats k) (slice_index first.states k) first.env a ≡ [] → lane < lanes_in s →
       is_beaten (numbered s) gone ((y * band_in s + i) * lanes_in s + lane) a k ≡ true
@@ -222,25 +214,13 @@ own_rows s r k sizes laid within low =
       moves = λ i b l less. rw own.stride ((lane_state m k i msizes within seats l).moves b (omega (arith, less, own.same)));
     }
 
--- the states to which a seat goes are its own
-pub next_few : (s : Sys) (k b e a c : ℕ) → IsSys s → IsIn c (seat_next (slice_get s.seats k) b e a) → c < slice_index (sizes_of s).seats k
-next_few s k b e a c sys i =
-    let (y, seated, ready, moves) = from_seat_next (slice_get s.seats k) b e a c i in
-    subst (λ m. c < m) (sym (size_of_seat s.seats k y seated)) (move_in_range s.env y.beh b e a c (sys.seats y (seat_in s.seats k y seated)) moves).3
-
 module _ (s : Sys) (r : Rows) (y a : ℕ) (first : Row) (turn : TargetMove) (h : Known s (y * band_in s) first) (laid : AreRowsOf (sizes_of s) r) (ok : IsTargetMove s first a turn) where
   -- one of a band's own seats
-  pub beaten_own : (i k part lane : ℕ) (gone : ℕ → Bool) → i < band_in s → mid_in s ≤ k → k < low_in s → lane_state_of (row_sizes (sizes_of s)) k i ≡ part →
-      seat_next (slice_get s.seats k) part first.env a ≡ [] → lane < lanes_in s → is_beaten (numbered s) gone ((y * band_in s + i) * lanes_in s + lane) a k ≡ true
-  beaten_own i k part lane gone l within low is none m =
-      beaten_before s r (y * band_in s + i) a k lane (row_in s (y * band_in s + i) first) (turn_at turn i) gone (known_at s r y a first turn h laid ok i l) laid (turned s r y a first turn h laid ok i l) low
-      (ap (λ b. seat_next (slice_get s.seats k) b first.env a) ((in_band s y i first h.sizes h.looked l).within k within low ∙ is) ∙ none) m
-
-  pub own_served : (i k part lane : ℕ) (states alive : List ℕ) (gone : ℕ → Bool) → i < band_in s → mid_in s ≤ k → k < low_in s → lane_state_of (row_sizes (sizes_of s)) k i ≡ part →
-      states ≡ seat_next (slice_get s.seats k) part first.env a → IsFalse (is_empty states) → AllAlive s gone turn alive → lane < lanes_in s →
-      (is_on r.full lane && not (list_any (λ b. not (is_on (slice_index alive (i - part * slice_index r.strides k + b * slice_index r.strides k)) lane)) states)) ≡ not (is_beaten (numbered s) gone ((y * band_in s + i) * lanes_in s + lane) a k)
+  pub beaten_own : (i k part lane : ℕ) (states alive : List ℕ) (gone : ℕ → Bool) → i < band_in s → mid_in s ≤ k → k < low_in s → lane_state_of (row_sizes (sizes_of s)) k i ≡ part →
+      states ≡ seat_next (slice_get s.seats k) part first.env a → AllAlive s gone turn alive → lane < lanes_in s →
+      (is_empty states || list_any (λ b. not (is_on (slice_index alive (i - part * slice_index r.strides k + b * slice_index r.strides k)) lane)) states) ≡ is_beaten (numbered s) gone ((y * band_in s + i) * lanes_in s + lane) a k
   unfolding turned
-  own_served i k part lane states alive gone l within low is_part is_states some living m =
+  beaten_own i k part lane states alive gone l within low is_part is_states living m =
       let n = sizes_of s in
       let w = lanes_in s in
       let u = slice_index r.strides k in
@@ -255,16 +235,11 @@ module _ (s : Sys) (r : Rows) (y a : ℕ) (first : Row) (turn : TargetMove) (h :
       let to = λ (lane e b : ℕ). (base + e * R + b * u) * w + lane in
       let leads = leads_before s row x lane a k ok.to base u turn.envs.now states h.sys (known_at s r y a first turn h laid ok i l).looked m low (laid.before k low) ok.target ok.worlds
       (is_states ∙ ap (λ b. seat_next (slice_get s.seats k) b first.env a) is) (ap₂ (λ m d. m - d * u) there.base is) in
-      ap (λ b. b && not (list_any (λ b. not (is_on (slice_index alive (i - part * u + b * u)) lane)) states)) (full_on n r lane laid m)
-      ∙ leads_alive (numbered s) gone (x * w + lane) a k turn.envs.now states (to lane) (λ b. not (is_on (slice_index alive (i - part * u + b * u)) lane)) leads ok.some some (λ b j.
+      leads_beaten (numbered s) gone (x * w + lane) a k turn.envs.now states (to lane) (λ b. not (is_on (slice_index alive (i - part * u + b * u)) lane)) leads ok.some (λ b j.
       let inside : i - part * u + b * u < band_in s = omega (arith, taken, rw is_part at (own.moves i b l (next_few s k part first.env a b h.sys (subst (λ bs. IsIn b bs) is_states j)))) in
       ap not ((living.each (i - part * u + b * u) inside).each lane m) ∙ (sym (not_not (list_any (λ e. gone ((turn.base + (i - part * u + b * u) + e * R) * w + lane)) turn.envs.now))
       ∙ any_same (λ e. gone ((turn.base + (i - part * u + b * u) + e * R) * w + lane)) (λ e. gone (to lane e b)) turn.envs.now
       (λ e v. let place : turn.base + (i - part * u + b * u) + e * R ≡ base + e * R + b * u = omega (arith, taken) in ap (λ z. gone (z * w + lane)) place)))
-
--- two tests, one after another, are both tests at once
-pub keeps_then : (s : Sys) (x many : ℕ) (p q : ℕ → Bool) (old now new : List ℕ) → Keeps (lanes_in s) x many p old now → Keeps (lanes_in s) x many q now new → Keeps (lanes_in s) x many (λ i. p i && q i) old new
-keeps_then s x many p q old now new first then = grind (arith, and_assoc)
 
 -- a test can be replaced by one that agrees at the pairs
 pub keeps_same : (s : Sys) (x many : ℕ) (p q : ℕ → Bool) (old new : List ℕ) → ((i lane : ℕ) → i < many → lane < lanes_in s → p ((x + i) * lanes_in s + lane) ≡ q ((x + i) * lanes_in s + lane)) → Keeps (lanes_in s) x many p old new → Keeps (lanes_in s) x many q old new
@@ -287,24 +262,19 @@ keeps_nothing s x many p old now few long clear off = grind (arith, and_nothing,
 
 -- one more seat is judged
 pub keeps_seat : (s : Sys) (x many k : ℕ) (p : ℕ → ℕ → Bool) (old now new : List ℕ) → Keeps (lanes_in s) x many (λ q. all_below (p q) k) old now → Keeps (lanes_in s) x many (λ q. p q k) now new → Keeps (lanes_in s) x many (λ q. all_below (p q) (k + 1)) old new
-keeps_seat s x many k p old now new before here = grind (arith, keeps_then)
+keeps_seat s x many k p old now new before here = grind (arith, and_assoc)
 
 -- all rows are judged at once, each by a word of the lanes at which its pairs are served
 pub keeps_clear : (s : Sys) (x many : ℕ) (test : ℕ → Bool) (old new : List ℕ) → length old ≡ many → length new ≡ length old →
-    ((i : ℕ) → i < many → (good : ℕ) × HasLanes (lanes_in s) (x + i) (λ p. not (test p)) good × ((lane : ℕ) → is_on (slice_index new i) lane ≡ (is_on (slice_index old i) lane && not (is_on good lane)))) → Keeps (lanes_in s) x many test old new
+    ((i : ℕ) → i < many → (good : ℕ) × ((lane : ℕ) → lane < lanes_in s → is_on good lane ≡ not (test ((x + i) * lanes_in s + lane))) × ((lane : ℕ) → is_on (slice_index new i) lane ≡ (is_on (slice_index old i) lane && not (is_on good lane)))) → Keeps (lanes_in s) x many test old new
 keeps_clear s x many test old new few long served = record {
-  each = λ i lane l m. (served i l).2 lane ∙ ap (λ b. is_on (slice_index old i) lane && b) (ap not ((served i l).1.each lane m) ∙ sym (not_not (test ((x + i) * lanes_in s + lane))));
+  each = λ i lane l m. (served i l).2 lane ∙ ap (λ b. is_on (slice_index old i) lane && b) (ap not ((served i l).1 lane m) ∙ sym (not_not (test ((x + i) * lanes_in s + lane))));
   others = λ i l. get_or_past new i 0 (omega (arith, l, few, long)) ∙ sym (get_or_past old i 0 (omega (arith, l, few)));
   none = λ i lane off. elim (cases_lt i many) [
     | inl less ↦ (served i less).2 lane ∙ ap (λ b. b && not (is_on (served i less).0 lane)) off
     | inr past ↦ ap (λ z. is_on z lane) (get_or_past new i 0 (omega (arith, past, long, few))) ∙ on_zero lane
   ];
 }
-
--- no row has a lane past the full word
-pub dark_past : (s : Sys) (r : Rows) (words : List ℕ) (gone : ℕ → Bool) → AreRowsOf (sizes_of s) r → AreRows (lanes_in s) (λ q. not (gone q)) words →
-    (x lane : ℕ) → x < length words → is_on r.full lane ≡ false → is_on (slice_index words x) lane ≡ false
-dark_past s r words gone laid rows x lane l dark = (rows.each x l).rest lane (ltb-false lane (lanes_in s) (sym (laid.full lane) ∙ dark))
 
 -- in the meant rows of the band that begins at row x, exactly the set lanes whose pairs pass the test stay set; no lane is newly set, and other rows stay
 pub record KeepsWhere (s : Sys) (x : ℕ) (meant : ℕ → Type 0) (test : ℕ → Bool) (old new : List ℕ) : Type 0 where

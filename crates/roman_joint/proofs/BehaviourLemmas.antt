@@ -1,5 +1,5 @@
 -- Facts about the behaviour of a service.
-use Rattle.roman_joint.proofs.Common.{◌≡◌, ℕ, zero, suc, ◌<◌, List, [], ◌∷◌, Some, length, slice_get, get_or, sym, ap, ◌∙◌, subst, arith, slice_index, option_map, slice_get-map, slice_get_within, get_or_from_slice_get, slice_get-get_or, length-map, NamedBeh, NamedSys, IsNamedSys, IsOverEnv, system_of, seat_of, beh_at, Beh, sizes_of, IsSeatBehaviour, All-get_or}
+use Rattle.roman_joint.proofs.Common.{◌≡◌, ℕ, zero, suc, ◌<◌, List, [], ◌∷◌, Some, length, slice_get, get_or, sym, ap, ◌∙◌, subst, arith, option_map, slice_get-map, slice_get_within, get_or_from_slice_get, slice_get-get_or, length-map, NamedBeh, NamedSys, IsNamedSys, IsOverEnv, system_of, seat_of, beh_at, Beh, IsSeatBehaviour, IsServiceAt, All-get_or}
 use Rattle.roman_model.specs.System as model
 use Rattle.roman_joint.specs.declared.seat.Seat.{Seat}
 use Rattle.roman_joint.proofs.Rows.{size_of_seat}
@@ -50,15 +50,8 @@ beh_placed n k seat catalogue beh known seated same h =
     slice_get-get_or n.catalogue seat.behaviour beh within ∙ ap Some (sym read)
 
 -- a service and its behaviour, as they are read one after another
-pub record SeatRead (n : NamedSys) (k : ℕ) (x : Seat) (y : NamedBeh) : Type 0 where
-  pub beh : y.beh ≡ beh_at n.catalogue x.behaviour
-  pub seated : slice_get (system_of n).seats k ≡ Some (seat_of n.catalogue x)
-  pub size : slice_index (sizes_of (system_of n)).seats k ≡ y.beh.states
-  pub env_states : y.env_states ≡ (system_of n).env.states
-  pub actions : y.actions ≡ (system_of n).env.actions
-
 pub service_read : (n : NamedSys) (k : ℕ) (x : Seat) (catalogue : List NamedBeh) (y : NamedBeh) → IsNamedSys n → slice_get n.seats k ≡ Some x → catalogue ≡ n.catalogue →
-    y ≡ get_or catalogue x.behaviour y → SeatRead n k x y
+    y ≡ get_or catalogue x.behaviour y → IsServiceAt n k x y
 service_read n k x catalogue y known at_place same in_catalogue =
     let placed = beh_placed n k x catalogue y known at_place same in_catalogue in
     let of = behaves n k y known (record { seat = x; seated = at_place; placed = placed }) in

@@ -1,24 +1,24 @@
 -- What the proof pages of this crate cite from elsewhere, passed on from one place. Declares nothing.
-pub use Rattle.std.proofs.Common.{All, Bool, IfSome, IsFalse, IsTrue, List, None, Option, Some, [], add-one, ap, ap₂, arith, bit_and, cond, count_by, drop, eqb, false, get_or, get_or-drop, if◌then◌else◌, inl, inr, length, length-drop, ltb, ltb-false, map, mul-le-mul, not, refl, replicate, rules, slice_get, slice_index, slice_index_or, slice_range, slice_set, subst, suc, sum_by, sym, take, true, vec_capacity, zero, ℕ, ◌%◌, ◌&&◌, ◌*◌, ◌++◌, ◌+◌, ◌-◌, ◌/◌, ◌<◌, ◌==◌, ◌^◌, ◌||◌, ◌↔◌, ◌∙◌, ◌∷◌, ◌≡◌, ◌≢◌, ◌≤◌, ◌⊎◌}
+pub use Rattle.std.proofs.Common.{All, Bool, Fits, IfSome, IsFalse, IsTrue, List, None, Option, Some, [], add-one, ap, ap₂, arith, bit_and, cond, count_by, drop, eqb, false, get_or, get_or-drop, if◌then◌else◌, inl, inr, length, length-drop, ltb, map, mul-le-mul, not, refl, replicate, rules, slice_get, slice_index, slice_index_or, slice_range, slice_set, subst, suc, sum_by, sym, take, true, vec_capacity, zero, ℕ, ◌%◌, ◌&&◌, ◌*◌, ◌++◌, ◌+◌, ◌-◌, ◌/◌, ◌<◌, ◌==◌, ◌^◌, ◌||◌, ◌↔◌, ◌∙◌, ◌∷◌, ◌≡◌, ◌≢◌, ◌≤◌, ◌⊎◌}
 pub use Rattle.std.proofs.Math.Bool.{and-false, and-true, and_assoc, not-not, or-false}
 pub use Rattle.std.proofs.Math.ListN.{set}
 pub use Rattle.std.proofs.Math.Nat.{add-mod-mod, div-div-eq-div-mul, div-eq_of_lt-le, le-div_iff_mul-le, mod-eq_of_lt, mul-add-div_right, mul-add-mod_self_right, mul-le-mul_left, mul-le-mul_right, mul-mod_left}
 pub use Rattle.std.proofs.Math.Seq.{get_or-append_seam}
 pub use Rattle.std.proofs.lemmas.Bool.{and_parts, both_ways, cases_eq, cases_lt, eq-eqb, eqb-true, false≢true, le-ltb, lt-ltb, ne_eqb, not-false, not-true, not_from_false, or_right}
 pub use Rattle.std.proofs.lemmas.Bool.Decides.{nat_tests}
-pub use Rattle.std.proofs.lemmas.List.{append-nil, append_assoc, drop-append-le, drop-map, drop_all, drop_more, get_or-set_other, get_or-set_same, get_or-take, get_or_append_left, get_or_past, length-append, length-map, length-set, length-take, map-append, map_push, nil_from_length, set-get_or, set-set, take-append-le, take-map, take_all, take_more, take_more_set}
+pub use Rattle.std.proofs.lemmas.List.{append-nil, append_assoc, drop-append-le, drop-map, drop_all, drop_more, get_or-set_other, get_or-set_same, get_or_append_left, get_or_past, length-append, length-map, length-set, length-take, map-append, map_push, nil_from_length, set-get_or, set-set, take-append-le, take-map, take_all, take_more, take_more_set}
 pub use Rattle.std.proofs.lemmas.List.Elements.{All-append, All-drop, All-from_recursion, All-get_or, All-map, All-push, All-take, recursion_from_All}
 pub use Rattle.std.proofs.lemmas.List.Folds.{find-append, list_any-append}
 pub use Rattle.std.proofs.lemmas.List.Sums.{count_by-le-length, length-filter, sum_by-append, sum_by-cons}
 pub use Rattle.std.proofs.lemmas.Nat.{div-add-mod', div-mul-add, div_below, mod-mul-add, mod_below, mul-add-lt, mul-le, pow_pos, same_from_place, shr-shr}
 pub use Rattle.std.proofs.lemmas.Nat.Bits.{bit_at-zero, bit_at_above, bit_at_cat_high, bit_at_cat_low, bit_at_ones, bit_at_ones_above, shr_and_one}
 pub use Rattle.std.proofs.lemmas.Option.{get_or_from_slice_get, slice_get-get_or, slice_get-map, slice_get_past, slice_get_within}
-pub use Rattle.std.proofs.lemmas.Simd.{get_or-replicate, get_or-zip2, length-replicate, length-zip2, shifts_fit_splat}
+pub use Rattle.std.proofs.lemmas.Simd.{Each1-get_or, get_or-replicate, get_or-zip2, length-replicate, length-zip2, shifts_fit_splat}
 pub use Rattle.std.specs.Int.{bit_at, bit_not, w64}
 pub use Rattle.std.specs.List.{AllByRecursion, filter, find, flat_map, list_any, remove}
 pub use Rattle.std.specs.Option.{IsSome, option_map, option_or}
 pub use Rattle.std.specs.Prelude.{bit_or}
-pub use Rattle.roman_lanes.proofs.CallerLemmas.{on_and, on_not, on_or, on_zero}
+pub use Rattle.roman_lanes.proofs.CallerLemmas.{on_and, on_not, on_ones, on_or, on_zero}
 unfoldable pub use Rattle.roman_lanes.specs.Flags.{has_flag}
 pub use Rattle.roman_lanes.specs.Rows.{AreRows, HasLanes, Keeps}
 unfoldable pub use Rattle.roman_lanes.specs.Rows.{is_on}
@@ -41,14 +41,14 @@ pub use Rattle.roman_rules.specs.Bits.{HasBits, bit_of}
 pub use Rattle.roman_rules.specs.Numbered.{IsNumbered}
 pub use Rattle.roman_joint.specs.Backward.{from_action, from_all, from_env, from_seat, from_states, from_target, seat_prev}
 pub use Rattle.roman_joint.specs.Bands.{AllAlive, AreRowsBefore, LosesRun, band_in, mid_in, turn_at}
-pub use Rattle.roman_joint.specs.Behaviours.{IsSeatBehaviour}
+pub use Rattle.roman_joint.specs.Behaviours.{IsSeatBehaviour, IsServiceAt}
 pub use Rattle.roman_joint.specs.Changes.{with_frozen}
 pub use Rattle.roman_joint.specs.Layout.{IsJoint, IsJointOf, named_sys_in}
 pub use Rattle.roman_joint.specs.Marks.{AnyOf, Grows, IsBeforeAction, IsBeforeEnv, IsBeforeSeat, IsBeforeTurn, IsMarked, IsMoved, Marks, action_steps, env_steps, row_at, seat_steps, turn_steps}
-pub use Rattle.roman_joint.specs.Moves.{AreMovesOf, AreSeatsIn, AreWays, HoldsMoves, HoldsSpans, HoldsTurns, IsAdded, IsKept, IsSpan, SuitsEnv, lane_move, lane_moves_from, span_place, system_in, ways_room, within_in}
+pub use Rattle.roman_joint.specs.Moves.{AreLaneMoves, AreMovesOf, AreSeatsIn, AreWays, HoldsMoves, HoldsSpans, HoldsTurns, IsAdded, IsKept, IsSpan, SuitsEnv, lane_move, lane_moves_from, span_place, system_in, ways_room, within_in}
 pub use Rattle.roman_joint.specs.NamedSys.{IsNamedSys, IsOverEnv, NamedSys, beh_at, cells, named_parts, seat_of, still, system_of}
 pub use Rattle.roman_joint.specs.Names.{beh_states, names_in, names_of_seat}
-pub use Rattle.roman_joint.specs.Outcomes.{IsPairWith, SuitsRows, outcome_number}
+pub use Rattle.roman_joint.specs.Outcomes.{AreWithin, IsPairWith, SuitsRows, outcome_number}
 pub use Rattle.roman_joint.specs.Parts.{HasSameParts, named_in}
 pub use Rattle.roman_joint.specs.Rows.{AreAlive, AreRowsOf, HasResting, IsRow, IsTargetMove, is_open, lane_state_of, lanes_in, low_in, may_rest}
 unfoldable pub use Rattle.roman_joint.specs.Rows.{lane_has_state}

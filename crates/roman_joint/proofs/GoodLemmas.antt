@@ -1,12 +1,12 @@
 -- The pairs of a row at which a seat serves an action.
-use Rattle.roman_joint.proofs.Common.{◌≡◌, ◌⊎◌, ℕ, zero, suc, ◌+◌, ◌-◌, ◌*◌, ◌/◌, ◌%◌, ◌<◌, ◌≤◌, ◌^◌, Bool, true, false, not, ◌&&◌, ◌||◌, eqb, ltb, inl, inr, List, [], length, get_or, slice_get, slice_index, IsFalse, refl, sym, ap, ap₂, ◌∙◌, subst, arith, list_any, length-map, mul-add-lt, mul-le, mod_below, div_below, div-add-mod', cases_lt, ne_eqb, eqb-true, lt-ltb, le-ltb, eq-eqb, same_test, length-below, by_test, any_same, any_from, empty_is, not_empty_in, triple_in_range, from_env_next, move_in_range, from_seat_next, seat_in, nat_tests, IsIn, is_empty, Sys, Seat, IsSys, seat_next, is_beaten, Sizes, sizes_of, count, numbered, IsSizes, stride_of, env_stride_of, low_of, lanes_of, env_rows_of, target_rows_of, product_positive, low_of-le, lanes_few, lanes_positive, row_least, row_below, env_rows_are, is_on, HasLanes, AreRows, IsNumbered, NamedSys, system_of, seat_of, IsNamedSys, lanes_in, low_in, lane_has_state, lane_state_of, AreRowsOf, IsRow, IsTargetMove, AreAlive, Rows, Row, TargetMove, on_and, on_zero, mul-add-div_right, AreRowsBefore, SuitsRows, outcome_number, Outcomes, add-mod-mod, mod-eq_of_lt, mul-mod_left, and-false}
+use Rattle.roman_joint.proofs.Common.{AreWithin, SuitsRows, outcome_number, Move, AreLaneMoves, same_test, length-below, any_same, not_empty_in, triple_in_range, from_env_next, move_in_range, from_seat_next, seat_in, cases_lt, ne_eqb, eqb-true, lt-ltb, le-ltb, eq-eqb, ◌∷◌, ◌≡◌, ◌⊎◌, ℕ, ◌+◌, ◌-◌, ◌*◌, ◌/◌, ◌%◌, ◌<◌, ◌≤◌, ◌^◌, Bool, true, false, not, ◌&&◌, ◌||◌, eqb, ltb, inl, inr, List, [], length, get_or, slice_get, slice_index, IsFalse, refl, sym, ap, ap₂, ◌∙◌, subst, arith, list_any, length-map, mul-add-lt, mul-le, mod_below, div_below, div-add-mod', nat_tests, IsIn, is_empty, Sys, Seat, IsSys, seat_next, is_beaten, Sizes, sizes_of, count, numbered, IsSizes, stride_of, env_stride_of, low_of, lanes_of, env_rows_of, target_rows_of, product_positive, low_of-le, lanes_few, lanes_positive, row_least, row_below, env_rows_are, is_on, HasLanes, AreRows, IsNumbered, NamedSys, system_of, seat_of, IsNamedSys, lanes_in, low_in, lane_has_state, lane_state_of, AreRowsOf, IsRow, IsTargetMove, AreAlive, Rows, Row, TargetMove, on_and, on_zero, mul-add-div_right, add-mod-mod, mod-eq_of_lt, mul-mod_left, AreRowsBefore, Outcomes, and-false}
 use Rattle.roman_joint.proofs.ArenaFacts.{joint_numbered}
 use Rattle.roman_joint.proofs.OutcomeLemmas.{target_in_range}
 use Rattle.roman_joint.proofs.Finds.{in_at}
 use Rattle.roman_joint.proofs.Rows.{size_of_seat}
 use Rattle.roman_joint.proofs.WordLemmas.{on_shl, on_below, not_not}
 use Rattle.roman_joint.proofs.SplitLemmas.{joint_sizes, positive_of, factor}
-use Rattle.roman_joint.proofs.LeadLemmas.{Leads, leads_within, leads_served, leads_alive, leads_nothing, start_before, leads_before, lanes_parts, stride_positive, lane_state, leads_lanes}
+use Rattle.roman_joint.proofs.LeadLemmas.{Leads, leads_within, leads_served, leads_beaten, leads_nothing, start_before, leads_before, lane_state, leads_lanes}
 
 -- Facts about a row.
 pub record Known (s : Sys) (x : ℕ) (row : Row) : Type 0 where
@@ -79,6 +79,9 @@ rows_there s r x a long row turn h laid ok room =
       few = rows_few s long h.sizes room;
     }
 
+pub are_within : (base stride many long : ℕ) (states : List ℕ) → long < 2 ^ 32 → ((b : ℕ) → IsIn b states → base + b * stride + many ≤ long) → AreWithin base stride many long states
+are_within base stride many long states few there = record { fits = λ i d l. omega (arith, there _ (in_at states i d l)); within = λ i d l. there _ (in_at states i d l) }
+
 pub full_on : (n : Sizes) (r : Rows) (lane : ℕ) → AreRowsOf n r → lane < lanes_of n.seats → is_on r.full lane ≡ true
 full_on n r lane laid l = laid.full lane ∙ lt-ltb lane (lanes_of n.seats) l
 
@@ -139,26 +142,21 @@ module _ (s : Sys) (x a k : ℕ) (row : Row) (turn : TargetMove) (to : Outcomes)
             (λ c d. outcome_number to c d * lanes_in s + 0) h.nodes (omega (arith, h.looked.below 0 pos, all)) (before_leads 0 pos) i j,
       ))
 
-  pub serves_before : (r : Rows) (word : ℕ) (words : List ℕ) (gone : ℕ → Bool) → AreRowsOf (sizes_of s) r → length words * lanes_in s ≡ count (sizes_of s) → AreRows (lanes_in s) (λ q. not (gone q)) words →
-      ((lane : ℕ) → is_on word lane ≡ (is_on r.full lane && not (list_any (λ e. list_any (λ b. not (is_on (slice_index words (outcome_number to e b)) lane)) to.states.now) to.envs.now))) →
-      HasLanes (lanes_in s) x (λ p. not (is_beaten (numbered s) gone p a k)) word
-  serves_before r word words gone laid room rows told =
-      let test = λ (lane e b : ℕ). not (is_on (slice_index words (outcome_number to e b)) lane) in
-      record {
-        each = λ lane l. told lane ∙ (ap (λ b. b && not (list_any (λ e. list_any (test lane e) to.states.now) to.envs.now)) (full_on (sizes_of s) r lane laid l)
-            ∙ leads_served (numbered s) gone (x * lanes_in s + lane) a k to.envs.now to.states.now (λ e b. outcome_number to e b * lanes_in s + lane) (test lane) (before_leads lane l)
-            (rw of.worlds ok.some) of.some
-            (λ e b i j. ap not ((rows.each (outcome_number to e b) (before_there (length words) e b room i j)).each lane l) ∙ sym (not_not (gone (outcome_number to e b * lanes_in s + lane)))));
-        rest = λ lane l. told lane ∙ ap (λ b. b && not (list_any (λ e. list_any (test lane e) to.states.now) to.envs.now)) (full_off (sizes_of s) r lane laid l);
-      }
+  pub serves_before : (word lane : ℕ) (words : List ℕ) (gone : ℕ → Bool) → length words * lanes_in s ≡ count (sizes_of s) → AreRows (lanes_in s) (λ q. not (gone q)) words → lane < lanes_in s →
+      is_on word lane ≡ not (list_any (λ e. list_any (λ b. not (is_on (slice_index words (outcome_number to e b)) lane)) to.states.now) to.envs.now) →
+      is_on word lane ≡ not (is_beaten (numbered s) gone (x * lanes_in s + lane) a k)
+  serves_before word lane words gone room rows l told =
+      told ∙ ap not (leads_served (numbered s) gone (x * lanes_in s + lane) a k to.envs.now to.states.now (λ e b. outcome_number to e b * lanes_in s + lane)
+      (λ e b. not (is_on (slice_index words (outcome_number to e b)) lane)) (before_leads lane l) (rw of.worlds ok.some) of.some
+      (λ e b i j. ap not ((rows.each (outcome_number to e b) (before_there (length words) e b room i j)).each lane l) ∙ sym (not_not (gone (outcome_number to e b * lanes_in s + lane)))))
 
 -- the alive lanes of a turn
 pub alive_there : (s : Sys) (r : Rows) (x a alive : ℕ) (row : Row) (turn : TargetMove) (words : List ℕ) (gone : ℕ → Bool) → Known s x row → AreRowsOf (sizes_of s) r → IsTargetMove s row a turn → length words * lanes_in s ≡ count (sizes_of s) →
     AreRows (lanes_in s) (λ q. not (gone q)) words →
-    ((lane : ℕ) → is_on alive lane ≡ (is_on r.full lane && not (list_any (λ e. not (is_on (slice_index words (turn.base + e * r.env_rows)) lane)) turn.envs.now))) → AreAlive s gone turn alive
+    ((lane : ℕ) → lane < lanes_in s → is_on alive lane ≡ not (list_any (λ e. not (is_on (slice_index words (turn.base + e * r.env_rows)) lane)) turn.envs.now)) → AreAlive s gone turn alive
 alive_there s r x a alive row turn words gone h laid ok room rows told = record {
-  each = λ lane l. told lane ∙ (ap (λ b. b && not (list_any (λ e. not (is_on (slice_index words (turn.base + e * r.env_rows)) lane)) turn.envs.now)) (full_on (sizes_of s) r lane laid l)
-      ∙ ap not (any_same (λ e. not (is_on (slice_index words (turn.base + e * r.env_rows)) lane)) (λ e. gone ((turn.base + e * env_rows_of (sizes_of s)) * lanes_in s + lane)) turn.envs.now (λ e i. same lane e l i)));
+  each = λ lane l. told lane l
+      ∙ ap not (any_same (λ e. not (is_on (slice_index words (turn.base + e * r.env_rows)) lane)) (λ e. gone ((turn.base + e * env_rows_of (sizes_of s)) * lanes_in s + lane)) turn.envs.now (λ e i. same lane e l i));
 }
   where
     same : (lane e : ℕ) → lane < lanes_in s → IsIn e turn.envs.now → not (is_on (slice_index words (turn.base + e * r.env_rows)) lane) ≡ gone ((turn.base + e * env_rows_of (sizes_of s)) * lanes_in s + lane)
@@ -170,19 +168,8 @@ alive_there s r x a alive row turn words gone h laid ok room rows told = record 
 -- the lanes of a state begin within the word
 pub state_below : (n : Sizes) (k b : ℕ) → IsSizes n → low_of n.seats ≤ k → k < length n.seats → b < slice_index n.seats k → b * stride_of n k < 64
 state_below n k b h within seat state =
-    let (m, e) = lanes_parts n k within seat in
-    let st = stride_of n k in
-    let size = slice_index n.seats k in
-    let pos : 0 < st = stride_positive n k h in
-    let next : (b + 1) * st ≤ size * st = mul-le (b + 1) st size st (omega arith) (omega arith) in
-    let whole : size * st ≤ lanes_of n.seats = all m (size * st) (lanes_of n.seats) (lanes_positive n.seats h.seats) (e ∙ omega arith) in
-    let few : lanes_of n.seats ≤ 64 = lanes_few n.seats in
-    let split : (b + 1) * st ≡ b * st + st = omega arith in
-    omega arith
-  where
-    all : (m p w : ℕ) → 0 < w → w ≡ m * p → p ≤ w
-    all zero p w pos e = absurd (omega arith)
-    all (suc m) p w pos e = omega arith
+    let first = lane_state n k 0 h within seat (lanes_positive n.seats h.seats) in
+    omega (arith, first.taken, first.moves b state, lanes_few n.seats)
 
 -- the lanes of state b, from those of state 0
 pub state_shift : (first b st size lane : ℕ) → ((j : ℕ) → j < 64 → is_on first j ≡ lane_has_state st size 0 j) → 0 < st → b < size → lane < 64 →
@@ -209,25 +196,52 @@ state_shift first b st size lane is pos l low = elim (cases_lt lane (b * st)) [
         let whole : h ≡ (b + h) / size * size = omega (arith, div-add-mod' (b + h) size, eqb-true ((b + h) % size) b t) in
         eq-eqb (h % size) 0 (ap (λ m. m % size) whole ∙ mul-mod_left ((b + h) / size) size))
 
+-- the states to which a seat goes are its own
+pub next_few : (s : Sys) (k b e a c : ℕ) → IsSys s → IsIn c (seat_next (slice_get s.seats k) b e a) → c < slice_index (sizes_of s).seats k
+next_few s k b e a c sys i =
+    let (y, seated, ready, moves) = from_seat_next (slice_get s.seats k) b e a c i in
+    subst (λ m. c < m) (sym (size_of_seat s.seats k y seated)) (move_in_range s.env y.beh b e a c (sys.seats y (seat_in s.seats k y seated)) moves).3
+
+-- the pairs at which a seat within the lanes serves
+module _ (s : Sys) (x a k alive : ℕ) (row : Row) (turn : TargetMove) (gone : ℕ → Bool) (h : Known s x row) (ok : IsTargetMove s row a turn) (low : low_in s ≤ k) (seat : k < length s.seats) (living : AreAlive s gone turn alive) where
+  abbrev states_at : ℕ → List ℕ
+  states_at lane = seat_next (slice_get s.seats k) (lane_state_of (sizes_of s) k lane) row.env a
+
+  abbrev lane_to : ℕ → ℕ → ℕ
+  lane_to lane b = lane + b * stride_of (sizes_of s) k - lane_state_of (sizes_of s) k lane * stride_of (sizes_of s) k
+
+  lane_there : (lane b : ℕ) → lane < lanes_in s → IsIn b (states_at lane) → lane_to lane b < lanes_in s
+  lane_there lane b l i =
+      (lane_state (sizes_of s) k lane h.sizes low (omega (arith, length-map s.seats (λ (y : Seat). y.beh.states))) l).moves b (next_few s k (lane_state_of (sizes_of s) k lane) row.env a b h.sys i)
+
+  beaten_within : (lane : ℕ) → lane < lanes_in s → (is_empty (states_at lane) || list_any (λ b. not (is_on alive (lane_to lane b))) (states_at lane)) ≡ is_beaten (numbered s) gone (x * lanes_in s + lane) a k
+  beaten_within lane l =
+      leads_beaten (numbered s) gone (x * lanes_in s + lane) a k turn.envs.now (states_at lane) (λ e b. (turn.base + e * env_rows_of (sizes_of s)) * lanes_in s + lane_to lane b) (λ b. not (is_on alive (lane_to lane b)))
+      (leads_lanes s row x lane a k ok.to turn.base (lane_state_of (sizes_of s) k lane) turn.envs.now (states_at lane) h.sys h.sizes h.looked l low seat refl ok.target ok.worlds refl ok.base) ok.some
+      (λ b i. ap not (living.each (lane_to lane b) (lane_there lane b l i)) ∙ sym (not_not _))
+
+  pub serves_within : (some good : ℕ) (moves : List Move) → AreLaneMoves (sizes_of s) k (λ b. seat_next (slice_get s.seats k) b row.env a) some moves →
+      ((lane : ℕ) → lane < 64 → ((move : Move) → IsIn move moves → is_on move.lanes lane ≡ true → (move.from ≤ lane) × (lane + move.to - move.from < 64)) →
+      is_on good lane ≡ (is_on some lane && not (list_any (λ move. is_on move.lanes lane && not (is_on alive (lane + move.to - move.from))) moves))) →
+      ((lane : ℕ) → is_on some lane ≡ false → is_on good lane ≡ false) → HasLanes (lanes_in s) x (λ p. not (is_beaten (numbered s) gone p a k)) good
+  serves_within some good moves are told off = record {
+    each = λ lane l.
+        let here = told lane (omega (arith, lanes_few (sizes_of s).seats)) (λ move i on. let (taken, below) = are.within move lane i l on in (taken, omega (arith, below, lanes_few (sizes_of s).seats))) in
+        let same = are.leads (λ y. not (is_on alive y)) lane l in
+        let is = beaten_within lane l in
+        grind (arith, are.each lane l);
+    rest = λ lane l. off lane (are.rest lane l);
+  }
+
+any_all : (p : ℕ → Bool) (xs : List ℕ) → ((x : ℕ) → IsIn x xs → p x ≡ true) → (is_empty xs || list_any p xs) ≡ true
+any_all p [] all = refl
+any_all p (x ∷ xs) all = ap (λ b. b || list_any p xs) (all x (inl refl))
+
 -- without an alive lane, a seat within the lanes serves at no pair
 pub beaten_dead : (s : Sys) (x a k lane : ℕ) (row : Row) (turn : TargetMove) (gone : ℕ → Bool) → Known s x row → IsTargetMove s row a turn → low_in s ≤ k → k < length s.seats → AreAlive s gone turn 0 → lane < lanes_in s →
     is_beaten (numbered s) gone (x * lanes_in s + lane) a k ≡ true
-beaten_dead s x a k lane row turn gone h ok within seat living in_lanes =
-    let n = sizes_of s in
-    let st = stride_of n k in
-    let digit = lane_state_of n k lane in
-    let states = seat_next (slice_get s.seats k) digit row.env a in
-    let to = λ (e b : ℕ). (turn.base + e * env_rows_of n) * lanes_in s + (lane + b * st - digit * st) in
-    let seats : k < length n.seats = omega (arith, seat, length-map s.seats (λ (y : Seat). y.beh.states)) in
-    let leads : Leads (numbered s) (x * lanes_in s + lane) a k turn.envs.now states to =
-    leads_lanes s row x lane a k ok.to turn.base digit turn.envs.now states h.sys h.sizes h.looked in_lanes within seat refl ok.target ok.worlds refl ok.base in
-    by_test (is_empty states) (λ none. leads_nothing (numbered s) gone (x * lanes_in s + lane) a k turn.envs.now states to leads (empty_is states none)) (λ some.
-    let (b, i) = not_empty_in states some in
-    let (y, seated, ready, moves) = from_seat_next (slice_get s.seats k) digit row.env a b i in
-    let state : b < slice_index n.seats k = subst (λ m. b < m) (sym (size_of_seat s.seats k y seated)) (move_in_range s.env y.beh digit row.env a b (h.sys.seats y (seat_in s.seats k y seated)) moves).3 in
-    let there = (lane_state n k lane h.sizes within seats in_lanes).moves b state in
-    let served = leads_alive (numbered s) gone (x * lanes_in s + lane) a k turn.envs.now states to (λ c. list_any (λ e. gone (to e c)) turn.envs.now) leads ok.some some (λ c j. refl) in
-    not_not _ ∙ ap not (sym served ∙ ap not (any_from (λ c. list_any (λ e. gone (to e c)) turn.envs.now) b states i (not_not _ ∙ ap not (sym (living.each (lane + b * st - digit * st) there) ∙ on_zero (lane + b * st - digit * st))))))
+beaten_dead s x a k lane row turn gone h ok low seat living l =
+    sym (beaten_within s x a k 0 row turn gone h ok low seat living lane l) ∙ any_all _ (states_at s x a k 0 row turn gone h ok low seat living lane) (λ b i. ap not (on_zero _))
 
 -- the lanes of the states so far, with one more
 pub one_more : (m b : ℕ) (f : ℕ → Bool) → ((ltb m b && f m) || (eqb m b && f b)) ≡ (ltb m (b + 1) && f m)
@@ -244,20 +258,9 @@ seats_few n ok = grind (arith, length-map, low_of-le)
 pub low_few : (n : NamedSys) (k : ℕ) → IsNamedSys n → k < low_in (system_of n) → (k < 32) × (k < length n.seats)
 low_few n k ok l = omega (arith, seats_few n ok)
 
--- facts about a seat within the lanes
-pub record Within (n : NamedSys) (r : Rows) (k : ℕ) : Type 0 where
-  pub seats : k < length (sizes_of (system_of n)).seats
-  pub seat : k < length (system_of n).seats
-  pub stride : slice_index r.strides k ≡ stride_of (sizes_of (system_of n)) k
-  pub small : (b : ℕ) → b < slice_index (sizes_of (system_of n)).seats k → b * slice_index r.strides k < 64
-
-pub within : (n : NamedSys) (r : Rows) (k : ℕ) → IsNamedSys n → AreRowsOf (sizes_of (system_of n)) r → low_in (system_of n) ≤ k → k < length n.seats → Within n r k
-within n r k ok laid low l =
-    let s = system_of n in
-    let seat : k < length s.seats = omega (arith, length-map n.seats (seat_of n.catalogue)) in
-    let seats : k < length (sizes_of s).seats = omega (arith, length-map s.seats (λ (y : Seat). y.beh.states)) in
-    let stride = laid.within k low seats in
-    record { seats = seats; seat = seat; stride = stride; small = λ b m. subst (λ u. b * u < 64) (sym stride) (state_below (sizes_of s) k b (joint_sizes n ok) low seats m) }
+-- a service has a size
+pub in_sizes : (n : NamedSys) (k : ℕ) → k < length n.seats → k < length (sizes_of (system_of n)).seats
+in_sizes n k l = omega (arith, length-map n.seats (seat_of n.catalogue), length-map (system_of n).seats (λ (y : Seat). y.beh.states))
 
 -- a service before the lanes is one of the services
 pub ruleset seat_counts = (length-map, low_of-le)

@@ -1,5 +1,5 @@
 -- The outcomes of a delegation, by rows and lanes.
-use Rattle.roman_joint.proofs.Common.{AreSizes-drop, AreSizes-index, Arena, Bool, IsFalse, IsIn, IsNumbered, IsRow, IsSizes, IsSys, IsTrue, List, Row, Seat, Sizes, Sys, [], any_from, any_same, any_true, ap, ap₂, arith, beh_next, below, count, div-add-mod', div_below, drop, env_next, env_rows_are, env_rows_of, flat_map, in_flat_map, in_map, is_beaten, is_empty, lane_state_of, lanes_in, length, length-map, list_any, list_any-flat_map, list_any-map, low_in, low_of-le, map, mod_below, mul-add-div_right, mul-add-lt, mul-add-mod_self_right, not, not_empty_in, number, numbered, outcomes, pair_at, part_at, product_more, product_of, product_positive, refl, row_least, row_mod, same_test, seat_next, sizes_of, slice_get, slice_index, stride_of, subst, sym, tails_from, target_rows_of, true, ℕ, ◌%◌, ◌*◌, ◌+◌, ◌-◌, ◌/◌, ◌<◌, ◌∙◌, ◌∷◌, ◌≡◌, ◌≤◌}
+use Rattle.roman_joint.proofs.Common.{AreSizes-drop, AreSizes-index, env_rows_are, low_of-le, product_more, product_positive, row_least, row_mod, tails_from, Arena, is_beaten, Bool, IsFalse, IsTrue, List, [], ap, ap₂, arith, drop, length, map, refl, slice_get, slice_index, subst, sym, true, ℕ, ◌%◌, ◌*◌, ◌+◌, ◌-◌, ◌/◌, ◌<◌, ◌∙◌, ◌∷◌, ◌≡◌, ◌≤◌, ◌||◌, IsIn, below, is_empty, product_of, IsNumbered, IsRow, lane_state_of, lanes_in, low_in, IsSizes, stride_of, IsSys, Seat, Sys, Row, Sizes, count, number, numbered, pair_at, sizes_of, any_from, any_same, any_true, in_flat_map, in_map, list_any-flat_map, list_any-map, not_empty_in, part_at, same_test, beh_next, env_next, outcomes, seat_next, div-add-mod', div_below, mod_below, mul-add-lt, env_rows_of, target_rows_of, flat_map, list_any, length-map, mul-add-div_right, mul-add-mod_self_right}
 use Rattle.roman_joint.proofs.OutcomeLemmas.{StartsAt, starts_at, numbers_are, target_in_range}
 use Rattle.roman_joint.proofs.Finds.{some_numbers, no_numbers}
 use Rattle.roman_joint.proofs.SplitLemmas.{target_rows_are}
@@ -15,7 +15,7 @@ leads_within A p a k e b envs states to ok l leads in_envs in_states =
 
 pub leads_served : (A : Arena ℕ) (gone : ℕ → Bool) (p a k : ℕ) (envs states : List ℕ) (to : ℕ → ℕ → ℕ) (test : ℕ → ℕ → Bool) → Leads A p a k envs states to →
     IsFalse (is_empty envs) → IsFalse (is_empty states) → ((e b : ℕ) → IsIn e envs → IsIn b states → test e b ≡ gone (to e b)) →
-    not (list_any (λ e. list_any (test e) states) envs) ≡ not (is_beaten A gone p a k)
+    list_any (λ e. list_any (test e) states) envs ≡ is_beaten A gone p a k
 leads_served A gone p a k envs states to test leads some_env some_state same = grind (arith, any_same, list_any-flat_map, list_any-map, not_empty_in, some_numbers)
 
 pub leads_nothing : (A : Arena ℕ) (gone : ℕ → Bool) (p a k : ℕ) (envs states : List ℕ) (to : ℕ → ℕ → ℕ) → Leads A p a k envs states to → states ≡ [] → is_beaten A gone p a k ≡ true
@@ -28,12 +28,13 @@ any_turn test xs ys t = grind (arith, any_from, any_true)
 any_turned : (test : ℕ → ℕ → Bool) (xs ys : List ℕ) → list_any (λ x. list_any (test x) ys) xs ≡ list_any (λ y. list_any (λ x. test x y) xs) ys
 any_turned test xs ys = same_test _ _ (any_turn test xs ys) (any_turn (λ y x. test x y) ys xs)
 
--- a seat serves exactly if none of its states is dead: one at which a next state of the environment leads to a node that is gone
-pub leads_alive : (A : Arena ℕ) (gone : ℕ → Bool) (p a k : ℕ) (envs states : List ℕ) (to : ℕ → ℕ → ℕ) (dead : ℕ → Bool) → Leads A p a k envs states to →
-    IsFalse (is_empty envs) → IsFalse (is_empty states) → ((b : ℕ) → IsIn b states → dead b ≡ list_any (λ e. gone (to e b)) envs) → not (list_any dead states) ≡ not (is_beaten A gone p a k)
-leads_alive A gone p a k envs states to dead leads some_env some_state same =
-    ap not (any_same dead (λ b. list_any (λ e. gone (to e b)) envs) states same ∙ any_turned (λ b e. gone (to e b)) states envs)
-    ∙ leads_served A gone p a k envs states to (λ e b. gone (to e b)) leads some_env some_state (λ e b i j. refl)
+-- a seat is beaten exactly if it has no state to go to, or one that is dead: from which a next state of the environment leads to a node that is gone
+pub leads_beaten : (A : Arena ℕ) (gone : ℕ → Bool) (p a k : ℕ) (envs states : List ℕ) (to : ℕ → ℕ → ℕ) (dead : ℕ → Bool) → Leads A p a k envs states to →
+    IsFalse (is_empty envs) → ((b : ℕ) → IsIn b states → dead b ≡ list_any (λ e. gone (to e b)) envs) → (is_empty states || list_any dead states) ≡ is_beaten A gone p a k
+leads_beaten A gone p a k envs [] to dead leads some_env same = sym (leads_nothing A gone p a k envs [] to leads refl)
+leads_beaten A gone p a k envs (b ∷ states) to dead leads some_env same =
+    any_same dead (λ c. list_any (λ e. gone (to e c)) envs) (b ∷ states) same ∙ any_turned (λ c e. gone (to e c)) (b ∷ states) envs
+    ∙ leads_served A gone p a k envs (b ∷ states) to (λ e c. gone (to e c)) leads some_env refl (λ e c i j. refl)
 
 -- the first number for a seat
 pub start_row : (s : Sys) (row : Row) (x lane k to part stride : ℕ) → IsRow s x row → lane < lanes_in s → k < length (sizes_of s).seats → to < s.target.states →

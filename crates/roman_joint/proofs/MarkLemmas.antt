@@ -1,5 +1,5 @@
 -- Marks on the bands from which a band can be reached.
-use Rattle.roman_joint.proofs.Common.{AnyOf, AreLeading, Arena, Bool, Delegation, Grows, HasNoRepeats, HasNoRepeats-below, HasNoRepeats-filter, HasNoRepeats-map, HoldsEachOnce, IsBeforeAction, IsBeforeEnv, IsBeforeSeat, IsBeh, IsFalse, IsIn, IsMarked, IsRow, IsSizes, IsSizes-rows, IsSys, IsTrue, List, Marks, Option, Pair, Row, Seat, Sizes, Some, Sys, [], action_steps, add-one, ap, ap₂, arith, back, band_in, beh_prev, below, bit_at, bit_or, by_test, cases_eq, cases_lt, cond, count, count_by, delegations, div-add-mod', div-div-eq-div-mul, div-mul-add, div_below, drop, env_prev, env_rows_are, env_rows_of, env_steps, false, filter, filter_in, flat_map, from_action, from_all, from_below, from_env, from_flat_map, from_map, from_push, from_seat, from_states, from_target, get_or, get_or-set_other, get_or-set_same, has_flag, in_beh_prev, in_below, in_env_prev, in_filter, inl, inr, is_among, is_on, lane_state_of, lanes_in, lanes_of, lanes_positive, le-ltb, length, length-filter, length-map, length-set, length-take, length_rows, low_of, low_of-le, lt-ltb, mid_in, mod_below, move_in_range, moved, mul-add-lt, no_longer, number, numbered, numbers_are_pairs, outcomes, pair_at, product_of, refl, row_at, row_mod, row_sizes, row_stride_of, same_from_place, seat_in, seat_prev, seat_steps, set, sizes_of, slice_get, slice_get_within, slice_index, still, stride_of, subst, suc, sum_by, sum_by-append, sum_by-cons, sum_by_same, sum_cut, sym, take, take_more, triple_in_range, true, turn_steps, zero, ℕ, ◌%◌, ◌*◌, ◌++◌, ◌+◌, ◌-◌, ◌/◌, ◌<◌, ◌^◌, ◌∙◌, ◌∷◌, ◌≡◌, ◌≤◌, ◌⊎◌}
+use Rattle.roman_joint.proofs.Common.{AnyOf, AreLeading, Arena, Bool, Delegation, Grows, HasNoRepeats, HasNoRepeats-below, HasNoRepeats-filter, HasNoRepeats-map, HoldsEachOnce, IsBeforeAction, IsBeforeEnv, IsBeforeSeat, IsBeh, IsIn, IsMarked, IsRow, IsSizes, IsSizes-rows, IsSys, IsTrue, List, Marks, Pair, Row, Seat, Sizes, Sys, [], action_steps, add-one, ap, ap₂, arith, back, band_in, beh_prev, below, bit_at, bit_or, by_test, cases_eq, cases_lt, cond, count, count_by, delegations, div-add-mod', div-div-eq-div-mul, div-mul-add, div_below, drop, env_prev, env_rows_are, env_rows_of, env_steps, false, filter, filter_in, flat_map, from_action, from_all, from_below, from_env, from_flat_map, from_map, from_push, from_seat, from_states, from_target, get_or, get_or-set_other, get_or-set_same, has_flag, in_beh_prev, in_below, in_env_prev, in_filter, inl, inr, is_among, is_on, lane_state_of, lanes_in, lanes_of, lanes_positive, le-ltb, length, length-filter, length-map, length-set, length-take, length_rows, low_of, low_of-le, lt-ltb, mid_in, mod_below, move_in_range, moved, mul-add-lt, no_longer, number, numbered, numbers_are_pairs, outcomes, pair_at, product_of, refl, row_at, row_mod, row_sizes, row_stride_of, same_from_place, seat_in, seat_prev, seat_steps, set, sizes_of, slice_get, slice_get_within, slice_index, still, stride_of, subst, suc, sum_by, sum_by-append, sum_by-cons, sum_by_same, sum_cut, sym, take, take_more, triple_in_range, true, turn_steps, zero, ℕ, ◌%◌, ◌*◌, ◌++◌, ◌+◌, ◌-◌, ◌/◌, ◌<◌, ◌^◌, ◌∙◌, ◌∷◌, ◌≡◌, ◌≤◌, ◌⊎◌}
 use Rattle.std.specs.Prelude.{ltb}
 use Rattle.roman_joint.proofs.BackwardLemmas.{once_by, delegation, Comes, origin, in_seat_prev, pair_comes, found_backwards}
 use Rattle.roman_joint.proofs.Rows.{size_of_seat}
@@ -158,10 +158,6 @@ is_before s row y i lane p a k sys sizes first in_rows in_lanes below_p led =
     let at_t : IsBeforeEnv s row a e (p / w / v) = any_of _ _ _ t (subst (λ z. IsIn t (beh_prev s.target z e a)) (ok.targets lane in_lanes) (in_beh_prev s.env s.target t e a q.t sys.target st.goal)) (record { either = either }) in
     let at_e : IsBeforeAction s row a (p / w / v) = any_of _ _ _ e (subst (λ z. IsIn e (env_prev s.env z a)) (ok.envs lane in_lanes) (in_env_prev s.env e a q.e sys.env st.world)) at_t in
     any_of _ _ _ a (in_below s.env.actions a (triple_in_range s.env e a q.e sys.env st.world).1) at_e
-
--- the predecessor states of a ready seat are its behaviour's
-pub ready_prev : (o : Option Seat) (seat : Seat) (b e a : ℕ) → o ≡ Some seat → IsFalse seat.frozen → seat_prev o b e a ≡ beh_prev seat.beh b e a
-ready_prev o seat b e a seated ready = ap (λ y. seat_prev y b e a) seated ∙ ap (λ f. cond f [] (beh_prev seat.beh b e a)) ready
 
 -- The number of steps.
 

@@ -1,15 +1,11 @@
 -- Moves of services within the lanes.
-use Rattle.roman_joint.proofs.Common.{AreAlive, AreMovesOf, AreSeatsIn, AreSizes, AreSizes-drop, AreSizes-index, AreWays, Beh, Bool, Env, HasLanes, HoldsMoves, HoldsSpans, IsAdded, IsFalse, IsIn, IsKept, IsNamedSys, IsSizes, IsSpan, IsTargetMove, IsTrue, List, Move, Moves, NamedBeh, NamedSys, Parts, Row, Seat, Sizes, Some, Span, SuitsEnv, Sys, TargetMove, Ways, [], and_parts, any_from, any_true, ap, append_assoc, ap₂, arith, beh_next, below, both_ways, by_test, cases_eq, cases_lt, cond, count, count_by-le-length, div-add-mod', div_below, drop, drop-append-le, drop_all, drop_more, empty_is, env_rows_of, eq-eqb, eqb, eqb-true, false, false≢true, filter, filter_below_more, filter_in, from_below, from_map, get_or, get_or-append_seam, get_or_append_left, in_below, in_filter, in_map, inl, inr, is_beaten, is_empty, is_on, is_ready, lane_move, lane_moves_from, lane_state_of, lanes_few, lanes_in, lanes_of, length, length-append, length-below, length-filter, length-map, list_any, low_in, low_of, map-append, mod_below, mul-add-lt, mul-le-mul_right, named_in, ne_eqb, not, not_from_false, numbered, on_zero, product_of, product_positive, refl, same_from_place, same_test, seat_of, sizes_of, slice_get, slice_get-get_or, slice_get_within, slice_index, slice_index_or, slice_range, span_place, stride_of, subst, suc, sym, system_in, system_of, take-append-le, take_all, true, ways_room, with_frozen, within_in, zero, ℕ, ◌%◌, ◌&&◌, ◌*◌, ◌++◌, ◌+◌, ◌-◌, ◌/◌, ◌<◌, ◌==◌, ◌∙◌, ◌∷◌, ◌≡◌, ◌≢◌, ◌≤◌}
+use Rattle.roman_joint.proofs.Common.{IsServiceAt, AreMovesOf, AreSeatsIn, AreSizes, AreSizes-drop, AreSizes-index, AreWays, Beh, Bool, Env, HoldsMoves, HoldsSpans, IsAdded, IsIn, IsKept, IsSizes, IsSpan, List, Move, Moves, NamedBeh, NamedSys, Parts, Seat, Sizes, Some, Span, SuitsEnv, Sys, Ways, [], and_parts, any_from, any_true, ap, append_assoc, ap₂, arith, beh_next, below, cases_eq, cases_lt, cond, count, count_by-le-length, div-add-mod', div_below, drop, drop-append-le, drop_all, drop_more, eq-eqb, eqb, eqb-true, false≢true, filter, filter_below_more, filter_in, from_below, from_map, get_or, get_or-append_seam, get_or_append_left, in_below, in_filter, in_map, inl, inr, is_on, lane_move, lane_moves_from, lane_state_of, lanes_few, lanes_of, length, length-append, length-below, length-filter, length-map, list_any, low_in, low_of, map-append, mod_below, mul-add-lt, mul-le-mul_right, named_in, ne_eqb, not, not_from_false, on_zero, product_of, product_positive, refl, same_from_place, same_test, seat_of, sizes_of, slice_get, slice_get-get_or, slice_get_within, slice_index, slice_index_or, slice_range, span_place, stride_of, subst, suc, sym, system_in, system_of, take-append-le, take_all, true, ways_room, with_frozen, within_in, zero, ℕ, ◌%◌, ◌&&◌, ◌*◌, ◌++◌, ◌+◌, ◌-◌, ◌/◌, ◌<◌, ◌==◌, ◌∙◌, ◌∷◌, ◌≡◌, ◌≢◌, ◌≤◌}
 use Rattle.std.proofs.lemmas.List.{length-drop}
 use Rattle.roman_joint.specs.declared.seat.Seat as declared
-use Rattle.roman_joint.proofs.ArenaFacts.{beaten_where, joint_numbered}
-use Rattle.roman_joint.proofs.Rows.{size_of_seat}
 use Rattle.roman_joint.proofs.SeatChanges.{with_seats, frozen_sizes, frozen_at}
-use Rattle.roman_joint.proofs.BehaviourLemmas.{SeatRead, seat_read, service_read}
-use Rattle.roman_joint.proofs.OutcomeLemmas.{ready_next}
-use Rattle.roman_joint.proofs.WordLemmas.{not_not}
-use Rattle.roman_joint.proofs.LeadLemmas.{Leads, leads_alive, leads_nothing, lane_state, leads_lanes}
-use Rattle.roman_joint.proofs.GoodLemmas.{Known, state_below}
+use Rattle.roman_joint.proofs.BehaviourLemmas.{service_read}
+use Rattle.roman_joint.proofs.LeadLemmas.{lane_state}
+use Rattle.roman_joint.proofs.GoodLemmas.{state_below}
 
 -- next states are in range
 pub next_below : (beh : Beh) (b e a c : ℕ) → IsIn c (beh_next beh b e a) → c < beh.states
@@ -106,62 +102,6 @@ moves_made n k last e a beh ways h within seat states size ok = assumption (ok, 
         any_from (λ move. is_on move.lanes lane && test (lane + move.to - move.from)) (lane_move ways.lanes last st j) moves (in_map (lane_move ways.lanes last st) j (filter all (below (last + last + 1))) in_all)
         (ap₂ (λ y z. y && z) on (ap test to.1 ∙ u)))
 
--- the pairs at which a service within the lanes serves, by its moves
-pub serves_within : (s : Sys) (x a k some good alive : ℕ) (row : Row) (turn : TargetMove) (seat : Seat) (moves : List Move) (gone : ℕ → Bool) → Known s x row → IsTargetMove s row a turn → low_in s ≤ k →
-    slice_get s.seats k ≡ Some seat → IsFalse seat.frozen → AreMovesOf (sizes_of s) k seat.beh row.env a some moves → AreAlive s gone turn alive →
-    ((lane : ℕ) → lane < 64 → ((move : Move) → IsIn move moves → is_on move.lanes lane ≡ true → (move.from ≤ lane) × (lane + move.to - move.from < 64)) →
-    is_on good lane ≡ (is_on some lane && not (list_any (λ move. is_on move.lanes lane && not (is_on alive (lane + move.to - move.from))) moves))) →
-    ((lane : ℕ) → is_on some lane ≡ false → is_on good lane ≡ false) → HasLanes (lanes_in s) x (λ p. not (is_beaten (numbered s) gone p a k)) good
-serves_within s x a k some good alive row turn seat moves gone h ok within seated ready are living told off = record {
-  each = λ lane l. each lane l;
-  rest = λ lane l. off lane (are.rest lane l);
-}
-  where
-    n : Sizes
-    n = sizes_of s
-
-    st : ℕ
-    st = stride_of n k
-
-    digit : ℕ → ℕ
-    digit lane = lane_state_of n k lane
-
-    states : ℕ → List ℕ
-    states lane = beh_next seat.beh (digit lane) row.env a
-
-    in_seats : k < length s.seats
-    in_seats = slice_get_within s.seats k seat seated
-
-    there : (lane b : ℕ) → lane < lanes_in s → IsIn b (states lane) → lane + b * st - digit lane * st < lanes_in s
-    there lane b l i = (lane_state n k lane h.sizes within (omega (arith, in_seats, length-map s.seats (λ (y : Seat). y.beh.states))) l).moves b
-        (rw (size_of_seat s.seats k seat seated) (next_below seat.beh (digit lane) row.env a b i))
-
-    dead : ℕ → ℕ → Bool
-    dead lane b = not (is_on alive (lane + b * st - digit lane * st))
-
-    leads : (lane : ℕ) → (l : lane < lanes_in s) → Leads (numbered s) (x * lanes_in s + lane) a k turn.envs.now (states lane) (λ e b. (turn.base + e * env_rows_of n) * lanes_in s + (lane + b * st - digit lane * st))
-    leads lane l = leads_lanes s row x lane a k ok.to turn.base (digit lane) turn.envs.now (states lane) h.sys h.sizes h.looked l within in_seats refl ok.target ok.worlds (sym (ready_next (slice_get s.seats k) seat (digit lane) row.env a seated ready)) ok.base
-
-    all_alive : (lane : ℕ) → lane < lanes_in s → IsFalse (is_empty (states lane)) → not (list_any (dead lane) (states lane)) ≡ not (is_beaten (numbered s) gone (x * lanes_in s + lane) a k)
-    all_alive lane l full =
-        leads_alive (numbered s) gone (x * lanes_in s + lane) a k turn.envs.now (states lane) (λ e b. (turn.base + e * env_rows_of n) * lanes_in s + (lane + b * st - digit lane * st)) (dead lane) (leads lane l) ok.some full
-        (λ b i. ap not (living.each (lane + b * st - digit lane * st) (there lane b l i)) ∙ sym (not_not _))
-
-    each : (lane : ℕ) → lane < lanes_in s → is_on good lane ≡ not (is_beaten (numbered s) gone (x * lanes_in s + lane) a k)
-    each lane l = by_test (is_empty (states lane))
-        (λ none. off lane (are.each lane l ∙ ap not none)
-        ∙ sym (ap not (leads_nothing (numbered s) gone (x * lanes_in s + lane) a k turn.envs.now (states lane) (λ e b. (turn.base + e * env_rows_of n) * lanes_in s + (lane + b * st - digit lane * st)) (leads lane l) (empty_is (states lane) none))))
-        (λ full. told lane (omega (arith, lanes_few n.seats)) (λ move i on.
-        let (taken, below) = are.within move lane i l on in
-        (taken, omega (arith, below, lanes_few n.seats)))
-        ∙ (ap₂ (λ y z. y && not z) (are.each lane l ∙ ap not full) (are.leads (λ y. not (is_on alive y)) lane l) ∙ all_alive lane l full))
-
--- a frozen service serves at no pair
-pub beaten_frozen : (n : NamedSys) (p a k : ℕ) (seat : declared.Seat) (gone : ℕ → Bool) → IsNamedSys n → slice_get n.seats k ≡ Some seat → IsTrue seat.frozen → is_beaten (numbered (system_of n)) gone p a k ≡ true
-beaten_frozen n p a k seat gone ok placed frozen =
-    beaten_where (numbered (system_of n)) gone p a k
-    (λ q i. both_ways (is_ready (slice_get (system_of n).seats k)) (ap is_ready (seat_read n k seat placed) ∙ ap not frozen) ((joint_numbered n ok).served p a k q i).2)
-
 -- The table of moves.
 
 range_more : {X : Type 0} (xs ys : List X) (a b : ℕ) → b ≤ length xs → slice_range (xs ++ ys) a b ≡ slice_range xs a b
@@ -237,7 +177,7 @@ sizes_long parts sizes of = ap (λ (m : Sizes). length m.seats) of.sizes_are ∙
 
 -- a service and its behaviour, as they are read from the parts of a joint
 pub seat_here : (parts : Parts) (sizes : Sizes) (k : ℕ) (x : declared.Seat) (y : NamedBeh) → (of : AreSeatsIn parts sizes) → k < length parts.seats.now → x ≡ get_or parts.seats.now k x →
-    y ≡ get_or parts.catalogue.now x.behaviour y → SeatRead (named_in parts of.limit) k x y
+    y ≡ get_or parts.catalogue.now x.behaviour y → IsServiceAt (named_in parts of.limit) k x y
 seat_here parts sizes k x y of l at_seat at_beh = service_read (named_in parts of.limit) k x parts.catalogue.now y of.known (slice_get-get_or parts.seats.now k x l ∙ ap Some (sym at_seat)) refl at_beh
 
 pub room_more : (ns : List ℕ) (k : ℕ) → k < length ns → ways_room (drop k ns) ≡ 2 * get_or ns k 0 - 1 + ways_room (drop (k + 1) ns)

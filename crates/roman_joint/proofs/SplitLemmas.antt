@@ -1,5 +1,5 @@
 -- How rows are made and looked up.
-use Rattle.roman_joint.proofs.Common.{AreBelow-index, AreLeading, ArePermitted, AreRowsOf, AreSizes, AreSizes-index, IsBeh, IsIn, IsNamedSys, IsPairOf, IsPairOf-at, IsRow, IsSizes, List, NamedSys, Row, Rows, Seat, Sizes, Sys, [], ap, ap₂, arith, below, cases_eq, count, env_rows_are, env_rows_of, exact, get_or-set_other, get_or-set_same, inl, inr, lanes_in, lanes_of, lanes_positive, length, length-map, low_in, low_of, low_of-le, map, mul-add-lt, pair_at, part_at, product_of, refl, row_below, row_div, row_least, set, sizes_of, slice_index, stride_of, subst, suc, sym, system_of, tails_from, target_rows_of, target_stride_of, zero, ℕ, ◌%◌, ◌*◌, ◌+◌, ◌-◌, ◌/◌, ◌<◌, ◌∙◌, ◌∷◌, ◌≡◌}
+use Rattle.roman_joint.proofs.Common.{AreBelow-index, AreLeading, ArePermitted, AreRowsOf, AreSizes, AreSizes-index, IsBeh, IsIn, IsNamedSys, IsPairOf, IsPairOf-at, IsRow, IsSizes, List, NamedSys, Row, Rows, Seat, Sizes, Sys, [], ap, ap₂, arith, below, count, env_rows_are, env_rows_of, exact, inl, inr, lanes_in, lanes_of, lanes_positive, length, length-map, low_in, low_of, low_of-le, map, mul-add-lt, pair_at, part_at, product_of, refl, row_below, row_div, row_least, sizes_of, slice_index, stride_of, subst, suc, sym, system_of, tails_from, target_rows_of, target_stride_of, zero, ℕ, ◌%◌, ◌*◌, ◌+◌, ◌-◌, ◌/◌, ◌<◌, ◌∙◌, ◌∷◌, ◌≡◌, lane_state_of, row_stride_of, row_size, row_sizes}
 use Rattle.roman_joint.proofs.Rows.{count_fits}
 
 -- the pairs of a joint have numbers of 32 bits
@@ -49,12 +49,6 @@ quotient a m w pos is = factor (a / w) m w pos (exact a m w pos (sym is) ∙ sym
 pub row_stride : (n : Sizes) (r : Rows) (k : ℕ) → IsSizes n → AreRowsOf n r → k < low_of n.seats → slice_index r.strides k ≡ stride_of n k / lanes_of n.seats
 row_stride n r k h rows l = factor (slice_index r.strides k) (stride_of n k / lanes_of n.seats) (lanes_of n.seats) (lanes_positive n.seats h.seats) (rows.before k l ∙ sym (stride_rows n k h l))
 
--- the states of a row with one more seat
-pub row_states_more : (n : Sizes) (states : List ℕ) (x k state : ℕ) → k < length states → state ≡ x / (stride_of n k / lanes_of n.seats) % slice_index n.seats k →
-    ((j : ℕ) → j < k → slice_index states j ≡ x / (stride_of n j / lanes_of n.seats) % slice_index n.seats j) →
-    (j : ℕ) → j < k + 1 → slice_index (set states k state) j ≡ x / (stride_of n j / lanes_of n.seats) % slice_index n.seats j
-row_states_more n states x k state room is before j l = grind (arith, before, cases_eq, get_or-set_other, get_or-set_same, set)
-
 -- the pairs of a row are in range
 pub row_inside : (n : Sizes) (x lane rows : ℕ) → rows * lanes_of n.seats ≡ count n → x < rows → lane < lanes_of n.seats → x * lanes_of n.seats + lane < count n
 row_inside n x lane rows is l m = omega (arith, is, mul-add-lt x (lanes_of n.seats) lane rows l m)
@@ -65,7 +59,7 @@ row_number x rows w c pos is l = row_below x w 0 rows (omega arith)
 -- the looked-up facts of a row are right
 pub row_made : (s : Sys) (x : ℕ) (row : Row) → IsSizes (sizes_of s) → x * lanes_in s < count (sizes_of s) → (rows : ℕ) → rows * lanes_in s ≡ count (sizes_of s) → row.part ≡ x % env_rows_of (sizes_of s) →
     row.target ≡ (pair_at (sizes_of s) (x * lanes_in s)).t → row.env ≡ (pair_at (sizes_of s) (x * lanes_in s)).e →
-    ((k : ℕ) → k < low_in s → slice_index row.states k ≡ x / (stride_of (sizes_of s) k / lanes_in s) % slice_index (sizes_of s).seats k) →
+    ((k : ℕ) → k < low_in s → slice_index row.states k ≡ lane_state_of (row_sizes (sizes_of s)) k x) →
     ArePermitted s.env s.target row.target row.env row.allowed → AreLeading s.env s.target row.target row.env row.leading → IsRow s x row
 row_made s x row sizes start rows is_rows part at_target at_env at_states allowed leading =
     let n = sizes_of s in
@@ -78,9 +72,9 @@ row_made s x row sizes start rows is_rows part at_target at_env at_states allowe
     let front : (lane : ℕ) → lane < w → (x * w + lane) / product_of n.seats ≡ x * w / product_of n.seats = λ lane l.
     ap (λ y. (x * w + lane) / y) (sym (env_rows_are n)) ∙ (row_div x w lane (env_rows_of n) l
     ∙ sym (ap₂ (λ y z. y / z) first (sym (env_rows_are n)) ∙ row_div x w 0 (env_rows_of n) pos)) in
-    let digit : (k lane : ℕ) → k < low_of n.seats → lane < w → slice_index (pair_at n (x * w + lane)).bs k ≡ x / (stride_of n k / w) % slice_index n.seats k = λ k lane l h.
+    let digit : (k lane : ℕ) → k < low_of n.seats → lane < w → slice_index (pair_at n (x * w + lane)).bs k ≡ lane_state_of (row_sizes n) k x = λ k lane l h.
     part_at n (x * w + lane) k (inside lane h) (omega (arith, low_of-le n.seats))
-    ∙ ap (λ y. y % slice_index n.seats k) (ap (λ y. (x * w + lane) / y) (sym (stride_rows n k sizes l)) ∙ row_div x w lane (stride_of n k / w) h) in
+    ∙ ap₂ (λ y z. y % z) (ap (λ y. (x * w + lane) / y) (sym (row_stride_of n k l)) ∙ row_div x w lane (stride_of (row_sizes n) k) h) (sym (row_size n k l)) in
     let state : (k : ℕ) → k < low_of n.seats → slice_index row.states k ≡ slice_index (pair_at n (x * w)).bs k = λ k l.
     at_states k l ∙ sym (ap (λ p. slice_index (pair_at n p).bs k) first ∙ digit k 0 l pos) in
     record {

@@ -1,5 +1,5 @@
 -- The lanes of words that are combined.
-use Rattle.roman_joint.proofs.Common.{◌≡◌, ℕ, ◌+◌, ◌-◌, ◌*◌, ◌/◌, ◌%◌, ◌^◌, ◌<◌, Bool, true, false, not, ◌&&◌, ◌||◌, List, [], ◌∷◌, length, take, drop, get_or, inl, inr, refl, sym, ap, ◌∙◌, arith, eqb, ltb, bit_and, and-true, bit_at, list_any, cases_lt, lt-ltb, le-ltb, shr_and_one, take_more, is_on, on_and, length-drop, or-false, not-not, shr-shr, pow_pos, bit_at-zero, bit_at_ones, bit_at_ones_above, bit_at_cat_low, bit_at_cat_high, bit_at_above, list_any-append}
+use Rattle.roman_joint.proofs.Common.{◌≡◌, ℕ, ◌+◌, ◌-◌, ◌*◌, ◌/◌, ◌%◌, ◌^◌, ◌<◌, Bool, true, false, not, ◌&&◌, ◌||◌, List, [], ◌∷◌, length, take, drop, get_or, inl, inr, sym, ap, ◌∙◌, arith, eqb, ltb, bit_and, length-drop, and-true, or-false, not-not, bit_at, list_any, cases_lt, lt-ltb, le-ltb, shr_and_one, bit_at-zero, bit_at_ones, bit_at_ones_above, bit_at_cat_low, bit_at_cat_high, bit_at_above, take_more, is_on, on_and, shr-shr, pow_pos, list_any-append}
 use Rattle.std.proofs.Common.{take_all}
 pub use Rattle.roman_lanes.proofs.CallerLemmas.{on_set_same, on_set_other}
 
@@ -55,11 +55,6 @@ not_not b = sym (not-not b)
 -- the words from a place on
 pub words_from : (words : List ℕ) (from : ℕ) → take (length words - from) (drop from words) ≡ drop from words
 words_from words from = take_all (length words - from) (drop from words) (omega (arith, length-drop from words))
-
--- a word with no lane past the full one
-pub none_past : (full word : Bool) → (full ≡ false → word ≡ false) → word ≡ (full && not (not word))
-none_past true word off = not_not word
-none_past false word off = off refl
 
 -- the test of the only element
 pub any_one : {X : Type 0} (p : X → Bool) (xs : List X) (d : X) → length xs ≡ 1 → list_any p xs ≡ p (get_or xs 0 d)

@@ -1,5 +1,5 @@
 -- Bands of rows: runs of neighbouring rows, which differ only in the states of the last seats before the lanes.
-use Rattle.std.specs.Prelude.{◌≡◌, ℕ, ◌+◌, ◌*◌, ◌^◌, ◌<◌, ◌≤◌, ◌&&◌, not, All, Bool, List, IsFalse, length, slice_get, slice_index}
+use Rattle.std.specs.Prelude.{◌≡◌, ℕ, ◌+◌, ◌*◌, ◌^◌, ◌<◌, ◌≤◌, ◌&&◌, true, not, All, Bool, List, IsFalse, length, slice_get, slice_index}
 use Rattle.std.specs.List.{list_any}
 use Rattle.roman_model.specs.Lists.{is_empty}
 use Rattle.roman_model.specs.System.{Sys}
@@ -36,15 +36,15 @@ pub record SuitsRun (run : Run) (many : ℕ) : Type 0 where
   pub few : run.from + many < 2 ^ 64
   pub within : All (λ b. run.from + many + b * run.stride ≤ length run.alive.now) run.states.now
 
--- the new word at place i is the old one without those lanes of `full` that are set in the words of all states of the run
+-- the new word at place i is the old one without those lanes that are set in the words of all states of the run
 abbrev pub LosesRun : Run → ℕ → ℕ → ℕ → Type 0
 LosesRun run i old new = (lane : ℕ) → is_on new lane
-    ≡ (is_on old lane && not (is_on run.full lane && not (list_any (λ b. not (is_on (slice_index run.alive.now (run.from + i + b * run.stride)) lane)) run.states.now)))
+    ≡ (is_on old lane && list_any (λ b. not (is_on (slice_index run.alive.now (run.from + i + b * run.stride)) lane)) run.states.now)
 
--- the new word at place i is the old one without those lanes of `full` that are set in all rows of the word: those with the numbers of `rows`, each plus i
+-- the new word at place i is the old one without lanes that are set in all rows of the word, those with the numbers of `rows`, each plus i: without all such lanes of `full`
 abbrev pub LosesAlive : Outcomes → List ℕ → ℕ → ℕ → ℕ → ℕ → Type 0
 LosesAlive rows words full i old new = (good : ℕ)
-    × ((lane : ℕ) → is_on good lane ≡ (is_on full lane && not (list_any (λ e. list_any (λ b. not (is_on (slice_index words (rows.base + i + e * rows.env_stride + b * rows.stride)) lane)) rows.states.now) rows.envs.now)))
+    × ((lane : ℕ) → is_on full lane ≡ true → is_on good lane ≡ not (list_any (λ e. list_any (λ b. not (is_on (slice_index words (rows.base + i + e * rows.env_stride + b * rows.stride)) lane)) rows.states.now) rows.envs.now))
     × ((lane : ℕ) → is_on new lane ≡ (is_on old lane && not (is_on good lane)))
 
 -- a component of this size and stride, within a band, is in state b and can go to these states

@@ -19,14 +19,18 @@ use Rattle.roman_joint.specs.declared.moves.Moves.{Moves}
 use Rattle.roman_joint.specs.declared.parts.Parts.{Parts}
 use Rattle.roman_joint.specs.declared.ways.Ways.{Ways}
 
--- these are the moves of seat k with the behaviour on a in environment state e, from each lane to those of its next states; `some` are the lanes with a next state
-pub record AreMovesOf (n : Sizes) (k : ℕ) (beh : Beh) (e a some : ℕ) (moves : List Move) : Type 0 where
-  pub each : (lane : ℕ) → lane < lanes_of n.seats → is_on some lane ≡ not (is_empty (beh_next beh (lane_state_of n k lane) e a))
+-- these are the moves of seat k, from each lane to those of the next states of its state there; `some` are the lanes with a next state
+pub record AreLaneMoves (n : Sizes) (k : ℕ) (next : ℕ → List ℕ) (some : ℕ) (moves : List Move) : Type 0 where
+  pub each : (lane : ℕ) → lane < lanes_of n.seats → is_on some lane ≡ not (is_empty (next (lane_state_of n k lane)))
   pub rest : (lane : ℕ) → lanes_of n.seats ≤ lane → is_on some lane ≡ false
   pub small : (move : Move) → IsIn move moves → (move.from < 64) × (move.to < 64)
   pub within : (move : Move) (lane : ℕ) → IsIn move moves → lane < lanes_of n.seats → is_on move.lanes lane ≡ true → (move.from ≤ lane) × (lane + move.to - move.from < lanes_of n.seats)
   pub leads : (test : ℕ → Bool) (lane : ℕ) → lane < lanes_of n.seats → list_any (λ move. is_on move.lanes lane && test (lane + move.to - move.from)) moves
-      ≡ list_any (λ b. test (lane + b * stride_of n k - lane_state_of n k lane * stride_of n k)) (beh_next beh (lane_state_of n k lane) e a)
+      ≡ list_any (λ b. test (lane + b * stride_of n k - lane_state_of n k lane * stride_of n k)) (next (lane_state_of n k lane))
+
+-- these are the moves of seat k with the behaviour on a in environment state e
+abbrev pub AreMovesOf : Sizes → ℕ → Beh → ℕ → ℕ → ℕ → List Move → Type 0
+AreMovesOf n k beh e a some moves = AreLaneMoves n k (λ b. beh_next beh b e a) some moves
 
 -- there are words of alive lanes for `many` rows, and the moves stay below 64 lanes
 pub record SuitsMoving (alive : List ℕ) (moves : List Move) (many : ℕ) : Type 0 where

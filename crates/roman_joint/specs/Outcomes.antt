@@ -18,6 +18,11 @@ pub record IsPairWith (n : Sizes) (k q e b : ℕ) : Type 0 where
   pub env : (pair_at n q).e ≡ e
   pub state : slice_index (pair_at n q).bs k ≡ b
 
+-- the rows base + b * stride have 32 bits, and each and the `many - 1` after it are below `long`
+pub record AreWithin (base stride many long : ℕ) (states : List ℕ) : Type 0 where
+  pub fits : All (λ b. base + b * stride < 2 ^ 32) states
+  pub within : All (λ b. base + b * stride + many ≤ long) states
+
 -- of the numbers, each and the `many - 1` after it are below `long`, and all have 32 bits
 pub record SuitsRows (rows : Outcomes) (many long : ℕ) : Type 0 where
   pub envs : All (λ e. rows.base + e * rows.env_stride < 2 ^ 32) rows.envs.now

@@ -15,11 +15,13 @@ use crate::row::Row;
 use crate::runs::{
     BAND, Run, clear, clear_alive, clear_state, is_clear, rows_alive_each, set_first,
 };
+use crate::states::{moves_within, service};
 use crate::turn::{Turn, rows_before, target_move_of};
 use crate::words::less;
 
 /// Clears, in `left`, the pairs of a band at which the seat `k` serves the action. The seat stands
 /// before the band's own.
+#[tactic(auto, using(roman_radix::proofs::CallerLemmas::lanes_few))]
 fn clear_before(joint: &Joint, turn: &Turn<'_>, k: u8, left: &mut [u64])
     requires turn { (y : ℕ) × IsTurn (system_of joint.now) (y * band_in (system_of joint.now)) turn.now }
     requires seat { k < mid_in (system_of joint.now) }
@@ -82,15 +84,13 @@ fn clear_own(joint: &Joint, row: &Row, alive: &[u64], a: u8, k: u8, left: &mut [
     ensures left { ClearsServed (system_of joint.now) row.now alive.now a k left.old left.new }
 {
     let rows = joint.layout();
-    let seat = joint.seat(k);
+    let (seat, behaviour) = service(joint, k);
     if seat.frozen {
         return;
     }
-    let behaviour = &joint.catalogue()[seat.behaviour as usize];
     let size = rows.sizes[k as usize];
     let stride = rows.strides[k as usize];
     let blocks = rows.band / (u32::from(size) * stride);
-    let full = rows.full;
     let e = row.env;
     for b in 0..size {
         let states = behaviour.out(b, e, a);
@@ -102,7 +102,6 @@ fn clear_own(joint: &Joint, row: &Row, alive: &[u64], a: u8, k: u8, left: &mut [
             from: 0,
             states,
             stride: stride as usize,
-            full,
         };
         clear_state(left, &run, b, size, blocks as usize);
     }
@@ -121,10 +120,7 @@ fn clear_within(joint: &Joint, row: &Row, alive: &[u64], a: u8, k: u8, left: &mu
     ensures left { ClearsServed (system_of joint.now) row.now alive.now a k left.old left.new }
 {
     joint.layout();
-    if joint.seat(k).frozen {
-        return;
-    }
-    let (some, moves) = joint.lane_moves(k, row.env, a);
+    let (some, moves) = moves_within(joint, k, row.env, a);
     clear_moving(left, alive, moves, some);
 }
 
@@ -188,6 +184,7 @@ fn clear_seats(joint: &Joint, turn: &Turn<'_>, alive: &[u64], left: &mut [u64])
 }
 
 /// Clears, in `left`, the pairs of a band at which some seat serves the action.
+#[tactic(auto, using(roman_radix::proofs::CallerLemmas::lanes_few))]
 fn clear_served(joint: &Joint, turn: &Turn<'_>, left: &mut [u64])
     requires turn { (y : ℕ) × IsTurn (system_of joint.now) (y * band_in (system_of joint.now)) turn.now }
     requires long { length left.old ≡ band_in (system_of joint.now) }
@@ -265,6 +262,7 @@ impl Joint {
     /// Clears, in `left`, the pairs of a band at which the service `k` serves the action `a`. `row` is
     /// the first row of the band. `left` has one word for each row of the band. `words` has, row by
     /// row, the bits of the pairs that aren't gone.
+    #[tactic(auto, using(roman_radix::proofs::CallerLemmas::lanes_few))]
     pub fn clear_good(&self, row: &Row, words: &[u64], a: u8, k: u8, left: &mut [u64])
         requires row { (y : ℕ) × IsRow (system_of self.now) (y * band_in (system_of self.now)) row.now }
         requires action { a < (system_of self.now).env.actions }
@@ -294,6 +292,7 @@ impl Joint {
     /// Returns the number of choices of a service for the action `a` at all pairs of a band together,
     /// at most 131,072: the sum, over the pairs, of the number of services that serve it. `row` is the
     /// first row of the band. `words` has, row by row, the bits of the pairs that aren't gone.
+    #[tactic(auto, using(roman_radix::proofs::CallerLemmas::lanes_few))]
     pub fn choices(&self, row: &Row, words: &[u64], a: u8) -> u32
         requires row { (y : ℕ) × IsRow (system_of self.now) (y * band_in (system_of self.now)) row.now }
         requires action { a < (system_of self.now).env.actions }

@@ -11,7 +11,7 @@ ghost use Rattle.roman_radix.specs.Rows.{row_sizes};
 use crate::joint::Joint;
 use crate::row::Row;
 use crate::runs::clear;
-use crate::states::{may_rest, state_lanes};
+use crate::states::{may_rest, row_state, state_lanes};
 use crate::words::{less, with_lanes};
 
 /// Returns the lanes in which a seat within the lanes may rest.
@@ -59,8 +59,7 @@ fn own_rests(joint: &Joint, i: u32) -> bool
 {
     let rows = joint.layout();
     for k in rows.mid..rows.low {
-        let b = i / rows.strides[k as usize] % u32::from(rows.sizes[k as usize]);
-        if !may_rest(joint, k, b as u8) {
+        if !may_rest(joint, k, row_state(joint, k, i)) {
             return false;
         }
     }

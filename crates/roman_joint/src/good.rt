@@ -12,6 +12,7 @@ ghost use Rattle.roman_joint.specs.declared.turn.TargetMove.{TargetMove};
 
 use crate::joint::Joint;
 use crate::row::Row;
+use crate::states::moves_within;
 use crate::turn::{Turn, rows_before, target_move_of};
 use crate::words::{all_alive, less, moves_alive, rows_alive};
 use roman_rules::SeatSet;
@@ -58,10 +59,7 @@ fn good_within(joint: &Joint, row: &Row, alive: u64, a: u8, k: u8) -> u64
         HasLanes (lanes_in s) x (λ p. not (is_beaten (numbered s) gone p a k)) result }
 {
     joint.known(); // outcomes need an allowed action and a ready seat
-    if joint.seat(k).frozen {
-        return 0;
-    }
-    let (some, moves) = joint.lane_moves(k, row.env, a);
+    let (some, moves) = moves_within(joint, k, row.env, a);
     moves_alive(alive, moves, some)
 }
 

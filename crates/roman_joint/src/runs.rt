@@ -1,8 +1,8 @@
 //! Runs of words: the words of neighbouring rows, combined word by word.
-ghost use Rattle.std.specs.Prelude.{◌≡◌, ◌≢◌, ◌↔◌, IsTrue, ℕ, ◌+◌, ◌-◌, ◌*◌, ◌/◌, ◌%◌, ◌^◌, ◌<◌, ◌≤◌, not, ◌&&◌, false, All, length, slice_index, bit_and};
+ghost use Rattle.std.specs.Prelude.{◌≡◌, ◌≢◌, ◌↔◌, IsTrue, ℕ, ◌+◌, ◌-◌, ◌*◌, ◌/◌, ◌%◌, ◌<◌, ◌≤◌, not, ◌&&◌, false, length, slice_index, bit_and};
 ghost use Rattle.std.specs.List.{list_any};
 ghost use Rattle.roman_lanes.specs.Rows.{is_on};
-ghost use Rattle.roman_joint.specs.Outcomes.{SuitsRows};
+ghost use Rattle.roman_joint.specs.Outcomes.{AreWithin, SuitsRows};
 ghost use Rattle.roman_joint.specs.Bands.{SuitsRun, LosesRun, LosesAlive, CanGo};
 
 use crate::outcomes::Outcomes;
@@ -53,8 +53,7 @@ fn and_from(to: &mut [u64], with: &[u64], from: usize)
 /// Clears, in each word, the lanes that aren't set in all rows of the word: the rows of
 /// word i are `base + i + b * stride`, for each state b.
 pub(crate) fn rows_alive_each(all: &mut [u64], words: &[u64], base: u32, states: &[u8], stride: u32)
-    requires fits { All (λ b. base + b * stride < 2 ^ 32) states.now }
-    requires within { All (λ b. base + b * stride + length all.old ≤ length words.now) states.now }
+    requires { AreWithin base stride (length all.old) (length words.now) states.now }
     ensures long { length all.new ≡ length all.old }
     ensures each { (i lane : ℕ) → i < length all.old → is_on (slice_index all.new i) lane
         ≡ (is_on (slice_index all.old i) lane && not (list_any (λ b. not (is_on (slice_index words.now (base + i + b * stride)) lane)) states.now)) }
@@ -97,14 +96,12 @@ fn clear_by_all(left: &mut [u64], words: &[u64], rows: &Outcomes<'_>, full: u64)
 }
 
 /// Clears, in each word of `left`, the lanes of `full` that are set in all rows of the word: the rows
-/// of word i are the numbers of `rows`, each plus i. No word has lanes past `full`. There are at most
-/// 64 words in `left`.
+/// of word i are the numbers of `rows`, each plus i. There are at most 64 words in `left`.
 pub(crate) fn clear_alive(left: &mut [u64], words: &[u64], rows: &Outcomes<'_>, full: u64)
     requires few { length left.old ≤ 64 }
     requires rows { SuitsRows rows.now (length left.old) (length words.now) }
     ensures long { length left.new ≡ length left.old }
-    ensures each { ((x lane : ℕ) → x < length words.now → is_on full lane ≡ false → is_on (slice_index words.now x) lane ≡ false) →
-        (i : ℕ) → i < length left.old → LosesAlive rows.now words.now full i (slice_index left.old i) (slice_index left.new i) }
+    ensures each { (i : ℕ) → i < length left.old → LosesAlive rows.now words.now full i (slice_index left.old i) (slice_index left.new i) }
 {
     if rows.envs.len() != 1 || rows.states.len() != 1 {
         clear_by_all(left, words, rows, full);
@@ -114,15 +111,14 @@ pub(crate) fn clear_alive(left: &mut [u64], words: &[u64], rows: &Outcomes<'_>, 
     less(left, &words[from..]);
 }
 
-/// Clears, in the word at place i, the lanes of `full` that are set in all words
-/// `from + i + b * stride` of `alive`, for each state b.
+/// Clears, in the word at place i, the lanes that are set in all words `from + i + b * stride` of
+/// `alive`, for each state b.
 #[derive(Clone, Copy)]
 pub(crate) struct Run<'a> {
     pub(crate) alive: &'a [u64],
     pub(crate) from: usize,
     pub(crate) states: &'a [u8],
     pub(crate) stride: usize,
-    pub(crate) full: u64,
 }
 
 impl Change for Run<'_> {
@@ -140,7 +136,7 @@ impl<const N: usize> ChangeOf<N> for Run<'_> {
         ensures long { length result ≡ N }
         ensures each { (i : ℕ) → i < N → LosesRun self.now (at + i) (slice_index words.entry i) (slice_index result i) }
     {
-        let mut good = Simd::<u64, N>::splat(self.full);
+        let mut good = Simd::<u64, N>::splat(u64::MAX);
         for b in self.states {
             good &= load::<N>(self.alive, self.from + at + usize::from(*b) * self.stride);
         }
@@ -148,11 +144,10 @@ impl<const N: usize> ChangeOf<N> for Run<'_> {
     }
 }
 
-/// Clears, in the word at place i, the lanes of `full` that are set in the word at place i of `alive`.
+/// Clears, in the word at place i, the lanes that are set in the word at place i of `alive`.
 #[derive(Clone, Copy)]
 struct Lone<'a> {
     alive: &'a [u64],
-    full: u64,
 }
 
 impl Change for Lone<'_> {
@@ -161,7 +156,7 @@ impl Change for Lone<'_> {
 
     ghost suits = { λ change many. many ≤ length change.alive.now };
 
-    ghost makes = { λ change i old new. (lane : ℕ) → is_on new lane ≡ (is_on old lane && not (is_on change.full lane && is_on (slice_index change.alive.now i) lane)) };
+    ghost makes = { λ change i old new. (lane : ℕ) → is_on new lane ≡ (is_on old lane && not (is_on (slice_index change.alive.now i) lane)) };
 }
 
 impl<const N: usize> ChangeOf<N> for Lone<'_> {
@@ -169,10 +164,9 @@ impl<const N: usize> ChangeOf<N> for Lone<'_> {
     fn changed(&self, words: Simd<u64, N>, at: usize) -> Simd<u64, N>
         requires { (many : ℕ) × (at + N ≤ many) × (many ≤ length self.now.alive.now) }
         ensures long { length result ≡ N }
-        ensures each { (i : ℕ) → i < N → (lane : ℕ) → is_on (slice_index result i) lane ≡ (is_on (slice_index words.entry i) lane && not (is_on self.now.full lane && is_on (slice_index self.now.alive.now (at + i)) lane)) }
+        ensures each { (i : ℕ) → i < N → (lane : ℕ) → is_on (slice_index result i) lane ≡ (is_on (slice_index words.entry i) lane && not (is_on (slice_index self.now.alive.now (at + i)) lane)) }
     {
-        let good = Simd::<u64, N>::splat(self.full) & load::<N>(self.alive, at);
-        without(words, good)
+        without(words, load::<N>(self.alive, at))
     }
 }
 
@@ -185,11 +179,8 @@ fn change_run(words: &mut [u64], run: &Run<'_>)
 {
     if run.states.len() == 1 {
         let from = run.from + usize::from(run.states[0]) * run.stride;
-        let lone = Lone {
-            alive: &run.alive[from..],
-            full: run.full,
-        };
-        change_each(&lone, words);
+        let alive = &run.alive[from..];
+        change_each(&Lone { alive }, words);
     } else {
         change_each(run, words);
     }

@@ -3,31 +3,74 @@ ghost use Rattle.std.specs.Prelude.{◌≡◌, ℕ, ◌/◌, ◌%◌, ◌<◌, �
 ghost use Rattle.roman_model.specs.SystemArena.{seat_next};
 ghost use Rattle.roman_model.specs.Numbers.{sizes_of};
 ghost use Rattle.roman_radix.specs.Radix.{stride_of};
-ghost use Rattle.roman_radix.specs.Rows.{low_of, lanes_of};
+ghost use Rattle.roman_radix.specs.Rows.{low_of, lanes_of, row_sizes};
 ghost use Rattle.roman_lanes.specs.Rows.{is_on};
 ghost use Rattle.roman_joint.specs.NamedSys.{system_of};
 ghost use Rattle.roman_joint.specs.Backward.{seat_prev};
-ghost use Rattle.roman_joint.specs.Rows.{lanes_in, low_in, lane_has_state, AreRowsOf, may_rest as may_rest_in};
+ghost use Rattle.roman_joint.specs.Behaviours.{IsServiceAt};
+ghost use Rattle.roman_joint.specs.Moves.{AreLaneMoves};
+ghost use Rattle.roman_joint.specs.Rows.{low_in, lane_has_state, lane_state_of, AreRowsOf, may_rest as may_rest_in};
 
 use crate::joint::Joint;
 use crate::layout::Rows;
-use crate::seat::PLACES;
+use crate::moves::Move;
+use crate::seat::{PLACES, Seat};
+use roman_parts::Behaviour;
 use roman_radix::Shape;
+
+/// Returns the state of a service before the lanes at the pairs of row `x`. For one of a band's own
+/// services, `x` may be counted from the band's first row.
+#[inline(always)]
+#[tactic(auto, using(crate::proofs::GoodLemmas::seats_few))]
+pub(crate) fn row_state(joint: &Joint, k: u8, x: u32) -> u8
+    requires { k < low_in (system_of joint.now) }
+    ensures { result ≡ lane_state_of (row_sizes (sizes_of (system_of joint.now))) k x }
+{
+    let rows = joint.layout();
+    let state = x / rows.strides[k as usize] % u32::from(rows.sizes[k as usize]);
+    state as u8
+}
 
 /// Returns the states of the services before the lanes at the pairs of row `x`, in the first places of
 /// a table.
 #[tactic(auto, using(crate::proofs::GoodLemmas::seats_few))]
 pub(crate) fn row_states(joint: &Joint, x: u32) -> [u8; PLACES]
-    ensures { (k : ℕ) → k < low_in (system_of joint.now) → slice_index result k
-        ≡ x / (stride_of (sizes_of (system_of joint.now)) k / lanes_in (system_of joint.now)) % slice_index (sizes_of (system_of joint.now)).seats k }
+    ensures { (k : ℕ) → k < low_in (system_of joint.now) → slice_index result k ≡ lane_state_of (row_sizes (sizes_of (system_of joint.now))) k x }
 {
-    let rows = joint.layout();
+    joint.known(); // there are at most 32 seats
     let mut states = [0; PLACES];
-    for k in 0..rows.low {
-        let state = x / rows.strides[k as usize] % u32::from(rows.sizes[k as usize]);
-        states[k as usize] = state as u8;
+    for k in 0..joint.layout().low {
+        states[k as usize] = row_state(joint, k, x);
     }
     states
+}
+
+/// Returns a service and its behaviour.
+#[inline(always)]
+#[tactic(auto, using(crate::proofs::BehaviourLemmas::service_read))]
+pub(crate) fn service(joint: &Joint, k: u8) -> (&Seat, &Behaviour)
+    requires { k < length joint.now.seats }
+    ensures { IsServiceAt joint.now k result.0.now result.1.now }
+{
+    joint.known(); // each seat's behaviour is in the catalogue
+    let seat = joint.seat(k);
+    (seat, &joint.catalogue()[seat.behaviour as usize])
+}
+
+/// Returns the moves of a service within the lanes: the lanes from which it has a step, and the moves
+/// of these lanes. A frozen service has none.
+#[inline(always)]
+pub(crate) fn moves_within(joint: &Joint, k: u8, e: u8, a: u8) -> (u64, &[Move])
+    requires within { low_in (system_of joint.now) ≤ k }
+    requires seat { k < length joint.now.seats }
+    requires env { e < (system_of joint.now).env.states }
+    requires action { a < (system_of joint.now).env.actions }
+    ensures { AreLaneMoves (sizes_of (system_of joint.now)) k (λ b. seat_next (slice_get (system_of joint.now).seats k) b e a) result.0 result.1.now }
+{
+    if joint.seat(k).frozen {
+        return (0, &[]);
+    }
+    joint.lane_moves(k, e, a)
 }
 
 /// Returns the states to which a service goes from state `b`. Returns none if it is frozen.
@@ -40,12 +83,10 @@ pub(crate) fn next_states<'a>(joint: &'a Joint, k: u8, b: u8, e: u8, a: u8) -> &
     ensures next { result.now ≡ seat_next (slice_get (system_of joint.now).seats k) b e a }
     ensures below { All (λ c. c < slice_index (sizes_of (system_of joint.now)).seats k) result.now }
 {
-    joint.known(); // each seat's behaviour is in the catalogue
-    let seat = joint.seat(k);
+    let (seat, behaviour) = service(joint, k);
     if seat.frozen {
         return &[];
     }
-    let behaviour = &joint.catalogue()[seat.behaviour as usize];
     behaviour.out(b, e, a)
 }
 
@@ -59,12 +100,11 @@ pub(crate) fn prev_states<'a>(joint: &'a Joint, k: u8, b: u8, e: u8, a: u8) -> &
     ensures below { All (λ c. c < slice_index (sizes_of (system_of joint.now)).seats k) result.now }
     ensures few { length result.now ≤ 64 }
 {
-    joint.known(); // each seat's behaviour is in the catalogue
-    let seat = joint.seat(k);
+    joint.known(); // a behaviour has few states
+    let (seat, behaviour) = service(joint, k);
     if seat.frozen {
         return &[];
     }
-    let behaviour = &joint.catalogue()[seat.behaviour as usize];
     behaviour.into(b, e, a)
 }
 
@@ -75,12 +115,10 @@ pub(crate) fn may_rest(joint: &Joint, k: u8, b: u8) -> bool
     requires state { b < slice_index (sizes_of (system_of joint.now)).seats k }
     ensures { result ≡ may_rest_in (slice_get (system_of joint.now).seats k) b }
 {
-    joint.known(); // each seat's behaviour is in the catalogue
-    let seat = joint.seat(k);
+    let (seat, behaviour) = service(joint, k);
     if !seat.rests {
         return true;
     }
-    let behaviour = &joint.catalogue()[seat.behaviour as usize];
     behaviour.is_final(b)
 }
 

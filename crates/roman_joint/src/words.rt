@@ -1,9 +1,9 @@
 //! Words of lanes: combining the words of several rows.
-ghost use Rattle.std.specs.Prelude.{◌≡◌, ℕ, ◌+◌, ◌-◌, ◌*◌, ◌^◌, ◌<◌, ◌≤◌, false, not, true, ◌&&◌, ◌||◌, All, length, slice_index};
+ghost use Rattle.std.specs.Prelude.{◌≡◌, ℕ, ◌+◌, ◌-◌, ◌*◌, ◌<◌, ◌≤◌, false, not, true, ◌&&◌, ◌||◌, length, slice_index};
 ghost use Rattle.std.specs.List.{list_any};
 ghost use Rattle.roman_model.specs.Lists.{IsIn};
 ghost use Rattle.roman_lanes.specs.Rows.{is_on};
-ghost use Rattle.roman_joint.specs.Outcomes.{outcome_number, SuitsRows};
+ghost use Rattle.roman_joint.specs.Outcomes.{outcome_number, AreWithin, SuitsRows};
 ghost use Rattle.roman_joint.specs.declared.moves.Move.{Move};
 
 use crate::moves::Move;
@@ -12,8 +12,7 @@ use std::simd::prelude::*;
 
 /// Returns the lanes of `good` that are set in all rows `base + b * stride`, for each state b.
 pub(crate) fn rows_alive(words: &[u64], base: u32, states: &[u8], stride: u32, good: u64) -> u64
-    requires fits { All (λ b. base + b * stride < 2 ^ 32) states.now }
-    requires within { All (λ b. base + b * stride < length words.now) states.now }
+    requires { AreWithin base stride 1 (length words.now) states.now }
     ensures { (lane : ℕ) → is_on result lane
         ≡ (is_on good lane && not (list_any (λ b. not (is_on (slice_index words.now (base + b * stride)) lane)) states.now)) }
 {

@@ -1,6 +1,6 @@
-use Rattle.roman_joint.proofs.Common.{◌*◌, arith, is_beaten, numbered, sizes_of, row_sizes, lanes_few, system_of, band_in}
-use Rattle.roman_joint.proofs.GoodLemmas.{known}
-use Rattle.roman_joint.proofs.BandLemmas.{mid_low, suits_band, serves_band, beaten_band, keeps_clear, keeps_all, dark_past}
+use Rattle.roman_joint.proofs.Common.{◌*◌, arith, is_beaten, numbered, sizes_of, system_of, band_in}
+use Rattle.roman_joint.proofs.GoodLemmas.{known, full_on}
+use Rattle.roman_joint.proofs.BandLemmas.{mid_low, suits_band, serves_band, beaten_band, keeps_clear, keeps_all}
 use Rattle.roman_joint.proofs.band.clear_before.Goals as goal
 
 pub rows_before-requires-clause-seat : goal.rows_before-requires-clause-seat
@@ -12,9 +12,6 @@ returns-in_default-clause-left c y gone ok rows =
     let h = known c.args.joint.now (y * band_in s) c.args.turn.now.row.now c.layout-rows.ensures.known ok in
     keeps_all s _ _ (λ p. is_beaten (numbered s) gone p c.args.turn.now.action c.args.k) _
     (λ i lane l m. beaten_band s c.layout-rows.result.now y _ _ _ h c.layout-rows.ensures.rows c.requires.turn.1.to i c.args.k lane gone l c.requires.seat c.in_default.ensures m)
-
-pub clear_alive-requires-clause-few : goal.clear_alive-requires-clause-few
-clear_alive-requires-clause-few c = omega (arith, c.requires.long, lanes_few (row_sizes (sizes_of (system_of c.args.joint.now))).seats)
 
 pub clear_alive-requires-clause-rows : goal.clear_alive-requires-clause-rows
 clear_alive-requires-clause-rows c =
@@ -30,5 +27,5 @@ returns-clause-left c y gone ok rows =
     let words = c.args.turn.now.words.now in
     let h = known c.args.joint.now (y * band_in s) c.args.turn.now.row.now c.layout-rows.ensures.known ok in
     keeps_clear s _ _ (λ p. is_beaten (numbered s) gone p c.args.turn.now.action c.args.k) _ _ c.requires.long c.clear_alive.ensures.long (λ i l.
-    let (good, told, lost) = c.clear_alive.ensures.each (dark_past s r words gone c.layout-rows.ensures.rows rows) i (omega (arith, l, c.requires.long)) in
-    (good, serves_band s r y _ _ _ h c.layout-rows.ensures.rows c.requires.turn.1.to i c.args.k good c.in-Some.to words gone l c.requires.seat c.requires.turn.1.room c.in-Some.ensures rows told, lost))
+    let (good, told, lost) = c.clear_alive.ensures.each i (omega (arith, l, c.requires.long)) in
+    (good, λ lane m. serves_band s r y _ _ _ h c.layout-rows.ensures.rows c.requires.turn.1.to i c.args.k good lane c.in-Some.to words gone l c.requires.seat c.requires.turn.1.room c.in-Some.ensures rows m (told lane (full_on (sizes_of s) r lane c.layout-rows.ensures.rows m)), lost))

@@ -1,5 +1,5 @@
 use Rattle.roman_joint.proofs.Common.{arith, is_beaten, numbered, system_of}
-use Rattle.roman_joint.proofs.GoodLemmas.{known, rows_few, none_served, beaten_before, suits_rows, before_there, serves_before}
+use Rattle.roman_joint.proofs.GoodLemmas.{known, full_on, full_off, rows_few, none_served, beaten_before, suits_rows, before_there, serves_before}
 use Rattle.roman_joint.proofs.good.good_before.Goals as goal
 
 pub returns-in_default : goal.returns-in_default
@@ -17,4 +17,9 @@ all_alive-requires c =
 
 pub returns : goal.returns
 returns c x gone ok rows =
-    serves_before _ x _ _ _ _ _ (known c.args.joint.now x c.args.turn.now.row.now c.layout-rows.ensures.known ok) c.requires.turn.1.to c.requires.seat c.in-Some.ensures c.layout-rows.result.now _ _ gone c.layout-rows.ensures.rows c.requires.turn.1.room rows c.all_alive.ensures
+    let laid = c.layout-rows.ensures.rows in
+    record {
+      each = λ lane l. serves_before _ x _ _ _ _ _ (known c.args.joint.now x c.args.turn.now.row.now c.layout-rows.ensures.known ok) c.requires.turn.1.to c.requires.seat c.in-Some.ensures _ lane _ gone c.requires.turn.1.room rows l
+          (grind (arith, full_on, c.all_alive.ensures lane));
+      rest = λ lane l. grind (arith, full_off, c.all_alive.ensures lane);
+    }

@@ -26,7 +26,7 @@ loop-block-preserved c =
             let at : to + i % stride ≡ i = omega (arith, place, step, own) in
             let base : run.from + block * (c.from.result * stride) + i % stride ≡ run.from + (i - b * stride) = omega (arith, place, step) in
             ap (λ z. is_on (slice_index c.clear_run.new.left z) lane) (sym at) ∙ (c.clear_run.ensures.each (i % stride) m lane
-            ∙ ap₂ (λ p q. p && not (is_on run.full lane && not q)) (ap (λ z. is_on (slice_index now z) lane) at ∙ ap (λ z. is_on z lane) (before.above i past))
+            ∙ ap₂ (λ p q. p && q) (ap (λ z. is_on (slice_index now z) lane) at ∙ ap (λ z. is_on z lane) (before.above i past))
             (ap (λ z. list_any (λ d. not (is_on (slice_index run.alive.now (z + d * stride)) lane)) run.states.now) base))
       ];
       others = λ i other. elim (cases_lt i to) [

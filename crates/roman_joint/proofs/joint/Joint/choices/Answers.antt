@@ -1,4 +1,4 @@
-use Rattle.roman_joint.proofs.Common.{◌≡◌, ℕ, ◌+◌, ◌*◌, length, sum_by, sym, ap, ◌∙◌, arith, length-map, below, mask, sizes_of, numbered, row_sizes, lanes_few, sum_below_more, served_by, sum_cut, system_of, seat_of, lanes_in, band_in, sum_by_same, sum_turned, action_counted, none_chosen}
+use Rattle.roman_joint.proofs.Common.{◌≡◌, ℕ, ◌+◌, ◌*◌, length, sum_by, sym, ap, ◌∙◌, arith, length-map, below, mask, numbered, sum_below_more, served_by, sum_cut, sum_turned, action_counted, none_chosen, system_of, seat_of, lanes_in, band_in, sum_by_same}
 use Rattle.roman_joint.proofs.ArenaFacts.{joint_numbered}
 use Rattle.roman_joint.proofs.SplitLemmas.{joint_sizes}
 use Rattle.roman_joint.proofs.AllowedLemmas.{open_here}
@@ -13,12 +13,6 @@ returns-in_default-clause-counted c y gone ok rows =
     sum_cut (λ i. sum_by (λ lane. length (mask (numbered s) gone ((x + i) * lanes_in s + lane) c.args.a)) (below (lanes_in s))) 0 (band_in s) (omega arith) (λ i past l.
     let here = in_band s y i c.args.row.now (joint_sizes c.args.self.now c.known.ensures) ok l in
     sym (none_chosen (numbered s) gone (lanes_in s) (x + i) c.args.a (λ lane m. open_here s (row_in s (x + i) c.args.row.now) (x + i) c.args.a lane here.looked m ∙ c.in_default.ensures)))
-
-pub alive_each-requires-clause-long : goal.alive_each-requires-clause-long
-alive_each-requires-clause-long c = lanes_few (row_sizes (sizes_of (system_of c.args.self.now))).seats
-
-pub served_by-count-requires-clause-alive : goal.served_by-count-requires-clause-alive
-served_by-count-requires-clause-alive c = omega (arith, c.alive_each.ensures.long, lanes_few (row_sizes (sizes_of (system_of c.args.self.now))).seats)
 
 pub loop-k-preserved : goal.loop-k-preserved
 loop-k-preserved c =

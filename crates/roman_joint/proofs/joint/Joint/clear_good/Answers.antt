@@ -1,4 +1,4 @@
-use Rattle.roman_joint.proofs.Common.{◌+◌, ◌*◌, ◌∙◌, arith, is_beaten, numbered, sizes_of, row_sizes, lanes_few, system_of, band_in}
+use Rattle.roman_joint.proofs.Common.{◌+◌, ◌*◌, ◌∙◌, arith, is_beaten, numbered, system_of, band_in}
 use Rattle.roman_joint.proofs.ArenaFacts.{joint_numbered}
 use Rattle.roman_joint.proofs.SplitLemmas.{joint_sizes}
 use Rattle.roman_joint.proofs.AllowedLemmas.{unopened}
@@ -13,12 +13,6 @@ returns-in_default-clause-left c y gone ok rows =
     let x = y * band_in s in
     keeps_all s x (band_in s) (λ p. is_beaten (numbered s) gone p c.args.a c.args.k) c.args.left.now (λ i lane l m.
     unopened s (row_in s (x + i) c.args.row.now) (x + i) c.args.a c.args.k lane gone (joint_numbered n c.known.ensures) (in_band s y i c.args.row.now (joint_sizes n c.known.ensures) ok l).looked m c.in_default.ensures)
-
-pub alive_each-requires-clause-long : goal.alive_each-requires-clause-long
-alive_each-requires-clause-long c = lanes_few (row_sizes (sizes_of (system_of c.args.self.now))).seats
-
-pub clear_seat-requires-clause-alive : goal.clear_seat-requires-clause-alive
-clear_seat-requires-clause-alive c = omega (arith, c.alive_each.ensures.long, lanes_few (row_sizes (sizes_of (system_of c.args.self.now))).seats)
 
 pub returns-clause-left : goal.returns-clause-left
 returns-clause-left c y gone ok rows = c.clear_seat.ensures.left y gone ok rows (c.alive_each.ensures.alive gone rows)

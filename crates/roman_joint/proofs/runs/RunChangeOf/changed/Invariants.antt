@@ -5,6 +5,6 @@ use Rattle.roman_joint.proofs.runs.RunChangeOf.changed.Given as goal
 abbrev pub invariant-loop-b : goal.invariant-loop-b
 invariant-loop-b g l = record {
   long : length l.good ≡ g.row.N;
-  each : (i lane : ℕ) → i < g.row.N → is_on (slice_index l.good i) lane
-      ≡ (is_on l.self.full lane && not (list_any (λ b. not (is_on (slice_index l.self.alive.now (l.self.from + (l.at + i) + b * l.self.stride)) lane)) (take l.b-index l.self.states.now)));
+  each : (i lane : ℕ) → i < g.row.N → lane < 64 → is_on (slice_index l.good i) lane
+      ≡ not (list_any (λ b. not (is_on (slice_index l.self.alive.now (l.self.from + (l.at + i) + b * l.self.stride)) lane)) (take l.b-index l.self.states.now));
 }
