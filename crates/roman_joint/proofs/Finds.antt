@@ -1,5 +1,5 @@
 -- Searches for the first element that passes, step by step.
-use Rattle.roman_joint.proofs.Common.{◌≡◌, ℕ, zero, suc, ◌+◌, ◌<◌, ◌≤◌, ◌==◌, Bool, true, false, cond, List, [], ◌∷◌, map, length, drop, get_or, Option, Some, None, IsFalse, refl, sym, ap, ◌∙◌, subst, inl, inr, arith, find, flat_map, option_map, IsIn, is_empty, in_map, in_flat_map, drop_more, drop_all, map-append, false≢true, eqb-true, option_or, in_not_empty, nil_from_length, find-append}
+use Rattle.roman_joint.proofs.Common.{◌≡◌, ℕ, zero, suc, ◌+◌, ◌<◌, ◌≤◌, ◌==◌, Bool, true, false, cond, List, [], ◌∷◌, map, length, drop, get_or, Option, Some, None, IsFalse, refl, sym, ap, ◌∙◌, subst, inl, inr, arith, find, flat_map, option_map, option_or, IsIn, is_empty, in_map, in_flat_map, in_not_empty, drop_more, drop_all, nil_from_length, false≢true, eqb-true, find-append}
 use Rattle.std.specs.Option.{IfSome}
 
 pub find_here : {X : Type 0} (p : X → Bool) (xs : List X) (i : ℕ) (d : X) → i < length xs → p (get_or xs i d) ≡ true → find p (drop i xs) ≡ Some (get_or xs i d)
@@ -38,21 +38,6 @@ in_at (x ∷ xs) (suc i) d l = inr (in_at xs i d (omega arith))
 
 pub if_some : {X : Type 0} (o : Option X) (x : X) (P : X → Type 0) → o ≡ Some x → IfSome o P → P x
 if_some o x P e h = subst (λ p. IfSome p P) e h
-
-numbers_of_pairs : (g : ℕ → ℕ → ℕ) (e : ℕ) (states : List ℕ) → map (λ (x : ℕ × ℕ). g x.0 x.1) (map (λ b. (e, b)) states) ≡ map (g e) states
-numbers_of_pairs g e [] = refl
-numbers_of_pairs g e (b ∷ states) = ap (λ ns. g e b ∷ ns) (numbers_of_pairs g e states)
-
-numbers_of_all : (g : ℕ → ℕ → ℕ) (envs states : List ℕ) → map (λ (x : ℕ × ℕ). g x.0 x.1) (flat_map (λ e. map (λ b. (e, b)) states) envs) ≡ flat_map (λ e. map (g e) states) envs
-numbers_of_all g [] states = refl
-numbers_of_all g (e ∷ envs) states = grind (arith, map-append, numbers_of_pairs, (numbers_of_all g envs states))
-
--- a search among numbers that are made of two states
-pub find_numbers : (g : ℕ → ℕ → ℕ) (gone : ℕ → Bool) (envs states : List ℕ) (o : Option (ℕ × ℕ)) →
-    o ≡ find (λ x. gone (g x.0 x.1)) (flat_map (λ e. map (λ b. (e, b)) states) envs) → find gone (flat_map (λ e. map (g e) states) envs) ≡ option_map (λ (x : ℕ × ℕ). g x.0 x.1) o
-find_numbers g gone envs states o h =
-    ap (find gone) (sym (numbers_of_all g envs states))
-    ∙ (find-map (λ (x : ℕ × ℕ). g x.0 x.1) gone (flat_map (λ e. map (λ b. (e, b)) states) envs) ∙ ap (option_map (λ (x : ℕ × ℕ). g x.0 x.1)) (sym h))
 
 -- without states there are no numbers
 pub no_numbers : (g : ℕ → ℕ → ℕ) (envs states : List ℕ) → states ≡ [] → flat_map (λ e. map (g e) states) envs ≡ []

@@ -1,8 +1,8 @@
 //! The pairs to which a delegation can lead.
-ghost use Rattle.std.specs.Prelude.{◌≡◌, ℕ, ◌+◌, ◌*◌, ◌^◌, ◌<◌, Bool, not, map, All, IfSome};
-ghost use Rattle.std.specs.List.{find, flat_map};
+ghost use Rattle.std.specs.Prelude.{◌≡◌, ℕ, ◌+◌, ◌*◌, ◌^◌, ◌<◌, Bool, not, All, IfSome, option_map};
+ghost use Rattle.std.specs.List.{find};
 ghost use Rattle.roman_model.specs.Lists.{IsIn};
-ghost use Rattle.roman_joint.specs.Outcomes.{outcome_number};
+ghost use Rattle.roman_joint.specs.Outcomes.{outcome_number, outcome_numbers};
 
 /// The pairs to which an action that is delegated to a service can lead. For each state e of `envs`
 /// and each state b of `states` it is the pair with the number `base + e * env_stride + b * stride`.
@@ -39,7 +39,7 @@ impl Outcomes<'_> {
         ensures among { IfSome result (λ x. IsIn x.0 self.now.envs.now × IsIn x.1 self.now.states.now) }
         ensures first { let number = outcome_number self.now in
             (gone : ℕ → Bool) → All (λ e. All (λ b. (r : Bool) → A.post alive.now (number e b) r → r ≡ not (gone (number e b))) self.now.states.now) self.now.envs.now
-            → result ≡ find (λ x. gone (number x.0 x.1)) (flat_map (λ e. map (λ b. (e, b)) self.now.states.now) self.now.envs.now) }
+            → option_map (λ x. number x.0 x.1) result ≡ find gone (outcome_numbers self.now) }
     {
         for env in self.envs {
             let row = self.base + u32::from(*env) * self.env_stride;

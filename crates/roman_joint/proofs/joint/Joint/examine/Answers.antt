@@ -1,5 +1,5 @@
-use Rattle.roman_joint.proofs.Common.{Some, None, IsFalse, get_or, sym, ap, ◌∙◌, subst, arith, find, is_empty, sizes_of, system_of, IsPairWith, outcome_number}
-use Rattle.roman_joint.proofs.Finds.{in_at, if_some, find_numbers, no_numbers, some_numbers, none_there, some_there}
+use Rattle.roman_joint.proofs.Common.{ℕ, Some, IsFalse, get_or, sym, ap, ◌∙◌, subst, arith, option_map, find, is_empty, sizes_of, system_of, IsPairWith, outcome_number}
+use Rattle.roman_joint.proofs.Finds.{in_at, if_some, no_numbers, some_numbers, none_there, some_there}
 use Rattle.roman_joint.proofs.joint.Joint.examine.Goals as goal
 
 pub returns-then-is_empty-clause-finding : goal.returns-then-is_empty-clause-finding
@@ -33,7 +33,7 @@ returns-in-None-clause-finding g c = λ gone told.
     record {
       is = (
         subst (λ qs. IsFalse (is_empty qs)) (sym to.numbers) (some_numbers (outcome_number o) o.envs.now o.states.now (get_or o.states.now 0 0) to.some some),
-        ap (find gone) to.numbers ∙ find_numbers (outcome_number o) gone o.envs.now o.states.now None (sym c.in-None.is ∙ first),
+        ap (find gone) to.numbers ∙ (sym first ∙ ap (option_map (λ (x : ℕ × ℕ). outcome_number o x.0 x.1)) c.in-None.is),
       );
     }
 
@@ -45,7 +45,7 @@ returns-in-Some-clause-finding g c = λ gone told.
     let among = if_some c.first_gone.result (c.in-Some.env, c.in-Some.state) _ c.in-Some.is c.first_gone.ensures.among in
     let first = c.first_gone.ensures.first gone (λ i d l j e m r post.
     told (outcome_number o (get_or o.envs.now i d) (get_or o.states.now j e)) r (to.places (get_or o.envs.now i d) (get_or o.states.now j e) (in_at o.envs.now i d l) (in_at o.states.now j e m)).below post) in
-    let found = find_numbers (outcome_number o) gone o.envs.now o.states.now (Some (c.in-Some.env, c.in-Some.state)) (sym c.in-Some.is ∙ first) in
+    let found = sym first ∙ ap (option_map (λ (x : ℕ × ℕ). outcome_number o x.0 x.1)) c.in-Some.is in
     let at : IsPairWith n c.args.k c.number.result c.in-Some.env c.in-Some.state =
     subst (λ q. IsPairWith n c.args.k q c.in-Some.env c.in-Some.state) (sym c.number.ensures) (to.places c.in-Some.env c.in-Some.state among.0 among.1) in
     record { is = (ap (find gone) to.numbers ∙ (found ∙ ap Some (sym c.number.ensures)), at.env, at.state) }
