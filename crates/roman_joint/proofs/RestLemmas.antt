@@ -1,5 +1,5 @@
 -- The seats that may rest.
-use Rattle.roman_joint.proofs.Common.{◌≡◌, ℕ, ◌+◌, ◌*◌, ◌<◌, ◌≤◌, Bool, true, false, not, ◌&&◌, ◌||◌, inl, inr, ltb, length, slice_get, slice_index, ap, ap₂, ◌∙◌, sym, arith, and_parts, both_ways, cases_lt, lt-ltb, le-ltb, by_test, all_below_at, all_below_from, same_test, length-map, low_of-le, length_rows, row_sizes, all_below, is_final, Sys, Seat, is_on, sizes_of, numbered, pair_at, IsSizes, lanes_in, low_in, lane_state_of, IsRow, may_rest, mid_in, band_in, Row, or_right, HasResting}
+use Rattle.roman_joint.proofs.Common.{◌≡◌, ℕ, ◌+◌, ◌*◌, ◌<◌, ◌≤◌, Bool, true, false, not, ◌&&◌, ◌||◌, inl, inr, ltb, length, slice_get, slice_index, ap, ap₂, ◌∙◌, sym, arith, and_parts, both_ways, cases_lt, lt-ltb, le-ltb, or_right, by_test, all_below_at, all_below_from, same_test, length-map, low_of-le, length_rows, row_sizes, all_below, is_final, Sys, Seat, is_on, sizes_of, numbered, IsSizes, lanes_in, low_in, lane_state_of, IsRow, may_rest, HasResting, mid_in, band_in, Row}
 use Rattle.roman_joint.proofs.AllowedLemmas.{fine_there}
 use Rattle.roman_joint.proofs.LeadLemmas.{lane_part}
 use Rattle.roman_joint.proofs.BandLemmas.{row_in, in_band}
@@ -29,24 +29,23 @@ split_at f q p m n l front back = same_test _ _
       | inr past ↦ or_right (ltb k m) (q k) (back k past i ∙ all_below_at p n k t i)
     ])))
 
--- clause 2 at a pair of a row whose target is final, by the seats before the lanes and those within them
-pub fine_row : (s : Sys) (row : Row) (x lane : ℕ) → IsSizes (sizes_of s) → IsRow s x row → lane < lanes_in s → is_final s.target row.target ≡ true →
-    (numbered s).fine (x * lanes_in s + lane) ≡ (all_below (λ k. may_rest (slice_get s.seats k) (slice_index row.states k)) (low_in s)
-    && all_below (λ k. ltb k (low_in s) || may_rest (slice_get s.seats k) (lane_state_of (sizes_of s) k lane)) (length s.seats))
-fine_row s row x lane sizes ok l final =
-    let p = λ (k : ℕ). may_rest (slice_get s.seats k) (slice_index (pair_at (sizes_of s) (x * lanes_in s + lane)).bs k) in
-    fine_there s row x lane ok l ∙ (ap (λ b. not b || all_below p (length s.seats)) final
-    ∙ sym (split_at (λ k. may_rest (slice_get s.seats k) (slice_index row.states k)) (λ k. may_rest (slice_get s.seats k) (lane_state_of (sizes_of s) k lane)) p (low_in s) (length s.seats) (low_seats s)
+-- clause 2 at a pair of a row, by the seats before the lanes and those within them
+pub fine_row : (s : Sys) (row : Row) (x lane : ℕ) → IsSizes (sizes_of s) → IsRow s x row → lane < lanes_in s →
+    (numbered s).fine (x * lanes_in s + lane) ≡ (not (is_final s.target row.target) || (all_below (λ k. may_rest (slice_get s.seats k) (slice_index row.states k)) (low_in s)
+    && all_below (λ k. ltb k (low_in s) || may_rest (slice_get s.seats k) (lane_state_of (sizes_of s) k lane)) (length s.seats)))
+fine_row s row x lane sizes ok l =
+    fine_there s row x lane ok l
+    ∙ ap (λ b. not (is_final s.target row.target) || b) (sym (split_at (λ k. may_rest (slice_get s.seats k) (slice_index row.states k)) (λ k. may_rest (slice_get s.seats k) (lane_state_of (sizes_of s) k lane)) _ (low_in s) (length s.seats) (low_seats s)
     (λ k low. ap (may_rest (slice_get s.seats k)) (sym (ok.states k lane low l)))
     (λ k past inside. ap (may_rest (slice_get s.seats k)) (sym (lane_part (sizes_of s) x lane k sizes (ok.below lane l) past (omega (arith, inside, length-map s.seats (λ (seat : Seat). seat.beh.states))))))))
 
 -- the same at a pair of a band, by the seats before the band's own, the band's own and those within the lanes
-pub fine_band : (s : Sys) (row : Row) (y i lane resting : ℕ) → IsSizes (sizes_of s) → IsRow s (y * band_in s) row → i < band_in s → lane < lanes_in s → is_final s.target row.target ≡ true → HasResting s resting →
+pub fine_band : (s : Sys) (row : Row) (y i lane resting : ℕ) → IsSizes (sizes_of s) → IsRow s (y * band_in s) row → i < band_in s → lane < lanes_in s → HasResting s resting →
     (numbered s).fine ((y * band_in s + i) * lanes_in s + lane)
-    ≡ ((all_below (λ k. may_rest (slice_get s.seats k) (slice_index row.states k)) (mid_in s) && all_below (λ k. ltb k (mid_in s) || may_rest (slice_get s.seats k) (lane_state_of (row_sizes (sizes_of s)) k i)) (low_in s)) && is_on resting lane)
-fine_band s row y i lane resting sizes ok h l final rests =
+    ≡ (not (is_final s.target row.target) || ((all_below (λ k. may_rest (slice_get s.seats k) (slice_index row.states k)) (mid_in s) && all_below (λ k. ltb k (mid_in s) || may_rest (slice_get s.seats k) (lane_state_of (row_sizes (sizes_of s)) k i)) (low_in s)) && is_on resting lane))
+fine_band s row y i lane resting sizes ok h l rests =
     let here = in_band s y i row sizes ok h in
     let now = row_in s (y * band_in s + i) row in
     let split = split_at (λ k. may_rest (slice_get s.seats k) (slice_index row.states k)) (λ k. may_rest (slice_get s.seats k) (lane_state_of (row_sizes (sizes_of s)) k i)) (λ k. may_rest (slice_get s.seats k) (slice_index now.states k))
     (mid_in s) (low_in s) (mid_low_le s) (λ k low. ap (may_rest (slice_get s.seats k)) (sym (here.before k low))) (λ k past low. ap (may_rest (slice_get s.seats k)) (sym (here.within k past low))) in
-    fine_row s now (y * band_in s + i) lane sizes here.looked l final ∙ ap₂ (λ a b. a && b) (sym split) (sym (rests lane l))
+    fine_row s now (y * band_in s + i) lane sizes here.looked l ∙ ap₂ (λ a b. not (is_final s.target row.target) || (a && b)) (sym split) (sym (rests lane l))

@@ -1,32 +1,26 @@
-use Rattle.roman_joint.proofs.Common.{◌≡◌, ◌+◌, ◌*◌, ◌<◌, true, false, not, refl, sym, ap, ◌∙◌, arith, length-set, is_final, is_on, on_zero, numbered, system_of, band_in}
+use Rattle.roman_joint.proofs.Common.{◌≡◌, ◌+◌, ◌*◌, ◌<◌, true, not, ap, ◌∙◌, arith, length-set, is_on, on_zero, numbered, system_of, band_in}
 use Rattle.roman_joint.proofs.SplitLemmas.{joint_sizes}
-use Rattle.roman_joint.proofs.AllowedLemmas.{fine_there}
-use Rattle.roman_joint.proofs.BandLemmas.{row_in, in_band, keeps_more, keeps_nothing}
+use Rattle.roman_joint.proofs.BandLemmas.{keeps_all, keeps_more, keeps_nothing}
 use Rattle.roman_joint.proofs.RestLemmas.{fine_band, mid_low_le}
 use Rattle.roman_joint.proofs.joint.Joint.unfine_band.Goals as goal
 
 pub returns-then-not-is_final-clause-unfine : goal.returns-then-not-is_final-clause-unfine
 returns-then-not-is_final-clause-unfine c y ok =
     let s = system_of c.args.self.now in
-    let off : is_final s.target c.args.row.now.target ≡ false = sym (rw c.target.ensures at c.is_final.ensures) ∙ c.if-not-is_final.true in
     keeps_nothing s (y * band_in s) (band_in s) (λ p. not ((numbered s).fine p)) c.args.left.now c.clear.new.words (omega (arith, c.requires.long)) c.clear.ensures.long c.clear.ensures.off
-    (λ i lane l m. let here = (in_band s y i c.args.row.now (joint_sizes c.args.self.now c.known.ensures) ok l).looked in grind (arith, fine_there s (row_in s (y * band_in s + i) c.args.row.now) (y * band_in s + i) lane here m))
+    (λ i lane l m. let fine = fine_band s c.args.row.now y i lane c.args.resting (joint_sizes c.args.self.now c.known.ensures) ok l m c.requires.resting in grind arith)
 
 pub front_rests-requires-clause-many : goal.front_rests-requires-clause-many
 front_rests-requires-clause-many c = omega (arith, c.layout-rows.ensures.rows.mid, mid_low_le (system_of c.args.self.now))
 
 pub returns-then-others-eq0-clause-unfine : goal.returns-then-others-eq0-clause-unfine
-returns-then-others-eq0-clause-unfine c y ok = record {
-  each = λ i lane h m.
-      let s = system_of c.args.self.now in
-      let on : is_final s.target c.args.row.now.target ≡ true = sym (rw c.target.ensures at c.is_final.ensures) ∙ c.if-not-is_final.false in
-      let fine = fine_band s c.args.row.now y i lane c.args.resting (joint_sizes c.args.self.now c.known.ensures) ok h m on c.requires.resting in
-      let others = c.with_lanes-others.ensures lane in
-      let none = ap (λ w. is_on w lane) c.if-others-eq0.true ∙ on_zero lane in
-      grind (arith, on_zero);
-  others = λ i past. refl;
-  none = λ i lane off. off;
-}
+returns-then-others-eq0-clause-unfine c y ok =
+    let s = system_of c.args.self.now in
+    keeps_all s (y * band_in s) (band_in s) (λ p. not ((numbered s).fine p)) c.args.left.now (λ i lane h m.
+    let fine = fine_band s c.args.row.now y i lane c.args.resting (joint_sizes c.args.self.now c.known.ensures) ok h m c.requires.resting in
+    let others = c.with_lanes-others.ensures lane in
+    let none = ap (λ w. is_on w lane) c.if-others-eq0.true ∙ on_zero lane in
+    grind (arith, on_zero))
 
 pub loop-i-preserved : goal.loop-i-preserved
 loop-i-preserved c =
@@ -38,8 +32,7 @@ loop-i-preserved c =
       unfine = λ y ok. keeps_more s (y * band_in s) i c.with_lanes-rests.result c.less.result (λ p. not ((numbered s).fine p)) c.args.left.now c.loop-i.left
           (omega (arith, within, c.loop-i.invariant.long, c.requires.long)) (c.loop-i.invariant.unfine y ok)
           (λ lane m.
-          let on : is_final s.target c.args.row.now.target ≡ true = sym (rw c.target.ensures at c.is_final.ensures) ∙ c.if-not-is_final.false in
-          let fine = fine_band s c.args.row.now y i lane c.args.resting (joint_sizes c.args.self.now c.known.ensures) ok within m on c.requires.resting in
+          let fine = fine_band s c.args.row.now y i lane c.args.resting (joint_sizes c.args.self.now c.known.ensures) ok within m c.requires.resting in
           let others = c.with_lanes-others.ensures lane in
           let rests = c.with_lanes-rests.ensures lane in
           grind (arith, on_zero))
