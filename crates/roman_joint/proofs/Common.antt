@@ -6,14 +6,14 @@ pub use Rattle.std.proofs.Math.Nat.{add-mod-mod, div-div-eq-div-mul, div-eq_of_l
 pub use Rattle.std.proofs.Math.Seq.{get_or-append_seam}
 pub use Rattle.std.proofs.lemmas.Bool.{and_parts, both_ways, cases_eq, cases_lt, eq-eqb, eqb-true, false≢true, le-ltb, lt-ltb, ne_eqb, not-false, not-true, not_from_false, or_right}
 pub use Rattle.std.proofs.lemmas.Bool.Decides.{nat_tests}
-pub use Rattle.std.proofs.lemmas.List.{append-nil, append_assoc, drop-append-le, drop-map, drop_all, drop_more, get_or-set_other, get_or-set_same, get_or_append_left, get_or_past, length-append, length-map, length-set, length-take, map-append, map_push, nil_from_length, set-get_or, set-set, take-append-le, take-map, take_all, take_more, take_more_set}
+pub use Rattle.std.proofs.lemmas.List.{append-nil, append_assoc, drop-append-le, drop-map, drop_all, drop_more, get_or-map, get_or-set_other, get_or-set_same, get_or_append_left, get_or_past, length-append, length-map, length-set, length-take, map-append, map_push, nil_from_length, set-get_or, set-set, take-append-le, take-map, take_all, take_more, take_more_set}
 pub use Rattle.std.proofs.lemmas.List.Elements.{All-append, All-drop, All-from_recursion, All-get_or, All-map, All-push, All-take, recursion_from_All}
 pub use Rattle.std.proofs.lemmas.List.Folds.{find-append, list_any-append}
 pub use Rattle.std.proofs.lemmas.List.Sums.{count_by-le-length, length-filter, sum_by-append, sum_by-cons}
 pub use Rattle.std.proofs.lemmas.Nat.{div-add-mod', div-mul-add, div_below, mod-mul-add, mod_below, mul-add-lt, mul-le, pow_pos, same_from_place, shr-shr}
 pub use Rattle.std.proofs.lemmas.Nat.Bits.{bit_at-zero, bit_at_above, bit_at_cat_high, bit_at_cat_low, bit_at_ones, bit_at_ones_above, shr_and_one}
 pub use Rattle.std.proofs.lemmas.Option.{get_or_from_slice_get, slice_get-get_or, slice_get-map, slice_get_past, slice_get_within}
-pub use Rattle.std.proofs.lemmas.Simd.{Each1-get_or, get_or-replicate, get_or-zip2, length-replicate, length-zip2, shifts_fit_splat}
+pub use Rattle.std.proofs.lemmas.Simd.{Each1-get_or, get_or-replicate, get_or-zip2, length-replicate, length-zip2, shifts_fit_splat, zip2_splat, zip2_splat_left}
 pub use Rattle.std.specs.Int.{bit_at, bit_not, w64}
 pub use Rattle.std.specs.List.{AllByRecursion, filter, find, flat_map, list_any, remove}
 pub use Rattle.std.specs.Option.{IsSome, option_map, option_or}

@@ -1,5 +1,4 @@
-use Rattle.roman_joint.proofs.Common.{ℕ, ◌+◌, ◌<◌, ◌/◌, ◌^◌, get_or, refl, sym, ap, ◌∙◌, arith, length-zip2, length-replicate, get_or-zip2, get_or-replicate, shifts_fit_splat, is_on}
-use Rattle.std.specs.Prelude.{replicate}
+use Rattle.roman_joint.proofs.Common.{◌+◌, ◌<◌, ◌/◌, ◌^◌, get_or, refl, ap, ◌∙◌, arith, get_or-map, length-map, zip2_splat, shifts_fit_splat, is_on}
 use Rattle.roman_joint.proofs.WordLemmas.{on_shr}
 use Rattle.roman_joint.proofs.words.moved_down.Goals as goal
 
@@ -8,13 +7,9 @@ overflow_shr-result g c = shifts_fit_splat 64 c.args.words g.row.N c.args.by c.r
 
 pub returns : goal.returns
 returns g c =
-    let n = g.row.N in
     let words = c.args.words in
     let by = c.args.by in
-    let long = length-replicate n by in
-    let shift = λ (x d : ℕ). x / 2 ^ d in
-    let word = λ (i : ℕ) (within : i < n). get_or-zip2 shift words (replicate n by) i 0 0 0 (omega (arith, c.fits-words.0)) (omega (arith, long)) ∙ ap (shift (get_or words i 0)) (get_or-replicate n i by 0 within) in
-    record {
-      long = length-zip2 shift words (replicate n by) (c.fits-words.0 ∙ sym long) ∙ c.fits-words.0;
-      each = λ i lane within. ap (λ z. is_on z lane) (word i within) ∙ on_shr (get_or words i 0) by lane (by + lane) refl;
-    }
+    rw (zip2_splat (λ x d. x / 2 ^ d) words g.row.N by c.fits-words.0) (record {
+      long = length-map words (λ x. x / 2 ^ by) ∙ c.fits-words.0;
+      each = λ i lane within. ap (λ z. is_on z lane) (get_or-map (λ x. x / 2 ^ by) words i 0 0 (omega (arith, c.fits-words.0))) ∙ on_shr (get_or words i 0) by lane (by + lane) refl;
+    })
