@@ -121,6 +121,9 @@ fn clear_within(joint: &Joint, row: &Row, alive: &[u64], a: u8, k: u8, left: &mu
 {
     joint.layout();
     let (some, moves) = moves_within(joint, k, row.env, a);
+    if some == 0 {
+        return;
+    }
     clear_moving(left, alive, moves, some);
 }
 
