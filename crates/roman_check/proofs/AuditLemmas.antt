@@ -1,5 +1,5 @@
 -- Lines that are judged by those that were read.
-use Rattle.roman_check.proofs.Common.{◌≡◌, ℕ, ◌+◌, ◌*◌, ◌<◌, ◌==◌, Bool, true, false, not, ◌||◌, List, [], ◌∷◌, ◌++◌, length, Option, Some, None, IsTrue, IsFalse, option_map, find, refl, sym, ap, ◌∙◌, subst, arith, append-nil, if◌then◌else◌, inl, inr, list_any, cons_option, or-false, cond-true, cond-false, not-true, or_left, not-false, cases_lt, list_any-append, IsIn, below, same_numbers, Arena, Entry, is_listed, is_justified, head_line, count_line, reasons, entry_of, entries_on, could_be_listed, end_line, entry_fault, end_fault, body_fault, same_numbers_is, AreFew, from_possible, possible_small, entry_of-is, entry_of_other, fault_in_body, fault_after_end, entry_is_no_end, by_test, from_below, from_map, Reason, Final, Act, AreRows, IsNumbered, Audit, Nothing, Body, Head, Count, Why, Form, fault_of, IsInRows, HasListed, Judges, TakesEntry, due_after, Removes, HoldsWhereKept, IsReasonOf, filter_map-append, known_more, Due, Asked, Remaining, mul-le}
+use Rattle.roman_check.proofs.Common.{◌≡◌, ℕ, ◌+◌, ◌*◌, ◌<◌, ◌==◌, Bool, true, false, not, ◌||◌, List, [], ◌∷◌, ◌++◌, length, Option, Some, None, IsTrue, IsFalse, option_map, find, refl, sym, ap, ◌∙◌, subst, arith, append-nil, if◌then◌else◌, inl, inr, list_any, cons_option, or-false, cond-true, cond-false, not-true, or_left, not-false, cases_lt, list_any-append, IsIn, below, same_numbers, Arena, Entry, is_listed, is_justified, head_line, count_line, reasons, entry_of, entries_on, could_be_listed, end_line, entry_fault, end_fault, body_fault, same_numbers_is, AreFew, possible_small, entry_of-is, entry_of_other, fault_in_body, fault_after_end, entry_is_no_end, by_test, from_below, from_map, Reason, Final, Act, AreRows, IsNumbered, Audit, Nothing, Body, Head, Count, Why, Form, fault_of, IsInRows, HasListed, Judges, TakesEntry, due_after, Removes, HoldsWhereKept, IsReasonOf, filter_map-append, known_more, Due, Asked, Remaining, mul-le}
 use Rattle.roman_model.specs.Certificate as text
 
 -- Entries
@@ -29,12 +29,6 @@ reason_given A (Act a) (inr i) =
     let is : a ≡ b = cc in
     subst (λ n. n < A.actions) (sym is) (from_below A.actions b j)
 
--- the entry read off a line is in range
-pub entry_given : (A : Arena ℕ) (line : List ℕ) (x : Entry ℕ) → Some x ≡ entry_of (length A.nodes) A.actions line → (x.node < length A.nodes) × IsReasonOf A x.reason
-entry_given A line x e =
-    let (i, given) = from_possible (length A.nodes) A.actions x (entry_of-is (length A.nodes) A.actions line x (sym e)).0 in
-    (i, reason_given A x.reason given)
-
 -- the row of a pair is one of the table
 pub pair_within : (lanes pairs : ℕ) (left : Remaining) → IsInRows lanes pairs left → (p row lane : ℕ) → row * left.lanes + lane ≡ p → p < pairs → row < length left.words.items
 pair_within lanes pairs left shaped p row lane e l = grind (arith, cases_lt, mul-le)
@@ -43,10 +37,6 @@ pair_within lanes pairs left shaped p row lane e l = grind (arith, cases_lt, mul
 pub end_judged : (A : Arena ℕ) (L : List (Entry ℕ)) (line : List ℕ) (found : Option ℕ) → found ≡ find (could_be_listed A L) A.nodes → IsTrue (same_numbers end_line line) → option_map text.Unlisted found ≡ body_fault A L (Some line)
 end_judged A L line found e is =
     ap (option_map text.Unlisted) e ∙ sym (cond-true (same_numbers end_line line) (end_fault A L) (entry_fault A L (entry_of (length A.nodes) A.actions line)) is)
-
--- any other line is judged as an entry
-pub entry_judged : (A : Arena ℕ) (L : List (Entry ℕ)) (line : List ℕ) (fault : Option text.Why) → fault ≡ entry_fault A L (entry_of (length A.nodes) A.actions line) → IsFalse (same_numbers end_line line) → fault ≡ body_fault A L (Some line)
-entry_judged A L line fault e other = e ∙ sym (cond-false (same_numbers end_line line) (end_fault A L) (entry_fault A L (entry_of (length A.nodes) A.actions line)) other)
 
 -- the last line isn't the line of an entry
 pub ended_list : (A : Arena ℕ) → IsNumbered A → (L : List (Entry ℕ)) (line : List ℕ) → IsTrue (same_numbers end_line line) → L ≡ L ++ entries_on A (line ∷ [])
@@ -105,7 +95,7 @@ entry_takes A ok lanes old new x fault due same inside shaped named list = recor
   judged = λ line is.
       let (i, e) = entry_of-is (length A.nodes) A.actions line x is in
       let other : IsFalse (same_numbers end_line line) = subst (λ bs. IsFalse (same_numbers end_line bs)) e (entry_is_no_end x (possible_small (length A.nodes) A.actions x (few_numbered A ok) i)) in
-      judged_body A old new line fault due (λ L has. entry_judged A L line (option_map fault_of fault) (named L has ∙ sym (ap (entry_fault A L) is)) other)
+      judged_body A old new line fault due (λ L has. named L has ∙ sym (cond-false (same_numbers end_line line) (end_fault A L) (entry_fault A L (entry_of (length A.nodes) A.actions line)) other ∙ ap (entry_fault A L) is))
       (λ L has none. subst (λ o. HasListed A (L ++ cons_option o []) new.left new.asked) (sym is) (list L has none))
       (same ∙ sym (cond-false (same_numbers end_line line) Nothing old.due other));
   inside = inside;

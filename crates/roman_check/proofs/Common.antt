@@ -21,7 +21,7 @@ pub use Rattle.std.proofs.lemmas.Str.Parse.{IsNumeralModel, digit_at, digits_val
 pub use Rattle.std.specs.Char.{digit_value}
 pub use Rattle.std.specs.Cmp.Lexicographic.{pointwise}
 pub use Rattle.std.specs.Int.{IsInRange, IsOutOfRange, bit_at, trailing_zeros, w64}
-pub use Rattle.std.specs.List.{cons_option, list_any, position, position_or_len}
+pub use Rattle.std.specs.List.{cons_option, filter, list_any, position, position_or_len}
 pub use Rattle.std.specs.Prelude.{MatchOption}
 pub use Rattle.std.specs.Str.Parse.{AllDigits, digits_value}
 pub use Rattle.roman_io.proofs.CallerLemmas.{Gave-then, gave_at_most, had_all, had_more}
@@ -33,7 +33,7 @@ unfoldable pub use Rattle.roman_lanes.specs.Rows.{is_on}
 pub use Rattle.roman_model.proofs.CallerLemmas.{AreFew, act_reason, append_line, by_test, clean_push, cut_at, decimal_without, due_is, ended_lines-text, ended_lines_last, entry_is_line, entry_is_no_end, entry_of-is, entry_of-line, entry_of_none, entry_of_other, fault_after_end, fault_in_body, faults_none, find_first, find_not_found, from_below, from_map, from_possible, from_push, in_possible, lines-text, lines_last, list_any-map, none_from, possible_small, same_numbers_is, same_numbers_itself, same_test, sum_by_same, text_of_lines-push, verdict_accepted, verdict_at, verdict_ended, verdict_rejected, verdict_too_long}
 pub use Rattle.roman_model.specs.Arena.{Arena, Entry, is_justified, is_listed}
 pub use Rattle.roman_model.specs.Certificate.{IsClean, Rejected, body_fault, cert_verdict, could_be_listed, count_line, end_fault, end_line, entries_on, entry_fault, entry_of, faults, head_line, line_fault, reason_text, reasons, unless_is, unlisted}
-pub use Rattle.roman_model.specs.Lines.{AreLines, IsLine, ended_lines, lines, text_of_lines}
+pub use Rattle.roman_model.specs.Lines.{IsLine, ended_lines, lines, text_of_lines}
 pub use Rattle.roman_model.specs.Lists.{IsIn, below}
 pub use Rattle.roman_model.specs.System.{has}
 pub use Rattle.roman_model.specs.SystemArena.{same_numbers}
@@ -50,7 +50,7 @@ pub use Rattle.roman_check.specs.Decimals.{HasDigits, IsNumberTo, IsTrim}
 pub use Rattle.roman_check.specs.Lines.{Holds}
 pub use Rattle.roman_check.specs.Missing.{NoneMissing, could_be_by}
 pub use Rattle.roman_check.specs.Patterns.{IsPattern}
-pub use Rattle.roman_check.specs.Readers.{Closes, EndsLine, HasLines, HasReached, IsAtFault, IsBetween, IsReading, IsSplit, ReadsPart, one_if_clean}
+pub use Rattle.roman_check.specs.Readers.{Closes, EndsLine, HasLines, HasReached, IsAtFault, IsBetween, IsReading, ReadsPart, SplitsAfter, one_if_clean}
 pub use Rattle.roman_check.specs.Readings.{HasEntry, HasParts, IsEndedAt, ReadsOff, entry_with}
 pub use Rattle.roman_check.specs.Remain.{Clears, Remain, Removes}
 pub use Rattle.roman_check.specs.Verdicts.{fault_of}

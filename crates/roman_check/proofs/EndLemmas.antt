@@ -1,5 +1,5 @@
 -- The verdict at the end of a text, and at a line at fault.
-use Rattle.roman_check.proofs.Common.{◌≡◌, ◌≢◌, ℕ, ◌+◌, ◌<◌, ◌≤◌, Bool, not, List, [], ◌∷◌, ◌++◌, length, drop, Some, None, count_by, codes, decimal, refl, sym, ap, ap₂, ◌∙◌, arith, cons_option, cond-true, below, lines, Arena, Entry, is_listed, head_line, count_line, entry_of, entries_on, line_fault, unless_is, IsClean, unlisted, cert_verdict, MAX_CERTIFICATE_BYTES, by_test, entry_of_other, fault_in_body, fault_after_end, due_is, verdict_ended, verdict_accepted, IsNumbered, Audit, Nothing, Reader, HasListed, HasRead, HasLines, length-filter}
+use Rattle.roman_check.proofs.Common.{◌≡◌, ◌≢◌, ℕ, ◌+◌, ◌<◌, ◌≤◌, Bool, not, List, [], ◌∷◌, ◌++◌, length, drop, Some, None, codes, decimal, refl, sym, ap, ap₂, ◌∙◌, arith, cons_option, filter, cond-true, below, lines, Arena, Entry, is_listed, head_line, count_line, entry_of, entries_on, line_fault, unless_is, IsClean, unlisted, cert_verdict, MAX_CERTIFICATE_BYTES, by_test, entry_of_other, fault_in_body, fault_after_end, due_is, verdict_ended, verdict_accepted, IsNumbered, Audit, Nothing, Reader, HasListed, HasRead, HasLines, length-filter}
 use Rattle.roman_model.specs.Certificate as text
 use Rattle.roman_check.proofs.AuditLemmas.{few_numbered, lines_due}
 
@@ -32,15 +32,10 @@ opening_unread A ok (head ∷ size ∷ body) clean = ap₂ (λ o p. cons_option 
     (unread A ok head_line head 114 (codes "oman-order 1") (clean 0 (omega arith)) refl (omega arith))
     (unread A ok (count_line (length A.nodes)) size 112 (codes "airs " ++ decimal (length A.nodes)) (clean 1 (omega arith)) refl (omega arith))
 
--- the number of remaining pairs is their count
-counted_unlisted : (A : Arena ℕ) → IsNumbered A → (start : ℕ) (L : List (Entry ℕ)) (related : ℕ) (alive : Bool) → related ≡ count_by (λ p. not (is_listed A L p)) (below (length A.nodes)) → alive ≡ not (is_listed A L start) →
-    unlisted A start L ≡ text.Greatest related alive
-counted_unlisted A ok start L related alive count starts = grind (arith, length-filter)
-
 pub ended_greatest : (A : Arena ℕ) → IsNumbered A → (start : ℕ) (bytes : List ℕ) (reader : Reader) (alive : Bool) → HasLines A (lines bytes) reader → length bytes ≤ MAX_CERTIFICATE_BYTES → reader.audit.due ≡ Nothing →
     ((L : List (Entry ℕ)) → HasListed A L reader.audit.left reader.audit.asked → alive ≡ not (is_listed A L start)) → cert_verdict A start bytes ≡ text.Greatest reader.audit.left.count alive
 ended_greatest A ok start bytes reader alive has short ended starts =
     let L = entries_on A (drop 2 (lines bytes)) in
     verdict_accepted A start bytes (lines bytes) short refl has.clean (may_end A (lines bytes) reader.audit has.read ended)
     ∙ ap (unlisted A start) (opening_unread A ok (lines bytes) has.clean)
-    ∙ counted_unlisted A ok start L reader.audit.left.count alive has.read.list.remain.counted (starts L has.read.list)
+    ∙ ap₂ text.Greatest (ap (λ nodes. length (filter (λ p. not (is_listed A L p)) nodes)) ok.nodes ∙ length-filter (λ p. not (is_listed A L p)) (below (length A.nodes)) ∙ sym has.read.list.remain.counted) (sym (starts L has.read.list))

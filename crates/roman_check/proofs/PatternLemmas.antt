@@ -49,17 +49,12 @@ two_digits q a b some tens ones small =
     ∙ ap (λ ds. ds ++ (48 + b) ∷ []) (decimal_step (q * 10 + a) (omega arith) (omega arith) ∙ ap₂ (λ m c. decimal m ++ c ∷ []) (omega arith) (ap (λ c. 48 + c) (omega arith)))
     ∙ append_assoc (decimal q) ((48 + a) ∷ []) ((48 + b) ∷ [])
 
--- a number from 100 on ends with two digits
-last_two : (pair : ℕ) → 100 ≤ pair → pair < 2 ^ 32 → decimal pair ≡ decimal (pair / 100) ++ (48 + pair / 10 % 10) ∷ (48 + pair % 10) ∷ []
-last_two pair large small =
-    let whole : pair ≡ pair / 100 * 100 + pair / 10 % 10 * 10 + pair % 10 = omega arith in
-    ap decimal whole ∙ two_digits (pair / 100) (pair / 10 % 10) (pair % 10) (omega arith) (omega arith) (omega arith) (omega arith)
-
 -- the digits before the last two
 pub front_digits : (text : List ℕ) (pair space : ℕ) → 100 ≤ pair → pair < 2 ^ 32 → space ≤ length text → decimal pair ≡ take space text → (2 ≤ space) × (decimal (pair / 100) ≡ take (space - 2) text)
 front_digits text pair space large small within number =
     let digits = (48 + pair / 10 % 10) ∷ (48 + pair % 10) ∷ [] in
-    let two : decimal (pair / 100) ++ digits ≡ take space text = sym (last_two pair large small) ∙ number in
+    let whole : pair / 100 * 100 + pair / 10 % 10 * 10 + pair % 10 ≡ pair = omega arith in
+    let two : decimal (pair / 100) ++ digits ≡ take space text = sym (two_digits (pair / 100) (pair / 10 % 10) (pair % 10) (omega arith) (omega arith) (omega arith) (omega arith)) ∙ ap decimal whole ∙ number in
     let long : length (decimal (pair / 100)) + 2 ≡ space = omega (arith, ap length two, length-append (decimal (pair / 100)) digits, length-take-le space text within) in
     (omega arith, sym (take_at (decimal (pair / 100)) digits (space - 2) (omega arith)) ∙ ap (take (space - 2)) two ∙ take-take (space - 2) space text (omega arith))
 

@@ -1,5 +1,5 @@
 -- Texts that are read byte by byte.
-use Rattle.roman_check.proofs.Common.{◌≡◌, ℕ, ◌+◌, ◌-◌, ◌<◌, ◌≤◌, List, [], ◌∷◌, ◌++◌, length, take, drop, get_or, Option, Some, None, refl, sym, ap, ◌∙◌, subst, inl, inr, arith, append_assoc, append-nil, length-append, length-drop, take_rest, take_all, take-append-drop, get_or-drop, nil_from_length, take_more, cases_lt, lines, text_of_lines, IsLine, AreLines, Arena, Entry, Reader, Audit, Why, Form, fault_of, HasRead, TakesEntry, Judges, IsInRows, possible_small, entry_of-is, entry_is_line, from_push, text_of_lines-push, lines-text, lines_last, append_line, clean_push, verdict_at, IsEndedAt, HasEntry, HasLines, IsReading, IsBetween, ReadsPart, EndsLine, one_if_clean, Closes, HasReached, IsSplit, IsNumbered, Holds, Rejected, line_fault, Line}
+use Rattle.roman_check.proofs.Common.{◌≡◌, ℕ, ◌+◌, ◌-◌, ◌<◌, ◌≤◌, List, [], ◌∷◌, ◌++◌, length, take, drop, get_or, Option, Some, None, refl, sym, ap, ◌∙◌, subst, inl, inr, arith, append_assoc, append-nil, length-append, length-drop, take_rest, take_all, take-append-drop, get_or-drop, nil_from_length, take_more, cases_lt, lines, text_of_lines, IsLine, Arena, Entry, Reader, Audit, Why, Form, fault_of, HasRead, TakesEntry, Judges, IsInRows, possible_small, entry_of-is, entry_is_line, from_push, text_of_lines-push, lines-text, lines_last, append_line, clean_push, verdict_at, IsEndedAt, HasEntry, HasLines, IsReading, IsBetween, ReadsPart, EndsLine, one_if_clean, Closes, HasReached, SplitsAfter, IsNumbered, Holds, Rejected, line_fault, Line}
 use Rattle.roman_check.proofs.Texts.{taken_more}
 use Rattle.roman_check.proofs.AuditLemmas.{few_numbered}
 use Rattle.roman_check.proofs.EntryLemmas.{entry_there}
@@ -10,9 +10,6 @@ use Rattle.roman_check.proofs.LongLines.{long_line}
 -- a line that is too long is judged by that alone
 pub judged_long : (A : Arena ℕ) → IsNumbered A → (audit : Audit) (line : List ℕ) → 32 < length line → Judges A audit audit line (Some Form)
 judged_long A ok audit line long = grind (arith, long_line)
-
-lines_push : (text : List (List ℕ)) (line : List ℕ) → AreLines text → IsLine line → AreLines (text ++ line ∷ [])
-lines_push text line are is l i = elim (from_push l line text i) [ inl j ↦ are l j | inr e ↦ subst IsLine (sym e) is ]
 
 -- a line without bytes has no other bytes
 pub alone : (line : Line) (bytes : List ℕ) → Holds line [] → Holds line bytes → bytes ≡ []
@@ -51,10 +48,10 @@ reads_then A lanes old mid new piece from at to fault first second = record {
 }
 
 -- the text so far with the rest of a line and its newline
-split_more : (bytes : List ℕ) (text : List (List ℕ)) (partial last : List ℕ) → IsSplit bytes text partial → IsLine partial → IsLine last → IsSplit (bytes ++ (last ++ 10 ∷ [])) (text ++ (partial ++ last) ∷ []) []
+split_more : (bytes : List ℕ) (text : List (List ℕ)) (partial last : List ℕ) → SplitsAfter bytes text partial → IsLine partial → IsLine last → SplitsAfter (bytes ++ (last ++ 10 ∷ [])) (text ++ (partial ++ last) ∷ []) []
 split_more bytes text partial last split front line = record {
   is = rw split.is (simp (append_assoc, text_of_lines-push, append-nil));
-  whole = lines_push text (partial ++ last) split.whole (append_line partial last front line);
+  whole = λ l i. elim (from_push l (partial ++ last) text i) [ inl j ↦ split.whole l j | inr e ↦ subst IsLine (sym e) (append_line partial last front line) ];
 }
 
 line_reached : (A : Arena ℕ) (lanes : ℕ) (old new : Reader) (last bytes : List ℕ) (fault : Option Why) → IsLine last → EndsLine A lanes old new last fault → IsReading A bytes old → HasReached A (bytes ++ (last ++ 10 ∷ [])) new fault

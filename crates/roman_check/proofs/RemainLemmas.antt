@@ -1,5 +1,5 @@
 -- Tables of the pairs that remain.
-use Rattle.roman_check.proofs.Common.{◌≡◌, ◌≢◌, ℕ, zero, suc, ◌+◌, ◌-◌, ◌*◌, ◌/◌, ◌^◌, ◌<◌, ◌≤◌, ◌==◌, Bool, true, false, not, ◌&&◌, ◌||◌, List, length, get_or, set, count_by, bit_and, IsFalse, refl, sym, ap, ◌∙◌, inl, inr, arith, add-one, cond, replicate, or-false, ne_eqb, eq-eqb, cases_eq, or_right, get_or-set_other, length-set, length-replicate, get_or-replicate, get_or-set_same, same_from_place, below, from_below, sum_by_same, is_on, AreRows, HasLanes, on_and, on_full, on_full_past, Clears, Remain, sum_by_push, Remaining}
+use Rattle.roman_check.proofs.Common.{◌≡◌, ◌≢◌, ℕ, zero, suc, ◌+◌, ◌-◌, ◌*◌, ◌/◌, ◌^◌, ◌<◌, ◌≤◌, ◌==◌, Bool, true, false, not, ◌&&◌, ◌||◌, List, length, get_or, set, count_by, bit_and, IsFalse, refl, ap, ◌∙◌, inl, inr, arith, add-one, cond, replicate, or-false, ne_eqb, eq-eqb, cases_eq, or_right, get_or-set_other, length-set, length-replicate, get_or-replicate, get_or-set_same, same_from_place, below, from_below, sum_by_same, is_on, AreRows, HasLanes, on_and, on_full, on_full_past, Clears, Remain, sum_by_push, Remaining}
 
 -- Words
 
@@ -20,11 +20,9 @@ count_less f g (suc n) p l here gone same =
     let but = sum_by_push (λ q. cond (g q) 1 0) (below n) n in
     elim (cases_eq n p) [
       | inl e ↦
-          let before : count_by g (below n) ≡ count_by f (below n) = sum_by_same _ _ (below n) (λ q i. ap (λ b. cond b 1 0) (same q (λ d. let m : q < n = from_below n q i in absurd (omega arith)))) in
-          let one = rw (ap f e ∙ here) at all in
-          let none = rw (ap g e ∙ gone) at but in
-          omega (arith, one, none, before)
-      | inr ne ↦ (let next = rw (same n ne) at but in omega (arith, all, next, count_less f g n p (omega arith) here gone same))
+          let before : count_by g (below n) ≡ count_by f (below n) = sum_by_same _ _ (below n) (λ q i. ap (λ b. cond b 1 0) (same q (λ d. omega (arith, from_below n q i)))) in
+          omega (arith, rw (ap f e ∙ here) at all, rw (ap g e ∙ gone) at but, before)
+      | inr ne ↦ omega (arith, all, rw (same n ne) at but, count_less f g n p (omega arith) here gone same)
     ]
 
 -- Tables
@@ -44,19 +42,10 @@ module _ (pairs lanes row lane word : ℕ) (gone more : ℕ → Bool) (words : L
   taken = grind (arith, more_is, eq-eqb, or_right)
 
   own_row : HasLanes lanes row (λ q. not (more q)) word
-  own_row = record {
-    each = λ j l. elim (cases_eq j lane) as (λ _. is_on word j ≡ not (more (row * lanes + j))) [
-      | inl e ↦ ap (is_on word) e ∙ clears.own ∙ sym (ap (λ i. not (more (row * lanes + i))) e ∙ ap not taken)
-      | inr ne ↦ clears.others j (omega arith) ne ∙ (rows.each row in_rows).each j l ∙ sym (ap not (elsewhere (row * lanes + j) (λ d. ne (omega arith))))
-    ];
-    rest = λ j l. clears.within j ((rows.each row in_rows).rest j l);
-  }
+  own_row = record { each = λ j l. grind (arith, cases_eq j lane, (rows.each row in_rows).each j l, elsewhere (row * lanes + j)); rest = λ j l. clears.within j ((rows.each row in_rows).rest j l) }
 
   other_row : (r : ℕ) → r < length words → r ≢ row → HasLanes lanes r (λ q. not (more q)) (get_or words r 0)
-  other_row r l ne = record {
-    each = λ j m. (rows.each r l).each j m ∙ sym (ap not (elsewhere (r * lanes + j) (λ e. ne (same_from_place r j row lane lanes m in_lanes e).0)));
-    rest = (rows.each r l).rest;
-  }
+  other_row r l ne = record { each = λ j m. grind (arith, (rows.each r l).each j m, elsewhere (r * lanes + j), same_from_place r j row lane lanes m in_lanes); rest = (rows.each r l).rest }
 
   pub rows_less : AreRows lanes (λ q. not (more q)) (set words row word)
   rows_less = record { each = grind (arith, cases_eq, get_or-set_same, get_or-set_other, length-set, own_row, other_row) }

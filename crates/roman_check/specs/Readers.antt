@@ -20,7 +20,7 @@ pub record HasLines (A : Arena ℕ) (text : List (List ℕ)) (reader : Reader) :
   pub counted : reader.lines ≡ length text
 
 -- the bytes are these lines with their newlines, and these bytes behind them
-pub record IsSplit (bytes : List ℕ) (text : List (List ℕ)) (more : List ℕ) : Type 0 where
+pub record SplitsAfter (bytes : List ℕ) (text : List (List ℕ)) (more : List ℕ) : Type 0 where
   pub is : bytes ≡ text_of_lines text ++ more
   pub whole : AreLines text
 
@@ -28,7 +28,7 @@ pub record IsSplit (bytes : List ℕ) (text : List (List ℕ)) (more : List ℕ)
 pub record IsReading (A : Arena ℕ) (taken : List ℕ) (reader : Reader) : Type 0 where
   pub text : List (List ℕ)
   pub partial : List ℕ
-  pub split : IsSplit taken text partial
+  pub split : SplitsAfter taken text partial
   pub unended : IsLine partial
   pub has : HasLines A text reader
   pub held : Holds reader.line partial
@@ -43,7 +43,7 @@ pub record IsAtFault (A : Arena ℕ) (bytes : List ℕ) (clean_lines : ℕ) (why
   pub text : List (List ℕ)
   pub line : List ℕ
   pub more : List ℕ
-  pub split : IsSplit bytes (text ++ line ∷ []) more
+  pub split : SplitsAfter bytes (text ++ line ∷ []) more
   pub clean : IsClean A text (length text)
   pub fault : line_fault A text (Some line) ≡ Some (fault_of why)
   pub counted : clean_lines ≡ length text

@@ -81,7 +81,9 @@ impl Shape {
     #[inline(always)]
     fn put_digits(self, text: &mut [u8; WIDTH], tens: u8, ones: u8)
         requires { IsPattern text.old self }
-        ensures { IsPattern text.new self }
+        ensures pattern { IsPattern text.new self }
+        ensures tens { slice_index text.new self.place ≡ tens }
+        ensures ones { slice_index text.new (self.place + 1) ≡ ones }
     {
         text[self.place] = tens;
         text[self.place + 1] = ones;
