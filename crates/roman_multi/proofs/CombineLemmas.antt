@@ -1,40 +1,24 @@
 -- The rule that forbids the targets to be combined.
-use Rattle.roman_multi.proofs.Common.{All, ◌≡◌, ℕ, ◌<◌, ◌≤◌, List, [], ◌∷◌, map, length, Some, None, Err, IsTrue, IsFalse, refl, sym, subst, ap, ap₂, ◌∙◌, arith, IsTarget, NamedEnv, NamedBeh, ltb-false, length-map, below, product_of, target_sizes, count, MAX_STATES, MAX_ACTIONS, Request, length-below, machines, requests_in, has_many_states, has_bad_count, has_long_name, has_one_name, forbidding, combined_behaviour, flat, Named, IsMerge, Merge, lt-ltb, le-ltb, true≢false, NamedTarget, PlainCombined, combined_state_names, request_names, KeepsRules, combined_parts, AreCombinedNames, CombineError, combined_environment, one_target}
+use Rattle.roman_multi.proofs.Common.{All, ◌≡◌, ℕ, ◌<◌, ◌≤◌, List, [], ◌∷◌, map, length, None, Ok, Err, IsTrue, IsFalse, refl, ap, ap₂, ◌∙◌, arith, IsTarget, NamedEnv, NamedBeh, NamedTarget, ltb-false, lt-ltb, le-ltb, true≢false, length-map, below, product_of, target_sizes, count, MAX_STATES, MAX_ACTIONS, Request, length-below, machines, requests_in, has_many_states, has_bad_count, forbidding, combined_behaviour, PlainCombined, combined_state_names, request_names, KeepsRules, combined_parts, flat, AreCombinedNames, Named, IsMerge, combined_environment, one_target, Merge, CombineError}
 use Rattle.roman_multi.specs.declared.error.CombineError.TheVariants as error
 use Rattle.roman_multi.proofs.FlatLemmas.{fits_within}
 use Rattle.roman_multi.proofs.MoveLemmas.{requests_in_range}
 
-pub forbids_states : (env : NamedEnv) (targets : List Named) → IsTrue (has_many_states targets) → forbidding env targets ≡ Some error.States
-unfolding forbidding
-forbids_states env targets many = rw many refl
-
-pub forbids_actions : (env : NamedEnv) (targets : List Named) → IsFalse (has_many_states targets) → IsTrue (has_bad_count (requests_in env targets)) → forbidding env targets ≡ Some error.Actions
-unfolding forbidding
-forbids_actions env targets few bad = rw (few, bad) refl
-
-pub forbids_long : (env : NamedEnv) (targets : List Named) → IsFalse (has_many_states targets) → IsFalse (has_bad_count (requests_in env targets)) → IsTrue (has_long_name env targets) →
-    forbidding env targets ≡ Some error.LongName
-unfolding forbidding
-forbids_long env targets few good long = rw (few, good, long) refl
-
-pub forbids_one : (env : NamedEnv) (targets : List Named) → IsFalse (has_many_states targets) → IsFalse (has_bad_count (requests_in env targets)) → IsFalse (has_long_name env targets) →
-    IsTrue (has_one_name env targets) → forbidding env targets ≡ Some error.Repeated
-unfolding forbidding
-forbids_one env targets few good short one = rw (few, good, short, one) refl
-
-pub forbids_none : (env : NamedEnv) (targets : List Named) → IsFalse (has_many_states targets) → IsFalse (has_bad_count (requests_in env targets)) → IsFalse (has_long_name env targets) →
-    IsFalse (has_one_name env targets) → forbidding env targets ≡ None
-unfolding forbidding
-forbids_none env targets few good short apart = rw (few, good, short, apart) refl
-
 -- an error of the names is the first rule that forbids the combination
 pub names_forbid : (env : NamedEnv) (targets : List Named) (why : CombineError) → IsFalse (has_many_states targets) → IsFalse (has_bad_count (requests_in env targets)) → AreCombinedNames env targets (Err why) →
     KeepsRules (Err why) (forbidding env targets)
+unfolding forbidding
 names_forbid env targets error.States few good h = absurd h
 names_forbid env targets error.Actions few good h = absurd h
-names_forbid env targets error.LongName few good h = forbids_long env targets few good h
-names_forbid env targets error.Repeated few good h = forbids_one env targets few good h.0 h.1
+names_forbid env targets error.LongName few good h = rw (few, good, h) refl
+names_forbid env targets error.Repeated few good h = rw (few, good, h.0, h.1) refl
 names_forbid env targets error.Memory few good h = tt
+
+-- names that break no rule allow the combination
+pub names_allow : (env : NamedEnv) (targets : List Named) (names : List (List ℕ) × List (List ℕ)) → IsFalse (has_many_states targets) → IsFalse (has_bad_count (requests_in env targets)) →
+    AreCombinedNames env targets (Ok names) → forbidding env targets ≡ None
+unfolding forbidding
+names_allow env targets names few good h = rw (few, good, h.2, h.3) refl
 
 -- a count that isn't bad is within the limits
 pub good_count : (requests : List Request) → IsFalse (has_bad_count requests) → (0 < length requests) × (length requests ≤ MAX_ACTIONS)
@@ -46,18 +30,6 @@ few_states targets few = le-ltb MAX_STATES (product_of (target_sizes (machines t
 
 pub many_states : (targets : List Named) → (product_of (target_sizes (machines targets)) ≤ MAX_STATES → ⊥) → IsTrue (has_many_states targets)
 many_states targets many = lt-ltb MAX_STATES (product_of (target_sizes (machines targets))) (omega arith)
-
--- there are few enough combined states, and few enough combined actions but at least one
-pub record HasGoodCounts (env : NamedEnv) (targets : List Named) : Type 0 where
-  pub few : product_of (target_sizes (machines targets)) ≤ MAX_STATES
-  pub states : IsFalse (has_many_states targets)
-  pub actions : IsFalse (has_bad_count (requests_in env targets))
-  pub some : (0 < length (requests_in env targets)) × (length (requests_in env targets) ≤ MAX_ACTIONS)
-
--- the counts are good if their shape fits and the count of the requests isn't bad
-pub good_counts : (env : NamedEnv) (targets : List Named) (sizes : List ℕ) (cap : ℕ) (requests : List Request) → sizes ≡ target_sizes (machines targets) → cap ≡ MAX_STATES → count (flat sizes) ≤ cap →
-    requests ≡ requests_in env targets → IsFalse (has_bad_count requests) → HasGoodCounts env targets
-good_counts env targets sizes cap requests same is fits asked good = grind (arith, few_states, fits_within, good_count)
 
 pub state_count : (targets : List Named) → length (combined_state_names targets) ≡ product_of (target_sizes (machines targets))
 state_count targets = length-map (below (product_of (target_sizes (machines targets)))) _ ∙ length-below (product_of (target_sizes (machines targets)))
@@ -80,15 +52,23 @@ pub parts_are : (env : NamedEnv) (catalogue : List NamedBeh) (targets : List Nam
 unfolding combined_parts
 parts_are env catalogue targets requests states actions environment made target asked named called world behaviours goes = grind arith
 
--- the targets and their requests are a merge if the counts are good
-pub merge_is : (m : Merge) (sizes : List ℕ) → (2 ≤ length m.targets.now) × (length m.targets.now ≤ 4) → All (λ named. IsTarget m.env.now named.target) m.targets.now → m.shape.now ≡ flat sizes →
-    sizes ≡ target_sizes (machines m.targets.now) → m.requests.now ≡ requests_in m.env.now m.targets.now → HasGoodCounts m.env.now m.targets.now → IsMerge m
-merge_is m sizes some known shape same asked counts = record {
+-- the targets and their requests are a merge if their shape fits and the count of the requests isn't bad
+pub merge_is : (m : Merge) (sizes : List ℕ) (cap : ℕ) → (2 ≤ length m.targets.now) × (length m.targets.now ≤ 4) → All (λ named. IsTarget m.env.now named.target) m.targets.now → m.shape.now ≡ flat sizes →
+    sizes ≡ target_sizes (machines m.targets.now) → cap ≡ MAX_STATES → count (flat sizes) ≤ cap → m.requests.now ≡ requests_in m.env.now m.targets.now → IsFalse (has_bad_count m.requests.now) → IsMerge m
+merge_is m sizes cap some known shape same is fits asked good = record {
   count = (omega arith, some.1);
   known = known;
   shape = shape ∙ ap flat same;
-  few = counts.few;
+  few = fits_within sizes _ cap same is fits;
   requests = asked;
-  some = subst (λ (xs : List Request). (0 < length xs) × (length xs ≤ MAX_ACTIONS)) (sym asked) counts.some;
+  some = good_count m.requests.now good;
   in_range = requests_in_range m.env.now m.targets.now m.requests.now asked;
 }
+
+few_requests : (requests : List Request) → (0 < length requests) × (length requests ≤ MAX_ACTIONS) → IsFalse (has_bad_count requests)
+few_requests [] some = absurd (let none : ⊥ = omega arith in none)
+few_requests (r ∷ requests) some = le-ltb MAX_ACTIONS (length (r ∷ requests)) some.1
+
+-- the counts of a merge break no rule
+pub merge_allows : (m : Merge) → IsMerge m → IsFalse (has_many_states m.targets.now) × IsFalse (has_bad_count (requests_in m.env.now m.targets.now))
+merge_allows m is = (few_states m.targets.now is.few, rw is.requests at (few_requests m.requests.now is.some))

@@ -1,5 +1,5 @@
 -- A list of one state for each target is a pair with one target state and one environment state, so a shape numbers these lists.
-use Rattle.roman_multi.proofs.Common.{◌≡◌, ℕ, ◌+◌, ◌<◌, ◌≤◌, List, map, length, get_or, slice_index, slice_set, All, sym, ap, ◌∙◌, subst, arith, AllZip, product_of, flat, count, states_number, states_at, pair_at, target_sizes, MAX_STATES, NamedEnv, IsTarget, machines, Named, ◌*◌, ◌%◌, mod-mul-add, Sizes, IsPairOf, number, IsPairOf-at, with_part}
+use Rattle.roman_multi.proofs.Common.{◌≡◌, ℕ, ◌+◌, ◌<◌, ◌≤◌, List, map, length, get_or, slice_index, slice_set, All, sym, ap, ◌∙◌, subst, arith, ◌*◌, ◌%◌, AllZip, product_of, flat, count, states_number, states_at, pair_at, Sizes, IsPairOf, number, target_sizes, MAX_STATES, NamedEnv, IsTarget, machines, Named, mod-mul-add, IsPairOf-at, with_part}
 use Rattle.roman_multi.proofs.KnownLemmas.{machines_known, size_is, starts_below}
 
 pub count-flat : (sizes : List ℕ) → count (flat sizes) ≡ product_of sizes

@@ -1,5 +1,5 @@
 -- Known targets: their machines are in range and deterministic, and their sizes are those of a shape.
-use Rattle.roman_multi.proofs.Common.{◌≡◌, ℕ, zero, suc, ◌+◌, ◌<◌, ◌≤◌, List, [], ◌∷◌, ◌++◌, map, length, take, get_or, All, Some, slice_get, slice_index, inl, inr, refl, sym, ap, ◌∙◌, subst, arith, AllZip, take_more, length-map, slice_get-get_or, IsIn, product_of, Env, Beh, IsEnv, IsBeh, IsDeterministic, Several, target_sizes, IsSeveral, MAX_STATES, MAX_ACTIONS, from_map, NamedEnv, IsTarget, IsOver-states, machines, requests_in, Named, map-append, All-push, slice_get-map, option_map, target_size_at}
+use Rattle.roman_multi.proofs.Common.{◌≡◌, ℕ, zero, suc, ◌+◌, ◌<◌, ◌≤◌, List, [], ◌∷◌, ◌++◌, map, length, take, get_or, All, Some, slice_get, slice_index, inl, inr, refl, sym, ap, ◌∙◌, subst, arith, AllZip, take_more, length-map, map-append, slice_get-get_or, slice_get-map, IsIn, product_of, Env, Beh, IsEnv, IsBeh, IsDeterministic, Several, target_sizes, IsSeveral, MAX_STATES, MAX_ACTIONS, from_map, target_size_at, NamedEnv, IsTarget, IsOver-states, machines, requests_in, Named, All-push, option_map}
 
 pub all_in : {X : Type 0} (P : X → Type 0) (xs : List X) (x : X) → All P xs → IsIn x xs → P x
 all_in P [] x all i = absurd i
@@ -69,3 +69,6 @@ several_is env targets ok known few some = record {
   states = few;
   actions = some;
 }
+
+-- the bounds on the numbers of a behaviour in range
+pub ruleset over_states = (IsOver-states)

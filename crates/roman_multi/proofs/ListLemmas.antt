@@ -1,5 +1,5 @@
 -- Lists that loops build over the numbers below a bound.
-use Rattle.roman_multi.proofs.Common.{◌≡◌, ℕ, suc, ◌<◌, ◌+◌, Bool, false, not, List, [], ◌∷◌, ◌++◌, length, Option, None, Some, IsTrue, IsFalse, is_some, flat_map, slice_get, get_or, refl, sym, ap, ap₂, ◌∙◌, add-one, append_assoc, list_any, slice_get-get_or, below, is_empty, any_from, in_below, MatchOption, or_from, list_any-append, flat_map_row}
+use Rattle.roman_multi.proofs.Common.{◌≡◌, ℕ, suc, ◌<◌, ◌+◌, Bool, false, not, List, [], ◌∷◌, ◌++◌, length, Option, None, Some, IsTrue, IsFalse, is_some, flat_map, slice_get, get_or, refl, sym, ap, ap₂, ◌∙◌, add-one, append_assoc, MatchOption, list_any, slice_get-get_or, below, is_empty, any_from, in_below, flat_map_row, or_from, list_any-append}
 
 -- the next states of a target's step
 pub goes_is : (o : Option ℕ) (xs : List ℕ) → MatchOption o (xs ≡ []) (λ to. xs ≡ to ∷ []) → is_some o ≡ not (is_empty xs)

@@ -1,5 +1,5 @@
 -- Combined parts that no rule forbids are in range.
-use Rattle.roman_multi.proofs.Common.{◌≡◌, ℕ, ◌<◌, ◌≤◌, Bool, false, List, length, All, Some, None, IsFalse, refl, subst, arith, product_of, IsEnv, IsBeh, beh_from, combined, combined_beh, combined_target, target_sizes, MAX_STATES, Request, combined_system, ltb-false, NamedEnv, NamedBeh, IsOver, IsTarget, IsOver-states, machines, requests_in, has_many_states, has_bad_count, has_long_name, has_one_name, forbidding, Named, true, cond, IsSys, IsBeh-made, IsOver-start}
+use Rattle.roman_multi.proofs.Common.{◌≡◌, ℕ, ◌<◌, ◌≤◌, Bool, false, List, length, All, Some, None, IsFalse, refl, subst, arith, true, cond, product_of, IsEnv, IsBeh, IsSys, beh_from, combined, combined_beh, combined_target, target_sizes, MAX_STATES, Request, combined_system, IsBeh-made, ltb-false, NamedEnv, NamedBeh, IsOver, IsTarget, IsOver-states, IsOver-start, machines, requests_in, has_many_states, has_bad_count, has_long_name, has_one_name, forbidding, Named}
 use Rattle.roman_multi.specs.declared.error.CombineError.TheVariants as error
 use Rattle.roman_multi.proofs.KnownLemmas.{several, several_is}
 use Rattle.roman_multi.proofs.CombineLemmas.{good_count}

@@ -1,5 +1,5 @@
 -- The steps that the loops list are the steps of the combined behaviours, and the requests are the combined actions.
-use Rattle.roman_multi.proofs.Common.{◌≡◌, ℕ, ◌<◌, ◌≤◌, ◌^◌, ◌==◌, ◌&&◌, Bool, List, [], ◌∷◌, map, length, Option, Some, None, IsTrue, flat_map, filter, slice_get, inl, inr, refl, sym, ap, ap₂, ◌∙◌, subst, get_or, arith, All, IsIn, below, Beh, Env, has, has_move, is_final, IsBeh, beh_next, normal_beh, beh_from, combined_beh, Request, listed_beh, AreMoves, listed_moves, moves_on, used_at, same_test, any_true, any_from, in_map, from_map, in_flat_map, from_flat_map, in_below, from_below, in_beh_next, from_beh_next, beh_from_same, listed_number, number_listed, get_in, length-map, NamedEnv, IsTarget, machines, requests_in, Named, has_filter, states_of, Move, has_move_on, stands_in, uses, requests_of, move_of, filter_in, filter_same, flat_map_same_in, move_test, move_passes, stands_uses, states_of-single}
+use Rattle.roman_multi.proofs.Common.{◌≡◌, ℕ, ◌<◌, ◌≤◌, ◌^◌, ◌==◌, ◌&&◌, Bool, List, [], ◌∷◌, map, length, Option, Some, None, IsTrue, flat_map, filter, slice_get, inl, inr, refl, sym, ap, ap₂, ◌∙◌, subst, get_or, arith, All, IsIn, below, Beh, Env, has, has_move, IsBeh, Move, normal_beh, beh_from, Request, listed_beh, AreMoves, move_of, listed_moves, used_at, same_test, any_true, any_from, in_map, from_map, in_flat_map, from_flat_map, in_below, from_below, beh_from_same, listed_number, number_listed, get_in, filter_in, filter_same, flat_map_same_in, move_test, move_passes, stands_uses, length-map, NamedEnv, IsTarget, machines, requests_in, Named, has_filter, states_of, stands_in, uses, requests_of, states_of-single}
 use Rattle.roman_multi.proofs.KnownLemmas.{machines_known}
 use Rattle.roman_multi.proofs.TripleLemmas.{get_or_in}
 
@@ -20,60 +20,64 @@ moves_in_range env_states actions states next within k d l =
     let (e, he, hb, hn, is, it) = from_moves env_states actions states next (get_or (listed_moves env_states actions states next) k d) (get_or_in (listed_moves env_states actions states next) k d l) in
     (hb, hn, within x.0 x.2 e x.3 hb hn he it)
 
--- a behaviour with the listed steps goes to the given next states
-pub listed_moves_made : (env_states actions states start : ℕ) (fins : List ℕ) (next : ℕ → ℕ → ℕ → List ℕ) → env_states ≤ 64 →
-    normal_beh env_states actions (listed_beh states start fins (listed_moves env_states actions states next))
-    ≡ beh_from env_states actions states start (has fins) (λ b e n b'. has (next b n e) b')
-listed_moves_made env_states actions states start fins next few =
-    beh_from_same env_states actions states start (has fins) (has fins)
-    (has_move (listed_beh states start fins (listed_moves env_states actions states next))) (λ b e n b'. has (next b n e) b')
-    (λ b hb. refl)
-    (λ b e n b' hb he hn hb'.
-    same_test (has_move (listed_beh states start fins (listed_moves env_states actions states next)) b e n b') (has (next b n e) b')
-    (λ t. there b e n b' t)
-    (λ t.
-    let guard : states_of (2 ^ e) ≡ e ∷ [] = single e he in
-    any_from (λ m. m.from == b && m.action == n && has m.guard e && m.to == b') (record { from = b; guard = states_of (2 ^ e); action = n; to = b' })
-    (map move_of (listed_moves env_states actions states next))
-    (in_map move_of (b, 2 ^ e, n, b') (listed_moves env_states actions states next) (in_moves env_states actions states next b e n b' hb he hn (number_listed (next b n e) b' t)))
-    (move_passes b e n b' (states_of (2 ^ e)) (subst (λ es. IsIn e es) (sym guard) (inl refl)))))
-  where
-    single : (e : ℕ) → e < env_states → states_of (2 ^ e) ≡ e ∷ []
-    single e he = states_of-single e (omega arith)
+-- the numbers that pass the test are below the bound
+pub passing_below : (p : ℕ → Bool) (n : ℕ) → All (λ b. b < n) (filter p (below n))
+passing_below p n k d l = from_below n (get_or (filter p (below n)) k d) (filter_in p (get_or (filter p (below n)) k d) (below n) (get_or_in (filter p (below n)) k d l)).0
 
-    there : (b e n b' : ℕ) → IsTrue (has_move (listed_beh states start fins (listed_moves env_states actions states next)) b e n b') → IsTrue (has (next b n e) b')
-    there b e n b' t =
-        let (m, i, passes) = any_true (λ m. m.from == b && m.action == n && has m.guard e && m.to == b') (map move_of (listed_moves env_states actions states next)) t in
-        let (y, j, same) = from_map move_of m (listed_moves env_states actions states next) i in
-        let (from, action, guard, to) = move_test m b e n b' passes in
-        let (d, hd, hb, hn, is, own) = from_moves env_states actions states next y j in
-        let e0 : y.0 ≡ b = ap (λ (z : Move). z.from) (sym same) ∙ from in
-        let e2 : y.2 ≡ n = ap (λ (z : Move). z.action) (sym same) ∙ action in
-        let e3 : y.3 ≡ b' = ap (λ (z : Move). z.to) (sym same) ∙ to in
-        let guard2 : IsIn e (d ∷ []) = subst (λ es. IsIn e es) (single d hd) (subst (λ w. IsIn e (states_of w)) is (subst (λ (z : Move). IsIn e z.guard) same guard)) in
-        let e1 : e ≡ d = elim guard2 [ inl f ↦ f | inr none ↦ absurd none ] in
-        listed_number (next b n e) b'
-        (subst (λ k. IsIn k (next b n e)) e3 (subst (λ k. IsIn y.3 (next b k e)) e2 (subst (λ k. IsIn y.3 (next k y.2 e)) e0 (subst (λ k. IsIn y.3 (next y.0 y.2 k)) (sym e1) own))))
+-- the lists from which a behaviour is made: its final states, and its steps to the next states by each action in each environment state, which are states of it
+pub record AreListsOf (env_states actions states start : ℕ) (final : ℕ → Bool) (goes : ℕ → ℕ → ℕ → ℕ → Bool) (size begin : ℕ) (ends : List ℕ) (moves : List (ℕ × ℕ × ℕ × ℕ)) : Type 0 where
+  pub next : ℕ → ℕ → ℕ → List ℕ
+  pub few : env_states ≤ 64
+  pub count : size ≡ states
+  pub begins : begin ≡ start
+  pub finals : ends ≡ filter final (below states)
+  pub steps : moves ≡ listed_moves env_states actions states next
+  pub same : (b e n b' : ℕ) → b < states → e < env_states → n < actions → b' < states → has (next b n e) b' ≡ goes b e n b'
+  pub within : (b n e to : ℕ) → b < states → n < actions → e < env_states → IsIn to (next b n e) → to < states
 
--- the combined behaviour
-pub combined_beh_is : (env : Env) (beh : Beh) (requests : List Request) → env.states ≤ 64 → IsBeh env beh →
-    normal_beh env.states (length requests) (listed_beh beh.states beh.start (filter (is_final beh) (below beh.states)) (listed_moves env.states (length requests) beh.states (λ b n e. moves_on beh b e (slice_get requests n))))
-    ≡ combined_beh env.states requests beh
-combined_beh_is env beh requests few ok =
-    listed_moves_made env.states (length requests) beh.states beh.start (filter (is_final beh) (below beh.states)) (λ b n e. moves_on beh b e (slice_get requests n)) few
-    ∙ beh_from_same env.states (length requests) beh.states beh.start (has (filter (is_final beh) (below beh.states))) (is_final beh) (λ b e n b'. has (moves_on beh b e (slice_get requests n)) b') (λ b e n b'. has_move_on beh (slice_get requests n) b e b')
-    (λ b hb. has_filter (is_final beh) beh.states b hb) (λ b e n b' hb he hn hb'. goes b e (slice_get requests n) b')
-  where
-    goes : (b e : ℕ) (o : Option Request) (b' : ℕ) → has (moves_on beh b e o) b' ≡ has_move_on beh o b e b'
-    goes b e None b' = refl
-    goes b e (Some r) b' = same_test (has (beh_next beh b e r.action) b') (has_move beh b e r.action b')
-        (λ t. from_beh_next beh b e r.action b' (number_listed (beh_next beh b e r.action) b' t))
-        (λ t. listed_number (beh_next beh b e r.action) b' (in_beh_next env beh b e r.action b' ok t))
+module _ (env_states actions states start : ℕ) (final : ℕ → Bool) (goes : ℕ → ℕ → ℕ → ℕ → Bool) (size begin : ℕ) (ends : List ℕ) (moves : List (ℕ × ℕ × ℕ × ℕ))
+    (lists : AreListsOf env_states actions states start final goes size begin ends moves) where
+  abbrev listed : List (ℕ × ℕ × ℕ × ℕ)
+  listed = listed_moves env_states actions states lists.next
 
--- the next states of a behaviour are states of it
-pub moves_on_below : (beh : Beh) (b e : ℕ) (o : Option Request) (to : ℕ) → IsIn to (moves_on beh b e o) → to < beh.states
-moves_on_below beh b e None to i = absurd i
-moves_on_below beh b e (Some r) to i = from_below beh.states to (filter_in (has_move beh b e r.action) to (below beh.states) i).0
+  single : (e : ℕ) → e < env_states → states_of (2 ^ e) ≡ e ∷ []
+  single e he = let few : env_states ≤ 64 = lists.few in states_of-single e (omega arith)
+
+  there : (b e n b' : ℕ) → IsTrue (has_move (listed_beh states start ends listed) b e n b') → IsIn b' (lists.next b n e)
+  there b e n b' t =
+      let (m, i, passes) = any_true (λ m. m.from == b && m.action == n && has m.guard e && m.to == b') (map move_of listed) t in
+      let (y, j, same) = from_map move_of m listed i in
+      let (from, action, guard, to) = move_test m b e n b' passes in
+      let (d, hd, hb, hn, is, own) = from_moves env_states actions states lists.next y j in
+      let e0 : y.0 ≡ b = ap (λ (z : Move). z.from) (sym same) ∙ from in
+      let e2 : y.2 ≡ n = ap (λ (z : Move). z.action) (sym same) ∙ action in
+      let e3 : y.3 ≡ b' = ap (λ (z : Move). z.to) (sym same) ∙ to in
+      let guard2 : IsIn e (d ∷ []) = subst (λ es. IsIn e es) (single d hd) (subst (λ w. IsIn e (states_of w)) is (subst (λ (z : Move). IsIn e z.guard) same guard)) in
+      let e1 : e ≡ d = elim guard2 [ inl f ↦ f | inr none ↦ absurd none ] in
+      rw (e0, e2, e3, ← e1) at own
+
+  back : (b e n b' : ℕ) → b < states → e < env_states → n < actions → IsIn b' (lists.next b n e) → IsTrue (has_move (listed_beh states start ends listed) b e n b')
+  back b e n b' hb he hn i =
+      any_from (λ m. m.from == b && m.action == n && has m.guard e && m.to == b') (record { from = b; guard = states_of (2 ^ e); action = n; to = b' }) (map move_of listed)
+      (in_map move_of (b, 2 ^ e, n, b') listed (in_moves env_states actions states lists.next b e n b' hb he hn i))
+      (move_passes b e n b' (states_of (2 ^ e)) (subst (λ es. IsIn e es) (sym (single e he)) (inl refl)))
+
+  -- the behaviour made from the lists has exactly the steps that pass the test
+  pub made_is : (es ns : ℕ) → es ≡ env_states → ns ≡ actions → normal_beh es ns (listed_beh size begin ends moves) ≡ beh_from env_states actions states start final goes
+  made_is es ns is_env is_actions =
+      rw (is_env, is_actions, lists.count, lists.begins, lists.steps)
+      (beh_from_same env_states actions states start (has ends) final (has_move (listed_beh states start ends listed)) goes
+      (λ b hb. ap (λ xs. has xs b) lists.finals ∙ has_filter final states b hb)
+      (λ b e n b' hb he hn hb'.
+      same_test (has_move (listed_beh states start ends listed) b e n b') (has (lists.next b n e) b') (λ t. listed_number (lists.next b n e) b' (there b e n b' t))
+      (λ t. back b e n b' hb he hn (number_listed (lists.next b n e) b' t))
+      ∙ lists.same b e n b' hb he hn hb'))
+
+  pub made_steps_in_range : (ns : ℕ) → ns ≡ actions → AreMoves size ns moves
+  made_steps_in_range ns is_actions = rw (lists.steps, lists.count, is_actions) (moves_in_range env_states actions states lists.next lists.within)
+
+  pub made_finals_below : All (λ b. b < size) ends
+  made_finals_below = rw (lists.finals, lists.count) (passing_below final states)
 
 -- the requests of all targets
 abbrev pub used_requests : ℕ → ℕ → List Beh → List Request
@@ -112,7 +116,3 @@ requests_in_range env targets requests is k d l =
     let (ib, stands) = filter_in (stands_in (slice_get (machines targets) p)) a (below env.env.actions) ia in
     subst (λ (r : Request). (r.target < length targets) × (r.action < env.env.actions)) (sym same)
     (subst (λ n. p < n) (length-map targets (λ (named : Named). named.target.beh)) (from_below (length (machines targets)) p ip), from_below env.env.actions a ib)
-
--- the numbers that pass the test are below the bound
-pub passing_below : (p : ℕ → Bool) (n : ℕ) → All (λ b. b < n) (filter p (below n))
-passing_below p n k d l = from_below n (get_or (filter p (below n)) k d) (filter_in p (get_or (filter p (below n)) k d) (below n) (get_or_in (filter p (below n)) k d l)).0

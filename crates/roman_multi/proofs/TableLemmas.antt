@@ -1,5 +1,5 @@
 -- Lists of words, and the tables of words that are names.
-use Rattle.roman_multi.proofs.Common.{◌≡◌, ℕ, ◌+◌, ◌<◌, List, [], ◌∷◌, ◌++◌, map, length, take, get_or, All, Option, Some, None, IsTrue, IsFalse, is_some, refl, sym, ap, ap₂, ◌∙◌, subst, arith, list_any, take_more, length-map, below, none-some, same_Some, is_name, is_long, stands_before, is_word, IsSome, SomeIff, get_or-map, any_false, place_of, has_repeats}
+use Rattle.roman_multi.proofs.Common.{◌≡◌, ℕ, ◌+◌, ◌<◌, List, [], ◌∷◌, ◌++◌, map, length, take, get_or, All, Option, Some, None, IsTrue, IsFalse, is_some, refl, sym, ap, ap₂, ◌∙◌, subst, arith, IsSome, list_any, take_more, length-map, get_or-map, below, none-some, same_Some, is_name, place_of, is_long, stands_before, has_repeats, is_word, SomeIff, any_false}
 use Rattle.roman_multi.proofs.ListLemmas.{none_more, any_at}
 use Rattle.roman_multi.proofs.TripleLemmas.{get_or_in}
 use Rattle.roman_multi.proofs.WordLemmas.{word_is_name}

@@ -1,5 +1,5 @@
 -- The triples that the loops list are the triples of the combined environment.
-use Rattle.roman_multi.proofs.Common.{◌≡◌, ℕ, zero, suc, ◌<◌, ◌==◌, ◌&&◌, List, [], ◌∷◌, map, length, get_or, Option, Some, None, IsTrue, slice_get, inl, inr, refl, sym, ap, ap₂, ◌∙◌, subst, arith, false≢true, and_parts, and_from, IsIn, Env, IsEnv, Request, next_on, same_test, any_true, any_from, in_map, from_map, in_flat_map, from_flat_map, in_below, from_below, eq-eqb, eqb-true, Triple, has_triple, normal_env, combined_env, has_triple_on, triple_of, listed_env, AreTriples, listed_triples, triple_in_range, in_env_next, from_env_next, env_from_same}
+use Rattle.roman_multi.proofs.Common.{◌≡◌, ℕ, zero, suc, ◌<◌, ◌==◌, ◌&&◌, List, [], ◌∷◌, map, length, get_or, Option, Some, None, IsTrue, slice_get, inl, inr, refl, sym, ap, ap₂, ◌∙◌, subst, arith, false≢true, and_parts, and_from, eq-eqb, eqb-true, IsIn, Env, IsEnv, Triple, has_triple, Request, next_on, listed_triples, same_test, any_true, any_from, in_map, from_map, in_flat_map, from_flat_map, in_below, from_below, triple_in_range, in_env_next, from_env_next, env_from_same, normal_env, combined_env, has_triple_on, triple_of, listed_env, AreTriples}
 
 from_next_on : (env : Env) (e : ℕ) (o : Option Request) (to : ℕ) → IsIn to (next_on env e o) → IsTrue (has_triple_on env o e to)
 from_next_on env e None to i = absurd i

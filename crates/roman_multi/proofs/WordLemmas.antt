@@ -1,5 +1,5 @@
 -- Joined names, and tables of them.
-use Rattle.roman_multi.proofs.Common.{◌≡◌, ℕ, zero, suc, ◌+◌, ◌<◌, ◌==◌, List, [], ◌∷◌, ◌++◌, length, take, get_or, slice_index, IsTrue, IsFalse, refl, sym, ap, ◌∙◌, append_assoc, arith, slice_index_or, if◌then◌else◌, list_all, and_parts, and_from, false≢true, ltb-false, take_more, is_empty, is_name, is_name_byte, joined, names_at, is_long, is_word, Named, le-leb, ne_eqb}
+use Rattle.roman_multi.proofs.Common.{◌≡◌, ℕ, zero, suc, ◌+◌, ◌<◌, ◌==◌, List, [], ◌∷◌, ◌++◌, length, take, get_or, slice_index, IsTrue, IsFalse, refl, sym, ap, ◌∙◌, append_assoc, arith, slice_index_or, if◌then◌else◌, list_all, and_parts, and_from, false≢true, ltb-false, le-leb, ne_eqb, take_more, is_empty, is_name, is_name_byte, joined, names_at, is_long, is_word, Named}
 
 -- one more name is appended after a dash, unless it is the first
 joined_push : (names : List (List ℕ)) (name : List ℕ) → joined (names ++ name ∷ []) ≡ joined names ++ (if is_empty names then name else 45 ∷ name)

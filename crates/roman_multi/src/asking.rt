@@ -29,6 +29,7 @@ fn uses_at(target: &Target, env_states: u8, t: u8, a: u8) -> bool
 }
 
 /// Returns whether the target has a step by the action.
+#[tactic(auto, using(crate::proofs::KnownLemmas::over_states))]
 fn uses(target: &Target, env_states: u8, a: u8) -> bool
     requires states { env_states ≡ target.now.env_states }
     requires action { a < target.now.actions }

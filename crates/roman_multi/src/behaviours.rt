@@ -66,7 +66,7 @@ fn push_state(steps: &mut Vec<Move>, member: &Member, b: u8) -> Result<(), Alloc
 }
 
 /// Returns the steps by the combined actions.
-#[tactic(auto, using(crate::proofs::ListLemmas::flat_map_begun))]
+#[tactic(auto, using(crate::proofs::ListLemmas::flat_map_begun, crate::proofs::KnownLemmas::over_states))]
 fn moves_of(alloc: Global, member: &Member) -> Result<Vec<Move>, AllocError>
     requires { IsMember member.now }
     ensures { IfOk result (λ steps. steps.items ≡ listed_moves member.now.env.now.env.states (length member.now.requests.now)
@@ -82,6 +82,7 @@ fn moves_of(alloc: Global, member: &Member) -> Result<Vec<Move>, AllocError>
 }
 
 /// Returns the final states.
+#[tactic(auto, using(crate::proofs::KnownLemmas::over_states))]
 fn finals_of(alloc: Global, behaviour: &Behaviour) -> Result<Vec<u8>, AllocError>
     ensures { IfOk result
         (λ finals. finals.items ≡ filter (is_final behaviour.now.beh) (below behaviour.now.beh.states)) }

@@ -1,5 +1,5 @@
 //! The combination of several targets.
-ghost use Rattle.std.specs.Prelude.{◌≡◌, ◌≤◌, length, All, IfOk, Ok};
+ghost use Rattle.std.specs.Prelude.{◌≡◌, ◌≤◌, length, All, IfOk};
 ghost use Rattle.roman_multi.specs.Combining.{IsBehaviourOf, IsOf, KeepsRules, combined_parts, forbidding, has_bad_count, plain_combined};
 ghost use Rattle.roman_multi.specs.Lists.{AreCombinedNames};
 ghost use Rattle.roman_multi.specs.Merges.{IsMerge};
@@ -18,7 +18,7 @@ use roman_model::{MAX_ACTIONS, MAX_STATES, Request};
 use roman_parts::{Behaviour, Environment};
 use roman_radix::Shape;
 use roman_read::NameTable;
-use std::alloc::{AllocError, Global};
+use std::alloc::Global;
 
 /// Combines 2 to 4 targets into one, with the environment and the catalogue over its actions.
 /// Requires targets and a catalogue over `env`. The combined actions are, target by target, the
@@ -54,9 +54,7 @@ pub fn combine(
         shape: &shape,
         requests: &requests,
     };
-    let names = names_of(alloc, &merge)?;
-    let made = combine_parts(alloc, &merge, catalogue, names)?;
-    Ok(made)
+    combine_parts(alloc, &merge, catalogue)
 }
 
 /// Returns whether there are no requests, or more requests than the greatest number of actions.
@@ -66,18 +64,18 @@ fn has_bad_count(requests: &[Request]) -> bool
     requests.is_empty() || requests.len() > MAX_ACTIONS as usize
 }
 
-/// Returns the combined parts, with the given names of the combined states and actions.
+/// Returns the combined parts, if their names break no rule.
 fn combine_parts(
     alloc: Global,
     merge: &Merge,
     catalogue: &[Behaviour],
-    names: (NameTable, NameTable),
-) -> Result<Combined, AllocError>
+) -> Result<Combined, CombineError>
     requires merge { IsMerge merge.now }
     requires catalogue { All (IsBehaviourOf merge.now.env.now) catalogue.now }
-    requires names { AreCombinedNames merge.now.env.now merge.now.targets.now (Ok names) }
-    ensures { IfOk result (λ made. plain_combined made ≡ combined_parts merge.now.env.now catalogue.now merge.now.targets.now) }
+    ensures parts { IfOk result (λ made. plain_combined made ≡ combined_parts merge.now.env.now catalogue.now merge.now.targets.now) }
+    ensures rules { KeepsRules result (forbidding merge.now.env.now merge.now.targets.now) }
 {
+    let names = names_of(alloc, merge)?;
     let (states, actions) = names;
     let environment = combine_environment(alloc, merge, actions)?;
     let catalogue = combine_catalogue(alloc, merge, catalogue, &environment)?;

@@ -9,6 +9,7 @@ use roman_parts::Environment;
 use std::alloc::{AllocError, Global};
 
 /// Returns the number of states of each target.
+#[tactic(auto, using(crate::proofs::KnownLemmas::over_states))]
 pub(crate) fn sizes_of(
     alloc: Global,
     env: &Environment,

@@ -1,9 +1,6 @@
-use Rattle.roman_multi.proofs.Common.{◌≡◌, ◌<◌, length, ap, not, sym, ◌∙◌, arith, list_any, below, is_empty, beh_next, IsOver-states}
+use Rattle.roman_multi.proofs.Common.{◌≡◌, ◌<◌, length, ap, not, sym, ◌∙◌, arith, list_any, below, is_empty, beh_next}
 use Rattle.roman_multi.proofs.ListLemmas.{any_at}
 use Rattle.roman_multi.proofs.asking.uses.Goals as goal
-
-pub overflow_cast-t-end : goal.overflow_cast-t-end
-overflow_cast-t-end c = grind (arith, IsOver-states)
 
 pub returns-then-uses_at : goal.returns-then-uses_at
 returns-then-uses_at c =

@@ -1,9 +1,6 @@
-use Rattle.roman_multi.proofs.Common.{◌≡◌, ◌++◌, ◌∷◌, [], ap, ◌∙◌, sym, length, get_or, take, arith, target_sizes, IsOver-states, IsTarget, machines, Named}
+use Rattle.roman_multi.proofs.Common.{◌≡◌, ◌++◌, ◌∷◌, [], ap, ◌∙◌, sym, length, get_or, take, arith, target_sizes, IsTarget, machines, Named}
 use Rattle.roman_multi.proofs.KnownLemmas.{known_more, sizes_more}
 use Rattle.roman_multi.proofs.sizes.sizes_of.Goals as goal
-
-pub overflow_cast-len : goal.overflow_cast-len
-overflow_cast-len c = grind (arith, IsOver-states)
 
 pub loop-i-preserved : goal.loop-i-preserved
 loop-i-preserved c =
