@@ -1,5 +1,5 @@
 -- Loops that keep the best seat so far.
-use Rattle.roman_cost.proofs.Common.{◌≡◌, ◌≢◌, ℕ, ◌+◌, Bool, true, false, cond, List, [], ◌∷◌, ◌++◌, Option, Some, None, filter, refl, sym, ap, ◌∙◌, inl, inr, add-one, append-nil, arith, IsIn, below, has, least_from, first_least, same_test, filter_in, in_filter, filter_below_more, number_listed, nat_le, filter_same, least_from_push, listed_number, better_of}
+use Rattle.roman_cost.proofs.Common.{◌≡◌, ◌≢◌, ℕ, ◌+◌, Bool, true, false, cond, List, [], ◌∷◌, ◌++◌, Option, Some, None, filter, refl, ap, ◌∙◌, inl, inr, add-one, append-nil, arith, nat_le, IsIn, below, has, least_from, first_least, same_test, filter_in, in_filter, filter_below_more, number_listed, filter_same, least_from_push, listed_number, better_of}
 
 -- the first of the cheapest elements of a list, with its value
 abbrev pub best_of : (ℕ → ℕ) → List ℕ → Option (ℕ × ℕ)
@@ -14,16 +14,21 @@ pub best_of-first : (f : ℕ → ℕ) (xs : List ℕ) → xs ≢ [] → best_of 
 best_of-first f [] some = absurd (some refl)
 best_of-first f (x ∷ xs) some = refl
 
+-- the numbers that pass, after one number more below the bound, which passes or doesn't
+pub filter_taken : (p : ℕ → Bool) (k : ℕ) → p k ≡ true → filter p (below (k + 1)) ≡ filter p (below k) ++ k ∷ []
+filter_taken p k passes = rw (add-one, filter_below_more p k, passes)
+
+pub filter_passed : (p : ℕ → Bool) (k : ℕ) → p k ≡ false → filter p (below (k + 1)) ≡ filter p (below k)
+filter_passed p k fails = rw (add-one, filter_below_more p k, fails, append-nil)
+
 -- the best after one number more, which passes or doesn't
 pub best_of-taken : (f : ℕ → ℕ) (p : ℕ → Bool) (k cost : ℕ) (best new : Option (ℕ × ℕ)) → p k ≡ true → best ≡ best_of f (filter p (below k)) → cost ≡ f k →
     new ≡ better_of best k cost → new ≡ best_of f (filter p (below (k + 1)))
-best_of-taken f p k cost best new passes before e is = grind (arith, best_of-push, filter_below_more)
+best_of-taken f p k cost best new passes before e is = grind (arith, best_of-push, filter_taken)
 
 pub best_of-passed : (f : ℕ → ℕ) (p : ℕ → Bool) (k : ℕ) (best : Option (ℕ × ℕ)) → p k ≡ false → best ≡ best_of f (filter p (below k)) →
     best ≡ best_of f (filter p (below (k + 1)))
-best_of-passed f p k best fails before =
-    before ∙ ap (best_of f) (sym (ap (λ b. filter p (below k) ++ cond b (k ∷ []) []) fails ∙ append-nil (filter p (below k)))) ∙ ap (best_of f) (sym (filter_below_more p k))
-    ∙ ap (λ n. best_of f (filter p (below n))) (sym (add-one k))
+best_of-passed f p k best fails before = grind (arith, filter_passed)
 
 -- filtering the numbers below a bound by a list of such numbers gives the list
 pub filter_has : (q : ℕ → Bool) (n : ℕ) → filter (has (filter q (below n))) (below n) ≡ filter q (below n)

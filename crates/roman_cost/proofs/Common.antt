@@ -5,6 +5,7 @@ pub use Rattle.std.proofs.Math.Seq.{drop-append_seam, drop-cons, take-length, ta
 pub use Rattle.std.proofs.lemmas.Bool.{and_from, and_parts, cases_eq, cases_order, cond-false, cond-true, eq-eqb, eqb-true, leb-false, leb-true}
 pub use Rattle.std.proofs.lemmas.Grind.{flat_map-append}
 pub use Rattle.std.proofs.lemmas.List.{drop-append-le, drop_all, get_or-map, get_or-set_other, get_or-set_same, get_or_read, length-drop, length-map, length-set, map-append, map_push, take-append-drop, take-append-le, take_all, take_more}
+pub use Rattle.std.proofs.lemmas.List.Elements.{All-push}
 pub use Rattle.std.proofs.lemmas.Nat.{mul-add-lt}
 pub use Rattle.std.proofs.lemmas.Option.{get_or_from_slice_get, same_Some, slice_get-map, slice_get_within}
 pub use Rattle.std.proofs.lemmas.Result.{err_from_is_err_and}
@@ -15,18 +16,20 @@ pub use Rattle.roman_io.proofs.CallerLemmas.{WrotePrefix-append}
 pub use Rattle.roman_io.specs.Sink.{WrotePrefix}
 pub use Rattle.roman_joint.specs.NamedSys.{IsNamedSys, NamedSys, seat_of, system_of}
 pub use Rattle.roman_joint.specs.Names.{beh_name, seat_name}
-pub use Rattle.roman_joint.specs.Outcomes.{outcome_number, outcome_numbers}
+pub use Rattle.roman_joint.specs.Outcomes.{IsPairWith, outcome_number, outcome_numbers}
+pub use Rattle.roman_joint.specs.declared.outcomes.Outcomes.{Outcomes}
 pub use Rattle.roman_joint.specs.declared.seat.Seat.{Seat}
-pub use Rattle.roman_model.proofs.CallerLemmas.{allowed_in, allowed_in_range, by_test, choice_is, filter_below_more, filter_in, filter_same, filter_sublist, flat_map_row, from_allowed, from_below, from_flat_map, from_map, from_outcome, get_or-below, great_related, in_append_left, in_append_right, in_below, in_filter, in_flat_map, in_map, in_not_empty, least_bound, least_from_push, length-below, length_rows, listed_number, max_over-append, max_over-map, max_over_le, max_over_push, max_over_same, ne_not_empty, not_empty_in, not_empty_ne, number_listed, numbers_are_pairs, offer_is, offers_are, outcome_in, outcome_pair, outcome_seat, plans_least, rank, rank_at, related_great, related_offers, same_test, table_at, through_numbered}
+pub use Rattle.roman_model.proofs.CallerLemmas.{allowed_in, allowed_in_range, by_test, choice_is, filter_below_more, filter_in, filter_same, filter_sublist, flat_map_row, from_allowed, from_below, from_flat_map, from_map, from_outcome, get_or-below, great_related, in_append_left, in_append_right, in_below, in_filter, in_flat_map, in_map, in_not_empty, least_bound, least_from_push, length-below, length_rows, listed_number, max_over-append, max_over-map, max_over_le, max_over_push, max_over_same, ne_not_empty, not_empty_in, not_empty_ne, number_listed, numbers_are_pairs, offer_is, offers_are, outcome_in, outcome_pair, outcome_seat, plans_least, rank, rank_at, related_great, related_offers, same_test, through_numbered}
 pub use Rattle.roman_model.specs.Composition.{Great, GreatCouple, Serves, couple}
 pub use Rattle.roman_model.specs.Explanation.{name_at}
 pub use Rattle.roman_model.specs.Lists.{IsIn, below}
-pub use Rattle.roman_model.specs.Numbers.{count, number, numbered, pair_at, sizes_of}
+pub use Rattle.roman_model.specs.Numbers.{Sizes, count, number, numbered, pair_at, sizes_of}
 pub use Rattle.roman_model.specs.Offers.{is_related, offers}
 pub use Rattle.roman_model.specs.Outcomes.{LeadsTo}
 pub use Rattle.roman_model.specs.Plans.{Costs, IsPlan, Leaf, Node, Plan, allowed_actions, choice, chosen, first_least, least, least_at, least_from, max_over, through, worst}
 pub use Rattle.roman_model.specs.System.{Allows, IsPair, IsSys, Pair, Sys, has}
 pub use Rattle.roman_model.specs.SystemArena.{is_allowed, outcomes}
+pub use Rattle.roman_model.specs.declared.limits.TheConstants.{MAX_CELLS}
 pub use Rattle.roman_parts.specs.Named.{NamedEnv}
 pub use Rattle.roman_read.proofs.CallerLemmas.{IsLeft}
 pub use Rattle.roman_read.specs.Items.{each_item}
@@ -40,7 +43,7 @@ pub use Rattle.roman_cost.specs.AdviceText.{certificate_text, choice_line, servi
 unfoldable pub use Rattle.roman_cost.specs.AdviceText.{advice_text}
 pub use Rattle.roman_cost.specs.Advised.{AdviceTable, Advises, HavePlaces, related_pairs, value_rows}
 pub use Rattle.roman_cost.specs.Costs.{cost_step}
-pub use Rattle.roman_cost.specs.Filling.{AreSmall, IsRanked, better_of, ranked}
+pub use Rattle.roman_cost.specs.Filling.{AreOutcomes, AreSmall, IsRanked, better_of, ranked}
 pub use Rattle.roman_cost.specs.Laws.{AdviceIsLeast}
 pub use Rattle.roman_cost.specs.ServingPlans.{CostsBy, Event, IsCheapest, IsLeastCost, IsServingPlan, IsWorstCost, MayCome, cost_of_events}
 pub use Rattle.roman_cost.specs.Tables.{AreOf, CostTable, HoldsCosts, cell_of, cost_of, listed_cost, seat_costs}

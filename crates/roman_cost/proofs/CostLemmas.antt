@@ -1,5 +1,5 @@
 -- Listed costs, and their cells.
-use Rattle.roman_cost.proofs.Common.{◌≡◌, ◌≢◌, ℕ, zero, suc, ◌+◌, ◌-◌, ◌*◌, ◌<◌, ◌≤◌, Bool, true, false, cond, List, [], ◌∷◌, ◌++◌, length, get_or, Option, Some, None, unwrap_or, slice_index, All, IsTrue, IsFalse, inl, inr, refl, sym, ap, ◌∙◌, subst, arith, cond-false, cond-true, mul-add-lt, by_test, NamedSys, CostTable, listed_cost, seat_costs, cell_of, Listed, MAX_COST, ◌==◌, ◌&&◌, set, option_or, cases_order, eq-eqb, eqb-true, and_parts, and_from, get_or-set_same, get_or-set_other, length-set, HoldsCosts, cost_of}
+use Rattle.roman_cost.proofs.Common.{◌≡◌, ◌≢◌, ℕ, zero, suc, ◌+◌, ◌-◌, ◌*◌, ◌<◌, ◌≤◌, Bool, true, false, cond, List, [], ◌∷◌, ◌++◌, length, get_or, Option, Some, None, unwrap_or, slice_index, All, IsTrue, IsFalse, inl, inr, refl, sym, ap, ◌∙◌, subst, arith, ◌==◌, ◌&&◌, set, All-push, cond-false, cond-true, cases_order, eq-eqb, eqb-true, and_parts, and_from, mul-add-lt, by_test, NamedSys, CostTable, listed_cost, seat_costs, cell_of, HoldsCosts, cost_of, Listed, MAX_COST, option_or, get_or-set_same, get_or-set_other, length-set}
 
 -- One item more.
 
@@ -56,17 +56,11 @@ HoldsCosts-put table cells after item has lb la small new is =
     record {
       few_behaviours = has.few_behaviours;
       few_actions = has.few_actions;
-      small = small_push table.listed has.small;
+      small = All-push (λ x. x.cost ≤ MAX_COST) table.listed item has.small small;
       len = ap length is ∙ length-set cells (item.behaviour * table.actions + item.action) (item.cost + 1) ∙ has.len;
       cells = λ b a mb ma. ap (λ (xs : List ℕ). slice_index xs (b * table.actions + a)) is
           ∙ cell-put table.actions table.listed item cells b a ma la within new (has.cells b a mb ma);
     }
-  where
-    small_push : (listed : List Listed) → All (λ x. x.cost ≤ MAX_COST) listed → All (λ x. x.cost ≤ MAX_COST) (listed ++ item ∷ [])
-    small_push [] each zero d l = small
-    small_push [] each (suc k) d l = absurd (omega arith)
-    small_push (x ∷ listed) each zero d l = each zero d (omega arith)
-    small_push (x ∷ listed) each (suc k) d l = small_push listed (λ j e m. each (suc j) e (omega arith)) k d (omega arith)
 
 -- The bound of costs.
 

@@ -1,5 +1,5 @@
 -- The text of advice, one line after the other.
-use Rattle.roman_cost.proofs.Common.{◌≡◌, ℕ, suc, ◌+◌, ◌-◌, ◌<◌, ◌≤◌, List, [], ◌∷◌, ◌++◌, IsTrue, IsFalse, codes, decimal, length, drop, map, get_or, slice_get, Option, Some, refl, sym, ap, ap₂, ◌∙◌, arith, add-one, append_assoc, flat_map, cond-true, cond-false, length-map, get_or-map, below, Sys, Pair, IsSys, is_allowed, sizes_of, count, pair_at, is_related, Costs, allowed_actions, least, least_at, choice, through, related_great, length-below, get_or-below, numbers_are_pairs, choice_is, IsFilling, NamedSys, system_of, seat_of, worst_line, choice_line, value_line, value_lines, certificate_text, advice_text, seat_costs, Listed, Seat, option_map, drop-cons, drop_all, slice_get-map, get_or_from_slice_get, name_at, fill_whole, seat_name, value_head, value_tail, service_text}
+use Rattle.roman_cost.proofs.Common.{◌≡◌, ℕ, suc, ◌+◌, ◌-◌, ◌<◌, ◌≤◌, List, [], ◌∷◌, ◌++◌, IsTrue, IsFalse, codes, decimal, length, drop, map, get_or, slice_get, Option, Some, refl, sym, ap, ap₂, ◌∙◌, arith, add-one, append_assoc, flat_map, cond-true, cond-false, length-map, get_or-map, drop_all, below, Sys, Pair, IsSys, is_allowed, sizes_of, count, pair_at, is_related, Costs, allowed_actions, least, least_at, choice, through, related_great, length-below, get_or-below, numbers_are_pairs, choice_is, IsFilling, fill_whole, fill_same, NamedSys, system_of, seat_of, worst_line, choice_line, value_line, value_lines, certificate_text, advice_text, value_head, value_tail, service_text, seat_costs, Listed, Seat, option_map, drop-cons, slice_get-map, get_or_from_slice_get, name_at, seat_name}
 use Rattle.std.specs.List.{filter}
 use Rattle.std.proofs.lemmas.List.{append-nil}
 use Rattle.roman_cost.proofs.OfferedSeats.{offered}
@@ -20,7 +20,7 @@ named seats k seat h = get_or_from_slice_get (map seat_name seats) k seat.name [
 -- ---- texts of a list's items
 
 -- the next text of a whole, as the code takes it
-pub as_taken : (whole text rest piece : List ℕ) → whole ≡ text ++ rest → piece ≡ text → whole ≡ piece ++ rest
+as_taken : (whole text rest piece : List ℕ) → whole ≡ text ++ rest → piece ≡ text → whole ≡ piece ++ rest
 as_taken whole text rest piece next is = next ∙ ap (λ (t : List ℕ). t ++ rest) (sym is)
 
 -- the next text is that of the item at a place
@@ -56,10 +56,15 @@ pub choices_from : NamedSys → Costs → ℕ → Pair → ℕ → List ℕ
 choices_from n C h p a = flat_map (choice_line n C h p) (filter (is_allowed (system_of n) p) (drop a (below (system_of n).env.actions)))
 
 -- the line of an allowed action comes next
-pub next_choice : (n : NamedSys) (C : Costs) (h : ℕ) (p : Pair) (a : ℕ) → a < (system_of n).env.actions → IsTrue (is_allowed (system_of n) p a) →
+next_choice : (n : NamedSys) (C : Costs) (h : ℕ) (p : Pair) (a : ℕ) → a < (system_of n).env.actions → IsTrue (is_allowed (system_of n) p a) →
     choices_from n C h p a ≡ choice_line n C h p a ++ choices_from n C h p (a + 1)
 unfolding choices_from
 next_choice n C h p a l allowed = grind (arith, cond-true, from_place)
+
+-- the line of an allowed action is taken next
+pub choice_taken : (old now : Option (List ℕ)) (held all : List ℕ) (n : NamedSys) (C : Costs) (h : ℕ) (p : Pair) (a : ℕ) (piece : List ℕ) → a < (system_of n).env.actions → IsTrue (is_allowed (system_of n) p a) →
+    piece ≡ choice_line n C h p a → IsFilling old now held (choices_from n C h p a) all → IsFilling old now held (piece ++ choices_from n C h p (a + 1)) all
+choice_taken old now held all n C h p a piece l allowed is filling = fill_same _ _ _ _ _ _ (as_taken _ _ _ _ (next_choice n C h p a l allowed) is) filling
 
 -- an action that isn't allowed has no line
 pub next_unallowed : (n : NamedSys) (C : Costs) (h : ℕ) (p : Pair) (a : ℕ) → a < (system_of n).env.actions → IsFalse (is_allowed (system_of n) p a) → choices_from n C h p a ≡ choices_from n C h p (a + 1)

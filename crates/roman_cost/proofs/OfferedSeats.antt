@@ -1,13 +1,9 @@
 -- The offered seats of a related pair: each has outcomes, all of them are related, and its cost is the one that the definition gives.
-use Rattle.roman_cost.proofs.Common.{◌≡◌, ◌≢◌, ℕ, suc, ◌+◌, ◌*◌, ◌<◌, ◌≤◌, Bool, List, [], ◌∷◌, map, length, filter, slice_index, inl, inr, IsTrue, All, refl, sym, ap, ◌∙◌, subst, arith, IsIn, below, Sys, Pair, IsSys, IsPair, has, outcomes, is_allowed, sizes_of, count, pair_at, number, numbered, is_related, offers, Costs, max_over, first_least, least, least_at, choice, through, from_map, in_map, not_empty_in, ne_not_empty, outcome_pair, great_related, offer_is, numbers_are_pairs, max_over_le, number_listed, cond-true, has_seat_is, related_pairs, HavePlaces, ranked, IsRanked, AreSmall, MAX_COST, MAX_REQUESTS, not_empty_ne, in_not_empty, outcome_seat, through_numbered, max_over_same, HasBits, has_seat}
+use Rattle.roman_cost.proofs.Common.{Outcomes, AreOutcomes, ranked, IsRanked, AreSmall, IsPairWith, outcome_number, outcome_numbers, Sizes, sizes_of, count, pair_at, number, numbered, MAX_CELLS, in_flat_map, from_map, in_map, not_empty_in, ne_not_empty, outcome_pair, great_related, offer_is, numbers_are_pairs, max_over_le, number_listed, not_empty_ne, in_not_empty, outcome_seat, through_numbered, max_over_same, get_or, ◌≡◌, ◌≢◌, ℕ, suc, ◌+◌, ◌*◌, ◌<◌, ◌≤◌, Bool, List, [], ◌∷◌, map, length, filter, slice_index, inl, inr, IsTrue, All, refl, sym, ap, ◌∙◌, subst, arith, IsIn, below, Sys, Pair, IsSys, IsPair, has, outcomes, is_allowed, is_related, offers, Costs, max_over, first_least, least, least_at, choice, through, cond-true, has_seat_is, related_pairs, HavePlaces, MAX_COST, MAX_REQUESTS, HasBits, has_seat}
 use Rattle.std.proofs.Common.{flat_map}
 use Rattle.roman_cost.proofs.Best.{filter_has, first_least_same}
-use Rattle.roman_cost.proofs.Rows.{all_from}
+use Rattle.roman_cost.proofs.Rows.{all_from, in_at}
 use Rattle.roman_cost.proofs.Ranks.{in_related, ranked_value}
-
--- a seat whose bit is on is one of the offered seats
-pub seat_in : (seats : List ℕ) (bits k : ℕ) (has_it : Bool) → HasBits bits (has seats) → k < 32 → has_it ≡ has_seat bits k → IsTrue has_it → IsIn k seats
-seat_in seats bits k has_it tell l is it = number_listed seats k (sym (has_seat_is bits (has seats) k tell l) ∙ (sym is ∙ it))
 
 -- the facts about a seat that is offered for a at the pair with the number p
 pub record IsOffered (s : Sys) (p a k : ℕ) : Type 0 where
@@ -34,6 +30,13 @@ offered s p a k ok l i =
           in_related s q (subst (λ m. m < count n) (sym e) ((numbers_are_pairs s).below R there))
           (subst (λ X. IsTrue (is_related s X)) (sym back) (great_related s R ok (all R o)));
     }
+
+-- the same about a seat whose bit is on
+pub told_offered : (s : Sys) (p a k bits : ℕ) (has_it : Bool) → IsSys s → p < count (sizes_of s) → HasBits bits (has (offers s (pair_at (sizes_of s) p) a)) → k < 32 → has_it ≡ has_seat bits k → IsTrue has_it →
+    IsOffered s p a k
+told_offered s p a k bits has_it ok l tell few is it =
+    let seats = offers s (pair_at (sizes_of s) p) a in
+    offered s p a k ok l (number_listed seats k (sym (has_seat_is bits (has seats) k tell few) ∙ (sym is ∙ it)))
 
 pub offered_ranked : (s : Sys) (p a k : ℕ) (ranks row : List ℕ) → IsOffered s p a k → HavePlaces (related_pairs s) ranks → length row ≡ length (related_pairs s) →
     All (IsRanked ranks row) ((numbered s).outcomes p a k)
@@ -66,7 +69,7 @@ pub offers_among : (s : Sys) (P : Pair) (a : ℕ) → IsTrue (is_allowed s P a) 
 offers_among s P a allowed = grind (arith, cond-true, filter_has)
 
 -- if a delegation has outcomes, the seat goes to some state
-pub states_some : (g : ℕ → ℕ → ℕ) (envs states : List ℕ) → flat_map (λ e. map (g e) states) envs ≢ [] → 0 < length states
+states_some : (g : ℕ → ℕ → ℕ) (envs states : List ℕ) → flat_map (λ e. map (g e) states) envs ≢ [] → 0 < length states
 states_some g envs [] some = absurd (some (none envs))
   where
     none : (es : List ℕ) → flat_map (λ e. map (g e) []) es ≡ []
@@ -75,10 +78,22 @@ states_some g envs [] some = absurd (some (none envs))
 states_some g envs (b ∷ states) some = omega arith
 
 -- a property of all elements holds of each
-pub all_in : {X : Type 0} (P : X → Type 0) (xs : List X) (x : X) → All P xs → IsIn x xs → P x
+all_in : {X : Type 0} (P : X → Type 0) (xs : List X) (x : X) → All P xs → IsIn x xs → P x
 all_in P [] x each i = absurd i
 all_in P (y ∷ xs) x each (inl e) = subst P (sym e) (each 0 y (omega arith))
 all_in P (y ∷ xs) x each (inr i) = all_in P xs x (λ k d l. each (suc k) d (omega arith)) i
+
+-- the outcomes of a delegation have 32 bits, and each property of all of them
+pub are_outcomes : (n : Sizes) (k : ℕ) (P : ℕ → Type 0) (o : Outcomes) (numbers : List ℕ) → numbers ≡ outcome_numbers o → numbers ≢ [] → All P numbers →
+    ((e b : ℕ) → IsIn e o.envs.now → IsIn b o.states.now → IsPairWith n k (outcome_number o e b) e b) → count n ≤ MAX_CELLS → AreOutcomes P o
+are_outcomes n k P o numbers is some all places few = record {
+  envs = λ i d l.
+      let states : 0 < length o.states.now = states_some (outcome_number o) o.envs.now o.states.now (λ e. some (is ∙ e)) in
+      omega (arith, (places (get_or o.envs.now i d) (get_or o.states.now 0 0) (in_at o.envs.now i d l) (in_at o.states.now 0 0 states)).below);
+  fits = λ i d l j e m. omega (arith, (places (get_or o.envs.now i d) (get_or o.states.now j e) (in_at o.envs.now i d l) (in_at o.states.now j e m)).below);
+  each = λ i d l j e m. all_in P numbers (outcome_number o (get_or o.envs.now i d) (get_or o.states.now j e)) all
+      (rw is (in_flat_map _ (get_or o.envs.now i d) _ o.envs.now (in_at o.envs.now i d l) (in_map (outcome_number o (get_or o.envs.now i d)) (get_or o.states.now j e) o.states.now (in_at o.states.now j e m))));
+}
 
 -- the greatest value is within its bound
 pub greatest_small : (ranks row qs : List ℕ) → All (IsRanked ranks row) qs → AreSmall row → max_over (ranked ranks row) qs ≤ MAX_REQUESTS * MAX_COST

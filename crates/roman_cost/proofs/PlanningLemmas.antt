@@ -1,5 +1,5 @@
 -- The plans by offers are those by seats that serve, and their worst-case costs are the greatest that can occur.
-use Rattle.roman_cost.proofs.Common.{◌≡◌, ℕ, zero, suc, ◌+◌, ◌<◌, ◌≤◌, List, [], ◌∷◌, IsTrue, inl, inr, refl, sym, ap, ◌∙◌, subst, arith, max, IsIn, below, Sys, Pair, IsSys, IsPair, outcomes, is_allowed, Great, offers, Costs, max_over, allowed_actions, least, through, choice, by_test, in_filter, in_below, not_empty_in, ne_not_empty, allowed_in_range, from_allowed, outcome_pair, offer_is, choice_is, ◌⊎◌, le-max_left, le-max_right, max-le, leb-true, leb-false, slice_get_within, Allows, couple, Serves, GreatCouple, Plan, Leaf, Node, IsPlan, worst, chosen, allowed_in, outcome_in, from_outcome, offers_are, plans_least, LeadsTo, IsServingPlan, Event, MayCome, cost_of_events, IsWorstCost, IsLeastCost, CostsBy, IsCheapest}
+use Rattle.roman_cost.proofs.Common.{◌≡◌, ℕ, zero, suc, ◌+◌, ◌<◌, ◌≤◌, List, [], ◌∷◌, IsTrue, inl, inr, refl, sym, ap, ◌∙◌, subst, arith, ◌⊎◌, max, IsIn, below, Sys, Pair, IsSys, IsPair, Allows, outcomes, is_allowed, Great, couple, Serves, GreatCouple, offers, Costs, max_over, allowed_actions, least, through, choice, Plan, Leaf, Node, IsPlan, worst, chosen, by_test, in_filter, in_below, not_empty_in, ne_not_empty, allowed_in_range, from_allowed, outcome_pair, offer_is, choice_is, allowed_in, outcome_in, from_outcome, offers_are, plans_least, le-max_left, le-max_right, max-le, leb-true, leb-false, slice_get_within, LeadsTo, IsServingPlan, Event, MayCome, cost_of_events, IsWorstCost, IsLeastCost, CostsBy, IsCheapest}
 
 -- Plans.
 

@@ -1,5 +1,5 @@
 -- The related pairs, and their ranks.
-use Rattle.roman_cost.proofs.Common.{◌≡◌, ℕ, zero, suc, ◌+◌, ◌*◌, ◌<◌, ◌≤◌, Bool, true, false, cond, List, [], ◌∷◌, ◌++◌, map, length, get_or, filter, slice_index, IsTrue, sym, ap, ◌∙◌, subst, arith, add-one, append-nil, length-append, length-map, get_or-map, map_push, IsIn, below, Sys, IsSys, IsPair, sizes_of, count, pair_at, is_related, Costs, least_at, Great, numbers_are_pairs, great_related, related_great, same_test, filter_in, in_filter, in_below, from_below, length-below, get_or-below, filter_below_more, rank, related_pairs, HavePlaces, AdviceTable, Advises, ranked, ◌↔◌, rank_at, table_at}
+use Rattle.roman_cost.proofs.Common.{◌≡◌, ℕ, zero, suc, ◌+◌, ◌*◌, ◌<◌, ◌≤◌, Bool, List, [], ◌∷◌, ◌++◌, map, length, get_or, filter, slice_index, IsTrue, sym, ap, ◌∙◌, subst, arith, add-one, length-append, ◌↔◌, length-map, get_or-map, map_push, IsIn, below, Sys, IsSys, IsPair, sizes_of, count, pair_at, is_related, Costs, least_at, Great, numbers_are_pairs, great_related, related_great, same_test, filter_in, in_filter, in_below, from_below, length-below, get_or-below, filter_below_more, rank, rank_at, related_pairs, HavePlaces, ranked}
 
 -- whether the pair with that number is related
 abbrev pub related_at : Sys → ℕ → Bool
@@ -28,14 +28,6 @@ pub ranks_more : (q : ℕ → Bool) (n : ℕ) (ranks new : List ℕ) (r : ℕ) �
 ranks_more q n ranks new r before is next =
     next ∙ ap (λ xs. xs ++ r ∷ []) before ∙ ap (λ k. map (rank q) (below n) ++ k ∷ []) is ∙ sym (map_push (rank q) (below n) n) ∙ ap (λ m. map (rank q) (below m)) (sym (add-one n))
 
-pub pairs_taken : (q : ℕ → Bool) (n : ℕ) (pairs new : List ℕ) → q n ≡ true → pairs ≡ filter q (below n) → new ≡ pairs ++ n ∷ [] → new ≡ filter q (below (n + 1))
-pairs_taken q n pairs new passes before next =
-    next ∙ ap (λ xs. xs ++ n ∷ []) before ∙ ap (λ b. filter q (below n) ++ cond b (n ∷ []) []) (sym passes) ∙ sym (filter_below_more q n) ∙ ap (λ m. filter q (below m)) (sym (add-one n))
-
-pub pairs_passed : (q : ℕ → Bool) (n : ℕ) (pairs : List ℕ) → q n ≡ false → pairs ≡ filter q (below n) → pairs ≡ filter q (below (n + 1))
-pairs_passed q n pairs fails before =
-    before ∙ sym (append-nil (filter q (below n))) ∙ ap (λ b. filter q (below n) ++ cond b (n ∷ []) []) (sym fails) ∙ sym (filter_below_more q n) ∙ ap (λ m. filter q (below m)) (sym (add-one n))
-
 -- the ranks after all numbers below n are seen
 pub ranks_done : (q : ℕ → Bool) (n : ℕ) (pairs ranks : List ℕ) → pairs ≡ filter q (below n) → ranks ≡ map (rank q) (below n) → HavePlaces pairs ranks
 ranks_done q n pairs ranks ps rs = subst (λ xs. HavePlaces xs ranks) (sym ps) (subst (λ xs. HavePlaces (filter q (below n)) xs) (sym rs) (record {
@@ -55,12 +47,6 @@ ranks_done q n pairs ranks ps rs = subst (λ xs. HavePlaces xs ranks) (sym ps) (
 
     is : (p : ℕ) → p < n → slice_index (map (rank q) (below n)) p ≡ rank q p
     is p l = get_or-map (rank q) (below n) p 0 0 (subst (λ m. p < m) (sym (length-below n)) l) ∙ ap (rank q) (get_or-below n p 0 l)
-
--- the value that a table has for h requests at a pair of rank r
-pub value_at : (s : Sys) (C : Costs) (table : AdviceTable) (h p r v : ℕ) → Advises s C table → h ≤ table.requests → r < length table.pairs → slice_index table.pairs r ≡ p →
-    v ≡ slice_index table.values (h * length table.pairs + r) → v ≡ least_at s C h p
-value_at s C table h p r v says few l at is =
-    is ∙ ap (λ xs. get_or xs (h * length table.pairs + r) 0) says.values ∙ table_at (least_at s C) table.pairs (suc table.requests) h r 0 0 (omega arith) l ∙ ap (least_at s C h) at
 
 -- the value of a related pair, in a row for all of them
 pub ranked_value : (s : Sys) (C : Costs) (h : ℕ) (pairs ranks row : List ℕ) (p : ℕ) → HavePlaces pairs ranks → IsIn p pairs → row ≡ map (least_at s C h) pairs →

@@ -1,5 +1,5 @@
 -- Rows of values: their places and their bounds.
-use Rattle.roman_cost.proofs.Common.{◌≡◌, ℕ, zero, suc, ◌+◌, ◌-◌, ◌*◌, ◌<◌, ◌≤◌, List, [], ◌∷◌, ◌++◌, map, length, get_or, take, drop, All, refl, sym, ap, ap₂, ◌∙◌, inl, inr, arith, append_assoc, append-nil, length-append, length-drop, length-map, take_more, map_push, IsIn, below, Sys, sizes_of, pair_at, Costs, least_at, from_map, from_below, flat_map_row, length_rows, related_pairs, value_rows, AdviceTable, Advises, AreSmall, MAX_COST, MAX_REQUESTS, replicate, slice_range, mul-le-mul_left, take-nil, take-length, drop-append_seam, cases_eq, take-append-le, drop-append-le, from_flat_map, least_bound}
+use Rattle.roman_cost.proofs.Common.{◌≡◌, ℕ, zero, suc, ◌+◌, ◌-◌, ◌*◌, ◌<◌, ◌≤◌, List, [], ◌∷◌, ◌++◌, map, length, get_or, take, drop, All, refl, sym, ap, ap₂, ◌∙◌, inl, inr, arith, append_assoc, append-nil, length-append, replicate, slice_range, length-drop, length-map, take_more, map_push, take-append-le, drop-append-le, IsIn, below, Sys, sizes_of, pair_at, Costs, least_at, from_map, from_below, flat_map_row, length_rows, from_flat_map, least_bound, related_pairs, value_rows, AdviceTable, Advises, AreSmall, MAX_COST, MAX_REQUESTS, mul-le-mul_left, take-nil, take-length, drop-append_seam, cases_eq}
 
 -- the element at a place is in the list
 pub in_at : {X : Type 0} (xs : List X) (i : ℕ) (d : X) → i < length xs → IsIn (get_or xs i d) xs

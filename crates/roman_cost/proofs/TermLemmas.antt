@@ -1,7 +1,8 @@
 -- The values of the terms of related pairs.
-use Rattle.roman_cost.proofs.Common.{◌≡◌, ◌≢◌, ℕ, zero, suc, ◌+◌, ◌-◌, ◌*◌, ◌<◌, ◌≤◌, Bool, true, false, cond, List, [], ◌∷◌, ◌++◌, map, length, take, drop, filter, Option, Some, None, unwrap_or, slice_index, IsTrue, refl, sym, ap, ap₂, ◌∙◌, inl, inr, subst, arith, append_assoc, append-nil, add-one, max, flat_map, take_all, length-drop, IsIn, below, Sys, Pair, IsSys, is_allowed, sizes_of, count, pair_at, numbered, offers, Costs, max_over, least_from, first_least, least, least_at, choice, through, allowed_actions, filter_in, filter_below_more, max_over_le, related_great, numbers_are_pairs, choice_is, related_offers, related_pairs, HavePlaces, ranked, AreSmall, nothing_yet, worked_out, outcome_terms, service_terms, action_terms, pair_terms, MAX_COST, MAX_REQUESTS, Term, min, take-append-drop, map-append, flat_map-append, in_append_left, in_append_right, cheaper_of}
+use Rattle.roman_cost.proofs.Common.{◌≡◌, ◌≢◌, ℕ, zero, suc, ◌+◌, ◌-◌, ◌*◌, ◌<◌, ◌≤◌, Bool, true, false, List, [], ◌∷◌, ◌++◌, map, length, take, drop, filter, Option, Some, None, unwrap_or, slice_index, IsTrue, refl, sym, ap, ap₂, ◌∙◌, inl, inr, subst, arith, append_assoc, append-nil, max, min, flat_map, take_all, length-drop, take-append-drop, map-append, IsIn, below, Sys, Pair, IsSys, is_allowed, sizes_of, count, pair_at, numbered, offers, Costs, max_over, least_from, first_least, least, least_at, choice, through, allowed_actions, filter_in, max_over_le, related_great, numbers_are_pairs, choice_is, related_offers, in_append_left, in_append_right, related_pairs, HavePlaces, ranked, AreSmall, nothing_yet, worked_out, outcome_terms, service_terms, action_terms, pair_terms, cheaper_of, MAX_COST, MAX_REQUESTS, Term, flat_map-append}
 use Rattle.roman_cost.specs.declared.terms.Term.TheVariants as term
 use Rattle.roman_cost.proofs.OfferedSeats.{cost_by, cost_is, best_is_choice}
+use Rattle.roman_cost.proofs.Best.{filter_taken, filter_passed}
 use Rattle.roman_cost.proofs.Ranks.{from_related, related_at}
 
 -- Lists that grow.
@@ -9,17 +10,11 @@ use Rattle.roman_cost.proofs.Ranks.{from_related, related_at}
 -- the list after one number more below the bound, which passes or doesn't
 pub flat_taken : {X : Type 0} (f : ℕ → List X) (p : ℕ → Bool) (k : ℕ) (old terms new : List X) → p k ≡ true → terms ≡ old ++ flat_map f (filter p (below k)) → new ≡ terms ++ f k →
     new ≡ old ++ flat_map f (filter p (below (k + 1)))
-flat_taken f p k old terms new passes before is =
-    is ∙ ap (λ xs. xs ++ f k) before ∙ append_assoc old (flat_map f (filter p (below k))) (f k) ∙ ap (λ xs. old ++ xs)
-    (ap (λ xs. flat_map f (filter p (below k)) ++ xs) (sym (append-nil (f k))) ∙ sym (flat_map-append f (filter p (below k)) (k ∷ []))
-    ∙ ap (λ b. flat_map f (filter p (below k) ++ cond b (k ∷ []) [])) (sym passes) ∙ ap (flat_map f) (sym (filter_below_more p k)) ∙ ap (λ n. flat_map f (filter p (below n))) (sym (add-one k)))
+flat_taken f p k old terms new passes before is = grind (arith, append-nil, append_assoc, filter_taken, flat_map-append)
 
 pub flat_passed : {X : Type 0} (f : ℕ → List X) (p : ℕ → Bool) (k : ℕ) (old terms : List X) → p k ≡ false → terms ≡ old ++ flat_map f (filter p (below k)) →
     terms ≡ old ++ flat_map f (filter p (below (k + 1)))
-flat_passed f p k old terms fails before =
-    before ∙ ap (λ xs. old ++ xs)
-    (ap (flat_map f) (sym (append-nil (filter p (below k)))) ∙ ap (λ b. flat_map f (filter p (below k) ++ cond b (k ∷ []) [])) (sym fails) ∙ ap (flat_map f) (sym (filter_below_more p k))
-    ∙ ap (λ n. flat_map f (filter p (below n))) (sym (add-one k)))
+flat_passed f p k old terms fails before = grind (arith, filter_passed)
 
 -- Values.
 

@@ -138,7 +138,7 @@ impl Advice {
         ensures { (s : Sys) (C : plans.Costs) → Advises s C self.now → result ≡ least_at s C h p }
     {
         let rank = self.ranks[p as usize];
-        self.values[h as usize * self.pairs.len() + rank as usize]
+        self.row(h)[rank as usize]
     }
 
     // Returns the row of values for `h` requests: the least worst-case cost at each of the pairs.

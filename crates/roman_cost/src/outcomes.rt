@@ -1,8 +1,8 @@
 //! Computes the worst-case value of the outcomes of a delegation.
 ghost use Rattle.std.specs.Prelude.{◌≡◌, ◌+◌, ◌*◌, ◌^◌, ◌<◌, All, max};
 ghost use Rattle.roman_model.specs.Plans.{max_over};
-ghost use Rattle.roman_joint.specs.Outcomes.{outcome_number, outcome_numbers};
-ghost use Rattle.roman_cost.specs.Filling.{ranked, IsRanked};
+ghost use Rattle.roman_joint.specs.Outcomes.{outcome_numbers};
+ghost use Rattle.roman_cost.specs.Filling.{ranked, AreOutcomes, IsRanked};
 
 use roman_joint::Outcomes;
 
@@ -15,9 +15,7 @@ pub(crate) fn greater(a: u32, b: u32) -> u32
 
 /// Returns the greatest value of the outcomes, or 0 if there are none.
 pub(crate) fn greatest_outcome(ranks: &[u32], row: &[u32], outcomes: Outcomes<'_>) -> u32
-    requires envs { All (λ e. outcomes.base + e * outcomes.env_stride < 2 ^ 32) outcomes.envs.now }
-    requires ranked { All (λ e. All (λ b. IsRanked ranks.now row.now (outcome_number outcomes e b)) outcomes.states.now) outcomes.envs.now }
-    requires fits { All (λ e. All (λ b. outcome_number outcomes e b < 2 ^ 32) outcomes.states.now) outcomes.envs.now }
+    requires { AreOutcomes (IsRanked ranks.now row.now) outcomes }
     ensures { result ≡ max_over (ranked ranks.now row.now) (outcome_numbers outcomes.entry) }
 {
     let Outcomes {

@@ -5,9 +5,10 @@ ghost use Rattle.roman_model.specs.SystemArena.{is_allowed};
 ghost use Rattle.roman_model.specs.Numbers.{sizes_of, count, pair_at, numbered};
 ghost use Rattle.roman_model.specs.Offers.{is_related};
 ghost use Rattle.roman_joint.specs.NamedSys.{system_of};
-ghost use Rattle.roman_joint.specs.Outcomes.{outcome_number, outcome_numbers};
+ghost use Rattle.roman_joint.specs.Outcomes.{outcome_numbers};
 ghost use Rattle.roman_relation.specs.Greatest.{IsRelation};
 ghost use Rattle.roman_cost.specs.Advised.{related_pairs, HavePlaces};
+ghost use Rattle.roman_cost.specs.Filling.{AreOutcomes};
 ghost use Rattle.roman_cost.specs.Tables.{seat_costs, AreOf};
 ghost use Rattle.roman_cost.specs.Terms.{nothing_yet, cheaper_of, stepped, worked_out, outcome_terms, service_terms, action_terms, pair_terms};
 
@@ -205,9 +206,7 @@ fn push_outcomes(
     ranks: &[u32],
     outcomes: Outcomes<'_>,
 ) -> Result<(), AllocError>
-    requires envs { All (λ e. outcomes.base + e * outcomes.env_stride < 2 ^ 32) outcomes.envs.now }
-    requires ranked { All (λ e. All (λ b. outcome_number outcomes e b < length ranks.now) outcomes.states.now) outcomes.envs.now }
-    requires fits { All (λ e. All (λ b. outcome_number outcomes e b < 2 ^ 32) outcomes.states.now) outcomes.envs.now }
+    requires { AreOutcomes (λ q. q < length ranks.now) outcomes }
     ensures { OnOk result (terms.new.items ≡ terms.old.items ++ outcome_terms ranks.now (outcome_numbers outcomes.entry)) }
 {
     let Outcomes {

@@ -1,5 +1,6 @@
-use Rattle.roman_cost.proofs.Common.{◌≡◌, ◌<◌, ℕ, Bool, Vec, Global, length, ap, sym, ◌∙◌, arith, rank, sizes_of, count, system_of}
-use Rattle.roman_cost.proofs.Ranks.{related_at, told_related, rank-le, ranks_more, pairs_taken, pairs_passed, ranks_done}
+use Rattle.roman_cost.proofs.Common.{◌≡◌, ◌<◌, ℕ, Bool, Vec, Global, List, [], ◌∷◌, ◌++◌, length, ap, sym, ◌∙◌, arith, rank, sizes_of, count, system_of}
+use Rattle.roman_cost.proofs.Best.{filter_taken, filter_passed}
+use Rattle.roman_cost.proofs.Ranks.{related_at, told_related, rank-le, ranks_more, ranks_done}
 use Rattle.roman_cost.proofs.filling.ranked_pairs.Goals as goal
 use Rattle.roman_cost.proofs.filling.ranked_pairs.Goals.{then-related+in_ok-push-2, else-related}
 
@@ -16,8 +17,8 @@ loop-p-preserved c =
     let r : c.len.result ≡ rank q p = let own : c.len.result ≡ length c.loop-p.pairs.items = omega (arith, c.len.ensures, c.loop-p.pairs.ok.0) in own ∙ ap length c.loop-p.invariant.pairs in
     record {
       pairs = elim c.if-related.branch [
-        | then-related+in_ok-push-2 w ↦ ap (λ (v : Vec ℕ Global). v.items) w.pairs-is ∙ pairs_taken q p c.loop-p.pairs.items _ (sym told ∙ w.if-related.true) c.loop-p.invariant.pairs w.in_ok-push-2.ensures.items
-        | else-related w ↦ ap (λ (v : Vec ℕ Global). v.items) w.pairs-is ∙ pairs_passed q p c.loop-p.pairs.items (sym told ∙ w.if-related.false) c.loop-p.invariant.pairs
+        | then-related+in_ok-push-2 w ↦ ap (λ (v : Vec ℕ Global). v.items) w.pairs-is ∙ w.in_ok-push-2.ensures.items ∙ ap (λ (ps : List ℕ). ps ++ p ∷ []) c.loop-p.invariant.pairs ∙ sym (filter_taken q p (sym told ∙ w.if-related.true))
+        | else-related w ↦ ap (λ (v : Vec ℕ Global). v.items) w.pairs-is ∙ c.loop-p.invariant.pairs ∙ sym (filter_passed q p (sym told ∙ w.if-related.false))
       ];
       ranks = ranks_more q p c.loop-p.ranks.items c.push.new.self.items c.len.result c.loop-p.invariant.ranks r c.in_ok-push.ensures.items;
     }

@@ -18,5 +18,5 @@ returns c =
 pub greatest_state-value-requires-clause-ranked : goal.greatest_state-value-requires-clause-ranked
 greatest_state-value-requires-clause-ranked c = λ j e m.
     let o = c.args.outcomes in
-    let at = c.requires.ranked c.loop-env.env-index 0 c.loop-env-test.true j e m in
+    let at = c.requires.each c.loop-env.env-index 0 c.loop-env-test.true j e m in
     rw c.from.ensures at

@@ -1,6 +1,6 @@
-use Rattle.roman_cost.proofs.Common.{◌≡◌, ℕ, List, Option, Some, ◌<◌, ◌≤◌, length, filter, IsTrue, refl, sym, ap, ◌∙◌, subst, arith, length-map, IsIn, below, sizes_of, count, pair_at, is_related, offers, first_least, least, choice, through, choice_is, related_great, numbers_are_pairs, related_offers, has, Sys, Pair, is_allowed, has_seat_is, NamedSys, system_of, seat_of, seat_costs, Listed, IsSome, same_Some, IsNamedSys}
+use Rattle.roman_cost.proofs.Common.{◌≡◌, ℕ, List, Option, Some, ◌<◌, ◌≤◌, length, filter, IsTrue, refl, sym, ap, ◌∙◌, subst, arith, IsSome, length-map, below, sizes_of, count, pair_at, is_related, offers, first_least, least, choice, through, choice_is, related_great, numbers_are_pairs, related_offers, has, Sys, Pair, is_allowed, has_seat_is, NamedSys, system_of, seat_of, IsNamedSys, seat_costs, Listed, same_Some}
 use Rattle.roman_cost.proofs.Best.{best_of, best_of-taken, best_of-passed, best_of-first}
-use Rattle.roman_cost.proofs.OfferedSeats.{seat_in, offered, offered_ranked, offers_among, cost_by, cost_is, best_is_choice}
+use Rattle.roman_cost.proofs.OfferedSeats.{told_offered, offered_ranked, offers_among, cost_by, cost_is, best_is_choice}
 use Rattle.roman_cost.proofs.seats.cheapest.Goals as goal
 use Rattle.roman_cost.proofs.seats.cheapest.Goals.{then-has, else-has}
 
@@ -12,25 +12,15 @@ abbrev at : NamedSys → ℕ → Pair
 at n p = pair_at (sizes_of (system_of n)) p
 
 pub cost_through-cost-requires-clause-ready : goal.cost_through-cost-requires-clause-ready
-cost_through-cost-requires-clause-ready c =
-    let s = system_of c.args.joint.now in
-    let P = pair_at (sizes_of s) c.args.p in
-    let i : IsIn c.loop-k.k (offers s P c.args.a) = seat_in (offers s P c.args.a) c.args.offered c.loop-k.k c.has.result c.requires.offered (omega arith) c.has.ensures c.if-has.true in
-    (offered s c.args.p c.args.a c.loop-k.k c.known.ensures.system c.requires.pair i).ready
+cost_through-cost-requires-clause-ready c = (told_offered (system_of c.args.joint.now) c.args.p c.args.a c.loop-k.k _ _ c.known.ensures.system c.requires.pair c.requires.offered (omega arith) c.has.ensures c.if-has.true).ready
 
 pub cost_through-cost-requires-clause-some : goal.cost_through-cost-requires-clause-some
-cost_through-cost-requires-clause-some c =
-    let s = system_of c.args.joint.now in
-    let P = pair_at (sizes_of s) c.args.p in
-    let i : IsIn c.loop-k.k (offers s P c.args.a) = seat_in (offers s P c.args.a) c.args.offered c.loop-k.k c.has.result c.requires.offered (omega arith) c.has.ensures c.if-has.true in
-    (offered s c.args.p c.args.a c.loop-k.k c.known.ensures.system c.requires.pair i).some
+cost_through-cost-requires-clause-some c = (told_offered (system_of c.args.joint.now) c.args.p c.args.a c.loop-k.k _ _ c.known.ensures.system c.requires.pair c.requires.offered (omega arith) c.has.ensures c.if-has.true).some
 
 pub cost_through-cost-requires-clause-ranked : goal.cost_through-cost-requires-clause-ranked
 cost_through-cost-requires-clause-ranked c =
-    let s = system_of c.args.joint.now in
-    let P = pair_at (sizes_of s) c.args.p in
-    let i : IsIn c.loop-k.k (offers s P c.args.a) = seat_in (offers s P c.args.a) c.args.offered c.loop-k.k c.has.result c.requires.offered (omega arith) c.has.ensures c.if-has.true in
-    offered_ranked s c.args.p c.args.a c.loop-k.k c.args.ranks.now c.args.row.now (offered s c.args.p c.args.a c.loop-k.k c.known.ensures.system c.requires.pair i) c.requires.ranks c.requires.row
+    offered_ranked _ _ _ _ _ _ (told_offered (system_of c.args.joint.now) c.args.p c.args.a c.loop-k.k _ _ c.known.ensures.system c.requires.pair c.requires.offered (omega arith) c.has.ensures c.if-has.true)
+    c.requires.ranks c.requires.row
 
 pub loop-k-preserved : goal.loop-k-preserved
 loop-k-preserved c = grind (arith, best_of-passed, best_of-taken, cost_by, else-has, has_seat_is, then-has)

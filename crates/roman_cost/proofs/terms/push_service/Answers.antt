@@ -1,6 +1,5 @@
-use Rattle.roman_cost.proofs.Common.{◌≢◌, ◌<◌, [], get_or, length, All, ◌∙◌, subst, arith, IsIn, sizes_of, pair_at, in_map, in_flat_map, allowed_in_range, system_of, outcome_number, outcome_numbers}
-use Rattle.roman_cost.proofs.OfferedSeats.{states_some, all_in}
-use Rattle.roman_cost.proofs.Rows.{in_at}
+use Rattle.roman_cost.proofs.Common.{◌<◌, arith, sizes_of, pair_at, allowed_in_range, system_of}
+use Rattle.roman_cost.proofs.OfferedSeats.{are_outcomes}
 use Rattle.roman_cost.proofs.terms.push_service.Goals as goal
 
 pub cost-cost-requires-clause-action : goal.cost-cost-requires-clause-action
@@ -9,24 +8,5 @@ cost-cost-requires-clause-action c =
     let l : c.args.a < s.env.actions = allowed_in_range s (pair_at (sizes_of s) c.args.p) c.args.a c.known.ensures.system c.requires.allowed in
     omega (arith, l, c.requires.costs.env_actions)
 
-pub push_outcomes-requires-clause-envs : goal.push_outcomes-requires-clause-envs
-push_outcomes-requires-clause-envs c = λ i d l.
-    let o = c.outcomes-outcomes.result in
-    let some : outcome_numbers o ≢ [] = λ e. c.requires.some (c.outcomes-outcomes.ensures.numbers ∙ e) in
-    let there : IsIn (get_or o.states.now 0 0) o.states.now = in_at o.states.now 0 0 (states_some (outcome_number o) o.envs.now o.states.now some) in
-    let at = c.outcomes-outcomes.ensures.places (get_or o.envs.now i d) (get_or o.states.now 0 0) (in_at o.envs.now i d l) there in
-    omega (arith, at.below, c.outcomes-outcomes.ensures.few)
-
-pub push_outcomes-requires-clause-ranked : goal.push_outcomes-requires-clause-ranked
-push_outcomes-requires-clause-ranked c = λ i d l j e m.
-    let o = c.outcomes-outcomes.result in
-    let all : All (λ q. q < length c.args.ranks.now) (outcome_numbers o) = subst (All (λ q. q < length c.args.ranks.now)) c.outcomes-outcomes.ensures.numbers c.requires.ranked in
-    all_in (λ q. q < length c.args.ranks.now) (outcome_numbers o) (outcome_number o (get_or o.envs.now i d) (get_or o.states.now j e)) all
-    (in_flat_map _ (get_or o.envs.now i d) (outcome_number o (get_or o.envs.now i d) (get_or o.states.now j e)) o.envs.now (in_at o.envs.now i d l)
-    (in_map (outcome_number o (get_or o.envs.now i d)) (get_or o.states.now j e) o.states.now (in_at o.states.now j e m)))
-
-pub push_outcomes-requires-clause-fits : goal.push_outcomes-requires-clause-fits
-push_outcomes-requires-clause-fits c = λ i d l j e m.
-    let o = c.outcomes-outcomes.result in
-    let at = c.outcomes-outcomes.ensures.places (get_or o.envs.now i d) (get_or o.states.now j e) (in_at o.envs.now i d l) (in_at o.states.now j e m) in
-    omega (arith, at.below, c.outcomes-outcomes.ensures.few)
+pub push_outcomes-requires : goal.push_outcomes-requires
+push_outcomes-requires c = are_outcomes _ _ _ _ _ c.outcomes-outcomes.ensures.numbers c.requires.some c.requires.ranked c.outcomes-outcomes.ensures.places c.outcomes-outcomes.ensures.few
