@@ -12,8 +12,6 @@ pub use Rattle.std.proofs.lemmas.Result.{err_from_is_err_and}
 pub use Rattle.std.specs.List.{flat_map}
 pub use Rattle.std.specs.Option.{option_map, option_or}
 pub use Rattle.std.specs.Prelude.{max, min}
-pub use Rattle.roman_io.proofs.CallerLemmas.{WrotePrefix-append}
-pub use Rattle.roman_io.specs.Sink.{WrotePrefix}
 pub use Rattle.roman_joint.specs.NamedSys.{IsNamedSys, NamedSys, seat_of, system_of}
 pub use Rattle.roman_joint.specs.Names.{beh_name, seat_name}
 pub use Rattle.roman_joint.specs.Outcomes.{IsPairWith, outcome_number, outcome_numbers}
@@ -35,8 +33,7 @@ pub use Rattle.roman_read.proofs.CallerLemmas.{IsLeft}
 pub use Rattle.roman_read.specs.Items.{each_item}
 pub use Rattle.roman_rules.proofs.CallerLemmas.{has_seat_is}
 pub use Rattle.roman_rules.specs.Bits.{HasBits, has_seat}
-pub use Rattle.roman_text.proofs.CallerLemmas.{Gathered-then, Gathers-after, IsFilling, WrotePrefix-gathered, fill_behind, fill_end, fill_failed, fill_more, fill_put, fill_same, fill_whole}
-pub use Rattle.roman_text.specs.Pages.{Gathers}
+pub use Rattle.roman_text.proofs.CallerLemmas.{IsFilling, fill_behind, fill_end, fill_failed, fill_last, fill_more, fill_put, fill_same, fill_whole}
 pub use Rattle.serde_json.proofs.Views.{items_len-items_view}
 pub use Rattle.serde_json.specs.View.{items_view}
 pub use Rattle.roman_cost.specs.AdviceText.{certificate_text, choice_line, service_text, value_head, value_line, value_lines, value_tail, worst_line}

@@ -1,5 +1,5 @@
 -- Listed costs, and their cells.
-use Rattle.roman_cost.proofs.Common.{◌≡◌, ◌≢◌, ℕ, zero, suc, ◌+◌, ◌-◌, ◌*◌, ◌<◌, ◌≤◌, Bool, true, false, cond, List, [], ◌∷◌, ◌++◌, length, get_or, Option, Some, None, unwrap_or, slice_index, All, IsTrue, IsFalse, inl, inr, refl, sym, ap, ◌∙◌, subst, arith, ◌==◌, ◌&&◌, set, All-push, cond-false, cond-true, cases_order, eq-eqb, eqb-true, and_parts, and_from, mul-add-lt, by_test, NamedSys, CostTable, listed_cost, seat_costs, cell_of, HoldsCosts, cost_of, Listed, MAX_COST, option_or, get_or-set_same, get_or-set_other, length-set}
+use Rattle.roman_cost.proofs.Common.{◌≡◌, ◌≢◌, ℕ, zero, suc, ◌+◌, ◌-◌, ◌*◌, ◌<◌, ◌≤◌, Bool, List, [], ◌∷◌, ◌++◌, length, get_or, Option, Some, None, unwrap_or, slice_index, All, IsTrue, IsFalse, inl, inr, refl, sym, ap, ◌∙◌, subst, arith, ◌==◌, ◌&&◌, set, All-push, cond-false, cond-true, cases_order, eq-eqb, eqb-true, and_parts, and_from, mul-add-lt, by_test, NamedSys, CostTable, listed_cost, seat_costs, cell_of, HoldsCosts, cost_of, Listed, MAX_COST, option_or, get_or-set_same, get_or-set_other, length-set}
 
 -- One item more.
 
@@ -66,12 +66,7 @@ HoldsCosts-put table cells after item has lb la small new is =
 
 pub cost_of_small : (listed : List Listed) → All (λ x. x.cost ≤ MAX_COST) listed → (b a : ℕ) → cost_of listed b a ≤ MAX_COST
 cost_of_small [] each b a = omega arith
-cost_of_small (x ∷ listed) each b a =
-    by (x.behaviour == b && x.action == a) (each zero x (omega arith)) (cost_of_small listed (λ k d l. each (suc k) d (omega arith)) b a)
-  where
-    by : (t : Bool) → x.cost ≤ MAX_COST → cost_of listed b a ≤ MAX_COST → unwrap_or (cond t (Some x.cost) (listed_cost listed b a)) 0 ≤ MAX_COST
-    by true here rest = here
-    by false here rest = rest
+cost_of_small (x ∷ listed) each b a = grind (arith, (each zero x (omega arith)), (cost_of_small listed (λ k d l. each (suc k) d (omega arith)) b a))
 
 pub seat_costs_small : (n : NamedSys) (listed : List Listed) → All (λ x. x.cost ≤ MAX_COST) listed → (k a : ℕ) → seat_costs n listed k a ≤ MAX_COST
 seat_costs_small n listed each k a = grind (arith, cost_of_small)

@@ -34,11 +34,14 @@ in_parts a b c d e f g = simp (append_assoc)
 value_parts : (h p value : ℕ) → value_head h ++ value_tail p value ≡ value_line h p value
 value_parts h p value = in_parts (codes "value ") (decimal h) (codes " ") (decimal p) (codes " ") (decimal value) (codes "\n")
 
--- the next value is that of the pair at a place
-pub next_value : (s : Sys) (C : Costs) (h : ℕ) (items pairs row : List ℕ) (i p value : ℕ) (head : List ℕ) → items ≡ pairs → i < length items → p ≡ get_or items i 0 → row ≡ map (least_at s C h) pairs →
-    value ≡ get_or row i 0 → head ≡ value_head h →
-    flat_map (λ p. value_line h p (least_at s C h p)) (drop i pairs) ≡ (head ++ value_tail p value) ++ flat_map (λ p. value_line h p (least_at s C h p)) (drop (i + 1) pairs)
-next_value s C h items pairs row i p value head same l at is told begins = grind (arith, as_taken, get_or-map, next_text, value_parts)
+-- the value of the pair at a place is taken next
+pub value_taken : (old now : Option (List ℕ)) (held all : List ℕ) (s : Sys) (C : Costs) (h : ℕ) (items pairs row : List ℕ) (i : ℕ) (head : List ℕ) → items ≡ pairs → i < length items → row ≡ map (least_at s C h) pairs → head ≡ value_head h →
+    IsFilling old now held (flat_map (λ p. value_line h p (least_at s C h p)) (drop i pairs)) all →
+    IsFilling old now held ((head ++ value_tail (get_or items i 0) (get_or row i 0)) ++ flat_map (λ p. value_line h p (least_at s C h p)) (drop (i + 1) pairs)) all
+value_taken old now held all s C h items pairs row i head at l told begins filling =
+    let next : flat_map (λ p. value_line h p (least_at s C h p)) (drop i pairs) ≡ (head ++ value_tail (get_or items i 0) (get_or row i 0)) ++ flat_map (λ p. value_line h p (least_at s C h p)) (drop (i + 1) pairs) =
+    grind (arith, as_taken, get_or-map, next_text, value_parts) in
+    fill_same _ _ _ _ _ _ next filling
 
 -- the next row has the values for one request more
 pub next_row : (s : Sys) (C : Costs) (n h : ℕ) → h < n →
