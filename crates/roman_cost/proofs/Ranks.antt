@@ -1,5 +1,5 @@
 -- The related pairs, and their ranks.
-use Rattle.roman_cost.proofs.Common.{◌≡◌, ℕ, zero, suc, ◌+◌, ◌*◌, ◌<◌, ◌≤◌, Bool, List, [], ◌∷◌, ◌++◌, map, length, get_or, filter, slice_index, IsTrue, sym, ap, ◌∙◌, subst, arith, add-one, length-append, ◌↔◌, length-map, get_or-map, map_push, IsIn, below, Sys, IsSys, IsPair, sizes_of, count, pair_at, is_related, Costs, least_at, Great, numbers_are_pairs, great_related, related_great, same_test, filter_in, in_filter, in_below, from_below, length-below, get_or-below, filter_below_more, rank, rank_at, related_pairs, HavePlaces, ranked}
+use Rattle.roman_cost.proofs.Common.{◌≡◌, ℕ, zero, suc, ◌+◌, ◌<◌, ◌≤◌, Bool, List, [], ◌∷◌, ◌++◌, map, length, get_or, filter, slice_index, IsTrue, sym, ap, ◌∙◌, subst, arith, add-one, length-append, ◌↔◌, length-map, get_or-map, map_push, IsIn, below, Sys, IsSys, IsPair, sizes_of, count, pair_at, is_related, Costs, least_at, Great, numbers_are_pairs, great_related, related_great, same_test, filter_in, in_filter, in_below, from_below, length-below, get_or-below, filter_below_more, rank, rank_at, related_pairs, HavePlaces, ranked}
 
 -- whether the pair with that number is related
 abbrev pub related_at : Sys → ℕ → Bool

@@ -1,4 +1,4 @@
-use Rattle.roman_cost.proofs.Common.{◌<◌, ◌≤◌, ◌+◌, ◌-◌, sym, ◌∙◌, arith, err_from_is_err_and, sizes_of, pair_at, system_of, seat_costs, fill_behind, fill_same, fill_more, fill_failed, fill_end}
+use Rattle.roman_cost.proofs.Common.{◌<◌, ◌≤◌, ◌-◌, sym, ◌∙◌, arith, err_from_is_err_and, sizes_of, pair_at, system_of, seat_costs, fill_behind, fill_same, fill_more, fill_failed, fill_end}
 use Rattle.roman_cost.proofs.Lines.{choices_begin, choice_taken, next_unallowed, no_choice}
 use Rattle.roman_cost.proofs.writing.push_choices.Goals as goal
 

@@ -1,4 +1,4 @@
-use Rattle.roman_cost.proofs.Common.{◌++◌, [], codes, sym, ◌∙◌, subst, err_from_is_err_and, IsIn, system_of, fill_more, fill_failed, fill_put}
+use Rattle.roman_cost.proofs.Common.{[], codes, sym, ◌∙◌, subst, err_from_is_err_and, IsIn, system_of, fill_more, fill_failed, fill_put}
 use Rattle.roman_cost.proofs.Ranks.{in_related}
 use Rattle.roman_cost.proofs.Lines.{advice_begins}
 use Rattle.roman_cost.proofs.writing.put_advice.Goals as goal
