@@ -1,4 +1,4 @@
-use Rattle.roman_multi.proofs.Common.{◌<◌, ◌≤◌, ap, ◌∙◌, length, IsOver-states}
+use Rattle.roman_multi.proofs.Common.{ap, ◌∙◌, length, IsOver-states}
 use Rattle.roman_multi.proofs.MoveLemmas.{made_is, made_steps_in_range, made_finals_below}
 use Rattle.roman_multi.proofs.PartLemmas.{behaviour_lists, same_behaviour, if_ok_three}
 use Rattle.roman_multi.proofs.behaviours.combine_behaviour.Goals as goal

@@ -1,4 +1,4 @@
-use Rattle.roman_multi.proofs.Common.{◌≡◌, ◌++◌, ◌∷◌, [], ap, ◌∙◌, sym, length, get_or, take, arith, target_sizes, IsTarget, machines, Named}
+use Rattle.roman_multi.proofs.Common.{◌≡◌, ◌++◌, ◌∷◌, [], ap, ◌∙◌, sym, length, get_or, take, target_sizes, IsTarget, machines, Named}
 use Rattle.roman_multi.proofs.KnownLemmas.{known_more, sizes_more}
 use Rattle.roman_multi.proofs.sizes.sizes_of.Goals as goal
 
