@@ -1,5 +1,5 @@
 -- The cells of a table after one more step.
-use Rattle.roman_parts.proofs.Common.{◌≡◌, ℕ, ◌+◌, ◌*◌, ◌%◌, ◌^◌, ◌<◌, ◌==◌, ◌&&◌, ◌||◌, Bool, true, false, List, [], length, get_or, take, replicate, refl, sym, ap, ap₂, ◌∙◌, subst, inl, inr, arith, w64, true≢false, cases_eq, cases_lt, cases_order, eq-eqb, ne_eqb, eqb-true, and_parts, and_from, list_any_more, bit_at-zero, same_test, has_state, cell_has, is_triple, leads, leads_back, HasCells, is_move, goes, goes_back, HasGuardedCells, nat_lt, set, bit_at, bit_or, list_any, false≢true, lt-ltb, le-ltb, get_or-set_same, get_or-set_other, get_or-replicate, get_or_past, length-replicate, same_from_place, bit_at_set_same, bit_at_set_other, PutsIntoCell, MarksMove}
+use Rattle.roman_parts.proofs.Common.{◌≡◌, ℕ, ◌+◌, ◌*◌, ◌%◌, ◌^◌, ◌<◌, ◌==◌, ◌&&◌, ◌||◌, Bool, true, false, List, [], length, get_or, take, replicate, refl, sym, ap, ap₂, ◌∙◌, subst, inl, inr, arith, nat_lt, set, if◌then◌else◌, w64, bit_at, true≢false, cases_eq, cases_lt, cases_order, eq-eqb, ne_eqb, eqb-true, and_parts, and_from, false≢true, lt-ltb, le-ltb, list_any_more, bit_at-zero, bit_at_set_same, bit_at_set_other, same_test, has_state, cell_has, is_triple, leads, HasCells, is_move, goes, HasGuardedCells, PutsIntoCell, MarksMove, bit_or, get_or-set_same, get_or-set_other, get_or-replicate, get_or_past, length-replicate, same_from_place}
 
 or_false : (x : Bool) → x ≡ (x || false)
 or_false true = refl
@@ -51,9 +51,9 @@ has_cells_more : (actions : ℕ) (test more : ℕ → ℕ → ℕ → Bool) (old
     ((e1 a1 n1 : ℕ) → more e1 a1 n1 ≡ (test e1 a1 n1 || ((e1 == e && a1 == a) && n1 == n))) → HasCells actions more new
 has_cells_more actions test more old new e a n within cells marks grows = grind (arith, same_place)
 
-pub leads_none : (actions size : ℕ) → HasCells actions (leads []) (replicate size 0)
+pub leads_none : (back : Bool) (actions size : ℕ) → HasCells actions (leads back []) (replicate size 0)
 unfolding leads
-leads_none actions size = record { has = λ e a n less. empty_has size (e * actions + a) n }
+leads_none back actions size = record { has = λ e a n less. empty_has size (e * actions + a) n }
 
 -- swaps the first and the last of three tests
 and_turned : (x y z : Bool) → ((x && y) && z) ≡ ((z && y) && x)
@@ -70,23 +70,15 @@ is_triple-turned : (t : ℕ × ℕ × ℕ) (e a n : ℕ) → is_triple t e a n �
 unfolding is_triple
 is_triple-turned t e a n = ap₂ (λ p q. p && q) (ap₂ (λ p q. p && q) (same_eqb t.0 e) (same_eqb t.1 a)) (same_eqb t.2 n)
 
-leads-more : (steps : List (ℕ × ℕ × ℕ)) (i e a n : ℕ) → i < length steps →
-    leads (take (i + 1) steps) e a n ≡ (leads (take i steps) e a n || is_triple (get_or steps i (0, 0, 0)) e a n)
+leads-more : (back : Bool) (steps : List (ℕ × ℕ × ℕ)) (i e a n : ℕ) → i < length steps →
+    let t = get_or steps i (0, 0, 0) in leads back (take (i + 1) steps) e a n ≡ (leads back (take i steps) e a n || (if back then is_triple t n a e else is_triple t e a n))
 unfolding leads
-leads-more steps i e a n less = list_any_more (λ x. is_triple x e a n) steps i (0, 0, 0) less
+leads-more back steps i e a n less = list_any_more (λ t. if back then is_triple t n a e else is_triple t e a n) steps i (0, 0, 0) less
 
-pub leads_more : (actions : ℕ) (steps : List (ℕ × ℕ × ℕ)) (i : ℕ) (old new : List ℕ) → i < length steps → HasCells actions (leads (take i steps)) old →
-    let t = get_or steps i (0, 0, 0) in t.1 < actions → PutsIntoCell old new (t.0 * actions + t.1) t.2 → HasCells actions (leads (take (i + 1) steps)) new
-leads_more actions steps i old new less cells within marks = grind (arith, has_cells_more, is_triple-turned, leads-more)
-
-pub leads_back_none : (actions size : ℕ) → HasCells actions (leads_back []) (replicate size 0)
-unfolding leads leads_back
-leads_back_none actions size = record { has = λ e a n less. empty_has size (e * actions + a) n }
-
-pub leads_back_more : (actions : ℕ) (steps : List (ℕ × ℕ × ℕ)) (i : ℕ) (old new : List ℕ) → i < length steps → HasCells actions (leads_back (take i steps)) old →
-    let t = get_or steps i (0, 0, 0) in t.1 < actions → PutsIntoCell old new (t.2 * actions + t.1) t.0 → HasCells actions (leads_back (take (i + 1) steps)) new
-unfolding leads_back
-leads_back_more actions steps i old new less cells within marks = grind (arith, and_turned, has_cells_more, is_triple-turned, leads-more)
+pub leads_more : (back : Bool) (actions : ℕ) (steps : List (ℕ × ℕ × ℕ)) (i : ℕ) (ends : ℕ × ℕ) (old new : List ℕ) → i < length steps → HasCells actions (leads back (take i steps)) old →
+    let t = get_or steps i (0, 0, 0) in t.1 < actions → ends ≡ (if back then (t.2, t.0) else (t.0, t.2)) → PutsIntoCell old new (ends.0 * actions + t.1) ends.1 → HasCells actions (leads back (take (i + 1) steps)) new
+leads_more false actions steps i ends old new less cells within are marks = grind (arith, has_cells_more, is_triple-turned, leads-more)
+leads_more true actions steps i ends old new less cells within are marks = grind (arith, and_turned, has_cells_more, is_triple-turned, leads-more)
 
 -- The table of a behaviour.
 
@@ -147,24 +139,14 @@ unfolding is_move
 marks_same env_states actions bound old new move lacks below = grind (arith, below_next, eqb-true, one_less)
 
 -- the cells after one more step
-goes-more : (steps : List (ℕ × ℕ × ℕ × ℕ)) (i : ℕ) (m : ℕ × ℕ × ℕ × ℕ) (b e a n : ℕ) → i < length steps → m ≡ get_or steps i m →
-    goes (take (i + 1) steps) b e a n ≡ (goes (take i steps) b e a n || is_move m b e a n)
+goes-more : (back : Bool) (steps : List (ℕ × ℕ × ℕ × ℕ)) (i : ℕ) (m : ℕ × ℕ × ℕ × ℕ) (b e a n : ℕ) → i < length steps → m ≡ get_or steps i m →
+    goes back (take (i + 1) steps) b e a n ≡ (goes back (take i steps) b e a n || (if back then is_move m n e a b else is_move m b e a n))
 unfolding goes
-goes-more steps i m b e a n less at =
-    list_any_more (λ x. is_move x b e a n) steps i m less ∙ ap (λ x. list_any (λ y. is_move y b e a n) (take i steps) || is_move x b e a n) (sym at)
+goes-more back steps i m b e a n less at = rw (list_any_more (λ x. if back then is_move x n e a b else is_move x b e a n) steps i m less, ← at)
 
-pub goes_none : (env_states actions size : ℕ) → HasGuardedCells env_states actions (goes []) (replicate size 0)
+pub goes_none : (back : Bool) (env_states actions size : ℕ) → HasGuardedCells env_states actions (goes back []) (replicate size 0)
 unfolding goes
-goes_none env_states actions size = record { has = λ b e a n he ha. empty_has size ((b * env_states + e) * actions + a) n }
-
-pub goes_more : (env_states actions : ℕ) (steps : List (ℕ × ℕ × ℕ × ℕ)) (i : ℕ) (m : ℕ × ℕ × ℕ × ℕ) (old new : List ℕ) → i < length steps → m ≡ get_or steps i m →
-    HasGuardedCells env_states actions (goes (take i steps)) old → MarksMove env_states actions old new m →
-    HasGuardedCells env_states actions (goes (take (i + 1) steps)) new
-goes_more env_states actions steps i m old new less at cells marks = grind (arith, goes-more)
-
-pub goes_back_none : (env_states actions size : ℕ) → HasGuardedCells env_states actions (goes_back []) (replicate size 0)
-unfolding goes goes_back
-goes_back_none env_states actions size = record { has = λ b e a n he ha. empty_has size ((b * env_states + e) * actions + a) n }
+goes_none back env_states actions size = record { has = λ b e a n he ha. empty_has size ((b * env_states + e) * actions + a) n }
 
 and_last : (x : Bool) → (x && false) ≡ false
 and_last true = refl
@@ -180,8 +162,9 @@ is_move-turned : (m : ℕ × ℕ × ℕ × ℕ) (b e a n : ℕ) → is_move (m.3
 unfolding is_move
 is_move-turned m b e a n = four_turned (m.3 == n) (m.2 == a) (has_state m.1 e) (m.0 == b)
 
-pub goes_back_more : (env_states actions : ℕ) (steps : List (ℕ × ℕ × ℕ × ℕ)) (i : ℕ) (m : ℕ × ℕ × ℕ × ℕ) (old new : List ℕ) → i < length steps → m ≡ get_or steps i m →
-    HasGuardedCells env_states actions (goes_back (take i steps)) old → MarksMove env_states actions old new (m.3, m.1, m.2, m.0) →
-    HasGuardedCells env_states actions (goes_back (take (i + 1) steps)) new
-unfolding goes_back
-goes_back_more env_states actions steps i m old new less at cells marks = grind (arith, goes-more, is_move-turned)
+pub goes_more : (back : Bool) (env_states actions : ℕ) (steps : List (ℕ × ℕ × ℕ × ℕ)) (i : ℕ) (m : ℕ × ℕ × ℕ × ℕ) (ends : ℕ × ℕ) (old new : List ℕ) → i < length steps → m ≡ get_or steps i m →
+    HasGuardedCells env_states actions (goes back (take i steps)) old → ends ≡ (if back then (m.3, m.0) else (m.0, m.3)) → MarksMove env_states actions old new (ends.0, m.1, m.2, ends.1) →
+    HasGuardedCells env_states actions (goes back (take (i + 1) steps)) new
+goes_more false env_states actions steps i m ends old new less at cells are marks =
+    let marked : MarksMove env_states actions old new m = subst (λ (p : ℕ × ℕ). MarksMove env_states actions old new (p.0, m.1, m.2, p.1)) are marks in grind (arith, (goes-more false steps i m))
+goes_more true env_states actions steps i m ends old new less at cells are marks = grind (arith, (goes-more true steps i m), is_move-turned)

@@ -1,5 +1,5 @@
 -- Choices between steps, searched pair by pair.
-use Rattle.roman_parts.proofs.Common.{◌≡◌, ℕ, zero, suc, ◌+◌, ◌<◌, ◌≤◌, ◌==◌, ◌&&◌, not, List, [], ◌∷◌, length, get_or, take, map, filter, cond, Bool, Option, Some, None, is_some, option_map, refl, ap, ◌∙◌, arith, slice_get, and_from, cond-true, eq-eqb, ne_eqb, get_or-map, length-map, slice_get-get_or, below, has, from_below, has_state, states_of, states_below, move_of, first_below, choice_between, choice_at, find, below_more, range_with_len, get_or-take, length-take, find_first, find_not_found, none_from, has_both, least_below}
+use Rattle.roman_parts.proofs.Common.{◌≡◌, ℕ, zero, suc, ◌+◌, ◌<◌, ◌≤◌, ◌==◌, ◌&&◌, not, List, [], ◌∷◌, length, get_or, take, map, filter, cond, Bool, Option, Some, None, is_some, option_map, refl, ap, ◌∙◌, arith, slice_get, find, below_more, and_from, cond-true, eq-eqb, ne_eqb, get_or-map, length-map, get_or-take, length-take, slice_get-get_or, below, has, from_below, find_first, find_not_found, none_from, has_state, states_of, states_below, has_both, least_below, move_of, first_below, choice_between, choice_at, range_with_len}
 use Rattle.roman_parts.proofs.TableLemmas.{has_states_of}
 
 -- ---- the least number at which a function has a value

@@ -13,8 +13,9 @@ pub use Rattle.std.proofs.lemmas.Slice.{between_is}
 pub use Rattle.std.proofs.lemmas.Slice.Eq.{bytes_eq-Decides}
 pub use Rattle.std.specs.Int.{bit_at, bit_not, trailing_zeros, w64}
 pub use Rattle.std.specs.Int.RustNames.{bit_and, bit_or}
-pub use Rattle.std.specs.List.{list_any, position_or_len, range_with_len}
+pub use Rattle.std.specs.List.{position_or_len, range_with_len}
 pub use Rattle.std.specs.Option.{option_and_then}
+pub use Rattle.std.specs.Prelude.{if◌then◌else◌}
 pub use Rattle.std.specs.Str.{bytes_eq}
 pub use Rattle.roman_guard.proofs.CallerLemmas.{holds-All, holds-Among, holds-Both, holds-Either, holds-Never, holds-Not, states_below-past, states_below-same, states_below-suc, states_below-zero, states_below_are}
 pub use Rattle.roman_guard.specs.Meaning.{has_both, has_state, holds, states_of}
@@ -41,7 +42,7 @@ pub use Rattle.serde_json.specs.View.{items_view, members_view, view}
 pub use Rattle.serde_json.specs.declared.value.Value.{Value}
 pub use mir.Val.{bits}
 pub use Rattle.roman_parts.specs.Cells.{HasCells, HasGuardedCells, MarksMove, PutsIntoCell}
-unfoldable pub use Rattle.roman_parts.specs.Cells.{cell_has, goes, goes_back, is_move, is_triple, leads, leads_back}
+unfoldable pub use Rattle.roman_parts.specs.Cells.{cell_has, goes, is_move, is_triple, leads}
 unfoldable pub use Rattle.roman_parts.specs.Choices.{choice_at, choice_between, choice_of, choice_with, first_below, single_of}
 pub use Rattle.roman_parts.specs.Guards.{among_of, each_guard, no_guard, operator_of, sole_member, sole_of, state_in}
 unfoldable pub use Rattle.roman_parts.specs.Guards.{guard_of, guards_of}

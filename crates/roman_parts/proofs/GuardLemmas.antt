@@ -1,5 +1,5 @@
 -- The meaning of a guard, by the form of its value.
-use Rattle.roman_parts.proofs.Common.{◌≡◌, ℕ, zero, suc, ◌+◌, ◌<◌, ◌≤◌, List, [], ◌∷◌, ◌++◌, length, get_or, map, Bool, Some, None, Ok, refl, sym, ap, ◌∙◌, arith, add-one, append_assoc, slice_get, map_push, Data, Items, depth, as_object, view, items_view, Value, drop, Result, Err, drop-cons, string_bytes, drop_all, null, boolean, number, string, array, object, no_members, member, items_depth, as_bool, as_array, members_view, Entry, ◌>>=◌, list_of, holds, Guard, holds-All, holds-Never, holds-Among, holds-Not, holds-Both, holds-Either, looked, sole_member, sole_of, no_guard, among_of, operator_of, guard_of, guards_of, each_guard, Steps, PartError}
+use Rattle.roman_parts.proofs.Common.{◌≡◌, ℕ, zero, suc, ◌+◌, ◌<◌, ◌≤◌, List, [], ◌∷◌, ◌++◌, length, get_or, map, Bool, Some, None, Ok, refl, sym, ap, ◌∙◌, arith, add-one, append_assoc, slice_get, drop, Result, Err, drop-cons, string_bytes, map_push, drop_all, Data, Items, depth, null, boolean, number, string, array, object, no_members, member, items_depth, as_object, as_bool, as_array, view, items_view, members_view, Value, Entry, ◌>>=◌, list_of, holds, Guard, holds-All, holds-Never, holds-Among, holds-Not, holds-Both, holds-Either, looked, sole_member, sole_of, no_guard, among_of, operator_of, guard_of, guards_of, each_guard, Steps, PartError}
 use Rattle.std.proofs.lemmas.List.{append-nil}
 use Rattle.roman_parts.specs.declared.error.List.{List as Place}
 

@@ -1,5 +1,5 @@
 -- The normal form has the same steps, and its numbers are in range.
-use Rattle.roman_parts.proofs.Common.{◌≡◌, ℕ, ◌<◌, ◌≤◌, IsTrue, List, [], ◌∷◌, refl, subst, inl, inr, slice_get, IsIn, below, Env, Beh, has_triple, has_move, IsEnv, IsDeterministic, env_next, env_prev, beh_next, beh_prev, MAX_STATES, MAX_ACTIONS, normal_env, normal_beh, same_test, filter_in, from_below, filter_same, MatchOption, rules, HasNoRepeats, IsBeh, is_final, IsOver, HasNoRepeats-below, HasNoRepeats-filter, IsEnv-made, IsBeh-made, from_made_triple, made_triple, from_made_move, made_move, from_made_final, made_final}
+use Rattle.roman_parts.proofs.Common.{◌≡◌, ℕ, ◌<◌, ◌≤◌, IsTrue, List, [], ◌∷◌, refl, subst, inl, inr, slice_get, MatchOption, rules, IsIn, below, HasNoRepeats, Env, Beh, has_triple, has_move, IsEnv, IsDeterministic, IsBeh, is_final, env_next, env_prev, beh_next, beh_prev, MAX_STATES, MAX_ACTIONS, normal_env, normal_beh, same_test, filter_in, from_below, filter_same, HasNoRepeats-below, HasNoRepeats-filter, IsEnv-made, IsBeh-made, from_made_triple, made_triple, from_made_move, made_move, from_made_final, made_final, IsOver}
 
 -- a triple of the normal form is a triple of the environment, in range
 pub from_normal_triple : (env : Env) (e a e' : ℕ) → IsTrue (has_triple (normal_env env) e a e') →

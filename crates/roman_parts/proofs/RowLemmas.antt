@@ -1,5 +1,5 @@
 -- Pieces between bounds: their number, their places, and the effect of one more bound.
-use Rattle.roman_parts.proofs.Common.{◌≡◌, ℕ, zero, suc, ◌+◌, ◌<◌, ◌≤◌, List, [], ◌∷◌, ◌++◌, length, get_or, Some, slice_get, refl, sym, ap₂, arith, add-one, length-append, cases_eq, slice_range, take-append-le, drop_at, take_all, get_or_append_left, get_or_push, length_push, between_is, pieces, IsCut}
+use Rattle.roman_parts.proofs.Common.{◌≡◌, ℕ, zero, suc, ◌+◌, ◌<◌, ◌≤◌, List, [], ◌∷◌, ◌++◌, length, get_or, Some, slice_get, refl, sym, ap₂, arith, add-one, length-append, slice_range, cases_eq, take-append-le, drop_at, take_all, get_or_append_left, get_or_push, length_push, between_is, pieces, IsCut}
 
 pub length-pieces : (bounds items : List ℕ) → 0 < length bounds → length (pieces bounds items) + 1 ≡ length bounds
 length-pieces [] items some = omega arith

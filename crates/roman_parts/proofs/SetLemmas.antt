@@ -1,5 +1,5 @@
 -- The states of a word, one by one.
-use Rattle.roman_parts.proofs.Common.{◌≡◌, ℕ, zero, suc, ◌*◌, ◌%◌, ◌^◌, ◌<◌, ◌≤◌, ◌==◌, Bool, true, false, cond, [], ◌∷◌, ◌++◌, length, sym, ap, ap₂, ◌∙◌, subst, inl, inr, arith, length-append, w64, cases_order, cond-true, bit_at-zero, has_state, states_below, states_of, states_below-zero, states_below-suc, ◌≢◌, bit_not, trailing_zeros, bit_and, bits, cond-false, cond_both, bit_at-trailing_zeros, bit_at_clear_same, bit_at_clear_other}
+use Rattle.roman_parts.proofs.Common.{◌≡◌, ℕ, zero, suc, ◌*◌, ◌%◌, ◌^◌, ◌<◌, ◌≤◌, ◌==◌, Bool, true, false, cond, [], ◌∷◌, ◌++◌, length, sym, ap, ap₂, ◌∙◌, subst, inl, inr, arith, length-append, ◌≢◌, w64, bit_not, trailing_zeros, cases_order, cond-true, cond-false, cond_both, bit_at-zero, bit_at-trailing_zeros, bit_at_clear_same, bit_at_clear_other, has_state, states_below, states_of, states_below-zero, states_below-suc, bit_and, bits}
 
 -- a test that no number below the bound passes keeps no number
 states_below-none : (p : ℕ → Bool) (bound : ℕ) → ((i : ℕ) → i < bound → p i ≡ false) → states_below p bound ≡ []

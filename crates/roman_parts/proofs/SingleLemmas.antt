@@ -1,5 +1,5 @@
 -- Steps without a choice go to at most one state, and a choice has a state of both guards.
-use Rattle.roman_parts.proofs.Common.{◌≡◌, ℕ, ◌<◌, ◌==◌, ◌&&◌, ◌^◌, not, List, length, get_or, map, All, true, Option, Some, None, is_some, option_map, IsTrue, refl, sym, ap, ◌∙◌, arith, slice_get, inl, inr, and_from, cases_lt, cases_order, eq-eqb, eqb-true, true≢false, get_or-map, length-map, same_Some, slice_get-get_or, IsIn, below, normal_beh, Beh, Move, has, IsDeterministic, any_from, any_true, in_below, in_contains, has_state, states_of, move_of, listed_beh, first_below, choice_between, choice_at, choice_with, choice_of, option_and_then, bit_at_above, none-some, by_test, find_found, find_least, find_some, move_test, states_below_are}
+use Rattle.roman_parts.proofs.Common.{◌≡◌, ℕ, ◌<◌, ◌==◌, ◌&&◌, ◌^◌, not, List, length, get_or, map, All, true, Option, Some, None, is_some, option_map, IsTrue, refl, sym, ap, ◌∙◌, arith, slice_get, inl, inr, and_from, cases_lt, cases_order, eq-eqb, eqb-true, true≢false, get_or-map, length-map, same_Some, slice_get-get_or, none-some, IsIn, below, normal_beh, Beh, Move, has, IsDeterministic, any_from, any_true, in_below, in_contains, by_test, find_found, find_least, find_some, move_test, has_state, states_of, move_of, listed_beh, first_below, choice_between, choice_at, choice_with, choice_of, option_and_then, bit_at_above, states_below_are}
 use Rattle.roman_parts.proofs.NormalLemmas.{from_normal_move}
 
 -- ---- results of the search for the first value

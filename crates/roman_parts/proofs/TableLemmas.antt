@@ -1,5 +1,5 @@
 -- Rows made from the masks of a list of steps hold the steps of the record in normal form.
-use Rattle.roman_parts.proofs.Common.{◌≡◌, ℕ, zero, suc, ◌+◌, ◌*◌, ◌<◌, ◌≤◌, ◌==◌, Bool, false, IsTrue, List, [], ◌∷◌, ◌++◌, map, length, All, Some, slice_get, filter, refl, sym, ap, ◌∙◌, subst, arith, and_parts, eqb-true, eq-eqb, get_or-map, length-map, slice_get-get_or, get_or_from_slice_get, same_Some, below, Env, Beh, has_triple, has_move, has, env_next, env_prev, beh_next, beh_prev, normal_env, normal_beh, MAX_STATES, MAX_ACTIONS, same_test, any_true, any_from, in_contains, in_below, from_below, filter_in, filter_same, has_state, states_below, states_of, states_below-zero, states_below-suc, triple_of, listed_env, listed_beh, AreTriples, AreMoves, cell_has, is_triple, leads, leads_back, HasCells, is_move, goes, goes_back, HasGuardedCells, ◌-◌, false_from_ne_true, filter-append, All-filter, All-contains, All-same, mul-add-lt, guarded_step, any_same, in_filter, list_any-map, length-below, get_or-below, flat_map_same_in, states_below-same, states_below-past, row_triples, HasRows, GuardedBeh, row_moves, HasGuardedRows}
+use Rattle.roman_parts.proofs.Common.{◌≡◌, ℕ, zero, suc, ◌+◌, ◌*◌, ◌<◌, ◌≤◌, ◌==◌, Bool, true, false, IsTrue, List, [], ◌∷◌, ◌++◌, map, length, All, Option, Some, slice_get, filter, refl, sym, ap, ◌∙◌, subst, arith, ◌-◌, and_parts, eqb-true, eq-eqb, false_from_ne_true, get_or-map, length-map, slice_get-get_or, get_or_from_slice_get, same_Some, below, Env, Beh, has_triple, has_move, has, env_next, env_prev, beh_next, beh_prev, normal_env, normal_beh, MAX_STATES, MAX_ACTIONS, same_test, any_true, any_from, in_contains, in_below, from_below, filter_in, filter_same, any_same, in_filter, list_any-map, length-below, get_or-below, flat_map_same_in, has_state, states_below, states_of, states_below-zero, states_below-suc, states_below-same, states_below-past, triple_of, listed_env, listed_beh, AreTriples, AreMoves, cell_has, is_triple, leads, HasCells, is_move, goes, HasGuardedCells, filter-append, All-filter, All-contains, All-same, mul-add-lt, guarded_step, row_triples, HasRows, GuardedBeh, row_moves, HasGuardedRows}
 use Rattle.roman_parts.proofs.NormalLemmas.{env_next-normal, env_prev-normal, IsEnv-normal, beh_next-normal, beh_prev-normal, IsOver-normal, is_final-normal}
 
 -- the numbers below a bound that pass
@@ -19,12 +19,12 @@ row_of_cell masks k n p within small same past =
     slice_get-get_or _ k [] (omega (arith, length-map masks states_of)) ∙ ap Some (get_or-map states_of masks k 0 [] within ∙ mask_filter _ n p small same past)
 
 -- the steps of the list are the steps of the record
-leads_is : (states actions start : ℕ) (steps : List (ℕ × ℕ × ℕ)) (e a e' : ℕ) → leads steps e a e' ≡ has_triple (listed_env states actions start steps) e a e'
+leads_is : (states actions start : ℕ) (steps : List (ℕ × ℕ × ℕ)) (e a e' : ℕ) → leads false steps e a e' ≡ has_triple (listed_env states actions start steps) e a e'
 unfolding leads is_triple
 leads_is states actions start steps e a e' = sym (list_any-map triple_of _ steps)
 
 -- a listed step is in range
-leads_in_range : (states actions : ℕ) (steps : List (ℕ × ℕ × ℕ)) (e a e' : ℕ) → AreTriples states actions steps → IsTrue (leads steps e a e') → (e < states) × (a < actions) × (e' < states)
+leads_in_range : (states actions : ℕ) (steps : List (ℕ × ℕ × ℕ)) (e a e' : ℕ) → AreTriples states actions steps → IsTrue (leads false steps e a e') → (e < states) × (a < actions) × (e' < states)
 unfolding leads is_triple
 leads_in_range states actions steps e a e' range t = grind (arith, All-contains, and_parts, any_true, eqb-true, in_contains)
 
@@ -48,7 +48,7 @@ module _ (states actions start : ℕ) (steps : List (ℕ × ℕ × ℕ)) (to fro
     (many_states : (0 < states) × (states ≤ MAX_STATES)) (many_actions : (0 < actions) × (actions ≤ MAX_ACTIONS)) (starts : start < states)
     (range : AreTriples states actions steps)
     (to_len : length to ≡ states * actions) (from_len : length from ≡ states * actions)
-    (to_has : HasCells actions (leads steps) to) (from_has : HasCells actions (leads_back steps) from) where
+    (to_has : HasCells actions (leads false steps) to) (from_has : HasCells actions (leads true steps) from) where
   steps_in_range : (e a e' : ℕ) → IsTrue (has_triple (listed_env states actions start steps) e a e') → (e < states) × (a < actions) × (e' < states)
   steps_in_range e a e' t = leads_in_range states actions steps e a e' range (leads_is states actions start steps e a e' ∙ t)
 
@@ -59,7 +59,7 @@ module _ (states actions start : ℕ) (steps : List (ℕ × ℕ × ℕ)) (to fro
       (λ e' past. false_from_ne_true _ (λ t. let (l, m, n) = steps_in_range e a e' t in let none : ⊥ = omega arith in none))
 
   prev_row : (e' a : ℕ) → e' < states → a < actions → slice_get (map states_of from) (e' * actions + a) ≡ Some (env_prev (listed_env states actions start steps) e' a)
-  unfolding leads_back
+  unfolding leads
   prev_row e' a he' ha =
       row_of_cell from (e' * actions + a) states (λ e. has_triple (listed_env states actions start steps) e a e') (omega (arith, mul-add-lt e' actions a states he' ha)) (omega arith)
       (λ e. from_has.has e' a e ha ∙ leads_is states actions start steps e a e')
@@ -75,18 +75,13 @@ module _ (states actions start : ℕ) (steps : List (ℕ × ℕ × ℕ)) (to fro
     };
   }
 
--- the states that a look-up gives are in range
-pub next_below : (env : Env) (to from : List (List ℕ)) (e a k : ℕ) (xs : List ℕ) → HasRows env to from → e < env.states → a < env.actions →
-    k ≡ e * env.actions + a → slice_get to k ≡ Some xs → All (λ x. x < env.states) xs
-next_below env to from e a k xs rows he ha place row =
-    All-same (λ x. x < env.states) xs (env_next env e a) (same_Some _ _ (sym row ∙ ap (slice_get to) place ∙ rows.next e a he ha))
-    (All-filter (has_triple env e a) (λ x. x < env.states) (below env.states) (all_below_bound env.states))
+-- the states that a look-up gives pass a test below a bound
+pub kept_below : (n : ℕ) (p : ℕ → Bool) (o : Option (List ℕ)) (xs : List ℕ) → o ≡ Some (filter p (below n)) → o ≡ Some xs → All (λ x. x < n) xs
+kept_below n p o xs are is = All-same (λ x. x < n) xs (filter p (below n)) (same_Some _ _ (sym is ∙ are)) (All-filter p (λ x. x < n) (below n) (all_below_bound n))
 
-pub prev_below : (env : Env) (to from : List (List ℕ)) (e' a k : ℕ) (xs : List ℕ) → HasRows env to from → e' < env.states → a < env.actions →
-    k ≡ e' * env.actions + a → slice_get from k ≡ Some xs → All (λ x. x < env.states) xs
-prev_below env to from e' a k xs rows he' ha place row =
-    All-same (λ x. x < env.states) xs (env_prev env e' a) (same_Some _ _ (sym row ∙ ap (slice_get from) place ∙ rows.prev e' a he' ha))
-    (All-filter (λ e. has_triple env e a e') (λ x. x < env.states) (below env.states) (all_below_bound env.states))
+pub env_rows : (env seen : Env) (to from : List (List ℕ)) (e a n : ℕ) → HasRows env to from → env ≡ seen → e < seen.states → a < seen.actions → n ≡ env.actions →
+    (slice_get to (e * n + a) ≡ Some (env_next seen e a)) × (slice_get from (e * n + a) ≡ Some (env_prev seen e a))
+env_rows env seen to from e a n rows is he ha width = grind arith
 
 -- The table of a behaviour.
 
@@ -101,11 +96,11 @@ pub has_states_of : (mask i : ℕ) → i < 64 → has (states_of mask) i ≡ has
 has_states_of mask i less = has_states_below (has_state mask) 64 i less
 
 -- the steps of the list are the steps of the record
-goes_is : (states start : ℕ) (finals : List ℕ) (steps : List (ℕ × ℕ × ℕ × ℕ)) (b e a b' : ℕ) → e < 64 → goes steps b e a b' ≡ has_move (listed_beh states start finals steps) b e a b'
+goes_is : (states start : ℕ) (finals : List ℕ) (steps : List (ℕ × ℕ × ℕ × ℕ)) (b e a b' : ℕ) → e < 64 → goes false steps b e a b' ≡ has_move (listed_beh states start finals steps) b e a b'
 unfolding goes is_move
 goes_is states start finals steps b e a b' small = grind (arith, any_same, has_states_of, list_any-map)
 
-goes_in_range : (states actions : ℕ) (steps : List (ℕ × ℕ × ℕ × ℕ)) (b e a b' : ℕ) → AreMoves states actions steps → IsTrue (goes steps b e a b') → (b < states) × (a < actions) × (b' < states)
+goes_in_range : (states actions : ℕ) (steps : List (ℕ × ℕ × ℕ × ℕ)) (b e a b' : ℕ) → AreMoves states actions steps → IsTrue (goes false steps b e a b') → (b < states) × (a < actions) × (b' < states)
 unfolding goes is_move
 goes_in_range states actions steps b e a b' range t = grind (arith, All-contains, and_parts, any_true, eqb-true, in_contains)
 
@@ -132,7 +127,7 @@ module _ (states env_states actions start : ℕ) (finals : List ℕ) (steps : Li
     (ends : All (λ b. b < states) finals) (range : AreMoves states actions steps)
     (mask_has : (b : ℕ) → has_state mask b ≡ has finals b)
     (to_len : length to ≡ states * env_states * actions) (from_len : length from ≡ states * env_states * actions)
-    (to_has : HasGuardedCells env_states actions (goes steps) to) (from_has : HasGuardedCells env_states actions (goes_back steps) from) where
+    (to_has : HasGuardedCells env_states actions (goes false steps) to) (from_has : HasGuardedCells env_states actions (goes true steps) from) where
   moves_in_range : (b e a b' : ℕ) → e < env_states → IsTrue (has_move (listed_beh states start finals steps) b e a b') → (b < states) × (a < actions) × (b' < states)
   moves_in_range b e a b' he t = goes_in_range states actions steps b e a b' range (goes_is states start finals steps b e a b' (omega arith) ∙ t)
 
@@ -150,7 +145,7 @@ module _ (states env_states actions start : ℕ) (finals : List ℕ) (steps : Li
 
   into_row : (b' e a : ℕ) → b' < states → e < env_states → a < actions →
       slice_get (map states_of from) ((b' * env_states + e) * actions + a) ≡ Some (beh_prev (listed_beh states start finals steps) b' e a)
-  unfolding goes_back
+  unfolding goes
   into_row b' e a hb' he ha =
       row_of_cell from ((b' * env_states + e) * actions + a) states (λ b. has_move (listed_beh states start finals steps) b e a b') (omega (arith, place b' e a hb' he ha)) (omega arith)
       (λ b. from_has.has b' e a b he ha ∙ goes_is states start finals steps b e a b' (omega arith))
@@ -179,15 +174,6 @@ module _ (states env_states actions start : ℕ) (finals : List ℕ) (steps : Li
     };
   }
 
--- the states that a look-up gives are in range
-pub out_below : (g : GuardedBeh) (mask : ℕ) (to from : List (List ℕ)) (b e a k : ℕ) (xs : List ℕ) → HasGuardedRows g mask to from → b < g.beh.states → e < g.env_states → a < g.actions →
-    k ≡ (b * g.env_states + e) * g.actions + a → slice_get to k ≡ Some xs → All (λ x. x < g.beh.states) xs
-out_below g mask to from b e a k xs rows hb he ha at row =
-    All-same (λ x. x < g.beh.states) xs (beh_next g.beh b e a) (same_Some _ _ (sym row ∙ ap (slice_get to) at ∙ rows.next b e a hb he ha))
-    (All-filter (has_move g.beh b e a) (λ x. x < g.beh.states) (below g.beh.states) (all_below_bound g.beh.states))
-
-pub into_below : (g : GuardedBeh) (mask : ℕ) (to from : List (List ℕ)) (b' e a k : ℕ) (xs : List ℕ) → HasGuardedRows g mask to from → b' < g.beh.states → e < g.env_states → a < g.actions →
-    k ≡ (b' * g.env_states + e) * g.actions + a → slice_get from k ≡ Some xs → All (λ x. x < g.beh.states) xs
-into_below g mask to from b' e a k xs rows hb' he ha at row =
-    All-same (λ x. x < g.beh.states) xs (beh_prev g.beh b' e a) (same_Some _ _ (sym row ∙ ap (slice_get from) at ∙ rows.prev b' e a hb' he ha))
-    (All-filter (λ b. has_move g.beh b e a b') (λ x. x < g.beh.states) (below g.beh.states) (all_below_bound g.beh.states))
+pub beh_rows : (g seen : GuardedBeh) (mask : ℕ) (to from : List (List ℕ)) (b e a k : ℕ) → HasGuardedRows g mask to from → g ≡ seen → b < seen.beh.states → e < seen.env_states → a < seen.actions →
+    k ≡ (b * g.env_states + e) * g.actions + a → (slice_get to k ≡ Some (beh_next seen.beh b e a)) × (slice_get from k ≡ Some (beh_prev seen.beh b e a))
+beh_rows g seen mask to from b e a k rows is hb he ha at = grind arith

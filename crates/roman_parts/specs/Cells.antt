@@ -1,5 +1,5 @@
 -- Tables with a cell for each state and action, or for each state, environment state and action. Each cell has a mask of states.
-use Rattle.std.specs.Prelude.{◌≡◌, ℕ, ◌+◌, ◌*◌, ◌<◌, ◌==◌, ◌&&◌, ◌||◌, Bool, List, slice_index}
+use Rattle.std.specs.Prelude.{◌≡◌, ℕ, ◌+◌, ◌*◌, ◌<◌, ◌==◌, ◌&&◌, ◌||◌, Bool, List, slice_index, if◌then◌else◌}
 use Rattle.std.specs.List.{list_any}
 use Rattle.roman_guard.specs.Meaning.{has_state}
 
@@ -15,13 +15,9 @@ pub record PutsIntoCell (old new : List ℕ) (k n : ℕ) : Type 0 where
 unfoldable pub is_triple : ℕ × ℕ × ℕ → ℕ → ℕ → ℕ → Bool
 is_triple t e a e' = t.0 == e && t.1 == a && t.2 == e'
 
--- some step is (e, a, e')
-unfoldable pub leads : List (ℕ × ℕ × ℕ) → ℕ → ℕ → ℕ → Bool
-leads steps e a e' = list_any (λ t. is_triple t e a e') steps
-
--- some step is (e, a, e'), with the arguments in the order of `env_prev`
-unfoldable pub leads_back : List (ℕ × ℕ × ℕ) → ℕ → ℕ → ℕ → Bool
-leads_back steps e' a e = leads steps e a e'
+-- some step is (e, a, n), or (n, a, e) where the steps are taken back, with the arguments in the order of `env_prev`
+unfoldable pub leads : Bool → List (ℕ × ℕ × ℕ) → ℕ → ℕ → ℕ → Bool
+leads back steps e a n = list_any (λ t. if back then is_triple t n a e else is_triple t e a n) steps
 
 -- the cell of each state and action has exactly the states that pass the test
 pub record HasCells (actions : ℕ) (test : ℕ → ℕ → ℕ → Bool) (masks : List ℕ) : Type 0 where
@@ -31,13 +27,9 @@ pub record HasCells (actions : ℕ) (test : ℕ → ℕ → ℕ → Bool) (masks
 unfoldable pub is_move : ℕ × ℕ × ℕ × ℕ → ℕ → ℕ → ℕ → ℕ → Bool
 is_move m b e a b' = m.0 == b && m.2 == a && has_state m.1 e && m.3 == b'
 
--- some step is (b, G, a, b') with e in G
-unfoldable pub goes : List (ℕ × ℕ × ℕ × ℕ) → ℕ → ℕ → ℕ → ℕ → Bool
-goes steps b e a b' = list_any (λ m. is_move m b e a b') steps
-
--- some step is (b, G, a, b') with e in G, with the arguments in the order of `beh_prev`
-unfoldable pub goes_back : List (ℕ × ℕ × ℕ × ℕ) → ℕ → ℕ → ℕ → ℕ → Bool
-goes_back steps b' e a b = goes steps b e a b'
+-- some step is (b, G, a, n) with e in G, or (n, G, a, b) where the steps are taken back, with the arguments in the order of `beh_prev`
+unfoldable pub goes : Bool → List (ℕ × ℕ × ℕ × ℕ) → ℕ → ℕ → ℕ → ℕ → Bool
+goes back steps b e a n = list_any (λ m. if back then is_move m n e a b else is_move m b e a n) steps
 
 -- the cell of each state, environment state and action has exactly the states that pass the test
 pub record HasGuardedCells (env_states actions : ℕ) (test : ℕ → ℕ → ℕ → ℕ → Bool) (masks : List ℕ) : Type 0 where

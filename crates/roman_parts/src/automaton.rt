@@ -6,7 +6,7 @@ ghost use Rattle.roman_model.specs.SystemArena.{beh_next, beh_prev};
 ghost use Rattle.roman_model.specs.Normal.{normal_beh};
 ghost use Rattle.roman_parts.specs.Listed.{listed_beh, AreMoves};
 
-use crate::masks::{Cells, into_masks, out_masks};
+use crate::masks::{Cells, move_masks};
 use crate::rows::Rows;
 use roman_guard::StateSet;
 use roman_model::{MAX_ACTIONS, MAX_STATES};
@@ -76,8 +76,8 @@ impl Automaton {
         ensures normal { IfOk result (λ made. made.beh
             ≡ normal_beh cells.env_states cells.actions (listed_beh cells.states start finals.now steps.now)) }
     {
-        let next = Rows::of_masks(alloc, &out_masks(alloc, cells, steps)?)?;
-        let prev = Rows::of_masks(alloc, &into_masks(alloc, cells, steps)?)?;
+        let next = Rows::of_masks(alloc, &move_masks::<false>(alloc, cells, steps)?)?;
+        let prev = Rows::of_masks(alloc, &move_masks::<true>(alloc, cells, steps)?)?;
         Ok(Automaton {
             cells,
             start,

@@ -5,7 +5,7 @@ ghost use Rattle.roman_model.specs.SystemArena.{env_next, env_prev};
 ghost use Rattle.roman_model.specs.Normal.{normal_env};
 ghost use Rattle.roman_parts.specs.Listed.{listed_env, AreTriples};
 
-use crate::masks::{next_masks, prev_masks};
+use crate::masks::triple_masks;
 use crate::rows::Rows;
 use roman_model::{MAX_ACTIONS, MAX_STATES};
 use roman_read::NameTable;
@@ -87,8 +87,8 @@ impl Environment {
     {
         let height = states.len() as usize;
         let width = actions.len() as usize;
-        let next = Rows::of_masks(alloc, &next_masks(alloc, height, width, steps)?)?;
-        let prev = Rows::of_masks(alloc, &prev_masks(alloc, height, width, steps)?)?;
+        let next = Rows::of_masks(alloc, &triple_masks::<false>(alloc, height, width, steps)?)?;
+        let prev = Rows::of_masks(alloc, &triple_masks::<true>(alloc, height, width, steps)?)?;
         Ok(Environment {
             states,
             actions,

@@ -1,6 +1,6 @@
 //! Masks of states, one for each cell of a table.
-ghost use Rattle.std.specs.Prelude.{◌≡◌, ◌+◌, ◌*◌, ◌^◌, ◌<◌, ◌≤◌, length, IfOk, vec_len};
-ghost use Rattle.roman_parts.specs.Cells.{PutsIntoCell, leads, leads_back, HasCells, goes, goes_back, HasGuardedCells, MarksMove};
+ghost use Rattle.std.specs.Prelude.{◌≡◌, ℕ, ◌+◌, ◌*◌, ◌^◌, ◌<◌, ◌≤◌, length, IfOk, vec_len, if◌then◌else◌};
+ghost use Rattle.roman_parts.specs.Cells.{PutsIntoCell, leads, HasCells, goes, HasGuardedCells, MarksMove};
 ghost use Rattle.roman_parts.specs.Listed.{AreTriples, AreMoves};
 
 use crate::environment::Environment;
@@ -53,8 +53,9 @@ impl Cells {
     }
 }
 
-/// Returns, for each state and action, the states to which the steps lead.
-pub(crate) fn next_masks(
+/// Returns, for each state and action, the states to which the steps lead, or if `BACK` the states
+/// from which they lead to that state.
+pub(crate) fn triple_masks<const BACK: bool>(
     alloc: Global,
     states: usize,
     actions: usize,
@@ -64,68 +65,42 @@ pub(crate) fn next_masks(
     requires actions { actions ≤ 32 }
     requires steps { AreTriples states actions steps.now }
     ensures len { IfOk result (λ masks. vec_len masks ≡ states * actions) }
-    ensures has { IfOk result (λ masks. HasCells actions (leads steps.now) masks.items) }
+    ensures has { IfOk result (λ masks. HasCells actions (leads BACK steps.now) masks.items) }
 {
     let mut masks = Vec::from_elem(alloc, 0, states * actions)?;
     for &(from, action, to) in steps {
-        mark(&mut masks, from as usize * actions + action as usize, to);
+        let (at, n) = ends::<BACK>(from, to);
+        mark(&mut masks, at as usize * actions + action as usize, n);
     }
     Ok(masks)
 }
 
-/// Returns, for each state and action, the states from which the steps lead to that state.
-pub(crate) fn prev_masks(
-    alloc: Global,
-    states: usize,
-    actions: usize,
-    steps: &[(u8, u8, u8)],
-) -> Result<Vec<u64>, AllocError>
-    requires states { states ≤ 64 }
-    requires actions { actions ≤ 32 }
-    requires steps { AreTriples states actions steps.now }
-    ensures len { IfOk result (λ masks. vec_len masks ≡ states * actions) }
-    ensures has { IfOk result (λ masks. HasCells actions (leads_back steps.now) masks.items) }
-{
-    let mut masks = Vec::from_elem(alloc, 0, states * actions)?;
-    for &(from, action, to) in steps {
-        mark(&mut masks, to as usize * actions + action as usize, from);
-    }
-    Ok(masks)
-}
-
-/// Returns, for each state, environment state and action, the states to which the steps go.
-pub(crate) fn out_masks(
+/// Returns, for each state, environment state and action, the states to which the steps go, or if
+/// `BACK` the states from which they go to that state.
+pub(crate) fn move_masks<const BACK: bool>(
     alloc: Global,
     cells: Cells,
     steps: &[(u8, StateSet, u8, u8)],
 ) -> Result<Vec<u64>, AllocError>
     requires { AreMoves cells.states cells.actions steps.now }
     ensures len { IfOk result (λ masks. vec_len masks ≡ cells.states * cells.env_states * cells.actions) }
-    ensures has { IfOk result (λ masks. HasGuardedCells cells.env_states cells.actions (goes steps.now) masks.items) }
+    ensures has { IfOk result (λ masks. HasGuardedCells cells.env_states cells.actions (goes BACK steps.now) masks.items) }
 {
     let mut masks = Vec::from_elem(alloc, 0, cells.count())?;
     for &(from, guard, action, to) in steps {
-        mark_move(&mut masks, cells, from, guard, action, to);
+        let (at, n) = ends::<BACK>(from, to);
+        mark_move(&mut masks, cells, at, guard, action, n);
     }
     Ok(masks)
 }
 
-/// Returns, for each state, environment state and action, the states from which the steps go to that
-/// state.
-pub(crate) fn into_masks(
-    alloc: Global,
-    cells: Cells,
-    steps: &[(u8, StateSet, u8, u8)],
-) -> Result<Vec<u64>, AllocError>
-    requires { AreMoves cells.states cells.actions steps.now }
-    ensures len { IfOk result (λ masks. vec_len masks ≡ cells.states * cells.env_states * cells.actions) }
-    ensures has { IfOk result (λ masks. HasGuardedCells cells.env_states cells.actions (goes_back steps.now) masks.items) }
+/// Returns the state to whose cell a step is added, and the state that is added: the ends of the step,
+/// exchanged if `BACK`.
+fn ends<const BACK: bool>(from: u8, to: u8) -> (u8, u8)
+    ensures ends { result ≡ (if BACK then (to, from) else (from, to)) }
+    ensures below { (n : ℕ) → from < n → to < n → (result.0 < n) × (result.1 < n) }
 {
-    let mut masks = Vec::from_elem(alloc, 0, cells.count())?;
-    for &(from, guard, action, to) in steps {
-        mark_move(&mut masks, cells, to, guard, action, from);
-    }
-    Ok(masks)
+    if BACK { (to, from) } else { (from, to) }
 }
 
 /// Adds the state `n` to the cells of the state `at`, the action and each environment state of the

@@ -5,9 +5,9 @@ use Rattle.roman_parts.proofs.automaton.Automaton.from_lists.Goals as goal
 pub invariant_of-result : goal.invariant_of-result
 invariant_of-result c =
     let n = c.args.cells in
-    let laid = laid_moves n.states n.env_states n.actions c.args.start c.args.finals.now c.args.steps.now c.mask_of.result c.in_ok-out_masks.field-0.items c.in_ok-into_masks.field-0.items
-    c.requires.states c.requires.env_states c.requires.actions c.requires.start c.requires.finals c.requires.steps c.mask_of.ensures (omega (arith, c.in_ok-out_masks.ensures.len)) (omega (arith, c.in_ok-into_masks.ensures.len))
-    c.in_ok-out_masks.ensures.has c.in_ok-into_masks.ensures.has in
+    let laid = laid_moves n.states n.env_states n.actions c.args.start c.args.finals.now c.args.steps.now c.mask_of.result c.in_ok-move_masks.field-0.items c.in_ok-move_masks-2.field-0.items
+    c.requires.states c.requires.env_states c.requires.actions c.requires.start c.requires.finals c.requires.steps c.mask_of.ensures (omega (arith, c.in_ok-move_masks.ensures.len)) (omega (arith, c.in_ok-move_masks-2.ensures.len))
+    c.in_ok-move_masks.ensures.has c.in_ok-move_masks-2.ensures.has in
     rw (
       c.in_ok-next.ensures.rows,
       c.deref.ensures.value,
@@ -21,9 +21,9 @@ invariant_of-result c =
 pub returns-clause-normal : goal.returns-clause-normal
 returns-clause-normal c =
     let n = c.args.cells in
-    let laid = laid_moves n.states n.env_states n.actions c.args.start c.args.finals.now c.args.steps.now c.mask_of.result c.in_ok-out_masks.field-0.items c.in_ok-into_masks.field-0.items
-    c.requires.states c.requires.env_states c.requires.actions c.requires.start c.requires.finals c.requires.steps c.mask_of.ensures (omega (arith, c.in_ok-out_masks.ensures.len)) (omega (arith, c.in_ok-into_masks.ensures.len))
-    c.in_ok-out_masks.ensures.has c.in_ok-into_masks.ensures.has in
+    let laid = laid_moves n.states n.env_states n.actions c.args.start c.args.finals.now c.args.steps.now c.mask_of.result c.in_ok-move_masks.field-0.items c.in_ok-move_masks-2.field-0.items
+    c.requires.states c.requires.env_states c.requires.actions c.requires.start c.requires.finals c.requires.steps c.mask_of.ensures (omega (arith, c.in_ok-move_masks.ensures.len)) (omega (arith, c.in_ok-move_masks-2.ensures.len))
+    c.in_ok-move_masks.ensures.has c.in_ok-move_masks-2.ensures.has in
     rw (
       c.in_ok-next.ensures.rows,
       c.deref.ensures.value,

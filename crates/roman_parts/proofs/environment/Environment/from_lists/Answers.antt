@@ -4,10 +4,10 @@ use Rattle.roman_parts.proofs.environment.Environment.from_lists.Goals as goal
 
 pub invariant_of-result : goal.invariant_of-result
 invariant_of-result c =
-    let laid = laid_triples (length c.args.states) (length c.args.actions) c.args.start c.args.steps.now c.in_ok-next_masks.field-0.items c.in_ok-prev_masks.field-0.items
+    let laid = laid_triples (length c.args.states) (length c.args.actions) c.args.start c.args.steps.now c.in_ok-triple_masks.field-0.items c.in_ok-triple_masks-2.field-0.items
     c.requires.states c.requires.actions c.requires.start c.requires.steps
-    (rw (← c.len-height.ensures.len, ← c.len-width.ensures.len) (omega (arith, c.in_ok-next_masks.ensures.len))) (rw (← c.len-height.ensures.len, ← c.len-width.ensures.len) (omega (arith, c.in_ok-prev_masks.ensures.len)))
-    (rw (← c.len-width.ensures.len) c.in_ok-next_masks.ensures.has) (rw (← c.len-width.ensures.len) c.in_ok-prev_masks.ensures.has) in
+    (rw (← c.len-height.ensures.len, ← c.len-width.ensures.len) (omega (arith, c.in_ok-triple_masks.ensures.len))) (rw (← c.len-height.ensures.len, ← c.len-width.ensures.len) (omega (arith, c.in_ok-triple_masks-2.ensures.len)))
+    (rw (← c.len-width.ensures.len) c.in_ok-triple_masks.ensures.has) (rw (← c.len-width.ensures.len) c.in_ok-triple_masks-2.ensures.has) in
     rw (
       c.in_ok-next.ensures.rows,
       c.deref.ensures.value,
@@ -19,10 +19,10 @@ invariant_of-result c =
 
 pub returns-clause-normal : goal.returns-clause-normal
 returns-clause-normal c =
-    let laid = laid_triples (length c.args.states) (length c.args.actions) c.args.start c.args.steps.now c.in_ok-next_masks.field-0.items c.in_ok-prev_masks.field-0.items
+    let laid = laid_triples (length c.args.states) (length c.args.actions) c.args.start c.args.steps.now c.in_ok-triple_masks.field-0.items c.in_ok-triple_masks-2.field-0.items
     c.requires.states c.requires.actions c.requires.start c.requires.steps
-    (rw (← c.len-height.ensures.len, ← c.len-width.ensures.len) (omega (arith, c.in_ok-next_masks.ensures.len))) (rw (← c.len-height.ensures.len, ← c.len-width.ensures.len) (omega (arith, c.in_ok-prev_masks.ensures.len)))
-    (rw (← c.len-width.ensures.len) c.in_ok-next_masks.ensures.has) (rw (← c.len-width.ensures.len) c.in_ok-prev_masks.ensures.has) in
+    (rw (← c.len-height.ensures.len, ← c.len-width.ensures.len) (omega (arith, c.in_ok-triple_masks.ensures.len))) (rw (← c.len-height.ensures.len, ← c.len-width.ensures.len) (omega (arith, c.in_ok-triple_masks-2.ensures.len)))
+    (rw (← c.len-width.ensures.len) c.in_ok-triple_masks.ensures.has) (rw (← c.len-width.ensures.len) c.in_ok-triple_masks-2.ensures.has) in
     rw (
       c.in_ok-next.ensures.rows,
       c.deref.ensures.value,

@@ -1,9 +1,0 @@
-use Rattle.roman_parts.proofs.Common.{◌≡◌, ◌*◌, length, take, goes, HasGuardedCells}
-use Rattle.roman_parts.proofs.masks.out_masks.Given as goal
-
--- the cells have the steps so far
-abbrev pub invariant-loop-from : goal.invariant-loop-from
-invariant-loop-from l = record {
-  len : length l.masks.items ≡ l.cells.states * l.cells.env_states * l.cells.actions;
-  has : HasGuardedCells l.cells.env_states l.cells.actions (goes (take l.from-index l.steps)) l.masks.items;
-}
