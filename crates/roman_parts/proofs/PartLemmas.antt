@@ -1,5 +1,5 @@
 -- The value of a document that is read as a part is well formed.
-use Rattle.roman_parts.proofs.Common.{◌≡◌, ℕ, ◌+◌, ◌<◌, ◌≤◌, ◌&&◌, Bool, true, false, List, [], ◌∷◌, ◌++◌, length, Option, Some, None, is_some, Ok, IsTrue, refl, sym, ap, ◌∙◌, subst, arith, length-append, is_none, codes, and_parts, Data, Items, no_items, item, as_object, IsIn, normal_env, Beh, Move, IsEnv, Triple, MAX_STATES, MAX_ACTIONS, each_item, any_from, choice_of, single_of, name_step, place_in, names_of, start_of, finals_of, NamedEnv, NamedBeh, NamedTarget, IsBehaviour, IsTarget, position_or_len, bytes_eq, position-Some, bytes_eq-Decides, items_len, place_of, Kind, same_ok, bind_ok, place_of-present, environment_of, name_of, behaviour_of, target_of, found, check, items_at, counted_items, triples_of, moves_of}
+use Rattle.roman_parts.proofs.Common.{◌≡◌, ℕ, ◌+◌, ◌<◌, ◌≤◌, Bool, true, false, List, [], length, Option, Some, None, is_some, Ok, IsTrue, refl, sym, ap, ◌∙◌, subst, arith, length-append, is_none, codes, and_parts, Data, Items, no_items, item, as_object, IsIn, normal_env, Beh, Move, IsEnv, Triple, MAX_STATES, MAX_ACTIONS, each_item, any_from, choice_of, single_of, name_step, place_in, names_of, start_of, finals_of, NamedEnv, NamedBeh, NamedTarget, IsBehaviour, IsTarget, position_or_len, bytes_eq, position-Some, bytes_eq-Decides, items_len, place_of, Kind, same_ok, bind_ok, place_of-present, environment_of, name_of, behaviour_of, target_of, found, check, items_at, counted_items, triples_of, moves_of}
 use Rattle.roman_read.specs.declared.rules.Kind.TheVariants as kind
 use Rattle.roman_parts.specs.declared.error.List.{List as Place}
 use Rattle.roman_parts.specs.declared.error.List.TheVariants as list
