@@ -15,13 +15,8 @@ pub replaced_by : (n : Sizes) (p k b : ℕ) → p < count n → k < length n.sea
 replaced_by n p k b in_range component state =
     let q : Pair = pair_at n p in
     let ok : IsPairOf n q = IsPairOf-at n p in_range in
-    let long : length q.bs ≡ length n.seats = AreBelow-length n.seats q.bs ok.bs in
-    let here : number n q ≡ p = number-pair_at n p in_range in
-    let there : number n (with_part q k b) + slice_index q.bs k * stride_of n k ≡ number n q + b * stride_of n k = number-set n q k b component long in
-    let below : number n (with_part q k b) < count n = number_below n (with_part q k b) (IsPairOf-moved n q q.t q.e k b ok ok.t ok.e state) in
-    let least : slice_index q.bs k * stride_of n k ≤ p = taken n p k in_range component in
-    let moves : p - slice_index q.bs k * stride_of n k + b * stride_of n k ≡ number n (with_part q k b) = omega (arith, there, here, least) in
-    record { taken = least; number = moves; below = omega (arith, moves, below) }
+    let below = number_below n (with_part q k b) (IsPairOf-moved n q q.t q.e k b ok ok.t ok.e state) in
+    grind (arith, (number-set n q k b component), (number-pair_at n p in_range), (taken n p k in_range component), (AreBelow-length n.seats q.bs ok.bs))
 
 pub replaced : (n : Sizes) (p k b part state stride : ℕ) → p < count n → k < length n.seats → b < slice_index n.seats k →
     part ≡ slice_index (pair_at n p).bs k → state ≡ b → stride ≡ stride_of n k → Replaced n p k b part state stride
@@ -73,9 +68,8 @@ pub digits_all : (n : Sizes) (parts : List ℕ) (p k : ℕ) → p < count n → 
     ((i : ℕ) → k ≤ i → i < length n.seats → get_or parts i 0 ≡ slice_index (pair_at n p).bs i) → take (length n.seats) parts ≡ (pair_at n p).bs
 digits_all n parts p k in_range here room states =
     let many : length (pair_at n p).bs ≡ length n.seats = AreBelow-length n.seats (pair_at n p).bs (IsPairOf-at n p in_range).bs in
-    let few : length (take (length n.seats) parts) ≡ length n.seats = length-take-le (length n.seats) parts room in
-    ext_get_or 0 (take (length n.seats) parts) (pair_at n p).bs (few ∙ sym many)
-    (λ i l. get_or-take (length n.seats) parts i 0 (omega arith) ∙ states i (omega arith) (omega arith))
+    let few = length-take-le (length n.seats) parts room in
+    ext_get_or 0 (take (length n.seats) parts) (pair_at n p).bs (few ∙ sym many) (λ i l. grind (arith, (get_or-take (length n.seats) parts i 0), (states i)))
 
 -- the digits of a number in a table
 pub ruleset digit_rules = (digit_rest, digits_all, part_at, get_or-set_same, get_or-set_other, length-set)

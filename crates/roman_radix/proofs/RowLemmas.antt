@@ -17,9 +17,7 @@ lanes_positive ns h = product_positive (drop (low_of ns) ns) (AreSizes-drop (low
 pub low_is : (ns : List ℕ) (k : ℕ) → AreSizes ns → product_of (drop k ns) ≤ 64 → ((j : ℕ) → j < k → 64 < product_of (drop j ns)) → k ≤ length ns → low_of ns ≡ k
 low_is [] k h few more within = omega arith
 low_is (n ∷ ns) zero h few more within = ap (λ b. cond b (suc (low_of ns)) 0) (le-ltb 64 (product_of (n ∷ ns)) few)
-low_is (n ∷ ns) (suc k) h few more within =
-    ap (λ b. cond b (suc (low_of ns)) 0) (lt-ltb 64 (product_of (n ∷ ns)) (more 0 (omega arith)))
-    ∙ ap suc (low_is ns k h.2 few (λ j l. more (suc j) (omega arith)) (omega arith))
+low_is (n ∷ ns) (suc k) h few more within = grind (arith, (lt-ltb 64 (product_of (n ∷ ns)) (more 0 (omega arith))), (low_is ns k h.2 few (λ j l. more (suc j) (omega arith)) (omega arith)))
 
 pub AreSizes-take : (k : ℕ) (ns : List ℕ) → AreSizes ns → AreSizes (take k ns)
 AreSizes-take zero ns h = tt
@@ -63,10 +61,9 @@ row_div row w lane r h =
 
 pub row_mod : (row w lane r : ℕ) → lane < w → (row * w + lane) % (r * w) ≡ row % r * w + lane
 row_mod row w lane r h =
-    let whole : (row * w + lane) / (r * w) * (r * w) + (row * w + lane) % (r * w) ≡ row * w + lane = div-add-mod' (row * w + lane) (r * w) in
-    let front : (row * w + lane) / (r * w) * (r * w) ≡ row / r * (r * w) = ap (λ x. x * (r * w)) (row_div row w lane r h) in
+    let whole = div-add-mod' (row * w + lane) (r * w) in
+    let front = ap (λ x. x * (r * w)) (row_div row w lane r h) in
     let rows : (row / r * r + row % r) * w ≡ row * w = ap (λ x. x * w) (div-add-mod' row r) in
-    let split : (row / r * r + row % r) * w ≡ row / r * (r * w) + row % r * w = omega arith in
     omega arith
 
 -- where a pair isn't before a row, neither is its own row
