@@ -40,6 +40,5 @@ least_bound s C m zero p bound = omega arith
 least_bound s C m (suc h) p bound =
     max_over_le (λ a. through s C (least s C h) p a (choice s C h p a)) (suc h * m) (allowed_actions s p)
     (λ a i.
-    let rest : max_over (least s C h) (outcomes s p a (choice s C h p a)) ≤ h * m =
-    max_over_le (least s C h) (h * m) (outcomes s p a (choice s C h p a)) (λ q j. least_bound s C m h q bound) in
+    let rest : max_over (least s C h) (outcomes s p a (choice s C h p a)) ≤ h * m = grind (arith, max_over_le, (least_bound s C m h)) in
     grind arith)

@@ -1,5 +1,5 @@
 -- Lemmas on any arena: listed nodes, beaten seats, reasons, masks, and nodes that survive.
-use Rattle.roman_model.proofs.Common.{inr, ◌≡◌, ◌≢◌, ℕ, ◌<◌, ◌≤◌, Bool, not, ◌&&◌, ◌||◌, ◌⊎◌, List, [], ◌∷◌, ◌++◌, map, IsTrue, IsFalse, filter, flat_map, inl, refl, sym, ap, ◌∙◌, subst, arith, rules, reasons, list_any, or-false, both_ways, or_cases, or_parts, or_left, or_right, or_from, and_parts, and_from, and_cases, and_left, not-true, not_from_false, eqb-true, eq-eqb, cond-true, cond-false, list_any-append, IsIn, HasNoRepeats, below, all_below, is_empty, has, Arena, Entry, is_among, is_listed, is_beaten, is_justified, mask, back, Reason, Final, Act, Delegation, delegations}
+use Rattle.roman_model.proofs.Common.{inr, ◌≡◌, ◌≢◌, ℕ, ◌<◌, ◌≤◌, Bool, not, ◌&&◌, ◌||◌, ◌⊎◌, List, [], ◌∷◌, ◌++◌, map, IsTrue, IsFalse, filter, flat_map, inl, refl, sym, ap, ◌∙◌, subst, arith, rules, reasons, list_any, or-false, both_ways, or_cases, or_parts, or_left, or_right, or_from, and_parts, and_from, and_cases, and_left, not-true, not_from_false, eqb-true, eq-eqb, cond-true, cond-false, list_any-append, IsIn, HasNoRepeats, below, all_below, is_empty, has, Arena, Entry, is_among, is_listed, is_beaten, is_justified, mask, back, Delegation, delegations, Reason, Final, Act}
 use Rattle.roman_model.proofs.Lists.{by_test, same_test, in_map, from_map, in_flat_map, from_flat_map, in_filter, filter_in, any_true, any_from, any_false, none_from, any_more, any_same, list_any-map, empty_is, not_empty_ne, ne_not_empty, in_below, from_below, all_below_at, all_below_from, all_below_false, all_below_more, all_below_same, filter_same}
 
 -- the arena's test of two nodes is equality
@@ -191,8 +191,7 @@ pub in_back : {N : Type 0} (A : Arena N) → IsArena A → (q p : N) (a k : ℕ)
     IsIn (record { node = p; action = a; seat = k }) (back A q)
 in_back A ok q p a k i j =
     let (allowed, l, ready) = ok.served p a k q j in
-    in_filter (λ d. is_among A (A.outcomes d.node d.action d.seat) q) (record { node = p; action = a; seat = k }) (delegations A)
-    (in_delegations A p a k i (ok.allowed p a allowed) l) (in_among A ok.same (A.outcomes p a k) q j)
+    grind (arith, in_filter, (in_delegations A p a k i (ok.allowed p a allowed) l), in_among)
 
 pub from_back : {N : Type 0} (A : Arena N) → IsSame A → (q : N) (d : Delegation N) → IsIn d (back A q) →
     IsIn d.node A.nodes × (d.action < A.actions) × (d.seat < A.seats) × IsIn q (A.outcomes d.node d.action d.seat)

@@ -1,5 +1,5 @@
 -- The certificate of a complete list is accepted, and an accepted certificate is complete.
-use Rattle.roman_model.proofs.Common.{Verdict, head_line, count_line, reason_text, entry_line, end_line, Why, TooLong, reasons, possible_entries, entry_of, entries_on, unless_over, body_fault, line_fault, faults, unlisted, cert_verdict, IsClean, ◌≡◌, ℕ, zero, suc, ◌+◌, ◌*◌, ◌^◌, ◌<◌, ◌≤◌, Bool, false, not, ◌&&◌, List, [], ◌∷◌, ◌++◌, map, length, take, Option, Some, None, IsTrue, IsFalse, if◌then◌else◌, filter, find, option_map, slice_get, slice_index_or, codes, decimal, nat_le, refl, sym, ap, ap₂, ◌∙◌, subst, inl, inr, arith, append_assoc, append-nil, length-append, list_any, cons_option, cases_lt, both_ways, or_from, and_left, not-false, not_from_true, not_from_false, cond-true, cond-false, and_from, length-map, filter_map-append, list_any-append, none-some, IsIn, below, lines, ended_lines, text_of_lines, IsLine, AreLines, Sys, IsSys, pairs, same_numbers, arena, Arena, Entry, is_listed, is_justified, IsOrder, Great, sizes_of, count, pair_at, numbered, entry_at, IsCompleteList, is_related, MAX_CERTIFICATE_BYTES, Reason, Final, Act, le-leb, cert_text, Form, Repeated, Unjustified, Unlisted, Greatest, not-not, lt-leb, map_push, mul-le, length-decimal-le, cert_lines, unless_is, entry_fault, could_be_listed, end_fault, greatest, IsWithinCells, WrittenIsGreatest, GreatestIsComplete, MAX_CELLS}
+use Rattle.roman_model.proofs.Common.{Verdict, head_line, count_line, reason_text, entry_line, end_line, Why, TooLong, reasons, possible_entries, entry_of, entries_on, unless_over, body_fault, line_fault, faults, unlisted, cert_verdict, IsClean, cert_text, Form, Unlisted, Greatest, cert_lines, unless_is, entry_fault, could_be_listed, end_fault, greatest, IsWithinCells, WrittenIsGreatest, GreatestIsComplete, ◌≡◌, ℕ, zero, suc, ◌+◌, ◌*◌, ◌^◌, ◌<◌, ◌≤◌, Bool, not, ◌&&◌, List, [], ◌∷◌, ◌++◌, map, length, take, Option, Some, None, IsTrue, IsFalse, if◌then◌else◌, filter, find, option_map, slice_get, slice_index_or, codes, decimal, refl, sym, ap, ap₂, ◌∙◌, subst, inl, inr, arith, append_assoc, append-nil, length-append, le-leb, list_any, cons_option, cases_lt, both_ways, and_left, not-false, not_from_true, not_from_false, cond-true, cond-false, and_from, lt-leb, length-map, map_push, filter_map-append, list_any-append, none-some, IsIn, below, lines, ended_lines, text_of_lines, IsLine, AreLines, Sys, IsSys, pairs, same_numbers, arena, Arena, Entry, is_listed, is_justified, IsOrder, Great, sizes_of, count, pair_at, numbered, entry_at, IsCompleteList, is_related, MAX_CERTIFICATE_BYTES, MAX_CELLS, Reason, Final, Act, not-not, mul-le, length-decimal-le}
 use Rattle.roman_model.proofs.Lists.{by_test, none_from, any_from, from_map, in_append_left, in_append_right, from_append, in_push, in_filter, filter_in, in_below, from_below, filter_same, find_not_found, length-below, same_length, HasNoRepeats-filter, filter-map, any_false, find_none, from_push}
 use Rattle.roman_model.proofs.SystemLemmas.{same_numbers_is, same_numbers_itself, pairs_once}
 use Rattle.roman_model.proofs.ArenaLemmas.{reason_in, unjustified}
@@ -47,10 +47,7 @@ cells_small s sys cells = grind (arith, mul-le, node_count_is)
 -- a text within the limit is judged by all its lines
 pub judged_short : (A : Arena ℕ) (start : ℕ) (bytes : List ℕ) → length bytes ≤ MAX_CERTIFICATE_BYTES →
     cert_verdict A start bytes ≡ slice_index_or (faults A (lines bytes) (length (lines bytes) + 1)) 0 (unlisted A start (entries_on A (lines bytes)))
-judged_short A start bytes h =
-    cond-true (nat_le (length bytes) MAX_CERTIFICATE_BYTES) (slice_index_or (faults A (lines bytes) (length (lines bytes) + 1)) 0 (unlisted A start (entries_on A (lines bytes))))
-    (slice_index_or (faults A (ended_lines (take MAX_CERTIFICATE_BYTES bytes)) (length (ended_lines (take MAX_CERTIFICATE_BYTES bytes)))) 0 TooLong)
-    (le-leb (length bytes) MAX_CERTIFICATE_BYTES h)
+judged_short A start bytes h = grind (arith, le-leb)
 
 -- a longer text is judged by the lines that end within the limit
 pub judged_long : (A : Arena ℕ) (start : ℕ) (bytes : List ℕ) → MAX_CERTIFICATE_BYTES < length bytes →
@@ -82,13 +79,7 @@ opened s L = head_line ∷ count_line (node_count s) ∷ map entry_line L
 entry_clean : (s : Sys) (before : List (Entry ℕ)) (x : Entry ℕ) → IsFew s → ArePossible s before → IsIn x (possible_entries (node_count s) s.env.actions) →
     IsFalse (is_listed (numbered s) before x.node) → IsTrue (is_justified (numbered s) (is_listed (numbered s) before) x.node x.reason) →
     line_fault (numbered s) (opened s before) (Some (entry_line x)) ≡ None
-entry_clean s before x small are is new holds =
-    ap (λ b. if b then unless_over (Some (entry_line x)) else body_fault (numbered s) (entries_on (numbered s) (map entry_line before)) (Some (entry_line x))) (no_end s before small are)
-    ∙ ap (λ b. if b then end_fault (numbered s) (entries_on (numbered s) (map entry_line before)) else entry_fault (numbered s) (entries_on (numbered s) (map entry_line before)) (entry_on s (entry_line x)))
-    (entry_is_no_end x (possible_small (node_count s) s.env.actions x small is))
-    ∙ ap₂ (entry_fault (numbered s)) (entries_on-lines (numbered s) before small are) (entry_of-line (node_count s) s.env.actions x small is)
-    ∙ ap (λ b. if b then Some Repeated else (if is_justified (numbered s) (is_listed (numbered s) before) x.node x.reason then None else Some Unjustified)) new
-    ∙ ap (λ b. if b then None else Some Unjustified) holds
+entry_clean s before x small are is new holds = grind (arith, (no_end s before small are), (entry_is_no_end x (possible_small (node_count s) s.env.actions x small is)), (entries_on-lines (numbered s) before small are), (entry_of-line (node_count s) s.env.actions x small is))
 
 opened_push : (s : Sys) (before : List (Entry ℕ)) (x : Entry ℕ) → opened s before ++ entry_line x ∷ [] ≡ opened s (before ++ x ∷ [])
 opened_push s before x = ap (λ ls. head_line ∷ count_line (node_count s) ∷ ls) (sym (map_push entry_line before x))
@@ -123,11 +114,7 @@ complete_end s L none =
         ∙ none_from (is_justified (numbered s) (is_listed (numbered s) L) p) (reasons s.env.actions) (λ r j. none p l f r))
 
 end_clean : (s : Sys) (L : List (Entry ℕ)) → IsFew s → ArePossible s L → end_fault (numbered s) L ≡ None → line_fault (numbered s) (opened s L) (Some end_line) ≡ None
-end_clean s L small are none =
-    ap (λ b. if b then unless_over (Some end_line) else body_fault (numbered s) (entries_on (numbered s) (map entry_line L)) (Some end_line)) (no_end s L small are)
-    ∙ ap (λ b. if b then end_fault (numbered s) (entries_on (numbered s) (map entry_line L)) else entry_fault (numbered s) (entries_on (numbered s) (map entry_line L)) (entry_on s end_line)) (same_numbers_itself end_line)
-    ∙ ap (end_fault (numbered s)) (entries_on-lines (numbered s) L small are)
-    ∙ none
+end_clean s L small are none = grind (arith, (no_end s L small are), (entries_on-lines (numbered s) L small are))
 
 over_clean : (s : Sys) (L : List (Entry ℕ)) → line_fault (numbered s) (cert_lines (node_count s) L) None ≡ None
 over_clean s L = grind (arith, any_from, in_push, same_numbers_itself)
@@ -145,13 +132,7 @@ cert_clean s L small are order none i l = elim (cases_lt i (length (cert_lines (
 -- The lines are read as the entries
 
 pub entries_on-cert : (s : Sys) (L : List (Entry ℕ)) → IsFew s → ArePossible s L → entries_on (numbered s) (cert_lines (node_count s) L) ≡ L
-entries_on-cert s L small are =
-    ap₂ (λ o p. cons_option o (cons_option p (entries_on (numbered s) (map entry_line L ++ end_line ∷ []))))
-    (entry_of_other (node_count s) s.env.actions 114 (codes "oman-order 1") small (omega arith))
-    (entry_of_other (node_count s) s.env.actions 112 (codes "airs " ++ decimal (node_count s)) small (omega arith))
-    ∙ filter_map-append (entry_on s) (map entry_line L) (end_line ∷ [])
-    ∙ ap₂ (λ M o. M ++ cons_option o []) (entries_on-lines (numbered s) L small are) (entry_of_other (node_count s) s.env.actions 101 (110 ∷ 100 ∷ []) small (omega arith))
-    ∙ append-nil L
+entries_on-cert s L small are = grind (arith, (entry_of_other (node_count s) s.env.actions 114 (codes "oman-order 1") small (omega arith)), entry_of_other, (entry_of_other (node_count s) s.env.actions 101 (110 ∷ 100 ∷ []) small (omega arith)), (node_count s), (filter_map-append (entry_on s) (map entry_line L) (end_line ∷ [])), (entry_on s), (entries_on-lines (numbered s) L small are), (append-nil L))
 
 -- The text is short enough
 
@@ -164,10 +145,7 @@ line_length s x sys few i = let (l, j) = possible_number s x i in
   where
     reason_length : (r : Reason) → IsIn r (reasons s.env.actions) → length (reason_text r) ≤ 2
     reason_length Final i = omega arith
-    reason_length (Act a) (inl e) = absurd (act_is_not_final a e)
-      where
-        act_is_not_final : (a : ℕ) → Act a ≡ Final → ⊥
-        act_is_not_final a e = cc
+    reason_length (Act a) (inl e) = grind arith
     reason_length (Act a) (inr i) =
         let (b, j, e) = from_map Act (Act a) (below s.env.actions) i in
         let same : a ≡ b = cc in
@@ -221,9 +199,7 @@ unlisted_count s L sys are complete = ap length (filter_same (λ p. not (is_list
     (λ p. grind (arith, filter_in, from_numbered_pairs, in_filter, in_numbered_pairs))
 
 pub unlisted_is_greatest : (s : Sys) (start : ℕ) (L : List (Entry ℕ)) → IsSys s → start < count (sizes_of s) → AreNumbers s L → IsCompleteList s L → unlisted (numbered s) start L ≡ greatest s start
-unlisted_is_greatest s start L sys l are complete =
-    ap₂ Greatest (unlisted_count s L sys are complete)
-    (ap not (numbered_listed s L start sys are complete l) ∙ not-not (is_related s (pair_at (sizes_of s) start)))
+unlisted_is_greatest s start L sys l are complete = grind (arith, (unlisted_count s L sys are complete), (numbered_listed s L start sys are complete l))
 
 -- no reason holds at a pair that a complete list doesn't list
 pub complete_unjustified : (s : Sys) (L : List (Entry ℕ)) → IsSys s → AreNumbers s L → IsCompleteList s L →
@@ -247,12 +223,7 @@ written_is_greatest s start L sys cells l are complete =
     let few_pairs : count (sizes_of s) ≤ MAX_CELLS = few in
     let same : node_count s ≡ count (sizes_of s) = node_count_is s in
     subst (λ n. cert_verdict (numbered s) start (cert_text n L) ≡ greatest s start) same
-    (judged_short (numbered s) start (cert_text (node_count s) L) short
-    ∙ ap (λ ls. slice_index_or (faults (numbered s) ls (length ls + 1)) 0 (unlisted (numbered s) start (entries_on (numbered s) ls))) (lines-text_of_lines (cert_lines (node_count s) L) (cert_are_lines s L small possible (omega arith)))
-    ∙ ap₂ (λ vs M. slice_index_or vs 0 (unlisted (numbered s) start M))
-    (faults_none (numbered s) (cert_lines (node_count s) L) (length (cert_lines (node_count s) L) + 1) (cert_clean s L small possible order (complete_end s L (complete_unjustified s L sys are complete))))
-    (entries_on-cert s L small possible)
-    ∙ unlisted_is_greatest s start L sys l are complete)
+    (grind (arith, (judged_short (numbered s) start (cert_text (node_count s) L) short), (lines-text_of_lines (cert_lines (node_count s) L) (cert_are_lines s L small possible (omega arith))), (faults_none (numbered s) (cert_lines (node_count s) L) (length (cert_lines (node_count s) L) + 1) (cert_clean s L small possible order (complete_end s L (complete_unjustified s L sys are complete)))), (entries_on-cert s L small possible), (unlisted_is_greatest s start L sys l are complete)))
 
 -- Accepted texts
 
@@ -296,8 +267,7 @@ module _ (s : Sys) (small : IsFew s) (head size : List ℕ) where
           let (new, holds) = entry_holds s (entries_on (numbered s) done) x (ap (entry_fault (numbered s) (entries_on (numbered s) done)) (sym is) ∙ e) in
           let more : entries_on (numbered s) (done ++ line ∷ []) ≡ entries_on (numbered s) done ++ x ∷ [] = filter_map-append (entry_on s) done (line ∷ []) ∙ ap (λ o. entries_on (numbered s) done ++ cons_option o []) is in
           record {
-            open_yet = list_any-append (same_numbers end_line) done (line ∷ []) ∙ or_from (list_any (same_numbers end_line) done) (list_any (same_numbers end_line) (line ∷ [])) read.open_yet
-                (or_from (same_numbers end_line line) false other refl);
+            open_yet = grind (arith, list_any-append);
             possible = λ y i. elim (from_push y x (entries_on (numbered s) done) (subst (λ M. IsIn y M) more i)) [
               | inl j ↦ read.possible y j
               | inr same ↦ subst (λ z. IsIn z (possible_entries (node_count s) s.env.actions)) (sym same) (entry_of-is (node_count s) s.env.actions line x is).0
@@ -314,32 +284,24 @@ module _ (s : Sys) (small : IsFew s) (head size : List ℕ) where
   read_all done (line ∷ rest) read clean =
       let here : line_fault (numbered s) (with_body done) (Some line) ≡ None =
       sym (fault_next (numbered s) (with_body done) rest line) ∙ clean (length (with_body done)) (omega (arith, length-append done (line ∷ rest))) in
-      let due : body_fault (numbered s) (entries_on (numbered s) done) (Some line) ≡ None =
-      sym (cond-false (list_any (same_numbers end_line) done) (unless_over (Some line)) (body_fault (numbered s) (entries_on (numbered s) done) (Some line)) read.open_yet) ∙ here in
+      let due : body_fault (numbered s) (entries_on (numbered s) done) (Some line) ≡ None = grind (arith, cond-false) in
       let more : done ++ line ∷ rest ≡ (done ++ line ∷ []) ++ rest = sym (append_assoc done (line ∷ []) rest) in
       let clean_more : IsClean (numbered s) (with_body ((done ++ line ∷ []) ++ rest)) (length (with_body ((done ++ line ∷ []) ++ rest)) + 1) = subst (λ ls. IsClean (numbered s) (with_body ls) (length (with_body ls) + 1)) more clean in
       by_test (same_numbers end_line line)
-      (λ t. at_end done line rest read t
-      (sym (cond-true (same_numbers end_line line) (end_fault (numbered s) (entries_on (numbered s) done)) (entry_fault (numbered s) (entries_on (numbered s) done) (entry_on s line)) t) ∙ due) more clean_more)
-      (λ f. subst (λ ls. HoldsAll s (entries_on (numbered s) ls)) (sym more)
-      (read_all (done ++ line ∷ []) rest
-      (read_entry done line read f (sym (cond-false (same_numbers end_line line) (end_fault (numbered s) (entries_on (numbered s) done)) (entry_fault (numbered s) (entries_on (numbered s) done) (entry_on s line)) f) ∙ due))
-      clean_more))
+      (grind (arith, at_end))
+      (λ f. grind (arith, (read_all (done ++ line ∷ []) rest (read_entry done line read f (sym (cond-false (same_numbers end_line line) (end_fault (numbered s) (entries_on (numbered s) done)) (entry_fault (numbered s) (entries_on (numbered s) done) (entry_on s line)) f) ∙ due)) clean_more)))
     where
       -- no line follows the end
       at_end : (done : List (List ℕ)) (line : List ℕ) (rest : List (List ℕ)) → ReadSoFar s done → IsTrue (same_numbers end_line line) → end_fault (numbered s) (entries_on (numbered s) done) ≡ None →
           done ++ line ∷ rest ≡ (done ++ line ∷ []) ++ rest → IsClean (numbered s) (with_body ((done ++ line ∷ []) ++ rest)) (length (with_body ((done ++ line ∷ []) ++ rest)) + 1) → HoldsAll s (entries_on (numbered s) (done ++ line ∷ rest))
       at_end done line [] read t none more clean =
           let unread : entry_on s line ≡ None = subst (λ l. entry_on s l ≡ None) (same_numbers_is end_line line t) (entry_of_other (node_count s) s.env.actions 101 (110 ∷ 100 ∷ []) small (omega arith)) in
-          let same : entries_on (numbered s) done ≡ entries_on (numbered s) (done ++ line ∷ []) =
-          sym (filter_map-append (entry_on s) done (line ∷ []) ∙ ap (λ o. entries_on (numbered s) done ++ cons_option o []) unread ∙ append-nil (entries_on (numbered s) done)) in
+          let same : entries_on (numbered s) done ≡ entries_on (numbered s) (done ++ line ∷ []) = grind (arith, filter_map-append, append-nil) in
           subst (HoldsAll s) same (record { possible = read.possible; order = read.order; ended = none })
       at_end done line (next ∷ rest) read t none more clean =
           let over : line_fault (numbered s) (with_body (done ++ line ∷ [])) (Some next) ≡ None =
           sym (fault_next (numbered s) (with_body (done ++ line ∷ [])) rest next) ∙ clean (length (with_body (done ++ line ∷ []))) (omega (arith, length-append (done ++ line ∷ []) (next ∷ rest))) in
-          absurd (no_fault Form
-          (sym (cond-true (list_any (same_numbers end_line) (done ++ line ∷ [])) (unless_over (Some next)) (body_fault (numbered s) (entries_on (numbered s) (done ++ line ∷ [])) (Some next))
-          (any_from (same_numbers end_line) line (done ++ line ∷ []) (in_push line done) t)) ∙ over))
+          grind (arith, no_fault, any_from, in_push)
 
 -- the parts of a text without a fault
 text_read : (s : Sys) (text : List (List ℕ)) → IsFew s → IsClean (numbered s) text (length text + 1) → HoldsAll s (entries_on (numbered s) text)
@@ -347,22 +309,14 @@ text_read s [] small clean = absurd (no_fault Form (clean 0 (omega arith)))
 text_read s (head ∷ []) small clean = absurd (no_fault Form (clean 1 (omega arith)))
 text_read s (head ∷ size ∷ body) small clean =
     let first : entry_on s head ≡ None = subst (λ l. entry_on s l ≡ None) (sym (due_is head_line head (clean 0 (omega arith)))) (entry_of_other (node_count s) s.env.actions 114 (codes "oman-order 1") small (omega arith)) in
-    let second : entry_on s size ≡ None =
-    subst (λ l. entry_on s l ≡ None) (sym (due_is (count_line (node_count s)) size (clean 1 (omega arith)))) (entry_of_other (node_count s) s.env.actions 112 (codes "airs " ++ decimal (node_count s)) small (omega arith)) in
+    let second : entry_on s size ≡ None = grind (arith, entry_on, (due_is (count_line (node_count s)) size (clean 1 (omega arith))), (node_count s), entry_of_other) in
     subst (HoldsAll s) (sym (ap₂ (λ o p. cons_option o (cons_option p (entries_on (numbered s) body))) first second))
     (read_all s small head size [] body (record { open_yet = refl; possible = λ x i. absurd i; order = tt }) clean)
 
 -- where no pair is missing, no reason holds at an unlisted pair
 nothing_missing : (s : Sys) (L : List (Entry ℕ)) → IsSys s → end_fault (numbered s) L ≡ None →
     (p : ℕ) → p < count (sizes_of s) → IsFalse (is_listed (numbered s) L p) → (r : Reason) → IsFalse (is_justified (numbered s) (is_listed (numbered s) L) p r)
-nothing_missing s L sys ended p l unlisted r =
-    by_test (is_justified (numbered s) (is_listed (numbered s) L) p r)
-    (λ holds. absurd (both_ways (could_be_listed (numbered s) L p)
-    (any_false (could_be_listed (numbered s) L) p (below (count (sizes_of s))) (find_none (could_be_listed (numbered s) L) (below (count (sizes_of s))) (unmapped (find (could_be_listed (numbered s) L) (below (count (sizes_of s)))) ended)) (in_below (count (sizes_of s)) p l))
-    (and_from (not (is_listed (numbered s) L p)) (list_any (is_justified (numbered s) (is_listed (numbered s) L) p) (reasons s.env.actions))
-    (not_from_false (is_listed (numbered s) L p) unlisted)
-    (any_from (is_justified (numbered s) (is_listed (numbered s) L) p) r (reasons s.env.actions) (reason_in (numbered s) (numbered_is_arena s sys) (is_listed (numbered s) L) p r holds) holds))))
-    (λ f. f)
+nothing_missing s L sys ended p l unlisted r = grind (arith, by_test, both_ways, (any_false (could_be_listed (numbered s) L) p (below (count (sizes_of s))) (find_none (could_be_listed (numbered s) L) (below (count (sizes_of s))) (unmapped (find (could_be_listed (numbered s) L) (below (count (sizes_of s)))) ended)) (in_below (count (sizes_of s)) p l)), and_from, any_from, reason_in, (numbered_is_arena s sys))
   where
     unmapped : (o : Option ℕ) → option_map Unlisted o ≡ None → o ≡ None
     unmapped None e = refl

@@ -1,5 +1,5 @@
 -- Lines of certificates: the entry that a line states, and the first fault.
-use Rattle.roman_model.proofs.Common.{slice_get_past, ◌≡◌, ℕ, zero, suc, ◌+◌, ◌%◌, ◌^◌, ◌<◌, ◌≤◌, ◌==◌, false, ◌⊎◌, List, [], ◌∷◌, ◌++◌, map, length, take, Option, Some, None, IsFalse, option_map, slice_get, codes, decimal, refl, sym, ap, ap₂, ◌∙◌, subst, inl, inr, arith, length-append, cons_option, both_ways, or_parts, or_from, eq-eqb, cases_lt, list_any-append, filter_map-append, IsIn, below, IsLine, has, same_numbers, Arena, Entry, head_line, count_line, reason_text, entry_line, end_line, Why, Verdict, Rejected, reasons, possible_entries, entry_of, entries_on, line_fault, IsClean, faults, Reason, Final, Act, ne_eqb, take-append-le, take_all, take_at, decimal_by_steps, decimal_injective, decimal_nonempty}
+use Rattle.roman_model.proofs.Common.{slice_get_past, ◌≡◌, ℕ, zero, suc, ◌+◌, ◌%◌, ◌^◌, ◌<◌, ◌≤◌, ◌==◌, false, ◌⊎◌, List, [], ◌∷◌, ◌++◌, map, length, take, Option, Some, None, IsFalse, option_map, slice_get, codes, decimal, refl, sym, ap, ap₂, ◌∙◌, subst, inl, inr, arith, length-append, cons_option, both_ways, or_parts, or_from, eq-eqb, cases_lt, ne_eqb, list_any-append, filter_map-append, IsIn, below, IsLine, has, same_numbers, Arena, Entry, head_line, count_line, reason_text, entry_line, end_line, Why, Verdict, Rejected, reasons, possible_entries, entry_of, entries_on, line_fault, IsClean, faults, Reason, Final, Act, take-append-le, take_all, take_at, decimal_by_steps, decimal_injective, decimal_nonempty}
 use Rattle.roman_model.proofs.Lists.{by_test, none_from, in_map, from_map, in_flat_map, from_flat_map, from_push, in_below, from_below, find_some, find_found, find_not_found, any_from}
 use Rattle.roman_model.proofs.SystemLemmas.{same_numbers_is, same_numbers_itself}
 
@@ -159,20 +159,12 @@ pub faults_first : (A : Arena ℕ) (text : List (List ℕ)) (n i : ℕ) (why : W
     (rest : List Verdict) × (faults A text n ≡ Rejected (i + 1) why ∷ rest)
 faults_first A text zero i why clean fault l = absurd (omega arith)
 faults_first A text (suc n) i why clean fault l = elim (cases_lt i n) [
-  | inl less ↦
-      let (rest, e) = faults_first A text n i why clean fault less in
-      (rest ++ cons_option (fault_at A text n) [], faults_more A text n ∙ ap (λ vs. vs ++ cons_option (fault_at A text n) []) e)
+  | inl less ↦ grind (arith, (faults_more A text n), (faults_first A text n i why clean fault less))
   | inr more ↦ last (omega arith)
 ]
   where
     last : i ≡ n → (rest : List Verdict) × (faults A text (suc n) ≡ Rejected (i + 1) why ∷ rest)
-    last e = (
-      [],
-      faults_more A text n
-          ∙ ap (λ vs. vs ++ cons_option (fault_at A text n) []) (faults_none A text n (λ j m. clean j (omega arith)))
-          ∙ ap (λ k. cons_option (fault_at A text k) []) (sym e)
-          ∙ ap (λ o. cons_option (option_map (Rejected (i + 1)) o) []) fault,
-    )
+    last e = grind (arith, faults_more, faults_none)
 
 -- the line of a text, where more follow
 get_front : {X : Type 0} (xs ys : List X) (i : ℕ) → i < length xs → slice_get (xs ++ ys) i ≡ slice_get xs i

@@ -1,5 +1,5 @@
 -- The effect of a change of the seats on systems, pairs, outcomes and removal lists.
-use Rattle.roman_model.proofs.Common.{take, drop, length-append, ◌≡◌, ℕ, zero, suc, ◌<◌, ◌≤◌, Bool, true, not, ◌&&◌, ◌||◌, List, [], ◌∷◌, ◌++◌, map, length, Some, IsTrue, IsFalse, filter, flat_map, slice_get, slice_index, slice_set, remove, refl, sym, ap, ap₂, ◌∙◌, subst, inl, inr, arith, rules, length-map, map-append, length_push, IsPairOf, sizes_of, grown_sizes, sizes_without, AllZip-long, list_any, AllZip, cases_eq, both_ways, or_cases, or_left, or_right, and_parts, and_from, cond-true, cond-false, flat_map-map, none-some, same_Some, slice_get_within, IsIn, HasNoRepeats, below, all_below, Seat, Sys, Pair, IsBeh, IsSys, IsPair, is_final, all_final, env_next, beh_next, seat_next, outcomes_by, outcomes, is_allowed, is_fine, same_pair, arena, Entry, is_among, is_beaten, is_justified, IsOrderFrom, AreNew, AreEntries, Join, Die, set_frozen, grown, without, may_go, firsts, entry_without, rename, MAX_SERVICES, Reason, Final, Act, length-take, length-drop, take-map, drop-map, same_from_push}
+use Rattle.roman_model.proofs.Common.{take, drop, length-append, ◌≡◌, ℕ, zero, suc, ◌<◌, ◌≤◌, Bool, true, not, ◌&&◌, ◌||◌, List, [], ◌∷◌, ◌++◌, map, length, Some, IsTrue, IsFalse, filter, flat_map, slice_get, slice_index, slice_set, remove, refl, sym, ap, ap₂, ◌∙◌, subst, inl, inr, arith, rules, length-take, length-drop, length-map, map-append, length_push, take-map, drop-map, same_from_push, IsPairOf, sizes_of, grown_sizes, sizes_without, AllZip-long, list_any, AllZip, cases_eq, both_ways, or_cases, or_left, or_right, and_parts, and_from, cond-true, cond-false, flat_map-map, none-some, same_Some, slice_get_within, IsIn, HasNoRepeats, below, all_below, Seat, Sys, Pair, IsBeh, IsSys, IsPair, is_final, all_final, env_next, beh_next, seat_next, outcomes_by, outcomes, is_allowed, is_fine, same_pair, arena, Entry, is_among, is_beaten, is_justified, IsOrderFrom, AreNew, AreEntries, Join, Die, set_frozen, grown, without, may_go, firsts, entry_without, rename, MAX_SERVICES, Reason, Final, Act}
 use Rattle.roman_model.proofs.NumberLemmas.{IsPair-from, IsPairOf-from, IsPairOf-grown, IsPairOf-without}
 use Rattle.roman_model.proofs.Lists.{by_test, any_true, any_from, list_any-map, is_empty-map, from_push, in_map, from_map, from_flat_map, filter_in, from_below, all_below_at, all_below_from, HasNoRepeats-map, HasNoRepeats-flat_map, HasNoRepeats-below}
 use Rattle.roman_model.proofs.SystemLemmas.{same_pair_is, same_pair_from, from_moved}
@@ -120,8 +120,7 @@ states_frozen (seat ∷ seats) zero frozen = refl
 states_frozen (seat ∷ seats) (suc k) frozen = ap (λ ns. seat.beh.states ∷ ns) (states_frozen seats k frozen)
 
 pub length-set_frozen : (seats : List Seat) (k : ℕ) (frozen : Bool) → length (set_frozen seats k frozen) ≡ length seats
-length-set_frozen seats k frozen =
-    sym (length-map (set_frozen seats k frozen) (λ seat. seat.beh.states)) ∙ ap length (states_frozen seats k frozen) ∙ length-map seats (λ seat. seat.beh.states)
+length-set_frozen seats k frozen = grind (arith, length-map, (states_frozen seats k frozen))
 
 pub all_final-set_frozen : (seats : List Seat) (k : ℕ) (frozen : Bool) (bs : List ℕ) → all_final (set_frozen seats k frozen) bs ≡ all_final seats bs
 all_final-set_frozen [] k frozen bs = refl
@@ -336,8 +335,7 @@ die_order s k seat seated before seen (x ∷ L) are carries order = by_test (may
       die_justified s k seat (is_among (arena s) before) (is_among (arena (left s k)) seen) seated carries x.node (are x (inl refl)) goes x.reason order.1,
       die_order s k seat seated (x.node ∷ before) (without k x.node ∷ seen) L (λ y i. are y (inr i)) more order.2,
     ))))
-    (λ stays. subst (λ M. IsOrderFrom (arena (left s k)) seen (firsts seen (map (entry_without k) M))) (sym (cond-false (may_go k seat x.node) (x ∷ goers_of) goers_of stays))
-    (die_order s k seat seated (x.node ∷ before) seen L (λ y i. are y (inr i)) (others stays) order.2))
+    (grind (arith, others, (die_order s k seat seated (x.node ∷ before) seen L)))
   where
     goers_of : List (Entry Pair)
     goers_of = filter (λ y. may_go k seat y.node) L

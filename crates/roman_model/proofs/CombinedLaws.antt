@@ -1,5 +1,5 @@
 -- The combined target stands for several targets: the ND-simulations of the combined system are those of the members.
-use Rattle.roman_model.proofs.Common.{◌≡◌, ℕ, ◌<◌, ◌≤◌, Bool, ◌&&◌, List, [], ◌∷◌, map, length, Some, IsTrue, filter, slice_get, slice_index, slice_set, inl, inr, refl, sym, ap, ◌∙◌, subst, arith, and_parts, and_from, length-map, same_Some, IsIn, Env, Beh, Seat, has_triple, has_move, IsBeh, IsSys, SStep, is_final, same_numbers, MAX_SERVICES, Couple, couple, Serves, Meets, GreatCouple, Request, Several, of_one, are_final, AreBelow, has_triple_on, has_move_on, targets_go, target_sizes, combined_start, combined_seat, all_requests, combined, IsSeveral, nat_lt, ltb-true, lt-ltb, IsDeterministic, CoupleAll, ServesAll, MeetsAll, GreatAll, CombinedIsAll}
+use Rattle.roman_model.proofs.Common.{◌≡◌, ℕ, ◌<◌, ◌≤◌, Bool, ◌&&◌, List, [], ◌∷◌, map, length, Some, IsTrue, filter, slice_get, slice_index, slice_set, inl, inr, refl, sym, ap, ◌∙◌, subst, arith, nat_lt, and_parts, and_from, ltb-true, lt-ltb, length-map, same_Some, IsIn, Env, Beh, Seat, has_triple, has_move, IsBeh, IsSys, SStep, is_final, IsDeterministic, same_numbers, MAX_SERVICES, Couple, couple, Serves, Meets, GreatCouple, Request, Several, of_one, are_final, CoupleAll, ServesAll, MeetsAll, GreatAll, AreBelow, has_triple_on, has_move_on, targets_go, target_sizes, combined_start, combined_seat, all_requests, combined, IsSeveral, CombinedIsAll}
 use Rattle.roman_model.proofs.Places.{get_in, in_get}
 use Rattle.roman_model.proofs.Lists.{in_map, from_map, in_filter, filter_in}
 use Rattle.roman_model.proofs.SystemLemmas.{same_numbers_is, same_numbers_itself, move_in_range}
@@ -11,13 +11,11 @@ use Rattle.roman_model.proofs.CombinedLemmas.{IsMemberStep, in_requests, from_co
 -- The steps of the combined environment and target, where the request and the target are known.
 
 world_as : (w : Several) (e n e' : ℕ) (r : Request) → slice_get (all_requests w) n ≡ Some r → IsTrue (has_triple (combined w).env e n e') → IsTrue (has_triple w.env e r.action e')
-world_as w e n e' r at t = let (r2, at2, plain) = from_combined_triple w e n e' t in
-    grind arith
+world_as w e n e' r at t = grind (arith, (from_combined_triple w e n e' t))
 
 step_as : (w : Several) (n : ℕ) (ts : List ℕ) (e : ℕ) (ts' : List ℕ) (r r2 : Request) (target target2 : Beh) → slice_get (all_requests w) n ≡ Some r →
     slice_get w.targets r.target ≡ Some target → IsMemberStep w n ts e ts' r2 target2 → IsMemberStep w n ts e ts' r target
-step_as w n ts e ts' r r2 target target2 at member step = let again : IsMemberStep w n ts e ts' r target2 = subst (λ x. IsMemberStep w n ts e ts' x target2) (same_Some r2 r (sym step.request ∙ at)) step in
-    grind (arith, same_Some)
+step_as w n ts e ts' r r2 target target2 at member step = grind (arith, same_Some)
 
 -- The three clauses.
 
@@ -53,11 +51,7 @@ meets_combined w Related c ok meets = record {
         let step : IsMemberStep w n (states_of w c.t) c.e (states_of w t') r target = step_as w n (states_of w c.t) c.e (states_of w t') r r3 target target3 at member step3 in
         let (some, all) = serves (slice_index (states_of w t') r.target) e' (world_as w c.e n e' r at world, step.goes) in (
           (some.0, combined_sstep w target c.bs c.e2 n k some.0 e' r ok at some.1),
-          λ bs' sstep. (
-            ht',
-            subst (λ ts. Related (record { ts = ts; e = e'; bs = bs'; e2 = e' })) step.others
-                (all bs' (from_combined_sstep w target c.bs c.e2 n k bs' e' r at (world_as w c.e2 n e' r at sstep.world) sstep)),
-          ),
+          λ bs' sstep. grind (arith, (from_combined_sstep w target c.bs c.e2 n k bs' e' r)),
         )
 
 pub meets_members : (w : Several) (Related : Couple → Type 0) (More : CoupleAll → Type 0) (c : Couple) → IsSeveral w → c.t < total w →
@@ -91,11 +85,7 @@ meets_members w Related More c ok l more meets = record {
         let (some, all) = serves (number_of w (slice_set (states_of w c.t) i t')) e'
         (combined_triple w c.e n e' r ok.env at world, combined_target_goes w c.t c.e n t' r target ok l at member goes) in (
           (some.0, from_combined_sstep w target c.bs c.e2 n k some.0 e' r at (world_as w c.e2 n e' r at some.1.world) some.1),
-          λ bs' sstep.
-              subst (λ ts. More (record { ts = ts; e = e'; bs = bs'; e2 = e' })) (states_at-number (target_sizes w.targets) (slice_set (states_of w c.t) i t') below)
-              (more (record { t = number_of w (slice_set (states_of w c.t) i t'); e = e'; bs = bs'; e2 = e' })
-              (states_number_below (target_sizes w.targets) (slice_set (states_of w c.t) i t') below)
-              (all bs' (combined_sstep w target c.bs c.e2 n k bs' e' r ok at sstep))),
+          λ bs' sstep. grind (arith, (states_at-number (target_sizes w.targets) (slice_set (states_of w c.t) i t') below), (states_number_below (target_sizes w.targets) (slice_set (states_of w c.t) i t') below), (combined_sstep w target c.bs c.e2 n k bs' e' r ok)),
         )
 
 -- Related pairs.
@@ -166,8 +156,7 @@ combined_single w ok b e n b1 b2 h1 h2 =
 
 pub combined_system : (w : Several) → IsSeveral w → IsSys (combined w)
 combined_system w ok =
-    let start : combined_start w.targets < total w =
-    states_number_below (target_sizes w.targets) (map (λ target. target.start) w.targets) (starts_below w.env w.targets ok.targets) in
+    let start : combined_start w.targets < total w = grind (arith, states_number_below, (starts_below w.env w.targets ok.targets)) in
     record {
       env = IsEnv-made w.env.states (length (all_requests w)) w.env.start (λ e n e'. has_triple_on w.env (slice_get (all_requests w) n) e e') ok.env.states ok.actions ok.env.start;
       target = IsBeh-made (combined w).env (total w) (combined_start w.targets)

@@ -1,10 +1,10 @@
 -- The combined actions, and the steps and final states of the combined parts, which are those of the members.
-use Rattle.roman_model.proofs.Common.{◌≡◌, ℕ, zero, suc, ◌<◌, ◌==◌, not, ◌&&◌, ◌||◌, List, [], ◌∷◌, map, length, Option, Some, None, IsTrue, filter, slice_get, slice_index, slice_set, inl, inr, refl, sym, ap, ◌∙◌, subst, arith, list_any, false≢true, and_parts, and_from, or_cases, or_left, or_right, eqb-true, eq-eqb, not_from_false, not-true, length-map, none-some, same_Some, slice_get_within, IsIn, below, is_empty, product_of, Env, Beh, Seat, has, has_triple, has_move, IsEnv, IsBeh, SStep, is_final, all_final, beh_next, AreBelow, states_number, states_at, Request, Several, of_one, are_final, has_triple_on, has_move_on, targets_go, target_sizes, combined_start, combined_seat, all_requests, combined, IsSeveral, stands_in, uses, requests_of, member_goes, combined_beh}
+use Rattle.roman_model.proofs.Common.{◌≡◌, ℕ, zero, suc, ◌<◌, ◌==◌, not, ◌&&◌, ◌||◌, List, [], ◌∷◌, map, length, Option, Some, None, IsTrue, filter, slice_get, slice_index, slice_set, inl, inr, refl, sym, ap, ◌∙◌, subst, arith, list_any, false≢true, and_parts, and_from, or_cases, or_left, or_right, eqb-true, eq-eqb, not_from_false, not-true, length-map, none-some, same_Some, slice_get_within, IsIn, below, is_empty, product_of, Env, Beh, Seat, has_triple, has_move, IsEnv, IsBeh, SStep, is_final, all_final, beh_next, AreBelow, states_number, states_at, Request, Several, of_one, are_final, has_triple_on, has_move_on, targets_go, target_sizes, combined_start, combined_seat, all_requests, combined, IsSeveral, stands_in, uses, requests_of, member_goes, combined_beh}
 use Rattle.roman_model.proofs.Places.{get_in, from_get_map, get_map, index_set}
 use Rattle.roman_model.proofs.Lists.{same_test, in_map, in_flat_map, in_filter, any_true, any_from, in_not_empty, not_empty_in, in_below}
 use Rattle.roman_model.proofs.SystemLemmas.{move_in, same_numbers_is, same_numbers_itself, triple_in_range, move_in_range, in_beh_next, from_beh_next}
 use Rattle.roman_model.proofs.NumberLemmas.{AreBelow-length, AreBelow-at, AreBelow-set, states_number_below, states_at-number}
-use Rattle.roman_model.proofs.MadeLemmas.{from_made_triple, made_triple, move_passes, from_made_move, made_move, from_made_final, made_final}
+use Rattle.roman_model.proofs.MadeLemmas.{from_made_triple, made_triple, from_made_move, made_move, from_made_final, made_final}
 
 -- The combined actions.
 
@@ -16,8 +16,7 @@ in_requests env targets i target b e a b' at ok t = let (guard, j, k) = move_in 
     in_flat_map (λ i. map (λ a. record { target = i; action = a }) (filter (stands_in (slice_get targets i)) (below env.actions))) i (record { target = i; action = a })
     (below (length targets)) (in_below (length targets) i (slice_get_within targets i target at))
     (in_map (λ a. record { target = i; action = a }) a (filter (stands_in (slice_get targets i)) (below env.actions))
-    (in_filter (stands_in (slice_get targets i)) a (below env.actions) (in_below env.actions a (move_in_range env target b e a b' ok t).2)
-    (subst (λ o. IsTrue (stands_in o a)) (sym at) stands)))
+    (grind (arith, in_filter, (in_below env.actions a (move_in_range env target b e a b' ok t).2))))
 
 -- where the numbers are in range, an action occurs in a step exactly where the behaviour has a step on it
 pub stands_uses : (env : Env) (beh : Beh) (a : ℕ) → IsBeh env beh → stands_in (Some beh) a ≡ uses env.states beh a
@@ -26,8 +25,7 @@ stands_uses env beh a ok = same_test (stands_in (Some beh) a) (uses env.states b
     let (m, i, passes) = any_true (λ m. m.action == a && not (is_empty m.guard)) beh.steps t in
     let (action, some) = and_parts (m.action == a) (not (is_empty m.guard)) passes in
     let (e, j) = not_empty_in m.guard (not-true (is_empty m.guard) some) in
-    let goes : IsTrue (has_move beh m.from e a m.to) = subst (λ n. IsTrue (has_move beh m.from e n m.to)) (eqb-true m.action a action)
-    (any_from (λ n. n.from == m.from && n.action == m.action && has n.guard e && n.to == m.to) m beh.steps i (move_passes m.from e m.action m.to m.guard j)) in
+    let goes : IsTrue (has_move beh m.from e a m.to) = grind (arith, eqb-true, any_from) in
     let (hb, he, ha, hb') = move_in_range env beh m.from e a m.to ok goes in
     any_from (λ b. list_any (λ e. not (is_empty (beh_next beh b e a))) (below env.states)) m.from (below beh.states) (in_below beh.states m.from hb)
     (any_from (λ e. not (is_empty (beh_next beh m.from e a))) e (below env.states) (in_below env.states e he)
@@ -133,20 +131,15 @@ pub combined_target_goes : (w : Several) (t e n t' : ℕ) (r : Request) (target 
     IsTrue (has_move (combined w).target t e n (number_of w (slice_set (states_of w t) r.target t')))
 combined_target_goes w t e n t' r target ok l at member goes = let (hb, he, ha, hb') = move_in_range w.env target (slice_index (states_of w t) r.target) e r.action t' (ok.targets target (get_in w.targets r.target target member)).0 goes in
     let below : AreBelow (target_sizes w.targets) (slice_set (states_of w t) r.target t') = member_below w t r.target target t' l member hb' in
-    let back : states_of w (number_of w (slice_set (states_of w t) r.target t')) ≡ slice_set (states_of w t) r.target t' =
-    states_at-number (target_sizes w.targets) (slice_set (states_of w t) r.target t') below in
-    let within : r.target < length (states_of w t) =
-    subst (λ m. r.target < m) (sym (AreBelow-length (target_sizes w.targets) (states_of w t) (AreBelow-at (target_sizes w.targets) t l) ∙ length-map w.targets (λ target. target.states)))
-    (slice_get_within w.targets r.target target member) in
+    let back : states_of w (number_of w (slice_set (states_of w t) r.target t')) ≡ slice_set (states_of w t) r.target t' = grind (arith, states_at-number) in
+    let within : r.target < length (states_of w t) = grind (arith, AreBelow-length, AreBelow-at, length-map, slice_get_within) in
     let there : slice_index (slice_set (states_of w t) r.target t') r.target ≡ t' = index_set (states_of w t) r.target t' within in
     let passes : IsTrue (member_goes (Some target) r.target r.action (states_of w t) e (slice_set (states_of w t) r.target t')) = grind (arith, same_numbers_itself) in
     made_move w.env.states (length (all_requests w)) (total w) (combined_start w.targets)
     (λ t. are_final w.targets (states_of w t)) (λ t e n t'. targets_go w.targets (slice_get (all_requests w) n) (states_of w t) e (states_of w t')) t e n
     (number_of w (slice_set (states_of w t) r.target t'))
     l he (slice_get_within (all_requests w) n r at) (states_number_below (target_sizes w.targets) (slice_set (states_of w t) r.target t') below)
-    (subst (λ o. IsTrue (targets_go w.targets o (states_of w t) e (states_of w (number_of w (slice_set (states_of w t) r.target t'))))) (sym at)
-    (subst (λ o. IsTrue (member_goes o r.target r.action (states_of w t) e (states_of w (number_of w (slice_set (states_of w t) r.target t'))))) (sym member)
-    (subst (λ us. IsTrue (member_goes (Some target) r.target r.action (states_of w t) e us)) (sym back) passes)))
+    (grind arith)
 
 -- Finality.
 

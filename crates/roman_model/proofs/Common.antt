@@ -18,7 +18,7 @@ pub use Rattle.std.specs.List.{AllZip, cons_option, list_any}
 pub use Rattle.std.specs.Option.{option_or, option_to_list}
 pub use Rattle.std.specs.Prelude.{max}
 pub use Rattle.roman_model.specs.Arena.{AreNew, Arena, Delegation, Entry, IsOrder, IsOrderFrom, back, choices, delegations, depth, fall, is_among, is_beaten, is_justified, is_listed, loses, mask, readings, replay, replay_from}
-pub use Rattle.roman_model.specs.Certificate.{Form, Greatest, GreatestIsComplete, IsClean, IsWithinCells, Rejected, Repeated, TooLong, Unjustified, Unlisted, Verdict, Why, WrittenIsGreatest, body_fault, cert_lines, cert_text, cert_verdict, could_be_listed, count_line, end_fault, end_line, entries_on, entry_fault, entry_line, entry_of, faults, greatest, head_line, line_fault, possible_entries, reason_text, reasons, unless_is, unless_over, unlisted}
+pub use Rattle.roman_model.specs.Certificate.{Form, Greatest, GreatestIsComplete, IsClean, IsWithinCells, Rejected, TooLong, Unlisted, Verdict, Why, WrittenIsGreatest, body_fault, cert_lines, cert_text, cert_verdict, could_be_listed, count_line, end_fault, end_line, entries_on, entry_fault, entry_line, entry_of, faults, greatest, head_line, line_fault, possible_entries, reason_text, reasons, unless_is, unless_over, unlisted}
 pub use Rattle.roman_model.specs.Change.{CanChange, Change, Die, Freeze, Join, KeepsAll, RenamedReplays, RenamingKeeps, Thaw, after, entry_without, firsts, grown, grown_entries, may_go, rename, set_frozen, without}
 pub use Rattle.roman_model.specs.Combined.{CombinedIsAll, IsSeveral, all_requests, combined, combined_beh, combined_seat, combined_start, has_move_on, has_triple_on, member_goes, requests_of, stands_in, target_sizes, targets_go, uses}
 pub use Rattle.roman_model.specs.CompleteLists.{AreEntries, IsComplete}

@@ -47,10 +47,7 @@ one_more s L entries order some = grind (arith, and_parts, any_true, from_push, 
 -- entries can be added until no entry can follow
 complete_within : (s : Sys) (n : ℕ) (L : List (Entry Pair)) → IsSys s → AreEntries s L → IsOrder (arena s) L → length (pairs s) ≤ length L + n → (M : List (Entry Pair)) × IsComplete s (L ++ M)
 complete_within s zero L ok entries order enough = by_test (list_any (can_follow s L) (possible s))
-    (λ some.
-    let more = one_more s L entries order some in
-    let fits = order_fits (arena s) (system_is_same s) (L ++ more.entry ∷ []) more.order (λ y i. in_pairs s y.node (more.pairs y i)) in
-    absurd (omega (arith, fits, length-append L (more.entry ∷ []))))
+    (λ some. grind (arith, (one_more s L entries order some), order_fits, (system_is_same s), in_pairs, length-append))
     (λ none. ([], subst (IsComplete s) (sym (append-nil L)) (last_complete s L ok entries order none)))
 complete_within s (suc n) L ok entries order enough = by_test (list_any (can_follow s L) (possible s))
     (λ some.

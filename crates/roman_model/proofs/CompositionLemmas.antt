@@ -1,5 +1,5 @@
 -- A system as an arena, the greatest ND-simulation, and complete removal lists.
-use Rattle.roman_model.proofs.Common.{◌≡◌, ◌≢◌, ℕ, ◌<◌, Bool, not, List, [], map, length, IsTrue, IsFalse, filter, slice_set, refl, sym, subst, arith, rules, both_ways, or_cases, or_left, or_right, not-true, not-false, not_from_true, not_from_false, slice_get_within, IsIn, Sys, Pair, IsSys, IsPair, SStep, is_final, all_final, pairs, outcomes, is_allowed, is_fine, arena, Entry, is_listed, is_justified, IsOrder, loses, Couple, couple, Serves, Meets, GreatCouple, Great, AreEntries, IsComplete, OrderCompletes, is_related, Reason, Final, Act, IsNdSim}
+use Rattle.roman_model.proofs.Common.{◌≡◌, ◌≢◌, ℕ, ◌<◌, Bool, not, List, [], map, length, IsTrue, IsFalse, filter, slice_set, refl, sym, subst, arith, rules, both_ways, or_cases, or_left, or_right, not-true, not-false, not_from_true, not_from_false, slice_get_within, IsIn, Sys, Pair, IsSys, IsPair, SStep, is_final, all_final, pairs, outcomes, is_allowed, is_fine, arena, Entry, is_listed, is_justified, IsOrder, loses, Couple, couple, Serves, Meets, GreatCouple, Great, IsNdSim, AreEntries, IsComplete, OrderCompletes, is_related, Reason, Final, Act}
 use Rattle.roman_model.proofs.Lists.{by_test, same_test, in_map, from_map, in_filter, filter_in, ne_not_empty, not_empty_in, not_empty_ne, in_not_empty}
 use Rattle.roman_model.proofs.SystemLemmas.{same_pair_is, same_pair_itself, in_pairs, from_pairs, pairs_once, outcome_in, from_outcome, outcome_seat, outcome_pair, allowed_in, from_allowed, allowed_in_range}
 use Rattle.roman_model.proofs.ArenaLemmas.{IsSame, IsArena, Survives, survives_more, survivor_within, mask_not_empty, unallowed_unjustified}
@@ -16,9 +16,7 @@ system_is_arena s ok = record {
   same = system_is_same s;
   allowed = λ p a t. allowed_in_range s p a ok t;
   closed = λ p i a k q j. in_pairs s q (outcome_pair s p a k q ok (from_pairs s p i) j);
-  served = λ p a k q i.
-      let (l, ready) = outcome_seat s p a k q i in
-      (allowed_in s p a ok (q.t, q.e, (from_outcome s p a k q i).0), l, ready);
+  served = λ p a k q i. grind (arith, (outcome_seat s p a k q i), allowed_in, (from_outcome s p a k q i));
   once = pairs_once s;
 }
 
@@ -37,11 +35,7 @@ pub serves_outcomes : (s : Sys) (Related : Couple → Type 0) (p : Pair) (a k : 
     (k < length s.seats) × (outcomes s p a k ≢ []) × ((q : Pair) → IsIn q (outcomes s p a k) → Related (couple q))
 serves_outcomes s Related p a k ok allowed serves =
     let (t', e', step) = from_allowed s p a allowed in
-    let (bs', r) = (serves t' e' step).0 in (
-      slice_get_within s.seats k r.seat r.seated,
-      not_empty_ne (outcomes s p a k) (in_not_empty (record { t = t'; e = e'; bs = bs' }) (outcomes s p a k) (outcome_in s p a k t' e' bs' ok step r)),
-      λ q i. let (target, seat) = from_outcome s p a k q i in (serves q.t q.e target).1 q.bs seat,
-    )
+    let (bs', r) = (serves t' e' step).0 in grind (arith, slice_get_within, (not_empty_ne (outcomes s p a k) (in_not_empty (record { t = t'; e = e'; bs = bs' }) (outcomes s p a k) (outcome_in s p a k t' e' bs' ok step r))), from_outcome)
 
 pub outcomes_serve : (s : Sys) (Related : Couple → Type 0) (p : Pair) (a k : ℕ) → IsSys s → outcomes s p a k ≢ [] →
     ((q : Pair) → IsIn q (outcomes s p a k) → Related (couple q)) → Serves s Related (couple p) a k

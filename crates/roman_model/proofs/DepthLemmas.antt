@@ -1,5 +1,5 @@
 -- Depths over any arena: the least numbers of requests within which the opponent wins.
-use Rattle.roman_model.proofs.Common.{◌≡◌, ℕ, zero, suc, ◌+◌, ◌<◌, ◌≤◌, not, ◌||◌, ◌⊎◌, List, length, Option, Some, None, IsTrue, IsFalse, filter, inl, inr, refl, sym, ap, ◌∙◌, subst, arith, list_any, both_ways, or_cases, or_left, not-true, not-false, not_from_true, not_from_false, cases_eq, cases_lt, IsIn, below, Arena, Entry, is_listed, is_justified, IsOrder, loses, depth, Reason, Final, Act}
+use Rattle.roman_model.proofs.Common.{◌≡◌, ℕ, zero, suc, ◌+◌, ◌<◌, ◌≤◌, not, ◌||◌, ◌⊎◌, List, length, Option, Some, None, IsTrue, IsFalse, filter, inl, inr, refl, sym, ap, ◌∙◌, subst, arith, list_any, both_ways, or_cases, or_left, not-true, not-false, not_from_false, cases_eq, IsIn, below, Arena, Entry, is_listed, is_justified, IsOrder, loses, depth, Reason, Final, Act}
 use Rattle.roman_model.proofs.Lists.{by_test, same_test, any_true, any_false, any_same, filter_shrinks, filter_sublist, sublist_length, in_below, find_none, find_least}
 use Rattle.roman_model.proofs.ArenaLemmas.{IsArena, Survives, justified_same, unjustified, survivor_within}
 use Rattle.roman_model.proofs.OrderLemmas.{listed_dead}
@@ -59,9 +59,7 @@ rounds {N} A (suc n) = elim (rounds A n) [
         | inl same ↦ inl (
           n,
           omega arith,
-          λ p i. same_test (loses A (suc n) p) (loses A n p)
-              (λ t. not-false (loses A n p) (same p i ∙ not_from_true (loses A (suc n) p) t))
-              (λ t. loses_up A n (suc n) p (omega arith) t),
+          grind (arith, same_test, not-false, loses_up),
         )
         | inr short ↦ inr (omega arith)
       ]
@@ -114,9 +112,7 @@ lost_depth A ok p i n t = by_found (depth A p) refl
   where
     by_found : (o : Option ℕ) → depth A p ≡ o → (d : ℕ) × (d ≤ n) × (depth A p ≡ Some d)
     by_found None e = absurd (both_ways (loses A n p) (depth_none A ok p i e n) t)
-    by_found (Some d) e =
-        let (l, s, least) = depth_is A p d e in
-        grind (arith, cases_lt)
+    by_found (Some d) e = grind (arith, (depth_is A p d e))
 
 -- Settled lists.
 

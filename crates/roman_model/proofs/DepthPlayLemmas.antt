@@ -1,5 +1,5 @@
 -- The depths of a system's pairs, and the opponent's game by depth.
-use Rattle.roman_model.proofs.Common.{◌≡◌, ℕ, zero, suc, ◌≤◌, List, [], ◌∷◌, length, Option, Some, None, IsTrue, IsFalse, inl, inr, refl, sym, ap, ◌∙◌, subst, arith, rules, list_any, both_ways, or_cases, not_from_false, cases_lt, IsIn, below, Sys, Pair, IsSys, IsPair, pairs, arena, is_justified, loses, depth, Great, Couple, couple, GreatCouple, has_ready, WinsWithin, AreSeats, Act, refuting, request_at, depth_play_at, depth_play, DepthWins, DepthIsLeast, HoldsOut}
+use Rattle.roman_model.proofs.Common.{◌≡◌, ℕ, zero, suc, ◌≤◌, List, [], ◌∷◌, length, Option, Some, None, IsTrue, IsFalse, inl, inr, refl, sym, ap, ◌∙◌, subst, arith, rules, list_any, both_ways, or_cases, not_from_false, cases_lt, IsIn, below, Sys, Pair, IsSys, IsPair, pairs, arena, is_justified, loses, depth, Great, Couple, couple, GreatCouple, has_ready, WinsWithin, AreSeats, refuting, request_at, depth_play_at, depth_play, DepthWins, DepthIsLeast, HoldsOut, Act}
 use Rattle.roman_model.proofs.Lists.{by_test, find_some, find_found}
 use Rattle.roman_model.proofs.SystemLemmas.{in_pairs, from_pairs, outcome_pair}
 use Rattle.roman_model.proofs.ArenaLemmas.{survives_more, survivor_within}
@@ -37,8 +37,7 @@ depth_wins_by s ok (suc n) (suc d) p (k ∷ ks) pair e few seats enough = let (b
 -- where no seat is ready, the first request wins
 pub depth_unanswered_wins : (s : Sys) (d : ℕ) (p : Pair) → depth (arena s) p ≡ Some d → IsFalse (has_ready s.seats) → WinsWithin d (depth_play s p [])
 depth_unanswered_wins s zero p e f = subst (λ o. WinsWithin zero (depth_play_at s [] p o (request_at s p o))) (sym e) (omega arith)
-depth_unanswered_wins s (suc d) p e f = let (bound, t, least) = depth_is (arena s) p (suc d) e in
-    grind (arith, refuting_found)
+depth_unanswered_wins s (suc d) p e f = grind (arith, (depth_is (arena s) p (suc d) e), refuting_found)
 
 -- The opponent that plays by depth wins.
 pub depth_won : DepthWins
@@ -74,9 +73,7 @@ unlost_holds s ok (suc n) p pair f =
 pub depth_least : DepthIsLeast
 depth_least s ok p pair = record {
   least = λ n. (
-    λ e.
-        let (bound, t, least) = depth_is (arena s) p n e in
-        grind (arith, lost_fails, unlost_holds),
+    λ e. grind (arith, (depth_is (arena s) p n e), lost_fails, unlost_holds),
     λ is. by_test (loses (arena s) n p) (λ t.
         let (d, l, e) = lost_depth (arena s) (system_is_arena s ok) p (in_pairs s p pair) n t in
         let (bound, u, least) = depth_is (arena s) p d e in

@@ -1,5 +1,5 @@
 -- The explanation is the least closed part of a removal list, is a removal list by itself, and ends with the explained entry.
-use Rattle.roman_model.proofs.Common.{cases_eq, false≢true, both_ways, or_cases, or_parts, or_left, or_right, and_parts, and_from, cond-true, cond-false, ◌≡◌, ℕ, zero, suc, ◌+◌, ◌<◌, ◌≤◌, Bool, ◌&&◌, ◌||◌, ◌⊎◌, List, [], ◌∷◌, ◌++◌, length, Option, Some, None, IsTrue, IsFalse, filter, find, refl, sym, ap, ap₂, ◌∙◌, subst, inl, inr, arith, append-nil, append_assoc, length-append, list_any, option_to_list, filter-append, none-some, same_Some, IsIn, below, Arena, Entry, is_among, is_listed, is_justified, IsOrder, arena, entries_before, answer, ready_seats, answers, rests_on, explanation, Reason, Final, Act, IsClosed, IsLeastClosed, ExplanationIsLeast, ExplanationIsOrder}
+use Rattle.roman_model.proofs.Common.{cases_eq, false≢true, both_ways, or_cases, or_parts, or_left, or_right, and_parts, and_from, cond-true, cond-false, ◌≡◌, ℕ, zero, suc, ◌+◌, ◌<◌, ◌≤◌, Bool, ◌&&◌, ◌||◌, ◌⊎◌, List, [], ◌∷◌, ◌++◌, length, Option, Some, None, IsTrue, IsFalse, filter, find, refl, sym, ap, ap₂, ◌∙◌, subst, inl, inr, arith, append-nil, append_assoc, length-append, list_any, option_to_list, filter-append, none-some, same_Some, IsIn, below, Arena, Entry, is_among, is_listed, is_justified, IsOrder, arena, entries_before, answer, ready_seats, answers, rests_on, explanation, IsClosed, IsLeastClosed, ExplanationIsLeast, ExplanationIsOrder, Reason, Final, Act}
 use Rattle.roman_model.proofs.Lists.{by_test, same_test, any_true, any_from, any_within, in_append_right, in_flat_map, from_flat_map, in_filter, filter_in, in_below, find_some, find_found, split_at}
 use Rattle.roman_model.proofs.ArenaLemmas.{IsSame, IsArena, among_in, in_among, listed_in, beaten_is, beaten_none, beaten_by, justified_is, justified_by}
 use Rattle.roman_model.proofs.CompositionLemmas.{system_is_same, system_is_arena}
@@ -62,10 +62,7 @@ module _ {N : Type 0} (A : Arena N) (L : List (Entry N)) (p : N) where
   ]
 
   pub rests_step : (n : ℕ) (x : Entry N) (q : N) → IsSame A → IsIn x L → IsTrue (rests_on A L n p x.node) → IsIn q (answers A L x.node x.reason) → IsTrue (rests_on A L (suc n) p q)
-  rests_step n x q same i h j =
-      or_right (rests_on A L n p q) (list_any (λ y. rests_on A L n p y.node && is_among A (answers A L y.node y.reason) q) L)
-      (any_from (λ y. rests_on A L n p y.node && is_among A (answers A L y.node y.reason) q) x L i
-      (and_from (rests_on A L n p x.node) (is_among A (answers A L x.node x.reason) q) h (in_among A same (answers A L x.node x.reason) q j)))
+  rests_step n x q same i h j = grind (arith, any_from, and_from, in_among)
 
   -- the last step, if any
   pub rests_cases : (n : ℕ) (q : N) → IsSame A → IsTrue (rests_on A L (suc n) p q) →
@@ -95,10 +92,7 @@ module _ {N : Type 0} (A : Arena N) (L : List (Entry N)) (p : N) where
 
   -- at most as many steps are needed as the list has entries
   pub rests_within : (n : ℕ) (q : N) → IsSame A → IsTrue (rests_on A L n p q) → IsTrue (rests_on A L (length L) p q)
-  rests_within n q same h =
-      let (k, r, l) = rests_falls n q same h in
-      let fits : length (entries_before A L p) ≤ length L = before_fits A L p in
-      rests_up k (length L) q (omega arith) r
+  rests_within n q same h = grind (arith, (rests_falls n q same h), (before_fits A L p), rests_up)
 
   pub rests_itself : IsSame A → IsTrue (rests_on A L (length L) p p)
   rests_itself same = rests_within 0 p same (same.itself p)
@@ -113,24 +107,12 @@ module _ {N : Type 0} (A : Arena N) (L : List (Entry N)) (p : N) where
       (λ h. first (length L) (omega arith) h)
       (λ h. elim (or_cases (A.same q p) (list_any (λ x. rests_on A L (length L) p x.node && is_among A (answers A L x.node x.reason) q) L) h) [
         | inl e ↦ rests_within 0 q same e
-        | inr some ↦
-            let (x, i, t) = any_true (λ x. rests_on A L (length L) p x.node && is_among A (answers A L x.node x.reason) q) L some in
-            let (r, m) = and_parts (rests_on A L (length L) p x.node) (is_among A (answers A L x.node x.reason) q) t in
-            rests_closed x q same i r (among_in A same (answers A L x.node x.reason) q m)
+        | inr some ↦ grind (arith, any_true, rests_closed, among_in)
       ])
     where
       first : (n : ℕ) → n ≤ length L → IsTrue (rests_on A L n p q) → IsTrue (A.same q p || list_any (λ x. rests_on A L (length L) p x.node && is_among A (answers A L x.node x.reason) q) L)
       first zero l h = or_left (A.same q p) (list_any (λ x. rests_on A L (length L) p x.node && is_among A (answers A L x.node x.reason) q) L) h
-      first (suc n) l h = by_last n l (rests_cases n q same h) (λ g. first n (omega arith) g)
-        where
-          by_last : (n : ℕ) → suc n ≤ length L → IsTrue (rests_on A L n p q) ⊎ ((x : Entry N) × IsIn x L × IsTrue (rests_on A L n p x.node) × IsIn q (answers A L x.node x.reason)) →
-              (IsTrue (rests_on A L n p q) → IsTrue (A.same q p || list_any (λ x. rests_on A L (length L) p x.node && is_among A (answers A L x.node x.reason) q) L)) →
-              IsTrue (A.same q p || list_any (λ x. rests_on A L (length L) p x.node && is_among A (answers A L x.node x.reason) q) L)
-          by_last n l (inl g) go = go g
-          by_last n l (inr (x, i, g, j)) go =
-              or_right (A.same q p) (list_any (λ x. rests_on A L (length L) p x.node && is_among A (answers A L x.node x.reason) q) L)
-              (any_from (λ x. rests_on A L (length L) p x.node && is_among A (answers A L x.node x.reason) q) x L i
-              (and_from (rests_on A L (length L) p x.node) (is_among A (answers A L x.node x.reason) q) (rests_up n (length L) x.node (omega arith) g) (in_among A same (answers A L x.node x.reason) q j)))
+      first (suc n) l h = grind (arith, rests_cases, any_from, and_from, rests_up, in_among, (first n (omega arith)))
 
 -- The explanation
 
@@ -141,22 +123,11 @@ explained_listed A L p q same = grind (arith, and_from, and_parts, any_from, any
 -- a closed set holds each node on whose entry p's entry depends
 closed_holds : {N : Type 0} (A : Arena N) (L : List (Entry N)) (p : N) (holds : N → Bool) → IsSame A → IsClosed A L p holds → (n : ℕ) (q : N) → IsTrue (rests_on A L n p q) → IsTrue (holds q)
 closed_holds {N} A L p holds same closed zero q h = subst (λ r. IsTrue (holds r)) (sym (same.is q p h)) closed.first
-closed_holds {N} A L p holds same closed (suc n) q h = by_last (rests_cases A L p n q same h) (λ r g. closed_holds A L p holds same closed n r g)
-  where
-    by_last : IsTrue (rests_on A L n p q) ⊎ ((x : Entry N) × IsIn x L × IsTrue (rests_on A L n p x.node) × IsIn q (answers A L x.node x.reason)) →
-        ((r : N) → IsTrue (rests_on A L n p r) → IsTrue (holds r)) → IsTrue (holds q)
-    by_last (inl g) go = go q g
-    by_last (inr (x, i, g, j)) go = closed.answered x i (go x.node g) q j
+closed_holds {N} A L p holds same closed (suc n) q h = grind (arith, rests_cases, (closed_holds A L p holds same closed n))
 
 pub explanation_least : {N : Type 0} (A : Arena N) (L : List (Entry N)) (p : N) → IsSame A → IsTrue (is_listed A L p) → IsLeastClosed A L p
 explanation_least A L p same listed = record {
-  closed = record {
-    first = explained_listed A L p p same ∙ and_from (is_listed A L p) (rests_on A L (length L) p p) listed (rests_itself A L p same);
-    answered = λ x i h q j.
-        let (l, r) = and_parts (is_listed A L x.node) (rests_on A L (length L) p x.node) (sym (explained_listed A L p x.node same) ∙ h) in
-        explained_listed A L p q same
-        ∙ and_from (is_listed A L q) (rests_on A L (length L) p q) (before_listed A L x.node q (answer_before A L x.node q x.reason j)) (rests_closed A L p x q same i r j);
-  };
+  closed = grind (arith, explained_listed, and_from, rests_itself, before_listed, answer_before, rests_closed);
   least = λ holds closed x i. closed_holds A L p holds same closed (length L) x.node (filter_in (λ y. rests_on A L (length L) p y.node) x L i).1;
 }
 
@@ -195,24 +166,7 @@ module _ {N : Type 0} (A : Arena N) (ok : IsArena A) (L : List (Entry N)) (p : N
 
   explained_order : (done rest : List (Entry N)) → L ≡ done ++ rest → IsOrder A (done ++ rest) → IsOrder A (filter is_explained done) → IsOrder A (filter is_explained (done ++ rest))
   explained_order done [] whole order kept = subst (λ M. IsOrder A (filter is_explained M)) (sym (append-nil done)) kept
-  explained_order done (x ∷ rest) whole order kept =
-      let (new, holds) = order_middle A done rest x order in
-      let more : done ++ x ∷ rest ≡ (done ++ x ∷ []) ++ rest = sym (append_assoc done (x ∷ []) rest) in
-      subst (λ M. IsOrder A (filter is_explained M)) (sym more)
-      (explained_order (done ++ x ∷ []) rest (whole ∙ more) (subst (IsOrder A) more order) (next done x rest whole new holds kept))
-    where
-      next : (done : List (Entry N)) (x : Entry N) (rest : List (Entry N)) → L ≡ done ++ x ∷ rest → IsFalse (is_listed A done x.node) → IsTrue (is_justified A (is_listed A done) x.node x.reason) →
-          IsOrder A (filter is_explained done) → IsOrder A (filter is_explained (done ++ x ∷ []))
-      next done x rest whole new holds kept = subst (IsOrder A) (sym (filter-append is_explained done (x ∷ []))) (by_test (is_explained x)
-          (λ t. subst (λ M. IsOrder A (filter is_explained done ++ M)) (sym (cond-true (is_explained x) (x ∷ []) [] t))
-          (order_push A (filter is_explained done) x kept
-          (by_test (is_listed A (filter is_explained done) x.node)
-          (λ h. absurd (both_ways (is_listed A done x.node) new (any_within (λ y. A.same x.node y.node) (filter is_explained done) done (λ y i. (filter_in is_explained y done i).0) h)))
-          (λ f. f))
-          (explained_justified done x.node x.reason (ap (λ M. entries_before A M x.node) whole ∙ before_is A done x rest (ok.same.itself x.node) new) holds
-          (λ w i. answer_explained done x rest w whole new t i))))
-          (λ f. subst (λ M. IsOrder A (filter is_explained done ++ M)) (sym (cond-false (is_explained x) (x ∷ []) [] f))
-          (subst (IsOrder A) (sym (append-nil (filter is_explained done))) kept)))
+  explained_order done (x ∷ rest) whole order kept = grind (arith, order_middle, append_assoc, filter-append, by_test, cond-true, order_push, both_ways, any_within, filter_in, explained_justified, before_is, answer_explained, cond-false, append-nil, (explained_order (done ++ x ∷ []) rest))
 
   pub explanation_order : IsOrder A L → IsOrder A (explanation A L p)
   explanation_order order = explained_order [] L refl order tt
@@ -254,13 +208,7 @@ explanation_last {N} A L p same order listed =
         (λ f. f)
 
     ends : (x : Entry N) (done rest : List (Entry N)) → x.node ≡ p → L ≡ done ++ x ∷ rest → explanation A L p ≡ filter (λ y. rests_on A L (length L) p y.node) done ++ x ∷ []
-    ends x done rest e whole =
-        ap (filter (λ y. rests_on A L (length L) p y.node)) whole
-        ∙ filter-append (λ y. rests_on A L (length L) p y.node) done (x ∷ rest)
-        ∙ ap (λ M. filter (λ y. rests_on A L (length L) p y.node) done ++ M)
-        (cond-true (rests_on A L (length L) p x.node) (x ∷ filter (λ y. rests_on A L (length L) p y.node) rest) (filter (λ y. rests_on A L (length L) p y.node) rest)
-        (subst (λ q. IsTrue (rests_on A L (length L) p q)) (sym e) (rests_itself A L p same))
-        ∙ ap (λ M. x ∷ M) (filter_none (λ y. rests_on A L (length L) p y.node) rest (behind x done rest e whole)))
+    ends x done rest e whole = grind (arith, filter-append, rests_itself, filter_none, behind)
 
 -- The law, for pairs
 
@@ -268,7 +216,4 @@ pub explanation_is_least : ExplanationIsLeast
 explanation_is_least s L p listed = explanation_least (arena s) L p (system_is_same s) listed
 
 pub explanation_is_order : ExplanationIsOrder
-explanation_is_order s L p sys order listed = record {
-  order = explanation_order (arena s) (system_is_arena s sys) L p order;
-  last = explanation_last (arena s) L p (system_is_same s) order listed;
-}
+explanation_is_order s L p sys order listed = grind (arith, (explanation_order (arena s) (system_is_arena s sys) L p order), (system_is_arena s sys), explanation_last, (system_is_same s))

@@ -1,5 +1,5 @@
 -- Explanations carry over between arenas whose nodes correspond by a renaming.
-use Rattle.roman_model.proofs.Common.{◌≡◌, ℕ, zero, suc, Bool, true, false, ◌&&◌, ◌||◌, List, [], ◌∷◌, map, length, Option, Some, None, if◌then◌else◌, filter, flat_map, find, option_map, refl, sym, ap, ap₂, ◌∙◌, inl, inr, arith, option_to_list, length-map, map-append, IsIn, below, Arena, Entry, is_among, is_listed, Sys, IsSys, arena, sizes_of, pair_at, numbered, entry_at, entries_before, answer, ready_seats, answers, rests_on, explanation, Reason, Final, Act}
+use Rattle.roman_model.proofs.Common.{◌≡◌, ℕ, zero, suc, Bool, ◌&&◌, ◌||◌, List, [], ◌∷◌, map, Option, Some, None, if◌then◌else◌, filter, flat_map, find, option_map, refl, sym, ap, ap₂, ◌∙◌, arith, option_to_list, length-map, map-append, IsIn, below, Arena, Entry, is_among, is_listed, Sys, IsSys, arena, sizes_of, pair_at, numbered, entry_at, entries_before, answer, ready_seats, answers, rests_on, explanation, Reason, Final, Act}
 use Rattle.roman_model.proofs.Lists.{any_same, list_any-map, filter_same, filter-map, from_flat_map, find_some}
 use Rattle.roman_model.proofs.Renames.{Renames, renamed_entry, AreNodes, HaveNodes, among_renamed, listed_renamed}
 use Rattle.roman_model.proofs.NumberedArena.{IsNumber, AreNumbers, numbers_rename}
@@ -21,25 +21,14 @@ map_flat_options f g h (k ∷ ks) same = grind (arith, map-append, map_option, (
 module _ {N M : Type 0} (A : Arena N) (B : Arena M) (f : N → M) (Is : N → Type 0) (r : Renames A B f Is) (L : List (Entry N)) (have : HaveNodes Is L) where
   pub before_renamed_in : (K : List (Entry N)) (p : N) → HaveNodes Is K → Is p → map (renamed_entry f) (entries_before A K p) ≡ entries_before B (map (renamed_entry f) K) (f p)
   before_renamed_in [] p nodes is = refl
-  before_renamed_in (x ∷ K) p nodes is =
-      here x (A.same p x.node) (entries_before A K p)
-      ∙ ap₂ (λ b M. if b then [] else renamed_entry f x ∷ M) (r.same p x.node is (nodes x (inl refl))) (before_renamed_in K p (λ y i. nodes y (inr i)) is)
-    where
-      here : (x : Entry N) (b : Bool) (K : List (Entry N)) → map (renamed_entry f) (if b then [] else x ∷ K) ≡ (if b then [] else renamed_entry f x ∷ map (renamed_entry f) K)
-      here x true K = refl
-      here x false K = refl
+  before_renamed_in (x ∷ K) p nodes is = grind (arith, (before_renamed_in K p))
 
   before_nodes : (K : List (Entry N)) (p : N) → HaveNodes Is K → HaveNodes Is (entries_before A K p)
   before_nodes K p nodes x i = nodes x (before_in K p x i)
     where
       before_in : (K : List (Entry N)) (p : N) (x : Entry N) → IsIn x (entries_before A K p) → IsIn x K
       before_in [] p x i = i
-      before_in (y ∷ K) p x i = by_same (A.same p y.node) (before_in K p x) i
-        where
-          by_same : (b : Bool) → (IsIn x (entries_before A K p) → IsIn x K) → IsIn x (if b then [] else y ∷ entries_before A K p) → IsIn x (y ∷ K)
-          by_same true go j = absurd j
-          by_same false go (inl e) = inl e
-          by_same false go (inr j) = inr (go j)
+      before_in (y ∷ K) p x i = grind (arith, (before_in K p x))
 
   pub answer_renamed : (p : N) (a k : ℕ) → Is p → option_map f (answer A L p a k) ≡ answer B (map (renamed_entry f) L) (f p) a k
   answer_renamed p a k is =
@@ -74,10 +63,7 @@ module _ {N M : Type 0} (A : Arena N) (B : Arena M) (f : N → M) (Is : N → Ty
       ∙ sym (list_any-map (renamed_entry f) (λ x. rests_on B (map (renamed_entry f) L) n (f p) x.node && is_among B (answers B (map (renamed_entry f) L) x.node x.reason) (f q)) L))
 
   pub explanation_renamed : (p : N) → Is p → map (renamed_entry f) (explanation A L p) ≡ explanation B (map (renamed_entry f) L) (f p)
-  explanation_renamed p is =
-      ap (map (renamed_entry f)) (filter_same (λ x. rests_on A L (length L) p x.node) (λ x. rests_on B (map (renamed_entry f) L) (length L) (f p) (f x.node)) L (λ x i. rests_renamed (length L) p x.node is (have x i)))
-      ∙ sym (filter-map (λ x. rests_on B (map (renamed_entry f) L) (length L) (f p) x.node) (renamed_entry f) L)
-      ∙ ap (λ n. filter (λ x. rests_on B (map (renamed_entry f) L) n (f p) x.node) (map (renamed_entry f) L)) (sym (length-map L (renamed_entry f)))
+  explanation_renamed p is = grind (arith, filter_same, rests_renamed, filter-map, length-map)
 
 -- explanations over numbers and over pairs agree
 pub explanation_at : (s : Sys) → IsSys s → (L : List (Entry ℕ)) → AreNumbers s L → (i : ℕ) → IsNumber s i →

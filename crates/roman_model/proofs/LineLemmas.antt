@@ -37,7 +37,4 @@ lines-text_of_lines ls are = ap lines (sym (append-nil (text_of_lines ls))) ∙ 
 
 pub text_of_lines-push : (ls : List (List ℕ)) (line : List ℕ) → text_of_lines (ls ++ line ∷ []) ≡ text_of_lines ls ++ line ++ 10 ∷ []
 text_of_lines-push [] line = append-nil (line ++ 10 ∷ [])
-text_of_lines-push (first ∷ ls) line =
-    ap (λ bs. (first ++ 10 ∷ []) ++ bs) (text_of_lines-push ls line)
-    ∙ sym (append_assoc (first ++ 10 ∷ []) (text_of_lines ls ++ line) (10 ∷ []))
-    ∙ ap (λ bs. bs ++ 10 ∷ []) (sym (append_assoc (first ++ 10 ∷ []) (text_of_lines ls) line))
+text_of_lines-push (first ∷ ls) line = grind (arith, append_assoc, (text_of_lines-push ls line))

@@ -1,5 +1,5 @@
 -- Lemmas on lists and their elements, on numbers below a bound, and on tests.
-use Rattle.roman_model.proofs.Common.{◌≡◌, ◌≢◌, ℕ, zero, suc, ◌+◌, ◌<◌, ◌≤◌, Bool, true, false, cond, ◌&&◌, ◌||◌, ◌⊎◌, List, [], ◌∷◌, ◌++◌, map, length, get_or, Option, Some, None, IsTrue, IsFalse, filter, find, flat_map, sum_by, inl, inr, refl, sym, ap, ap₂, ◌∙◌, subst, arith, add-one, length-append, ◌↔◌, rules, list_any, false≢true, both_ways, or_cases, or_parts, or_left, or_right, or_from, and_from, and_cases, cond-true, cases_eq, length_push, get_or_push, get_or_append_left, sum_by-append, list_any-append, filter-append, none-some, same_Some, IsIn, IsSublist, HasNoRepeats, below, all_below, is_empty, cases_order, Contains, true≢false, sum_by-cons, find-append, option_or}
+use Rattle.roman_model.proofs.Common.{◌≡◌, ◌≢◌, ℕ, zero, suc, ◌+◌, ◌<◌, ◌≤◌, Bool, true, false, cond, ◌&&◌, ◌||◌, ◌⊎◌, List, [], ◌∷◌, ◌++◌, map, length, get_or, Option, Some, None, IsTrue, IsFalse, filter, find, flat_map, sum_by, inl, inr, refl, sym, ap, ap₂, ◌∙◌, subst, arith, add-one, length-append, ◌↔◌, rules, Contains, list_any, false≢true, both_ways, or_cases, or_parts, or_left, or_right, or_from, and_from, cond-true, cases_eq, cases_order, true≢false, length_push, get_or_push, get_or_append_left, sum_by-append, sum_by-cons, list_any-append, find-append, filter-append, none-some, same_Some, IsIn, IsSublist, HasNoRepeats, below, all_below, is_empty, option_or}
 
 -- Tests.
 
@@ -174,8 +174,7 @@ all_below_from p (suc n) h = and_from (all_below p n) (p n) (all_below_from p n 
 -- a number below n fails where not all pass
 pub all_below_false : (p : ℕ → Bool) (n : ℕ) → IsFalse (all_below p n) → (i : ℕ) × (i < n) × IsFalse (p i)
 all_below_false p zero h = absurd (true≢false h)
-all_below_false p (suc n) h = elim (and_cases (all_below p n) (p n) h)
-    [ inl before ↦ let (i, l, f) = all_below_false p n before in (i, omega arith, f) | inr last ↦ (n, omega arith, last) ]
+all_below_false p (suc n) h = grind (arith, (all_below_false p n))
 
 pub all_below_more : (p q : ℕ → Bool) (n : ℕ) → ((i : ℕ) → i < n → IsTrue (p i) → IsTrue (q i)) → IsTrue (all_below p n) → IsTrue (all_below q n)
 all_below_more p q n more h = all_below_from q n (λ i l. more i l (all_below_at p n i h l))
@@ -276,10 +275,7 @@ split_at x (y ∷ xs) (inr i) = let (before, after, e) = split_at x xs i in (y �
 
 -- an element that isn't x is before or after it
 in_others : {X : Type 0} (x z : X) (before after : List X) → (z ≡ x → ⊥) → IsIn z (before ++ x ∷ after) → IsIn z (before ++ after)
-in_others x z before after apart j = elim (from_append z before (x ∷ after) j) [
-  | inl left ↦ in_append_left z before after left
-  | inr right ↦ elim right [ inl same ↦ absurd (apart same) | inr rest ↦ in_append_right z before after rest ]
-]
+in_others x z before after apart j = grind (arith, (from_append z before (x ∷ after) j), in_append_left, in_append_right)
 
 -- a list without repeats whose elements are all in another list is no longer than it
 pub no_longer : {X : Type 0} (xs ys : List X) → HasNoRepeats xs → ((x : X) → IsIn x xs → IsIn x ys) → length xs ≤ length ys

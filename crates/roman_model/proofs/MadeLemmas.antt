@@ -1,5 +1,5 @@
 -- Records built from tests: their steps are exactly those that pass, their numbers are in range, and equal tests build equal records.
-use Rattle.roman_model.proofs.Common.{◌≡◌, ℕ, ◌<◌, ◌≤◌, ◌==◌, Bool, ◌&&◌, IsTrue, List, [], ◌∷◌, map, filter, ap, ap₂, inl, inr, refl, arith, eq-eqb, eqb-true, and_from, IsIn, below, Env, has, has_triple, has_move, IsEnv, IsBeh, is_final, Move, MAX_ACTIONS, Triple, MAX_STATES, env_from, guarded_step, beh_from}
+use Rattle.roman_model.proofs.Common.{◌≡◌, ℕ, ◌<◌, ◌≤◌, ◌==◌, Bool, ◌&&◌, IsTrue, List, [], ◌∷◌, filter, ap, ap₂, inl, inr, refl, arith, eq-eqb, eqb-true, and_from, IsIn, below, Env, has, has_triple, has_move, IsEnv, IsBeh, is_final, Move, Triple, MAX_ACTIONS, MAX_STATES, env_from, guarded_step, beh_from}
 use Rattle.roman_model.proofs.SystemLemmas.{move_in, triple_in}
 use Rattle.roman_model.proofs.Lists.{any_true, any_from, in_map, from_map, in_flat_map, from_flat_map, in_filter, filter_in, in_below, from_below, filter_same}
 use Rattle.roman_model.proofs.ChangeLemmas.{flat_map_same_in}
@@ -96,9 +96,7 @@ pub env_from_same : (states actions start : ℕ) (goes others : ℕ → ℕ → 
     ((e a e' : ℕ) → e < states → a < actions → e' < states → goes e a e' ≡ others e a e') → env_from states actions start goes ≡ env_from states actions start others
 env_from_same states actions start goes others same =
     ap (λ triples. record { states = states; actions = actions; start = start; triples = triples })
-    (flat_map_same_in _ _ (below states) (λ e ie. flat_map_same_in _ _ (below actions) (λ a ia.
-    ap (map (λ e'. record { from = e; action = a; to = e' }))
-    (filter_same (goes e a) (others e a) (below states) (λ e' ie'. same e a e' (from_below states e ie) (from_below actions a ia) (from_below states e' ie'))))))
+    (flat_map_same_in _ _ (below states) (λ e ie. flat_map_same_in _ _ (below actions) (λ a ia. grind (arith, filter_same, from_below))))
 
 pub beh_from_same : (env_states actions states start : ℕ) (final finals : ℕ → Bool) (goes others : ℕ → ℕ → ℕ → ℕ → Bool) →
     ((b : ℕ) → b < states → final b ≡ finals b) →

@@ -1,5 +1,5 @@
 -- Numbers of lists of states and of pairs: bounds, and the change of a number where a state changes, comes or goes.
-use Rattle.roman_model.proofs.Common.{Some, slice_get, ◌≡◌, ℕ, zero, suc, ◌+◌, ◌*◌, ◌%◌, ◌<◌, List, [], ◌∷◌, ◌++◌, map, length, take, drop, slice_index, slice_set, remove, refl, sym, ap, ◌∙◌, arith, add-one, rules, none-some, same_Some, AllZip-long, AllZip, mul-add-lt, product_of, Seat, Sys, Pair, IsPair, Sizes, sizes_of, AreBelow, grown_sizes, sizes_without, count, states_number, states_at, number, pair_at, IsPairOf, grown, without, number_without, AllZip-get_or, ◌/◌, div-mul-add, mod-mul-add, div_below, mod_below, NumbersArePairs}
+use Rattle.roman_model.proofs.Common.{Some, slice_get, ◌≡◌, ℕ, zero, suc, ◌+◌, ◌*◌, ◌%◌, ◌<◌, List, [], ◌∷◌, ◌++◌, map, length, take, drop, slice_index, slice_set, remove, refl, sym, ap, ◌∙◌, arith, add-one, rules, ◌/◌, none-some, same_Some, AllZip-long, AllZip, mul-add-lt, div-mul-add, mod-mul-add, div_below, mod_below, product_of, Seat, Sys, Pair, IsPair, Sizes, sizes_of, AreBelow, grown_sizes, sizes_without, count, states_number, states_at, number, pair_at, IsPairOf, NumbersArePairs, grown, without, number_without, AllZip-get_or}
 
 pub AreBelow-length : (sizes bs : List ℕ) → AreBelow sizes bs → length bs ≡ length sizes
 AreBelow-length sizes bs h = AllZip-long (λ size b. b < size) sizes bs h
@@ -122,13 +122,7 @@ length-states_at (size ∷ sizes) i = ap suc (length-states_at sizes (i % produc
 -- the numbers of the states before and after place k
 pub states_before : (sizes bs : List ℕ) (k : ℕ) → AreBelow sizes bs → k < length sizes →
     states_number (take k sizes) (take k bs) ≡ states_number sizes bs / product_of (drop (k + 1) sizes) / slice_index sizes k
-states_before sizes bs k h l =
-    let low : states_number (drop (k + 1) sizes) (drop (k + 1) bs) < product_of (drop (k + 1) sizes) = states_number_below (drop (k + 1) sizes) (drop (k + 1) bs) (AreBelow-drop sizes bs (k + 1) h) in
-    rw (
-      states_number-split sizes bs k l (AreBelow-length sizes bs h),
-      div-mul-add (states_number (take k sizes) (take k bs) * slice_index sizes k + slice_index bs k) (product_of (drop (k + 1) sizes)) (states_number (drop (k + 1) sizes) (drop (k + 1) bs)) low,
-    )
-    (sym (div-mul-add (states_number (take k sizes) (take k bs)) (slice_index sizes k) (slice_index bs k) (AreBelow-index sizes bs k h l)))
+states_before sizes bs k h l = grind (arith, (states_number_below (drop (k + 1) sizes) (drop (k + 1) bs) (AreBelow-drop sizes bs (k + 1) h)), (AreBelow-drop sizes bs (k + 1) h), (states_number-split sizes bs k l (AreBelow-length sizes bs h)), (AreBelow-length sizes bs h), div-mul-add, (AreBelow-index sizes bs k h l))
 
 pub states_behind : (sizes bs : List ℕ) (k : ℕ) → AreBelow sizes bs → k < length sizes →
     states_number (drop (k + 1) sizes) (drop (k + 1) bs) ≡ states_number sizes bs % product_of (drop (k + 1) sizes)

@@ -1,5 +1,5 @@
 -- The arenas over numbers of pairs and over pairs carry over to each other.
-use Rattle.roman_model.proofs.Common.{Sizes, sizes_of, count, number, pair_at, numbered, entry_at, ◌≡◌, ℕ, ◌<◌, ◌==◌, List, [], ◌∷◌, map, IsTrue, refl, sym, ap, ap₂, ◌∙◌, subst, inl, inr, eqb-true, eq-eqb, IsIn, Sys, Pair, IsSys, IsPair, outcomes, is_allowed, is_fine, same_pair, arena, Entry, is_listed, mask, IsOrder, is_justified, Reason, AreEntries, OrderCompletes, NumberedCompletes}
+use Rattle.roman_model.proofs.Common.{Sizes, sizes_of, count, number, pair_at, numbered, entry_at, ◌≡◌, ℕ, ◌<◌, ◌==◌, List, [], ◌∷◌, map, refl, sym, ap, ap₂, ◌∙◌, subst, inl, inr, arith, eqb-true, eq-eqb, IsIn, Sys, Pair, IsSys, IsPair, outcomes, same_pair, arena, Entry, is_listed, mask, IsOrder, is_justified, Reason, AreEntries, OrderCompletes, NumberedCompletes}
 use Rattle.roman_model.proofs.Lists.{same_test, from_map}
 use Rattle.roman_model.proofs.SystemLemmas.{same_pair_is, same_pair_from, outcome_pair}
 use Rattle.roman_model.proofs.NumberLemmas.{number-pair_at, numbers_are_pairs}
@@ -45,9 +45,7 @@ module _ (s : Sys) where
   AreNumbers L = (x : Entry ℕ) → IsIn x L → x.node < count (sizes_of s)
 
   pub entries_at : (L : List (Entry ℕ)) → AreNumbers L → AreEntries s (map (entry_at s) L)
-  entries_at L are x i =
-      let (y, j, e) = from_map (entry_at s) x L i in
-      subst (λ z. IsPair s z.node) (sym e) ((numbers_are_pairs s).pair y.node (are y j))
+  entries_at L are x i = grind (arith, (from_map (entry_at s) x L i), (numbers_are_pairs s))
 
   -- a number is listed exactly where its pair is listed
   pub listed_at : IsSys s → (L : List (Entry ℕ)) → AreNumbers L → (i : ℕ) → IsNumber i →
@@ -77,12 +75,8 @@ numbered_completes_by completes s L sys are order fine masked =
     (λ p ok unlisted.
     let i : IsNumber s (number (sizes_of s) p) = (numbers_are_pairs s).below p ok in
     let is : pair_at (sizes_of s) (number (sizes_of s) p) ≡ p = (numbers_are_pairs s).back p ok in
-    subst (λ q. IsTrue (is_fine s q)) is (fine (number (sizes_of s) p) i
-    (listed_at s sys L are (number (sizes_of s) p) i ∙ ap (is_listed (arena s) (map (entry_at s) L)) is ∙ unlisted)))
+    grind (arith, (listed_at s sys L are (number (sizes_of s) p) i)))
     (λ p ok unlisted a allowed empty.
     let i : IsNumber s (number (sizes_of s) p) = (numbers_are_pairs s).below p ok in
     let is : pair_at (sizes_of s) (number (sizes_of s) p) ≡ p = (numbers_are_pairs s).back p ok in
-    masked (number (sizes_of s) p) i
-    (listed_at s sys L are (number (sizes_of s) p) i ∙ ap (is_listed (arena s) (map (entry_at s) L)) is ∙ unlisted)
-    a (subst (λ q. IsTrue (is_allowed s q a)) (sym is) allowed)
-    (mask_at s sys L are (number (sizes_of s) p) i a ∙ ap (λ q. mask (arena s) (is_listed (arena s) (map (entry_at s) L)) q a) is ∙ empty))
+    grind (arith, (listed_at s sys L are (number (sizes_of s) p) i), (mask_at s sys L are (number (sizes_of s) p) i a)))

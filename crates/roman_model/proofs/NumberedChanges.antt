@@ -1,5 +1,5 @@
 -- Changes over the numbers of pairs: renaming and replay agree with those over pairs.
-use Rattle.roman_model.proofs.Common.{◌≡◌, ℕ, ◌+◌, ◌*◌, ◌<◌, ◌==◌, Bool, true, false, List, [], ◌∷◌, map, length, filter, flat_map, Some, if◌then◌else◌, slice_get, refl, sym, ap, ap₂, ◌∙◌, subst, inl, inr, arith, list_any, cond-true, length-map, flat_map-map, mul-add-lt, slice_get_within, IsIn, below, Seat, Sys, Pair, IsSys, is_allowed, same_pair, arena, Entry, IsOrder, replay, Freeze, Thaw, Join, Die, grown, without, may_go, firsts, entry_without, rename, Sizes, sizes_of, grown_sizes, sizes_without, count, pair_at, numbered, entry_at, number_without, after, Change, grown_entries, CanChange, KeepsAll, RenamedReplays, grown_numbers, number_entry_without, first_numbers, rename_numbers}
+use Rattle.roman_model.proofs.Common.{◌≡◌, ℕ, ◌+◌, ◌*◌, ◌<◌, ◌==◌, Bool, true, false, List, [], ◌∷◌, map, length, filter, flat_map, Some, if◌then◌else◌, slice_get, refl, sym, ap, ap₂, ◌∙◌, subst, inl, inr, arith, list_any, cond-true, length-map, flat_map-map, mul-add-lt, slice_get_within, IsIn, below, Seat, Sys, Pair, IsSys, is_allowed, same_pair, arena, Entry, IsOrder, replay, Freeze, Thaw, Join, Die, grown, without, may_go, firsts, entry_without, rename, after, Change, grown_entries, CanChange, KeepsAll, RenamedReplays, Sizes, sizes_of, grown_sizes, sizes_without, count, pair_at, numbered, entry_at, number_without, grown_numbers, number_entry_without, first_numbers, rename_numbers}
 use Rattle.roman_model.proofs.Lists.{by_test, any_same, list_any-map, from_map, from_flat_map, filter_in, from_below, sublist_in, filter-map}
 use Rattle.roman_model.proofs.OrderLemmas.{replay_whole, replay_sublist}
 use Rattle.roman_model.proofs.NumberLemmas.{IsPairOf-at, number_below, pair_at-grown, count-grown, number_without-is, pair_at-without, IsPairOf-without}
@@ -131,10 +131,7 @@ numbers_replay change s L ok can are order = record {
       (replay (numbered (after change s)) (rename_numbers change (sizes_of s) L))
       (λ x i. numbers_below change s L can are x (sublist_in x (replay (numbered (after change s)) (rename_numbers change (sizes_of s) L)) (rename_numbers change (sizes_of s) L) (replay_sublist (numbered (after change s)) (rename_numbers change (sizes_of s) L)) i))
       (subst (IsOrder (arena (after change s))) (sym over) kept.order);
-  whole = λ all. replay_whole (numbered (after change s)) (rename_numbers change (sizes_of s) L)
-      (order_named (numbered (after change s)) (arena (after change s)) (pair_at (sizes_of (after change s))) (IsNumber (after change s)) (numbers_rename (after change s) kept.system)
-      (rename_numbers change (sizes_of s) L) (numbers_below change s L can are)
-      (subst (IsOrder (arena (after change s))) (kept.whole all ∙ sym (numbers_renamed change s L can are)) kept.order));
+  whole = λ all. grind (arith, (replay_whole (numbered (after change s)) (rename_numbers change (sizes_of s) L) (order_named (numbered (after change s)) (arena (after change s)) (pair_at (sizes_of (after change s))) (IsNumber (after change s)) (numbers_rename (after change s) kept.system) (rename_numbers change (sizes_of s) L) (numbers_below change s L can are) (subst (IsOrder (arena (after change s))) (kept.whole all ∙ sym (numbers_renamed change s L can are)) kept.order))));
   pairs = over;
 }
   where
@@ -142,11 +139,7 @@ numbers_replay change s L ok can are order = record {
     kept = renaming_keeps change s (map (entry_at s) L) ok can (entries_at s L are) (order_at s ok L are order)
 
     over : map (entry_at (after change s)) (replay (numbered (after change s)) (rename_numbers change (sizes_of s) L)) ≡ replay (arena (after change s)) (rename change (map (entry_at s) L))
-    over =
-        replay_renamed (numbered (after change s)) (arena (after change s)) (pair_at (sizes_of (after change s))) (IsNumber (after change s))
-        (numbers_rename (after change s) (renaming_keeps change s (map (entry_at s) L) ok can (entries_at s L are) (order_at s ok L are order)).system)
-        (rename_numbers change (sizes_of s) L) (numbers_below change s L can are)
-        ∙ ap (replay (arena (after change s))) (numbers_renamed change s L can are)
+    over = grind (arith, (replay_renamed (numbered (after change s)) (arena (after change s)) (pair_at (sizes_of (after change s))) (IsNumber (after change s)) (numbers_rename (after change s) (renaming_keeps change s (map (entry_at s) L) ok can (entries_at s L are) (order_at s ok L are order)).system) (rename_numbers change (sizes_of s) L) (numbers_below change s L can are)), (numbers_renamed change s L can are))
 
 -- freezing and thawing keep the allowed actions
 pub number_allows-turned : (s : Sys) (k : ℕ) (frozen : Bool) (i a : ℕ) → (numbered (turned s k frozen)).allows i a ≡ (numbered s).allows i a

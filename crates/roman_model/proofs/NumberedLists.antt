@@ -1,5 +1,5 @@
 -- Removal lists over the numbers of pairs: the laws of their arena, complete lists, and counts of pairs.
-use Rattle.roman_model.proofs.Common.{◌≡◌, ℕ, ◌+◌, ◌<◌, not, List, [], map, length, IsTrue, IsFalse, filter, sum_by, refl, sym, ◌∙◌, subst, arith, rules, both_ways, eqb-true, eq-eqb, not-false, length-map, IsIn, HasNoRepeats, below, Sys, Pair, IsSys, IsPair, pairs, outcomes, arena, Entry, is_listed, is_justified, mask, IsOrder, loses, IsComplete, sizes_of, count, number, pair_at, numbered, entry_at, IsCompleteList, is_related, offers, Reason, Final, Act, choice_count, length-filter_both, choices}
+use Rattle.roman_model.proofs.Common.{◌≡◌, ℕ, ◌+◌, ◌<◌, not, List, [], map, length, IsFalse, filter, sum_by, refl, sym, ◌∙◌, subst, arith, rules, both_ways, eqb-true, eq-eqb, not-false, length-map, IsIn, HasNoRepeats, below, Sys, Pair, IsSys, IsPair, pairs, outcomes, arena, Entry, is_listed, is_justified, mask, IsOrder, loses, choices, IsComplete, sizes_of, count, number, pair_at, numbered, entry_at, IsCompleteList, is_related, offers, choice_count, Reason, Final, Act, length-filter_both}
 use Rattle.roman_model.proofs.Lists.{in_map, from_map, in_filter, filter_in, in_below, from_below, length-below, same_length, sum_by-map, sum_by_same, sum_by_within, HasNoRepeats-map, HasNoRepeats-filter, HasNoRepeats-below}
 use Rattle.roman_model.proofs.SystemLemmas.{in_pairs, from_pairs, pairs_once, outcome_pair}
 use Rattle.roman_model.proofs.ArenaLemmas.{IsSame, IsArena, in_listed, listed_in, mask_empty, mask_same}
@@ -72,9 +72,7 @@ numbered_pairs_once s = grind (arith, (HasNoRepeats-below (count (sizes_of s))),
 pub in_numbered_pairs : (s : Sys) (p : Pair) → IsIn p (pairs s) → IsIn p (numbered_pairs s)
 in_numbered_pairs s p i =
     let pair : IsPair s p = from_pairs s p i in
-    subst (λ q. IsIn q (numbered_pairs s)) ((numbers_are_pairs s).back p pair)
-    (in_map (pair_at (sizes_of s)) (number (sizes_of s) p) (below (count (sizes_of s)))
-    (in_below (count (sizes_of s)) (number (sizes_of s) p) ((numbers_are_pairs s).below p pair)))
+    grind (arith, (numbered_pairs s), (numbers_are_pairs s), in_map, (in_below (count (sizes_of s)) (number (sizes_of s) p) ((numbers_are_pairs s).below p pair)))
 
 pub from_numbered_pairs : (s : Sys) (p : Pair) → IsIn p (numbered_pairs s) → IsIn p (pairs s)
 from_numbered_pairs s p i = grind (arith, from_below, from_map, in_pairs, (numbers_are_pairs s))
@@ -107,8 +105,7 @@ related_count s L ok complete = let listed : length L ≡ length (filter (λ p. 
     unrelated p i =
         let (x, j, e) = from_map (λ x. x.node) p L i in
         let pair : IsPair s p = subst (IsPair s) (sym e) (complete.pairs x j) in
-        in_filter (λ q. not (is_related s q)) p (pairs s) (in_pairs s p pair)
-        (sym (complete_listed s L p ok complete pair) ∙ subst (λ q. IsTrue (is_listed (arena s) L q)) (sym e) (in_listed (arena s) (system_is_same s) L x j))
+        grind (arith, in_filter, (in_pairs s p pair), (complete_listed s L p ok complete pair), in_listed, (system_is_same s))
 
     listed_node : (p : Pair) → IsIn p (filter (λ q. not (is_related s q)) (pairs s)) → IsIn p (map (λ x. x.node) L)
     listed_node p i =

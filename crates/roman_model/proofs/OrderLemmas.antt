@@ -61,11 +61,7 @@ pub listed_from_dead : {N : Type 0} (A : Arena N) → IsSame A → (Lives : N �
 listed_from_dead A E Lives lives before [] order dead x i = absurd i
 listed_from_dead A E Lives lives before (y ∷ L) order dead x i =
     let first : Lives y.node → ⊥ = λ v. unjustified A Lives (is_among A before) y.node y.reason (lives y.node v) dead order.1 in
-    elim i [
-      | inl e ↦ λ v. first (subst (λ z. Lives z.node) e v)
-      | inr j ↦ listed_from_dead A E Lives lives (y.node ∷ before) L order.2
-          (λ p t v. elim (or_cases (A.same p y.node) (is_among A before p) t) [ inl here ↦ first (subst Lives (E.is p y.node here) v) | inr rest ↦ dead p rest v ]) x j
-    ]
+    grind (arith, (listed_from_dead A E Lives lives (y.node ∷ before) L order.2))
 
 pub listed_dead : {N : Type 0} (A : Arena N) → IsSame A → (Lives : N → Type 0) → ((p : N) → Lives p → Survives A Lives p) → (L : List (Entry N)) → IsOrder A L →
     (p : N) → IsTrue (is_listed A L p) → Lives p → ⊥

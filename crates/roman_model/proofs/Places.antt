@@ -1,5 +1,5 @@
 -- The items of a list at their places.
-use Rattle.roman_model.proofs.Common.{◌≡◌, ℕ, zero, suc, ◌+◌, ◌<◌, ◌≤◌, List, [], ◌∷◌, map, length, drop, Some, slice_get, slice_index, slice_set, inl, inr, refl, sym, ap, ap₂, ◌∙◌, arith, add-one, none-some, same_Some, IsIn, below, drop-cons, drop_all}
+use Rattle.roman_model.proofs.Common.{◌≡◌, ℕ, zero, suc, ◌+◌, ◌<◌, ◌≤◌, List, [], ◌∷◌, map, length, drop, Some, slice_get, slice_index, slice_set, inl, inr, refl, sym, ap, ◌∙◌, arith, add-one, drop-cons, none-some, same_Some, IsIn, below, drop_all}
 use Rattle.roman_model.proofs.Lists.{length-below, get_or-below}
 
 -- there is an item at each place of the list
@@ -35,9 +35,7 @@ index_set (c ∷ bs) (suc k) b l = index_set bs k b (omega arith)
 
 -- the numbers from k on
 pub from_place : (n k : ℕ) → k < n → drop k (below n) ≡ k ∷ drop (k + 1) (below n)
-from_place n k l =
-    let within : k < length (below n) = omega (arith, length-below n) in
-    drop-cons (below n) k 0 within ∙ ap₂ (λ (m j : ℕ). m ∷ drop j (below n)) (get_or-below n k 0 l) (sym (add-one k))
+from_place n k l = grind (arith, (length-below n), drop-cons, (get_or-below n k 0 l), (add-one k))
 
 -- there are no numbers from n on
 pub from_end : (n k : ℕ) → n ≤ k → drop k (below n) ≡ []

@@ -1,5 +1,5 @@
 -- The plan of the choices costs least of all plans at a related pair.
-use Rattle.roman_model.proofs.Common.{cases_lt, cond-true, cond-false, ◌≡◌, ◌≢◌, ℕ, zero, suc, ◌+◌, ◌-◌, ◌<◌, ◌≤◌, Bool, true, false, cond, ◌⊎◌, List, [], ◌∷◌, ◌++◌, IsTrue, filter, nat_le, inl, inr, refl, sym, ap, ap₂, ◌∙◌, subst, arith, rules, max, IsIn, below, Sys, Pair, IsSys, IsPair, outcomes, is_allowed, Great, offers, Costs, max_over, allowed_actions, least_from, through, least, choice, le-max_left, le-max_right, max-le, leb-true, leb-false, Plan, Leaf, Node, IsPlan, worst, first_least, chosen, IsChoice, PlansCostLeast}
+use Rattle.roman_model.proofs.Common.{cases_lt, cond-false, leb-true, leb-false, ◌≡◌, ◌≢◌, ℕ, zero, suc, ◌+◌, ◌-◌, ◌<◌, ◌≤◌, Bool, true, false, cond, ◌⊎◌, List, [], ◌∷◌, ◌++◌, IsTrue, filter, nat_le, inl, inr, refl, sym, ap, ap₂, ◌∙◌, subst, arith, rules, max, IsIn, below, Sys, Pair, IsSys, IsPair, outcomes, is_allowed, Great, offers, Costs, max_over, allowed_actions, least_from, through, least, choice, Plan, Leaf, Node, IsPlan, worst, first_least, chosen, IsChoice, PlansCostLeast, le-max_left, le-max_right, max-le}
 use Rattle.roman_model.proofs.Lists.{by_test, filter_in, from_below, from_push, not_empty_in, ne_not_empty}
 use Rattle.roman_model.proofs.SystemLemmas.{outcome_pair}
 use Rattle.roman_model.proofs.OfferLemmas.{offer_is, related_offers}
@@ -78,8 +78,7 @@ before_trans f i j k first second = grind arith
 least_from_is : (f : ℕ → ℕ) (x : ℕ) (xs : List ℕ) → IsRising (x ∷ xs) → IsIn (least_from f x xs) (x ∷ xs) × ((j : ℕ) → IsIn j (x ∷ xs) → IsBefore f (least_from f x xs) j)
 least_from_is f x [] rises = (inl refl, λ j i. elim i [ inl e ↦ inr (ap f (sym e), omega arith) | inr none ↦ absurd none ])
 least_from_is f x (y ∷ ys) rises = by_test (nat_le (f x) (f y))
-    (λ t. subst (λ r. IsIn r (x ∷ y ∷ ys) × ((j : ℕ) → IsIn j (x ∷ y ∷ ys) → IsBefore f r j)) (sym (cond-true (nat_le (f x) (f y)) (least_from f x ys) (least_from f y ys) t))
-    (kept (least_from f x ys) (leb-true (f x) (f y) t) (least_from_is f x ys (λ z i. rises.0 z (inr i), rises.1.1))))
+    (grind (arith, kept, leb-true, (least_from_is f x ys)))
     (λ g. subst (λ r. IsIn r (x ∷ y ∷ ys) × ((j : ℕ) → IsIn j (x ∷ y ∷ ys) → IsBefore f r j)) (sym (cond-false (nat_le (f x) (f y)) (least_from f x ys) (least_from f y ys) g))
     (taken (least_from f y ys) (leb-false (f x) (f y) g) (least_from_is f y ys rises.1)))
   where
@@ -100,9 +99,7 @@ choice_is s C h p a ok great allowed = grind (arith, (first_least_is (through s 
 
 pub chosen_plan : (s : Sys) (C : Costs) (h : ℕ) (p : Pair) → IsSys s → IsPair s p → Great s p → IsPlan s h p (chosen s C h p)
 chosen_plan s C zero p ok pair great = refl
-chosen_plan s C (suc h) p ok pair great = λ a allowed.
-    let offered : IsIn (choice s C h p a) (offers s p a) = (choice_is s C h p a ok great allowed).offered in
-    grind (arith, offer_is, outcome_pair, (chosen_plan s C h))
+chosen_plan s C (suc h) p ok pair great = λ a allowed. grind (arith, (choice_is s C h p a ok great allowed), offer_is, outcome_pair, (chosen_plan s C h))
 
 pub chosen_cost : (s : Sys) (C : Costs) (h : ℕ) (p : Pair) → IsSys s → IsPair s p → Great s p → worst s C p (chosen s C h p) ≡ least s C h p
 chosen_cost s C zero p ok pair great = refl

@@ -1,8 +1,8 @@
 -- The opponent's game, by a removal list and by depth.
-use Rattle.roman_model.proofs.Common.{Bool, find, ◌≡◌, ℕ, zero, suc, ◌<◌, ◌≤◌, not, if◌then◌else◌, List, [], ◌∷◌, ◌++◌, length, Option, Some, None, IsTrue, IsFalse, inl, inr, sym, ap, ap₂, ◌∙◌, subst, arith, IsIn, is_empty, or_parts, cond-true, cond-false, Sys, Pair, outcomes, arena, Entry, is_listed, is_justified, IsOrder, entries_before, has_ready, WinsWithin, AreSeats, Reason, Final, Act, went_on, reason_of, play_at, play, OrderWins}
+use Rattle.roman_model.proofs.Common.{Bool, find, ◌≡◌, ℕ, zero, suc, ◌<◌, ◌≤◌, not, if◌then◌else◌, List, [], ◌∷◌, ◌++◌, length, Option, Some, None, IsTrue, IsFalse, sym, ◌∙◌, subst, arith, IsIn, is_empty, or_parts, cond-true, cond-false, Sys, Pair, outcomes, arena, Entry, is_listed, is_justified, IsOrder, entries_before, has_ready, WinsWithin, AreSeats, went_on, reason_of, play_at, play, OrderWins, Reason, Final, Act}
 use Rattle.std.specs.Option.{option_map}
 use Rattle.roman_model.proofs.Lists.{by_test, find_some, find_found, any_from, split_at}
-use Rattle.roman_model.proofs.ArenaLemmas.{listed_in, justified_is, beaten_is}
+use Rattle.roman_model.proofs.ArenaLemmas.{listed_in, justified_is}
 use Rattle.roman_model.proofs.WorkLemmas.{order_middle}
 use Rattle.roman_model.proofs.CompositionLemmas.{system_is_same}
 use Rattle.roman_model.proofs.ExplanationLemmas.{before_listed, before_falls, before_shorter, before_is}
@@ -22,13 +22,7 @@ reason_found s L p order t =
     let (x, i, same) = listed_in (arena s) (system_is_same s) L p t in
     let (done, rest, whole) = split_at x L i in
     let (new, holds) = order_middle (arena s) done rest x (subst (IsOrder (arena s)) whole order) in
-    let before : entries_before (arena s) L p ≡ done =
-    ap₂ (λ M q. entries_before (arena s) M q) whole same ∙ before_is (arena s) done x rest ((system_is_same s).itself x.node) new in (
-      x.reason,
-      ap₂ (λ M q. reason_of s M q) whole same ∙ reason_is s done x rest new,
-      subst (λ M. IsTrue (is_justified (arena s) (is_listed (arena s) M) p x.reason)) (sym before)
-          (subst (λ q. IsTrue (is_justified (arena s) (is_listed (arena s) done) q x.reason)) (sym same) holds),
-    )
+    let before : entries_before (arena s) L p ≡ done = grind (arith, before_is, (system_is_same s)) in grind (arith, reason_is)
 
 -- Wins.
 
@@ -44,21 +38,7 @@ wins_after n (Some k) w = omega arith
 pub answered_wins : (s : Sys) (gone : Pair → Bool) (rest : Pair → Option ℕ) (n : ℕ) (p : Pair) (a k : ℕ) → k < length s.seats → IsTrue (is_justified (arena s) gone p (Act a)) →
     ((q : Pair) → IsIn q (outcomes s p a k) → IsTrue (gone q) → WinsWithin n (rest q)) →
     WinsWithin (suc n) (if not (has_ready s.seats) then Some 1 else (if is_empty (outcomes s p a k) then Some 1 else went_on rest (find gone (outcomes s p a k))))
-answered_wins s gone rest n p a k l j later = by_test (not (has_ready s.seats))
-    (λ t. subst (WinsWithin (suc n)) (sym (cond-true (not (has_ready s.seats)) (Some 1) answered t)) (omega arith))
-    (λ f. subst (WinsWithin (suc n)) (sym (cond-false (not (has_ready s.seats)) (Some 1) answered f)) (elim (beaten_is (arena s) gone p a k ((justified_is (arena s) gone p a j).1 k l)) [
-      | inl none ↦ subst (WinsWithin (suc n)) (sym (cond-true (is_empty (outcomes s p a k)) (Some 1) went (ap is_empty none))) (omega arith)
-      | inr some ↦
-          let (w, i, t) = some in
-          let (q, e) = find_found gone (outcomes s p a k) (any_from gone w (outcomes s p a k) i t) in
-          grind (arith, cond-false, find_some, went, wins_after)
-    ]))
-  where
-    went : Option ℕ
-    went = went_on rest (find gone (outcomes s p a k))
-
-    answered : Option ℕ
-    answered = if is_empty (outcomes s p a k) then Some 1 else went
+answered_wins s gone rest n p a k l j later = grind (arith, by_test, cond-true, cond-false, (justified_is (arena s) gone p a j), find_found, any_from, find_some, wins_after)
 
 -- the same by the reason of a listed pair: the opponent goes on from an earlier pair
 pub request_wins : (s : Sys) (L : List (Entry Pair)) (n : ℕ) (p : Pair) (k : ℕ) (ks : List ℕ) (r : Reason) → k < length s.seats →
@@ -80,9 +60,7 @@ list_wins s L order zero p (k ∷ ks) seats enough t few =
 list_wins s L order (suc n) p (k ∷ ks) seats enough t few = let (r, e, j) = reason_found s L p order t in
     subst (λ o. WinsWithin (suc (suc n)) (play_at s L (k ∷ ks) p o)) (sym e)
     (request_wins s L (suc n) p k ks r seats.0 j
-    (λ q g.
-    let less : length (entries_before (arena s) L q) < length (entries_before (arena s) L p) = before_falls (arena s) L p q g in
-    grind (arith, (list_wins s L order n q ks seats.1 (omega arith) (before_listed (arena s) L p q g) (omega arith)))))
+    (grind (arith, before_falls, before_listed, (list_wins s L order n))))
 
 -- The opponent that plays by a removal list wins.
 pub order_won : OrderWins

@@ -1,5 +1,5 @@
 -- Lemmas on the pairs of a system, its steps and outcomes.
-use Rattle.roman_model.proofs.Common.{◌≡◌, ℕ, ◌<◌, ◌==◌, not, ◌&&◌, List, [], ◌∷◌, map, length, Option, Some, None, IsTrue, IsFalse, flat_map, slice_get, slice_index, slice_set, inl, inr, refl, sym, ap, ◌∙◌, subst, arith, rules, AllZip, false≢true, and_parts, and_from, not-true, not_from_false, eqb-true, eq-eqb, cond-true, cond-false, slice_get_within, IsIn, HasNoRepeats, below, is_empty, Env, Beh, Seat, Sys, Pair, has, has_triple, has_move, IsEnv, IsBeh, IsSys, IsPair, SStep, Move, pairs, env_next, beh_next, seat_next, outcomes_by, outcomes, is_allowed, same_numbers, same_pair, TStep, Allows, combinations, env_prev, beh_prev, is_ready}
+use Rattle.roman_model.proofs.Common.{◌≡◌, ℕ, ◌<◌, ◌==◌, not, ◌&&◌, List, [], ◌∷◌, map, length, Option, Some, None, IsTrue, IsFalse, flat_map, slice_get, slice_index, slice_set, inl, inr, refl, sym, ap, ◌∙◌, subst, arith, rules, AllZip, false≢true, and_parts, and_from, not-true, not_from_false, eqb-true, eq-eqb, cond-true, cond-false, slice_get_within, IsIn, HasNoRepeats, below, is_empty, Env, Beh, Seat, Sys, Pair, has, has_triple, has_move, IsEnv, IsBeh, IsSys, IsPair, SStep, Move, TStep, Allows, pairs, env_next, beh_next, seat_next, outcomes_by, outcomes, is_allowed, same_numbers, same_pair, combinations, env_prev, beh_prev, is_ready}
 use Rattle.roman_model.proofs.NumberLemmas.{AreBelow-set, below_states, size_at, states_below}
 use Rattle.roman_model.proofs.Places.{get_in}
 use Rattle.roman_model.proofs.Lists.{by_test, in_map, from_map, in_flat_map, from_flat_map, in_filter, filter_in, any_true, any_from, in_not_empty, not_empty_in, in_below, from_below, HasNoRepeats-map, HasNoRepeats-flat_map, HasNoRepeats-below}
@@ -25,8 +25,7 @@ same_numbers_itself [] = refl
 same_numbers_itself (n ∷ ns) = and_from (n == n) (same_numbers ns ns) (eq-eqb n n refl) (same_numbers_itself ns)
 
 pub same_pair_is : (p q : Pair) → IsTrue (same_pair p q) → p ≡ q
-same_pair_is p q h = let (front, numbers) = and_parts (p.t == q.t && p.e == q.e) (same_numbers p.bs q.bs) h in
-    grind (arith, eqb-true, pair_path, same_numbers_is)
+same_pair_is p q h = grind (arith, eqb-true, pair_path, same_numbers_is)
   where
     pair_path : p.t ≡ q.t → p.e ≡ q.e → p.bs ≡ q.bs → p ≡ q
     pair_path t e bs = λ i. record { t = t i; e = e i; bs = bs i }
@@ -195,10 +194,7 @@ from_moved s p a k states q i = grind (arith, from_beh_next, from_env_next, from
 
 pub outcome_in : (s : Sys) (p : Pair) (a k t' e' : ℕ) (bs' : List ℕ) → IsSys s → TStep s p.t p.e a t' e' → SStep s p.bs p.e a k bs' e' →
     IsIn (record { t = t'; e = e'; bs = bs' }) (outcomes s p a k)
-outcome_in s p a k t' e' bs' ok step r = let next : IsIn r.to (seat_next (slice_get s.seats k) (slice_index p.bs k) p.e a) =
-    subst (λ o. IsIn r.to (seat_next o (slice_index p.bs k) p.e a)) (sym r.seated)
-    (in_seat_next s.env r.seat (slice_index p.bs k) p.e a r.to (ok.seats r.seat (seat_in s.seats k r.seat r.seated)) r.ready r.moves) in
-    grind (arith, in_moved)
+outcome_in s p a k t' e' bs' ok step r = grind (arith, (in_seat_next s.env r.seat (slice_index p.bs k) p.e a r.to (ok.seats r.seat (seat_in s.seats k r.seat r.seated)) r.ready r.moves), in_moved)
 
 pub from_outcome : (s : Sys) (p : Pair) (a k : ℕ) (q : Pair) → IsIn q (outcomes s p a k) → TStep s p.t p.e a q.t q.e × SStep s p.bs p.e a k q.bs q.e
 from_outcome s p a k q i = grind (arith, from_moved, from_seat_next)
@@ -210,9 +206,7 @@ outcome_seat s p a k q i = grind (arith, from_outcome, not_from_false, slice_get
 -- A list of one state for each seat stays in range where one state is replaced.
 pub states_set : (seats : List Seat) (bs : List ℕ) (k b : ℕ) (seat : Seat) → AllZip (λ seat b. b < seat.beh.states) seats bs →
     slice_get seats k ≡ Some seat → b < seat.beh.states → AllZip (λ seat b. b < seat.beh.states) seats (slice_set bs k b)
-states_set seats bs k b seat h e l =
-    below_states seats (slice_set bs k b)
-    (AreBelow-set (map (λ seat. seat.beh.states) seats) bs k b (states_below seats bs h) (subst (λ n. b < n) (sym (size_at seats k seat e)) l))
+states_set seats bs k b seat h e l = grind (arith, below_states, AreBelow-set, states_below, size_at)
 
 pub outcome_pair : (s : Sys) (p : Pair) (a k : ℕ) (q : Pair) → IsSys s → IsPair s p → IsIn q (outcomes s p a k) → IsPair s q
 outcome_pair s p a k q ok pair i =

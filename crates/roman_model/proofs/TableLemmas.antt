@@ -1,5 +1,5 @@
 -- Tables of rows with a place for each of some elements, and the rank of a number among the numbers that pass a test.
-use Rattle.roman_model.proofs.Common.{◌≡◌, ℕ, zero, suc, ◌+◌, ◌*◌, ◌<◌, Bool, cond, List, [], ◌∷◌, ◌++◌, map, length, get_or, filter, flat_map, IsTrue, sym, ap, ◌∙◌, subst, arith, inl, inr, length-append, append-nil, cases_eq, mul-add-lt, get_or_append_left, get_or_push, length-map, below, get_or-append-add, get_or-map, flat_map-append}
+use Rattle.roman_model.proofs.Common.{◌≡◌, ℕ, zero, suc, ◌+◌, ◌*◌, ◌<◌, Bool, List, [], ◌∷◌, ◌++◌, map, length, get_or, filter, flat_map, IsTrue, sym, ap, ◌∙◌, subst, arith, inl, inr, length-append, append-nil, cases_eq, mul-add-lt, get_or_append_left, get_or_push, length-map, get_or-append-add, get_or-map, below, flat_map-append}
 use Rattle.roman_model.proofs.Lists.{filter_below_more}
 
 -- a table with one more row
@@ -17,10 +17,7 @@ pub table_at : {X Y : Type 0} (f : ℕ → X → Y) (xs : List X) (n h r : ℕ) 
 table_at f xs zero h r d x hn hr = absurd (omega arith)
 table_at f xs (suc n) h r d x hn hr =
     ap (λ ys. get_or ys (h * length xs + r) d) (flat_map_row (λ h. map (f h) xs) n) ∙ elim (cases_eq h n) [
-      | inl e ↦
-          ap (λ k. get_or (flat_map (λ h. map (f h) xs) (below n) ++ map (f n) xs) k d)
-          (ap (λ k. k * length xs + r) e ∙ ap (λ k. k + r) (sym (length_rows f xs n)))
-          ∙ get_or-append-add (flat_map (λ h. map (f h) xs) (below n)) (map (f n) xs) r d ∙ get_or-map (f n) xs r x d hr ∙ ap (λ k. f k (get_or xs r x)) (sym e)
+      | inl e ↦ grind (arith, (length_rows f xs n), get_or-append-add, (get_or-map (f n) xs r x d hr))
       | inr ne ↦
           let small : h < n = omega arith in
           get_or_append_left (flat_map (λ h. map (f h) xs) (below n)) (map (f n) xs) d (h * length xs + r)
@@ -36,16 +33,6 @@ rank q p = length (filter q (below p))
 pub rank_at : (q : ℕ → Bool) (n p d : ℕ) → p < n → IsTrue (q p) → (rank q p < rank q n) × (get_or (filter q (below n)) (rank q p) d ≡ p)
 rank_at q zero p d l t = absurd (omega arith)
 rank_at q (suc n) p d l t = elim (cases_eq p n) [
-  | inl e ↦
-      let here : filter q (below (suc n)) ≡ filter q (below n) ++ n ∷ [] = grind (arith, filter_below_more) in
-      let long : length (filter q (below (suc n))) ≡ length (filter q (below n) ++ n ∷ []) = ap length here in (
-        subst (λ k. rank q k < rank q (suc n)) (sym e) (omega (arith, length-append (filter q (below n)) (n ∷ []))),
-        ap (λ ys. get_or ys (rank q p) d) here ∙ get_or_push (filter q (below n)) n d (rank q p) (ap (rank q) (sym e)) ∙ sym e,
-      )
-  | inr ne ↦
-      let (less, is) = rank_at q n p d (omega arith) t in
-      let more : length (filter q (below (suc n))) ≡ length (filter q (below n) ++ cond (q n) (n ∷ []) []) = ap length (filter_below_more q n) in (
-        omega (arith, length-append (filter q (below n)) (cond (q n) (n ∷ []) [])),
-        ap (λ ys. get_or ys (rank q p) d) (filter_below_more q n) ∙ get_or_append_left (filter q (below n)) (cond (q n) (n ∷ []) []) d (rank q p) less ∙ is,
-      )
+  | inl e ↦ grind (arith, filter_below_more, length-append, get_or_push)
+  | inr ne ↦ grind (arith, filter_below_more, length-append, get_or_append_left, (rank_at q n p d (omega arith) t))
 ]

@@ -1,5 +1,5 @@
 -- A system without one or two seats equals the system after as many changes.
-use Rattle.roman_model.proofs.Common.{◌≡◌, ℕ, zero, suc, ◌<◌, ◌==◌, Bool, true, false, cond, ◌||◌, List, [], ◌∷◌, Some, IsTrue, slice_get, remove, refl, sym, ap, ap₂, ◌∙◌, arith, or-false, false≢true, eq-eqb, eqb-true, same_Some, Seat, has, set_frozen, pred, or-true, leave_out, freeze_at, WithoutByChanges}
+use Rattle.roman_model.proofs.Common.{◌≡◌, ℕ, zero, suc, ◌<◌, ◌==◌, Bool, true, false, cond, ◌||◌, List, [], ◌∷◌, Some, IsTrue, slice_get, remove, refl, sym, ap, ap₂, ◌∙◌, arith, pred, or-false, or-true, false≢true, eq-eqb, eqb-true, same_Some, Seat, has, set_frozen, leave_out, freeze_at, WithoutByChanges}
 use Rattle.roman_model.proofs.Lists.{same_test}
 
 pub suc_same : (i k : ℕ) → (suc i == suc k) ≡ (i == k)

@@ -1,5 +1,5 @@
 -- Lemmas for working through a removal list: entries by their place, the delegations that lead to a node, and sums.
-use Rattle.roman_model.proofs.Common.{◌≡◌, ℕ, ◌+◌, ◌<◌, ◌≤◌, ◌&&◌, ◌||◌, List, [], ◌∷◌, ◌++◌, length, get_or, take, drop, IsTrue, IsFalse, sum_by, sym, ap, ◌∙◌, subst, arith, length-map, sum_by-append, IsIn, HasNoRepeats, below, Arena, Entry, is_among, is_listed, is_justified, IsOrderFrom, IsOrder, back, count_by, take-append-drop, drop_more, sum_by_push, length-filter, length-flat_map, fall, readings}
+use Rattle.roman_model.proofs.Common.{◌≡◌, ℕ, ◌+◌, ◌<◌, ◌≤◌, ◌&&◌, ◌||◌, List, [], ◌∷◌, ◌++◌, length, get_or, take, IsTrue, IsFalse, sum_by, sym, ◌∙◌, subst, arith, count_by, take-append-drop, length-map, drop_more, sum_by-append, sum_by_push, length-filter, IsIn, HasNoRepeats, below, Arena, Entry, is_among, is_listed, is_justified, IsOrderFrom, IsOrder, back, fall, readings, length-flat_map}
 use Rattle.roman_model.proofs.Lists.{filter-map, filter-flat_map, sum_by_same, sum_by_within}
 use Rattle.roman_model.proofs.ArenaLemmas.{justified_same}
 
@@ -17,9 +17,7 @@ order_middle A L M x order = order_from_middle A [] L M x order
 
 pub order_entry : {N : Type 0} (A : Arena N) (L : List (Entry N)) (i : ℕ) (d : Entry N) → IsOrder A L → i < length L →
     IsFalse (is_listed A (take i L) (get_or L i d).node) × IsTrue (is_justified A (is_listed A (take i L)) (get_or L i d).node (get_or L i d).reason)
-order_entry A L i d order l =
-    order_middle A (take i L) (drop (i + 1) L) (get_or L i d)
-    (subst (λ M. IsOrder A M) (sym (take-append-drop i L) ∙ ap (λ M. take i L ++ M) (drop_more L i d l)) order)
+order_entry A L i d order l = grind (arith, order_middle, (take-append-drop i L), (drop_more L i d l))
 
 -- Sums.
 
