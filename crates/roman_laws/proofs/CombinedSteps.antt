@@ -1,6 +1,5 @@
 -- The requests of several targets, and the steps that they stand for.
-use Rattle.roman_laws.proofs.Common.{◌≡◌, ℕ, ◌==◌, ◌&&◌, not, map, length, Some, IsTrue, filter, slice_get, refl, sym, subst, false≢true, and_parts, Beh, has, has_move, Request, Several, all_requests, get_in, any_true, any_from, Option, None, not-true, below, is_empty, from_map, from_flat_map, filter_in, not_empty_in, move_passes, stands_in}
-use Rattle.std.proofs.Common.{eqb-true}
+use Rattle.roman_laws.proofs.Common.{◌≡◌, ℕ, ◌==◌, ◌&&◌, not, map, length, Some, IsTrue, filter, slice_get, refl, Option, None, arith, false≢true, and_parts, not-true, Beh, has_move, Request, Several, all_requests, stands_in, get_in, any_true, any_from, from_map, from_flat_map, filter_in, not_empty_in, move_passes, below, is_empty}
 
 -- a target that has a step on the action, in the place of a target
 stands_target : (o : Option Beh) (a : ℕ) → IsTrue (stands_in o a) → (target : Beh) × (o ≡ Some target) × ((b : ℕ) × (e : ℕ) × (b' : ℕ) × IsTrue (has_move target b e a b'))
@@ -15,8 +14,7 @@ stands_target (Some target) a stands =
         m.from,
         e,
         m.to,
-        subst (λ a. IsTrue (has_move target m.from e a m.to)) (eqb-true m.action a action)
-            (any_from (λ n. n.from == m.from && n.action == m.action && has n.guard e && n.to == m.to) m target.steps i (move_passes m.from e m.action m.to m.guard j)),
+        grind (arith, any_from, move_passes),
       ),
     )
 
@@ -27,5 +25,4 @@ request_at w n r at =
     let (i, j, there) = from_flat_map (λ i. map (λ a. record { target = i; action = a }) (filter (stands_in (slice_get w.targets i)) (below w.env.actions))) r (below (length w.targets))
     (get_in (all_requests w) n r at) in
     let (a, k, same) = from_map (λ a. record { target = i; action = a }) r (filter (stands_in (slice_get w.targets i)) (below w.env.actions)) there in
-    stands_target (slice_get w.targets r.target) r.action (subst (λ (r : Request). IsTrue (stands_in (slice_get w.targets r.target) r.action)) (sym same)
-    (filter_in (stands_in (slice_get w.targets i)) a (below w.env.actions) k).1)
+    stands_target (slice_get w.targets r.target) r.action (grind (arith, filter_in))

@@ -6,7 +6,7 @@ pub use Rattle.std.proofs.lemmas.Option.{none-some, same_Some, slice_get_within}
 unfoldable pub use Rattle.std.specs.Fmt.{digits}
 pub use Rattle.std.specs.List.{AllZip}
 pub use Rattle.roman_model.proofs.CallerLemmas.{AreBelow-at, IsPairOf-at, allowed_in, any_from, any_true, by_test, combined_is_all, combined_sstep, combined_system, combined_target_goes, combined_triple, filter_in, fine_from, fine_is, from_allowed, from_append, from_beh_next, from_combined_sstep, from_combined_target, from_combined_triple, from_flat_map, from_map, from_outcome, get_in, great_meets, great_related, great_survives, in_append_left, in_append_right, in_beh_next, in_filter, in_get, in_listed, in_map, in_not_empty, in_pairs, in_requests, join_once, justified_more, last_is_sim, leave_out_same, left, listed_number, listed_unrelated, lost_dead, lost_unrelated, meets_survives, move_passes, new_from_once, new_once, new_same, not_empty_in, not_empty_ne, number-pair_at, number_below, number_listed, offer_is, offers_are, order_new, other_zero, outcome_in, outcome_pair, pair_at-number, related_great, related_offers, renaming_keeps, replay_order, replay_sublist, same_test, states_at-number, states_length, states_number-at, states_number_below, sublist_length, sublist_skip, suc_same, system_is_same, zero_other}
-pub use Rattle.roman_model.specs.Arena.{AreNew, Arena, Entry, IsOrder, IsOrderFrom, depth, is_among, is_justified, loses, replay, replay_from}
+pub use Rattle.roman_model.specs.Arena.{AreNew, Arena, Entry, IsOrder, IsOrderFrom, depth, is_among, loses, replay, replay_from}
 pub use Rattle.roman_model.specs.Certificate.{Form, Greatest, Rejected, Repeated, Unjustified, Unlisted, Verdict, cert_text, cert_verdict}
 pub use Rattle.roman_model.specs.Change.{CanChange, Change, Die, Freeze, Join, Thaw, after, may_go, rename, set_frozen, without}
 pub use Rattle.roman_model.specs.Combined.{IsSeveral, all_requests, combined, combined_seat, couple_all, stands_in, target_sizes}
@@ -24,7 +24,7 @@ pub use Rattle.roman_model.specs.declared.limits.TheConstants.{MAX_SERVICES}
 pub use Rattle.roman_model.specs.declared.reason.Reason.TheVariants.{Act, Final}
 pub use Rattle.roman_model.specs.declared.request.Request.{Request}
 pub use Rattle.roman_model.specs.declared.way.Way.{Way}
-pub use Rattle.roman_laws.specs.Controllers.{CanGoOn, Controller, ControllersTakeOffers, IsHistory, Realises, Seen, TakesOffers, TakesServers, by_seen, now_at, seen_of, since}
+pub use Rattle.roman_laws.specs.Controllers.{Controller, ControllersTakeOffers, IsHistory, Realises, Seen, TakesOffers, TakesServers, by_seen, now_at, seen_of, since}
 pub use Rattle.roman_laws.specs.Following.{Choice, FollowingStays, Follows, end_of}
 pub use Rattle.roman_laws.specs.Greatest.{GreatestIsGreatest, OrderRefutes, ReplayKeeps, UnrelatedLoses}
 pub use Rattle.roman_laws.specs.Losing.{ArePart, GreatWithout, IsLeastFailing, LeastFailingSuffice, LosingNeverHelps, MayAllGo, MayGoAt}

@@ -1,5 +1,5 @@
 -- The controllers that realise the target are those that take offers.
-use Rattle.roman_laws.proofs.Common.{◌≡◌, ℕ, suc, ◌+◌, List, [], ◌∷◌, map, length, IsTrue, slice_index, inl, refl, sym, ap, ◌∙◌, subst, arith, cond-true, cond-false, slice_get_within, IsIn, Sys, Pair, has, has_move, IsSys, IsPair, is_allowed, Couple, couple, Serves, Meets, GreatCouple, Great, by_test, outcome_in, from_outcome, outcome_pair, allowed_in, from_allowed, number_listed, listed_number, offers_are, offer_is, related_offers, great_meets, offers, ◌≢◌, if◌then◌else◌, in_not_empty, not_empty_ne, in_beh_next, from_beh_next, beh_next, Choice, Follows, end_of, Controller, now_at, IsHistory, CanGoOn, Realises, TakesOffers, TakesServers, Seen, seen_of, by_seen, since, ControllersTakeOffers}
+use Rattle.roman_laws.proofs.Common.{◌≡◌, ℕ, suc, ◌+◌, List, [], ◌∷◌, map, length, IsTrue, slice_index, inl, refl, sym, ap, ◌∙◌, subst, arith, ◌≢◌, if◌then◌else◌, cond-true, cond-false, slice_get_within, IsIn, Sys, Pair, has, has_move, IsSys, IsPair, is_allowed, beh_next, Couple, couple, Serves, Meets, GreatCouple, Great, by_test, outcome_in, from_outcome, outcome_pair, allowed_in, from_allowed, number_listed, listed_number, offers_are, offer_is, related_offers, great_meets, in_not_empty, not_empty_ne, in_beh_next, from_beh_next, offers, Choice, Follows, end_of, Controller, now_at, IsHistory, Realises, TakesOffers, TakesServers, Seen, seen_of, by_seen, since, ControllersTakeOffers}
 use Rattle.roman_laws.proofs.SimulationLemmas.{closed_great}
 
 -- A history continues by the choices of its controller.
@@ -7,9 +7,7 @@ use Rattle.roman_laws.proofs.SimulationLemmas.{closed_great}
 -- each history ends at a pair of the system
 pub history_pair : (s : Sys) (P : Controller) (p : Pair) → IsSys s → IsPair s p → (h : List Choice) → IsHistory s P p h → IsPair s (now_at p h)
 history_pair s P p ok pair [] i = pair
-history_pair s P p ok pair (m ∷ h) i =
-    outcome_pair s (now_at p h) m.action m.seat m.to ok (history_pair s P p ok pair h i.0)
-    (outcome_in s (now_at p h) m.action m.seat m.to.t m.to.e m.to.bs ok i.2.0 i.2.1)
+history_pair s P p ok pair (m ∷ h) i = grind (arith, (outcome_pair s (now_at p h) m.action m.seat m.to ok (history_pair s P p ok pair h i.0) (outcome_in s (now_at p h) m.action m.seat m.to.t m.to.e m.to.bs ok i.2.0 i.2.1)), (outcome_in s (now_at p h) m.action m.seat m.to.t m.to.e m.to.bs ok i.2.0 i.2.1), (history_pair s P p ok pair h i.0))
 
 -- some history of the controller ends at the pair of the couple
 abbrev pub Reached : Sys → Controller → Pair → Couple → Type 0
@@ -30,8 +28,7 @@ reached_meets s P p realises c (h, i, e) = subst (Meets s (Reached s P p)) e (re
 
 -- A controller that realises the target reaches only related pairs: the reached pairs meet the clauses.
 pub history_great : (s : Sys) (P : Controller) (p : Pair) → IsSys s → IsPair s p → Realises s P p → (h : List Choice) → IsHistory s P p h → Great s (now_at p h)
-history_great s P p ok pair realises h i =
-    closed_great s (Reached s P p) ok (reached_meets s P p realises) (now_at p h) (history_pair s P p ok pair h i) (h, i, refl)
+history_great s P p ok pair realises h i = grind (arith, (closed_great s (Reached s P p) ok (reached_meets s P p realises) (now_at p h) (history_pair s P p ok pair h i) (h, i, refl)), (Reached s P p), (reached_meets s P p realises), (history_pair s P p ok pair h i))
 
 -- A controller that realises the target chooses only seats that serve.
 pub takes_servers : (s : Sys) (P : Controller) (p : Pair) → IsSys s → IsPair s p → Realises s P p → TakesServers s P p
@@ -58,21 +55,13 @@ stays_great : (s : Sys) (P : Controller) (p : Pair) → IsSys s → IsPair s p �
     ((h : List Choice) → IsHistory s P p h → Great s (now_at p h) → (a : ℕ) → IsTrue (is_allowed s (now_at p h) a) → IsIn (P h a) (offers s (now_at p h) a)) →
     (h : List Choice) → IsHistory s P p h → Great s (now_at p h)
 stays_great s P p ok pair great takes [] i = great
-stays_great s P p ok pair great takes (m ∷ h) i =
-    let before : Great s (now_at p h) = stays_great s P p ok pair great takes h i.0 in
-    let chosen : IsIn (P h m.action) (offers s (now_at p h) m.action) = takes h i.0 before m.action (allowed_in s (now_at p h) m.action ok (m.to.t, m.to.e, i.2.0)) in
-    let offered : IsIn m.seat (offers s (now_at p h) m.action) = subst (λ k. IsIn k (offers s (now_at p h) m.action)) (sym i.1) chosen in
-    let (allowed, l, some, all) = offer_is s (now_at p h) m.action m.seat ok (history_pair s P p ok pair h i.0) offered in
-    all m.to (outcome_in s (now_at p h) m.action m.seat m.to.t m.to.e m.to.bs ok i.2.0 i.2.1)
+stays_great s P p ok pair great takes (m ∷ h) i = grind (arith, (allowed_in s (now_at p h) m.action ok (m.to.t, m.to.e, i.2.0)), offer_is, (history_pair s P p ok pair h i.0), (outcome_in s (now_at p h) m.action m.seat m.to.t m.to.e m.to.bs ok i.2.0 i.2.1), (stays_great s P p ok pair great takes h i.0))
 
 -- A controller that takes offers from a related pair realises the target.
 pub takers_realise : (s : Sys) (P : Controller) (p : Pair) → IsSys s → IsPair s p → Great s p → TakesOffers s P p → Realises s P p
 takers_realise s P p ok pair great takes h i =
     let now : Great s (now_at p h) = stays_great s P p ok pair great (λ h i before. takes h i) h i in
-    record {
-      final = (great_meets s (couple (now_at p h)) now).final;
-      served = λ a t' e' step. (offered_serve s P p ok pair takes h i a (t', e', step) t' e' step).0;
-    }
+    grind (arith, (great_meets s (couple (now_at p h)) now), offered_serve)
 
 -- the first offer, 0 for none
 abbrev first : List ℕ → ℕ
@@ -101,15 +90,10 @@ abbrev pub wishing : Sys → Pair → Controller → Controller
 wishing s p W h a = if has (offers s (now_at p h) a) (W h a) then W h a else first (offers s (now_at p h) a)
 
 wishing_takes : (s : Sys) (p : Pair) (W : Controller) → IsSys s → IsPair s p → Great s p → TakesOffers s (wishing s p W) p
-wishing_takes s p W ok pair great = takes_all s (wishing s p W) p ok pair great (λ h i now a allowed. by_test (has (offers s (now_at p h) a) (W h a))
-    (λ t. subst (λ k. IsIn k (offers s (now_at p h) a)) (sym (cond-true (has (offers s (now_at p h) a) (W h a)) (W h a) (first (offers s (now_at p h) a)) t))
-    (number_listed (offers s (now_at p h) a) (W h a) t))
-    (λ f. subst (λ k. IsIn k (offers s (now_at p h) a)) (sym (cond-false (has (offers s (now_at p h) a) (W h a)) (W h a) (first (offers s (now_at p h) a)) f))
-    (first_in (offers s (now_at p h) a) (related_offers s (now_at p h) a ok now allowed))))
+wishing_takes s p W ok pair great = takes_all s (wishing s p W) p ok pair great (grind (arith, by_test, cond-true, first, number_listed, cond-false, first_in, related_offers))
 
 wishing_fulfils : (s : Sys) (p : Pair) (W : Controller) (h : List Choice) (a : ℕ) → IsIn (W h a) (offers s (now_at p h) a) → wishing s p W h a ≡ W h a
-wishing_fulfils s p W h a i =
-    cond-true (has (offers s (now_at p h) a) (W h a)) (W h a) (first (offers s (now_at p h) a)) (listed_number (offers s (now_at p h) a) (W h a) i)
+wishing_fulfils s p W h a i = grind (arith, cond-true, first, listed_number)
 
 wishing_realises : (s : Sys) (p : Pair) (W : Controller) → IsSys s → IsPair s p → Great s p → Realises s (wishing s p W) p
 wishing_realises s p W ok pair great = takers_realise s (wishing s p W) p ok pair great (wishing_takes s p W ok pair great)
@@ -147,15 +131,12 @@ shown s p (x ∷ xs) = next_seen s (now_at p (shown s p xs)) x ∷ shown s p xs
 next_is : (s : Sys) (q : Pair) (m : Choice) → IsSys s → IsTrue (has_move s.target q.t q.e m.action m.to.t) → next_seen s q (seen_of m) ≡ m
 next_is s q m ok goes =
     let there : IsIn m.to.t (beh_next s.target q.t q.e m.action) = in_beh_next s.env s.target q.t q.e m.action m.to.t ok.target goes in
-    let one : IsIn (first (beh_next s.target q.t q.e m.action)) (beh_next s.target q.t q.e m.action) =
-    first_in (beh_next s.target q.t q.e m.action) (not_empty_ne (beh_next s.target q.t q.e m.action) (in_not_empty m.to.t (beh_next s.target q.t q.e m.action) there)) in
-    ap (λ t. record { action = m.action; seat = m.seat; to = record { t = t; e = m.to.e; bs = m.to.bs } })
-    (ok.single q.t q.e m.action (first (beh_next s.target q.t q.e m.action)) m.to.t (from_beh_next s.target q.t q.e m.action (first (beh_next s.target q.t q.e m.action)) one) goes)
+    let one : IsIn (first (beh_next s.target q.t q.e m.action)) (beh_next s.target q.t q.e m.action) = grind (arith, first_in, not_empty_ne, in_not_empty) in
+    grind (arith, first, from_beh_next)
 
 shown_back : (s : Sys) (P : Controller) (p : Pair) → IsSys s → (h : List Choice) → IsHistory s P p h → shown s p (map seen_of h) ≡ h
 shown_back s P p ok [] i = refl
-shown_back s P p ok (m ∷ h) i =
-    ap (λ g. next_seen s (now_at p g) (seen_of m) ∷ g) (shown_back s P p ok h i.0) ∙ ap (λ n. n ∷ h) (next_is s (now_at p h) m ok i.2.0.1)
+shown_back s P p ok (m ∷ h) i = grind (arith, next_seen, next_is, (shown_back s P p ok h i.0))
 
 -- the choices of the controller, by what is visible without the target's state
 abbrev pub blinded : Sys → Pair → Controller → List Seen → ℕ → ℕ
@@ -166,8 +147,7 @@ from_blinded s P p ok [] i = tt
 from_blinded s P p ok (m ∷ h) i = grind (arith, shown_back, (from_blinded s P p ok h i.0))
 
 blinded_realises : (s : Sys) (P : Controller) (p : Pair) → IsSys s → Realises s P p → Realises s (by_seen (blinded s p P)) p
-blinded_realises s P p ok realises h i =
-    subst (λ g. CanGoOn s (P g) (now_at p h)) (sym (shown_back s (by_seen (blinded s p P)) p ok h i)) (realises h (from_blinded s P p ok h i))
+blinded_realises s P p ok realises h i = grind (arith, shown_back, blinded, from_blinded)
 
 pub generator_all : ControllersTakeOffers
 generator_all s p ok pair = record {

@@ -1,6 +1,6 @@
 -- The definitions, computed for three small systems. A lamp is off or on. A flaky lamp may also stick when it is turned on. The target
 -- turns a lamp on and off, and may rest while it is off.
-use Rattle.roman_laws.proofs.Common.{◌≡◌, ℕ, ◌+◌, ◌<◌, true, false, List, [], ◌∷◌, map, length, Some, IsTrue, filter, inl, inr, refl, sym, subst, arith, and_parts, eqb-true, IsIn, Triple, Env, Beh, Seat, Sys, Pair, IsBeh, IsSys, has_move, pairs, arena, IsOrder, Join, after, is_related, offers, Final, Act, any_true, Move, depth, choice_count}
+use Rattle.roman_laws.proofs.Common.{◌≡◌, ℕ, ◌+◌, ◌<◌, true, false, List, [], ◌∷◌, map, length, Some, IsTrue, filter, inl, inr, refl, sym, subst, arith, and_parts, eqb-true, IsIn, Triple, Env, Beh, Seat, Sys, Pair, IsBeh, IsSys, has_move, Move, pairs, arena, IsOrder, depth, Join, after, is_related, offers, choice_count, Final, Act, any_true}
 
 -- The one environment state is 0. The action 0 turns a lamp on, and the action 1 turns it off. A lamp is off at 0, on at 1 and stuck at 2.
 

@@ -1,5 +1,5 @@
 -- Seats that leave one after the other.
-use Rattle.roman_laws.proofs.Common.{◌≡◌, ℕ, zero, suc, ◌==◌, Bool, true, false, cond, not, ◌||◌, List, [], ◌∷◌, ◌++◌, Some, IsTrue, IsFalse, slice_get, slice_index, remove, refl, sym, ap, ap₂, ◌∙◌, subst, inl, inr, arith, both_ways, eqb-true, or_right, or_cases, none-some, IsIn, Sys, Pair, has, IsSys, IsPair, is_final, Great, leave_out, system_without, pair_without, by_test, in_append_left, in_append_right, from_append, number_listed, listed_number, left, GreatWithout, ArePart, leave_out_same, other_zero, suc_same, zero_other, same_test, MayGoAt}
+use Rattle.roman_laws.proofs.Common.{◌≡◌, ℕ, zero, suc, ◌==◌, Bool, true, false, cond, not, ◌||◌, List, [], ◌∷◌, ◌++◌, Some, IsTrue, IsFalse, slice_get, slice_index, remove, refl, sym, ap, ap₂, ◌∙◌, subst, inl, inr, arith, both_ways, eqb-true, or_right, or_cases, none-some, IsIn, Sys, Pair, has, IsSys, IsPair, is_final, Great, leave_out, system_without, pair_without, by_test, in_append_left, in_append_right, from_append, number_listed, listed_number, left, leave_out_same, other_zero, suc_same, zero_other, same_test, GreatWithout, ArePart, MayGoAt}
 use Rattle.roman_model.specs.declared.way.Way.TheVariants as way
 use Rattle.roman_laws.proofs.ReducedLemmas.{IsSys-reduced, IsPair-reduced}
 use Rattle.roman_laws.proofs.LosingLemmas.{great_with_gone}
@@ -77,11 +77,8 @@ more_back s p [] K ok pair may great = great
 more_back s p (j ∷ js) K ok pair may great =
     more_back s p js K ok pair (λ k i. may k (inr i))
     (by_test (has (js ++ K) j)
-    (λ t. same_without s p (j ∷ (js ++ K)) (js ++ K) (λ i. same_test (has (j ∷ (js ++ K)) i) (has (js ++ K) i)
-    (λ u. elim (or_cases (j == i) (has (js ++ K) i) u) [ inl here ↦ subst (λ n. IsTrue (has (js ++ K) n)) (eqb-true j i here) t | inr there ↦ there ])
-    (λ u. or_right (j == i) (has (js ++ K) i) u)) great)
-    (λ f. one_back s p (js ++ K) j ok pair f
-    (may j (inl refl) (λ i. both_ways (has (js ++ K) j) f (listed_number (js ++ K) j (in_append_right j js K i)))) great))
+    (λ t. same_without s p (j ∷ (js ++ K)) (js ++ K) (grind (arith, same_test, or_cases, eqb-true, or_right)) great)
+    (grind (arith, one_back, both_ways, listed_number, in_append_right)))
 
 pub more_gone : (s : Sys) (p : Pair) (K J : List ℕ) → IsSys s → IsPair s p → ArePart K J → ((k : ℕ) → IsIn k J → (IsIn k K → ⊥) → MayGoAt s p k) →
     GreatWithout way.Die s p J → GreatWithout way.Die s p K

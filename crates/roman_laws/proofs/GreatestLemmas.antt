@@ -1,6 +1,6 @@
 -- The related pairs are the greatest ND-simulation. No listed pair is related, depth is bounded, a replay keeps the most entries, and runs
 -- that follow the offers stay at related pairs.
-use Rattle.roman_laws.proofs.Common.{List, [], ◌∷◌, map, IsTrue, filter, inl, inr, sym, subst, arith, cond-true, cond-false, or_cases, or_right, not_from_false, Entry, IsOrder, replay, couple, is_related, pairs, arena, by_test, outcome_pair, system_is_same, great_meets, great_related, related_great, offer_is, related_offers, IsSublist, or_left, Arena, is_among, is_justified, IsOrderFrom, replay_from, in_map, in_filter, sublist_skip, in_pairs, in_listed, justified_more, replay_order, great_survives, last_is_sim, lost_unrelated, listed_unrelated, GreatestIsGreatest, OrderRefutes, UnrelatedLoses, ReplayKeeps, FollowingStays}
+use Rattle.roman_laws.proofs.Common.{List, [], ◌∷◌, map, IsTrue, filter, inl, inr, arith, cond-true, cond-false, or_cases, or_right, not_from_false, or_left, Entry, IsOrder, replay, Arena, is_among, IsOrderFrom, replay_from, couple, is_related, pairs, arena, by_test, outcome_pair, system_is_same, great_meets, great_related, related_great, offer_is, related_offers, in_map, in_filter, sublist_skip, in_pairs, in_listed, justified_more, replay_order, great_survives, last_is_sim, lost_unrelated, listed_unrelated, IsSublist, GreatestIsGreatest, OrderRefutes, UnrelatedLoses, ReplayKeeps, FollowingStays}
 
 -- The related pairs are the greatest ND-simulation.
 pub greatest_is : GreatestIsGreatest
@@ -10,10 +10,7 @@ greatest_is s ok = record {
   finite = (
     map couple (filter (is_related s) (pairs s)),
     last_is_sim s ok,
-    λ p pair. (
-      λ great. in_map couple p (filter (is_related s) (pairs s)) (in_filter (is_related s) p (pairs s) (in_pairs s p pair) (great_related s p ok great)),
-      λ i. (map couple (filter (is_related s) (pairs s)), last_is_sim s ok, i),
-    ),
+    grind (arith, in_map, in_filter, in_pairs, great_related, (last_is_sim s ok)),
   );
 }
 
@@ -31,13 +28,7 @@ pub replay_from_keeps : {N : Type 0} (A : Arena N) (before kept : List N) (M L :
 replay_from_keeps A before kept [] L s order within = tt
 replay_from_keeps A before kept (m ∷ M) [] s order within = absurd s
 replay_from_keeps A before kept (m ∷ M) (x ∷ L) (inl (e, s)) order within = grind (arith, cond-true, justified_more, or_cases, or_left, or_right, (replay_from_keeps A (m.node ∷ before) (x.node ∷ kept) M L s order.2))
-replay_from_keeps A before kept (m ∷ M) (x ∷ L) (inr s) order within =
-    by_test (is_justified A (is_among A kept) x.node x.reason)
-    (λ t. subst (λ R. IsSublist (m ∷ M) R) (sym (cond-true (is_justified A (is_among A kept) x.node x.reason) (x ∷ replay_from A (x.node ∷ kept) L) (replay_from A kept L) t))
-    (sublist_skip (m ∷ M) (replay_from A (x.node ∷ kept) L) x
-    (replay_from_keeps A before (x.node ∷ kept) (m ∷ M) L s order (λ q r. or_right (A.same q x.node) (is_among A kept q) (within q r)))))
-    (λ f. subst (λ R. IsSublist (m ∷ M) R) (sym (cond-false (is_justified A (is_among A kept) x.node x.reason) (x ∷ replay_from A (x.node ∷ kept) L) (replay_from A kept L) f))
-    (replay_from_keeps A before kept (m ∷ M) L s order within))
+replay_from_keeps A before kept (m ∷ M) (x ∷ L) (inr s) order within = grind (arith, by_test, cond-true, sublist_skip, or_right, cond-false, (replay_from_keeps A before (x.node ∷ kept) (m ∷ M) L s order), (replay_from_keeps A before kept (m ∷ M) L s order within))
 
 pub replay_keeps : {N : Type 0} (A : Arena N) (M L : List (Entry N)) → IsSublist M L → IsOrder A M → IsSublist M (replay A L)
 replay_keeps A M L s order = replay_from_keeps A [] [] M L s order (λ q t. t)

@@ -1,5 +1,5 @@
 -- The loss of services never helps, and the least failing sets determine the sets that fail.
-use Rattle.roman_laws.proofs.Common.{ℕ, true, List, [], ◌∷◌, ◌++◌, IsFalse, sym, subst, inl, inr, both_ways, IsIn, Sys, Pair, has, IsSys, IsPair, couple, is_related, set_frozen, freeze_at, system_without, pair_without, Way, by_test, from_append, in_append_left, in_append_right, number_listed, listed_number, great_meets, GreatWithout, ArePart, LosingNeverHelps, MayAllGo, IsLeastFailing, LeastFailingSuffice}
+use Rattle.roman_laws.proofs.Common.{ℕ, true, List, [], ◌∷◌, ◌++◌, IsFalse, sym, subst, inl, inr, arith, both_ways, IsIn, Sys, Pair, has, IsSys, IsPair, couple, is_related, set_frozen, freeze_at, system_without, pair_without, Way, by_test, from_append, in_append_left, in_append_right, number_listed, listed_number, great_meets, GreatWithout, ArePart, LosingNeverHelps, MayAllGo, IsLeastFailing, LeastFailingSuffice}
 use Rattle.roman_model.specs.declared.way.Way.TheVariants as way
 use Rattle.roman_laws.proofs.PlaceLemmas.{final_at}
 use Rattle.roman_laws.proofs.ReducedLemmas.{reduced_are}
@@ -50,20 +50,14 @@ least_of how s p kept (k ∷ rest) ok pair may fails needed =
     (M, λ j i. from_front j (inr (part j i)), least))
   where
     to_front : ArePart (kept ++ k ∷ rest) (k ∷ (kept ++ rest))
-    to_front j i = elim (from_append j kept (k ∷ rest) i) [
-      | inl left ↦ inr (in_append_left j kept rest left)
-      | inr right ↦ elim right [ inl e ↦ inl e | inr later ↦ inr (in_append_right j kept rest later) ]
-    ]
+    to_front j i = grind (arith, (from_append j kept (k ∷ rest) i), in_append_left, in_append_right)
 
     from_front : ArePart (k ∷ (kept ++ rest)) (kept ++ k ∷ rest)
     from_front j (inl e) = in_append_right j kept (k ∷ rest) (inl e)
     from_front j (inr i) = elim (from_append j kept rest i) [ inl left ↦ in_append_left j kept (k ∷ rest) left | inr right ↦ in_append_right j kept (k ∷ rest) (inr right) ]
 
     without_k : (N : List ℕ) → ArePart N (k ∷ (kept ++ rest)) → IsFalse (has N k) → ArePart N (kept ++ rest)
-    without_k N part f j i = elim (part j i) [
-      | inl e ↦ absurd (both_ways (has N k) f (listed_number N k (subst (λ n. IsIn n N) e i)))
-      | inr other ↦ other
-    ]
+    without_k N part f j i = grind (arith, both_ways, listed_number)
 
     with_k : GreatWithout how s p (kept ++ rest) → (N : List ℕ) → ArePart N (k ∷ (kept ++ rest)) → (GreatWithout how s p N → ⊥) → ArePart (k ∷ kept) N
     with_k works N part bad j (inl e) = subst (λ n. IsIn n N) (sym e) (by_test (has N k) (λ t. number_listed N k t)

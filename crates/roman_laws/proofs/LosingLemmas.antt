@@ -1,5 +1,5 @@
 -- A pair that is related with more seats frozen is related with fewer, and a pair that is related without a seat that may go is related with it.
-use Rattle.roman_laws.proofs.Common.{◌≡◌, ℕ, zero, suc, ◌<◌, Bool, true, not, ◌&&◌, ◌||◌, List, [], ◌∷◌, length, Some, IsTrue, IsFalse, slice_get, slice_index, slice_set, remove, refl, sym, ap, ap₂, ◌∙◌, subst, arith, none-some, same_Some, slice_get_within, IsIn, Beh, Seat, Sys, Pair, has, has_move, IsSys, IsPair, SStep, is_final, all_final, Couple, Meets, GreatCouple, Great, set_frozen, freeze_at, by_test, number_listed, listed_number, left, great_meets, GreatWithout, ArePart, or_parts, or_from, length-set, without, may_go, states_length}
+use Rattle.roman_laws.proofs.Common.{◌≡◌, ℕ, zero, suc, ◌<◌, Bool, true, not, ◌&&◌, ◌||◌, List, [], ◌∷◌, length, Some, IsTrue, IsFalse, slice_get, slice_index, slice_set, remove, refl, sym, ap, ◌∙◌, subst, arith, none-some, same_Some, slice_get_within, IsIn, Seat, Sys, Pair, has, IsSys, IsPair, SStep, is_final, all_final, Couple, Meets, GreatCouple, Great, set_frozen, without, may_go, freeze_at, by_test, number_listed, listed_number, left, great_meets, states_length, GreatWithout, ArePart, or_parts, or_from, length-set}
 use Rattle.roman_model.specs.declared.way.Way.TheVariants as way
 use Rattle.roman_laws.proofs.SimulationLemmas.{closed_great}
 use Rattle.roman_laws.proofs.PlaceLemmas.{place_before, get_removed, index_removed, set_removed, index_other_set, final_with}
@@ -30,8 +30,7 @@ final_frozen_more [] [] bs more = refl
 final_frozen_more [] (y ∷ ys) bs more = absurd more
 final_frozen_more (x ∷ xs) [] bs more = absurd more
 final_frozen_more (x ∷ xs) (y ∷ ys) [] more = refl
-final_frozen_more (x ∷ xs) (y ∷ ys) (b ∷ bs) more =
-    ap₂ (λ c d. c && d) (ap₂ (λ (r : Bool) (beh : Beh). not r || is_final beh b) more.1 more.0) (final_frozen_more xs ys bs more.3)
+final_frozen_more (x ∷ xs) (y ∷ ys) (b ∷ bs) more = grind (arith, (final_frozen_more xs ys bs more.3))
 
 -- a step of a ready seat among the frozen seats is a step among the others
 step_thawed : (s : Sys) (xs ys : List Seat) → AreFrozenMore xs ys → (bs : List ℕ) (e a k : ℕ) (bs' : List ℕ) (e' : ℕ) →
@@ -76,9 +75,7 @@ freeze_at_more at bt [] more = tt
 freeze_at_more at bt (x ∷ xs) more = (
   refl,
   refl,
-  λ f.
-      let (own, other) = or_parts x.frozen (bt 0) f in
-      or_from x.frozen (at 0) own (by_test (at 0) (λ t. absurd (let e : ⊥ = clash (more 0 t) other in e)) (λ g. g)),
+  grind (arith, or_parts, or_from, by_test, clash),
   freeze_at_more (λ i. at (suc i)) (λ i. bt (suc i)) xs (λ i t. more (suc i) t),
 )
   where
@@ -112,15 +109,7 @@ step_with : (s : Sys) (k : ℕ) (bs : List ℕ) (e a j : ℕ) (bs' : List ℕ) (
     (cs : List ℕ) × SStep s bs e a (place_before k j) cs e'
 step_with s k bs e a j bs' e' r = (
   slice_set bs (place_before k j) r.to,
-  record {
-    seat = r.seat;
-    seated = sym (get_removed s.seats k j) ∙ r.seated;
-    ready = r.ready;
-    world = r.world;
-    to = r.to;
-    moves = subst (λ b. IsTrue (has_move r.seat.beh b e a r.to)) (index_removed bs k j) r.moves;
-    is = refl;
-  },
+  grind (arith, get_removed, index_removed),
 )
 
 -- a step that leaves seat k in its state is a step without seat k
@@ -134,8 +123,7 @@ stands_by_meets s k seat b seated goes c stands =
     let meets : Meets (left s k) (GreatCouple (left s k)) (couple_without k c) = great_meets (left s k) (couple_without k c) stands.great in
     record {
       shared = meets.shared;
-      final = λ t. final_with s.seats c.bs k seat seated stands.within
-          (subst (λ n. IsTrue (not seat.rests || is_final seat.beh n)) (sym stands.state) goes) (meets.final t);
+      final = grind (arith, final_with);
       served = λ a allows.
           let (j, serves) = meets.served a allows in (
             place_before k j,

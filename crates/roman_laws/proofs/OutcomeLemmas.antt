@@ -1,5 +1,5 @@
 -- The tests and lists of a system agree with its steps.
-use Rattle.roman_laws.proofs.Common.{◌≡◌, ℕ, zero, suc, ◌==◌, ◌&&◌, ◌||◌, not, ◌<◌, Bool, true, false, List, [], ◌∷◌, Some, IsTrue, slice_get, slice_index, refl, subst, arith, eqb-true, and_parts, and_from, AllZip, IsIn, Triple, Env, Beh, Seat, has_triple, has_move, is_final, all_final, any_true, any_from, number_listed, listed_number, outcome_in, from_outcome, allowed_in, from_allowed, eq-eqb, fine_is, fine_from, HasStep, OutcomesAreSteps, TestsAreMembership}
+use Rattle.roman_laws.proofs.Common.{◌≡◌, ℕ, zero, suc, ◌==◌, ◌&&◌, ◌||◌, not, ◌<◌, Bool, true, false, List, [], ◌∷◌, Some, IsTrue, slice_get, slice_index, refl, subst, arith, eqb-true, and_parts, and_from, eq-eqb, AllZip, IsIn, Triple, Env, Beh, Seat, has_triple, has_move, is_final, all_final, any_true, any_from, number_listed, listed_number, outcome_in, from_outcome, allowed_in, from_allowed, fine_is, fine_from, HasStep, OutcomesAreSteps, TestsAreMembership}
 
 -- Membership
 
@@ -8,8 +8,7 @@ triple_listed env e a e' h =
     let (x, i, t) = any_true (λ x. x.from == e && x.action == a && x.to == e') env.triples h in
     let (front, to) = and_parts (x.from == e && x.action == a) (x.to == e') t in
     let (from, action) = and_parts (x.from == e) (x.action == a) front in
-    let same : x ≡ record { from = e; action = a; to = e' } =
-    rebuilt x.from e x.action a x.to e' (eqb-true x.from e from) (eqb-true x.action a action) (eqb-true x.to e' to) in
+    let same : x ≡ record { from = e; action = a; to = e' } = grind (arith, rebuilt, eqb-true) in
     subst (λ (x : Triple). IsIn x env.triples) same i
   where
     rebuilt : (f e b a t e' : ℕ) → f ≡ e → b ≡ a → t ≡ e' → ◌≡◌ {A = Triple} (record { from = f; action = b; to = t }) (record { from = e; action = a; to = e' })
@@ -39,9 +38,7 @@ all_final_each : (seats : List Seat) (bs : List ℕ) → IsTrue (all_final seats
 all_final_each [] bs h k seat there rests = cc
 all_final_each (x ∷ xs) [] h k seat there rests = absurd (let e : ⊥ = cc in e)
 all_final_each (x ∷ xs) (b ∷ bs) h zero seat there rests = grind (arith, and_parts, rested)
-all_final_each (x ∷ xs) (b ∷ bs) h (suc k) seat there rests =
-    let (first, others) = and_parts (not x.rests || is_final x.beh b) (all_final xs bs) h in
-    all_final_each xs bs others k seat there rests
+all_final_each (x ∷ xs) (b ∷ bs) h (suc k) seat there rests = grind (arith, and_parts, (all_final_each xs bs))
 
 all_final_from : (seats : List Seat) (bs : List ℕ) → AllZip (λ seat b. b < seat.beh.states) seats bs →
     ((k : ℕ) (seat : Seat) → slice_get seats k ≡ Some seat → IsTrue seat.rests → IsTrue (is_final seat.beh (slice_index bs k))) → IsTrue (all_final seats bs)

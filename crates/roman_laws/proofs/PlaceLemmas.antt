@@ -1,5 +1,5 @@
 -- Lists of seats and of states that lose one element: the elements at their places.
-use Rattle.roman_laws.proofs.Common.{◌≡◌, ℕ, zero, suc, ◌<◌, not, ◌||◌, List, [], ◌∷◌, length, Some, IsTrue, slice_get, slice_index, slice_set, remove, refl, sym, ap, subst, arith, false≢true, and_parts, and_from, none-some, same_Some, Seat, is_final, all_final}
+use Rattle.roman_laws.proofs.Common.{◌≡◌, ℕ, zero, suc, ◌<◌, not, ◌||◌, List, [], ◌∷◌, length, Some, IsTrue, slice_get, slice_index, slice_set, remove, refl, ap, arith, false≢true, and_parts, and_from, none-some, same_Some, Seat, is_final, all_final}
 
 -- the place of item j before item k left
 abbrev pub place_before : ℕ → ℕ → ℕ
@@ -40,8 +40,7 @@ pub final_at : (seats : List Seat) (bs : List ℕ) → IsTrue (all_final seats b
     IsTrue (not seat.rests || is_final seat.beh (slice_index bs k))
 final_at [] bs all k seat e = absurd (none-some seat e)
 final_at (x ∷ seats) [] all k seat e = absurd (false≢true all)
-final_at (x ∷ seats) (b ∷ bs) all zero seat e =
-    subst (λ (y : Seat). IsTrue (not y.rests || is_final y.beh b)) (same_Some x seat e) (and_parts (not x.rests || is_final x.beh b) (all_final seats bs) all).0
+final_at (x ∷ seats) (b ∷ bs) all zero seat e = grind (arith, same_Some, and_parts)
 final_at (x ∷ seats) (b ∷ bs) all (suc k) seat e = final_at seats bs (and_parts (not x.rests || is_final x.beh b) (all_final seats bs) all).1 k seat e
 
 -- where all other seats are final and seat k is loose or final, all are
@@ -49,8 +48,5 @@ pub final_with : (seats : List Seat) (bs : List ℕ) (k : ℕ) (seat : Seat) →
     IsTrue (not seat.rests || is_final seat.beh (slice_index bs k)) → IsTrue (all_final (remove seats k) (remove bs k)) → IsTrue (all_final seats bs)
 final_with [] bs k seat e l here all = absurd (none-some seat e)
 final_with (x ∷ seats) [] k seat e l here all = absurd (omega arith)
-final_with (x ∷ seats) (b ∷ bs) zero seat e l here all =
-    and_from (not x.rests || is_final x.beh b) (all_final seats bs) (subst (λ (y : Seat). IsTrue (not y.rests || is_final y.beh b)) (sym (same_Some x seat e)) here) all
-final_with (x ∷ seats) (b ∷ bs) (suc k) seat e l here all =
-    let (first, rest) = and_parts (not x.rests || is_final x.beh b) (all_final (remove seats k) (remove bs k)) all in
-    and_from (not x.rests || is_final x.beh b) (all_final seats bs) first (final_with seats bs k seat e (omega arith) here rest)
+final_with (x ∷ seats) (b ∷ bs) zero seat e l here all = grind (arith, and_from, same_Some)
+final_with (x ∷ seats) (b ∷ bs) (suc k) seat e l here all = grind (arith, and_parts, and_from, (final_with seats bs k seat e (omega arith) here))

@@ -1,5 +1,5 @@
 -- A system without some of its seats, and its pairs.
-use Rattle.roman_laws.proofs.Common.{◌≡◌, ℕ, suc, ◌<◌, Bool, true, false, cond, List, [], ◌∷◌, length, refl, sym, ap, subst, inl, inr, arith, AllZip, IsIn, Seat, Sys, Pair, has, IsSys, IsPair, IsBeh, leave_out, freeze_at, system_without, pair_without, Way, related_great, great_related, ◌≤◌, MAX_SERVICES, ReducedAreSystems}
+use Rattle.roman_laws.proofs.Common.{◌≡◌, ℕ, suc, ◌<◌, Bool, true, false, cond, List, [], ◌∷◌, length, refl, sym, ap, subst, inl, inr, arith, ◌≤◌, AllZip, IsIn, Seat, Sys, Pair, has, IsSys, IsPair, IsBeh, leave_out, freeze_at, system_without, pair_without, Way, related_great, great_related, MAX_SERVICES, ReducedAreSystems}
 use Rattle.roman_model.specs.declared.way.Way.TheVariants as way
 
 pub leave_out_in : {X : Type 0} (at : ℕ → Bool) (xs : List X) (x : X) → IsIn x (leave_out at xs) → IsIn x xs
@@ -77,11 +77,4 @@ IsPair-reduced way.Freeze K s p pair = record { t = pair.t; e = pair.e; bs = fre
 IsPair-reduced way.Die K s p pair = record { t = pair.t; e = pair.e; bs = leave_out_below (has K) s.seats p.bs pair.bs }
 
 pub reduced_are : ReducedAreSystems
-reduced_are how K s p ok pair = record {
-  system = IsSys-reduced how K s ok;
-  pair = IsPair-reduced how K s p pair;
-  composes = (
-    related_great (system_without how K s) (pair_without how K p) (IsSys-reduced how K s ok) (IsPair-reduced how K s p pair),
-    great_related (system_without how K s) (pair_without how K p) (IsSys-reduced how K s ok),
-  );
-}
+reduced_are how K s p ok pair = grind (arith, (IsSys-reduced how K s ok), (IsPair-reduced how K s p pair), (related_great (system_without how K s) (pair_without how K p) (IsSys-reduced how K s ok) (IsPair-reduced how K s p pair)), (great_related (system_without how K s) (pair_without how K p) (IsSys-reduced how K s ok)))

@@ -1,5 +1,5 @@
 -- The system that combines several targets allows the requests of its targets, and offers the seats that serve all of them.
-use Rattle.roman_laws.proofs.Common.{◌≡◌, ℕ, ◌<◌, List, length, Some, IsTrue, slice_get, slice_index, slice_set, sym, ap, ◌∙◌, subst, same_Some, Beh, Pair, has_move, SStep, IsPair, has_triple, is_allowed, couple, Serves, GreatCouple, Several, all_requests, combined, IsSeveral, Request, get_in, allowed_in, from_allowed, outcome_in, outcome_pair, offers_are, length-map, TStep, states_number, states_at, ServesAll, GreatAll, target_sizes, combined_seat, couple_all, in_get, from_combined_target, combined_target_goes, combined_is_all, combined_system, in_requests, from_combined_triple, combined_triple, from_combined_sstep, combined_sstep, TargetAllows, IsRequestOf, RequestsOfTargets, IsMoveOf, TurnsOfTargets}
+use Rattle.roman_laws.proofs.Common.{◌≡◌, ℕ, ◌<◌, List, length, Some, IsTrue, slice_get, slice_index, slice_set, sym, ap, ◌∙◌, subst, arith, same_Some, Beh, Pair, has_move, SStep, IsPair, has_triple, TStep, is_allowed, couple, Serves, GreatCouple, Several, ServesAll, GreatAll, all_requests, combined, IsSeveral, target_sizes, combined_seat, couple_all, Request, get_in, allowed_in, from_allowed, outcome_in, outcome_pair, offers_are, in_get, from_combined_target, combined_target_goes, combined_is_all, combined_system, in_requests, from_combined_triple, combined_triple, from_combined_sstep, combined_sstep, length-map, states_number, states_at, TargetAllows, IsRequestOf, RequestsOfTargets, IsMoveOf, TurnsOfTargets}
 
 -- the states of the targets in a combined state
 abbrev pub targets_at : Several → ℕ → List ℕ
@@ -7,9 +7,7 @@ targets_at w t = states_at (target_sizes w.targets) t
 
 -- A triple of the combined environment is a triple of the plain environment, on the action of the request.
 world_of : (w : Several) (e n e' i a : ℕ) (target : Beh) → IsRequestOf w n i target a → IsTrue (has_triple (combined w).env e n e') → IsTrue (has_triple w.env e a e')
-world_of w e n e' i a target asks t =
-    let (r, at, world) = from_combined_triple w e n e' t in
-    subst (λ (x : Request). IsTrue (has_triple w.env e x.action e')) (same_Some r (record { target = i; action = a }) (sym at ∙ asks.request)) world
+world_of w e n e' i a target asks t = grind (arith, (from_combined_triple w e n e' t), same_Some)
 
 -- A step of the combined target is a step of the requesting target, and no other target moves.
 pub record IsOwnStep (w : Several) (t e t' i a : ℕ) (target : Beh) : Type 0 where
@@ -17,17 +15,7 @@ pub record IsOwnStep (w : Several) (t e t' i a : ℕ) (target : Beh) : Type 0 wh
   pub others : slice_set (targets_at w t) i (slice_index (targets_at w t') i) ≡ targets_at w t'
 
 own_step : (w : Several) (t e n t' i a : ℕ) (target : Beh) → IsRequestOf w n i target a → IsTrue (has_move (combined w).target t e n t') → IsOwnStep w t e t' i a target
-own_step w t e n t' i a target asks h =
-    let r : Request = record { target = i; action = a } in
-    let (ht, ht', r1, target1, step) = from_combined_target w t e n t' h in
-    let same : r1 ≡ r = same_Some r1 r (sym step.request ∙ asks.request) in
-    let member1 : slice_get w.targets i ≡ Some target1 = subst (λ (x : Request). slice_get w.targets x.target ≡ Some target1) same step.member in
-    let same_target : target1 ≡ target = same_Some target1 target (sym member1 ∙ asks.member) in
-    record {
-      goes = subst (λ (x : Beh). IsTrue (has_move x (slice_index (targets_at w t) i) e a (slice_index (targets_at w t') i))) same_target
-          (subst (λ (x : Request). IsTrue (has_move target1 (slice_index (targets_at w t) x.target) e x.action (slice_index (targets_at w t') x.target))) same step.goes);
-      others = subst (λ (x : Request). slice_set (targets_at w t) x.target (slice_index (targets_at w t') x.target) ≡ targets_at w t') same step.others;
-    }
+own_step w t e n t' i a target asks h = grind (arith, (from_combined_target w t e n t' h), same_Some, (targets_at w t), (targets_at w t'))
 
 -- The combined target has a step where the requesting target has one.
 abbrev pub target_after : Several → Pair → ℕ → ℕ → ℕ
@@ -69,16 +57,14 @@ request_allowed w p n i target a asks allowed =
 allowed_request : (w : Several) (p : Pair) (n i : ℕ) (target : Beh) (a : ℕ) → IsSeveral w → IsPair (combined w) p → IsRequestOf w n i target a → TargetAllows w p i target a → IsTrue (is_allowed (combined w) p n)
 allowed_request w p n i target a ok pair asks allows =
     let (t1, e1, step) = allows in
-    allowed_in (combined w) p n (combined_system w ok)
-    (target_after w p i t1, e1, (combined_triple w p.e n e1 (record { target = i; action = a }) ok.env asks.request step.0, combined_goes w p n i a t1 target ok pair asks step.1))
+    grind (arith, (allowed_in (combined w) p n (combined_system w ok) (target_after w p i t1, e1, (combined_triple w p.e n e1 (record { target = i; action = a }) ok.env asks.request step.0, combined_goes w p n i a t1 target ok pair asks step.1))), (combined_system w ok), (target_after w p i t1), (combined_triple w p.e n e1 (record { target = i; action = a }) ok.env asks.request step.0), (combined_goes w p n i a t1 target ok pair asks step.1))
 
 -- The seats that serve them.
 
 -- the pair after a step of the target and a step of the system is a pair of the combined system
 next_pair : (w : Several) (p : Pair) (n k t' : ℕ) (bs' : List ℕ) (e' : ℕ) → IsSeveral w → IsPair (combined w) p → TStep (combined w) p.t p.e n t' e' → SStep (combined w) p.bs p.e n k bs' e' →
     IsPair (combined w) (record { t = t'; e = e'; bs = bs' })
-next_pair w p n k t' bs' e' ok pair tstep sstep =
-    outcome_pair (combined w) p n k (record { t = t'; e = e'; bs = bs' }) (combined_system w ok) pair (outcome_in (combined w) p n k t' e' bs' (combined_system w ok) tstep sstep)
+next_pair w p n k t' bs' e' ok pair tstep sstep = grind (arith, (outcome_pair (combined w) p n k (record { t = t'; e = e'; bs = bs' }) (combined_system w ok) pair (outcome_in (combined w) p n k t' e' bs' (combined_system w ok) tstep sstep)), (combined_system w ok), (outcome_in (combined w) p n k t' e' bs' (combined_system w ok) tstep sstep))
 
 serves_combined : (w : Several) (p : Pair) (n i : ℕ) (target : Beh) (a k : ℕ) → IsSeveral w → IsPair (combined w) p → IsRequestOf w n i target a →
     ServesAll w (GreatAll w) (couple_all w p) i target a k → Serves (combined w) (GreatCouple (combined w)) (couple p) n k
@@ -127,13 +113,7 @@ requests_of w ok p pair = record {
 -- The parts of a turn, target by target.
 
 move_of : (w : Several) (p : Pair) (n i : ℕ) (target : Beh) (a t' e' : ℕ) → IsRequestOf w n i target a → TStep (combined w) p.t p.e n t' e' → IsMoveOf w p i target a t' e'
-move_of w p n i target a t' e' asks step =
-    let own : IsOwnStep w p.t p.e t' i a target = own_step w p.t p.e n t' i a target asks step.1 in
-    record {
-      to = slice_index (targets_at w t') i;
-      step = (world_of w p.e n e' i a target asks step.0, own.goes);
-      states = sym own.others;
-    }
+move_of w p n i target a t' e' asks step = grind (arith, (own_step w p.t p.e n t' i a target asks step.1), (targets_at w t'), (world_of w p.e n e' i a target asks step.0))
 
 pub turns_of : TurnsOfTargets
 turns_of w ok p pair = record {

@@ -1,5 +1,5 @@
 -- Each relation that meets the three clauses of an ND-simulation is part of the greatest one, even if it can't be listed.
-use Rattle.roman_laws.proofs.Common.{length, not_from_false, Sys, IsSys, Pair, IsPair, arena, pairs, Couple, couple, Meets, Great, by_test, related_great, loses, lost_dead, meets_survives}
+use Rattle.roman_laws.proofs.Common.{length, not_from_false, Sys, IsSys, Pair, IsPair, arena, pairs, Couple, couple, Meets, Great, by_test, related_great, lost_dead, meets_survives, loses}
 
 pub closed_great : (s : Sys) (Related : Couple → Type 0) → IsSys s → ((c : Couple) → Related c → Meets s Related c) →
     (p : Pair) → IsPair s p → Related (couple p) → Great s p

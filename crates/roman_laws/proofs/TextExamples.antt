@@ -1,5 +1,5 @@
 -- The definitions of certificates and explanations, computed for one small system.
-use Rattle.roman_laws.proofs.Common.{◌≡◌, ℕ, false, List, [], ◌∷◌, ◌++◌, length, refl, Pair, Entry, Final, Act, codes, digits, numbered, Verdict, Form, Repeated, Unjustified, Unlisted, Greatest, Rejected, cert_text, cert_verdict, Names, explain_text}
+use Rattle.roman_laws.proofs.Common.{◌≡◌, ℕ, false, List, [], ◌∷◌, ◌++◌, length, refl, codes, Pair, Entry, Final, Act, digits, numbered, Verdict, Form, Repeated, Unjustified, Unlisted, Greatest, Rejected, cert_text, cert_verdict, Names, explain_text}
 use Rattle.roman_laws.proofs.Examples.{flaky_system, pair_of}
 
 abbrev order : List (Entry ℕ)
