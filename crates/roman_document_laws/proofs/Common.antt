@@ -1,5 +1,5 @@
 -- What the proof pages of this crate cite from elsewhere, passed on from one place. Declares nothing.
-pub use Rattle.std.proofs.Common.{Bool, Err, IfSome, IsFalse, IsTrue, List, None, Ok, Option, Result, Some, [], ap, append-nil, append_assoc, ap₂, arith, codes, cond, eqb-true, false, find, get_or, inl, inr, is_none, is_some, leb-true, length, length-append, map, nat_le, not, refl, slice_get, subst, suc, sym, true, true≢false, zero, ℕ, ◌&&◌, ◌++◌, ◌+◌, ◌<◌, ◌==◌, ◌∙◌, ◌∷◌, ◌≡◌, ◌≢◌, ◌≤◌, ◌⊎◌}
+pub use Rattle.std.proofs.Common.{Bool, Err, IfSome, IsFalse, IsTrue, List, None, Ok, Option, Result, Some, [], ap, append-nil, append_assoc, ap₂, arith, codes, cond, eqb-true, false, find, get_or, inl, inr, is_none, is_some, leb-true, length, length-append, map, nat_le, not, refl, slice_get, subst, suc, sym, true, true≢false, zero, ℕ, ◌&&◌, ◌++◌, ◌+◌, ◌<◌, ◌==◌, ◌↔◌, ◌∙◌, ◌∷◌, ◌≡◌, ◌≢◌, ◌≤◌, ◌⊎◌}
 pub use Rattle.std.proofs.lemmas.Bool.{and_from, and_parts, both_ways, cases_order, cond-false, cond-true, eq-eqb, le-leb, not-true}
 pub use Rattle.std.proofs.lemmas.List.{length-map, map_push}
 pub use Rattle.std.proofs.lemmas.List.Quantifiers.{position-Some}
@@ -32,7 +32,6 @@ pub use Rattle.roman_parts.proofs.CallerLemmas.{check_is, env_read, first_below-
 pub use Rattle.roman_parts.specs.Choices.{refuse_choice}
 unfoldable pub use Rattle.roman_parts.specs.Choices.{choice_at, choice_between, choice_of, choice_with, single_of}
 unfoldable pub use Rattle.roman_parts.specs.Guards.{among_of, guard_of, guarded_states, state_in}
-pub use Rattle.roman_parts.specs.Lists.{name_in}
 unfoldable pub use Rattle.roman_parts.specs.Lists.{finals_of, name_step, names_of, place_in, start_of}
 pub use Rattle.roman_parts.specs.Named.{IsOver, NamedBeh, NamedEnv, NamedTarget}
 pub use Rattle.roman_parts.specs.Parts.{environment_of}

@@ -1,6 +1,6 @@
 -- The lists of a document: their values, and their refusals.
-use Rattle.roman_document_laws.proofs.Common.{◌≡◌, ℕ, ◌≤◌, inl, inr, List, [], ◌∷◌, ◌++◌, length, codes, Result, Ok, Err, refl, sym, ap, ◌∙◌, subst, arith, Data, Texts, ◌>>=◌, same_ok, bind_ok, NamedEnv, NamedBeh, counted_items, PartError, behaviour_in, catalogue_in, service_of, services_of, placed, Service, MAX_BEHAVIOURS, MAX_SERVICES, behaviour_step, service_step, refused_list, BreaksService, ReadsServices, ReadsBehaviours, DocumentListsAreRead, refusal_of, Part, Refusal, placed_is}
-use Rattle.roman_document_laws.proofs.ListLemmas.{same_err, bind_err, IsStep, IsListing, list_gives, list_given, list_refuses, list_refused}
+use Rattle.roman_document_laws.proofs.Common.{◌≡◌, ℕ, ◌≤◌, inl, inr, List, [], ◌∷◌, ◌++◌, length, codes, Result, Ok, Err, refl, sym, ap, ◌∙◌, arith, Data, Texts, ◌>>=◌, NamedEnv, NamedBeh, counted_items, PartError, behaviour_in, catalogue_in, service_of, services_of, behaviour_step, service_step, placed, refusal_of, Service, MAX_BEHAVIOURS, MAX_SERVICES, refused_list, BreaksService, ReadsServices, ReadsBehaviours, DocumentListsAreRead, Part, Refusal, placed_is}
+use Rattle.roman_document_laws.proofs.ListLemmas.{same_err, IsStep, appends, IsListing, list_gives, list_refuses}
 use Rattle.roman_parts.specs.declared.error.List.{List as Place}
 use Rattle.roman_parts.specs.declared.error.List.TheVariants as list
 use Rattle.roman_document_laws.proofs.PartReadLemmas.{counted_listing}
@@ -38,34 +38,17 @@ module _ (document : List ℕ) (version : ℕ) (catalogue : List NamedBeh) where
 
   services_step : IsStep (service_step document version catalogue) IsServiceItem (BreaksService document version catalogue)
   unfolding service_step IsServiceItem
-  services_step = record {
-    gives = λ i before d out at h.
-        let (x, e, h1) = bind_ok (placed document (part.Service i) (service_of version catalogue before d)) _ out h in
-        (x, same_ok (before ++ x ∷ []) out h1, placed_is document (part.Service i) (service_of version catalogue before d) x e);
-    given = λ i before d x at is. ap (λ (r : Result Service PartError). placed document (part.Service i) r >>= (λ service. Ok (before ++ service ∷ []))) is;
-    refuses = λ i before d e h. elim (bind_err (placed document (part.Service i) (service_of version catalogue before d)) _ e h) [
-      | inl bad ↦ placed_err document (part.Service i) (service_of version catalogue before d) e bad
-      | inr (x, there, h1) ↦ absurd (let f : ⊥ = cc in f)
-    ];
-    refused = λ i before d e (why, bad, is).
-        ap (λ (r : Result Service PartError). placed document (part.Service i) r >>= (λ service. Ok (before ++ service ∷ []))) bad ∙ ap Err (sym is);
-  }
+  services_step = grind (arith, appends, placed_is, placed_err)
 
   services_read : ReadsServices document version catalogue
   unfolding services_of IsServiceItem at_most
   services_read = record {
-    gives = λ d xs. (
-      list_gives (service_step document version catalogue) IsServiceItem (BreaksService document version catalogue) services_step (codes "services") (refused_list document list.Services) (at_most MAX_SERVICES) d
-          (placed document part.System (counted_items list.Services (codes "services") 0 MAX_SERVICES d)) (placed_listing document (codes "services") list.Services MAX_SERVICES d) xs,
-      list_given (service_step document version catalogue) IsServiceItem (BreaksService document version catalogue) services_step (codes "services") (refused_list document list.Services) (at_most MAX_SERVICES) d
-          (placed document part.System (counted_items list.Services (codes "services") 0 MAX_SERVICES d)) (placed_listing document (codes "services") list.Services MAX_SERVICES d) xs,
-    );
-    refuses = λ d e. (
-      list_refuses (service_step document version catalogue) IsServiceItem (BreaksService document version catalogue) services_step (codes "services") (refused_list document list.Services) (at_most MAX_SERVICES) d
-          (placed document part.System (counted_items list.Services (codes "services") 0 MAX_SERVICES d)) (placed_listing document (codes "services") list.Services MAX_SERVICES d) e,
-      list_refused (service_step document version catalogue) IsServiceItem (BreaksService document version catalogue) services_step (codes "services") (refused_list document list.Services) (at_most MAX_SERVICES) d
-          (placed document part.System (counted_items list.Services (codes "services") 0 MAX_SERVICES d)) (placed_listing document (codes "services") list.Services MAX_SERVICES d) e,
-    );
+    gives = λ d.
+        list_gives (service_step document version catalogue) IsServiceItem (BreaksService document version catalogue) services_step (codes "services") (refused_list document list.Services) (at_most MAX_SERVICES) d
+        (placed document part.System (counted_items list.Services (codes "services") 0 MAX_SERVICES d)) (placed_listing document (codes "services") list.Services MAX_SERVICES d);
+    refuses = λ d.
+        list_refuses (service_step document version catalogue) IsServiceItem (BreaksService document version catalogue) services_step (codes "services") (refused_list document list.Services) (at_most MAX_SERVICES) d
+        (placed document part.System (counted_items list.Services (codes "services") 0 MAX_SERVICES d)) (placed_listing document (codes "services") list.Services MAX_SERVICES d);
   }
 
 module _ (texts : Texts) (document : List ℕ) (env : NamedEnv) where
@@ -77,34 +60,17 @@ module _ (texts : Texts) (document : List ℕ) (env : NamedEnv) where
 
   behaviours_step : IsStep (behaviour_step texts document env) IsBehaviourItem BreaksBehaviour
   unfolding listed_step IsBehaviourItem BreaksBehaviour
-  behaviours_step = record {
-    gives = λ i before d out at h.
-        let (x, e, h1) = bind_ok (behaviour_in texts document env before i d) _ out h in
-        (x, same_ok (before ++ x ∷ []) out h1, subst (λ (i : ℕ). behaviour_in texts document env before i d ≡ Ok x) at e);
-    given = λ i before d x at is.
-        ap (λ (r : Result NamedBeh Refusal). r >>= (λ behaviour. Ok (before ++ behaviour ∷ []))) (subst (λ (i : ℕ). behaviour_in texts document env before i d ≡ Ok x) (sym at) is);
-    refuses = λ i before d e h. elim (bind_err (behaviour_in texts document env before i d) _ e h) [
-      | inl bad ↦ bad
-      | inr (x, there, h1) ↦ absurd (let f : ⊥ = cc in f)
-    ];
-    refused = λ i before d e bad. ap (λ (r : Result NamedBeh Refusal). r >>= (λ behaviour. Ok (before ++ behaviour ∷ []))) bad;
-  }
+  behaviours_step = grind (arith, appends)
 
   behaviours_read : ReadsBehaviours texts document env
   unfolding catalogue_in IsBehaviourItem BreaksBehaviour at_most
   behaviours_read = record {
-    gives = λ d xs. (
-      list_gives (behaviour_step texts document env) IsBehaviourItem BreaksBehaviour behaviours_step (codes "behaviours") (refused_list document list.Behaviours) (at_most MAX_BEHAVIOURS) d
-          (placed document part.System (counted_items list.Behaviours (codes "behaviours") 0 MAX_BEHAVIOURS d)) (placed_listing document (codes "behaviours") list.Behaviours MAX_BEHAVIOURS d) xs,
-      list_given (behaviour_step texts document env) IsBehaviourItem BreaksBehaviour behaviours_step (codes "behaviours") (refused_list document list.Behaviours) (at_most MAX_BEHAVIOURS) d
-          (placed document part.System (counted_items list.Behaviours (codes "behaviours") 0 MAX_BEHAVIOURS d)) (placed_listing document (codes "behaviours") list.Behaviours MAX_BEHAVIOURS d) xs,
-    );
-    refuses = λ d e. (
-      list_refuses (behaviour_step texts document env) IsBehaviourItem BreaksBehaviour behaviours_step (codes "behaviours") (refused_list document list.Behaviours) (at_most MAX_BEHAVIOURS) d
-          (placed document part.System (counted_items list.Behaviours (codes "behaviours") 0 MAX_BEHAVIOURS d)) (placed_listing document (codes "behaviours") list.Behaviours MAX_BEHAVIOURS d) e,
-      list_refused (behaviour_step texts document env) IsBehaviourItem BreaksBehaviour behaviours_step (codes "behaviours") (refused_list document list.Behaviours) (at_most MAX_BEHAVIOURS) d
-          (placed document part.System (counted_items list.Behaviours (codes "behaviours") 0 MAX_BEHAVIOURS d)) (placed_listing document (codes "behaviours") list.Behaviours MAX_BEHAVIOURS d) e,
-    );
+    gives = λ d.
+        list_gives (behaviour_step texts document env) IsBehaviourItem BreaksBehaviour behaviours_step (codes "behaviours") (refused_list document list.Behaviours) (at_most MAX_BEHAVIOURS) d
+        (placed document part.System (counted_items list.Behaviours (codes "behaviours") 0 MAX_BEHAVIOURS d)) (placed_listing document (codes "behaviours") list.Behaviours MAX_BEHAVIOURS d);
+    refuses = λ d.
+        list_refuses (behaviour_step texts document env) IsBehaviourItem BreaksBehaviour behaviours_step (codes "behaviours") (refused_list document list.Behaviours) (at_most MAX_BEHAVIOURS) d
+        (placed document part.System (counted_items list.Behaviours (codes "behaviours") 0 MAX_BEHAVIOURS d)) (placed_listing document (codes "behaviours") list.Behaviours MAX_BEHAVIOURS d);
   }
 
 pub document_lists_read : DocumentListsAreRead

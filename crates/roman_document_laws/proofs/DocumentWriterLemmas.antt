@@ -1,5 +1,5 @@
 -- The written value of a library means that library.
-use Rattle.roman_document_laws.proofs.Common.{◌≡◌, ℕ, zero, suc, ◌<◌, ◌≤◌, ◌&&◌, List, [], ◌∷◌, ◌++◌, map, length, Bool, Option, Some, nat_le, Ok, IsTrue, slice_get, inl, inr, refl, sym, ap, subst, arith, and_from, le-leb, length-map, Data, Texts, IsIn, HasNoRepeats, get_in, from_push, in_contains, AreItems, is_name, place_in, NamedEnv, NamedBeh, list_value, place_value, behaviour_value, IsSayableEnv, IsSayableBeh, IsSayableTarget, behaviour_in, catalogue_in, service_of, services_of, placed, Service, IfSome, map_push, MAX_CELLS, in_map, there_is, version_of, limit_in, limit_of, file_of, part_of, listed_in, new_name_of, environment_in, new_behaviour_of, target_in, parts_in, behaviour_place, state_of, frozen_of, rests_of, library_in, PlainLibrary, IsService, behaviour_name, service_name, catalogue_states, service_value, library_value, IsSayable, LibrariesAreSaid}
+use Rattle.roman_document_laws.proofs.Common.{◌≡◌, ℕ, zero, suc, ◌<◌, ◌≤◌, ◌&&◌, List, [], ◌∷◌, ◌++◌, map, length, Bool, Option, Some, Ok, IsTrue, slice_get, inl, refl, sym, ap, subst, arith, IfSome, and_from, le-leb, length-map, map_push, Data, Texts, IsIn, HasNoRepeats, get_in, from_push, in_contains, in_map, there_is, AreItems, is_name, place_in, NamedEnv, NamedBeh, list_value, place_value, behaviour_value, IsSayableEnv, IsSayableBeh, IsSayableTarget, behaviour_in, catalogue_in, service_of, services_of, version_of, limit_in, limit_of, file_of, part_of, listed_in, new_name_of, environment_in, new_behaviour_of, target_in, parts_in, behaviour_place, state_of, frozen_of, rests_of, library_in, placed, Service, MAX_CELLS, PlainLibrary, IsService, behaviour_name, service_name, catalogue_states, service_value, library_value, IsSayable, LibrariesAreSaid}
 use Rattle.roman_parts.specs.declared.error.List.TheVariants as list
 use Rattle.roman_document_laws.proofs.PartReadLemmas.{ok_place, absent_none}
 use Rattle.roman_document_laws.proofs.PartWriterLemmas.{is_place, name_said, parts_said}
@@ -34,20 +34,13 @@ behaviour_said texts document env before i b env_is is new =
 
 -- the next items with distinct names have new names
 still_new : {X : Type 0} (f : X → List ℕ) (before : List X) (x y : X) (xs : List X) → (IsIn (f x) (map f xs) → ⊥) → IsIn y xs → (IsIn (f y) (map f before) → ⊥) → IsIn (f y) (map f (before ++ x ∷ [])) → ⊥
-still_new f before x y xs once i new there =
-    elim (from_push (f y) (f x) (map f before) (subst (λ (names : List (List ℕ)). IsIn (f y) names) (map_push f before x) there)) [
-      | inl earlier ↦ new earlier
-      | inr same ↦ once (subst (λ (n : List ℕ). IsIn n (map f xs)) same (in_map f y xs i))
-    ]
+still_new f before x y xs once i new there = grind (arith, from_push, map_push, in_map)
 
 are_behaviours : (texts : Texts) (document : List ℕ) (env : NamedEnv) (before xs : List NamedBeh) → IsSayableEnv env → ((b : NamedBeh) → IsIn b xs → IsSayableBeh env b) → HasNoRepeats (map behaviour_name xs) →
     ((b : NamedBeh) → IsIn b xs → IsIn b.name (map behaviour_name before) → ⊥) →
     AreItems (λ before item x. behaviour_in texts document env before (length before) item ≡ Ok x) before (map (behaviour_value env) xs) xs
 are_behaviours texts document env before [] env_is is once new = tt
-are_behaviours texts document env before (b ∷ bs) env_is is once new = (
-  behaviour_said texts document env before (length before) b env_is (is b (inl refl)) (new b (inl refl)),
-  are_behaviours texts document env (before ++ b ∷ []) bs env_is (λ c i. is c (inr i)) once.1 (λ c i. still_new behaviour_name before b c bs once.0 i (new c (inr i))),
-)
+are_behaviours texts document env before (b ∷ bs) env_is is once new = grind (arith, behaviour_said, still_new, (are_behaviours texts document env (before ++ b ∷ []) bs env_is))
 
 catalogue_said : (texts : Texts) (document : List ℕ) (library : PlainLibrary) → IsSayable library → catalogue_in texts document library.environment (library_value library) ≡ Ok library.catalogue
 catalogue_said texts document library is = ((document_lists_read.behaviours texts document library.environment).gives (library_value library) library.catalogue).1 (record {
@@ -93,19 +86,14 @@ are_services : (env : NamedEnv) (catalogue : List NamedBeh) (before xs : List Se
     ((x : Service) → IsIn x xs → IsService catalogue x) → HasNoRepeats (map service_name xs) → ((x : Service) → IsIn x xs → IsIn x.name (map service_name before) → ⊥) →
     AreItems (λ before item x. service_of 2 catalogue before item ≡ Ok x) before (map (service_value catalogue) xs) xs
 are_services env catalogue before [] once sayable named is own new = tt
-are_services env catalogue before (x ∷ xs) once sayable named is own new = (
-  service_said env catalogue before x (named x (inl refl)) (new x (inl refl)) once (is x (inl refl)) sayable,
-  are_services env catalogue (before ++ x ∷ []) xs once sayable (λ y i. named y (inr i)) (λ y i. is y (inr i)) own.1 (λ y i. still_new service_name before x y xs own.0 i (new y (inr i))),
-)
+are_services env catalogue before (x ∷ xs) once sayable named is own new = grind (arith, (service_said env catalogue before x (named x (inl refl)) (new x (inl refl)) once (is x (inl refl)) sayable), still_new, (are_services env catalogue (before ++ x ∷ []) xs once sayable))
 
 services_said : (document : List ℕ) (library : PlainLibrary) → IsSayable library → services_of document 2 library.catalogue (library_value library) ≡ Ok library.services
 services_said document library is = ((document_lists_read.services document 2 library.catalogue).gives (library_value library) library.services).1 (record {
   items = map (service_value library.catalogue) library.services;
   list = record { value = list_value (map (service_value library.catalogue) library.services); there = refl; list = refl };
   fits = omega (arith, is.known.few_services, length-map library.services (service_value library.catalogue));
-  are = are_services library.environment library.catalogue [] library.services is.known.catalogue.names is.catalogue is.services
-      (λ x i. let (k, l, e) = in_contains library.services x i in subst (IsService library.catalogue) e (is.known.services.known k x l))
-      is.known.services.names (λ x i none. none);
+  are = grind (arith, (are_services library.environment library.catalogue), in_contains);
 })
 
 -- The document
@@ -116,18 +104,8 @@ version_said library = refl
 
 limit_said : (library : PlainLibrary) → (0 < library.limit) × (library.limit ≤ MAX_CELLS) → limit_of (library_value library) ≡ Ok library.limit
 unfolding limit_of limit_in
-limit_said library (some, few) =
-    let within : IsTrue (nat_le 1 library.limit && nat_le library.limit MAX_CELLS) =
-    and_from (nat_le 1 library.limit) (nat_le library.limit MAX_CELLS) (le-leb 1 library.limit (omega (arith, some))) (le-leb library.limit MAX_CELLS few) in
-    rw within refl
+limit_said library (some, few) = grind (arith, and_from, le-leb)
 
 pub libraries_said : LibrariesAreSaid
 unfolding library_in
-libraries_said texts document library is = rw (
-  version_said library,
-  limit_said library is.known.limit,
-  environment_said texts document library is.environment,
-  catalogue_said texts document library is,
-  services_said document library is,
-  said_as_they_stand texts document library is.environment is.target,
-) refl
+libraries_said texts document library is = grind (arith, version_said, limit_said, environment_said, catalogue_said, services_said, said_as_they_stand)

@@ -1,5 +1,5 @@
 -- Lists whose items are read one by one: their values, or the refused item.
-use Rattle.roman_document_laws.proofs.Common.{◌≡◌, ℕ, suc, ◌⊎◌, inl, inr, List, [], ◌∷◌, ◌++◌, length, Result, Ok, Err, refl, sym, ap, ◌∙◌, subst, arith, Data, Items, no_items, item, items_len, items_of, ◌>>=◌, each_item, kind_of, IsListAt, MissesList, AreItems, Kind, Miss, same_ok, bind_ok, ◌+◌, append_assoc, append-nil, length-append, FaultIn, IsListOf, BreaksList, Count}
+use Rattle.roman_document_laws.proofs.Common.{◌≡◌, ℕ, suc, ◌⊎◌, inl, inr, List, [], ◌∷◌, ◌++◌, length, Result, ◌↔◌, Ok, Err, refl, sym, ap, ◌∙◌, subst, arith, ◌+◌, append_assoc, append-nil, length-append, Data, Items, no_items, item, items_len, items_of, ◌>>=◌, each_item, kind_of, IsListAt, MissesList, AreItems, FaultIn, IsListOf, BreaksList, Kind, Miss, same_ok, bind_ok, Count}
 
 pub same_err : {X E : Type 0} (d e : E) → ◌≡◌ {A = Result X E} (Err d) (Err e) → d ≡ e
 same_err d e h = cc
@@ -29,6 +29,23 @@ pub record IsStep {X E : Type 0} (step : ℕ → List X → Data → Result (Lis
   pub refuses : (i : ℕ) (before : List X) (d : Data) (e : E) → step i before d ≡ Err e → Breaks i before d e
   pub refused : (i : ℕ) (before : List X) (d : Data) (e : E) → Breaks i before d e → step i before d ≡ Err e
 
+-- a step that reads an item, and appends its value to those before it
+module _ {X E : Type 0} (read : ℕ → List X → Data → Result X E) (Is : List X → Data → X → Type 0) (Breaks : ℕ → List X → Data → E → Type 0)
+    (ok : (i : ℕ) (before : List X) (d : Data) (x : X) → i ≡ length before → (read i before d ≡ Ok x) ↔ Is before d x)
+    (err : (i : ℕ) (before : List X) (d : Data) (e : E) → (read i before d ≡ Err e) ↔ Breaks i before d e) where
+  pub appends : IsStep (λ i before d. read i before d >>= (λ x. Ok (before ++ x ∷ []))) Is Breaks
+  appends = record {
+    gives = λ i before d out at h.
+        let (x, e, h1) = bind_ok (read i before d) _ out h in
+        (x, same_ok (before ++ x ∷ []) out h1, (ok i before d x at).0 e);
+    given = λ i before d x at is. ap (λ (r : Result X E). r >>= (λ x. Ok (before ++ x ∷ []))) ((ok i before d x at).1 is);
+    refuses = λ i before d e h. elim (bind_err (read i before d) _ e h) [
+      | inl bad ↦ (err i before d e).0 bad
+      | inr (x, there, h1) ↦ absurd (let f : ⊥ = cc in f)
+    ];
+    refused = λ i before d e bad. ap (λ (r : Result X E). r >>= (λ x. Ok (before ++ x ∷ []))) ((err i before d e).1 bad);
+  }
+
 module _ {X E : Type 0} (step : ℕ → List X → Data → Result (List X) E) (Is : List X → Data → X → Type 0) (Breaks : ℕ → List X → Data → E → Type 0) (ok : IsStep step Is Breaks) where
   one_more : (before : List X) (x : X) → length (before ++ x ∷ []) ≡ length before + 1
   one_more before x = length-append before (x ∷ [])
@@ -49,11 +66,7 @@ module _ {X E : Type 0} (step : ℕ → List X → Data → Result (List X) E) (
   each_given i before [] [] at are = ap Ok (sym (append-nil before))
   each_given i before [] (x ∷ xs) at are = absurd are
   each_given i before (d ∷ ds) [] at are = absurd are
-  each_given i before (d ∷ ds) (x ∷ xs) at are =
-      let counted : i + 1 ≡ length (before ++ x ∷ []) = let l = one_more before x in omega arith in
-      ap (λ (r : Result (List X) E). r >>= (λ more. each_item step (i + 1) more (items_of ds))) (ok.given i before d x at are.0)
-      ∙ each_given (i + 1) (before ++ x ∷ []) ds xs counted are.1
-      ∙ ap Ok (append_assoc before (x ∷ []) xs)
+  each_given i before (d ∷ ds) (x ∷ xs) at are = grind (arith, one_more, append_assoc, (each_given (i + 1) (before ++ x ∷ []) ds xs))
 
   each_refuses : (i : ℕ) (before : List X) (ds : List Data) (e : E) → i ≡ length before → each_item step i before (items_of ds) ≡ Err e → FaultIn Is Breaks before ds e
   unfolding each_item
@@ -89,24 +102,15 @@ module _ {X E : Type 0} (step : ℕ → List X → Data → Result (List X) E) (
   fault_at : (i : ℕ) (before : List X) (front : List Data) (fault : Data) (behind : List Data) (xs : List X) (e : E) → i ≡ length before → AreItems Is before front xs →
       Breaks (length (before ++ xs)) (before ++ xs) fault e → each_item step i before (items_of (front ++ fault ∷ behind)) ≡ Err e
   unfolding each_item
-  fault_at i before [] fault behind [] e at are breaks =
-      let here : Breaks (length before) before fault e = subst (λ (b : List X). Breaks (length b) b fault e) (append-nil before) breaks in
-      ap (λ (r : Result (List X) E). r >>= (λ more. each_item step (i + 1) more (items_of behind))) (ok.refused i before fault e (subst (λ (i : ℕ). Breaks i before fault e) (sym at) here))
+  fault_at i before [] fault behind [] e at are breaks = grind (arith, append-nil)
   fault_at i before [] fault behind (x ∷ xs) e at are breaks = absurd are
   fault_at i before (d ∷ ds) fault behind [] e at are breaks = absurd are
-  fault_at i before (d ∷ ds) fault behind (x ∷ xs) e at are breaks =
-      let counted : i + 1 ≡ length (before ++ x ∷ []) = let l = one_more before x in omega arith in
-      ap (λ (r : Result (List X) E). r >>= (λ more. each_item step (i + 1) more (items_of (ds ++ fault ∷ behind)))) (ok.given i before d x at are.0)
-      ∙ fault_at (i + 1) (before ++ x ∷ []) ds fault behind xs e counted are.1
-      (subst (λ (b : List X). Breaks (length b) b fault e) (sym (append_assoc before (x ∷ []) xs)) breaks)
+  fault_at i before (d ∷ ds) fault behind (x ∷ xs) e at are breaks = grind (arith, one_more, append_assoc, (fault_at (i + 1) (before ++ x ∷ []) ds fault behind xs e))
 
   -- the same from the beginning of the list
 
   pub all_given : (ds : List Data) (xs : List X) → (each_item step 0 [] (items_of ds) ≡ Ok xs → AreItems Is [] ds xs) × (AreItems Is [] ds xs → each_item step 0 [] (items_of ds) ≡ Ok xs)
-  all_given ds xs = (
-    λ h. let (ys, same, are) = each_gives 0 [] ds xs refl h in subst (AreItems Is [] ds) same are,
-    λ are. each_given 0 [] ds xs refl are,
-  )
+  all_given ds xs = grind (arith, (each_gives 0), (each_given 0))
 
   pub one_refused : (ds : List Data) (e : E) → (each_item step 0 [] (items_of ds) ≡ Err e → FaultIn Is Breaks [] ds e) × (FaultIn Is Breaks [] ds e → each_item step 0 [] (items_of ds) ≡ Err e)
   one_refused ds e = (
@@ -125,27 +129,30 @@ pub record IsListing {E : Type 0} (name : List ℕ) (refuse : Kind → E) (Fits 
 
 module _ {X E : Type 0} (step : ℕ → List X → Data → Result (List X) E) (Is : List X → Data → X → Type 0) (Breaks : ℕ → List X → Data → E → Type 0) (ok : IsStep step Is Breaks)
     (name : List ℕ) (refuse : Kind → E) (Fits : ℕ → Type 0) (d : Data) (r : Result Items E) (listing : IsListing name refuse Fits d r) where
-  pub list_gives : (xs : List X) → (r >>= each_item step 0 []) ≡ Ok xs → IsListOf name Fits Is d xs
-  list_gives xs h =
-      let (items, e, h1) = bind_ok r _ xs h in
-      let (ds, same, list, fits) = listing.gives items e in
-      record { items = ds; list = list; fits = fits; are = (all_given step Is Breaks ok ds xs).0 (subst (λ (items : Items). each_item step 0 [] items ≡ Ok xs) same h1) }
+  pub list_gives : (xs : List X) → ((r >>= each_item step 0 []) ≡ Ok xs) ↔ IsListOf name Fits Is d xs
+  list_gives xs = (
+    λ h.
+        let (items, e, h1) = bind_ok r _ xs h in
+        let (ds, same, list, fits) = listing.gives items e in
+        record { items = ds; list = list; fits = fits; are = (all_given step Is Breaks ok ds xs).0 (subst (λ (items : Items). each_item step 0 [] items ≡ Ok xs) same h1) },
+    λ h. ap (λ (r : Result Items E). r >>= each_item step 0 []) (listing.given h.items h.list h.fits) ∙ (all_given step Is Breaks ok h.items xs).1 h.are,
+  )
 
-  pub list_given : (xs : List X) → IsListOf name Fits Is d xs → (r >>= each_item step 0 []) ≡ Ok xs
-  list_given xs h = ap (λ (r : Result Items E). r >>= each_item step 0 []) (listing.given h.items h.list h.fits) ∙ (all_given step Is Breaks ok h.items xs).1 h.are
-
-  pub list_refuses : (e : E) → (r >>= each_item step 0 []) ≡ Err e → BreaksList name refuse Fits Is Breaks d e
-  list_refuses e h = elim (bind_err r _ e h) [
-    | inl bad ↦ elim (listing.refuses e bad) [
-      | inl miss ↦ inl miss
-      | inr (ds, list, never, is) ↦ inr (ds, list, inl (never, is))
-    ]
-    | inr (items, given, h1) ↦
-        let (ds, same, list, fits) = listing.gives items given in
-        inr (ds, list, inr (fits, (one_refused step Is Breaks ok ds e).0 (subst (λ (items : Items). each_item step 0 [] items ≡ Err e) same h1)))
-  ]
-
-  pub list_refused : (e : E) → BreaksList name refuse Fits Is Breaks d e → (r >>= each_item step 0 []) ≡ Err e
+  list_refused : (e : E) → BreaksList name refuse Fits Is Breaks d e → (r >>= each_item step 0 []) ≡ Err e
   list_refused e (inl (miss, misses, is)) = ap (λ (r : Result Items E). r >>= each_item step 0 []) (listing.missed miss misses) ∙ ap Err (sym is)
   list_refused e (inr (ds, list, inl (never, is))) = ap (λ (r : Result Items E). r >>= each_item step 0 []) (listing.miscounted ds list never) ∙ ap Err (sym is)
   list_refused e (inr (ds, list, inr (fits, fault))) = ap (λ (r : Result Items E). r >>= each_item step 0 []) (listing.given ds list fits) ∙ (one_refused step Is Breaks ok ds e).1 fault
+
+  pub list_refuses : (e : E) → ((r >>= each_item step 0 []) ≡ Err e) ↔ BreaksList name refuse Fits Is Breaks d e
+  list_refuses e = (
+    λ h. elim (bind_err r _ e h) [
+      | inl bad ↦ elim (listing.refuses e bad) [
+        | inl miss ↦ inl miss
+        | inr (ds, list, never, is) ↦ inr (ds, list, inl (never, is))
+      ]
+      | inr (items, given, h1) ↦
+          let (ds, same, list, fits) = listing.gives items given in
+          inr (ds, list, inr (fits, (one_refused step Is Breaks ok ds e).0 (subst (λ (items : Items). each_item step 0 [] items ≡ Err e) same h1)))
+    ],
+    list_refused e,
+  )

@@ -1,5 +1,5 @@
 -- Normal forms rise, have the same steps, and are determined by them.
-use Rattle.roman_document_laws.proofs.Common.{◌≡◌, ◌≢◌, ℕ, inl, inr, List, [], ◌∷◌, map, refl, sym, ◌∙◌, subst, arith, filter, flat_map, IsIn, below, Triple, Env, Move, Beh, has_move, is_final, normal_env, normal_beh, from_flat_map, from_map, number_listed, listed_number, triple_listed, step_listed, listed_step, has_triple-normal, has_move-normal, is_final-normal, Rises, IsLess, IsNormalEnv, IsNormalBeh, has_triple, env_next, guarded_step, HasStep, listed_triple, AreBefore, IsTripleBefore, IsMoveBefore, SameEnv, SameBeh, NormalFormsAreNormal, NormalFormsAreUnique}
+use Rattle.roman_document_laws.proofs.Common.{◌≡◌, ◌≢◌, ℕ, inl, inr, List, [], ◌∷◌, map, refl, sym, ◌∙◌, subst, arith, filter, flat_map, IsIn, below, Triple, Env, Move, Beh, has_move, is_final, has_triple, normal_env, normal_beh, from_flat_map, from_map, number_listed, listed_number, triple_listed, step_listed, listed_step, listed_triple, has_triple-normal, has_move-normal, is_final-normal, Rises, IsLess, IsNormalEnv, IsNormalBeh, AreBefore, IsTripleBefore, IsMoveBefore, SameEnv, SameBeh, NormalFormsAreNormal, NormalFormsAreUnique, env_next, guarded_step, HasStep}
 use Rattle.roman_document_laws.proofs.Rising.{rises_filter, rises_flat, rises_map, rises_same, rises_below}
 
 -- Normal forms rise
@@ -14,15 +14,7 @@ env_rises env =
     rises_flat IsTripleBefore (λ e. flat_map (λ a. map (tripled e a) (env_next env e a)) (below env.actions)) (below env.states) (rises_below env.states) (λ e i.
     rises_flat IsTripleBefore (λ a. map (tripled e a) (env_next env e a)) (below env.actions) (rises_below env.actions)
     (λ a j. rises_map IsTripleBefore (tripled e a) (env_next env e a) (rises_filter IsLess (has_triple env e a) (below env.states) (rises_below env.states)) (λ j k less. inr (refl, inr (refl, less))))
-    (λ a b x y less ix iy.
-    let (p, ip, sx) = from_map (tripled e a) x (env_next env e a) ix in
-    let (q, iq, sy) = from_map (tripled e b) y (env_next env e b) iy in
-    subst (λ (x : Triple). IsTripleBefore x y) (sym sx) (subst (IsTripleBefore (tripled e a p)) (sym sy) (inr (refl, inl less))))) (λ d e x y less ix iy.
-    let (a, ia, jx) = from_flat_map (λ a. map (tripled d a) (env_next env d a)) x (below env.actions) ix in
-    let (b, ib, jy) = from_flat_map (λ a. map (tripled e a) (env_next env e a)) y (below env.actions) iy in
-    let (p, ip, sx) = from_map (tripled d a) x (env_next env d a) jx in
-    let (q, iq, sy) = from_map (tripled e b) y (env_next env e b) jy in
-    subst (λ (x : Triple). IsTripleBefore x y) (sym sx) (subst (IsTripleBefore (tripled d a p)) (sym sy) (inl less)))
+    (grind (arith, from_map, tripled))) (grind (arith, from_flat_map, tripled, from_map))
 
 -- a step with the guard, if it isn't empty
 record IsGuarded (b a b' : ℕ) (es : List ℕ) (m : Move) : Type 0 where
@@ -74,27 +66,13 @@ module _ (env_states actions : ℕ) (beh : Beh) where
       rises_flat IsMoveBefore (by_action b) (below actions) (rises_below actions)
       (λ a j.
       rises_flat IsMoveBefore (by_to b a) (below beh.states) (rises_below beh.states) (λ b' k. guarded_rises b a b' (step_guard env_states beh b a b'))
-      (λ j k x y less ix iy.
-      let p = guarded_is b a j (step_guard env_states beh b a j) x ix in
-      let q = guarded_is b a k (step_guard env_states beh b a k) y iy in
-      before_by x y b a j b a k p.from p.action p.to q.from q.action q.to (inr (refl, inr (refl, less)))))
-      (λ j k x y less ix iy.
-      let (c, p) = to_is b j x ix in
-      let (d, q) = to_is b k y iy in
-      before_by x y b j c b k d p.from p.action p.to q.from q.action q.to (inr (refl, inl less))))
-      (λ j k x y less ix iy.
-      let (a, c, p) = action_is j x ix in
-      let (b, d, q) = action_is k y iy in
-      before_by x y j a c k b d p.from p.action p.to q.from q.action q.to (inl less))
+      (grind (arith, guarded_is, before_by)))
+      (grind (arith, to_is, before_by)))
+      (grind (arith, action_is, before_by))
 
   guards_rise : (m : Move) → IsIn m (normal_beh env_states actions beh).steps → Rises IsLess m.guard × (m.guard ≢ [])
   unfolding by_state by_action by_to
-  guards_rise m i =
-      let (b, j, k) = from_flat_map by_state m (below beh.states) i in
-      let (a, b', is) = action_is b m k in (
-        subst (Rises IsLess) (sym is.guard) (rises_filter IsLess (λ e. has_move beh b e a b') (below env_states) (rises_below env_states)),
-        is.some,
-      )
+  guards_rise m i = grind (arith, from_flat_map, action_is, rises_filter, rises_below)
 
 pub forms_normal : NormalFormsAreNormal
 forms_normal = record {
@@ -183,8 +161,7 @@ moves_within x y hx hy same m i =
 
 beh_unique : (x y : Beh) → IsNormalBeh x → IsNormalBeh y → SameBeh x y → x ≡ y
 beh_unique x y hx hy same =
-    let finals : x.finals ≡ y.finals = rises_same IsLess x.finals y.finals less_both hx.finals hy.finals
-    (λ b i. number_listed y.finals b (sym (same.finals b) ∙ listed_number x.finals b i)) (λ b i. number_listed x.finals b (same.finals b ∙ listed_number y.finals b i)) in
+    let finals : x.finals ≡ y.finals = grind (arith, rises_same, less_both, number_listed, listed_number) in
     let steps : x.steps ≡ y.steps = rises_same IsMoveBefore x.steps y.steps (λ t u. never_both t.from t.action t.to u.from u.action u.to) hx.steps hy.steps
     (moves_within x y hx hy same.steps) (moves_within y x hy hx (λ b e a b'. sym (same.steps b e a b'))) in
     rebuilt x.states y.states x.start y.start x.finals y.finals x.steps y.steps same.states same.start finals steps

@@ -1,7 +1,7 @@
 -- Lists of names, final states and steps: their values, and their refusals.
-use Rattle.roman_document_laws.proofs.Common.{◌≡◌, ◌≢◌, ℕ, suc, ◌<◌, ◌≤◌, ◌⊎◌, ◌&&◌, inl, inr, Bool, true, false, List, [], ◌∷◌, ◌++◌, length, Option, Some, None, nat_le, codes, Result, Ok, Err, IsTrue, slice_get, refl, sym, ap, ◌∙◌, subst, arith, AllZip, and_parts, and_from, both_ways, le-leb, same_Some, Data, Items, no_items, item, items_len, items_of, IsIn, HasNoRepeats, Triple, Move, MAX_STEPS, by_test, from_push, get_in, ◌>>=◌, each_item, pushing, text_of, kind_of, IsListAt, MissesList, AreItems, is_name, Kind, Miss, same_ok, bind_ok, guarded_states, names_of, place_in, finals_of, counted_items, IsPlace, BreaksPlace, IsTripleItem, IsMoveItem, triples_of, moves_of, PartError, get_or, is_none, IsFalse, leb-true, true≢false, bytes_eq, cases_order, position-Some, slice_get-get_or, get_or_from_slice_get, bytes_eq-Decides, any_true, in_push, in_append_left, list_of, place_of, place_of-absent, name_in, name_step, looked, found, check, items_at, IsNewName, BreaksName, IsNoRow, BreaksTriple, BreaksMove, ReadsList, AreNames, ListsAreRead, three_of, four_of, triple_item, move_item, Refused, check_is, found_is, none_is, there_some, none_absent}
+use Rattle.roman_document_laws.proofs.Common.{◌≡◌, ◌≢◌, ℕ, suc, ◌<◌, ◌≤◌, ◌⊎◌, ◌&&◌, inl, inr, Bool, true, false, List, [], ◌∷◌, ◌++◌, length, Option, Some, None, nat_le, codes, Result, Ok, Err, IsTrue, slice_get, refl, sym, ap, ◌∙◌, subst, arith, get_or, is_none, IsFalse, leb-true, true≢false, AllZip, and_parts, and_from, both_ways, le-leb, cases_order, same_Some, slice_get-get_or, get_or_from_slice_get, Data, Items, no_items, item, items_len, items_of, IsIn, HasNoRepeats, Triple, Move, MAX_STEPS, by_test, from_push, get_in, any_true, in_push, in_append_left, ◌>>=◌, each_item, pushing, text_of, list_of, kind_of, IsListAt, MissesList, AreItems, is_name, place_of, Kind, Miss, same_ok, bind_ok, place_of-absent, guarded_states, names_of, place_in, finals_of, name_step, counted_items, looked, found, check, items_at, IsPlace, BreaksPlace, IsTripleItem, IsMoveItem, IsNewName, BreaksName, IsNoRow, BreaksTriple, BreaksMove, ReadsList, AreNames, ListsAreRead, triples_of, moves_of, three_of, four_of, triple_item, move_item, PartError, bytes_eq, position-Some, bytes_eq-Decides, Refused, check_is, found_is, none_is, there_some, none_absent}
 use Rattle.roman_read.specs.declared.rules.Kind.TheVariants as kind
-use Rattle.roman_document_laws.proofs.ListLemmas.{same_err, bind_err, listed, items_listed, items_count, IsStep, IsListing, list_gives, list_given, list_refuses, list_refused}
+use Rattle.roman_document_laws.proofs.ListLemmas.{same_err, bind_err, listed, items_listed, items_count, IsStep, appends, IsListing, list_gives, list_refuses}
 use Rattle.roman_parts.specs.declared.error.List.{List as Place}
 use Rattle.roman_parts.specs.declared.error.List.TheVariants as list
 
@@ -44,11 +44,7 @@ place_from : (names : List (List ℕ)) (text : List ℕ) (k : ℕ) → slice_get
 place_from names text k there first =
     let (i, found) = there_some names text (get_in names k text there) in
     let (here, before) = in_place names text i found in
-    elim (cases_order i k) [
-      | inl same ↦ found ∙ ap Some same
-      | inr (inl less) ↦ absurd (first i less here)
-      | inr (inr more) ↦ absurd (before k more there)
-    ]
+    grind (arith, cases_order)
 
 pub absent_none : (names : List (List ℕ)) (text : List ℕ) → (IsIn text names → ⊥) → place_of names text ≡ None
 absent_none names text never = grind (arith, any_true, by_test, bytes_eq-Decides, place_of-absent)
@@ -104,19 +100,11 @@ is_within least most n (some, few) = and_from (nat_le least n) (nat_le n most) (
 module _ (list : Place) (name : List ℕ) (least most : ℕ) (Fits : ℕ → Type 0) (there : (n : ℕ) → (least ≤ n) × (n ≤ most) → Fits n) (back : (n : ℕ) → Fits n → (least ≤ n) × (n ≤ most)) (d : Data) where
   counted_gives : (items : Items) → counted_items list name least most d ≡ Ok items → (ds : List Data) × (items ≡ items_of ds) × IsListAt d name ds × Fits (length ds)
   unfolding counted_items
-  counted_gives items h =
-      let (all, e, h1) = bind_ok (items_at list name d) _ items h in
-      let (within, same) = check_is (nat_le least (items_len all) && nat_le (items_len all) most) kind.Count list 0 all items h1 in
-      let (ds, is, at) = list_there list name d all e in
-      let count : items_len all ≡ length ds = ap items_len is ∙ items_count ds in
-      (ds, sym same ∙ is, at, subst Fits count (there (items_len all) (within_is least most (items_len all) within)))
+  counted_gives items h = grind (arith, bind_ok, check_is, list_there, items_count, within_is)
 
   counted_given : (ds : List Data) → IsListAt d name ds → Fits (length ds) → counted_items list name least most d ≡ Ok (items_of ds)
   unfolding counted_items
-  counted_given ds at fits =
-      let within : (least ≤ items_len (items_of ds)) × (items_len (items_of ds) ≤ most) = subst (λ (n : ℕ). (least ≤ n) × (n ≤ most)) (sym (items_count ds)) (back (length ds) fits) in
-      ap (λ (r : Result Items PartError). r >>= (λ items. check (nat_le least (items_len items) && nat_le (items_len items) most) kind.Count list 0 items)) (there_list list name d ds at)
-      ∙ check_true (nat_le least (items_len (items_of ds)) && nat_le (items_len (items_of ds)) most) kind.Count list 0 (items_of ds) (is_within least most (items_len (items_of ds)) within)
+  counted_given ds at fits = grind (arith, items_count, there_list, check_true, is_within)
 
   counted_refuses : (e : PartError) → counted_items list name least most d ≡ Err e →
       ((miss : Miss) × MissesList d name miss × (e ≡ Refused (kind_of miss) list 0)) ⊎ ((ds : List Data) × IsListAt d name ds × (Fits (length ds) → ⊥) × (e ≡ Refused kind.Count list 0))
@@ -127,26 +115,16 @@ module _ (list : Place) (name : List ℕ) (least most : ℕ) (Fits : ℕ → Typ
         let (fails, is) = check_err (nat_le least (items_len all) && nat_le (items_len all) most) kind.Count list 0 all e h1 in
         let (ds, same, at) = list_there list name d all given in
         let count : length ds ≡ items_len all = sym (items_count ds) ∙ ap items_len (sym same) in
-        inr (
-          ds,
-          at,
-          λ fits. both_ways (nat_le least (items_len all) && nat_le (items_len all) most) fails (is_within least most (items_len all) (back (items_len all) (subst Fits count fits))),
-          is,
-        )
+        grind (arith, both_ways, is_within)
   ]
 
   counted_missed : (miss : Miss) → MissesList d name miss → counted_items list name least most d ≡ Err (Refused (kind_of miss) list 0)
   unfolding counted_items
-  counted_missed miss misses =
-      ap (λ (r : Result Items PartError). r >>= (λ items. check (nat_le least (items_len items) && nat_le (items_len items) most) kind.Count list 0 items)) (list_missed list name d miss misses)
+  counted_missed miss misses = grind (arith, list_missed)
 
   miscounted : (ds : List Data) → IsListAt d name ds → (Fits (length ds) → ⊥) → counted_items list name least most d ≡ Err (Refused kind.Count list 0)
   unfolding counted_items
-  miscounted ds at never =
-      ap (λ (r : Result Items PartError). r >>= (λ items. check (nat_le least (items_len items) && nat_le (items_len items) most) kind.Count list 0 items)) (there_list list name d ds at)
-      ∙ by_test (nat_le least (items_len (items_of ds)) && nat_le (items_len (items_of ds)) most)
-      (λ yes. absurd (never (subst Fits (items_count ds) (there (items_len (items_of ds)) (within_is least most (items_len (items_of ds)) yes)))))
-      (λ fails. check_false (nat_le least (items_len (items_of ds)) && nat_le (items_len (items_of ds)) most) kind.Count list 0 (items_of ds) fails)
+  miscounted ds at never = grind (arith, there_list, by_test, items_count, within_is, check_false)
 
   pub counted_listing : IsListing name (λ rule. Refused rule list 0) Fits d (counted_items list name least most d)
   counted_listing = record { gives = counted_gives; given = counted_given; refuses = counted_refuses; missed = counted_missed; miscounted = miscounted }
@@ -163,18 +141,7 @@ name_given list i before d name is = rw (is.text, is.named, absent_none before n
 
 name_refuses : (list : Place) (i : ℕ) (before : List (List ℕ)) (d : Data) (e : PartError) → name_step list i before d ≡ Err e → BreaksName list i before d e
 unfolding name_step
-name_refuses list i before d e h = elim (bind_err (name_in list i d) _ e h) [
-  | inl bad ↦ elim (bind_err (looked list i (text_of d)) _ e bad) [
-    | inl miss ↦ inl (looked_err list i (text_of d) e miss)
-    | inr (text, given, wrong) ↦ inr (text, looked_ok list i (text_of d) text given, inl (check_err (is_name text) kind.BadName list i text e wrong))
-  ]
-  | inr (name, given, h1) ↦
-      let (text, given0, given1) = bind_ok (looked list i (text_of d)) _ name given in
-      let reads = looked_ok list i (text_of d) text given0 in
-      let (named, same) = check_is (is_name text) kind.BadName list i text name given1 in
-      let (taken, is) = check_err (is_none (place_of before name)) kind.Repeated list i (before ++ name ∷ []) e h1 in
-      inr (text, reads, inr (named, subst (λ (n : List ℕ). IsIn n before) (sym same) (some_there before name (place_of before name) refl taken), is))
-]
+name_refuses list i before d e h = grind (arith, bind_err, looked_err, looked_ok, check_err, bind_ok, check_is, some_there)
   where
     some_there : (names : List (List ℕ)) (text : List ℕ) (o : Option ℕ) → place_of names text ≡ o → IsFalse (is_none o) → IsIn text names
     some_there names text None e fails = absurd (true≢false fails)
@@ -206,18 +173,7 @@ are_names : (before : List (List ℕ)) (ds : List Data) (names : List (List ℕ)
 are_names before [] [] are = tt
 are_names before [] (n ∷ ns) are = absurd are.texts
 are_names before (d ∷ ds) [] are = absurd are.texts
-are_names before (d ∷ ds) (n ∷ ns) are = (
-  record { text = are.texts.0; named = are.named n (inl refl); new = are.new n (inl refl) },
-  are_names (before ++ n ∷ []) ds ns (record {
-    texts = are.texts.1;
-    named = λ m i. are.named m (inr i);
-    once = are.once.1;
-    new = λ m i there. elim (from_push m n before there) [
-      | inl earlier ↦ are.new m (inr i) earlier
-      | inr same ↦ are.once.0 (subst (λ (m : List ℕ). IsIn m ns) same i)
-    ];
-  }),
-)
+are_names before (d ∷ ds) (n ∷ ns) are = grind (arith, from_push, (are_names (before ++ n ∷ []) ds ns))
 
 items_zip : (ds : List Data) (names : List (List ℕ)) → AllZip (λ item name. text_of item ≡ Ok name) ds names → length ds ≡ length names
 items_zip [] [] zip = refl
@@ -237,14 +193,8 @@ module _ {X : Type 0} (step : ℕ → List X → Data → Result (List X) PartEr
     (list : Place) (name : List ℕ) (Fits : ℕ → Type 0) (r : Data → Result Items PartError) (listing : (d : Data) → IsListing name (λ rule. Refused rule list 0) Fits d (r d)) where
   list_reads : ReadsList list name Fits Is Breaks (λ d. r d >>= each_item step 0 [])
   list_reads = record {
-    gives = λ d xs. (
-      list_gives step Is Breaks ok name (λ rule. Refused rule list 0) Fits d (r d) (listing d) xs,
-      list_given step Is Breaks ok name (λ rule. Refused rule list 0) Fits d (r d) (listing d) xs,
-    );
-    refuses = λ d e. (
-      list_refuses step Is Breaks ok name (λ rule. Refused rule list 0) Fits d (r d) (listing d) e,
-      list_refused step Is Breaks ok name (λ rule. Refused rule list 0) Fits d (r d) (listing d) e,
-    );
+    gives = λ d. list_gives step Is Breaks ok name (λ rule. Refused rule list 0) Fits d (r d) (listing d);
+    refuses = λ d. list_refuses step Is Breaks ok name (λ rule. Refused rule list 0) Fits d (r d) (listing d);
   }
 
 names_read : (list : Place) (name : List ℕ) (most : ℕ) → ReadsList list name (λ n. (0 < n) × (n ≤ most)) IsNewName (BreaksName list) (names_of list name most)
@@ -260,40 +210,17 @@ names_exact list name most d names = (
       record { items = is.items; list = is.list; texts = are.texts; some = omega (arith, is.fits.0, count); few = omega (arith, is.fits.1, count); named = are.named; once = are.once },
   λ is.
       let count = items_zip is.items names is.texts in
-      ((names_read list name most).gives d names).1 (record {
-        items = is.items;
-        list = is.list;
-        fits = (omega (arith, is.some, count), omega (arith, is.few, count));
-        are = are_names [] is.items names (record { texts = is.texts; named = is.named; once = is.once; new = λ n i none. absurd none });
-      }),
+      ((names_read list name most).gives d names).1 (grind (arith, are_names)),
 )
-
--- The values of a list that is read item by item
-
-module _ {X : Type 0} (read : ℕ → Data → Result X PartError) (Is : ℕ → Data → X → Type 0) (Breaks : ℕ → Data → PartError → Type 0)
-    (ok : (i : ℕ) (d : Data) (x : X) → read i d ≡ Ok x → Is i d x) (given : (i : ℕ) (d : Data) (x : X) → Is i d x → read i d ≡ Ok x)
-    (err : (i : ℕ) (d : Data) (e : PartError) → read i d ≡ Err e → Breaks i d e) (refused : (i : ℕ) (d : Data) (e : PartError) → Breaks i d e → read i d ≡ Err e) where
-  pub pushing_steps : IsStep (pushing read) (λ before d x. Is (length before) d x) (λ i before d e. Breaks i d e)
-  unfolding pushing
-  pushing_steps = record {
-    gives = λ i before d out at h.
-        let (x, e, h1) = bind_ok (read i d) _ out h in
-        (x, same_ok (before ++ x ∷ []) out h1, subst (λ (i : ℕ). Is i d x) at (ok i d x e));
-    given = λ i before d x at is. ap (λ (r : Result X PartError). r >>= (λ x. Ok (before ++ x ∷ []))) (given i d x (subst (λ (i : ℕ). Is i d x) (sym at) is));
-    refuses = λ i before d e h. elim (bind_err (read i d) _ e h) [
-      | inl bad ↦ err i d e bad
-      | inr (x, there, h1) ↦ absurd (let f : ⊥ = cc in f)
-    ];
-    refused = λ i before d e bad. ap (λ (r : Result X PartError). r >>= (λ x. Ok (before ++ x ∷ []))) (refused i d e bad);
-  }
 
 -- Final states
 
 finals_read : (states : List (List ℕ)) → ReadsList list.Finals (codes "final") (λ n. Unit {0}) (λ before d b. IsPlace states d b) (λ i before d e. BreaksPlace states list.Finals i d e) (finals_of states)
-unfolding finals_of
+unfolding finals_of pushing
 finals_read states =
     list_reads (pushing (place_in states list.Finals)) (λ before d b. IsPlace states d b) (λ i before d e. BreaksPlace states list.Finals i d e)
-    (pushing_steps (place_in states list.Finals) (λ i d b. IsPlace states d b) (BreaksPlace states list.Finals) (place_ok states list.Finals) (ok_place states list.Finals) (place_err states list.Finals) (err_place states list.Finals))
+    (appends (λ i before d. place_in states list.Finals i d) (λ before d b. IsPlace states d b) (λ i before d e. BreaksPlace states list.Finals i d e)
+    (λ i before d b at. (place_ok states list.Finals i d b, ok_place states list.Finals i d b)) (λ i before d e. (place_err states list.Finals i d e, err_place states list.Finals i d e)))
     list.Finals (codes "final") (λ n. Unit {0}) (items_at list.Finals (codes "final")) (any_listing list.Finals (codes "final"))
 
 -- Rows of three and of four
@@ -333,22 +260,7 @@ no_four _ h = refl
 module _ (states actions : List (List ℕ)) where
   triple_ok : (i : ℕ) (d : Data) (x : Triple) → triple_item states actions i d ≡ Ok x → IsTripleItem states actions d x
   unfolding triple_item
-  triple_ok i d x h =
-      let (items, e, h1) = bind_ok (looked list.Steps i (list_of d)) _ x h in
-      let ((a, b, c), e1, h2) = bind_ok (found kind.Form list.Steps i (three_of items)) _ x h1 in
-      let (from, e2, h3) = bind_ok (place_in states list.Steps i a) _ x h2 in
-      let (action, e3, h4) = bind_ok (place_in actions list.Steps i b) _ x h3 in
-      let (to, e4, h5) = bind_ok (place_in states list.Steps i c) _ x h4 in
-      let row : list_of d ≡ Ok (items_of (a ∷ b ∷ c ∷ [])) = looked_ok list.Steps i (list_of d) items e ∙ ap Ok (three_is items a b c (found_is kind.Form list.Steps i (three_of items) (a, b, c) e1)) in
-      subst (IsTripleItem states actions d) (same_ok _ x h5) (record {
-        from = a;
-        action = b;
-        to = c;
-        row = row;
-        from_is = place_ok states list.Steps i a from e2;
-        action_is = place_ok actions list.Steps i b action e3;
-        to_is = place_ok states list.Steps i c to e4;
-      })
+  triple_ok i d x h = grind (arith, bind_ok, looked_ok, three_is, found_is, same_ok, place_ok)
 
   ok_triple : (i : ℕ) (d : Data) (x : Triple) → IsTripleItem states actions d x → triple_item states actions i d ≡ Ok x
   unfolding triple_item
@@ -359,9 +271,7 @@ module _ (states actions : List (List ℕ)) where
   triple_err i d e h = elim (bind_err (looked list.Steps i (list_of d)) _ e h) [
     | inl bad ↦ inl (row_fails i 3 d e bad)
     | inr (items, given, h1) ↦ elim (bind_err (found kind.Form list.Steps i (three_of items)) _ e h1) [
-      | inl bad ↦
-          let (none, is) = found_err kind.Form list.Steps i (three_of items) e bad in
-          inl (inr (listed items, row_there i d items given, not_three items none, is))
+      | inl bad ↦ grind (arith, found_err, listed, row_there, not_three)
       | inr ((a, b, c), given1, h2) ↦
           let row : list_of d ≡ Ok (items_of (a ∷ b ∷ c ∷ [])) = looked_ok list.Steps i (list_of d) items given ∙ ap Ok (three_is items a b c (found_is kind.Form list.Steps i (three_of items) (a, b, c) given1)) in
           inr (
@@ -406,11 +316,11 @@ unfolding at_most_steps
 steps_listing d = counted_listing list.Steps (codes "steps") 0 MAX_STEPS at_most_steps (λ n fits. fits.1) (λ n fits. (omega arith, fits)) d
 
 triples_read : (states actions : List (List ℕ)) → ReadsList list.Steps (codes "steps") (λ n. n ≤ MAX_STEPS) (λ before d x. IsTripleItem states actions d x) (BreaksTriple states actions) (triples_of states actions)
-unfolding triples_of at_most_steps
+unfolding triples_of at_most_steps pushing
 triples_read states actions =
     list_reads (pushing (triple_item states actions)) (λ before d x. IsTripleItem states actions d x) (BreaksTriple states actions)
-    (pushing_steps (triple_item states actions) (λ i d x. IsTripleItem states actions d x) (λ i d e. BreaksTriple states actions i [] d e)
-    (triple_ok states actions) (ok_triple states actions) (triple_err states actions) (err_triple states actions))
+    (appends (λ i before d. triple_item states actions i d) (λ before d x. IsTripleItem states actions d x) (BreaksTriple states actions)
+    (λ i before d x at. (triple_ok states actions i d x, ok_triple states actions i d x)) (λ i before d e. (triple_err states actions i d e, err_triple states actions i d e)))
     list.Steps (codes "steps") at_most_steps (counted_items list.Steps (codes "steps") 0 MAX_STEPS) steps_listing
 
 -- Steps of behaviours
@@ -418,44 +328,18 @@ triples_read states actions =
 module _ (env_states actions states : List (List ℕ)) where
   move_ok : (i : ℕ) (d : Data) (x : Move) → move_item env_states actions states i d ≡ Ok x → IsMoveItem env_states actions states i d x
   unfolding move_item
-  move_ok i d x h =
-      let (items, e, h1) = bind_ok (looked list.Steps i (list_of d)) _ x h in
-      let ((a, g, b, c), e1, h2) = bind_ok (found kind.Form list.Steps i (four_of items)) _ x h1 in
-      let (from, e2, h3) = bind_ok (place_in states list.Steps i a) _ x h2 in
-      let (guard, e3, h4) = bind_ok (guarded_states env_states i g) _ x h3 in
-      let (action, e4, h5) = bind_ok (place_in actions list.Steps i b) _ x h4 in
-      let (to, e5, h6) = bind_ok (place_in states list.Steps i c) _ x h5 in
-      let row : list_of d ≡ Ok (items_of (a ∷ g ∷ b ∷ c ∷ [])) = looked_ok list.Steps i (list_of d) items e ∙ ap Ok (four_is items a g b c (found_is kind.Form list.Steps i (four_of items) (a, g, b, c) e1)) in
-      subst (IsMoveItem env_states actions states i d) (same_ok _ x h6) (record {
-        from = a;
-        guard = g;
-        action = b;
-        to = c;
-        row = row;
-        from_is = place_ok states list.Steps i a from e2;
-        guard_is = e3;
-        action_is = place_ok actions list.Steps i b action e4;
-        to_is = place_ok states list.Steps i c to e5;
-      })
+  move_ok i d x h = grind (arith, bind_ok, looked_ok, four_is, found_is, same_ok, place_ok)
 
   ok_move : (i : ℕ) (d : Data) (x : Move) → IsMoveItem env_states actions states i d x → move_item env_states actions states i d ≡ Ok x
   unfolding move_item
-  ok_move i d x is = rw (
-    is.row,
-    ok_place states list.Steps i is.from x.from is.from_is,
-    is.guard_is,
-    ok_place actions list.Steps i is.action x.action is.action_is,
-    ok_place states list.Steps i is.to x.to is.to_is,
-  ) refl
+  ok_move i d x is = grind (arith, (ok_place states list.Steps i is.from x.from is.from_is), (ok_place actions list.Steps i is.action x.action is.action_is), (ok_place states list.Steps i is.to x.to is.to_is))
 
   move_err : (i : ℕ) (d : Data) (e : PartError) → move_item env_states actions states i d ≡ Err e → BreaksMove env_states actions states i [] d e
   unfolding move_item
   move_err i d e h = elim (bind_err (looked list.Steps i (list_of d)) _ e h) [
     | inl bad ↦ inl (row_fails i 4 d e bad)
     | inr (items, given, h1) ↦ elim (bind_err (found kind.Form list.Steps i (four_of items)) _ e h1) [
-      | inl bad ↦
-          let (none, is) = found_err kind.Form list.Steps i (four_of items) e bad in
-          inl (inr (listed items, row_there i d items given, not_four items none, is))
+      | inl bad ↦ grind (arith, found_err, listed, row_there, not_four)
       | inr ((a, g, b, c), given1, h2) ↦
           let row : list_of d ≡ Ok (items_of (a ∷ g ∷ b ∷ c ∷ [])) = looked_ok list.Steps i (list_of d) items given ∙ ap Ok (four_is items a g b c (found_is kind.Form list.Steps i (four_of items) (a, g, b, c) given1)) in
           inr (
@@ -504,11 +388,15 @@ module _ (env_states actions states : List (List ℕ)) where
 
 moves_read : (env_states actions states : List (List ℕ)) →
     ReadsList list.Steps (codes "steps") (λ n. n ≤ MAX_STEPS) (λ before d x. IsMoveItem env_states actions states (length before) d x) (BreaksMove env_states actions states) (moves_of env_states actions states)
-unfolding moves_of at_most_steps
+unfolding moves_of at_most_steps pushing
 moves_read env_states actions states =
     list_reads (pushing (move_item env_states actions states)) (λ before d x. IsMoveItem env_states actions states (length before) d x) (BreaksMove env_states actions states)
-    (pushing_steps (move_item env_states actions states) (IsMoveItem env_states actions states) (λ i d e. BreaksMove env_states actions states i [] d e)
-    (move_ok env_states actions states) (ok_move env_states actions states) (move_err env_states actions states) (err_move env_states actions states))
+    (appends (λ i before d. move_item env_states actions states i d) (λ before d x. IsMoveItem env_states actions states (length before) d x) (BreaksMove env_states actions states)
+    (λ i before d x at. (
+      λ h. subst (λ (i : ℕ). IsMoveItem env_states actions states i d x) at (move_ok env_states actions states i d x h),
+      λ is. ok_move env_states actions states i d x (subst (λ (i : ℕ). IsMoveItem env_states actions states i d x) (sym at) is),
+    ))
+    (λ i before d e. (move_err env_states actions states i d e, err_move env_states actions states i d e)))
     list.Steps (codes "steps") at_most_steps (counted_items list.Steps (codes "steps") 0 MAX_STEPS) steps_listing
 
 pub lists_read : ListsAreRead

@@ -1,10 +1,10 @@
 -- The written value of a part means that part.
-use Rattle.roman_document_laws.proofs.Common.{◌≡◌, ℕ, zero, suc, ◌<◌, ◌≤◌, ◌&&◌, Bool, true, false, List, [], ◌∷◌, ◌++◌, map, length, Option, None, Some, codes, Result, Ok, IsTrue, slice_get, inl, inr, refl, sym, ap, ◌∙◌, subst, arith, AllZip, and_parts, both_ways, cond-true, cond-false, length-map, same_Some, Data, items_of, IsIn, HasNoRepeats, below, Env, Beh, Triple, Move, has_move, is_final, normal_env, normal_beh, MAX_STEPS, by_test, get_in, in_contains, filter_in, number_listed, listed_number, triple_listed, step_listed, listed_step, ◌>>=◌, each_item, pushing, text_of, is_name, IsListAt, AreItems, guarded_states, names_of, finals_of, NamedEnv, NamedBeh, Rises, IsLess, IsNormalEnv, IsNormalBeh, IsPlace, BreaksPlace, IsTripleItem, IsMoveItem, triples_of, moves_of, list_value, place_value, behaviour_value, IsSayableEnv, IsSayableBeh, IsSayableTarget, PartError, has_triple-normal, has_move-normal, is_final-normal, ◌==◌, not, cond, is_some, find, eqb-true, not-true, eq-eqb, string, as_object, is_one_of, states_below, in_states_below, states_below_are, states_below-suc, states_below-zero, name_at, IsEnv, IsBeh, IsDeterministic, has, MAX_STATES, same_test, none_from, find_not_found, contains_in, member_of, choice_between, choice_at, choice_with, choice_of, refuse_choice, single_of, state_in, among_of, guard_of, start_of, NamedTarget, IsOver, environment_of, name_of, behaviour_of, target_of, names_value, places_value, triple_value, move_value, environment_value, target_value, CanList, PartsAreSaid, first_below-none, from_normal_triple, from_normal_move, env_read}
-use Rattle.roman_document_laws.proofs.ListLemmas.{all_given}
+use Rattle.roman_document_laws.proofs.Common.{◌≡◌, ℕ, zero, suc, ◌<◌, ◌≤◌, ◌&&◌, Bool, true, false, List, [], ◌∷◌, ◌++◌, map, length, Option, None, Some, codes, Result, Ok, IsTrue, slice_get, inl, inr, refl, sym, ap, ◌∙◌, subst, arith, ◌==◌, not, cond, is_some, find, eqb-true, AllZip, and_parts, both_ways, cond-true, cond-false, not-true, eq-eqb, length-map, same_Some, Data, string, items_of, IsIn, HasNoRepeats, below, Env, Beh, Triple, Move, has_move, is_final, IsEnv, IsBeh, IsDeterministic, has, normal_env, normal_beh, MAX_STEPS, MAX_STATES, by_test, get_in, in_contains, filter_in, number_listed, listed_number, same_test, none_from, find_not_found, contains_in, triple_listed, step_listed, listed_step, ◌>>=◌, each_item, pushing, text_of, member_of, is_name, IsListAt, AreItems, guarded_states, state_in, among_of, guard_of, names_of, finals_of, start_of, NamedEnv, NamedBeh, NamedTarget, IsOver, Rises, IsLess, IsNormalEnv, IsNormalBeh, IsPlace, BreaksPlace, IsTripleItem, IsMoveItem, triples_of, moves_of, list_value, place_value, behaviour_value, IsSayableEnv, IsSayableBeh, IsSayableTarget, names_value, places_value, triple_value, move_value, environment_value, target_value, CanList, PartsAreSaid, PartError, has_triple-normal, has_move-normal, is_final-normal, first_below-none, from_normal_triple, from_normal_move, env_read, as_object, is_one_of, states_below, in_states_below, states_below_are, states_below-suc, states_below-zero, name_at, choice_between, choice_at, choice_with, choice_of, refuse_choice, single_of, environment_of, name_of, behaviour_of, target_of}
+use Rattle.roman_document_laws.proofs.ListLemmas.{all_given, appends}
 use Rattle.roman_parts.specs.declared.error.List.{List as Place}
 use Rattle.roman_parts.specs.declared.error.List.TheVariants as list
 use Rattle.roman_document_laws.proofs.NormalForms.{forms_normal, forms_unique}
-use Rattle.roman_document_laws.proofs.PartReadLemmas.{ok_place, place_ok, place_err, err_place, pushing_steps, lists_read}
+use Rattle.roman_document_laws.proofs.PartReadLemmas.{ok_place, place_ok, place_err, err_place, lists_read}
 use Rattle.roman_document_laws.proofs.Rising.{rises_same, rises_append}
 
 -- Names and their places
@@ -38,18 +38,7 @@ are_triples : (states actions : List (List ℕ)) (before xs : List Triple) → H
     ((x : Triple) → IsIn x xs → (x.from < length states) × (x.action < length actions) × (x.to < length states)) → AreItems (λ before d x. IsTripleItem states actions d x) before (map (triple_value states actions) xs) xs
 are_triples states actions before [] once once' within = tt
 are_triples states actions before (x ∷ xs) once once' within =
-    let (from, action, to) = within x (inl refl) in (
-      record {
-        from = place_value states x.from;
-        action = place_value actions x.action;
-        to = place_value states x.to;
-        row = refl;
-        from_is = is_place states x.from once from;
-        action_is = is_place actions x.action once' action;
-        to_is = is_place states x.to once to;
-      },
-      are_triples states actions (before ++ x ∷ []) xs once once' (λ y i. within y (inr i)),
-    )
+    let (from, action, to) = within x (inl refl) in grind (arith, (is_place states x.from once from), (is_place actions x.action once' action), (is_place states x.to once to), (are_triples states actions (before ++ x ∷ []) xs once once'))
 
 -- Guards
 
@@ -67,10 +56,7 @@ rises_states test (suc n) = subst (Rises IsLess) (sym (states_below-suc test n))
     is_last false y none = absurd none
 
     earlier : (x y : ℕ) → IsIn x (states_below test n) → IsIn y (cond (test n) (n ∷ []) []) → IsLess x y
-    earlier x y i j =
-        let less : x < n = (states_below_are test n x (in_contains (states_below test n) x i)).0 in
-        let same = is_last (test n) y j in
-        omega arith
+    earlier x y i j = grind (arith, (states_below_are test n x (in_contains (states_below test n) x i)), (is_last (test n) y j))
 
 -- a rising list of states lists exactly its own states
 among_is : (n : ℕ) (G : List ℕ) → Rises IsLess G → ((e : ℕ) → IsIn e G → e < n) → states_below (is_one_of G) n ≡ G
@@ -79,10 +65,10 @@ among_is n G rises within =
     (λ e i. number_listed _ _ (states_below_are _ _ _ (in_contains _ _ i)).1) (λ e i. contains_in _ _ (in_states_below _ _ _ (within e i) (listed_number _ _ i)))
 
 guard_said : (states : List (List ℕ)) (i : ℕ) (G : List ℕ) → HasNoRepeats states → Rises IsLess G → ((e : ℕ) → IsIn e G → e < length states) → guarded_states states i (places_value states G) ≡ Ok G
-unfolding guarded_states guard_of among_of state_in
+unfolding guarded_states guard_of among_of state_in pushing
 guard_said states i G once rises within =
-    let steps = pushing_steps (state_in states i) (λ k d x. IsPlace states d x) (λ k d e. BreaksPlace states list.Steps i d e)
-    (λ k d x h. place_ok states list.Steps i d x h) (λ k d x h. ok_place states list.Steps i d x h) (λ k d e h. place_err states list.Steps i d e h) (λ k d e h. err_place states list.Steps i d e h) in
+    let steps = appends (λ k before d. state_in states i k d) (λ before d x. IsPlace states d x) (λ k before d e. BreaksPlace states list.Steps i d e)
+    (λ k before d x at. (place_ok states list.Steps i d x, ok_place states list.Steps i d x)) (λ k before d e. (place_err states list.Steps i d e, err_place states list.Steps i d e)) in
     let places : each_item (pushing (state_in states i)) 0 [] (items_of (map (place_value states) G)) ≡ Ok G =
     (all_given (pushing (state_in states i)) (λ before d x. IsPlace states d x) (λ k before d e. BreaksPlace states list.Steps i d e) steps (map (place_value states) G) G).1 (are_places states [] G once within) in
     ap (λ (r : Result (List ℕ) PartError). (r >>= (λ places. Ok (is_one_of places))) >>= (λ set. Ok (states_below set (length states)))) places ∙ ap Ok (among_is (length states) G rises within)
@@ -98,17 +84,7 @@ are_moves : (env_states actions states : List (List ℕ)) (before xs : List Move
 are_moves env_states actions states before [] once once' once'' within = tt
 are_moves env_states actions states before (x ∷ xs) once once' once'' within =
     let (from, action, to) = within.ends x (inl refl) in (
-      record {
-        from = place_value states x.from;
-        guard = places_value env_states x.guard;
-        action = place_value actions x.action;
-        to = place_value states x.to;
-        row = refl;
-        from_is = is_place states x.from once'' from;
-        guard_is = guard_said env_states (length before) x.guard once (within.rise x (inl refl)) (within.guards x (inl refl));
-        action_is = is_place actions x.action once' action;
-        to_is = is_place states x.to once'' to;
-      },
+      grind (arith, (is_place states x.from once'' from), (is_place actions x.action once' action), (is_place states x.to once'' to), (guard_said env_states (length before) x.guard once (within.rise x (inl refl)) (within.guards x (inl refl)))),
       are_moves env_states actions states (before ++ x ∷ []) xs once once' once'' (record { ends = λ y i. within.ends y (inr i); guards = λ y i. within.guards y (inr i); rise = λ y i. within.rise y (inr i) }),
     )
 
@@ -175,15 +151,7 @@ no_choice_in b single =
 -- Parts
 
 names_said : (place : Place) (name : List ℕ) (most : ℕ) (d : Data) (names : List (List ℕ)) → IsListAt d name (map string names) → CanList names most → names_of place name most d ≡ Ok names
-names_said place name most d names at can = (lists_read.names place name most d names).1 (record {
-  items = map string names;
-  list = at;
-  texts = texts_are names;
-  some = can.some;
-  few = can.few;
-  named = can.named;
-  once = can.once;
-})
+names_said place name most d names at can = (lists_read.names place name most d names).1 (grind (arith, texts_are))
 
 start_said : (d : Data) (states : List (List ℕ)) (k : ℕ) → member_of d (codes "start") ≡ Ok (place_value states k) → HasNoRepeats states → k < length states → start_of states d ≡ Ok k
 unfolding start_of
@@ -220,12 +188,7 @@ moves_within env states b env_is count over form =
 
 moves_said : (env : NamedEnv) (states : List (List ℕ)) (b : Beh) (d : Data) → IsSayableEnv env → HasNoRepeats states → length states ≡ b.states → IsOver env.env.states env.env.actions b → IsNormalBeh b → length b.steps ≤ MAX_STEPS →
     IsListAt d (codes "steps") (map (move_value env.states env.actions states) b.steps) → moves_of env.states env.actions states d ≡ Ok b.steps
-moves_said env states b d env_is once count over form few at = ((lists_read.moves env.states env.actions states).gives d b.steps).1 (record {
-  items = map (move_value env.states env.actions states) b.steps;
-  list = at;
-  fits = omega (arith, few, length-map b.steps (move_value env.states env.actions states));
-  are = are_moves env.states env.actions states [] b.steps env_is.states.once env_is.actions.once once (moves_within env states b env_is count over form);
-})
+moves_said env states b d env_is once count over form few at = ((lists_read.moves env.states env.actions states).gives d b.steps).1 (grind (arith, length-map, are_moves, moves_within))
 
 finals_said : (env : Env) (states : List (List ℕ)) (b : Beh) (d : Data) → HasNoRepeats states → length states ≡ b.states → IsBeh env b → IsListAt d (codes "final") (map (place_value states) b.finals) → finals_of states d ≡ Ok b.finals
 finals_said env states b d once count is at = ((lists_read.finals states).gives d b.finals).1 (record {
@@ -268,8 +231,7 @@ beh_said env b env_is is =
     (finals_said _ _ _ _ is.states.once is.state_count known (record { value = places_value b.states b.beh.finals; there = refl; list = refl }))
     (moves_said _ _ _ _ env_is is.states.once is.state_count is.known is.form is.few
     (record { value = list_value (map (move_value env.states env.actions b.states) b.beh.steps); there = refl; list = refl }))
-    ∙ ap Ok (same_named_beh _ _ _ _ _ _ _ _ (sym is.env_states) (sym is.actions)
-    (ap (normal_beh env.env.states env.env.actions) (same_beh _ _ is.state_count) ∙ normal_beh_is _ _ _ is.known is.form))
+    ∙ ap Ok (grind (arith, same_named_beh, same_beh, normal_beh_is))
 
 target_read : (env : NamedEnv) (d : Data) (states : List (List ℕ)) (start : ℕ) (finals : List ℕ) (steps : List Move) → IsTrue (is_some (as_object d)) → names_of list.States (codes "states") MAX_STATES d ≡ Ok states →
     start_of states d ≡ Ok start → finals_of states d ≡ Ok finals → moves_of env.states env.actions states d ≡ Ok steps → single_of env.states steps ≡ Ok steps →
@@ -295,14 +257,7 @@ target_said env t env_is is =
     let d = target_value env t in
     let known : IsBeh env.env t.beh = is.known env.env refl refl in
     let start : t.beh.start < length t.states = omega (arith, known.start, is.state_count) in
-    target_read env d t.states t.beh.start t.beh.finals t.beh.steps refl
-    (names_said list.States _ MAX_STATES d t.states (record { value = names_value t.states; there = refl; list = refl }) is.states)
-    (start_said d t.states t.beh.start refl is.states.once start)
-    (finals_said env.env t.states t.beh d is.states.once is.state_count known (record { value = places_value t.states t.beh.finals; there = refl; list = refl }))
-    (moves_said env t.states t.beh d env_is is.states.once is.state_count is.known is.form is.few
-    (record { value = list_value (map (move_value env.states env.actions t.states) t.beh.steps); there = refl; list = refl })) (single_said env.states t.beh is.single)
-    ∙ ap Ok (same_named_target t.states env.env.states t.env_states env.env.actions t.actions _ t.beh (sym is.env_states) (sym is.actions)
-    (ap (normal_beh env.env.states env.env.actions) (same_beh t.states t.beh is.state_count) ∙ normal_beh_is env.env.states env.env.actions t.beh is.known is.form))
+    grind (arith, (target_read env d t.states t.beh.start t.beh.finals t.beh.steps refl (names_said list.States _ MAX_STATES d t.states (record { value = names_value t.states; there = refl; list = refl }) is.states) (start_said d t.states t.beh.start refl is.states.once start) (finals_said env.env t.states t.beh d is.states.once is.state_count known (record { value = places_value t.states t.beh.finals; there = refl; list = refl })) (moves_said env t.states t.beh d env_is is.states.once is.state_count is.known is.form is.few (record { value = list_value (map (move_value env.states env.actions t.states) t.beh.steps); there = refl; list = refl })) (single_said env.states t.beh is.single)), same_named_target, (same_beh t.states t.beh is.state_count), (normal_beh_is env.env.states env.env.actions t.beh is.known is.form))
 
 pub parts_said : PartsAreSaid
 parts_said = record { environment = env_said; behaviour = beh_said; target = target_said }

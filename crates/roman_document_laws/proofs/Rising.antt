@@ -1,5 +1,5 @@
 -- Rising lists.
-use Rattle.roman_document_laws.proofs.Common.{◌≡◌, ℕ, zero, suc, ◌<◌, Bool, inl, inr, List, [], ◌∷◌, ◌++◌, map, refl, sym, ◌∙◌, subst, arith, filter, flat_map, cond-true, cond-false, IsIn, below, by_test, from_flat_map, from_map, filter_in, Rises, IsLess, ap₂, from_append, from_below}
+use Rattle.roman_document_laws.proofs.Common.{◌≡◌, ℕ, zero, suc, ◌<◌, Bool, inl, inr, List, [], ◌∷◌, ◌++◌, map, refl, sym, ◌∙◌, subst, arith, ap₂, filter, flat_map, cond-true, cond-false, IsIn, below, by_test, from_flat_map, from_map, filter_in, from_append, from_below, Rises, IsLess}
 
 module _ {X : Type 0} (Before : X → X → Type 0) where
   pub rises_append : (xs ys : List X) → Rises Before xs → Rises Before ys → ((x y : X) → IsIn x xs → IsIn y ys → Before x y) → Rises Before (xs ++ ys)
@@ -11,9 +11,7 @@ module _ {X : Type 0} (Before : X → X → Type 0) where
 
   pub rises_filter : (p : X → Bool) (xs : List X) → Rises Before xs → Rises Before (filter p xs)
   rises_filter p [] h = tt
-  rises_filter p (x ∷ xs) h = by_test (p x)
-      (λ yes. subst (Rises Before) (sym (cond-true (p x) (x ∷ filter p xs) (filter p xs) yes)) ((λ y i. h.0 y (filter_in p y xs i).0), rises_filter p xs h.1))
-      (λ no. subst (Rises Before) (sym (cond-false (p x) (x ∷ filter p xs) (filter p xs) no)) (rises_filter p xs h.1))
+  rises_filter p (x ∷ xs) h = grind (arith, by_test, cond-true, filter_in, cond-false, (rises_filter p xs h.1))
 
   pub rises_flat : (f : ℕ → List X) (ks : List ℕ) → Rises IsLess ks → ((k : ℕ) → IsIn k ks → Rises Before (f k)) →
       ((j k : ℕ) (x y : X) → j < k → IsIn x (f j) → IsIn y (f k) → Before x y) → Rises Before (flat_map f ks)
@@ -43,9 +41,7 @@ module _ {X : Type 0} (Before : X → X → Type 0) where
         | inl e ↦ e
         | inr i ↦ elim (back y (inl refl)) [ inl e ↦ sym e | inr j ↦ absurd (never x y (hx.0 y j) (hy.0 x i)) ]
       ] in
-      ap₂ (λ (x : X) (xs : List X). x ∷ xs) same (rises_same xs ys never hx.1 hy.1
-      (λ z i. elim (there z (inr i)) [ inl e ↦ absurd (itself x z never (hx.0 z i) (e ∙ sym same)) | inr j ↦ j ])
-      (λ z i. elim (back z (inr i)) [ inl e ↦ absurd (itself y z never (hy.0 z i) (e ∙ same)) | inr j ↦ j ]))
+      ap₂ (λ (x : X) (xs : List X). x ∷ xs) same (grind (arith, itself, (rises_same xs ys never hx.1 hy.1)))
 
 pub rises_below : (n : ℕ) → Rises IsLess (below n)
 rises_below zero = tt
