@@ -20,7 +20,7 @@ pub use Rattle.roman_io.specs.Source.{EndsAt, Gave, Had}
 pub use Rattle.roman_io.specs.declared.failed.Failed.{Failed}
 pub use Rattle.roman_joint.proofs.CallerLemmas.{beh_read, frozen_known, frozen_system, gone_known, gone_system, joined_known, joined_system, seat_read}
 pub use Rattle.roman_joint.specs.NamedSys.{IsNamedSys, NamedSys, beh_at, cells, seat_of, system_of}
-pub use Rattle.roman_joint.specs.Names.{beh_name, beh_states, names_in, seat_name, states_of_behaviour}
+pub use Rattle.roman_joint.specs.Names.{beh_name, names_in, seat_name, states_of_behaviour}
 pub use Rattle.roman_joint.specs.declared.seat.Seat.{Seat}
 pub use Rattle.roman_library.proofs.CallerLemmas.{behaviour_there, libraries_known, targets_combined}
 pub use Rattle.roman_library.specs.Library.{PlainLibrary}
@@ -32,13 +32,13 @@ pub use Rattle.roman_model.specs.Combined.{IsSeveral, combined, combined_beh, co
 pub use Rattle.roman_model.specs.CompleteLists.{IsComplete}
 pub use Rattle.roman_model.specs.Composition.{Great}
 pub use Rattle.roman_model.specs.Counting.{Counts}
-pub use Rattle.roman_model.specs.Explanation.{Names, answer, answer_lines, answers, entries_before, entry_lines, explain_text, explanation, lost_line, name_at, ready_seats, rests_on, seat_names}
+pub use Rattle.roman_model.specs.Explanation.{Names, answer, answers, entries_before, entry_lines, explain_text, explanation, lost_line, name_at, ready_seats, rests_on, seat_names}
 pub use Rattle.roman_model.specs.Lines.{IsLine, ended_lines, lines, text_of_lines}
 pub use Rattle.roman_model.specs.Lists.{HasNoRepeats, IsIn, IsSublist, below, is_empty, product_of}
 pub use Rattle.roman_model.specs.Numbers.{count, sizes_of}
 pub use Rattle.roman_model.specs.Offers.{is_related, offers, related_count}
 pub use Rattle.roman_model.specs.Several.{GreatAll}
-pub use Rattle.roman_model.specs.System.{Beh, Env, IsBeh, IsPair, IsSys, Pair, SStep, Sys, TStep, all_final, has, is_final}
+pub use Rattle.roman_model.specs.System.{Beh, Env, IsBeh, IsPair, IsSys, Pair, Sys, has, is_final}
 pub use Rattle.roman_model.specs.SystemArena.{arena, is_allowed, is_ready, outcomes, same_numbers}
 pub use Rattle.roman_model.specs.declared.limits.TheConstants.{MAX_SERVICES, MAX_SESSION_BYTES, MAX_STATES}
 pub use Rattle.roman_model.specs.declared.reason.Reason.{Reason}
@@ -59,7 +59,7 @@ unfoldable pub use Rattle.roman_session.specs.Reports.{lines_text, report_text}
 pub use Rattle.roman_session.specs.Rulings.{check_idle, delegation, demand, join_of, named, offered_action, seat_at, service_named, state_named, with_room}
 unfoldable pub use Rattle.roman_session.specs.Rulings.{aborted, asked, died, env_jumped, frozen, handed, joining, jumped, seen, thawed, unexplained}
 pub use Rattle.roman_session.specs.Situations.{IsPhase, IsSituation, Situation, is_idle, present_system}
-pub use Rattle.roman_session.specs.Steps.{Aborts, Asks, CanBe, Changes, Changing, Dies, Does, EnvJumps, Explains, Freezes, Hands, Joins, Jumps, Says, Sees, StepBy, StepOn, Thaws, dying, freezing, growing, is_quit, pair_after, parts_after, thawing}
+pub use Rattle.roman_session.specs.Steps.{Aborts, Asks, CanBe, Changes, Changing, Dies, Does, EnvJumps, Explains, Freezes, Hands, Joins, Jumps, Says, Sees, StepBy, StepOn, Thaws, dying, freezing, growing, pair_after, parts_after, thawing}
 unfoldable pub use Rattle.roman_session.specs.Steps.{Step, offer_text}
 pub use Rattle.roman_session.specs.declared.events.Handing.{Handing}
 pub use Rattle.roman_session.specs.declared.events.Joining.{Joining}

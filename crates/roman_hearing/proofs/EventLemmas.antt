@@ -1,5 +1,5 @@
 -- Each line is read as its shape says.
-use Rattle.roman_hearing.proofs.Common.{◌≡◌, ℕ, ◌≤◌, Bool, true, false, List, [], ◌∷◌, length, cond, codes, Result, Ok, Err, IsTrue, IsFalse, inl, inr, nat_lt, refl, sym, ◌∙◌, subst, ltb-true, ltb-false, arith, bytes_eq, false≢true, both_ways, cond-true, cond-false, by_test, LineShape, nothing, ask, hand, saw, abort, freeze, thaw, die, join, jump, jump_env, report, explain, quit, shape_of, LineError, strip_carriage_return, words_of, is_comment, by_words, shape_of_words, spelling, Form, Reads, LinesAreRead}
+use Rattle.roman_hearing.proofs.Common.{◌≡◌, ℕ, ◌≤◌, Bool, true, false, List, [], ◌∷◌, length, cond, codes, Result, Ok, Err, IsTrue, IsFalse, inl, inr, nat_lt, refl, sym, ◌∙◌, subst, ltb-true, ltb-false, arith, bytes_eq, false≢true, both_ways, cond-true, cond-false, by_test, LineShape, nothing, ask, hand, saw, abort, freeze, thaw, die, join, jump, jump_env, report, explain, quit, shape_of, words_of, is_comment, by_words, shape_of_words, spelling, LineError, strip_carriage_return, Form, Reads, LinesAreRead}
 use Rattle.roman_text.specs.declared.errors.LineError.TheVariants.{TooLong}
 
 -- words that aren't a comment are read as some event or an error
@@ -15,8 +15,7 @@ other_first false event other first rest = rest
 words_give : (word : List ℕ) (more : List (List ℕ)) → IsFalse (gives_nothing (by_words word more))
 words_give word [] = grind (arith, other_first)
 words_give word (a ∷ []) = grind (arith, other_first)
-words_give word (a ∷ b ∷ []) =
-    other_first (bytes_eq word (codes "saw")) (saw a b) _ refl (other_first (bytes_eq word (codes "jump")) (jump a b) (Err Form) refl refl)
+words_give word (a ∷ b ∷ []) = grind (arith, other_first)
 words_give word (a ∷ b ∷ c ∷ []) = other_first (bytes_eq word (codes "join")) (join a b c false) (Err Form) refl refl
 words_give word (a ∷ b ∷ c ∷ d ∷ []) = other_first _ (join a b c true) (Err Form) refl refl
 words_give word (a ∷ b ∷ c ∷ d ∷ e ∷ more) = refl

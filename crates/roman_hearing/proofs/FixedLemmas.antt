@@ -1,5 +1,5 @@
 -- What a report says of a state fixes its bytes.
-use Rattle.roman_hearing.proofs.Common.{◌≡◌, ◌≤◌, ℕ, List, [], ◌∷◌, ◌++◌, map, length, ◌↔◌, inl, inr, refl, sym, ◌∙◌, ap, ap₂, subst, arith, IsIn, below, Sys, Pair, system_of, seat_name, name_at, State, Counts, flat_map, HasNoRepeats, IsSublist, HasNoRepeats-below, flat_map_same_in, no_longer, same_test, sublist_in, ReportLine, ReportsAreFixed, AreServing}
+use Rattle.roman_hearing.proofs.Common.{◌≡◌, ◌≤◌, ℕ, List, [], ◌∷◌, ◌++◌, map, length, ◌↔◌, inl, inr, refl, ◌∙◌, subst, arith, IsIn, below, HasNoRepeats, IsSublist, Sys, Pair, seat_name, name_at, State, Counts, flat_map, HasNoRepeats-below, flat_map_same_in, no_longer, same_test, sublist_in, ReportLine, ReportsAreFixed, AreServing}
 use Rattle.roman_text.specs.declared.report.ReportLine.TheVariants as line
 
 -- two sublists of a list without repeats are equal if they have the same elements
@@ -11,12 +11,7 @@ sublists_same [] (x ∷ xs) (y ∷ ys) once p q same = absurd p
 sublists_same (z ∷ zs) (x ∷ xs) (y ∷ ys) (new, once) (inr p) (inr q) same = sublists_same zs (x ∷ xs) (y ∷ ys) once p q same
 sublists_same (z ∷ zs) (x ∷ xs) (y ∷ ys) (new, once) (inl (e, p)) (inr q) same = absurd (new (subst (λ w. IsIn w zs) e (sublist_in x (y ∷ ys) zs q ((same x).0 (inl refl)))))
 sublists_same (z ∷ zs) (x ∷ xs) (y ∷ ys) (new, once) (inr p) (inl (f, q)) same = absurd (new (subst (λ w. IsIn w zs) f (sublist_in y (x ∷ xs) zs p ((same y).1 (inl refl)))))
-sublists_same {X} (z ∷ zs) (x ∷ xs) (y ∷ ys) (new, once) (inl (e, p)) (inl (f, q)) same =
-    ap₂ (λ w ws. w ∷ ws) (e ∙ sym f) (sublists_same zs xs ys once p q (λ w. (λ i. later w xs y ys p f i ((same w).0 (inr i)), λ i. later w ys x xs q e i ((same w).1 (inr i)))))
-  where
-    later : (w : X) (ws : List X) (v : X) (vs : List X) → IsSublist ws zs → v ≡ z → IsIn w ws → IsIn w (v ∷ vs) → IsIn w vs
-    later w ws v vs within is i (inl same) = absurd (new (subst (λ u. IsIn u zs) (same ∙ is) (sublist_in w ws zs within i)))
-    later w ws v vs within is i (inr j) = j
+sublists_same {X} (z ∷ zs) (x ∷ xs) (y ∷ ys) (new, once) (inl (e, p)) (inl (f, q)) same = grind (arith, sublist_in, (sublists_same zs xs ys once p q))
 
 rising_same : (n : ℕ) (xs ys : List ℕ) → IsSublist xs (below n) → IsSublist ys (below n) → ((k : ℕ) → IsIn k xs ↔ IsIn k ys) → xs ≡ ys
 rising_same n xs ys p q same = sublists_same (below n) xs ys (HasNoRepeats-below n) p q same
@@ -28,8 +23,7 @@ count_fixed s IsAsSaid n m one other =
     omega arith
 
 services_fixed : (s : State) (a : ℕ) (one other : List ℕ) → AreServing s a one → AreServing s a other → one ≡ other
-services_fixed s a one other p q =
-    rising_same (length (system_of s.parts).seats) one other p.order q.order (λ k. (λ i. (q.exact k).1 ((p.exact k).0 i), λ i. (p.exact k).1 ((q.exact k).0 i)))
+services_fixed s a one other p q = grind (arith, rising_same)
 
 -- the lines that offer these services for the action
 abbrev offer_lines : State → ℕ → List ℕ → List ReportLine
@@ -37,8 +31,7 @@ offer_lines s a ks = line.Offer (name_at s.parts.environment.actions a) ∷ (map
 
 offers_fixed : (s : State) (one other : List ℕ) (f g : ℕ → List ℕ) → one ≡ other → ((a : ℕ) → IsIn a one → f a ≡ g a) →
     flat_map (λ a. offer_lines s a (f a)) one ≡ flat_map (λ a. offer_lines s a (g a)) other
-offers_fixed s one other f g actions services =
-    flat_map_same_in (λ a. offer_lines s a (f a)) (λ a. offer_lines s a (g a)) one (λ a i. ap (offer_lines s a) (services a i)) ∙ ap (flat_map (λ a. offer_lines s a (g a))) actions
+offers_fixed s one other f g actions services = grind (arith, flat_map_same_in)
 
 -- Two texts that report the same state are equal.
 pub reports_fixed : ReportsAreFixed

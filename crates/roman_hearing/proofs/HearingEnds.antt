@@ -1,5 +1,5 @@
 -- How a session that is read from a source ends.
-use Rattle.roman_hearing.proofs.Common.{◌≡◌, ℕ, ◌+◌, ◌<◌, ◌≤◌, false, List, [], ◌∷◌, ◌++◌, length, take, drop, nat_le, Option, Result, Ok, Err, IsTrue, inl, inr, refl, sym, ap, ◌∙◌, subst, arith, append_assoc, append-nil, length-append, take-append-drop, cond-true, cond-false, or_from, or_left, or_right, Gave, Gave-then, lines, ended_lines, text_of_lines, MAX_SESSION_BYTES, by_test, unfinished, kept, lines_none, kept-nil, Situation, Told, AreBehaviours, has_quit, is_heard_out, heard_lines, cursor, Tells, TellsPrefix, reader_state, IsHearing, StopsAtQuit, FallsShort, FailsIn, HearsPiece, ◌-◌, ltb, OnOk, IsErrOf, length-take, take_at, le-leb, take-append-add, lt-leb, EndsAt, Had, WrotePrefix-append, had_more, had_all, lines_are, lines_only, prefix_of, GaveQuit, StreamState, stream_state, IsHeardOut, IsCutOff, StopsShort, TellsPrefixOfAll, HearsRest, HearError, ReadFault, WriteFault, TooLong}
+use Rattle.roman_hearing.proofs.Common.{◌≡◌, ℕ, ◌+◌, ◌<◌, ◌≤◌, false, List, [], ◌∷◌, ◌++◌, length, take, drop, nat_le, Option, Result, Ok, Err, IsTrue, inl, inr, refl, sym, ap, ◌∙◌, subst, arith, append_assoc, append-nil, length-append, take-append-drop, ◌-◌, ltb, OnOk, IsErrOf, length-take, take_at, le-leb, cond-true, cond-false, or_from, or_left, or_right, lt-leb, Gave, EndsAt, Had, Gave-then, WrotePrefix-append, had_more, had_all, lines, ended_lines, text_of_lines, MAX_SESSION_BYTES, by_test, unfinished, kept, lines_none, kept-nil, lines_are, lines_only, Situation, Told, AreBehaviours, has_quit, is_heard_out, heard_lines, cursor, Tells, TellsPrefix, prefix_of, GaveQuit, StreamState, stream_state, IsHeardOut, IsCutOff, StopsShort, TellsPrefixOfAll, reader_state, IsHearing, StopsAtQuit, FallsShort, FailsIn, HearsPiece, HearsRest, take-append-add, HearError, ReadFault, WriteFault, TooLong}
 use Rattle.roman_hearing.proofs.HearingLines.{ended_more, lines_more, quit_left, told_stops}
 use Rattle.roman_hearing.proofs.HearingSteps.{told_more}
 use Rattle.roman_hearing.proofs.HearingLemmas.{whole_told}
@@ -8,9 +8,7 @@ use Rattle.roman_hearing.proofs.HearingLemmas.{whole_told}
 
 -- the first bytes of a session that begins with bytes within the limit
 prefix-append : (limit : ℕ) (heard rest : List ℕ) → length heard ≤ limit → take limit (heard ++ rest) ≡ heard ++ take (limit - length heard) rest
-prefix-append limit heard rest few =
-    let whole : limit ≡ length heard + (limit - length heard) = omega arith in
-    ap (λ (n : ℕ). take n (heard ++ rest)) whole ∙ take-append-add heard rest (limit - length heard)
+prefix-append limit heard rest few = grind (arith, (take-append-add heard rest (limit - length heard)))
 
 -- a session within the limit isn't too long
 pub short_out : (session : List ℕ) → length session ≤ MAX_SESSION_BYTES → IsTrue (is_heard_out session)
@@ -18,10 +16,7 @@ short_out session few = or_left (nat_le (length session) MAX_SESSION_BYTES) (has
 
 -- a session with a line `quit` that ends within the limit isn't too long
 quit_out : (heard rest : List ℕ) → length heard ≤ MAX_SESSION_BYTES → IsTrue (has_quit (ended_lines heard)) → IsTrue (is_heard_out (heard ++ rest))
-quit_out heard rest few quit =
-    let (more, e) = ended_more heard (take (MAX_SESSION_BYTES - length heard) rest) in
-    or_right (nat_le (length (heard ++ rest)) MAX_SESSION_BYTES) (has_quit (ended_lines (prefix_of (heard ++ rest))))
-    (ap (λ (bytes : List ℕ). has_quit (ended_lines bytes)) (prefix-append MAX_SESSION_BYTES heard rest few) ∙ ap has_quit e ∙ quit_left (ended_lines heard) more quit)
+quit_out heard rest few quit = grind (arith, (ended_more heard (take (MAX_SESSION_BYTES - length heard) rest)), or_right, (prefix-append MAX_SESSION_BYTES heard rest few), quit_left)
 
 -- the answered lines begin with the whole lines of first bytes within the limit
 heard_more : (heard rest : List ℕ) → length heard ≤ MAX_SESSION_BYTES → (more : List (List ℕ)) × (heard_lines (heard ++ rest) ≡ ended_lines heard ++ more)
@@ -30,14 +25,9 @@ heard_more heard rest few =
     let (prefix, e) = ended_more heard rest in
     let (last, f) = lines_more (heard ++ rest) in (
       prefix ++ last,
-      cond-true (is_heard_out (heard ++ rest)) (lines (heard ++ rest)) (ended_lines (prefix_of (heard ++ rest))) out
-          ∙ f ∙ ap (λ (ls : List (List ℕ)). ls ++ last) e ∙ append_assoc (ended_lines heard) prefix last,
+      grind (arith, cond-true, append_assoc),
     )) (λ long.
-    let (more, e) = ended_more heard (take (MAX_SESSION_BYTES - length heard) rest) in (
-      more,
-      cond-false (is_heard_out (heard ++ rest)) (lines (heard ++ rest)) (ended_lines (prefix_of (heard ++ rest))) long
-          ∙ ap ended_lines (prefix-append MAX_SESSION_BYTES heard rest few) ∙ e,
-    ))
+    let (more, e) = ended_more heard (take (MAX_SESSION_BYTES - length heard) rest) in grind (arith, (cond-false (is_heard_out (heard ++ rest)) (lines (heard ++ rest)) (ended_lines (prefix_of (heard ++ rest))) long), (prefix-append MAX_SESSION_BYTES heard rest few)))
 
 -- how a session ends without a fault of the source
 pub record Ends (old new : StreamState) (r : Result (Unit {0}) HearError) : Type 0 where
@@ -116,11 +106,7 @@ quit_split taken part heard past e = ap (λ (part : List ℕ). taken ++ part) e 
 
 -- the replies to lines with a `quit` among them are also the replies to these lines followed by others
 told_all : (old new : Situation) (heard rest text : List ℕ) → IsTrue (has_quit (ended_lines heard)) → Told old (ended_lines heard) text new → Told old (lines (heard ++ rest)) text new
-told_all old new heard rest text quit told =
-    let (prefix, e) = ended_more heard rest in
-    let (last, f) = lines_more (heard ++ rest) in
-    subst (λ (ls : List (List ℕ)). Told old ls text new) (sym (f ∙ ap (λ (ls : List (List ℕ)). ls ++ last) e ∙ append_assoc (ended_lines heard) prefix last))
-    (told_stops old new (ended_lines heard) (prefix ++ last) text quit told)
+told_all old new heard rest text quit told = grind (arith, (ended_more heard rest), (lines_more (heard ++ rest)), append_assoc, told_stops)
 
 module _ (old new : Situation) (start mid has : Option (List ℕ)) (taken got : List ℕ) (room : ℕ) (before now : Option (List ℕ)) (first : Gave start mid taken) (second : Gave mid has got)
     (fits : room + length taken ≡ MAX_SESSION_BYTES) where

@@ -1,5 +1,5 @@
 -- Every line has a step.
-use Rattle.roman_hearing.proofs.Common.{◌≡◌, ℕ, ◌<◌, Bool, true, List, [], ◌++◌, length, false, Result, Ok, Err, IsTrue, IsFalse, inl, inr, nat_lt, nat_le, slice_set, refl, sym, ap, subst, arith, ltb-true, leb-true, list_any, both_ways, length-map, get_or_from_slice_get, IsIn, Sys, Pair, is_allowed, outcomes, arena, Entry, IsComplete, name_at, explain_text, MAX_SERVICES, by_test, any_true, from_allowed, outcome_in, from_outcome, there_is, bind_ok, LineShape, nothing, ask, hand, saw, abort, freeze, thaw, die, join, jump, jump_env, report, explain, quit, shape_of, reply_text, LineError, Reply, IsNamedSys, seat_of, names_in, frozen_system, frozen_known, gone_system, gone_known, joined_system, joined_known, Situation, present_system, IsPhase, IsSituation, seat_at, asked, handed, seen, aborted, jumped, env_jumped, frozen, thawed, died, joining, join_of, unexplained, report_text, Asks, Hands, Sees, Aborts, Jumps, EnvJumps, Changing, Changes, Freezes, Thaws, Dies, Joins, freezing, thawing, dying, growing, Explains, Does, StepOn, StepBy, Step, parts_after, Handing, Joining, Jump, Sight, Phase, Idle, Offered, Delegated, seat_is, checked, asked_is, handed_is, jumped_is, env_jumped_is, frozen_is, thawed_is, died_is, joining_idle, cells_with, AreBehaviours, same_numbers, and_from, and_parts, eq-eqb, eqb-true, ◌&&◌, ◌==◌, TStep, SStep, replay, CanChange, rename, after, any_false, sublist_in, replay_sublist, renaming_keeps, order_goes_on, same_numbers_is, same_numbers_itself, Says, CanBe, pair_after, seen_is}
+use Rattle.roman_hearing.proofs.Common.{◌≡◌, ℕ, ◌<◌, Bool, true, List, [], ◌++◌, length, false, Result, Ok, Err, IsTrue, IsFalse, inr, nat_lt, nat_le, slice_set, refl, sym, subst, arith, ltb-true, leb-true, eq-eqb, eqb-true, ◌&&◌, ◌==◌, list_any, both_ways, and_from, and_parts, length-map, get_or_from_slice_get, IsIn, Sys, Pair, is_allowed, outcomes, arena, same_numbers, Entry, replay, IsComplete, name_at, explain_text, MAX_SERVICES, by_test, any_true, from_allowed, outcome_in, from_outcome, there_is, any_false, sublist_in, replay_sublist, renaming_keeps, order_goes_on, same_numbers_is, same_numbers_itself, bind_ok, LineShape, nothing, ask, hand, saw, abort, freeze, thaw, die, join, jump, jump_env, report, explain, quit, shape_of, reply_text, LineError, Reply, IsNamedSys, seat_of, names_in, frozen_system, frozen_known, gone_system, gone_known, joined_system, joined_known, Situation, present_system, IsPhase, IsSituation, seat_at, asked, handed, seen, aborted, jumped, env_jumped, frozen, thawed, died, joining, join_of, unexplained, report_text, Asks, Hands, Sees, Aborts, Jumps, EnvJumps, Changing, Changes, Freezes, Thaws, Dies, Joins, freezing, thawing, dying, growing, Explains, Does, StepOn, StepBy, Step, parts_after, Says, CanBe, pair_after, Handing, Joining, Jump, Sight, Phase, Idle, Offered, Delegated, seat_is, checked, asked_is, handed_is, jumped_is, env_jumped_is, frozen_is, thawed_is, died_is, joining_idle, cells_with, seen_is, AreBehaviours, CanChange, rename, after}
 use Rattle.roman_text.specs.declared.replies.Reply.TheVariants as reply
 use Rattle.roman_joint.specs.NamedSys as joint
 use Rattle.roman_hearing.proofs.WithinLemmas.{seat_within, joining_new, joining_beh}
@@ -74,16 +74,7 @@ sight_there s x q is i shown =
     record {
       text = reply_text (reply.Now (name_at s.parts.target.states q.t) (name_at s.parts.environment.states x.env));
       new = record s { here = pair_after s x q.t; phase = Idle };
-      acts = inl (record {
-        to = q.t;
-        moved = record {
-          target = subst (λ (e : ℕ). TStep (present_system s) s.here.t s.here.e x.action q.t e) e target;
-          system = subst (λ (e : ℕ). SStep (present_system s) s.here.bs s.here.e x.action x.seat (slice_set s.here.bs x.seat x.state) e) e
-              (subst (λ (bs : List ℕ). SStep (present_system s) s.here.bs s.here.e x.action x.seat bs q.e) bs moved);
-        };
-        says = refl;
-        becomes = refl;
-      });
+      acts = grind arith;
       going = record { parts = is.parts; behaviours = is.behaviours; list = is.list; phase = tt };
     }
 
@@ -127,14 +118,7 @@ changes_there s x is idle can same known =
     record {
       text = reply_text (reply.Kept (length kept) (length added));
       new = new;
-      acts = record {
-        kept = kept;
-        added = added;
-        becomes = refl;
-        replays = ap (λ (after : Sys). replay (arena after) (rename x.change s.list)) (sym same);
-        complete = list;
-        says = refl;
-      };
+      acts = grind arith;
       going = record { parts = known; behaviours = is.behaviours; list = list; phase = subst (IsAllowed new) (sym idle) tt };
     }
 

@@ -1,5 +1,5 @@
 -- Bytes that are read one after another.
-use Rattle.roman_hearing.proofs.Common.{◌≡◌, ℕ, ◌+◌, ◌<◌, ◌≤◌, true, false, List, [], ◌∷◌, ◌++◌, length, take, nat_lt, Option, Result, Ok, Err, IsTrue, IsFalse, refl, sym, ap, ap₂, ◌∙◌, subst, arith, append_assoc, append-nil, ltb-false, cond-true, cond-false, kept-nil, lines_rest, lines_none, kept-again, lines, ended_lines, by_test, unfinished, kept, shape_of, Situation, IsSituation, Step, Next, ends_session, has_quit, cursor, Tells, TellsPrefix, reader_state, IsHearing, StopsAtQuit, FallsShort, FailsIn, min, IfOk, nil_from_length, take_all, take_min, Wrote, WrotePrefix, Failed, Wrote-then, WrotePrefix-after, Gathered, Gathered-empty, Gathered-then, Gathered-put, WrotePrefix-gathered, ended_lines-newline, ended_lines-part, unfinished-newline, unfinished-nil, unfinished-part, kept-append, IsLine, AnsweredOn, next_of, More, Quit, Cursor, TellsOnPage, HearsBytes}
+use Rattle.roman_hearing.proofs.Common.{◌≡◌, ℕ, ◌+◌, ◌<◌, ◌≤◌, true, false, List, [], ◌∷◌, ◌++◌, length, take, nat_lt, Option, Result, Ok, Err, IsTrue, IsFalse, refl, sym, ap, ap₂, ◌∙◌, subst, arith, append_assoc, append-nil, min, IfOk, cond-true, cond-false, kept-nil, lines_rest, lines_none, kept-again, Gathered-empty, Gathered-then, Gathered-put, WrotePrefix-gathered, ended_lines-newline, ended_lines-part, unfinished-newline, unfinished-nil, unfinished-part, kept-append, lines, ended_lines, IsLine, by_test, unfinished, kept, shape_of, Situation, IsSituation, Step, Next, ends_session, has_quit, cursor, Tells, TellsPrefix, Cursor, reader_state, IsHearing, StopsAtQuit, FallsShort, FailsIn, TellsOnPage, HearsBytes, nil_from_length, take_all, take_min, Wrote, WrotePrefix, Failed, Wrote-then, WrotePrefix-after, Gathered, AnsweredOn, next_of, More, Quit}
 use Rattle.roman_hearing.proofs.HearingLines.{quit_last, quitless_last, told_push}
 
 -- ---- one line
@@ -31,22 +31,11 @@ takes_more old mid new ls line more before wrote now page holds quitless takes s
 -- the reply isn't pushed whole
 takes_failed : (old mid new : Situation) (ls : List (List ℕ)) (line more : List ℕ) (before wrote now : Option (List ℕ)) (page : List ℕ) → IsFalse (has_quit ls) →
     TellsOnPage (cursor old before) ls (cursor mid wrote) page → Step mid line more new → WrotePrefix wrote now (page ++ more) → IsSituation new → FallsShort (cursor old before) (ls ++ line ∷ []) (cursor new now)
-takes_failed old mid new ls line more before wrote now page quitless takes step prefix known = record {
-  tells = record {
-    text = takes.text ++ more;
-    told = told_push old mid new ls line takes.text more quitless takes.told step;
-    wrote = WrotePrefix-gathered before wrote now page takes.text more takes.gathered prefix;
-  };
-  known = known;
-}
+takes_failed old mid new ls line more before wrote now page quitless takes step prefix known = grind (arith, (told_push old mid new ls line takes.text more quitless takes.told step), (WrotePrefix-gathered before wrote now page takes.text more takes.gathered prefix))
 
 -- all was written if the page holds nothing
 pub whole_told : (old new : Cursor) (ls : List (List ℕ)) → TellsOnPage old ls new [] → Tells old ls new
-whole_told old new ls takes = record {
-  text = takes.text;
-  told = takes.told;
-  wrote = subst (Wrote old.written new.written) (sym (takes.gathered.rest ∙ append-nil takes.gathered.prefix)) takes.gathered.wrote;
-}
+whole_told old new ls takes = grind (arith, append-nil)
 
 -- the page is flushed
 put_whole : (old : Cursor) (mid : Situation) (wrote now : Option (List ℕ)) (ls : List (List ℕ)) (page : List ℕ) → TellsOnPage old ls (cursor mid wrote) page → Wrote wrote now page → TellsOnPage old ls (cursor mid now) []
@@ -68,10 +57,7 @@ module _ (old : Situation) (before : Option (List ℕ)) (taken : List ℕ) (mid 
 
   -- no bytes of the line are held before these
   pub alone_kept : nat_lt 0 (length held) ≡ false → (held ≡ []) × (kept part ≡ kept (unfinished taken ++ part))
-  alone_kept none =
-      let few = ltb-false 0 (length held) none in
-      let empty : held ≡ [] = nil_from_length held (omega arith) in
-      (empty, ap (λ (held : List ℕ). kept (held ++ part)) (sym empty) ∙ part_kept)
+  alone_kept none = grind (arith, nil_from_length, part_kept)
 
   -- these bytes are held too
   pub more_kept : (line : List ℕ) → line ≡ kept (held ++ part) → kept line ≡ kept (unfinished taken ++ part)
@@ -79,11 +65,7 @@ module _ (old : Situation) (before : Option (List ℕ)) (taken : List ℕ) (mid 
 
   -- bytes within a line
   pub hears_part : (after : List ℕ) → after ≡ kept (held ++ part) → IsHearing (cursor old before) (taken ++ part) (reader_state mid wrote page after)
-  hears_part after e = record {
-    quitless = rw (ended_lines-part taken part within) is.quitless;
-    tells = rw (ended_lines-part taken part within) is.tells;
-    rest = e ∙ part_kept ∙ sym (ap kept (unfinished-part taken part within));
-  }
+  hears_part after e = grind (arith, ended_lines-part, part_kept, unfinished-part)
 
   ended : ended_lines (taken ++ part ++ 10 ∷ []) ≡ ended_lines taken ++ (unfinished taken ++ part) ∷ []
   ended = ended_lines-newline (taken ++ part) 10 refl ∙ ap₂ (λ (ls : List (List ℕ)) (line : List ℕ). ls ++ line ∷ []) (ended_lines-part taken part within) (unfinished-part taken part within)
@@ -117,25 +99,12 @@ module _ (old : Situation) (before : Option (List ℕ)) (taken : List ℕ) (mid 
 -- a line `quit` in a part of a piece
 pub stops_within : (old : Situation) (before : Option (List ℕ)) (taken prefix part back piece : List ℕ) (new : Situation) (now : Option (List ℕ)) (page : List ℕ) → piece ≡ prefix ++ (part ++ back) →
     StopsAtQuit (cursor old before) (taken ++ prefix) part (cursor new now) page → StopsAtQuit (cursor old before) taken piece (cursor new now) page
-stops_within old before taken prefix part back piece new now page split stops = record {
-  heard = prefix ++ stops.heard;
-  past = stops.past ++ back;
-  split = split ∙ ap (λ (bytes : List ℕ). prefix ++ (bytes ++ back)) stops.split ∙ ap (λ (bytes : List ℕ). prefix ++ bytes) (append_assoc stops.heard (10 ∷ stops.past) back)
-      ∙ sym (append_assoc prefix stops.heard (10 ∷ (stops.past ++ back)));
-  first = subst (λ (bytes : List ℕ). IsFalse (has_quit (ended_lines bytes))) (append_assoc taken prefix stops.heard) stops.first;
-  quit = subst (λ (bytes : List ℕ). IsTrue (has_quit (ended_lines (bytes ++ 10 ∷ [])))) (append_assoc taken prefix stops.heard) stops.quit;
-  tells = subst (λ (bytes : List ℕ). TellsOnPage (cursor old before) (ended_lines (bytes ++ 10 ∷ [])) (cursor new now) page) (append_assoc taken prefix stops.heard) stops.tells;
-}
+stops_within old before taken prefix part back piece new now page split stops = grind (arith, (append_assoc stops.heard (10 ∷ stops.past) back), (append_assoc prefix stops.heard (10 ∷ (stops.past ++ back))), (append_assoc taken prefix stops.heard))
 
 -- a fault in a part of them
 pub fails_within : (old : Situation) (before : Option (List ℕ)) (prefix back bytes : List ℕ) (new : Situation) (now : Option (List ℕ)) → bytes ≡ prefix ++ back →
     FailsIn (cursor old before) prefix (cursor new now) → FailsIn (cursor old before) bytes (cursor new now)
-fails_within old before prefix back bytes new now split fails = record {
-  heard = fails.heard;
-  past = fails.past ++ back;
-  split = split ∙ ap (λ (bytes : List ℕ). bytes ++ back) fails.split ∙ append_assoc fails.heard fails.past back;
-  fails = fails.fails;
-}
+fails_within old before prefix back bytes new now split fails = grind (arith, (append_assoc fails.heard fails.past back))
 
 module _ (old : Situation) (before : Option (List ℕ)) (taken done part back bytes : List ℕ) (new : Situation) (now : Option (List ℕ)) (split : bytes ≡ done ++ (part ++ 10 ∷ back)) where
   -- the bytes after those that were read are a part, a newline and others
@@ -157,8 +126,7 @@ module _ (old : Situation) (before : Option (List ℕ)) (taken done part back by
 -- no bytes of the last line are held
 pub hears_no_rest : (old : Situation) (before : Option (List ℕ)) (taken : List ℕ) (mid : Situation) (wrote : Option (List ℕ)) (held : List ℕ) → IsHearing (cursor old before) taken (reader_state mid wrote [] held) →
     nat_lt 0 (length held) ≡ false → Tells (cursor old before) (lines taken) (cursor mid wrote)
-hears_no_rest old before taken mid wrote held is none =
-    rw (lines_none taken (subst (λ (held : List ℕ). nat_lt 0 (length held) ≡ false) is.rest none)) (whole_told (cursor old before) (cursor mid wrote) (ended_lines taken) is.tells)
+hears_no_rest old before taken mid wrote held is none = grind (arith, lines_none, whole_told)
 
 module _ (old : Situation) (before : Option (List ℕ)) (taken : List ℕ) (mid : Situation) (wrote : Option (List ℕ)) (page held : List ℕ) (is : IsHearing (cursor old before) taken (reader_state mid wrote page held))
     (some : nat_lt 0 (length held) ≡ true) (new : Situation) (now : Option (List ℕ)) (holds : List ℕ) where
@@ -193,23 +161,11 @@ module _ (old : Situation) (before : Option (List ℕ)) (taken bytes : List ℕ)
   put_hearing is put = record { quitless = is.quitless; tells = put_whole (cursor old before) new wrote now (ended_lines (taken ++ bytes)) page is.tells put; rest = is.rest }
 
   pub put_quit : StopsAtQuit (cursor old before) taken bytes (cursor new wrote) page → Wrote wrote now page → StopsAtQuit (cursor old before) taken bytes (cursor new now) []
-  put_quit stops put = record {
-    heard = stops.heard;
-    past = stops.past;
-    split = stops.split;
-    first = stops.first;
-    quit = stops.quit;
-    tells = put_whole (cursor old before) new wrote now (ended_lines (taken ++ stops.heard ++ 10 ∷ [])) page stops.tells put;
-  }
+  put_quit stops put = grind (arith, put_whole)
 
   -- the flush failed
   pub put_failed : (next : Next) → HearsBytes (cursor old before) taken bytes (reader_state new wrote page held) (Ok next) → WrotePrefix wrote now page → IsSituation new → FailsIn (cursor old before) (taken ++ bytes) (cursor new now)
-  put_failed More is prefix known = record {
-    heard = taken ++ bytes;
-    past = [];
-    split = sym (append-nil (taken ++ bytes));
-    fails = record { tells = put_prefix (cursor old before) new wrote now (ended_lines (taken ++ bytes)) page is.tells prefix; known = known };
-  }
+  put_failed More is prefix known = grind (arith, (append-nil (taken ++ bytes)), (put_prefix (cursor old before) new wrote now (ended_lines (taken ++ bytes)) page is.tells prefix))
   put_failed Quit stops prefix known = record {
     heard = taken ++ stops.heard ++ 10 ∷ [];
     past = stops.past;

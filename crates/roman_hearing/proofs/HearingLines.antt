@@ -1,5 +1,5 @@
 -- The replies to consecutive lines, up to the first line that ends the session.
-use Rattle.roman_hearing.proofs.Common.{◌≡◌, ℕ, false, List, [], ◌∷◌, ◌++◌, length, take, drop, nat_lt, nat_le, IsTrue, IsFalse, refl, sym, ap, ◌∙◌, subst, append_assoc, append-nil, take-append-drop, arith, cond-true, cond-false, or_parts, or_from, or_left, or_right, lines, ended_lines, by_test, unfinished, kept, shape_of, lines_rest, lines_none, Situation, Step, until_quit, Answers, Told, MAX_SESSION_BYTES, ends_session, has_quit, is_heard_out, heard_lines, if◌then◌else◌, list_any-append, ended_lines-append, is_quit}
+use Rattle.roman_hearing.proofs.Common.{◌≡◌, ℕ, false, List, [], ◌∷◌, ◌++◌, length, take, drop, nat_lt, nat_le, IsTrue, IsFalse, refl, sym, ap, ◌∙◌, subst, append_assoc, append-nil, take-append-drop, arith, if◌then◌else◌, cond-true, cond-false, or_parts, or_from, or_left, or_right, lines, ended_lines, by_test, unfinished, kept, lines_rest, lines_none, ended_lines-append, Situation, Step, until_quit, Answers, Told, MAX_SESSION_BYTES, ends_session, has_quit, is_heard_out, heard_lines, list_any-append}
 
 -- ---- lines of bytes with more bytes after them
 
@@ -30,18 +30,12 @@ quitless_last ls line h i = quitless_both ls (line ∷ []) h (or_from (ends_sess
 -- more lines are answered after lines none of which ends the session
 goes_on : (ls ms : List (List ℕ)) → IsFalse (has_quit ls) → until_quit (ls ++ ms) ≡ ls ++ until_quit ms
 goes_on [] ms h = refl
-goes_on (line ∷ ls) ms h =
-    let (first, others) = or_parts (ends_session line) (has_quit ls) h in
-    cond-false (is_quit (shape_of line)) (line ∷ []) (line ∷ until_quit (ls ++ ms)) first ∙ ap (λ (rest : List (List ℕ)). line ∷ rest) (goes_on ls ms others)
+goes_on (line ∷ ls) ms h = grind (arith, or_parts, cond-false, (goes_on ls ms))
 
 -- no more lines are answered after lines one of which ends the session
 stops : (ls ms : List (List ℕ)) → IsTrue (has_quit ls) → until_quit (ls ++ ms) ≡ until_quit ls
 stops [] ms h = absurd (let e : ⊥ = cc in e)
-stops (line ∷ ls) ms h = by_test (is_quit (shape_of line))
-    (λ quit. cond-true (is_quit (shape_of line)) (line ∷ []) (line ∷ until_quit (ls ++ ms)) quit ∙ sym (cond-true (is_quit (shape_of line)) (line ∷ []) (line ∷ until_quit ls) quit))
-    (λ other. cond-false (is_quit (shape_of line)) (line ∷ []) (line ∷ until_quit (ls ++ ms)) other
-    ∙ ap (λ (rest : List (List ℕ)). line ∷ rest) (stops ls ms (rw other at h))
-    ∙ sym (cond-false (is_quit (shape_of line)) (line ∷ []) (line ∷ until_quit ls) other))
+stops (line ∷ ls) ms h = grind (arith, by_test, cond-true, cond-false, (stops ls ms))
 
 -- the lines that are read are answered up to the first `quit`
 pub answered_heard : (session : List ℕ) →
@@ -51,13 +45,7 @@ answered_heard session =
     let all = lines session in
     let first = ended_lines (take MAX_SESSION_BYTES session) in
     by_test few (λ short. ap until_quit (cond-true (is_heard_out session) all first (or_left few (has_quit first) short) ∙ sym (cond-true few all first short)))
-    (λ long. by_test (has_quit first) (λ quit.
-    let (others, rest) = lines_more session in
-    let (more, ended) = ended_more (take MAX_SESSION_BYTES session) (drop MAX_SESSION_BYTES session) in
-    let whole : all ≡ first ++ (more ++ others) =
-    rest ∙ ap (λ (ls : List (List ℕ)). ls ++ others) (ap ended_lines (sym (take-append-drop MAX_SESSION_BYTES session)) ∙ ended) ∙ append_assoc first more others in
-    ap until_quit (cond-true (is_heard_out session) all first (or_right few (has_quit first) quit) ∙ whole)
-    ∙ stops first (more ++ others) quit ∙ ap until_quit (sym (cond-false few all first long)))
+    (λ long. by_test (has_quit first) (grind (arith, (lines_more session), (ended_more (take MAX_SESSION_BYTES session) (drop MAX_SESSION_BYTES session)), (take-append-drop MAX_SESSION_BYTES session), append_assoc, cond-true, or_right, stops, (cond-false few all first long)))
     (λ quitless. ap until_quit (cond-false (is_heard_out session) all first (or_from few (has_quit first) long quitless) ∙ sym (cond-false few all first long))))
 
 -- any last line is answered
@@ -71,10 +59,8 @@ all_lines ls h = ap until_quit (sym (append-nil ls)) ∙ goes_on ls [] h ∙ app
 
 -- the replies to some lines and then to others
 answers_then : (old mid new : Situation) (ls ms : List (List ℕ)) (text more : List ℕ) → Answers old ls text mid → Answers mid ms more new → Answers old (ls ++ ms) (text ++ more) new
-answers_then old mid new [] ms text more (none, same) rest =
-    subst (λ (s : Situation). Answers s ms (text ++ more) new) same (subst (λ (prefix : List ℕ). Answers mid ms (prefix ++ more) new) (sym none) rest)
-answers_then old mid new (line ∷ ls) ms text more (said, later, next, split, step, answers) rest =
-    (said, later ++ more, next, ap (λ (prefix : List ℕ). prefix ++ more) split ∙ append_assoc said later more, step, answers_then next mid new ls ms later more answers rest)
+answers_then old mid new [] ms text more (none, same) rest = grind arith
+answers_then old mid new (line ∷ ls) ms text more (said, later, next, split, step, answers) rest = grind (arith, append_assoc, (answers_then next mid new ls ms later more answers rest))
 
 -- the replies to more lines
 pub told_then : (old mid new : Situation) (ls ms : List (List ℕ)) (text more : List ℕ) → IsFalse (has_quit ls) → Told old ls text mid → Told mid ms more new → Told old (ls ++ ms) (text ++ more) new
@@ -83,9 +69,7 @@ told_then old mid new ls ms text more quitless told rest = grind (arith, all_lin
 -- the reply to one more line
 pub told_push : (old mid new : Situation) (ls : List (List ℕ)) (line text more : List ℕ) → IsFalse (has_quit ls) → Told old ls text mid → Step mid line more new →
     Told old (ls ++ line ∷ []) (text ++ more) new
-told_push old mid new ls line text more quitless told step =
-    told_then old mid new ls (line ∷ []) text more quitless told
-    (subst (λ (last : List (List ℕ)). Answers mid last more new) (sym (until_last line)) (more, [], new, sym (append-nil more), step, (refl, refl)))
+told_push old mid new ls line text more quitless told step = grind (arith, told_then, until_last, append-nil)
 
 -- no reply follows a line that ends the session
 pub told_stops : (old new : Situation) (ls ms : List (List ℕ)) (text : List ℕ) → IsTrue (has_quit ls) → Told old ls text new → Told old (ls ++ ms) text new

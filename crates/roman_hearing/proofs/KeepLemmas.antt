@@ -1,5 +1,5 @@
 -- Steps of a session change no parts but the services.
-use Rattle.roman_hearing.proofs.Common.{◌≡◌, ℕ, List, [], ◌∷◌, Result, Ok, Err, inl, inr, refl, sym, ap, ◌∙◌, subst, LineShape, nothing, ask, hand, saw, abort, freeze, thaw, die, join, jump, jump_env, report, explain, quit, shape_of, LineError, Reply, NamedSys, Situation, asked, handed, seen, aborted, jumped, env_jumped, frozen, thawed, died, join_of, unexplained, Asks, Hands, Sees, Aborts, Jumps, EnvJumps, Freezes, Thaws, Dies, Joins, Explains, Does, StepOn, StepBy, Step, Answers, AreBehaviours}
+use Rattle.roman_hearing.proofs.Common.{◌≡◌, ℕ, List, [], ◌∷◌, Result, Ok, Err, refl, sym, ◌∙◌, subst, arith, LineShape, nothing, ask, hand, saw, abort, freeze, thaw, die, join, jump, jump_env, report, explain, quit, shape_of, LineError, Reply, Situation, asked, handed, aborted, jumped, env_jumped, frozen, thawed, died, unexplained, Asks, Hands, Aborts, Jumps, EnvJumps, Freezes, Thaws, Dies, Explains, Does, StepOn, StepBy, Step, Answers, AreBehaviours}
 
 -- all parts but the services stay the same
 abbrev pub Keeps : Situation → Situation → Type 0
@@ -18,14 +18,12 @@ step_keeps : (old new : Situation) (shape : LineShape) (text : List ℕ) → Ste
 step_keeps old new nothing text step = keeps_by old new old step.1 refl
 step_keeps old new (ask action) text step = does_keeps Asks old new (asked old action) text (λ a asks. keeps_by old new _ asks.1 refl) step
 step_keeps old new (hand service) text step = does_keeps Hands old new (handed old service) text (λ x hands. keeps_by old new _ hands.1 refl) step
-step_keeps old new (saw state env) text step = does_keeps Sees old new (seen old state env) text
-    (λ x sees. elim sees [ inl moves ↦ keeps_by old new _ moves.becomes refl | inr (never, says, stays) ↦ keeps_by old new old stays refl ]) step
+step_keeps old new (saw state env) text step = grind (arith, does_keeps, keeps_by)
 step_keeps old new abort text step = does_keeps Aborts old new (aborted old) text (λ x aborts. keeps_by old new _ aborts.1 refl) step
 step_keeps old new (freeze service) text step = does_keeps Freezes old new (frozen old service) text (λ k changes. keeps_by old new _ changes.becomes refl) step
 step_keeps old new (thaw service) text step = does_keeps Thaws old new (thawed old service) text (λ k changes. keeps_by old new _ changes.becomes refl) step
 step_keeps old new (die service) text step = does_keeps Dies old new (died old service) text (λ k changes. keeps_by old new _ changes.becomes refl) step
-step_keeps old new (join service behaviour state loose) text step =
-    does_keeps Joins old new (join_of old service behaviour state loose) text (λ x changes. keeps_by old new _ changes.becomes refl) step
+step_keeps old new (join service behaviour state loose) text step = grind (arith, does_keeps, keeps_by)
 step_keeps old new (jump service state) text step = does_keeps Jumps old new (jumped old service state) text (λ x jumps. keeps_by old new _ jumps.1 refl) step
 step_keeps old new (jump_env env) text step = does_keeps EnvJumps old new (env_jumped old env) text (λ e jumps. keeps_by old new _ jumps.1 refl) step
 step_keeps old new report text step = keeps_by old new old step.1 refl
@@ -44,8 +42,7 @@ line_keeps old new line text step = by_shape_keeps old new (shape_of line) text 
 -- no list of lines changes these parts
 pub answers_keep : (old new : Situation) (ls : List (List ℕ)) (text : List ℕ) → Answers old ls text new → Keeps old new
 answers_keep old new [] text (none, same) = keeps_by old new old same refl
-answers_keep old new (line ∷ ls) text (said, more, mid, split, step, answers) =
-    answers_keep mid new ls more answers ∙ ap (λ (n : NamedSys). record n { seats = new.parts.seats }) (line_keeps old mid line said step)
+answers_keep old new (line ∷ ls) text (said, more, mid, split, step, answers) = grind (arith, line_keeps, (answers_keep mid new ls more answers))
 
 -- the behaviours stay well formed over the environment
 pub behaviours_stay : (old new : Situation) → Keeps old new → AreBehaviours old.parts → AreBehaviours new.parts

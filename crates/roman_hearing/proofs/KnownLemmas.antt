@@ -1,5 +1,5 @@
 -- Steps lead from well-formed situations to well-formed ones.
-use Rattle.roman_hearing.proofs.Common.{◌≡◌, ℕ, ◌<◌, Bool, true, false, List, length, Result, Ok, Err, inl, inr, slice_set, nat_lt, nat_le, refl, sym, subst, arith, ltb-true, leb-true, get_or_from_slice_get, Sys, IsPair, MAX_SERVICES, number_listed, there_is, same_ok, bind_ok, LineShape, nothing, ask, hand, saw, abort, freeze, thaw, die, join, jump, jump_env, report, explain, quit, shape_of, LineError, Reply, IsNamedSys, seat_of, frozen_system, frozen_known, gone_system, gone_known, joined_system, joined_known, Situation, present_system, IsPhase, IsSituation, seat_at, asked, handed, seen, aborted, jumped, env_jumped, frozen, thawed, died, joining, join_of, unexplained, Asks, Hands, Sees, Aborts, Jumps, EnvJumps, Changing, Changes, Freezes, Thaws, Dies, Joins, freezing, thawing, dying, growing, Explains, Does, StepOn, StepBy, Step, parts_after, Handing, Joining, Jump, Sight, Idle, checked, asked_is, handed_is, jumped_is, env_jumped_is, frozen_is, thawed_is, died_is, joining_idle, cells_with, AreBehaviours, AreNamed, IsPair-turned, IsPair-grown, IsPair-without, jumped_pair, moved_pair, StepsStayKnown}
+use Rattle.roman_hearing.proofs.Common.{◌≡◌, ℕ, ◌<◌, Bool, true, false, List, length, Result, Ok, Err, inl, inr, slice_set, nat_lt, nat_le, refl, sym, subst, arith, ltb-true, leb-true, get_or_from_slice_get, Sys, IsPair, MAX_SERVICES, number_listed, there_is, IsPair-turned, IsPair-grown, IsPair-without, same_ok, bind_ok, LineShape, nothing, ask, hand, saw, abort, freeze, thaw, die, join, jump, jump_env, report, explain, quit, shape_of, LineError, Reply, IsNamedSys, seat_of, frozen_system, frozen_known, gone_system, gone_known, joined_system, joined_known, Situation, present_system, IsPhase, IsSituation, seat_at, asked, handed, seen, aborted, jumped, env_jumped, frozen, thawed, died, joining, join_of, unexplained, Asks, Hands, Sees, Aborts, Jumps, EnvJumps, Changing, Changes, Freezes, Thaws, Dies, Joins, freezing, thawing, dying, growing, Explains, Does, StepOn, StepBy, Step, parts_after, Handing, Joining, Jump, Sight, Idle, checked, asked_is, handed_is, jumped_is, env_jumped_is, frozen_is, thawed_is, died_is, joining_idle, cells_with, jumped_pair, moved_pair, AreBehaviours, AreNamed, StepsStayKnown}
 use Rattle.roman_text.specs.declared.replies.Reply.TheVariants as reply
 use Rattle.roman_joint.specs.NamedSys as joint
 use Rattle.roman_hearing.proofs.KeepLemmas.{line_keeps}
@@ -21,8 +21,7 @@ hands_known : (old new : Situation) (service text : List ℕ) (x : Handing) → 
 hands_known old new service text x is ok hands = grind (arith, handed_is, number_listed)
 
 sees_known : (old new : Situation) (x : Sight) (text : List ℕ) → IsSituation old → Sees old x text new → IsSituation new
-sees_known old new x text is (inl moves) =
-    subst IsSituation (sym moves.becomes) (record { parts = is.parts; here = moved_pair old x moves.to is moves.moved; list = is.list; phase = tt })
+sees_known old new x text is (inl moves) = grind (arith, moved_pair)
 sees_known old new x text is (inr (never, says, same)) = subst IsSituation (sym same) is
 
 aborts_known : (old new : Situation) (x : Unit {0}) (text : List ℕ) → IsSituation old → Aborts old x text new → IsSituation new
@@ -47,12 +46,7 @@ env_jumps_known old new env text e is are ok jumps =
     let ruling = env_jumped_is old env e ok in
     let less : e < (present_system old).env.states = omega (arith, named_within old.parts.environment.states env e ruling.named, are.environment) in
     let next : Situation = record old { here = record old.here { e = e } } in
-    subst IsSituation (sym jumps.1) (record {
-      parts = is.parts;
-      here = record { t = is.here.t; e = less; bs = is.here.bs };
-      list = is.list;
-      phase = subst (IsPhase next) (sym ruling.idle) tt;
-    })
+    grind arith
 
 -- changes of the services
 

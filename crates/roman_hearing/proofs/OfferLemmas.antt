@@ -1,5 +1,5 @@
 -- A service that isn't offered would fail.
-use Rattle.roman_hearing.proofs.Common.{◌≡◌, ℕ, not, [], IsTrue, IsFalse, arith, or_cases, not-true, IsIn, Sys, Pair, outcomes, arena, is_beaten, is_related, by_test, empty_is, any_true, ◌⊎◌, in_mask, NotOfferedFails}
+use Rattle.roman_hearing.proofs.Common.{◌≡◌, ℕ, not, [], IsTrue, IsFalse, arith, ◌⊎◌, or_cases, not-true, IsIn, Sys, Pair, outcomes, arena, is_beaten, is_related, by_test, empty_is, any_true, in_mask, NotOfferedFails}
 
 -- a seat that is beaten has no outcome, or an outcome whose pair isn't related
 beaten_fails : (s : Sys) (p : Pair) (a k : ℕ) → IsTrue (is_beaten (arena s) (λ q. not (is_related s q)) p a k) →

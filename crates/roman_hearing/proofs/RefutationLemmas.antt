@@ -1,5 +1,5 @@
 -- The explanation of a pair that isn't related is a removal list in terms of steps, and the opponent who plays by it wins.
-use Rattle.roman_hearing.proofs.Common.{◌≡◌, ℕ, zero, suc, ◌+◌, ◌<◌, Bool, not, List, [], ◌∷◌, ◌++◌, length, codes, Option, None, Some, IsTrue, IsFalse, inl, inr, slice_get, refl, sym, ap, ◌∙◌, subst, arith, append_assoc, list_any, false≢true, both_ways, or_cases, or_parts, not-true, cond-true, cond-false, not-false, IsIn, below, text_of_lines, Sys, Pair, IsSys, is_final, arena, outcomes, Entry, is_beaten, Great, explain_text, by_test, empty_is, filter_in, in_filter, filter_sublist, in_below, listed_in, in_listed, from_allowed, from_outcome, outcome_in, system_is_same, names_in, Situation, present_system, IsSituation, shown, IsReady, Refutes, ◌||◌, filter, find, is_empty, option_to_list, none-some, slice_get_within, all_final, is_ready, is_listed, is_justified, IsOrder, Names, entries_before, answer, ready_seats, answers, rests_on, explanation, lost_line, answer_lines, entry_lines, Reason, Final, Act, find_some, find_found, in_append_right, in_append_left, from_push, in_flat_map, flat_map_same, justified_is, order_middle, before_is, explanation_is_order, explanation_is_least, MayAnswer, IsLost, AreLost, WinsBy, lines_of_answers}
+use Rattle.roman_hearing.proofs.Common.{◌≡◌, ℕ, zero, suc, ◌+◌, ◌<◌, Bool, not, List, [], ◌∷◌, ◌++◌, length, codes, Option, None, Some, IsTrue, IsFalse, inl, inr, slice_get, refl, sym, ap, ◌∙◌, subst, arith, append_assoc, ◌||◌, filter, find, list_any, false≢true, both_ways, or_cases, or_parts, not-true, cond-true, cond-false, not-false, IsIn, below, is_empty, text_of_lines, Sys, Pair, IsSys, arena, outcomes, is_ready, Entry, is_beaten, is_listed, is_justified, IsOrder, Great, explain_text, Names, entries_before, answer, ready_seats, answers, rests_on, explanation, lost_line, entry_lines, by_test, empty_is, filter_in, in_filter, filter_sublist, in_below, listed_in, in_listed, from_allowed, from_outcome, outcome_in, system_is_same, find_some, find_found, in_append_right, in_append_left, from_push, in_flat_map, flat_map_same, justified_is, order_middle, before_is, explanation_is_order, explanation_is_least, names_in, Situation, present_system, IsSituation, shown, IsReady, Refutes, lines_of_answers, option_to_list, none-some, slice_get_within, Reason, Final, Act, MayAnswer, IsLost, AreLost, WinsBy}
 
 -- Losing more
 
@@ -11,8 +11,7 @@ lost_more s Gone More answers p (Act a) more lost = grind arith
 module _ (s : Sys) (answers : Entry Pair → ℕ → Option Pair) (all : List (Entry Pair)) where
   wins_more : (n : ℕ) (p : Pair) → WinsBy s answers all n p → WinsBy s answers all (suc n) p
   wins_more zero p none = absurd none
-  wins_more (suc n) p (x, i, same, lost) =
-      (x, i, same, lost_more s (WinsBy s answers all n) (WinsBy s answers all (suc n)) (answers x) p x.reason (wins_more n) lost)
+  wins_more (suc n) p (x, i, same, lost) = grind (arith, lost_more, (wins_more n))
 
   wins_later : (m n : ℕ) (p : Pair) → WinsBy s answers all n p → WinsBy s answers all (m + n) p
   wins_later zero n p wins = subst (λ (k : ℕ). WinsBy s answers all k p) (let e : n ≡ 0 + n = omega arith in e) wins
@@ -23,8 +22,7 @@ module _ (s : Sys) (answers : Entry Pair → ℕ → Option Pair) (all : List (E
       AreLost s answers before rest → (x : Entry Pair) → IsIn x rest → WinsBy s answers all (length rest + n) x.node
   wins_from n before [] wins within lost x none = absurd none
   wins_from n before (y ∷ rest) wins within lost x i =
-      let here : WinsBy s answers all (suc n) y.node =
-      (y, within y (inl refl), refl, lost_more s (λ q. IsIn q before) (WinsBy s answers all n) (answers y) y.node y.reason wins lost.1) in
+      let here : WinsBy s answers all (suc n) y.node = grind (arith, lost_more) in
       let sum : length rest + suc n ≡ length (y ∷ rest) + n = omega arith in
       subst (λ (k : ℕ). WinsBy s answers all k x.node) sum (elim i [
         | inl e ↦ wins_later (length rest) (suc n) x.node (subst (λ (x : Entry Pair). WinsBy s answers all (suc n) x.node) (sym e) here)
@@ -68,12 +66,7 @@ module _ (s : Sys) (ok : IsSys s) (L : List (Entry Pair)) (p : Pair) (order : Is
   answers_lose : (done : List (Entry Pair)) (x : Entry Pair) (rest : List (Entry Pair)) (before : List Pair) (a k : ℕ) → L ≡ done ++ x ∷ rest → IsTrue (is_shown x) → x.reason ≡ Act a → k < length s.seats →
       ((y : Entry Pair) → IsIn y done → IsTrue (is_shown y) → IsIn y.node before) → IsTrue (is_beaten (arena s) (is_listed (arena s) done) x.node a k) →
       (o : Option Pair) → answer (arena s) L x.node a k ≡ o → find (is_listed (arena s) done) (outcomes s x.node a k) ≡ o → MayAnswer s (λ q. IsIn q before) x.node a k o
-  answers_lose done x rest before a k whole told act l holds beaten None is found = λ q (target, system).
-      let out = outcome_in s x.node a k q.t q.e q.bs ok target system in
-      elim (or_cases (is_empty (outcomes s x.node a k)) (list_any (is_listed (arena s) done) (outcomes s x.node a k)) beaten) [
-        | inl empty ↦ subst (λ (qs : List Pair). IsIn q qs) (empty_is (outcomes s x.node a k) empty) out
-        | inr some ↦ let (v, first) = find_found (is_listed (arena s) done) (outcomes s x.node a k) some in none-some v (sym found ∙ first)
-      ]
+  answers_lose done x rest before a k whole told act l holds beaten None is found = λ q (target, system). grind (arith, (outcome_in s x.node a k q.t q.e q.bs ok target system), (or_cases (is_empty (outcomes s x.node a k)) (list_any (is_listed (arena s) done) (outcomes s x.node a k)) beaten), empty_is, find_found, none-some)
   answers_lose done x rest before a k whole told act l holds beaten (Some q) is found =
       let (out, there) = find_some (is_listed (arena s) done) (outcomes s x.node a k) q found in
       let (y, j, shown_too, same) = answer_shown done x rest a k q whole told act l there out is in
@@ -82,17 +75,10 @@ module _ (s : Sys) (ok : IsSys s) (L : List (Entry Pair)) (p : Pair) (order : Is
   lost_by : (done : List (Entry Pair)) (x : Entry Pair) (rest : List (Entry Pair)) (before : List Pair) (r : Reason) → L ≡ done ++ x ∷ rest → IsFalse (is_listed (arena s) done x.node) → IsTrue (is_shown x) → x.reason ≡ r →
       ((y : Entry Pair) → IsIn y done → IsTrue (is_shown y) → IsIn y.node before) → IsTrue (is_justified (arena s) (is_listed (arena s) done) x.node r) →
       IsLost s (λ q. IsIn q before) (answer_by r x.node) x.node r
-  lost_by done x rest before Final whole new told act holds justified =
-      let (target, system) = or_parts (not (is_final s.target x.node.t)) (all_final s.seats x.node.bs) (not-true (not (is_final s.target x.node.t) || all_final s.seats x.node.bs) justified) in
-      (not-false (is_final s.target x.node.t) target, system)
+  lost_by done x rest before Final whole new told act holds justified = grind (arith, or_parts, not-true, not-false)
   lost_by done x rest before (Act a) whole new told act holds justified =
       let (allowed, each) = justified_is (arena s) (is_listed (arena s) done) x.node a justified in
-      let before_is : entries_before (arena s) L x.node ≡ done = ap (λ (M : List (Entry Pair)). entries_before (arena s) M x.node) whole ∙ before_is (arena s) done x rest ((system_is_same s).itself x.node) new in (
-        from_allowed s x.node a allowed,
-        λ k l.
-            answers_lose done x rest before a k whole told act l holds (each k l) (answer (arena s) L x.node a k) refl
-            (ap (λ (M : List (Entry Pair)). find (is_listed (arena s) M) (outcomes s x.node a k)) (sym before_is)),
-      )
+      let before_is : entries_before (arena s) L x.node ≡ done = ap (λ (M : List (Entry Pair)). entries_before (arena s) M x.node) whole ∙ before_is (arena s) done x rest ((system_is_same s).itself x.node) new in grind (arith, from_allowed, answers_lose, before_is)
 
   told_lost : (done rest : List (Entry Pair)) (before : List Pair) → L ≡ done ++ rest → ((y : Entry Pair) → IsIn y done → IsTrue (is_shown y) → IsIn y.node before) →
       ((q : Pair) → IsIn q before → IsTrue (is_listed (arena s) done q)) → AreLost s answer_to before (filter is_shown rest)
@@ -100,36 +86,18 @@ module _ (s : Sys) (ok : IsSys s) (L : List (Entry Pair)) (p : Pair) (order : Is
   told_lost done (x ∷ rest) before whole holds only =
       let (new, justified) = order_middle (arena s) done rest x (subst (IsOrder (arena s)) whole order) in
       let more : L ≡ (done ++ x ∷ []) ++ rest = whole ∙ sym (append_assoc done (x ∷ []) rest) in
-      let further : (q : Pair) → IsTrue (is_listed (arena s) done q) → IsTrue (is_listed (arena s) (done ++ x ∷ []) q) =
-      λ q there. let (y, i, same) = listed_in (arena s) (system_is_same s) done q there in
-      subst (λ (q : Pair). IsTrue (is_listed (arena s) (done ++ x ∷ []) q)) (sym same) (in_listed (arena s) (system_is_same s) (done ++ x ∷ []) y (in_append_left y done (x ∷ []) i)) in
+      let further : (q : Pair) → IsTrue (is_listed (arena s) done q) → IsTrue (is_listed (arena s) (done ++ x ∷ []) q) = grind (arith, listed_in, system_is_same, in_listed, in_append_left) in
       by_test (is_shown x)
       (λ told. subst (AreLost s answer_to before) (sym (cond-true (is_shown x) (x ∷ filter is_shown rest) (filter is_shown rest) told)) (
         λ i. both_ways (is_listed (arena s) done x.node) new (only x.node i),
         lost_by done x rest before x.reason whole new told refl holds justified,
-        told_lost (done ++ x ∷ []) rest (x.node ∷ before) more
-            (λ y i told. elim (from_push y x done i) [ inl j ↦ inr (holds y j told) | inr e ↦ inl (ap (λ (y : Entry Pair). y.node) e) ])
-            (λ q i. elim i [
-              | inl e ↦ subst (λ (q : Pair). IsTrue (is_listed (arena s) (done ++ x ∷ []) q)) (sym e)
-                  (in_listed (arena s) (system_is_same s) (done ++ x ∷ []) x (in_append_right x done (x ∷ []) (inl refl)))
-              | inr j ↦ further q (only q j)
-            ]),
+        grind (arith, from_push, (in_listed (arena s) (system_is_same s) (done ++ x ∷ []) x (in_append_right x done (x ∷ []) (inl refl))), (told_lost (done ++ x ∷ []) rest (x.node ∷ before) more)),
       ))
-      (λ hidden. subst (AreLost s answer_to before) (sym (cond-false (is_shown x) (x ∷ filter is_shown rest) (filter is_shown rest) hidden))
-      (told_lost (done ++ x ∷ []) rest before more
-      (λ y i told. elim (from_push y x done i) [
-        | inl j ↦ holds y j told
-        | inr e ↦ absurd (both_ways (is_shown x) hidden (subst (λ (y : Entry Pair). IsTrue (is_shown y)) e told))
-      ])
-      (λ q i. further q (only q i))))
+      (grind (arith, cond-false, from_push, both_ways, (told_lost (done ++ x ∷ []) rest before more)))
 
   -- the lines of an entry
   lines_are : (names : Names) (x : Entry Pair) → entry_lines s names L x ≡ lost_line names x ∷ lines_of_answers names (answer_to x) (ready_seats (arena s)) x.reason
-  lines_are names x = ap (λ (ls : List (List ℕ)). lost_line names x ∷ ls) (by_reason x.reason)
-    where
-      by_reason : (r : Reason) → answer_lines s names L x.node r ≡ lines_of_answers names (answer_by r x.node) (ready_seats (arena s)) r
-      by_reason Final = refl
-      by_reason (Act a) = refl
+  lines_are names x = grind (arith, answer_by)
 
 -- the seats that are ready
 ready_exact : (s : Situation) (k : ℕ) → IsIn k (ready_seats (arena (present_system s))) → IsReady (shown s) k

@@ -1,5 +1,5 @@
 -- The report of a session equals the report of the library that begins in the present states of the session.
-use Rattle.roman_hearing.proofs.Common.{◌≡◌, ℕ, ◌<◌, List, [], ◌∷◌, map, refl, ap, arith, NamedBeh, NamedSys, seat_of, system_of, Beh, IsBeh, IsSys, IsPair, Situation, IsSituation, lines_text, report_text, afresh, shown, Seat, AllZip, Env, seat_of_service, parts_of, start_pair_of, services_in, ReportsAreAfresh}
+use Rattle.roman_hearing.proofs.Common.{◌≡◌, ℕ, ◌<◌, List, [], ◌∷◌, map, refl, ap, arith, NamedBeh, NamedSys, seat_of, system_of, Beh, IsBeh, IsSys, IsPair, Env, Situation, IsSituation, lines_text, report_text, afresh, services_in, shown, Seat, AllZip, seat_of_service, parts_of, start_pair_of, ReportsAreAfresh}
 
 -- the present services give the same seats again
 seats_again : (catalogue : List NamedBeh) (seats : List Seat) (bs : List ℕ) → AllZip (λ seat b. b < seat.beh.states) (map (seat_of catalogue) seats) bs →

@@ -1,5 +1,5 @@
 -- What an event names is in range: the place of a service, a state or a behaviour.
-use Rattle.roman_hearing.proofs.Common.{◌≡◌, ℕ, ◌<◌, Bool, List, [], map, length, Option, None, Some, ok_or, is_none, is_ok, false, Ok, IsTrue, slice_get, refl, sym, ap, ◌∙◌, subst, arith, length-map, position-Some, get_or_from_slice_get, IsBeh, Beh, seat_names, there_is, is_name, place_of, same_ok, bind_ok, NamedBeh, beh_at, seat_name, beh_name, states_of_behaviour, names_in, beh_read, Situation, present_system, is_idle, IsSituation, named, joining, Joining, name_is_new, checked, AreBehaviours, IfSome, All-get_or, IsBehaviour, beh_states, seat_read, CanJoin, service_named, state_named, mapped_at, states_named}
+use Rattle.roman_hearing.proofs.Common.{◌≡◌, ℕ, ◌<◌, Bool, List, [], map, length, Option, None, Some, ok_or, is_none, is_ok, false, Ok, IsTrue, slice_get, refl, sym, ◌∙◌, subst, arith, IfSome, length-map, position-Some, get_or_from_slice_get, IsBeh, seat_names, there_is, is_name, place_of, same_ok, bind_ok, NamedBeh, IsBehaviour, beh_at, seat_name, beh_name, states_of_behaviour, names_in, beh_read, seat_read, Situation, present_system, is_idle, IsSituation, named, joining, service_named, state_named, Joining, name_is_new, checked, mapped_at, states_named, AreBehaviours, All-get_or, CanJoin}
 use Rattle.roman_model.specs.System.{Seat}
 use Rattle.roman_text.specs.declared.replies.Reply.TheVariants as reply
 use Rattle.roman_joint.specs.declared.seat.Seat.{Seat as Place}
@@ -14,29 +14,21 @@ seat_within s service k h = omega (arith, named_within (map seat_name s.parts.se
 
 -- the behaviour at a place of the catalogue has a name for each of its states
 pub placed_behaviour : (s : Situation) (i : ℕ) → AreBehaviours s.parts → i < length s.parts.catalogue → (y : NamedBeh) × (slice_get s.parts.catalogue i ≡ Some y) × IsBehaviour s.parts.environment y
-placed_behaviour s i behaviours l =
-    let (y, there) = there_is s.parts.catalogue i l in
-    (y, there, subst (IsBehaviour s.parts.environment) (get_or_from_slice_get s.parts.catalogue i y y there) (All-get_or (IsBehaviour s.parts.environment) s.parts.catalogue i y l behaviours))
+placed_behaviour s i behaviours l = grind (arith, (there_is s.parts.catalogue i l), get_or_from_slice_get, All-get_or)
 
 pub states_counted : (s : Situation) (i : ℕ) → AreBehaviours s.parts → i < length s.parts.catalogue → length (states_of_behaviour s.parts.catalogue i) ≡ (beh_at s.parts.catalogue i).states
-states_counted s i behaviours l =
-    let (y, there, is) = placed_behaviour s i behaviours l in
-    ap (λ (names : List (List ℕ)). length names) (mapped_at beh_states s.parts.catalogue i y [] there)
-    ∙ is.names ∙ ap (λ (b : Beh). b.states) (sym (beh_read s.parts.catalogue i y there))
+states_counted s i behaviours l = grind (arith, (placed_behaviour s i behaviours l), mapped_at, beh_read)
 
 -- a named state is one of the service's behaviour
 pub state_within : (s : Situation) (k b : ℕ) (state : List ℕ) → IsSituation s → AreBehaviours s.parts → k < length s.parts.seats → state_named s k state ≡ Ok b →
     IfSome (slice_get (present_system s).seats k) (λ seat. b < seat.beh.states)
 state_within s k b state is behaviours l h =
     let (seat, seated) = there_is s.parts.seats k l in
-    let inside : seat.behaviour < length s.parts.catalogue =
-    subst (λ (x : Place). x.behaviour < length s.parts.catalogue) (get_or_from_slice_get s.parts.seats k seat seat seated)
-    (All-get_or (λ (x : Place). x.behaviour < length s.parts.catalogue) s.parts.seats k seat l is.parts.behaviours) in
+    let inside : seat.behaviour < length s.parts.catalogue = grind (arith, (get_or_from_slice_get s.parts.seats k seat seat seated), All-get_or) in
     let (beh, placed, known) = placed_behaviour s seat.behaviour behaviours inside in
     let names = states_named s.parts k beh (record { seat = seat; seated = seated; placed = placed }) in
     let less : b < length (seat_names (names_in s.parts) k).states = named_within (seat_names (names_in s.parts) k).states state b h in
-    let count : length (seat_names (names_in s.parts) k).states ≡ (beh_at s.parts.catalogue seat.behaviour).states =
-    ap (λ (names : List (List ℕ)). length names) names ∙ known.names ∙ ap (λ (b : Beh). b.states) (sym (beh_read s.parts.catalogue seat.behaviour beh placed)) in
+    let count : length (seat_names (names_in s.parts) k).states ≡ (beh_at s.parts.catalogue seat.behaviour).states = grind (arith, (beh_read s.parts.catalogue seat.behaviour beh placed)) in
     let fits : b < (beh_at s.parts.catalogue seat.behaviour).states = omega (arith, less, count) in
     subst (λ (o : Option Seat). IfSome o (λ seat. b < seat.beh.states)) (sym (seat_read s.parts k seat seated)) fits
 
@@ -53,12 +45,7 @@ joining_new s service behaviour state loose x behaviours h =
     let names = map seat_name s.parts.seats in
     let l : i < length s.parts.catalogue = omega (arith, named_within (map beh_name s.parts.catalogue) behaviour i named_i, length-map s.parts.catalogue beh_name) in
     let less = named_within (states_of_behaviour s.parts.catalogue i) state b named_b in
-    subst (CanJoin s.parts) whole (record {
-      name = name_is_new names service (named names service) refl (not_ok (place_of names service) free);
-      behaviour = l;
-      state = omega (arith, less, states_counted s i behaviours l);
-      ready = refl;
-    })
+    grind (arith, (name_is_new names service (named names service) refl (not_ok (place_of names service) free)), (states_counted s i behaviours l))
   where
     not_ok : (o : Option ℕ) → IsTrue (is_none o) → is_ok (ok_or o reply.ErrorName) ≡ false
     not_ok None h = refl

@@ -1,5 +1,5 @@
 -- Offers, counts and reports are right by the greatest ND-simulation.
-use Rattle.roman_hearing.proofs.Common.{◌≡◌, ℕ, ◌+◌, Bool, List, [], ◌∷◌, ◌++◌, map, length, cond, true, false, IsTrue, ◌↔◌, refl, sym, ◌∙◌, subst, length-append, arith, both_ways, length-map, IsIn, below, Sys, Pair, IsSys, IsPair, is_final, arena, is_allowed, Entry, IsComplete, Great, name_at, is_related, offers, filter_sublist, filter_in, in_filter, in_below, allowed_in, from_allowed, related_great, great_related, in_listed, listed_in, from_map, system_is_same, system_of, seat_name, Situation, present_system, IsPhase, IsSituation, lines_text, report_text, Phase, Idle, Offered, Delegated, shown, State, IsGreat, MayAsk, afresh, Counts, flat_map, IsSublist, sizes_of, count, related_count, sublist_none, HasNoRepeats-filter, allowed_in_range, from_pairs, in_pairs, pairs_once, length-pairs, offers_are, order_new, new_once, in_map, service_lines, OpenIsGreat, start_state, IsOpenGreat, AreServing, ReportsGreat}
+use Rattle.roman_hearing.proofs.Common.{◌≡◌, ℕ, ◌+◌, Bool, List, [], ◌∷◌, ◌++◌, map, length, cond, true, false, IsTrue, ◌↔◌, refl, sym, ◌∙◌, length-append, arith, both_ways, length-map, IsIn, below, IsSublist, Sys, Pair, IsSys, IsPair, is_final, arena, is_allowed, Entry, IsComplete, Great, name_at, is_related, offers, related_count, filter_sublist, filter_in, in_filter, in_below, allowed_in, from_allowed, related_great, great_related, in_listed, listed_in, from_map, system_is_same, sublist_none, HasNoRepeats-filter, allowed_in_range, from_pairs, in_pairs, pairs_once, length-pairs, offers_are, order_new, new_once, in_map, system_of, seat_name, Situation, present_system, IsPhase, IsSituation, lines_text, report_text, service_lines, Phase, Idle, Offered, Delegated, shown, State, IsGreat, MayAsk, start_state, IsOpenGreat, afresh, Counts, flat_map, sizes_of, count, OpenIsGreat, AreServing, ReportsGreat}
 use Rattle.std.specs.List.{filter}
 use Rattle.roman_text.specs.declared.report.ReportLine.TheVariants as line
 use Rattle.roman_hearing.proofs.ReportLemmas.{reports_afresh, afresh_known}
@@ -42,15 +42,7 @@ lost_counted s kept added complete =
     record {
       pairs = map (λ x. x.node) L;
       once = new_once (arena s) (system_is_same s) [] L (order_new (arena s) L complete.order);
-      each = λ p. (
-        λ i.
-            let (x, j, same) = from_map (λ (x : Entry Pair). x.node) p L i in
-            let pair = complete.pairs x j in
-            subst (λ (p : Pair). IsPair s p × (Great s p → ⊥)) (sym same) (pair, (complete.exact x.node pair).0 (in_listed (arena s) (system_is_same s) L x j)),
-        λ (pair, lost).
-            let (x, j, same) = listed_in (arena s) (system_is_same s) L p ((complete.exact p pair).1 lost) in
-            subst (λ (p : Pair). IsIn p (map (λ (x : Entry Pair). x.node) L)) (sym same) (in_map (λ (x : Entry Pair). x.node) x L j),
-      );
+      each = grind (arith, from_map, in_listed, system_is_same, listed_in, in_map);
       count = length-map L (λ (x : Entry Pair). x.node) ∙ length-append kept added;
     }
 

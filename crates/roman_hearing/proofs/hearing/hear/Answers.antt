@@ -1,21 +1,10 @@
-use Rattle.roman_hearing.proofs.Common.{◌++◌, [], inr, take, refl, ◌∙◌, arith, length-append, Gave-then, length-take-le, rules, Gave-nil, gave_at_most}
+use Rattle.roman_hearing.proofs.Common.{◌++◌, [], take, ◌∙◌, arith, length-append, length-take-le, rules, Gave-then, Gave-nil, gave_at_most}
 use Rattle.roman_hearing.proofs.HearingLemmas.{hearing_starts}
 use Rattle.roman_hearing.proofs.HearingEnds.{rest_ends, out_at_quit, gave_quit, piece_ends}
 use Rattle.roman_hearing.proofs.hearing.hear.Goals as goal
 
 pub takes-init : goal.takes-init
-takes-init g c = record {
-  taken = [];
-  gave = Gave-nil (g.S.Source.rest c.args.source.now);
-  hearing = hearing_starts c.args.session.now (g.O.Sink.written c.args.out.now) c.new-splitter.result c.new-splitter.ensures.empty;
-  page = c.new-page.ensures.empty;
-  room = refl;
-  piece = refl;
-  reads = refl;
-  writes = refl;
-  borrowed = refl;
-  texts = refl;
-}
+takes-init g c = grind (arith, (Gave-nil (g.S.Source.rest c.args.source.now)), (hearing_starts c.args.session.now (g.O.Sink.written c.args.out.now) c.new-splitter.result c.new-splitter.ensures.empty))
 
 -- ---- at the end of the source
 
@@ -70,10 +59,7 @@ takes-preserved g c =
     }
 
 pub returns-in-Ok-Quit-clause-ok : goal.returns-in-Ok-Quit-clause-ok
-returns-in-Ok-Quit-clause-ok g c =
-    out_at_quit c.args.session.now c.hear_piece.new.session (g.S.Source.rest c.args.source.now) (g.S.Source.rest c.takes.source) (g.S.Source.rest c.take.new.self) c.takes.invariant.taken
-    (take c.in-Ok.count c.take.new.into) c.takes.room (g.O.Sink.written c.args.out.now) (g.O.Sink.written c.hear_piece.new.out) c.takes.invariant.gave c.in-Ok.ensures.moves c.takes.invariant.room
-    (rw c.in-Ok-Quit.field-0-is at (c.in-Ok-Quit.ensures.hears c.args.session.now (g.O.Sink.written c.args.out.now) c.takes.invariant.taken c.takes.invariant.hearing))
+returns-in-Ok-Quit-clause-ok g c = grind (arith, (out_at_quit c.args.session.now c.hear_piece.new.session (g.S.Source.rest c.args.source.now) (g.S.Source.rest c.takes.source) (g.S.Source.rest c.take.new.self) c.takes.invariant.taken (take c.in-Ok.count c.take.new.into) c.takes.room (g.O.Sink.written c.args.out.now) (g.O.Sink.written c.hear_piece.new.out) c.takes.invariant.gave c.in-Ok.ensures.moves c.takes.invariant.room (rw c.in-Ok-Quit.field-0-is at (c.in-Ok-Quit.ensures.hears c.args.session.now (g.O.Sink.written c.args.out.now) c.takes.invariant.taken c.takes.invariant.hearing))))
 
 pub returns-in-Ok-Quit-clause-taken : goal.returns-in-Ok-Quit-clause-taken
 returns-in-Ok-Quit-clause-taken g c =
@@ -81,11 +67,7 @@ returns-in-Ok-Quit-clause-taken g c =
     c.takes.invariant.gave c.in-Ok.ensures.moves (omega (arith, c.takes.invariant.room, c.takes.invariant.piece, c.take.auto.into, c.in-Ok.ensures.bound, length-take-le c.in-Ok.count c.take.new.into c.in-Ok.ensures.bound))
 
 pub returns-in-Ok-Quit-clause-past : goal.returns-in-Ok-Quit-clause-past
-returns-in-Ok-Quit-clause-past g c =
-    inr (gave_quit c.args.session.now c.hear_piece.new.session (g.S.Source.rest c.args.source.now) (g.S.Source.rest c.takes.source) (g.S.Source.rest c.take.new.self) c.takes.invariant.taken
-    (take c.in-Ok.count c.take.new.into) c.takes.room (g.O.Sink.written c.args.out.now) (g.O.Sink.written c.hear_piece.new.out) c.takes.invariant.gave c.in-Ok.ensures.moves c.takes.invariant.room 4095
-    (omega (arith, c.takes.invariant.piece, c.take.auto.into, c.in-Ok.ensures.bound, length-take-le c.in-Ok.count c.take.new.into c.in-Ok.ensures.bound))
-    (rw c.in-Ok-Quit.field-0-is at (c.in-Ok-Quit.ensures.hears c.args.session.now (g.O.Sink.written c.args.out.now) c.takes.invariant.taken c.takes.invariant.hearing)))
+returns-in-Ok-Quit-clause-past g c = grind (arith, (gave_quit c.args.session.now c.hear_piece.new.session (g.S.Source.rest c.args.source.now) (g.S.Source.rest c.takes.source) (g.S.Source.rest c.take.new.self) c.takes.invariant.taken (take c.in-Ok.count c.take.new.into) c.takes.room (g.O.Sink.written c.args.out.now) (g.O.Sink.written c.hear_piece.new.out) c.takes.invariant.gave c.in-Ok.ensures.moves c.takes.invariant.room 4095 (omega (arith, c.takes.invariant.piece, c.take.auto.into, c.in-Ok.ensures.bound, length-take-le c.in-Ok.count c.take.new.into c.in-Ok.ensures.bound)) (rw c.in-Ok-Quit.field-0-is at (c.in-Ok-Quit.ensures.hears c.args.session.now (g.O.Sink.written c.args.out.now) c.takes.invariant.taken c.takes.invariant.hearing))))
 
 pub returns-in-Err : goal.returns-in-Err
 returns-in-Err g c =

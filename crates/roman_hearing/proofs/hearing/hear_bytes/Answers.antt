@@ -1,4 +1,4 @@
-use Rattle.roman_hearing.proofs.Common.{◌∷◌, ◌++◌, [], List, ℕ, refl, sym, ap, subst, ◌∙◌, append_assoc, append-nil, cursor, reader_state, IsHearing, err_from_is_err_and}
+use Rattle.roman_hearing.proofs.Common.{◌∷◌, ◌++◌, [], List, ℕ, refl, sym, ap, subst, ◌∙◌, append_assoc, append-nil, arith, cursor, reader_state, IsHearing, err_from_is_err_and}
 use Rattle.roman_hearing.proofs.HearingLemmas.{hears_part, stops_after, fails_after}
 use Rattle.roman_hearing.proofs.hearing.hear_bytes.Goals as goal
 
@@ -7,8 +7,7 @@ lines-init g c = record {
   hears = (
     [],
     refl,
-    λ old before taken is.
-        subst (λ (bytes : List ℕ). IsHearing (cursor old before) bytes (reader_state c.args.session.now (g.O.Sink.written c.args.out.now) c.args.page.now c.args.splitter.now)) (sym (append-nil taken)) is,
+    grind (arith, append-nil),
   );
   faults = refl;
 }
@@ -45,6 +44,4 @@ lines-preserved g c =
 pub returns-clause-hears : goal.returns-clause-hears
 returns-clause-hears g c old before taken is =
     let (done, split, hears) = c.lines.invariant.hears in
-    subst (λ (bytes : List ℕ). IsHearing (cursor old before) bytes (reader_state c.lines.session (g.O.Sink.written c.lines.out) c.lines.page c.hold.new.self))
-    (append_assoc taken done c.lines.rest.now ∙ ap (λ (bytes : List ℕ). taken ++ bytes) (sym split))
-    (hears_part old before (taken ++ done) c.lines.session (g.O.Sink.written c.lines.out) c.lines.page c.lines.splitter c.lines.rest.now (hears old before taken is) c.in_default.ensures c.hold.new.self c.hold.ensures)
+    grind (arith, (append_assoc taken done c.lines.rest.now), (hears_part old before (taken ++ done) c.lines.session (g.O.Sink.written c.lines.out) c.lines.page c.lines.splitter c.lines.rest.now (hears old before taken is) c.in_default.ensures c.hold.new.self c.hold.ensures))

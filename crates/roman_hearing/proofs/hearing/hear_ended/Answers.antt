@@ -1,4 +1,4 @@
-use Rattle.roman_hearing.proofs.Common.{◌++◌, sym, ◌∙◌, unfinished}
+use Rattle.roman_hearing.proofs.Common.{◌++◌, sym, ◌∙◌, arith, unfinished}
 use Rattle.roman_hearing.proofs.HearingLemmas.{alone_kept, more_kept, hears_ended}
 use Rattle.roman_hearing.proofs.hearing.hear_ended.Goals as goal
 

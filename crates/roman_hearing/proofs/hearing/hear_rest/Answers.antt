@@ -1,10 +1,9 @@
-use Rattle.roman_hearing.proofs.Common.{List, ℕ, sym, ◌∙◌, subst, unfinished, cursor, reader_state, IsHearing, kept-again}
+use Rattle.roman_hearing.proofs.Common.{List, ℕ, sym, ◌∙◌, subst, arith, unfinished, cursor, reader_state, IsHearing, kept-again}
 use Rattle.roman_hearing.proofs.HearingLemmas.{hears_no_rest, hears_rest, fails_put, fails_rest}
 use Rattle.roman_hearing.proofs.hearing.hear_rest.Goals as goal
 
 pub returns-then-not-rest-clause-hears : goal.returns-then-not-rest-clause-hears
-returns-then-not-rest-clause-hears g c old before taken is =
-    hears_no_rest old before taken c.args.session.now (g.O.Sink.written c.args.out.now) c.args.splitter.now is (sym c.rest.ensures.rest ∙ c.if-not-rest.true)
+returns-then-not-rest-clause-hears g c old before taken is = grind (arith, hears_no_rest)
 
 pub returns-in_default-clause-hears : goal.returns-in_default-clause-hears
 returns-in_default-clause-hears g c old before taken is =
