@@ -1,6 +1,6 @@
 -- Lemmas on any arena: listed nodes, beaten seats, reasons, masks, and nodes that survive.
-use Rattle.roman_model.proofs.Common.{inr, ◌≡◌, ◌≢◌, ℕ, ◌<◌, ◌≤◌, Bool, not, ◌&&◌, ◌||◌, ◌⊎◌, List, [], ◌∷◌, ◌++◌, map, IsTrue, IsFalse, filter, flat_map, inl, refl, sym, ap, ◌∙◌, subst, arith, rules, reasons, list_any, or-false, both_ways, or_cases, or_parts, or_left, or_right, or_from, and_parts, and_from, and_cases, and_left, not-true, not_from_false, eqb-true, eq-eqb, cond-true, cond-false, list_any-append, IsIn, HasNoRepeats, below, all_below, is_empty, has, Arena, Entry, is_among, is_listed, is_beaten, is_justified, mask, back, Delegation, delegations, Reason, Final, Act}
-use Rattle.roman_model.proofs.Lists.{by_test, same_test, in_map, from_map, in_flat_map, from_flat_map, in_filter, filter_in, any_true, any_from, any_false, none_from, any_more, any_same, list_any-map, empty_is, not_empty_ne, ne_not_empty, in_below, from_below, all_below_at, all_below_from, all_below_false, all_below_more, all_below_same, filter_same}
+use Rattle.roman_model.proofs.Common.{inr, ◌≡◌, ◌≢◌, ℕ, ◌<◌, ◌≤◌, Bool, not, ◌&&◌, ◌||◌, ◌⊎◌, List, [], ◌∷◌, ◌++◌, map, IsTrue, IsFalse, filter, flat_map, inl, refl, sym, ap, ◌∙◌, subst, arith, rules, reasons, list_any, or-false, both_ways, or_cases, or_parts, or_left, or_right, and_parts, and_from, and_cases, and_left, not-true, not_from_false, eqb-true, eq-eqb, cond-true, cond-false, list_any-append, IsIn, HasNoRepeats, below, all_below, is_empty, has, Arena, Entry, is_among, is_listed, is_beaten, is_justified, mask, back, Delegation, delegations, Reason, Final, Act}
+use Rattle.roman_model.proofs.Lists.{by_test, same_test, in_map, from_map, in_flat_map, from_flat_map, in_filter, filter_in, any_true, any_from, any_false, none_from, any_same, list_any-map, empty_is, not_empty_ne, in_below, from_below, all_below_at, all_below_from, all_below_false, all_below_more, all_below_same, filter_same}
 
 -- the arena's test of two nodes is equality
 pub record IsSame {N : Type 0} (A : Arena N) : Type 0 where
@@ -24,14 +24,8 @@ pub record Survives {N : Type 0} (A : Arena N) (Lives : N → Type 0) (p : N) : 
 
 -- Listed nodes.
 
-pub same_from : {N : Type 0} (A : Arena N) → IsSame A → (p q : N) → p ≡ q → IsTrue (A.same p q)
-same_from A E p q e = subst (λ r. IsTrue (A.same p r)) e (E.itself p)
-
 pub among_in : {N : Type 0} (A : Arena N) → IsSame A → (ps : List N) (p : N) → IsTrue (is_among A ps p) → IsIn p ps
 among_in A E ps p h = let (q, i, t) = any_true (A.same p) ps h in subst (λ r. IsIn r ps) (sym (E.is p q t)) i
-
-pub in_among : {N : Type 0} (A : Arena N) → IsSame A → (ps : List N) (p : N) → IsIn p ps → IsTrue (is_among A ps p)
-in_among A E ps p i = any_from (A.same p) p ps i (E.itself p)
 
 pub listed_among : {N : Type 0} (A : Arena N) (L : List (Entry N)) (p : N) → is_listed A L p ≡ is_among A (map (λ x. x.node) L) p
 listed_among A L p = sym (list_any-map (λ x. x.node) (A.same p) L)
@@ -50,15 +44,6 @@ listed_push A L x p = listed_append A L (x ∷ []) p ∙ ap (λ b. is_listed A L
 
 -- Beaten seats.
 
--- a beaten seat stays beaten where more nodes are gone
-pub beaten_more : {N : Type 0} (A : Arena N) (gone more : N → Bool) (p : N) (a k : ℕ) →
-    ((q : N) → IsIn q (A.outcomes p a k) → IsTrue (gone q) → IsTrue (more q)) → IsTrue (is_beaten A gone p a k) → IsTrue (is_beaten A more p a k)
-beaten_more A gone more p a k h b = grind (arith, any_more, or_cases, or_left, or_right)
-
-pub beaten_same : {N : Type 0} (A : Arena N) (gone more : N → Bool) (p : N) (a k : ℕ) →
-    ((q : N) → IsIn q (A.outcomes p a k) → gone q ≡ more q) → is_beaten A gone p a k ≡ is_beaten A more p a k
-beaten_same A gone more p a k h = ap (λ b. is_empty (A.outcomes p a k) || b) (any_same gone more (A.outcomes p a k) h)
-
 pub beaten_is : {N : Type 0} (A : Arena N) (gone : N → Bool) (p : N) (a k : ℕ) → IsTrue (is_beaten A gone p a k) →
     (A.outcomes p a k ≡ []) ⊎ ((q : N) × IsIn q (A.outcomes p a k) × IsTrue (gone q))
 beaten_is A gone p a k b = grind (arith, any_true, empty_is, or_cases)
@@ -73,22 +58,18 @@ pub unbeaten_is : {N : Type 0} (A : Arena N) (gone : N → Bool) (p : N) (a k : 
     (A.outcomes p a k ≢ []) × ((q : N) → IsIn q (A.outcomes p a k) → IsFalse (gone q))
 unbeaten_is A gone p a k b = grind (arith, any_false, not_empty_ne, or_parts)
 
-pub unbeaten_from : {N : Type 0} (A : Arena N) (gone : N → Bool) (p : N) (a k : ℕ) → A.outcomes p a k ≢ [] →
-    ((q : N) → IsIn q (A.outcomes p a k) → IsFalse (gone q)) → IsFalse (is_beaten A gone p a k)
-unbeaten_from A gone p a k some all = grind (arith, ne_not_empty, none_from, or_from)
-
 -- Reasons.
 
 -- a reason that holds still holds where more nodes are gone
 pub justified_more : {N : Type 0} (A : Arena N) (gone more : N → Bool) (p : N) (r : Reason) →
     ((a k : ℕ) (q : N) → IsIn q (A.outcomes p a k) → IsTrue (gone q) → IsTrue (more q)) → IsTrue (is_justified A gone p r) → IsTrue (is_justified A more p r)
 justified_more A gone more p Final h j = j
-justified_more A gone more p (Act a) h j = grind (arith, all_below_more, and_from, and_parts, beaten_more)
+justified_more A gone more p (Act a) h j = grind (arith, all_below_more, and_from, and_parts, any_true, any_from, or_cases, or_left, or_right)
 
 pub justified_same : {N : Type 0} (A : Arena N) (gone more : N → Bool) (p : N) (r : Reason) →
     ((a k : ℕ) (q : N) → IsIn q (A.outcomes p a k) → gone q ≡ more q) → is_justified A gone p r ≡ is_justified A more p r
 justified_same A gone more p Final h = refl
-justified_same A gone more p (Act a) h = grind (arith, all_below_same, beaten_same)
+justified_same A gone more p (Act a) h = grind (arith, all_below_same, any_same)
 
 pub justified_by : {N : Type 0} (A : Arena N) (gone : N → Bool) (p : N) (a : ℕ) → IsTrue (A.allows p a) →
     ((k : ℕ) → k < A.seats → IsTrue (is_beaten A gone p a k)) → IsTrue (is_justified A gone p (Act a))
@@ -108,11 +89,6 @@ reason_in A ok gone p (Act a) j = inr (in_map Act a (below A.actions) (in_below 
 pub unallowed_unjustified : {N : Type 0} (A : Arena N) (gone : N → Bool) (p : N) (a : ℕ) → IsFalse (A.allows p a) → IsFalse (is_justified A gone p (Act a))
 unallowed_unjustified A gone p a f = and_left (A.allows p a) (all_below (is_beaten A gone p a) A.seats) f
 
--- where the action isn't a reason though it is allowed, some seat isn't beaten
-pub unjustified_act : {N : Type 0} (A : Arena N) (gone : N → Bool) (p : N) (a : ℕ) → IsTrue (A.allows p a) → IsFalse (is_justified A gone p (Act a)) →
-    (k : ℕ) × (k < A.seats) × IsFalse (is_beaten A gone p a k)
-unjustified_act A gone p a allowed j = grind (arith, all_below_false, and_cases, both_ways)
-
 -- Masks.
 
 pub in_mask : {N : Type 0} (A : Arena N) (gone : N → Bool) (p : N) (a k : ℕ) → IsTrue (A.allows p a) → k < A.seats → IsFalse (is_beaten A gone p a k) → IsIn k (mask A gone p a)
@@ -124,7 +100,7 @@ from_mask A gone p a k i = grind (arith, by_test, cond-false, cond-true, filter_
 
 pub mask_same : {N : Type 0} (A : Arena N) (gone more : N → Bool) (p : N) (a : ℕ) →
     ((k : ℕ) (q : N) → IsIn q (A.outcomes p a k) → gone q ≡ more q) → mask A gone p a ≡ mask A more p a
-mask_same A gone more p a h = grind (arith, beaten_same, filter_same)
+mask_same A gone more p a h = grind (arith, any_same, filter_same)
 
 -- the mask is empty where the action isn't allowed
 pub mask_none : {N : Type 0} (A : Arena N) (gone : N → Bool) (p : N) (a : ℕ) → IsFalse (A.allows p a) → mask A gone p a ≡ []
@@ -139,7 +115,7 @@ mask_has_past A gone p a k l = grind (arith, by_test, eqb-true, from_mask, none_
 
 -- the mask is empty exactly where the action is a reason, or isn't allowed
 pub mask_empty : {N : Type 0} (A : Arena N) (gone : N → Bool) (p : N) (a : ℕ) → IsTrue (A.allows p a) → mask A gone p a ≡ [] → IsTrue (is_justified A gone p (Act a))
-mask_empty A gone p a allowed e = grind (arith, by_test, in_mask, unjustified_act)
+mask_empty A gone p a allowed e = grind (arith, by_test, in_mask, all_below_false, and_cases, both_ways)
 
 pub mask_not_empty : {N : Type 0} (A : Arena N) (gone : N → Bool) (p : N) (a : ℕ) → mask A gone p a ≢ [] → IsFalse (is_justified A gone p (Act a))
 mask_not_empty A gone p a ne = by_test (is_justified A gone p (Act a))
@@ -166,7 +142,7 @@ unjustified A Lives gone p (Act a) s dead j = grind (arith, beaten_is, justified
 -- a node at which no reason holds survives among the nodes that aren't gone
 pub survivor : {N : Type 0} (A : Arena N) (gone : N → Bool) (p : N) → IsTrue (A.fine p) →
     ((a : ℕ) → IsTrue (A.allows p a) → IsFalse (is_justified A gone p (Act a))) → Survives A (λ q. IsFalse (gone q)) p
-survivor A gone p fine h = grind (arith, unbeaten_is, unjustified_act)
+survivor A gone p fine h = grind (arith, unbeaten_is, all_below_false, and_cases, both_ways)
 
 -- the same, where only nodes of the arena count
 pub survivor_within : {N : Type 0} (A : Arena N) → IsArena A → (gone : N → Bool) (p : N) → IsIn p A.nodes → IsTrue (A.fine p) →
@@ -184,15 +160,12 @@ in_delegations A p a k i l m =
     (in_flat_map (λ a. map (λ k. record { node = p; action = a; seat = k }) (below A.seats)) a (record { node = p; action = a; seat = k }) (below A.actions)
     (in_below A.actions a l) (in_map (λ k. record { node = p; action = a; seat = k }) k (below A.seats) (in_below A.seats k m)))
 
-pub from_delegations : {N : Type 0} (A : Arena N) (d : Delegation N) → IsIn d (delegations A) → IsIn d.node A.nodes × (d.action < A.actions) × (d.seat < A.seats)
-from_delegations A d i = grind (arith, from_below, from_flat_map, from_map)
-
 pub in_back : {N : Type 0} (A : Arena N) → IsArena A → (q p : N) (a k : ℕ) → IsIn p A.nodes → IsIn q (A.outcomes p a k) →
     IsIn (record { node = p; action = a; seat = k }) (back A q)
 in_back A ok q p a k i j =
     let (allowed, l, ready) = ok.served p a k q j in
-    grind (arith, in_filter, (in_delegations A p a k i (ok.allowed p a allowed) l), in_among)
+    grind (arith, in_filter, (in_delegations A p a k i (ok.allowed p a allowed) l), any_from)
 
 pub from_back : {N : Type 0} (A : Arena N) → IsSame A → (q : N) (d : Delegation N) → IsIn d (back A q) →
     IsIn d.node A.nodes × (d.action < A.actions) × (d.seat < A.seats) × IsIn q (A.outcomes d.node d.action d.seat)
-from_back A E q d i = grind (arith, among_in, filter_in, from_delegations)
+from_back A E q d i = grind (arith, among_in, filter_in, from_below, from_flat_map, from_map)

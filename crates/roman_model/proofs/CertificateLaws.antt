@@ -11,7 +11,7 @@ use Rattle.roman_model.proofs.Renames.{order_named}
 use Rattle.roman_model.proofs.NumberedArena.{IsNumber, AreNumbers, numbers_rename, justified_at}
 use Rattle.roman_model.proofs.NumberedLists.{numbered_is_same, numbered_is_arena, numbered_completed_by, numbered_listed, numbered_pairs, numbered_pairs_once, in_numbered_pairs, from_numbered_pairs}
 use Rattle.roman_model.proofs.LineLemmas.{lines-text_of_lines}
-use Rattle.roman_model.proofs.CertificateLemmas.{head_is_line, end_is_line, count_is_line, entry_is_line, entry_is_no_end, AreFew, possible_small, in_possible, from_possible, entry_of-line, entry_of-is, entry_of_other, entries_on-lines, faults_none, faults_first, clean_push, fault_next, fault_over, faults_cases}
+use Rattle.roman_model.proofs.CertificateLemmas.{end_is_line, entry_is_line, entry_is_no_end, AreFew, possible_small, in_possible, from_possible, entry_of-line, entry_of-is, entry_of_other, entries_on-lines, faults_none, faults_first, clean_push, fault_next, fault_over, faults_cases, append_line, decimal_without}
 
 -- The sizes of a system within the limits
 
@@ -176,8 +176,8 @@ cert_length s L sys few are fits =
 -- The lines of the text
 
 cert_are_lines : (s : Sys) (L : List (Entry ℕ)) → IsFew s → ArePossible s L → node_count s < 2 ^ 64 → AreLines (cert_lines (node_count s) L)
-cert_are_lines s L small are few line (inl e) = subst IsLine (sym e) head_is_line
-cert_are_lines s L small are few line (inr (inl e)) = subst IsLine (sym e) (count_is_line (node_count s) few)
+cert_are_lines s L small are few line (inl e) = grind arith
+cert_are_lines s L small are few line (inr (inl e)) = grind (arith, append_line, decimal_without)
 cert_are_lines s L small are few line (inr (inr i)) = elim (from_append line (map entry_line L) (end_line ∷ []) i) [
   | inl j ↦
       let (x, k, e) = from_map entry_line line L j in

@@ -1,5 +1,5 @@
 -- Lines of certificates: the entry that a line states, and the first fault.
-use Rattle.roman_model.proofs.Common.{slice_get_past, ◌≡◌, ℕ, zero, suc, ◌+◌, ◌%◌, ◌^◌, ◌<◌, ◌≤◌, ◌==◌, false, ◌⊎◌, List, [], ◌∷◌, ◌++◌, map, length, take, Option, Some, None, IsFalse, option_map, slice_get, codes, decimal, refl, sym, ap, ap₂, ◌∙◌, subst, inl, inr, arith, length-append, cons_option, both_ways, or_parts, or_from, eq-eqb, cases_lt, ne_eqb, list_any-append, filter_map-append, IsIn, below, IsLine, has, same_numbers, Arena, Entry, head_line, count_line, reason_text, entry_line, end_line, Why, Verdict, Rejected, reasons, possible_entries, entry_of, entries_on, line_fault, IsClean, faults, Reason, Final, Act, take-append-le, take_all, take_at, decimal_by_steps, decimal_injective, decimal_nonempty}
+use Rattle.roman_model.proofs.Common.{slice_get_past, ◌≡◌, ℕ, zero, suc, ◌+◌, ◌%◌, ◌^◌, ◌<◌, ◌≤◌, ◌==◌, false, ◌⊎◌, List, [], ◌∷◌, ◌++◌, map, length, take, Option, Some, None, IsFalse, option_map, slice_get, decimal, refl, sym, ap, ap₂, ◌∙◌, subst, inl, inr, arith, length-append, cons_option, both_ways, or_parts, or_from, eq-eqb, cases_lt, ne_eqb, list_any-append, filter_map-append, IsIn, below, IsLine, has, same_numbers, Arena, Entry, reason_text, entry_line, end_line, Why, Verdict, Rejected, reasons, possible_entries, entry_of, entries_on, line_fault, IsClean, faults, Reason, Final, Act, take-append-le, take_all, take_at, decimal_by_steps, decimal_injective, decimal_nonempty}
 use Rattle.roman_model.proofs.Lists.{by_test, none_from, in_map, from_map, in_flat_map, from_flat_map, from_push, in_below, from_below, find_some, find_found, find_not_found, any_from}
 use Rattle.roman_model.proofs.SystemLemmas.{same_numbers_is, same_numbers_itself}
 
@@ -31,14 +31,8 @@ decimal_starts n h = first (decimal n) (decimal_nonempty n h) (λ b i. (decimal_
 pub append_line : (xs ys : List ℕ) → IsLine xs → IsLine ys → IsLine (xs ++ ys)
 append_line xs ys h g = list_any-append (λ m. m == 10) xs ys ∙ or_from (has xs 10) (has ys 10) h g
 
-pub head_is_line : IsLine head_line
-head_is_line = refl
-
 pub end_is_line : IsLine end_line
 end_is_line = refl
-
-pub count_is_line : (pairs : ℕ) → pairs < 2 ^ 64 → IsLine (count_line pairs)
-count_is_line pairs h = append_line (codes "pairs ") (decimal pairs) refl (decimal_without pairs 10 h (inl (omega arith)))
 
 -- the number of the reason is small enough for its decimal text
 abbrev pub IsSmallReason : Reason → Type 0

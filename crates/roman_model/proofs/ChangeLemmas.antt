@@ -1,8 +1,8 @@
 -- The effect of a change of the seats on systems, pairs, outcomes and removal lists.
-use Rattle.roman_model.proofs.Common.{take, drop, length-append, ◌≡◌, ℕ, zero, suc, ◌<◌, ◌≤◌, Bool, true, not, ◌&&◌, ◌||◌, List, [], ◌∷◌, ◌++◌, map, length, Some, IsTrue, IsFalse, filter, flat_map, slice_get, slice_index, slice_set, remove, refl, sym, ap, ap₂, ◌∙◌, subst, inl, inr, arith, rules, length-take, length-drop, length-map, map-append, length_push, take-map, drop-map, same_from_push, IsPairOf, sizes_of, grown_sizes, sizes_without, AllZip-long, list_any, AllZip, cases_eq, both_ways, or_cases, or_left, or_right, and_parts, and_from, cond-true, cond-false, flat_map-map, none-some, same_Some, slice_get_within, IsIn, HasNoRepeats, below, all_below, Seat, Sys, Pair, IsBeh, IsSys, IsPair, is_final, all_final, env_next, beh_next, seat_next, outcomes_by, outcomes, is_allowed, is_fine, same_pair, arena, Entry, is_among, is_beaten, is_justified, IsOrderFrom, AreNew, AreEntries, Join, Die, set_frozen, grown, without, may_go, firsts, entry_without, rename, MAX_SERVICES, Reason, Final, Act}
+use Rattle.roman_model.proofs.Common.{length-append, ◌≡◌, ℕ, zero, suc, ◌<◌, ◌≤◌, Bool, true, not, ◌&&◌, ◌||◌, List, [], ◌∷◌, ◌++◌, map, length, Some, IsTrue, IsFalse, filter, flat_map, slice_get, slice_index, slice_set, remove, refl, sym, ap, ap₂, ◌∙◌, subst, inl, inr, arith, rules, length-take, length-drop, length-map, map-append, length_push, take-map, drop-map, same_from_push, IsPairOf, sizes_of, grown_sizes, sizes_without, AllZip-long, list_any, AllZip, cases_eq, both_ways, or_cases, or_left, or_right, and_parts, and_from, cond-true, cond-false, flat_map-map, none-some, same_Some, slice_get_within, IsIn, HasNoRepeats, below, all_below, Seat, Sys, Pair, IsBeh, IsSys, IsPair, is_final, all_final, env_next, beh_next, seat_next, outcomes_by, outcomes, is_allowed, is_fine, same_pair, arena, Entry, is_among, is_beaten, is_justified, IsOrderFrom, AreNew, AreEntries, Join, Die, set_frozen, grown, without, may_go, firsts, entry_without, rename, MAX_SERVICES, Reason, Final, Act}
 use Rattle.roman_model.proofs.NumberLemmas.{IsPair-from, IsPairOf-from, IsPairOf-grown, IsPairOf-without}
 use Rattle.roman_model.proofs.Lists.{by_test, any_true, any_from, list_any-map, is_empty-map, from_push, in_map, from_map, from_flat_map, filter_in, from_below, all_below_at, all_below_from, HasNoRepeats-map, HasNoRepeats-flat_map, HasNoRepeats-below}
-use Rattle.roman_model.proofs.SystemLemmas.{same_pair_is, same_pair_from, from_moved}
+use Rattle.roman_model.proofs.SystemLemmas.{same_pair_is, same_pair_from, from_beh_next, from_env_next}
 
 -- Maps of maps
 
@@ -32,10 +32,6 @@ flat_map_none f [] none = refl
 flat_map_none f (x ∷ xs) none = ap₂ (λ ys zs. ys ++ zs) (none x) (flat_map_none f xs none)
 
 -- Outcomes that are images of other outcomes
-
--- a seat without a next state has no outcome
-pub moved_none : (s : Sys) (p : Pair) (a k : ℕ) → outcomes_by s p a k [] ≡ []
-moved_none s p a k = grind (arith, flat_map_none)
 
 -- where f keeps the states of the target and the environment, and maps the states of seat j to those of seat k
 pub moved_named : (s : Sys) (seats : List Seat) (p : Pair) (a j k : ℕ) (states : List ℕ) (g : List ℕ → List ℕ) (bs : List ℕ) →
@@ -142,11 +138,8 @@ IsSys-turned s k frozen ok = record {
   few = subst (λ n. n ≤ MAX_SERVICES) (sym (length-set_frozen s.seats k frozen)) ok.few;
 }
 
-same_sizes : (s r : Sys) (ns : List ℕ) → s.env ≡ r.env → s.target ≡ r.target → map (λ seat. seat.beh.states) s.seats ≡ ns → sizes_of s ≡ record { target = r.target.states; env = r.env.states; seats = ns }
-same_sizes s r ns e t same = λ i. record { target = (t i).states; env = (e i).states; seats = same i }
-
 pub sizes-turned : (s : Sys) (k : ℕ) (frozen : Bool) → sizes_of (turned s k frozen) ≡ sizes_of s
-sizes-turned s k frozen = same_sizes (turned s k frozen) s (map (λ seat. seat.beh.states) s.seats) refl refl (states_frozen s.seats k frozen)
+sizes-turned s k frozen = grind (arith, states_frozen)
 
 pub IsPair-turned : (s : Sys) (k : ℕ) (frozen : Bool) (p : Pair) → IsPair s p → IsPair (turned s k frozen) p
 IsPair-turned s k frozen p ok = IsPair-from (turned s k frozen) p (subst (λ n. IsPairOf n p) (sym (sizes-turned s k frozen)) (IsPairOf-from s p ok))
@@ -172,7 +165,7 @@ pub outcomes-turned : (s : Sys) (k : ℕ) (frozen : Bool) (p : Pair) (a j : ℕ)
 outcomes-turned s k frozen p a j ne = ap (λ o. outcomes_by s p a j (seat_next o (slice_index p.bs j) p.e a)) (get-set_frozen s.seats k j frozen ne)
 
 pub outcomes-frozen : (s : Sys) (k : ℕ) (p : Pair) (a : ℕ) → outcomes (turned s k true) p a k ≡ []
-outcomes-frozen s k p a = search (rules, moved_none, seat_next-frozen)
+outcomes-frozen s k p a = search (rules, flat_map_none, seat_next-frozen)
 
 -- a beaten seat stays beaten where a seat is frozen
 pub freeze_beaten : (s : Sys) (k : ℕ) (gone : Pair → Bool) (p : Pair) (a j : ℕ) → IsTrue (is_beaten (arena s) gone p a j) → IsTrue (is_beaten (arena (turned s k true)) gone p a j)
@@ -226,7 +219,7 @@ IsSys-joined s seat ok beh room = record {
 }
 
 pub sizes-joined : (s : Sys) (seat : Seat) → sizes_of (joined s seat) ≡ grown_sizes (sizes_of s) seat.beh.states
-sizes-joined s seat = same_sizes (joined s seat) s (map (λ seat. seat.beh.states) s.seats ++ seat.beh.states ∷ []) refl refl (map-append (λ seat. seat.beh.states) s.seats (seat ∷ []))
+sizes-joined s seat = grind (arith, map-append)
 
 pub IsPair-grown : (s : Sys) (seat : Seat) (p : Pair) (b : ℕ) → IsPair s p → b < seat.beh.states → IsPair (joined s seat) (grown p b)
 IsPair-grown s seat p b ok l =
@@ -235,15 +228,12 @@ IsPair-grown s seat p b ok l =
 pub join_entries : (s : Sys) (seat : Seat) (L : List (Entry Pair)) → AreEntries s L → AreEntries (joined s seat) (rename (Join seat) L)
 join_entries s seat L are x i = grind (arith, IsPair-grown, from_below, from_flat_map, from_map)
 
-pub grown_apart : (p q : Pair) (b c : ℕ) → grown p b ≡ grown q c → (p ≡ q) × (b ≡ c)
-grown_apart p q b c e = grind (arith, same_from_push)
-
 -- the nodes of the renamed entries
 pub join_nodes : (seat : Seat) (L : List (Entry Pair)) → map (λ x. x.node) (rename (Join seat) L) ≡ flat_map (λ p. map (grown p) (below seat.beh.states)) (map (λ x. x.node) L)
 join_nodes seat L = grind (arith, flat_map-map, flat_map_same, map-flat_map, map-map)
 
 pub join_once : (seat : Seat) (L : List (Entry Pair)) → HasNoRepeats (map (λ x. x.node) L) → HasNoRepeats (map (λ x. x.node) (rename (Join seat) L))
-join_once seat L once = grind (arith, HasNoRepeats-below, HasNoRepeats-flat_map, HasNoRepeats-map, from_map, grown_apart, join_nodes)
+join_once seat L once = grind (arith, HasNoRepeats-below, HasNoRepeats-flat_map, HasNoRepeats-map, from_map, same_from_push, join_nodes)
 
 -- Deaths
 
@@ -263,11 +253,8 @@ IsSys-left s k ok = record {
   few = let less : length (remove s.seats k) ≤ length s.seats = length-remove-le s.seats k in let few : length s.seats ≤ MAX_SERVICES = ok.few in omega arith;
 }
 
-pub map-remove : {X Y : Type 0} (f : X → Y) (xs : List X) (k : ℕ) → map f (remove xs k) ≡ remove (map f xs) k
-map-remove f xs k = map-append f (take k xs) (drop (suc k) xs) ∙ ap₂ (λ ys zs. ys ++ zs) (sym (take-map f k xs)) (sym (drop-map f (suc k) xs))
-
 pub sizes-left : (s : Sys) (k : ℕ) → sizes_of (left s k) ≡ sizes_without k (sizes_of s)
-sizes-left s k = same_sizes (left s k) s (remove (map (λ seat. seat.beh.states) s.seats) k) refl refl (map-remove (λ seat. seat.beh.states) s.seats k)
+sizes-left s k = grind (arith, map-append, take-map, drop-map)
 
 pub IsPair-without : (s : Sys) (k : ℕ) (p : Pair) → IsPair s p → IsPair (left s k) (without k p)
 IsPair-without s k p ok =
@@ -285,7 +272,7 @@ outcomes-without s k p a j =
 
 -- an outcome of another seat keeps the state of seat k
 pub outcome_keeps : (s : Sys) (k : ℕ) (p : Pair) (a j : ℕ) (q : Pair) → IsIn q (outcomes s p a (place k j)) → slice_index q.bs k ≡ slice_index p.bs k
-outcome_keeps s k p a j q i = grind (arith, from_moved, index_set_place)
+outcome_keeps s k p a j q i = grind (arith, from_beh_next, from_env_next, from_flat_map, from_map, index_set_place)
 
 pub all_final-remove : (seats : List Seat) (bs : List ℕ) (k : ℕ) (seat : Seat) → slice_get seats k ≡ Some seat → k < length bs → IsTrue (not seat.rests || is_final seat.beh (slice_index bs k)) →
     all_final seats bs ≡ all_final (remove seats k) (remove bs k)
@@ -297,14 +284,9 @@ all_final-remove (x ∷ seats) (b ∷ bs) (suc k) seat e l h = ap (λ y. (not x.
 pub is_fine-without : (s : Sys) (k : ℕ) (seat : Seat) (p : Pair) → slice_get s.seats k ≡ Some seat → IsPair s p → IsTrue (may_go k seat p) → is_fine s p ≡ is_fine (left s k) (without k p)
 is_fine-without s k seat p seated ok goes = grind (arith, all_final-remove, slice_get_within, states_length)
 
--- a seat is beaten without seat k exactly where it was beaten at its old place
-pub beaten-without : (s : Sys) (k : ℕ) (gone : Pair → Bool) (p : Pair) (a j : ℕ) →
-    is_beaten (arena (left s k)) gone (without k p) a j ≡ is_beaten (arena s) (λ q. gone (without k q)) p a (place k j)
-beaten-without s k gone p a j = grind (arith, is_empty-map, list_any-map, outcomes-without)
-
 pub die_beaten : (s : Sys) (k : ℕ) (seat : Seat) (gone lost : Pair → Bool) → ((q : Pair) → IsTrue (gone q) → IsTrue (may_go k seat q) → IsTrue (lost (without k q))) →
     (p : Pair) (a j : ℕ) → IsTrue (may_go k seat p) → IsTrue (is_beaten (arena s) gone p a (place k j)) → IsTrue (is_beaten (arena (left s k)) lost (without k p) a j)
-die_beaten s k seat gone lost carries p a j goes h = grind (arith, any_from, any_true, beaten-without, or_cases, or_left, or_right, outcome_keeps)
+die_beaten s k seat gone lost carries p a j goes h = grind (arith, any_from, any_true, is_empty-map, list_any-map, outcomes-without, or_cases, or_left, or_right, outcome_keeps)
 
 pub die_justified : (s : Sys) (k : ℕ) (seat : Seat) (gone lost : Pair → Bool) → slice_get s.seats k ≡ Some seat →
     ((q : Pair) → IsTrue (gone q) → IsTrue (may_go k seat q) → IsTrue (lost (without k q))) →
@@ -367,9 +349,5 @@ pub firsts_in : (seen : List Pair) (L : List (Entry Pair)) (x : Entry Pair) → 
 firsts_in seen [] x i = absurd i
 firsts_in seen (y ∷ L) x i = grind (arith, by_test, cond-true, (firsts_in seen L x), (firsts_in (y.node ∷ seen) L x))
 
--- each renamed entry comes from a listed entry whose pair may go
-pub die_from : (k : ℕ) (seat : Seat) (L : List (Entry Pair)) (x : Entry Pair) → IsIn x (rename (Die k seat) L) → (y : Entry Pair) × IsIn y L × IsTrue (may_go k seat y.node) × (x ≡ entry_without k y)
-die_from k seat L x i = grind (arith, filter_in, firsts_in, from_map)
-
 pub die_entries : (s : Sys) (k : ℕ) (seat : Seat) (L : List (Entry Pair)) → AreEntries s L → AreEntries (left s k) (rename (Die k seat) L)
-die_entries s k seat L are x i = grind (arith, IsPair-without, die_from)
+die_entries s k seat L are x i = grind (arith, IsPair-without, filter_in, firsts_in, from_map)

@@ -102,9 +102,6 @@ encoded_back w d t =
 decoded_back : (w : Several) (c : Couple) → c.t < total w → encoded w (decoded w c) ≡ c
 decoded_back w c l = ap (λ t. record { t = t; e = c.e; bs = c.bs; e2 = c.e2 }) (states_number-at (target_sizes w.targets) c.t l)
 
-is_encoded_from : (w : Several) (c : Couple) → c.t < total w → IsTrue (is_encoded w (decoded w c))
-is_encoded_from w c l = grind (arith, and_from, lt-ltb, same_numbers_itself, states_number-at, states_of, total)
-
 pub great_from_all : (w : Several) (c : Couple) → IsSeveral w → c.t < total w → GreatAll w (decoded w c) → GreatCouple (combined w) c
 great_from_all w c ok l (R, sim, i) = (
   map (encoded w) (filter (is_encoded w) R),
@@ -120,7 +117,7 @@ great_from_all w c ok l (R, sim, i) = (
 )
   where
     kept : (d : Couple) → d.t < total w → IsIn (decoded w d) R → IsIn d (map (encoded w) (filter (is_encoded w) R))
-    kept d small j = grind (arith, decoded_back, in_filter, in_map, is_encoded_from)
+    kept d small j = grind (arith, decoded_back, in_filter, in_map, and_from, lt-ltb, same_numbers_itself, states_number-at, states_of, total)
 
 pub all_from_great : (w : Several) (c : Couple) → IsSeveral w → c.t < total w → GreatCouple (combined w) c → GreatAll w (decoded w c)
 all_from_great w c ok l (R, sim, i) = (

@@ -21,9 +21,6 @@ can_follow s L x = not (is_listed (arena s) L x.node) && is_justified (arena s) 
 in_possible : (s : Sys) (p : Pair) (r : Reason) → IsPair s p → IsIn r (reasons s.env.actions) → IsIn (record { node = p; reason = r }) (possible s)
 in_possible s p r pair i = in_flat_map (with_reasons s) p (record { node = p; reason = r }) (pairs s) (in_pairs s p pair) (in_map (λ r. record { node = p; reason = r }) r (reasons s.env.actions) i)
 
-possible_pair : (s : Sys) (x : Entry Pair) → IsIn x (possible s) → IsPair s x.node
-possible_pair s x i = grind (arith, from_flat_map, from_map, from_pairs)
-
 -- a list that no entry can follow is complete
 last_complete : (s : Sys) (L : List (Entry Pair)) → IsSys s → AreEntries s L → IsOrder (arena s) L → IsFalse (list_any (can_follow s L) (possible s)) → IsComplete s L
 last_complete s L ok entries order none = completed_by s L ok entries order no_reason
@@ -42,7 +39,7 @@ record Longer (s : Sys) (L : List (Entry Pair)) : Type 0 where
   order : IsOrder (arena s) (L ++ entry ∷ [])
 
 one_more : (s : Sys) (L : List (Entry Pair)) → AreEntries s L → IsOrder (arena s) L → IsTrue (list_any (can_follow s L) (possible s)) → Longer s L
-one_more s L entries order some = grind (arith, and_parts, any_true, from_push, not-true, order_push, possible_pair)
+one_more s L entries order some = grind (arith, and_parts, any_true, from_push, not-true, order_push, from_flat_map, from_map, from_pairs)
 
 -- entries can be added until no entry can follow
 complete_within : (s : Sys) (n : ℕ) (L : List (Entry Pair)) → IsSys s → AreEntries s L → IsOrder (arena s) L → length (pairs s) ≤ length L + n → (M : List (Entry Pair)) × IsComplete s (L ++ M)

@@ -1,7 +1,7 @@
 -- A system as an arena, the greatest ND-simulation, and complete removal lists.
-use Rattle.roman_model.proofs.Common.{◌≡◌, ◌≢◌, ℕ, ◌<◌, Bool, not, List, [], map, length, IsTrue, IsFalse, filter, slice_set, refl, sym, subst, arith, rules, both_ways, or_cases, or_left, or_right, not-true, not-false, not_from_true, not_from_false, slice_get_within, IsIn, Sys, Pair, IsSys, IsPair, SStep, is_final, all_final, pairs, outcomes, is_allowed, is_fine, arena, Entry, is_listed, is_justified, IsOrder, loses, Couple, couple, Serves, Meets, GreatCouple, Great, IsNdSim, AreEntries, IsComplete, OrderCompletes, is_related, Reason, Final, Act}
+use Rattle.roman_model.proofs.Common.{◌≡◌, ◌≢◌, ℕ, ◌<◌, Bool, not, List, [], map, length, IsTrue, IsFalse, filter, slice_set, refl, sym, subst, arith, rules, both_ways, or_cases, or_left, or_right, not-true, not-false, not_from_true, not_from_false, and_from, eq-eqb, slice_get_within, IsIn, Sys, Pair, IsSys, IsPair, SStep, is_final, all_final, pairs, outcomes, is_allowed, is_fine, arena, Entry, is_listed, is_justified, IsOrder, loses, Couple, couple, Serves, Meets, GreatCouple, Great, IsNdSim, AreEntries, IsComplete, OrderCompletes, is_related, Reason, Final, Act}
 use Rattle.roman_model.proofs.Lists.{by_test, same_test, in_map, from_map, in_filter, filter_in, ne_not_empty, not_empty_in, not_empty_ne, in_not_empty}
-use Rattle.roman_model.proofs.SystemLemmas.{same_pair_is, same_pair_itself, in_pairs, from_pairs, pairs_once, outcome_in, from_outcome, outcome_seat, outcome_pair, allowed_in, from_allowed, allowed_in_range}
+use Rattle.roman_model.proofs.SystemLemmas.{same_pair_is, in_pairs, from_pairs, pairs_once, outcome_in, from_outcome, outcome_seat, outcome_pair, allowed_in, from_allowed, allowed_in_range, same_numbers_itself}
 use Rattle.roman_model.proofs.ArenaLemmas.{IsSame, IsArena, Survives, survives_more, survivor_within, mask_not_empty, unallowed_unjustified}
 use Rattle.roman_model.proofs.OrderLemmas.{listed_dead}
 use Rattle.roman_model.proofs.DepthLemmas.{lost_dead, unlost_survives}
@@ -9,7 +9,7 @@ use Rattle.roman_model.proofs.DepthLemmas.{lost_dead, unlost_survives}
 -- The arena of a system.
 
 pub system_is_same : (s : Sys) → IsSame (arena s)
-system_is_same s = record { is = same_pair_is; itself = same_pair_itself }
+system_is_same s = grind (arith, same_pair_is, and_from, eq-eqb, same_numbers_itself)
 
 pub system_is_arena : (s : Sys) → IsSys s → IsArena (arena s)
 system_is_arena s ok = record {

@@ -1,7 +1,7 @@
 -- The explanation is the least closed part of a removal list, is a removal list by itself, and ends with the explained entry.
 use Rattle.roman_model.proofs.Common.{cases_eq, false≢true, both_ways, or_cases, or_parts, or_left, or_right, and_parts, and_from, cond-true, cond-false, ◌≡◌, ℕ, zero, suc, ◌+◌, ◌<◌, ◌≤◌, Bool, ◌&&◌, ◌||◌, ◌⊎◌, List, [], ◌∷◌, ◌++◌, length, Option, Some, None, IsTrue, IsFalse, filter, find, refl, sym, ap, ap₂, ◌∙◌, subst, inl, inr, arith, append-nil, append_assoc, length-append, list_any, option_to_list, filter-append, none-some, same_Some, IsIn, below, Arena, Entry, is_among, is_listed, is_justified, IsOrder, arena, entries_before, answer, ready_seats, answers, rests_on, explanation, IsClosed, IsLeastClosed, ExplanationIsLeast, ExplanationIsOrder, Reason, Final, Act}
 use Rattle.roman_model.proofs.Lists.{by_test, same_test, any_true, any_from, any_within, in_append_right, in_flat_map, from_flat_map, in_filter, filter_in, in_below, find_some, find_found, split_at}
-use Rattle.roman_model.proofs.ArenaLemmas.{IsSame, IsArena, among_in, in_among, listed_in, beaten_is, beaten_none, beaten_by, justified_is, justified_by}
+use Rattle.roman_model.proofs.ArenaLemmas.{IsSame, IsArena, among_in, listed_in, beaten_is, beaten_none, beaten_by, justified_is, justified_by}
 use Rattle.roman_model.proofs.CompositionLemmas.{system_is_same, system_is_arena}
 use Rattle.roman_model.proofs.OrderLemmas.{order_push}
 use Rattle.roman_model.proofs.WorkLemmas.{order_middle}
@@ -62,7 +62,7 @@ module _ {N : Type 0} (A : Arena N) (L : List (Entry N)) (p : N) where
   ]
 
   pub rests_step : (n : ℕ) (x : Entry N) (q : N) → IsSame A → IsIn x L → IsTrue (rests_on A L n p x.node) → IsIn q (answers A L x.node x.reason) → IsTrue (rests_on A L (suc n) p q)
-  rests_step n x q same i h j = grind (arith, any_from, and_from, in_among)
+  rests_step n x q same i h j = grind (arith, any_from, and_from)
 
   -- the last step, if any
   pub rests_cases : (n : ℕ) (q : N) → IsSame A → IsTrue (rests_on A L (suc n) p q) →
@@ -112,13 +112,9 @@ module _ {N : Type 0} (A : Arena N) (L : List (Entry N)) (p : N) where
     where
       first : (n : ℕ) → n ≤ length L → IsTrue (rests_on A L n p q) → IsTrue (A.same q p || list_any (λ x. rests_on A L (length L) p x.node && is_among A (answers A L x.node x.reason) q) L)
       first zero l h = or_left (A.same q p) (list_any (λ x. rests_on A L (length L) p x.node && is_among A (answers A L x.node x.reason) q) L) h
-      first (suc n) l h = grind (arith, rests_cases, any_from, and_from, rests_up, in_among, (first n (omega arith)))
+      first (suc n) l h = grind (arith, rests_cases, any_from, and_from, rests_up, (first n (omega arith)))
 
 -- The explanation
-
--- a node is explained exactly where it is listed and p's entry depends on its entry
-pub explained_listed : {N : Type 0} (A : Arena N) (L : List (Entry N)) (p q : N) → IsSame A → is_listed A (explanation A L p) q ≡ (is_listed A L q && rests_on A L (length L) p q)
-explained_listed A L p q same = grind (arith, and_from, and_parts, any_from, any_true, filter_in, in_filter, same_test)
 
 -- a closed set holds each node on whose entry p's entry depends
 closed_holds : {N : Type 0} (A : Arena N) (L : List (Entry N)) (p : N) (holds : N → Bool) → IsSame A → IsClosed A L p holds → (n : ℕ) (q : N) → IsTrue (rests_on A L n p q) → IsTrue (holds q)
@@ -127,7 +123,7 @@ closed_holds {N} A L p holds same closed (suc n) q h = grind (arith, rests_cases
 
 pub explanation_least : {N : Type 0} (A : Arena N) (L : List (Entry N)) (p : N) → IsSame A → IsTrue (is_listed A L p) → IsLeastClosed A L p
 explanation_least A L p same listed = record {
-  closed = grind (arith, explained_listed, and_from, rests_itself, before_listed, answer_before, rests_closed);
+  closed = grind (arith, and_from, and_parts, any_from, any_true, filter_in, in_filter, same_test, rests_itself, before_listed, answer_before, rests_closed);
   least = λ holds closed x i. closed_holds A L p holds same closed (length L) x.node (filter_in (λ y. rests_on A L (length L) p y.node) x L i).1;
 }
 

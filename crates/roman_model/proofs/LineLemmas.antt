@@ -19,17 +19,13 @@ pub ended_lines_last : (line : List ℕ) → IsLine line → ended_lines line �
 ended_lines_last [] h = refl
 ended_lines_last (byte ∷ line) h = grind (arith, or_parts, (ended_lines_last line))
 
--- the text of a line, its newline, and the bytes that follow
-text_first : (line rest more : List ℕ) → ((line ++ 10 ∷ []) ++ rest) ++ more ≡ line ++ 10 ∷ (rest ++ more)
-text_first line rest more = append_assoc (line ++ 10 ∷ []) rest more ∙ append_assoc line (10 ∷ []) (rest ++ more)
-
 pub lines-text : (ls : List (List ℕ)) (rest : List ℕ) → AreLines ls → lines (text_of_lines ls ++ rest) ≡ ls ++ lines rest
 lines-text [] rest are = refl
-lines-text (line ∷ ls) rest are = grind (arith, lines-line, text_first, (lines-text ls rest))
+lines-text (line ∷ ls) rest are = grind (arith, lines-line, append_assoc, (lines-text ls rest))
 
 pub ended_lines-text : (ls : List (List ℕ)) (rest : List ℕ) → AreLines ls → ended_lines (text_of_lines ls ++ rest) ≡ ls ++ ended_lines rest
 ended_lines-text [] rest are = refl
-ended_lines-text (line ∷ ls) rest are = grind (arith, ended_lines-line, text_first, (ended_lines-text ls rest))
+ended_lines-text (line ∷ ls) rest are = grind (arith, ended_lines-line, append_assoc, (ended_lines-text ls rest))
 
 -- the lines of a text of lines are these lines
 pub lines-text_of_lines : (ls : List (List ℕ)) → AreLines ls → lines (text_of_lines ls) ≡ ls

@@ -96,10 +96,6 @@ pub none_from : {X : Type 0} (p : X → Bool) (xs : List X) → ((x : X) → IsI
 none_from p [] h = refl
 none_from p (x ∷ xs) h = or_from (p x) (list_any p xs) (h x (inl refl)) (none_from p xs (λ y i. h y (inr i)))
 
--- some element passes q, where some element passes p and each element that passes p passes q
-pub any_more : {X : Type 0} (p q : X → Bool) (xs : List X) → ((x : X) → IsIn x xs → IsTrue (p x) → IsTrue (q x)) → IsTrue (list_any p xs) → IsTrue (list_any q xs)
-any_more p q xs more h = let (x, i, t) = any_true p xs h in any_from q x xs i (more x i t)
-
 -- two tests that agree on the elements
 pub any_same : {X : Type 0} (p q : X → Bool) (xs : List X) → ((x : X) → IsIn x xs → p x ≡ q x) → list_any p xs ≡ list_any q xs
 any_same p q [] same = refl

@@ -97,9 +97,6 @@ AreBelow-drop [] (b ∷ bs) (suc k) h = elim h [ ]
 AreBelow-drop (size ∷ sizes) [] (suc k) h = elim h [ ]
 AreBelow-drop (size ∷ sizes) (b ∷ bs) (suc k) h = AreBelow-drop sizes bs k h.1
 
-pub AreBelow-remove : (sizes bs : List ℕ) (k : ℕ) → AreBelow sizes bs → AreBelow (remove sizes k) (remove bs k)
-AreBelow-remove sizes bs k h = grind (arith, AreBelow-append, AreBelow-drop, AreBelow-take)
-
 -- The number of a changed list of states
 
 -- with another state at place k
@@ -140,10 +137,6 @@ states_number-remove sizes bs k h l =
     let behind : states_number (drop (suc k) sizes) (drop (suc k) bs) ≡ states_number sizes bs % product_of (drop (suc k) sizes) = rw add-one at (states_behind sizes bs k h l) in
     rw (add-one, ← before, ← behind) cut
 
--- with a last state added
-pub states_number-push : (sizes bs : List ℕ) (size b : ℕ) → length bs ≡ length sizes → states_number (sizes ++ size ∷ []) (bs ++ b ∷ []) ≡ states_number sizes bs * size + b
-states_number-push sizes bs size b h = states_number-append sizes (size ∷ []) bs (b ∷ []) h ∙ omega arith
-
 -- Pairs and their numbers
 
 pub number_below : (n : Sizes) (p : Pair) → IsPairOf n p → number n p < count n
@@ -154,12 +147,8 @@ pub parts_of_number : (n : Sizes) (p : Pair) → IsPairOf n p →
     (number n p / product_of n.seats / n.env ≡ p.t) × (number n p / product_of n.seats % n.env ≡ p.e) × (number n p % product_of n.seats ≡ states_number n.seats p.bs)
 parts_of_number n p ok = grind (arith, div-mul-add, mod-mul-add, states_number_below)
 
--- two pairs with equal parts are equal
-same_parts : (t u e f : ℕ) (bs cs : List ℕ) → t ≡ u → e ≡ f → bs ≡ cs → ◌≡◌ {A = Pair} (record { t = t; e = e; bs = bs }) (record { t = u; e = f; bs = cs })
-same_parts t u e f bs cs x y z = rw (x, y, z) refl
-
 pub pair_at-number : (n : Sizes) (p : Pair) → IsPairOf n p → pair_at n (number n p) ≡ p
-pair_at-number n p ok = grind (arith, parts_of_number, same_parts, states_at-number)
+pair_at-number n p ok = grind (arith, parts_of_number, states_at-number)
 
 pub IsPairOf-at : (n : Sizes) (i : ℕ) → i < count n → IsPairOf n (pair_at n i)
 IsPairOf-at n i h = grind (arith, AreBelow-at, div_below, factor_pos, mod_below)
@@ -210,7 +199,7 @@ pub count-grown : (n : Sizes) (size : ℕ) → count (grown_sizes n size) ≡ co
 count-grown n size = rw (product_append n.seats (size ∷ [])) (omega arith)
 
 pub number-grown : (n : Sizes) (p : Pair) (size b : ℕ) → IsPairOf n p → number (grown_sizes n size) (grown p b) ≡ number n p * size + b
-number-grown n p size b ok = grind (arith, AreBelow-length, product_append, states_number-push)
+number-grown n p size b ok = grind (arith, AreBelow-length, product_append, states_number-append)
 
 pub pair_at-grown : (n : Sizes) (size i b : ℕ) → i < count n → b < size → pair_at (grown_sizes n size) (i * size + b) ≡ grown (pair_at n i) b
 pair_at-grown n size i b h l =
@@ -219,7 +208,7 @@ pair_at-grown n size i b h l =
     ap (pair_at (grown_sizes n size)) (sym is) ∙ pair_at-number (grown_sizes n size) (grown (pair_at n i) b) (IsPairOf-grown n (pair_at n i) size b ok l)
 
 pub IsPairOf-without : (n : Sizes) (p : Pair) (k : ℕ) → IsPairOf n p → IsPairOf (sizes_without k n) (without k p)
-IsPairOf-without n p k ok = record { t = ok.t; e = ok.e; bs = AreBelow-remove n.seats p.bs k ok.bs }
+IsPairOf-without n p k ok = grind (arith, AreBelow-append, AreBelow-drop, AreBelow-take)
 
 pub number-without : (n : Sizes) (p : Pair) (k : ℕ) → IsPairOf n p → k < length n.seats →
     number (sizes_without k n) (without k p)

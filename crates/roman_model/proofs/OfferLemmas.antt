@@ -1,8 +1,8 @@
 -- The offers, and the pairs to which they lead.
-use Rattle.roman_model.proofs.Common.{arith, ◌≡◌, ◌≢◌, ℕ, ◌<◌, not, List, [], length, IsTrue, rules, not-false, not_from_true, IsIn, Sys, Pair, IsSys, IsPair, outcomes, is_allowed, arena, Entry, is_listed, mask, GreatCouple, Great, IsComplete, is_related, offers, OffersAreGenerator}
-use Rattle.roman_model.proofs.Lists.{in_not_empty, not_empty_ne}
+use Rattle.roman_model.proofs.Common.{arith, ◌≡◌, ◌≢◌, ℕ, ◌<◌, not, List, [], length, IsTrue, rules, not-false, not_from_true, or_from, IsIn, Sys, Pair, IsSys, IsPair, outcomes, is_allowed, arena, Entry, is_listed, mask, GreatCouple, Great, IsComplete, is_related, offers, OffersAreGenerator}
+use Rattle.roman_model.proofs.Lists.{in_not_empty, not_empty_ne, ne_not_empty, none_from}
 use Rattle.roman_model.proofs.SystemLemmas.{outcome_pair}
-use Rattle.roman_model.proofs.ArenaLemmas.{unbeaten_is, unbeaten_from, in_mask, from_mask, mask_same}
+use Rattle.roman_model.proofs.ArenaLemmas.{unbeaten_is, in_mask, from_mask, mask_same}
 use Rattle.roman_model.proofs.CompositionLemmas.{serves_outcomes, outcomes_serve, great_survives, related_great, great_related, complete_listed}
 
 -- an offered seat has an outcome, and its outcomes are related
@@ -15,7 +15,7 @@ offer_is s p a k ok pair i =
 
 pub in_offers : (s : Sys) (p : Pair) (a k : ℕ) → IsSys s → IsTrue (is_allowed s p a) → k < length s.seats → outcomes s p a k ≢ [] →
     ((q : Pair) → IsIn q (outcomes s p a k) → Great s q) → IsIn k (offers s p a)
-in_offers s p a k ok allowed l some all = search (rules, great_related, in_mask, not_from_true, unbeaten_from)
+in_offers s p a k ok allowed l some all = search (rules, great_related, in_mask, not_from_true, ne_not_empty, none_from, or_from)
 
 -- the masks of a complete list are the offers
 pub mask_is_offers : (s : Sys) (L : List (Entry Pair)) (p : Pair) (a : ℕ) → IsSys s → IsComplete s L → IsPair s p → mask (arena s) (is_listed (arena s) L) p a ≡ offers s p a

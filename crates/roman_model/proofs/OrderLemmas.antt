@@ -1,7 +1,7 @@
 -- Removal lists and replays over any arena.
 use Rattle.roman_model.proofs.Common.{◌≡◌, ◌≤◌, ◌||◌, List, [], ◌∷◌, ◌++◌, map, length, IsTrue, IsFalse, inl, inr, refl, sym, subst, arith, false≢true, both_ways, or_cases, or_parts, or_left, or_right, or_from, cond-true, length-map, IsIn, IsSublist, HasNoRepeats, Arena, Entry, is_among, is_listed, is_justified, IsOrderFrom, IsOrder, AreNew, replay_from, replay}
 use Rattle.roman_model.proofs.Lists.{by_test, from_map, sublist_skip, no_longer}
-use Rattle.roman_model.proofs.ArenaLemmas.{IsSame, Survives, same_from, listed_in, justified_more, unjustified}
+use Rattle.roman_model.proofs.ArenaLemmas.{IsSame, Survives, listed_in, justified_more, unjustified}
 
 -- The construction of removal lists, and their parts.
 
@@ -36,7 +36,7 @@ new_once A E before (x ∷ L) new = (
   λ i.
       let (y, j, e) = from_map (λ y. y.node) x.node L i in
       let apart : IsFalse (A.same y.node x.node) = (or_parts (A.same y.node x.node) (is_among A before y.node) (new_apart A E (x.node ∷ before) L y new.1 j)).0 in
-      grind (arith, same_from),
+      grind arith,
   new_once A E (x.node ∷ before) L new.1,
 )
 

@@ -1,5 +1,5 @@
 -- Removal lists, masks and depths carry over between arenas whose nodes correspond by a renaming.
-use Rattle.roman_model.proofs.Common.{◌↔◌, ◌≡◌, ℕ, zero, suc, Bool, true, false, not, ◌&&◌, ◌||◌, List, [], ◌∷◌, map, if◌then◌else◌, refl, sym, ap, ap₂, ◌∙◌, subst, inl, inr, arith, list_any, IsIn, below, Arena, Entry, is_among, is_listed, is_beaten, is_justified, mask, IsOrderFrom, IsOrder, replay_from, replay, loses, Reason, Final, Act}
+use Rattle.roman_model.proofs.Common.{◌↔◌, ◌≡◌, ℕ, zero, suc, Bool, true, false, not, ◌&&◌, ◌||◌, List, [], ◌∷◌, map, if◌then◌else◌, refl, ap, ap₂, ◌∙◌, arith, list_any, IsIn, below, Arena, Entry, is_among, is_listed, is_justified, mask, IsOrderFrom, IsOrder, replay_from, replay, loses, Reason, Final, Act}
 use Rattle.roman_model.proofs.Lists.{any_same, list_any-map}
 
 -- f maps nodes of A to nodes of B, and the arenas agree on each of these nodes and its image
@@ -37,18 +37,14 @@ module _ {N M : Type 0} (A : Arena N) (B : Arena M) (f : N → M) (Is : N → Ty
   pub listed_renamed : (L : List (Entry N)) (p : N) → HaveNodes Is L → Is p → is_listed A L p ≡ is_listed B (map (renamed_entry f) L) (f p)
   listed_renamed L p have is = grind (arith, any_same, list_any-map)
 
-  pub beaten_renamed : (gone : N → Bool) (lost : M → Bool) → ((q : N) → Is q → gone q ≡ lost (f q)) →
-      (p : N) → Is p → (a k : ℕ) → is_beaten A gone p a k ≡ is_beaten B lost (f p) a k
-  beaten_renamed gone lost agree p is a k = grind (arith, any_same, list_any-map)
-
   pub justified_renamed : (gone : N → Bool) (lost : M → Bool) → ((q : N) → Is q → gone q ≡ lost (f q)) →
       (p : N) → Is p → (reason : Reason) → is_justified A gone p reason ≡ is_justified B lost (f p) reason
   justified_renamed gone lost agree p is Final = ap not (r.fine p is)
-  justified_renamed gone lost agree p is (Act a) = grind (arith, beaten_renamed)
+  justified_renamed gone lost agree p is (Act a) = grind (arith, any_same, list_any-map)
 
   pub mask_renamed : (gone : N → Bool) (lost : M → Bool) → ((q : N) → Is q → gone q ≡ lost (f q)) →
       (p : N) → Is p → (a : ℕ) → mask A gone p a ≡ mask B lost (f p) a
-  mask_renamed gone lost agree p is a = grind (arith, beaten_renamed)
+  mask_renamed gone lost agree p is a = grind (arith, any_same, list_any-map)
 
   pub loses_renamed : (n : ℕ) (p : N) → Is p → loses A n p ≡ loses B n (f p)
   loses_renamed zero p is = ap not (r.fine p is)
@@ -57,10 +53,6 @@ module _ {N M : Type 0} (A : Arena N) (B : Arena M) (f : N → M) (Is : N → Ty
       (any_same (λ a. is_justified A (loses A n) p (Act a)) (λ a. is_justified B (loses B n) (f p) (Act a)) (below A.actions)
       (λ a i. justified_renamed (loses A n) (loses B n) (λ q is_q. loses_renamed n q is_q) p is (Act a))
       ∙ ap (λ m. list_any (λ a. is_justified B (loses B n) (f p) (Act a)) (below m)) r.actions)
-
-  pub more_nodes : (p : N) (ps : List N) → Is p → AreNodes Is ps → AreNodes Is (p ∷ ps)
-  more_nodes p ps is are q (inl e) = subst Is (sym e) is
-  more_nodes p ps is are q (inr i) = are q i
 
   -- the nodes of a removal list can be renamed there and back
   order_both : (before : List N) (L : List (Entry N)) → AreNodes Is before → HaveNodes Is L →

@@ -30,11 +30,8 @@ same_pair_is p q h = grind (arith, eqb-true, pair_path, same_numbers_is)
     pair_path : p.t ≡ q.t → p.e ≡ q.e → p.bs ≡ q.bs → p ≡ q
     pair_path t e bs = λ i. record { t = t i; e = e i; bs = bs i }
 
-pub same_pair_itself : (p : Pair) → IsTrue (same_pair p p)
-same_pair_itself p = grind (arith, and_from, eq-eqb, same_numbers_itself)
-
 pub same_pair_from : (p q : Pair) → p ≡ q → IsTrue (same_pair p q)
-same_pair_from p q e = subst (λ r. IsTrue (same_pair p r)) e (same_pair_itself p)
+same_pair_from p q e = grind (arith, and_from, eq-eqb, same_numbers_itself)
 
 -- The pairs of a system.
 
@@ -188,16 +185,12 @@ in_moved s p a k states t' e' b' ok step i =
     t' (record { t = t'; e = e'; bs = slice_set p.bs k b' }) (beh_next s.target p.t p.e a) (in_beh_next s.env s.target p.t p.e a t' ok.target step.1)
     (in_map (λ b'. record { t = t'; e = e'; bs = slice_set p.bs k b' }) b' states i))
 
-pub from_moved : (s : Sys) (p : Pair) (a k : ℕ) (states : List ℕ) (q : Pair) → IsIn q (outcomes_by s p a k states) →
-    TStep s p.t p.e a q.t q.e × ((b' : ℕ) × IsIn b' states × (q.bs ≡ slice_set p.bs k b'))
-from_moved s p a k states q i = grind (arith, from_beh_next, from_env_next, from_flat_map, from_map)
-
 pub outcome_in : (s : Sys) (p : Pair) (a k t' e' : ℕ) (bs' : List ℕ) → IsSys s → TStep s p.t p.e a t' e' → SStep s p.bs p.e a k bs' e' →
     IsIn (record { t = t'; e = e'; bs = bs' }) (outcomes s p a k)
 outcome_in s p a k t' e' bs' ok step r = grind (arith, (in_seat_next s.env r.seat (slice_index p.bs k) p.e a r.to (ok.seats r.seat (seat_in s.seats k r.seat r.seated)) r.ready r.moves), in_moved)
 
 pub from_outcome : (s : Sys) (p : Pair) (a k : ℕ) (q : Pair) → IsIn q (outcomes s p a k) → TStep s p.t p.e a q.t q.e × SStep s p.bs p.e a k q.bs q.e
-from_outcome s p a k q i = grind (arith, from_moved, from_seat_next)
+from_outcome s p a k q i = grind (arith, from_beh_next, from_env_next, from_flat_map, from_map, from_seat_next)
 
 -- An outcome belongs to a seat that exists and is ready.
 pub outcome_seat : (s : Sys) (p : Pair) (a k : ℕ) (q : Pair) → IsIn q (outcomes s p a k) → (k < length s.seats) × IsTrue (is_ready (slice_get s.seats k))

@@ -12,9 +12,6 @@ zero_other i = same_test (0 == suc i) false (λ t. let e : 0 ≡ suc i = eqb-tru
 pub other_zero : (k : ℕ) → (suc k == 0) ≡ false
 other_zero k = same_test (suc k == 0) false (λ t. let e : suc k ≡ 0 = eqb-true (suc k) 0 t in absurd (omega arith)) (λ f. absurd (false≢true f))
 
-zero_next : (i : ℕ) → has (0 ∷ []) (suc i) ≡ false
-zero_next i = ap (λ b. b || false) (zero_other i)
-
 pub leave_out_same : {X : Type 0} (at bt : ℕ → Bool) (xs : List X) → ((i : ℕ) → at i ≡ bt i) → leave_out at xs ≡ leave_out bt xs
 leave_out_same at bt [] same = refl
 leave_out_same at bt (x ∷ xs) same = ap₂ (λ b ys. cond b ys (x ∷ ys)) (same 0) (leave_out_same (λ i. at (suc i)) (λ i. bt (suc i)) xs (λ i. same (suc i)))
@@ -38,12 +35,12 @@ freeze_none at (x ∷ xs) none =
 pub leave_one : {X : Type 0} (k : ℕ) (xs : List X) → leave_out (has (k ∷ [])) xs ≡ remove xs k
 leave_one zero [] = refl
 leave_one (suc k) [] = refl
-leave_one zero (x ∷ xs) = leave_none (λ i. has (zero ∷ []) (suc i)) xs zero_next
+leave_one zero (x ∷ xs) = grind (arith, leave_none, zero_other)
 leave_one (suc k) (x ∷ xs) = grind (arith, leave_out_same, other_zero, suc_same, (leave_one k xs))
 
 pub freeze_one : (k : ℕ) (seats : List Seat) → freeze_at (has (k ∷ [])) seats ≡ set_frozen seats k true
 freeze_one k [] = refl
-freeze_one zero (x ∷ xs) = grind (arith, freeze_none, or-true, zero_next)
+freeze_one zero (x ∷ xs) = grind (arith, freeze_none, or-true, zero_other)
 freeze_one (suc k) (x ∷ xs) = grind (arith, freeze_same, or-false, other_zero, suc_same, (freeze_one k xs))
 
 -- Two places.
