@@ -32,15 +32,11 @@ unfolding listed_in part_of file_of new_behaviour_of new_name_of
 behaviour_said texts document env before i b env_is is new =
     rw (name_said (behaviour_value env b) b.name refl is.name, absent_none (map behaviour_name before) b.name new) (ap (placed document (part.Behaviour i)) (parts_said.behaviour env b env_is is))
 
--- the next items with distinct names have new names
-still_new : {X : Type 0} (f : X → List ℕ) (before : List X) (x y : X) (xs : List X) → (IsIn (f x) (map f xs) → ⊥) → IsIn y xs → (IsIn (f y) (map f before) → ⊥) → IsIn (f y) (map f (before ++ x ∷ [])) → ⊥
-still_new f before x y xs once i new there = grind (arith, from_push, map_push, in_map)
-
 are_behaviours : (texts : Texts) (document : List ℕ) (env : NamedEnv) (before xs : List NamedBeh) → IsSayableEnv env → ((b : NamedBeh) → IsIn b xs → IsSayableBeh env b) → HasNoRepeats (map behaviour_name xs) →
     ((b : NamedBeh) → IsIn b xs → IsIn b.name (map behaviour_name before) → ⊥) →
     AreItems (λ before item x. behaviour_in texts document env before (length before) item ≡ Ok x) before (map (behaviour_value env) xs) xs
 are_behaviours texts document env before [] env_is is once new = tt
-are_behaviours texts document env before (b ∷ bs) env_is is once new = grind (arith, behaviour_said, still_new, (are_behaviours texts document env (before ++ b ∷ []) bs env_is))
+are_behaviours texts document env before (b ∷ bs) env_is is once new = grind (arith, behaviour_said, from_push, map_push, in_map, (are_behaviours texts document env (before ++ b ∷ []) bs env_is))
 
 catalogue_said : (texts : Texts) (document : List ℕ) (library : PlainLibrary) → IsSayable library → catalogue_in texts document library.environment (library_value library) ≡ Ok library.catalogue
 catalogue_said texts document library is = ((document_lists_read.behaviours texts document library.environment).gives (library_value library) library.catalogue).1 (record {
@@ -86,7 +82,7 @@ are_services : (env : NamedEnv) (catalogue : List NamedBeh) (before xs : List Se
     ((x : Service) → IsIn x xs → IsService catalogue x) → HasNoRepeats (map service_name xs) → ((x : Service) → IsIn x xs → IsIn x.name (map service_name before) → ⊥) →
     AreItems (λ before item x. service_of 2 catalogue before item ≡ Ok x) before (map (service_value catalogue) xs) xs
 are_services env catalogue before [] once sayable named is own new = tt
-are_services env catalogue before (x ∷ xs) once sayable named is own new = grind (arith, (service_said env catalogue before x (named x (inl refl)) (new x (inl refl)) once (is x (inl refl)) sayable), still_new, (are_services env catalogue (before ++ x ∷ []) xs once sayable))
+are_services env catalogue before (x ∷ xs) once sayable named is own new = grind (arith, (service_said env catalogue before x (named x (inl refl)) (new x (inl refl)) once (is x (inl refl)) sayable), from_push, map_push, in_map, (are_services env catalogue (before ++ x ∷ []) xs once sayable))
 
 services_said : (document : List ℕ) (library : PlainLibrary) → IsSayable library → services_of document 2 library.catalogue (library_value library) ≡ Ok library.services
 services_said document library is = ((document_lists_read.services document 2 library.catalogue).gives (library_value library) library.services).1 (record {

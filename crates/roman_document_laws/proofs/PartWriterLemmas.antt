@@ -248,16 +248,12 @@ single_said : (env_states : List (List ℕ)) (b : Beh) → IsDeterministic b →
 unfolding single_of
 single_said env_states b single = ap (refuse_choice env_states b.steps) (no_choice_in b single)
 
-same_named_target : (states : List (List ℕ)) (m n k l : ℕ) (x y : Beh) → m ≡ n → k ≡ l → x ≡ y →
-    ◌≡◌ {A = NamedTarget} (record { states = states; env_states = m; actions = k; beh = x }) (record { states = states; env_states = n; actions = l; beh = y })
-same_named_target states m n k l x y hm hk hx = rw (hm, hk, hx) refl
-
 target_said : (env : NamedEnv) (t : NamedTarget) → IsSayableEnv env → IsSayableTarget env t → target_of env (target_value env t) ≡ Ok t
 target_said env t env_is is =
     let d = target_value env t in
     let known : IsBeh env.env t.beh = is.known env.env refl refl in
     let start : t.beh.start < length t.states = omega (arith, known.start, is.state_count) in
-    grind (arith, (target_read env d t.states t.beh.start t.beh.finals t.beh.steps refl (names_said list.States _ MAX_STATES d t.states (record { value = names_value t.states; there = refl; list = refl }) is.states) (start_said d t.states t.beh.start refl is.states.once start) (finals_said env.env t.states t.beh d is.states.once is.state_count known (record { value = places_value t.states t.beh.finals; there = refl; list = refl })) (moves_said env t.states t.beh d env_is is.states.once is.state_count is.known is.form is.few (record { value = list_value (map (move_value env.states env.actions t.states) t.beh.steps); there = refl; list = refl })) (single_said env.states t.beh is.single)), same_named_target, (same_beh t.states t.beh is.state_count), (normal_beh_is env.env.states env.env.actions t.beh is.known is.form))
+    grind (arith, (target_read env d t.states t.beh.start t.beh.finals t.beh.steps refl (names_said list.States _ MAX_STATES d t.states (record { value = names_value t.states; there = refl; list = refl }) is.states) (start_said d t.states t.beh.start refl is.states.once start) (finals_said env.env t.states t.beh d is.states.once is.state_count known (record { value = places_value t.states t.beh.finals; there = refl; list = refl })) (moves_said env t.states t.beh d env_is is.states.once is.state_count is.known is.form is.few (record { value = list_value (map (move_value env.states env.actions t.states) t.beh.steps); there = refl; list = refl })) (single_said env.states t.beh is.single)), (same_beh t.states t.beh is.state_count), (normal_beh_is env.env.states env.env.actions t.beh is.known is.form))
 
 pub parts_said : PartsAreSaid
 parts_said = record { environment = env_said; behaviour = beh_said; target = target_said }
