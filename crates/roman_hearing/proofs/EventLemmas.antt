@@ -1,5 +1,5 @@
 -- Each line is read as its shape says.
-use Rattle.roman_hearing.proofs.Common.{◌≡◌, ℕ, ◌≤◌, Bool, true, false, List, [], ◌∷◌, length, cond, codes, Result, Ok, Err, IsTrue, IsFalse, inl, inr, nat_lt, refl, sym, ◌∙◌, subst, ltb-true, ltb-false, arith, bytes_eq, false≢true, both_ways, cond-true, cond-false, by_test, LineShape, nothing, ask, hand, saw, abort, freeze, thaw, die, join, jump, jump_env, report, explain, quit, shape_of, words_of, is_comment, by_words, shape_of_words, spelling, LineError, strip_carriage_return, Form, Reads, LinesAreRead}
+use Rattle.roman_hearing.proofs.Common.{◌≡◌, ℕ, ◌≤◌, Bool, true, false, List, [], ◌∷◌, length, cond, codes, Result, Ok, Err, IsFalse, inl, nat_lt, refl, sym, ◌∙◌, subst, ltb-true, ltb-false, arith, bytes_eq, false≢true, both_ways, cond-true, cond-false, by_test, LineShape, nothing, ask, hand, saw, abort, freeze, thaw, die, join, jump, jump_env, report, explain, quit, shape_of, words_of, is_comment, by_words, shape_of_words, spelling, LineError, strip_carriage_return, Form, Reads, LinesAreRead}
 use Rattle.roman_text.specs.declared.errors.LineError.TheVariants.{TooLong}
 
 -- words that aren't a comment are read as some event or an error
@@ -25,18 +25,7 @@ module _ (read : (event : LineShape) → shape_of_words (spelling event) ≡ Ok 
   -- a shape that isn't that of a comment
   shape_reads : (word : List ℕ) (more : List (List ℕ)) (r : Result LineShape LineError) → length line ≤ 256 → words_of (strip_carriage_return line) ≡ word ∷ more → IsFalse (is_comment word) →
       shape_of_words (word ∷ more) ≡ r → IsFalse (gives_nothing r) → Reads line r
-  shape_reads word more (Err why) few words plain is some = inr (
-    λ (first, others, same, hash). both_ways (is_comment word) plain (subst (λ (w : List ℕ). IsTrue (is_comment w)) (let e : first ≡ word = same_word (sym same ∙ words) in e) hash),
-    λ event spelled.
-        let gives : shape_of_words (word ∷ more) ≡ Ok event = subst (λ (ws : List (List ℕ)). shape_of_words ws ≡ Ok event) (sym spelled ∙ words) (read event) in
-        ok_err event why (sym gives ∙ is),
-  )
-    where
-      same_word : {x y : List ℕ} {xs ys : List (List ℕ)} → x ∷ xs ≡ y ∷ ys → x ≡ y
-      same_word h = cc
-
-      ok_err : (event : LineShape) (why : LineError) → ◌≡◌ {A = Result LineShape LineError} (Ok event) (Err why) → ⊥
-      ok_err event why h = cc
+  shape_reads word more (Err why) few words plain is some = grind (arith, both_ways)
   shape_reads word more (Ok nothing) few words plain is some = absurd (false≢true (sym some))
   shape_reads word more (Ok (ask a)) few words plain is some = (few, words ∙ only (word ∷ more) (ask a) is (λ h. absurd (let e : ⊥ = cc in e)))
   shape_reads word more (Ok (hand a)) few words plain is some = (few, words ∙ only (word ∷ more) (hand a) is (λ h. absurd (let e : ⊥ = cc in e)))
@@ -54,10 +43,7 @@ module _ (read : (event : LineShape) → shape_of_words (spelling event) ≡ Ok 
 
   words_read : (words : List (List ℕ)) → length line ≤ 256 → words_of (strip_carriage_return line) ≡ words → Reads line (shape_of_words words)
   words_read [] few is = (few, inl is)
-  words_read (word ∷ more) few is = by_test (is_comment word)
-      (λ hash. subst (Reads line) (sym (cond-true (is_comment word) (Ok nothing) (by_words word more) hash)) (few, inr (word, more, is, hash)))
-      (λ plain. shape_reads word more (shape_of_words (word ∷ more)) few is plain refl
-      (subst (λ (r : Result LineShape LineError). IsFalse (gives_nothing r)) (sym (cond-false (is_comment word) (Ok nothing) (by_words word more) plain)) (words_give word more)))
+  words_read (word ∷ more) few is = grind (arith, by_test, cond-true, shape_reads, gives_nothing, cond-false, words_give)
 
   line_reads : Reads line (shape_of line)
   unfolding shape_of

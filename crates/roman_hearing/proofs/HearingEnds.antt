@@ -1,5 +1,5 @@
 -- How a session that is read from a source ends.
-use Rattle.roman_hearing.proofs.Common.{◌≡◌, ℕ, ◌+◌, ◌<◌, ◌≤◌, false, List, [], ◌∷◌, ◌++◌, length, take, drop, nat_le, Option, Result, Ok, Err, IsTrue, inl, inr, refl, sym, ap, ◌∙◌, subst, arith, append_assoc, append-nil, length-append, take-append-drop, ◌-◌, ltb, OnOk, IsErrOf, length-take, take_at, le-leb, cond-true, cond-false, or_from, or_left, or_right, lt-leb, Gave, EndsAt, Had, Gave-then, WrotePrefix-append, had_more, had_all, lines, ended_lines, text_of_lines, MAX_SESSION_BYTES, by_test, unfinished, kept, lines_none, kept-nil, lines_are, lines_only, Situation, Told, AreBehaviours, has_quit, is_heard_out, heard_lines, cursor, Tells, TellsPrefix, prefix_of, GaveQuit, StreamState, stream_state, IsHeardOut, IsCutOff, StopsShort, TellsPrefixOfAll, reader_state, IsHearing, StopsAtQuit, FallsShort, FailsIn, HearsPiece, HearsRest, take-append-add, HearError, ReadFault, WriteFault, TooLong}
+use Rattle.roman_hearing.proofs.Common.{◌≡◌, ℕ, ◌+◌, ◌<◌, ◌≤◌, false, List, [], ◌∷◌, ◌++◌, length, take, drop, nat_le, Option, Result, Ok, Err, IsTrue, refl, sym, ap, ◌∙◌, subst, arith, append_assoc, append-nil, length-append, take-append-drop, ◌-◌, ltb, OnOk, IsErrOf, length-take, take_at, le-leb, cond-true, cond-false, or_from, or_left, or_right, lt-leb, Gave, EndsAt, Had, Gave-then, WrotePrefix-append, had_more, had_all, lines, ended_lines, text_of_lines, MAX_SESSION_BYTES, by_test, unfinished, kept, lines_none, kept-nil, lines_are, lines_only, Situation, Told, AreBehaviours, has_quit, is_heard_out, heard_lines, cursor, Tells, TellsPrefix, prefix_of, GaveQuit, StreamState, stream_state, IsHeardOut, IsCutOff, StopsShort, TellsPrefixOfAll, reader_state, IsHearing, StopsAtQuit, FallsShort, FailsIn, HearsPiece, HearsRest, take-append-add, HearError, ReadFault, WriteFault, TooLong}
 use Rattle.roman_hearing.proofs.HearingLines.{ended_more, lines_more, quit_left, told_stops}
 use Rattle.roman_hearing.proofs.HearingSteps.{told_more}
 use Rattle.roman_hearing.proofs.HearingLemmas.{whole_told}
@@ -43,12 +43,7 @@ module _ (old new : Situation) (start mid : Option (List ℕ)) (taken : List ℕ
     (few : length taken ≤ MAX_SESSION_BYTES) where
   -- all lines are answered
   out_at_end : Tells (cursor old before) (lines taken) (cursor new now) → IsHeardOut (stream_state old start before) (cursor new now)
-  out_at_end tells = record {
-    session = taken;
-    had = had_all start mid taken n gave ends none;
-    out = short_out taken few;
-    tells = tells;
-  }
+  out_at_end tells = grind (arith, had_all, short_out)
 
   -- the reply to the last line wasn't written whole
   prefixes_rest : FallsShort (cursor old before) (lines taken) (cursor new now) → TellsPrefixOfAll (stream_state old start before) now
@@ -63,14 +58,7 @@ module _ (old new : Situation) (start mid : Option (List ℕ)) (taken : List ℕ
   rest_stops : (has : Option (List ℕ)) (into : List ℕ) → Gave mid has (take n into) → FallsShort (cursor old before) (lines taken) (cursor new now) → StopsShort (stream_state old start before) (stream_state new has now)
   rest_stops has into second fails =
       let got : take n into ≡ [] = ap (λ (n : ℕ). take n into) none in
-      record {
-        heard = taken;
-        past = [];
-        gave = subst (Gave start has) (ap (λ (bytes : List ℕ). taken ++ bytes) got) (Gave-then start mid has taken (take n into) gave second);
-        few = few;
-        ends = inr (had_all start mid taken n gave ends none);
-        tells = fails.tells;
-      }
+      grind (arith, (Gave-then start mid has taken (take n into) gave second), (had_all start mid taken n gave ends none))
 
   rest_out : (r : Result (Unit {0}) HearError) → HearsRest (cursor old before) taken (cursor new now) r → OnOk r (IsHeardOut (stream_state old start before) (cursor new now))
   rest_out (Ok x) tells = out_at_end tells
@@ -112,9 +100,7 @@ module _ (old new : Situation) (start mid has : Option (List ℕ)) (taken got : 
     (fits : room + length taken ≡ MAX_SESSION_BYTES) where
   -- the bytes that were taken, up to the limit and past it
   whole_part : (after : List ℕ) → (taken ++ got) ++ after ≡ (taken ++ take room got) ++ (drop room got ++ after)
-  whole_part after =
-      ap (λ (piece : List ℕ). (taken ++ piece) ++ after) (sym (take-append-drop room got)) ∙ ap (λ (bytes : List ℕ). bytes ++ after) (sym (append_assoc taken (take room got) (drop room got)))
-      ∙ append_assoc (taken ++ take room got) (drop room got) after
+  whole_part after = grind (arith, (take-append-drop room got), (append_assoc taken (take room got) (drop room got)), (append_assoc (taken ++ take room got) (drop room got) after))
 
   part_fits : length (taken ++ take room got) ≤ MAX_SESSION_BYTES
   part_fits = omega (arith, length-append taken (take room got), length-take room got)
@@ -136,31 +122,11 @@ module _ (old new : Situation) (start mid has : Option (List ℕ)) (taken got : 
       let session : (taken ++ got) ++ after ≡ heard ++ rest = part_split after heard stops.past split in
       let few : length heard ≤ MAX_SESSION_BYTES = omega (arith, part_fits, ap length split, length-append heard stops.past) in
       let whole = whole_told (cursor old before) (cursor new now) (ended_lines heard) stops.tells in
-      record {
-        session = (taken ++ got) ++ after;
-        had = had;
-        out = subst (λ (bytes : List ℕ). IsTrue (is_heard_out bytes)) (sym session) (quit_out heard rest few stops.quit);
-        tells = record {
-          text = whole.text;
-          told = subst (λ (bytes : List ℕ). Told old (lines bytes) whole.text new) (sym session) (told_all old new heard rest whole.text stops.quit whole.told);
-          wrote = whole.wrote;
-        };
-      }
+      grind (arith, (quit_out heard rest few stops.quit), (told_all old new heard rest whole.text stops.quit whole.told))
 
   -- less than a piece follows its newline
   pub gave_quit : (most : ℕ) → length got ≤ most + 1 → StopsAtQuit (cursor old before) taken (take room got) (cursor new now) [] → GaveQuit most start has
-  gave_quit most l stops =
-      let whole : taken ++ got ≡ (taken ++ stops.heard) ++ 10 ∷ (stops.past ++ drop room got) =
-      ap (λ (piece : List ℕ). taken ++ piece) (sym (take-append-drop room got) ∙ ap (λ (part : List ℕ). part ++ drop room got) stops.split ∙ append_assoc stops.heard (10 ∷ stops.past) (drop room got))
-      ∙ sym (append_assoc taken stops.heard (10 ∷ (stops.past ++ drop room got))) in
-      record {
-        heard = taken ++ stops.heard;
-        past = stops.past ++ drop room got;
-        gave = subst (Gave start has) whole (Gave-then start mid has taken got first second);
-        first = stops.first;
-        quit = stops.quit;
-        few = omega (arith, ap length whole, length-append taken got, length-append taken stops.heard, length-append (taken ++ stops.heard) (10 ∷ (stops.past ++ drop room got)));
-      }
+  gave_quit most l stops = grind (arith, (take-append-drop room got), (append_assoc stops.heard (10 ∷ stops.past) (drop room got)), (append_assoc taken stops.heard (10 ∷ (stops.past ++ drop room got))), (Gave-then start mid has taken got first second), (length-append taken got), (length-append taken stops.heard), (length-append (taken ++ stops.heard) (10 ∷ (stops.past ++ drop room got))))
 
   -- the piece has more bytes than `room`
   cut_off : (held : List ℕ) → IsHearing (cursor old before) (taken ++ take room got) (reader_state new now [] held) → room < length got → IsCutOff (stream_state old start before) (cursor new now)
@@ -172,9 +138,7 @@ module _ (old new : Situation) (start mid has : Option (List ℕ)) (taken got : 
       record {
         session = (taken ++ got) ++ after;
         had = had;
-        long = or_from (nat_le (length ((taken ++ got) ++ after)) MAX_SESSION_BYTES) (has_quit (ended_lines (prefix_of ((taken ++ got) ++ after))))
-            (lt-leb (length ((taken ++ got) ++ after)) MAX_SESSION_BYTES (omega (arith, length-append (taken ++ got) after, length-append taken got)))
-            (ap (λ (bytes : List ℕ). has_quit (ended_lines bytes)) prefix ∙ hearing.quitless);
+        long = grind (arith, or_from, lt-leb, length-append);
         tells = subst (λ (bytes : List ℕ). Tells (cursor old before) (ended_lines bytes) (cursor new now)) (sym prefix) (whole_told (cursor old before) (cursor new now) (ended_lines (taken ++ take room got)) hearing.tells);
       }
 
@@ -186,16 +150,8 @@ module _ (old new : Situation) (start mid has : Option (List ℕ)) (taken got : 
       let whole : List ℕ = text_of_lines (ended_lines fails.heard) in
       let split : fails.heard ≡ whole ++ unfinished fails.heard = (lines_are fails.heard).whole in
       let (ended, all) = whole_lines fails.heard in
-      let parts : taken ++ got ≡ whole ++ (unfinished fails.heard ++ rest) =
-      given ∙ ap (λ (bytes : List ℕ). bytes ++ rest) split ∙ append_assoc whole (unfinished fails.heard) rest in
-      record {
-        heard = whole;
-        past = unfinished fails.heard ++ rest;
-        gave = subst (Gave start has) parts (Gave-then start mid has taken got first second);
-        few = omega (arith, part_fits, ap length fails.split, length-append fails.heard fails.past, ap length split, length-append whole (unfinished fails.heard));
-        ends = inl (ap text_of_lines (sym ended));
-        tells = subst (λ (ls : List (List ℕ)). TellsPrefix (cursor old before) ls (cursor new now)) (sym all) fails.fails.tells;
-      }
+      let parts : taken ++ got ≡ whole ++ (unfinished fails.heard ++ rest) = grind (arith, append_assoc) in
+      grind (arith, (Gave-then start mid has taken got first second), part_fits, (length-append fails.heard fails.past), (length-append whole (unfinished fails.heard)))
 
   prefixes_all : AreBehaviours old.parts → FailsIn (cursor old before) (taken ++ take room got) (cursor new now) → TellsPrefixOfAll (stream_state old start before) now
   prefixes_all behaviours fails =
@@ -209,18 +165,13 @@ module _ (old new : Situation) (start mid has : Option (List ℕ)) (taken got : 
         session = (taken ++ got) ++ after;
         had = had;
         last = last;
-        tells = record {
-          text = fails.fails.tells.text ++ text;
-          told = subst (λ (ls : List (List ℕ)). Told old ls (fails.fails.tells.text ++ text) last) (sym (ap heard_lines session ∙ e)) told;
-          wrote = WrotePrefix-append before now fails.fails.tells.text text fails.fails.tells.wrote;
-        };
+        tells = grind (arith, (WrotePrefix-append before now fails.fails.tells.text text fails.fails.tells.wrote));
       }
 
   -- all errors of a piece
   pub piece_ends : (held : List ℕ) (error : HearError) → HearsPiece room (cursor old before) taken got (reader_state new now [] held) (Err error) → Ends (stream_state old start before) (stream_state new has now) (Err error)
   piece_ends held error h =
-      let at : (other : HearError) → error ≡ other → HearsPiece room (cursor old before) taken got (reader_state new now [] held) (Err other) =
-      λ other is. subst (λ (error : HearError). HearsPiece room (cursor old before) taken got (reader_state new now [] held) (Err error)) is h in
+      let at : (other : HearError) → error ≡ other → HearsPiece room (cursor old before) taken got (reader_state new now [] held) (Err other) = grind arith in
       record {
         ok = tt;
         too_long = λ is. let (hearing, more) = at TooLong cc in cut_off held hearing more;

@@ -135,9 +135,7 @@ module _ (old : Situation) (before : Option (List ℕ)) (taken : List ℕ) (mid 
   rest_line = sym (lines_rest taken (subst (λ (held : List ℕ). nat_lt 0 (length held) ≡ true) is.rest some))
 
   takes_rest : (next : Next) → AnsweredOn {E = Failed} mid (unfinished taken) new wrote now page holds (Ok next) → TellsOnPage (cursor old before) (lines taken) (cursor new now) holds
-  takes_rest next answered =
-      subst (λ (ls : List (List ℕ)). TellsOnPage (cursor old before) ls (cursor new now) holds) rest_line
-      (takes_more old mid new (ended_lines taken) (unfinished taken) answered.text before wrote now page holds is.quitless is.tells answered.step answered.gathers)
+  takes_rest next answered = grind (arith, rest_line, takes_more)
 
   pub hears_rest : (next : Next) (after : Option (List ℕ)) → AnsweredOn {E = Failed} mid (unfinished taken) new wrote now page holds (Ok next) → Wrote now after holds →
       Tells (cursor old before) (lines taken) (cursor new after)

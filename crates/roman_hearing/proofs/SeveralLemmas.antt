@@ -1,5 +1,5 @@
 -- In a session of a document with several targets the present system combines them, after any lines.
-use Rattle.roman_hearing.proofs.Common.{◌≡◌, ◌↔◌, ℕ, zero, suc, ◌<◌, List, [], ◌∷◌, map, length, get_or, refl, sym, ap, ap₂, ◌∙◌, subst, arith, All, length-map, IsIn, product_of, Beh, Sys, Pair, IsBeh, IsPair, Great, from_map, there_is, combined_is_all, NamedBeh, NamedEnv, NamedSys, IsNamedSys, beh_at, seat_of, system_of, beh_read, Situation, Answers, until_quit, AreNamed, IsKnownSituation, Seat, GreatAll, combined, combined_beh, combined_seat, couple_all, target_sizes, IsSeveral, MAX_STATES, Request, PlainCombined, combined_behaviour, combined_parts, machines, requests_in, good_count, all_in, machines_known, are_allowed, PlainLibrary, PlainTargets, CombinesTargets, libraries_known, behaviour_there, targets_combined, several_with, MeansAll, SeveralAreServed}
+use Rattle.roman_hearing.proofs.Common.{◌≡◌, ◌↔◌, ℕ, zero, suc, ◌<◌, List, [], ◌∷◌, map, length, refl, sym, ap, ap₂, ◌∙◌, subst, arith, All, length-map, IsIn, product_of, Beh, Sys, Pair, IsBeh, IsPair, Great, from_map, there_is, combined_is_all, NamedBeh, NamedEnv, NamedSys, IsNamedSys, beh_at, seat_of, system_of, beh_read, Situation, Answers, until_quit, AreNamed, IsKnownSituation, Seat, GreatAll, combined, combined_beh, combined_seat, couple_all, target_sizes, IsSeveral, MAX_STATES, Request, PlainCombined, combined_behaviour, combined_parts, machines, requests_in, good_count, all_in, machines_known, are_allowed, PlainLibrary, PlainTargets, CombinesTargets, libraries_known, behaviour_there, targets_combined, several_with, MeansAll, SeveralAreServed}
 use Rattle.std.proofs.lemmas.Bool.{ltb-false}
 use Rattle.roman_model.specs.System as model
 use Rattle.roman_hearing.proofs.KeepLemmas.{answers_keep}
@@ -48,9 +48,7 @@ module _ (said : PlainTargets) (library : PlainLibrary) (parts : NamedSys) (comb
 
   -- the services have behaviours of the document
   seats_within : All (λ seat. seat.behaviour < length said.catalogue) parts.seats
-  seats_within k d l =
-      let same : length parts.catalogue ≡ length said.catalogue = ap (λ (made : PlainCombined). length made.catalogue) parts_are ∙ catalogue_length said in
-      subst (λ (n : ℕ). (get_or parts.seats k d).behaviour < n) same (is.behaviours k d l)
+  seats_within k d l = grind (arith, parts_are, catalogue_length)
 
   system_is : system_of parts ≡ combined (several_with said parts.seats)
   system_is = ap (λ (made : PlainCombined). made_system made parts.seats) parts_are ∙ made_combined said parts.seats seats_within

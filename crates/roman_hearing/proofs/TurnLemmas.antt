@@ -1,5 +1,5 @@
 -- Each step of a session is a turn.
-use Rattle.roman_hearing.proofs.Common.{◌≡◌, ℕ, ◌+◌, ◌<◌, ◌≤◌, Bool, true, false, not, List, [], map, length, get_or, Option, None, Some, ok_or, is_none, is_ok, Result, Ok, Err, IsTrue, IsFalse, inl, inr, slice_get, nat_lt, nat_le, refl, sym, ap, ◌∙◌, subst, arith, ltb-true, leb-true, bytes_eq, false≢true, both_ways, not-true, not-false, lt-ltb, length-map, position-Some, get_or_from_slice_get, slice_get-get_or, same_Some, IsIn, Sys, has, is_allowed, Great, name_at, seat_names, is_related, offers, MAX_SERVICES, allowed_in, from_allowed, related_great, great_related, number_listed, get_in, listed_number, is_name, place_of, reply_text, LineShape, nothing, ask, hand, saw, abort, freeze, thaw, die, join, jump, jump_env, report, explain, quit, shape_of, LineError, Reply, seat_of, system_of, cells, seat_name, beh_name, states_of_behaviour, names_in, joined_system, Situation, present_system, is_idle, IsPhase, named, seat_at, asked, handed, seen, aborted, jumped, env_jumped, frozen, thawed, died, joining, join_of, unexplained, demand, check_idle, offered_action, delegation, with_room, Asks, Hands, Sees, Aborts, Jumps, EnvJumps, Changing, Changes, Freezes, Thaws, Dies, Joins, freezing, thawing, dying, growing, Explains, Does, StepBy, Step, parts_after, offer_text, Handing, Joining, Phase, Idle, Offered, Delegated, name_is_new, seat_is, cells_with, State, IsGreat, MayAsk, ServesHere, shown, IsKnownSituation, Counts, IsReady, Refutes, Replies, OffersServing, CountsLost, bytes_eq-Decides, ◌>>=◌, Needs, Unless, Place, ComesTo, Refuses, StepsAreTurns}
+use Rattle.roman_hearing.proofs.Common.{◌≡◌, ℕ, ◌+◌, ◌<◌, ◌≤◌, Bool, true, false, not, List, [], map, length, get_or, Option, None, Some, ok_or, is_none, is_ok, Result, Ok, Err, IsTrue, IsFalse, inl, inr, slice_get, nat_lt, nat_le, refl, sym, ap, ◌∙◌, subst, arith, ltb-true, leb-true, bytes_eq, false≢true, both_ways, not-true, not-false, lt-ltb, length-map, position-Some, get_or_from_slice_get, slice_get-get_or, same_Some, IsIn, Sys, has, is_allowed, Great, seat_names, is_related, offers, MAX_SERVICES, allowed_in, from_allowed, related_great, great_related, number_listed, get_in, listed_number, is_name, place_of, reply_text, LineShape, nothing, ask, hand, saw, abort, freeze, thaw, die, join, jump, jump_env, report, explain, quit, shape_of, LineError, Reply, seat_of, system_of, cells, seat_name, beh_name, states_of_behaviour, names_in, joined_system, Situation, present_system, is_idle, IsPhase, named, seat_at, asked, handed, seen, aborted, jumped, env_jumped, frozen, thawed, died, joining, join_of, unexplained, demand, check_idle, offered_action, delegation, with_room, Asks, Hands, Sees, Aborts, Jumps, EnvJumps, Changing, Changes, Freezes, Thaws, Dies, Joins, freezing, thawing, dying, growing, Explains, Does, StepBy, Step, parts_after, offer_text, Handing, Joining, Phase, Idle, Offered, Delegated, name_is_new, seat_is, cells_with, State, IsGreat, MayAsk, ServesHere, shown, IsKnownSituation, Counts, IsReady, Refutes, Replies, OffersServing, CountsLost, bytes_eq-Decides, ◌>>=◌, Needs, Unless, Place, ComesTo, Refuses, StepsAreTurns}
 use Rattle.roman_model.specs.System.{Seat}
 use Rattle.std.proofs.lemmas.Bool.{le-leb}
 use Rattle.roman_text.specs.declared.replies.Reply.TheVariants as reply
@@ -77,8 +77,7 @@ module _ (old new : Situation) (text : List ℕ) (Refused : Reply → Type 0) (L
 
   needs_idle : {X : Type 0} (Act : Situation → X → List ℕ → Situation → Type 0) (f : Unit {0} → Result X Reply) (Then : old.phase ≡ Idle → Type 0) →
       Does Act old (check_idle old.phase >>= f) text new → ((h : old.phase ≡ Idle) → Does Act old (f tt) text new → Then h) → Needs (old.phase ≡ Idle) (Refused reply.ErrorBusy) Then
-  needs_idle Act f Then does go =
-      needs_test Act (is_idle old.phase) reply.ErrorBusy f (old.phase ≡ Idle) Then does (idle_is old.phase) (λ idle. ap is_idle idle) (λ idle h does. go idle does)
+  needs_idle Act f Then does go = grind (arith, needs_test, idle_is)
 
   needs_place : {X : Type 0} (Act : Situation → X → List ℕ → Situation → Type 0) (names : List (List ℕ)) (name : List ℕ) (f : ℕ → Result X Reply) (Then : Place names name → Type 0) →
       Does Act old (named names name >>= f) text new → ((i : ℕ) (there : slice_get names i ≡ Some name) → named names name ≡ Ok i → Does Act old (f i) text new → Then (i, there)) →
@@ -132,8 +131,7 @@ module _ (old new : Situation) (text : List ℕ) (Refused : Reply → Type 0) (L
       needs_test Asks (is_related (present_system old) old.here) reply.NoComposition _ (IsGreat seen_state) _ does
       (related_great (present_system old) old.here sys pair) (great_related (present_system old) old.here sys) (λ great related does.
       needs_test Asks (is_allowed (present_system old) old.here a) reply.NotAllowed _ (MayAsk seen_state a) _ does
-      (from_allowed (present_system old) old.here a) (allowed_in (present_system old) old.here a sys) (λ may allowed does.
-      leads (record seen_state { phase = Offered a }) (OffersServing seen_state a) (ap shown does.1) (offers_said a allowed does.0)))))
+      (from_allowed (present_system old) old.here a) (allowed_in (present_system old) old.here a sys) (grind (arith, seen_state, offers_said)))))
 
   hands : (service : List ℕ) → Does Hands old (handed old service) text new → Comes (hand service)
   unfolding handed
@@ -153,19 +151,7 @@ module _ (old new : Situation) (text : List ℕ) (Refused : Reply → Type 0) (L
   sees state env does =
       needs_handed Sees _ _ does (λ a k handed does.
       needs_place Sees (seat_names (names_in old.parts) k).states state _ _ does (λ b there at does.
-      needs_place Sees old.parts.environment.states env _ _ does (λ e named at does.
-      elim does [
-        | inl moves ↦ inl (
-          moves.moved.system,
-          (
-            moves.to,
-            moves.moved.target,
-            leads _ _ (ap shown moves.becomes)
-                (moves.says ∙ ap (λ (name : List ℕ). reply_text (reply.Now (name_at old.parts.target.states moves.to) name)) (get_or_from_slice_get old.parts.environment.states e env [] named)),
-          ),
-        )
-        | inr (never, says, same) ↦ inr (never, refused reply.Impossible says same)
-      ])))
+      needs_place Sees old.parts.environment.states env _ _ does (λ e named at does. grind (arith, (get_or_from_slice_get old.parts.environment.states e env)))))
 
   aborts : Does Aborts old (aborted old) text new → Comes abort
   unfolding aborted
@@ -242,14 +228,12 @@ module _ (old new : Situation) (text : List ℕ) (Refused : Reply → Type 0) (L
   unfolding jumped
   jumps service state does =
       needs_place Jumps (map seat_name old.parts.seats) service _ _ does (λ k there at does.
-      needs_place Jumps (seat_names (names_in old.parts) k).states state _ _ does (λ b named at does.
-      needs_idle Jumps _ _ does (λ idle does. leads _ (Replies reply.Jumped) (ap shown does.1) does.0)))
+      needs_place Jumps (seat_names (names_in old.parts) k).states state _ _ does (grind (arith, needs_idle)))
 
   env_jumps : (env : List ℕ) → Does EnvJumps old (env_jumped old env) text new → Comes (jump_env env)
   unfolding env_jumped
   env_jumps env does =
-      needs_place EnvJumps old.parts.environment.states env _ _ does (λ e there at does.
-      needs_idle EnvJumps _ _ does (λ idle does. leads _ (Replies reply.Jumped) (ap shown does.1) does.0))
+      needs_place EnvJumps old.parts.environment.states env _ _ does (grind (arith, needs_idle))
 
   explains : Does Explains old (unexplained old) text new → Comes explain
   unfolding unexplained
@@ -272,8 +256,7 @@ module _ (old new : Situation) (text : List ℕ) (Refused : Reply → Type 0) (L
   comes (Ok (freeze service)) step = freezes service step
   comes (Ok (thaw service)) step = thaws service step
   comes (Ok (die service)) step = dies service step
-  comes (Ok (join service behaviour state loose)) step =
-      joins service behaviour state loose (subst (λ (r : Result Joining Reply). Does Joins old r text new) (join_in_turn old service behaviour state loose) step)
+  comes (Ok (join service behaviour state loose)) step = grind (arith, joins, join_in_turn)
   comes (Ok (jump service state)) step = jumps service state step
   comes (Ok (jump_env env)) step = env_jumps env step
   comes (Ok report) step = leads seen_state _ (ap shown step.1) (reports_both old text known.situation step.0)
