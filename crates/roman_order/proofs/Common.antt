@@ -8,7 +8,7 @@ pub use Rattle.std.proofs.Math.Seq.{drop-append_seam, drop-cons, get_or-drop, ta
 pub use Rattle.std.proofs.lemmas.Bool.{and_from, and_parts, both_ways, cases_Bool, cases_eq, cases_lt, cond-false, cond-true, eq-eqb, eqb-true, false_from_ne_true, false≢true, le-ltb, lt-ltb, ne_eqb, or_from, or_left, or_parts, or_right}
 pub use Rattle.std.proofs.lemmas.Cmp.{nat_eq_equiv}
 pub use Rattle.std.proofs.lemmas.Grind.{flat_map-append}
-pub use Rattle.std.proofs.lemmas.List.{drop-append-le, drop-drop, drop-map, drop-set, get_or-replicate, get_or-set_other, get_or-set_same, get_or_default, get_or_past, get_or_read, length-drop, length-map, length-replicate, length-set, length-take-le, map-append, map_push, replicate-append-replicate, take-append-drop, take_all}
+pub use Rattle.std.proofs.lemmas.List.{drop-append-le, drop-drop, drop-map, drop-set, get_or-replicate, get_or-set_other, get_or-set_same, get_or_default, get_or_past, get_or_read, length-drop, length-map, length-replicate, length-set, length-take-le, map-append, map_push, replicate-append-replicate, take-append-drop, take_all, get_or_append_left, get_or-append_right}
 pub use Rattle.std.proofs.lemmas.List.Elements.{filter-append}
 pub use Rattle.std.proofs.lemmas.List.Folds.{list_any-append}
 pub use Rattle.std.proofs.lemmas.List.Sums.{length-filter, sum_by_push}
@@ -26,7 +26,7 @@ pub use Rattle.roman_lanes.proofs.CallerLemmas.{full_word, on_and, on_clear_othe
 unfoldable pub use Rattle.roman_lanes.specs.Flags.{has_flag}
 pub use Rattle.roman_lanes.specs.Rows.{AreRows, HasLanes}
 unfoldable pub use Rattle.roman_lanes.specs.Rows.{is_on}
-pub use Rattle.roman_model.proofs.CallerLemmas.{HasNoRepeats-below, HasNoRepeats-filter, any_from, any_true, filter_below_more, filter_in, flat_map_row, from_below, from_flat_map, from_map, from_push, in_append_left, in_append_right, in_below, in_filter, list_any-map, none_from, same_test, sum_by_same}
+pub use Rattle.roman_model.proofs.CallerLemmas.{HasNoRepeats-below, HasNoRepeats-filter, any_from, any_true, filter_below_more, filter_in, flat_map_row, from_below, from_flat_map, from_map, from_push, in_append_left, in_append_right, in_below, in_filter, list_any-map, none_from, same_test, sum_by_same, get_or-below, length-below}
 pub use Rattle.roman_model.specs.Arena.{Entry}
 pub use Rattle.roman_model.specs.Lists.{HasNoRepeats, IsIn, below}
 pub use Rattle.roman_model.specs.declared.reason.Reason.{Reason}
@@ -34,7 +34,7 @@ pub use Rattle.roman_order.specs.Board.{Board, as_entry, entries_in, entries_in_
 unfoldable pub use Rattle.roman_order.specs.Board.{set_lanes}
 pub use Rattle.roman_order.specs.Events.{IsApart, IsEvent, entries_at, entries_of}
 pub use Rattle.roman_order.specs.Lending.{rewritten}
-pub use Rattle.roman_order.specs.Sound.{AreCounted, AreStamps, CanWait, IsPlaced, IsSized, IsSound, board_of, firsts_of, removal_list, stamp_of, with_stamps}
+pub use Rattle.roman_order.specs.Sound.{AreCounted, AreStamps, CanWait, IsPlaced, IsSized, IsSound, board_of, firsts_of, removal_list, stamp_of, with_stamps, places_of}
 pub use Rattle.roman_order.specs.Walks.{AreUnkept, IsEventOf}
 pub use Rattle.roman_order.specs.declared.event.Event.{Event}
 pub use Rattle.roman_order.specs.declared.order.Order.TheInside.{Inside}

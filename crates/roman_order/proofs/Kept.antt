@@ -1,5 +1,5 @@
 -- Events whose pairs have no bits in the kept words.
-use Rattle.roman_order.proofs.Common.{◌≡◌, ℕ, suc, ◌+◌, ◌-◌, ◌*◌, ◌/◌, ◌%◌, ◌<◌, ◌≤◌, true, false, List, ◌++◌, length, get_or, take, drop, bit_and, sym, ap, ◌∙◌, subst, arith, length-append, ap₂, length-drop, take-append-drop, both_ways, and_from, false_from_ne_true, flat_map-append, on_zero, on_and, Entry, IsIn, is_on, as_entry, set_lanes, entries_at, entries_of, IsEvent, IsApart, IsSound, board_of, Event, Inside, take-append_seam, take-add, take-suc, get_or-drop, AreUnkept, slice_index, from_flat_map, from_map, from_push, in_append_left, in_append_right}
+use Rattle.roman_order.proofs.Common.{◌≡◌, ℕ, suc, ◌+◌, ◌-◌, ◌*◌, ◌/◌, ◌%◌, ◌<◌, ◌≤◌, true, false, List, ◌++◌, length, get_or, take, drop, bit_and, sym, ap, ◌∙◌, subst, arith, length-append, ap₂, length-drop, take-append-drop, both_ways, and_from, false_from_ne_true, flat_map-append, on_zero, on_and, Entry, IsIn, is_on, as_entry, set_lanes, entries_at, entries_of, IsEvent, IsApart, IsSound, board_of, Event, Inside, take-append_seam, take-add, take-suc, get_or-drop, AreUnkept, slice_index, from_flat_map, from_map, from_push, in_append_left, in_append_right, places_of}
 use Rattle.roman_order.proofs.Lanes.{in_lanes, lane_place}
 use Rattle.roman_order.proofs.Reading.{all_in, begins_at, entries_split, from_event}
 
@@ -26,7 +26,7 @@ apart_more words es from j d l h own rest x i lane on =
     grind (arith, (from_push x (get_or es j d) (take (j - from) (drop from es))), (get_or-drop from es (j - from) d), (take-suc (drop from es) (j - from) d), (length-drop from es))
 
 -- what is known of the entries from place i to place m of the list, once their events were passed over
-pub passed_over : (a : Inside) (near j i m : ℕ) → IsSound a → near ≤ j → j ≤ length a.events.items → i ≡ get_or a.firsts.items near a.count → m ≡ get_or a.firsts.items j a.count →
+pub passed_over : (a : Inside) (near j i m : ℕ) → IsSound a → near ≤ j → j ≤ length a.events.items → i ≡ get_or (places_of (length a.events.items) a.firsts.items) near a.count → m ≡ get_or (places_of (length a.events.items) a.firsts.items) j a.count →
     ((e : Event) → IsIn e (take (j - near) (drop near a.events.items)) → IsApart a.before.items e) → AreUnkept (board_of a) i m
 passed_over a near j i m sound l h start end apart =
     let es = a.events.items in
@@ -37,8 +37,8 @@ passed_over a near j i m sound l h start end apart =
     let place : near + (j - near) ≡ j = omega (arith, l) in
     let front : entries_of n (take j es) ≡ entries_of n (take near es) ++ F =
     ap (λ q. entries_of n (take q es)) (sym place) ∙ (ap (entries_of n) (take-add near (j - near) es) ∙ flat_map-append (entries_at n) (take near es) events) in
-    let first : i ≡ length (entries_of n (take near es)) = start ∙ begins_at n a.count a.firsts.items es near sound.counted in
-    let last : m ≡ length (entries_of n (take j es)) = end ∙ begins_at n a.count a.firsts.items es j sound.counted in
+    let first : i ≡ length (entries_of n (take near es)) = start ∙ begins_at n a.count (places_of (length es) a.firsts.items) es near sound.counted in
+    let last : m ≡ length (entries_of n (take j es)) = end ∙ begins_at n a.count (places_of (length es) a.firsts.items) es j sound.counted in
     let long : m ≡ i + length F = omega (arith, last, ap length front, length-append (entries_of n (take near es)) F, first) in
     let rest : drop i (entries_of n es) ≡ F ++ G = rw first (from_event n es near ∙ entries_split n (drop near es) (j - near)) in
     let between : take (m - i) (drop i (entries_of n es)) ≡ F = rw rest (ap (λ q. take q (F ++ G)) (omega (arith, long)) ∙ take-append_seam F G) in

@@ -7,6 +7,7 @@ pub mod Events
 pub mod Pushes
 pub mod Counts
 pub mod Lent
+pub mod Firsts
 pub mod Tables
 pub mod Reading
 pub mod Stamps

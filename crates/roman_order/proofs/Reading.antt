@@ -1,9 +1,9 @@
 -- The entries from a place of the list on.
-use Rattle.roman_order.proofs.Common.{◌≡◌, ◌≢◌, ℕ, zero, suc, ◌+◌, ◌-◌, ◌*◌, ◌%◌, ◌^◌, ◌<◌, ◌≤◌, true, List, [], ◌∷◌, ◌++◌, map, length, get_or, take, drop, Some, inl, inr, refl, sym, ap, ◌∙◌, subst, arith, eqb, length-append, slice_get, AllByRecursion, cases_lt, eq-eqb, or_right, or_left, length-drop, take-append-drop, get_or_past, drop-set, length-set, drop-append-le, drop-drop, drop-map, get_or_default, list_any-append, flat_map-append, Entry, Board, as_entry, set_lanes, has_entry, is_on, IsEvent, entries_at, entries_of, board_of, firsts_of, AreCounted, CanWait, IsSound, Event, Inside, lt_of_mul-lt-mul_right, drop-append_seam, take-add, slice_get-get_or, IsIn, in_append_right, IsEventOf}
+use Rattle.roman_order.proofs.Common.{◌≡◌, ◌≢◌, ℕ, zero, suc, ◌+◌, ◌-◌, ◌*◌, ◌%◌, ◌^◌, ◌<◌, ◌≤◌, true, List, [], ◌∷◌, ◌++◌, map, length, get_or, take, drop, Some, inl, inr, refl, sym, ap, ◌∙◌, subst, arith, eqb, length-append, slice_get, AllByRecursion, cases_lt, eq-eqb, or_right, or_left, length-drop, take-append-drop, get_or_past, drop-set, length-set, drop-append-le, drop-drop, drop-map, get_or_default, list_any-append, flat_map-append, Entry, Board, as_entry, set_lanes, has_entry, is_on, IsEvent, entries_at, entries_of, board_of, firsts_of, AreCounted, CanWait, IsSound, Event, Inside, lt_of_mul-lt-mul_right, drop-append_seam, take-add, slice_get-get_or, IsIn, in_append_right, IsEventOf, places_of}
 use Rattle.std.proofs.lemmas.List.{get_or-drop}
 use Rattle.roman_order.proofs.Tables.{few}
 use Rattle.roman_order.proofs.Lanes.{no_lane, set_lanes-zero}
-use Rattle.roman_order.proofs.Events.{entries_of-push, fewer, later, length-entries_at, rest_waits}
+use Rattle.roman_order.proofs.Events.{entries_of-push, length-firsts_of, fewer, later, length-entries_at, rest_waits}
 
 -- ---- lists
 
@@ -77,19 +77,25 @@ first_begins : (lanes : ℕ) (es : List Event) → 0 < length (entries_of lanes 
 first_begins lanes [] some = absurd (omega arith)
 first_begins lanes (e ∷ es) some = (omega arith, refl)
 
-pub begins : (a : Inside) (b : Board) (i : ℕ) → board_of a ≡ b → IsSound a → i < length b.list → (0 < length a.firsts.items) × (get_or a.firsts.items 0 0 ≡ 0)
-begins a b i is sound low = grind (arith, first_begins)
+pub begins : (a : Inside) (b : Board) (i : ℕ) → board_of a ≡ b → IsSound a → i < length b.list → (0 < length a.events.items) × (get_or (places_of (length a.events.items) a.firsts.items) 0 0 ≡ 0)
+begins a b i is sound low = grind (arith, first_begins, length-firsts_of)
 
 -- the event at place j has the entry at place i, where no later event begins at place i or before
-pub found : (a : Inside) (b : Board) (firsts : List ℕ) (events : List Event) (j i first : ℕ) (e : Event) → board_of a ≡ b → IsSound a → i < length b.list → firsts ≡ a.firsts.items → events ≡ a.events.items →
-    j < length firsts → drop j events ≡ e ∷ drop (j + 1) events → first ≡ get_or a.firsts.items j first → get_or firsts j 0 ≤ i → (j + 1 < length firsts → i < get_or firsts (j + 1) 0) →
+pub found : (a : Inside) (b : Board) (firsts : List ℕ) (events : List Event) (many j i first : ℕ) (e : Event) → board_of a ≡ b → IsSound a → i < length b.list → firsts ≡ a.firsts.items → events ≡ a.events.items → many ≡ length a.events.items →
+    j < many → drop j events ≡ e ∷ drop (j + 1) events → first ≡ get_or (places_of many firsts) j 0 → get_or (places_of many firsts) j 0 ≤ i → (j + 1 < many → i < get_or (places_of many firsts) (j + 1) 0) →
     IsEventOf b.rows b.lanes b.list i first e
-found a b firsts events j i first e is sound low same_firsts same h split read from to =
+found a b firsts events many j i first e is sound low same_firsts same counted h split read from to =
     let es = a.events.items in
     let n = a.lanes in
     let split = rw same at split in
-    let start : first ≡ length (entries_of n (take j es)) = grind (arith, get_or_default, (begins_at n a.count a.firsts.items es j sound.counted)) in
-    let next : i < length (entries_of n (take (j + 1) es)) = grind (arith, cases_lt, get_or_past, get_or_default, (begins_at n a.count a.firsts.items es (j + 1) sound.counted)) in
+    let F = places_of (length es) a.firsts.items in
+    let whole : length F ≡ length es = ap length sound.counted.firsts ∙ length-firsts_of 0 es in
+    let inside : j < length F = omega (arith, h, counted, whole) in
+    let read : first ≡ get_or F j 0 = rw (counted, same_firsts) at read in
+    let to : j + 1 < length es → i < get_or F (j + 1) 0 = rw (counted, same_firsts) at to in
+    let from : get_or F j 0 ≤ i = rw (counted, same_firsts) at from in
+    let start : first ≡ length (entries_of n (take j es)) = read ∙ (get_or_default F j 0 a.count inside ∙ begins_at n a.count F es j sound.counted) in
+    let next : i < length (entries_of n (take (j + 1) es)) = grind (arith, cases_lt, whole, (get_or_past F (j + 1) a.count), (get_or_default F (j + 1) 0 a.count), (begins_at n a.count F es (j + 1) sound.counted)) in
     let rest : drop first (entries_of n es) ≡ entries_at n e ++ entries_of n (drop (j + 1) es) = rw start (from_event n es j ∙ ap (entries_of n) split) in
     let long = length-entries_at n e in
     let front : take (j + 1) es ≡ take j es ++ e ∷ [] = take-add j 1 es ∙ ap (λ ys. take j es ++ take 1 ys) split in

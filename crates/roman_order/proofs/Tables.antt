@@ -1,8 +1,9 @@
 -- The contents of an order's tables, and the room in them.
-use Rattle.roman_order.proofs.Common.{◌≡◌, ◌≢◌, ℕ, ◌+◌, ◌-◌, ◌*◌, ◌/◌, ◌^◌, ◌<◌, ◌≤◌, true, false, not, [], ◌∷◌, ◌++◌, length, drop, get_or, replicate, sym, ◌∙◌, subst, arith, bit_and, length-append, ap, w64, bit_not, set, length-replicate, get_or-replicate, length-take-le, replicate-append-replicate, take_all, Reason, is_on, AreRows, full_word, Board, set_lanes, entries_in, has_entry, entries_at, AreCounted, board_of, IsPlaced, CanWait, IsSound, IsSized, removal_list, Event, Inside, take-add}
+use Rattle.roman_order.proofs.Common.{◌≡◌, ◌≢◌, ℕ, ◌+◌, ◌-◌, ◌*◌, ◌/◌, ◌^◌, ◌<◌, ◌≤◌, true, false, not, [], ◌∷◌, ◌++◌, length, drop, get_or, replicate, sym, ◌∙◌, subst, arith, bit_and, length-append, ap, w64, bit_not, set, length-replicate, get_or-replicate, length-take-le, replicate-append-replicate, take_all, Reason, is_on, AreRows, full_word, Board, set_lanes, entries_in, has_entry, entries_at, AreCounted, board_of, IsPlaced, CanWait, IsSound, IsSized, removal_list, Event, Inside, take-add, places_of}
 use Rattle.roman_order.proofs.Lanes.{AreRows-full, AreRows-pushed, in_lanes, lanes_once, some_lane}
 use Rattle.roman_order.proofs.Places.{IsPlaced-nil, length-le_from_apart, place_in_list-from_greatest}
-use Rattle.roman_order.proofs.Events.{CanWait-nil, few_events, length-firsts_of, length-entries_at, AreCounted-push, AreCounted-nil}
+use Rattle.roman_order.proofs.Firsts.{few_firsts}
+use Rattle.roman_order.proofs.Events.{CanWait-nil, few_events, length-entries_at, AreCounted-push, AreCounted-nil}
 use Rattle.roman_order.proofs.Pushes.{pair_below, IsPlaced-lanes}
 
 -- the list has at most as many entries as there are pairs
@@ -15,10 +16,10 @@ pub record IsFew (a : Inside) : Type 0 where
   pub count_fits : a.count < 2 ^ 32
   pub listed : a.count ≤ a.rows * a.lanes
   pub events : length a.events.items ≤ a.count
-  pub firsts : length a.firsts.items ≡ length a.events.items
+  pub firsts : length a.firsts.items ≤ length a.events.items
 
 pub few : (a : Inside) → IsSound a → IsFew a
-few a sound = grind (arith, few_events, few_listed, length-firsts_of)
+few a sound = grind (arith, few_events, few_listed, few_firsts)
 
 -- the entries of the list can wait
 pub list_waits : (a : Inside) → IsSound a → CanWait a.lanes a.events.items
@@ -53,7 +54,7 @@ pub ruleset stamp_rules = (few, few_listed, place_in_list-from_greatest)
 -- what is known once the pairs of the row x whose lanes are in `lost` are listed
 pub record IsPushed (a : Inside) (x lost : ℕ) (reason : Reason) : Type 0 where
   pub placed : IsPlaced (a.rows * a.lanes) (removal_list a ++ entries_in a.lanes x lost reason)
-  pub counted : AreCounted a.lanes (a.count + length (set_lanes lost)) (a.firsts.items ++ a.count ∷ []) (a.events.items ++ record { row = x; reason = reason; lanes = lost } ∷ [])
+  pub counted : AreCounted a.lanes (a.count + length (set_lanes lost)) (places_of (length a.events.items) a.firsts.items ++ a.count ∷ []) (a.events.items ++ record { row = x; reason = reason; lanes = lost } ∷ [])
   pub alive : AreRows a.lanes (λ p. not (has_entry (removal_list a ++ entries_in a.lanes x lost reason) p)) (set a.words.items x (bit_and (get_or a.words.items x 0) (bit_not w64 lost)))
   pub room : a.count + length (set_lanes lost) ≤ a.room
   pub some : 0 < length (set_lanes lost)

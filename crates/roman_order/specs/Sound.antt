@@ -1,7 +1,8 @@
 -- How the tables of an order represent what callers see.
-use Rattle.std.specs.Prelude.{◌≡◌, ℕ, ◌+◌, ◌-◌, ◌*◌, ◌/◌, ◌^◌, ◌<◌, ◌≤◌, ◌==◌, not, true, List, [], ◌∷◌, drop, length, unwrap_or, slice_index, slice_set, vec_capacity}
+use Rattle.std.specs.Prelude.{◌≡◌, ℕ, ◌+◌, ◌-◌, ◌*◌, ◌/◌, ◌^◌, ◌<◌, ◌≤◌, ◌==◌, not, true, List, [], ◌∷◌, ◌++◌, drop, length, unwrap_or, slice_index, slice_set, vec_capacity}
 use Rattle.std.specs.List.{IsDistinct, AllByRecursion}
 use Rattle.roman_model.specs.Arena.{Entry}
+use Rattle.roman_model.specs.Lists.{below}
 use Rattle.roman_lanes.specs.Rows.{AreRows}
 use Rattle.roman_order.specs.Board.{Board, set_lanes, nodes_of, has_entry, place_in_list}
 use Rattle.roman_order.specs.Events.{IsEvent, entries_of}
@@ -53,6 +54,10 @@ abbrev pub firsts_of : ℕ → List Event → List ℕ
 firsts_of n [] = []
 firsts_of n (e ∷ es) = n ∷ firsts_of (n + length (set_lanes e.lanes)) es
 
+-- the places of the first entries of so many events: first those that equal their numbers, which the table leaves out, then the table's
+abbrev pub places_of : ℕ → List ℕ → List ℕ
+places_of many later = below (many - length later) ++ later
+
 -- each event has entries, and the count and the places are right
 pub record AreCounted (lanes n : ℕ) (places : List ℕ) (es : List Event) : Type 0 where
   pub each : AllByRecursion (IsEvent lanes) es
@@ -86,7 +91,7 @@ pub record IsSized (a : Inside) : Type 0 where
 -- the tables agree with the list, and have the right sizes
 pub record IsSound (a : Inside) : Type 0 where
   pub placed : IsPlaced (a.rows * a.lanes) (removal_list a)
-  pub counted : AreCounted a.lanes a.count a.firsts.items a.events.items
+  pub counted : AreCounted a.lanes a.count (places_of (length a.events.items) a.firsts.items) a.events.items
   pub waits : CanWait a.waiting_lanes (drop a.next a.waiting.items)
   pub stamped : AreStamps (removal_list a) a.stamps.items
   pub alive : AreRows a.lanes (λ p. not (has_entry (removal_list a) p)) a.words.items

@@ -1,7 +1,8 @@
 //! Adding entries.
-ghost use Rattle.std.specs.Prelude.{◌≡◌, ℕ, ◌+◌, ◌*◌, ◌<◌, ◌≤◌, true, false, [], ◌∷◌, ◌++◌, length, slice_index};
+ghost use Rattle.std.specs.Prelude.{◌≡◌, ℕ, ◌+◌, ◌*◌, ◌<◌, ◌≤◌, true, false, [], ◌∷◌, ◌++◌, length, slice_index, vec_capacity};
 ghost use Rattle.roman_lanes.specs.Rows.{is_on};
 ghost use Rattle.roman_order.specs.Board.{pairs_of, as_entry, entries_in, entries_in_rows, has_entry};
+ghost use Rattle.roman_order.specs.Sound.{places_of};
 
 use super::Order;
 use crate::event::Event;
@@ -45,7 +46,7 @@ impl Order {
         }
         self.words[x as usize] &= !lost;
         self.stamps.clear();
-        self.firsts.push_reserved(self.count);
+        push_first(&mut self.firsts, self.events.len(), self.count);
         self.events.push_reserved(Event {
             row: x,
             reason,
@@ -68,4 +69,21 @@ impl Order {
             self.push_lanes(x + i as u32, lost[i], reason);
         }
     }
+}
+
+/// Adds the place of the first entry of an event after `many` others. A place that equals its number is
+/// left out of the table as long as all places before it are.
+#[inline(always)]
+#[tactic(auto, using(crate::proofs::Firsts::push_rules))]
+fn push_first(firsts: &mut Vec<u32>, many: usize, first: u32)
+    requires room { length firsts.old.items < vec_capacity firsts.old }
+    requires few { length firsts.old.items ≤ many }
+    ensures places { places_of (many + 1) firsts.new.items ≡ places_of many firsts.old.items ++ first ∷ [] }
+    ensures few { length firsts.new.items ≤ many + 1 }
+    ensures room { vec_capacity firsts.new ≡ vec_capacity firsts.old }
+{
+    if firsts.is_empty() && first as usize == many {
+        return;
+    }
+    firsts.push_reserved(first);
 }

@@ -1,10 +1,11 @@
 //! Reading the list.
-ghost use Rattle.std.specs.Prelude.{◌≡◌, ℕ, ◌+◌, ◌-◌, ◌<◌, ◌≤◌, true, false, ◌∷◌, ◌++◌, length, take, drop, slice_get, slice_index, slice_index_or, Some};
+ghost use Rattle.std.specs.Prelude.{◌≡◌, ℕ, ◌+◌, ◌-◌, ◌^◌, ◌<◌, ◌≤◌, true, false, ◌∷◌, ◌++◌, length, take, drop, slice_get, slice_index, slice_index_or, Some};
 ghost use Rattle.std.specs.List.{AllByRecursion};
 ghost use Rattle.roman_lanes.specs.Rows.{is_on};
 ghost use Rattle.roman_model.specs.Lists.{IsIn};
 ghost use Rattle.roman_order.specs.Board.{as_entry, set_lanes};
 ghost use Rattle.roman_order.specs.Events.{IsApart, IsEvent, entries_at, entries_of};
+ghost use Rattle.roman_order.specs.Sound.{places_of};
 ghost use Rattle.roman_order.specs.Walks.{AreUnkept, IsEventOf};
 ghost use Rattle.roman_order.specs.declared.event.Event.{Event};
 
@@ -47,8 +48,12 @@ impl Order {
         requires { i < length self.now.list }
         ensures { IsEventOf self.now.rows self.now.lanes self.now.list i result.1 result.0 }
     {
-        let place = place_of(&self.firsts, i, near);
-        (event_in(&self.events, place), self.firsts[place])
+        let many = self.events.len();
+        let place = place_of(&self.firsts, many, i, near);
+        (
+            event_in(&self.events, place),
+            first_in(&self.firsts, many, place),
+        )
     }
 
     /// Passes over entries from place `i` of the list on whose pairs have no bit in the kept words,
@@ -60,11 +65,12 @@ impl Order {
         requires { i ≤ length self.now.list }
         ensures { AreUnkept self.now i result.0 }
     {
-        if near >= self.firsts.len() || self.firsts[near] != i {
+        let many = self.events.len();
+        if near >= many || first_in(&self.firsts, many, near) != i {
             return (i, near);
         }
         let next = next_kept(&self.events, &self.before, near);
-        (first_of(&self.firsts, next, self.count), next)
+        (first_of(&self.firsts, many, next, self.count), next)
     }
 
     /// Returns the entry at place `i` of the list, from 0: the pair and the reason. Finds its event by
@@ -78,30 +84,48 @@ impl Order {
     }
 }
 
-/// Returns the place of the last event that begins at place `i` of the list or before.
-fn place_of(firsts: &[u32], i: u32, near: usize) -> usize
-    requires some { 0 < length firsts.now }
-    requires start { slice_index firsts.now 0 ≤ i }
-    ensures within { result < length firsts.now }
-    ensures from { slice_index firsts.now result ≤ i }
-    ensures to { result + 1 < length firsts.now → i < slice_index firsts.now (result + 1) }
+/// Returns the place of the last of `many` events that begins at place `i` of the list or before. `near`
+/// is a guess.
+fn place_of(firsts: &[u32], many: usize, i: u32, near: usize) -> usize
+    requires some { 0 < many }
+    requires few { (length firsts.now ≤ many) × (many < 2 ^ 32) }
+    requires start { slice_index (places_of many firsts.now) 0 ≤ i }
+    ensures within { result < many }
+    ensures from { slice_index (places_of many firsts.now) result ≤ i }
+    ensures to { result + 1 < many → i < slice_index (places_of many firsts.now) (result + 1) }
 {
-    if near < firsts.len() && firsts[near] <= i {
-        if near + 1 == firsts.len() || i < firsts[near + 1] {
+    if near < many && first_in(firsts, many, near) <= i {
+        if near + 1 == many || i < first_in(firsts, many, near + 1) {
             return near;
         }
     }
     let mut low = 0;
-    let mut high = firsts.len();
+    let mut high = many;
     'search: while low + 1 < high {
         let middle = low + (high - low) / 2;
-        if firsts[middle] <= i {
+        if first_in(firsts, many, middle) <= i {
             low = middle;
         } else {
             high = middle;
         }
     }
     low
+}
+
+/// Returns the place of the first entry of event `j` of `many`. `firsts` leaves out the first places
+/// that equal their numbers.
+#[inline(always)]
+#[tactic(auto, using(crate::proofs::Firsts::first_rules))]
+fn first_in(firsts: &[u32], many: usize, j: usize) -> u32
+    requires few { (length firsts.now ≤ many) × (many < 2 ^ 32) }
+    requires within { j < many }
+    ensures { result ≡ slice_index (places_of many firsts.now) j }
+{
+    let alone = many - firsts.len();
+    if j < alone {
+        return j as u32;
+    }
+    firsts[j - alone]
 }
 
 /// Returns the event at place `j` of a table.
@@ -112,12 +136,18 @@ pub(super) fn event_in(events: &[Event], j: usize) -> Event
     events[j]
 }
 
-/// Returns the place of the first entry of event `j`. After the last event it is `count`, the length of
-/// the list.
-fn first_of(firsts: &[u32], j: usize, count: u32) -> u32
-    ensures { result ≡ slice_index_or firsts.now j count }
+/// Returns the place of the first entry of event `j` of `many`. After the last event it is `count`, the
+/// length of the list.
+#[tactic(auto, using(crate::proofs::Firsts::first_rules))]
+fn first_of(firsts: &[u32], many: usize, j: usize, count: u32) -> u32
+    requires few { (length firsts.now ≤ many) × (many < 2 ^ 32) }
+    ensures { result ≡ slice_index_or (places_of many firsts.now) j count }
 {
-    if j < firsts.len() { firsts[j] } else { count }
+    if j < many {
+        first_in(firsts, many, j)
+    } else {
+        count
+    }
 }
 
 /// Returns the place of the first event from place `from` on of which some lane is in the word of its
