@@ -1,0 +1,43 @@
+-- The places of the first entries of events, of which those that equal their numbers are left out.
+use Rattle.roman_order.proofs.Common.{◌≡◌, ℕ, suc, ◌+◌, ◌-◌, ◌<◌, ◌≤◌, List, [], ◌∷◌, ◌++◌, length, get_or, ap, sym, ◌∙◌, arith, append-nil, length-append, get_or_append_left, get_or-append_right, get_or-below, get_or_default, get_or_past, length-below, append_assoc, below, Event, places_of, AreCounted}
+use Rattle.roman_order.proofs.Events.{length-firsts_of}
+
+-- there is a place for each event
+pub length-places_of : (many : ℕ) (later : List ℕ) → length later ≤ many → length (places_of many later) ≡ many
+length-places_of many later few = grind (arith, length-append, length-below)
+
+-- the table has at most as many places as there are events
+pub few_firsts : (lanes n : ℕ) (later : List ℕ) (es : List Event) → AreCounted lanes n (places_of (length es) later) es → length later ≤ length es
+few_firsts lanes n later es are = omega (arith, ap length are.firsts, length-append (below (length es - length later)) later, length-firsts_of 0 es)
+
+-- a place that is left out
+pub first_alone : (many j d : ℕ) (later : List ℕ) → j < many - length later → get_or (places_of many later) j d ≡ j
+first_alone many j d later l = grind (arith, get_or_append_left, get_or-below, length-below)
+
+-- a place of the table
+pub first_later : (many j d : ℕ) (later : List ℕ) → many - length later ≤ j → get_or (places_of many later) j d ≡ get_or later (j - (many - length later)) d
+first_later many j d later l = get_or-append_right (below (many - length later)) later (many - length later) j d (length-below (many - length later)) l
+
+-- the place after the last event
+pub first_past : (many j count : ℕ) (later : List ℕ) → length later ≤ many → many ≤ j → count ≡ get_or (places_of many later) j count
+first_past many j count later few l = sym (get_or_past (places_of many later) j count (rw (length-places_of many later few) l))
+
+-- a place of an event, whatever is said for others
+pub first_any : (many j d count : ℕ) (later : List ℕ) → length later ≤ many → j < many → get_or (places_of many later) j d ≡ get_or (places_of many later) j count
+first_any many j d count later few l = get_or_default (places_of many later) j d count (rw (length-places_of many later few) l)
+
+-- a place that is left out is one more that equals its number
+pub places_of-alone : (many : ℕ) (later : List ℕ) → length later ≡ 0 → places_of (many + 1) later ≡ places_of many later ++ many ∷ []
+places_of-alone many [] e =
+    let one : many + 1 - 0 ≡ suc many = omega arith in
+    let same : many - 0 ≡ many = omega arith in
+    ap (λ q. below q ++ []) one ∙ (append-nil (below many ++ many ∷ []) ∙ ap (λ xs. xs ++ many ∷ []) (sym (append-nil (below many)) ∙ ap (λ q. below q ++ []) (sym same)))
+places_of-alone many (x ∷ xs) e = absurd (omega (arith, e))
+
+-- one more place of the table
+pub places_of-push : (many first : ℕ) (later : List ℕ) → length later ≤ many → places_of (many + 1) (later ++ first ∷ []) ≡ places_of many later ++ first ∷ []
+places_of-push many first later few = grind (arith, length-append, append_assoc)
+
+pub ruleset first_rules = (first_alone, first_later, first_past, first_any)
+
+pub ruleset push_rules = (places_of-alone, places_of-push, length-append)
