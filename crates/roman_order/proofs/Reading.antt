@@ -72,6 +72,17 @@ event_rest rows lanes L i first e left is rest =
 
 -- ---- the tables of an order
 
+-- each event begins after the one before it
+rising : (lanes n : ℕ) (es : List Event) (j : ℕ) → AllByRecursion (IsEvent lanes) es → j + 1 < length (firsts_of n es) → get_or (firsts_of n es) j 0 < get_or (firsts_of n es) (j + 1) 0
+rising lanes n [] j all low = absurd (omega (arith, low))
+rising lanes n (e ∷ []) j all low = absurd (omega (arith, low))
+rising lanes n (e ∷ f ∷ es) zero all low = omega (arith, all.0.some)
+rising lanes n (e ∷ f ∷ es) (suc j) all low = grind (arith, (rising lanes (n + length (set_lanes e.lanes)) (f ∷ es) j))
+
+pub rises : (a : Inside) (j : ℕ) → IsSound a → j + 1 < length a.events.items →
+    get_or (places_of (length a.events.items) a.firsts.items) j 0 < get_or (places_of (length a.events.items) a.firsts.items) (j + 1) 0
+rises a j sound low = rw sound.counted.firsts (rising a.lanes 0 a.events.items j sound.counted.each (rw (length-firsts_of 0 a.events.items) low))
+
 -- in a list with entries, the first event begins at place 0
 first_begins : (lanes : ℕ) (es : List Event) → 0 < length (entries_of lanes es) → (0 < length (firsts_of 0 es)) × (get_or (firsts_of 0 es) 0 0 ≡ 0)
 first_begins lanes [] some = absurd (omega arith)

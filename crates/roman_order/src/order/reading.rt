@@ -48,12 +48,8 @@ impl Order {
         requires { i < length self.now.list }
         ensures { IsEventOf self.now.rows self.now.lanes self.now.list i result.1 result.0 }
     {
-        let many = self.events.len();
-        let place = place_of(&self.firsts, many, i, near);
-        (
-            event_in(&self.events, place),
-            first_in(&self.firsts, many, place),
-        )
+        let (place, first) = place_of(&self.firsts, self.events.len(), i, near);
+        (event_in(&self.events, place), first)
     }
 
     /// Passes over entries from place `i` of the list on whose pairs have no bit in the kept words,
@@ -84,20 +80,20 @@ impl Order {
     }
 }
 
-/// Returns the place of the last of `many` events that begins at place `i` of the list or before. `near`
-/// is a guess.
-fn place_of(firsts: &[u32], many: usize, i: u32, near: usize) -> usize
+/// Returns the number of the last of `many` events that begins at place `i` of the list or before, and
+/// the place where it begins. `near` is a guess of an event that begins at place `i`.
+fn place_of(firsts: &[u32], many: usize, i: u32, near: usize) -> (usize, u32)
     requires some { 0 < many }
     requires few { (length firsts.now ≤ many) × (many < 2 ^ 32) }
     requires start { slice_index (places_of many firsts.now) 0 ≤ i }
-    ensures within { result < many }
-    ensures from { slice_index (places_of many firsts.now) result ≤ i }
-    ensures to { result + 1 < many → i < slice_index (places_of many firsts.now) (result + 1) }
+    requires rising { (j : ℕ) → j + 1 < many → slice_index (places_of many firsts.now) j < slice_index (places_of many firsts.now) (j + 1) }
+    ensures within { result.0 < many }
+    ensures first { result.1 ≡ slice_index (places_of many firsts.now) result.0 }
+    ensures from { result.1 ≤ i }
+    ensures to { result.0 + 1 < many → i < slice_index (places_of many firsts.now) (result.0 + 1) }
 {
-    if near < many && first_in(firsts, many, near) <= i {
-        if near + 1 == many || i < first_in(firsts, many, near + 1) {
-            return near;
-        }
+    if near < many && first_in(firsts, many, near) == i {
+        return (near, i);
     }
     let mut low = 0;
     let mut high = many;
@@ -109,7 +105,7 @@ fn place_of(firsts: &[u32], many: usize, i: u32, near: usize) -> usize
             high = middle;
         }
     }
-    low
+    (low, first_in(firsts, many, low))
 }
 
 /// Returns the place of the first entry of event `j` of `many`. `firsts` leaves out the first places
