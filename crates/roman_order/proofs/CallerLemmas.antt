@@ -1,7 +1,7 @@
 -- What the proofs of other crates may cite of this one. All else in proofs/ can be renamed freely.
 
 -- The lanes of a word, and the entries of the pairs at them.
-pub use Rattle.roman_order.proofs.Lanes.{entries_in_rows-row, has_entry-lane, has_entry-later, in_lanes, lane_place, lanes_once}
+pub use Rattle.roman_order.proofs.Lanes.{entries_in_rows-row, has_entry-lane, has_entry-later, in_lanes, lane_place, lanes_once, none_below, on_lowered, set_lanes-joined}
 -- Lists with one more entry.
 pub use Rattle.roman_order.proofs.Places.{is_some-place_in_list}
 -- Marks that were lent.

@@ -1,12 +1,12 @@
 -- The lanes of a word, and the entries of the pairs at them.
-use Rattle.roman_order.proofs.Common.{◌≡◌, ◌≢◌, ℕ, zero, suc, ◌+◌, ◌-◌, ◌*◌, ◌/◌, ◌%◌, ◌^◌, ◌<◌, ◌≤◌, Bool, true, false, not, ◌&&◌, ◌||◌, eqb, List, [], ◌∷◌, ◌++◌, map, length, get_or, refl, ap, sym, ◌∙◌, subst, inl, inr, arith, filter, bit_and, append-nil, append_assoc, IsTrue, list_any, w64, bit_not, set, or-false, pow-lt, cases_eq, and_parts, eq-eqb, ne_eqb, eqb-true, both_ways, length-set, get_or-set_same, get_or-set_other, list_any-append, div-add-mod', mod_below, same_from_place, and_le_l, bit_at-trailing_zeros, IsIn, HasNoRepeats, below, Entry, Reason, list_any-map, none_from, filter_in, from_below, filter_below_more, flat_map_row, any_true, any_from, in_filter, in_below, same_test, HasNoRepeats-filter, HasNoRepeats-below, is_on, HasLanes, AreRows, on_zero, on_ones, on_ones_above, on_clear_same, on_clear_other, on_and, on_less, on_pow_same, on_pow_other, as_entry, set_lanes, entries_in, entries_in_rows, has_entry}
+use Rattle.roman_order.proofs.Common.{◌≡◌, ◌≢◌, ℕ, zero, suc, ◌+◌, ◌-◌, ◌*◌, ◌/◌, ◌%◌, ◌^◌, ◌<◌, ◌≤◌, Bool, true, false, not, ◌&&◌, ◌||◌, eqb, List, [], ◌∷◌, ◌++◌, map, length, get_or, refl, ap, sym, ◌∙◌, subst, inl, inr, arith, filter, bit_and, append-nil, append_assoc, IsTrue, list_any, w64, bit_not, set, or-false, pow-lt, cases_eq, and_parts, eq-eqb, ne_eqb, eqb-true, both_ways, length-set, get_or-set_same, get_or-set_other, list_any-append, div-add-mod', mod_below, same_from_place, and_le_l, bit_at-trailing_zeros, IsIn, HasNoRepeats, below, Entry, Reason, list_any-map, none_from, filter_in, from_below, filter_below_more, flat_map_row, any_true, any_from, in_filter, in_below, same_test, HasNoRepeats-filter, HasNoRepeats-below, is_on, HasLanes, AreRows, on_zero, on_ones, on_ones_above, on_clear_same, on_clear_other, on_and, on_less, on_pow_same, on_pow_other, as_entry, set_lanes, entries_in, entries_in_rows, has_entry, cases_Bool, false_from_ne_true, shr_and_one, shr-shr, cases_lt}
 
 -- ---- the first lane of a word, and the rest
 
--- there is no lane up to t
-none_before : (n t m : ℕ) → ((i : ℕ) → i < t → is_on n i ≡ false) → m ≤ t → filter (is_on n) (below m) ≡ []
-none_before n t zero off h = refl
-none_before n t (suc m) off h = rw (filter_below_more (is_on n) m, none_before n t m off (omega arith), off m (omega arith)) refl
+-- none of the numbers up to m passes
+pub none_below : (q : ℕ → Bool) (m : ℕ) → ((i : ℕ) → i < m → q i ≡ false) → filter q (below m) ≡ []
+none_below q zero off = refl
+none_below q (suc m) off = rw (filter_below_more q m, none_below q m (λ i l. off i (omega arith)), off m (omega arith)) refl
 
 -- word n has the lane t first, followed by the lanes of word m
 pub record IsFirstOf (n m t : ℕ) : Type 0 where
@@ -18,7 +18,7 @@ pub record IsFirstOf (n m t : ℕ) : Type 0 where
 
 first_then : (n m t k : ℕ) → IsFirstOf n m t → t < k → k ≤ 64 → filter (is_on n) (below k) ≡ t ∷ filter (is_on m) (below k)
 first_then n m t zero is h l = absurd (omega arith)
-first_then n m t (suc k) is h l = grind (arith, cases_eq, none_before, filter_below_more, (first_then n m t k is))
+first_then n m t (suc k) is h l = grind (arith, cases_eq, none_below, filter_below_more, is.before, (first_then n m t k is))
 
 pub set_lanes-first : (n m t : ℕ) → IsFirstOf n m t → set_lanes n ≡ t ∷ set_lanes m
 unfolding set_lanes
@@ -26,7 +26,7 @@ set_lanes-first n m t is = first_then n m t 64 is is.low (omega arith)
 
 pub set_lanes-zero : set_lanes 0 ≡ []
 unfolding set_lanes
-set_lanes-zero = none_before 0 64 64 (λ i h. on_zero i) (omega arith)
+set_lanes-zero = none_below (is_on 0) 64 (λ i h. on_zero i)
 
 -- a word without one of its lanes
 abbrev pub without_lane : ℕ → ℕ → ℕ
@@ -37,6 +37,27 @@ without_first n t low on before = grind (arith, on_clear_other, on_clear_same)
 
 pub without_lane-on : (n t lane : ℕ) → is_on (without_lane n t) lane ≡ true → is_on n lane ≡ true
 without_lane-on n t lane on = (and_parts (is_on n lane) (is_on (bit_not w64 (1 * 2 ^ t % 2 ^ 64)) lane) (sym (on_and n _ lane) ∙ on)).0
+
+-- ---- a word of lanes that stand before others
+
+-- the numbers that pass one test or the other, where those of the first stand before those of the second
+filter-joined : (p q both : ℕ → Bool) (m : ℕ) → ((i : ℕ) → i < m → both i ≡ (p i || q i)) → ((i j : ℕ) → p i ≡ true → q j ≡ true → i < j) → filter both (below m) ≡ filter p (below m) ++ filter q (below m)
+filter-joined p q both zero is lower = refl
+filter-joined p q both (suc m) is lower = grind (arith, cases_Bool, append-nil, append_assoc, filter_below_more, (is m), (filter-joined p q both m (λ i l. is i (omega arith)) lower), (λ (on : p m ≡ true). none_below q m (λ i l. false_from_ne_true (q i) (λ t. omega (arith, l, lower m i on t)))))
+
+-- the lanes of a word that has those of two others, of which the lanes of the first are lower
+pub set_lanes-joined : (word low high : ℕ) → ((i : ℕ) → i < 64 → is_on word i ≡ (is_on low i || is_on high i)) → ((i j : ℕ) → is_on low i ≡ true → is_on high j ≡ true → i < j) → set_lanes word ≡ set_lanes low ++ set_lanes high
+unfolding set_lanes
+set_lanes-joined word low high is lower = filter-joined (is_on low) (is_on high) (is_on word) 64 is lower
+
+-- a lane above the first t, as it is computed
+pub on_lowered : (a d i : ℕ) → is_on (a / 2 ^ d) i ≡ is_on a (d + i)
+unfolding is_on
+on_lowered a d i = ap (λ n. eqb n 1) (sym (shr_and_one (a / 2 ^ d) i) ∙ (ap (λ n. bit_and n 1) (shr-shr a d i) ∙ shr_and_one a (d + i)))
+
+-- a word that has nothing from the first lane of another on has lower lanes
+pub all_lower : (word more t i j : ℕ) → word / 2 ^ t ≡ 0 → ((bit : ℕ) → bit < t → is_on more bit ≡ false) → is_on word i ≡ true → is_on more j ≡ true → i < j
+all_lower word more t i j none first on there = grind (arith, both_ways, cases_lt, on_zero, first, (on_lowered word t (i - t)))
 
 -- a word that isn't 0 has a lane
 pub some_lane : (word : ℕ) → word ≢ 0 → word < 2 ^ 64 → 0 < length (set_lanes word)

@@ -1,5 +1,5 @@
 -- Lists with one more entry.
-use Rattle.roman_order.proofs.Common.{◌≡◌, ◌≢◌, ℕ, ◌+◌, ◌-◌, ◌^◌, ◌<◌, ◌≤◌, Bool, true, false, List, [], ◌∷◌, ◌++◌, length, Some, None, refl, ap, sym, ◌∙◌, inl, inr, arith, eqb, ◌||◌, is_some, list_any, position_from, IsDistinct, or-false, cases_eq, ne_eqb, cases_Bool, false≢true, length-map, map_push, list_any-append, Entry, list_any-map, nodes_of, has_entry, place_in_list, IsPlaced, stamp_of, nat_eq_equiv, IsDistinct-push, length-le_from_distinct_below}
+use Rattle.roman_order.proofs.Common.{◌≡◌, ◌≢◌, ℕ, ◌+◌, ◌-◌, ◌^◌, ◌<◌, ◌≤◌, Bool, false, List, [], ◌∷◌, ◌++◌, length, Some, None, refl, ap, ◌∙◌, inl, inr, arith, eqb, ◌||◌, is_some, list_any, position_from, IsDistinct, or-false, cases_eq, ne_eqb, cases_Bool, false≢true, map_push, list_any-append, Entry, list_any-map, nodes_of, has_entry, place_in_list, IsPlaced, stamp_of, nat_eq_equiv, IsDistinct-push}
 
 -- ---- places
 
@@ -29,12 +29,6 @@ IsPlaced-nil n = record { apart = tt; in_range = λ p h. absurd (false≢true h)
 
 pub IsPlaced-push : (n : ℕ) (L : List (Entry ℕ)) (x : Entry ℕ) → IsPlaced n L → x.node < n → has_entry L x.node ≡ false → IsPlaced n (L ++ x ∷ [])
 IsPlaced-push n L x placed here new = grind (arith, IsDistinct-push, cases_eq, has_entry-nodes, has_entry-push_other, map_push, nat_eq_equiv)
-
--- a list of distinct pairs in range has at most as many entries as there are pairs
-pub length-le_from_apart : (n : ℕ) (L : List (Entry ℕ)) → IsDistinct eqb (nodes_of L) → ((p : ℕ) → has_entry L p ≡ true → p < n) → length L ≤ n
-length-le_from_apart n L apart below =
-    let bound = length-le_from_distinct_below (nodes_of L) n apart (λ q h. below q (sym (has_entry-nodes L q) ∙ h)) in
-    omega (arith, length-map L (λ (x : Entry ℕ). x.node), bound)
 
 -- ---- stamps
 

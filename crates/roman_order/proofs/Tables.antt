@@ -1,14 +1,15 @@
 -- The contents of an order's tables, and the room in them.
-use Rattle.roman_order.proofs.Common.{◌≡◌, ◌≢◌, ℕ, ◌+◌, ◌-◌, ◌*◌, ◌/◌, ◌^◌, ◌<◌, ◌≤◌, true, false, not, [], ◌∷◌, ◌++◌, length, drop, get_or, replicate, sym, ◌∙◌, subst, arith, bit_and, length-append, ap, w64, bit_not, set, length-replicate, get_or-replicate, length-take-le, replicate-append-replicate, take_all, Reason, is_on, AreRows, full_word, Board, set_lanes, entries_in, has_entry, entries_at, AreCounted, board_of, IsPlaced, CanWait, IsSound, IsSized, removal_list, Event, Inside, take-add, places_of}
+use Rattle.roman_order.proofs.Common.{◌≡◌, ◌≢◌, ℕ, ◌+◌, ◌-◌, ◌*◌, ◌/◌, ◌^◌, ◌<◌, ◌≤◌, true, false, not, [], ◌∷◌, ◌++◌, length, drop, get_or, replicate, sym, ◌∙◌, subst, arith, bit_and, length-append, ap, w64, bit_not, set, length-replicate, get_or-replicate, length-take-le, replicate-append-replicate, take_all, Reason, is_on, AreRows, full_word, Board, set_lanes, entries_in, has_entry, entries_at, IsEvent, board_of, IsPlaced, CanWait, IsSound, IsSized, removal_list, Event, Inside, take-add}
 use Rattle.roman_order.proofs.Lanes.{AreRows-full, AreRows-pushed, in_lanes, lanes_once, some_lane}
-use Rattle.roman_order.proofs.Places.{IsPlaced-nil, length-le_from_apart, place_in_list-from_greatest}
+use Rattle.roman_order.proofs.Places.{IsPlaced-nil, place_in_list-from_greatest}
+use Rattle.roman_order.proofs.Counts.{counted_unlisted}
 use Rattle.roman_order.proofs.Firsts.{few_firsts}
-use Rattle.roman_order.proofs.Events.{CanWait-nil, few_events, length-entries_at, AreCounted-push, AreCounted-nil}
+use Rattle.roman_order.proofs.Events.{CanWait-nil, few_events, length-entries_at, AreCounted-nil}
 use Rattle.roman_order.proofs.Pushes.{pair_below, IsPlaced-lanes}
 
 -- the list has at most as many entries as there are pairs
 pub few_listed : (a : Inside) → IsSound a → length (removal_list a) ≤ a.rows * a.lanes
-few_listed a sound = length-le_from_apart (a.rows * a.lanes) (removal_list a) sound.placed.apart sound.placed.in_range
+few_listed a sound = omega (arith, counted_unlisted (a.rows * a.lanes) (removal_list a) sound.placed.apart sound.placed.in_range)
 
 -- the count is the length of the list, and there are at most as many events
 pub record IsFew (a : Inside) : Type 0 where
@@ -54,10 +55,9 @@ pub ruleset stamp_rules = (few, few_listed, place_in_list-from_greatest)
 -- what is known once the pairs of the row x whose lanes are in `lost` are listed
 pub record IsPushed (a : Inside) (x lost : ℕ) (reason : Reason) : Type 0 where
   pub placed : IsPlaced (a.rows * a.lanes) (removal_list a ++ entries_in a.lanes x lost reason)
-  pub counted : AreCounted a.lanes (a.count + length (set_lanes lost)) (places_of (length a.events.items) a.firsts.items ++ a.count ∷ []) (a.events.items ++ record { row = x; reason = reason; lanes = lost } ∷ [])
+  pub event : IsEvent a.lanes (record { row = x; reason = reason; lanes = lost })
   pub alive : AreRows a.lanes (λ p. not (has_entry (removal_list a ++ entries_in a.lanes x lost reason) p)) (set a.words.items x (bit_and (get_or a.words.items x 0) (bit_not w64 lost)))
   pub room : a.count + length (set_lanes lost) ≤ a.room
-  pub some : 0 < length (set_lanes lost)
   pub row : x < a.rows
 
 pub pushed : (a : Inside) (b : Board) (x lost : ℕ) (reason : Reason) → board_of a ≡ b → IsSound a → x < b.rows → ((lane : ℕ) → is_on lost lane ≡ true → lane < b.lanes) →
@@ -72,9 +72,8 @@ pushed a b x lost reason is sound row within alive fits some =
     let e : Event = record { row = x; reason = reason; lanes = lost } in
     record {
       placed = placed;
-      counted = AreCounted-push _ _ _ _ e sound.counted (record { some = some_lane lost some fits; within = w });
+      event = record { some = some_lane lost some fits; within = w };
       alive = AreRows-pushed _ _ _ _ _ _ sound.sized.few_lanes.1 (omega (arith, r, sound.sized.words_long)) fits w sound.alive;
-      room = omega (arith, length-le_from_apart _ _ placed.apart placed.in_range, length-append (removal_list a) (entries_at a.lanes e), length-entries_at a.lanes e, sound.counted.count, sound.sized.room);
-      some = some_lane lost some fits;
+      room = omega (arith, counted_unlisted _ _ placed.apart placed.in_range, length-append (removal_list a) (entries_at a.lanes e), length-entries_at a.lanes e, sound.counted.count, sound.sized.room);
       row = r;
     }

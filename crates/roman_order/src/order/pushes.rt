@@ -1,12 +1,14 @@
 //! Adding entries.
-ghost use Rattle.std.specs.Prelude.{◌≡◌, ℕ, ◌+◌, ◌*◌, ◌<◌, ◌≤◌, true, false, [], ◌∷◌, ◌++◌, length, slice_index, vec_capacity};
+ghost use Rattle.std.specs.Prelude.{◌≡◌, ◌≢◌, ℕ, ◌+◌, ◌*◌, ◌<◌, ◌≤◌, true, false, List, [], ◌∷◌, ◌++◌, length, slice_index, vec_capacity};
 ghost use Rattle.roman_lanes.specs.Rows.{is_on};
 ghost use Rattle.roman_order.specs.Board.{pairs_of, as_entry, entries_in, entries_in_rows, has_entry};
+ghost use Rattle.roman_order.specs.Events.{GoesOn};
 ghost use Rattle.roman_order.specs.Sound.{places_of};
+ghost use Rattle.roman_order.specs.declared.event.Event.{Event};
 
 use super::Order;
 use crate::event::Event;
-use crate::flags::lanes_in;
+use crate::flags::{lanes_in, lowest};
 use roman_model::Reason;
 
 impl Order {
@@ -55,6 +57,27 @@ impl Order {
         self.count += lanes_in(lost);
     }
 
+    /// Adds entries as [`push_lanes`](Order::push_lanes) does. They go into the last event where that one
+    /// is of the same row and reason and all its lanes are lower.
+    pub fn push_on(&mut self, x: u32, lost: u64, reason: Reason)
+        requires row { x < self.old.rows }
+        requires within { (lane : ℕ) → is_on lost lane ≡ true → lane < self.old.lanes }
+        requires alive { (lane : ℕ) → is_on lost lane ≡ true → has_entry self.old.list (x * self.old.lanes + lane) ≡ false }
+        ensures { self.new ≡ record self.old { list = self.old.list ++ entries_in self.old.lanes x lost reason } }
+    {
+        if !goes_on(&self.events, x, lost, reason) {
+            return self.push_lanes(x, lost, reason);
+        }
+        let Some(last) = self.events.pop() else {
+            unreachable!()
+        };
+        self.words[x as usize] &= !lost;
+        self.stamps.clear();
+        let lanes = last.lanes | lost;
+        self.events.push_reserved(Event { lanes, ..last });
+        self.count += lanes_in(lost);
+    }
+
     /// Adds entries for pairs of neighbouring rows, from the row `x` on, row by row, all for one
     /// reason. Word i of `lost` has the lanes of the pairs of row `x + i`. Requires pairs that aren't
     /// listed.
@@ -69,6 +92,19 @@ impl Order {
             self.push_lanes(x + i as u32, lost[i], reason);
         }
     }
+}
+
+/// Returns whether the lanes can go into the last event: it is of the row `x` and the reason, and all its
+/// lanes are lower.
+#[tactic(auto, using(crate::proofs::Lanes::all_lower))]
+fn goes_on(events: &[Event], x: u32, lost: u64, reason: Reason) -> bool
+    ensures some { result ≡ true → (0 < length events.now) × (lost ≢ 0) }
+    ensures last { result ≡ true → (front : List Event) (e : Event) → events.now ≡ front ++ e ∷ [] → GoesOn e x lost reason }
+{
+    let Some(last) = events.last() else {
+        return false;
+    };
+    lost != 0 && last.row == x && last.reason == reason && last.lanes >> lowest(lost) == 0
 }
 
 /// Adds the place of the first entry of an event after `many` others. A place that equals its number is

@@ -1,5 +1,5 @@
 use Rattle.roman_order.proofs.Common.{◌≡◌, arith, length, rules, length-append, length-set, get_or_read}
-use Rattle.roman_order.proofs.Events.{entries_of-push}
+use Rattle.roman_order.proofs.Events.{AreCounted-push, entries_of-push}
 use Rattle.roman_order.proofs.Lanes.{set_lanes-zero}
 use Rattle.roman_order.proofs.Tables.{few, pushed}
 use Rattle.roman_order.proofs.order.Order.push_lanes.Goals as goal
@@ -28,7 +28,7 @@ invariant_of-self c =
     let read = get_or_read a.words.items c.args.x c.index_mut.result.now (omega (arith, is.row, c.self.invariant.sized.words_long)) c.index_mut.ensures.value 0 in
     record {
       placed = rw (c.push_reserved.ensures.items, entries_of-push) is.placed;
-      counted = rw (c.push_reserved.ensures.items, length-append, places, c.lanes_in.ensures) is.counted;
+      counted = rw (c.push_reserved.ensures.items, length-append, places, c.lanes_in.ensures) (AreCounted-push _ _ _ _ _ c.self.invariant.counted is.event);
       waits = c.self.invariant.waits;
       stamped = rw c.clear.ensures.items (λ p h. absurd (omega arith));
       alive = rw (c.push_reserved.ensures.items, entries_of-push, read) is.alive;
