@@ -13,7 +13,6 @@ pub mod GoneLemmas
 pub mod LosingLaws
 pub mod LosingExamples
 pub mod PlaceLemmas
-pub mod CombinedSteps
 pub mod RequestLemmas
 pub mod RepairLemmas
 pub mod CallerLemmas

@@ -23,7 +23,7 @@ pub use Rattle.roman_model.proofs.DepthLemmas.{last_is_steady, loses_down, lost_
 -- Lemmas for working through a removal list: entries by their place, the delegations that lead to a node, and sums.
 pub use Rattle.roman_model.proofs.WorkLemmas.{fall_append, fall_push, order_entry, order_middle, readings_at, readings_within}
 -- A system as an arena, the greatest ND-simulation, and complete removal lists.
-pub use Rattle.roman_model.proofs.CompositionLemmas.{fine_from, fine_is, great_meets, great_related, great_survives, last_is_sim, listed_unrelated, lost_unrelated, meets_survives, related_great, system_is_same}
+pub use Rattle.roman_model.proofs.CompositionLemmas.{serves_more, fine_from, fine_is, great_meets, great_related, great_survives, last_is_sim, listed_unrelated, lost_unrelated, meets_survives, related_great, system_is_same}
 -- Every removal list can be extended to a complete one.
 pub use Rattle.roman_model.proofs.CompletionLemmas.{order_goes_on}
 -- The offers, and the pairs to which they lead.
@@ -79,6 +79,6 @@ pub use Rattle.roman_model.proofs.MadeLemmas.{IsBeh-made, IsEnv-made, beh_from_s
 pub use Rattle.roman_model.proofs.MadeLemmas.{made_final, made_move, made_triple, move_passes}
 -- The combined actions, and the steps and final states of the combined parts, which are those of the members.
 pub use Rattle.roman_model.proofs.CombinedLemmas.{IsMemberStep, combined_sstep, combined_target_goes, combined_triple, from_combined_sstep, from_combined_target}
-pub use Rattle.roman_model.proofs.CombinedLemmas.{from_combined_triple, in_requests, stands_uses, target_size_at}
+pub use Rattle.roman_model.proofs.CombinedLemmas.{from_combined_triple, in_requests, total, stands_uses, target_size_at}
 -- The combined target stands for several targets: the ND-simulations of the combined system are those of the members.
-pub use Rattle.roman_model.proofs.CombinedLaws.{combined_is_all, combined_system}
+pub use Rattle.roman_model.proofs.CombinedLaws.{all_from_great, combined_allows, combined_is_all, combined_served, combined_system, decoded, from_combined_allows, great_from_all, member_served, member_step, request_there, world_as}

@@ -68,9 +68,7 @@ order_possible s L sys are order x i =
 
 -- no line of an entry is `end`
 no_end : (s : Sys) (L : List (Entry ℕ)) → IsFew s → ArePossible s L → IsFalse (list_any (same_numbers end_line) (map entry_line L))
-no_end s L small are = none_from (same_numbers end_line) (map entry_line L) (λ line i.
-    let (x, j, e) = from_map entry_line line L i in
-    grind (arith, entry_is_no_end, possible_small))
+no_end s L small are = none_from (same_numbers end_line) (map entry_line L) (λ line i. grind (arith, (from_map entry_line line L i), entry_is_no_end, possible_small))
 
 -- the lines before the entries
 abbrev pub opened : Sys → List (Entry ℕ) → List (List ℕ)

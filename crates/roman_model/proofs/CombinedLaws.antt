@@ -1,5 +1,5 @@
 -- The combined target stands for several targets: the ND-simulations of the combined system are those of the members.
-use Rattle.roman_model.proofs.Common.{◌≡◌, ℕ, ◌<◌, ◌≤◌, Bool, ◌&&◌, List, [], ◌∷◌, map, length, Some, IsTrue, filter, slice_get, slice_index, slice_set, inl, inr, refl, sym, ap, ◌∙◌, subst, arith, nat_lt, and_parts, and_from, ltb-true, lt-ltb, length-map, same_Some, IsIn, Env, Beh, Seat, has_triple, has_move, IsBeh, IsSys, SStep, is_final, IsDeterministic, same_numbers, MAX_SERVICES, Couple, couple, Serves, Meets, GreatCouple, Request, Several, of_one, are_final, CoupleAll, ServesAll, MeetsAll, GreatAll, AreBelow, has_triple_on, has_move_on, targets_go, target_sizes, combined_start, combined_seat, all_requests, combined, IsSeveral, CombinedIsAll}
+use Rattle.roman_model.proofs.Common.{◌≡◌, ℕ, ◌<◌, ◌≤◌, Bool, ◌&&◌, List, [], ◌∷◌, map, length, Some, IsTrue, filter, slice_get, slice_index, slice_set, inl, inr, refl, sym, ap, ◌∙◌, subst, arith, nat_lt, and_parts, and_from, ltb-true, lt-ltb, length-map, same_Some, IsIn, Env, Beh, Seat, has_triple, has_move, IsBeh, IsSys, Allows, is_final, IsDeterministic, same_numbers, MAX_SERVICES, Couple, couple, Serves, Meets, GreatCouple, Request, Several, of_one, are_final, CoupleAll, ServesAll, MeetsAll, GreatAll, AreBelow, has_triple_on, has_move_on, targets_go, target_sizes, combined_start, combined_seat, all_requests, combined, IsSeveral, CombinedIsAll}
 use Rattle.roman_model.proofs.Places.{get_in, in_get}
 use Rattle.roman_model.proofs.Lists.{in_map, from_map, in_filter, filter_in}
 use Rattle.roman_model.proofs.SystemLemmas.{same_numbers_is, same_numbers_itself, move_in_range}
@@ -8,14 +8,36 @@ use Rattle.roman_model.proofs.CompositionLemmas.{meets_more}
 use Rattle.roman_model.proofs.MadeLemmas.{IsEnv-made, IsBeh-made, from_made_final, made_final}
 use Rattle.roman_model.proofs.CombinedLemmas.{IsMemberStep, in_requests, from_combined_triple, combined_triple, from_combined_sstep, combined_sstep, from_combined_target, combined_target_goes, member_below, states_of, number_of, total, from_all_final_combined, all_final_combined}
 
--- The steps of the combined environment and target, where the request and the target are known.
+-- A combined action that is the request of a target.
 
-world_as : (w : Several) (e n e' : ℕ) (r : Request) → slice_get (all_requests w) n ≡ Some r → IsTrue (has_triple (combined w).env e n e') → IsTrue (has_triple w.env e r.action e')
+-- the triples on it are triples on its plain action
+pub world_as : (w : Several) (e n e' : ℕ) (r : Request) → slice_get (all_requests w) n ≡ Some r → IsTrue (has_triple (combined w).env e n e') → IsTrue (has_triple w.env e r.action e')
 world_as w e n e' r at t = grind (arith, (from_combined_triple w e n e' t))
 
-step_as : (w : Several) (n : ℕ) (ts : List ℕ) (e : ℕ) (ts' : List ℕ) (r r2 : Request) (target target2 : Beh) → slice_get (all_requests w) n ≡ Some r →
-    slice_get w.targets r.target ≡ Some target → IsMemberStep w n ts e ts' r2 target2 → IsMemberStep w n ts e ts' r target
-step_as w n ts e ts' r r2 target target2 at member step = grind (arith, same_Some)
+-- the steps on it are steps of its target
+pub member_step : (w : Several) (t e n t' : ℕ) (r : Request) (target : Beh) → slice_get (all_requests w) n ≡ Some r → slice_get w.targets r.target ≡ Some target →
+    IsTrue (has_move (combined w).target t e n t') → IsMemberStep w n (states_of w t) e (states_of w t') r target
+member_step w t e n t' r target at member goes = grind (arith, same_Some, (from_combined_target w t e n t' goes))
+
+-- it is allowed only where its target allows it
+pub from_combined_allows : (w : Several) (t e n : ℕ) → Allows (combined w) t e n →
+    (r : Request) × (target : Beh) × (slice_get (all_requests w) n ≡ Some r) × (slice_get w.targets r.target ≡ Some target) × Allows (of_one w target) (slice_index (states_of w t) r.target) e r.action
+from_combined_allows w t e n (t', e', joint) =
+    let (ht, ht', r, target, step) = from_combined_target w t e n t' joint.1 in
+    (r, target, step.request, step.member, (slice_index (states_of w t') r.target, e', (world_as w e n e' r step.request joint.0, step.goes)))
+
+-- it is allowed where its target allows it
+pub combined_allows : (w : Several) (t e n : ℕ) (r : Request) (target : Beh) → IsSeveral w → t < total w → slice_get (all_requests w) n ≡ Some r → slice_get w.targets r.target ≡ Some target →
+    Allows (of_one w target) (slice_index (states_of w t) r.target) e r.action → Allows (combined w) t e n
+combined_allows w t e n r target ok l at member (t', e', step) =
+    (number_of w (slice_set (states_of w t) r.target t'), e', (combined_triple w e n e' r ok.env at step.0, combined_target_goes w t e n t' r target ok l at member step.1))
+
+-- each request that a target allows is a combined action
+pub request_there : (w : Several) (t e i a : ℕ) (target : Beh) → IsSeveral w → slice_get w.targets i ≡ Some target → Allows (of_one w target) (slice_index (states_of w t) i) e a →
+    (n : ℕ) × (slice_get (all_requests w) n ≡ Some (record { target = i; action = a }))
+request_there w t e i a target ok member (t', e', step) =
+    in_get (all_requests w) (record { target = i; action = a })
+    (in_requests w.env w.targets i target (slice_index (states_of w t) i) e a t' member (ok.targets target (get_in w.targets i target member)).0 step.1)
 
 -- The three clauses.
 
@@ -26,6 +48,32 @@ decoded w c = record { ts = states_of w c.t; e = c.e; bs = c.bs; e2 = c.e2 }
 abbrev pub encoded : Several → CoupleAll → Couple
 encoded w d = record { t = number_of w d.ts; e = d.e; bs = d.bs; e2 = d.e2 }
 
+-- a seat that serves a request for all targets serves the combined action
+pub combined_served : (w : Several) (Related : CoupleAll → Type 0) (c : Couple) (n k : ℕ) (r : Request) (target : Beh) → IsSeveral w → slice_get (all_requests w) n ≡ Some r → slice_get w.targets r.target ≡ Some target →
+    ServesAll w Related (decoded w c) r.target target r.action k → Serves (combined w) (λ d. (d.t < total w) × Related (decoded w d)) c n k
+combined_served w Related c n k r target ok at member serves t' e' (world, goes) =
+    let step : IsMemberStep w n (states_of w c.t) c.e (states_of w t') r target = member_step w c.t c.e n t' r target at member goes in
+    let (ht, ht', r2, target2, step2) = from_combined_target w c.t c.e n t' goes in
+    let (some, all) = serves (slice_index (states_of w t') r.target) e' (world_as w c.e n e' r at world, step.goes) in (
+      (some.0, combined_sstep w target c.bs c.e2 n k some.0 e' r ok at some.1),
+      λ bs' sstep. grind (arith, (from_combined_sstep w target c.bs c.e2 n k bs' e' r)),
+    )
+
+-- a seat that serves the combined action serves the request for all targets
+pub member_served : (w : Several) (Related : Couple → Type 0) (More : CoupleAll → Type 0) (c : Couple) (n k : ℕ) (r : Request) (target : Beh) → IsSeveral w → c.t < total w →
+    ((d : Couple) → d.t < total w → Related d → More (decoded w d)) → slice_get (all_requests w) n ≡ Some r → slice_get w.targets r.target ≡ Some target →
+    Serves (combined w) Related c n k → ServesAll w More (decoded w c) r.target target r.action k
+member_served w Related More c n k r target ok l more at member serves t' e' (world, goes) =
+    let hb' : t' < target.states = (move_in_range w.env target (slice_index (states_of w c.t) r.target) c.e r.action t' (ok.targets target (get_in w.targets r.target target member)).0 goes).3 in
+    let below : AreBelow (target_sizes w.targets) (slice_set (states_of w c.t) r.target t') = member_below w c.t r.target target t' l member hb' in
+    let (some, all) = serves (number_of w (slice_set (states_of w c.t) r.target t')) e' (combined_triple w c.e n e' r ok.env at world, combined_target_goes w c.t c.e n t' r target ok l at member goes) in (
+      (some.0, from_combined_sstep w target c.bs c.e2 n k some.0 e' r at (world_as w c.e2 n e' r at some.1.world) some.1),
+      λ bs' sstep.
+          subst (λ (ts : List ℕ). More (record { ts = ts; e = e'; bs = bs'; e2 = e' })) (states_at-number (target_sizes w.targets) (slice_set (states_of w c.t) r.target t') below)
+          (more (record { t = number_of w (slice_set (states_of w c.t) r.target t'); e = e'; bs = bs'; e2 = e' }) (states_number_below (target_sizes w.targets) (slice_set (states_of w c.t) r.target t') below)
+          (all bs' (combined_sstep w target c.bs c.e2 n k bs' e' r ok at sstep))),
+    )
+
 pub meets_combined : (w : Several) (Related : CoupleAll → Type 0) (c : Couple) → IsSeveral w → MeetsAll w Related (decoded w c) →
     Meets (combined w) (λ d. (d.t < total w) × Related (decoded w d)) c
 meets_combined w Related c ok meets = record {
@@ -34,25 +82,10 @@ meets_combined w Related c ok meets = record {
       (from_made_final w.env.states (length (all_requests w)) (total w) (combined_start w.targets)
       (λ t. are_final w.targets (states_of w t)) (λ t e n t'. targets_go w.targets (slice_get (all_requests w) n) (states_of w t) e (states_of w t')) c.t t));
   served = λ n allows.
-      let (t1, e1, tstep1) = allows in
-      let (world1, goes1) = tstep1 in
-      let (ht, ht', r, target, step) = from_combined_target w c.t c.e n t1 goes1 in
-      let (k, serves) = meets.served r.target target step.member r.action
-      (slice_index (states_of w t1) r.target, e1, (world_as w c.e n e1 r step.request world1, step.goes)) in
-      (k, λ t' e' tstep. each n k r target step.request step.member serves t' e' tstep.0 tstep.1);
+      let (r, target, at, member, allowed) = from_combined_allows w c.t c.e n allows in
+      let (k, serves) = meets.served r.target target member r.action allowed in
+      (k, combined_served w Related c n k r target ok at member serves);
 }
-  where
-    each : (n k : ℕ) (r : Request) (target : Beh) → slice_get (all_requests w) n ≡ Some r → slice_get w.targets r.target ≡ Some target →
-        ServesAll w Related (decoded w c) r.target target r.action k → (t' e' : ℕ) → IsTrue (has_triple (combined w).env c.e n e') → IsTrue (has_move (combined w).target c.t c.e n t') →
-        ((bs' : List ℕ) × SStep (combined w) c.bs c.e2 n k bs' e')
-        × ((bs' : List ℕ) → SStep (combined w) c.bs c.e2 n k bs' e' → (t' < total w) × Related (record { ts = states_of w t'; e = e'; bs = bs'; e2 = e' }))
-    each n k r target at member serves t' e' world goes =
-        let (ht, ht', r3, target3, step3) = from_combined_target w c.t c.e n t' goes in
-        let step : IsMemberStep w n (states_of w c.t) c.e (states_of w t') r target = step_as w n (states_of w c.t) c.e (states_of w t') r r3 target target3 at member step3 in
-        let (some, all) = serves (slice_index (states_of w t') r.target) e' (world_as w c.e n e' r at world, step.goes) in (
-          (some.0, combined_sstep w target c.bs c.e2 n k some.0 e' r ok at some.1),
-          λ bs' sstep. grind (arith, (from_combined_sstep w target c.bs c.e2 n k bs' e' r)),
-        )
 
 pub meets_members : (w : Several) (Related : Couple → Type 0) (More : CoupleAll → Type 0) (c : Couple) → IsSeveral w → c.t < total w →
     ((d : Couple) → d.t < total w → Related d → More (decoded w d)) → Meets (combined w) Related c → MeetsAll w More (decoded w c)
@@ -62,31 +95,10 @@ meets_members w Related More c ok l more meets = record {
       (made_final w.env.states (length (all_requests w)) (total w) (combined_start w.targets)
       (λ t. are_final w.targets (states_of w t)) (λ t e n t'. targets_go w.targets (slice_get (all_requests w) n) (states_of w t) e (states_of w t')) c.t l t));
   served = λ i target member a allows.
-      let (t1, e1, tstep1) = allows in
-      let (world1, goes1) = tstep1 in
-      let (n, at) = in_get (all_requests w) (record { target = i; action = a })
-      (in_requests w.env w.targets i target (slice_index (states_of w c.t) i) c.e a t1 member (ok.targets target (get_in w.targets i target member)).0 goes1) in
-      let (k, serves) = meets.served n (
-        number_of w (slice_set (states_of w c.t) i t1),
-        e1,
-        (combined_triple w c.e n e1 (record { target = i; action = a }) ok.env at world1, combined_target_goes w c.t c.e n t1 (record { target = i; action = a }) target ok l at member goes1),
-      ) in
-      (k, λ t' e' tstep. each i target member a n k at serves t' e' tstep.0 tstep.1);
+      let (n, at) = request_there w c.t c.e i a target ok member allows in
+      let (k, serves) = meets.served n (combined_allows w c.t c.e n (record { target = i; action = a }) target ok l at member allows) in
+      (k, member_served w Related More c n k (record { target = i; action = a }) target ok l more at member serves);
 }
-  where
-    each : (i : ℕ) (target : Beh) → slice_get w.targets i ≡ Some target → (a n k : ℕ) → slice_get (all_requests w) n ≡ Some (record { target = i; action = a }) →
-        Serves (combined w) Related c n k → (t' e' : ℕ) → IsTrue (has_triple w.env c.e a e') → IsTrue (has_move target (slice_index (states_of w c.t) i) c.e a t') →
-        ((bs' : List ℕ) × SStep (of_one w target) c.bs c.e2 a k bs' e')
-        × ((bs' : List ℕ) → SStep (of_one w target) c.bs c.e2 a k bs' e' → More (record { ts = slice_set (states_of w c.t) i t'; e = e'; bs = bs'; e2 = e' }))
-    each i target member a n k at serves t' e' world goes =
-        let r : Request = record { target = i; action = a } in
-        let hb' : t' < target.states = (move_in_range w.env target (slice_index (states_of w c.t) i) c.e a t' (ok.targets target (get_in w.targets i target member)).0 goes).3 in
-        let below : AreBelow (target_sizes w.targets) (slice_set (states_of w c.t) i t') = member_below w c.t i target t' l member hb' in
-        let (some, all) = serves (number_of w (slice_set (states_of w c.t) i t')) e'
-        (combined_triple w c.e n e' r ok.env at world, combined_target_goes w c.t c.e n t' r target ok l at member goes) in (
-          (some.0, from_combined_sstep w target c.bs c.e2 n k some.0 e' r at (world_as w c.e2 n e' r at some.1.world) some.1),
-          λ bs' sstep. grind (arith, (states_at-number (target_sizes w.targets) (slice_set (states_of w c.t) i t') below), (states_number_below (target_sizes w.targets) (slice_set (states_of w c.t) i t') below), (combined_sstep w target c.bs c.e2 n k bs' e' r ok)),
-        )
 
 -- Related pairs.
 
@@ -144,7 +156,7 @@ pub combined_single : (w : Several) → IsSeveral w → IsDeterministic (combine
 combined_single w ok b e n b1 b2 h1 h2 =
     let (l, l1, r1, target1, step1) = from_combined_target w b e n b1 h1 in
     let (m, l2, r2, target2, step2) = from_combined_target w b e n b2 h2 in
-    let step : IsMemberStep w n (states_of w b) e (states_of w b2) r1 target1 = step_as w n (states_of w b) e (states_of w b2) r1 r2 target1 target2 step1.request step1.member step2 in
+    let step : IsMemberStep w n (states_of w b) e (states_of w b2) r1 target1 = member_step w b e n b2 r1 target1 step1.request step1.member h2 in
     let one : slice_index (states_of w b1) r1.target ≡ slice_index (states_of w b2) r1.target =
     (ok.targets target1 (get_in w.targets r1.target target1 step1.member)).1 (slice_index (states_of w b) r1.target) e r1.action
     (slice_index (states_of w b1) r1.target) (slice_index (states_of w b2) r1.target) step1.goes step.goes in

@@ -47,10 +47,7 @@ complete_within s zero L ok entries order enough = by_test (list_any (can_follow
     (λ some. grind (arith, (one_more s L entries order some), order_fits, (system_is_same s), in_pairs, length-append))
     (λ none. ([], subst (IsComplete s) (sym (append-nil L)) (last_complete s L ok entries order none)))
 complete_within s (suc n) L ok entries order enough = by_test (list_any (can_follow s L) (possible s))
-    (λ some.
-    let more = one_more s L entries order some in
-    let (M, complete) = complete_within s n (L ++ more.entry ∷ []) ok more.pairs more.order (omega (arith, length-append L (more.entry ∷ []))) in
-    (more.entry ∷ M, subst (IsComplete s) (append_assoc L (more.entry ∷ []) M) complete))
+    (λ some. grind (arith, (one_more s L entries order some), length-append, append_assoc, (complete_within s n)))
     (λ none. ([], subst (IsComplete s) (sym (append-nil L)) (last_complete s L ok entries order none)))
 
 -- every removal list can be extended to a complete one

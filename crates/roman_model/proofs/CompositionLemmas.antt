@@ -67,13 +67,16 @@ survives_meets s Related p ok survives = record {
 -- The greatest ND-simulation.
 
 -- the clauses still hold in a larger relation
+
+pub serves_more : (s : Sys) (Related More : Couple → Type 0) (c : Couple) (a k : ℕ) → ((d : Couple) → Related d → More d) → Serves s Related c a k → Serves s More c a k
+serves_more s Related More c a k more serves t' e' step =
+    let (some, all) = serves t' e' step in (some, λ bs' r. more (record { t = t'; e = e'; bs = bs'; e2 = e' }) (all bs' r))
+
 pub meets_more : (s : Sys) (Related More : Couple → Type 0) (c : Couple) → ((d : Couple) → Related d → More d) → Meets s Related c → Meets s More c
 meets_more s Related More c more meets = record {
   shared = meets.shared;
   final = meets.final;
-  served = λ a allows.
-      let (k, serves) = meets.served a allows in
-      (k, λ t' e' step. let (some, all) = serves t' e' step in (some, λ bs' r. more (record { t = t'; e = e'; bs = bs'; e2 = e' }) (all bs' r)));
+  served = λ a allows. let (k, serves) = meets.served a allows in (k, serves_more s Related More c a k more serves);
 }
 
 pub great_meets : (s : Sys) (c : Couple) → GreatCouple s c → Meets s (GreatCouple s) c

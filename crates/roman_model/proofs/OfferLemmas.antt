@@ -29,9 +29,7 @@ offers_are s ok = record {
     λ i.
         let (allows, l, some, all) = offer_is s p a k ok pair i in
         (l, outcomes_serve s (GreatCouple s) p a k ok some all),
-    λ h.
-        let (l, some, all) = serves_outcomes s (GreatCouple s) p a k ok allowed h.1 in
-        grind (arith, in_offers),
+    λ h. grind (arith, (serves_outcomes s (GreatCouple s) p a k ok allowed h.1), in_offers),
   );
   masked = λ L complete p pair a. mask_is_offers s L p a ok complete pair;
 }

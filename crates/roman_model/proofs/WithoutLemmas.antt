@@ -1,5 +1,5 @@
 -- A system without one or two seats equals the system after as many changes.
-use Rattle.roman_model.proofs.Common.{◌≡◌, ℕ, zero, suc, ◌<◌, ◌==◌, Bool, true, false, cond, ◌||◌, List, [], ◌∷◌, Some, IsTrue, slice_get, remove, refl, sym, ap, ap₂, ◌∙◌, arith, pred, or-false, or-true, false≢true, eq-eqb, eqb-true, same_Some, Seat, has, set_frozen, leave_out, freeze_at, WithoutByChanges}
+use Rattle.roman_model.proofs.Common.{◌≡◌, ℕ, zero, suc, ◌<◌, ◌==◌, Bool, true, false, cond, ◌||◌, List, [], ◌∷◌, Some, IsTrue, slice_get, remove, refl, ap, ap₂, ◌∙◌, arith, pred, or-false, or-true, false≢true, eq-eqb, eqb-true, same_Some, Seat, has, set_frozen, leave_out, freeze_at, WithoutByChanges}
 use Rattle.roman_model.proofs.Lists.{same_test}
 
 pub suc_same : (i k : ℕ) → (suc i == suc k) ≡ (i == k)
@@ -77,9 +77,7 @@ freeze_both at bt (x ∷ xs) =
     ap₂ (λ b ys. record { beh = x.beh; frozen = b; rests = x.rests } ∷ ys) (or_swap x.frozen (at 0) (bt 0)) (freeze_both (λ i. at (suc i)) (λ i. bt (suc i)) xs)
 
 pub freeze_two : (k j : ℕ) (seats : List Seat) → set_frozen (set_frozen seats k true) j true ≡ freeze_at (has (k ∷ j ∷ [])) seats
-freeze_two k j seats =
-    sym (freeze_one j (set_frozen seats k true)) ∙ ap (freeze_at (has (j ∷ []))) (sym (freeze_one k seats)) ∙ freeze_both (has (k ∷ [])) (has (j ∷ [])) seats
-    ∙ freeze_same (λ i. has (k ∷ []) i || has (j ∷ []) i) (has (k ∷ j ∷ [])) seats (λ i. or_swap (k == i) false (j == i || false))
+freeze_two k j seats = grind (arith, (freeze_one j (set_frozen seats k true)), (freeze_one k seats), (freeze_both (has (k ∷ [])) (has (j ∷ [])) seats), freeze_same, or_swap)
 
 -- freezing a frozen seat again
 pub freeze_again : (k : ℕ) (seats : List Seat) (seat : Seat) → slice_get seats k ≡ Some seat → IsTrue seat.frozen → set_frozen seats k true ≡ seats
