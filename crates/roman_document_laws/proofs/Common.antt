@@ -10,7 +10,7 @@ pub use Rattle.std.specs.Str.{bytes_eq}
 pub use Rattle.roman_guard.proofs.CallerLemmas.{in_states_below, states_below-suc, states_below-zero, states_below_are}
 pub use Rattle.roman_guard.specs.Meaning.{is_one_of, states_below}
 pub use Rattle.roman_io.specs.Shelf.{Texts}
-pub use Rattle.roman_laws.proofs.CallerLemmas.{listed_step, listed_triple, step_listed, triple_listed}
+pub use Rattle.roman_laws.proofs.CallerLemmas.{listed_step, listed_triple, step_listed}
 pub use Rattle.roman_laws.specs.Outcomes.{HasStep}
 pub use Rattle.roman_library.proofs.CallerLemmas.{placed_is}
 pub use Rattle.roman_library.specs.Documents.{behaviour_in, behaviour_step}
@@ -20,7 +20,7 @@ pub use Rattle.roman_library.specs.Refusals.{placed, refusal_of}
 pub use Rattle.roman_library.specs.declared.library.Service.{Service}
 pub use Rattle.roman_library.specs.declared.refusal.Part.{Part}
 pub use Rattle.roman_library.specs.declared.refusal.Refusal.{Refusal}
-pub use Rattle.roman_model.proofs.CallerLemmas.{any_true, by_test, contains_in, filter_in, find_not_found, from_append, from_below, from_flat_map, from_map, from_push, get_in, in_append_left, in_contains, in_map, in_push, listed_number, none_from, number_listed, same_test, there_is}
+pub use Rattle.roman_model.proofs.CallerLemmas.{any_true, by_test, contains_in, filter_in, find_not_found, from_append, from_below, from_flat_map, from_map, from_push, get_in, in_append_left, in_contains, in_map, in_push, listed_number, none_from, number_listed, same_test, there_is, triple_in}
 pub use Rattle.roman_model.specs.Explanation.{name_at}
 pub use Rattle.roman_model.specs.Lists.{HasNoRepeats, IsIn, below}
 pub use Rattle.roman_model.specs.Made.{guarded_step}

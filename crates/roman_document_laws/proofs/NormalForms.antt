@@ -1,5 +1,5 @@
 -- Normal forms rise, have the same steps, and are determined by them.
-use Rattle.roman_document_laws.proofs.Common.{◌≡◌, ◌≢◌, ℕ, inl, inr, List, [], ◌∷◌, map, refl, sym, ◌∙◌, subst, arith, filter, flat_map, IsIn, below, Triple, Env, Move, Beh, has_move, is_final, has_triple, normal_env, normal_beh, from_flat_map, from_map, number_listed, listed_number, triple_listed, step_listed, listed_step, listed_triple, has_triple-normal, has_move-normal, is_final-normal, Rises, IsLess, IsNormalEnv, IsNormalBeh, AreBefore, IsTripleBefore, IsMoveBefore, SameEnv, SameBeh, NormalFormsAreNormal, NormalFormsAreUnique, env_next, guarded_step, HasStep}
+use Rattle.roman_document_laws.proofs.Common.{◌≡◌, ◌≢◌, ℕ, inl, inr, List, [], ◌∷◌, map, refl, sym, ◌∙◌, subst, arith, filter, flat_map, IsIn, below, Triple, Env, Move, Beh, has_move, is_final, has_triple, normal_env, normal_beh, from_flat_map, from_map, number_listed, listed_number, triple_in, step_listed, listed_step, listed_triple, has_triple-normal, has_move-normal, is_final-normal, Rises, IsLess, IsNormalEnv, IsNormalBeh, AreBefore, IsTripleBefore, IsMoveBefore, SameEnv, SameBeh, NormalFormsAreNormal, NormalFormsAreUnique, env_next, guarded_step, HasStep}
 use Rattle.roman_document_laws.proofs.Rising.{rises_filter, rises_flat, rises_map, rises_same, rises_below}
 
 -- Normal forms rise
@@ -105,7 +105,7 @@ less_both : (m n : ℕ) → IsLess m n → IsLess n m → ⊥
 less_both m n h i = omega arith
 
 triples_within : (x y : Env) → ((e a e' : ℕ) → has_triple x e a e' ≡ has_triple y e a e') → (t : Triple) → IsIn t x.triples → IsIn t y.triples
-triples_within x y same t i = triple_listed y t.from t.action t.to (sym (same t.from t.action t.to) ∙ listed_triple x t.from t.action t.to i)
+triples_within x y same t i = triple_in y t.from t.action t.to (sym (same t.from t.action t.to) ∙ listed_triple x t.from t.action t.to i)
 
 env_unique : (x y : Env) → IsNormalEnv x → IsNormalEnv y → SameEnv x y → x ≡ y
 env_unique x y hx hy same =

@@ -1,6 +1,6 @@
 -- The definitions, computed for three small systems. A lamp is off or on. A flaky lamp may also stick when it is turned on. The target
 -- turns a lamp on and off, and may rest while it is off.
-use Rattle.roman_laws.proofs.Common.{◌≡◌, ℕ, ◌+◌, ◌<◌, true, false, List, [], ◌∷◌, map, length, Some, IsTrue, filter, inl, inr, refl, sym, subst, arith, and_parts, eqb-true, IsIn, Triple, Env, Beh, Seat, Sys, Pair, IsBeh, IsSys, has_move, Move, pairs, arena, IsOrder, depth, Join, after, is_related, offers, choice_count, Final, Act, any_true}
+use Rattle.roman_laws.proofs.Common.{◌≡◌, ℕ, ◌+◌, ◌<◌, true, false, List, [], ◌∷◌, map, length, Some, filter, refl, arith, Env, Beh, Seat, Sys, Pair, IsSys, pairs, arena, IsOrder, depth, Join, after, is_related, offers, choice_count, Final, Act}
 
 -- The one environment state is 0. The action 0 turns a lamp on, and the action 1 turns it off. A lamp is off at 0, on at 1 and stuck at 2.
 
@@ -90,34 +90,8 @@ joined_offers_on = refl
 
 -- The lamp's system is well formed, so the premises of the laws can be met.
 
-lamp_triples : (x : Triple) → IsIn x room.triples → (x.from < 1) × (x.action < 2) × (x.to < 1)
-lamp_triples x (inl e) = subst (λ (y : Triple). (y.from < 1) × (y.action < 2) × (y.to < 1)) (sym e) (omega arith)
-lamp_triples x (inr (inl e)) = subst (λ (y : Triple). (y.from < 1) × (y.action < 2) × (y.to < 1)) (sym e) (omega arith)
-lamp_triples x (inr (inr none)) = absurd none
-
-lamp_steps : (m : Move) → IsIn m lamp.steps → (m.from < 2) × (m.action < 2) × (m.to < 2)
-lamp_steps m (inl e) = subst (λ (n : Move). (n.from < 2) × (n.action < 2) × (n.to < 2)) (sym e) (omega arith)
-lamp_steps m (inr (inl e)) = subst (λ (n : Move). (n.from < 2) × (n.action < 2) × (n.to < 2)) (sym e) (omega arith)
-lamp_steps m (inr (inr none)) = absurd none
-
-only_zero : (n : ℕ) → IsIn n (0 ∷ []) → n < 1
-only_zero n (inl e) = omega arith
-only_zero n (inr none) = absurd none
-
-lamp_guards : (m : Move) → IsIn m lamp.steps → (e : ℕ) → IsIn e m.guard → e < 1
-lamp_guards m (inl same) = subst (λ (n : Move). (e : ℕ) → IsIn e n.guard → e < 1) (sym same) only_zero
-lamp_guards m (inr (inl same)) = subst (λ (n : Move). (e : ℕ) → IsIn e n.guard → e < 1) (sym same) only_zero
-lamp_guards m (inr (inr none)) = absurd none
-
-lamp_is_behaviour : IsBeh room lamp
-lamp_is_behaviour = grind (arith, lamp_guards, lamp_steps, only_zero)
-
--- a step of the lamp turns it over
-lamp_turns : (b e a b' : ℕ) → IsTrue (has_move lamp b e a b') → b + b' ≡ 1
-lamp_turns b e a b' h = grind (arith, and_parts, any_true, eqb-true)
-
 pub lamp_is_system : IsSys lamp_system
-lamp_is_system = grind (arith, lamp_is_behaviour, lamp_triples, lamp_turns)
+lamp_is_system = grind (arith, room)
 
 -- The removal list of the flaky lamp's system that a certificate lists: each entry is justified by the entries before it.
 flaky_order : IsOrder (arena flaky_system)

@@ -1,5 +1,5 @@
 -- Seats that leave one after the other.
-use Rattle.roman_laws.proofs.Common.{◌≡◌, ℕ, zero, suc, ◌==◌, Bool, true, false, cond, not, ◌||◌, List, [], ◌∷◌, ◌++◌, Some, IsTrue, IsFalse, slice_get, slice_index, remove, refl, sym, ap, ap₂, ◌∙◌, subst, inl, inr, arith, both_ways, eqb-true, or_right, or_cases, none-some, IsIn, Sys, Pair, has, IsSys, IsPair, is_final, Great, leave_out, system_without, pair_without, by_test, in_append_left, in_append_right, from_append, number_listed, listed_number, left, leave_out_same, other_zero, suc_same, zero_other, same_test, GreatWithout, ArePart, MayGoAt}
+use Rattle.roman_laws.proofs.Common.{◌≡◌, ℕ, zero, suc, ◌==◌, Bool, cond, not, ◌||◌, List, [], ◌∷◌, ◌++◌, Some, IsTrue, IsFalse, slice_get, slice_index, remove, refl, sym, ◌∙◌, subst, inl, inr, arith, both_ways, eqb-true, or_right, or_cases, none-some, IsIn, Sys, Pair, has, IsSys, IsPair, is_final, Great, leave_out, system_without, pair_without, by_test, in_append_left, in_append_right, from_append, number_listed, listed_number, left, leave_out_same, other_zero, suc_same, zero_other, same_test, GreatWithout, ArePart, MayGoAt}
 use Rattle.roman_model.specs.declared.way.Way.TheVariants as way
 use Rattle.roman_laws.proofs.ReducedLemmas.{IsSys-reduced, IsPair-reduced}
 use Rattle.roman_laws.proofs.LosingLemmas.{great_with_gone}
@@ -17,46 +17,18 @@ remove_none (suc n) = refl
 leave_one_more : {X : Type 0} (at bt : ℕ → Bool) (j : ℕ) (xs : List X) → IsFalse (at j) → ((i : ℕ) → bt i ≡ ((j == i) || at i)) → leave_out bt xs ≡ remove (leave_out at xs) (place_left at j)
 leave_one_more at bt j [] f more = sym (remove_none (place_left at j))
 leave_one_more at bt zero (x ∷ xs) f more = grind (arith, leave_out_same, zero_other)
-leave_one_more {X} at bt (suc j) (x ∷ xs) f more =
-    ap₂ (λ b ys. cond b ys (x ∷ ys)) (more 0 ∙ ap (λ b. b || at 0) (other_zero j))
-    (leave_one_more (λ i. at (suc i)) (λ i. bt (suc i)) j xs f (λ i. more (suc i) ∙ ap (λ b. b || at (suc i)) (suc_same j i)))
-    ∙ by_first (at 0)
-  where
-    rest : List X
-    rest = leave_out (λ i. at (suc i)) xs
+leave_one_more at bt (suc j) (x ∷ xs) f more = grind (arith, other_zero, suc_same, (leave_one_more (λ i. at (suc i)) (λ i. bt (suc i)) j xs f))
 
-    by_first : (b : Bool) → cond b (remove rest (place_left (λ i. at (suc i)) j)) (x ∷ remove rest (place_left (λ i. at (suc i)) j))
-        ≡ remove (cond b rest (x ∷ rest)) (cond b (place_left (λ i. at (suc i)) j) (suc (place_left (λ i. at (suc i)) j)))
-    by_first true = refl
-    by_first false = refl
-
--- a seat that stays is at that place
+-- a seat that stays is at that place, and so is its state
 get_left : {X : Type 0} (at : ℕ → Bool) (j : ℕ) (xs : List X) (x : X) → IsFalse (at j) → slice_get xs j ≡ Some x → slice_get (leave_out at xs) (place_left at j) ≡ Some x
 get_left at j [] x f e = absurd (none-some x e)
-get_left at zero (y ∷ xs) x f e = ap (λ b. slice_get (cond b (leave_out (λ i. at (suc i)) xs) (y ∷ leave_out (λ i. at (suc i)) xs)) 0) f ∙ e
-get_left {X} at (suc j) (y ∷ xs) x f e = by_first (at 0) ∙ get_left (λ i. at (suc i)) j xs x f e
-  where
-    rest : List X
-    rest = leave_out (λ i. at (suc i)) xs
-
-    by_first : (b : Bool) → slice_get (cond b rest (y ∷ rest)) (cond b (place_left (λ i. at (suc i)) j) (suc (place_left (λ i. at (suc i)) j))) ≡ slice_get rest (place_left (λ i. at (suc i)) j)
-    by_first true = refl
-    by_first false = refl
-
-index_none : (n m : ℕ) → slice_index [] n ≡ slice_index [] m
-index_none n m = refl
+get_left at zero (y ∷ xs) x f e = grind arith
+get_left at (suc j) (y ∷ xs) x f e = grind (arith, (get_left (λ i. at (suc i)) j xs x f e))
 
 index_left : (at : ℕ → Bool) (j : ℕ) (bs : List ℕ) → IsFalse (at j) → slice_index (leave_out at bs) (place_left at j) ≡ slice_index bs j
-index_left at j [] f = index_none (place_left at j) j
-index_left at zero (b ∷ bs) f = ap (λ c. slice_index (cond c (leave_out (λ i. at (suc i)) bs) (b ∷ leave_out (λ i. at (suc i)) bs)) 0) f
-index_left at (suc j) (b ∷ bs) f = by_first (at 0) ∙ index_left (λ i. at (suc i)) j bs f
-  where
-    rest : List ℕ
-    rest = leave_out (λ i. at (suc i)) bs
-
-    by_first : (c : Bool) → slice_index (cond c rest (b ∷ rest)) (cond c (place_left (λ i. at (suc i)) j) (suc (place_left (λ i. at (suc i)) j))) ≡ slice_index rest (place_left (λ i. at (suc i)) j)
-    by_first true = refl
-    by_first false = refl
+index_left at j [] f = refl
+index_left at zero (b ∷ bs) f = grind arith
+index_left at (suc j) (b ∷ bs) f = grind (arith, (index_left (λ i. at (suc i)) j bs f))
 
 -- the same places in another order
 same_without : (s : Sys) (p : Pair) (K J : List ℕ) → ((i : ℕ) → has K i ≡ has J i) → GreatWithout way.Die s p K → GreatWithout way.Die s p J

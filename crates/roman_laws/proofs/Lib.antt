@@ -12,7 +12,6 @@ pub mod LosingLemmas
 pub mod GoneLemmas
 pub mod LosingLaws
 pub mod LosingExamples
-pub mod PlaceLemmas
 pub mod RequestLemmas
 pub mod RepairLemmas
 pub mod CallerLemmas

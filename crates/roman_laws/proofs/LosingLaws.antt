@@ -1,7 +1,7 @@
 -- The loss of services never helps, and the least failing sets determine the sets that fail.
 use Rattle.roman_laws.proofs.Common.{ℕ, true, List, [], ◌∷◌, ◌++◌, IsFalse, sym, subst, inl, inr, arith, both_ways, IsIn, Sys, Pair, has, IsSys, IsPair, couple, is_related, set_frozen, freeze_at, system_without, pair_without, Way, by_test, from_append, in_append_left, in_append_right, number_listed, listed_number, great_meets, GreatWithout, ArePart, LosingNeverHelps, MayAllGo, IsLeastFailing, LeastFailingSuffice}
 use Rattle.roman_model.specs.declared.way.Way.TheVariants as way
-use Rattle.roman_laws.proofs.PlaceLemmas.{final_at}
+use Rattle.roman_laws.proofs.OutcomeLemmas.{final_at}
 use Rattle.roman_laws.proofs.ReducedLemmas.{reduced_are}
 use Rattle.roman_laws.proofs.LosingLemmas.{great_thawed, set_frozen_more, freeze_at_besides, frozen_more, great_with_gone}
 use Rattle.roman_laws.proofs.GoneLemmas as gone

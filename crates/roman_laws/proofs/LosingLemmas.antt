@@ -1,36 +1,30 @@
 -- A pair that is related with more seats frozen is related with fewer, and a pair that is related without a seat that may go is related with it.
-use Rattle.roman_laws.proofs.Common.{◌≡◌, ℕ, zero, suc, ◌<◌, Bool, true, not, ◌&&◌, ◌||◌, List, [], ◌∷◌, length, Some, IsTrue, IsFalse, slice_get, slice_index, slice_set, remove, refl, sym, ap, ◌∙◌, subst, arith, none-some, same_Some, slice_get_within, IsIn, Seat, Sys, Pair, has, IsSys, IsPair, SStep, is_final, all_final, Couple, Meets, GreatCouple, Great, set_frozen, without, may_go, freeze_at, by_test, number_listed, listed_number, left, great_meets, states_length, GreatWithout, ArePart, or_parts, or_from, length-set}
+use Rattle.roman_laws.proofs.Common.{◌≡◌, ℕ, suc, ◌<◌, Bool, true, not, ◌&&◌, ◌||◌, List, [], ◌∷◌, length, Some, IsTrue, IsFalse, slice_get, slice_index, slice_set, remove, refl, sym, ap, ◌∙◌, subst, arith, same_Some, slice_get_within, IsIn, Seat, Sys, Pair, has, IsSys, IsPair, SStep, is_final, all_final, Couple, Meets, GreatCouple, Great, set_frozen, without, may_go, freeze_at, by_test, number_listed, listed_number, left, great_meets, states_length, GreatWithout, ArePart, or_parts, or_from, length-set, all_final-remove, get-remove, index-remove, index_set_place, place_before, set-remove, freeze_one, AllZip-right, AllZip}
 use Rattle.roman_model.specs.declared.way.Way.TheVariants as way
 use Rattle.roman_laws.proofs.SimulationLemmas.{closed_great}
-use Rattle.roman_laws.proofs.PlaceLemmas.{place_before, get_removed, index_removed, set_removed, index_other_set, final_with}
 
 -- Seats that differ only in that some more of them are frozen.
 
+-- the second seat is the first one, or the first one frozen
+abbrev pub IsFrozenMore : Seat → Seat → Type 0
+IsFrozenMore x y = (x.beh ≡ y.beh) × (x.rests ≡ y.rests) × (IsFalse y.frozen → IsFalse x.frozen)
+
 abbrev pub AreFrozenMore : List Seat → List Seat → Type 0
-AreFrozenMore [] [] = Unit {0}
-AreFrozenMore [] (y ∷ ys) = ⊥
-AreFrozenMore (x ∷ xs) [] = ⊥
-AreFrozenMore (x ∷ xs) (y ∷ ys) = (x.beh ≡ y.beh) × (x.rests ≡ y.rests) × (IsFalse y.frozen → IsFalse x.frozen) × AreFrozenMore xs ys
+AreFrozenMore xs ys = AllZip IsFrozenMore xs ys
 
 -- the system with these seats
 abbrev pub with_seats : Sys → List Seat → Sys
 with_seats s seats = record { env = s.env; target = s.target; seats = seats }
 
-get_frozen_more : (xs ys : List Seat) → AreFrozenMore xs ys → (k : ℕ) (y : Seat) → slice_get ys k ≡ Some y →
-    (x : Seat) × (slice_get xs k ≡ Some x) × (x.beh ≡ y.beh) × (IsFalse y.frozen → IsFalse x.frozen)
-get_frozen_more [] [] more k y e = absurd (none-some y e)
-get_frozen_more [] (z ∷ ys) more k y e = absurd more
-get_frozen_more (x ∷ xs) [] more k y e = absurd more
-get_frozen_more (x ∷ xs) (z ∷ ys) more zero y e =
-    (x, refl, subst (λ (w : Seat). x.beh ≡ w.beh) (same_Some z y e) more.0, subst (λ (w : Seat). IsFalse w.frozen → IsFalse x.frozen) (same_Some z y e) more.2)
-get_frozen_more (x ∷ xs) (z ∷ ys) more (suc k) y e = get_frozen_more xs ys more.3 k y e
+get_frozen_more : (xs ys : List Seat) → AreFrozenMore xs ys → (k : ℕ) (y : Seat) → slice_get ys k ≡ Some y → (x : Seat) × (slice_get xs k ≡ Some x) × IsFrozenMore x y
+get_frozen_more xs ys more k y e = grind (arith, (AllZip-right IsFrozenMore xs ys more k))
 
 final_frozen_more : (xs ys : List Seat) (bs : List ℕ) → AreFrozenMore xs ys → all_final xs bs ≡ all_final ys bs
 final_frozen_more [] [] bs more = refl
 final_frozen_more [] (y ∷ ys) bs more = absurd more
 final_frozen_more (x ∷ xs) [] bs more = absurd more
 final_frozen_more (x ∷ xs) (y ∷ ys) [] more = refl
-final_frozen_more (x ∷ xs) (y ∷ ys) (b ∷ bs) more = grind (arith, (final_frozen_more xs ys bs more.3))
+final_frozen_more (x ∷ xs) (y ∷ ys) (b ∷ bs) more = grind (arith, (final_frozen_more xs ys bs more.1))
 
 -- a step of a ready seat among the frozen seats is a step among the others
 step_thawed : (s : Sys) (xs ys : List Seat) → AreFrozenMore xs ys → (bs : List ℕ) (e a k : ℕ) (bs' : List ℕ) (e' : ℕ) →
@@ -61,30 +55,19 @@ meets_thawed s xs ys more Related c meets = record {
 pub great_thawed : (s : Sys) (xs ys : List Seat) → AreFrozenMore xs ys → (p : Pair) → Great (with_seats s ys) p → Great (with_seats s xs) p
 great_thawed s xs ys more p (R, sim, i) = (R, λ c j. meets_thawed s xs ys more (λ d. IsIn d R) c (sim c j), i)
 
-frozen_itself : (xs : List Seat) → AreFrozenMore xs xs
-frozen_itself [] = tt
-frozen_itself (x ∷ xs) = (refl, refl, λ f. f, frozen_itself xs)
-
-pub set_frozen_more : (xs : List Seat) (k : ℕ) → AreFrozenMore xs (set_frozen xs k true)
-set_frozen_more [] k = tt
-set_frozen_more (x ∷ xs) zero = (refl, refl, λ f. absurd (let e : ⊥ = cc in e), frozen_itself xs)
-set_frozen_more (x ∷ xs) (suc k) = (refl, refl, λ f. f, set_frozen_more xs k)
-
 freeze_at_more : (at bt : ℕ → Bool) (xs : List Seat) → ((i : ℕ) → IsTrue (at i) → IsTrue (bt i)) → AreFrozenMore (freeze_at at xs) (freeze_at bt xs)
 freeze_at_more at bt [] more = tt
-freeze_at_more at bt (x ∷ xs) more = (
-  refl,
-  refl,
-  grind (arith, or_parts, or_from, by_test, clash),
-  freeze_at_more (λ i. at (suc i)) (λ i. bt (suc i)) xs (λ i t. more (suc i) t),
-)
+freeze_at_more at bt (x ∷ xs) more = ((refl, refl, grind (arith, or_parts, or_from, by_test, clash)), freeze_at_more (λ i. at (suc i)) (λ i. bt (suc i)) xs (λ i t. more (suc i) t))
   where
     clash : IsTrue (bt 0) → IsFalse (bt 0) → ⊥
     clash t f = cc
 
 pub freeze_at_besides : (at : ℕ → Bool) (xs : List Seat) → AreFrozenMore xs (freeze_at at xs)
 freeze_at_besides at [] = tt
-freeze_at_besides at (x ∷ xs) = (refl, refl, λ f. (or_parts x.frozen (at 0) f).0, freeze_at_besides (λ i. at (suc i)) xs)
+freeze_at_besides at (x ∷ xs) = ((refl, refl, λ f. (or_parts x.frozen (at 0) f).0), freeze_at_besides (λ i. at (suc i)) xs)
+
+pub set_frozen_more : (xs : List Seat) (k : ℕ) → AreFrozenMore xs (set_frozen xs k true)
+set_frozen_more xs k = subst (AreFrozenMore xs) (freeze_one k xs) (freeze_at_besides (has (k ∷ [])) xs)
 
 has_more : (K J : List ℕ) → ((k : ℕ) → IsIn k K → IsIn k J) → (i : ℕ) → IsTrue (has K i) → IsTrue (has J i)
 has_more K J more i t = listed_number J i (more i (number_listed K i t))
@@ -109,13 +92,13 @@ step_with : (s : Sys) (k : ℕ) (bs : List ℕ) (e a j : ℕ) (bs' : List ℕ) (
     (cs : List ℕ) × SStep s bs e a (place_before k j) cs e'
 step_with s k bs e a j bs' e' r = (
   slice_set bs (place_before k j) r.to,
-  grind (arith, get_removed, index_removed),
+  grind (arith, get-remove, index-remove),
 )
 
 -- a step that leaves seat k in its state is a step without seat k
 step_without : (s : Sys) (k : ℕ) (bs : List ℕ) (e a j : ℕ) (bs' : List ℕ) (e' : ℕ) → SStep s bs e a (place_before k j) bs' e' →
     SStep (left s k) (remove bs k) e a j (remove bs' k) e'
-step_without s k bs e a j bs' e' r = grind (arith, get_removed, index_removed, set_removed)
+step_without s k bs e a j bs' e' r = grind (arith, get-remove, index-remove, set-remove)
 
 stands_by_meets : (s : Sys) (k : ℕ) (seat : Seat) (b : ℕ) → slice_get s.seats k ≡ Some seat → IsTrue (not seat.rests || is_final seat.beh b) →
     (c : Couple) → StandsBy s k b c → Meets s (StandsBy s k b) c
@@ -123,7 +106,7 @@ stands_by_meets s k seat b seated goes c stands =
     let meets : Meets (left s k) (GreatCouple (left s k)) (couple_without k c) = great_meets (left s k) (couple_without k c) stands.great in
     record {
       shared = meets.shared;
-      final = grind (arith, final_with);
+      final = grind (arith, all_final-remove);
       served = λ a allows.
           let (j, serves) = meets.served a allows in (
             place_before k j,
@@ -132,7 +115,7 @@ stands_by_meets s k seat b seated goes c stands =
                   step_with s k c.bs c.e2 a j some.0 e' some.1,
                   λ bs' r. record {
                     great = all (remove bs' k) (step_without s k c.bs c.e2 a j bs' e' r);
-                    state = ap (λ bs. slice_index bs k) r.is ∙ index_other_set c.bs k j r.to ∙ stands.state;
+                    state = ap (λ bs. slice_index bs k) r.is ∙ index_set_place c.bs k j r.to ∙ stands.state;
                     within = subst (λ bs. k < length bs) (sym r.is) (subst (λ n. k < n) (sym (length-set c.bs (place_before k j) r.to)) stands.within);
                   },
                 ),

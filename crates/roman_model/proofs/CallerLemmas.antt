@@ -11,7 +11,7 @@ pub use Rattle.roman_model.proofs.Lists.{sublist_length, sublist_skip, sum_by_wi
 -- Lemmas on the pairs of a system, its steps and outcomes.
 pub use Rattle.roman_model.proofs.SystemLemmas.{allowed_in, allowed_in_range, from_allowed, from_beh_next, from_beh_prev, from_env_next, from_env_prev, from_outcome}
 pub use Rattle.roman_model.proofs.SystemLemmas.{from_pairs, from_seat_next, in_beh_next, in_beh_prev, in_env_next, in_env_prev, in_pairs, listed_number, move_in_range, move_test, number_listed, outcome_in}
-pub use Rattle.roman_model.proofs.SystemLemmas.{outcome_pair, outcome_seat, pairs_once, same_numbers_is, same_numbers_itself, seat_in, states_set, triple_in_range}
+pub use Rattle.roman_model.proofs.SystemLemmas.{triple_in, outcome_pair, outcome_seat, pairs_once, same_numbers_is, same_numbers_itself, seat_in, states_set, triple_in_range}
 -- Lemmas on any arena: listed nodes, beaten seats, reasons, masks, and nodes that survive.
 pub use Rattle.roman_model.proofs.ArenaLemmas.{IsArena, IsSame, among_in, beaten_none, from_back, in_back, in_listed, in_mask, justified_is, justified_more}
 pub use Rattle.roman_model.proofs.ArenaLemmas.{justified_same, listed_among, listed_append, listed_in, listed_push, mask_has, mask_has_past, mask_none}
@@ -42,7 +42,7 @@ pub use Rattle.roman_model.proofs.Renames.{order_named}
 -- The arenas over numbers of pairs and over pairs carry over to each other.
 pub use Rattle.roman_model.proofs.NumberedArena.{AreNumbers, IsNumber, numbers_rename}
 -- The effect of a change of the seats on systems, pairs, outcomes and removal lists.
-pub use Rattle.roman_model.proofs.ChangeLemmas.{IsPair-grown, IsPair-turned, IsPair-without, flat_map_same, flat_map_same_in, left, length-remove}
+pub use Rattle.roman_model.proofs.ChangeLemmas.{IsPair-alike, IsPair-grown, IsSys-alike, IsSys-seats, all_final-remove, behaviours, get-remove, index-remove, index_set_place, place_before, set-remove, IsPair-turned, IsPair-without, flat_map_same, flat_map_same_in, left, length-remove}
 pub use Rattle.roman_model.proofs.ChangeLemmas.{is_fine-turned, join_once, length-set_frozen, map-flat_map, map-map, moved_named, new_from_once, new_same, outcomes-turned, remove_in, sizes-joined, sizes-left, sizes-turned, states_frozen, states_length, turned}
 -- The replay of a renamed list is a removal list after each change.
 pub use Rattle.roman_model.proofs.ChangeLaws.{renaming_keeps}
@@ -79,6 +79,6 @@ pub use Rattle.roman_model.proofs.MadeLemmas.{IsBeh-made, IsEnv-made, beh_from_s
 pub use Rattle.roman_model.proofs.MadeLemmas.{made_final, made_move, made_triple, move_passes}
 -- The combined actions, and the steps and final states of the combined parts, which are those of the members.
 pub use Rattle.roman_model.proofs.CombinedLemmas.{IsMemberStep, combined_sstep, combined_target_goes, combined_triple, from_combined_sstep, from_combined_target}
-pub use Rattle.roman_model.proofs.CombinedLemmas.{from_combined_triple, in_requests, total, stands_uses, target_size_at}
+pub use Rattle.roman_model.proofs.CombinedLemmas.{from_combined_triple, in_requests, states_of, total, stands_uses, target_size_at}
 -- The combined target stands for several targets: the ND-simulations of the combined system are those of the members.
 pub use Rattle.roman_model.proofs.CombinedLaws.{all_from_great, combined_allows, combined_is_all, combined_served, combined_system, decoded, from_combined_allows, great_from_all, member_served, member_step, request_there, world_as}

@@ -1,5 +1,5 @@
 -- The effect of a change of the seats on systems, pairs, outcomes and removal lists.
-use Rattle.roman_model.proofs.Common.{length-append, ◌≡◌, ℕ, zero, suc, ◌<◌, ◌≤◌, Bool, true, not, ◌&&◌, ◌||◌, List, [], ◌∷◌, ◌++◌, map, length, Some, IsTrue, IsFalse, filter, flat_map, slice_get, slice_index, slice_set, remove, refl, sym, ap, ap₂, ◌∙◌, subst, inl, inr, arith, rules, length-take, length-drop, length-map, map-append, length_push, take-map, drop-map, same_from_push, IsPairOf, sizes_of, grown_sizes, sizes_without, AllZip-long, list_any, AllZip, cases_eq, both_ways, or_cases, or_left, or_right, and_parts, and_from, cond-true, cond-false, flat_map-map, none-some, same_Some, slice_get_within, IsIn, HasNoRepeats, below, all_below, Seat, Sys, Pair, IsBeh, IsSys, IsPair, is_final, all_final, env_next, beh_next, seat_next, outcomes_by, outcomes, is_allowed, is_fine, same_pair, arena, Entry, is_among, is_beaten, is_justified, IsOrderFrom, AreNew, AreEntries, Join, Die, set_frozen, grown, without, may_go, firsts, entry_without, rename, MAX_SERVICES, Reason, Final, Act}
+use Rattle.roman_model.proofs.Common.{length-append, ◌≡◌, ℕ, zero, suc, ◌<◌, ◌≤◌, Bool, true, not, ◌&&◌, ◌||◌, List, [], ◌∷◌, ◌++◌, map, length, Some, IsTrue, IsFalse, filter, flat_map, slice_get, slice_index, slice_set, remove, refl, sym, ap, ap₂, ◌∙◌, subst, inl, inr, arith, rules, length-take, length-drop, length-map, map-append, length_push, take-map, drop-map, same_from_push, IsPairOf, sizes_of, grown_sizes, sizes_without, AllZip-long, list_any, AllZip, cases_eq, both_ways, or_cases, or_left, or_right, and_parts, and_from, cond-true, cond-false, flat_map-map, none-some, same_Some, slice_get_within, IsIn, HasNoRepeats, below, all_below, Beh, Seat, Sys, Pair, IsBeh, IsSys, IsPair, is_final, all_final, env_next, beh_next, seat_next, outcomes_by, outcomes, is_allowed, is_fine, same_pair, arena, Entry, is_among, is_beaten, is_justified, IsOrderFrom, AreNew, AreEntries, Join, Die, set_frozen, grown, without, may_go, firsts, entry_without, rename, MAX_SERVICES, Reason, Final, Act}
 use Rattle.roman_model.proofs.NumberLemmas.{IsPair-from, IsPairOf-from, IsPairOf-grown, IsPairOf-without}
 use Rattle.roman_model.proofs.Lists.{by_test, any_true, any_from, list_any-map, is_empty-map, from_push, in_map, from_map, from_flat_map, filter_in, from_below, all_below_at, all_below_from, HasNoRepeats-map, HasNoRepeats-flat_map, HasNoRepeats-below}
 use Rattle.roman_model.proofs.SystemLemmas.{same_pair_is, same_pair_from, from_beh_next, from_env_next}
@@ -62,26 +62,26 @@ pub length-remove : {X : Type 0} (xs : List X) (k : ℕ) → k < length xs → s
 length-remove xs k h = simp (length-append, length-take, length-drop) (omega arith)
 
 -- the old place of seat j, before seat k left
-abbrev place : ℕ → ℕ → ℕ
-place zero j = suc j
-place (suc k) zero = zero
-place (suc k) (suc j) = suc (place k j)
+abbrev pub place_before : ℕ → ℕ → ℕ
+place_before zero j = suc j
+place_before (suc k) zero = zero
+place_before (suc k) (suc j) = suc (place_before k j)
 
-pub get-remove : {X : Type 0} (xs : List X) (k j : ℕ) → slice_get (remove xs k) j ≡ slice_get xs (place k j)
+pub get-remove : {X : Type 0} (xs : List X) (k j : ℕ) → slice_get (remove xs k) j ≡ slice_get xs (place_before k j)
 get-remove [] zero j = refl
 get-remove [] (suc k) j = refl
 get-remove (x ∷ xs) zero j = refl
 get-remove (x ∷ xs) (suc k) zero = refl
 get-remove (x ∷ xs) (suc k) (suc j) = get-remove xs k j
 
-pub index-remove : (bs : List ℕ) (k j : ℕ) → slice_index (remove bs k) j ≡ slice_index bs (place k j)
+pub index-remove : (bs : List ℕ) (k j : ℕ) → slice_index (remove bs k) j ≡ slice_index bs (place_before k j)
 index-remove [] zero j = refl
 index-remove [] (suc k) j = refl
 index-remove (b ∷ bs) zero j = refl
 index-remove (b ∷ bs) (suc k) zero = refl
 index-remove (b ∷ bs) (suc k) (suc j) = index-remove bs k j
 
-pub set-remove : (bs : List ℕ) (k j b : ℕ) → slice_set (remove bs k) j b ≡ remove (slice_set bs (place k j) b) k
+pub set-remove : (bs : List ℕ) (k j b : ℕ) → slice_set (remove bs k) j b ≡ remove (slice_set bs (place_before k j) b) k
 set-remove [] zero j b = refl
 set-remove [] (suc k) j b = refl
 set-remove (c ∷ bs) zero j b = refl
@@ -89,31 +89,58 @@ set-remove (c ∷ bs) (suc k) zero b = refl
 set-remove (c ∷ bs) (suc k) (suc j) b = ap (λ cs. c ∷ cs) (set-remove bs k j b)
 
 -- the state at another place stays the same
-pub index_set_place : (bs : List ℕ) (k j b : ℕ) → slice_index (slice_set bs (place k j) b) k ≡ slice_index bs k
+pub index_set_place : (bs : List ℕ) (k j b : ℕ) → slice_index (slice_set bs (place_before k j) b) k ≡ slice_index bs k
 index_set_place [] k j b = refl
 index_set_place (c ∷ bs) zero j b = refl
 index_set_place (c ∷ bs) (suc k) zero b = refl
 index_set_place (c ∷ bs) (suc k) (suc j) b = index_set_place bs k j b
 
-pub place_within : (k j n : ℕ) → k < suc n → j < n → place k j < suc n
+pub place_within : (k j n : ℕ) → k < suc n → j < n → place_before k j < suc n
 place_within zero j n h l = omega arith
 place_within (suc k) zero n h l = omega arith
 place_within (suc k) (suc j) zero h l = absurd (omega arith)
-place_within (suc k) (suc j) (suc n) h l = let rest : place k j < suc n = place_within k j n (omega arith) (omega arith) in omega arith
+place_within (suc k) (suc j) (suc n) h l = let rest : place_before k j < suc n = place_within k j n (omega arith) (omega arith) in omega arith
+
+-- Systems with other seats
+
+-- where each seat has the behaviour of one of the system's own, and there are no more of them
+pub IsSys-seats : (s : Sys) (seats : List Seat) → ((x : Seat) → IsIn x seats → (y : Seat) × IsIn y s.seats × (x.beh ≡ y.beh)) → length seats ≤ length s.seats → IsSys s →
+    IsSys (record { env = s.env; target = s.target; seats = seats })
+IsSys-seats s seats own few ok = record {
+  env = ok.env;
+  target = ok.target;
+  single = ok.single;
+  seats = λ x i. let (y, j, e) = own x i in subst (IsBeh s.env) (sym e) (ok.seats y j);
+  few = grind (arith, few, ok.few);
+}
+
+-- the behaviours of the seats
+abbrev pub behaviours : List Seat → List Beh
+behaviours seats = map (λ seat. seat.beh) seats
+
+-- where the seats have the same behaviours, in the same order
+pub IsSys-alike : (s : Sys) (seats : List Seat) → behaviours seats ≡ behaviours s.seats → IsSys s → IsSys (record { env = s.env; target = s.target; seats = seats })
+IsSys-alike s seats same =
+    IsSys-seats s seats (λ x i. from_map (λ seat. seat.beh) x.beh s.seats (subst (IsIn x.beh) same (in_map (λ seat. seat.beh) x seats i))) (grind (arith, length-map))
+
+pub states-alike : (xs ys : List Seat) → behaviours xs ≡ behaviours ys → map (λ seat. seat.beh.states) xs ≡ map (λ seat. seat.beh.states) ys
+states-alike xs ys same = sym (map-map (λ beh. beh.states) (λ seat. seat.beh) xs) ∙ ap (map (λ beh. beh.states)) same ∙ map-map (λ beh. beh.states) (λ seat. seat.beh) ys
+
+pub sizes-alike : (s : Sys) (seats : List Seat) → behaviours seats ≡ behaviours s.seats → sizes_of (record { env = s.env; target = s.target; seats = seats }) ≡ sizes_of s
+sizes-alike s seats same = grind (arith, (states-alike seats s.seats same))
+
+pub IsPair-alike : (s : Sys) (seats : List Seat) (p : Pair) → behaviours seats ≡ behaviours s.seats → IsPair s p → IsPair (record { env = s.env; target = s.target; seats = seats }) p
+IsPair-alike s seats p same ok = IsPair-from (record { env = s.env; target = s.target; seats = seats }) p (subst (λ n. IsPairOf n p) (sym (sizes-alike s seats same)) (IsPairOf-from s p ok))
 
 -- Seats that are frozen or thawed
 
-pub set_frozen_in : (seats : List Seat) (k : ℕ) (frozen : Bool) (x : Seat) → IsIn x (set_frozen seats k frozen) → (y : Seat) × IsIn y seats × (x.beh ≡ y.beh)
-set_frozen_in [] k frozen x i = absurd i
-set_frozen_in (seat ∷ seats) zero frozen x (inl e) = (seat, inl refl, ap (λ z. z.beh) e)
-set_frozen_in (seat ∷ seats) zero frozen x (inr i) = (x, inr i, refl)
-set_frozen_in (seat ∷ seats) (suc k) frozen x (inl e) = (seat, inl refl, ap (λ z. z.beh) e)
-set_frozen_in (seat ∷ seats) (suc k) frozen x (inr i) = let (y, j, e) = set_frozen_in seats k frozen x i in (y, inr j, e)
+pub behaviours-frozen : (seats : List Seat) (k : ℕ) (frozen : Bool) → behaviours (set_frozen seats k frozen) ≡ behaviours seats
+behaviours-frozen [] k frozen = refl
+behaviours-frozen (seat ∷ seats) zero frozen = refl
+behaviours-frozen (seat ∷ seats) (suc k) frozen = ap (λ behs. seat.beh ∷ behs) (behaviours-frozen seats k frozen)
 
 pub states_frozen : (seats : List Seat) (k : ℕ) (frozen : Bool) → map (λ seat. seat.beh.states) (set_frozen seats k frozen) ≡ map (λ seat. seat.beh.states) seats
-states_frozen [] k frozen = refl
-states_frozen (seat ∷ seats) zero frozen = refl
-states_frozen (seat ∷ seats) (suc k) frozen = ap (λ ns. seat.beh.states ∷ ns) (states_frozen seats k frozen)
+states_frozen seats k frozen = states-alike (set_frozen seats k frozen) seats (behaviours-frozen seats k frozen)
 
 pub length-set_frozen : (seats : List Seat) (k : ℕ) (frozen : Bool) → length (set_frozen seats k frozen) ≡ length seats
 length-set_frozen seats k frozen = grind (arith, length-map, (states_frozen seats k frozen))
@@ -130,19 +157,13 @@ abbrev pub turned : Sys → ℕ → Bool → Sys
 turned s k frozen = record { env = s.env; target = s.target; seats = set_frozen s.seats k frozen }
 
 pub IsSys-turned : (s : Sys) (k : ℕ) (frozen : Bool) → IsSys s → IsSys (turned s k frozen)
-IsSys-turned s k frozen ok = record {
-  env = ok.env;
-  target = ok.target;
-  single = ok.single;
-  seats = λ x i. let (y, j, e) = set_frozen_in s.seats k frozen x i in subst (IsBeh s.env) (sym e) (ok.seats y j);
-  few = subst (λ n. n ≤ MAX_SERVICES) (sym (length-set_frozen s.seats k frozen)) ok.few;
-}
+IsSys-turned s k frozen = IsSys-alike s (set_frozen s.seats k frozen) (behaviours-frozen s.seats k frozen)
 
 pub sizes-turned : (s : Sys) (k : ℕ) (frozen : Bool) → sizes_of (turned s k frozen) ≡ sizes_of s
-sizes-turned s k frozen = grind (arith, states_frozen)
+sizes-turned s k frozen = sizes-alike s (set_frozen s.seats k frozen) (behaviours-frozen s.seats k frozen)
 
 pub IsPair-turned : (s : Sys) (k : ℕ) (frozen : Bool) (p : Pair) → IsPair s p → IsPair (turned s k frozen) p
-IsPair-turned s k frozen p ok = IsPair-from (turned s k frozen) p (subst (λ n. IsPairOf n p) (sym (sizes-turned s k frozen)) (IsPairOf-from s p ok))
+IsPair-turned s k frozen p = IsPair-alike s (set_frozen s.seats k frozen) p (behaviours-frozen s.seats k frozen)
 
 pub is_fine-turned : (s : Sys) (k : ℕ) (frozen : Bool) (p : Pair) → is_fine (turned s k frozen) p ≡ is_fine s p
 is_fine-turned s k frozen p = ap (λ x. not (is_final s.target p.t) || x) (all_final-set_frozen s.seats k frozen p.bs)
@@ -245,13 +266,7 @@ pub length-remove-le : {X : Type 0} (xs : List X) (k : ℕ) → length (remove x
 length-remove-le xs k = simp (length-append, length-take, length-drop) (omega arith)
 
 pub IsSys-left : (s : Sys) (k : ℕ) → IsSys s → IsSys (left s k)
-IsSys-left s k ok = record {
-  env = ok.env;
-  target = ok.target;
-  single = ok.single;
-  seats = λ x i. ok.seats x (remove_in x s.seats k i);
-  few = let less : length (remove s.seats k) ≤ length s.seats = length-remove-le s.seats k in let few : length s.seats ≤ MAX_SERVICES = ok.few in omega arith;
-}
+IsSys-left s k = IsSys-seats s (remove s.seats k) (λ x i. (x, remove_in x s.seats k i, refl)) (length-remove-le s.seats k)
 
 pub sizes-left : (s : Sys) (k : ℕ) → sizes_of (left s k) ≡ sizes_without k (sizes_of s)
 sizes-left s k = grind (arith, map-append, take-map, drop-map)
@@ -264,14 +279,14 @@ pub states_length : (seats : List Seat) (bs : List ℕ) → AllZip (λ seat b. b
 states_length seats bs h = AllZip-long (λ seat b. b < seat.beh.states) seats bs h
 
 -- the outcomes of the other seats, without the state of the seat that left
-pub outcomes-without : (s : Sys) (k : ℕ) (p : Pair) (a j : ℕ) → outcomes (left s k) (without k p) a j ≡ map (without k) (outcomes s p a (place k j))
+pub outcomes-without : (s : Sys) (k : ℕ) (p : Pair) (a j : ℕ) → outcomes (left s k) (without k p) a j ≡ map (without k) (outcomes s p a (place_before k j))
 outcomes-without s k p a j =
     ap₂ (λ o b. outcomes_by (left s k) (without k p) a j (seat_next o b p.e a)) (get-remove s.seats k j) (index-remove p.bs k j)
-    ∙ moved_named s (remove s.seats k) p a (place k j) j (seat_next (slice_get s.seats (place k j)) (slice_index p.bs (place k j)) p.e a) (λ bs. remove bs k) (remove p.bs k)
+    ∙ moved_named s (remove s.seats k) p a (place_before k j) j (seat_next (slice_get s.seats (place_before k j)) (slice_index p.bs (place_before k j)) p.e a) (λ bs. remove bs k) (remove p.bs k)
     (λ b'. set-remove p.bs k j b')
 
 -- an outcome of another seat keeps the state of seat k
-pub outcome_keeps : (s : Sys) (k : ℕ) (p : Pair) (a j : ℕ) (q : Pair) → IsIn q (outcomes s p a (place k j)) → slice_index q.bs k ≡ slice_index p.bs k
+pub outcome_keeps : (s : Sys) (k : ℕ) (p : Pair) (a j : ℕ) (q : Pair) → IsIn q (outcomes s p a (place_before k j)) → slice_index q.bs k ≡ slice_index p.bs k
 outcome_keeps s k p a j q i = grind (arith, from_beh_next, from_env_next, from_flat_map, from_map, index_set_place)
 
 pub all_final-remove : (seats : List Seat) (bs : List ℕ) (k : ℕ) (seat : Seat) → slice_get seats k ≡ Some seat → k < length bs → IsTrue (not seat.rests || is_final seat.beh (slice_index bs k)) →
@@ -285,7 +300,7 @@ pub is_fine-without : (s : Sys) (k : ℕ) (seat : Seat) (p : Pair) → slice_get
 is_fine-without s k seat p seated ok goes = grind (arith, all_final-remove, slice_get_within, states_length)
 
 pub die_beaten : (s : Sys) (k : ℕ) (seat : Seat) (gone lost : Pair → Bool) → ((q : Pair) → IsTrue (gone q) → IsTrue (may_go k seat q) → IsTrue (lost (without k q))) →
-    (p : Pair) (a j : ℕ) → IsTrue (may_go k seat p) → IsTrue (is_beaten (arena s) gone p a (place k j)) → IsTrue (is_beaten (arena (left s k)) lost (without k p) a j)
+    (p : Pair) (a j : ℕ) → IsTrue (may_go k seat p) → IsTrue (is_beaten (arena s) gone p a (place_before k j)) → IsTrue (is_beaten (arena (left s k)) lost (without k p) a j)
 die_beaten s k seat gone lost carries p a j goes h = grind (arith, any_from, any_true, is_empty-map, list_any-map, outcomes-without, or_cases, or_left, or_right, outcome_keeps)
 
 pub die_justified : (s : Sys) (k : ℕ) (seat : Seat) (gone lost : Pair → Bool) → slice_get s.seats k ≡ Some seat →
@@ -299,8 +314,8 @@ die_justified s k seat gone lost seated carries p ok goes (Act a) h =
     and_from (is_allowed s p a) (all_below (is_beaten (arena (left s k)) lost (without k p) a) (length (remove s.seats k))) allowed
     (all_below_from (is_beaten (arena (left s k)) lost (without k p) a) (length (remove s.seats k))
     (λ j l. die_beaten s k seat gone lost carries p a j goes
-    (all_below_at (is_beaten (arena s) gone p a) (length s.seats) (place k j) beaten
-    (subst (λ n. place k j < n) shorter (place_within k j (length (remove s.seats k)) (subst (λ n. k < n) (sym shorter) within) l)))))
+    (all_below_at (is_beaten (arena s) gone p a) (length s.seats) (place_before k j) beaten
+    (subst (λ n. place_before k j < n) shorter (place_within k j (length (remove s.seats k)) (subst (λ n. k < n) (sym shorter) within) l)))))
 
 -- where each earlier pair that may go was seen, the rest of a removal list stays one without the seat
 pub die_order : (s : Sys) (k : ℕ) (seat : Seat) → slice_get s.seats k ≡ Some seat → (before seen : List Pair) (L : List (Entry Pair)) → AreEntries s L →
