@@ -1,4 +1,5 @@
 -- The system that combines several targets allows the requests of its targets, and offers the seats that serve all of them.
+use Rattle.roman_model.proofs.CallerLemmas.{stands_step}
 use Rattle.roman_laws.proofs.Common.{◌≡◌, ℕ, ◌<◌, ◌==◌, ◌&&◌, not, map, length, Option, None, Some, IsTrue, filter, slice_get, slice_index, refl, sym, subst, arith, false≢true, and_parts, not-true, same_Some, below, is_empty, Beh, Pair, has_move, IsPair, TStep, Allows, is_allowed, couple, Serves, GreatCouple, Several, ServesAll, GreatAll, all_requests, combined, IsSeveral, combined_seat, couple_all, stands_in, Request, any_true, any_from, from_map, from_flat_map, filter_in, not_empty_in, move_passes, get_in, allowed_in, from_allowed, offers_are, combined_system, from_combined_sstep, combined_sstep, all_from_great, combined_allows, combined_served, decoded, from_combined_allows, great_from_all, member_served, member_step, request_there, serves_more, total, world_as, length-map, TargetAllows, IsRequestOf, RequestsOfTargets, IsMoveOf, TurnsOfTargets}
 
 -- The requests, and the steps that they stand for.
@@ -6,19 +7,7 @@ use Rattle.roman_laws.proofs.Common.{◌≡◌, ℕ, ◌<◌, ◌==◌, ◌&&◌
 -- a target that has a step on the action, in the place of a target
 stands_target : (o : Option Beh) (a : ℕ) → IsTrue (stands_in o a) → (target : Beh) × (o ≡ Some target) × ((b : ℕ) × (e : ℕ) × (b' : ℕ) × IsTrue (has_move target b e a b'))
 stands_target None a stands = absurd (false≢true stands)
-stands_target (Some target) a stands =
-    let (m, i, passes) = any_true (λ m. m.action == a && not (is_empty m.guard)) target.steps stands in
-    let (action, some) = and_parts (m.action == a) (not (is_empty m.guard)) passes in
-    let (e, j) = not_empty_in m.guard (not-true (is_empty m.guard) some) in (
-      target,
-      refl,
-      (
-        m.from,
-        e,
-        m.to,
-        grind (arith, any_from, move_passes),
-      ),
-    )
+stands_target (Some target) a stands = (target, refl, stands_step target a stands)
 
 -- the target of a request has a step by its action
 pub request_at : (w : Several) (n : ℕ) (r : Request) → slice_get (all_requests w) n ≡ Some r →

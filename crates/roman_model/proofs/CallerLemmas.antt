@@ -79,6 +79,6 @@ pub use Rattle.roman_model.proofs.MadeLemmas.{IsBeh-made, IsEnv-made, beh_from_s
 pub use Rattle.roman_model.proofs.MadeLemmas.{made_final, made_move, made_triple, move_passes}
 -- The combined actions, and the steps and final states of the combined parts, which are those of the members.
 pub use Rattle.roman_model.proofs.CombinedLemmas.{IsMemberStep, combined_sstep, combined_target_goes, combined_triple, from_combined_sstep, from_combined_target}
-pub use Rattle.roman_model.proofs.CombinedLemmas.{from_combined_triple, in_requests, states_of, total, stands_uses, target_size_at}
+pub use Rattle.roman_model.proofs.CombinedLemmas.{from_combined_triple, in_requests, stands_step, stands_uses, states_of, total, target_size_at}
 -- The combined target stands for several targets: the ND-simulations of the combined system are those of the members.
 pub use Rattle.roman_model.proofs.CombinedLaws.{all_from_great, combined_allows, combined_is_all, combined_served, combined_system, decoded, from_combined_allows, great_from_all, member_served, member_step, request_there, world_as}

@@ -2,6 +2,7 @@
 use Rattle.roman_model.proofs.Common.{length-append, ◌≡◌, ℕ, zero, suc, ◌<◌, ◌≤◌, Bool, true, not, ◌&&◌, ◌||◌, List, [], ◌∷◌, ◌++◌, map, length, Some, IsTrue, IsFalse, filter, flat_map, slice_get, slice_index, slice_set, remove, refl, sym, ap, ap₂, ◌∙◌, subst, inl, inr, arith, rules, length-take, length-drop, length-map, map-append, length_push, take-map, drop-map, same_from_push, IsPairOf, sizes_of, grown_sizes, sizes_without, AllZip-long, list_any, AllZip, cases_eq, both_ways, or_cases, or_left, or_right, and_parts, and_from, cond-true, cond-false, flat_map-map, none-some, same_Some, slice_get_within, IsIn, HasNoRepeats, below, all_below, Beh, Seat, Sys, Pair, IsBeh, IsSys, IsPair, is_final, all_final, env_next, beh_next, seat_next, outcomes_by, outcomes, is_allowed, is_fine, same_pair, arena, Entry, is_among, is_beaten, is_justified, IsOrderFrom, AreNew, AreEntries, Join, Die, set_frozen, grown, without, may_go, firsts, entry_without, rename, MAX_SERVICES, Reason, Final, Act}
 use Rattle.roman_model.proofs.NumberLemmas.{IsPair-from, IsPairOf-from, IsPairOf-grown, IsPairOf-without}
 use Rattle.roman_model.proofs.Lists.{by_test, any_true, any_from, list_any-map, is_empty-map, from_push, in_map, from_map, from_flat_map, filter_in, from_below, all_below_at, all_below_from, HasNoRepeats-map, HasNoRepeats-flat_map, HasNoRepeats-below}
+use Rattle.roman_model.proofs.ArenaLemmas.{justified_by, justified_is}
 use Rattle.roman_model.proofs.SystemLemmas.{same_pair_is, same_pair_from, from_beh_next, from_env_next}
 
 -- Maps of maps
@@ -195,10 +196,8 @@ freeze_beaten s k gone p a j h = grind (arith, cases_eq, outcomes-frozen, outcom
 pub freeze_justified : (s : Sys) (k : ℕ) (gone : Pair → Bool) (p : Pair) (reason : Reason) → IsTrue (is_justified (arena s) gone p reason) → IsTrue (is_justified (arena (turned s k true)) gone p reason)
 freeze_justified s k gone p Final h = ap not (is_fine-turned s k true p) ∙ h
 freeze_justified s k gone p (Act a) h =
-    let (allowed, beaten) = and_parts (is_allowed s p a) (all_below (is_beaten (arena s) gone p a) (length s.seats)) h in
-    and_from (is_allowed s p a) (all_below (is_beaten (arena (turned s k true)) gone p a) (length (set_frozen s.seats k true))) allowed
-    (all_below_from (is_beaten (arena (turned s k true)) gone p a) (length (set_frozen s.seats k true))
-    (λ j l. freeze_beaten s k gone p a j (all_below_at (is_beaten (arena s) gone p a) (length s.seats) j beaten (subst (λ n. j < n) (length-set_frozen s.seats k true) l))))
+    let (allowed, beaten) = justified_is (arena s) gone p a h in
+    justified_by (arena (turned s k true)) gone p a allowed (λ j l. freeze_beaten s k gone p a j (beaten j (subst (λ n. j < n) (length-set_frozen s.seats k true) l)))
 
 pub freeze_order : (s : Sys) (k : ℕ) (before : List Pair) (L : List (Entry Pair)) → IsOrderFrom (arena s) before L → IsOrderFrom (arena (turned s k true)) before L
 freeze_order s k before [] order = tt
@@ -310,12 +309,9 @@ die_justified s k seat gone lost seated carries p ok goes Final h = ap not (sym 
 die_justified s k seat gone lost seated carries p ok goes (Act a) h =
     let within : k < length s.seats = slice_get_within s.seats k seat seated in
     let shorter : suc (length (remove s.seats k)) ≡ length s.seats = length-remove s.seats k within in
-    let (allowed, beaten) = and_parts (is_allowed s p a) (all_below (is_beaten (arena s) gone p a) (length s.seats)) h in
-    and_from (is_allowed s p a) (all_below (is_beaten (arena (left s k)) lost (without k p) a) (length (remove s.seats k))) allowed
-    (all_below_from (is_beaten (arena (left s k)) lost (without k p) a) (length (remove s.seats k))
-    (λ j l. die_beaten s k seat gone lost carries p a j goes
-    (all_below_at (is_beaten (arena s) gone p a) (length s.seats) (place_before k j) beaten
-    (subst (λ n. place_before k j < n) shorter (place_within k j (length (remove s.seats k)) (subst (λ n. k < n) (sym shorter) within) l)))))
+    let (allowed, beaten) = justified_is (arena s) gone p a h in
+    justified_by (arena (left s k)) lost (without k p) a allowed
+    (λ j l. die_beaten s k seat gone lost carries p a j goes (beaten (place_before k j) (subst (λ n. place_before k j < n) shorter (place_within k j (length (remove s.seats k)) (omega arith) l))))
 
 -- where each earlier pair that may go was seen, the rest of a removal list stays one without the seat
 pub die_order : (s : Sys) (k : ℕ) (seat : Seat) → slice_get s.seats k ≡ Some seat → (before seen : List Pair) (L : List (Entry Pair)) → AreEntries s L →

@@ -6,7 +6,7 @@ use Rattle.roman_model.proofs.SystemLemmas.{same_numbers_is, same_numbers_itself
 use Rattle.roman_model.proofs.NumberLemmas.{states_number_below, states_at-number, states_number-at}
 use Rattle.roman_model.proofs.CompositionLemmas.{meets_more}
 use Rattle.roman_model.proofs.MadeLemmas.{IsEnv-made, IsBeh-made, from_made_final, made_final}
-use Rattle.roman_model.proofs.CombinedLemmas.{IsMemberStep, in_requests, from_combined_triple, combined_triple, from_combined_sstep, combined_sstep, from_combined_target, combined_target_goes, member_below, states_of, number_of, total, from_all_final_combined, all_final_combined}
+use Rattle.roman_model.proofs.CombinedLemmas.{IsMemberStep, in_requests, from_combined_triple, combined_triple, from_combined_sstep, combined_sstep, from_combined_target, combined_target_goes, member_below, states_of, number_of, total, all_final_combined}
 
 -- A combined action that is the request of a target.
 
@@ -78,7 +78,7 @@ pub meets_combined : (w : Several) (Related : CoupleAll → Type 0) (c : Couple)
     Meets (combined w) (λ d. (d.t < total w) × Related (decoded w d)) c
 meets_combined w Related c ok meets = record {
   shared = meets.shared;
-  final = λ t. all_final_combined w (all_requests w) w.seats c.bs ok.seats (meets.final
+  final = λ t. all_final_combined w (all_requests w) w.seats c.bs ok.seats ∙ (meets.final
       (from_made_final w.env.states (length (all_requests w)) (total w) (combined_start w.targets)
       (λ t. are_final w.targets (states_of w t)) (λ t e n t'. targets_go w.targets (slice_get (all_requests w) n) (states_of w t) e (states_of w t')) c.t t));
   served = λ n allows.
@@ -91,7 +91,7 @@ pub meets_members : (w : Several) (Related : Couple → Type 0) (More : CoupleAl
     ((d : Couple) → d.t < total w → Related d → More (decoded w d)) → Meets (combined w) Related c → MeetsAll w More (decoded w c)
 meets_members w Related More c ok l more meets = record {
   shared = meets.shared;
-  final = λ t. from_all_final_combined w (all_requests w) w.seats c.bs (meets.final
+  final = λ t. sym (all_final_combined w (all_requests w) w.seats c.bs ok.seats) ∙ (meets.final
       (made_final w.env.states (length (all_requests w)) (total w) (combined_start w.targets)
       (λ t. are_final w.targets (states_of w t)) (λ t e n t'. targets_go w.targets (slice_get (all_requests w) n) (states_of w t) e (states_of w t')) c.t l t));
   served = λ i target member a allows.

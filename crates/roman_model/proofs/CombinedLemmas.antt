@@ -1,10 +1,10 @@
 -- The combined actions, and the steps and final states of the combined parts, which are those of the members.
-use Rattle.roman_model.proofs.Common.{◌≡◌, ℕ, zero, suc, ◌<◌, ◌==◌, not, ◌&&◌, ◌||◌, List, [], ◌∷◌, map, length, Option, Some, None, IsTrue, filter, slice_get, slice_index, slice_set, inl, inr, refl, sym, ap, ◌∙◌, subst, arith, list_any, false≢true, and_parts, and_from, or_cases, or_left, or_right, eqb-true, eq-eqb, not_from_false, not-true, length-map, none-some, same_Some, slice_get_within, IsIn, below, is_empty, product_of, Env, Beh, Seat, has_triple, has_move, IsEnv, IsBeh, SStep, is_final, all_final, beh_next, AreBelow, states_number, states_at, Request, Several, of_one, are_final, has_triple_on, has_move_on, targets_go, target_sizes, combined_start, combined_seat, all_requests, combined, IsSeveral, stands_in, uses, requests_of, member_goes, combined_beh}
+use Rattle.roman_model.proofs.Common.{◌≡◌, ℕ, zero, suc, ◌<◌, ◌==◌, not, ◌&&◌, ◌||◌, List, [], ◌∷◌, map, length, Option, Some, None, IsTrue, filter, slice_get, slice_index, slice_set, inl, inr, refl, sym, ap, ap₂, ◌∙◌, subst, arith, list_any, false≢true, and_parts, and_from, or_cases, or_left, or_right, eqb-true, eq-eqb, not_from_false, not-true, length-map, none-some, same_Some, slice_get_within, IsIn, below, is_empty, product_of, Env, Beh, Seat, has_triple, has_move, IsEnv, IsBeh, SStep, is_final, all_final, beh_next, AreBelow, states_number, states_at, Request, Several, of_one, are_final, has_triple_on, has_move_on, targets_go, target_sizes, combined_start, combined_seat, all_requests, combined, IsSeveral, stands_in, uses, requests_of, member_goes, combined_beh}
 use Rattle.roman_model.proofs.Places.{get_in, from_get_map, get_map, index_set}
 use Rattle.roman_model.proofs.Lists.{same_test, in_map, in_flat_map, in_filter, any_true, any_from, in_not_empty, not_empty_in, in_below}
-use Rattle.roman_model.proofs.SystemLemmas.{move_in, same_numbers_is, same_numbers_itself, triple_in_range, move_in_range, in_beh_next, from_beh_next}
+use Rattle.roman_model.proofs.SystemLemmas.{number_listed, move_in, same_numbers_is, same_numbers_itself, triple_in_range, move_in_range, in_beh_next, from_beh_next}
 use Rattle.roman_model.proofs.NumberLemmas.{AreBelow-length, AreBelow-at, AreBelow-set, states_number_below, states_at-number}
-use Rattle.roman_model.proofs.MadeLemmas.{from_made_triple, made_triple, from_made_move, made_move, from_made_final, made_final}
+use Rattle.roman_model.proofs.MadeLemmas.{move_passes, from_made_triple, made_triple, from_made_move, made_move, from_made_final, made_final}
 
 -- The combined actions.
 
@@ -18,18 +18,23 @@ in_requests env targets i target b e a b' at ok t = let (guard, j, k) = move_in 
     (in_map (λ a. record { target = i; action = a }) a (filter (stands_in (slice_get targets i)) (below env.actions))
     (grind (arith, in_filter, (in_below env.actions a (move_in_range env target b e a b' ok t).2))))
 
+-- the behaviour has a step on each action that occurs in its steps
+pub stands_step : (beh : Beh) (a : ℕ) → IsTrue (stands_in (Some beh) a) → (b : ℕ) × (e : ℕ) × (b' : ℕ) × IsTrue (has_move beh b e a b')
+stands_step beh a stands =
+    let (m, i, passes) = any_true (λ m. m.action == a && not (is_empty m.guard)) beh.steps stands in
+    let (action, some) = and_parts (m.action == a) (not (is_empty m.guard)) passes in
+    let (e, j) = not_empty_in m.guard (not-true (is_empty m.guard) some) in
+    (m.from, e, m.to, grind (arith, any_from, eqb-true, move_passes))
+
 -- where the numbers are in range, an action occurs in a step exactly where the behaviour has a step on it
 pub stands_uses : (env : Env) (beh : Beh) (a : ℕ) → IsBeh env beh → stands_in (Some beh) a ≡ uses env.states beh a
 stands_uses env beh a ok = same_test (stands_in (Some beh) a) (uses env.states beh a)
     (λ t.
-    let (m, i, passes) = any_true (λ m. m.action == a && not (is_empty m.guard)) beh.steps t in
-    let (action, some) = and_parts (m.action == a) (not (is_empty m.guard)) passes in
-    let (e, j) = not_empty_in m.guard (not-true (is_empty m.guard) some) in
-    let goes : IsTrue (has_move beh m.from e a m.to) = grind (arith, eqb-true, any_from) in
-    let (hb, he, ha, hb') = move_in_range env beh m.from e a m.to ok goes in
-    any_from (λ b. list_any (λ e. not (is_empty (beh_next beh b e a))) (below env.states)) m.from (below beh.states) (in_below beh.states m.from hb)
-    (any_from (λ e. not (is_empty (beh_next beh m.from e a))) e (below env.states) (in_below env.states e he)
-    (not_from_false (is_empty (beh_next beh m.from e a)) (in_not_empty m.to (beh_next beh m.from e a) (in_beh_next env beh m.from e a m.to ok goes)))))
+    let (b, e, b', goes) = stands_step beh a t in
+    let (hb, he, ha, hb') = move_in_range env beh b e a b' ok goes in
+    any_from (λ b. list_any (λ e. not (is_empty (beh_next beh b e a))) (below env.states)) b (below beh.states) (in_below beh.states b hb)
+    (any_from (λ e. not (is_empty (beh_next beh b e a))) e (below env.states) (in_below env.states e he)
+    (not_from_false (is_empty (beh_next beh b e a)) (in_not_empty b' (beh_next beh b e a) (in_beh_next env beh b e a b' ok goes)))))
     (λ t.
     let (b, i, u) = any_true (λ b. list_any (λ e. not (is_empty (beh_next beh b e a))) (below env.states)) (below beh.states) t in
     let (e, j, some) = any_true (λ e. not (is_empty (beh_next beh b e a))) (below env.states) u in
@@ -143,35 +148,14 @@ combined_target_goes w t e n t' r target ok l at member goes = let (hb, he, ha, 
 
 -- Finality.
 
-pub from_all_final_combined : (w : Several) (requests : List Request) (seats : List Seat) (bs : List ℕ) → IsTrue (all_final (map (combined_seat w.env.states requests) seats) bs) → IsTrue (all_final seats bs)
-from_all_final_combined w requests [] bs t = refl
-from_all_final_combined w requests (seat ∷ seats) [] t = absurd (false≢true t)
-from_all_final_combined w requests (seat ∷ seats) (b ∷ bs) t =
-    let (here, rest) = and_parts (not seat.rests || is_final (combined_beh w.env.states requests seat.beh) b) (all_final (map (combined_seat w.env.states requests) seats) bs) t in
-    and_from (not seat.rests || is_final seat.beh b) (all_final seats bs)
-    (elim (or_cases (not seat.rests) (is_final (combined_beh w.env.states requests seat.beh) b) here) [
-      | inl loose ↦ or_left (not seat.rests) (is_final seat.beh b) loose
-      | inr final ↦ or_right (not seat.rests) (is_final seat.beh b)
-          (from_made_final w.env.states (length requests) seat.beh.states seat.beh.start (is_final seat.beh) (λ b e n b'. has_move_on seat.beh (slice_get requests n) b e b') b final)
-    ])
-    (from_all_final_combined w requests seats bs rest)
-
-final_below : (env : Env) (beh : Beh) (b : ℕ) → IsBeh env beh → IsTrue (is_final beh b) → b < beh.states
-final_below env beh b ok t =
-    let (n, i, same) = any_true (λ n. n == b) beh.finals t in
-    subst (λ k. k < beh.states) (eqb-true n b same) (ok.finals n i)
+final_combined : (w : Several) (requests : List Request) (beh : Beh) (b : ℕ) → IsBeh w.env beh → is_final (combined_beh w.env.states requests beh) b ≡ is_final beh b
+final_combined w requests beh b ok = same_test (is_final (combined_beh w.env.states requests beh) b) (is_final beh b)
+    (from_made_final w.env.states (length requests) beh.states beh.start (is_final beh) (λ b e n b'. has_move_on beh (slice_get requests n) b e b') b)
+    (λ t. made_final w.env.states (length requests) beh.states beh.start (is_final beh) (λ b e n b'. has_move_on beh (slice_get requests n) b e b') b (ok.finals b (number_listed beh.finals b t)) t)
 
 pub all_final_combined : (w : Several) (requests : List Request) (seats : List Seat) (bs : List ℕ) → ((x : Seat) → IsIn x seats → IsBeh w.env x.beh) →
-    IsTrue (all_final seats bs) → IsTrue (all_final (map (combined_seat w.env.states requests) seats) bs)
-all_final_combined w requests [] bs ok t = refl
-all_final_combined w requests (seat ∷ seats) [] ok t = absurd (false≢true t)
-all_final_combined w requests (seat ∷ seats) (b ∷ bs) ok t =
-    let (here, rest) = and_parts (not seat.rests || is_final seat.beh b) (all_final seats bs) t in
-    and_from (not seat.rests || is_final (combined_beh w.env.states requests seat.beh) b) (all_final (map (combined_seat w.env.states requests) seats) bs)
-    (elim (or_cases (not seat.rests) (is_final seat.beh b) here) [
-      | inl loose ↦ or_left (not seat.rests) (is_final (combined_beh w.env.states requests seat.beh) b) loose
-      | inr final ↦ or_right (not seat.rests) (is_final (combined_beh w.env.states requests seat.beh) b)
-          (made_final w.env.states (length requests) seat.beh.states seat.beh.start (is_final seat.beh) (λ b e n b'. has_move_on seat.beh (slice_get requests n) b e b') b
-          (final_below w.env seat.beh b (ok seat (inl refl)) final) final)
-    ])
-    (all_final_combined w requests seats bs (λ x i. ok x (inr i)) rest)
+    all_final (map (combined_seat w.env.states requests) seats) bs ≡ all_final seats bs
+all_final_combined w requests [] bs ok = refl
+all_final_combined w requests (seat ∷ seats) [] ok = refl
+all_final_combined w requests (seat ∷ seats) (b ∷ bs) ok =
+    ap₂ (λ here rest. (not seat.rests || here) && rest) (final_combined w requests seat.beh b (ok seat (inl refl))) (all_final_combined w requests seats bs (λ x i. ok x (inr i)))

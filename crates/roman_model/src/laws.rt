@@ -37,6 +37,7 @@ pub fn depth_wins()
 /// The depth of a pair is the least number of requests within which the opponent wins from it: no way
 /// of delegating holds out against so many, and some way holds out against fewer. A related pair has
 /// no depth.
+#[tactic(auto, using(crate::proofs::DepthPlayLemmas::depth_least))]
 pub fn depth_is_least()
     ensures least { DepthIsLeast }
 {}
