@@ -1,6 +1,6 @@
 -- The controllers that realise the target are those that take offers.
 use Rattle.roman_laws.proofs.Common.{◌≡◌, ℕ, suc, ◌+◌, List, [], ◌∷◌, map, length, IsTrue, slice_index, inl, refl, sym, ap, ◌∙◌, subst, arith, ◌≢◌, if◌then◌else◌, cond-true, cond-false, slice_get_within, IsIn, Sys, Pair, has, has_move, IsSys, IsPair, is_allowed, beh_next, Couple, couple, Serves, Meets, GreatCouple, Great, by_test, outcome_in, from_outcome, outcome_pair, allowed_in, from_allowed, number_listed, listed_number, offers_are, offer_is, related_offers, great_meets, in_not_empty, not_empty_ne, in_beh_next, from_beh_next, offers, Choice, Follows, end_of, Controller, now_at, IsHistory, Realises, TakesOffers, TakesServers, Seen, seen_of, by_seen, since, ControllersTakeOffers}
-use Rattle.roman_laws.proofs.SimulationLemmas.{closed_great}
+use Rattle.roman_laws.proofs.GreatestLemmas.{closed_great}
 
 -- A history continues by the choices of its controller.
 

@@ -1,6 +1,7 @@
 -- The definitions, computed for three small systems. A lamp is off or on. A flaky lamp may also stick when it is turned on. The target
 -- turns a lamp on and off, and may rest while it is off.
-use Rattle.roman_laws.proofs.Common.{◌≡◌, ℕ, ◌+◌, ◌<◌, true, false, List, [], ◌∷◌, map, length, Some, filter, refl, arith, Env, Beh, Seat, Sys, Pair, IsSys, pairs, arena, IsOrder, depth, Join, after, is_related, offers, choice_count, Final, Act}
+use Rattle.roman_laws.proofs.Common.{◌≡◌, [], ◌∷◌, length, refl, arith, true, false, ℕ, ◌+◌, ◌<◌, List, map, Some, filter, pairs, arena, offers, is_related, choice_count, Several, IsSeveral, all_requests, combined, Beh, Sys, Pair, Env, Seat, IsSys, system_without, pair_without, IsOrder, depth, Join, after, Final, Act}
+use Rattle.roman_model.specs.declared.way.Way.TheVariants as way
 
 -- The one environment state is 0. The action 0 turns a lamp on, and the action 1 turns it off. A lamp is off at 0, on at 1 and stuck at 2.
 
@@ -99,3 +100,60 @@ flaky_order : IsOrder (arena flaky_system)
     ∷ record { node = pair_of 1 (0 ∷ []); reason = Act 1 } ∷ record { node = pair_of 1 (2 ∷ []); reason = Act 1 }
     ∷ record { node = pair_of 0 (0 ∷ []); reason = Act 0 } ∷ record { node = pair_of 1 (1 ∷ []); reason = Act 1 } ∷ [])
 flaky_order = (refl, refl, (refl, refl, (refl, refl, (refl, refl, (refl, refl, (refl, refl, tt))))))
+
+-- Two lamps, and two targets that each turn a lamp on and off.
+
+abbrev two : Several
+two = record { env = room; targets = lamp ∷ lamp ∷ []; seats = seat_of lamp ∷ seat_of lamp ∷ [] }
+
+two_is : IsSeveral two
+two_is = grind (arith, room)
+
+two_requests : all_requests two ≡
+    record { target = 0; action = 0 } ∷ record { target = 0; action = 1 } ∷ record { target = 1; action = 0 } ∷ record { target = 1; action = 1 } ∷ []
+two_requests = refl
+
+two_pairs : length (pairs (combined two)) ≡ 16
+two_pairs = refl
+
+-- exactly the pairs with as many lit lamps as the targets need are related
+two_related : related_pairs (combined two) ≡
+    pair_of 0 (0 ∷ 0 ∷ []) ∷ pair_of 1 (0 ∷ 1 ∷ []) ∷ pair_of 1 (1 ∷ 0 ∷ []) ∷ pair_of 2 (0 ∷ 1 ∷ []) ∷ pair_of 2 (1 ∷ 0 ∷ []) ∷ pair_of 3 (1 ∷ 1 ∷ []) ∷ []
+two_related = refl
+
+two_offers : offers (combined two) (pair_of 0 (0 ∷ 0 ∷ [])) 0 ≡ 0 ∷ 1 ∷ []
+two_offers = refl
+
+-- where the second lamp is on for the second target, the first lamp is offered to the first target
+two_offers_on : offers (combined two) (pair_of 1 (0 ∷ 1 ∷ [])) 0 ≡ 0 ∷ []
+two_offers_on = refl
+
+-- The loss of a seat that rests outside a final state helps: a lamp with another seat that is never final.
+
+-- the behaviour that does nothing, and is never final
+abbrev busy : Beh
+busy = record { states = 1; start = 0; finals = []; steps = [] }
+
+abbrev lamp_and : Beh → Sys
+lamp_and beh = record { env = room; target = lamp; seats = seat_of lamp ∷ seat_of beh ∷ [] }
+
+-- the start pair: the target and both seats are in their first states
+abbrev begun : Pair
+begun = record { t = 0; e = 0; bs = 0 ∷ 0 ∷ [] }
+
+busy_unrelated : is_related (lamp_and busy) begun ≡ false
+busy_unrelated = refl
+
+busy_frozen : is_related (system_without way.Freeze (1 ∷ []) (lamp_and busy)) begun ≡ false
+busy_frozen = refl
+
+busy_gone : is_related (system_without way.Die (1 ∷ []) (lamp_and busy)) (pair_without way.Die (1 ∷ []) begun) ≡ true
+busy_gone = refl
+
+-- one of two lamps is enough: the least set whose loss fails has both
+
+first_frozen : is_related (system_without way.Freeze (0 ∷ []) (lamp_and lamp)) begun ≡ true
+first_frozen = refl
+
+both_frozen : is_related (system_without way.Freeze (0 ∷ 1 ∷ []) (lamp_and lamp)) begun ≡ false
+both_frozen = refl

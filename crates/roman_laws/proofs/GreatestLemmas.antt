@@ -1,6 +1,15 @@
--- The related pairs are the greatest ND-simulation. No listed pair is related, depth is bounded, a replay keeps the most entries, and runs
--- that follow the offers stay at related pairs.
-use Rattle.roman_laws.proofs.Common.{List, [], ◌∷◌, map, IsTrue, filter, inl, inr, arith, cond-true, cond-false, or_cases, or_right, not_from_false, or_left, Entry, IsOrder, replay, Arena, is_among, IsOrderFrom, replay_from, couple, is_related, pairs, arena, by_test, outcome_pair, system_is_same, great_meets, great_related, related_great, offer_is, related_offers, in_map, in_filter, sublist_skip, in_pairs, in_listed, justified_more, replay_order, great_survives, last_is_sim, lost_unrelated, listed_unrelated, IsSublist, GreatestIsGreatest, OrderRefutes, UnrelatedLoses, ReplayKeeps, FollowingStays}
+-- The related pairs are the greatest ND-simulation. No listed pair is related, depth is bounded, a replay keeps the most entries, also after a
+-- change, and runs that follow the offers stay at related pairs.
+use Rattle.roman_laws.proofs.Common.{length, List, [], arith, ◌∷◌, map, IsTrue, filter, inl, inr, not_from_false, cond-true, cond-false, or_cases, or_right, or_left, Sys, IsSys, Pair, IsPair, arena, pairs, Couple, couple, Meets, Great, by_test, related_great, lost_dead, meets_survives, system_is_same, sublist_length, join_once, new_from_once, new_once, new_same, order_new, renaming_keeps, replay_sublist, outcome_pair, great_meets, great_related, offer_is, related_offers, in_map, in_filter, sublist_skip, in_pairs, in_listed, justified_more, replay_order, great_survives, last_is_sim, lost_unrelated, listed_unrelated, loses, Entry, IsOrder, AreNew, replay, Arena, is_among, IsOrderFrom, replay_from, after, Join, rename, Change, Freeze, Thaw, Die, CanChange, AreEntries, RepairsKeepTheMost, ReplaysKeepTheMost, is_related, IsSublist, GreatestIsGreatest, OrderRefutes, UnrelatedLoses, ReplayKeeps, FollowingStays}
+
+-- Each relation that meets the three clauses of an ND-simulation is part of the greatest one, even if it can't be listed.
+
+pub closed_great : (s : Sys) (Related : Couple → Type 0) → IsSys s → ((c : Couple) → Related c → Meets s Related c) →
+    (p : Pair) → IsPair s p → Related (couple p) → Great s p
+closed_great s Related ok closed p pair r =
+    related_great s p ok pair (by_test (loses (arena s) (length (pairs s)) p)
+    (λ t. absurd (lost_dead (arena s) (λ q. Related (couple q)) (λ q h. meets_survives s Related q ok (closed (couple q) h)) (length (pairs s)) p t r))
+    (λ f. not_from_false (loses (arena s) (length (pairs s)) p) f))
 
 -- The related pairs are the greatest ND-simulation.
 pub greatest_is : GreatestIsGreatest
@@ -44,3 +53,21 @@ following_related s ok p pair great (m ∷ ms) follows =
     let (allowed, offered, reached, rest) = follows in
     let (allows, l, some, all) = offer_is s p m.action m.seat ok pair offered in
     following_related s ok m.to (outcome_pair s p m.action m.seat m.to ok pair reached) (all m.to reached) ms rest
+
+-- The renamed list of a change has distinct pairs, so its replay keeps the most.
+
+-- a renamed removal list has distinct pairs
+renamed_new : (change : Change) (s : Sys) (L : List (Entry Pair)) → IsSys s → CanChange change s → AreEntries s L → IsOrder (arena s) L → AreNew (arena (after change s)) [] (rename change L)
+renamed_new (Freeze k) s L ok can are order = new_same s (after (Freeze k) s) [] L (order_new (arena s) L order)
+renamed_new (Thaw k) s L ok can are order = new_same s (after (Thaw k) s) [] L (order_new (arena s) L order)
+renamed_new (Join seat) s L ok can are order = grind (arith, (new_from_once (after (Join seat) s)), (join_once seat L (new_once (arena s) (system_is_same s) [] L (order_new (arena s) L order))), (new_once (arena s) (system_is_same s)), (system_is_same s), (order_new (arena s) L order))
+renamed_new (Die k seat) s L ok can are order = grind (arith, (renaming_keeps (Die k seat) s L ok can are order), order_new)
+
+pub repairs_most : RepairsKeepTheMost
+repairs_most change s L ok can are order =
+    let new = renamed_new change s L ok can are order in
+    let best = replay_kept (after change s) (rename change L) new in
+    grind (arith, replay_sublist, sublist_length)
+
+pub replays_most : ReplaysKeepTheMost
+replays_most change s old new kept ok can are order begins count = grind (arith, repairs_most)

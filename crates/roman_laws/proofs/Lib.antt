@@ -1,17 +1,12 @@
 pub mod Common
 pub mod GreatestLemmas
 pub mod OutcomeLemmas
-pub mod NumberLemmas
 pub mod Examples
-pub mod SeveralExamples
 pub mod TextExamples
-pub mod SimulationLemmas
 pub mod ControllerLemmas
 pub mod ReducedLemmas
 pub mod LosingLemmas
 pub mod GoneLemmas
 pub mod LosingLaws
-pub mod LosingExamples
 pub mod RequestLemmas
-pub mod RepairLemmas
 pub mod CallerLemmas

@@ -1,7 +1,7 @@
 -- A pair that is related with more seats frozen is related with fewer, and a pair that is related without a seat that may go is related with it.
-use Rattle.roman_laws.proofs.Common.{◌≡◌, ℕ, suc, ◌<◌, Bool, true, not, ◌&&◌, ◌||◌, List, [], ◌∷◌, length, Some, IsTrue, IsFalse, slice_get, slice_index, slice_set, remove, refl, sym, ap, ◌∙◌, subst, arith, same_Some, slice_get_within, IsIn, Seat, Sys, Pair, has, IsSys, IsPair, SStep, is_final, all_final, Couple, Meets, GreatCouple, Great, set_frozen, without, may_go, freeze_at, by_test, number_listed, listed_number, left, great_meets, states_length, GreatWithout, ArePart, or_parts, or_from, length-set, all_final-remove, get-remove, index-remove, index_set_place, place_before, set-remove, freeze_one, AllZip-right, AllZip}
+use Rattle.roman_laws.proofs.Common.{◌≡◌, ℕ, suc, ◌<◌, Bool, true, not, ◌&&◌, ◌||◌, List, [], ◌∷◌, length, Some, IsTrue, IsFalse, slice_get, slice_index, slice_set, remove, refl, sym, ap, ◌∙◌, subst, arith, same_Some, slice_get_within, IsIn, Seat, Sys, Pair, has, IsSys, IsPair, SStep, is_final, all_final, Couple, Meets, GreatCouple, Great, set_frozen, without, may_go, freeze_at, by_test, number_listed, listed_number, left, great_meets, states_length, all_final-remove, get-remove, index-remove, index_set_place, place_before, set-remove, freeze_one, GreatWithout, ArePart, or_parts, or_from, length-set, AllZip-right, AllZip}
 use Rattle.roman_model.specs.declared.way.Way.TheVariants as way
-use Rattle.roman_laws.proofs.SimulationLemmas.{closed_great}
+use Rattle.roman_laws.proofs.GreatestLemmas.{closed_great}
 
 -- Seats that differ only in that some more of them are frozen.
 

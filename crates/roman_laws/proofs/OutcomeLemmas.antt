@@ -1,5 +1,5 @@
--- The tests and lists of a system agree with its steps.
-use Rattle.roman_laws.proofs.Common.{◌≡◌, ℕ, zero, suc, ◌==◌, ◌&&◌, ◌||◌, not, ◌<◌, List, [], ◌∷◌, Some, IsTrue, slice_get, slice_index, refl, arith, eqb-true, and_parts, and_from, eq-eqb, or_cases, both_ways, not-true, or_right, or_left, not_from_false, false≢true, AllZip, IsIn, Env, Beh, Seat, has_triple, has_move, is_final, all_final, any_true, any_from, number_listed, listed_number, outcome_in, from_outcome, allowed_in, from_allowed, fine_is, fine_from, by_test, HasStep, OutcomesAreSteps, TestsAreMembership, none-some, same_Some, triple_in}
+-- The tests and lists of a system agree with its steps, and its pairs with their numbers.
+use Rattle.roman_laws.proofs.Common.{◌≡◌, ℕ, zero, suc, ◌==◌, ◌&&◌, ◌||◌, not, ◌<◌, List, [], ◌∷◌, Some, IsTrue, slice_get, slice_index, refl, arith, eqb-true, and_parts, and_from, eq-eqb, or_cases, both_ways, not-true, or_right, or_left, not_from_false, false≢true, AllZip, IsIn, Env, Beh, Seat, has_triple, has_move, is_final, all_final, any_true, any_from, number_listed, listed_number, outcome_in, from_outcome, allowed_in, from_allowed, fine_is, fine_from, by_test, triple_in, states_number_below, states_at-number, AreBelow-at, states_number-at, number_below, pair_at-number, IsPairOf-at, number-pair_at, HasStep, OutcomesAreSteps, TestsAreMembership, none-some, same_Some, ShapesAreNumbered}
 
 -- Membership
 
@@ -43,3 +43,8 @@ outcomes_steps s p ok = record {
 
 pub tests_membership : TestsAreMembership
 tests_membership = grind (arith, listed_number, listed_step, listed_triple, number_listed, step_listed, triple_in)
+
+-- The numbers of pairs and of lists of states, for all sizes.
+
+pub shapes_numbered : ShapesAreNumbered
+shapes_numbered = grind (arith, AreBelow-at, IsPairOf-at, number-pair_at, number_below, pair_at-number, states_at-number, states_number-at, states_number_below)

@@ -1,5 +1,5 @@
 -- A system without some of its seats, and its pairs.
-use Rattle.roman_laws.proofs.Common.{◌≡◌, ℕ, suc, ◌<◌, Bool, List, [], ◌∷◌, refl, ap, arith, AllZip, Seat, Sys, Pair, has, IsSys, IsPair, leave_out, freeze_at, system_without, pair_without, Way, related_great, great_related, sublist_length, sublist_skip, ReducedAreSystems, IsPair-alike, IsSys-alike, IsSys-seats, behaviours, sublist_in, IsSublist}
+use Rattle.roman_laws.proofs.Common.{◌≡◌, ℕ, suc, ◌<◌, Bool, List, [], ◌∷◌, refl, ap, arith, AllZip, Seat, Sys, Pair, has, IsSys, IsPair, leave_out, freeze_at, system_without, pair_without, Way, related_great, great_related, sublist_length, sublist_skip, IsPair-alike, IsSys-alike, IsSys-seats, behaviours, sublist_in, ReducedAreSystems, IsSublist}
 use Rattle.roman_model.specs.declared.way.Way.TheVariants as way
 
 leave_out_part : {X : Type 0} (at : ℕ → Bool) (xs : List X) → IsSublist (leave_out at xs) xs

@@ -62,7 +62,7 @@ pub fn pairs_are_numbered()
 
 /// Pairs and lists of states correspond to their numbers one to one, for all sizes, within the limits
 /// of documents or not.
-#[tactic(auto, using(crate::proofs::NumberLemmas::shapes_numbered))]
+#[tactic(auto, using(crate::proofs::OutcomeLemmas::shapes_numbered))]
 pub fn shapes_are_numbered()
     ensures numbered { ShapesAreNumbered }
 {}

@@ -58,7 +58,7 @@ pub fn requests_of_targets()
 
 /// Each change keeps the longest part of the renamed removal list that is a removal list of the
 /// changed system.
-#[tactic(auto, using(crate::proofs::RepairLemmas::repairs_most, crate::proofs::RepairLemmas::replays_most))]
+#[tactic(auto, using(crate::proofs::GreatestLemmas::repairs_most, crate::proofs::GreatestLemmas::replays_most))]
 pub fn repairs_keep_the_most()
     ensures kept { RepairsKeepTheMost }
     ensures replayed { ReplaysKeepTheMost }
