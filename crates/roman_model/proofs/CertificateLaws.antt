@@ -1,7 +1,7 @@
 -- The certificate of a complete list is accepted, and an accepted certificate is complete.
 use Rattle.roman_model.proofs.Common.{Verdict, head_line, count_line, reason_text, entry_line, end_line, Why, TooLong, reasons, possible_entries, entry_of, entries_on, unless_over, body_fault, line_fault, faults, unlisted, cert_verdict, IsClean, cert_text, Form, Unlisted, Greatest, cert_lines, unless_is, entry_fault, could_be_listed, end_fault, greatest, IsWithinCells, WrittenIsGreatest, GreatestIsComplete, ◌≡◌, ℕ, zero, suc, ◌+◌, ◌*◌, ◌^◌, ◌<◌, ◌≤◌, Bool, not, ◌&&◌, List, [], ◌∷◌, ◌++◌, map, length, take, Option, Some, None, IsTrue, IsFalse, if◌then◌else◌, filter, find, option_map, slice_get, slice_index_or, codes, decimal, refl, sym, ap, ap₂, ◌∙◌, subst, inl, inr, arith, append_assoc, append-nil, length-append, le-leb, list_any, cons_option, cases_lt, both_ways, and_left, not-false, not_from_true, not_from_false, cond-true, cond-false, and_from, lt-leb, length-map, map_push, filter_map-append, list_any-append, none-some, IsIn, below, lines, ended_lines, text_of_lines, IsLine, AreLines, Sys, IsSys, pairs, same_numbers, arena, Arena, Entry, is_listed, is_justified, IsOrder, Great, sizes_of, count, pair_at, numbered, entry_at, IsCompleteList, is_related, MAX_CERTIFICATE_BYTES, MAX_CELLS, Reason, Final, Act, not-not, mul-le, length-decimal-le}
-use Rattle.roman_model.proofs.Lists.{by_test, none_from, any_from, from_map, in_append_left, in_append_right, from_append, in_push, in_filter, filter_in, in_below, from_below, filter_same, find_not_found, length-below, same_length, HasNoRepeats-filter, filter-map, any_false, find_none, from_push}
-use Rattle.roman_model.proofs.SystemLemmas.{same_numbers_is, same_numbers_itself, pairs_once}
+use Rattle.roman_model.proofs.Lists.{by_test, none_from, any_from, from_map, in_append_left, in_append_right, from_append, in_push, in_below, from_below, filter_same, find_not_found, length-below, filter-map, any_false, find_none, from_push}
+use Rattle.roman_model.proofs.SystemLemmas.{same_numbers_is, same_numbers_itself, pairs_at}
 use Rattle.roman_model.proofs.ArenaLemmas.{reason_in, unjustified}
 use Rattle.roman_model.proofs.CompositionLemmas.{great_survives, related_great, listed_unrelated}
 use Rattle.roman_model.proofs.NumberLemmas.{numbers_are_pairs}
@@ -9,7 +9,7 @@ use Rattle.roman_model.proofs.OrderLemmas.{order_fits, order_justified, order_pu
 use Rattle.roman_model.proofs.WorkLemmas.{order_middle}
 use Rattle.roman_model.proofs.Renames.{order_named}
 use Rattle.roman_model.proofs.NumberedArena.{IsNumber, AreNumbers, numbers_rename, justified_at}
-use Rattle.roman_model.proofs.NumberedLists.{numbered_is_same, numbered_is_arena, numbered_completed_by, numbered_listed, numbered_pairs, numbered_pairs_once, in_numbered_pairs, from_numbered_pairs}
+use Rattle.roman_model.proofs.NumberedLists.{numbered_is_same, numbered_is_arena, numbered_completed_by, numbered_listed}
 use Rattle.roman_model.proofs.LineLemmas.{lines-text_of_lines}
 use Rattle.roman_model.proofs.CertificateLemmas.{end_is_line, entry_is_line, entry_is_no_end, AreFew, possible_small, in_possible, from_possible, entry_of-line, entry_of-is, entry_of_other, entries_on-lines, faults_none, faults_first, clean_push, fault_next, fault_over, faults_cases, append_line, decimal_without}
 
@@ -192,9 +192,7 @@ unlisted_count s L sys are complete = ap length (filter_same (λ p. not (is_list
     (λ p i. ap not (numbered_listed s L p sys are complete (from_below (count (sizes_of s)) p i)) ∙ not-not (is_related s (pair_at (sizes_of s) p))))
     ∙ sym (length-map (filter (λ p. is_related s (pair_at (sizes_of s) p)) (below (count (sizes_of s)))) (pair_at (sizes_of s)))
     ∙ ap length (sym (filter-map (is_related s) (pair_at (sizes_of s)) (below (count (sizes_of s)))))
-    ∙ same_length (filter (is_related s) (numbered_pairs s)) (filter (is_related s) (pairs s))
-    (HasNoRepeats-filter (is_related s) (numbered_pairs s) (numbered_pairs_once s)) (HasNoRepeats-filter (is_related s) (pairs s) (pairs_once s))
-    (λ p. grind (arith, filter_in, from_numbered_pairs, in_filter, in_numbered_pairs))
+    ∙ ap (λ ps. length (filter (is_related s) ps)) (sym (pairs_at s))
 
 pub unlisted_is_greatest : (s : Sys) (start : ℕ) (L : List (Entry ℕ)) → IsSys s → start < count (sizes_of s) → AreNumbers s L → IsCompleteList s L → unlisted (numbered s) start L ≡ greatest s start
 unlisted_is_greatest s start L sys l are complete = grind (arith, (unlisted_count s L sys are complete), (numbered_listed s L start sys are complete l))

@@ -1,36 +1,9 @@
 -- The effect of a change of the seats on systems, pairs, outcomes and removal lists.
-use Rattle.roman_model.proofs.Common.{length-append, ◌≡◌, ℕ, zero, suc, ◌<◌, ◌≤◌, Bool, true, not, ◌&&◌, ◌||◌, List, [], ◌∷◌, ◌++◌, map, length, Some, IsTrue, IsFalse, filter, flat_map, slice_get, slice_index, slice_set, remove, refl, sym, ap, ap₂, ◌∙◌, subst, inl, inr, arith, rules, length-take, length-drop, length-map, map-append, length_push, take-map, drop-map, same_from_push, IsPairOf, sizes_of, grown_sizes, sizes_without, AllZip-long, list_any, AllZip, cases_eq, both_ways, or_cases, or_left, or_right, and_parts, and_from, cond-true, cond-false, flat_map-map, none-some, same_Some, slice_get_within, IsIn, HasNoRepeats, below, all_below, Beh, Seat, Sys, Pair, IsBeh, IsSys, IsPair, is_final, all_final, env_next, beh_next, seat_next, outcomes_by, outcomes, is_allowed, is_fine, same_pair, arena, Entry, is_among, is_beaten, is_justified, IsOrderFrom, AreNew, AreEntries, Join, Die, set_frozen, grown, without, may_go, firsts, entry_without, rename, MAX_SERVICES, Reason, Final, Act}
+use Rattle.roman_model.proofs.Common.{length-append, ◌≡◌, ℕ, zero, suc, ◌<◌, ◌≤◌, Bool, true, not, ◌&&◌, ◌||◌, List, [], ◌∷◌, ◌++◌, map, length, Some, IsTrue, IsFalse, filter, flat_map, slice_get, slice_index, slice_set, remove, refl, sym, ap, ap₂, ◌∙◌, subst, inl, inr, arith, rules, length-take, length-drop, length-map, map-append, length_push, take-map, drop-map, same_from_push, IsPairOf, sizes_of, grown_sizes, sizes_without, AllZip-long, list_any, AllZip, cases_eq, both_ways, or_cases, or_left, or_right, cond-true, cond-false, flat_map-map, none-some, same_Some, slice_get_within, IsIn, HasNoRepeats, below, Beh, Seat, Sys, Pair, IsBeh, IsSys, IsPair, is_final, all_final, env_next, beh_next, seat_next, outcomes_by, outcomes, is_fine, same_pair, arena, Entry, is_among, is_beaten, is_justified, IsOrderFrom, AreNew, AreEntries, Join, Die, set_frozen, grown, without, may_go, firsts, entry_without, rename, MAX_SERVICES, Reason, Final, Act}
 use Rattle.roman_model.proofs.NumberLemmas.{IsPair-from, IsPairOf-from, IsPairOf-grown, IsPairOf-without}
-use Rattle.roman_model.proofs.Lists.{by_test, any_true, any_from, list_any-map, is_empty-map, from_push, in_map, from_map, from_flat_map, filter_in, from_below, all_below_at, all_below_from, HasNoRepeats-map, HasNoRepeats-flat_map, HasNoRepeats-below}
+use Rattle.roman_model.proofs.Lists.{flat_map_same, map-map, map-flat_map, flat_map_none, by_test, any_true, any_from, list_any-map, is_empty-map, from_push, in_map, from_map, from_flat_map, filter_in, from_below, HasNoRepeats-map, HasNoRepeats-flat_map, HasNoRepeats-below}
 use Rattle.roman_model.proofs.ArenaLemmas.{justified_by, justified_is}
 use Rattle.roman_model.proofs.SystemLemmas.{same_pair_is, same_pair_from, from_beh_next, from_env_next}
-
--- Maps of maps
-
--- where two functions agree on the elements
-pub flat_map_same_in : {X Y : Type 0} (f g : X → List Y) (xs : List X) → ((x : X) → IsIn x xs → f x ≡ g x) → flat_map f xs ≡ flat_map g xs
-flat_map_same_in f g [] same = refl
-flat_map_same_in f g (x ∷ xs) same = ap₂ (λ ys zs. ys ++ zs) (same x (inl refl)) (flat_map_same_in f g xs (λ y i. same y (inr i)))
-
-pub map_same_in : {X Y : Type 0} (f g : X → Y) (xs : List X) → ((x : X) → IsIn x xs → f x ≡ g x) → map f xs ≡ map g xs
-map_same_in f g [] same = refl
-map_same_in f g (x ∷ xs) same = ap₂ (λ y ys. y ∷ ys) (same x (inl refl)) (map_same_in f g xs (λ y i. same y (inr i)))
-
--- where two functions agree everywhere
-pub flat_map_same : {X Y : Type 0} (f g : X → List Y) (xs : List X) → ((x : X) → f x ≡ g x) → flat_map f xs ≡ flat_map g xs
-flat_map_same f g xs same = flat_map_same_in f g xs (λ x i. same x)
-
-pub map-map : {X Y Z : Type 0} (f : Y → Z) (g : X → Y) (xs : List X) → map f (map g xs) ≡ map (λ x. f (g x)) xs
-map-map f g [] = refl
-map-map f g (x ∷ xs) = ap (λ ys. f (g x) ∷ ys) (map-map f g xs)
-
-pub map-flat_map : {X Y Z : Type 0} (f : Y → Z) (g : X → List Y) (xs : List X) → map f (flat_map g xs) ≡ flat_map (λ x. map f (g x)) xs
-map-flat_map f g [] = refl
-map-flat_map f g (x ∷ xs) = map-append f (g x) (flat_map g xs) ∙ ap (λ ys. map f (g x) ++ ys) (map-flat_map f g xs)
-
-pub flat_map_none : {X Y : Type 0} (f : X → List Y) (xs : List X) → ((x : X) → f x ≡ []) → flat_map f xs ≡ []
-flat_map_none f [] none = refl
-flat_map_none f (x ∷ xs) none = ap₂ (λ ys zs. ys ++ zs) (none x) (flat_map_none f xs none)
 
 -- Outcomes that are images of other outcomes
 

@@ -1,5 +1,5 @@
 -- The combined actions, and the steps and final states of the combined parts, which are those of the members.
-use Rattle.roman_model.proofs.Common.{◌≡◌, ℕ, zero, suc, ◌<◌, ◌==◌, not, ◌&&◌, ◌||◌, List, [], ◌∷◌, map, length, Option, Some, None, IsTrue, filter, slice_get, slice_index, slice_set, inl, inr, refl, sym, ap, ap₂, ◌∙◌, subst, arith, list_any, false≢true, and_parts, and_from, or_cases, or_left, or_right, eqb-true, eq-eqb, not_from_false, not-true, length-map, none-some, same_Some, slice_get_within, IsIn, below, is_empty, product_of, Env, Beh, Seat, has_triple, has_move, IsEnv, IsBeh, SStep, is_final, all_final, beh_next, AreBelow, states_number, states_at, Request, Several, of_one, are_final, has_triple_on, has_move_on, targets_go, target_sizes, combined_start, combined_seat, all_requests, combined, IsSeveral, stands_in, uses, requests_of, member_goes, combined_beh}
+use Rattle.roman_model.proofs.Common.{◌≡◌, ℕ, zero, suc, ◌<◌, ◌==◌, not, ◌&&◌, ◌||◌, List, [], ◌∷◌, map, length, Option, Some, None, IsTrue, filter, slice_get, slice_index, slice_set, inl, inr, refl, sym, ap, ap₂, ◌∙◌, subst, arith, list_any, false≢true, and_parts, and_from, eqb-true, eq-eqb, not_from_false, not-true, length-map, none-some, same_Some, slice_get_within, IsIn, below, is_empty, product_of, Env, Beh, Seat, has_triple, has_move, IsEnv, IsBeh, SStep, is_final, all_final, beh_next, AreBelow, states_number, states_at, Request, Several, of_one, are_final, has_triple_on, has_move_on, targets_go, target_sizes, combined_start, combined_seat, all_requests, combined, IsSeveral, stands_in, uses, requests_of, member_goes, combined_beh}
 use Rattle.roman_model.proofs.Places.{get_in, from_get_map, get_map, index_set}
 use Rattle.roman_model.proofs.Lists.{same_test, in_map, in_flat_map, in_filter, any_true, any_from, in_not_empty, not_empty_in, in_below}
 use Rattle.roman_model.proofs.SystemLemmas.{number_listed, move_in, same_numbers_is, same_numbers_itself, triple_in_range, move_in_range, in_beh_next, from_beh_next}

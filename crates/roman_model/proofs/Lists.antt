@@ -1,5 +1,5 @@
 -- Lemmas on lists and their elements, on numbers below a bound, and on tests.
-use Rattle.roman_model.proofs.Common.{◌≡◌, ◌≢◌, ℕ, zero, suc, ◌+◌, ◌<◌, ◌≤◌, Bool, true, false, cond, ◌&&◌, ◌||◌, ◌⊎◌, List, [], ◌∷◌, ◌++◌, map, length, get_or, Option, Some, None, IsTrue, IsFalse, filter, find, flat_map, sum_by, inl, inr, refl, sym, ap, ap₂, ◌∙◌, subst, arith, add-one, length-append, ◌↔◌, rules, Contains, list_any, false≢true, both_ways, or_cases, or_parts, or_left, or_right, or_from, and_from, cond-true, cases_eq, cases_order, true≢false, length_push, get_or_push, get_or_append_left, sum_by-append, sum_by-cons, list_any-append, find-append, filter-append, none-some, same_Some, IsIn, IsSublist, HasNoRepeats, below, all_below, is_empty, option_or}
+use Rattle.roman_model.proofs.Common.{◌≡◌, ◌≢◌, ℕ, zero, suc, ◌+◌, ◌<◌, ◌≤◌, Bool, true, false, cond, ◌&&◌, ◌||◌, ◌⊎◌, List, [], ◌∷◌, ◌++◌, map, length, get_or, Option, Some, None, IsTrue, IsFalse, filter, find, flat_map, sum_by, inl, inr, refl, sym, ap, ap₂, ◌∙◌, subst, arith, add-one, length-append, ◌↔◌, rules, Contains, ◌*◌, append-nil, append_assoc, list_any, false≢true, both_ways, or_cases, or_parts, or_left, or_right, or_from, and_from, cond-true, cases_eq, cases_order, true≢false, length_push, get_or_push, get_or_append_left, map_push, map-append, sum_by-append, sum_by-cons, list_any-append, find-append, filter-append, none-some, same_Some, IsIn, IsSublist, HasNoRepeats, below, all_below, is_empty, option_or, flat_map-append}
 
 -- Tests.
 
@@ -347,3 +347,51 @@ sum_by_within f [] ys once within = omega arith
 sum_by_within {X} f (x ∷ xs) ys once within = let (before, after, e) = split_at x ys (within x (inl refl)) in
     let others : (z : X) → IsIn z xs → IsIn z (before ++ after) = λ z i. in_others x z before after (λ same. once.0 (subst (λ w. IsIn w xs) same i)) (subst (λ zs. IsIn z zs) e (within z (inr i))) in
     grind (arith, sum_by-append, sum_by-cons, (sum_by_within f xs (before ++ after) once.1 others))
+
+-- Maps of maps
+
+-- where two functions agree on the elements
+pub flat_map_same_in : {X Y : Type 0} (f g : X → List Y) (xs : List X) → ((x : X) → IsIn x xs → f x ≡ g x) → flat_map f xs ≡ flat_map g xs
+flat_map_same_in f g [] same = refl
+flat_map_same_in f g (x ∷ xs) same = ap₂ (λ ys zs. ys ++ zs) (same x (inl refl)) (flat_map_same_in f g xs (λ y i. same y (inr i)))
+
+pub map_same_in : {X Y : Type 0} (f g : X → Y) (xs : List X) → ((x : X) → IsIn x xs → f x ≡ g x) → map f xs ≡ map g xs
+map_same_in f g [] same = refl
+map_same_in f g (x ∷ xs) same = ap₂ (λ y ys. y ∷ ys) (same x (inl refl)) (map_same_in f g xs (λ y i. same y (inr i)))
+
+-- where two functions agree everywhere
+pub flat_map_same : {X Y : Type 0} (f g : X → List Y) (xs : List X) → ((x : X) → f x ≡ g x) → flat_map f xs ≡ flat_map g xs
+flat_map_same f g xs same = flat_map_same_in f g xs (λ x i. same x)
+
+pub map-map : {X Y Z : Type 0} (f : Y → Z) (g : X → Y) (xs : List X) → map f (map g xs) ≡ map (λ x. f (g x)) xs
+map-map f g [] = refl
+map-map f g (x ∷ xs) = ap (λ ys. f (g x) ∷ ys) (map-map f g xs)
+
+pub map-flat_map : {X Y Z : Type 0} (f : Y → Z) (g : X → List Y) (xs : List X) → map f (flat_map g xs) ≡ flat_map (λ x. map f (g x)) xs
+map-flat_map f g [] = refl
+map-flat_map f g (x ∷ xs) = map-append f (g x) (flat_map g xs) ∙ ap (λ ys. map f (g x) ++ ys) (map-flat_map f g xs)
+
+pub flat_map_none : {X Y : Type 0} (f : X → List Y) (xs : List X) → ((x : X) → f x ≡ []) → flat_map f xs ≡ []
+flat_map_none f [] none = refl
+flat_map_none f (x ∷ xs) none = ap₂ (λ ys zs. ys ++ zs) (none x) (flat_map_none f xs none)
+
+-- Numbers below a bound, row by row.
+
+-- a table with one more row
+pub flat_map_row : {Y : Type 0} (f : ℕ → List Y) (n : ℕ) → flat_map f (below (suc n)) ≡ flat_map f (below n) ++ f n
+flat_map_row f n = flat_map-append f (below n) (n ∷ []) ∙ ap (λ ys. flat_map f (below n) ++ ys) (append-nil (f n))
+
+below_add : (m n : ℕ) → below (m + n) ≡ below m ++ map (λ j. m + j) (below n)
+below_add m zero = let same : m + 0 ≡ m = omega arith in ap below same ∙ sym (append-nil (below m))
+below_add m (suc n) =
+    let more : m + suc n ≡ suc (m + n) = omega arith in
+    ap below more ∙ ap (λ xs. xs ++ (m + n) ∷ []) (below_add m n) ∙ append_assoc (below m) (map (λ j. m + j) (below n)) ((m + n) ∷ [])
+    ∙ ap (λ ys. below m ++ ys) (sym (map_push (λ j. m + j) (below n) n))
+
+-- a map over the numbers below a product
+pub map_rows : {X : Type 0} (f : ℕ → X) (a b : ℕ) → map f (below (a * b)) ≡ flat_map (λ i. map (λ j. f (i * b + j)) (below b)) (below a)
+map_rows f zero b = let none : 0 * b ≡ 0 = omega arith in ap (λ n. map f (below n)) none
+map_rows f (suc a) b =
+    let more : suc a * b ≡ a * b + b = omega arith in
+    ap (λ n. map f (below n)) more ∙ ap (map f) (below_add (a * b) b) ∙ map-append f (below (a * b)) (map (λ j. a * b + j) (below b))
+    ∙ ap₂ (λ xs ys. xs ++ ys) (map_rows f a b) (map-map f (λ j. a * b + j) (below b)) ∙ sym (flat_map_row (λ i. map (λ j. f (i * b + j)) (below b)) a)

@@ -1,8 +1,7 @@
 -- Records built from tests: their steps are exactly those that pass, their numbers are in range, and equal tests build equal records.
 use Rattle.roman_model.proofs.Common.{◌≡◌, ℕ, ◌<◌, ◌≤◌, ◌==◌, Bool, ◌&&◌, IsTrue, List, [], ◌∷◌, filter, ap, ap₂, inl, inr, refl, arith, eq-eqb, eqb-true, and_from, IsIn, below, Env, has, has_triple, has_move, IsEnv, IsBeh, is_final, Move, Triple, MAX_ACTIONS, MAX_STATES, env_from, guarded_step, beh_from}
 use Rattle.roman_model.proofs.SystemLemmas.{move_in, triple_in}
-use Rattle.roman_model.proofs.Lists.{any_true, any_from, in_map, from_map, in_flat_map, from_flat_map, in_filter, filter_in, in_below, from_below, filter_same}
-use Rattle.roman_model.proofs.ChangeLemmas.{flat_map_same_in}
+use Rattle.roman_model.proofs.Lists.{any_true, any_from, in_map, from_map, in_flat_map, from_flat_map, in_filter, filter_in, in_below, from_below, filter_same, flat_map_same_in}
 
 -- An environment's triples.
 

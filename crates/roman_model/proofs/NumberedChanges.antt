@@ -1,11 +1,11 @@
 -- Changes over the numbers of pairs: renaming and replay agree with those over pairs.
 use Rattle.roman_model.proofs.Common.{◌≡◌, ℕ, ◌+◌, ◌*◌, ◌<◌, ◌==◌, Bool, true, false, List, [], ◌∷◌, map, length, filter, flat_map, Some, if◌then◌else◌, slice_get, refl, sym, ap, ap₂, ◌∙◌, subst, inl, inr, arith, list_any, cond-true, length-map, flat_map-map, mul-add-lt, slice_get_within, IsIn, below, Seat, Sys, Pair, IsSys, is_allowed, same_pair, arena, Entry, IsOrder, replay, Freeze, Thaw, Join, Die, grown, without, may_go, firsts, entry_without, rename, after, Change, grown_entries, CanChange, KeepsAll, RenamedReplays, Sizes, sizes_of, grown_sizes, sizes_without, count, pair_at, numbered, entry_at, number_without, grown_numbers, number_entry_without, first_numbers, rename_numbers}
-use Rattle.roman_model.proofs.Lists.{by_test, any_same, list_any-map, from_map, from_flat_map, filter_in, from_below, sublist_in, filter-map}
+use Rattle.roman_model.proofs.Lists.{by_test, any_same, list_any-map, from_map, from_flat_map, filter_in, from_below, sublist_in, filter-map, flat_map_same_in, map_same_in, map-map, map-flat_map}
 use Rattle.roman_model.proofs.OrderLemmas.{replay_whole, replay_sublist}
 use Rattle.roman_model.proofs.NumberLemmas.{IsPairOf-at, number_below, pair_at-grown, count-grown, number_without-is, pair_at-without, IsPairOf-without}
 use Rattle.roman_model.proofs.Renames.{order_named, replay_renamed}
 use Rattle.roman_model.proofs.NumberedArena.{same_at, IsNumber, AreNumbers, numbers_rename, entries_at, order_at}
-use Rattle.roman_model.proofs.ChangeLemmas.{flat_map_same_in, map_same_in, map-map, map-flat_map, sizes-turned, sizes-joined, sizes-left, turned}
+use Rattle.roman_model.proofs.ChangeLemmas.{sizes-turned, sizes-joined, sizes-left, turned}
 use Rattle.roman_model.proofs.ChangeLaws.{renaming_keeps}
 
 -- the entry of a pair, from the sizes alone

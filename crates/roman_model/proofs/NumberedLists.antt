@@ -1,7 +1,7 @@
 -- Removal lists over the numbers of pairs: the laws of their arena, complete lists, and counts of pairs.
-use Rattle.roman_model.proofs.Common.{◌≡◌, ℕ, ◌+◌, ◌<◌, not, List, [], map, length, IsFalse, filter, sum_by, refl, sym, ◌∙◌, subst, arith, rules, both_ways, eqb-true, eq-eqb, not-false, length-map, IsIn, HasNoRepeats, below, Sys, Pair, IsSys, IsPair, pairs, outcomes, arena, Entry, is_listed, is_justified, mask, IsOrder, loses, choices, IsComplete, sizes_of, count, number, pair_at, numbered, entry_at, IsCompleteList, is_related, offers, choice_count, Reason, Final, Act, length-filter_both}
-use Rattle.roman_model.proofs.Lists.{in_map, from_map, in_filter, filter_in, in_below, from_below, length-below, same_length, sum_by-map, sum_by_same, sum_by_within, HasNoRepeats-map, HasNoRepeats-filter, HasNoRepeats-below}
-use Rattle.roman_model.proofs.SystemLemmas.{in_pairs, from_pairs, pairs_once, outcome_pair}
+use Rattle.roman_model.proofs.Common.{◌≡◌, ℕ, ◌+◌, ◌<◌, not, List, [], map, length, IsFalse, filter, sum_by, refl, sym, ap, ◌∙◌, subst, arith, rules, both_ways, eqb-true, eq-eqb, not-false, length-map, IsIn, below, Sys, Pair, IsSys, IsPair, pairs, outcomes, arena, Entry, is_listed, is_justified, mask, IsOrder, loses, choices, IsComplete, sizes_of, count, number, pair_at, numbered, entry_at, IsCompleteList, is_related, offers, choice_count, Reason, Final, Act, length-filter_both}
+use Rattle.roman_model.proofs.Lists.{in_map, from_map, in_filter, filter_in, in_below, from_below, length-below, same_length, sum_by-map, sum_by_same, HasNoRepeats-filter, HasNoRepeats-below}
+use Rattle.roman_model.proofs.SystemLemmas.{in_pairs, from_pairs, pairs_at, pairs_once, outcome_pair}
 use Rattle.roman_model.proofs.ArenaLemmas.{IsSame, IsArena, in_listed, listed_in, mask_empty, mask_same}
 use Rattle.roman_model.proofs.OrderLemmas.{order_new, new_once}
 use Rattle.roman_model.proofs.CompositionLemmas.{system_is_same, system_is_arena, complete_listed, order_completed}
@@ -62,30 +62,13 @@ numbered_loses s n i ok l = loses_renamed (numbered s) (arena s) (pair_at (sizes
 
 -- Counts.
 
--- the pairs of the numbers below the count
-abbrev pub numbered_pairs : Sys → List Pair
-numbered_pairs s = map (pair_at (sizes_of s)) (below (count (sizes_of s)))
-
-pub numbered_pairs_once : (s : Sys) → HasNoRepeats (numbered_pairs s)
-numbered_pairs_once s = grind (arith, (HasNoRepeats-below (count (sizes_of s))), HasNoRepeats-map, from_below, (numbers_are_pairs s))
-
-pub in_numbered_pairs : (s : Sys) (p : Pair) → IsIn p (pairs s) → IsIn p (numbered_pairs s)
-in_numbered_pairs s p i =
-    let pair : IsPair s p = from_pairs s p i in
-    grind (arith, (numbered_pairs s), (numbers_are_pairs s), in_map, (in_below (count (sizes_of s)) (number (sizes_of s) p) ((numbers_are_pairs s).below p pair)))
-
-pub from_numbered_pairs : (s : Sys) (p : Pair) → IsIn p (numbered_pairs s) → IsIn p (pairs s)
-from_numbered_pairs s p i = grind (arith, from_below, from_map, in_pairs, (numbers_are_pairs s))
-
 -- there are as many pairs as numbers below the count
 pub length-pairs : (s : Sys) → length (pairs s) ≡ count (sizes_of s)
-length-pairs s =
-    same_length (pairs s) (numbered_pairs s) (pairs_once s) (numbered_pairs_once s) (λ p. (in_numbered_pairs s p, from_numbered_pairs s p))
-    ∙ length-map (below (count (sizes_of s))) (pair_at (sizes_of s)) ∙ length-below (count (sizes_of s))
+length-pairs s = ap length (pairs_at s) ∙ length-map (below (count (sizes_of s))) (pair_at (sizes_of s)) ∙ length-below (count (sizes_of s))
 
 -- a sum over the pairs equals the sum over their numbers
 pub sum_over_pairs : (s : Sys) (g : Pair → ℕ) → sum_by g (pairs s) ≡ sum_by (λ i. g (pair_at (sizes_of s) i)) (below (count (sizes_of s)))
-sum_over_pairs s g = grind (arith, (sum_by-map g (pair_at (sizes_of s)) (below (count (sizes_of s)))), (sum_by_within g (pairs s) (numbered_pairs s) (pairs_once s) (in_numbered_pairs s)), (sum_by_within g (numbered_pairs s) (pairs s) (numbered_pairs_once s) (from_numbered_pairs s)))
+sum_over_pairs s g = ap (sum_by g) (pairs_at s) ∙ sum_by-map g (pair_at (sizes_of s)) (below (count (sizes_of s)))
 
 -- the masks of a complete list over numbers have as many choices as the offers
 pub numbered_choices : (s : Sys) (L : List (Entry ℕ)) → IsSys s → AreNumbers s L → IsCompleteList s L → choices (numbered s) (is_listed (numbered s) L) ≡ choice_count s

@@ -1,8 +1,8 @@
 -- Lemmas on the pairs of a system, its steps and outcomes.
-use Rattle.roman_model.proofs.Common.{◌≡◌, ℕ, ◌<◌, ◌==◌, not, ◌&&◌, List, [], ◌∷◌, map, length, Option, Some, None, IsTrue, IsFalse, flat_map, slice_get, slice_index, slice_set, inl, inr, refl, sym, ap, ◌∙◌, subst, arith, rules, AllZip, false≢true, and_parts, and_from, not-true, not_from_false, eqb-true, eq-eqb, cond-true, cond-false, slice_get_within, IsIn, HasNoRepeats, below, is_empty, Env, Beh, Seat, Sys, Pair, has, has_triple, has_move, IsEnv, IsBeh, IsSys, IsPair, SStep, Move, TStep, Allows, pairs, env_next, beh_next, seat_next, outcomes_by, outcomes, is_allowed, same_numbers, same_pair, combinations, env_prev, beh_prev, is_ready}
-use Rattle.roman_model.proofs.NumberLemmas.{AreBelow-set, below_states, size_at, states_below}
+use Rattle.roman_model.proofs.Common.{◌≡◌, ℕ, ◌<◌, ◌==◌, not, ◌&&◌, List, [], ◌∷◌, map, length, Option, Some, None, IsTrue, IsFalse, flat_map, slice_get, slice_index, slice_set, refl, sym, ap, ap₂, ◌∙◌, subst, arith, rules, ◌+◌, ◌*◌, AllZip, false≢true, and_parts, and_from, not-true, not_from_false, eqb-true, eq-eqb, cond-true, cond-false, slice_get_within, IsIn, HasNoRepeats, below, is_empty, product_of, Env, Beh, Seat, Sys, Pair, has, has_triple, has_move, IsEnv, IsBeh, IsSys, IsPair, SStep, Move, TStep, Allows, pairs, env_next, beh_next, seat_next, outcomes_by, outcomes, is_allowed, same_numbers, same_pair, combinations, env_prev, beh_prev, is_ready, states_at, sizes_of, count, pair_at, number, Sizes, div-mul-add, mod-mul-add}
+use Rattle.roman_model.proofs.NumberLemmas.{AreBelow-at, numbers_are_pairs, pair_at-number, states_number-at, AreBelow-set, below_states, size_at, states_below}
 use Rattle.roman_model.proofs.Places.{get_in}
-use Rattle.roman_model.proofs.Lists.{by_test, in_map, from_map, in_flat_map, from_flat_map, in_filter, filter_in, any_true, any_from, in_not_empty, not_empty_in, in_below, from_below, HasNoRepeats-map, HasNoRepeats-flat_map, HasNoRepeats-below}
+use Rattle.roman_model.proofs.Lists.{flat_map_same, flat_map_same_in, map-map, map_same_in, map_rows, by_test, in_map, from_map, in_flat_map, from_flat_map, in_filter, filter_in, any_true, any_from, in_not_empty, not_empty_in, in_below, from_below, HasNoRepeats-map, HasNoRepeats-below}
 
 -- Membership of numbers.
 
@@ -33,72 +33,55 @@ same_pair_is p q h = grind (arith, eqb-true, pair_path, same_numbers_is)
 pub same_pair_from : (p q : Pair) → p ≡ q → IsTrue (same_pair p q)
 same_pair_from p q e = grind (arith, and_from, eq-eqb, same_numbers_itself)
 
--- The pairs of a system.
+-- The pairs of a system, in the order of their numbers.
 
-pub in_combinations : (seats : List Seat) (bs : List ℕ) → AllZip (λ seat b. b < seat.beh.states) seats bs → IsIn bs (combinations seats)
-in_combinations [] [] h = inl refl
-in_combinations [] (b ∷ bs) h = absurd h
-in_combinations (seat ∷ seats) [] h = absurd h
-in_combinations (seat ∷ seats) (b ∷ bs) h =
-    in_flat_map (λ c. map (λ cs. c ∷ cs) (combinations seats)) b (b ∷ bs) (below seat.beh.states) (in_below seat.beh.states b h.0)
-    (in_map (λ cs. b ∷ cs) bs (combinations seats) (in_combinations seats bs h.1))
+combinations_at : (seats : List Seat) → combinations seats ≡ map (states_at (map (λ seat. seat.beh.states) seats)) (below (product_of (map (λ seat. seat.beh.states) seats)))
+combinations_at [] = refl
+combinations_at (seat ∷ seats) =
+    let sizes : List ℕ = map (λ seat. seat.beh.states) seats in
+    flat_map_same (λ b. map (λ bs. b ∷ bs) (combinations seats)) (λ b. map (λ j. states_at (seat.beh.states ∷ sizes) (b * product_of sizes + j)) (below (product_of sizes))) (below seat.beh.states)
+    (λ b. ap (map (λ bs. b ∷ bs)) (combinations_at seats) ∙ map-map (λ bs. b ∷ bs) (states_at sizes) (below (product_of sizes))
+    ∙ map_same_in (λ j. b ∷ states_at sizes j) (λ j. states_at (seat.beh.states ∷ sizes) (b * product_of sizes + j)) (below (product_of sizes)) (λ j i. let l : j < product_of sizes = from_below (product_of sizes) j i in
+    ap₂ (λ c bs. c ∷ bs) (sym (div-mul-add b (product_of sizes) j l)) (ap (states_at sizes) (sym (mod-mul-add b (product_of sizes) j l)))))
+    ∙ sym (map_rows (states_at (seat.beh.states ∷ sizes)) seat.beh.states (product_of sizes))
 
-pub from_combinations : (seats : List Seat) (bs : List ℕ) → IsIn bs (combinations seats) → AllZip (λ seat b. b < seat.beh.states) seats bs
-from_combinations [] bs (inl e) = subst (λ cs. AllZip (λ (seat : Seat) (b : ℕ). b < seat.beh.states) [] cs) (sym e) tt
-from_combinations [] bs (inr i) = absurd i
-from_combinations (seat ∷ seats) bs i =
-    let (b, j, k) = from_flat_map (λ c. map (λ cs. c ∷ cs) (combinations seats)) bs (below seat.beh.states) i in
-    let (cs, l, e) = from_map (λ ds. b ∷ ds) bs (combinations seats) k in
-    subst (λ ds. AllZip (λ (seat : Seat) (b : ℕ). b < seat.beh.states) (seat ∷ seats) ds) (sym e) (from_below seat.beh.states b j, from_combinations seats cs l)
+pub pairs_at : (s : Sys) → pairs s ≡ map (pair_at (sizes_of s)) (below (count (sizes_of s)))
+pairs_at s =
+    flat_map_same_in (λ t. flat_map (λ e. map (λ bs. record { t = t; e = e; bs = bs }) (combinations s.seats)) (below s.env.states)) (λ t. map (λ j. pair_at n (t * (s.env.states * rest) + j)) (below (s.env.states * rest)))
+    (below s.target.states)
+    (λ t i. flat_map_same_in (λ e. map (λ bs. record { t = t; e = e; bs = bs }) (combinations s.seats)) (λ e. map (λ j. pair_at n (t * (s.env.states * rest) + (e * rest + j))) (below rest)) (below s.env.states)
+    (λ e k. ap (map (λ bs. record { t = t; e = e; bs = bs })) (combinations_at s.seats) ∙ map-map (λ bs. record { t = t; e = e; bs = bs }) (states_at n.seats) (below rest)
+    ∙ map_same_in (λ j. record { t = t; e = e; bs = states_at n.seats j }) (λ j. pair_at n (t * (s.env.states * rest) + (e * rest + j))) (below rest)
+    (λ j l. is t e j (from_below s.target.states t i) (from_below s.env.states e k) (from_below rest j l)))
+    ∙ sym (map_rows (λ j. pair_at n (t * (s.env.states * rest) + j)) s.env.states rest))
+    ∙ sym (map_rows (pair_at n) s.target.states (s.env.states * rest)) ∙ ap (λ m. map (pair_at n) (below m)) whole
+  where
+    n : Sizes
+    n = sizes_of s
+
+    rest : ℕ
+    rest = product_of (sizes_of s).seats
+
+    whole : s.target.states * (s.env.states * rest) ≡ count (sizes_of s)
+    whole = omega arith
+
+    is : (t e j : ℕ) → t < s.target.states → e < s.env.states → j < rest → record { t = t; e = e; bs = states_at n.seats j } ≡ pair_at n (t * (s.env.states * rest) + (e * rest + j))
+    is t e j ht he hj =
+        let p : Pair = record { t = t; e = e; bs = states_at n.seats j } in
+        let same : number n p ≡ t * (s.env.states * rest) + (e * rest + j) = rw (states_number-at n.seats j hj) (omega arith) in
+        sym (pair_at-number n p (record { t = ht; e = he; bs = AreBelow-at n.seats j hj })) ∙ ap (pair_at n) same
 
 pub in_pairs : (s : Sys) (p : Pair) → IsPair s p → IsIn p (pairs s)
 in_pairs s p ok =
-    in_flat_map (λ t. flat_map (λ e. map (λ bs. record { t = t; e = e; bs = bs }) (combinations s.seats)) (below s.env.states)) p.t p
-    (below s.target.states) (in_below s.target.states p.t ok.t)
-    (in_flat_map (λ e. map (λ bs. record { t = p.t; e = e; bs = bs }) (combinations s.seats)) p.e p (below s.env.states) (in_below s.env.states p.e ok.e)
-    (in_map (λ bs. record { t = p.t; e = p.e; bs = bs }) p.bs (combinations s.seats) (in_combinations s.seats p.bs ok.bs)))
+    subst (λ q. IsIn q (pairs s)) ((numbers_are_pairs s).back p ok)
+    (subst (IsIn (pair_at (sizes_of s) (number (sizes_of s) p))) (sym (pairs_at s))
+    (in_map (pair_at (sizes_of s)) (number (sizes_of s) p) (below (count (sizes_of s))) (in_below (count (sizes_of s)) (number (sizes_of s) p) ((numbers_are_pairs s).below p ok))))
 
 pub from_pairs : (s : Sys) (p : Pair) → IsIn p (pairs s) → IsPair s p
-from_pairs s p i = grind (arith, from_below, from_combinations, from_flat_map, from_map)
-
-pub combinations_once : (seats : List Seat) → HasNoRepeats (combinations seats)
-combinations_once [] = (λ none. absurd none, tt)
-combinations_once (seat ∷ seats) = HasNoRepeats-flat_map (λ b. map (λ bs. b ∷ bs) (combinations seats)) (below seat.beh.states)
-    (λ b i. HasNoRepeats-map (λ bs. b ∷ bs) (combinations seats) (λ bs cs j k e. ap tail e) (combinations_once seats))
-    (λ b c bs i j k l.
-    let (cs, m, e) = from_map (λ ds. b ∷ ds) bs (combinations seats) k in
-    let (ds, n, f) = from_map (λ es. c ∷ es) bs (combinations seats) l in
-    grind arith)
-    (HasNoRepeats-below seat.beh.states)
-  where
-    head : List ℕ → ℕ
-    head [] = 0
-    head (b ∷ bs) = b
-
-    tail : List ℕ → List ℕ
-    tail [] = []
-    tail (b ∷ bs) = bs
+from_pairs s p i = grind (arith, (pairs_at s), from_below, from_map, (numbers_are_pairs s))
 
 pub pairs_once : (s : Sys) → HasNoRepeats (pairs s)
-pairs_once s = HasNoRepeats-flat_map of_target (below s.target.states)
-    (λ t i. HasNoRepeats-flat_map (of_both t) (below s.env.states)
-    (λ e j. HasNoRepeats-map (λ bs. record { t = t; e = e; bs = bs }) (combinations s.seats) (λ bs cs k l f. ap (λ p. p.bs) f) (combinations_once s.seats))
-    (λ e d p j k l m. sym (env_of t e p l) ∙ env_of t d p m)
-    (HasNoRepeats-below s.env.states))
-    (λ t u p i j k l. sym (target_of t p k) ∙ target_of u p l)
-    (HasNoRepeats-below s.target.states)
-  where
-    of_both : ℕ → ℕ → List Pair
-    of_both t e = map (λ bs. record { t = t; e = e; bs = bs }) (combinations s.seats)
-
-    of_target : ℕ → List Pair
-    of_target t = flat_map (of_both t) (below s.env.states)
-
-    env_of : (t e : ℕ) (p : Pair) → IsIn p (of_both t e) → p.e ≡ e
-    env_of t e p i = let (bs, j, f) = from_map (λ bs. record { t = t; e = e; bs = bs }) p (combinations s.seats) i in ap (λ q. q.e) f
-
-    target_of : (t : ℕ) (p : Pair) → IsIn p (of_target t) → p.t ≡ t
-    target_of t p i = grind (arith, from_flat_map, from_map)
+pairs_once s = grind (arith, (pairs_at s), (HasNoRepeats-below (count (sizes_of s))), HasNoRepeats-map, from_below, (numbers_are_pairs s))
 
 -- Triples and moves are in range.
 
