@@ -1,9 +1,11 @@
--- The effect of a change of the seats on systems, pairs, outcomes and removal lists.
-use Rattle.roman_model.proofs.Common.{length-append, ◌≡◌, ℕ, zero, suc, ◌<◌, ◌≤◌, Bool, true, not, ◌&&◌, ◌||◌, List, [], ◌∷◌, ◌++◌, map, length, Some, IsTrue, IsFalse, filter, flat_map, slice_get, slice_index, slice_set, remove, refl, sym, ap, ap₂, ◌∙◌, subst, inl, inr, arith, rules, length-take, length-drop, length-map, map-append, length_push, take-map, drop-map, same_from_push, IsPairOf, sizes_of, grown_sizes, sizes_without, AllZip-long, list_any, AllZip, cases_eq, both_ways, or_cases, or_left, or_right, cond-true, cond-false, flat_map-map, none-some, same_Some, slice_get_within, IsIn, HasNoRepeats, below, Beh, Seat, Sys, Pair, IsBeh, IsSys, IsPair, is_final, all_final, env_next, beh_next, seat_next, outcomes_by, outcomes, is_fine, same_pair, arena, Entry, is_among, is_beaten, is_justified, IsOrderFrom, AreNew, AreEntries, Join, Die, set_frozen, grown, without, may_go, firsts, entry_without, rename, MAX_SERVICES, Reason, Final, Act}
+-- The effect of a change of the seats on systems, pairs, outcomes and removal lists: the replay of a renamed list is a removal list.
+use Rattle.roman_model.proofs.Common.{length-append, ◌≡◌, ℕ, zero, suc, ◌<◌, ◌≤◌, Bool, true, not, ◌&&◌, ◌||◌, List, [], ◌∷◌, ◌++◌, map, length, Some, IsTrue, IsFalse, filter, flat_map, slice_get, slice_index, slice_set, remove, refl, sym, ap, ap₂, ◌∙◌, subst, inl, inr, arith, rules, length-take, length-drop, false, length-map, map-append, length_push, take-map, drop-map, same_from_push, IsPairOf, sizes_of, grown_sizes, sizes_without, AllZip-long, list_any, AllZip, cases_eq, both_ways, or_cases, or_left, or_right, cond-true, cond-false, flat_map-map, none-some, same_Some, slice_get_within, IsIn, HasNoRepeats, below, Beh, Seat, Sys, Pair, IsBeh, IsSys, IsPair, is_final, all_final, env_next, beh_next, seat_next, outcomes_by, outcomes, is_fine, same_pair, arena, Entry, is_among, is_beaten, is_justified, IsOrderFrom, AreNew, AreEntries, Join, Die, set_frozen, grown, without, may_go, firsts, entry_without, rename, Freeze, Thaw, RenamingKeeps, MAX_SERVICES, Reason, Final, Act}
 use Rattle.roman_model.proofs.NumberLemmas.{IsPair-from, IsPairOf-from, IsPairOf-grown, IsPairOf-without}
 use Rattle.roman_model.proofs.Lists.{flat_map_same, map-map, map-flat_map, flat_map_none, by_test, any_true, any_from, list_any-map, is_empty-map, from_push, in_map, from_map, from_flat_map, filter_in, from_below, HasNoRepeats-map, HasNoRepeats-flat_map, HasNoRepeats-below}
 use Rattle.roman_model.proofs.ArenaLemmas.{justified_by, justified_is}
 use Rattle.roman_model.proofs.SystemLemmas.{same_pair_is, same_pair_from, from_beh_next, from_env_next}
+use Rattle.roman_model.proofs.OrderLemmas.{order_new, new_once, replay_order, replay_whole}
+use Rattle.roman_model.proofs.CompositionLemmas.{system_is_same}
 
 -- Outcomes that are images of other outcomes
 
@@ -335,3 +337,11 @@ firsts_in seen (y ∷ L) x i = grind (arith, by_test, cond-true, (firsts_in seen
 
 pub die_entries : (s : Sys) (k : ℕ) (seat : Seat) (L : List (Entry Pair)) → AreEntries s L → AreEntries (left s k) (rename (Die k seat) L)
 die_entries s k seat L are x i = grind (arith, IsPair-without, filter_in, firsts_in, from_map)
+
+-- The replay of a renamed list
+
+pub renaming_keeps : RenamingKeeps
+renaming_keeps (Freeze k) s L ok can are order = search (rules, IsPair-turned, IsSys-turned, freeze_order, replay_whole, turned)
+renaming_keeps (Thaw k) s L ok can are order = grind (arith, IsPair-turned, (IsSys-turned s k false ok), (new_same s (turned s k false)), (order_new (arena s) L order), replay_order, (turned s k false))
+renaming_keeps (Join seat) s L ok can are order = grind (arith, (IsSys-joined s seat ok can.0 can.1), (join_entries s seat L are), join_once, (joined s seat), (new_from_once (joined s seat)), (new_once (arena s) (system_is_same s)), (order_new (arena s) L order), (replay_order (arena (joined s seat)) (rename (Join seat) L)), (system_is_same s))
+renaming_keeps (Die k seat) s L ok can are order = grind (arith, (IsSys-left s k ok), (die_entries s k seat L are), die_order, (left s k), replay_whole)

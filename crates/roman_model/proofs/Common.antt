@@ -5,7 +5,7 @@ pub use Rattle.std.proofs.Math.Nat.{le-max_left, le-max_right, max-le}
 pub use Rattle.std.proofs.lemmas.Bool.{and_cases, and_from, and_left, and_parts, both_ways, cases_eq, cases_lt, cases_order, cond-false, cond-true, eq-eqb, eqb-true, false≢true, leb-false, leb-true, lt-leb, lt-ltb, ltb-true, ne_eqb, not-false, not-true, not_from_false, not_from_true, or_cases, or_from, or_left, or_parts, or_right, true≢false}
 pub use Rattle.std.proofs.lemmas.Fmt.{decimal_by_steps, decimal_injective, decimal_nonempty, length-decimal-le}
 pub use Rattle.std.proofs.lemmas.Grind.{flat_map-append}
-pub use Rattle.std.proofs.lemmas.List.{drop-map, drop_all, drop_more, get_or-append-add, get_or-map, get_or_append_left, get_or_push, length-map, length_push, map-append, map_push, same_from_push, take-append-le, take-map, take_all, take_at}
+pub use Rattle.std.proofs.lemmas.List.{drop-map, drop_all, drop_more, get_or_append_left, get_or_push, length-map, length_push, map-append, map_push, same_from_push, take-append-le, take-map, take_all, take_at}
 pub use Rattle.std.proofs.lemmas.List.Concat.{length-flat_map}
 pub use Rattle.std.proofs.lemmas.List.Elements.{AllZip-get_or, filter-append, filter_map-append}
 pub use Rattle.std.proofs.lemmas.List.Filters.{length-filter_both}

@@ -1,9 +1,9 @@
--- A system as an arena, the greatest ND-simulation, and complete removal lists.
-use Rattle.roman_model.proofs.Common.{◌≡◌, ◌≢◌, ℕ, ◌<◌, Bool, not, List, [], map, length, IsTrue, IsFalse, filter, slice_set, refl, sym, subst, arith, rules, both_ways, or_cases, or_left, or_right, not-true, not-false, not_from_true, not_from_false, and_from, eq-eqb, slice_get_within, IsIn, Sys, Pair, IsSys, IsPair, SStep, is_final, all_final, pairs, outcomes, is_allowed, is_fine, arena, Entry, is_listed, is_justified, IsOrder, loses, Couple, couple, Serves, Meets, GreatCouple, Great, IsNdSim, AreEntries, IsComplete, OrderCompletes, is_related, Reason, Final, Act}
-use Rattle.roman_model.proofs.Lists.{by_test, same_test, in_map, from_map, in_filter, filter_in, ne_not_empty, not_empty_in, not_empty_ne, in_not_empty}
+-- A system as an arena, the greatest ND-simulation, complete removal lists, and the offers.
+use Rattle.roman_model.proofs.Common.{◌≡◌, ◌≢◌, ℕ, ◌<◌, Bool, not, List, [], map, length, IsTrue, IsFalse, filter, slice_set, refl, sym, subst, arith, rules, zero, suc, ◌+◌, ◌≤◌, ◌&&◌, ◌∷◌, ◌++◌, flat_map, append_assoc, append-nil, length-append, both_ways, or_cases, or_left, or_right, not-true, not-false, not_from_true, not_from_false, and_from, eq-eqb, or_from, and_parts, slice_get_within, IsIn, Sys, Pair, IsSys, IsPair, SStep, is_final, all_final, pairs, outcomes, is_allowed, is_fine, arena, Entry, is_listed, is_justified, IsOrder, loses, mask, Couple, couple, Serves, Meets, GreatCouple, Great, IsNdSim, AreEntries, IsComplete, OrderCompletes, is_related, offers, OffersAreGenerator, Reason, Final, Act, reasons, list_any}
+use Rattle.roman_model.proofs.Lists.{by_test, same_test, in_map, from_map, in_filter, filter_in, ne_not_empty, not_empty_in, not_empty_ne, in_not_empty, none_from, any_true, any_false, in_flat_map, from_flat_map, from_push}
 use Rattle.roman_model.proofs.SystemLemmas.{same_pair_is, in_pairs, from_pairs, pairs_once, outcome_in, from_outcome, outcome_seat, outcome_pair, allowed_in, from_allowed, allowed_in_range, same_numbers_itself}
-use Rattle.roman_model.proofs.ArenaLemmas.{IsSame, IsArena, Survives, survives_more, survivor_within, mask_not_empty, unallowed_unjustified}
-use Rattle.roman_model.proofs.OrderLemmas.{listed_dead}
+use Rattle.roman_model.proofs.ArenaLemmas.{IsSame, IsArena, Survives, survives_more, survivor_within, mask_not_empty, unallowed_unjustified, unbeaten_is, in_mask, from_mask, mask_same, reason_in}
+use Rattle.roman_model.proofs.OrderLemmas.{listed_dead, order_push, order_fits}
 use Rattle.roman_model.proofs.DepthLemmas.{lost_dead, unlost_survives}
 
 -- The arena of a system.
@@ -166,3 +166,90 @@ pub complete_listed : (s : Sys) (L : List (Entry Pair)) (p : Pair) → IsSys s �
 complete_listed s L p ok complete pair = same_test (is_listed (arena s) L p) (not (is_related s p))
     (λ t. by_test (is_related s p) (λ r. absurd ((complete.exact p pair).0 t (related_great s p ok pair r))) (λ f. not_from_false (is_related s p) f))
     (λ t. (complete.exact p pair).1 (λ great. both_ways (is_related s p) (not-true (is_related s p) t) (great_related s p ok great)))
+
+-- The offers, and the pairs to which they lead.
+
+-- an offered seat has an outcome, and its outcomes are related
+pub offer_is : (s : Sys) (p : Pair) (a k : ℕ) → IsSys s → IsPair s p → IsIn k (offers s p a) →
+    IsTrue (is_allowed s p a) × (k < length s.seats) × (outcomes s p a k ≢ []) × ((q : Pair) → IsIn q (outcomes s p a k) → Great s q)
+offer_is s p a k ok pair i =
+    let (allowed, l, unbeaten) = from_mask (arena s) (λ q. not (is_related s q)) p a k i in
+    let (some, all) = unbeaten_is (arena s) (λ q. not (is_related s q)) p a k unbeaten in
+    (allowed, l, some, λ q j. related_great s q ok (outcome_pair s p a k q ok pair j) (not-false (is_related s q) (all q j)))
+
+pub in_offers : (s : Sys) (p : Pair) (a k : ℕ) → IsSys s → IsTrue (is_allowed s p a) → k < length s.seats → outcomes s p a k ≢ [] →
+    ((q : Pair) → IsIn q (outcomes s p a k) → Great s q) → IsIn k (offers s p a)
+in_offers s p a k ok allowed l some all = search (rules, great_related, in_mask, not_from_true, ne_not_empty, none_from, or_from)
+
+-- the masks of a complete list are the offers
+pub mask_is_offers : (s : Sys) (L : List (Entry Pair)) (p : Pair) (a : ℕ) → IsSys s → IsComplete s L → IsPair s p → mask (arena s) (is_listed (arena s) L) p a ≡ offers s p a
+mask_is_offers s L p a ok complete pair = search (rules, complete_listed, mask_same, outcome_pair)
+
+-- The offers are those of the orchestrator generator.
+pub offers_are : OffersAreGenerator
+offers_are s ok = record {
+  related = λ p pair. (related_great s p ok pair, great_related s p ok);
+  offered = λ p pair a allowed k. (
+    λ i.
+        let (allows, l, some, all) = offer_is s p a k ok pair i in
+        (l, outcomes_serve s (GreatCouple s) p a k ok some all),
+    λ h. grind (arith, (serves_outcomes s (GreatCouple s) p a k ok allowed h.1), in_offers),
+  );
+  masked = λ L complete p pair a. mask_is_offers s L p a ok complete pair;
+}
+
+-- at a related pair each allowed action has an offer
+pub related_offers : (s : Sys) (p : Pair) (a : ℕ) → IsSys s → Great s p → IsTrue (is_allowed s p a) → offers s p a ≢ []
+related_offers s p a ok great allowed =
+    let (k, l, some, all) = (great_survives s p ok great).served a allowed in
+    not_empty_ne (offers s p a) (in_not_empty k (offers s p a) (in_offers s p a k ok allowed l some all))
+
+-- Every removal list can be extended to a complete one.
+
+-- the entries of a pair with each reason
+abbrev with_reasons : Sys → Pair → List (Entry Pair)
+with_reasons s p = map (λ r. record { node = p; reason = r }) (reasons s.env.actions)
+
+-- all possible entries
+abbrev possible : Sys → List (Entry Pair)
+possible s = flat_map (with_reasons s) (pairs s)
+
+-- the entry can follow at the end of the list
+abbrev can_follow : Sys → List (Entry Pair) → Entry Pair → Bool
+can_follow s L x = not (is_listed (arena s) L x.node) && is_justified (arena s) (is_listed (arena s) L) x.node x.reason
+
+in_possible : (s : Sys) (p : Pair) (r : Reason) → IsPair s p → IsIn r (reasons s.env.actions) → IsIn (record { node = p; reason = r }) (possible s)
+in_possible s p r pair i = in_flat_map (with_reasons s) p (record { node = p; reason = r }) (pairs s) (in_pairs s p pair) (in_map (λ r. record { node = p; reason = r }) r (reasons s.env.actions) i)
+
+-- a list that no entry can follow is complete
+last_complete : (s : Sys) (L : List (Entry Pair)) → IsSys s → AreEntries s L → IsOrder (arena s) L → IsFalse (list_any (can_follow s L) (possible s)) → IsComplete s L
+last_complete s L ok entries order none = completed_by s L ok entries order no_reason
+  where
+    no_reason : (p : Pair) → IsPair s p → IsFalse (is_listed (arena s) L p) → (r : Reason) → IsFalse (is_justified (arena s) (is_listed (arena s) L) p r)
+    no_reason p pair unlisted r = by_test (is_justified (arena s) (is_listed (arena s) L) p r)
+        (λ t. absurd (both_ways (can_follow s L (record { node = p; reason = r }))
+        (any_false (can_follow s L) (record { node = p; reason = r }) (possible s) none (in_possible s p r pair (reason_in (arena s) (system_is_arena s ok) (is_listed (arena s) L) p r t)))
+        (and_from (not (is_listed (arena s) L p)) (is_justified (arena s) (is_listed (arena s) L) p r) (not_from_false (is_listed (arena s) L p) unlisted) t)))
+        (λ f. f)
+
+-- a removal list with one more entry that can follow
+record Longer (s : Sys) (L : List (Entry Pair)) : Type 0 where
+  entry : Entry Pair
+  pairs : AreEntries s (L ++ entry ∷ [])
+  order : IsOrder (arena s) (L ++ entry ∷ [])
+
+one_more : (s : Sys) (L : List (Entry Pair)) → AreEntries s L → IsOrder (arena s) L → IsTrue (list_any (can_follow s L) (possible s)) → Longer s L
+one_more s L entries order some = grind (arith, and_parts, any_true, from_push, not-true, order_push, from_flat_map, from_map, from_pairs)
+
+-- entries can be added until no entry can follow
+complete_within : (s : Sys) (n : ℕ) (L : List (Entry Pair)) → IsSys s → AreEntries s L → IsOrder (arena s) L → length (pairs s) ≤ length L + n → (M : List (Entry Pair)) × IsComplete s (L ++ M)
+complete_within s zero L ok entries order enough = by_test (list_any (can_follow s L) (possible s))
+    (λ some. grind (arith, (one_more s L entries order some), order_fits, (system_is_same s), in_pairs, length-append))
+    (λ none. ([], subst (IsComplete s) (sym (append-nil L)) (last_complete s L ok entries order none)))
+complete_within s (suc n) L ok entries order enough = by_test (list_any (can_follow s L) (possible s))
+    (λ some. grind (arith, (one_more s L entries order some), length-append, append_assoc, (complete_within s n)))
+    (λ none. ([], subst (IsComplete s) (sym (append-nil L)) (last_complete s L ok entries order none)))
+
+-- every removal list can be extended to a complete one
+pub order_goes_on : (s : Sys) (L : List (Entry Pair)) → IsSys s → AreEntries s L → IsOrder (arena s) L → (M : List (Entry Pair)) × IsComplete s (L ++ M)
+order_goes_on s L ok entries order = complete_within s (length (pairs s)) L ok entries order (omega arith)

@@ -3,8 +3,7 @@ use Rattle.roman_model.proofs.Common.{cases_eq, false≢true, both_ways, or_case
 use Rattle.roman_model.proofs.Lists.{by_test, same_test, any_true, any_from, any_within, in_append_right, in_flat_map, from_flat_map, in_filter, filter_in, in_below, find_some, find_found, split_at}
 use Rattle.roman_model.proofs.ArenaLemmas.{IsSame, IsArena, among_in, listed_in, beaten_is, beaten_none, beaten_by, justified_is, justified_by}
 use Rattle.roman_model.proofs.CompositionLemmas.{system_is_same, system_is_arena}
-use Rattle.roman_model.proofs.OrderLemmas.{order_push}
-use Rattle.roman_model.proofs.WorkLemmas.{order_middle}
+use Rattle.roman_model.proofs.OrderLemmas.{order_push, order_middle}
 
 -- Entries before a node
 

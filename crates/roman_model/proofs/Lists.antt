@@ -1,5 +1,5 @@
--- Lemmas on lists and their elements, on numbers below a bound, and on tests.
-use Rattle.roman_model.proofs.Common.{◌≡◌, ◌≢◌, ℕ, zero, suc, ◌+◌, ◌<◌, ◌≤◌, Bool, true, false, cond, ◌&&◌, ◌||◌, ◌⊎◌, List, [], ◌∷◌, ◌++◌, map, length, get_or, Option, Some, None, IsTrue, IsFalse, filter, find, flat_map, sum_by, inl, inr, refl, sym, ap, ap₂, ◌∙◌, subst, arith, add-one, length-append, ◌↔◌, rules, Contains, ◌*◌, append-nil, append_assoc, list_any, false≢true, both_ways, or_cases, or_parts, or_left, or_right, or_from, and_from, cond-true, cases_eq, cases_order, true≢false, length_push, get_or_push, get_or_append_left, map_push, map-append, sum_by-append, sum_by-cons, list_any-append, find-append, filter-append, none-some, same_Some, IsIn, IsSublist, HasNoRepeats, below, all_below, is_empty, option_or, flat_map-append}
+-- Lemmas on lists, their elements and places, on numbers below a bound, and on tests.
+use Rattle.roman_model.proofs.Common.{◌≡◌, ◌≢◌, ℕ, zero, suc, ◌+◌, ◌<◌, ◌≤◌, Bool, true, false, cond, ◌&&◌, ◌||◌, ◌⊎◌, List, [], ◌∷◌, ◌++◌, map, length, get_or, Option, Some, None, IsTrue, IsFalse, filter, find, flat_map, sum_by, inl, inr, refl, sym, ap, ap₂, ◌∙◌, subst, arith, add-one, length-append, ◌↔◌, rules, Contains, ◌*◌, append-nil, append_assoc, drop, slice_get, slice_index, slice_set, drop-cons, list_any, false≢true, both_ways, or_cases, or_parts, or_left, or_right, or_from, and_from, cond-true, cases_eq, cases_order, true≢false, length_push, get_or_push, get_or_append_left, map_push, map-append, length-map, drop_all, sum_by-append, sum_by-cons, list_any-append, find-append, filter-append, none-some, same_Some, IsIn, IsSublist, HasNoRepeats, below, all_below, is_empty, option_or, flat_map-append}
 
 -- Tests.
 
@@ -395,3 +395,63 @@ map_rows f (suc a) b =
     let more : suc a * b ≡ a * b + b = omega arith in
     ap (λ n. map f (below n)) more ∙ ap (map f) (below_add (a * b) b) ∙ map-append f (below (a * b)) (map (λ j. a * b + j) (below b))
     ∙ ap₂ (λ xs ys. xs ++ ys) (map_rows f a b) (map-map f (λ j. a * b + j) (below b)) ∙ sym (flat_map_row (λ i. map (λ j. f (i * b + j)) (below b)) a)
+
+-- The items of a list at their places.
+
+-- there is an item at each place of the list
+pub there_is : {X : Type 0} (xs : List X) (k : ℕ) → k < length xs → (x : X) × (slice_get xs k ≡ Some x)
+there_is [] k l = absurd (omega arith)
+there_is (x ∷ xs) zero l = (x, refl)
+there_is (x ∷ xs) (suc k) l = there_is xs k (omega arith)
+
+pub get_in : {X : Type 0} (xs : List X) (k : ℕ) (x : X) → slice_get xs k ≡ Some x → IsIn x xs
+get_in [] k x e = absurd (none-some x e)
+get_in (y ∷ xs) zero x e = inl (sym (same_Some y x e))
+get_in (y ∷ xs) (suc k) x e = inr (get_in xs k x e)
+
+pub in_get : {X : Type 0} (xs : List X) (x : X) → IsIn x xs → (k : ℕ) × (slice_get xs k ≡ Some x)
+in_get [] x i = absurd i
+in_get (y ∷ xs) x (inl e) = (0, ap Some (sym e))
+in_get (y ∷ xs) x (inr i) = let (k, e) = in_get xs x i in (suc k, e)
+
+pub from_get_map : {X Y : Type 0} (f : X → Y) (xs : List X) (k : ℕ) (y : Y) → slice_get (map f xs) k ≡ Some y → (x : X) × (slice_get xs k ≡ Some x) × (y ≡ f x)
+from_get_map f [] k y e = absurd (none-some y e)
+from_get_map f (x ∷ xs) zero y e = (x, refl, sym (same_Some (f x) y e))
+from_get_map f (x ∷ xs) (suc k) y e = from_get_map f xs k y e
+
+pub get_map : {X Y : Type 0} (f : X → Y) (xs : List X) (k : ℕ) (x : X) → slice_get xs k ≡ Some x → slice_get (map f xs) k ≡ Some (f x)
+get_map f [] k x e = absurd (none-some x e)
+get_map f (y ∷ xs) zero x e = ap (λ z. Some (f z)) (same_Some y x e)
+get_map f (y ∷ xs) (suc k) x e = get_map f xs k x e
+
+pub index_set : (bs : List ℕ) (k b : ℕ) → k < length bs → slice_index (slice_set bs k b) k ≡ b
+index_set [] k b l = absurd (omega arith)
+index_set (c ∷ bs) zero b l = refl
+index_set (c ∷ bs) (suc k) b l = index_set bs k b (omega arith)
+
+-- the numbers from k on
+pub from_place : (n k : ℕ) → k < n → drop k (below n) ≡ k ∷ drop (k + 1) (below n)
+from_place n k l = grind (arith, (length-below n), drop-cons, (get_or-below n k 0 l), (add-one k))
+
+-- there are no numbers from n on
+pub from_end : (n k : ℕ) → n ≤ k → drop k (below n) ≡ []
+from_end n k l = drop_all k (below n) (omega (arith, length-below n))
+
+-- Tables, and the rank of a number among the numbers that pass a test.
+
+-- the length of a table
+pub length_rows : {X Y : Type 0} (f : ℕ → X → Y) (xs : List X) (n : ℕ) → length (flat_map (λ h. map (f h) xs) (below n)) ≡ n * length xs
+length_rows f xs zero = omega arith
+length_rows f xs (suc n) = grind (arith, flat_map_row, length-map, length-append, (length_rows f xs n))
+
+-- the number of smaller numbers that pass
+abbrev pub rank : (ℕ → Bool) → ℕ → ℕ
+rank q p = length (filter q (below p))
+
+-- a number that passes is found at its rank
+pub rank_at : (q : ℕ → Bool) (n p d : ℕ) → p < n → IsTrue (q p) → (rank q p < rank q n) × (get_or (filter q (below n)) (rank q p) d ≡ p)
+rank_at q zero p d l t = absurd (omega arith)
+rank_at q (suc n) p d l t = elim (cases_eq p n) [
+  | inl e ↦ grind (arith, filter_below_more, length-append, get_or_push)
+  | inr ne ↦ grind (arith, filter_below_more, length-append, get_or_append_left, (rank_at q n p d (omega arith) t))
+]

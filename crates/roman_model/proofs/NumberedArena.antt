@@ -1,9 +1,12 @@
--- The arenas over numbers of pairs and over pairs carry over to each other.
-use Rattle.roman_model.proofs.Common.{Sizes, sizes_of, count, number, pair_at, numbered, entry_at, ◌≡◌, ℕ, ◌<◌, ◌==◌, List, [], ◌∷◌, map, refl, sym, ap, ap₂, ◌∙◌, subst, inl, inr, arith, eqb-true, eq-eqb, IsIn, Sys, Pair, IsSys, IsPair, outcomes, same_pair, arena, Entry, is_listed, mask, IsOrder, is_justified, Reason, AreEntries, OrderCompletes, NumberedCompletes}
-use Rattle.roman_model.proofs.Lists.{same_test, from_map}
-use Rattle.roman_model.proofs.SystemLemmas.{same_pair_is, same_pair_from, outcome_pair}
+-- The arenas over numbers of pairs and over pairs carry over to each other, with their removal lists, complete lists and counts.
+use Rattle.roman_model.proofs.Common.{Sizes, sizes_of, count, number, pair_at, numbered, entry_at, IsCompleteList, ◌≡◌, ℕ, ◌<◌, ◌==◌, List, [], ◌∷◌, map, refl, sym, ap, ap₂, ◌∙◌, subst, inl, inr, arith, ◌+◌, not, length, IsFalse, filter, sum_by, rules, eqb-true, eq-eqb, both_ways, not-false, IsIn, below, Sys, Pair, IsSys, IsPair, outcomes, same_pair, arena, pairs, Entry, is_listed, mask, IsOrder, is_justified, loses, choices, Reason, AreEntries, IsComplete, OrderCompletes, NumberedCompletes, length-map, is_related, offers, choice_count, Final, Act, length-filter_both}
+use Rattle.roman_model.proofs.Lists.{same_test, from_map, in_map, in_filter, filter_in, in_below, from_below, length-below, same_length, sum_by-map, sum_by_same, HasNoRepeats-filter, HasNoRepeats-below}
+use Rattle.roman_model.proofs.SystemLemmas.{same_pair_is, same_pair_from, outcome_pair, in_pairs, from_pairs, pairs_at, pairs_once}
 use Rattle.roman_model.proofs.NumberLemmas.{number-pair_at, numbers_are_pairs}
-use Rattle.roman_model.proofs.Renames.{Renames, listed_renamed, mask_renamed, order_renamed, justified_renamed}
+use Rattle.roman_model.proofs.Renames.{Renames, listed_renamed, mask_renamed, order_renamed, justified_renamed, loses_renamed}
+use Rattle.roman_model.proofs.ArenaLemmas.{IsSame, IsArena, in_listed, listed_in, mask_empty, mask_same}
+use Rattle.roman_model.proofs.OrderLemmas.{order_new, new_once}
+use Rattle.roman_model.proofs.CompositionLemmas.{system_is_same, system_is_arena, complete_listed, order_completed}
 
 -- numbers below the count are equal exactly where their pairs are
 pub same_at : (n : Sizes) (i j : ℕ) → i < count n → j < count n → (i == j) ≡ same_pair (pair_at n i) (pair_at n j)
@@ -80,3 +83,93 @@ numbered_completes_by completes s L sys are order fine masked =
     let i : IsNumber s (number (sizes_of s) p) = (numbers_are_pairs s).below p ok in
     let is : pair_at (sizes_of s) (number (sizes_of s) p) ≡ p = (numbers_are_pairs s).back p ok in
     grind (arith, (listed_at s sys L are (number (sizes_of s) p) i), (mask_at s sys L are (number (sizes_of s) p) i a)))
+
+-- The laws of the arena over numbers.
+
+pub numbered_is_same : (s : Sys) → IsSame (numbered s)
+numbered_is_same s = record { is = λ p q t. eqb-true p q t; itself = λ p. eq-eqb p p refl }
+
+pub numbered_is_arena : (s : Sys) → IsSys s → IsArena (numbered s)
+numbered_is_arena s ok = record {
+  same = numbered_is_same s;
+  allowed = λ i a t. (system_is_arena s ok).allowed (pair_at (sizes_of s) i) a t;
+  closed = λ i h a k j l.
+      let (q, m, e) = from_map (number (sizes_of s)) j (outcomes s (pair_at (sizes_of s) i) a k) l in
+      let pair : IsPair s (pair_at (sizes_of s) i) = (numbers_are_pairs s).pair i (from_below (count (sizes_of s)) i h) in
+      in_below (count (sizes_of s)) j
+      (subst (λ n. n < count (sizes_of s)) (sym e) ((numbers_are_pairs s).below q (outcome_pair s (pair_at (sizes_of s) i) a k q ok pair m)));
+  served = λ i a k j l.
+      let (q, m, e) = from_map (number (sizes_of s)) j (outcomes s (pair_at (sizes_of s) i) a k) l in
+      (system_is_arena s ok).served (pair_at (sizes_of s) i) a k q m;
+  once = HasNoRepeats-below (count (sizes_of s));
+}
+
+-- Complete lists.
+
+-- a list of numbers is complete where no reason adds a number to it
+pub numbered_completed_by : (s : Sys) (L : List (Entry ℕ)) → IsSys s → AreNumbers s L → IsOrder (numbered s) L →
+    ((i : ℕ) → i < count (sizes_of s) → IsFalse (is_listed (numbered s) L i) → (r : Reason) → IsFalse (is_justified (numbered s) (is_listed (numbered s) L) i r)) →
+    IsCompleteList s L
+numbered_completed_by s L ok are order no_reason =
+    numbered_completes_by order_completed s L ok are order
+    (λ i l f. not-false ((numbered s).fine i) (no_reason i l f Final))
+    (λ i l f a allowed empty.
+    both_ways (is_justified (numbered s) (is_listed (numbered s) L) i (Act a)) (no_reason i l f (Act a))
+    (mask_empty (numbered s) (is_listed (numbered s) L) i a allowed empty))
+
+-- a complete list has exactly the numbers of the pairs that aren't related
+pub numbered_listed : (s : Sys) (L : List (Entry ℕ)) (i : ℕ) → IsSys s → AreNumbers s L → IsCompleteList s L → i < count (sizes_of s) →
+    is_listed (numbered s) L i ≡ not (is_related s (pair_at (sizes_of s) i))
+numbered_listed s L i ok are complete l = grind (arith, (complete_listed s (map (entry_at s) L) (pair_at (sizes_of s) i) ok complete ((numbers_are_pairs s).pair i l)), (listed_at s ok L are i l))
+
+-- the masks of a complete list are the offers
+pub numbered_offers : (s : Sys) (L : List (Entry ℕ)) (i a : ℕ) → IsSys s → AreNumbers s L → IsCompleteList s L → i < count (sizes_of s) →
+    mask (numbered s) (is_listed (numbered s) L) i a ≡ offers s (pair_at (sizes_of s) i) a
+numbered_offers s L i a ok are complete l =
+    mask_at s ok L are i l a
+    ∙ mask_same (arena s) (is_listed (arena s) (map (entry_at s) L)) (λ q. not (is_related s q)) (pair_at (sizes_of s) i) a
+    (λ k q j. complete_listed s (map (entry_at s) L) q ok complete (outcome_pair s (pair_at (sizes_of s) i) a k q ok ((numbers_are_pairs s).pair i l) j))
+
+-- Depths.
+
+pub numbered_loses : (s : Sys) (n i : ℕ) → IsSys s → i < count (sizes_of s) → loses (numbered s) n i ≡ loses (arena s) n (pair_at (sizes_of s) i)
+numbered_loses s n i ok l = loses_renamed (numbered s) (arena s) (pair_at (sizes_of s)) (IsNumber s) (numbers_rename s ok) n i l
+
+-- Counts.
+
+-- there are as many pairs as numbers below the count
+pub length-pairs : (s : Sys) → length (pairs s) ≡ count (sizes_of s)
+length-pairs s = ap length (pairs_at s) ∙ length-map (below (count (sizes_of s))) (pair_at (sizes_of s)) ∙ length-below (count (sizes_of s))
+
+-- a sum over the pairs equals the sum over their numbers
+pub sum_over_pairs : (s : Sys) (g : Pair → ℕ) → sum_by g (pairs s) ≡ sum_by (λ i. g (pair_at (sizes_of s) i)) (below (count (sizes_of s)))
+sum_over_pairs s g = ap (sum_by g) (pairs_at s) ∙ sum_by-map g (pair_at (sizes_of s)) (below (count (sizes_of s)))
+
+-- the masks of a complete list over numbers have as many choices as the offers
+pub numbered_choices : (s : Sys) (L : List (Entry ℕ)) → IsSys s → AreNumbers s L → IsCompleteList s L → choices (numbered s) (is_listed (numbered s) L) ≡ choice_count s
+numbered_choices s L ok are complete = search (rules, from_below, numbered_offers, sum_by_same, sum_over_pairs)
+
+-- the number of related pairs is the number of unlisted ones
+pub related_count : (s : Sys) (L : List (Entry Pair)) → IsSys s → IsComplete s L → length (filter (is_related s) (pairs s)) + length L ≡ length (pairs s)
+related_count s L ok complete = let listed : length L ≡ length (filter (λ p. not (is_related s p)) (pairs s)) =
+    sym (length-map L (λ x. x.node))
+    ∙ same_length (map (λ x. x.node) L) (filter (λ p. not (is_related s p)) (pairs s))
+    (new_once (arena s) (system_is_same s) [] L (order_new (arena s) L complete.order))
+    (HasNoRepeats-filter (λ p. not (is_related s p)) (pairs s) (pairs_once s))
+    (λ p. (unrelated p, listed_node p)) in
+    grind (arith, length-filter_both)
+  where
+    unrelated : (p : Pair) → IsIn p (map (λ x. x.node) L) → IsIn p (filter (λ q. not (is_related s q)) (pairs s))
+    unrelated p i =
+        let (x, j, e) = from_map (λ x. x.node) p L i in
+        let pair : IsPair s p = subst (IsPair s) (sym e) (complete.pairs x j) in
+        grind (arith, in_filter, (in_pairs s p pair), (complete_listed s L p ok complete pair), in_listed, (system_is_same s))
+
+    listed_node : (p : Pair) → IsIn p (filter (λ q. not (is_related s q)) (pairs s)) → IsIn p (map (λ x. x.node) L)
+    listed_node p i =
+        let (j, t) = filter_in (λ q. not (is_related s q)) p (pairs s) i in
+        let (x, k, e) = listed_in (arena s) (system_is_same s) L p (complete_listed s L p ok complete (from_pairs s p j) ∙ t) in
+        subst (λ q. IsIn q (map (λ y. y.node) L)) (sym e) (in_map (λ y. y.node) x L k)
+
+pub numbered_related_count : (s : Sys) (L : List (Entry ℕ)) → IsSys s → IsCompleteList s L → length (filter (is_related s) (pairs s)) + length L ≡ count (sizes_of s)
+numbered_related_count s L ok complete = grind (arith, length-map, length-pairs, related_count)

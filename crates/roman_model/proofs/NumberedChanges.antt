@@ -5,8 +5,7 @@ use Rattle.roman_model.proofs.OrderLemmas.{replay_whole, replay_sublist}
 use Rattle.roman_model.proofs.NumberLemmas.{IsPairOf-at, number_below, pair_at-grown, count-grown, number_without-is, pair_at-without, IsPairOf-without}
 use Rattle.roman_model.proofs.Renames.{order_named, replay_renamed}
 use Rattle.roman_model.proofs.NumberedArena.{same_at, IsNumber, AreNumbers, numbers_rename, entries_at, order_at}
-use Rattle.roman_model.proofs.ChangeLemmas.{sizes-turned, sizes-joined, sizes-left, turned}
-use Rattle.roman_model.proofs.ChangeLaws.{renaming_keeps}
+use Rattle.roman_model.proofs.ChangeLemmas.{sizes-turned, sizes-joined, sizes-left, turned, renaming_keeps}
 
 -- the entry of a pair, from the sizes alone
 abbrev pub pair_entry : Sizes → Entry ℕ → Entry Pair

@@ -15,7 +15,7 @@ pub fn order_completes()
 
 /// The offers are those of the orchestrator generator. They are the masks of every complete removal
 /// list.
-#[tactic(auto, using(crate::proofs::OfferLemmas::offers_are))]
+#[tactic(auto, using(crate::proofs::CompositionLemmas::offers_are))]
 pub fn offers_are_generator()
     ensures offered { OffersAreGenerator }
 {}
@@ -29,7 +29,7 @@ pub fn order_wins()
 
 /// The opponent that plays by depth wins from a pair of depth n within n requests, whichever seats
 /// serve.
-#[tactic(auto, using(crate::proofs::DepthPlayLemmas::depth_won))]
+#[tactic(auto, using(crate::proofs::PlayLemmas::depth_won))]
 pub fn depth_wins()
     ensures won { DepthWins }
 {}
@@ -37,7 +37,7 @@ pub fn depth_wins()
 /// The depth of a pair is the least number of requests within which the opponent wins from it: no way
 /// of delegating holds out against so many, and some way holds out against fewer. A related pair has
 /// no depth.
-#[tactic(auto, using(crate::proofs::DepthPlayLemmas::depth_least))]
+#[tactic(auto, using(crate::proofs::PlayLemmas::depth_least))]
 pub fn depth_is_least()
     ensures least { DepthIsLeast }
 {}

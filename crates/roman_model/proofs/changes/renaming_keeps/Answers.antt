@@ -1,4 +1,4 @@
-use Rattle.roman_model.proofs.ChangeLaws as laws
+use Rattle.roman_model.proofs.ChangeLemmas as laws
 use Rattle.roman_model.proofs.changes.renaming_keeps.Goals as goal
 
 pub returns : goal.returns
