@@ -72,25 +72,15 @@ first_in : (ks : List ℕ) → ks ≢ [] → IsIn (first ks) ks
 first_in [] some = absurd (some refl)
 first_in (k ∷ ks) some = inl refl
 
--- the controller that takes the first offer
-abbrev pub first_offer : Sys → Pair → Controller
-first_offer s p h a = first (offers s (now_at p h) a)
-
--- a controller that takes an offer at each related pair takes offers
-takes_all : (s : Sys) (P : Controller) (p : Pair) → IsSys s → IsPair s p → Great s p →
-    ((h : List Choice) → IsHistory s P p h → Great s (now_at p h) → (a : ℕ) → IsTrue (is_allowed s (now_at p h) a) → IsIn (P h a) (offers s (now_at p h) a)) →
-    TakesOffers s P p
-takes_all s P p ok pair great takes h i a allowed = takes h i (stays_great s P p ok pair great takes h i) a allowed
-
-pub first_takes : (s : Sys) (p : Pair) → IsSys s → IsPair s p → Great s p → TakesOffers s (first_offer s p) p
-first_takes s p ok pair great = takes_all _ _ _ ok pair great (λ h i now a allowed. first_in _ (related_offers _ _ _ ok now allowed))
-
 -- the controller that fulfils a wish where it is offered, and otherwise takes the first offer
 abbrev pub wishing : Sys → Pair → Controller → Controller
 wishing s p W h a = if has (offers s (now_at p h) a) (W h a) then W h a else first (offers s (now_at p h) a)
 
 wishing_takes : (s : Sys) (p : Pair) (W : Controller) → IsSys s → IsPair s p → Great s p → TakesOffers s (wishing s p W) p
-wishing_takes s p W ok pair great = takes_all s (wishing s p W) p ok pair great (grind (arith, by_test, cond-true, first, number_listed, cond-false, first_in, related_offers))
+wishing_takes s p W ok pair great h i a allowed = chooses h i (stays_great s (wishing s p W) p ok pair great chooses h i) a allowed
+  where
+    chooses : (h : List Choice) → IsHistory s (wishing s p W) p h → Great s (now_at p h) → (a : ℕ) → IsTrue (is_allowed s (now_at p h) a) → IsIn (wishing s p W h a) (offers s (now_at p h) a)
+    chooses h i now a allowed = grind (arith, by_test, cond-true, first, number_listed, cond-false, first_in, related_offers)
 
 wishing_fulfils : (s : Sys) (p : Pair) (W : Controller) (h : List Choice) (a : ℕ) → IsIn (W h a) (offers s (now_at p h) a) → wishing s p W h a ≡ W h a
 wishing_fulfils s p W h a i = grind (arith, cond-true, first, listed_number)
@@ -152,7 +142,7 @@ blinded_realises s P p ok realises h i = grind (arith, shown_back, blinded, from
 pub generator_all : ControllersTakeOffers
 generator_all s p ok pair = record {
   some = (
-    λ great. (first_offer s p, takers_realise s (first_offer s p) p ok pair great (first_takes s p ok pair great)),
+    λ great. (wishing s p (λ h a. 0), wishing_realises s p (λ h a. 0) ok pair great),
     λ (P, realises). history_great s P p ok pair realises [] tt,
   );
   takers = λ P. (

@@ -1,5 +1,5 @@
 -- The system that combines several targets allows the requests of its targets, and offers the seats that serve all of them.
-use Rattle.roman_laws.proofs.Common.{stands_step, ◌≡◌, ℕ, ◌<◌, ◌==◌, ◌&&◌, map, length, Option, None, Some, IsTrue, filter, slice_get, slice_index, refl, sym, subst, arith, false≢true, same_Some, below, Beh, Pair, has_move, IsPair, TStep, Allows, is_allowed, couple, Serves, GreatCouple, Several, ServesAll, GreatAll, all_requests, combined, IsSeveral, combined_seat, couple_all, stands_in, Request, from_map, from_flat_map, filter_in, get_in, allowed_in, from_allowed, offers_are, combined_system, from_combined_sstep, combined_sstep, all_from_great, combined_allows, combined_served, decoded, from_combined_allows, great_from_all, member_served, member_step, request_there, serves_more, total, world_as, length-map, TargetAllows, IsRequestOf, RequestsOfTargets, IsMoveOf, TurnsOfTargets}
+use Rattle.roman_laws.proofs.Common.{stands_step, from_map, from_flat_map, filter_in, get_in, allowed_in, from_allowed, offers_are, combined_system, from_combined_sstep, combined_sstep, all_from_great, combined_allows, combined_served, decoded, from_combined_allows, great_from_all, member_served, member_step, request_there, serves_more, total, world_as, ◌≡◌, ℕ, ◌<◌, ◌==◌, ◌&&◌, map, length, Option, None, Some, IsTrue, filter, slice_get, slice_index, refl, sym, subst, arith, false≢true, same_Some, below, Beh, Pair, has_move, IsPair, TStep, Allows, is_allowed, couple, Serves, GreatCouple, Several, ServesAll, GreatAll, all_requests, combined, IsSeveral, combined_seat, couple_all, stands_in, Request, length-map, TargetAllows, IsRequestOf, RequestsOfTargets, IsMoveOf, TurnsOfTargets}
 
 -- The requests, and the steps that they stand for.
 
