@@ -297,13 +297,15 @@ die_order s k seat seated before seen [] are carries order = tt
 die_order s k seat seated before seen (x ∷ L) are carries order = by_test (may_go k seat x.node)
     (λ goes. subst (λ M. IsOrderFrom (arena (left s k)) seen (firsts seen (map (entry_without k) M))) (sym (cond-true (may_go k seat x.node) (x ∷ goers_of) goers_of goes))
     (by_test (list_any (same_pair (without k x.node)) seen)
-    (λ known. grind (arith, rest, still, (die_order s k seat seated (x.node ∷ before) seen L)))
+    (λ known. grind (arith, rest, (die_order s k seat seated (x.node ∷ before) seen L (λ y i. are y (inr i)) (next seen (λ goes. known) (λ r m. m)) order.2)))
     (λ new. subst (λ M. IsOrderFrom (arena (left s k)) seen M) (sym (cond-false (list_any (same_pair (without k x.node)) seen) (firsts seen rest) (entry_without k x ∷ firsts (without k x.node ∷ seen) rest) new)) (
       new,
       die_justified s k seat (is_among (arena s) before) (is_among (arena (left s k)) seen) seated carries x.node (are x (inl refl)) goes x.reason order.1,
-      die_order s k seat seated (x.node ∷ before) (without k x.node ∷ seen) L (λ y i. are y (inr i)) more order.2,
+      die_order s k seat seated (x.node ∷ before) (without k x.node ∷ seen) L (λ y i. are y (inr i))
+          (next (without k x.node ∷ seen) (λ goes. or_left (same_pair (without k x.node) (without k x.node)) (list_any (same_pair (without k x.node)) seen) (same_pair_from (without k x.node) (without k x.node) refl))
+          (λ r m. or_right (same_pair r (without k x.node)) (list_any (same_pair r) seen) m)) order.2,
     ))))
-    (grind (arith, others, (die_order s k seat seated (x.node ∷ before) seen L)))
+    (λ stays. grind (arith, (die_order s k seat seated (x.node ∷ before) seen L (λ y i. are y (inr i)) (next seen (λ goes. absurd (both_ways (may_go k seat x.node) stays goes)) (λ r m. m)) order.2)))
   where
     goers_of : List (Entry Pair)
     goers_of = filter (λ y. may_go k seat y.node) L
@@ -311,24 +313,13 @@ die_order s k seat seated before seen (x ∷ L) are carries order = by_test (may
     rest : List (Entry Pair)
     rest = map (entry_without k) (filter (λ y. may_go k seat y.node) L)
 
-    still : IsTrue (list_any (same_pair (without k x.node)) seen) →
-        (q : Pair) → IsTrue (is_among (arena s) (x.node ∷ before) q) → IsTrue (may_go k seat q) → IsTrue (is_among (arena (left s k)) seen (without k q))
-    still known q h goes = elim (or_cases (same_pair q x.node) (list_any (same_pair q) before) h) [
-      | inl e ↦ subst (λ r. IsTrue (list_any (same_pair (without k r)) seen)) (sym (same_pair_is q x.node e)) known
-      | inr b ↦ carries q b goes
-    ]
-
-    more : (q : Pair) → IsTrue (is_among (arena s) (x.node ∷ before) q) → IsTrue (may_go k seat q) → IsTrue (is_among (arena (left s k)) (without k x.node ∷ seen) (without k q))
-    more q h goes = elim (or_cases (same_pair q x.node) (list_any (same_pair q) before) h) [
-      | inl e ↦ or_left (same_pair (without k q) (without k x.node)) (list_any (same_pair (without k q)) seen) (same_pair_from (without k q) (without k x.node) (ap (without k) (same_pair_is q x.node e)))
-      | inr b ↦ or_right (same_pair (without k q) (without k x.node)) (list_any (same_pair (without k q)) seen) (carries q b goes)
-    ]
-
-    others : IsFalse (may_go k seat x.node) →
-        (q : Pair) → IsTrue (is_among (arena s) (x.node ∷ before) q) → IsTrue (may_go k seat q) → IsTrue (is_among (arena (left s k)) seen (without k q))
-    others stays q h goes = elim (or_cases (same_pair q x.node) (list_any (same_pair q) before) h) [
-      | inl e ↦ absurd (both_ways (may_go k seat x.node) stays (subst (λ r. IsTrue (may_go k seat r)) (same_pair_is q x.node e) goes))
-      | inr b ↦ carries q b goes
+    -- each earlier pair that may go is among more pairs, where x's pair is too
+    next : (more : List Pair) → (IsTrue (may_go k seat x.node) → IsTrue (is_among (arena (left s k)) more (without k x.node))) →
+        ((r : Pair) → IsTrue (is_among (arena (left s k)) seen r) → IsTrue (is_among (arena (left s k)) more r)) →
+        (q : Pair) → IsTrue (is_among (arena s) (x.node ∷ before) q) → IsTrue (may_go k seat q) → IsTrue (is_among (arena (left s k)) more (without k q))
+    next more here there q h goes = elim (or_cases (same_pair q x.node) (list_any (same_pair q) before) h) [
+      | inl e ↦ (let same : q ≡ x.node = same_pair_is q x.node e in subst (λ r. IsTrue (is_among (arena (left s k)) more (without k r))) (sym same) (here (subst (λ r. IsTrue (may_go k seat r)) same goes)))
+      | inr b ↦ there (without k q) (carries q b goes)
     ]
 
 pub firsts_in : (seen : List Pair) (L : List (Entry Pair)) (x : Entry Pair) → IsIn x (firsts seen L) → IsIn x L

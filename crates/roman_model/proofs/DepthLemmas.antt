@@ -1,17 +1,13 @@
 -- Depths over any arena: the least numbers of requests within which the opponent wins.
 use Rattle.roman_model.proofs.Common.{◌≡◌, ℕ, zero, suc, ◌+◌, ◌<◌, ◌≤◌, not, ◌||◌, ◌⊎◌, List, length, Option, Some, None, IsTrue, IsFalse, filter, inl, inr, refl, sym, ap, ◌∙◌, subst, arith, list_any, both_ways, or_cases, or_left, not-true, not-false, not_from_false, cases_eq, IsIn, below, Arena, Entry, is_listed, is_justified, IsOrder, loses, depth, Reason, Final, Act}
-use Rattle.roman_model.proofs.Lists.{by_test, same_test, any_true, any_false, any_same, filter_shrinks, filter_sublist, sublist_length, in_below, find_none, find_least}
+use Rattle.roman_model.proofs.Lists.{passes_up, by_test, same_test, any_true, any_false, any_same, filter_shrinks, filter_sublist, sublist_length, in_below, find_none, find_least}
 use Rattle.roman_model.proofs.ArenaLemmas.{IsArena, Survives, justified_same, unjustified, survivor_within}
 use Rattle.roman_model.proofs.OrderLemmas.{listed_dead}
 
 -- A node that is lost within some requests is lost within more.
 
 pub loses_up : {N : Type 0} (A : Arena N) (m n : ℕ) (p : N) → m ≤ n → IsTrue (loses A m p) → IsTrue (loses A n p)
-loses_up A m zero p l t = subst (λ k. IsTrue (loses A k p)) (let e : m ≡ 0 = omega arith in e) t
-loses_up A m (suc n) p l t = elim (cases_eq m (suc n)) [
-  | inl e ↦ subst (λ k. IsTrue (loses A k p)) e t
-  | inr ne ↦ or_left (loses A n p) (list_any (λ a. is_justified A (loses A n) p (Act a)) (below A.actions)) (loses_up A m n p (omega arith) t)
-]
+loses_up A m n p = passes_up (λ n. loses A n p) (λ n t. or_left (loses A n p) (list_any (λ a. is_justified A (loses A n) p (Act a)) (below A.actions)) t) m n
 
 pub loses_down : {N : Type 0} (A : Arena N) (m n : ℕ) (p : N) → m ≤ n → IsFalse (loses A n p) → IsFalse (loses A m p)
 loses_down A m n p l f = by_test (loses A m p) (λ t. absurd (both_ways (loses A n p) f (loses_up A m n p l t))) (λ g. g)

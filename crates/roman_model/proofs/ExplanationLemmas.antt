@@ -1,6 +1,6 @@
 -- The explanation is the least closed part of a removal list, is a removal list by itself, and ends with the explained entry.
 use Rattle.roman_model.proofs.Common.{cases_eq, false≢true, both_ways, or_cases, or_parts, or_left, or_right, and_parts, and_from, cond-true, cond-false, ◌≡◌, ℕ, zero, suc, ◌+◌, ◌<◌, ◌≤◌, Bool, ◌&&◌, ◌||◌, ◌⊎◌, List, [], ◌∷◌, ◌++◌, length, Option, Some, None, IsTrue, IsFalse, filter, find, refl, sym, ap, ap₂, ◌∙◌, subst, inl, inr, arith, append-nil, append_assoc, length-append, list_any, option_to_list, filter-append, none-some, same_Some, IsIn, below, Arena, Entry, is_among, is_listed, is_justified, IsOrder, arena, entries_before, answer, ready_seats, answers, rests_on, explanation, IsClosed, IsLeastClosed, ExplanationIsLeast, ExplanationIsOrder, Reason, Final, Act}
-use Rattle.roman_model.proofs.Lists.{by_test, same_test, any_true, any_from, any_within, in_append_right, in_flat_map, from_flat_map, in_filter, filter_in, in_below, find_some, find_found, split_at}
+use Rattle.roman_model.proofs.Lists.{passes_up, by_test, same_test, any_true, any_from, any_within, in_append_right, in_flat_map, from_flat_map, in_filter, filter_in, in_below, find_some, find_found, split_at}
 use Rattle.roman_model.proofs.ArenaLemmas.{IsSame, IsArena, among_in, listed_in, beaten_is, beaten_none, beaten_by, justified_is, justified_by}
 use Rattle.roman_model.proofs.CompositionLemmas.{system_is_same, system_is_arena}
 use Rattle.roman_model.proofs.OrderLemmas.{order_push, order_middle}
@@ -54,11 +54,7 @@ answer_before A L p q (Act a) i =
 
 module _ {N : Type 0} (A : Arena N) (L : List (Entry N)) (p : N) where
   pub rests_up : (n m : ℕ) (q : N) → n ≤ m → IsTrue (rests_on A L n p q) → IsTrue (rests_on A L m p q)
-  rests_up n zero q l h = subst (λ k. IsTrue (rests_on A L k p q)) (let e : n ≡ 0 = omega arith in e) h
-  rests_up n (suc m) q l h = elim (cases_eq n (suc m)) [
-    | inl e ↦ subst (λ k. IsTrue (rests_on A L k p q)) e h
-    | inr ne ↦ or_left (rests_on A L m p q) (list_any (λ x. rests_on A L m p x.node && is_among A (answers A L x.node x.reason) q) L) (rests_up n m q (omega arith) h)
-  ]
+  rests_up n m q = passes_up (λ m. rests_on A L m p q) (λ m t. or_left (rests_on A L m p q) (list_any (λ x. rests_on A L m p x.node && is_among A (answers A L x.node x.reason) q) L) t) n m
 
   pub rests_step : (n : ℕ) (x : Entry N) (q : N) → IsSame A → IsIn x L → IsTrue (rests_on A L n p x.node) → IsIn q (answers A L x.node x.reason) → IsTrue (rests_on A L (suc n) p q)
   rests_step n x q same i h j = grind (arith, any_from, and_from)

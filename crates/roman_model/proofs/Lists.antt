@@ -14,6 +14,11 @@ same_test true b to back = sym (to refl)
 same_test false true to back = back refl
 same_test false false to back = refl
 
+-- a test that passes at m passes at each later n, where it passes from each number to the next
+pub passes_up : (p : ℕ → Bool) → ((n : ℕ) → IsTrue (p n) → IsTrue (p (suc n))) → (m n : ℕ) → m ≤ n → IsTrue (p m) → IsTrue (p n)
+passes_up p more m zero l t = let e : m ≡ 0 = omega arith in subst (λ k. IsTrue (p k)) e t
+passes_up p more m (suc n) l t = elim (cases_eq m (suc n)) [ inl e ↦ subst (λ k. IsTrue (p k)) e t | inr ne ↦ more n (passes_up p more m n (omega arith) t) ]
+
 -- Elements of lists that are built from others.
 
 pub in_append_left : {X : Type 0} (x : X) (xs ys : List X) → IsIn x xs → IsIn x (xs ++ ys)

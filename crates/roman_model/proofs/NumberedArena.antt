@@ -93,11 +93,7 @@ pub numbered_is_arena : (s : Sys) → IsSys s → IsArena (numbered s)
 numbered_is_arena s ok = record {
   same = numbered_is_same s;
   allowed = λ i a t. (system_is_arena s ok).allowed (pair_at (sizes_of s) i) a t;
-  closed = λ i h a k j l.
-      let (q, m, e) = from_map (number (sizes_of s)) j (outcomes s (pair_at (sizes_of s) i) a k) l in
-      let pair : IsPair s (pair_at (sizes_of s) i) = (numbers_are_pairs s).pair i (from_below (count (sizes_of s)) i h) in
-      in_below (count (sizes_of s)) j
-      (subst (λ n. n < count (sizes_of s)) (sym e) ((numbers_are_pairs s).below q (outcome_pair s (pair_at (sizes_of s) i) a k q ok pair m)));
+  closed = λ i h a k j l. in_below (count (sizes_of s)) j ((numbers_rename s ok).within i (from_below (count (sizes_of s)) i h) a k j l);
   served = λ i a k j l.
       let (q, m, e) = from_map (number (sizes_of s)) j (outcomes s (pair_at (sizes_of s) i) a k) l in
       (system_is_arena s ok).served (pair_at (sizes_of s) i) a k q m;

@@ -25,17 +25,9 @@ max_over_same f g (x ∷ xs) same = ap₂ max (same x (inl refl)) (max_over_same
 
 -- adding a number to each value adds it to the greatest
 pub max_over_plus : {X : Type 0} (c : ℕ) (f : X → ℕ) (xs : List X) → xs ≢ [] → max_over (λ x. c + f x) xs ≡ c + max_over f xs
-max_over_plus {X} c f xs some =
-    let (x, i) = not_empty_in xs (ne_not_empty xs some) in
-    let up : max_over (λ x. c + f x) xs ≤ c + max_over f xs = max_over_le (λ x. c + f x) (c + max_over f xs) xs (λ y j. let l : f y ≤ max_over f xs = le_max_over f y xs j in omega arith) in
-    let first : c + f x ≤ max_over (λ x. c + f x) xs = le_max_over (λ x. c + f x) x xs i in
-    let least : max_over f xs + c ≤ max_over (λ x. c + f x) xs = below (max_over (λ x. c + f x) xs) (omega arith) (λ y j. le_max_over (λ x. c + f x) y xs j) in
-    omega arith
-  where
-    below : (m : ℕ) → c ≤ m → ((y : X) → IsIn y xs → c + f y ≤ m) → max_over f xs + c ≤ m
-    below m l each =
-        let rest : max_over f xs ≤ m - c = max_over_le f (m - c) xs (λ y j. let e : c + f y ≤ m = each y j in omega arith) in
-        omega arith
+max_over_plus c f [] some = absurd (some refl)
+max_over_plus c f (x ∷ []) some = grind arith
+max_over_plus c f (x ∷ y ∷ xs) some = grind (arith, (max_over_plus c f (y ∷ xs) (λ none. cc)))
 
 -- Rising lists.
 
