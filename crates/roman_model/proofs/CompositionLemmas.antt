@@ -233,12 +233,8 @@ last_complete s L ok entries order none = completed_by s L ok entries order no_r
         (λ f. f)
 
 -- a removal list with one more entry that can follow
-record Longer (s : Sys) (L : List (Entry Pair)) : Type 0 where
-  entry : Entry Pair
-  pairs : AreEntries s (L ++ entry ∷ [])
-  order : IsOrder (arena s) (L ++ entry ∷ [])
-
-one_more : (s : Sys) (L : List (Entry Pair)) → AreEntries s L → IsOrder (arena s) L → IsTrue (list_any (can_follow s L) (possible s)) → Longer s L
+one_more : (s : Sys) (L : List (Entry Pair)) → AreEntries s L → IsOrder (arena s) L → IsTrue (list_any (can_follow s L) (possible s)) →
+    (x : Entry Pair) × AreEntries s (L ++ x ∷ []) × IsOrder (arena s) (L ++ x ∷ [])
 one_more s L entries order some = grind (arith, and_parts, any_true, from_push, not-true, order_push, from_flat_map, from_map, from_pairs)
 
 -- entries can be added until no entry can follow

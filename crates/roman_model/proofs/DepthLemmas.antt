@@ -1,5 +1,5 @@
 -- Depths over any arena: the least numbers of requests within which the opponent wins.
-use Rattle.roman_model.proofs.Common.{◌≡◌, ℕ, zero, suc, ◌+◌, ◌<◌, ◌≤◌, not, ◌||◌, ◌⊎◌, List, length, Option, Some, None, IsTrue, IsFalse, filter, inl, inr, refl, sym, ap, ◌∙◌, subst, arith, list_any, both_ways, or_cases, or_left, not-true, not-false, not_from_false, cases_eq, IsIn, below, Arena, Entry, is_listed, is_justified, IsOrder, loses, depth, Reason, Final, Act}
+use Rattle.roman_model.proofs.Common.{◌≡◌, ℕ, zero, suc, ◌+◌, ◌<◌, ◌≤◌, not, ◌||◌, ◌⊎◌, List, length, Option, Some, None, IsTrue, IsFalse, filter, inl, inr, refl, sym, ap, ◌∙◌, arith, list_any, both_ways, or_cases, or_left, not-true, not-false, not_from_false, cases_eq, IsIn, below, Arena, Entry, is_listed, is_justified, IsOrder, loses, depth, Reason, Final, Act}
 use Rattle.roman_model.proofs.Lists.{passes_up, by_test, same_test, any_true, any_false, any_same, filter_shrinks, filter_sublist, sublist_length, in_below, find_none, find_least}
 use Rattle.roman_model.proofs.ArenaLemmas.{IsArena, Survives, justified_same, unjustified, survivor_within}
 use Rattle.roman_model.proofs.OrderLemmas.{listed_dead}

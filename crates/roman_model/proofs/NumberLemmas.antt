@@ -175,12 +175,6 @@ pub part_at : (n : Sizes) (i k : ℕ) → i < count n → k < length n.seats →
     slice_index (states_at n.seats (i % product_of n.seats)) k ≡ i / product_of (drop (k + 1) n.seats) % slice_index n.seats k
 part_at n i k h l = part_from_number n (pair_at n i) k (IsPairOf-at n i h) l ∙ ap (λ x. x / product_of (drop (k + 1) n.seats) % slice_index n.seats k) (number-pair_at n i h)
 
--- the number of a pair with another state of the target, of the environment, and of seat k
-pub number-moved : (n : Sizes) (p : Pair) (t e k b : ℕ) → k < length n.seats → length p.bs ≡ length n.seats →
-    number n (record { t = t; e = e; bs = slice_set p.bs k b }) + ((p.t * n.env + p.e) * product_of n.seats + slice_index p.bs k * product_of (drop (k + 1) n.seats))
-    ≡ number n p + ((t * n.env + e) * product_of n.seats + b * product_of (drop (k + 1) n.seats))
-number-moved n p t e k b h l = grind (arith, states_number-set)
-
 -- the number of a pair with another state of seat k
 pub number-set : (n : Sizes) (p : Pair) (k b : ℕ) → k < length n.seats → length p.bs ≡ length n.seats →
     number n (record { t = p.t; e = p.e; bs = slice_set p.bs k b }) + slice_index p.bs k * product_of (drop (k + 1) n.seats)

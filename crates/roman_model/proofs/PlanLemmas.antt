@@ -1,6 +1,6 @@
 -- The plan of the choices costs least of all plans at a related pair, and its cost is computed one action, one seat and one outcome at a time.
 use Rattle.roman_model.proofs.Common.{cases_lt, cond-false, leb-true, leb-false, ◌≡◌, ◌≢◌, ℕ, zero, suc, ◌+◌, ◌-◌, ◌<◌, ◌≤◌, Bool, true, false, cond, ◌⊎◌, List, [], ◌∷◌, ◌++◌, IsTrue, filter, nat_le, inl, inr, refl, sym, ap, ap₂, ◌∙◌, subst, arith, rules, ◌*◌, map, max, IsIn, below, Sys, Pair, IsSys, IsPair, outcomes, is_allowed, Great, offers, Costs, max_over, allowed_actions, least_from, through, least, choice, Plan, Leaf, Node, IsPlan, worst, first_least, chosen, IsChoice, PlansCostLeast, least_at, le-max_left, le-max_right, max-le, sizes_of, pair_at, number, count, numbered}
-use Rattle.roman_model.proofs.Lists.{by_test, filter_in, from_below, from_push, not_empty_in, ne_not_empty}
+use Rattle.roman_model.proofs.Lists.{by_test, filter_in, from_below, from_push}
 use Rattle.roman_model.proofs.SystemLemmas.{outcome_pair}
 use Rattle.roman_model.proofs.CompositionLemmas.{offer_is, related_offers}
 use Rattle.roman_model.proofs.NumberLemmas.{numbers_are_pairs}

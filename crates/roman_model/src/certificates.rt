@@ -19,12 +19,9 @@ pub fn greatest_is_complete()
 {}
 
 /// The explanation of a listed pair is the least set that holds its entry and, with each entry, the
-/// entries of its defeating answers.
+/// entries of its defeating answers. It is a removal list by itself, and ends with the entry of the
+/// pair.
 pub fn explanation_is_least()
     ensures least { ExplanationIsLeast }
-{}
-
-/// The explanation of a listed pair is a removal list by itself, and ends with the entry of the pair.
-pub fn explanation_is_order()
     ensures explained { ExplanationIsOrder }
 {}

@@ -26,9 +26,7 @@ mod reason;
 mod request;
 mod way;
 
-pub use certificates::{
-    explanation_is_least, explanation_is_order, greatest_is_complete, written_is_greatest,
-};
+pub use certificates::{explanation_is_least, greatest_is_complete, written_is_greatest};
 pub use changes::renaming_keeps;
 pub use laws::{
     depth_is_least, depth_wins, offers_are_generator, order_completes, order_wins,
