@@ -1,5 +1,5 @@
 -- Allowed actions and clause 2 at the pairs of a row.
-use Rattle.roman_joint.proofs.Common.{◌≡◌, ℕ, ◌+◌, ◌*◌, ◌<◌, ◌≤◌, Bool, true, false, not, ◌&&◌, ◌||◌, length, refl, sym, ap, ap₂, ◌∙◌, arith, zero, suc, List, [], ◌∷◌, inl, inr, slice_get, slice_index, both_ways, cases_lt, same_test, by_test, AreBelow-length, IsPairOf-at, all_below_at, all_below_from, is_empty, all_below, Sys, Seat, is_final, env_next, beh_next, is_beaten, is_justified, Act, sizes_of, pair_at, numbered, IsNumbered, lanes_in, IsRow, IsTargetMove, may_rest, Row, TargetMove, and-true, and_assoc, length-map, is_allowed, all_final, is_open}
+use Rattle.roman_joint.proofs.Common.{◌≡◌, ℕ, ◌+◌, ◌*◌, ◌<◌, ◌≤◌, Bool, true, false, not, ◌&&◌, ◌||◌, length, refl, sym, ap, ap₂, ◌∙◌, arith, zero, suc, List, [], ◌∷◌, inl, inr, slice_get, slice_index, both_ways, cases_lt, same_test, by_test, AreBelow-length, IsPairOf-at, all_below_at, all_below_from, is_empty, all_below, Sys, Seat, is_final, all_final, env_next, beh_next, is_allowed, is_beaten, is_justified, Act, sizes_of, pair_at, numbered, IsNumbered, lanes_in, IsRow, IsTargetMove, may_rest, is_open, Row, TargetMove, and-true, and_assoc, length-map}
 use Rattle.roman_joint.proofs.ArenaFacts.{beaten_where}
 
 pub open_here : (s : Sys) (row : Row) (x a lane : ℕ) → IsRow s x row → lane < lanes_in s → is_allowed s (pair_at (sizes_of s) (x * lanes_in s + lane)) a ≡ is_open s row a

@@ -1,5 +1,5 @@
 -- Arenas over numbers keep the laws of arenas.
-use Rattle.roman_joint.proofs.Common.{◌≡◌, ℕ, ◌*◌, Bool, true, ◌||◌, length, refl, sym, ap, arith, list_any, IsIn, below, Arena, is_beaten, by_test, not_empty_in, in_below, from_below, length-below, numbered_is_arena, sizes_of, count, numbered, NamedSys, system_of, IsNamedSys, IsNumbered, IsArena}
+use Rattle.roman_joint.proofs.Common.{◌≡◌, ℕ, ◌*◌, Bool, true, ◌||◌, length, refl, sym, ap, arith, list_any, IsIn, below, Arena, is_beaten, by_test, not_empty_in, in_below, from_below, length-below, numbered_is_arena, IsArena, sizes_of, count, numbered, NamedSys, system_of, IsNamedSys, IsNumbered}
 use Rattle.roman_joint.proofs.Rows.{count_fits}
 
 -- a joint's system is an arena over numbers

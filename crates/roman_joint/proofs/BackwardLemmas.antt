@@ -1,5 +1,5 @@
 -- The delegations that are found backwards are those that lead to the pair.
-use Rattle.roman_joint.proofs.Common.{AreBelow-length, Bool, Delegation, Env, HasNoRepeats, HasNoRepeats-below, HasNoRepeats-filter, HasNoRepeats-flat_map, HasNoRepeats-map, HoldsEachOnce, IsBeh, IsFalse, IsIn, IsPair, IsPairOf-from, IsSys, IsTrue, List, None, Option, Pair, Seat, Some, Sys, [], ap, arith, back, beh_prev, below, cond, count, env_prev, false, flat_map, from_action, from_all, from_back, from_beh_prev, from_below, from_env, from_env_prev, from_flat_map, from_map, from_outcome, from_seat, from_target, get_or-set_same, has_move, has_triple, in_back, in_beh_prev, in_below, in_env_prev, in_flat_map, in_map, length, length-map, map, move_in_range, number, numbered, numbered_is_arena, numbered_is_same, numbers_are_pairs, outcome_in, outcome_pair, outcomes, pair_at, refl, seat_in, seat_prev, set-get_or, set-set, sizes_of, slice_get, slice_get_within, slice_index, slice_set, states_set, subst, sym, triple_in_range, true, ℕ, ◌-◌, ◌<◌, ◌∙◌, ◌≡◌}
+use Rattle.roman_joint.proofs.Common.{AreBelow-length, HasNoRepeats-below, HasNoRepeats-filter, HasNoRepeats-flat_map, HasNoRepeats-map, IsPairOf-from, from_back, from_beh_prev, from_below, from_env_prev, from_flat_map, from_map, from_outcome, in_back, in_beh_prev, in_below, in_env_prev, in_flat_map, in_map, move_in_range, numbered_is_arena, numbered_is_same, numbers_are_pairs, outcome_in, outcome_pair, seat_in, states_set, triple_in_range, Bool, IsFalse, IsTrue, List, None, Option, Some, [], ap, arith, cond, false, length, map, refl, slice_get, slice_index, slice_set, subst, sym, true, ℕ, ◌-◌, ◌<◌, ◌∙◌, ◌≡◌, Delegation, back, Env, IsBeh, IsPair, IsSys, Pair, Seat, Sys, has_move, has_triple, HasNoRepeats, HoldsEachOnce, IsIn, below, beh_prev, env_prev, outcomes, count, number, numbered, pair_at, sizes_of, flat_map, from_action, from_all, from_env, from_seat, from_target, seat_prev, get_or-set_same, length-map, set-get_or, set-set, slice_get_within}
 
 -- the delegation of a to the seat at k, from t, e and the seat's state b
 abbrev pub delegation : Sys → Pair → ℕ → ℕ → ℕ → ℕ → ℕ → Delegation ℕ

@@ -1,5 +1,5 @@
 -- Rows of a band.
-use Rattle.roman_joint.proofs.Common.{AreWithin, SuitsRows, ◌||◌, ◌≡◌, ℕ, ◌+◌, ◌-◌, ◌*◌, ◌/◌, ◌%◌, ◌<◌, ◌≤◌, ◌^◌, Bool, true, false, not, ◌&&◌, List, [], length, slice_get, slice_index, inl, inr, refl, sym, ap, ap₂, ◌∙◌, subst, arith, list_any, set, cases_eq, cases_lt, mul-add-lt, mul-le, mod_below, get_or-set_same, get_or-set_other, get_or_past, IsIn, is_empty, product_of, all_below, any_same, part_at, Sys, seat_next, is_beaten, sizes_of, count, pair_at, numbered, IsSizes, stride_of, low_of, row_sizes, env_rows_of, exact, lanes_few, AreSizes-index, low_of-le, lanes_positive, row_div, row_mod, row_below, env_rows_are, count_rows, length_rows, row_size, row_stride_of, IsSizes-rows, rows_are, is_on, AreRows, Keeps, lanes_in, low_in, lane_state_of, AreRowsOf, IsRow, IsTargetMove, mid_in, band_in, turn_at, AllAlive, AreRowsBefore, Rows, Row, TargetMove, and_assoc, on_zero, Outcomes}
+use Rattle.roman_joint.proofs.Common.{length-below, any_same, part_at, AreWithin, SuitsRows, ◌||◌, ◌≡◌, ℕ, ◌+◌, ◌-◌, ◌*◌, ◌/◌, ◌%◌, ◌<◌, ◌≤◌, ◌^◌, Bool, true, false, not, ◌&&◌, List, [], length, slice_get, slice_index, inl, inr, refl, sym, ap, ap₂, ◌∙◌, subst, arith, list_any, set, cases_eq, cases_lt, mul-add-lt, mul-le, mod_below, get_or-set_same, get_or-set_other, get_or_past, IsIn, is_empty, product_of, all_below, Sys, seat_next, is_beaten, sizes_of, count, pair_at, numbered, IsSizes, stride_of, low_of, row_sizes, env_rows_of, exact, lanes_few, AreSizes-index, low_of-le, lanes_positive, row_div, row_mod, row_below, env_rows_are, count_rows, length_rows, row_size, row_stride_of, IsSizes-rows, rows_are, is_on, AreRows, Keeps, lanes_in, low_in, lane_state_of, AreRowsOf, IsRow, IsTargetMove, mid_in, band_in, turn_at, AllAlive, AreRowsBefore, Rows, Row, TargetMove, and_assoc, on_zero, Outcomes}
 use Rattle.roman_joint.proofs.AllowedLemmas.{cut_off, and_nothing}
 use Rattle.roman_joint.proofs.WordLemmas.{not_not, all_pass}
 use Rattle.roman_joint.proofs.SplitLemmas.{factor, positive_of, stride_rows, row_number, row_made}
@@ -66,11 +66,20 @@ in_band s y i first sizes ok l =
     }
 
 -- a seat before a band's own stands before the lanes
+pub mid_low_le : (s : Sys) → mid_in s ≤ low_in s
+mid_low_le s = omega (arith, low_of-le (row_sizes (sizes_of s)).seats, length_rows (sizes_of s))
+
 pub mid_low : (s : Sys) (k : ℕ) → k < mid_in s → k < low_in s
-mid_low s k l = omega (arith, l, low_of-le (row_sizes (sizes_of s)).seats, length_rows (sizes_of s))
+mid_low s k l = omega (arith, mid_low_le s)
 
 pub first_in : (s : Sys) → IsSizes (sizes_of s) → 0 < band_in s
 first_in s h = lanes_positive (row_sizes (sizes_of s)).seats (IsSizes-rows (sizes_of s) h).seats
+
+-- the pairs lie in whole bands
+pub bands_are : (s : Sys) → IsSizes (sizes_of s) → count (row_sizes (sizes_of s)) / band_in s * band_in s * lanes_in s ≡ length (numbered s).nodes
+bands_are s sizes =
+    let n = sizes_of s in
+    ap (λ z. z * lanes_in s) (rows_are (row_sizes n) (IsSizes-rows n sizes)) ∙ (count_rows n ∙ sym (length-below (count n)))
 
 module _ (s : Sys) (r : Rows) (y a : ℕ) (first : Row) (turn : TargetMove) (h : Known s (y * band_in s) first) (laid : AreRowsOf (sizes_of s) r) (ok : IsTargetMove s first a turn) where
   here : (i : ℕ) → i < band_in s → InBand s y i first

@@ -1,40 +1,30 @@
 -- Searches for the first element that passes, step by step.
-use Rattle.roman_joint.proofs.Common.{◌≡◌, ℕ, zero, suc, ◌+◌, ◌<◌, ◌≤◌, ◌==◌, Bool, true, false, cond, List, [], ◌∷◌, map, length, drop, get_or, Option, Some, None, IsFalse, refl, sym, ap, ◌∙◌, subst, inl, inr, arith, find, flat_map, option_map, option_or, IsIn, is_empty, in_map, in_flat_map, in_not_empty, drop_more, drop_all, nil_from_length, false≢true, eqb-true, find-append}
+use Rattle.roman_joint.proofs.Common.{All, ◌≡◌, ℕ, zero, suc, ◌+◌, ◌<◌, ◌≤◌, ◌==◌, Bool, true, false, cond, List, [], ◌∷◌, map, length, drop, get_or, Option, Some, IsFalse, refl, sym, ap, ◌∙◌, subst, inl, inr, arith, find, flat_map, option_map, option_or, IsIn, is_empty, in_map, in_flat_map, in_not_empty, drop_more, nil_from_length, false≢true, eqb-true, find-append}
 use Rattle.std.specs.Option.{IfSome}
 
-pub find_here : {X : Type 0} (p : X → Bool) (xs : List X) (i : ℕ) (d : X) → i < length xs → p (get_or xs i d) ≡ true → find p (drop i xs) ≡ Some (get_or xs i d)
-find_here p xs i d l h = ap (find p) (drop_more xs i d l) ∙ ap (λ b. cond b (Some (get_or xs i d)) (find p (drop (i + 1) xs))) h
-
-pub find_on : {X : Type 0} (p : X → Bool) (xs : List X) (i : ℕ) (d : X) → i < length xs → p (get_or xs i d) ≡ false → find p (drop i xs) ≡ find p (drop (i + 1) xs)
-find_on p xs i d l h = ap (find p) (drop_more xs i d l) ∙ ap (λ b. cond b (Some (get_or xs i d)) (find p (drop (i + 1) xs))) h
-
-pub find_end : {X : Type 0} (p : X → Bool) (xs : List X) (i : ℕ) → length xs ≤ i → find p (drop i xs) ≡ None
-find_end p xs i l = ap (find p) (drop_all i xs l)
+-- a search goes on from an element to the next
+pub find_next : {X : Type 0} (p : X → Bool) (xs : List X) (i : ℕ) (d : X) (b : Bool) → i < length xs → p (get_or xs i d) ≡ b → find p (drop i xs) ≡ cond b (Some (get_or xs i d)) (find p (drop (i + 1) xs))
+find_next p xs i d b l h = ap (find p) (drop_more xs i d l) ∙ ap (λ t. cond t (Some (get_or xs i d)) (find p (drop (i + 1) xs))) h
 
 pub find-map : {X Y : Type 0} (f : X → Y) (p : Y → Bool) (xs : List X) → find p (map f xs) ≡ option_map f (find (λ x. p (f x)) xs)
 find-map f p [] = refl
 find-map f p (x ∷ xs) = grind (arith, (find-map f p xs))
 
--- the search finds an element in the first of some lists
-pub find_in_first : {X Y : Type 0} (f : X → List Y) (p : Y → Bool) (xs : List X) (i : ℕ) (d : X) (y : Y) → i < length xs → find p (f (get_or xs i d)) ≡ Some y →
-    find p (flat_map f (drop i xs)) ≡ Some y
-find_in_first f p xs i d y l h =
+-- a search over joined lists goes on from a list to the next
+pub find_in_next : {X Y : Type 0} (f : X → List Y) (p : Y → Bool) (xs : List X) (i : ℕ) (d : X) (o : Option Y) → i < length xs → find p (f (get_or xs i d)) ≡ o →
+    find p (flat_map f (drop i xs)) ≡ option_or o (find p (flat_map f (drop (i + 1) xs)))
+find_in_next f p xs i d o l h =
     ap (λ ys. find p (flat_map f ys)) (drop_more xs i d l) ∙ (find-append p (f (get_or xs i d)) (flat_map f (drop (i + 1) xs)) ∙ ap (λ o. option_or o (find p (flat_map f (drop (i + 1) xs)))) h)
-
--- the search goes on past the first of some lists
-pub find_in_rest : {X Y : Type 0} (f : X → List Y) (p : Y → Bool) (xs : List X) (i : ℕ) (d : X) → i < length xs → find p (f (get_or xs i d)) ≡ None →
-    find p (flat_map f (drop i xs)) ≡ find p (flat_map f (drop (i + 1) xs))
-find_in_rest f p xs i d l h =
-    ap (λ ys. find p (flat_map f ys)) (drop_more xs i d l) ∙ (find-append p (f (get_or xs i d)) (flat_map f (drop (i + 1) xs)) ∙ ap (λ o. option_or o (find p (flat_map f (drop (i + 1) xs)))) h)
-
-pub find_in_none : {X Y : Type 0} (f : X → List Y) (p : Y → Bool) (xs : List X) (i : ℕ) → length xs ≤ i → find p (flat_map f (drop i xs)) ≡ None
-find_in_none f p xs i l = ap (λ ys. find p (flat_map f ys)) (drop_all i xs l)
 
 -- the element at a place is in the list
 pub in_at : {X : Type 0} (xs : List X) (i : ℕ) (d : X) → i < length xs → IsIn (get_or xs i d) xs
 in_at [] i d l = absurd (omega arith)
 in_at (x ∷ xs) zero d l = inl refl
 in_at (x ∷ xs) (suc i) d l = inr (in_at xs i d (omega arith))
+
+-- what holds of the elements of two lists holds at their places
+pub all_pairs : (P : ℕ → ℕ → Type 0) (xs ys : List ℕ) → ((x y : ℕ) → IsIn x xs → IsIn y ys → P x y) → All (λ x. All (P x) ys) xs
+all_pairs P xs ys h = λ i d l j e m. h _ _ (in_at xs i d l) (in_at ys j e m)
 
 pub if_some : {X : Type 0} (o : Option X) (x : X) (P : X → Type 0) → o ≡ Some x → IfSome o P → P x
 if_some o x P e h = subst (λ p. IfSome p P) e h

@@ -1,11 +1,11 @@
 -- The pairs of a row at which a seat serves an action.
-use Rattle.roman_joint.proofs.Common.{AreWithin, SuitsRows, outcome_number, Move, AreLaneMoves, same_test, length-below, any_same, not_empty_in, triple_in_range, from_env_next, move_in_range, from_seat_next, seat_in, cases_lt, ne_eqb, eqb-true, lt-ltb, le-ltb, eq-eqb, ◌∷◌, ◌≡◌, ◌⊎◌, ℕ, ◌+◌, ◌-◌, ◌*◌, ◌/◌, ◌%◌, ◌<◌, ◌≤◌, ◌^◌, Bool, true, false, not, ◌&&◌, ◌||◌, eqb, ltb, inl, inr, List, [], length, get_or, slice_get, slice_index, IsFalse, refl, sym, ap, ap₂, ◌∙◌, subst, arith, list_any, length-map, mul-add-lt, mul-le, mod_below, div_below, div-add-mod', nat_tests, IsIn, is_empty, Sys, Seat, IsSys, seat_next, is_beaten, Sizes, sizes_of, count, numbered, IsSizes, stride_of, env_stride_of, low_of, lanes_of, env_rows_of, target_rows_of, product_positive, low_of-le, lanes_few, lanes_positive, row_least, row_below, env_rows_are, is_on, HasLanes, AreRows, IsNumbered, NamedSys, system_of, seat_of, IsNamedSys, lanes_in, low_in, lane_has_state, lane_state_of, AreRowsOf, IsRow, IsTargetMove, AreAlive, Rows, Row, TargetMove, on_and, on_zero, mul-add-div_right, add-mod-mod, mod-eq_of_lt, mul-mod_left, AreRowsBefore, Outcomes, and-false}
+use Rattle.roman_joint.proofs.Common.{IsSizes-rows, product_positive, low_of-le, lanes_few, lanes_positive, row_least, row_below, env_rows_are, row_sizes, low_of, lanes_of, env_rows_of, target_rows_of, AreWithin, SuitsRows, outcome_number, Move, AreLaneMoves, same_test, length-below, any_same, not_empty_in, triple_in_range, from_env_next, move_in_range, from_seat_next, seat_in, cases_lt, ne_eqb, eqb-true, lt-ltb, le-ltb, eq-eqb, ◌∷◌, ◌≡◌, ◌⊎◌, ℕ, ◌+◌, ◌-◌, ◌*◌, ◌/◌, ◌%◌, ◌<◌, ◌≤◌, ◌^◌, Bool, true, false, not, ◌&&◌, ◌||◌, eqb, ltb, inl, inr, List, [], length, get_or, slice_get, slice_index, IsFalse, refl, sym, ap, ap₂, ◌∙◌, subst, arith, list_any, length-map, mul-add-lt, mul-le, mod_below, div_below, div-add-mod', nat_tests, IsIn, is_empty, Sys, Seat, IsSys, seat_next, is_beaten, Sizes, sizes_of, count, numbered, IsSizes, stride_of, is_on, HasLanes, AreRows, IsNumbered, NamedSys, system_of, seat_of, IsNamedSys, lanes_in, low_in, lane_has_state, lane_state_of, AreRowsOf, IsRow, IsTargetMove, AreAlive, Rows, Row, TargetMove, on_and, on_zero, mul-add-div_right, add-mod-mod, mod-eq_of_lt, mul-mod_left, AreRowsBefore, Outcomes, and-false}
 use Rattle.roman_joint.proofs.ArenaFacts.{joint_numbered}
 use Rattle.roman_joint.proofs.OutcomeLemmas.{target_in_range}
 use Rattle.roman_joint.proofs.Finds.{in_at}
 use Rattle.roman_joint.proofs.Rows.{size_of_seat}
 use Rattle.roman_joint.proofs.WordLemmas.{on_shl, on_below, not_not}
-use Rattle.roman_joint.proofs.SplitLemmas.{joint_sizes, positive_of, factor}
+use Rattle.roman_joint.proofs.SplitLemmas.{joint_sizes, factor}
 use Rattle.roman_joint.proofs.LeadLemmas.{Leads, leads_within, leads_served, leads_beaten, leads_nothing, start_before, leads_before, lane_state, leads_lanes}
 
 -- Facts about a row.
@@ -21,8 +21,8 @@ known n x row ok looked = record { nodes = joint_numbered n ok; sys = ok.system;
 pub width_positive : (s : Sys) → IsSizes (sizes_of s) → 0 < lanes_in s
 width_positive s sizes = lanes_positive (sizes_of s).seats sizes.seats
 
-pub env_rows_positive : (s : Sys) → IsSizes (sizes_of s) → 0 < env_rows_of (sizes_of s)
-env_rows_positive s sizes = positive_of (env_rows_of (sizes_of s)) (lanes_in s) (env_stride_of (sizes_of s)) (env_rows_are (sizes_of s)) (product_positive (sizes_of s).seats sizes.seats)
+pub env_rows_positive : (n : Sizes) → IsSizes n → 0 < env_rows_of n
+env_rows_positive n sizes = product_positive (row_sizes n).seats (IsSizes-rows n sizes).seats
 
 -- the number of rows times the lanes is the number of pairs
 rows_whole : (s : Sys) → s.target.states * s.env.states * env_rows_of (sizes_of s) * lanes_in s ≡ count (sizes_of s)
@@ -38,7 +38,7 @@ pub row_there : (target env r to e part : ℕ) → to < target → e < env → p
 row_there target env r to e part a b c = grind (arith, mul-add-lt)
 
 pub part_below : (s : Sys) (x : ℕ) (row : Row) → IsSizes (sizes_of s) → IsRow s x row → row.part < env_rows_of (sizes_of s)
-part_below s x row sizes ok = subst (λ m. m < env_rows_of (sizes_of s)) (sym ok.part) (mod_below x (env_rows_of (sizes_of s)) (env_rows_positive s sizes))
+part_below s x row sizes ok = subst (λ m. m < env_rows_of (sizes_of s)) (sym ok.part) (mod_below x (env_rows_of (sizes_of s)) (env_rows_positive (sizes_of s) sizes))
 
 pub rows_few : (s : Sys) (long : ℕ) → IsSizes (sizes_of s) → long * lanes_in s ≡ count (sizes_of s) → long < 2 ^ 32
 rows_few s long sizes room = grind (arith, mul-le, width_positive)

@@ -2,7 +2,6 @@ pub mod Common
 pub mod Finds
 pub mod BackwardLemmas
 pub mod SeatLemmas
-pub mod Shown
 pub mod SeatChanges
 pub mod OutcomeLemmas
 pub mod WalkLemmas

@@ -1,16 +1,12 @@
 -- Marks on the bands from which a band can be reached.
-use Rattle.roman_joint.proofs.Common.{AnyOf, AreLeading, Arena, Bool, Delegation, Grows, HasNoRepeats, HasNoRepeats-below, HasNoRepeats-filter, HasNoRepeats-map, HoldsEachOnce, IsBeforeAction, IsBeforeEnv, IsBeforeSeat, IsBeh, IsIn, IsMarked, IsRow, IsSizes, IsSizes-rows, IsSys, IsTrue, List, Marks, Pair, Row, Seat, Sizes, Sys, [], action_steps, add-one, ap, ap₂, arith, back, band_in, beh_prev, below, bit_at, bit_or, by_test, cases_eq, cases_lt, cond, count, count_by, delegations, div-add-mod', div-div-eq-div-mul, div-mul-add, div_below, drop, env_prev, env_rows_are, env_rows_of, env_steps, false, filter, filter_in, flat_map, from_action, from_all, from_below, from_env, from_flat_map, from_map, from_push, from_seat, from_states, from_target, get_or, get_or-set_other, get_or-set_same, has_flag, in_beh_prev, in_below, in_env_prev, in_filter, inl, inr, is_among, is_on, lane_state_of, lanes_in, lanes_of, lanes_positive, le-ltb, length, length-filter, length-map, length-set, length-take, length_rows, low_of, low_of-le, lt-ltb, mid_in, mod_below, move_in_range, moved, mul-add-lt, no_longer, number, numbered, numbers_are_pairs, outcomes, pair_at, product_of, refl, row_at, row_mod, row_sizes, row_stride_of, same_from_place, seat_in, seat_prev, seat_steps, set, sizes_of, slice_get, slice_get_within, slice_index, still, stride_of, subst, suc, sum_by, sum_by-append, sum_by-cons, sum_by_same, sum_cut, sym, take, take_more, triple_in_range, true, turn_steps, zero, ℕ, ◌%◌, ◌*◌, ◌++◌, ◌+◌, ◌-◌, ◌/◌, ◌<◌, ◌^◌, ◌∙◌, ◌∷◌, ◌≡◌, ◌≤◌, ◌⊎◌}
+use Rattle.roman_joint.proofs.Common.{AnyOf, Grows, IsBeforeAction, IsBeforeEnv, IsBeforeSeat, IsMarked, Marks, action_steps, env_steps, row_at, seat_steps, turn_steps, AreLeading, Arena, Delegation, back, delegations, is_among, Bool, IsTrue, List, [], add-one, ap, ap₂, arith, cond, count_by, drop, false, get_or, inl, inr, length, refl, slice_get, slice_index, subst, suc, sum_by, sym, take, true, zero, ℕ, ◌%◌, ◌*◌, ◌++◌, ◌+◌, ◌-◌, ◌/◌, ◌<◌, ◌^◌, ◌∙◌, ◌∷◌, ◌≡◌, ◌≤◌, ◌⊎◌, HasNoRepeats, HoldsEachOnce, IsIn, below, product_of, HasNoRepeats-below, HasNoRepeats-filter, HasNoRepeats-map, by_test, filter_in, from_below, from_flat_map, from_map, from_push, in_beh_prev, in_below, in_env_prev, in_filter, move_in_range, no_longer, numbers_are_pairs, seat_in, sum_by_same, triple_in_range, IsBeh, IsSys, Pair, Seat, Sys, IsRow, lane_state_of, lanes_in, IsSizes, moved, stride_of, IsSizes-rows, env_rows_are, lanes_positive, length_rows, low_of-le, row_mod, row_stride_of, Row, Sizes, count, number, numbered, pair_at, sizes_of, band_in, mid_in, beh_prev, env_prev, outcomes, bit_at, bit_or, cases_eq, cases_lt, le-ltb, lt-ltb, div-add-mod', div-mul-add, div_below, mod_below, mul-add-lt, same_from_place, div-div-eq-div-mul, env_rows_of, lanes_of, low_of, row_sizes, filter, flat_map, from_action, from_all, from_env, from_seat, from_states, from_target, seat_prev, get_or-set_other, get_or-set_same, length-map, length-set, take_more, has_flag, is_on, length-filter, sum_by-append, sum_by-cons, set, slice_get_within, still, sum_cut}
 use Rattle.std.specs.Prelude.{ltb}
 use Rattle.roman_joint.proofs.BackwardLemmas.{once_by, delegation, Comes, origin, in_seat_prev, pair_comes, found_backwards}
 use Rattle.roman_joint.proofs.Rows.{size_of_seat}
 use Rattle.roman_joint.proofs.WordLemmas.{on_set_same, on_set_other}
 use Rattle.roman_joint.proofs.SplitLemmas.{stride_rows, quotient}
 use Rattle.roman_joint.proofs.LeadLemmas.{start_row, lane_state, lane_part}
-use Rattle.roman_joint.proofs.BandLemmas.{row_in, InBand, in_band, mid_low, first_in}
-
--- the seats before the band's own are before the lanes
-pub mid_few : (ns : List ℕ) → low_of (take (low_of ns) ns) ≤ low_of ns
-mid_few ns = omega (arith, low_of-le (take (low_of ns) ns), low_of-le ns, length-take (low_of ns) ns)
+use Rattle.roman_joint.proofs.BandLemmas.{row_in, InBand, in_band, mid_low, mid_low_le, first_in}
 
 -- Adding marks.
 
@@ -146,7 +142,7 @@ is_before s row y i lane p a k sys sizes first in_rows in_lanes below_p led =
           (record { row = z * v; moved = subst (λ d. z * v + d * u ≡ row_at s row e t + b * u) same moved; band_of = sym (quotient (z * v) z v vpos refl) }) in
           inr (any_of _ _ z k (in_below (mid_in s) k front) at_b)
       | inr past ↦
-          let wide : v * w ≡ product_of (drop (mid_in s) n.seats) = band_lanes n (mid_in s) (mid_few n.seats) in
+          let wide : v * w ≡ product_of (drop (mid_in s) n.seats) = band_lanes n (mid_in s) (mid_low_le s) in
           let place : x * w + lane ≡ y * product_of (drop (mid_in s) n.seats) + j = omega (arith, ap (λ m. y * m) wide) in
           let digit : own ≡ lane_state_of n k j = ap (λ r. slice_index (pair_at n r).bs k) place ∙ lane_part n y j k sizes (subst (λ r. r < count n) place inside) past in_seats in
           let state : b < slice_index n.seats k = subst (λ z. b < z) (sym (size_of_seat s.seats k st.seat st.seated)) (move_in_range s.env st.seat.beh b e a own beh st.moves).0 in

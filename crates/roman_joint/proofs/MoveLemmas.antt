@@ -1,5 +1,5 @@
 -- Moves of services within the lanes.
-use Rattle.roman_joint.proofs.Common.{IsServiceAt, AreMovesOf, AreSeatsIn, AreSizes, AreSizes-drop, AreSizes-index, AreWays, Beh, Bool, Env, HoldsMoves, HoldsSpans, IsAdded, IsIn, IsKept, IsSizes, IsSpan, List, Move, Moves, NamedBeh, NamedSys, Parts, Seat, Sizes, Some, Span, SuitsEnv, Sys, Ways, [], and_parts, any_from, any_true, ap, append_assoc, ap₂, arith, beh_next, below, cases_eq, cases_lt, cond, count, count_by-le-length, div-add-mod', div_below, drop, drop-append-le, drop_all, drop_more, eq-eqb, eqb, eqb-true, false≢true, filter, filter_below_more, filter_in, from_below, from_map, get_or, get_or-append_seam, get_or_append_left, in_below, in_filter, in_map, inl, inr, is_on, lane_move, lane_moves_from, lane_state_of, lanes_few, lanes_of, length, length-append, length-below, length-filter, length-map, list_any, low_in, low_of, map-append, mod_below, mul-add-lt, mul-le-mul_right, named_in, ne_eqb, not, not_from_false, on_zero, product_of, product_positive, refl, same_from_place, same_test, seat_of, sizes_of, slice_get, slice_get-get_or, slice_get_within, slice_index, slice_index_or, slice_range, span_place, stride_of, subst, suc, sym, system_in, system_of, take-append-le, take_all, true, ways_room, with_frozen, within_in, zero, ℕ, ◌%◌, ◌&&◌, ◌*◌, ◌++◌, ◌+◌, ◌-◌, ◌/◌, ◌<◌, ◌==◌, ◌∙◌, ◌∷◌, ◌≡◌, ◌≢◌, ◌≤◌}
+use Rattle.roman_joint.proofs.Common.{IsServiceAt, AreMovesOf, AreSeatsIn, AreWays, HoldsMoves, HoldsSpans, IsAdded, IsKept, IsSpan, SuitsEnv, lane_move, lane_moves_from, span_place, system_in, ways_room, within_in, AreSizes, IsSizes, stride_of, AreSizes-drop, AreSizes-index, lanes_few, product_positive, Beh, Env, Seat, Sys, Bool, List, Some, [], ap, ap₂, arith, cond, drop, eqb, get_or, inl, inr, length, not, refl, slice_get, slice_index, slice_index_or, slice_range, subst, suc, sym, true, zero, ℕ, ◌%◌, ◌&&◌, ◌*◌, ◌++◌, ◌+◌, ◌-◌, ◌/◌, ◌<◌, ◌==◌, ◌∙◌, ◌∷◌, ◌≡◌, ◌≢◌, ◌≤◌, IsIn, below, product_of, Move, Moves, NamedBeh, NamedSys, seat_of, system_of, Parts, Sizes, count, sizes_of, Span, Ways, and_parts, cases_eq, cases_lt, eq-eqb, eqb-true, false≢true, ne_eqb, not_from_false, any_from, any_true, filter_below_more, filter_in, from_below, from_map, in_below, in_filter, in_map, length-below, same_test, append_assoc, drop-append-le, drop_all, drop_more, get_or_append_left, length-append, length-map, map-append, take-append-le, take_all, beh_next, count_by-le-length, length-filter, div-add-mod', div_below, mod_below, mul-add-lt, same_from_place, filter, list_any, get_or-append_seam, is_on, lane_state_of, low_in, lanes_of, low_of, mul-le-mul_right, named_in, on_zero, slice_get-get_or, slice_get_within, with_frozen}
 use Rattle.std.proofs.lemmas.List.{length-drop}
 use Rattle.roman_joint.specs.declared.seat.Seat as declared
 use Rattle.roman_joint.proofs.SeatChanges.{with_seats, frozen_sizes, frozen_at}

@@ -1,5 +1,5 @@
 -- The names of the states of services.
-use Rattle.roman_joint.proofs.Common.{IsNamedSys, IsSeatBehaviour, List, NamedBeh, NamedSys, SeatNames, Some, [], ap, beh_states, below, get_or_from_slice_get, length, map, name_at, names_in, names_of_seat, option_map, seat_names, sizes_of, slice_get, slice_get-map, slice_index, subst, sym, system_of, ℕ, ◌-◌, ◌<◌, ◌∙◌, ◌≡◌}
+use Rattle.roman_joint.proofs.Common.{IsNamedSys, NamedSys, system_of, IsSeatBehaviour, List, Some, [], ap, length, map, slice_get, slice_index, subst, sym, ℕ, ◌-◌, ◌<◌, ◌∙◌, ◌≡◌, NamedBeh, SeatNames, name_at, seat_names, beh_states, names_in, names_of_seat, below, get_or_from_slice_get, slice_get-map, option_map, sizes_of}
 use Rattle.roman_joint.proofs.BehaviourLemmas.{behaves}
 use Rattle.roman_joint.proofs.Rows.{size_of_seat}
 

@@ -1,5 +1,5 @@
 -- The numbers of the pairs to which a delegation can lead.
-use Rattle.roman_joint.proofs.Common.{◌≡◌, ℕ, ◌+◌, ◌-◌, ◌*◌, ◌%◌, ◌<◌, ◌≤◌, cond, List, [], ◌∷◌, Option, Some, IsTrue, IsFalse, map, length, slice_get, slice_index, slice_set, refl, sym, ap, ap₂, ◌∙◌, subst, inl, arith, flat_map, map-append, length-map, get_or-set_same, slice_get_within, not-true, IsIn, product_of, Sys, Seat, Pair, IsSys, IsPair, env_next, beh_next, seat_next, outcomes, is_ready, Sizes, IsPairOf, sizes_of, count, number, pair_at, triple_in_range, move_in_range, from_env_next, seat_in, states_set, numbers_are_pairs, IsPairOf-from, IsPairOf-at, number-pair_at, AreBelow-length, stride_of, env_stride_of, target_stride_of, moved, IsPairWith, states_number, number_below, append-nil, from_beh_next, parts_of_number, states_number-set}
+use Rattle.roman_joint.proofs.Common.{◌≡◌, ℕ, ◌+◌, ◌-◌, ◌*◌, ◌%◌, ◌<◌, ◌≤◌, cond, List, [], ◌∷◌, Option, Some, IsTrue, IsFalse, map, length, slice_get, slice_index, slice_set, refl, sym, ap, ap₂, ◌∙◌, subst, inl, arith, flat_map, map-append, length-map, get_or-set_same, append-nil, slice_get_within, not-true, IsIn, product_of, Sys, Seat, Pair, IsSys, IsPair, env_next, beh_next, seat_next, outcomes, is_ready, Sizes, IsPairOf, sizes_of, count, number, pair_at, states_number, triple_in_range, move_in_range, from_env_next, seat_in, states_set, numbers_are_pairs, IsPairOf-from, IsPairOf-at, number-pair_at, AreBelow-length, number_below, from_beh_next, parts_of_number, states_number-set, stride_of, env_stride_of, target_stride_of, moved, IsPairWith}
 
 -- the first number, and how the numbers change
 pub record StartsAt (n : Sizes) (p k to row part env_stride stride : ℕ) : Type 0 where

@@ -1,11 +1,8 @@
 -- The seats that may rest.
-use Rattle.roman_joint.proofs.Common.{◌≡◌, ℕ, ◌+◌, ◌*◌, ◌<◌, ◌≤◌, Bool, true, false, not, ◌&&◌, ◌||◌, inl, inr, ltb, length, slice_get, slice_index, ap, ap₂, ◌∙◌, sym, arith, and_parts, both_ways, cases_lt, lt-ltb, le-ltb, or_right, by_test, all_below_at, all_below_from, same_test, length-map, low_of-le, length_rows, row_sizes, all_below, is_final, Sys, Seat, is_on, sizes_of, numbered, IsSizes, lanes_in, low_in, lane_state_of, IsRow, may_rest, HasResting, mid_in, band_in, Row}
+use Rattle.roman_joint.proofs.Common.{◌≡◌, ℕ, ◌+◌, ◌*◌, ◌<◌, ◌≤◌, Bool, true, false, not, ◌&&◌, ◌||◌, inl, inr, ltb, length, slice_get, slice_index, ap, ap₂, ◌∙◌, sym, arith, and_parts, both_ways, cases_lt, lt-ltb, le-ltb, or_right, by_test, all_below_at, all_below_from, same_test, length-map, low_of-le, row_sizes, all_below, is_final, Sys, Seat, is_on, sizes_of, numbered, IsSizes, lanes_in, low_in, lane_state_of, IsRow, may_rest, HasResting, mid_in, band_in, Row}
 use Rattle.roman_joint.proofs.AllowedLemmas.{fine_there}
 use Rattle.roman_joint.proofs.LeadLemmas.{lane_part}
-use Rattle.roman_joint.proofs.BandLemmas.{row_in, in_band}
-
-pub mid_low_le : (s : Sys) → mid_in s ≤ low_in s
-mid_low_le s = omega (arith, low_of-le (row_sizes (sizes_of s)).seats, length_rows (sizes_of s))
+use Rattle.roman_joint.proofs.BandLemmas.{row_in, in_band, mid_low_le}
 
 pub low_seats : (s : Sys) → low_in s ≤ length s.seats
 low_seats s = omega (arith, low_of-le (sizes_of s).seats, length-map s.seats (λ (seat : Seat). seat.beh.states))

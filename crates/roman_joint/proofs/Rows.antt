@@ -1,5 +1,5 @@
 -- The numbers of pairs, and the sizes of seats.
-use Rattle.roman_joint.proofs.Common.{IsNamedSys, IsWalk, List, MAX_CELLS, NamedSys, Seat, Some, Sys, Walk, ap, arith, below, count, false, get_or_from_slice_get, goal_of, length, map, mul-le-mul_left, number, numbers_are_pairs, option_map, sizes_of, slice_get, slice_get-get_or, slice_get-map, slice_index, slice_set, states_set, still, subst, system_of, ℕ, ◌-◌, ◌<◌, ◌∙◌, ◌≡◌, ◌≤◌}
+use Rattle.roman_joint.proofs.Common.{IsNamedSys, NamedSys, still, system_of, IsWalk, goal_of, List, Some, ap, arith, false, length, map, slice_get, slice_index, slice_set, subst, ℕ, ◌-◌, ◌<◌, ◌∙◌, ◌≡◌, ◌≤◌, MAX_CELLS, Seat, Sys, Walk, below, count, number, sizes_of, get_or_from_slice_get, slice_get-get_or, slice_get-map, mul-le-mul_left, numbers_are_pairs, states_set, option_map}
 
 -- a joint has few enough pairs
 pub count_fits : (n : NamedSys) → IsNamedSys n → count (sizes_of (system_of n)) ≤ MAX_CELLS

@@ -1,9 +1,13 @@
 -- The system after a service is frozen, dropped or added.
-use Rattle.roman_joint.proofs.Common.{◌≡◌, ℕ, zero, suc, ◌*◌, ◌/◌, ◌<◌, ◌≤◌, ◌↔◌, Bool, true, false, if◌then◌else◌, List, [], ◌∷◌, ◌++◌, Some, slice_get, slice_index, get_or, map, length, take, drop, refl, sym, ap, ap₂, ◌∙◌, subst, arith, All, slice_get-get_or, AllByRecursion, remove, set, mul-le-mul_left, mul-le-mul_right, le-div_iff_mul-le, map_push, map-append, length-map, All-from_recursion, IsIn, HasNoRepeats, Sys, IsSys, IsBeh, Join, Die, after, Sizes, sizes_of, count, MAX_SERVICES, seat_in, NamedBeh, NamedSys, beh_at, seat_of, system_of, cells, IsNamedSys, with_frozen, HasSameParts, take-map, drop-map, All-append, All-drop, All-push, All-take, recursion_from_All, Change, Freeze, Thaw, set_frozen, CanChange, grown_sizes, sizes_without, HasNoRepeats-push, states_frozen, remove_in, renaming_keeps, count-without}
+use Rattle.roman_joint.proofs.Common.{Inside, IsJoint, IsJointOf, named_sys_in, ◌≡◌, ℕ, zero, suc, ◌*◌, ◌/◌, ◌<◌, ◌≤◌, ◌↔◌, Bool, true, false, if◌then◌else◌, List, [], ◌∷◌, ◌++◌, Some, slice_get, slice_index, get_or, map, length, take, drop, refl, sym, ap, ap₂, ◌∙◌, subst, arith, All, slice_get-get_or, AllByRecursion, remove, set, mul-le-mul_left, mul-le-mul_right, le-div_iff_mul-le, map_push, map-append, length-map, take-map, drop-map, All-from_recursion, All-append, All-drop, All-push, All-take, recursion_from_All, IsIn, HasNoRepeats, Sys, IsSys, IsBeh, Join, Die, after, Change, Freeze, Thaw, set_frozen, CanChange, Sizes, sizes_of, count, grown_sizes, sizes_without, MAX_SERVICES, seat_in, HasNoRepeats-push, states_frozen, remove_in, renaming_keeps, count-without, NamedBeh, NamedSys, beh_at, seat_of, system_of, cells, IsNamedSys, with_frozen, HasSameParts}
 use Rattle.roman_model.specs.System as model
 use Rattle.roman_joint.specs.declared.seat.Seat.{Seat}
 use Rattle.roman_joint.proofs.Rows.{size_of_seat}
 use Rattle.roman_joint.proofs.BehaviourLemmas.{seat_read}
+
+-- the fields are those of a joint
+pub is_joint : (a : Inside) (n : NamedSys) → named_sys_in a ≡ n → IsJointOf a n → IsJoint a
+is_joint a n same ok = subst (IsJointOf a) (sym same) ok
 
 -- a system after a change is well formed
 changed : (change : Change) (s : Sys) → IsSys s → CanChange change s → IsSys (after change s)

@@ -1,5 +1,5 @@
 -- Services and their behaviours, read one after another.
-use Rattle.roman_joint.proofs.Common.{All, All-map, All-push, AllByRecursion, Env, IsBeh, IsDeterministic, IsEnv, IsIn, IsOver, IsOverEnv, IsSys, List, MAX_SERVICES, NamedBeh, NamedEnv, NamedSys, Sizes, Some, [], ap, ap₂, arith, beh_at, get_or, inl, inr, is_empty, length, length-map, length-set, map, map_push, ne_eqb, recursion_from_All, refl, seat_of, set, sizes_of, slice_get-get_or, subst, sym, system_of, take, take_more, take_more_set, ℕ, ◌++◌, ◌+◌, ◌-◌, ◌<◌, ◌==◌, ◌∙◌, ◌∷◌, ◌≡◌, ◌≤◌}
+use Rattle.roman_joint.proofs.Common.{All, List, Some, [], ap, ap₂, arith, get_or, inl, inr, length, map, refl, subst, sym, take, ℕ, ◌++◌, ◌+◌, ◌-◌, ◌<◌, ◌==◌, ◌∙◌, ◌∷◌, ◌≡◌, ◌≤◌, All-map, All-push, recursion_from_All, AllByRecursion, Env, IsBeh, IsDeterministic, IsEnv, IsSys, IsIn, is_empty, IsOver, NamedBeh, NamedEnv, IsOverEnv, NamedSys, beh_at, seat_of, system_of, MAX_SERVICES, Sizes, sizes_of, length-map, length-set, map_push, take_more, take_more_set, ne_eqb, set, slice_get-get_or}
 use Rattle.roman_model.specs.System as model
 use Rattle.roman_joint.specs.declared.seat.Seat.{Seat}
 use Rattle.roman_joint.proofs.BehaviourLemmas.{beh_read}

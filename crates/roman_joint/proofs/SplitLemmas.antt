@@ -1,5 +1,5 @@
 -- How rows are made and looked up.
-use Rattle.roman_joint.proofs.Common.{AreBelow-index, AreLeading, ArePermitted, AreRowsOf, AreSizes, AreSizes-index, IsBeh, IsIn, IsNamedSys, IsPairOf, IsPairOf-at, IsRow, IsSizes, List, NamedSys, Row, Rows, Seat, Sizes, Sys, [], ap, ap₂, arith, below, count, env_rows_are, env_rows_of, exact, inl, inr, lanes_in, lanes_of, lanes_positive, length, length-map, low_in, low_of, low_of-le, map, mul-add-lt, pair_at, part_at, product_of, refl, row_below, row_div, row_least, sizes_of, slice_index, stride_of, subst, suc, sym, system_of, tails_from, target_rows_of, target_stride_of, zero, ℕ, ◌%◌, ◌*◌, ◌+◌, ◌-◌, ◌/◌, ◌<◌, ◌∙◌, ◌∷◌, ◌≡◌, lane_state_of, row_stride_of, row_size, row_sizes}
+use Rattle.roman_joint.proofs.Common.{AreBelow-index, IsPairOf-at, part_at, AreLeading, ArePermitted, AreRowsOf, IsRow, lanes_in, low_in, lane_state_of, AreSizes, IsSizes, stride_of, target_stride_of, AreSizes-index, env_rows_are, exact, lanes_positive, low_of-le, row_below, row_div, row_least, tails_from, row_stride_of, row_size, IsBeh, Seat, Sys, IsIn, below, product_of, IsNamedSys, NamedSys, system_of, IsPairOf, Sizes, count, pair_at, sizes_of, List, [], ap, ap₂, arith, inl, inr, length, map, refl, slice_index, subst, suc, sym, zero, ℕ, ◌%◌, ◌*◌, ◌+◌, ◌-◌, ◌/◌, ◌<◌, ◌∙◌, ◌∷◌, ◌≡◌, Row, Rows, env_rows_of, lanes_of, low_of, target_rows_of, row_sizes, length-map, mul-add-lt}
 use Rattle.roman_joint.proofs.Rows.{count_fits}
 
 -- the pairs of a joint have numbers of 32 bits

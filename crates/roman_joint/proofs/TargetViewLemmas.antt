@@ -1,5 +1,5 @@
 -- Target views and the system's actions.
-use Rattle.roman_joint.proofs.Common.{◌≡◌, ℕ, ◌+◌, ◌/◌, ◌%◌, ◌<◌, ◌≤◌, IsFalse, List, [], ◌∷◌, ◌++◌, length, take, get_or, slice_index_or, inl, inr, sym, ap, ◌∙◌, subst, arith, get_or-append_seam, cases_eq, cases_lt, take_more, get_or_append_left, IsIn, Env, Beh, Sys, IsSys, sizes_of, pair_at, numbered, by_test, numbered_is_arena, TargetView, bit_of, HasBits, ArePermitted, IsTargetView, from_push}
+use Rattle.roman_joint.proofs.Common.{◌≡◌, ℕ, ◌+◌, ◌/◌, ◌%◌, ◌<◌, ◌≤◌, IsFalse, List, [], ◌∷◌, ◌++◌, length, take, get_or, slice_index_or, inl, inr, sym, ap, ◌∙◌, subst, arith, get_or-append_seam, cases_eq, cases_lt, take_more, get_or_append_left, IsIn, Env, Beh, Sys, IsSys, sizes_of, pair_at, numbered, by_test, numbered_is_arena, from_push, TargetView, bit_of, HasBits, ArePermitted, IsTargetView}
 
 -- one more number at which the list is empty
 pub none_more : (xs : List ℕ) (i : ℕ) (f : ℕ → List ℕ) → i < length xs → f (get_or xs i 0) ≡ [] → ((e : ℕ) → IsIn e (take i xs) → f e ≡ []) → (e : ℕ) → IsIn e (take (i + 1) xs) → f e ≡ []

@@ -1,5 +1,5 @@
 -- One step of a walk backwards: the delegations that are left, and the new position.
-use Rattle.roman_joint.proofs.Common.{Beh, Bool, Delegation, Env, HoldsEachOnce, IsBeh, IsEnv, IsSys, IsWalk, List, None, Option, Pair, Seat, Some, Sys, Walk, WalkGoesOn, [], ap, append_assoc, arith, back, beh_prev, below, cases_lt, cond, count, count_by-le-length, drop, drop_all, drop_more, env_prev, false, flat_map, from_action, from_all, from_env, from_seat, from_states, from_target, get_or, get_or-below, goal_of, has_move, has_triple, inl, inr, left, left_of_action, left_of_all, left_of_env, left_of_seat, left_of_target, length, length-below, length-filter, length-map, number, numbered, pair_at, refl, seat_in, seat_prev, sizes_of, slice_get, slice_get_past, slice_index, slice_set, states_before, subst, sym, true, ℕ, ◌++◌, ◌+◌, ◌-◌, ◌<◌, ◌∙◌, ◌∷◌, ◌≡◌, ◌≤◌}
+use Rattle.roman_joint.proofs.Common.{Beh, Env, IsBeh, IsEnv, IsSys, Pair, Seat, Sys, has_move, has_triple, Bool, List, None, Option, Some, [], ap, arith, cond, drop, false, get_or, inl, inr, length, refl, slice_get, slice_index, slice_set, subst, sym, true, ℕ, ◌++◌, ◌+◌, ◌-◌, ◌<◌, ◌∙◌, ◌∷◌, ◌≡◌, ◌≤◌, Delegation, back, HoldsEachOnce, below, IsWalk, WalkGoesOn, goal_of, left, left_of_action, left_of_all, left_of_env, left_of_seat, left_of_target, states_before, Walk, append_assoc, drop_all, drop_more, length-map, beh_prev, env_prev, cases_lt, count, number, numbered, pair_at, sizes_of, count_by-le-length, length-filter, flat_map, from_action, from_all, from_env, from_seat, from_states, from_target, seat_prev, get_or-below, length-below, seat_in, slice_get_past}
 use Rattle.roman_joint.proofs.BackwardLemmas.{found_backwards}
 
 -- joined lists are the first one and the rest

@@ -1,9 +1,9 @@
 -- Marks on the bands from which a band can be reached.
-use Rattle.std.specs.Prelude.{◌≡◌, ℕ, ◌+◌, ◌*◌, ◌/◌, ◌<◌, ◌⊎◌, List, true, length, sum_by, slice_get, slice_index, IsTrue}
+use Rattle.std.specs.Prelude.{◌≡◌, ℕ, ◌+◌, ◌*◌, ◌/◌, ◌<◌, ◌⊎◌, List, length, sum_by, slice_get, slice_index, IsTrue}
 use Rattle.roman_model.specs.Lists.{IsIn, below}
 use Rattle.roman_model.specs.System.{Sys}
 use Rattle.roman_model.specs.SystemArena.{env_prev, beh_prev}
-use Rattle.roman_model.specs.Numbers.{sizes_of, count, numbered}
+use Rattle.roman_model.specs.Numbers.{sizes_of}
 use Rattle.roman_radix.specs.Radix.{stride_of}
 use Rattle.roman_radix.specs.Rows.{env_rows_of, target_rows_of}
 use Rattle.roman_lanes.specs.Flags.{has_flag}
@@ -68,12 +68,6 @@ IsBeforeEnv s row a e = AnyOf (IsBeforeTurn s row a e) (beh_prev s.target row.ta
 -- from the band, a leads to the row's band
 abbrev pub IsBeforeAction : Sys → Row → ℕ → ℕ → Type 0
 IsBeforeAction s row a = AnyOf (IsBeforeEnv s row a) (env_prev s.env row.env a)
-
--- each band with a pair that has a pair of the row's band as an outcome is marked
-abbrev pub MarksBefore : Sys → Row → List ℕ → Type 0
-MarksBefore s row marks =
-    (y i lane p a k : ℕ) → IsRow s (y * band_in s) row → i < band_in s → lane < lanes_in s → p < count (sizes_of s) →
-    IsIn ((y * band_in s + i) * lanes_in s + lane) ((numbered s).outcomes p a k) → has_flag marks (p / lanes_in s / band_in s) ≡ true
 
 -- the steps for seat k: one for each state from which it goes by a, in environment state e, to its state in the row
 abbrev pub seat_steps : Sys → Row → ℕ → ℕ → ℕ → ℕ

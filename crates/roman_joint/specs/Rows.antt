@@ -5,7 +5,7 @@ use Rattle.roman_model.specs.Lists.{is_empty, all_below}
 use Rattle.roman_model.specs.System.{Sys, Seat, is_final}
 use Rattle.roman_model.specs.SystemArena.{env_next, beh_next}
 use Rattle.roman_model.specs.Numbers.{Sizes, sizes_of, count, pair_at}
-use Rattle.roman_radix.specs.Radix.{stride_of}
+use Rattle.roman_radix.specs.Radix.{IsSizes, stride_of}
 use Rattle.roman_radix.specs.Rows.{low_of, lanes_of, row_sizes, env_rows_of, target_rows_of}
 use Rattle.roman_lanes.specs.Rows.{is_on, AreRows}
 use Rattle.roman_joint.specs.TargetViews.{ArePermitted, AreLeading}
@@ -30,15 +30,20 @@ lane_has_state stride size b lane = lane / stride % size == b
 abbrev pub lane_state_of : Sizes → ℕ → ℕ → ℕ
 lane_state_of n k lane = lane / stride_of n k % slice_index n.seats k
 
--- the rows are those of the sizes: strides of seats before the lanes are counted in rows, and those of seats within them in lanes
+-- no size is 0, and the rows are those of the sizes: strides of seats before the lanes are counted in rows, and those of seats within them in lanes
 pub record AreRowsOf (n : Sizes) (r : Rows) : Type 0 where
+  pub ok : IsSizes n
   pub low : r.low ≡ low_of n.seats
   pub mid : r.mid ≡ low_of (row_sizes n).seats
+  pub order : (r.mid ≤ r.low) × (r.low ≤ length n.seats)
   pub band : r.band ≡ lanes_of (row_sizes n).seats
+  pub band_range : (0 < r.band) × (r.band ≤ 64)
   pub lanes : r.lanes ≡ lanes_of n.seats
+  pub lanes_range : (0 < r.lanes) × (r.lanes ≤ 64)
   pub full : (lane : ℕ) → is_on r.full lane ≡ ltb lane (lanes_of n.seats)
   pub rows : r.rows * lanes_of n.seats ≡ count n
   pub env : r.env_rows ≡ env_rows_of n
+  pub env_some : 0 < r.env_rows
   pub target : r.target_rows ≡ target_rows_of n
   pub before : (k : ℕ) → k < low_of n.seats → slice_index r.strides k * lanes_of n.seats ≡ stride_of n k
   pub within : (k : ℕ) → low_of n.seats ≤ k → k < length n.seats → slice_index r.strides k ≡ stride_of n k

@@ -1,9 +1,8 @@
 //! The pairs of a band of rows that no service serves.
 ghost use Rattle.std.specs.Prelude.{◌≡◌, ℕ, ◌+◌, ◌*◌, ◌<◌, ◌≤◌, Bool, not, count_by, sum_by, drop, length, IfSome};
 ghost use Rattle.roman_model.specs.Lists.{all_below, below};
-ghost use Rattle.roman_model.specs.Arena.{is_beaten, is_justified, mask as mask_of};
+ghost use Rattle.roman_model.specs.Arena.{is_beaten};
 ghost use Rattle.roman_model.specs.Numbers.{sizes_of, count, numbered};
-ghost use Rattle.roman_model.specs.declared.reason.Reason.TheVariants.{Act};
 ghost use Rattle.roman_lanes.specs.Rows.{Keeps};
 ghost use Rattle.roman_joint.specs.NamedSys.{system_of};
 ghost use Rattle.roman_joint.specs.Rows.{lanes_in, low_in, HasAlive, IsRow, IsTurn};
@@ -12,9 +11,7 @@ ghost use Rattle.roman_joint.specs.Bands.{mid_in, band_in, AllAlive, ClearsServe
 use crate::joint::Joint;
 use crate::moving::clear_moving;
 use crate::row::Row;
-use crate::runs::{
-    BAND, Run, clear, clear_alive, clear_state, is_clear, rows_alive_each, set_first,
-};
+use crate::runs::{BAND, Run, clear_alive, clear_state, is_clear, rows_alive_each, set_first};
 use crate::states::{moves_within, service};
 use crate::turn::{Turn, rows_before, target_move_of};
 use crate::words::less;
@@ -40,7 +37,7 @@ fn clear_before(joint: &Joint, turn: &Turn<'_>, k: u8, left: &mut [u64])
 
 /// Writes, for each row of a band, the alive lanes of its turn: those at which it leads to no pair
 /// that is gone, in any state of the environment.
-fn alive_each(joint: &Joint, turn: &Turn<'_>, alive: &mut [u64])
+pub(crate) fn alive_each(joint: &Joint, turn: &Turn<'_>, alive: &mut [u64])
     requires turn { (y : ℕ) × IsTurn (system_of joint.now) (y * band_in (system_of joint.now)) turn.now }
     requires long { band_in (system_of joint.now) ≤ length alive.old }
     ensures long { length alive.new ≡ length alive.old }
@@ -188,7 +185,7 @@ fn clear_seats(joint: &Joint, turn: &Turn<'_>, alive: &[u64], left: &mut [u64])
 
 /// Clears, in `left`, the pairs of a band at which some seat serves the action.
 #[tactic(auto, using(roman_radix::proofs::CallerLemmas::lanes_few))]
-fn clear_served(joint: &Joint, turn: &Turn<'_>, left: &mut [u64])
+pub(crate) fn clear_served(joint: &Joint, turn: &Turn<'_>, left: &mut [u64])
     requires turn { (y : ℕ) × IsTurn (system_of joint.now) (y * band_in (system_of joint.now)) turn.now }
     requires long { length left.old ≡ band_in (system_of joint.now) }
     ensures long { length left.new ≡ length left.old }
@@ -207,7 +204,7 @@ fn clear_served(joint: &Joint, turn: &Turn<'_>, left: &mut [u64])
 
 /// Returns the number of pairs of a band at which the seat `k` serves the action. `alive` holds the
 /// alive lanes of each row's turn.
-fn served_by(joint: &Joint, turn: &Turn<'_>, alive: &[u64], k: u8) -> u32
+pub(crate) fn served_by(joint: &Joint, turn: &Turn<'_>, alive: &[u64], k: u8) -> u32
     requires turn { (y : ℕ) × IsTurn (system_of joint.now) (y * band_in (system_of joint.now)) turn.now }
     requires seat { k < length joint.now.seats }
     requires alive { band_in (system_of joint.now) ≤ length alive.now }
@@ -218,7 +215,7 @@ fn served_by(joint: &Joint, turn: &Turn<'_>, alive: &[u64], k: u8) -> u32
     ensures few { result ≤ 4096 }
 {
     let rows = joint.layout();
-    let many = joint.band() as usize;
+    let many = rows.band as usize;
     let mut room = [0; BAND];
     let left = &mut room[..many];
     set_first(left, many, rows.full);
@@ -231,37 +228,6 @@ fn served_by(joint: &Joint, turn: &Turn<'_>, alive: &[u64], k: u8) -> u32
 }
 
 impl Joint {
-    /// Clears, in `left`, the pairs of a band at which the action `a` isn't allowed or some service
-    /// serves it. `row` is the first row of the band. `left` has one word for each row of the band.
-    /// `words` has, row by row, the bits of the pairs that aren't gone.
-    pub fn unserved_band(&self, row: &Row, words: &[u64], a: u8, left: &mut [u64])
-        requires row { (y : ℕ) × IsRow (system_of self.now) (y * band_in (system_of self.now)) row.now }
-        requires action { a < (system_of self.now).env.actions }
-        requires room { length words.now * lanes_in (system_of self.now) ≡ count (sizes_of (system_of self.now)) }
-        requires long { length left.old ≡ band_in (system_of self.now) }
-        ensures long { length left.new ≡ length left.old }
-        ensures lost { let s = system_of self.now in
-            (y : ℕ) (gone : ℕ → Bool) → IsRow s (y * band_in s) row.now → HasAlive s gone words.now →
-            Keeps (lanes_in s) (y * band_in s) (band_in s) (λ p. is_justified (numbered s) gone p (Act a)) left.old left.new }
-    {
-        self.known(); // no size is 0, a pair's number fits 32 bits
-        if left.len() == 1 {
-            left[0] = self.unserved(row, words, a, left[0]);
-            return;
-        }
-        let Some(to) = target_move_of(self, row, a) else {
-            clear(left);
-            return;
-        };
-        let turn = Turn {
-            words,
-            row,
-            action: a,
-            to,
-        };
-        clear_served(self, &turn, left);
-    }
-
     /// Clears, in `left`, the pairs of a band at which the service `k` serves the action `a`. `row` is
     /// the first row of the band. `left` has one word for each row of the band. `words` has, row by
     /// row, the bits of the pairs that aren't gone.
@@ -290,54 +256,5 @@ impl Joint {
         let mut alive = [0; BAND];
         alive_each(self, &turn, &mut alive);
         clear_seat(self, &turn, &alive, k, left);
-    }
-
-    /// Returns the number of choices of a service for the action `a` at all pairs of a band together,
-    /// at most 131,072: the sum, over the pairs, of the number of services that serve it. `row` is the
-    /// first row of the band. `words` has, row by row, the bits of the pairs that aren't gone.
-    #[tactic(auto, using(roman_radix::proofs::CallerLemmas::lanes_few))]
-    pub fn choices(&self, row: &Row, words: &[u64], a: u8) -> u32
-        requires row { (y : ℕ) × IsRow (system_of self.now) (y * band_in (system_of self.now)) row.now }
-        requires action { a < (system_of self.now).env.actions }
-        requires room { length words.now * lanes_in (system_of self.now) ≡ count (sizes_of (system_of self.now)) }
-        ensures counted { let s = system_of self.now in
-            (y : ℕ) (gone : ℕ → Bool) → IsRow s (y * band_in s) row.now → HasAlive s gone words.now →
-            result ≡ sum_by (λ i. sum_by (λ lane. length (mask_of (numbered s) gone ((y * band_in s + i) * lanes_in s + lane) a))
-            (below (lanes_in s))) (below (band_in s)) }
-        ensures few { result ≤ 131072 }
-    {
-        self.known(); // outcomes need an allowed action and a ready seat, no size is 0
-        let Some(to) = target_move_of(self, row, a) else {
-            return 0;
-        };
-        let turn = Turn {
-            words,
-            row,
-            action: a,
-            to,
-        };
-        let mut alive = [0; BAND];
-        alive_each(self, &turn, &mut alive);
-        let mut count = 0;
-        for k in 0..self.seats() {
-            count += served_by(self, &turn, &alive, k);
-        }
-        count
-    }
-
-    /// Returns the number of rows in a band, from 1 to 64. Row x is row `x % band` of band `x / band`.
-    pub fn band(&self) -> u32
-        ensures value { result ≡ band_in (system_of self.now) }
-        ensures few { (0 < result) × (result ≤ 64) }
-    {
-        self.layout().band
-    }
-
-    /// Returns the number of bands.
-    pub fn bands(&self) -> u32
-        ensures { result * band_in (system_of self.now) * lanes_in (system_of self.now) ≡ count (sizes_of (system_of self.now)) }
-    {
-        let rows = self.layout();
-        rows.rows / rows.band
     }
 }

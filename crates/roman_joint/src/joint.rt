@@ -13,7 +13,6 @@ mod changes;
 mod copies;
 mod looks;
 mod names;
-mod rows;
 mod walks;
 
 use crate::error::JointError;

@@ -1,12 +1,9 @@
 //! Marking the bands from which a band can be reached.
-ghost use Rattle.std.specs.Prelude.{◌≡◌, ℕ, ◌+◌, ◌*◌, ◌^◌, ◌<◌, ◌≤◌, true, length, count_by, ltb};
-ghost use Rattle.roman_model.specs.Arena.{back};
-ghost use Rattle.roman_model.specs.Numbers.{sizes_of, count, numbered};
-ghost use Rattle.roman_lanes.specs.Flags.{has_flag};
+ghost use Rattle.std.specs.Prelude.{◌≡◌, ℕ, ◌+◌, ◌*◌, ◌^◌, ◌<◌};
 ghost use Rattle.roman_joint.specs.NamedSys.{system_of};
-ghost use Rattle.roman_joint.specs.Rows.{lanes_in, IsRow};
-ghost use Rattle.roman_joint.specs.Bands.{mid_in, band_in};
-ghost use Rattle.roman_joint.specs.Marks.{IsMarked, Grows, Marks, IsArrival, IsMoved, IsBeforeSeat, IsBeforeTurn, IsBeforeEnv, IsBeforeAction, MarksBefore, seat_steps, turn_steps, env_steps, action_steps};
+ghost use Rattle.roman_joint.specs.Rows.{IsRow};
+ghost use Rattle.roman_joint.specs.Bands.{mid_in};
+ghost use Rattle.roman_joint.specs.Marks.{IsMarked, Grows, Marks, IsArrival, IsMoved, IsBeforeSeat, IsBeforeTurn, IsBeforeEnv, IsBeforeAction, seat_steps, turn_steps, env_steps, action_steps};
 
 use crate::joint::Joint;
 use crate::row::Row;
@@ -69,7 +66,7 @@ struct Arrival<'a> {
 
 /// Marks the bands from which the seat `k`, before the band's own, goes to its state in the row.
 /// `base` is the earlier row if the seat kept its state.
-#[tactic(auto, using(crate::proofs::GoodLemmas::seats_few, crate::proofs::MarkLemmas::mid_few))]
+#[tactic(auto, using(crate::proofs::GoodLemmas::seats_few))]
 fn mark_seat<L: Ledger>(by: &Arrival<'_>, marks: &mut [u64], base: u64, k: u8, steps: &mut Steps<L>)
     requires arrival { IsArrival by.now }
     requires base { base < 2 ^ 50 }
@@ -118,7 +115,13 @@ fn mark_env<L: Ledger>(by: &Arrival<'_>, marks: &mut [u64], steps: &mut Steps<L>
 }
 
 /// Marks the bands from which the action leads to the row's band.
-fn mark_action<L: Ledger>(joint: &Joint, row: &Row, marks: &mut [u64], a: u8, steps: &mut Steps<L>)
+pub(crate) fn mark_action<L: Ledger>(
+    joint: &Joint,
+    row: &Row,
+    marks: &mut [u64],
+    a: u8,
+    steps: &mut Steps<L>,
+)
     requires row { (x : ℕ) × IsRow (system_of joint.now) x row.now }
     requires action { a < (system_of joint.now).env.actions }
     ensures { let s = system_of joint.now in
@@ -137,29 +140,5 @@ fn mark_action<L: Ledger>(joint: &Joint, row: &Row, marks: &mut [u64], a: u8, st
             action: a,
         };
         mark_env(&by, marks, steps);
-    }
-}
-
-impl Joint {
-    /// Marks each band with a pair that has a pair of the given band as an outcome. It can mark other
-    /// bands as well. `row` is the first row of the given band. `marks` has one flag for each band, 64
-    /// to a word. Flags that are set stay set.
-    ///
-    /// Counts one step for each delegation to a service before the band's own that leads to a given
-    /// pair of the band. That number is the same for each pair of the band.
-    pub fn mark_before<L: Ledger>(&self, row: &Row, marks: &mut [u64], steps: &mut Steps<L>)
-        requires row { (y : ℕ) × IsRow (system_of self.now) (y * band_in (system_of self.now)) row.now }
-        requires room { count (sizes_of (system_of self.now)) ≤ 64 * length marks.old * band_in (system_of self.now) * lanes_in (system_of self.now) }
-        ensures long { length marks.new ≡ length marks.old }
-        ensures marked { MarksBefore (system_of self.now) row.now marks.new }
-        ensures still { (y : ℕ) → has_flag marks.old y ≡ true → has_flag marks.new y ≡ true }
-        ensures steps { let s = system_of self.now in
-            (y i lane : ℕ) → IsRow s (y * band_in s) row.now → i < band_in s → lane < lanes_in s →
-            steps.new ≡ steps.old + count_by (λ d. ltb d.seat (mid_in s)) (back (numbered s) ((y * band_in s + i) * lanes_in s + lane)) }
-    {
-        self.known(); // the system is well formed, a pair's number fits 32 bits
-        for a in 0..self.environment().actions().len() as u8 {
-            mark_action(self, row, marks, a, steps);
-        }
     }
 }

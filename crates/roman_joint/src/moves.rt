@@ -127,7 +127,6 @@ impl Moves {
         requires room { HasPlaces (2 * slice_index shape.now.seats k - 1) self.old }
         ensures added { IsAdded shape.now k behaviour.now.beh e a self.old self.new }
     {
-        shape.known(); // no size is 0, there are at most 32 seats
         let ways = ways_of(shape, rows, behaviour, k, e, a);
         let first = self.moves.len() as u32;
         let last = rows.sizes[k as usize] - 1;
@@ -151,7 +150,6 @@ impl Moves {
         ensures suits { SuitsEnv parts.now.environment.now.env self.new }
         ensures turns { HoldsTurns (system_in parts.now) (turn + 1) self.new }
     {
-        shape.known(); // no size is 0, there are at most 32 seats
         let e = (turn / self.actions) as u8;
         let a = (turn % self.actions) as u8;
         let seats = parts.seats;

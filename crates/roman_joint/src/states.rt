@@ -37,9 +37,9 @@ pub(crate) fn row_state(joint: &Joint, k: u8, x: u32) -> u8
 pub(crate) fn row_states(joint: &Joint, x: u32) -> [u8; PLACES]
     ensures { (k : ℕ) → k < low_in (system_of joint.now) → slice_index result k ≡ lane_state_of (row_sizes (sizes_of (system_of joint.now))) k x }
 {
-    joint.known(); // there are at most 32 seats
+    let rows = joint.layout();
     let mut states = [0; PLACES];
-    for k in 0..joint.layout().low {
+    for k in 0..rows.low {
         states[k as usize] = row_state(joint, k, x);
     }
     states
@@ -132,7 +132,6 @@ pub(crate) fn state_lanes(shape: &Shape, rows: &Rows, k: u8, b: u8) -> u64
     ensures each { (lane : ℕ) → lane < lanes_of shape.now.seats → is_on result lane ≡ lane_has_state (stride_of shape.now k) (slice_index shape.now.seats k) b lane }
     ensures rest { (lane : ℕ) → lanes_of shape.now.seats ≤ lane → is_on result lane ≡ false }
 {
-    shape.known(); // no size is 0, there are at most 32 seats
     let from = u32::from(b) * rows.strides[k as usize];
     (rows.firsts[k as usize] << from) & rows.full
 }

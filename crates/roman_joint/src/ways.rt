@@ -47,7 +47,6 @@ pub(crate) fn ways_of(
     requires { SuitsWays shape.now rows.now k behaviour.now e a }
     ensures { AreWays shape.now k behaviour.now.beh e a result }
 {
-    shape.known(); // no size is 0, there are at most 32 seats
     let size = rows.sizes[k as usize];
     let mut some = 0;
     let mut lanes = [0; WAYS];

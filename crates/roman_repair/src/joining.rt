@@ -13,6 +13,7 @@ use crate::tally::Tally;
 use roman_io::Steps;
 use roman_joint::{Joint, Seat, SeatError};
 use roman_relation::Relation;
+use roman_rules::Rules;
 use std::sync::ledger::Ledger;
 
 /// Adds the service `seat` at the last place. The service must be ready, its name new, and its

@@ -7,6 +7,7 @@ ghost use Rattle.roman_relation.specs.Greatest.{arena_of, HasCaps};
 
 use roman_joint::Joint;
 use roman_order::Order;
+use roman_rules::Rules;
 
 /// Makes all entries of the list wait, and begins an empty list for the pairs of the changed joint.
 /// Requires that no entry waits.

@@ -12,6 +12,7 @@ use crate::settling::replay_and_settle_on;
 use crate::tally::Tally;
 use roman_io::Steps;
 use roman_relation::Relation;
+use roman_rules::Rules;
 use std::sync::ledger::Ledger;
 
 /// Thaws the frozen service at place `k`, so that it takes delegations again. Replays the old list:

@@ -1,5 +1,5 @@
 //! The actions, outcomes and finality of a pair.
-ghost use Rattle.std.specs.Prelude.{◌≡◌, ℕ, ◌+◌, ◌*◌, ◌<◌, ◌≤◌, ◌∷◌, [], Bool, not, length, slice_index, IsTrue, IsFalse};
+ghost use Rattle.std.specs.Prelude.{◌≡◌, ℕ, ◌+◌, ◌*◌, ◌<◌, ◌≤◌, ◌∷◌, [], length, slice_index, IsTrue, IsFalse};
 ghost use Rattle.roman_model.specs.Lists.{IsIn, is_empty};
 ghost use Rattle.roman_model.specs.SystemArena.{beh_next};
 ghost use Rattle.roman_model.specs.Numbers.{sizes_of, count, number, pair_at, numbered};
@@ -7,16 +7,13 @@ ghost use Rattle.roman_model.specs.declared.limits.TheConstants.{MAX_CELLS};
 ghost use Rattle.roman_radix.specs.Radix.{stride_of, env_stride_of, moved};
 ghost use Rattle.roman_joint.specs.NamedSys.{system_of};
 ghost use Rattle.roman_joint.specs.TargetViews.{AreTargetViews, IsTargetView};
-ghost use Rattle.roman_rules.specs.Finding.{HasFinding};
 ghost use Rattle.roman_joint.specs.Outcomes.{outcome_number, outcome_numbers, IsPairWith};
 
 use super::Joint;
 use crate::outcomes::Outcomes;
 use crate::target_view::TargetView;
-use roman_io::Steps;
 use roman_radix::Shape;
-use roman_rules::Finding;
-use std::sync::ledger::Ledger;
+use roman_rules::Rules;
 
 impl Joint {
     /// Returns whether the target allows the action `a` at the pair `p`: whether both the target and
@@ -42,7 +39,7 @@ impl Joint {
     // Returns the target view of a pair: its states of the target and the environment, and their
     // actions.
     #[tactic(auto, using(std::proofs::lemmas::Nat::div_below, crate::proofs::SplitLemmas::joint_sizes, crate::proofs::SplitLemmas::positive_of))]
-    pub(super) fn target_view_at(&self, p: u32) -> TargetView
+    pub(crate) fn target_view_at(&self, p: u32) -> TargetView
         requires { p < count (sizes_of (system_of self.now)) }
         ensures { let s = system_of self.now in
             IsTargetView s.env s.target (pair_at (sizes_of s) p).t (pair_at (sizes_of s) p).e result }
@@ -53,6 +50,7 @@ impl Joint {
 
     /// Returns whether the pair `p` meets clause 2 of an ND-simulation: where the target's state is
     /// final, all services that rest are in final states.
+    #[tactic(auto, using(crate::proofs::ArenaFacts::pair_count))]
     pub fn final_ok(&self, p: u32) -> bool
         requires { p < count (sizes_of (system_of self.now)) }
         ensures { result ≡ (numbered (system_of self.now)).fine p }
@@ -60,43 +58,6 @@ impl Joint {
         let lanes = self.lanes();
         let row = self.row(p / lanes);
         (self.unfine(&row) >> (p % lanes)) & 1 != 1
-    }
-
-    /// Examines the outcomes of the action `a` at the pair `p`, delegated to the service `k`, and
-    /// finds the first that isn't alive. Outcomes are ordered by the environment's next state and then
-    /// by the service's. Requires that the action is allowed at the pair, that the service is ready,
-    /// and that `alive` can be called at every pair. Counts exactly one step, however many outcomes
-    /// there are.
-    pub fn examine<A: Fn(u32) -> bool, L: Ledger>(
-        &self,
-        alive: &A,
-        p: u32,
-        a: u8,
-        k: u8,
-        steps: &mut Steps<L>,
-    ) -> Finding
-        requires pair { p < count (sizes_of (system_of self.now)) }
-        requires seat { k < length self.now.seats }
-        requires allowed { IsTrue ((numbered (system_of self.now)).allows p a) }
-        requires ready { IsTrue ((numbered (system_of self.now)).ready k) }
-        requires callable { (q : ℕ) → q < count (sizes_of (system_of self.now)) → A.pre alive.now q }
-        ensures finding { (gone : ℕ → Bool) → ((q : ℕ) (r : Bool) → q < count (sizes_of (system_of self.now)) → A.post alive.now q r → r ≡ not (gone q))
-            → HasFinding (sizes_of (system_of self.now)) k gone ((numbered (system_of self.now)).outcomes p a k) result }
-        ensures step { steps.new ≡ steps.old + 1 }
-    {
-        steps.tick();
-        let outcomes = self.outcomes(p, a, k);
-        if outcomes.states.is_empty() {
-            return Finding::NoOutcome;
-        }
-        match outcomes.first_gone(alive) {
-            None => Finding::Good,
-            Some((env, state)) => Finding::Leaves {
-                env,
-                state,
-                pair: outcomes.number(env, state),
-            },
-        }
     }
 
     /// Returns the pairs to which the action `a` can lead from the pair `p`, delegated to the service

@@ -19,6 +19,7 @@ use roman_joint::Joint;
 use roman_model::Reason;
 use roman_order::{Event, Order};
 use roman_radix::Shape;
+use roman_rules::Rules;
 
 /// Returns the number of neighbouring pairs in each part into which rows fall when the service `k`
 /// dies, from 1 to 64. Within a part the service has one state, and the renamed pairs of the part

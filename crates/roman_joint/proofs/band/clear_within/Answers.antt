@@ -1,4 +1,4 @@
-use Rattle.roman_joint.proofs.Common.{◌≡◌, ℕ, ◌+◌, ◌-◌, ◌*◌, ◌&&◌, ◌∙◌, not, false, sym, ap, slice_index, list_any, is_on, on_zero, arith, is_beaten, numbered, system_of, seat_of, length-map, band_in, turn_at}
+use Rattle.roman_joint.proofs.Common.{◌≡◌, ℕ, ◌+◌, ◌-◌, ◌*◌, ◌&&◌, ◌∙◌, not, false, sym, ap, slice_index, arith, list_any, is_on, on_zero, is_beaten, numbered, system_of, seat_of, length-map, band_in, turn_at}
 use Rattle.roman_joint.proofs.WordLemmas.{not_not}
 use Rattle.roman_joint.proofs.GoodLemmas.{known, serves_within}
 use Rattle.roman_joint.proofs.BandLemmas.{row_in, known_at, turned, keeps_all, keeps_clear}

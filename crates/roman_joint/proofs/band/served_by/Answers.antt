@@ -1,4 +1,4 @@
-use Rattle.roman_joint.proofs.Common.{◌≡◌, ℕ, ◌+◌, ◌*◌, ◌<◌, true, not, ◌&&◌, slice_index, sum_by, ap, ap₂, ◌∙◌, arith, below, is_beaten, sizes_of, numbered, lanes_few, is_on, HasLanes, sum_below_more, served_by, system_of, lanes_in, band_in, ones_counted, ones_few}
+use Rattle.roman_joint.proofs.Common.{◌≡◌, ℕ, ◌+◌, ◌*◌, ◌<◌, true, not, ◌&&◌, slice_index, sum_by, ap, ap₂, ◌∙◌, arith, below, is_beaten, sizes_of, numbered, lanes_few, is_on, HasLanes, sum_below_more, served_by, ones_counted, ones_few, system_of, lanes_in, band_in}
 use Rattle.roman_joint.proofs.GoodLemmas.{full_on, full_off}
 use Rattle.roman_joint.proofs.band.served_by.Goals as goal
 
@@ -12,7 +12,7 @@ loop-i-preserved c =
       counted = λ y gone ok rows living.
           let x = y * band_in s + i in
           let beaten = λ (p : ℕ). is_beaten (numbered s) gone p c.args.turn.now.action c.args.k in
-          let within : i < band_in s = omega (arith, c.loop-i-test.true, c.band-many.ensures.value) in
+          let within : i < band_in s = omega (arith, c.loop-i-test.true, c.layout-rows.ensures.rows.band) in
           let left = c.clear_seat.ensures.left y gone ok rows living in
           let word : HasLanes w x (λ p. not (beaten p)) c.less.result = record {
             each = λ lane l.
@@ -29,11 +29,11 @@ loop-i-preserved c =
 pub returns-clause-counted : goal.returns-clause-counted
 returns-clause-counted c y gone ok rows living =
     let s = system_of c.args.joint.now in
-    let end : c.loop-i.i ≡ band_in s = omega (arith, c.loop-i-test.false, c.band-many.ensures.value) in
+    let end : c.loop-i.i ≡ band_in s = omega (arith, c.loop-i-test.false, c.layout-rows.ensures.rows.band) in
     c.loop-i.invariant.counted y gone ok rows living ∙ ap (λ m. sum_by (λ (i : ℕ). served_by (numbered s) gone (lanes_in s) (y * band_in s + i) c.args.turn.now.action c.args.k) (below m)) end
 
 pub returns-clause-few : goal.returns-clause-few
-returns-clause-few c = omega (arith, c.loop-i.invariant.bound, c.band-many.ensures.few)
+returns-clause-few c = omega (arith, c.loop-i.invariant.bound, c.layout-rows.ensures.rows.band_range)
 
 pub overflow_add-count : goal.overflow_add-count
-overflow_add-count c = omega (arith, c.loop-i.invariant.bound, ones_few c.less.result c.less.type_inv, c.loop-i-test.true, c.band-many.ensures.few)
+overflow_add-count c = omega (arith, c.loop-i.invariant.bound, ones_few c.less.result c.less.type_inv, c.loop-i-test.true, c.layout-rows.ensures.rows.band_range)

@@ -1,7 +1,7 @@
 use Rattle.roman_joint.proofs.Common.{◌≡◌, ℕ, true, ◌||◌, ◌&&◌, Bool, ltb, add-one, slice_get, ap, ap₂, sym, ◌∙◌, arith, le-ltb, all_below, sizes_of, row_sizes, NamedSys, system_of, low_in, lane_state_of, may_rest, mid_in}
 use Rattle.roman_joint.proofs.SplitLemmas.{joint_sizes}
 use Rattle.roman_joint.proofs.BandLemmas.{own_rows}
-use Rattle.roman_joint.proofs.RestLemmas.{none_own, stopped, mid_low_le}
+use Rattle.roman_joint.proofs.RestLemmas.{none_own, stopped}
 use Rattle.roman_joint.proofs.fine.own_rests.Goals as goal
 use Rattle.roman_joint.proofs.fine.own_rests.Goals.{After-may_rest}
 
@@ -35,5 +35,5 @@ loop-k-preserved c = rw add-one (ap₂ (λ t u. t && u) c.loop-k.invariant (test
 pub returns : goal.returns
 returns c =
     let s = system_of c.args.joint.now in
-    let end : c.loop-k.k ≡ low_in s = omega (arith, c.layout-rows.ensures.rows.low, c.loop-k-test.false, c.loop-k.auto.k-end (omega (arith, c.layout-rows.ensures.rows.low, c.layout-rows.ensures.rows.mid, mid_low_le s))) in
+    let end : c.loop-k.k ≡ low_in s = omega (arith, c.layout-rows.ensures.rows.low, c.loop-k-test.false, c.loop-k.auto.k-end (omega arith)) in
     sym c.loop-k.invariant ∙ ap (all_below (rests c.args.joint.now c.args.i)) end

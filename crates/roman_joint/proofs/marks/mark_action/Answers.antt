@@ -1,4 +1,4 @@
-use Rattle.roman_joint.proofs.Common.{shr_and_one, sym, system_of, true, ◌-◌, ◌∙◌}
+use Rattle.roman_joint.proofs.Common.{shr_and_one, sym, true, ◌-◌, ◌∙◌, system_of}
 use Rattle.roman_joint.proofs.MarkLemmas.{marks_next, none_leads}
 use Rattle.roman_joint.proofs.marks.mark_action.Goals as goal
 

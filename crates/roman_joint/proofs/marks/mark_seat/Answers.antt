@@ -1,14 +1,11 @@
-use Rattle.roman_joint.proofs.Common.{arith, false, sizes_of, system_of, take_all, true, ◌-◌}
+use Rattle.roman_joint.proofs.Common.{arith, false, true, ◌-◌, sizes_of, system_of, take_all}
 use Rattle.roman_joint.proofs.SplitLemmas.{joint_sizes, row_stride}
-use Rattle.roman_joint.proofs.BandLemmas.{mid_low, first_in}
+use Rattle.roman_joint.proofs.BandLemmas.{mid_low}
 use Rattle.roman_joint.proofs.MarkLemmas.{marks_next}
 use Rattle.roman_joint.proofs.marks.mark_seat.Goals as goal
 
 pub prev_states-states-requires-clause-state : goal.prev_states-states-requires-clause-state
 prev_states-states-requires-clause-state g c = c.requires.arrival.row.1.state_range c.args.k (mid_low (system_of c.args.by.now.joint.now) c.args.k c.requires.seat)
-
-pub mark_moved-requires-clause-band : goal.mark_moved-requires-clause-band
-mark_moved-requires-clause-band g c = omega (arith, c.layout-rows.ensures.rows.band, first_in (system_of c.args.by.now.joint.now) (joint_sizes c.args.by.now.joint.now c.layout-rows.ensures.known))
 
 pub loop-b-preserved : goal.loop-b-preserved
 loop-b-preserved g c = marks_next _ _ c.prev_states-states.result.now c.loop-b.b-index _ _ _ _ _ _ c.loop-b-test.true c.loop-b.invariant c.mark_moved.ensures

@@ -1,11 +1,6 @@
-use Rattle.roman_joint.proofs.Common.{ap, arith, row_at, system_of, ◌*◌, ◌+◌, ◌-◌, ◌≡◌}
-use Rattle.roman_joint.proofs.SplitLemmas.{joint_sizes}
-use Rattle.roman_joint.proofs.BandLemmas.{first_in}
+use Rattle.roman_joint.proofs.Common.{ap, arith, ◌*◌, ◌+◌, ◌-◌, ◌≡◌, row_at, system_of}
 use Rattle.roman_joint.proofs.MarkLemmas.{marked_on, marks_above}
 use Rattle.roman_joint.proofs.marks.mark_turn.Goals as goal
-
-pub nonzero_div-base : goal.nonzero_div-base
-nonzero_div-base g c = omega (arith, c.from-2.ensures, c.layout-rows.ensures.rows.band, first_in (system_of c.args.by.now.joint.now) (joint_sizes c.args.by.now.joint.now c.layout-rows.ensures.known))
 
 pub loop-k-preserved : goal.loop-k-preserved
 loop-k-preserved g c =

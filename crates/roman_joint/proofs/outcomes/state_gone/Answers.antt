@@ -1,5 +1,5 @@
-use Rattle.roman_joint.proofs.Common.{◌+◌, ◌*◌, get_or, sym, ◌∙◌, not-true, not-false}
-use Rattle.roman_joint.proofs.Finds.{find_here, find_on, find_end}
+use Rattle.roman_joint.proofs.Common.{ap, ◌+◌, ◌*◌, get_or, sym, ◌∙◌, drop_all, find, not-true, not-false}
+use Rattle.roman_joint.proofs.Finds.{find_next}
 use Rattle.roman_joint.proofs.outcomes.state_gone.Goals as goal
 
 -- a pair is gone exactly if it isn't alive
@@ -9,7 +9,7 @@ returns-then-not-alive-clause-first g c = λ gone told.
     let i = c.loop-state.state-index in
     let answer = told i 0 c.loop-state-test.true c.alive.result (rw c.from.ensures at c.alive.ensures) in
     let passes = not-false (gone (c.args.row + get_or states i 0 * c.args.stride)) (sym answer ∙ c.if-not-alive.true) in
-    sym (find_here (λ b. gone (c.args.row + b * c.args.stride)) states i 0 c.loop-state-test.true passes) ∙ c.loop-state.invariant gone told
+    sym (find_next (λ b. gone (c.args.row + b * c.args.stride)) states i 0 _ c.loop-state-test.true passes) ∙ c.loop-state.invariant gone told
 
 pub loop-state-preserved : goal.loop-state-preserved
 loop-state-preserved g c = λ gone told.
@@ -17,8 +17,8 @@ loop-state-preserved g c = λ gone told.
     let i = c.loop-state.state-index in
     let answer = told i 0 c.loop-state-test.true c.alive.result (rw c.from.ensures at c.alive.ensures) in
     let fails = not-true (gone (c.args.row + get_or states i 0 * c.args.stride)) (sym answer ∙ c.if-not-alive.false) in
-    sym (find_on (λ b. gone (c.args.row + b * c.args.stride)) states i 0 c.loop-state-test.true fails) ∙ c.loop-state.invariant gone told
+    sym (find_next (λ b. gone (c.args.row + b * c.args.stride)) states i 0 _ c.loop-state-test.true fails) ∙ c.loop-state.invariant gone told
 
 pub returns-clause-first : goal.returns-clause-first
 returns-clause-first g c = λ gone told.
-    sym (find_end (λ b. gone (c.args.row + b * c.args.stride)) c.args.states.now c.loop-state.state-index c.loop-state-test.false) ∙ c.loop-state.invariant gone told
+    sym (ap (find (λ b. gone (c.args.row + b * c.args.stride))) (drop_all c.loop-state.state-index c.args.states.now c.loop-state-test.false)) ∙ c.loop-state.invariant gone told

@@ -1,4 +1,4 @@
-use Rattle.roman_joint.proofs.Common.{ap, arith, count, false, length, subst, sym, take_all, true, ◌-◌, ◌<◌, ◌∙◌}
+use Rattle.roman_joint.proofs.Common.{ap, arith, false, length, subst, sym, true, ◌-◌, ◌<◌, ◌∙◌, count, take_all}
 use Rattle.roman_joint.specs.declared.seat.Seat.{Seat}
 use Rattle.roman_joint.proofs.SeatLemmas.{one_read, states_range}
 use Rattle.roman_joint.proofs.seats.sizes_of_seats.Goals as goal

@@ -1,4 +1,4 @@
-use Rattle.roman_joint.proofs.Common.{◌≡◌, ℕ, not, [], cond, slice_get, sym, ap, subst, ◌∙◌, Option, Some, IsTrue, Bool, beh_next, seat_next, is_empty, sizes_of, system_of, seat_of, on_zero, Seat, AreLaneMoves, list_any, stride_of, lane_state_of, ◌+◌, ◌-◌, ◌*◌}
+use Rattle.roman_joint.proofs.Common.{◌≡◌, ℕ, not, [], cond, slice_get, sym, ap, subst, ◌∙◌, Option, Some, IsTrue, Bool, ◌+◌, ◌-◌, ◌*◌, beh_next, seat_next, is_empty, sizes_of, system_of, seat_of, on_zero, Seat, AreLaneMoves, list_any, stride_of, lane_state_of}
 use Rattle.roman_joint.proofs.BehaviourLemmas.{seat_read}
 use Rattle.roman_joint.proofs.states.moves_within.Goals as goal
 

@@ -15,5 +15,5 @@ returns-clause-each c lane l =
     let from : c.from.result * slice_index r.strides k ≡ c.args.b * st = ap₂ (λ m u. m * u) c.from.ensures (laid.within k c.requires.within c.requires.seat) in
     on_and (slice_index r.firsts k * 2 ^ (c.from.result * slice_index r.strides k) % 2 ^ 64) r.full lane
     ∙ (ap₂ (λ a b. a && b) (ap (λ m. is_on (slice_index r.firsts k * 2 ^ m % 2 ^ 64) lane) from
-    ∙ state_shift (slice_index r.firsts k) c.args.b st size lane (λ j m. laid.firsts k j c.requires.seat m) (stride_positive n k c.known.ensures) c.requires.state few) (full_on n r lane laid l)
+    ∙ state_shift (slice_index r.firsts k) c.args.b st size lane (λ j m. laid.firsts k j c.requires.seat m) (stride_positive n k laid.ok) c.requires.state few) (full_on n r lane laid l)
     ∙ and-true (lane_has_state st size c.args.b lane))

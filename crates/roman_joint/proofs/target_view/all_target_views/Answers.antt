@@ -1,4 +1,4 @@
-use Rattle.roman_joint.proofs.Common.{◌≡◌, ◌*◌, ◌/◌, ◌%◌, ◌<◌, ◌≤◌, ◌++◌, ◌∷◌, [], length, ap, sym, ◌∙◌, subst, arith, div_below, length-append, IsTargetView, mul-le-mul}
+use Rattle.roman_joint.proofs.Common.{◌≡◌, ◌*◌, ◌/◌, ◌%◌, ◌<◌, ◌≤◌, ◌++◌, ◌∷◌, [], length, ap, sym, ◌∙◌, subst, arith, mul-le-mul, div_below, length-append, IsTargetView}
 use Rattle.roman_joint.proofs.TargetViewLemmas.{target_views_more}
 use Rattle.roman_joint.proofs.target_view.all_target_views.Goals as goal
 use Rattle.roman_joint.proofs.target_view.all_target_views.Goals.{After-len}

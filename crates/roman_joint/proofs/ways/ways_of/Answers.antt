@@ -55,5 +55,5 @@ returns c =
     let k = c.args.k in
     let own = c.requires.laid.sizes k c.requires.seat in
     let all : (lane : ℕ) → ltb (lane_state_of n k lane) c.loop-d.d ≡ true = λ lane.
-    lt-ltb (lane_state_of n k lane) c.loop-d.d (omega (arith, own, mod_below (lane / stride_of n k) (slice_index n.seats k) (AreSizes-index n.seats k c.known.ensures.seats c.requires.seat).0)) in
+    lt-ltb (lane_state_of n k lane) c.loop-d.d (omega (arith, own, mod_below (lane / stride_of n k) (slice_index n.seats k) (AreSizes-index n.seats k c.requires.laid.ok.seats c.requires.seat).0)) in
     record { each = λ lane l. grind (arith, all lane, c.loop-d.invariant.each lane l); rest = c.loop-d.invariant.rest; goes = λ j lane l. grind (arith, all lane, c.loop-d.invariant.goes j lane l) }

@@ -1,6 +1,6 @@
-use Rattle.roman_joint.proofs.Common.{IsNamedSys, List, ap, arith, named_parts, refl, ◌-◌, ◌∙◌}
+use Rattle.roman_joint.proofs.Common.{IsNamedSys, named_parts, List, ap, arith, refl, ◌-◌, ◌∙◌}
 use Rattle.roman_joint.specs.declared.seat.Seat.{Seat}
-use Rattle.roman_joint.proofs.Shown.{is_joint}
+use Rattle.roman_joint.proofs.SeatChanges.{is_joint}
 use Rattle.roman_joint.proofs.joint.Joint.build.Goals as goal
 use Rattle.roman_joint.proofs.joint.Joint.build.Goals.{In-Some}
 

@@ -1,5 +1,5 @@
 use Rattle.roman_joint.proofs.Common.{named_sys_in, ◌-◌, ◌∙◌}
-use Rattle.roman_joint.proofs.Shown.{is_joint}
+use Rattle.roman_joint.proofs.SeatChanges.{is_joint}
 use Rattle.roman_joint.proofs.joint.Joint.copy.Goals as goal
 
 pub moves_of-requires-clause-seats : goal.moves_of-requires-clause-seats

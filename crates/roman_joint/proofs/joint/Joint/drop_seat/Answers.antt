@@ -1,6 +1,5 @@
-use Rattle.roman_joint.proofs.Common.{Die, IsNamedSys, after, ap, arith, left, named_sys_in, remove, sizes_of, sizes_without, system_of, ◌-◌, ◌∙◌, ◌≡◌}
-use Rattle.roman_joint.proofs.Shown.{is_joint}
-use Rattle.roman_joint.proofs.SeatChanges.{with_seats, gone_known, gone_sizes, gone_system}
+use Rattle.roman_joint.proofs.Common.{Die, after, IsNamedSys, system_of, ap, arith, ◌-◌, ◌∙◌, ◌≡◌, left, named_sys_in, remove, sizes_of, sizes_without}
+use Rattle.roman_joint.proofs.SeatChanges.{is_joint, with_seats, gone_known, gone_sizes, gone_system}
 use Rattle.roman_joint.proofs.joint.Joint.drop_seat.Goals as goal
 
 pub invariant_of-self : goal.invariant_of-self

@@ -1,4 +1,4 @@
-use Rattle.roman_joint.proofs.Common.{IsSpan, Span, arith, count, length, length-map, low_in, refl, seat_of, slice_index_or, span_place, system_of, within_in, ℕ, ◌*◌, ◌+◌, ◌-◌, ◌<◌, ◌≡◌}
+use Rattle.roman_joint.proofs.Common.{IsSpan, span_place, within_in, Span, arith, length, refl, slice_index_or, ℕ, ◌*◌, ◌+◌, ◌-◌, ◌<◌, ◌≡◌, count, length-map, low_in, seat_of, system_of}
 use Rattle.roman_joint.proofs.MoveLemmas.{place_within}
 use Rattle.roman_joint.proofs.joint.Joint.lane_moves.Goals as goal
 use Rattle.roman_joint.proofs.joint.Joint.lane_moves.Goals.{After-from-5}

@@ -1,6 +1,5 @@
-use Rattle.roman_joint.proofs.Common.{IsNamedSys, [], ap, arith, named_sys_in, refl, sizes_of, system_of, ◌++◌, ◌+◌, ◌-◌, ◌∷◌, ◌≡◌}
-use Rattle.roman_joint.proofs.Shown.{is_joint}
-use Rattle.roman_joint.proofs.SeatChanges.{with_seats}
+use Rattle.roman_joint.proofs.Common.{IsNamedSys, system_of, [], ap, arith, refl, ◌++◌, ◌+◌, ◌-◌, ◌∷◌, ◌≡◌, named_sys_in, sizes_of}
+use Rattle.roman_joint.proofs.SeatChanges.{is_joint, with_seats}
 use Rattle.roman_joint.proofs.joint.Joint.push_seat.Goals as goal
 use Rattle.roman_joint.proofs.joint.Joint.push_seat.Goals.{In-Some}
 

@@ -1,6 +1,5 @@
-use Rattle.roman_joint.proofs.Common.{HasSameParts, HoldsMoves, IsNamedSys, NamedSys, ap, arith, length, length-map, named_sys_in, seat_of, sizes_of, subst, sym, system_of, ◌-◌, ◌∙◌, ◌≡◌}
-use Rattle.roman_joint.proofs.Shown.{is_joint}
-use Rattle.roman_joint.proofs.SeatChanges.{with_seats, with_the_seats}
+use Rattle.roman_joint.proofs.Common.{HasSameParts, HoldsMoves, IsNamedSys, NamedSys, seat_of, system_of, ap, arith, length, subst, sym, ◌-◌, ◌∙◌, ◌≡◌, length-map, named_sys_in, sizes_of}
+use Rattle.roman_joint.proofs.SeatChanges.{is_joint, with_seats, with_the_seats}
 use Rattle.roman_joint.proofs.joint.Joint.reset_seats_to.Goals as goal
 use Rattle.roman_joint.proofs.joint.Joint.reset_seats_to.Goals.{After-put_seats}
 

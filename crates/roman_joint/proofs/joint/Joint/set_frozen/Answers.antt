@@ -1,7 +1,6 @@
-use Rattle.roman_joint.proofs.Common.{ap, length, named_sys_in, sym, with_frozen, ◌-◌, ◌<◌, ◌∙◌}
-use Rattle.roman_joint.proofs.Shown.{is_joint}
+use Rattle.roman_joint.proofs.Common.{ap, length, sym, ◌-◌, ◌<◌, ◌∙◌, named_sys_in, with_frozen}
 use Rattle.roman_joint.proofs.MoveLemmas.{moves_frozen}
-use Rattle.roman_joint.proofs.SeatChanges.{with_seats, frozen_set, frozen_known, frozen_sizes}
+use Rattle.roman_joint.proofs.SeatChanges.{is_joint, with_seats, frozen_set, frozen_known, frozen_sizes}
 use Rattle.roman_joint.proofs.joint.Joint.set_frozen.Goals as goal
 
 pub invariant_of-self : goal.invariant_of-self

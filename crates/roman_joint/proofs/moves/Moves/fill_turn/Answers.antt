@@ -1,4 +1,4 @@
-use Rattle.roman_joint.proofs.Common.{Beh, Sizes, [], ap, arith, false, length, length-append, length-map, low_in, low_of, low_of-le, mul-le-mul, mul-le-mul_left, seat_in, seat_of, slice_index, subst, sym, system_in, within_in, ◌*◌, ◌+◌, ◌-◌, ◌∙◌, ◌∷◌, ◌≡◌, ◌≤◌}
+use Rattle.roman_joint.proofs.Common.{Beh, Sizes, [], ap, arith, false, length, mul-le-mul, slice_index, subst, sym, ◌*◌, ◌+◌, ◌-◌, ◌∙◌, ◌∷◌, ◌≡◌, ◌≤◌, length-append, length-map, low_in, low_of, low_of-le, mul-le-mul_left, seat_in, seat_of, system_in, within_in}
 use Rattle.roman_joint.proofs.MoveLemmas.{lanes_room, room_more, seat_here, sizes_long, spans_more, suits_kept, turn_at}
 use Rattle.roman_joint.proofs.moves.Moves.fill_turn.Goals as goal
 
@@ -29,7 +29,7 @@ add-requires-clause-room c =
     let few : within_in (system_in parts) ≤ 32 = omega (arith, known.few) in
     let spans : c.args.turn * within_in (system_in parts) ≤ c.args.turn * 32 = mul-le-mul_left c.args.turn few in
     record {
-      few = omega (arith, more, i.few, i.suits.for_moves, lanes_room c.args.shape.now c.known.ensures, c.requires.turn);
+      few = omega (arith, more, i.few, i.suits.for_moves, lanes_room c.args.shape.now c.requires.rows.ok, c.requires.turn);
       place = omega (arith, spans, few, services, i.from, i.long, i.suits.for_spans, c.requires.turn);
       small = omega (arith, i.suits.for_moves, mul-le-mul known.env.states.1 known.env.actions.1);
     }
@@ -62,6 +62,6 @@ returns-clause-turns c =
     let all : c.loop-k.k - low_in s ≡ within_in s = omega (arith, c.loop-k-test.false, low_of-le c.args.shape.now.seats, length-map parts.seats.now (seat_of parts.catalogue.now)) in
     record {
       long = i.long ∙ (ap (λ m. c.args.turn * within_in s + m) all ∙ omega arith);
-      few = omega (arith, i.few, lanes_room c.args.shape.now c.known.ensures);
+      few = omega (arith, i.few, lanes_room c.args.shape.now c.requires.rows.ok);
       spans_at = i.spans;
     }

@@ -1,4 +1,4 @@
-use Rattle.roman_joint.proofs.Common.{HoldsSpans, SuitsEnv, drop, length, low_in, low_of, system_in, ways_room, within_in, ◌*◌, ◌+◌, ◌-◌, ◌≡◌, ◌≤◌}
+use Rattle.roman_joint.proofs.Common.{HoldsSpans, SuitsEnv, system_in, ways_room, within_in, drop, length, ◌*◌, ◌+◌, ◌-◌, ◌≡◌, ◌≤◌, low_in, low_of}
 use Rattle.roman_joint.proofs.moves.Moves.fill_turn.Given as goal
 
 -- the spans of the services so far are there

@@ -1,5 +1,5 @@
-use Rattle.roman_joint.proofs.Common.{◌≡◌, ℕ, ◌<◌, Bool, List, Option, Some, None, map, get_or, sym, ap, ◌∙◌, find, option_map, outcome_number}
-use Rattle.roman_joint.proofs.Finds.{in_at, if_some, find-map, find_in_first, find_in_rest, find_in_none}
+use Rattle.roman_joint.proofs.Common.{drop_all, flat_map, find, option_map, ◌≡◌, ℕ, ◌<◌, Bool, List, Option, Some, None, map, get_or, sym, ap, ◌∙◌, outcome_number}
+use Rattle.roman_joint.proofs.Finds.{in_at, if_some, find-map, find_in_next}
 use Rattle.roman_joint.proofs.outcomes.Outcomes.first_gone.Goals as goal
 
 found_at : (number : ℕ → ℕ) (gone : ℕ → Bool) (states : List ℕ) (o : Option ℕ) → o ≡ find (λ b. gone (number b)) states → find gone (map number states) ≡ option_map number o
@@ -17,7 +17,7 @@ returns-in-Some-clause-first g c = λ gone told.
     let number = outcome_number c.args.self.now in
     let says = rw c.from.ensures at c.state_gone.ensures.first in
     let first = found_at (number (get_or envs i 0)) gone states (Some c.in-Some.state) (sym c.in-Some.is ∙ says gone (told i 0 c.loop-env-test.true)) in
-    sym (find_in_first (λ e. map (number e) states) gone envs i 0 (number (get_or envs i 0) c.in-Some.state) c.loop-env-test.true first) ∙ c.loop-env.invariant gone told
+    sym (find_in_next (λ e. map (number e) states) gone envs i 0 _ c.loop-env-test.true first) ∙ c.loop-env.invariant gone told
 
 pub loop-env-preserved : goal.loop-env-preserved
 loop-env-preserved g c = λ gone told.
@@ -27,8 +27,8 @@ loop-env-preserved g c = λ gone told.
     let number = outcome_number c.args.self.now in
     let says = rw c.from.ensures at c.state_gone.ensures.first in
     let first = found_at (number (get_or envs i 0)) gone states None (sym c.in_default.is ∙ says gone (told i 0 c.loop-env-test.true)) in
-    sym (find_in_rest (λ e. map (number e) states) gone envs i 0 c.loop-env-test.true first) ∙ c.loop-env.invariant gone told
+    sym (find_in_next (λ e. map (number e) states) gone envs i 0 _ c.loop-env-test.true first) ∙ c.loop-env.invariant gone told
 
 pub returns-clause-first : goal.returns-clause-first
 returns-clause-first g c = λ gone told.
-    sym (find_in_none (λ e. map (outcome_number c.args.self.now e) c.args.self.now.states.now) gone c.args.self.now.envs.now c.loop-env.env-index c.loop-env-test.false) ∙ c.loop-env.invariant gone told
+    sym (ap (λ es. find gone (flat_map (λ e. map (outcome_number c.args.self.now e) c.args.self.now.states.now) es)) (drop_all c.loop-env.env-index c.args.self.now.envs.now c.loop-env-test.false)) ∙ c.loop-env.invariant gone told
