@@ -16,7 +16,7 @@ pub use Rattle.std.specs.Str.Lines.{strip_carriage_return}
 pub use Rattle.itoa.proofs.Decimal.{length_four, length_one, length_pair, length_two}
 pub use Rattle.roman_io.proofs.CallerLemmas.{Puts-after, Wrote-nil, Wrote-then, WrotePrefix-after, WrotePrefix-append}
 pub use Rattle.roman_io.specs.Sink.{Puts, Wrote, WrotePrefix}
-pub use Rattle.roman_model.proofs.CallerLemmas.{ended_lines-text, ended_lines_last, from_push, lines-text, lines_last, text_of_lines-push}
+pub use Rattle.roman_model.proofs.CallerLemmas.{by_test, ended_lines-text, ended_lines_last, from_push, lines-text, lines_last, text_of_lines-push}
 pub use Rattle.roman_model.specs.Lines.{IsLine, ended_lines, lines, onto_ended_line, text_of_lines}
 pub use Rattle.roman_model.specs.System.{has}
 pub use borrow.Author.Tests.{eqb-true, le-ltb, ltb-false, ltb-true, not-true}

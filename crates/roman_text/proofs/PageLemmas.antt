@@ -1,5 +1,5 @@
 -- What a page writes and holds, over several calls.
-use Rattle.roman_text.proofs.Common.{◌≡◌, ℕ, List, [], ◌++◌, Option, Result, Ok, Err, sym, ap, ◌∙◌, append_assoc, append-nil, WrotePrefix, Puts, Wrote-nil, WrotePrefix-append, Gathered, Gathers, Wrote, Wrote-then, WrotePrefix-after, Puts-after}
+use Rattle.roman_text.proofs.Common.{Err, Gathered, Gathers, List, Ok, Option, Puts, Puts-after, Result, Wrote, Wrote-nil, Wrote-then, WrotePrefix, WrotePrefix-after, WrotePrefix-append, [], ap, append-nil, append_assoc, err_from_is_err_and, length_four, length_one, length_pair, length_two, sym, ℕ, ◌++◌, ◌∙◌, ◌≡◌}
 
 -- ---- for callers that fill a page: the beginning, one more text, a fault, and the end
 
@@ -48,3 +48,18 @@ Gathers-flushed old mid new held after more result wrote h =
 -- if writing the held bytes failed, a prefix of them and of the bytes after them was written
 pub gathers_failed : (old new : Option (List ℕ)) (held after more : List ℕ) → WrotePrefix old new held → after ≡ [] → WrotePrefix old new (held ++ more) × (after ≡ [])
 gathers_failed old new held after more wrote empty = (WrotePrefix-append old new held more wrote, empty)
+
+-- if writing the first of two texts failed, a prefix of both was written
+pub gathers_failed_first : (old new : Option (List ℕ)) (held after first second : List ℕ) → WrotePrefix old new (held ++ first) → after ≡ [] → WrotePrefix old new (held ++ (first ++ second)) × (after ≡ [])
+gathers_failed_first old new held after first second wrote empty = rw (← append_assoc held first second) (gathers_failed old new (held ++ first) after second wrote empty)
+
+-- two texts on a page, one after the other
+pub Gathers-second : {T E : Type 0} (old mid new : Option (List ℕ)) (start held after first second : List ℕ) (result : Result T E)
+    → Gathered old mid held (start ++ first) → Gathers mid new after (held ++ second) result → Gathers old new after (start ++ (first ++ second)) result
+Gathers-second old mid new start held after first second result g h = rw (← append_assoc start first second) (Gathers-after old mid new held after (start ++ first) second result g h)
+
+-- several texts on a page, whatever the results
+pub ruleset in_pieces = (gathers_failed, gathers_failed_first, Gathers-second, Gathers-flushed, Puts-after_Gathered, err_from_is_err_and)
+
+-- the number of digits
+pub ruleset digit_counts = (length_one, length_two, length_pair, length_four)

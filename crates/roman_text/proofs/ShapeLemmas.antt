@@ -1,5 +1,5 @@
 -- The shape of a line, from its words.
-use Rattle.roman_text.proofs.Common.{◌≡◌, ℕ, ◌<◌, ◌≤◌, List, [], ◌∷◌, length, Bool, true, false, cond, Result, Ok, Err, refl, sym, ap, ◌∙◌, arith, ltb, kept, words_of, ◌&&◌, codes, le-ltb, strip_carriage_return, LineError, Form, TooLong, bytes_eq, bytes_eq-Decides, ask, hand, saw, abort, freeze, thaw, die, join, jump, jump_env, report, explain, quit, spelling, LineShape, nothing, is_comment, by_words, shape_of_words, alone, with_one, with_two, with_three, with_four, shape_of}
+use Rattle.roman_text.proofs.Common.{Bool, Err, Form, LineError, LineShape, List, Ok, Result, TooLong, [], abort, ap, arith, ask, by_test, by_words, bytes_eq, bytes_eq-Decides, codes, cond, die, explain, false, freeze, hand, is_comment, join, jump, jump_env, kept, le-ltb, length, ltb, nothing, quit, refl, report, saw, shape_of, shape_of_words, spelling, strip_carriage_return, sym, thaw, true, with_four, words_of, ℕ, ◌&&◌, ◌<◌, ◌∙◌, ◌∷◌, ◌≡◌, ◌≤◌}
 use borrow.Author.Tests.{lt-ltb}
 use Rattle.roman_text.proofs.LineLemmas.{kept-short, length-kept}
 
@@ -18,8 +18,8 @@ kept_step true line e = grind (arith, length-kept, too_long)
 kept_step false line e = grind (arith, kept-short)
 
 -- the kept part of a line has the shape of the line
-pub shape_of-kept : (line : List ℕ) → shape_of (kept line) ≡ shape_of line
-shape_of-kept line = kept_step (ltb 256 (length line)) line refl
+pub shape_of_kept : (line : List ℕ) → shape_of (kept line) ≡ shape_of line
+shape_of_kept line = kept_step (ltb 256 (length line)) line refl
 
 -- a line without words
 pub shape_of_blank : (line text : List ℕ) → length line ≤ 256 → text ≡ strip_carriage_return line → words_of text ≡ [] → shape_of line ≡ Ok nothing
@@ -45,40 +45,24 @@ shape_of_event_line line text word more h t e is =
 
 -- ---- the spelling of events
 
-key_step : {P : Type 0} (b : Bool) (word key : List ℕ) (f e : LineShape) (other : Result LineShape LineError) → bytes_eq word key ≡ b
-    → (word ≡ key → f ≡ e → P) → (other ≡ Ok e → P) → cond b (Ok f) other ≡ Ok e → P
-key_step true word key f e other is here there h = here ((bytes_eq-Decides word key).0 is) (cc)
-key_step false word key f e other is here there h = there h
-
--- a test of a word in front of others
-key_or : {P : Type 0} (word key : List ℕ) (f e : LineShape) (other : Result LineShape LineError) → (word ≡ key → f ≡ e → P) → (other ≡ Ok e → P)
-    → cond (bytes_eq word key) (Ok f) other ≡ Ok e → P
-key_or word key f e other here there h = key_step (bytes_eq word key) word key f e other refl here there h
-
 no_event : {P : Type 0} (e : LineShape) → Err Form ≡ Ok e → P
 no_event e h = absurd (cc)
 
-spelled_alone : (w : List ℕ) (e : LineShape) → alone w ≡ Ok e → w ∷ [] ≡ spelling e
-spelled_alone w e h =
-    let here = λ (f : LineShape) (k : List ℕ) (g : k ∷ [] ≡ spelling f) (s : w ≡ k) (t : f ≡ e). ap (λ (x : List ℕ). x ∷ []) s ∙ (g ∙ ap spelling t) in
-    key_or _ _ _ _ _ (here abort (codes "abort") refl) (λ h. key_or _ _ _ _ _ (here report (codes "report") refl)
-    (λ h. key_or _ _ _ _ _ (here explain (codes "explain") refl) (λ h. key_or _ _ _ _ _ (here quit (codes "quit") refl) (no_event _) h) h) h) h
+-- the event of a word, by a table of words and their events
+abbrev looked_up : List (List ℕ × LineShape) → List ℕ → Result LineShape LineError
+looked_up [] w = Err Form
+looked_up (key ∷ keys) w = cond (bytes_eq w key.0) (Ok key.1) (looked_up keys w)
 
-spelled_one : (w a : List ℕ) (e : LineShape) → with_one w a ≡ Ok e → w ∷ a ∷ [] ≡ spelling e
-spelled_one w a e h =
-    let here = λ (f : LineShape) (k : List ℕ) (g : k ∷ a ∷ [] ≡ spelling f) (s : w ≡ k) (t : f ≡ e). ap (λ (x : List ℕ). x ∷ a ∷ []) s ∙ (g ∙ ap spelling t) in
-    key_or _ _ _ _ _ (here (ask a) (codes "do") refl) (λ h. key_or _ _ _ _ _ (here (hand a) (codes "use") refl)
-    (λ h. key_or _ _ _ _ _ (here (freeze a) (codes "freeze") refl) (λ h. key_or _ _ _ _ _ (here (thaw a) (codes "thaw") refl)
-    (λ h. key_or _ _ _ _ _ (here (die a) (codes "die") refl) (λ h. key_or _ _ _ _ _ (here (jump_env a) (codes "jumpenv") refl) (no_event _) h) h) h) h) h) h
+-- each word of the table spells its event, with these operands
+abbrev Spell : List (List ℕ) → List (List ℕ × LineShape) → Type 0
+Spell args [] = Unit {0}
+Spell args (key ∷ keys) = (key.0 ∷ args ≡ spelling key.1) × Spell args keys
 
-spelled_two : (w a b : List ℕ) (e : LineShape) → with_two w a b ≡ Ok e → w ∷ a ∷ b ∷ [] ≡ spelling e
-spelled_two w a b e h =
-    let here = λ (f : LineShape) (k : List ℕ) (g : k ∷ a ∷ b ∷ [] ≡ spelling f) (s : w ≡ k) (t : f ≡ e). ap (λ (x : List ℕ). x ∷ a ∷ b ∷ []) s ∙ (g ∙ ap spelling t) in
-    key_or _ _ _ _ _ (here (saw a b) (codes "saw") refl) (λ h. key_or _ _ _ _ _ (here (jump a b) (codes "jump") refl) (no_event _) h) h
-
-spelled_three : (w a b c : List ℕ) (e : LineShape) → with_three w a b c ≡ Ok e → w ∷ a ∷ b ∷ c ∷ [] ≡ spelling e
-spelled_three w a b c e h =
-    key_or w (codes "join") (join a b c false) e _ (λ s t. ap (λ (x : List ℕ). x ∷ a ∷ b ∷ c ∷ []) s ∙ ap spelling t) (no_event e) h
+spelled : (args : List (List ℕ)) (keys : List (List ℕ × LineShape)) (w : List ℕ) (e : LineShape) → Spell args keys → looked_up keys w ≡ Ok e → w ∷ args ≡ spelling e
+spelled args [] w e all h = no_event e h
+spelled args (key ∷ keys) w e all h = by_test (bytes_eq w key.0)
+    (λ t. let same : key.1 ≡ e = (let first = rw t at h in cc) in ap (λ word. word ∷ args) ((bytes_eq-Decides w key.0).0 t) ∙ all.0 ∙ ap spelling same)
+    (λ f. spelled args keys w e all.1 (rw f at h))
 
 four_step : (b d : Bool) (f e : LineShape) → cond (b && d) (Ok f) (Err Form) ≡ Ok e → (b ≡ true) × (d ≡ true) × (f ≡ e)
 four_step true true f e h = (refl, refl, cc)
@@ -89,10 +73,12 @@ spelled_four : (w a b c d : List ℕ) (e : LineShape) → with_four w a b c d �
 spelled_four w a b c d e h = grind (arith, bytes_eq-Decides, four_step)
 
 spelled_words : (w : List ℕ) (more : List (List ℕ)) (e : LineShape) → by_words w more ≡ Ok e → w ∷ more ≡ spelling e
-spelled_words w [] e h = spelled_alone w e h
-spelled_words w (a ∷ []) e h = spelled_one w a e h
-spelled_words w (a ∷ b ∷ []) e h = spelled_two w a b e h
-spelled_words w (a ∷ b ∷ c ∷ []) e h = spelled_three w a b c e h
+spelled_words w [] e h = spelled [] ((codes "abort", abort) ∷ (codes "report", report) ∷ (codes "explain", explain) ∷ (codes "quit", quit) ∷ []) w e (refl, (refl, (refl, (refl, tt)))) h
+spelled_words w (a ∷ []) e h =
+    let keys = (codes "do", ask a) ∷ (codes "use", hand a) ∷ (codes "freeze", freeze a) ∷ (codes "thaw", thaw a) ∷ (codes "die", die a) ∷ (codes "jumpenv", jump_env a) ∷ [] in
+    spelled (a ∷ []) keys w e (refl, (refl, (refl, (refl, (refl, (refl, tt)))))) h
+spelled_words w (a ∷ b ∷ []) e h = spelled (a ∷ b ∷ []) ((codes "saw", saw a b) ∷ (codes "jump", jump a b) ∷ []) w e (refl, (refl, tt)) h
+spelled_words w (a ∷ b ∷ c ∷ []) e h = spelled (a ∷ b ∷ c ∷ []) ((codes "join", join a b c false) ∷ []) w e (refl, tt) h
 spelled_words w (a ∷ b ∷ c ∷ d ∷ []) e h = spelled_four w a b c d e h
 spelled_words w (a ∷ b ∷ c ∷ d ∷ x ∷ more) e h = no_event e h
 

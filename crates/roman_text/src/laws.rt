@@ -24,6 +24,7 @@ pub fn spell_events()
 {}
 
 /// The part of a line that a splitter holds has the same shape as the whole line.
+#[tactic(auto, using(crate::proofs::ShapeLemmas::shape_of_kept))]
 pub fn keep_shapes()
     ensures kept { (line : List ℕ) → shape_of (kept line) ≡ shape_of line }
 {}

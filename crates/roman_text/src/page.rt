@@ -61,7 +61,7 @@ impl Page {
     /// Appends bytes to the held bytes. Writes the held bytes first if there is no room for the new
     /// ones. A failed call leaves the page empty, and a prefix of all these bytes in the sink.
     #[inline]
-    #[tactic(auto, using(crate::proofs::PageLemmas::gathers_failed, std::proofs::lemmas::Result::err_from_is_err_and))]
+    #[tactic(auto, using(crate::proofs::PageLemmas::in_pieces))]
     pub fn push<O: Sink>(&mut self, bytes: &[u8], out: &mut O) -> Result<(), Failed>
         ensures gathers { Gathers (O.written out.old) (O.written out.new) self.new (self.old ++ bytes.now) result }
         ensures cause { HasCause (O.faults out.old) (O.faults out.new) result }
@@ -99,6 +99,7 @@ impl Page {
 
     /// Appends a number, in decimal digits, and bytes after it, as [`Page::push`] appends bytes.
     #[inline(always)]
+    #[tactic(auto, using(crate::proofs::PageLemmas::in_pieces))]
     pub fn push_number_then<O: Sink>(
         &mut self,
         n: u32,
@@ -141,7 +142,7 @@ impl Page {
     /// Appends a byte and a name after it, as [`Page::push`] appends bytes. Writes the held bytes first
     /// if fewer than 128 bytes of the page are free.
     #[inline]
-    #[tactic(auto, using(crate::proofs::PageLemmas::gathers_failed, std::proofs::lemmas::Result::err_from_is_err_and))]
+    #[tactic(auto, using(crate::proofs::PageLemmas::in_pieces))]
     pub fn push_name<O: Sink>(&mut self, before: u8, name: &Name, out: &mut O) -> Result<(), Failed>
         ensures gathers { Gathers (O.written out.old) (O.written out.new) self.new
             (self.old ++ (before ∷ name.now)) result }
@@ -253,10 +254,11 @@ impl Page {
         self.add(behind);
     }
 
-    /// Adds a number, in decimal digits. Requires room for it.
+    /// Adds a number, in decimal digits. Requires room for ten bytes.
     fn add_number(&mut self, n: u32)
-        requires { length self.old + length (decimal n) ≤ PIECE_BYTES }
-        ensures { self.new ≡ self.old ++ decimal n }
+        requires { length self.old + DIGITS ≤ PIECE_BYTES }
+        ensures text { self.new ≡ self.old ++ decimal n }
+        ensures len { length self.new ≤ length self.old + DIGITS }
     {
         let end = self.len + digits(n);
         write_digits(u64::from(n), &mut self.bytes, end);
@@ -274,8 +276,10 @@ fn copy_name(name: &[u8; NAME], room: &mut [u8])
 }
 
 /// Returns the number of decimal digits of a number.
+#[tactic(auto, using(crate::proofs::PageLemmas::digit_counts))]
 fn digits(n: u32) -> usize
-    ensures { result ≡ length (decimal n) }
+    ensures count { result ≡ length (decimal n) }
+    ensures few { result ≤ DIGITS }
 {
     match n {
         0..=9 => 1,

@@ -18,6 +18,7 @@ use roman_model::MAX_LINE_BYTES;
 /// Fails with `TooLong` exactly when the line has more than 256 bytes. Fails with `Form` exactly when
 /// it has at most 256 bytes and its words aren't those of an event.
 #[inline(always)]
+#[tactic(auto, using(crate::proofs::ShapeLemmas::too_long, crate::proofs::ShapeLemmas::shape_of_blank, crate::proofs::ShapeLemmas::shape_of_comment, crate::proofs::ShapeLemmas::shape_of_event_line))]
 pub fn parse_line(line: &[u8]) -> Result<Event<'_>, LineError>
     ensures shape { Shapes (shape_of line.now) result }
     ensures too_long { (result ≡ Err LineError.TooLong) ↔ (256 < length line.now) }

@@ -1,6 +1,5 @@
 //! Lines of a report, and their bytes.
-ghost use Rattle.std.specs.Prelude.{◌≡◌, ◌≤◌, [], length, codes, if◌then◌else◌};
-ghost use Rattle.roman_text.specs.Lines.{with_newline};
+ghost use Rattle.std.specs.Prelude.{◌≡◌, ◌+◌, ◌≤◌, length, if◌then◌else◌};
 ghost use Rattle.roman_text.specs.Report.{line_text};
 
 use crate::piece::Piece;
@@ -60,9 +59,12 @@ pub fn report_piece(line: &ReportLine) -> Piece
         ReportLine::Environment(state) => text.text(b"environment ").name(state).text(b"\n"),
         ReportLine::Target { state, is_final } => {
             let text = text.text(b"target ").name(state);
-            text.text(target_end(*is_final))
+            text.text(either(*is_final, b" final\n", b" running\n"))
         }
-        ReportLine::Answer(composes) => text.text(b"answer ").text(answer_end(*composes)),
+        ReportLine::Answer(composes) => {
+            let answer = either(*composes, b"composition\n", b"none\n");
+            text.text(b"answer ").text(answer)
+        }
         ReportLine::Offer(action) => text.text(b"offer ").name(action).text(b":"),
         ReportLine::Serves(service) => text.text(b" ").name(service),
         ReportLine::Stop => text.text(b"\n"),
@@ -76,43 +78,16 @@ pub fn report_piece(line: &ReportLine) -> Piece
         } => {
             let text = text.text(b"service ").name(name).text(b" ").name(behaviour);
             let text = text.text(b" ").name(state);
-            text.text(phase_text(*frozen)).text(service_end(*loose))
+            let text = text.text(either(*frozen, b" frozen", b" ready"));
+            text.text(either(*loose, b" loose\n", b"\n"))
         }
     }
 }
 
-/// Returns the end of the line of the target.
-fn target_end(is_final: bool) -> &'static [u8]
-    ensures text { result.now ≡ with_newline (if is_final then codes " final" else codes " running") }
-    ensures short { length result.now ≤ 9 }
+/// Returns the first text where the test holds, and the second otherwise.
+fn either(test: bool, yes: &'static [u8], no: &'static [u8]) -> &'static [u8]
+    ensures text { result.now ≡ (if test then yes.now else no.now) }
+    ensures short { length result.now ≤ length yes.now + length no.now }
 {
-    if is_final { b" final\n" } else { b" running\n" }
-}
-
-/// Returns the end of the line of the answer.
-fn answer_end(composes: bool) -> &'static [u8]
-    ensures text { result.now ≡ with_newline (if composes then codes "composition" else codes "none") }
-    ensures short { length result.now ≤ 12 }
-{
-    if composes {
-        b"composition\n"
-    } else {
-        b"none\n"
-    }
-}
-
-/// Returns the word that says whether a service takes delegations.
-fn phase_text(frozen: bool) -> &'static [u8]
-    ensures text { result.now ≡ (if frozen then codes " frozen" else codes " ready") }
-    ensures short { length result.now ≤ 7 }
-{
-    if frozen { b" frozen" } else { b" ready" }
-}
-
-/// Returns the end of the line of a service.
-fn service_end(loose: bool) -> &'static [u8]
-    ensures text { result.now ≡ with_newline (if loose then codes " loose" else []) }
-    ensures short { length result.now ≤ 7 }
-{
-    if loose { b" loose\n" } else { b"\n" }
+    if test { yes } else { no }
 }

@@ -11,6 +11,7 @@ use roman_io::{Failed, Sink};
 
 /// Writes a reply, as one piece. Fails only when the sink's count of faults rose; a prefix of the
 /// reply was then written.
+#[tactic(auto, using(crate::proofs::PageLemmas::in_pieces))]
 pub fn put_reply<O: Sink>(out: &mut O, reply: &Reply) -> Result<(), Failed>
     ensures puts { Puts (O.written out.old) (O.written out.new) (reply_text reply.now) result }
     ensures cause { HasCause (O.faults out.old) (O.faults out.new) result }

@@ -13,7 +13,7 @@ use crate::replies::Reply;
 use roman_io::{Failed, Sink};
 use roman_read::Name;
 
-#[tactic(auto, using(crate::proofs::PageLemmas::gathers_failed, std::proofs::lemmas::Result::err_from_is_err_and))]
+#[tactic(auto, using(crate::proofs::PageLemmas::in_pieces))]
 impl Page {
     /// Appends a reply, as [`Page::push`] appends bytes. Writes the held bytes first if fewer than
     /// 128 bytes of the page are free.
