@@ -1,5 +1,5 @@
 -- The place of a name in a list of names.
-use Rattle.std.proofs.Common.{◌≡◌, ℕ, zero, suc, ◌+◌, ◌<◌, List, [], ◌∷◌, ◌++◌, length, take, Bool, true, false, not, cond, ◌&&◌, ◌||◌, Some, None, IsTrue, slice_get, true≢false, refl, sym, ap, ◌∙◌, arith}
+use Rattle.std.proofs.Common.{◌≡◌, ℕ, zero, suc, ◌+◌, ◌<◌, List, [], ◌∷◌, ◌++◌, length, take, Bool, true, false, ◌&&◌, ◌||◌, Some, None, IsTrue, slice_get, true≢false, refl, sym, ap, ◌∙◌, arith}
 use Rattle.std.specs.List.{list_all, list_any, position, position_or_len, AllByRecursion, IsDistinct}
 use Rattle.std.specs.Str.{bytes_eq}
 use Rattle.std.proofs.lemmas.Bool.{le-ltb, lt-ltb, or_from}
@@ -11,23 +11,15 @@ use Rattle.roman_read.specs.Names.{is_name, place_of}
 
 -- ---- in any list
 
-length_step : (b c : Bool) (m n : ℕ) → (b || c) ≡ false → (c ≡ false → m ≡ n) → cond (not b) (1 + m) 0 ≡ suc n
-length_step true c m n h k = absurd (true≢false h)
-length_step false c m n h k = let e : m ≡ n = k h in omega arith
-
 -- where no element passes the test, the search ends at the end of the list
-pub position_or_len-none : {X : Type 0} (p : X → Bool) (xs : List X) → list_any p xs ≡ false → position_or_len p xs ≡ length xs
+position_or_len-none : {X : Type 0} (p : X → Bool) (xs : List X) → list_any p xs ≡ false → position_or_len p xs ≡ length xs
 position_or_len-none p [] h = refl
-position_or_len-none p (x ∷ xs) h = length_step (p x) (list_any p xs) (position_or_len p xs) (length xs) h (position_or_len-none p xs)
-
-within_step : (b c : Bool) (m n : ℕ) → (b || c) ≡ true → (c ≡ true → m < n) → cond (not b) (1 + m) 0 < suc n
-within_step true c m n h k = omega arith
-within_step false c m n h k = let e : m < n = k h in omega arith
+position_or_len-none p (x ∷ xs) h = grind (arith, (position_or_len-none p xs))
 
 -- where some element passes the test, the search ends within the list
-pub position_or_len-some : {X : Type 0} (p : X → Bool) (xs : List X) → list_any p xs ≡ true → position_or_len p xs < length xs
+position_or_len-some : {X : Type 0} (p : X → Bool) (xs : List X) → list_any p xs ≡ true → position_or_len p xs < length xs
 position_or_len-some p [] h = absurd (true≢false (sym h))
-position_or_len-some p (x ∷ xs) h = within_step (p x) (list_any p xs) (position_or_len p xs) (length xs) h (position_or_len-some p xs)
+position_or_len-some p (x ∷ xs) h = grind (arith, (position_or_len-some p xs))
 
 pub position-none : {X : Type 0} (p : X → Bool) (xs : List X) → list_any p xs ≡ false → position p xs ≡ None
 position-none p xs h = grind (arith, le-ltb, position_or_len-none)
@@ -49,26 +41,14 @@ place_of-present names bytes h = position-some (bytes_eq bytes) names h
 pub place_is_length : (names : List (List ℕ)) (bytes : List ℕ) → list_any (bytes_eq bytes) names ≡ false → position_or_len (bytes_eq bytes) names ≡ length names
 place_is_length names bytes h = position_or_len-none (bytes_eq bytes) names h
 
-other_step : (q : List ℕ → Bool) (bytes name : List ℕ) (b c : Bool) → b ≡ bytes_eq bytes name → (q name && c) ≡ true → q bytes ≡ false → b ≡ false
-other_step q bytes name false c e h k = refl
-other_step q bytes name true c e h k = grind (arith, bytes_eq-Decides)
-
-rest_step : (a c : Bool) → (a && c) ≡ true → c ≡ true
-rest_step true c h = h
-rest_step false c h = absurd (true≢false (sym h))
-
 -- bytes that fail a test which all names of a list pass aren't one of the names
 pub list_any-failing : (q : List ℕ → Bool) (names : List (List ℕ)) (bytes : List ℕ) → list_all q names ≡ true → q bytes ≡ false → list_any (bytes_eq bytes) names ≡ false
 list_any-failing q [] bytes h k = refl
-list_any-failing q (name ∷ names) bytes h k = grind (arith, other_step, rest_step, (list_any-failing q names bytes (rest_step (q name) (list_all q names) h) k))
-
-no_name_step : (names : List (List ℕ)) (bytes : List ℕ) (b : Bool) → is_name bytes ≡ b → IsTrue (list_all is_name names) → (IsTrue (is_name bytes) → ⊥) → place_of names bytes ≡ None
-no_name_step names bytes true e h k = absurd (k e)
-no_name_step names bytes false e h k = place_of-absent names bytes (list_any-failing is_name names bytes h e)
+list_any-failing q (name ∷ names) bytes h k = grind (arith, bytes_eq-Decides, (list_any-failing q names bytes))
 
 -- bytes that aren't a name have no place among names
 pub place_of-no_name : (names : List (List ℕ)) (bytes : List ℕ) → IsTrue (list_all is_name names) → (IsTrue (is_name bytes) → ⊥) → place_of names bytes ≡ None
-place_of-no_name names bytes h k = no_name_step names bytes (is_name bytes) refl h k
+place_of-no_name names bytes h k = grind (arith, place_of-absent, (list_any-failing is_name names bytes))
 
 later_differs : (x : List ℕ) (names : List (List ℕ)) (i : ℕ) (name : List ℕ) → AllByRecursion (λ y. bytes_eq x y ≡ false) names → slice_get names i ≡ Some name → bytes_eq name x ≡ false
 later_differs x [] i name apart at = absurd (none-some name at)
