@@ -1,7 +1,7 @@
 -- What the proof pages of this crate cite from elsewhere, passed on from one place. Declares nothing.
-pub use Rattle.std.proofs.Common.{Bool, Bor, IsTrue, List, None, [], add-one, ap, arith, codes, drop, drop-cons, get_or, inl, inr, length, lit<, lit≤, map, nat_lt, refl, subst, suc, sym, take, true, zero, ℕ, ◌&&◌, ◌++◌, ◌+◌, ◌<◌, ◌==◌, ◌∙◌, ◌∷◌, ◌≡◌, ◌≤◌}
+pub use Rattle.std.proofs.Common.{Bool, Bor, IsTrue, List, None, [], add-one, ap, append-nil, append_assoc, ap₂, arith, codes, drop, drop-cons, get_or, inl, inr, length, length-append, lit<, lit≤, map, nat_lt, refl, subst, suc, sym, take, true, zero, ℕ, ◌&&◌, ◌++◌, ◌+◌, ◌<◌, ◌==◌, ◌∙◌, ◌∷◌, ◌≡◌, ◌≤◌}
 pub use Rattle.std.proofs.lemmas.Bool.{and_parts, eqb-true, ltb-true}
-pub use Rattle.std.proofs.lemmas.List.{get_or-map, length-map, length-take-le, length_push, take-map, take_more}
+pub use Rattle.std.proofs.lemmas.List.{drop_all, length-map, length-take-le, take-map}
 pub use Rattle.std.proofs.lemmas.List.Elements.{All-cons, All-from_recursion, All-map}
 pub use Rattle.std.proofs.lemmas.Simd.{map-map}
 pub use Rattle.std.specs.List.{list_all}

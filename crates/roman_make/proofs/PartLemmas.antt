@@ -1,17 +1,15 @@
 -- The parts that are made are the parts of the definitions.
-use Rattle.roman_make.proofs.Common.{◌≡◌, ℕ, ◌<◌, ◌==◌, ◌&&◌, ◌∷◌, [], List, list_all, length, get_or, map, take, Bor, Bool, true, IsTrue, nat_lt, codes, refl, ap, sym, ◌∙◌, subst, inl, inr, arith, and_parts, eqb-true, ltb-true, All-from_recursion, take-map, map-map, states_below, IsIn, normal_env, normal_beh, Beh, Move, has_move, IsDeterministic, any_true, move_test, from_normal_move, listed_env, listed_beh, AreMoves, NamedEnv, NamedBeh, NamedTarget, idle_worker, floor, floor_states, floor_actions, worker, worker_states, shift, shift_states, FLOOR_STEPS, WORKER_STEPS, SHIFT_STEPS}
+use Rattle.roman_make.proofs.Common.{◌≡◌, ℕ, ◌<◌, ◌==◌, ◌&&◌, ◌∷◌, [], List, length, get_or, map, take, Bor, Bool, true, IsTrue, nat_lt, codes, refl, ap, ap₂, sym, ◌∙◌, subst, inl, inr, arith, list_all, and_parts, eqb-true, ltb-true, All-from_recursion, take-map, map-map, states_below, IsIn, normal_env, normal_beh, Beh, Move, has_move, IsDeterministic, any_true, move_test, from_normal_move, listed_env, listed_beh, AreMoves, NamedEnv, NamedBeh, NamedTarget, idle_worker, floor, floor_states, floor_actions, worker, worker_states, shift, shift_states, FLOOR_STEPS, WORKER_STEPS, SHIFT_STEPS}
 use Rattle.std.specs.List.{AllByRecursion as ByRecursion}
 
 -- ---- the environment
-
-env_path : {a b : NamedEnv} → a.states ≡ b.states → a.actions ≡ b.actions → a.env ≡ b.env → a ≡ b
-env_path s a e = λ i. record { states = s i; actions = a i; env = e i }
 
 -- the environment from the tables is the floor
 pub floor_is : (made : NamedEnv) (states actions : List (List ℕ)) → states ≡ floor_states → actions ≡ floor_actions → (made.states ≡ states) × (made.actions ≡ actions)
     → made.env ≡ normal_env (listed_env (length states) (length actions) 0 FLOOR_STEPS) → made ≡ floor
 unfolding floor
-floor_is made states actions s a (ms, ma) normal = grind (arith, env_path)
+floor_is made states actions s a (ms, ma) normal =
+    λ i. record { states = (ms ∙ s) i; actions = (ma ∙ a) i; env = (normal ∙ ap₂ (λ n m. normal_env (listed_env n m 0 FLOOR_STEPS)) (ap length s) (ap length a)) i }
 
 -- ---- the steps of machines
 
@@ -23,17 +21,19 @@ always rows = map (λ row. (row.0, 1, row.1, row.2)) rows
 abbrev is_within : ℕ → ℕ × ℕ × ℕ × ℕ → Bool
 is_within states m = nat_lt m.0 states && nat_lt m.2 5 && nat_lt m.3 states
 
--- the numbers of each step are in range
-within_all : (states : ℕ) (steps : List (ℕ × ℕ × ℕ × ℕ)) → list_all (is_within states) steps ≡ true → AreMoves states 5 steps
-within_all states steps t = All-from_recursion (λ m. (m.0 < states) × (m.2 < 5) × (m.3 < states)) steps (each steps t)
+-- the numbers of each step of a machine over the floor are in range
+pub moves_within : (env : NamedEnv) (states : List (List ℕ)) (steps rows : List (ℕ × ℕ × ℕ × ℕ)) (n : ℕ) → env ≡ floor → length states ≡ n → steps ≡ rows → list_all (is_within n) rows ≡ true
+    → AreMoves (length states) env.env.actions steps
+unfolding floor
+moves_within env states steps rows n e l r t = rw (e, l, r) (All-from_recursion (λ m. (m.0 < n) × (m.2 < 5) × (m.3 < n)) rows (each rows t))
   where
-    each : (ms : List (ℕ × ℕ × ℕ × ℕ)) → list_all (is_within states) ms ≡ true → ByRecursion (λ m. (m.0 < states) × (m.2 < 5) × (m.3 < states)) ms
+    each : (ms : List (ℕ × ℕ × ℕ × ℕ)) → list_all (is_within n) ms ≡ true → ByRecursion (λ m. (m.0 < n) × (m.2 < 5) × (m.3 < n)) ms
     each [] h = tt
     each (m ∷ ms) h =
-        let (here, rest) = and_parts (is_within states m) (list_all (is_within states) ms) h in
-        let (ends, to) = and_parts (nat_lt m.0 states && nat_lt m.2 5) (nat_lt m.3 states) here in
-        let (from, action) = and_parts (nat_lt m.0 states) (nat_lt m.2 5) ends in
-        ((ltb-true m.0 states from, ltb-true m.2 5 action, ltb-true m.3 states to), each ms rest)
+        let (here, rest) = and_parts (is_within n m) (list_all (is_within n) ms) h in
+        let (ends, to) = and_parts (nat_lt m.0 n && nat_lt m.2 5) (nat_lt m.3 n) here in
+        let (from, action) = and_parts (nat_lt m.0 n) (nat_lt m.2 5) ends in
+        ((ltb-true m.0 n from, ltb-true m.2 5 action, ltb-true m.3 n to), each ms rest)
 
 -- a property of all elements holds of each
 each_in : (p : Move → Bool) (ms : List Move) (m : Move) → list_all p ms ≡ true → IsIn m ms → p m ≡ true
@@ -49,39 +49,21 @@ over_floor env states finals steps rows n e l r = rw (e, l, r) refl
 
 -- ---- the worker
 
-beh_path : {a b : NamedBeh} → a.name ≡ b.name → a.states ≡ b.states → a.env_states ≡ b.env_states → a.actions ≡ b.actions → a.beh ≡ b.beh → a ≡ b
-beh_path n s e a x = λ i. record { name = n i; states = s i; env_states = e i; actions = a i; beh = x i }
-
--- the steps of the worker are in range
-pub worker_moves : (env : NamedEnv) (states : List (List ℕ)) (steps : List (ℕ × ℕ × ℕ × ℕ)) → env ≡ floor → states ≡ worker_states → steps ≡ always WORKER_STEPS
-    → AreMoves (length states) env.env.actions steps
-unfolding floor
-worker_moves env states steps e s made = rw (e, s, made) (within_all 3 (always WORKER_STEPS) refl)
-
-worker_beh : normal_beh 1 5 (listed_beh 3 0 (0 ∷ 2 ∷ []) (always WORKER_STEPS)) ≡ worker.beh
-unfolding worker states_below
-worker_beh = refl
-
 -- the behaviour from the tables is the worker
 pub worker_is : (made : NamedBeh) (env : NamedEnv) (name : List ℕ) (states : List (List ℕ)) (steps : List (ℕ × ℕ × ℕ × ℕ))
     → env ≡ floor → name ≡ codes "worker" → states ≡ worker_states → steps ≡ always WORKER_STEPS → (made.name ≡ name) × (made.states ≡ states)
     → (made.env_states ≡ env.env.states) × (made.actions ≡ env.env.actions) → made.beh ≡ normal_beh env.env.states env.env.actions (listed_beh (length states) 0 (0 ∷ 2 ∷ []) steps)
     → made ≡ worker
-unfolding floor worker
-worker_is made env name states steps e n s rows (named, listed) (env_states, actions) normal =
-    beh_path (named ∙ n) (listed ∙ s) (env_states ∙ ap (λ x. x.env.states) e) (actions ∙ ap (λ x. x.env.actions) e)
-    (normal ∙ over_floor env states (0 ∷ 2 ∷ []) steps (always WORKER_STEPS) 3 e (ap length s) rows ∙ worker_beh)
+unfolding floor worker states_below
+worker_is made env name states steps e n s rows (named, listed) (env_states, actions) normal = λ i. record {
+  name = (named ∙ n) i;
+  states = (listed ∙ s) i;
+  env_states = (env_states ∙ ap (λ x. x.env.states) e) i;
+  actions = (actions ∙ ap (λ x. x.env.actions) e) i;
+  beh = (normal ∙ over_floor env states (0 ∷ 2 ∷ []) steps (always WORKER_STEPS) 3 e (ap length s) rows) i;
+}
 
 -- ---- the target
-
-target_path : {a b : NamedTarget} → a.states ≡ b.states → a.env_states ≡ b.env_states → a.actions ≡ b.actions → a.beh ≡ b.beh → a ≡ b
-target_path s e a x = λ i. record { states = s i; env_states = e i; actions = a i; beh = x i }
-
--- the steps of the shift are in range
-pub shift_moves : (env : NamedEnv) (states : List (List ℕ)) (steps : List (ℕ × ℕ × ℕ × ℕ)) → env ≡ floor → states ≡ shift_states → steps ≡ always SHIFT_STEPS
-    → AreMoves (length states) env.env.actions steps
-unfolding floor
-shift_moves env states steps e s made = rw (e, s, made) (within_all 4 (always SHIFT_STEPS) refl)
 
 -- the state to which each action of the shift leads
 abbrev shift_to : ℕ → ℕ
@@ -98,18 +80,17 @@ shift_single env states steps e s rows =
     let beh = listed_beh 4 0 (0 ∷ []) (always SHIFT_STEPS) in
     one_to beh b e a b1 refl h1 ∙ sym (one_to beh b e a b2 refl h2))
 
-shift_beh : normal_beh 1 5 (listed_beh 4 0 (0 ∷ []) (always SHIFT_STEPS)) ≡ shift.beh
-unfolding shift states_below
-shift_beh = refl
-
 -- the target from the tables is the shift
 pub shift_is : (made : NamedTarget) (env : NamedEnv) (states : List (List ℕ)) (steps : List (ℕ × ℕ × ℕ × ℕ)) → env ≡ floor → states ≡ shift_states → steps ≡ always SHIFT_STEPS
     → made.states ≡ states → (made.env_states ≡ env.env.states) × (made.actions ≡ env.env.actions)
     → made.beh ≡ normal_beh env.env.states env.env.actions (listed_beh (length states) 0 (0 ∷ []) steps) → made ≡ shift
-unfolding floor shift
-shift_is made env states steps e s rows listed (env_states, actions) normal =
-    target_path (listed ∙ s) (env_states ∙ ap (λ x. x.env.states) e) (actions ∙ ap (λ x. x.env.actions) e)
-    (normal ∙ over_floor env states (0 ∷ []) steps (always SHIFT_STEPS) 4 e (ap length s) rows ∙ shift_beh)
+unfolding floor shift states_below
+shift_is made env states steps e s rows listed (env_states, actions) normal = λ i. record {
+  states = (listed ∙ s) i;
+  env_states = (env_states ∙ ap (λ x. x.env.states) e) i;
+  actions = (actions ∙ ap (λ x. x.env.actions) e) i;
+  beh = (normal ∙ over_floor env states (0 ∷ []) steps (always SHIFT_STEPS) 4 e (ap length s) rows) i;
+}
 
 -- ---- the services
 

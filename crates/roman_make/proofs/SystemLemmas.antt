@@ -25,14 +25,11 @@ workers_once = once_from_map (number_in worker_names) worker_names (HasNoRepeats
 
 -- ---- the library
 
-library_path : {a b : PlainLibrary} → a.environment ≡ b.environment → a.catalogue ≡ b.catalogue → a.services ≡ b.services → a.target ≡ b.target → a.limit ≡ b.limit → a ≡ b
-library_path e c s t l = λ i. record { environment = e i; catalogue = c i; services = s i; target = t i; limit = l i }
-
 -- the parts that are made are the parts of the library
 pub library_is : (made_library : PlainLibrary) (n : ℕ) → made_library.environment ≡ floor → made_library.catalogue ≡ worker ∷ [] → made_library.services ≡ map idle_worker (take n worker_names)
     → made_library.target ≡ shift → made_library.limit ≡ 4_194_304 → made_library ≡ made n
 unfolding made
-library_is made_library n e c s t l = library_path e c s t l
+library_is made_library n e c s t l = λ i. record { environment = e i; catalogue = c i; services = s i; target = t i; limit = l i }
 
 few_workers : (n : ℕ) → n ≤ 10 → length (map idle_worker (take n worker_names)) ≤ 32
 few_workers n few = rw (length-map (take n worker_names) idle_worker, length-take-le n worker_names few) (omega arith)

@@ -3,7 +3,7 @@ ghost use Rattle.std.specs.Prelude.{◌≡◌};
 ghost use Rattle.roman_make.specs.Errors.{make_error_number};
 ghost use Rattle.roman_make.specs.declared.error.MakeError.TheVariants.{Memory};
 
-use std::alloc::{AllocError, AllocFailed};
+use std::alloc::AllocError;
 use thiserror::Error;
 
 /// Why a system wasn't made.
@@ -33,14 +33,6 @@ impl From<AllocError> for MakeError {
     ghost from_gives = { λ _ error. error ≡ Memory };
 
     fn from(_error: AllocError) -> MakeError {
-        MakeError::Memory
-    }
-}
-
-impl<T: Drop> From<AllocFailed<T>> for MakeError {
-    ghost from_gives = { λ _ error. error ≡ Memory };
-
-    fn from(_error: AllocFailed<T>) -> MakeError {
         MakeError::Memory
     }
 }

@@ -1,10 +1,10 @@
-use Rattle.roman_make.proofs.Common.{◌∙◌}
-use Rattle.roman_make.proofs.PartLemmas.{shift_moves, shift_single, shift_is}
+use Rattle.roman_make.proofs.Common.{◌∙◌, ap, length, refl, SHIFT_STEPS}
+use Rattle.roman_make.proofs.PartLemmas.{always, moves_within, shift_single, shift_is}
 use Rattle.roman_make.proofs.parts.make_shift.Goals as goal
 
 pub from_lists-requires-clause-steps : goal.from_lists-requires-clause-steps
 from_lists-requires-clause-steps c =
-    shift_moves c.args.env.now c.in_ok-states.states c.deref.result.now c.requires c.in_ok-states.ensures (c.deref.ensures.value ∙ c.in_ok-steps.ensures)
+    moves_within c.args.env.now c.in_ok-states.states c.deref.result.now (always SHIFT_STEPS) 4 c.requires (ap length c.in_ok-states.ensures) (c.deref.ensures.value ∙ c.in_ok-steps.ensures) refl
 
 pub from_lists-requires-clause-single : goal.from_lists-requires-clause-single
 from_lists-requires-clause-single c =

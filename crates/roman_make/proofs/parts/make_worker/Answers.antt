@@ -1,10 +1,10 @@
-use Rattle.roman_make.proofs.Common.{◌∙◌}
-use Rattle.roman_make.proofs.PartLemmas.{worker_moves, worker_is}
+use Rattle.roman_make.proofs.Common.{◌∙◌, ap, length, refl, WORKER_STEPS}
+use Rattle.roman_make.proofs.PartLemmas.{always, moves_within, worker_is}
 use Rattle.roman_make.proofs.parts.make_worker.Goals as goal
 
 pub from_lists-requires-clause-steps : goal.from_lists-requires-clause-steps
 from_lists-requires-clause-steps c =
-    worker_moves c.args.env.now c.in_ok-states.states c.deref.result.now c.requires c.in_ok-states.ensures (c.deref.ensures.value ∙ c.in_ok-steps.ensures)
+    moves_within c.args.env.now c.in_ok-states.states c.deref.result.now (always WORKER_STEPS) 3 c.requires (ap length c.in_ok-states.ensures) (c.deref.ensures.value ∙ c.in_ok-steps.ensures) refl
 
 pub returns-clause-worker : goal.returns-clause-worker
 returns-clause-worker c =
