@@ -168,8 +168,9 @@ pub record OwnSeat (s : Sys) (r : Rows) (k : ℕ) : Type 0 where
   pub size_some : 0 < slice_index r.sizes k
   pub byte : slice_index r.sizes k ≤ 2 ^ 8
 
-pub own_seat : (s : Sys) (r : Rows) (k : ℕ) → IsSizes (sizes_of s) → AreRowsOf (sizes_of s) r → k < low_in s → OwnSeat s r k
-own_seat s r k sizes laid low =
+pub own_seat : (s : Sys) (r : Rows) (k : ℕ) → AreRowsOf (sizes_of s) r → k < low_in s → OwnSeat s r k
+own_seat s r k laid low =
+    let sizes = laid.ok in
     let n = sizes_of s in
     let m = row_sizes n in
     let msizes = IsSizes-rows n sizes in
@@ -198,11 +199,12 @@ pub record OwnRows (s : Sys) (r : Rows) (k : ℕ) : Type 0 where
   pub taken : (i : ℕ) → i < band_in s → lane_state_of (row_sizes (sizes_of s)) k i * slice_index r.strides k ≤ i
   pub moves : (i b : ℕ) → i < band_in s → b < slice_index (sizes_of s).seats k → i + b * slice_index r.strides k - lane_state_of (row_sizes (sizes_of s)) k i * slice_index r.strides k < band_in s
 
-pub own_rows : (s : Sys) (r : Rows) (k : ℕ) → IsSizes (sizes_of s) → AreRowsOf (sizes_of s) r → mid_in s ≤ k → k < low_in s → OwnRows s r k
-own_rows s r k sizes laid within low =
+pub own_rows : (s : Sys) (r : Rows) (k : ℕ) → AreRowsOf (sizes_of s) r → mid_in s ≤ k → k < low_in s → OwnRows s r k
+own_rows s r k laid within low =
+    let sizes = laid.ok in
     let m = row_sizes (sizes_of s) in
     let msizes = IsSizes-rows (sizes_of s) sizes in
-    let own = own_seat s r k sizes laid low in
+    let own = own_seat s r k laid low in
     let seats : k < length m.seats = omega (arith, low, length_rows (sizes_of s)) in
     let step = slice_index r.sizes k * slice_index r.strides k in
     let (many, e) = lanes_parts m k within seats in
@@ -237,7 +239,7 @@ module _ (s : Sys) (r : Rows) (y a : ℕ) (first : Row) (turn : TargetMove) (h :
       let x = y * band_in s + i in
       let row = row_in s x first in
       let there = turned s r y a first turn h laid ok i l in
-      let own = own_rows s r k h.sizes laid within low in
+      let own = own_rows s r k laid within low in
       let is : part ≡ slice_index row.states k = sym ((in_band s y i first h.sizes h.looked l).within k within low ∙ is_part) in
       let taken : part * u ≤ i = rw is_part at (own.taken i l) in
       let base = turn.base + i - part * u in

@@ -46,8 +46,8 @@ pub quotient : (a m w : ℕ) → 0 < w → m * w ≡ a → a / w ≡ m
 quotient a m w pos is = factor (a / w) m w pos (exact a m w pos (sym is) ∙ sym is)
 
 -- the stride of a seat before the lanes, counted in rows
-pub row_stride : (n : Sizes) (r : Rows) (k : ℕ) → IsSizes n → AreRowsOf n r → k < low_of n.seats → slice_index r.strides k ≡ stride_of n k / lanes_of n.seats
-row_stride n r k h rows l = factor (slice_index r.strides k) (stride_of n k / lanes_of n.seats) (lanes_of n.seats) (lanes_positive n.seats h.seats) (rows.before k l ∙ sym (stride_rows n k h l))
+pub row_stride : (n : Sizes) (r : Rows) (k : ℕ) → AreRowsOf n r → k < low_of n.seats → slice_index r.strides k ≡ stride_of n k / lanes_of n.seats
+row_stride n r k rows l = factor (slice_index r.strides k) (stride_of n k / lanes_of n.seats) (lanes_of n.seats) (lanes_positive n.seats rows.ok.seats) (rows.before k l ∙ sym (stride_rows n k rows.ok l))
 
 -- the pairs of a row are in range
 pub row_inside : (n : Sizes) (x lane rows : ℕ) → rows * lanes_of n.seats ≡ count n → x < rows → lane < lanes_of n.seats → x * lanes_of n.seats + lane < count n

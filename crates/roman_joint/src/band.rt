@@ -124,25 +124,6 @@ fn clear_within(joint: &Joint, row: &Row, alive: &[u64], a: u8, k: u8, left: &mu
     clear_moving(left, alive, moves, some);
 }
 
-/// Clears, in `left`, the pairs of a band at which the seat `k` serves the action. The seat is one of
-/// the band's own or within the lanes. `alive` holds the alive lanes of each row's turn.
-fn clear_behind(joint: &Joint, row: &Row, alive: &[u64], a: u8, k: u8, left: &mut [u64])
-    requires row { (y : ℕ) × IsRow (system_of joint.now) (y * band_in (system_of joint.now)) row.now }
-    requires action { a < (system_of joint.now).env.actions }
-    requires within { mid_in (system_of joint.now) ≤ k }
-    requires seat { k < length joint.now.seats }
-    requires alive { band_in (system_of joint.now) ≤ length alive.now }
-    requires long { length left.old ≡ band_in (system_of joint.now) }
-    ensures long { length left.new ≡ length left.old }
-    ensures left { ClearsServed (system_of joint.now) row.now alive.now a k left.old left.new }
-{
-    if k < joint.layout().low {
-        clear_own(joint, row, alive, a, k, left);
-    } else {
-        clear_within(joint, row, alive, a, k, left);
-    }
-}
-
 /// Clears, in `left`, the pairs of a band at which the seat `k` serves the action. `alive` holds the
 /// alive lanes of each row's turn.
 fn clear_seat(joint: &Joint, turn: &Turn<'_>, alive: &[u64], k: u8, left: &mut [u64])
@@ -156,10 +137,13 @@ fn clear_seat(joint: &Joint, turn: &Turn<'_>, alive: &[u64], k: u8, left: &mut [
         AllAlive s gone turn.now.to alive.now →
         Keeps (lanes_in s) (y * band_in s) (band_in s) (λ p. is_beaten (numbered s) gone p turn.now.action k) left.old left.new }
 {
-    if k < joint.layout().mid {
+    let rows = joint.layout();
+    if k < rows.mid {
         clear_before(joint, turn, k, left);
+    } else if k < rows.low {
+        clear_own(joint, turn.row, alive, turn.action, k, left);
     } else {
-        clear_behind(joint, turn.row, alive, turn.action, k, left);
+        clear_within(joint, turn.row, alive, turn.action, k, left);
     }
 }
 

@@ -1,4 +1,4 @@
-//! The pairs of rows and bands that don't meet clause 2 of an ND-simulation.
+//! Where seats may rest: within the lanes, at a row, and in the rows of a band.
 ghost use Rattle.std.specs.Prelude.{◌≡◌, ℕ, ◌<◌, ◌≤◌, ◌||◌, ltb, length, slice_get, slice_index};
 ghost use Rattle.roman_model.specs.Lists.{all_below};
 ghost use Rattle.roman_model.specs.Numbers.{sizes_of};

@@ -1,10 +1,7 @@
 use Rattle.roman_joint.proofs.Common.{◌*◌, arith, is_beaten, numbered, sizes_of, system_of, band_in}
 use Rattle.roman_joint.proofs.GoodLemmas.{known, full_on}
-use Rattle.roman_joint.proofs.BandLemmas.{mid_low, suits_band, serves_band, beaten_band, keeps_clear, keeps_all}
+use Rattle.roman_joint.proofs.BandLemmas.{suits_band, serves_band, beaten_band, keeps_clear, keeps_all}
 use Rattle.roman_joint.proofs.band.clear_before.Goals as goal
-
-pub rows_before-requires-clause-seat : goal.rows_before-requires-clause-seat
-rows_before-requires-clause-seat c = mid_low (system_of c.args.joint.now) c.args.k c.requires.seat
 
 pub returns-in_default-clause-left : goal.returns-in_default-clause-left
 returns-in_default-clause-left c y gone ok rows =

@@ -1,7 +1,6 @@
 use Rattle.roman_joint.proofs.Common.{◌≡◌, ℕ, ◌+◌, ◌-◌, ◌*◌, ◌/◌, ◌<◌, not, ◌&&◌, ◌||◌, [], Bool, slice_index, refl, sym, ap, ap₂, ◌∙◌, arith, is_empty, is_beaten, sizes_of, numbered, beh_next, row_sizes, is_on, list_any, AllAlive, band_in, IsRow, IsTargetMove, lanes_in, lane_state_of, TargetMove, system_of}
 use Rattle.roman_joint.proofs.OutcomeLemmas.{ready_next}
 use Rattle.roman_joint.proofs.SeatLemmas.{len_empty}
-use Rattle.roman_joint.proofs.SplitLemmas.{joint_sizes}
 use Rattle.roman_joint.proofs.WordLemmas.{all_pass}
 use Rattle.roman_joint.proofs.GoodLemmas.{known}
 use Rattle.roman_joint.proofs.BandLemmas.{OwnRows, own_rows, beaten_own, keeps_all, where_more, where_all}
@@ -9,7 +8,7 @@ use Rattle.roman_joint.proofs.band.clear_own.Goals as goal
 use Rattle.roman_joint.proofs.band.clear_own.Goals.{After-layout-rows, After-from, After-out-states}
 
 own : (c : After-layout-rows) → OwnRows (system_of c.args.joint.now) c.layout-rows.result.now c.args.k
-own c = own_rows (system_of c.args.joint.now) c.layout-rows.result.now c.args.k (joint_sizes c.args.joint.now c.layout-rows.ensures.known) c.layout-rows.ensures.rows c.requires.within c.requires.seat
+own c = own_rows (system_of c.args.joint.now) c.layout-rows.result.now c.args.k c.layout-rows.ensures.rows c.requires.within c.requires.seat
 
 step : (c : After-from) → c.from.result * slice_index c.layout-rows.result.now.strides c.args.k ≡ slice_index c.layout-rows.result.now.sizes c.args.k * slice_index c.layout-rows.result.now.strides c.args.k
 step c = ap (λ z. z * slice_index c.layout-rows.result.now.strides c.args.k) c.from.ensures

@@ -1,5 +1,4 @@
 use Rattle.roman_joint.proofs.Common.{◌≡◌, ℕ, true, ◌||◌, ◌&&◌, Bool, ltb, add-one, slice_get, ap, ap₂, sym, ◌∙◌, arith, le-ltb, all_below, sizes_of, row_sizes, NamedSys, system_of, low_in, lane_state_of, may_rest, mid_in}
-use Rattle.roman_joint.proofs.SplitLemmas.{joint_sizes}
 use Rattle.roman_joint.proofs.BandLemmas.{own_rows}
 use Rattle.roman_joint.proofs.RestLemmas.{none_own, stopped}
 use Rattle.roman_joint.proofs.fine.own_rests.Goals as goal
@@ -15,7 +14,7 @@ loop-k-init c = let s = system_of c.args.joint.now in rw c.layout-rows.ensures.r
 pub may_rest-requires-clause-state : goal.may_rest-requires-clause-state
 may_rest-requires-clause-state c =
     let laid = c.layout-rows.ensures.rows in
-    rw c.row_state.ensures ((own_rows (system_of c.args.joint.now) _ c.loop-k.k (joint_sizes c.args.joint.now c.layout-rows.ensures.known) laid (omega (arith, laid.mid, c.loop-k.auto.k)) (omega (arith, laid.low, c.loop-k-test.true))).below c.args.i)
+    rw c.row_state.ensures ((own_rows (system_of c.args.joint.now) _ c.loop-k.k laid (omega (arith, laid.mid, c.loop-k.auto.k)) (omega (arith, laid.low, c.loop-k-test.true))).below c.args.i)
 
 -- what the loop tests is whether the seat may rest
 tested : (c : After-may_rest) → rests c.args.joint.now c.args.i c.loop-k.k ≡ c.may_rest.result

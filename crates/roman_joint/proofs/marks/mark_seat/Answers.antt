@@ -1,5 +1,5 @@
 use Rattle.roman_joint.proofs.Common.{arith, false, true, ◌-◌, sizes_of, system_of, take_all}
-use Rattle.roman_joint.proofs.SplitLemmas.{joint_sizes, row_stride}
+use Rattle.roman_joint.proofs.SplitLemmas.{row_stride}
 use Rattle.roman_joint.proofs.BandLemmas.{mid_low}
 use Rattle.roman_joint.proofs.MarkLemmas.{marks_next}
 use Rattle.roman_joint.proofs.marks.mark_seat.Goals as goal
@@ -15,6 +15,6 @@ returns g c =
     let n = c.args.by.now.joint.now in
     let s = system_of n in
     let laid = c.layout-rows.ensures.rows in
-    let stride = row_stride (sizes_of s) c.layout-rows.result.now c.args.k (joint_sizes n c.layout-rows.ensures.known) laid (mid_low s c.args.k c.requires.seat) in
+    let stride = row_stride (sizes_of s) c.layout-rows.result.now c.args.k laid (mid_low s c.args.k c.requires.seat) in
     let all = take_all c.loop-b.b-index c.prev_states-states.result.now c.loop-b-test.false in
     rw (all, c.prev_states-states.ensures.prev, c.times-taken.ensures.value, stride, laid.band) at c.loop-b.invariant

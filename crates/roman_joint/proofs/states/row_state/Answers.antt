@@ -1,11 +1,10 @@
 use Rattle.roman_joint.proofs.Common.{◌≡◌, ◌/◌, ◌%◌, slice_index, ap₂, ◌∙◌, arith, mod_below, system_of}
-use Rattle.roman_joint.proofs.SplitLemmas.{joint_sizes}
 use Rattle.roman_joint.proofs.BandLemmas.{OwnSeat, own_seat}
 use Rattle.roman_joint.proofs.states.row_state.Goals as goal
 use Rattle.roman_joint.proofs.states.row_state.Goals.{After-layout-rows}
 
 own : (c : After-layout-rows) → OwnSeat (system_of c.args.joint.now) c.layout-rows.result.now c.args.k
-own c = own_seat (system_of c.args.joint.now) _ _ (joint_sizes c.args.joint.now c.layout-rows.ensures.known) c.layout-rows.ensures.rows c.requires
+own c = own_seat (system_of c.args.joint.now) _ _ c.layout-rows.ensures.rows c.requires
 
 pub nonzero_div-state : goal.nonzero_div-state
 nonzero_div-state c = (own (goal.at.nonzero_div-state c).After-layout-rows).stride_some
