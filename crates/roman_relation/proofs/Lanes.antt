@@ -1,5 +1,5 @@
 -- Pairs as lanes of rows.
-use Rattle.roman_relation.proofs.Common.{◌≡◌, ℕ, ◌+◌, ◌*◌, ◌/◌, ◌<◌, false, not, List, length, slice_index, IsTrue, sym, ap, ◌∙◌, arith, by_test, both_ways, not_from_false, div_below, same_from_place, Arena, Entry, is_listed, is_on, HasLanes, AreRows, on_zero, IsNumbered, Board, has_entry, IsShaped, AreUnlisted}
+use Rattle.roman_relation.proofs.Common.{◌≡◌, ℕ, ◌+◌, ◌*◌, ◌/◌, ◌<◌, false, not, List, length, slice_index, IsTrue, sym, ap, ◌∙◌, arith, zero, suc, sum_by, by_test, both_ways, not_from_false, div_below, same_from_place, Arena, Entry, is_listed, is_on, HasLanes, AreRows, on_zero, IsNumbered, Board, has_entry, IsShaped, AreUnlisted, sum_by_push, below, sum_further}
 use Rattle.roman_relation.proofs.Beginnings.{listed_is}
 
 -- a word of the pairs without an entry is a word of the pairs that aren't listed
@@ -29,3 +29,12 @@ shaped_row A lanes p b shaped some l = div_below p lanes b.rows some (omega (ari
 
 pub shaped_rows : (A : Arena ℕ) (lanes rows : ℕ) (b : Board) → IsShaped A lanes b → 0 < lanes → rows * lanes ≡ length A.nodes → rows ≡ b.rows
 shaped_rows A lanes rows b shaped some e = (same_from_place rows 0 b.rows 0 lanes some some (ap (λ n. n + 0) (e ∙ sym (shaped_pairs A lanes b shaped)))).0
+
+-- a sum over rows and lanes is a sum over all pairs
+pub sum_rows : (f : ℕ → ℕ) (lanes rows : ℕ) → sum_by (λ row. sum_by (λ lane. f (row * lanes + lane)) (below lanes)) (below rows) ≡ sum_by f (below (rows * lanes))
+sum_rows f lanes zero = let none : zero * lanes ≡ zero = omega arith in ap (λ m. sum_by f (below m)) (sym none)
+sum_rows f lanes (suc rows) =
+    let next : suc rows * lanes ≡ rows * lanes + lanes = omega arith in
+    sum_by_push (λ row. sum_by (λ lane. f (row * lanes + lane)) (below lanes)) (below rows) rows
+    ∙ (ap (λ x. x + sum_by (λ lane. f (rows * lanes + lane)) (below lanes)) (sum_rows f lanes rows)
+    ∙ (sym (sum_further f (rows * lanes) lanes) ∙ ap (λ m. sum_by f (below m)) (sym next)))

@@ -9,6 +9,5 @@ pub mod Marks
 pub mod Losses
 pub mod Noting
 pub mod Rising
-pub mod Choosing
 pub mod Relating
 pub mod CallerLemmas

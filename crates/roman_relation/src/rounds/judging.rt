@@ -3,7 +3,7 @@ ghost use Rattle.std.specs.Prelude.{◌≡◌, ℕ, ◌+◌, ◌*◌, ◌/◌, �
 ghost use Rattle.roman_lanes.specs.Rows.{is_on, AreRows};
 ghost use Rattle.roman_order.specs.Board.{is_marked};
 ghost use Rattle.roman_relation.specs.Shaped.{IsShaped};
-ghost use Rattle.roman_relation.specs.Rounds.{AreLostRows, AddsLost, AddsTo, IsJudged, falls};
+ghost use Rattle.roman_relation.specs.Rounds.{AddsLost, AddsTo, IsJudged, falls};
 
 use super::listing::{are_listed, band_start, push_lost};
 use roman_model::Reason;
@@ -32,12 +32,13 @@ pub(crate) fn judge_marked<J: Rules>(joint: &J, order: &mut Order)
     let mut words = [0; BAND];
     let left = &mut words[..joint.band() as usize];
     'bands: while let Some(y) = order.next_marked(bands) {
-        judge_if(joint, order, y, y < bands, left);
+        judge(joint, order, y, y < bands, left);
     }
 }
 
-/// Judges the band `y` if `is_band` is true.
-fn judge_if<J: Rules>(joint: &J, order: &mut Order, y: u32, is_band: bool, left: &mut [u64])
+/// Judges the band `y` if `is_band` is true: lists each of its pairs at which some action is a reason
+/// for removal, with the least such action.
+fn judge<J: Rules>(joint: &J, order: &mut Order, y: u32, is_band: bool, left: &mut [u64])
     requires shaped { IsShaped (J.arena joint.now) (J.lanes joint.now) order.old }
     requires kept { (gone : ℕ → Bool) × AreRows (J.lanes joint.now) (λ p. not (gone p)) order.old.before }
     requires left { length left.old ≡ J.band joint.now }
@@ -51,27 +52,9 @@ fn judge_if<J: Rules>(joint: &J, order: &mut Order, y: u32, is_band: bool, left:
         (gone : ℕ → Bool) (i lane : ℕ) → AreRows (J.lanes joint.now) (λ p. not (gone p)) order.old.before → is_band ≡ true → i < J.band joint.now → lane < J.lanes joint.now →
         IsJudged A gone order.new.list ((y * J.band joint.now + i) * J.lanes joint.now + lane) }
 {
-    if is_band {
-        judge(joint, order, y, left);
+    if !is_band {
+        return;
     }
-}
-
-/// Judges the band `y`: lists each of its pairs at which some action is a reason for removal, with
-/// the least such action.
-fn judge<J: Rules>(joint: &J, order: &mut Order, y: u32, left: &mut [u64])
-    requires shaped { IsShaped (J.arena joint.now) (J.lanes joint.now) order.old }
-    requires kept { (gone : ℕ → Bool) × AreRows (J.lanes joint.now) (λ p. not (gone p)) order.old.before }
-    requires left { length left.old ≡ J.band joint.now }
-    requires band { y * J.band joint.now + J.band joint.now ≤ order.old.rows }
-    ensures rest { order.new ≡ record order.old { list = order.new.list } }
-    ensures long { length left.new ≡ length left.old }
-    ensures adds { let A = J.arena joint.now in
-        (gone : ℕ → Bool) → AreRows (J.lanes joint.now) (λ p. not (gone p)) order.old.before →
-        AddsTo A gone (λ p. IsTrue (falls A gone p) × (p / J.lanes joint.now / J.band joint.now ≡ y)) order.old.list order.new.list }
-    ensures done { let A = J.arena joint.now in
-        (gone : ℕ → Bool) (i lane : ℕ) → AreRows (J.lanes joint.now) (λ p. not (gone p)) order.old.before → i < J.band joint.now → lane < J.lanes joint.now →
-        IsJudged A gone order.new.list ((y * J.band joint.now + i) * J.lanes joint.now + lane) }
-{
     joint.known(); // a pair's number fits 32 bits, a row has 1 to 64 lanes
     order.known(); // a row has 1 to 64 lanes
     let x = band_start(joint, order, y);
@@ -97,7 +80,7 @@ fn is_in(actions: u32, a: u8) -> bool
     (actions >> a) & 1 == 1
 }
 
-/// Judges the band whose first row is `x` for the action `a`.
+/// Judges the band whose first row is `x` for the action `a`: lists the pairs that it loses for it.
 fn judge_on<J: Rules>(joint: &J, order: &mut Order, row: &J::Row, x: u32, a: u8, left: &mut [u64])
     requires shaped { IsShaped (J.arena joint.now) (J.lanes joint.now) order.old }
     requires kept { (gone : ℕ → Bool) × AreRows (J.lanes joint.now) (λ p. not (gone p)) order.old.before }
@@ -112,25 +95,9 @@ fn judge_on<J: Rules>(joint: &J, order: &mut Order, row: &J::Row, x: u32, a: u8,
         (gone : ℕ → Bool) → AreRows (J.lanes joint.now) (λ p. not (gone p)) order.old.before →
         AddsLost A gone (J.lanes joint.now) x (J.band joint.now) (Reason.Act a) order.old.list order.new.list }
 {
-    find_unserved(joint, order, row, x, a, left);
-    push_lost(joint, order, x, left, Reason::Act(a));
-}
-
-/// Finds the pairs that the band whose first row is `x` loses for the action `a`.
-fn find_unserved<J: Rules>(joint: &J, order: &Order, row: &J::Row, x: u32, a: u8, left: &mut [u64])
-    requires shaped { IsShaped (J.arena joint.now) (J.lanes joint.now) order.now }
-    requires first { (y : ℕ) × (x ≡ y * J.band joint.now) }
-    requires band { x + J.band joint.now ≤ order.now.rows }
-    requires row { J.is_row joint.now x row.now }
-    requires action { a < (J.arena joint.now).actions }
-    requires left { length left.old ≡ J.band joint.now }
-    ensures long { length left.new ≡ length left.old }
-    ensures lost { let A = J.arena joint.now in
-        (gone : ℕ → Bool) → AreRows (J.lanes joint.now) (λ p. not (gone p)) order.now.before →
-        AreLostRows A gone order.now.list (J.lanes joint.now) x (J.band joint.now) (Reason.Act a) left.new }
-{
     joint.known(); // a row has 1 to 64 lanes, a pair's number fits 32 bits
     order.known(); // each row has a kept word
     copy_rows(order.words(), x, left);
     joint.unserved_band(row, order.before(), a, left);
+    push_lost(joint, order, x, left, Reason::Act(a));
 }

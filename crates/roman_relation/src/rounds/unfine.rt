@@ -4,7 +4,6 @@ ghost use Rattle.std.specs.Prelude.{length, IsTrue, IsFalse};
 ghost use Rattle.roman_model.specs.Arena.{is_listed, IsOrder};
 ghost use Rattle.roman_relation.specs.Shaped.{IsShaped};
 ghost use Rattle.roman_relation.specs.Settled.{SettlesOn};
-ghost use Rattle.roman_relation.specs.Rounds.{AreLostRows};
 
 use super::listing::{are_listed, band_start, push_lost};
 use roman_model::Reason;
@@ -51,37 +50,14 @@ fn list_unfine_band<J: Rules>(joint: &J, order: &mut Order, y: u32, resting: u64
         (p : ℕ) → IsTrue (is_listed A order.new.list p) →
         IsTrue (is_listed A order.old.list p) ⊎ IsFalse (A.fine p) }
 {
-    joint.known(); // a row has 1 to 64 lanes, pairs are told apart by their numbers
+    joint.known(); // a row has 1 to 64 lanes, pairs are told apart by their numbers, which fit 32 bits
     let x = band_start(joint, order, y);
     if are_listed(joint, order, x) {
         return;
     }
     let row = joint.first_row(y);
-    find_unfine(joint, order, &row, x, resting, left);
-    push_lost(joint, order, x, left, Reason::Final);
-}
-
-/// Finds the pairs that the band whose first row is `x` loses because they don't meet clause 2.
-fn find_unfine<J: Rules>(
-    joint: &J,
-    order: &Order,
-    row: &J::Row,
-    x: u32,
-    resting: u64,
-    left: &mut [u64],
-)
-    requires shaped { IsShaped (J.arena joint.now) (J.lanes joint.now) order.now }
-    requires first { (y : ℕ) × (x ≡ y * J.band joint.now) }
-    requires band { x + J.band joint.now ≤ order.now.rows }
-    requires row { J.is_row joint.now x row.now }
-    requires resting { J.is_resting joint.now resting }
-    requires left { length left.old ≡ J.band joint.now }
-    ensures long { length left.new ≡ length left.old }
-    ensures lost { let A = J.arena joint.now in
-        AreLostRows A (is_listed A order.now.list) order.now.list (J.lanes joint.now) x (J.band joint.now) Reason.Final left.new }
-{
-    joint.known(); // a row has 1 to 64 lanes, a pair's number fits 32 bits
     order.known(); // each row has a kept word
     copy_rows(order.words(), x, left);
-    joint.unfine_band(row, resting, left);
+    joint.unfine_band(&row, resting, left);
+    push_lost(joint, order, x, left, Reason::Final);
 }

@@ -1,6 +1,6 @@
 use Rattle.roman_relation.proofs.Common.{◌≡◌, ℕ, ◌+◌, ◌*◌, length, sum_by, sym, ap, ◌∙◌, arith, below, is_listed, mask}
 use Rattle.roman_relation.proofs.Bands.{band_inside}
-use Rattle.roman_relation.proofs.Choosing.{sum_rows}
+use Rattle.roman_relation.proofs.Lanes.{sum_rows}
 use Rattle.roman_relation.proofs.masks.choices.Goals as goal
 
 pub band_choices-count-requires-clause-band : goal.band_choices-count-requires-clause-band

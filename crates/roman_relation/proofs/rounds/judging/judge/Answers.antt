@@ -5,7 +5,7 @@ use Rattle.roman_relation.proofs.Pushing.{adds_on}
 use Rattle.roman_relation.proofs.rounds.judging.judge.Goals as goal
 
 pub first_row-row-requires : goal.first_row-row-requires
-first_row-row-requires g c = band_begins _ _ _ c.args.order.now c.requires.shaped (omega (arith, c.requires.band, c.known.ensures.band.0)) c.known.ensures.lanes.0
+first_row-row-requires g c = band_begins _ _ _ c.args.order.now c.requires.shaped (omega (arith, c.requires.band c.if-not-is_band.false, c.known.ensures.band.0)) c.known.ensures.lanes.0
 
 pub loop-a-preserved : goal.loop-a-preserved
 loop-a-preserved g c =
@@ -32,7 +32,7 @@ loop-a-preserved g c =
 
 pub returns-clause-done : goal.returns-clause-done
 unfolding is_on
-returns-clause-done g c gone i lane kept h l off a =
+returns-clause-done g c gone i lane kept is_band h l off a =
     let A = g.J.Rules.arena c.args.joint.now in
     let p : ℕ = (c.args.y * g.J.Rules.band c.args.joint.now + i) * g.J.Rules.lanes c.args.joint.now + lane in
     let ok = c.known.ensures.numbered in
