@@ -5,6 +5,7 @@ pub use Rattle.std.proofs.lemmas.List.{length-map, map_push}
 pub use Rattle.std.proofs.lemmas.List.Quantifiers.{position-Some}
 pub use Rattle.std.proofs.lemmas.Option.{get_or_from_slice_get, same_Some, slice_get-get_or}
 pub use Rattle.std.proofs.lemmas.Slice.Eq.{bytes_eq-Decides}
+pub use Rattle.std.proofs.lemmas.Slice.Zip.{AllZip-long}
 pub use Rattle.std.specs.List.{AllZip, filter, flat_map}
 pub use Rattle.std.specs.Str.{bytes_eq}
 pub use Rattle.roman_guard.proofs.CallerLemmas.{in_states_below, states_below-suc, states_below-zero, states_below_are}
@@ -20,7 +21,7 @@ pub use Rattle.roman_library.specs.Refusals.{placed, refusal_of}
 pub use Rattle.roman_library.specs.declared.library.Service.{Service}
 pub use Rattle.roman_library.specs.declared.refusal.Part.{Part}
 pub use Rattle.roman_library.specs.declared.refusal.Refusal.{Refusal}
-pub use Rattle.roman_model.proofs.CallerLemmas.{any_true, by_test, contains_in, filter_in, find_not_found, from_append, from_below, from_flat_map, from_map, from_push, get_in, in_append_left, in_contains, in_map, in_push, listed_number, none_from, number_listed, same_test, there_is, triple_in}
+pub use Rattle.roman_model.proofs.CallerLemmas.{any_true, by_test, contains_in, filter_below_more, filter_in, find_not_found, from_append, from_below, from_flat_map, from_map, from_push, get_in, in_append_left, in_contains, in_map, in_push, listed_number, none_from, number_listed, same_test, there_is, triple_in}
 pub use Rattle.roman_model.specs.Explanation.{name_at}
 pub use Rattle.roman_model.specs.Lists.{HasNoRepeats, IsIn, below}
 pub use Rattle.roman_model.specs.Made.{guarded_step}

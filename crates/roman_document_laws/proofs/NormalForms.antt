@@ -111,11 +111,7 @@ env_unique : (x y : Env) → IsNormalEnv x → IsNormalEnv y → SameEnv x y →
 env_unique x y hx hy same =
     let triples : x.triples ≡ y.triples = rises_same IsTripleBefore x.triples y.triples (λ t u. never_both t.from t.action t.to u.from u.action u.to) hx.triples hy.triples
     (triples_within x y same.steps) (triples_within y x (λ e a e'. sym (same.steps e a e'))) in
-    rebuilt x.states y.states x.actions y.actions x.start y.start x.triples y.triples same.states same.actions same.start triples
-  where
-    rebuilt : (s s' a a' b b' : ℕ) (t t' : List Triple) → s ≡ s' → a ≡ a' → b ≡ b' → t ≡ t' →
-        ◌≡◌ {A = Env} (record { states = s; actions = a; start = b; triples = t }) (record { states = s'; actions = a'; start = b'; triples = t' })
-    rebuilt s s' a a' b b' t t' hs ha hb ht = rw (hs, ha, hb, ht) refl
+    λ k. record { states = same.states k; actions = same.actions k; start = same.start k; triples = triples k }
 
 -- of two steps with the same states and action neither comes before the other
 at_one_place : (m n : Move) → m.from ≡ n.from → m.action ≡ n.action → m.to ≡ n.to → IsMoveBefore m n → ⊥
@@ -153,22 +149,15 @@ moves_within x y hx hy same m i =
     let guard : m.guard ≡ n.guard = rises_same IsLess m.guard n.guard less_both (hx.guards m i).0 (hy.guards n other.listed).0
     (guard_within x y m n hy same i other.listed (sym other.from) (sym other.action) (sym other.to))
     (guard_within y x n m hx (λ b e a b'. sym (same b e a b')) other.listed i other.from other.action other.to) in
-    subst (λ (z : Move). IsIn z y.steps) (rebuilt n.from m.from n.guard m.guard n.action m.action n.to m.to other.from (sym guard) other.action other.to) other.listed
-  where
-    rebuilt : (f f' : ℕ) (g g' : List ℕ) (a a' t t' : ℕ) → f ≡ f' → g ≡ g' → a ≡ a' → t ≡ t' →
-        ◌≡◌ {A = Move} (record { from = f; guard = g; action = a; to = t }) (record { from = f'; guard = g'; action = a'; to = t' })
-    rebuilt f f' g g' a a' t t' hf hg ha ht = rw (hf, hg, ha, ht) refl
+    let is : n ≡ m = λ k. record { from = other.from k; guard = (sym guard) k; action = other.action k; to = other.to k } in
+    subst (λ (z : Move). IsIn z y.steps) is other.listed
 
 beh_unique : (x y : Beh) → IsNormalBeh x → IsNormalBeh y → SameBeh x y → x ≡ y
 beh_unique x y hx hy same =
     let finals : x.finals ≡ y.finals = grind (arith, rises_same, less_both, number_listed, listed_number) in
     let steps : x.steps ≡ y.steps = rises_same IsMoveBefore x.steps y.steps (λ t u. never_both t.from t.action t.to u.from u.action u.to) hx.steps hy.steps
     (moves_within x y hx hy same.steps) (moves_within y x hy hx (λ b e a b'. sym (same.steps b e a b'))) in
-    rebuilt x.states y.states x.start y.start x.finals y.finals x.steps y.steps same.states same.start finals steps
-  where
-    rebuilt : (s s' b b' : ℕ) (f f' : List ℕ) (t t' : List Move) → s ≡ s' → b ≡ b' → f ≡ f' → t ≡ t' →
-        ◌≡◌ {A = Beh} (record { states = s; start = b; finals = f; steps = t }) (record { states = s'; start = b'; finals = f'; steps = t' })
-    rebuilt s s' b b' f f' t t' hs hb hf ht = rw (hs, hb, hf, ht) refl
+    λ k. record { states = same.states k; start = same.start k; finals = finals k; steps = steps k }
 
 pub forms_unique : NormalFormsAreUnique
 forms_unique = record { env = env_unique; beh = beh_unique }

@@ -1,5 +1,5 @@
 -- Lists of names, final states and steps: their values, and their refusals.
-use Rattle.roman_document_laws.proofs.Common.{◌≡◌, ◌≢◌, ℕ, suc, ◌<◌, ◌≤◌, ◌⊎◌, ◌&&◌, inl, inr, Bool, true, false, List, [], ◌∷◌, ◌++◌, length, Option, Some, None, nat_le, codes, Result, Ok, Err, IsTrue, slice_get, refl, sym, ap, ◌∙◌, subst, arith, get_or, is_none, IsFalse, leb-true, true≢false, AllZip, and_parts, and_from, both_ways, le-leb, cases_order, same_Some, slice_get-get_or, get_or_from_slice_get, Data, Items, no_items, item, items_len, items_of, IsIn, HasNoRepeats, Triple, Move, MAX_STEPS, by_test, from_push, get_in, any_true, in_push, in_append_left, ◌>>=◌, each_item, pushing, text_of, list_of, kind_of, IsListAt, MissesList, AreItems, is_name, place_of, Kind, Miss, same_ok, bind_ok, place_of-absent, guarded_states, names_of, place_in, finals_of, name_step, counted_items, looked, found, check, items_at, IsPlace, BreaksPlace, IsTripleItem, IsMoveItem, IsNewName, BreaksName, IsNoRow, BreaksTriple, BreaksMove, ReadsList, AreNames, ListsAreRead, triples_of, moves_of, three_of, four_of, triple_item, move_item, PartError, bytes_eq, position-Some, bytes_eq-Decides, Refused, check_is, found_is, none_is, there_some, none_absent}
+use Rattle.roman_document_laws.proofs.Common.{AllZip-long, ◌≡◌, ◌≢◌, ℕ, ◌<◌, ◌≤◌, ◌⊎◌, ◌&&◌, inl, inr, Bool, true, false, List, [], ◌∷◌, ◌++◌, length, Option, Some, None, nat_le, codes, Result, Ok, Err, IsTrue, slice_get, refl, sym, ap, ◌∙◌, subst, arith, get_or, is_none, IsFalse, leb-true, true≢false, AllZip, and_parts, and_from, both_ways, le-leb, cases_order, same_Some, slice_get-get_or, get_or_from_slice_get, Data, Items, no_items, item, items_len, items_of, IsIn, HasNoRepeats, Triple, Move, MAX_STEPS, by_test, from_push, get_in, any_true, in_push, in_append_left, ◌>>=◌, each_item, pushing, text_of, list_of, kind_of, IsListAt, MissesList, AreItems, is_name, place_of, Kind, Miss, same_ok, bind_ok, place_of-absent, guarded_states, names_of, place_in, finals_of, name_step, counted_items, looked, found, check, items_at, IsPlace, BreaksPlace, IsTripleItem, IsMoveItem, IsNewName, BreaksName, IsNoRow, BreaksTriple, BreaksMove, ReadsList, AreNames, ListsAreRead, triples_of, moves_of, three_of, four_of, triple_item, move_item, PartError, bytes_eq, position-Some, bytes_eq-Decides, Refused, check_is, found_is, none_is, there_some, none_absent}
 use Rattle.roman_read.specs.declared.rules.Kind.TheVariants as kind
 use Rattle.roman_document_laws.proofs.ListLemmas.{same_err, bind_err, listed, items_listed, items_count, IsStep, appends, IsListing, list_gives, list_refuses}
 use Rattle.roman_parts.specs.declared.error.List.{List as Place}
@@ -175,12 +175,6 @@ are_names before [] (n ∷ ns) are = absurd are.texts
 are_names before (d ∷ ds) [] are = absurd are.texts
 are_names before (d ∷ ds) (n ∷ ns) are = grind (arith, from_push, (are_names (before ++ n ∷ []) ds ns))
 
-items_zip : (ds : List Data) (names : List (List ℕ)) → AllZip (λ item name. text_of item ≡ Ok name) ds names → length ds ≡ length names
-items_zip [] [] zip = refl
-items_zip [] (n ∷ ns) zip = absurd zip
-items_zip (d ∷ ds) [] zip = absurd zip
-items_zip (d ∷ ds) (n ∷ ns) zip = ap suc (items_zip ds ns zip.1)
-
 some_few : ℕ → ℕ → Type 0
 some_few most n = (0 < n) × (n ≤ most)
 
@@ -206,10 +200,10 @@ names_exact list name most d names = (
   λ h.
       let is = ((names_read list name most).gives d names).0 h in
       let are = names_are [] is.items names is.are in
-      let count = items_zip is.items names are.texts in
+      let count = AllZip-long (λ item name. text_of item ≡ Ok name) is.items names are.texts in
       record { items = is.items; list = is.list; texts = are.texts; some = omega (arith, is.fits.0, count); few = omega (arith, is.fits.1, count); named = are.named; once = are.once },
   λ is.
-      let count = items_zip is.items names is.texts in
+      let count = AllZip-long (λ item name. text_of item ≡ Ok name) is.items names is.texts in
       ((names_read list name most).gives d names).1 (grind (arith, are_names)),
 )
 
@@ -255,6 +249,14 @@ no_four : (ds : List Data) → length ds ≢ 4 → four_of (items_of ds) ≡ Non
 no_four (x ∷ y ∷ z ∷ w ∷ []) h = absurd (h refl)
 no_four _ h = refl
 
+-- where a place and then more is read, the place is refused, or what follows it
+place_then : {X : Type 0} (names : List (List ℕ)) (i : ℕ) (d : Data) (f : ℕ → Result X PartError) (e : PartError) → (place_in names list.Steps i d >>= f) ≡ Err e →
+    BreaksPlace names list.Steps i d e ⊎ ((k : ℕ) × IsPlace names d k × (f k ≡ Err e))
+place_then names i d f e h = elim (bind_err (place_in names list.Steps i d) f e h) [
+  | inl bad ↦ inl (place_err names list.Steps i d e bad)
+  | inr (k, given, h1) ↦ inr (k, place_ok names list.Steps i d k given, h1)
+]
+
 -- Steps of environments
 
 module _ (states actions : List (List ℕ)) where
@@ -279,19 +281,13 @@ module _ (states actions : List (List ℕ)) where
             b,
             c,
             row,
-            elim (bind_err (place_in states list.Steps i a) _ e h2) [
-              | inl bad ↦ inl (place_err states list.Steps i a e bad)
-              | inr (from, given2, h3) ↦ inr (
-                (from, place_ok states list.Steps i a from given2),
-                elim (bind_err (place_in actions list.Steps i b) _ e h3) [
-                  | inl bad ↦ inl (place_err actions list.Steps i b e bad)
-                  | inr (action, given3, h4) ↦ inr (
-                    (action, place_ok actions list.Steps i b action given3),
-                    elim (bind_err (place_in states list.Steps i c) _ e h4) [
-                      | inl bad ↦ place_err states list.Steps i c e bad
-                      | inr (to, given4, h5) ↦ absurd (let f : ⊥ = cc in f)
-                    ],
-                  )
+            elim (place_then states i a _ e h2) [
+              | inl bad ↦ inl bad
+              | inr (from, from_is, h3) ↦ inr (
+                (from, from_is),
+                elim (place_then actions i b _ e h3) [
+                  | inl bad ↦ inl bad
+                  | inr (action, action_is, h4) ↦ inr ((action, action_is), elim (place_then states i c _ e h4) [ inl bad ↦ bad | inr (to, to_is, h5) ↦ absurd (let f : ⊥ = cc in f) ])
                 ],
               )
             ],
@@ -348,24 +344,18 @@ module _ (env_states actions states : List (List ℕ)) where
             b,
             c,
             row,
-            elim (bind_err (place_in states list.Steps i a) _ e h2) [
-              | inl bad ↦ inl (place_err states list.Steps i a e bad)
-              | inr (from, given2, h3) ↦ inr (
-                (from, place_ok states list.Steps i a from given2),
+            elim (place_then states i a _ e h2) [
+              | inl bad ↦ inl bad
+              | inr (from, from_is, h3) ↦ inr (
+                (from, from_is),
                 elim (bind_err (guarded_states env_states i g) _ e h3) [
                   | inl bad ↦ inl bad
-                  | inr (guard, given3, h4) ↦ inr (
+                  | inr (guard, given, h4) ↦ inr (
                     guard,
-                    given3,
-                    elim (bind_err (place_in actions list.Steps i b) _ e h4) [
-                      | inl bad ↦ inl (place_err actions list.Steps i b e bad)
-                      | inr (action, given4, h5) ↦ inr (
-                        (action, place_ok actions list.Steps i b action given4),
-                        elim (bind_err (place_in states list.Steps i c) _ e h5) [
-                          | inl bad ↦ place_err states list.Steps i c e bad
-                          | inr (to, given5, h6) ↦ absurd (let f : ⊥ = cc in f)
-                        ],
-                      )
+                    given,
+                    elim (place_then actions i b _ e h4) [
+                      | inl bad ↦ inl bad
+                      | inr (action, action_is, h5) ↦ inr ((action, action_is), elim (place_then states i c _ e h5) [ inl bad ↦ bad | inr (to, to_is, h6) ↦ absurd (let f : ⊥ = cc in f) ])
                     ],
                   )
                 ],

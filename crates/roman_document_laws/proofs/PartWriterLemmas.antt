@@ -1,11 +1,11 @@
 -- The written value of a part means that part.
-use Rattle.roman_document_laws.proofs.Common.{◌≡◌, ℕ, zero, suc, ◌<◌, ◌≤◌, ◌&&◌, Bool, true, false, List, [], ◌∷◌, ◌++◌, map, length, Option, None, Some, codes, Result, Ok, IsTrue, slice_get, inl, inr, refl, sym, ap, ◌∙◌, subst, arith, ◌==◌, not, cond, is_some, find, eqb-true, AllZip, and_parts, both_ways, cond-true, cond-false, not-true, eq-eqb, length-map, same_Some, Data, string, items_of, IsIn, HasNoRepeats, below, Env, Beh, Triple, Move, has_move, is_final, IsEnv, IsBeh, IsDeterministic, has, normal_env, normal_beh, MAX_STEPS, MAX_STATES, by_test, get_in, in_contains, filter_in, number_listed, listed_number, same_test, none_from, find_not_found, contains_in, triple_in, step_listed, listed_step, ◌>>=◌, each_item, pushing, text_of, member_of, is_name, IsListAt, AreItems, guarded_states, state_in, among_of, guard_of, names_of, finals_of, start_of, NamedEnv, NamedBeh, NamedTarget, IsOver, Rises, IsLess, IsNormalEnv, IsNormalBeh, IsPlace, BreaksPlace, IsTripleItem, IsMoveItem, triples_of, moves_of, list_value, place_value, behaviour_value, IsSayableEnv, IsSayableBeh, IsSayableTarget, names_value, places_value, triple_value, move_value, environment_value, target_value, CanList, PartsAreSaid, PartError, has_triple-normal, has_move-normal, is_final-normal, first_below-none, from_normal_triple, from_normal_move, env_read, as_object, is_one_of, states_below, in_states_below, states_below_are, states_below-suc, states_below-zero, name_at, choice_between, choice_at, choice_with, choice_of, refuse_choice, single_of, environment_of, name_of, behaviour_of, target_of}
+use Rattle.roman_document_laws.proofs.Common.{◌≡◌, ℕ, zero, suc, ◌<◌, ◌≤◌, ◌&&◌, Bool, List, [], ◌∷◌, ◌++◌, map, length, Option, None, Some, codes, Result, Ok, IsTrue, slice_get, inl, inr, refl, sym, ap, ◌∙◌, subst, arith, ◌==◌, not, cond, is_some, find, eqb-true, AllZip, filter, and_parts, both_ways, cond-true, cond-false, not-true, eq-eqb, length-map, same_Some, Data, string, items_of, IsIn, HasNoRepeats, below, Env, Beh, Move, has_move, is_final, IsEnv, IsBeh, IsDeterministic, has, normal_env, normal_beh, MAX_STEPS, MAX_STATES, by_test, get_in, in_contains, filter_in, number_listed, listed_number, same_test, none_from, find_not_found, contains_in, triple_in, step_listed, listed_step, ◌>>=◌, each_item, pushing, text_of, member_of, is_name, IsListAt, AreItems, guarded_states, state_in, among_of, guard_of, names_of, finals_of, start_of, NamedEnv, NamedBeh, NamedTarget, IsOver, Rises, IsLess, IsNormalEnv, IsNormalBeh, IsPlace, BreaksPlace, IsTripleItem, IsMoveItem, triples_of, moves_of, list_value, place_value, behaviour_value, IsSayableEnv, IsSayableBeh, IsSayableTarget, names_value, places_value, triple_value, move_value, environment_value, target_value, CanList, PartsAreSaid, PartError, has_triple-normal, has_move-normal, is_final-normal, first_below-none, from_normal_triple, from_normal_move, env_read, as_object, is_one_of, states_below, in_states_below, states_below_are, states_below-suc, states_below-zero, name_at, choice_between, choice_at, choice_with, choice_of, refuse_choice, single_of, environment_of, name_of, behaviour_of, target_of, filter_below_more}
 use Rattle.roman_document_laws.proofs.ListLemmas.{all_given, appends}
 use Rattle.roman_parts.specs.declared.error.List.{List as Place}
 use Rattle.roman_parts.specs.declared.error.List.TheVariants as list
 use Rattle.roman_document_laws.proofs.NormalForms.{forms_normal, forms_unique}
 use Rattle.roman_document_laws.proofs.PartReadLemmas.{ok_place, place_ok, place_err, err_place, lists_read}
-use Rattle.roman_document_laws.proofs.Rising.{rises_same, rises_append}
+use Rattle.roman_document_laws.proofs.Rising.{rises_below, rises_filter, rises_same}
 
 -- Names and their places
 
@@ -28,35 +28,21 @@ texts_are : (names : List (List ℕ)) → AllZip (λ item name. text_of item ≡
 texts_are [] = tt
 texts_are (n ∷ ns) = (refl, texts_are ns)
 
--- Lists of places and of steps
+-- Lists of items
 
-are_places : (names : List (List ℕ)) (before ks : List ℕ) → HasNoRepeats names → ((k : ℕ) → IsIn k ks → k < length names) → AreItems (λ before d k. IsPlace names d k) before (map (place_value names) ks) ks
-are_places names before [] once within = tt
-are_places names before (k ∷ ks) once within = (is_place names k once (within k (inl refl)), are_places names (before ++ k ∷ []) ks once (λ j i. within j (inr i)))
-
-are_triples : (states actions : List (List ℕ)) (before xs : List Triple) → HasNoRepeats states → HasNoRepeats actions →
-    ((x : Triple) → IsIn x xs → (x.from < length states) × (x.action < length actions) × (x.to < length states)) → AreItems (λ before d x. IsTripleItem states actions d x) before (map (triple_value states actions) xs) xs
-are_triples states actions before [] once once' within = tt
-are_triples states actions before (x ∷ xs) once once' within =
-    let (from, action, to) = within x (inl refl) in grind (arith, (is_place states x.from once from), (is_place actions x.action once' action), (is_place states x.to once to), (are_triples states actions (before ++ x ∷ []) xs once once'))
+-- written values are read as items, where each is read whatever comes before it
+are_each : {X : Type 0} (Is : List X → Data → X → Type 0) (value : X → Data) (before xs : List X) → ((before : List X) (x : X) → IsIn x xs → Is before (value x) x) → AreItems Is before (map value xs) xs
+are_each Is value before [] each = tt
+are_each Is value before (x ∷ xs) each = (each before x (inl refl), are_each Is value (before ++ x ∷ []) xs (λ b y i. each b y (inr i)))
 
 -- Guards
 
+states_filtered : (test : ℕ → Bool) (n : ℕ) → states_below test n ≡ filter test (below n)
+states_filtered test zero = states_below-zero test
+states_filtered test (suc n) = states_below-suc test n ∙ ap (λ es. es ++ cond (test n) (n ∷ []) []) (states_filtered test n) ∙ sym (filter_below_more test n)
+
 rises_states : (test : ℕ → Bool) (n : ℕ) → Rises IsLess (states_below test n)
-rises_states test zero = subst (Rises IsLess) (sym (states_below-zero test)) tt
-rises_states test (suc n) = subst (Rises IsLess) (sym (states_below-suc test n)) (rises_append IsLess (states_below test n) (cond (test n) (n ∷ []) []) (rises_states test n) (last (test n)) earlier)
-  where
-    last : (b : Bool) → Rises IsLess (cond b (n ∷ []) [])
-    last true = ((λ y i. absurd i), tt)
-    last false = tt
-
-    is_last : (b : Bool) (y : ℕ) → IsIn y (cond b (n ∷ []) []) → y ≡ n
-    is_last true y (inl same) = same
-    is_last true y (inr none) = absurd none
-    is_last false y none = absurd none
-
-    earlier : (x y : ℕ) → IsIn x (states_below test n) → IsIn y (cond (test n) (n ∷ []) []) → IsLess x y
-    earlier x y i j = grind (arith, (states_below_are test n x (in_contains (states_below test n) x i)), (is_last (test n) y j))
+rises_states test n = subst (Rises IsLess) (sym (states_filtered test n)) (rises_filter IsLess test (below n) (rises_below n))
 
 -- a rising list of states lists exactly its own states
 among_is : (n : ℕ) (G : List ℕ) → Rises IsLess G → ((e : ℕ) → IsIn e G → e < n) → states_below (is_one_of G) n ≡ G
@@ -70,23 +56,8 @@ guard_said states i G once rises within =
     let steps = appends (λ k before d. state_in states i k d) (λ before d x. IsPlace states d x) (λ k before d e. BreaksPlace states list.Steps i d e)
     (λ k before d x at. (place_ok states list.Steps i d x, ok_place states list.Steps i d x)) (λ k before d e. (place_err states list.Steps i d e, err_place states list.Steps i d e)) in
     let places : each_item (pushing (state_in states i)) 0 [] (items_of (map (place_value states) G)) ≡ Ok G =
-    (all_given (pushing (state_in states i)) (λ before d x. IsPlace states d x) (λ k before d e. BreaksPlace states list.Steps i d e) steps (map (place_value states) G) G).1 (are_places states [] G once within) in
+    (all_given (pushing (state_in states i)) (λ before d x. IsPlace states d x) (λ k before d e. BreaksPlace states list.Steps i d e) steps (map (place_value states) G) G).1 (are_each (λ before d k. IsPlace states d k) (place_value states) [] G (λ before k j. is_place states k once (within k j))) in
     ap (λ (r : Result (List ℕ) PartError). (r >>= (λ places. Ok (is_one_of places))) >>= (λ set. Ok (states_below set (length states)))) places ∙ ap Ok (among_is (length states) G rises within)
-
--- the steps of a behaviour are in range
-record AreMovesIn (env_states actions states : List (List ℕ)) (xs : List Move) : Type 0 where
-  ends : (x : Move) → IsIn x xs → (x.from < length states) × (x.action < length actions) × (x.to < length states)
-  guards : (x : Move) → IsIn x xs → (e : ℕ) → IsIn e x.guard → e < length env_states
-  rise : (x : Move) → IsIn x xs → Rises IsLess x.guard
-
-are_moves : (env_states actions states : List (List ℕ)) (before xs : List Move) → HasNoRepeats env_states → HasNoRepeats actions → HasNoRepeats states → AreMovesIn env_states actions states xs →
-    AreItems (λ before d x. IsMoveItem env_states actions states (length before) d x) before (map (move_value env_states actions states) xs) xs
-are_moves env_states actions states before [] once once' once'' within = tt
-are_moves env_states actions states before (x ∷ xs) once once' once'' within =
-    let (from, action, to) = within.ends x (inl refl) in (
-      grind (arith, (is_place states x.from once'' from), (is_place actions x.action once' action), (is_place states x.to once'' to), (guard_said env_states (length before) x.guard once (within.rise x (inl refl)) (within.guards x (inl refl)))),
-      are_moves env_states actions states (before ++ x ∷ []) xs once once' once'' (record { ends = λ y i. within.ends y (inr i); guards = λ y i. within.guards y (inr i); rise = λ y i. within.rise y (inr i) }),
-    )
 
 -- The normal form of a normal record is the record
 
@@ -157,10 +128,6 @@ start_said : (d : Data) (states : List (List ℕ)) (k : ℕ) → member_of d (co
 unfolding start_of
 start_said d states k at once less = rw at (ok_place states list.Start 0 (place_value states k) k (is_place states k once less))
 
-same_env : (states : List (List ℕ)) (actions : List (List ℕ)) (e : Env) → length states ≡ e.states → length actions ≡ e.actions →
-    ◌≡◌ {A = Env} (record { states = length states; actions = length actions; start = e.start; triples = e.triples }) e
-same_env states actions e hs ha = rw (hs, ha) refl
-
 env_said : (env : NamedEnv) → IsSayableEnv env → environment_of (environment_value env) ≡ Ok env
 env_said env is =
     let d = environment_value env in
@@ -169,33 +136,40 @@ env_said env is =
       items = map (triple_value env.states env.actions) env.env.triples;
       list = record { value = list_value (map (triple_value env.states env.actions) env.env.triples); there = refl; list = refl };
       fits = omega (arith, is.few, length-map env.env.triples (triple_value env.states env.actions));
-      are = are_triples _ _ [] env.env.triples is.states.once is.actions.once (λ x i.
-          let (from, action, to) = is.known.triples x i in (omega (arith, from, is.state_count), omega (arith, action, is.action_count), omega (arith, to, is.state_count)));
+      are = are_each (λ before d x. IsTripleItem env.states env.actions d x) (triple_value env.states env.actions) [] env.env.triples (λ before x i.
+          let (from, action, to) = is.known.triples x i in
+          grind (arith, (is_place env.states x.from is.states.once (omega (arith, from, is.state_count))), (is_place env.actions x.action is.actions.once (omega (arith, action, is.action_count))), (is_place env.states x.to is.states.once (omega (arith, to, is.state_count)))));
     }) in
     env_read _ _ _ _ _ refl (names_said _ _ _ _ _ (record { value = names_value env.states; there = refl; list = refl }) is.states)
     (start_said _ _ _ refl is.states.once start) (names_said _ _ _ _ _ (record { value = names_value env.actions; there = refl; list = refl }) is.actions) triples
     ∙ ap (λ (e : Env). Ok (record { states = env.states; actions = env.actions; env = e }))
-    (ap normal_env (same_env _ _ _ is.state_count is.action_count) ∙ normal_env_is _ is.known is.form)
+    (ap normal_env (λ k. record { states = is.state_count k; actions = is.action_count k; start = env.env.start; triples = env.env.triples }) ∙ normal_env_is _ is.known is.form)
 
-moves_within : (env : NamedEnv) (states : List (List ℕ)) (b : Beh) → IsSayableEnv env → length states ≡ b.states → IsOver env.env.states env.env.actions b → IsNormalBeh b → AreMovesIn env.states env.actions states b.steps
-moves_within env states b env_is count over form =
+-- a step in range is read as itself, whatever comes before it
+move_said : (env : NamedEnv) (states : List (List ℕ)) (b : Beh) (i : ℕ) (x : Move) → IsSayableEnv env → HasNoRepeats states → length states ≡ b.states → IsOver env.env.states env.env.actions b → IsNormalBeh b → IsIn x b.steps →
+    IsMoveItem env.states env.actions states i (move_value env.states env.actions states x) x
+move_said env states b i x env_is once count over form j =
     let is : IsBeh env.env b = over env.env refl refl in
-    record {
-      ends = λ x i. let (from, action, to) = is.steps x i in (omega (arith, from, count), omega (arith, action, env_is.action_count), omega (arith, to, count));
-      guards = λ x i e g. let less = is.guards x i e g in omega (arith, less, env_is.state_count);
-      rise = λ x i. (form.guards x i).0;
-    }
+    let (from, action, to) = is.steps x j in
+    let guard = guard_said env.states i x.guard env_is.states.once (form.guards x j).0 (λ e g. let less = is.guards x j e g in omega (arith, less, env_is.state_count)) in
+    grind (arith, guard, (is_place states x.from once (omega (arith, from, count))), (is_place env.actions x.action env_is.actions.once (omega (arith, action, env_is.action_count))), (is_place states x.to once (omega (arith, to, count))))
 
 moves_said : (env : NamedEnv) (states : List (List ℕ)) (b : Beh) (d : Data) → IsSayableEnv env → HasNoRepeats states → length states ≡ b.states → IsOver env.env.states env.env.actions b → IsNormalBeh b → length b.steps ≤ MAX_STEPS →
     IsListAt d (codes "steps") (map (move_value env.states env.actions states) b.steps) → moves_of env.states env.actions states d ≡ Ok b.steps
-moves_said env states b d env_is once count over form few at = ((lists_read.moves env.states env.actions states).gives d b.steps).1 (grind (arith, length-map, are_moves, moves_within))
+moves_said env states b d env_is once count over form few at = ((lists_read.moves env.states env.actions states).gives d b.steps).1 (record {
+  items = map (move_value env.states env.actions states) b.steps;
+  list = at;
+  fits = omega (arith, few, length-map b.steps (move_value env.states env.actions states));
+  are = are_each (λ before d x. IsMoveItem env.states env.actions states (length before) d x) (move_value env.states env.actions states) [] b.steps
+      (λ before x i. move_said env states b (length before) x env_is once count over form i);
+})
 
 finals_said : (env : Env) (states : List (List ℕ)) (b : Beh) (d : Data) → HasNoRepeats states → length states ≡ b.states → IsBeh env b → IsListAt d (codes "final") (map (place_value states) b.finals) → finals_of states d ≡ Ok b.finals
 finals_said env states b d once count is at = ((lists_read.finals states).gives d b.finals).1 (record {
   items = map (place_value states) b.finals;
   list = at;
   fits = tt;
-  are = are_places states [] b.finals once (λ x i. let less = is.finals x i in omega (arith, less, count));
+  are = are_each (λ before d k. IsPlace states d k) (place_value states) [] b.finals (λ before k i. is_place states k once (let less = is.finals k i in omega (arith, less, count)));
 })
 
 same_beh : (states : List (List ℕ)) (b : Beh) → length states ≡ b.states → ◌≡◌ {A = Beh} (record { states = length states; start = b.start; finals = b.finals; steps = b.steps }) b

@@ -14,37 +14,24 @@ ghost use Rattle.roman_document_laws.specs.PartReads.{ListsAreRead};
 ghost use Rattle.roman_document_laws.specs.PartWriter.{PartsAreSaid};
 
 /// In a normal form the triples, steps, final states and guards rise without repeats, and no guard is
-/// empty. Its numbers, steps and final states are those of the original record.
+/// empty. Its numbers, steps and final states are those of the original record. Two normal forms with
+/// the same numbers, steps and final states are equal.
 pub fn normal_forms_are_normal()
     ensures normal { NormalFormsAreNormal }
-{}
-
-/// Two normal forms with the same numbers, steps and final states are equal.
-pub fn normal_forms_are_unique()
     ensures unique { NormalFormsAreUnique }
 {}
 
 /// A list of names, final states or steps is read exactly when each of its items is valid, and in its
 /// order. The refusal is that of the list, or that of the first faulty item by the first rule that it
-/// breaks.
+/// breaks. The same holds for the services and the behaviours of a document.
 pub fn lists_are_read()
     ensures read { ListsAreRead }
+    ensures documents { DocumentListsAreRead }
 {}
 
-/// Each environment, behaviour and target within the limits of documents is the meaning of some JSON
-/// value: of the value that the definition of a writer gives.
+/// Each environment, behaviour, target and library within the limits of documents is the meaning of
+/// some JSON value: of the value that the definition of a writer gives.
 pub fn parts_are_said()
     ensures said { PartsAreSaid }
-{}
-
-/// The services or behaviours of a document are read exactly when each item of their list is valid,
-/// and in its order. The refusal is that of the list, or that of the first faulty item.
-pub fn document_lists_are_read()
-    ensures read { DocumentListsAreRead }
-{}
-
-/// Each library within the limits of documents is the meaning of some JSON value: of the value that
-/// the definition of a writer gives.
-pub fn libraries_are_said()
-    ensures said { LibrariesAreSaid }
+    ensures libraries { LibrariesAreSaid }
 {}
