@@ -6,7 +6,5 @@ pub mod TextExamples
 pub mod ControllerLemmas
 pub mod ReducedLemmas
 pub mod LosingLemmas
-pub mod GoneLemmas
-pub mod LosingLaws
 pub mod RequestLemmas
 pub mod CallerLemmas

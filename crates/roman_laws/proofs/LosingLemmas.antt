@@ -1,7 +1,9 @@
--- A pair that is related with more seats frozen is related with fewer, and a pair that is related without a seat that may go is related with it.
-use Rattle.roman_laws.proofs.Common.{◌≡◌, ℕ, suc, ◌<◌, Bool, true, not, ◌&&◌, ◌||◌, List, [], ◌∷◌, length, Some, IsTrue, IsFalse, slice_get, slice_index, slice_set, remove, refl, sym, ap, ◌∙◌, subst, arith, same_Some, slice_get_within, IsIn, Seat, Sys, Pair, has, IsSys, IsPair, SStep, is_final, all_final, Couple, Meets, GreatCouple, Great, set_frozen, without, may_go, freeze_at, by_test, number_listed, listed_number, left, great_meets, states_length, all_final-remove, get-remove, index-remove, index_set_place, place_before, set-remove, freeze_one, GreatWithout, ArePart, or_parts, or_from, length-set, AllZip-right, AllZip}
-use Rattle.roman_model.specs.declared.way.Way.TheVariants as way
+-- The loss of services never helps, and the least failing sets determine the sets that fail.
+use Rattle.roman_laws.proofs.Common.{◌≡◌, ℕ, suc, ◌<◌, Bool, true, not, ◌&&◌, ◌||◌, List, [], ◌∷◌, length, Some, IsTrue, IsFalse, slice_get, slice_index, slice_set, remove, refl, sym, ap, ◌∙◌, subst, arith, zero, ◌==◌, cond, ◌++◌, inl, inr, filter, same_Some, slice_get_within, none-some, IsIn, Seat, Sys, Pair, has, IsSys, IsPair, SStep, is_final, all_final, Couple, Meets, GreatCouple, Great, couple, set_frozen, without, may_go, freeze_at, leave_out, system_without, pair_without, by_test, number_listed, listed_number, left, great_meets, states_length, all_final-remove, get-remove, index-remove, index_set_place, place_before, set-remove, freeze_one, in_append_left, in_append_right, from_append, leave_out_same, other_zero, suc_same, zero_other, same_test, filter_in, in_filter, GreatWithout, ArePart, MayGoAt, LosingNeverHelps, MayAllGo, IsLeastFailing, LeastFailingSuffice, or_parts, or_from, both_ways, eqb-true, or_right, or_cases, eq-eqb, not-true, not_from_false, length-set, AllZip-right, AllZip, is_related, Way, ◌⊎◌, IsReduced}
 use Rattle.roman_laws.proofs.GreatestLemmas.{closed_great}
+use Rattle.roman_laws.proofs.ReducedLemmas.{IsSys-reduced, IsPair-reduced, reduced_are}
+use Rattle.roman_laws.proofs.OutcomeLemmas.{final_at}
+use Rattle.roman_model.specs.declared.way.Way.TheVariants as way
 
 -- Seats that differ only in that some more of them are frozen.
 
@@ -127,3 +129,127 @@ great_with_gone s k seat p ok pair seated goes great =
     let within : k < length s.seats = slice_get_within s.seats k seat seated in
     closed_great s (StandsBy s k (slice_index p.bs k)) ok (stands_by_meets s k seat (slice_index p.bs k) seated goes) p pair
     (record { great = great; state = refl; within = subst (λ n. k < n) (sym (states_length s.seats p.bs pair.bs)) within })
+
+-- Seats that leave one after the other.
+
+-- the place of j after the places that pass are left out
+abbrev pub place_left : (ℕ → Bool) → ℕ → ℕ
+place_left at zero = zero
+place_left at (suc j) = cond (at 0) (place_left (λ i. at (suc i)) j) (suc (place_left (λ i. at (suc i)) j))
+
+remove_none : {X : Type 0} (n : ℕ) → let none : List X = [] in remove none n ≡ none
+remove_none zero = refl
+remove_none (suc n) = refl
+
+-- leaving out one more place is removing it from the rest
+leave_one_more : {X : Type 0} (at bt : ℕ → Bool) (j : ℕ) (xs : List X) → IsFalse (at j) → ((i : ℕ) → bt i ≡ ((j == i) || at i)) → leave_out bt xs ≡ remove (leave_out at xs) (place_left at j)
+leave_one_more at bt j [] f more = sym (remove_none (place_left at j))
+leave_one_more at bt zero (x ∷ xs) f more = grind (arith, leave_out_same, zero_other)
+leave_one_more at bt (suc j) (x ∷ xs) f more = grind (arith, other_zero, suc_same, (leave_one_more (λ i. at (suc i)) (λ i. bt (suc i)) j xs f))
+
+-- a seat that stays is at that place, and so is its state
+get_left : {X : Type 0} (at : ℕ → Bool) (j : ℕ) (xs : List X) (x : X) → IsFalse (at j) → slice_get xs j ≡ Some x → slice_get (leave_out at xs) (place_left at j) ≡ Some x
+get_left at j [] x f e = absurd (none-some x e)
+get_left at zero (y ∷ xs) x f e = grind arith
+get_left at (suc j) (y ∷ xs) x f e = grind (arith, (get_left (λ i. at (suc i)) j xs x f e))
+
+index_left : (at : ℕ → Bool) (j : ℕ) (bs : List ℕ) → IsFalse (at j) → slice_index (leave_out at bs) (place_left at j) ≡ slice_index bs j
+index_left at j [] f = refl
+index_left at zero (b ∷ bs) f = grind arith
+index_left at (suc j) (b ∷ bs) f = grind (arith, (index_left (λ i. at (suc i)) j bs f))
+
+-- the same places in another order
+same_without : (s : Sys) (p : Pair) (K J : List ℕ) → ((i : ℕ) → has K i ≡ has J i) → GreatWithout way.Die s p K → GreatWithout way.Die s p J
+same_without s p K J same great =
+    subst (λ bs. Great (system_without way.Die J s) (record { t = p.t; e = p.e; bs = bs })) (leave_out_same (has K) (has J) p.bs same)
+    (subst (λ seats. Great (record { env = s.env; target = s.target; seats = seats }) (pair_without way.Die K p)) (leave_out_same (has K) (has J) s.seats same) great)
+
+-- a pair stays related where one seat that may go comes back
+one_back : (s : Sys) (p : Pair) (K : List ℕ) (j : ℕ) → IsSys s → IsPair s p → IsFalse (has K j) → MayGoAt s p j → GreatWithout way.Die s p (j ∷ K) → GreatWithout way.Die s p K
+one_back s p K j ok pair f (seat, seated, goes) great =
+    great_with_gone (system_without way.Die K s) (place_left (has K) j) seat (pair_without way.Die K p) (IsSys-reduced way.Die K s ok) (IsPair-reduced way.Die K s p pair)
+    (get_left (has K) j s.seats seat f seated) (subst (λ b. IsTrue (not seat.rests || is_final seat.beh b)) (sym (index_left (has K) j p.bs f)) goes)
+    (subst (λ bs. Great (left (system_without way.Die K s) (place_left (has K) j)) (record { t = p.t; e = p.e; bs = bs })) (leave_one_more (has K) (has (j ∷ K)) j p.bs f (λ i. refl))
+    (subst (λ seats. Great (record { env = s.env; target = s.target; seats = seats }) (pair_without way.Die (j ∷ K) p)) (leave_one_more (has K) (has (j ∷ K)) j s.seats f (λ i. refl)) great))
+
+pub more_back : (s : Sys) (p : Pair) (js K : List ℕ) → IsSys s → IsPair s p → ((k : ℕ) → IsIn k js → (IsIn k K → ⊥) → MayGoAt s p k) → GreatWithout way.Die s p (js ++ K) → GreatWithout way.Die s p K
+more_back s p [] K ok pair may great = great
+more_back s p (j ∷ js) K ok pair may great =
+    more_back s p js K ok pair (λ k i. may k (inr i))
+    (by_test (has (js ++ K) j)
+    (λ t. same_without s p (j ∷ (js ++ K)) (js ++ K) (grind (arith, same_test, or_cases, eqb-true, or_right)) great)
+    (grind (arith, one_back, both_ways, listed_number, in_append_right)))
+
+pub more_gone : (s : Sys) (p : Pair) (K J : List ℕ) → IsSys s → IsPair s p → ArePart K J → ((k : ℕ) → IsIn k J → (IsIn k K → ⊥) → MayGoAt s p k) →
+    GreatWithout way.Die s p J → GreatWithout way.Die s p K
+more_gone s p K J ok pair more may great = more_back s p J K ok pair may (same_without s p J (J ++ K) both great)
+  where
+    both : (i : ℕ) → has J i ≡ has (J ++ K) i
+    both i = same_test (has J i) (has (J ++ K) i)
+        (λ t. listed_number (J ++ K) i (in_append_left i J K (number_listed J i t)))
+        (λ t. listed_number J i (elim (from_append i J K (number_listed (J ++ K) i t)) [ inl left ↦ left | inr right ↦ more i right ]))
+
+-- The loss of services never helps.
+
+pub losing_never : LosingNeverHelps
+losing_never s p = record {
+  one_frozen = λ k great. great_thawed s s.seats (set_frozen s.seats k true) (set_frozen_more s.seats k) p great;
+  more_frozen = λ K J more great. frozen_more s p K J more great;
+  any_frozen = λ K great. great_thawed s s.seats (freeze_at (has K) s.seats) (freeze_at_besides (has K) s.seats) p great;
+  one_gone = λ ok pair k seat seated goes great. great_with_gone s k seat p ok pair seated goes great;
+  more_gone = λ ok pair K J more may great. more_gone s p K J ok pair more may great;
+  final_may_go = λ great final k seat seated. final_at s.seats p.bs ((great_meets s (couple p) great).final final) k seat seated;
+}
+
+-- Least failing sets.
+
+may_part : (how : Way) (s : Sys) (p : Pair) (K J : List ℕ) → ArePart K J → MayAllGo how s p J → MayAllGo how s p K
+may_part way.Freeze s p K J part may = tt
+may_part way.Die s p K J part may = λ k i. may k (part k i)
+
+-- a pair that is related where more seats fail is related where fewer fail
+pub great_more : (how : Way) (s : Sys) (p : Pair) (K J : List ℕ) → IsSys s → IsPair s p → MayAllGo how s p J → ArePart K J → GreatWithout how s p J → GreatWithout how s p K
+great_more way.Freeze s p K J ok pair may more great = frozen_more s p K J more great
+great_more way.Die s p K J ok pair may more great = more_gone s p K J ok pair more (λ k i other. may k i) great
+
+-- each failing part of J contains the seats of J that aren't in `rest`; each seat of `rest` stays or is left out in turn
+least_of : (how : Way) (s : Sys) (p : Pair) (J rest : List ℕ) → IsSys s → IsPair s p → MayAllGo how s p J → (GreatWithout how s p J → ⊥) →
+    ((N : List ℕ) → ArePart N J → (GreatWithout how s p N → ⊥) → (j : ℕ) → IsIn j J → IsIn j rest ⊎ IsIn j N) → (M : List ℕ) × ArePart M J × IsLeastFailing how s p M
+least_of how s p J [] ok pair may fails needed =
+    (J, λ k i. i, record { fails = fails; least = λ N part bad j i. elim (needed N part bad j i) [ inl none ↦ absurd none | inr there ↦ there ] })
+least_of how s p J (k ∷ rest) ok pair may fails needed =
+    by_test (is_related (system_without how K s) (pair_without how K p))
+    (λ works. least_of how s p J rest ok pair may fails (λ N part bad j i. elim (needed N part bad j i) [
+      | inl (inl e) ↦ inr (subst (λ n. IsIn n N) (sym e) (with_k (reduced.composes.0 works) N part bad))
+      | inl (inr later) ↦ inl later
+      | inr there ↦ inr there
+    ]))
+    (λ lost.
+    let (M, part, least) = least_of how s p K rest ok pair (may_part how s p K J within may)
+    (λ great. both_ways (is_related (system_without how K s) (pair_without how K p)) lost (reduced.composes.1 great))
+    (λ N part bad j i. elim (needed N (λ n l. within n (part n l)) bad j (within j i)) [
+      | inl (inl e) ↦ absurd (both_ways (j == k) (not-true (j == k) (filter_in (λ j. not (j == k)) j J i).1) (eq-eqb j k e))
+      | inl (inr later) ↦ inl later
+      | inr there ↦ inr there
+    ]) in
+    (M, λ j i. within j (part j i), least))
+  where
+    K : List ℕ
+    K = filter (λ j. not (j == k)) J
+
+    within : ArePart K J
+    within j i = (filter_in (λ j. not (j == k)) j J i).0
+
+    reduced : IsReduced how K s p
+    reduced = reduced_are how K s p ok pair
+
+    -- a failing part contains k, where J without k doesn't fail
+    with_k : GreatWithout how s p K → (N : List ℕ) → ArePart N J → (GreatWithout how s p N → ⊥) → IsIn k N
+    with_k works N part bad = by_test (has N k) (number_listed N k)
+        (λ f. absurd (bad (great_more how s p N K ok pair (may_part how s p K J within may) (λ j i. grind (arith, both_ways, listed_number, in_filter, eqb-true, by_test, not_from_false)) works)))
+
+pub least_suffice : LeastFailingSuffice
+least_suffice how s p K ok pair may = (
+  λ fails. least_of how s p K K ok pair may fails (λ N part bad j i. inl i),
+  λ (M, part, least) great. least.fails (great_more how s p M K ok pair may part great),
+)

@@ -35,7 +35,7 @@ pub fn controllers_take_offers()
 /// A pair that is related with more services frozen is related with fewer. A pair that is related
 /// after a death was related before it, where the service that died was loose or in a final state. A
 /// set of services whose loss leaves the pair unrelated contains a least such set.
-#[tactic(auto, using(crate::proofs::LosingLaws::losing_never, crate::proofs::LosingLaws::least_suffice))]
+#[tactic(auto, using(crate::proofs::LosingLemmas::losing_never, crate::proofs::LosingLemmas::least_suffice))]
 pub fn losing_never_helps()
     ensures never { LosingNeverHelps }
     ensures least { LeastFailingSuffice }

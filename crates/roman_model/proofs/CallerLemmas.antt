@@ -41,11 +41,9 @@ pub use Rattle.roman_model.proofs.NumberedChanges.{NumbersReplay, number_allows-
 pub use Rattle.roman_model.proofs.ExplanationLemmas.{answer_before, before_falls, before_is, explanation_is_least, explanation_is_order, rests_is}
 -- Explanations carry over between arenas whose nodes correspond by a renaming.
 pub use Rattle.roman_model.proofs.ExplanationRenames.{answer_at, explanation_at}
--- The lines of a text whose first lines are known.
-pub use Rattle.roman_model.proofs.LineLemmas.{ended_lines-text, ended_lines_last, lines-text, lines_last, text_of_lines-push}
--- Lines of certificates: the entry that a line states, and the first fault.
-pub use Rattle.roman_model.proofs.CertificateLemmas.{AreFew, act_reason, append_line, clean_push, cut_at, decimal_without, entry_is_line, entry_is_no_end, entry_of-is, entry_of-line, entry_of_none, entry_of_other, faults_none}
-pub use Rattle.roman_model.proofs.CertificateLemmas.{from_possible, in_possible, possible_small}
+-- Lines of texts and of certificates: the entry that a line states, and the first fault.
+pub use Rattle.roman_model.proofs.CertificateLemmas.{AreFew, act_reason, append_line, clean_push, cut_at, decimal_without, ended_lines-text, ended_lines_last, entry_is_line, entry_is_no_end, entry_of-is, entry_of-line, entry_of_none}
+pub use Rattle.roman_model.proofs.CertificateLemmas.{entry_of_other, faults_none, from_possible, in_possible, lines-text, lines_last, possible_small, text_of_lines-push}
 -- The certificate of a complete list is accepted, an accepted certificate is complete, and the verdict on a text whose first lines were read.
 pub use Rattle.roman_model.proofs.CertificateLaws.{complete_order, due_is, fault_after_end, fault_in_body, verdict_accepted, verdict_at, verdict_ended, verdict_rejected, verdict_too_long, written_is_greatest}
 -- The plan of the choices costs least of all plans at a related pair, and costs are computed one action, one seat and one outcome at a time.

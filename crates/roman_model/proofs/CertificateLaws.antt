@@ -8,8 +8,7 @@ use Rattle.roman_model.proofs.NumberLemmas.{numbers_are_pairs}
 use Rattle.roman_model.proofs.OrderLemmas.{order_fits, order_justified, order_push, order_middle}
 use Rattle.roman_model.proofs.Renames.{order_named}
 use Rattle.roman_model.proofs.NumberedArena.{IsNumber, AreNumbers, numbers_rename, justified_at, numbered_is_same, numbered_is_arena, numbered_completed_by, numbered_listed}
-use Rattle.roman_model.proofs.LineLemmas.{lines-text_of_lines, lines-text, ended_lines-text}
-use Rattle.roman_model.proofs.CertificateLemmas.{end_is_line, entry_is_line, entry_is_no_end, AreFew, possible_small, in_possible, from_possible, entry_of-line, entry_of-is, entry_of_other, entries_on-lines, faults_none, faults_first, clean_push, fault_next, fault_over, faults_cases, append_line, decimal_without, clean_front}
+use Rattle.roman_model.proofs.CertificateLemmas.{lines-text_of_lines, lines-text, ended_lines-text, end_is_line, entry_is_line, entry_is_no_end, AreFew, possible_small, in_possible, from_possible, entry_of-line, entry_of-is, entry_of_other, entries_on-lines, faults_none, faults_first, clean_push, fault_next, fault_over, faults_cases, append_line, decimal_without, clean_front}
 
 -- The sizes of a system within the limits
 

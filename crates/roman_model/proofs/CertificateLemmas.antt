@@ -1,7 +1,43 @@
--- Lines of certificates: the entry that a line states, and the first fault.
-use Rattle.roman_model.proofs.Common.{slice_get_past, ◌≡◌, ℕ, zero, suc, ◌+◌, ◌%◌, ◌^◌, ◌<◌, ◌≤◌, ◌==◌, false, ◌⊎◌, List, [], ◌∷◌, ◌++◌, map, length, take, Option, Some, None, IsFalse, option_map, slice_get, decimal, refl, sym, ap, ap₂, ◌∙◌, subst, inl, inr, arith, length-append, cons_option, both_ways, or_parts, or_from, eq-eqb, cases_lt, ne_eqb, list_any-append, filter_map-append, IsIn, below, IsLine, has, same_numbers, Arena, Entry, reason_text, entry_line, end_line, Why, Verdict, Rejected, reasons, possible_entries, entry_of, entries_on, line_fault, IsClean, faults, Reason, Final, Act, take-append-le, take_all, take_at, decimal_by_steps, decimal_injective, decimal_nonempty}
+-- Lines of texts and of certificates: the entry that a line states, and the first fault.
+use Rattle.roman_model.proofs.Common.{slice_get_past, ◌≡◌, ℕ, zero, suc, ◌+◌, ◌%◌, ◌^◌, ◌<◌, ◌≤◌, ◌==◌, false, ◌⊎◌, List, [], ◌∷◌, ◌++◌, map, length, take, Option, Some, None, IsFalse, option_map, slice_get, decimal, refl, sym, ap, ap₂, ◌∙◌, subst, inl, inr, arith, length-append, ◌≢◌, append_assoc, append-nil, cons_option, both_ways, or_parts, or_from, eq-eqb, cases_lt, ne_eqb, cond-false, list_any-append, filter_map-append, IsIn, below, IsLine, lines, ended_lines, text_of_lines, AreLines, has, same_numbers, Arena, Entry, reason_text, entry_line, end_line, Why, Verdict, Rejected, reasons, possible_entries, entry_of, entries_on, line_fault, IsClean, faults, Reason, Final, Act, take-append-le, take_all, take_at, decimal_by_steps, decimal_injective, decimal_nonempty}
 use Rattle.roman_model.proofs.Lists.{by_test, none_from, in_map, from_map, in_flat_map, from_flat_map, from_push, in_below, from_below, find_some, find_found, find_not_found, any_from}
 use Rattle.roman_model.proofs.SystemLemmas.{same_numbers_is, same_numbers_itself}
+
+-- Lines of a text whose first lines are known
+
+pub lines-line : (line rest : List ℕ) → IsLine line → lines (line ++ 10 ∷ rest) ≡ line ∷ lines rest
+lines-line [] rest h = refl
+lines-line (byte ∷ line) rest h = grind (arith, or_parts, (lines-line line rest))
+
+pub ended_lines-line : (line rest : List ℕ) → IsLine line → ended_lines (line ++ 10 ∷ rest) ≡ line ∷ ended_lines rest
+ended_lines-line [] rest h = refl
+ended_lines-line (byte ∷ line) rest h = grind (arith, or_parts, (ended_lines-line line rest))
+
+-- bytes without a newline are one line, or none where there are no bytes
+pub lines_last : (line : List ℕ) → IsLine line → line ≢ [] → lines line ≡ line ∷ []
+lines_last [] h some = absurd (some refl)
+lines_last (byte ∷ []) h some = grind (arith, cond-false, or_parts)
+lines_last (byte ∷ next ∷ line) h some = grind (arith, or_parts, (lines_last (next ∷ line)))
+
+pub ended_lines_last : (line : List ℕ) → IsLine line → ended_lines line ≡ []
+ended_lines_last [] h = refl
+ended_lines_last (byte ∷ line) h = grind (arith, or_parts, (ended_lines_last line))
+
+pub lines-text : (ls : List (List ℕ)) (rest : List ℕ) → AreLines ls → lines (text_of_lines ls ++ rest) ≡ ls ++ lines rest
+lines-text [] rest are = refl
+lines-text (line ∷ ls) rest are = grind (arith, lines-line, append_assoc, (lines-text ls rest))
+
+pub ended_lines-text : (ls : List (List ℕ)) (rest : List ℕ) → AreLines ls → ended_lines (text_of_lines ls ++ rest) ≡ ls ++ ended_lines rest
+ended_lines-text [] rest are = refl
+ended_lines-text (line ∷ ls) rest are = grind (arith, ended_lines-line, append_assoc, (ended_lines-text ls rest))
+
+-- the lines of a text of lines are these lines
+pub lines-text_of_lines : (ls : List (List ℕ)) → AreLines ls → lines (text_of_lines ls) ≡ ls
+lines-text_of_lines ls are = ap lines (sym (append-nil (text_of_lines ls))) ∙ lines-text ls [] are ∙ append-nil ls
+
+pub text_of_lines-push : (ls : List (List ℕ)) (line : List ℕ) → text_of_lines (ls ++ line ∷ []) ≡ text_of_lines ls ++ line ++ 10 ∷ []
+text_of_lines-push [] line = append-nil (line ++ 10 ∷ [])
+text_of_lines-push (first ∷ ls) line = grind (arith, append_assoc, (text_of_lines-push ls line))
 
 -- Decimal numbers
 

@@ -13,7 +13,6 @@ pub mod ChangeLemmas
 pub mod NumberedChanges
 pub mod ExplanationLemmas
 pub mod ExplanationRenames
-pub mod LineLemmas
 pub mod CertificateLemmas
 pub mod CertificateLaws
 pub mod PlanLemmas

@@ -1,6 +1,7 @@
 //! The laws over the definitions alone. Each law is the contract of a function with an empty body.
 
-ghost use Rattle.roman_model.specs.Laws.{OrderCompletes};
+ghost use Rattle.roman_model.specs.Change.{RenamingKeeps};
+ghost use Rattle.roman_model.specs.Laws.{NumberedCompletes, OrderCompletes};
 ghost use Rattle.roman_model.specs.Offers.{OffersAreGenerator};
 ghost use Rattle.roman_model.specs.Plans.{PlansCostLeast};
 ghost use Rattle.roman_model.specs.Play.{DepthIsLeast, DepthWins, OrderWins};
@@ -52,4 +53,16 @@ pub fn plans_cost_least()
 #[tactic(auto, using(crate::proofs::WithoutLemmas::without_changes))]
 pub fn without_by_changes()
     ensures there { WithoutByChanges }
+{}
+
+/// After a change the replay of the renamed removal list is a removal list of the new system. After a
+/// freeze or a death it is the whole renamed list.
+pub fn renaming_keeps()
+    ensures kept { RenamingKeeps }
+{}
+
+/// A removal list over the numbers is complete over the pairs where every unlisted number meets
+/// clause 2 and has a seat in the mask of each allowed action.
+pub fn numbered_completes()
+    ensures complete { NumberedCompletes }
 {}

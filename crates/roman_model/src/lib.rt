@@ -18,26 +18,22 @@
 #![tactic(auto)]
 
 mod certificates;
-mod changes;
 mod laws;
 mod limits;
-mod numbers;
 mod reason;
 mod request;
 mod way;
 
 pub use certificates::{explanation_is_least, greatest_is_complete, written_is_greatest};
-pub use changes::renaming_keeps;
 pub use laws::{
-    depth_is_least, depth_wins, offers_are_generator, order_completes, order_wins,
-    plans_cost_least, without_by_changes,
+    depth_is_least, depth_wins, numbered_completes, offers_are_generator, order_completes,
+    order_wins, plans_cost_least, renaming_keeps, without_by_changes,
 };
 pub use limits::{
     DEFAULT_CELLS, MAX_ACTIONS, MAX_BEHAVIOURS, MAX_CELLS, MAX_CERTIFICATE_BYTES,
     MAX_DOCUMENT_BYTES, MAX_FILE_NAME_BYTES, MAX_LINE_BYTES, MAX_NAME_BYTES, MAX_SERVICES,
     MAX_SESSION_BYTES, MAX_STATES, MAX_STEPS, PIECE_BYTES,
 };
-pub use numbers::numbered_completes;
 pub use reason::Reason;
 pub use request::Request;
 pub use way::Way;
