@@ -22,11 +22,10 @@ get_frozen_more : (xs ys : List Seat) → AreFrozenMore xs ys → (k : ℕ) (y :
 get_frozen_more xs ys more k y e = grind (arith, (AllZip-right IsFrozenMore xs ys more k))
 
 final_frozen_more : (xs ys : List Seat) (bs : List ℕ) → AreFrozenMore xs ys → all_final xs bs ≡ all_final ys bs
-final_frozen_more [] [] bs more = refl
 final_frozen_more [] (y ∷ ys) bs more = absurd more
 final_frozen_more (x ∷ xs) [] bs more = absurd more
-final_frozen_more (x ∷ xs) (y ∷ ys) [] more = refl
 final_frozen_more (x ∷ xs) (y ∷ ys) (b ∷ bs) more = grind (arith, (final_frozen_more xs ys bs more.1))
+final_frozen_more _ _ _ _ = refl
 
 -- a step of a ready seat among the frozen seats is a step among the others
 step_thawed : (s : Sys) (xs ys : List Seat) → AreFrozenMore xs ys → (bs : List ℕ) (e a k : ℕ) (bs' : List ℕ) (e' : ℕ) →

@@ -8,9 +8,8 @@ leave_out_part at (x ∷ xs) = grind (arith, sublist_skip, (leave_out_part (λ i
 
 leave_out_below : (at : ℕ → Bool) (seats : List Seat) (bs : List ℕ) → AllZip (λ seat b. b < seat.beh.states) seats bs → AllZip (λ seat b. b < seat.beh.states) (leave_out at seats) (leave_out at bs)
 leave_out_below at [] [] h = tt
-leave_out_below at [] (b ∷ bs) h = absurd h
-leave_out_below at (seat ∷ seats) [] h = absurd h
 leave_out_below at (seat ∷ seats) (b ∷ bs) h = grind (arith, (leave_out_below (λ i. at (suc i)) seats bs h.1))
+leave_out_below _ _ _ h = absurd h
 
 behaviours-freeze_at : (at : ℕ → Bool) (seats : List Seat) → behaviours (freeze_at at seats) ≡ behaviours seats
 behaviours-freeze_at at [] = refl

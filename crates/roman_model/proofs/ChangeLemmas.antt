@@ -66,16 +66,13 @@ set-remove (c ∷ bs) (suc k) (suc j) b = ap (λ cs. c ∷ cs) (set-remove bs k 
 
 -- the state at another place stays the same
 pub index_set_place : (bs : List ℕ) (k j b : ℕ) → slice_index (slice_set bs (place_before k j) b) k ≡ slice_index bs k
-index_set_place [] k j b = refl
-index_set_place (c ∷ bs) zero j b = refl
-index_set_place (c ∷ bs) (suc k) zero b = refl
 index_set_place (c ∷ bs) (suc k) (suc j) b = index_set_place bs k j b
+index_set_place _ _ _ _ = refl
 
 pub place_within : (k j n : ℕ) → k < suc n → j < n → place_before k j < suc n
-place_within zero j n h l = omega arith
-place_within (suc k) zero n h l = omega arith
 place_within (suc k) (suc j) zero h l = absurd (omega arith)
 place_within (suc k) (suc j) (suc n) h l = let rest : place_before k j < suc n = place_within k j n (omega arith) (omega arith) in omega arith
+place_within _ _ n h l = omega arith
 
 -- Systems with other seats
 
@@ -111,9 +108,8 @@ IsPair-alike s seats p same ok = IsPair-from (record { env = s.env; target = s.t
 -- Seats that are frozen or thawed
 
 pub behaviours-frozen : (seats : List Seat) (k : ℕ) (frozen : Bool) → behaviours (set_frozen seats k frozen) ≡ behaviours seats
-behaviours-frozen [] k frozen = refl
-behaviours-frozen (seat ∷ seats) zero frozen = refl
 behaviours-frozen (seat ∷ seats) (suc k) frozen = ap (λ behs. seat.beh ∷ behs) (behaviours-frozen seats k frozen)
+behaviours-frozen _ _ _ = refl
 
 pub states_frozen : (seats : List Seat) (k : ℕ) (frozen : Bool) → map (λ seat. seat.beh.states) (set_frozen seats k frozen) ≡ map (λ seat. seat.beh.states) seats
 states_frozen seats k frozen = states-alike (set_frozen seats k frozen) seats (behaviours-frozen seats k frozen)
@@ -122,11 +118,8 @@ pub length-set_frozen : (seats : List Seat) (k : ℕ) (frozen : Bool) → length
 length-set_frozen seats k frozen = grind (arith, length-map, (states_frozen seats k frozen))
 
 pub all_final-set_frozen : (seats : List Seat) (k : ℕ) (frozen : Bool) (bs : List ℕ) → all_final (set_frozen seats k frozen) bs ≡ all_final seats bs
-all_final-set_frozen [] k frozen bs = refl
-all_final-set_frozen (seat ∷ seats) zero frozen [] = refl
-all_final-set_frozen (seat ∷ seats) zero frozen (b ∷ bs) = refl
-all_final-set_frozen (seat ∷ seats) (suc k) frozen [] = refl
 all_final-set_frozen (seat ∷ seats) (suc k) frozen (b ∷ bs) = ap (λ x. (not seat.rests || is_final seat.beh b) && x) (all_final-set_frozen seats k frozen bs)
+all_final-set_frozen _ _ _ _ = refl
 
 -- the system with seat k frozen or made ready
 abbrev pub turned : Sys → ℕ → Bool → Sys
@@ -146,17 +139,14 @@ is_fine-turned s k frozen p = ap (λ x. not (is_final s.target p.t) || x) (all_f
 
 -- freezing or thawing another seat keeps a seat as it is
 pub get-set_frozen : (seats : List Seat) (k j : ℕ) (frozen : Bool) → (j ≡ k → ⊥) → slice_get (set_frozen seats k frozen) j ≡ slice_get seats j
-get-set_frozen [] k j frozen ne = refl
 get-set_frozen (seat ∷ seats) zero zero frozen ne = absurd (ne refl)
-get-set_frozen (seat ∷ seats) zero (suc j) frozen ne = refl
-get-set_frozen (seat ∷ seats) (suc k) zero frozen ne = refl
 get-set_frozen (seat ∷ seats) (suc k) (suc j) frozen ne = get-set_frozen seats k j frozen (λ e. ne (ap suc e))
+get-set_frozen _ _ _ _ _ = refl
 
 -- a frozen seat has no next state
 pub seat_next-frozen : (seats : List Seat) (k b e a : ℕ) → seat_next (slice_get (set_frozen seats k true) k) b e a ≡ []
-seat_next-frozen [] k b e a = refl
-seat_next-frozen (seat ∷ seats) zero b e a = refl
 seat_next-frozen (seat ∷ seats) (suc k) b e a = seat_next-frozen seats k b e a
+seat_next-frozen _ _ _ _ _ = refl
 
 pub outcomes-turned : (s : Sys) (k : ℕ) (frozen : Bool) (p : Pair) (a j : ℕ) → (j ≡ k → ⊥) → outcomes (turned s k frozen) p a j ≡ outcomes s p a j
 outcomes-turned s k frozen p a j ne = ap (λ o. outcomes_by s p a j (seat_next o (slice_index p.bs j) p.e a)) (get-set_frozen s.seats k j frozen ne)

@@ -6,18 +6,16 @@ AreBelow-length sizes bs h = AllZip-long (λ size b. b < size) sizes bs h
 
 pub states_number_below : (sizes bs : List ℕ) → AreBelow sizes bs → states_number sizes bs < product_of sizes
 states_number_below [] [] h = omega arith
-states_number_below [] (b ∷ bs) h = elim h [ ]
-states_number_below (size ∷ sizes) [] h = elim h [ ]
 states_number_below (size ∷ sizes) (b ∷ bs) h =
     let rest : states_number sizes bs < product_of sizes = states_number_below sizes bs h.1 in
     let here : b * product_of sizes + states_number sizes bs < product_of sizes * size = mul-add-lt b (product_of sizes) (states_number sizes bs) size h.0 rest in
     omega arith
+states_number_below _ _ h = elim h [ ]
 
 pub states_at-number : (sizes bs : List ℕ) → AreBelow sizes bs → states_at sizes (states_number sizes bs) ≡ bs
 states_at-number [] [] h = refl
-states_at-number [] (b ∷ bs) h = elim h [ ]
-states_at-number (size ∷ sizes) [] h = elim h [ ]
 states_at-number (size ∷ sizes) (b ∷ bs) h = grind (arith, div-mul-add, mod-mul-add, states_number_below, (states_at-number sizes bs h.1))
+states_at-number _ _ h = elim h [ ]
 
 -- a factor of a product with a number below it isn't 0
 factor_pos : (i a b : ℕ) → i < a * b → 0 < b
@@ -46,24 +44,21 @@ states_number-append (m ∷ ms) ns [] cs h = omega arith
 states_number-append (m ∷ ms) ns (b ∷ bs) cs h = rw (product_append ms ns, states_number-append ms ns bs cs (omega arith)) (omega arith)
 
 product_split : (sizes : List ℕ) (k : ℕ) → k < length sizes → product_of sizes ≡ product_of (take k sizes) * (slice_index sizes k * product_of (drop (k + 1) sizes))
-product_split [] k h = omega arith
-product_split (size ∷ sizes) zero h = omega arith
 product_split (size ∷ sizes) (suc k) h = grind (arith, (product_split sizes k (omega arith)))
+product_split _ _ h = omega arith
 
 -- the number, split at place k: the part before it, the state, and the part after it
 pub states_number-split : (sizes bs : List ℕ) (k : ℕ) → k < length sizes → length bs ≡ length sizes →
     states_number sizes bs
     ≡ (states_number (take k sizes) (take k bs) * slice_index sizes k + slice_index bs k) * product_of (drop (k + 1) sizes)
     + states_number (drop (k + 1) sizes) (drop (k + 1) bs)
-states_number-split [] bs k h l = omega arith
-states_number-split (size ∷ sizes) [] k h l = omega arith
-states_number-split (size ∷ sizes) (b ∷ bs) zero h l = omega arith
 states_number-split (size ∷ sizes) (b ∷ bs) (suc k) h l =
     let cut : product_of sizes ≡ product_of (take k sizes) * (slice_index sizes k * product_of (drop (suc k) sizes)) = rw add-one at (product_split sizes k (omega arith)) in
     let rest : states_number sizes bs
     ≡ (states_number (take k sizes) (take k bs) * slice_index sizes k + slice_index bs k) * product_of (drop (suc k) sizes)
     + states_number (drop (suc k) sizes) (drop (suc k) bs) = rw add-one at (states_number-split sizes bs k (omega arith) (omega arith)) in
     rw (add-one, cut, rest) (omega arith)
+states_number-split _ _ _ h l = omega arith
 
 -- Lists of states that are below their sizes
 
@@ -72,16 +67,14 @@ AreBelow-index sizes bs k h l = AllZip-get_or (λ size b. b < size) sizes bs k 0
 
 pub AreBelow-set : (sizes bs : List ℕ) (k b : ℕ) → AreBelow sizes bs → b < slice_index sizes k → AreBelow sizes (slice_set bs k b)
 AreBelow-set [] [] k b h l = h
-AreBelow-set [] (x ∷ bs) k b h l = elim h [ ]
-AreBelow-set (size ∷ sizes) [] k b h l = elim h [ ]
 AreBelow-set (size ∷ sizes) (x ∷ bs) zero b h l = (l, h.1)
 AreBelow-set (size ∷ sizes) (x ∷ bs) (suc k) b h l = (h.0, AreBelow-set sizes bs k b h.1 l)
+AreBelow-set _ _ _ _ h _ = elim h [ ]
 
 pub AreBelow-append : (ms ns bs cs : List ℕ) → AreBelow ms bs → AreBelow ns cs → AreBelow (ms ++ ns) (bs ++ cs)
 AreBelow-append [] ns [] cs h g = g
-AreBelow-append [] ns (b ∷ bs) cs h g = elim h [ ]
-AreBelow-append (m ∷ ms) ns [] cs h g = elim h [ ]
 AreBelow-append (m ∷ ms) ns (b ∷ bs) cs h g = (h.0, AreBelow-append ms ns bs cs h.1 g)
+AreBelow-append _ _ _ _ h _ = elim h [ ]
 
 pub AreBelow-take : (sizes bs : List ℕ) (k : ℕ) → AreBelow sizes bs → AreBelow (take k sizes) (take k bs)
 AreBelow-take sizes bs zero h = tt
@@ -93,19 +86,16 @@ AreBelow-take (size ∷ sizes) (b ∷ bs) (suc k) h = (h.0, AreBelow-take sizes 
 pub AreBelow-drop : (sizes bs : List ℕ) (k : ℕ) → AreBelow sizes bs → AreBelow (drop k sizes) (drop k bs)
 AreBelow-drop sizes bs zero h = h
 AreBelow-drop [] [] (suc k) h = tt
-AreBelow-drop [] (b ∷ bs) (suc k) h = elim h [ ]
-AreBelow-drop (size ∷ sizes) [] (suc k) h = elim h [ ]
 AreBelow-drop (size ∷ sizes) (b ∷ bs) (suc k) h = AreBelow-drop sizes bs k h.1
+AreBelow-drop _ _ _ h = elim h [ ]
 
 -- The number of a changed list of states
 
 -- with another state at place k
 pub states_number-set : (sizes bs : List ℕ) (k b : ℕ) → k < length sizes → length bs ≡ length sizes →
     states_number sizes (slice_set bs k b) + slice_index bs k * product_of (drop (k + 1) sizes) ≡ states_number sizes bs + b * product_of (drop (k + 1) sizes)
-states_number-set [] bs k b h l = omega arith
-states_number-set (size ∷ sizes) [] k b h l = omega arith
-states_number-set (size ∷ sizes) (x ∷ bs) zero b h l = omega arith
 states_number-set (size ∷ sizes) (x ∷ bs) (suc k) b h l = grind (arith, (states_number-set sizes bs k b (omega arith) (omega arith)))
+states_number-set _ _ _ b h l = omega arith
 
 -- the state at place k is a digit of the number
 pub state_from_number : (sizes bs : List ℕ) (k : ℕ) → AreBelow sizes bs → k < length sizes →
@@ -229,15 +219,13 @@ count-without n k h =
 
 pub states_below : (seats : List Seat) (bs : List ℕ) → AllZip (λ seat b. b < seat.beh.states) seats bs → AreBelow (map (λ seat. seat.beh.states) seats) bs
 states_below [] [] h = tt
-states_below [] (b ∷ bs) h = elim h [ ]
-states_below (seat ∷ seats) [] h = elim h [ ]
 states_below (seat ∷ seats) (b ∷ bs) h = (h.0, states_below seats bs h.1)
+states_below _ _ h = elim h [ ]
 
 pub below_states : (seats : List Seat) (bs : List ℕ) → AreBelow (map (λ seat. seat.beh.states) seats) bs → AllZip (λ seat b. b < seat.beh.states) seats bs
 below_states [] [] h = tt
-below_states [] (b ∷ bs) h = elim h [ ]
-below_states (seat ∷ seats) [] h = elim h [ ]
 below_states (seat ∷ seats) (b ∷ bs) h = (h.0, below_states seats bs h.1)
+below_states _ _ h = elim h [ ]
 
 pub size_at : (seats : List Seat) (k : ℕ) (seat : Seat) → slice_get seats k ≡ Some seat → slice_index (map (λ seat. seat.beh.states) seats) k ≡ seat.beh.states
 size_at [] k seat e = absurd (none-some seat e)

@@ -83,10 +83,9 @@ seat_place s k seat seated = subst (λ m. k < m) (sym (length-map s.seats (λ x.
 
 named : (change : Change) (s : Sys) (L : List (Entry ℕ)) → CanChange change s → AreNumbers s L →
     map (pair_entry (sizes_after change (sizes_of s))) (rename_numbers change (sizes_of s) L) ≡ rename change (map (pair_entry (sizes_of s)) L)
-named (Freeze k) s L can are = refl
-named (Thaw k) s L can are = refl
 named (Join seat) s L can are = join_named (sizes_of s) seat L are
 named (Die k seat) s L can are = die_named (sizes_of s) k seat L (seat_place s k seat can) are
+named _ _ _ _ _ = refl
 
 -- the renamed numbers are the numbers of the renamed pairs, in the same order
 pub numbers_renamed : (change : Change) (s : Sys) (L : List (Entry ℕ)) → CanChange change s → AreNumbers s L →

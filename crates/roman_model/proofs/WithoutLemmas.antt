@@ -33,10 +33,9 @@ freeze_none at (x ∷ xs) none =
 -- One place.
 
 pub leave_one : {X : Type 0} (k : ℕ) (xs : List X) → leave_out (has (k ∷ [])) xs ≡ remove xs k
-leave_one zero [] = refl
-leave_one (suc k) [] = refl
 leave_one zero (x ∷ xs) = grind (arith, leave_none, zero_other)
 leave_one (suc k) (x ∷ xs) = grind (arith, leave_out_same, other_zero, suc_same, (leave_one k xs))
+leave_one _ _ = refl
 
 pub freeze_one : (k : ℕ) (seats : List Seat) → freeze_at (has (k ∷ [])) seats ≡ set_frozen seats k true
 freeze_one k [] = refl
@@ -47,12 +46,11 @@ freeze_one (suc k) (x ∷ xs) = grind (arith, freeze_same, or-false, other_zero,
 
 -- leaving out the later place first
 pub leave_two : {X : Type 0} (k j : ℕ) (xs : List X) → k < j → leave_out (has (k ∷ j ∷ [])) xs ≡ remove (remove xs j) k
-leave_two zero zero xs l = absurd (omega arith)
-leave_two (suc k) zero xs l = absurd (omega arith)
 leave_two zero (suc j) [] l = refl
 leave_two (suc k) (suc j) [] l = refl
 leave_two zero (suc j) (x ∷ xs) l = grind (arith, (leave_one j xs), suc_same, zero_other)
 leave_two (suc k) (suc j) (x ∷ xs) l = grind (arith, leave_out_same, other_zero, suc_same, (leave_two k j xs (omega arith)))
+leave_two _ zero xs l = absurd (omega arith)
 
 -- leaving out the earlier place first: the later one moves down
 pub remove_in_turn : {X : Type 0} (k j : ℕ) (xs : List X) → k < j → remove (remove xs k) (pred j) ≡ remove (remove xs j) k
