@@ -64,9 +64,8 @@ module _ {X E : Type 0} (step : ℕ → List X → Data → Result (List X) E) (
   each_given : (i : ℕ) (before : List X) (ds : List Data) (xs : List X) → i ≡ length before → AreItems Is before ds xs → each_item step i before (items_of ds) ≡ Ok (before ++ xs)
   unfolding each_item
   each_given i before [] [] at are = ap Ok (sym (append-nil before))
-  each_given i before [] (x ∷ xs) at are = absurd are
-  each_given i before (d ∷ ds) [] at are = absurd are
   each_given i before (d ∷ ds) (x ∷ xs) at are = grind (arith, one_more, append_assoc, (each_given (i + 1) (before ++ x ∷ []) ds xs))
+  each_given _ _ _ _ _ are = absurd are
 
   each_refuses : (i : ℕ) (before : List X) (ds : List Data) (e : E) → i ≡ length before → each_item step i before (items_of ds) ≡ Err e → FaultIn Is Breaks before ds e
   unfolding each_item
@@ -103,9 +102,8 @@ module _ {X E : Type 0} (step : ℕ → List X → Data → Result (List X) E) (
       Breaks (length (before ++ xs)) (before ++ xs) fault e → each_item step i before (items_of (front ++ fault ∷ behind)) ≡ Err e
   unfolding each_item
   fault_at i before [] fault behind [] e at are breaks = grind (arith, append-nil)
-  fault_at i before [] fault behind (x ∷ xs) e at are breaks = absurd are
-  fault_at i before (d ∷ ds) fault behind [] e at are breaks = absurd are
   fault_at i before (d ∷ ds) fault behind (x ∷ xs) e at are breaks = grind (arith, one_more, append_assoc, (fault_at (i + 1) (before ++ x ∷ []) ds fault behind xs e))
+  fault_at _ _ _ _ _ _ _ _ are _ = absurd are
 
   -- the same from the beginning of the list
 

@@ -93,13 +93,7 @@ forms_normal = record {
 -- Normal forms are determined by their steps
 
 never_both : (a b c x y z : ℕ) → AreBefore (a, b, c) (x, y, z) → AreBefore (x, y, z) (a, b, c) → ⊥
-never_both a b c x y z (inl l) (inl m) = omega arith
-never_both a b c x y z (inl l) (inr (e, m)) = omega arith
-never_both a b c x y z (inr (d, l)) (inl m) = omega arith
-never_both a b c x y z (inr (d, inl l)) (inr (e, inl m)) = omega arith
-never_both a b c x y z (inr (d, inl l)) (inr (e, inr (f, m))) = omega arith
-never_both a b c x y z (inr (d, inr (g, l))) (inr (e, inl m)) = omega arith
-never_both a b c x y z (inr (d, inr (g, l))) (inr (e, inr (f, m))) = omega arith
+never_both a b c x y z less more = grind arith
 
 less_both : (m n : ℕ) → IsLess m n → IsLess n m → ⊥
 less_both m n h i = omega arith

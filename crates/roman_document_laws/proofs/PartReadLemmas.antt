@@ -165,9 +165,8 @@ record AreNamesAfter (before : List (List ℕ)) (ds : List Data) (names : List (
 
 names_are : (before : List (List ℕ)) (ds : List Data) (names : List (List ℕ)) → AreItems IsNewName before ds names → AreNamesAfter before ds names
 names_are before [] [] are = record { texts = tt; named = λ n i. absurd i; once = tt; new = λ n i. absurd i }
-names_are before [] (n ∷ ns) are = absurd are
-names_are before (d ∷ ds) [] are = absurd are
 names_are before (d ∷ ds) (n ∷ ns) are = grind (arith, in_append_left, in_push, (names_are (before ++ n ∷ []) ds ns are.1))
+names_are _ _ _ are = absurd are
 
 are_names : (before : List (List ℕ)) (ds : List Data) (names : List (List ℕ)) → AreNamesAfter before ds names → AreItems IsNewName before ds names
 are_names before [] [] are = tt

@@ -94,8 +94,6 @@ normal_beh_is env_states actions b over form =
 between_none : (steps : List Move) (single : (x y : Move) (e : ℕ) → IsIn x steps → IsIn y steps → x.from ≡ y.from → x.action ≡ y.action → IsIn e x.guard → IsIn e y.guard → x.to ≡ y.to) (m n : Option Move) →
     ((x : Move) → m ≡ Some x → IsIn x steps) → ((x : Move) → n ≡ Some x → IsIn x steps) → choice_between m n ≡ None
 unfolding choice_between
-between_none steps single None n in_m in_n = refl
-between_none steps single (Some x) None in_m in_n = refl
 between_none steps single (Some x) (Some y) in_m in_n =
     by_test _ (λ yes.
     let (same, apart) = and_parts (x.from == y.from && x.action == y.action) (not (x.to == y.to)) yes in
@@ -106,6 +104,7 @@ between_none steps single (Some x) (Some y) in_m in_n =
     (λ fails. fails))) in
     cond-true (x.from == y.from && x.action == y.action && not (x.to == y.to)) (find (has y.guard) x.guard) None yes ∙ none)
     (λ other. cond-false (x.from == y.from && x.action == y.action && not (x.to == y.to)) (find (has y.guard) x.guard) None other)
+between_none _ _ _ _ _ _ = refl
 
 no_choice_in : (b : Beh) → IsDeterministic b → choice_of b.steps ≡ None
 unfolding choice_of choice_with choice_at
