@@ -1,6 +1,5 @@
 pub mod Common
 mod ListLemmas
-mod Rising
 mod NormalForms
 mod PartReadLemmas
 mod PartWriterLemmas

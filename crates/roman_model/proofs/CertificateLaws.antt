@@ -1,5 +1,5 @@
 -- The certificate of a complete list is accepted, an accepted certificate is complete, and the verdict on a text whose first lines have been read.
-use Rattle.roman_model.proofs.Common.{Verdict, head_line, count_line, reason_text, entry_line, end_line, Why, TooLong, reasons, possible_entries, entry_of, entries_on, unless_over, body_fault, line_fault, faults, unlisted, cert_verdict, IsClean, cert_text, Form, Unlisted, Greatest, cert_lines, unless_is, entry_fault, could_be_listed, end_fault, greatest, IsWithinCells, WrittenIsGreatest, GreatestIsComplete, Rejected, ◌≡◌, ℕ, zero, suc, ◌+◌, ◌*◌, ◌^◌, ◌<◌, ◌≤◌, Bool, not, ◌&&◌, List, [], ◌∷◌, ◌++◌, map, length, take, Option, Some, None, IsTrue, IsFalse, if◌then◌else◌, filter, find, option_map, slice_get, slice_index_or, codes, decimal, refl, sym, ap, ap₂, ◌∙◌, subst, inl, inr, arith, append_assoc, append-nil, length-append, le-leb, ◌-◌, list_any, cons_option, cases_lt, both_ways, and_left, not-false, not_from_true, not_from_false, cond-true, cond-false, and_from, lt-leb, length-map, map_push, filter_map-append, list_any-append, none-some, IsIn, below, lines, ended_lines, text_of_lines, IsLine, AreLines, Sys, IsSys, pairs, same_numbers, arena, Arena, Entry, is_listed, is_justified, IsOrder, Great, sizes_of, count, pair_at, numbered, entry_at, IsCompleteList, is_related, MAX_CERTIFICATE_BYTES, MAX_CELLS, Reason, Final, Act, not-not, mul-le, length-decimal-le}
+use Rattle.roman_model.proofs.Common.{Verdict, head_line, count_line, reason_text, entry_line, end_line, Why, TooLong, reasons, possible_entries, entry_of, entries_on, unless_over, body_fault, line_fault, faults, unlisted, cert_verdict, IsClean, cert_text, Form, Unlisted, Greatest, cert_lines, unless_is, entry_fault, could_be_listed, end_fault, greatest, IsWithinCells, WrittenIsGreatest, GreatestIsComplete, Rejected, ◌≡◌, ℕ, zero, suc, ◌+◌, ◌*◌, ◌^◌, ◌<◌, ◌≤◌, Bool, not, ◌&&◌, List, [], ◌∷◌, ◌++◌, map, length, take, Option, Some, None, IsTrue, IsFalse, if◌then◌else◌, filter, find, option_map, slice_get, slice_index_or, codes, decimal, refl, sym, ap, ap₂, ◌∙◌, subst, inl, inr, arith, append_assoc, append-nil, length-append, le-leb, ◌-◌, list_any, cons_option, cases_lt, both_ways, and_left, not-false, not_from_true, cond-true, cond-false, and_from, lt-leb, length-map, map_push, filter_map-append, list_any-append, none-some, IsIn, below, lines, ended_lines, text_of_lines, IsLine, AreLines, Sys, IsSys, pairs, same_numbers, arena, Arena, Entry, is_listed, is_justified, IsOrder, Great, sizes_of, count, pair_at, numbered, entry_at, IsCompleteList, is_related, MAX_CERTIFICATE_BYTES, MAX_CELLS, Reason, Final, Act, not-not, mul-le, length-decimal-le}
 use Rattle.roman_model.proofs.Lists.{by_test, none_from, any_from, from_map, in_append_left, in_append_right, from_append, in_push, in_below, from_below, filter_same, find_not_found, length-below, filter-map, any_false, find_none, from_push}
 use Rattle.roman_model.proofs.SystemLemmas.{same_numbers_is, same_numbers_itself, pairs_at}
 use Rattle.roman_model.proofs.ArenaLemmas.{reason_in, unjustified}
@@ -100,13 +100,10 @@ entries_clean s before (x ∷ rest) small are order clean =
 -- no pair is missing at the end of a complete list
 complete_end : (s : Sys) (L : List (Entry ℕ)) → ((p : ℕ) → p < count (sizes_of s) → IsFalse (is_listed (numbered s) L p) → (r : Reason) → IsFalse (is_justified (numbered s) (is_listed (numbered s) L) p r)) → end_fault (numbered s) L ≡ None
 complete_end s L none =
-    ap (option_map Unlisted) (find_not_found (could_be_listed (numbered s) L) (below (count (sizes_of s))) (none_from (could_be_listed (numbered s) L) (below (count (sizes_of s))) (λ p i. at p (from_below (count (sizes_of s)) p i))))
-  where
-    at : (p : ℕ) → p < count (sizes_of s) → IsFalse (could_be_listed (numbered s) L p)
-    at p l = by_test (is_listed (numbered s) L p)
-        (λ t. and_left (not (is_listed (numbered s) L p)) (list_any (is_justified (numbered s) (is_listed (numbered s) L) p) (reasons s.env.actions)) (not_from_true (is_listed (numbered s) L p) t))
-        (λ f. ap (λ b. b && list_any (is_justified (numbered s) (is_listed (numbered s) L) p) (reasons s.env.actions)) (not_from_false (is_listed (numbered s) L p) f)
-        ∙ none_from (is_justified (numbered s) (is_listed (numbered s) L) p) (reasons s.env.actions) (λ r j. none p l f r))
+    ap (option_map Unlisted) (find_not_found (could_be_listed (numbered s) L) (below (count (sizes_of s))) (none_from (could_be_listed (numbered s) L) (below (count (sizes_of s))) (λ p i.
+    by_test (is_listed (numbered s) L p)
+    (λ t. and_left (not (is_listed (numbered s) L p)) (list_any (is_justified (numbered s) (is_listed (numbered s) L) p) (reasons s.env.actions)) (not_from_true (is_listed (numbered s) L p) t))
+    (λ f. grind (arith, (none_from (is_justified (numbered s) (is_listed (numbered s) L) p) (reasons s.env.actions)), (none p (from_below (count (sizes_of s)) p i) f))))))
 
 end_clean : (s : Sys) (L : List (Entry ℕ)) → IsFew s → ArePossible s L → end_fault (numbered s) L ≡ None → line_fault (numbered s) (opened s L) (Some end_line) ≡ None
 end_clean s L small are none = grind (arith, (no_end s L small are), (entries_on-lines (numbered s) L small are))

@@ -62,8 +62,7 @@ abbrev pub IsBefore : (ℕ → ℕ) → ℕ → ℕ → Type 0
 IsBefore f k j = (f k < f j) ⊎ ((f k ≡ f j) × (k ≤ j))
 
 before_le : (f : ℕ → ℕ) (k j : ℕ) → IsBefore f k j → f k ≤ f j
-before_le f k j (inl l) = omega arith
-before_le f k j (inr (e, l)) = omega arith
+before_le f k j before = grind arith
 
 before_trans : (f : ℕ → ℕ) (i j k : ℕ) → IsBefore f i j → IsBefore f j k → IsBefore f i k
 before_trans f i j k first second = grind arith
