@@ -1,5 +1,5 @@
 -- The lanes of words.
-use Rattle.roman_repair.proofs.Common.{◌≡◌, ◌≢◌, ℕ, zero, suc, ◌+◌, ◌-◌, ◌*◌, ◌/◌, ◌%◌, ◌^◌, ◌<◌, ◌≤◌, Bool, true, false, not, ◌&&◌, List, [], ◌∷◌, ◌++◌, map, length, filter, cond, inl, inr, refl, sym, ap, ap₂, ◌∙◌, arith, append-nil, append_assoc, bit_and, eqb, length-append, trailing_zeros, w64, bit_not, cases_lt, both_ways, and_parts, eq-eqb, false_from_ne_true, and_right, ne_eqb, map-append, length-map, IsIn, below, filter_below_more, in_below, map-map, in_filter, filter_same, from_below, is_on, on_and, on_full, on_not, on_zero, on_less, on_ones, on_ones_above, on_full_past, set_lanes, as_entry, entries_in, Reason, entries_from, pow-lt, and-true, and_le_l, shr-shr, bit_at-trailing_zeros, shr_and_one, no_lane, HasFront, HasLanesBetween, IsCutAt, IsFirstPart}
+use Rattle.roman_repair.proofs.Common.{◌≡◌, ◌≢◌, ℕ, zero, suc, ◌+◌, ◌-◌, ◌*◌, ◌/◌, ◌%◌, ◌^◌, ◌<◌, ◌≤◌, Bool, true, false, not, ◌&&◌, List, [], ◌∷◌, ◌++◌, map, length, filter, cond, inl, inr, refl, sym, ap, ap₂, ◌∙◌, arith, append-nil, append_assoc, bit_and, eqb, length-append, cases_Bool, cases_lt, both_ways, and_parts, eq-eqb, false_from_ne_true, and_right, ne_eqb, set_lanes-joined, none_below, on_lowered, no_lane, trailing_zeros, w64, bit_not, map-append, length-map, IsIn, below, filter_below_more, in_below, map-map, in_filter, filter_same, from_below, is_on, on_and, on_full, on_not, on_zero, on_less, on_ones, on_ones_above, on_full_past, set_lanes, as_entry, entries_in, Reason, entries_from, pow-lt, and-true, and_le_l, bit_at-trailing_zeros, shr_and_one, HasFront, HasLanesBetween, IsCutAt, IsFirstPart}
 
 -- ---- the first lane of a word
 
@@ -27,10 +27,6 @@ first_low word fits some = (bit_at-trailing_zeros w64 word (let ne = no_lane wor
 pub both_fit : (word end : ℕ) → word < 2 ^ 64 → bit_and word end < 2 ^ 64
 both_fit word end fits = omega (arith, and_le_l word end)
 
-pub on_lowered : (a d i : ℕ) → is_on (a / 2 ^ d) i ≡ is_on a (d + i)
-unfolding is_on
-on_lowered a d i = ap (λ n. eqb n 1) (sym (shr_and_one (a / 2 ^ d) i) ∙ (ap (λ n. bit_and n 1) (shr-shr a d i) ∙ shr_and_one a (d + i)))
-
 pub not_twice : (b : Bool) → not (not b) ≡ b
 not_twice true = refl
 not_twice false = refl
@@ -44,10 +40,6 @@ filter_alike p false [] same = refl
 filter_alike p true (x ∷ xs) same = ap₂ (λ b ys. cond b (x ∷ ys) ys) (same x (inl refl)) (filter_alike p true xs (λ y i. same y (inr i)))
 filter_alike p false (x ∷ xs) same = ap₂ (λ b ys. cond b (x ∷ ys) ys) (same x (inl refl)) (filter_alike p false xs (λ y i. same y (inr i)))
 
--- the list is empty where no lane passes so far
-pub none_so_far : (p : ℕ → Bool) (m : ℕ) → ((lane : ℕ) → lane < m → p lane ≡ false) → filter p (below m) ≡ []
-none_so_far p m off = filter_alike p false (below m) (λ i j. off i (from_below m i j))
-
 pub same_so_far : (p q : ℕ → Bool) (m : ℕ) → ((lane : ℕ) → lane < m → p lane ≡ q lane) → filter p (below m) ≡ filter q (below m)
 same_so_far p q m same = filter_same p q (below m) (λ i j. same i (from_below m i j))
 
@@ -58,33 +50,18 @@ filter_split q b (suc m) = grind (arith, append_assoc, filter_below_more, map-ap
 
 -- no number below b passes, and the numbers from b on pass as others do from 0 on
 pub moved_so_far : (p q : ℕ → Bool) (b m : ℕ) → ((i : ℕ) → i < b → q i ≡ false) → ((i : ℕ) → i < m → q (b + i) ≡ p i) → filter q (below (b + m)) ≡ map (λ i. b + i) (filter p (below m))
-moved_so_far p q b m off same = filter_split q b m ∙ ap₂ (λ L M. L ++ map (λ i. b + i) M) (none_so_far q b off) (same_so_far (λ i. q (b + i)) p m same)
+moved_so_far p q b m off same = filter_split q b m ∙ ap₂ (λ L M. L ++ map (λ i. b + i) M) (none_below q b off) (same_so_far (λ i. q (b + i)) p m same)
 
 -- no number from b on passes
 pub only_so_far : (q : ℕ → Bool) (b m : ℕ) → ((i : ℕ) → i < m → q (b + i) ≡ false) → filter q (below (b + m)) ≡ filter q (below b)
-only_so_far q b m off = filter_split q b m ∙ ap (λ M. filter q (below b) ++ map (λ i. b + i) M) (none_so_far (λ i. q (b + i)) m off) ∙ append-nil (filter q (below b))
+only_so_far q b m off = filter_split q b m ∙ ap (λ M. filter q (below b) ++ map (λ i. b + i) M) (none_below (λ i. q (b + i)) m off) ∙ append-nil (filter q (below b))
 
 -- ---- a word that is split in two
-
--- the list splits into the lanes below the cut and those from there on
-pub cut_lanes : (word front rest cut : ℕ) → cut ≤ 64 → ((lane : ℕ) → lane < cut → (is_on front lane ≡ is_on word lane) × (is_on rest lane ≡ false)) →
-    ((lane : ℕ) → lane < 64 → cut ≤ lane → (is_on front lane ≡ false) × (is_on rest lane ≡ is_on word lane)) → set_lanes word ≡ set_lanes front ++ set_lanes rest
-unfolding set_lanes
-cut_lanes word front rest cut few low high =
-    let whole : below 64 ≡ below (cut + (64 - cut)) = (let all : 64 ≡ cut + (64 - cut) = omega (arith, few) in ap below all) in
-    grind (
-      arith,
-      whole,
-      (filter_split (is_on word) cut (64 - cut)),
-      (only_so_far (is_on front) cut (64 - cut) (λ i l. (high (cut + i) (omega arith) (omega arith)).0)),
-      (same_so_far (is_on front) (is_on word) cut (λ i l. (low i l).0)),
-      (moved_so_far (λ i. is_on word (cut + i)) (is_on rest) cut (64 - cut) (λ i l. (low i l).1) (λ i l. (high (cut + i) (omega arith) (omega arith)).1)),
-    )
 
 -- as the code splits it
 pub is_cut : (word cut : ℕ) → word < 2 ^ 64 → cut ≤ 64 → let front = bit_and word ((2 ^ 64 - 1) / 2 ^ (64 - cut)) in IsCutAt word front (bit_and word (bit_not w64 front)) cut
 is_cut word cut fits few = record {
-  parts = cut_lanes word front rest cut few (λ lane l. grind (arith, (low lane l), (less lane))) (λ lane l past. grind (arith, (high lane past), (less lane l)));
+  parts = set_lanes-joined word front rest (λ lane l. grind (arith, cases_Bool, cases_lt, (low lane), (high lane), (less lane l))) (λ i j on there. grind (arith, both_ways, cases_lt, (low j), (high i), (less j), (of_word (bit_not w64 front) j there)));
   low = low;
   high = high;
   in_front = of_word ((2 ^ 64 - 1) / 2 ^ (64 - cut));

@@ -10,7 +10,6 @@ pub mod Whole
 pub mod Fronts
 pub mod Growing
 pub mod BandAnswers
-pub mod Gathering
 pub mod OtherSeats
 pub mod Replayed
 pub mod Readmitted

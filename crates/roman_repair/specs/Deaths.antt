@@ -35,27 +35,11 @@ pub record IsPart (sizes : List ℕ) (k width : ℕ) : Type 0 where
   pub lanes : (c : ℕ) × (lanes_of sizes ≡ c * width)
   pub left : (c : ℕ) × (lanes_of (remove sizes k) ≡ c * width)
 
--- the list, followed by the entries that are gathered for its end
-abbrev pub list_and : Board → Event → List (Entry ℕ)
-list_and board e = board.list ++ entries_at board.lanes e
-
--- the gathered entries are of unlisted pairs of one row
-pub record IsGathered (board : Board) (e : Event) : Type 0 where
-  pub row : e.lanes ≢ 0 → e.row < board.rows
-  pub within : (lane : ℕ) → is_on e.lanes lane ≡ true → lane < board.lanes
-  pub alive : (lane : ℕ) → is_on e.lanes lane ≡ true → has_entry board.list (e.row * board.lanes + lane) ≡ false
-
--- the entries for the lanes `lost` of the row x were put after the gathered ones, which are still of unlisted pairs of one row
-pub record GathersTo (old new : Board) (before now : Event) (x lost : ℕ) (reason : Reason) : Type 0 where
-  pub list : list_and new now ≡ list_and old before ++ entries_in old.lanes x lost reason
-  pub gathered : IsGathered new now
-
--- the order has the shape of the system without the service that dies, and the gathered entries can go after its list
-pub record CanRename (joint : NamedSys) (leaver : Leaver) (order : Board) (e : Event) : Type 0 where
+-- the order has the shape of the system without the service that dies
+pub record CanRename (joint : NamedSys) (leaver : Leaver) (order : Board) : Type 0 where
   pub seat : leaver.k < length joint.seats
   pub shaped : pairs_of order ≡ count (sizes_without leaver.k (sizes_of (system_of joint)))
   pub lanes : (leaver.lanes ≡ order.lanes) × (order.lanes ≡ lanes_of (sizes_without leaver.k (sizes_of (system_of joint))).seats)
-  pub gathered : IsGathered order e
 
 -- the entries of the event are in the system
 pub record IsWithin (s : Sys) (e : Event) : Type 0 where

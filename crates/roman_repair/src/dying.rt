@@ -7,9 +7,7 @@ ghost use Rattle.roman_joint.specs.NamedSys.{system_of};
 ghost use Rattle.roman_relation.specs.Greatest.{IsRelation};
 ghost use Rattle.roman_repair.specs.Repairs.{IsRepaired, fall_of};
 
-mod gathering;
 mod renaming;
-mod states;
 
 use crate::settling::settle_on;
 use crate::tally::Tally;

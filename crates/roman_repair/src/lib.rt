@@ -17,7 +17,6 @@ mod events;
 mod freezing;
 mod joining;
 mod lanes;
-mod reopening;
 mod replaying;
 mod settling;
 mod tally;

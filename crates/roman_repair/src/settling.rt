@@ -5,11 +5,11 @@ ghost use Rattle.roman_relation.specs.Greatest.{HasCaps};
 ghost use Rattle.roman_repair.specs.Growing.{CanReadmit, replay_grown};
 ghost use Rattle.roman_repair.specs.Repairs.{IsBegun, IsSettledOn, IsWithinReading, fall_of};
 
-use crate::reopening::reopen;
 use crate::replaying::{Newcomer, replay};
 use crate::tally::Tally;
 use roman_io::Steps;
 use roman_relation::Relation;
+use roman_rules::Rules;
 use std::sync::ledger::Ledger;
 
 /// Completes the list. Returns the number of entries that it began with and the number of added
@@ -30,6 +30,7 @@ pub(crate) fn settle_on<L: Ledger>(relation: &mut Relation, steps: &mut Steps<L>
 /// Replays the list in the changed system, each entry for its pair with each state of the newcomer, and
 /// completes it. The number of steps is at most the number of delegations that lead to added
 /// pairs plus the number of delegations of an allowed action to a ready service.
+#[tactic(auto, using(crate::proofs::Waiting::counted))]
 pub(crate) fn replay_and_settle_on<L: Ledger>(
     relation: &mut Relation,
     newcomer: Newcomer,
@@ -40,8 +41,9 @@ pub(crate) fn replay_and_settle_on<L: Ledger>(
     ensures settled { IsSettledOn relation.old.joint (replay_grown (system_of relation.old.joint) newcomer relation.old.order) relation.new.joint relation.new.order result }
     ensures cost { IsWithinReading relation.new.joint relation.new.order result steps.old steps.new }
 {
-    relation.joint.known(); // allowed actions are actions of the system
-    reopen(&relation.joint, &mut relation.order);
+    relation.joint.known(); // allowed actions are actions of the system, a pair's number fits 32 bits
+    let rows = relation.joint.rows();
+    relation.order.reopen(rows, relation.joint.lanes());
     replay(&relation.joint, &mut relation.order, newcomer, steps);
     settle_on(relation, steps)
 }

@@ -1,8 +1,8 @@
 //! Renames the entries of a removal list after a service's death.
-ghost use Rattle.std.specs.Prelude.{◌≡◌, ◌+◌, ◌*◌, ◌<◌, ◌≤◌, [], length};
-ghost use Rattle.roman_model.specs.System.{Seat};
+ghost use Rattle.std.specs.Prelude.{◌≡◌, ◌+◌, ◌*◌, ◌<◌, ◌≤◌, ◌||◌, not, [], length, slice_index};
+ghost use Rattle.roman_model.specs.System.{Seat, is_final};
 ghost use Rattle.roman_model.specs.Change.{Die, CanChange};
-ghost use Rattle.roman_model.specs.Numbers.{sizes_of, sizes_without, count, numbered};
+ghost use Rattle.roman_model.specs.Numbers.{sizes_of, sizes_without, count, numbered, pair_at};
 ghost use Rattle.roman_model.specs.NumberedChange.{rename_numbers};
 ghost use Rattle.roman_radix.specs.Rows.{lanes_of};
 ghost use Rattle.roman_joint.specs.NamedSys.{system_of};
@@ -10,10 +10,8 @@ ghost use Rattle.roman_joint.specs.Rows.{lanes_in};
 ghost use Rattle.roman_order.specs.Board.{pairs_of};
 ghost use Rattle.roman_order.specs.Events.{entries_at};
 ghost use Rattle.roman_relation.specs.Shaped.{IsShaped};
-ghost use Rattle.roman_repair.specs.Deaths.{AreInPart, CanRename, IsGathered, IsPart, IsWithin, Renames, entries_from, list_and};
+ghost use Rattle.roman_repair.specs.Deaths.{AreInPart, CanRename, IsPart, IsWithin, Renames, entries_from};
 
-use super::gathering::{gather, push_gathered, unlisted};
-use super::states::may_go;
 use crate::lanes::first_part;
 use roman_joint::Joint;
 use roman_model::Reason;
@@ -45,23 +43,34 @@ pub(crate) struct Leaver {
     pub(crate) lanes: u32,
 }
 
-/// Renames the entries for pairs of one part, and gathers them after the list: one for each renamed
-/// pair of which there is no entry yet. Gathers nothing where the service may not leave its state
-/// behind. The bits of `word` give the pairs, counted from `first`.
+/// Returns whether the service `k` may leave its state in the pair `p` behind: whether it doesn't rest
+/// or the state is final.
+fn may_go(joint: &Joint, k: u8, p: u32) -> bool
+    requires seat { k < length joint.now.seats }
+    requires pair { p < count (sizes_of (system_of joint.now)) }
+    ensures { (seat : Seat) → CanChange (Die k seat) (system_of joint.now) →
+        result ≡ (not seat.rests || is_final seat.beh (slice_index (pair_at (sizes_of (system_of joint.now)) p).bs k)) }
+{
+    joint.known(); // behaviours are over the environment
+    let rests = joint.seat(k).rests;
+    !rests || joint.behaviour(k).is_final(joint.shape().part_of(p, k))
+}
+
+/// Renames the entries for pairs of one part, and appends them to the list: one for each renamed pair
+/// of which there is no entry yet. Appends nothing where the service may not leave its state behind.
+/// The bits of `word` give the pairs, counted from `first`.
 #[tactic(auto, using(crate::proofs::DeathEntries::left_row))]
 fn rename_part(
     joint: &Joint,
     order: &mut Order,
-    gathered: &mut Event,
     leaver: Leaver,
     first: u32,
     word: u64,
     reason: Reason,
 )
-    requires ready { CanRename joint.now leaver order.old gathered.old }
+    requires ready { CanRename joint.now leaver order.old }
     requires part { AreInPart (sizes_of (system_of joint.now)) leaver.k first word }
-    ensures list { Renames (system_of joint.now) leaver.k (entries_from first word reason) [] (list_and order.old gathered.old) (list_and order.new gathered.new) }
-    ensures gathered { IsGathered order.new gathered.new }
+    ensures list { Renames (system_of joint.now) leaver.k (entries_from first word reason) [] order.old.list order.new.list }
     ensures rest { order.new ≡ record order.old { list = order.new.list } }
 {
     order.known(); // a row has 1 to 64 lanes
@@ -71,17 +80,16 @@ fn rename_part(
     let shape = joint.shape();
     let left = shape.without(first, leaver.k);
     let x = left / leaver.lanes;
-    let lost = (word << (left % leaver.lanes)) & unlisted(order, gathered, x);
-    gather(order, gathered, x, lost, reason);
+    let lost = (word << (left % leaver.lanes)) & order.words()[x as usize];
+    order.push_on(x, lost, reason);
 }
 
-/// Renames the entries of the event, part by part, and gathers them after the list: for each renamed pair
-/// of which there is no entry yet, the first entry in which the service may leave its state behind.
-fn rename_row(joint: &Joint, order: &mut Order, gathered: &mut Event, leaver: Leaver, event: Event)
-    requires ready { CanRename joint.now leaver order.old gathered.old }
+/// Renames the entries of the event, part by part, and appends to the list, for each renamed pair of
+/// which there is no entry yet, the first entry in which the service may leave its state behind.
+fn rename_row(joint: &Joint, order: &mut Order, leaver: Leaver, event: Event)
+    requires ready { CanRename joint.now leaver order.old }
     requires within { IsWithin (system_of joint.now) event }
-    ensures list { Renames (system_of joint.now) leaver.k (entries_at (lanes_in (system_of joint.now)) event) [] (list_and order.old gathered.old) (list_and order.new gathered.new) }
-    ensures gathered { IsGathered order.new gathered.new }
+    ensures list { Renames (system_of joint.now) leaver.k (entries_at (lanes_in (system_of joint.now)) event) [] order.old.list order.new.list }
     ensures rest { order.new ≡ record order.old { list = order.new.list } }
 {
     let shape = joint.shape();
@@ -91,15 +99,7 @@ fn rename_row(joint: &Joint, order: &mut Order, gathered: &mut Event, leaver: Le
     let mut left = event.lanes;
     'left: while left != 0 {
         let (i, part, rest) = first_part(left, width);
-        rename_part(
-            joint,
-            order,
-            gathered,
-            leaver,
-            first + i * width,
-            part,
-            event.reason,
-        );
+        rename_part(joint, order, leaver, first + i * width, part, event.reason);
         left = rest;
     }
 }
@@ -125,13 +125,7 @@ pub(crate) fn rename_list(joint: &Joint, order: &mut Order, k: u8)
     let lanes = small.lanes();
     let leaver = Leaver { k, lanes };
     order.reopen(small.rows(), lanes);
-    let mut gathered = Event {
-        row: 0,
-        reason: Reason::Final,
-        lanes: 0,
-    };
     'waiting: while let Some(event) = order.next_waiting_event() {
-        rename_row(joint, order, &mut gathered, leaver, event);
+        rename_row(joint, order, leaver, event);
     }
-    push_gathered(order, &gathered);
 }

@@ -1,5 +1,5 @@
-use Rattle.roman_repair.proofs.Common.{◌≡◌, ◌+◌, ◌-◌, ◌/◌, ◌^◌, ◌<◌, ◌∙◌, arith, trailing_zeros, w64, shr_le}
-use Rattle.roman_repair.proofs.Fronts.{first_lane, on_lowered}
+use Rattle.roman_repair.proofs.Common.{◌≡◌, ◌+◌, ◌-◌, ◌/◌, ◌^◌, ◌<◌, ◌∙◌, arith, on_lowered, trailing_zeros, w64, shr_le}
+use Rattle.roman_repair.proofs.Fronts.{first_lane}
 use Rattle.roman_repair.proofs.lanes.next_lane.Goals as goal
 
 pub returns-clause-off : goal.returns-clause-off

@@ -1,4 +1,4 @@
-use Rattle.roman_repair.proofs.Common.{◌++◌, ◌+◌, ◌*◌, sym, ap, ◌∙◌, subst, arith, count, system_of, lanes_in, Board, entries_in, entries_at, entries_from, list_and, Renames, some_lane}
+use Rattle.roman_repair.proofs.Common.{◌++◌, ◌+◌, ◌*◌, sym, ap, ◌∙◌, subst, arith, count, system_of, lanes_in, Board, entries_in, entries_at, entries_from, Renames, some_lane}
 use Rattle.roman_repair.proofs.DeathParts.{part_in, row_in}
 use Rattle.roman_repair.proofs.DeathEntries.{renames_both, renames_front}
 use Rattle.roman_repair.proofs.Fronts.{part_entries}
@@ -33,7 +33,6 @@ left-preserved c =
     let parts = part_entries n e.row c.left.left w i part rest e.reason c.first_part-i.ensures ∙ ap (λ m. entries_from (e.row * m + i * w) part e.reason ++ entries_in n e.row rest e.reason) (sym c.lanes.ensures.value) in
     record {
       renamed = renames_both _ _ _ _ _ _ _ _ c.left.invariant.renamed (renames_front _ _ _ _ _ _ _ parts c.rename_part.ensures.list);
-      gathered = c.rename_part.ensures.gathered;
       rest = c.rename_part.ensures.rest ∙ ap (λ (b : Board). record b { list = c.rename_part.new.order.list }) c.left.invariant.rest;
       within = λ lane on. c.left.invariant.within lane (c.first_part-i.ensures.in_rest lane on);
       some = λ ne. some_lane rest ne c.first_part-i.ensures.fits;
@@ -42,4 +41,4 @@ left-preserved c =
 pub returns-clause-list : goal.returns-clause-list
 returns-clause-list c =
     let n = lanes_in (system_of c.args.joint.now) in
-    subst (λ M. Renames (system_of c.args.joint.now) c.args.leaver.k (entries_at n c.args.event) M (list_and c.args.order.now c.args.gathered.now) (list_and c.left.order c.left.gathered)) (ap (λ w. entries_in n c.args.event.row w c.args.event.reason) c.left-test.false ∙ no_entries n c.args.event.row c.args.event.reason) c.left.invariant.renamed
+    subst (λ M. Renames (system_of c.args.joint.now) c.args.leaver.k (entries_at n c.args.event) M c.args.order.now.list c.left.order.list) (ap (λ w. entries_in n c.args.event.row w c.args.event.reason) c.left-test.false ∙ no_entries n c.args.event.row c.args.event.reason) c.left.invariant.renamed

@@ -1,6 +1,6 @@
 use Rattle.roman_repair.proofs.Common.{◌<◌, ◌||◌, not, ap, ◌∙◌, subst, arith, slice_index, Sizes, count, pair_at, is_final}
 use Rattle.roman_repair.proofs.DeathStates.{loose_goes, final_goes, size_is}
-use Rattle.roman_repair.proofs.dying.states.may_go.Goals as goal
+use Rattle.roman_repair.proofs.dying.renaming.may_go.Goals as goal
 
 pub part_of-requires-clause-pair : goal.part_of-requires-clause-pair
 part_of-requires-clause-pair c = omega (arith, c.requires.pair, ap count c.shape.ensures)
