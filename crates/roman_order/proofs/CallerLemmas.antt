@@ -5,7 +5,7 @@ pub use Rattle.roman_order.proofs.Lanes.{entries_in_rows-row, has_entry-lane, ha
 -- Lists with one more entry.
 pub use Rattle.roman_order.proofs.Places.{is_some-place_in_list}
 -- Marks that were lent.
-pub use Rattle.roman_order.proofs.Lent.{rewritten_whole}
+pub use Rattle.roman_order.proofs.Words.{rewritten_whole}
 -- Events and their entries.
 pub use Rattle.roman_order.proofs.Lanes.{no_lane, set_lanes-zero, some_lane}
 pub use Rattle.roman_order.proofs.Events.{length-entries_at}

@@ -1,5 +1,5 @@
 -- Lists of events.
-use Rattle.roman_order.proofs.Common.{or_cases, slice_get, slice_get-get_or, get_or-append_seam, Some, ◌-◌, ◌≡◌, ℕ, suc, ◌+◌, ◌*◌, ◌<◌, ◌≤◌, true, List, [], ◌∷◌, ◌++◌, length, refl, ap, ◌∙◌, arith, eqb, append-nil, length-append, list_any-append, AllByRecursion, or_right, length-map, flat_map-append, Entry, is_on, as_entry, set_lanes, has_entry, IsEvent, entries_at, entries_of, firsts_of, AreCounted, CanWait, Event, bit_or, GoesOn, on_or, map-append, append_assoc, entries_in, Reason, sym}
+use Rattle.roman_order.proofs.Common.{or_cases, or_right, slice_get, Some, ◌-◌, ◌≡◌, ℕ, suc, ◌+◌, ◌*◌, ◌<◌, ◌≤◌, true, List, [], ◌∷◌, ◌++◌, length, refl, ap, ◌∙◌, arith, eqb, append-nil, length-append, bit_or, append_assoc, sym, slice_get-get_or, get_or-append_seam, list_any-append, AllByRecursion, length-map, map-append, flat_map-append, Entry, is_on, as_entry, set_lanes, has_entry, entries_in, IsEvent, entries_at, entries_of, GoesOn, firsts_of, AreCounted, CanWait, Event, on_or, Reason}
 use Rattle.roman_order.proofs.Lanes.{set_lanes-joined}
 
 -- ---- one more event

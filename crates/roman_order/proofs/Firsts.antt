@@ -1,5 +1,5 @@
 -- The places of the first entries of events, of which those that equal their numbers are left out.
-use Rattle.roman_order.proofs.Common.{◌≡◌, ℕ, suc, ◌+◌, ◌-◌, ◌<◌, ◌≤◌, List, [], ◌∷◌, ◌++◌, length, get_or, ap, sym, ◌∙◌, arith, append-nil, length-append, get_or_append_left, get_or-append_right, get_or-below, get_or_default, get_or_past, length-below, append_assoc, below, Event, places_of, AreCounted}
+use Rattle.roman_order.proofs.Common.{nil_from_length, get_or_append_left, get_or-append_right, get_or_default, get_or_past, ◌≡◌, ℕ, ◌+◌, ◌-◌, ◌<◌, ◌≤◌, List, [], ◌∷◌, ◌++◌, length, get_or, ap, sym, ◌∙◌, arith, append-nil, length-append, append_assoc, get_or-below, length-below, below, Event, places_of, AreCounted}
 use Rattle.roman_order.proofs.Events.{length-firsts_of}
 
 -- there is a place for each event
@@ -28,11 +28,7 @@ first_any many j d count later few l = get_or_default (places_of many later) j d
 
 -- a place that is left out is one more that equals its number
 pub places_of-alone : (many : ℕ) (later : List ℕ) → length later ≡ 0 → places_of (many + 1) later ≡ places_of many later ++ many ∷ []
-places_of-alone many [] e =
-    let one : many + 1 - 0 ≡ suc many = omega arith in
-    let same : many - 0 ≡ many = omega arith in
-    ap (λ q. below q ++ []) one ∙ (append-nil (below many ++ many ∷ []) ∙ ap (λ xs. xs ++ many ∷ []) (sym (append-nil (below many)) ∙ ap (λ q. below q ++ []) (sym same)))
-places_of-alone many (x ∷ xs) e = absurd (omega (arith, e))
+places_of-alone many later e = grind (arith, append-nil, append_assoc, (nil_from_length later e))
 
 -- one more place of the table
 pub places_of-push : (many first : ℕ) (later : List ℕ) → length later ≤ many → places_of (many + 1) (later ++ first ∷ []) ≡ places_of many later ++ first ∷ []

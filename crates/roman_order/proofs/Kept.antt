@@ -1,5 +1,5 @@
 -- Events whose pairs have no bits in the kept words.
-use Rattle.roman_order.proofs.Common.{◌≡◌, ℕ, suc, ◌+◌, ◌-◌, ◌*◌, ◌/◌, ◌%◌, ◌<◌, ◌≤◌, true, false, List, ◌++◌, length, get_or, take, drop, bit_and, sym, ap, ◌∙◌, subst, arith, length-append, ap₂, length-drop, take-append-drop, both_ways, and_from, false_from_ne_true, flat_map-append, on_zero, on_and, Entry, IsIn, is_on, as_entry, set_lanes, entries_at, entries_of, IsEvent, IsApart, IsSound, board_of, Event, Inside, take-append_seam, take-add, take-suc, get_or-drop, AreUnkept, slice_index, from_flat_map, from_map, from_push, in_append_left, in_append_right, places_of}
+use Rattle.roman_order.proofs.Common.{◌≡◌, ℕ, suc, ◌+◌, ◌-◌, ◌*◌, ◌/◌, ◌%◌, ◌<◌, ◌≤◌, true, false, List, ◌++◌, length, get_or, take, drop, bit_and, sym, ap, ◌∙◌, subst, arith, length-append, ap₂, length-drop, take-append-drop, both_ways, and_from, false_from_ne_true, flat_map-append, on_zero, on_and, Entry, IsIn, is_on, as_entry, set_lanes, entries_at, entries_of, IsEvent, IsApart, IsSound, board_of, places_of, Event, Inside, take-append_seam, take-add, take-suc, get_or-drop, AreUnkept, slice_index, from_flat_map, from_map, from_push, in_append_left, in_append_right}
 use Rattle.roman_order.proofs.Lanes.{in_lanes, lane_place}
 use Rattle.roman_order.proofs.Reading.{all_in, begins_at, entries_split, from_event}
 

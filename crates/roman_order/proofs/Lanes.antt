@@ -1,5 +1,5 @@
 -- The lanes of a word, and the entries of the pairs at them.
-use Rattle.roman_order.proofs.Common.{◌≡◌, ◌≢◌, ℕ, zero, suc, ◌+◌, ◌-◌, ◌*◌, ◌/◌, ◌%◌, ◌^◌, ◌<◌, ◌≤◌, Bool, true, false, not, ◌&&◌, ◌||◌, eqb, List, [], ◌∷◌, ◌++◌, map, length, get_or, refl, ap, sym, ◌∙◌, subst, inl, inr, arith, filter, bit_and, append-nil, append_assoc, IsTrue, list_any, w64, bit_not, set, or-false, pow-lt, cases_eq, and_parts, eq-eqb, ne_eqb, eqb-true, both_ways, length-set, get_or-set_same, get_or-set_other, list_any-append, div-add-mod', mod_below, same_from_place, and_le_l, bit_at-trailing_zeros, IsIn, HasNoRepeats, below, Entry, Reason, list_any-map, none_from, filter_in, from_below, filter_below_more, flat_map_row, any_true, any_from, in_filter, in_below, same_test, HasNoRepeats-filter, HasNoRepeats-below, is_on, HasLanes, AreRows, on_zero, on_ones, on_ones_above, on_clear_same, on_clear_other, on_and, on_less, on_pow_same, on_pow_other, as_entry, set_lanes, entries_in, entries_in_rows, has_entry, cases_Bool, false_from_ne_true, shr_and_one, shr-shr, cases_lt}
+use Rattle.roman_order.proofs.Common.{◌≡◌, ◌≢◌, ℕ, zero, suc, ◌+◌, ◌-◌, ◌*◌, ◌/◌, ◌%◌, ◌^◌, ◌<◌, ◌≤◌, Bool, true, false, not, ◌&&◌, ◌||◌, eqb, List, [], ◌∷◌, ◌++◌, map, length, get_or, refl, ap, sym, ◌∙◌, subst, inl, inr, arith, filter, bit_and, append-nil, append_assoc, IsTrue, list_any, w64, bit_not, set, or-false, pow-lt, cases_eq, and_parts, eq-eqb, ne_eqb, eqb-true, both_ways, cases_Bool, false_from_ne_true, cases_lt, length-set, get_or-set_same, get_or-set_other, list_any-append, div-add-mod', mod_below, same_from_place, and_le_l, shr-shr, bit_at-trailing_zeros, shr_and_one, IsIn, HasNoRepeats, below, Entry, Reason, list_any-map, none_from, filter_in, from_below, filter_below_more, flat_map_row, any_true, any_from, in_filter, in_below, same_test, HasNoRepeats-filter, HasNoRepeats-below, is_on, HasLanes, AreRows, on_zero, on_ones, on_ones_above, on_clear_same, on_clear_other, on_and, on_less, on_pow_same, on_pow_other, as_entry, set_lanes, entries_in, entries_in_rows, has_entry}
 
 -- ---- the first lane of a word, and the rest
 

@@ -6,7 +6,6 @@ pub mod Places
 pub mod Events
 pub mod Pushes
 pub mod Counts
-pub mod Lent
 pub mod Firsts
 pub mod Tables
 pub mod Reading

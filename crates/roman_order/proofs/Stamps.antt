@@ -1,5 +1,5 @@
 -- Places and stamps.
-use Rattle.roman_order.proofs.Common.{◌≡◌, ℕ, zero, suc, ◌+◌, ◌-◌, ◌*◌, ◌^◌, ◌<◌, ◌≤◌, Bool, true, false, cond, ◌&&◌, filter, List, [], ◌∷◌, ◌++◌, map, length, get_or, Some, None, refl, sym, ap, ◌∙◌, inl, inr, arith, eqb, append_assoc, list_any, position_from, IsDistinct, AllByRecursion, set, same_from_place, cases_eq, eq-eqb, ne_eqb, or_parts, length-map, length-set, get_or-set_same, get_or-set_other, map-append, IsDistinct-head, IsDistinct-tail, Entry, Reason, as_entry, set_lanes, nodes_of, has_entry, below, list_any-map, none_from, filter_in, from_below, is_on, IsEvent, entries_at, AreStamps, with_stamps, Event, unwrap_or, filter-append}
+use Rattle.roman_order.proofs.Common.{filter_below_more, list_any-map, none_from, filter_in, from_below, ◌≡◌, ℕ, zero, suc, ◌+◌, ◌-◌, ◌*◌, ◌^◌, ◌<◌, ◌≤◌, Bool, true, false, cond, ◌&&◌, filter, List, [], ◌∷◌, ◌++◌, map, length, get_or, Some, None, refl, sym, ap, ◌∙◌, inl, inr, arith, eqb, append_assoc, list_any, position_from, IsDistinct, AllByRecursion, set, same_from_place, cases_eq, eq-eqb, ne_eqb, or_parts, length-map, length-set, get_or-set_same, get_or-set_other, map-append, IsDistinct-head, IsDistinct-tail, Entry, Reason, as_entry, set_lanes, nodes_of, has_entry, below, is_on, IsEvent, entries_at, AreStamps, with_stamps, Event, unwrap_or}
 use Rattle.roman_order.proofs.Lanes.{has_entry-lane, has_entry-elsewhere}
 
 -- ---- places
@@ -56,28 +56,18 @@ has_entry-event lanes e x lane few low is = elim (cases_eq e.row x) [
       ∙ ap (λ b. b && is_on e.lanes lane) (sym (ne_eqb e.row x ne))
 ]
 
--- the numbers below n are those below k, then k, then others
-below_split : (n k : ℕ) → k < n → (more : List ℕ) × (below n ≡ below k ++ (k ∷ more))
-below_split zero k h = absurd (omega arith)
-below_split (suc n) k h = elim (cases_eq k n) [
-  | inl e ↦ ([], grind arith)
-  | inr ne ↦ let (more, same) = below_split n k (omega arith) in (more ++ n ∷ [], grind (arith, append_assoc))
-]
+-- none of the entries for the lanes up to a lane is that of its pair
+none_at : (lanes : ℕ) (e : Event) (lane : ℕ) → list_any (λ (y : Entry ℕ). eqb (e.row * lanes + lane) y.node) (map (λ l. as_entry (e.row * lanes + l, e.reason)) (filter (is_on e.lanes) (below lane))) ≡ false
+none_at lanes e lane = list_any-map (λ l. as_entry (e.row * lanes + l, e.reason)) (λ y. eqb (e.row * lanes + lane) y.node) (filter (is_on e.lanes) (below lane)) ∙ none_from (λ l. eqb (e.row * lanes + lane) (e.row * lanes + l)) (filter (is_on e.lanes) (below lane)) (λ l j. ne_eqb _ _ (λ s. omega (arith, s, from_below lane l (filter_in (is_on e.lanes) l (below lane) j).0)))
+
+-- among the entries for the lanes below m, the search for the pair of a lane passes over those for the lanes below it
+place_below : (lanes : ℕ) (e : Event) (lane i m : ℕ) (L : List (Entry ℕ)) → lane < m → is_on e.lanes lane ≡ true →
+    position_from (λ (y : Entry ℕ). eqb (e.row * lanes + lane) y.node) i (map (λ l. as_entry (e.row * lanes + l, e.reason)) (filter (is_on e.lanes) (below m)) ++ L) ≡ Some (i + length (filter (is_on e.lanes) (below lane)))
+place_below lanes e lane i zero L low on = absurd (omega arith)
+place_below lanes e lane i (suc m) L low on = grind (arith, cases_eq, append_assoc, eq-eqb, filter_below_more, length-map, map-append, position_from-past, none_at, (place_below lanes e lane i m (map (λ l. as_entry (e.row * lanes + l, e.reason)) (cond (is_on e.lanes m) (m ∷ []) []) ++ L)))
 
 -- the search for the pair of a lane of an event gives the number of lanes before it
 pub place_in_event : (lanes : ℕ) (e : Event) (lane i : ℕ) (L : List (Entry ℕ)) → lane < 64 → is_on e.lanes lane ≡ true →
     position_from (λ (y : Entry ℕ). eqb (e.row * lanes + lane) y.node) i (entries_at lanes e ++ L) ≡ Some (i + length (filter (is_on e.lanes) (below lane)))
 unfolding set_lanes
-place_in_event lanes e lane i L low on =
-    let (more, split) = below_split 64 lane low in
-    let front = filter (is_on e.lanes) (below lane) in
-    let f = λ (l : ℕ). as_entry (e.row * lanes + l, e.reason) in
-    let test = λ (y : Entry ℕ). eqb (e.row * lanes + lane) y.node in
-    let none : list_any test (map f front) ≡ false =
-    list_any-map f test front ∙ none_from (λ l. eqb (e.row * lanes + lane) (e.row * lanes + l)) front
-    (λ l m. ne_eqb _ _ (λ s. let low = from_below lane l (filter_in (is_on e.lanes) l (below lane) m).0 in omega (arith, low))) in
-    let lanes_split : filter (is_on e.lanes) (below 64) ≡ front ++ (lane ∷ filter (is_on e.lanes) more) =
-    ap (filter (is_on e.lanes)) split ∙ (filter-append (is_on e.lanes) (below lane) (lane ∷ more) ∙ rw on refl) in
-    let whole : entries_at lanes e ++ L ≡ map f front ++ (f lane ∷ (map f (filter (is_on e.lanes) more) ++ L)) =
-    ap (λ ls. map f ls ++ L) lanes_split ∙ (ap (λ M. M ++ L) (map-append f front (lane ∷ filter (is_on e.lanes) more)) ∙ append_assoc (map f front) _ L) in
-    ap (position_from test i) whole ∙ (position_from-past test i (map f front) _ none ∙ rw (eq-eqb _ _ refl, length-map front f) refl)
+place_in_event lanes e lane i L low on = place_below lanes e lane i 64 L low on

@@ -1,5 +1,5 @@
 -- Flags, 64 to a word.
-use Rattle.roman_order.proofs.Common.{◌≡◌, ◌≢◌, ℕ, zero, ◌+◌, ◌-◌, ◌*◌, ◌/◌, ◌%◌, ◌^◌, ◌<◌, ◌≤◌, false, List, ◌++◌, length, get_or, replicate, ap, sym, ◌∙◌, inl, inr, arith, ltb, set, cases_eq, cases_lt, lt-ltb, le-ltb, get_or-set_same, get_or-set_other, get_or-replicate, length-replicate, get_or_past, full_word, on_zero, on_ones, on_ones_above, on_clear_other, on_clear_same, on_set_other, on_set_same, is_on, has_flag}
+use Rattle.roman_order.proofs.Common.{◌≡◌, ◌≢◌, ℕ, zero, ◌+◌, ◌-◌, ◌*◌, ◌/◌, ◌%◌, ◌^◌, ◌<◌, ◌≤◌, false, List, ◌++◌, length, get_or, replicate, ap, sym, ◌∙◌, inl, inr, arith, ltb, take, drop, set, cases_eq, cases_lt, lt-ltb, le-ltb, get_or-set_same, get_or-set_other, get_or-replicate, length-replicate, get_or_past, full_word, on_zero, on_ones, on_ones_above, on_clear_other, on_clear_same, on_set_other, on_set_same, is_on, has_flag, take-append_seam, rewritten}
 
 -- a blank table has zeros at each place, also past its end
 pub blank_at : (n i : ℕ) → get_or (replicate n zero) i 0 ≡ 0
@@ -40,6 +40,12 @@ has_flag-front words end whole part rest p = elim (cases_lt (p / 64) (end / 64))
   | inl h ↦ ap (λ w. is_on w (p % 64)) (whole (p / 64) h) ∙ (on_ones 64 (p % 64) (omega arith) ∙ sym (lt-ltb p end (omega arith)))
   | inr h ↦ grind (arith, cases_eq, cases_lt, on_ones, lt-ltb, on_ones_above, le-ltb, on_zero)
 ]
+
+-- ---- marks that were lent
+
+-- new words of the same number as the marks replace all of them
+pub rewritten_whole : (xs ys : List ℕ) → length ys ≡ length xs → rewritten xs ys ≡ ys
+rewritten_whole xs ys e = ap (λ n. take n (ys ++ drop (length ys) xs)) (sym e) ∙ take-append_seam ys (drop (length ys) xs)
 
 -- a flag that is set or cleared
 pub ruleset flag_rules = (get_or-set_same, has_flag-at, has_flag-others, has_flag-written, on_clear_other, on_clear_same, on_set_other, on_set_same)
