@@ -32,7 +32,7 @@ pub use Rattle.roman_model.specs.Lists.{HasNoRepeats, IsIn, below}
 pub use Rattle.roman_model.specs.declared.reason.Reason.{Reason}
 pub use Rattle.roman_order.specs.Board.{Board, as_entry, entries_in, entries_in_rows, has_entry, nodes_of, place_in_list}
 unfoldable pub use Rattle.roman_order.specs.Board.{set_lanes}
-pub use Rattle.roman_order.specs.Events.{GoesOn, IsApart, IsEvent, entries_at, entries_of}
+pub use Rattle.roman_order.specs.Events.{IsApart, IsEvent, TakesLanes, entries_at, entries_of}
 pub use Rattle.roman_order.specs.Lending.{rewritten}
 pub use Rattle.roman_order.specs.Sound.{AreCounted, AreStamps, CanWait, IsPlaced, IsSized, IsSound, board_of, firsts_of, places_of, removal_list, stamp_of, with_stamps}
 pub use Rattle.roman_order.specs.Walks.{AreUnkept, IsEventOf}

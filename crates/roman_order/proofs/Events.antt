@@ -1,5 +1,5 @@
 -- Lists of events.
-use Rattle.roman_order.proofs.Common.{or_cases, or_right, slice_get, Some, ◌-◌, ◌≡◌, ℕ, suc, ◌+◌, ◌*◌, ◌<◌, ◌≤◌, true, List, [], ◌∷◌, ◌++◌, length, refl, ap, ◌∙◌, arith, eqb, append-nil, length-append, bit_or, append_assoc, sym, slice_get-get_or, get_or-append_seam, list_any-append, AllByRecursion, length-map, map-append, flat_map-append, Entry, is_on, as_entry, set_lanes, has_entry, entries_in, IsEvent, entries_at, entries_of, GoesOn, firsts_of, AreCounted, CanWait, Event, on_or, Reason}
+use Rattle.roman_order.proofs.Common.{or_cases, or_right, slice_get, Some, ◌-◌, ◌≡◌, ℕ, suc, ◌+◌, ◌*◌, ◌<◌, ◌≤◌, true, List, [], ◌∷◌, ◌++◌, length, refl, ap, ◌∙◌, arith, eqb, append-nil, length-append, bit_or, append_assoc, sym, slice_get-get_or, get_or-append_seam, list_any-append, AllByRecursion, length-map, map-append, flat_map-append, Entry, is_on, as_entry, set_lanes, has_entry, entries_in, IsEvent, entries_at, entries_of, TakesLanes, firsts_of, AreCounted, CanWait, Event, on_or, Reason}
 use Rattle.roman_order.proofs.Lanes.{set_lanes-joined}
 
 -- ---- one more event
@@ -37,7 +37,7 @@ AreCounted-push lanes count firsts es e are some = grind (arith, (all_push (IsEv
 abbrev pub extended : Event → ℕ → Event
 extended e lost = record e { lanes = bit_or e.lanes lost }
 
-extended_lanes : (e : Event) (x lost : ℕ) (reason : Reason) → GoesOn e x lost reason → set_lanes (bit_or e.lanes lost) ≡ set_lanes e.lanes ++ set_lanes lost
+extended_lanes : (e : Event) (x lost : ℕ) (reason : Reason) → TakesLanes e x lost reason → set_lanes (bit_or e.lanes lost) ≡ set_lanes e.lanes ++ set_lanes lost
 extended_lanes e x lost reason on = set_lanes-joined _ _ _ (λ i l. on_or e.lanes lost i) on.lower
 
 -- the last of the events, as it is read
@@ -45,7 +45,7 @@ pub last_is : (es : List Event) (e d : Event) → Some d ≡ slice_get (es ++ e 
 last_is es e d read = grind (arith, length-append, (slice_get-get_or (es ++ e ∷ []) (length es) e), (get_or-append_seam es e [] e))
 
 -- its entries are followed by those for the added lanes
-pub entries_of-extended : (lanes : ℕ) (es : List Event) (e : Event) (x lost : ℕ) (reason : Reason) → GoesOn e x lost reason →
+pub entries_of-extended : (lanes : ℕ) (es : List Event) (e : Event) (x lost : ℕ) (reason : Reason) → TakesLanes e x lost reason →
     entries_of lanes (es ++ extended e lost ∷ []) ≡ entries_of lanes (es ++ e ∷ []) ++ entries_in lanes x lost reason
 entries_of-extended lanes es e x lost reason on = rw (← on.row, ← on.why, entries_of-push, entries_of-push, extended_lanes e x lost reason on) (grind (arith, append_assoc, map-append))
 
@@ -54,7 +54,7 @@ all_last : {X : Type 0} (P : X → Type 0) (xs : List X) (x y : X) → AllByRecu
 all_last P [] x y all f = (f all.0, tt)
 all_last P (z ∷ xs) x y all f = (all.0, all_last P xs x y all.1 f)
 
-pub AreCounted-extended : (lanes count : ℕ) (firsts : List ℕ) (es : List Event) (e : Event) (x lost : ℕ) (reason : Reason) → AreCounted lanes count firsts (es ++ e ∷ []) → IsEvent lanes (record { row = x; reason = reason; lanes = lost }) → GoesOn e x lost reason →
+pub AreCounted-extended : (lanes count : ℕ) (firsts : List ℕ) (es : List Event) (e : Event) (x lost : ℕ) (reason : Reason) → AreCounted lanes count firsts (es ++ e ∷ []) → IsEvent lanes (record { row = x; reason = reason; lanes = lost }) → TakesLanes e x lost reason →
     AreCounted lanes (count + length (set_lanes lost)) firsts (es ++ extended e lost ∷ [])
 AreCounted-extended lanes count firsts es e x lost reason are is on = record {
   each = all_last (IsEvent lanes) es e (extended e lost) are.each (λ was. record {

@@ -24,7 +24,7 @@ abbrev pub IsApart : List ℕ → Event → Type 0
 IsApart words e = (lane : ℕ) → is_on e.lanes lane ≡ true → is_on (slice_index words e.row) lane ≡ false
 
 -- the lanes can go into the event of the row x for the reason: its lanes are lower
-pub record GoesOn (e : Event) (x lost : ℕ) (reason : Reason) : Type 0 where
+pub record TakesLanes (e : Event) (x lost : ℕ) (reason : Reason) : Type 0 where
   pub row : e.row ≡ x
   pub why : e.reason ≡ reason
   pub lower : (l m : ℕ) → is_on e.lanes l ≡ true → is_on lost m ≡ true → l < m

@@ -2,7 +2,7 @@
 ghost use Rattle.std.specs.Prelude.{◌≡◌, ◌≢◌, ℕ, ◌+◌, ◌*◌, ◌<◌, ◌≤◌, true, false, List, [], ◌∷◌, ◌++◌, length, slice_index, vec_capacity};
 ghost use Rattle.roman_lanes.specs.Rows.{is_on};
 ghost use Rattle.roman_order.specs.Board.{pairs_of, as_entry, entries_in, entries_in_rows, has_entry};
-ghost use Rattle.roman_order.specs.Events.{GoesOn};
+ghost use Rattle.roman_order.specs.Events.{TakesLanes};
 ghost use Rattle.roman_order.specs.Sound.{places_of};
 ghost use Rattle.roman_order.specs.declared.event.Event.{Event};
 
@@ -99,7 +99,7 @@ impl Order {
 #[tactic(auto, using(crate::proofs::Lanes::all_lower))]
 fn goes_on(events: &[Event], x: u32, lost: u64, reason: Reason) -> bool
     ensures some { result ≡ true → (0 < length events.now) × (lost ≢ 0) }
-    ensures last { result ≡ true → (front : List Event) (e : Event) → events.now ≡ front ++ e ∷ [] → GoesOn e x lost reason }
+    ensures last { result ≡ true → (front : List Event) (e : Event) → events.now ≡ front ++ e ∷ [] → TakesLanes e x lost reason }
 {
     let Some(last) = events.last() else {
         return false;
