@@ -1,5 +1,5 @@
 -- The lines of a text that grows.
-use Rattle.roman_text.proofs.Common.{◌≡◌, ℕ, suc, ◌+◌, ◌≤◌, List, [], ◌∷◌, ◌++◌, length, take, drop, get_or, Bool, true, false, not, cond, None, Some, refl, sym, ap, ap₂, ◌∙◌, subst, append_assoc, drop-cons, arith, ltb-true, ltb, append-nil, take_all, length-take, passes_at_first, position, position_or_len, is_newline, kept, ◌≢◌, zero, ◌==◌, min, ◌||◌, inl, inr, eqb-true, both_ways, or_from, append_cancel_left, take-append-drop, take_min, list_any-append, has, lines, ended_lines, onto_ended_line, text_of_lines, IsLine, from_push, ended_lines-text, ended_lines_last, lines-text, lines_last, text_of_lines-push, unfinished, IsSplit}
+use Rattle.roman_text.proofs.Common.{◌≡◌, ℕ, suc, ◌+◌, ◌≤◌, List, [], ◌∷◌, ◌++◌, length, take, drop, get_or, Bool, true, false, not, cond, None, Some, refl, sym, ap, ap₂, ◌∙◌, subst, append_assoc, drop-cons, arith, ◌≢◌, zero, ◌==◌, min, ◌||◌, inl, inr, ltb-true, eqb-true, ltb, append-nil, take_all, length-take, append_cancel_left, take-append-drop, take_min, passes_at_first, position, position_or_len, is_newline, kept, unfinished, IsSplit, both_ways, or_from, list_any-append, has, lines, ended_lines, onto_ended_line, text_of_lines, IsLine, from_push, ended_lines-text, ended_lines_last, lines-text, lines_last, text_of_lines-push}
 use Rattle.roman_text.proofs.WordLemmas.{none_at, some_at}
 
 -- ---- lines

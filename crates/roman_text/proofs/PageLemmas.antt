@@ -1,5 +1,5 @@
 -- What a page writes and holds, over several calls.
-use Rattle.roman_text.proofs.Common.{Err, Gathered, Gathers, List, Ok, Option, Puts, Puts-after, Result, Wrote, Wrote-nil, Wrote-then, WrotePrefix, WrotePrefix-after, WrotePrefix-append, [], ap, append-nil, append_assoc, err_from_is_err_and, length_four, length_one, length_pair, length_two, sym, ℕ, ◌++◌, ◌∙◌, ◌≡◌}
+use Rattle.roman_text.proofs.Common.{Err, List, Ok, Option, Result, [], ap, append_assoc, sym, ℕ, ◌++◌, ◌∙◌, ◌≡◌, Gathered, Gathers, Puts, Wrote, WrotePrefix, Puts-after, Wrote-nil, Wrote-then, WrotePrefix-after, WrotePrefix-append, append-nil, err_from_is_err_and, length_four, length_one, length_pair, length_two}
 
 -- ---- for callers that fill a page: the beginning, one more text, a fault, and the end
 

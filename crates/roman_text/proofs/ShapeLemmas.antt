@@ -1,5 +1,5 @@
 -- The shape of a line, from its words.
-use Rattle.roman_text.proofs.Common.{Bool, Err, Form, LineError, LineShape, List, Ok, Result, TooLong, [], abort, ap, arith, ask, by_test, by_words, bytes_eq, bytes_eq-Decides, codes, cond, die, explain, false, freeze, hand, is_comment, join, jump, jump_env, kept, le-ltb, length, ltb, nothing, quit, refl, report, saw, shape_of, shape_of_words, spelling, strip_carriage_return, sym, thaw, true, with_four, words_of, ℕ, ◌&&◌, ◌<◌, ◌∙◌, ◌∷◌, ◌≡◌, ◌≤◌}
+use Rattle.roman_text.proofs.Common.{Bool, Err, List, Ok, Result, [], ap, arith, codes, cond, false, length, refl, sym, true, ℕ, ◌&&◌, ◌<◌, ◌∙◌, ◌∷◌, ◌≡◌, ◌≤◌, Form, TooLong, LineError, LineShape, abort, ask, by_words, die, explain, freeze, hand, is_comment, join, jump, jump_env, nothing, quit, report, saw, shape_of, shape_of_words, spelling, thaw, with_four, words_of, by_test, bytes_eq, bytes_eq-Decides, kept, le-ltb, ltb, strip_carriage_return}
 use borrow.Author.Tests.{lt-ltb}
 use Rattle.roman_text.proofs.LineLemmas.{kept-short, length-kept}
 

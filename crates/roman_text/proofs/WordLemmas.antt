@@ -1,5 +1,5 @@
 -- The words of a line, from its first word on.
-use Rattle.roman_text.proofs.Common.{◌≡◌, ℕ, suc, ◌+◌, ◌<◌, ◌≤◌, List, [], ◌∷◌, length, take, drop, get_or, Bool, true, false, not, cond, None, Some, refl, sym, ap, ◌∙◌, arith, drop-cons, ltb-true, passes_at_first, ltb, position, position_or_len, words_of, filter, unwrap_or, ltb-false, not-true, drop_all, slice_split-cons_yes, slice_split-cons_no, slice_split, is_blank, is_part, has_bytes}
+use Rattle.roman_text.proofs.Common.{◌≡◌, ℕ, suc, ◌+◌, ◌<◌, ◌≤◌, List, [], ◌∷◌, length, take, drop, get_or, Bool, true, false, not, cond, None, Some, refl, sym, ap, ◌∙◌, arith, drop-cons, filter, unwrap_or, ltb-true, ltb-false, not-true, passes_at_first, ltb, position, position_or_len, slice_split, words_of, is_blank, is_part, has_bytes, drop_all, slice_split-cons_yes, slice_split-cons_no}
 
 -- ---- places in a list
 

@@ -1,4 +1,4 @@
-use Rattle.roman_text.proofs.Common.{◌≡◌, ℕ, ◌+◌, ◌<◌, true, None, Some, get_or, length, sym, ap, ◌∙◌, subst, arith, position, position_or_len, length-chunk, chunk, is_newline, nat_eq, map, w8, position_or_len_is, bitmask_splat, trailing_mask_l, run_in_chunk_fails, run_in_chunk_stops, cond-true, lt-ltb, count_trailing_zeros, mask_l}
+use Rattle.roman_text.proofs.Common.{◌≡◌, ℕ, ◌+◌, ◌<◌, true, None, Some, get_or, length, sym, ap, ◌∙◌, subst, arith, nat_eq, map, w8, position, position_or_len, length-chunk, bitmask_splat, trailing_mask_l, run_in_chunk_fails, run_in_chunk_stops, chunk, mask_l, is_newline, position_or_len_is, cond-true, lt-ltb, count_trailing_zeros}
 use Rattle.roman_text.proofs.lines.newline_near.Goals as goal
 
 pub returns : goal.returns

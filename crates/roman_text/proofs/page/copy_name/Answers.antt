@@ -1,4 +1,4 @@
-use Rattle.roman_text.proofs.Common.{◌∙◌, arith, take_all, length-chunk, chunk, put_chunk_whole}
+use Rattle.roman_text.proofs.Common.{◌∙◌, arith, take_all, length-chunk, put_chunk_whole, chunk}
 use Rattle.roman_text.proofs.page.copy_name.Goals as goal
 
 pub returns : goal.returns

@@ -1,4 +1,4 @@
-use Rattle.roman_text.proofs.Common.{◌≡◌, ℕ, ◌+◌, ◌≤◌, List, ◌++◌, length, take, ap, ap₂, ◌∙◌, arith, length-take, take-add, length-take-le, take_at, drop_at, take-append-le}
+use Rattle.roman_text.proofs.Common.{◌≡◌, ℕ, ◌+◌, ◌≤◌, List, ◌++◌, length, take, ap, ap₂, ◌∙◌, arith, take-add, length-take-le, length-take, take_at, drop_at, take-append-le}
 use Rattle.roman_text.proofs.page.Page.add_bare.Goals as goal
 
 -- bytes after a beginning, of which some are kept
