@@ -20,5 +20,5 @@ pub use Rattle.roman_radix.specs.Radix.{moved}
 pub use Rattle.roman_relation.proofs.CallerLemmas.{listed_numbers}
 pub use Rattle.roman_relation.specs.Greatest.{IsRelation, arena_of}
 pub use Rattle.roman_rules.specs.Bits.{HasBits, bit_of}
-pub use Rattle.roman_generator.specs.Moves.{Becomes, CanMove, IsServed}
+pub use Rattle.roman_generator.specs.Moves.{Becomes, CanMove, IsBefore}
 pub use Rattle.roman_generator.specs.declared.sight.Sight.{Sight}

@@ -1,5 +1,5 @@
 -- Moves by a served request.
-use Rattle.roman_generator.proofs.Common.{◌≡◌, ℕ, ◌<◌, List, [], ◌∷◌, Option, Some, None, IsTrue, IsFalse, IfSome, IfNone, MatchOption, inl, length, slice_get, slice_index, refl, sym, ap, ◌∙◌, subst, arith, get_or-set_same, length-map, both_ways, not-true, slice_get_within, IsIn, listed_number, number_listed, size_at, in_env_next, from_env_next, in_beh_next, from_beh_next, move_in_range, triple_in_range, seat_in, numbers_are_pairs, AreBelow-length, AreBelow-index, states_below, IsPairOf-from, IsPairOf-moved, pair_at-number, Sys, IsSys, Seat, Pair, IsPair, TStep, Allows, has, has_move, env_next, beh_next, is_ready, sizes_of, count, number, pair_at, moved, CanMove, Becomes, IsServed, Sight}
+use Rattle.roman_generator.proofs.Common.{◌≡◌, ℕ, ◌<◌, List, [], ◌∷◌, Option, Some, None, IsTrue, IsFalse, IfSome, IfNone, MatchOption, inl, length, slice_get, slice_index, refl, sym, ap, ◌∙◌, subst, arith, get_or-set_same, length-map, both_ways, not-true, slice_get_within, IsIn, listed_number, number_listed, size_at, in_env_next, from_env_next, in_beh_next, from_beh_next, move_in_range, triple_in_range, seat_in, numbers_are_pairs, AreBelow-length, AreBelow-index, states_below, IsPairOf-from, IsPairOf-moved, pair_at-number, from_allowed, Sys, IsSys, Seat, Pair, IsPair, TStep, Allows, has, has_move, env_next, beh_next, is_ready, is_allowed, sizes_of, count, number, pair_at, Sizes, moved, CanMove, Becomes, IsBefore, Sight}
 
 -- a pair has a state for each seat
 pub states_long : (s : Sys) (p : Pair) → IsPair s p → length p.bs ≡ length s.seats
@@ -14,96 +14,87 @@ pub ready_seat : (o : Option Seat) → IsTrue (is_ready o) → (seat : Seat) × 
 ready_seat None h = cc
 ready_seat (Some seat) h = (seat, refl, not-true seat.frozen h)
 
--- a system step to the states that are seen serves the action
-pub served_is : (s : Sys) (p : Pair) (x : Sight) → IsPair s p → CanMove s p x.action x.seat x.state x.env → IsServed s p.e (slice_index p.bs x.seat) x
-served_is s p x pair step =
-    let within : x.seat < length p.bs = omega (arith, states_long s p pair, slice_get_within s.seats x.seat step.seat step.seated) in
-    let to : x.state ≡ step.to =
-    sym (get_or-set_same p.bs x.seat x.state 0 within) ∙ ap (λ (bs : List ℕ). slice_index bs x.seat) step.is ∙ get_or-set_same p.bs x.seat step.to 0 within in
-    record {
-      seat = step.seat;
-      seated = step.seated;
-      ready = step.ready;
-      world = step.world;
-      moves = subst (λ (b : ℕ). IsTrue (has_move step.seat.beh (slice_index p.bs x.seat) p.e x.action b)) (sym to) step.moves;
-    }
+-- a system step goes to the state that is seen
+to_seen : (s : Sys) (p : Pair) (a k b e : ℕ) → IsPair s p → (step : CanMove s p a k b e) → step.to ≡ b
+to_seen s p a k b e pair step =
+    let within : k < length p.bs = omega (arith, states_long s p pair, slice_get_within s.seats k step.seat step.seated) in
+    sym (get_or-set_same p.bs k step.to 0 within) ∙ ap (λ (bs : List ℕ). slice_index bs k) (sym step.is) ∙ get_or-set_same p.bs k b 0 within
 
--- where the action isn't served, no system step leads to the states that are seen
-pub none_moves : (s : Sys) (p : Pair) (x : Sight) (o : Option ℕ) → IsPair s p → IfNone o (IsServed s p.e (slice_index p.bs x.seat) x → ⊥) → IfNone o (CanMove s p x.action x.seat x.state x.env → ⊥)
-none_moves s p x None pair none = λ step. none (served_is s p x pair step)
-none_moves s p x (Some to) pair none = tt
+-- where the environment has no step, no system step leads to the states that are seen
+pub env_stays : (s : Sys) (t e b : ℕ) (x : Sight) (p : Pair) → IsSys s → IsFalse (has (env_next s.env e x.action) x.env) → IsBefore s t e b x p → CanMove s p x.action x.seat x.state x.env → ⊥
+env_stays s t e b x p ok out before step = grind (arith, both_ways, in_env_next, listed_number)
 
--- where the action is served, a system step leads to the states that are seen
-pub served_moves : (s : Sys) (p : Pair) (x : Sight) → IsServed s p.e (slice_index p.bs x.seat) x → CanMove s p x.action x.seat x.state x.env
-served_moves s p x served = record { seat = served.seat; seated = served.seated; ready = served.ready; world = served.world; to = x.state; moves = served.moves; is = refl }
+-- where the service has no step, none does
+pub seat_stays : (s : Sys) (t e b : ℕ) (x : Sight) (p : Pair) (seat : Seat) → IsSys s → slice_get s.seats x.seat ≡ Some seat → IsFalse (has (beh_next seat.beh b e x.action) x.state) → IsBefore s t e b x p →
+    CanMove s p x.action x.seat x.state x.env → ⊥
+seat_stays s t e b x p seat ok seated out before step =
+    let same : step.seat ≡ seat = same_seat s x.seat step.seat seat step.seated seated in
+    let moves : IsTrue (has_move seat.beh b e x.action x.state) = rw (← same, ← before.state, ← before.env, ← to_seen s p x.action x.seat x.state x.env before.pair step) step.moves in
+    both_ways (has (beh_next seat.beh b e x.action) x.state) out
+    (listed_number (beh_next seat.beh b e x.action) x.state (in_beh_next s.env seat.beh b e x.action x.state (ok.seats seat (seat_in s.seats x.seat seat seated)) moves))
 
--- where the environment has no step, the action isn't served
-pub env_stays : (s : Sys) (e b : ℕ) (x : Sight) → IsSys s → IsFalse (has (env_next s.env e x.action) x.env) → IsServed s e b x → ⊥
-env_stays s e b x ok out served = grind (arith, both_ways, in_env_next, listed_number)
-
--- where the service has no step, the action isn't served
-pub seat_stays : (s : Sys) (e b : ℕ) (x : Sight) (seat : Seat) → IsSys s → slice_get s.seats x.seat ≡ Some seat → IsFalse (has (beh_next seat.beh b e x.action) x.state) → IsServed s e b x → ⊥
-seat_stays s e b x seat ok seated out served =
-    let next = beh_next seat.beh b e x.action in
-    let same : served.seat ≡ seat = same_seat s x.seat served.seat seat served.seated seated in
-    let moves = subst (λ (y : Seat). IsTrue (has_move y.beh b e x.action x.state)) same served.moves in
-    both_ways (has next x.state) out (listed_number next x.state (in_beh_next s.env seat.beh b e x.action x.state (ok.seats seat (seat_in s.seats x.seat seat seated)) moves))
-
--- where both the environment and the service have a step, the action is served
-pub served_from : (s : Sys) (e b : ℕ) (x : Sight) (seat : Seat) → slice_get s.seats x.seat ≡ Some seat → IsTrue (is_ready (slice_get s.seats x.seat)) →
-    IsTrue (has (env_next s.env e x.action) x.env) → IsTrue (has (beh_next seat.beh b e x.action) x.state) → IsServed s e b x
-served_from s e b x seat seated ready has_e has_b = grind (arith, from_beh_next, from_env_next, number_listed, ready_seat, same_seat)
+-- where both have a step, a system step leads to the states that are seen
+pub can_move : (s : Sys) (t e b : ℕ) (x : Sight) (p : Pair) (seat : Seat) → slice_get s.seats x.seat ≡ Some seat → IsTrue (is_ready (slice_get s.seats x.seat)) →
+    IsTrue (has (env_next s.env e x.action) x.env) → IsTrue (has (beh_next seat.beh b e x.action) x.state) → IsBefore s t e b x p → CanMove s p x.action x.seat x.state x.env
+can_move s t e b x p seat seated ready has_e has_b before = grind (arith, from_beh_next, from_env_next, number_listed, ready_seat, same_seat)
 
 -- where the action is served, the target goes to the state that is looked up
-pub target_goes : (s : Sys) (t e b : ℕ) (x : Sight) (o : Option ℕ) → IsServed s e b x →
-    MatchOption o (beh_next s.target t e x.action ≡ []) (λ to. beh_next s.target t e x.action ≡ to ∷ []) → IfSome o (λ to. TStep s t e x.action to x.env × IsServed s e b x)
-target_goes s t e b x None served next = tt
-target_goes s t e b x (Some to) served next = ((served.world, from_beh_next s.target t e x.action to (subst (IsIn to) (sym next) (inl refl))), served)
+pub target_goes : (s : Sys) (p : Pair) (a k b e : ℕ) (o : Option ℕ) → CanMove s p a k b e →
+    MatchOption o (beh_next s.target p.t p.e a ≡ []) (λ to. beh_next s.target p.t p.e a ≡ to ∷ []) → IfSome o (λ to. TStep s p.t p.e a to e × CanMove s p a k b e)
+target_goes s p a k b e None step next = tt
+target_goes s p a k b e (Some to) step next = ((step.world, from_beh_next s.target p.t p.e a to (subst (IsIn to) (sym next) (inl refl))), step)
 
 -- where the action is allowed, the target has a next state
-pub target_there : (s : Sys) (t e b : ℕ) (x : Sight) (o : Option ℕ) → IsSys s → Allows s t e x.action →
-    MatchOption o (beh_next s.target t e x.action ≡ []) (λ to. beh_next s.target t e x.action ≡ to ∷ []) → IfNone o (IsServed s e b x → ⊥)
-target_there s t e b x None ok (to, e', step) next = λ served. subst (IsIn to) next (in_beh_next s.env s.target t e x.action to ok.target step.1)
-target_there s t e b x (Some to) ok allowed next = tt
+pub target_there : (s : Sys) (t e a : ℕ) (o : Option ℕ) → IsSys s → Allows s t e a → MatchOption o (beh_next s.target t e a ≡ []) (λ to. beh_next s.target t e a ≡ to ∷ []) → IfNone o ⊥
+target_there s t e a None ok (to, e', step) next = subst (IsIn to) next (in_beh_next s.env s.target t e a to ok.target step.1)
+target_there s t e a (Some to) ok allowed next = tt
 
--- where an action is allowed, all numbers are in range
-pub allowed_within : (s : Sys) (t e a : ℕ) → IsSys s → Allows s t e a → (t < s.target.states) × (e < s.env.states) × (a < s.env.actions)
-allowed_within s t e a ok (to, e', step) =
-    let (from, env, action, there) = move_in_range s.env s.target t e a to ok.target step.1 in
-    (from, env, action)
+-- all numbers of an allowed action are in range
+pub allowed_within : (s : Sys) (t e b : ℕ) (x : Sight) (p : Pair) → IsSys s → IsBefore s t e b x p → (t < s.target.states) × (e < s.env.states) × (x.action < s.env.actions)
+allowed_within s t e b x p ok before =
+    let (to, e', step) = from_allowed s p x.action before.allowed in
+    let (from, env, action, there) = move_in_range s.env s.target p.t p.e x.action to ok.target step.1 in
+    (subst (λ n. n < s.target.states) before.target from, subst (λ n. n < s.env.states) before.env env, action)
 
 -- a service is seen in one of its states
-pub served_within : (s : Sys) (e b : ℕ) (x : Sight) → IsSys s → IsServed s e b x → x.state < slice_index (sizes_of s).seats x.seat
-served_within s e b x ok served =
-    let within = (move_in_range s.env served.seat.beh b e x.action x.state (ok.seats served.seat (seat_in s.seats x.seat served.seat served.seated)) served.moves).3 in
-    omega (arith, within, size_at s.seats x.seat served.seat served.seated)
+pub seen_within : (s : Sys) (p : Pair) (a k b e : ℕ) → IsSys s → IsPair s p → CanMove s p a k b e → b < slice_index (sizes_of s).seats k
+seen_within s p a k b e ok pair step =
+    let within = (move_in_range s.env step.seat.beh (slice_index p.bs k) p.e a step.to (ok.seats step.seat (seat_in s.seats k step.seat step.seated)) step.moves).3 in
+    omega (arith, within, to_seen s p a k b e pair step, size_at s.seats k step.seat step.seated)
 
--- where the target, the environment and the service have a step, the pair moves
-pub all_move : (s : Sys) (p : ℕ) (x : Sight) (to q : ℕ) → IsSys s → p < count (sizes_of s) →
-    TStep s (pair_at (sizes_of s) p).t (pair_at (sizes_of s) p).e x.action to x.env → IsServed s (pair_at (sizes_of s) p).e (slice_index (pair_at (sizes_of s) p).bs x.seat) x →
-    q ≡ number (sizes_of s) (moved (pair_at (sizes_of s) p) to x.env x.seat x.state) → q < count (sizes_of s) → Becomes s (pair_at (sizes_of s) p) x.action x.seat x.state x.env q
-all_move s p x to q ok l target served is below =
+-- where the target and the system have a step, the pair moves
+pub all_move : (s : Sys) (p a k b e to q : ℕ) → IsSys s → p < count (sizes_of s) → TStep s (pair_at (sizes_of s) p).t (pair_at (sizes_of s) p).e a to e → CanMove s (pair_at (sizes_of s) p) a k b e →
+    q ≡ number (sizes_of s) (moved (pair_at (sizes_of s) p) to e k b) → q < count (sizes_of s) → Becomes s (pair_at (sizes_of s) p) a k b e q
+all_move s p a k b e to q ok l target system is below =
     let n = sizes_of s in
     let here = pair_at n p in
-    let to_within = (move_in_range s.env s.target here.t here.e x.action to ok.target target.1).3 in
-    let env_within = (triple_in_range s.env here.e x.action x.env ok.env target.0).2 in
-    let there = IsPairOf-moved n here to x.env x.seat x.state (IsPairOf-from s here ((numbers_are_pairs s).pair p l)) to_within env_within (served_within s here.e (slice_index here.bs x.seat) x ok served) in
+    let pair = (numbers_are_pairs s).pair p l in
+    let to_within = (move_in_range s.env s.target here.t here.e a to ok.target target.1).3 in
+    let env_within = (triple_in_range s.env here.e a e ok.env target.0).2 in
+    let there = IsPairOf-moved n here to e k b (IsPairOf-from s here pair) to_within env_within (seen_within s here a k b e ok pair system) in
     record {
       to = to;
       target = target;
-      system = served_moves s here x served;
+      system = system;
       below = below;
-      pair = ap (pair_at n) is ∙ pair_at-number n (moved here to x.env x.seat x.state) there;
+      pair = ap (pair_at n) is ∙ pair_at-number n (moved here to e k b) there;
     }
 
 -- the state of a seat is a state of its behaviour
 pub state_within : (s : Sys) (p : Pair) (k : ℕ) (seat : Seat) → IsPair s p → slice_get s.seats k ≡ Some seat → slice_index p.bs k < seat.beh.states
 state_within s p k seat pair seated = grind (arith, AreBelow-index, length-map, size_at, slice_get_within, states_below)
 
--- the state of a ready service is a state of its seat's behaviour
-pub state_seated : (s : Sys) (p : Pair) (k : ℕ) → IsPair s p → IsTrue (is_ready (slice_get s.seats k)) → IfSome (slice_get s.seats k) (λ seat. slice_index p.bs k < seat.beh.states)
-state_seated s p k pair ready = grind (arith, ready_seat, state_within)
+-- the state of the looked-up seat is a state of its behaviour
+pub state_of_seat : (s : Sys) (t e b : ℕ) (x : Sight) (p : Pair) (seat : Seat) → IsBefore s t e b x p → slice_get s.seats x.seat ≡ Some seat → b < seat.beh.states
+state_of_seat s t e b x p seat before seated = subst (λ n. n < seat.beh.states) before.state (state_within s p x.seat seat before.pair seated)
 
--- a state of the looked-up seat is a state of the seat
-pub state_of_seat : (s : Sys) (k b : ℕ) (seat : Seat) → slice_get s.seats k ≡ Some seat → IfSome (slice_get s.seats k) (λ seat. b < seat.beh.states) → b < seat.beh.states
-state_of_seat s k b seat seated within = subst (λ (o : Option Seat). IfSome o (λ seat. b < seat.beh.states)) seated within
+-- the states that a shape of the system reads from the number of a pair are those of the pair
+pub at_number : (s : Sys) (shape : Sizes) (p t e b : ℕ) (x : Sight) → shape ≡ sizes_of s → p < count (sizes_of s) → t ≡ (pair_at shape p).t → e ≡ (pair_at shape p).e →
+    b ≡ slice_index (pair_at shape p).bs x.seat → IsTrue (is_allowed s (pair_at (sizes_of s) p) x.action) → IsBefore s t e b x (pair_at (sizes_of s) p)
+at_number s shape p t e b x same l t_is e_is b_is allowed = record {
+  pair = (numbers_are_pairs s).pair p l;
+  target = ap (λ (m : Sizes). (pair_at m p).t) (sym same) ∙ sym t_is;
+  env = ap (λ (m : Sizes). (pair_at m p).e) (sym same) ∙ sym e_is;
+  state = ap (λ (m : Sizes). slice_index (pair_at m p).bs x.seat) (sym same) ∙ sym b_is;
+  allowed = allowed;
+}

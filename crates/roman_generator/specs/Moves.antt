@@ -1,6 +1,7 @@
 -- Moves of a system by one served request.
-use Rattle.std.specs.Prelude.{◌≡◌, ℕ, ◌<◌, Some, IsTrue, IsFalse, slice_get, slice_set}
-use Rattle.roman_model.specs.System.{Sys, Seat, Pair, TStep, SStep, has_triple, has_move}
+use Rattle.std.specs.Prelude.{◌≡◌, ℕ, ◌<◌, IsTrue, slice_index, slice_set}
+use Rattle.roman_model.specs.System.{Sys, Pair, IsPair, TStep, SStep}
+use Rattle.roman_model.specs.SystemArena.{is_allowed}
 use Rattle.roman_model.specs.Numbers.{sizes_of, count, pair_at}
 use Rattle.roman_generator.specs.declared.sight.Sight.{Sight}
 
@@ -16,10 +17,10 @@ pub record Becomes (s : Sys) (p : Pair) (a k b e q : ℕ) : Type 0 where
   pub below : q < count (sizes_of s)
   pub pair : pair_at (sizes_of s) q ≡ record { t = to; e = e; bs = slice_set p.bs k b }
 
--- the service is ready, and goes from state b, as the environment does from state e, to the states seen
-pub record IsServed (s : Sys) (e b : ℕ) (x : Sight) : Type 0 where
-  pub seat : Seat
-  pub seated : slice_get s.seats x.seat ≡ Some seat
-  pub ready : IsFalse seat.frozen
-  pub world : IsTrue (has_triple s.env e x.action x.env)
-  pub moves : IsTrue (has_move seat.beh b e x.action x.state)
+-- the pair has these states of the target, the environment and the seat, and the action is allowed there
+pub record IsBefore (s : Sys) (t e b : ℕ) (x : Sight) (p : Pair) : Type 0 where
+  pub pair : IsPair s p
+  pub target : p.t ≡ t
+  pub env : p.e ≡ e
+  pub state : slice_index p.bs x.seat ≡ b
+  pub allowed : IsTrue (is_allowed s p x.action)

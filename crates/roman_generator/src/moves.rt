@@ -1,10 +1,10 @@
 //! Moves from one pair to the next.
 ghost use Rattle.std.specs.Prelude.{◌≡◌, ◌<◌, IsTrue, IfSome, IfNone, slice_get};
-ghost use Rattle.roman_model.specs.System.{Pair, IsPair, TStep, Allows, has};
+ghost use Rattle.roman_model.specs.System.{Pair, IsPair, TStep, has};
 ghost use Rattle.roman_model.specs.SystemArena.{is_allowed, is_ready};
 ghost use Rattle.roman_model.specs.Numbers.{sizes_of, count, pair_at};
 ghost use Rattle.roman_joint.specs.NamedSys.{system_of};
-ghost use Rattle.roman_generator.specs.Moves.{CanMove, Becomes, IsServed};
+ghost use Rattle.roman_generator.specs.Moves.{CanMove, Becomes, IsBefore};
 
 use crate::sight::Sight;
 use roman_joint::Joint;
@@ -54,11 +54,12 @@ pub fn next_target(joint: &Joint, t: u8, e: u8, states: &[u8], sight: Sight) -> 
 // Returns the target's state after the action that `sight` describes. Before it, the target is in
 // state `t`, the environment in state `e`, and the service in state `b`.
 fn target_after(joint: &Joint, t: u8, e: u8, b: u8, sight: Sight) -> Option<u8>
-    requires allowed { Allows (system_of joint.now) t e sight.action }
+    requires before { (p : Pair) × IsBefore (system_of joint.now) t e b sight p }
     requires ready { IsTrue (is_ready (slice_get (system_of joint.now).seats sight.seat)) }
-    requires state { IfSome (slice_get (system_of joint.now).seats sight.seat) (λ seat. b < seat.beh.states) }
-    ensures moves { IfSome result (λ to. TStep (system_of joint.now) t e sight.action to sight.env × IsServed (system_of joint.now) e b sight) }
-    ensures none { IfNone result (IsServed (system_of joint.now) e b sight → ⊥) }
+    ensures moves { (p : Pair) → IsBefore (system_of joint.now) t e b sight p →
+        IfSome result (λ to. TStep (system_of joint.now) p.t p.e sight.action to sight.env × CanMove (system_of joint.now) p sight.action sight.seat sight.state sight.env) }
+    ensures none { (p : Pair) → IsBefore (system_of joint.now) t e b sight p →
+        IfNone result (CanMove (system_of joint.now) p sight.action sight.seat sight.state sight.env → ⊥) }
 {
     joint.known(); // behaviours and the target are over the environment
     if !holds(joint.environment().next(e, sight.action), sight.env) {
