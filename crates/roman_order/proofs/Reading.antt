@@ -1,5 +1,5 @@
 -- The entries from a place of the list on.
-use Rattle.roman_order.proofs.Common.{◌≡◌, ◌≢◌, ℕ, zero, suc, ◌+◌, ◌-◌, ◌*◌, ◌%◌, ◌^◌, ◌<◌, ◌≤◌, true, List, [], ◌∷◌, ◌++◌, map, length, get_or, take, drop, Some, inl, inr, refl, sym, ap, ◌∙◌, subst, arith, eqb, length-append, slice_get, AllByRecursion, cases_lt, eq-eqb, or_right, or_left, length-drop, take-append-drop, get_or_past, drop-set, length-set, drop-append-le, drop-drop, drop-map, get_or_default, list_any-append, flat_map-append, Entry, Board, as_entry, set_lanes, has_entry, is_on, IsEvent, entries_at, entries_of, board_of, firsts_of, AreCounted, CanWait, IsSound, Event, Inside, lt_of_mul-lt-mul_right, drop-append_seam, take-add, slice_get-get_or, IsIn, in_append_right, IsEventOf, places_of}
+use Rattle.roman_order.proofs.Common.{◌≡◌, ◌≢◌, ℕ, zero, suc, ◌+◌, ◌-◌, ◌*◌, ◌%◌, ◌^◌, ◌<◌, ◌≤◌, true, List, [], ◌∷◌, ◌++◌, map, length, get_or, take, drop, Some, inl, inr, refl, sym, ap, ◌∙◌, subst, arith, eqb, length-append, slice_get, AllByRecursion, cases_lt, eq-eqb, or_right, or_left, length-drop, take-append-drop, get_or_past, drop-set, length-set, drop-append-le, drop-drop, drop-map, get_or_default, list_any-append, flat_map-append, Entry, Board, as_entry, set_lanes, has_entry, is_on, IsEvent, entries_at, entries_of, board_of, firsts_of, AreCounted, CanWait, IsSound, places_of, Event, Inside, lt_of_mul-lt-mul_right, drop-append_seam, take-add, slice_get-get_or, IsIn, in_append_right, IsEventOf}
 use Rattle.std.proofs.lemmas.List.{get_or-drop}
 use Rattle.roman_order.proofs.Tables.{few}
 use Rattle.roman_order.proofs.Lanes.{no_lane, set_lanes-zero}
