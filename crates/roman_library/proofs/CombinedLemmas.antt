@@ -1,5 +1,5 @@
 -- The library of a document with several targets combines them.
-use Rattle.roman_library.proofs.Common.{◌≡◌, ℕ, List, None, Ok, sym, ap, ◌∙◌, subst, arith, Data, Texts, same_ok, bind_ok, NamedEnv, NamedBeh, PlainCombined, forbidding, combined_parts, Named, value_at, version_of, environment_in, catalogue_in, targets_in, combined_of, parts_in, services_of, library_in, library_of, PlainLibrary, CombinesTargets, TargetsAreCombined, AcceptedNameTargets}
+use Rattle.roman_library.proofs.Common.{List, None, Ok, ap, arith, subst, sym, ℕ, ◌∙◌, ◌≡◌, Texts, PlainCombined, forbidding, combined_parts, Named, NamedBeh, NamedEnv, bind_ok, same_ok, Data, value_at, version_of, catalogue_in, combined_of, environment_in, library_in, library_of, parts_in, services_of, targets_in, PlainLibrary, AcceptedNameTargets, CombinesTargets, TargetsAreCombined}
 use Rattle.roman_library.specs.declared.refusal.Part.TheVariants as part
 use Rattle.roman_library.proofs.KnownLemmas.{placed_is, environment_in_known, catalogue_known, services_known, targets_in_known}
 

@@ -1,8 +1,6 @@
 mod PrefixLemmas
 pub mod Common
-pub mod PlaceLemmas
 mod LibraryLemmas
-mod StepLemmas
 mod PlacedLemmas
 pub mod TargetLemmas
 pub mod KnownLemmas

@@ -1,5 +1,5 @@
--- Parts with their documents, and the refusals that stop the reading of a document.
-use Rattle.roman_library.proofs.Common.{◌≡◌, ℕ, List, Option, Some, None, IfSome, Result, Ok, Err, ap, sym, subst, Data, Texts, ◌>>=◌, NamedEnv, NamedBeh, Gives, PartError, Named, Combined, version_of, limit_of, environment_in, catalogue_in, services_of, targets_in, combined_of, parts_in, library_in, Stops, placed, Service, LoadError, Part, Refusal, IfOk, Places, Loads}
+-- Parts with their documents, and readings that stop at their first refusal.
+use Rattle.roman_library.proofs.Common.{Err, IfOk, IfSome, List, None, Ok, Option, Result, Some, ap, get_or, length, refl, subst, sym, ℕ, ◌<◌, ◌≡◌, Texts, Gives, PartError, IsLeft, ends, ◌>>=◌, Data, view, Value, Loads, Places, Stops, placed, LoadError, Part, Refusal}
 use Rattle.roman_parts.specs.declared.error.PartError.TheVariants as part_error
 use Rattle.roman_multi.specs.Combining as combining
 use Rattle.roman_library.specs.declared.refusal.LoadError.TheVariants as error
@@ -33,41 +33,14 @@ stops_all error.Fault reading f stops = tt
 stops_all (error.Refused refusal) reading f stops = rw stops
 stops_all error.Memory reading f stops = tt
 
-module _ (document : List ℕ) (d : Data) (version limit : ℕ) (env : NamedEnv) (why : LoadError)
-    (versioned : placed document part.System (version_of d) ≡ Ok version)
-    (limited : placed document part.System (limit_of d) ≡ Ok limit) where
-  -- the refusal of the behaviours is the refusal of the document
-  pub catalogue_stops : (o : Option Texts) → IfSome o (λ texts. environment_in texts document d ≡ Ok env)
-      → IfSome o (λ texts. Stops why (catalogue_in texts document env d)) → IfSome o (λ texts. Stops why (library_in texts document d))
-  unfolding library_in
-  catalogue_stops None environment stops = tt
-  catalogue_stops (Some texts) environment stops = rw (versioned, limited, environment) (stops_all why (catalogue_in texts document env d) _ stops)
+-- the refusal of an item is the refusal of the list
+pub stops_left : {X : Type 0} (step : ℕ → List X → Data → Result (List X) Refusal) (items : List Value) (i : ℕ) (before : List X) (x : Value) (why : LoadError) (all : Result (List X) Refusal)
+    → i < length items → x ≡ get_or items i x → Stops why (step i before (view x)) → IsLeft step items i before all → Stops why all
+stops_left step items i before x error.Fault all h e stops left = tt
+stops_left step items i before x (error.Refused refusal) all h e stops left = ends step items i before x refusal all h e stops left
+stops_left step items i before x error.Memory all h e stops left = tt
 
-  -- the refusal of the services is the refusal of the document
-  pub services_stop_all : (o : Option Texts) (catalogue : List NamedBeh) → IfSome o (λ texts. environment_in texts document d ≡ Ok env)
-      → IfSome o (λ texts. catalogue_in texts document env d ≡ Ok catalogue)
-      → Stops why (services_of document version catalogue d) → IfSome o (λ texts. Stops why (library_in texts document d))
-  unfolding library_in
-  services_stop_all None catalogue environment behaviours stops = tt
-  services_stop_all (Some texts) catalogue environment behaviours stops =
-      rw (versioned, limited, environment, behaviours) (stops_all why (services_of document version catalogue d) _ stops)
-
-  -- the refusal of the target, or of one of the targets, is the refusal of the document
-  pub parts_stop : (o : Option Texts) (catalogue : List NamedBeh) (services : List Service) → IfSome o (λ texts. environment_in texts document d ≡ Ok env)
-      → IfSome o (λ texts. catalogue_in texts document env d ≡ Ok catalogue)
-      → services_of document version catalogue d ≡ Ok services
-      → IfSome o (λ texts. Stops why (parts_in texts document version env catalogue d)) → IfSome o (λ texts. Stops why (library_in texts document d))
-  unfolding library_in
-  parts_stop None catalogue services environment behaviours served stops = tt
-  parts_stop (Some texts) catalogue services environment behaviours served stops =
-      rw (versioned, limited, environment, behaviours, served) (stops_all why (parts_in texts document version env catalogue d) _ stops)
-
--- the combined targets of a document are its parts
-pub several_parts : (document : List ℕ) (d : Data) (version : ℕ) (env : NamedEnv) (catalogue others : List NamedBeh) (targets named : List Named) (read : Result Combined PartError) (given : Result Combined LoadError)
-    → version ≡ 3 → others ≡ catalogue → named ≡ targets → Gives combining.plain_combined read (combined_of env others named) → Places document part.System read given
-    → (o : Option Texts) → IfSome o (λ texts. targets_in texts document env d ≡ Ok targets)
-    → IfSome o (λ texts. Loads combining.plain_combined given (parts_in texts document version env catalogue d))
-unfolding parts_in
-several_parts document d version env catalogue others targets named read given third same all gives places None there = tt
-several_parts document d version env catalogue others targets named read given third same all gives places (Some texts) there =
-    rw (third, there, ← same, ← all) (placed_loads combining.plain_combined document part.System read (combined_of env others named) given gives places)
+-- what holds where the shelf exposes its texts
+pub where_told : (told : Option Texts) (P : Texts → Type 0) → ((texts : Texts) → told ≡ Some texts → P texts) → IfSome told P
+where_told None P holds = tt
+where_told (Some texts) P holds = holds texts refl

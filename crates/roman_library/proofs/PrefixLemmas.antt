@@ -1,5 +1,5 @@
 -- The growth of the prefix of a text.
-use Rattle.roman_library.proofs.Common.{◌≡◌, ℕ, ◌+◌, ◌≤◌, List, ◌++◌, length, sym, ◌∙◌, ap, subst, length-append, Option, None, Some, IfSome, Texts, shelf_text, take, drop, take-append-drop, length-take-le, take-append-add, Fetches}
+use Rattle.roman_library.proofs.Common.{IfSome, List, None, Option, Some, ap, drop, length, length-append, subst, sym, take, ℕ, ◌++◌, ◌+◌, ◌∙◌, ◌≡◌, ◌≤◌, take-append-add, length-take-le, take-append-drop, Fetches, Texts, shelf_text}
 
 -- the bytes are a prefix of the text
 pub record IsPrefix (bytes text : List ℕ) : Type 0 where

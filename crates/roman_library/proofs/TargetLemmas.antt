@@ -1,5 +1,5 @@
 -- Several targets of a document, and the parts made from them.
-use Rattle.roman_library.proofs.Common.{◌≡◌, ◌<◌, List, [], ◌∷◌, map, length, get_or, All, IfSome, Option, Some, None, Ok, Err, slice_get, refl, sym, ap, subst, length-map, HasNoRepeats, NamedEnv, NamedBeh, IsBehaviour, IsTarget, Gives, combined_parts, forbidding, Named, Combined, combined_of, ArePartsOf, IsCatalogue, IsService, AreServices, behaviour_name, Service, CombineError, get_or-map, slice_get-map, option_map, IsEnv, Request, KeepsRules, combined_behaviour, requests_in, state_count, combined_behaviour_over, combined_is_system, combined_target_over, broken_rule}
+use Rattle.roman_library.proofs.Common.{All, Err, IfSome, List, None, Ok, Option, Some, [], ap, get_or, length, map, refl, slice_get, subst, sym, ◌<◌, ◌∷◌, ◌≡◌, get_or-map, length-map, slice_get-map, option_map, HasNoRepeats, IsEnv, Request, combined_behaviour_over, combined_is_system, combined_target_over, state_count, KeepsRules, combined_behaviour, forbidding, requests_in, combined_parts, CombineError, Combined, Named, IsBehaviour, IsTarget, NamedBeh, NamedEnv, Gives, broken_rule, combined_of, ArePartsOf, AreServices, IsCatalogue, IsService, behaviour_name, Service}
 use Rattle.roman_multi.specs.Combining as combining
 use Rattle.roman_multi.specs.declared.error.CombineError.TheVariants as error
 

@@ -1,5 +1,5 @@
 -- Refusals: the first broken rule of a document, and the results that state it.
-use Rattle.std.specs.Prelude.{◌≡◌, ℕ, List, Option, Result, Ok, Err, IfSome}
+use Rattle.std.specs.Prelude.{◌≡◌, ℕ, List, Option, Some, Result, Ok, Err}
 use Rattle.roman_io.specs.Faults.{Rose}
 use Rattle.roman_io.specs.Shelf.{Texts}
 use Rattle.roman_read.specs.declared.rules.Kind.TheVariants.{Form}
@@ -45,7 +45,7 @@ CausesLoad old new (Err e) = IsCause old new e
 
 -- if the shelf's texts are known, the code returns or refuses what the definition gives on them
 abbrev pub LoadsFrom : {X Y : Type 0} → Option Texts → (X → Y) → Result X LoadError → (Texts → Result Y Refusal) → Type 0
-LoadsFrom told view result reading = IfSome told (λ texts. Loads view result (reading texts))
+LoadsFrom told view result reading = (texts : Texts) → told ≡ Some texts → Loads view result (reading texts)
 
 -- the shelf's texts are as before, and its count of faults rose if the result is a fault
 pub record LeavesShelf {T : Type 0} (told now : Option Texts) (old new : ℕ) (result : Result T LoadError) : Type 0 where

@@ -6,14 +6,13 @@ ghost use Rattle.roman_library.specs.Library.{IsSmallCatalogue};
 ghost use Rattle.roman_library.specs.Refusals.{LoadsFrom, LeavesShelf};
 
 use crate::listing::{Listed, load_items};
-use crate::looks::refused;
 use crate::names::place_of_behaviour;
 use crate::placing::placed;
 use crate::refusal::{LoadError, Part};
 use roman_io::Shelf;
 use roman_model::MAX_BEHAVIOURS;
 use roman_parts::{
-    Behaviour, Environment, List, PartError, counted_member, read_behaviour, read_name,
+    Behaviour, Environment, List, PartError, counted_member, read_behaviour, read_name, refused,
 };
 use roman_read::Kind;
 use serde_json::Value;
@@ -61,14 +60,12 @@ impl Listed for Behaviour {
         before: &[Behaviour],
     ) -> Result<Behaviour, PartError> {
         if !v.is_object() {
-            return Err(refused(Kind::Form, List::Whole));
+            return Err(refused(Kind::Form, List::Whole, 0));
         }
         let name = read_name(v)?;
         if place_of_behaviour(before, name.bytes()).is_some() {
-            return Err(refused(Kind::Repeated, List::Name));
+            return Err(refused(Kind::Repeated, List::Name, 0));
         }
-        let behaviour = read_behaviour(alloc, v, environment)?;
-        behaviour.known(); // the behaviour is well formed
-        Ok(behaviour)
+        read_behaviour(alloc, v, environment)
     }
 }

@@ -4,10 +4,9 @@ ghost use Rattle.serde_json.specs.View.{view};
 ghost use Rattle.roman_parts.specs.Reading.{Gives};
 ghost use Rattle.roman_library.specs.Documents.{version_of, limit_of, limit_in};
 
-use crate::looks::{member_at, number_at, refused};
 use roman_model::{DEFAULT_CELLS, MAX_CELLS};
-use roman_parts::{List, PartError};
-use roman_read::{Kind, member};
+use roman_parts::{List, PartError, looked, refused};
+use roman_read::{Kind, member, number};
 use serde_json::Value;
 
 /// The newest version of documents.
@@ -19,14 +18,15 @@ pub(crate) fn read_version(v: &Value) -> Result<u64, PartError>
     ensures { Gives (λ x. x) result (version_of (view v.now)) }
 {
     if !v.is_object() {
-        return Err(refused(Kind::Form, List::Whole));
+        return Err(refused(Kind::Form, List::Whole, 0));
     }
-    let version = number_at(member_at(v, "roman", List::Roman)?, List::Roman)?;
+    let roman = looked(member(v, "roman"), List::Roman, 0)?;
+    let version = looked(number(roman), List::Roman, 0)?;
     if version < 1 {
-        return Err(refused(Kind::Version, List::Roman));
+        return Err(refused(Kind::Version, List::Roman, 0));
     }
     if version > NEWEST {
-        return Err(refused(Kind::Version, List::Roman));
+        return Err(refused(Kind::Version, List::Roman, 0));
     }
     Ok(version)
 }
@@ -49,12 +49,12 @@ fn limit_at(v: &Value) -> Result<u32, PartError>
     ensures limit { Gives (λ x. x) result (limit_in (view v.now)) }
     ensures within { IfOk result (λ limit. (0 < limit) × (limit ≤ MAX_CELLS)) }
 {
-    let limit = number_at(v, List::Limit)?;
+    let limit = looked(number(v), List::Limit, 0)?;
     if limit < 1 {
-        return Err(refused(Kind::Count, List::Limit));
+        return Err(refused(Kind::Count, List::Limit, 0));
     }
     if limit > u64::from(MAX_CELLS) {
-        return Err(refused(Kind::Count, List::Limit));
+        return Err(refused(Kind::Count, List::Limit, 0));
     }
     Ok(limit as u32)
 }

@@ -13,7 +13,6 @@ mod laws;
 mod library;
 mod listing;
 mod loading;
-mod looks;
 mod names;
 mod part_file;
 mod parts;

@@ -3,7 +3,7 @@ ghost use Rattle.std.specs.Prelude.{◌≡◌, IfOk, IfSome};
 ghost use Rattle.serde_json.specs.View.{view};
 ghost use Rattle.roman_library.specs.Documents.{library_in, library_of};
 ghost use Rattle.roman_library.specs.Library.{IsLibrary, plain};
-ghost use Rattle.roman_library.specs.Refusals.{Loads, CausesLoad};
+ghost use Rattle.roman_library.specs.Refusals.{Loads, LoadsFrom, CausesLoad};
 
 use crate::catalogue::load_catalogue;
 use crate::header::{read_limit, read_version};
@@ -18,7 +18,7 @@ use roman_io::Shelf;
 use serde_json::Value;
 use std::alloc::Global;
 
-#[tactic(auto, unfolding(crate::specs::Documents::library_of))]
+#[tactic(auto, using(crate::proofs::PlacedLemmas::where_told), unfolding(crate::specs::Documents::library_of))]
 /// Loads the library of the system document with this name, with the part files that it names.
 ///
 /// Fails with `Refused` exactly when the document breaks a rule, and names the first broken one in the
@@ -42,7 +42,7 @@ fn load_library<F: Shelf>(
     document: &str,
     v: &Value,
 ) -> Result<Library, LoadError>
-    ensures meaning { IfSome (F.texts shelf.old) (λ texts. Loads plain result (library_in texts document.now (view v.now))) }
+    ensures meaning { LoadsFrom (F.texts shelf.old) plain result (λ texts. library_in texts document.now (view v.now)) }
     ensures known { IfOk result (λ library. IsLibrary (plain library)) }
     ensures texts { F.texts shelf.new ≡ F.texts shelf.old }
     ensures cause { CausesLoad (F.faults shelf.old) (F.faults shelf.new) result }

@@ -1,18 +1,17 @@
 //! The values of documents and part files.
-ghost use Rattle.std.specs.Prelude.{◌≡◌, IfSome, option_map};
+ghost use Rattle.std.specs.Prelude.{◌≡◌, option_map};
 ghost use Rattle.serde_json.specs.View.{view};
 ghost use Rattle.roman_parts.specs.Reading.{Gives};
 ghost use Rattle.roman_library.specs.Documents.{file_in, file_of, value_at};
-ghost use Rattle.roman_library.specs.Refusals.{Loads, CausesLoad};
+ghost use Rattle.roman_library.specs.Refusals.{LoadsFrom, CausesLoad};
 
-use crate::looks::{refused, text_at};
 use crate::placing::placed;
 use crate::refusal::{LoadError, Part};
 use crate::text::{DocError, document};
 use roman_io::Shelf;
 use roman_model::MAX_FILE_NAME_BYTES;
-use roman_parts::{List, PartError};
-use roman_read::{Kind, member};
+use roman_parts::{List, PartError, looked, refused};
+use roman_read::{Kind, member, text};
 use serde_json::Value;
 use std::alloc::Global;
 
@@ -32,12 +31,12 @@ pub(crate) fn file_of(v: &Value) -> Result<Option<&str>, PartError>
 fn file_at(v: &Value) -> Result<Option<&str>, PartError>
     ensures { Gives (λ x. option_map (λ file. file.now) x) result (file_in (view v.now)) }
 {
-    let file = text_at(v, List::File)?;
+    let file = looked(text(v), List::File, 0)?;
     if file.is_empty() {
-        return Err(refused(Kind::BadName, List::File));
+        return Err(refused(Kind::BadName, List::File, 0));
     }
     if file.len() > MAX_FILE_NAME_BYTES as usize {
-        return Err(refused(Kind::BadName, List::File));
+        return Err(refused(Kind::BadName, List::File, 0));
     }
     Ok(Some(file))
 }
@@ -50,7 +49,7 @@ pub(crate) fn value_at<F: Shelf>(
     name: &str,
     part: Part,
 ) -> Result<Value, LoadError>
-    ensures value { IfSome (F.texts shelf.old) (λ texts. Loads view result (value_at texts name.now part)) }
+    ensures value { LoadsFrom (F.texts shelf.old) view result (λ texts. value_at texts name.now part) }
     ensures texts { F.texts shelf.new ≡ F.texts shelf.old }
     ensures cause { CausesLoad (F.faults shelf.old) (F.faults shelf.new) result }
 {
@@ -61,5 +60,5 @@ pub(crate) fn value_at<F: Shelf>(
         Err(DocError::TooLong) => Kind::TooLong,
         Err(DocError::NotJson) => Kind::NotJson,
     };
-    placed(alloc, name, part, Err(refused(kind, List::Whole)))
+    placed(alloc, name, part, Err(refused(kind, List::Whole, 0)))
 }

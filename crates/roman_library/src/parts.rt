@@ -1,18 +1,16 @@
 //! The environment and the target of a document, each written in place or in a file.
 ghost use Rattle.std.specs.Prelude.{IfOk};
 ghost use Rattle.serde_json.specs.View.{view};
-ghost use Rattle.roman_parts.specs.Parts.{target_of};
-ghost use Rattle.roman_parts.specs.Reading.{Gives};
 ghost use Rattle.roman_library.specs.Documents.{environment_in, target_in};
 ghost use Rattle.roman_parts.specs.Named.{IsTarget};
 ghost use Rattle.roman_library.specs.Refusals.{LoadsFrom, LeavesShelf};
 
-use crate::looks::member_at;
 use crate::part_file::{file_of, value_at};
 use crate::placing::placed;
 use crate::refusal::{LoadError, Part};
 use roman_io::Shelf;
-use roman_parts::{Environment, List, PartError, Target, read_environment, read_target};
+use roman_parts::{Environment, List, PartError, Target, looked, read_environment, read_target};
+use roman_read::member;
 use serde_json::Value;
 use std::alloc::Global;
 
@@ -28,7 +26,7 @@ pub(crate) fn load_environment<F: Shelf>(
     ensures shelf { LeavesShelf (F.texts shelf.old) (F.texts shelf.new) (F.faults shelf.old) (F.faults shelf.new) result }
 {
     let part = Part::Environment;
-    let member = member_at(v, "environment", List::Whole);
+    let member = looked(member(v, "environment"), List::Whole, 0);
     let member = placed(alloc, document, part, member)?;
     match placed(alloc, document, part, file_of(member))? {
         None => placed(alloc, document, part, read_environment(alloc, member)),
@@ -39,7 +37,7 @@ pub(crate) fn load_environment<F: Shelf>(
     }
 }
 
-#[tactic(auto, unfolding(crate::specs::Documents::target_in, crate::specs::Documents::part_of))]
+#[tactic(auto, using(roman_parts::proofs::CallerLemmas::target_known), unfolding(crate::specs::Documents::target_in, crate::specs::Documents::part_of))]
 /// Loads the target of a document.
 pub(crate) fn load_target<F: Shelf>(
     alloc: Global,
@@ -53,35 +51,18 @@ pub(crate) fn load_target<F: Shelf>(
     ensures shelf { LeavesShelf (F.texts shelf.old) (F.texts shelf.new) (F.faults shelf.old) (F.faults shelf.new) result }
 {
     let part = Part::Target(0);
-    let member = member_at(v, "target", List::Whole);
+    let member = looked(member(v, "target"), List::Whole, 0);
     let member = placed(alloc, document, part, member)?;
     match placed(alloc, document, part, file_of(member))? {
-        None => {
-            let target = target_over(alloc, member, environment);
-            placed(alloc, document, part, target)
-        }
+        None => placed(
+            alloc,
+            document,
+            part,
+            read_target(alloc, member, environment),
+        ),
         Some(file) => {
             let value = value_at(alloc, shelf, file, part)?;
-            let target = target_over(alloc, &value, environment);
-            placed(alloc, file, part, target)
+            placed(alloc, file, part, read_target(alloc, &value, environment))
         }
-    }
-}
-
-/// Reads a target over the environment.
-pub(crate) fn target_over(
-    alloc: Global,
-    v: &Value,
-    environment: &Environment,
-) -> Result<Target, PartError>
-    ensures target { Gives (λ x. x) result (target_of environment.now (view v.now)) }
-    ensures known { IfOk result (λ target. IsTarget environment.now target) }
-{
-    match read_target(alloc, v, environment) {
-        Ok(target) => {
-            target.known(); // the target is well formed
-            Ok(target)
-        }
-        Err(error) => Err(error),
     }
 }

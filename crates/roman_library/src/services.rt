@@ -9,13 +9,14 @@ ghost use Rattle.roman_library.specs.Documents.{behaviour_place, state_of, froze
 ghost use Rattle.roman_library.specs.Refusals.{LoadsQuietly};
 
 use crate::library::Service;
-use crate::looks::{member_at, refused, text_at, truth_at};
 use crate::names::{place_of_behaviour, place_of_service};
 use crate::placing::placed;
 use crate::refusal::{LoadError, Part};
 use roman_model::{MAX_BEHAVIOURS, MAX_SERVICES};
-use roman_parts::{Behaviour, List, PartError, counted_member, place_in, read_name};
-use roman_read::{Kind, member};
+use roman_parts::{
+    Behaviour, List, PartError, counted_member, looked, place_in, read_name, refused,
+};
+use roman_read::{Kind, member, text, truth};
 use serde_json::Value;
 use std::alloc::Global;
 
@@ -67,11 +68,11 @@ fn read_behaviour_place(v: &Value, catalogue: &[Behaviour]) -> Result<u8, PartEr
     ensures place { Gives (λ x. x) result (behaviour_place catalogue.now (view v.now)) }
     ensures within { IfOk result (λ place. place < length catalogue.now) }
 {
-    let name = member_at(v, "behaviour", List::Behaviour)?;
-    let name = text_at(name, List::Behaviour)?;
+    let name = looked(member(v, "behaviour"), List::Behaviour, 0)?;
+    let name = looked(text(name), List::Behaviour, 0)?;
     match place_of_behaviour(catalogue, name.as_bytes()) {
         Some(place) => Ok(place as u8),
-        None => Err(refused(Kind::Unknown, List::Behaviour)),
+        None => Err(refused(Kind::Unknown, List::Behaviour, 0)),
     }
 }
 
@@ -93,7 +94,7 @@ fn read_frozen(v: &Value) -> Result<bool, PartError>
     ensures { Gives (λ x. x) result (frozen_of (view v.now)) }
 {
     match member(v, "frozen") {
-        Ok(frozen) => truth_at(frozen, List::Frozen),
+        Ok(frozen) => looked(truth(frozen), List::Frozen, 0),
         Err(_) => Ok(false),
     }
 }
@@ -107,7 +108,7 @@ fn read_rests(v: &Value, version: u64) -> Result<bool, PartError>
         return Ok(true);
     }
     match member(v, "rests") {
-        Ok(rests) => truth_at(rests, List::Rests),
+        Ok(rests) => looked(truth(rests), List::Rests, 0),
         Err(_) => Ok(true),
     }
 }
@@ -126,11 +127,11 @@ fn read_service(
     ensures new { IfOk result (λ service. place_of (map service_name before.now) service.name ≡ None) }
 {
     if !v.is_object() {
-        return Err(refused(Kind::Form, List::Whole));
+        return Err(refused(Kind::Form, List::Whole, 0));
     }
     let name = read_name(v)?;
     if place_of_service(before, name.bytes()).is_some() {
-        return Err(refused(Kind::Repeated, List::Name));
+        return Err(refused(Kind::Repeated, List::Name, 0));
     }
     let place = read_behaviour_place(v, catalogue)?;
     let behaviour = &catalogue[place as usize];

@@ -8,14 +8,15 @@ ghost use Rattle.roman_library.specs.Library.{ArePartsOf, AreTargets, IsCatalogu
 ghost use Rattle.roman_library.specs.Refusals.{LoadsFrom, LeavesShelf};
 
 use crate::listing::{Listed, load_items};
-use crate::looks::refused;
 use crate::names::place_of_target;
-use crate::parts::{load_target, target_over};
+use crate::parts::load_target;
 use crate::placing::placed;
 use crate::refusal::{LoadError, Part};
 use roman_io::Shelf;
 use roman_multi::{CombineError, Combined, Named, combine};
-use roman_parts::{Behaviour, Environment, List, PartError, counted_member, read_name};
+use roman_parts::{
+    Behaviour, Environment, List, PartError, counted_member, read_name, read_target, refused,
+};
 use roman_read::Kind;
 use serde_json::Value;
 use std::alloc::Global;
@@ -104,13 +105,13 @@ impl Listed for Named {
         before: &[Named],
     ) -> Result<Named, PartError> {
         if !v.is_object() {
-            return Err(refused(Kind::Form, List::Whole));
+            return Err(refused(Kind::Form, List::Whole, 0));
         }
         let name = read_name(v)?;
         if place_of_target(before, name.bytes()).is_some() {
-            return Err(refused(Kind::Repeated, List::Name));
+            return Err(refused(Kind::Repeated, List::Name, 0));
         }
-        let target = target_over(alloc, v, environment)?;
+        let target = read_target(alloc, v, environment)?;
         Ok(Named { name, target })
     }
 }

@@ -1,6 +1,6 @@
 -- The place among the behaviours is the place among their names.
-use Rattle.roman_library.proofs.Common.{rules, tests, sym, ◌∙◌, bytes_eq, YieldsList-from_slice, position_from_yields_List, behaviour_name}
-use Rattle.roman_library.proofs.PlaceLemmas.{place_of-map}
+use Rattle.roman_library.proofs.Common.{rules, sym, tests, ◌∙◌, YieldsList-from_slice, position_from_yields_List, position, bytes_eq, behaviour_name}
+use Rattle.roman_library.proofs.LibraryLemmas.{place_of-map}
 use Rattle.roman_library.proofs.names.place_of_behaviour.Goals as goal
 
 pub returns-clause-place : goal.returns-clause-place

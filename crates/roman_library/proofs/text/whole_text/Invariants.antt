@@ -1,4 +1,4 @@
-use Rattle.roman_library.proofs.Common.{◌≡◌, IfSome, shelf_text, ◌-◌, vec_len}
+use Rattle.roman_library.proofs.Common.{IfSome, vec_len, ◌-◌, ◌≡◌, shelf_text}
 use Rattle.roman_library.proofs.PrefixLemmas.{IsPrefix}
 use Rattle.roman_library.proofs.text.whole_text.Given as goal
 
