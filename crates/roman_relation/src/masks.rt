@@ -41,6 +41,7 @@ pub(crate) fn choices<J: Rules>(joint: &J, order: &Order) -> u64
 
 /// Returns the number of seats in the masks of the pairs of the band `y` together, over all actions.
 /// It is at most 4,194,304.
+#[tactic(auto, using(crate::proofs::Bands::band_begins))]
 fn band_choices<J: Rules>(joint: &J, order: &Order, y: u32) -> u64
     requires shaped { IsShaped (J.arena joint.now) (J.lanes joint.now) order.now }
     requires band { y * J.band joint.now < order.now.rows }

@@ -38,6 +38,7 @@ pub(crate) fn judge_marked<J: Rules>(joint: &J, order: &mut Order)
 
 /// Judges the band `y` if `is_band` is true: lists each of its pairs at which some action is a reason
 /// for removal, with the least such action.
+#[tactic(auto, using(crate::proofs::Bands::band_begins))]
 fn judge<J: Rules>(joint: &J, order: &mut Order, y: u32, is_band: bool, left: &mut [u64])
     requires shaped { IsShaped (J.arena joint.now) (J.lanes joint.now) order.old }
     requires kept { (gone : ℕ → Bool) × AreRows (J.lanes joint.now) (λ p. not (gone p)) order.old.before }

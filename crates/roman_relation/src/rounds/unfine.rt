@@ -34,6 +34,7 @@ pub(crate) fn list_unfine<J: Rules>(joint: &J, order: &mut Order)
 }
 
 /// Lists the pairs of the band `y` that aren't listed and don't meet clause 2.
+#[tactic(auto, using(crate::proofs::Bands::band_begins))]
 fn list_unfine_band<J: Rules>(joint: &J, order: &mut Order, y: u32, resting: u64, left: &mut [u64])
     requires shaped { IsShaped (J.arena joint.now) (J.lanes joint.now) order.old }
     requires band { y * J.band joint.now + J.band joint.now ≤ order.old.rows }

@@ -1,10 +1,6 @@
 use Rattle.roman_relation.proofs.Common.{◌≡◌, ℕ, ◌+◌, ◌*◌, length, sum_by, ap, ◌∙◌, arith, below, is_listed, mask, sum_by_same, sum_below_more, sum_turned}
-use Rattle.roman_relation.proofs.Bands.{band_begins}
 use Rattle.roman_relation.proofs.Lanes.{words_rows}
 use Rattle.roman_relation.proofs.masks.band_choices.Goals as goal
-
-pub first_row-row-requires : goal.first_row-row-requires
-first_row-row-requires g c = band_begins _ _ _ c.args.order.now c.requires.shaped c.requires.band c.known.ensures.lanes.0
 
 pub loop-a-preserved : goal.loop-a-preserved
 loop-a-preserved g c =

@@ -1,11 +1,8 @@
 use Rattle.roman_relation.proofs.Common.{ℕ, ◌+◌, ◌*◌, ◌/◌, ◌<◌, Bool, not, inl, inr, ap, ◌∙◌, arith, cases_eq, eq-eqb, by_test, in_below, any_from, unallowed_unjustified, is_on, AreRows, below, is_justified, Act, AddsLost, Board, bit_at, bit_of}
-use Rattle.roman_relation.proofs.Bands.{band_at, band_begins}
+use Rattle.roman_relation.proofs.Bands.{band_at}
 use Rattle.roman_relation.proofs.Beginnings.{begins_unlisted}
 use Rattle.roman_relation.proofs.Pushing.{adds_on}
 use Rattle.roman_relation.proofs.rounds.judging.judge.Goals as goal
-
-pub first_row-row-requires : goal.first_row-row-requires
-first_row-row-requires g c = band_begins _ _ _ c.args.order.now c.requires.shaped (omega (arith, c.requires.band c.if-not-is_band.false, c.known.ensures.band.0)) c.known.ensures.lanes.0
 
 pub loop-a-preserved : goal.loop-a-preserved
 loop-a-preserved g c =

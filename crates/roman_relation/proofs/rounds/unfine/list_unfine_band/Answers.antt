@@ -1,11 +1,7 @@
 use Rattle.roman_relation.proofs.Common.{◌∙◌, arith, rules, inl, inr, is_listed, not-true, not-false}
-use Rattle.roman_relation.proofs.Bands.{band_begins}
 use Rattle.roman_relation.proofs.Lanes.{words_rows}
 use Rattle.roman_relation.proofs.Pushing.{are_lost}
 use Rattle.roman_relation.proofs.rounds.unfine.list_unfine_band.Goals as goal
-
-pub first_row-row-requires : goal.first_row-row-requires
-first_row-row-requires g c = band_begins _ _ _ c.args.order.now c.requires.shaped (omega (arith, c.requires.band, c.known.ensures.band.0)) c.known.ensures.lanes.0
 
 pub push_lost-requires-clause-lost : goal.push_lost-requires-clause-lost
 push_lost-requires-clause-lost g c =
