@@ -1,69 +1,50 @@
--- The lines of the services that may answer an entry, one after the other.
-use Rattle.roman_cert.proofs.Common.{◌≡◌, ℕ, ◌+◌, ◌<◌, ◌≤◌, true, List, [], ◌∷◌, ◌++◌, map, length, drop, filter, Option, Some, IsTrue, IsFalse, refl, sym, ap, ap₂, ◌∙◌, arith, add-one, drop-cons, drop_all, length-map, cond-true, cond-false, text_of_lines, below, Pair, IsSys, arena, Entry, sizes_of, count, pair_at, entry_at, Final, Act, answer, length-below, AreNumbers, get_in, NamedSys, system_of, IsNamedSys, names_in, Board, pairs_of, as_entry, has_entry, arena_of, listed_numbers, answers_text, option_map, answer_line, seat_of, is_ready, numbered, get_or-below, answer_at}
-use Rattle.std.proofs.Common.{slice_get}
-use Rattle.roman_cert.proofs.Texts.{text_of_lines-append}
+-- The lines of the services that may answer an entry.
+use Rattle.roman_cert.proofs.Common.{Act, Final, AreNumbers, answer_at, get_in, get_or-below, length-below, Board, as_entry, has_entry, pairs_of, Bool, IsFalse, IsTrue, List, Option, Some, [], ap, append-nil, arith, cond, filter, flat_map, length, map, refl, sym, true, ℕ, ◌<◌, ◌∙◌, ◌∷◌, ◌≡◌, ◌≤◌, Entry, IsNamedSys, NamedSys, seat_of, system_of, Pair, answer, answer_line, answers_text, arena, is_ready, arena_of, below, cond-false, cond-true, entry_at, pair_at, sizes_of, flat_map-map, length-map, listed_numbers, names_in, option_map, slice_get, slice_get-get_or, text_of_lines, with_newline}
+use Rattle.roman_cert.proofs.Rests.{rest_of, flat_map-filter}
 
-numbers_from : (n k : ℕ) → k < n → drop k (below n) ≡ k ∷ drop (k + 1) (below n)
-numbers_from n k l =
-    let within : k < length (below n) = omega (arith, length-below n) in
-    drop-cons (below n) k 0 within ∙ ap₂ (λ (m j : ℕ). m ∷ drop j (below n)) (get_or-below n k 0 l) (sym (add-one k))
-
--- the lines of the ready seats from place k on, to the action a at the pair of number p
-pub answers_from : NamedSys → List (Entry ℕ) → ℕ → ℕ → ℕ → List ℕ
-answers_from n L p a k =
+-- the line of the service at place k, which says how it may answer the action a at the pair of number p; none where it isn't ready
+pub seat_text : NamedSys → List (Entry ℕ) → ℕ → ℕ → ℕ → List ℕ
+seat_text n L p a k =
     let s = system_of n in
-    text_of_lines (map (λ j. answer_line (names_in n) j (answer (arena s) (map (entry_at s) L) (pair_at (sizes_of s) p) a j)) (filter (λ j. is_ready (slice_get s.seats j)) (drop k (below (length s.seats)))))
+    cond (is_ready (slice_get s.seats k)) (with_newline (answer_line (names_in n) k (answer (arena s) (map (entry_at s) L) (pair_at (sizes_of s) p) a k))) []
 
--- the lines from the first place on are those of the entry
-pub answers_begin : (n : NamedSys) (L : List (Entry ℕ)) (p a : ℕ) → answers_from n L p a 0 ≡ answers_text n L (as_entry (p, Act a))
-unfolding answers_from answers_text
-answers_begin n L p a = refl
+-- the lines of all services are those of the entry
+pub answers_begin : (n : NamedSys) (L : List (Entry ℕ)) (p a : ℕ) → rest_of (seat_text n L p a) (below (length (system_of n).seats)) [] 0 ≡ answers_text n L (as_entry (p, Act a))
+unfolding seat_text answers_text rest_of
+answers_begin n L p a =
+    let s = system_of n in
+    let ready : ℕ → Bool = λ k. is_ready (slice_get s.seats k) in
+    let line : ℕ → List ℕ = λ k. answer_line (names_in n) k (answer (arena s) (map (entry_at s) L) (pair_at (sizes_of s) p) a k) in
+    append-nil (flat_map (seat_text n L p a) (below (length s.seats)))
+    ∙ sym (flat_map-map with_newline line (filter ready (below (length s.seats))) ∙ flat_map-filter ready (λ k. with_newline (line k)) (below (length s.seats)))
 
 -- there are no such lines where clause 2 fails
 pub no_answers : (n : NamedSys) (L : List (Entry ℕ)) (p : ℕ) → answers_text n L (as_entry (p, Final)) ≡ []
 unfolding answers_text
 no_answers n L p = refl
 
--- a ready seat comes next
-ready_next : (n : NamedSys) (L : List (Entry ℕ)) (p a k : ℕ) (found : Option ℕ) (bytes : List ℕ) → IsSys (system_of n) → AreNumbers (system_of n) L → p < count (sizes_of (system_of n)) →
-    k < length n.seats → IsTrue ((numbered (system_of n)).ready k) → found ≡ answer (numbered (system_of n)) L p a k → bytes ≡ text_of_lines (answer_line (names_in n) k (option_map (pair_at (sizes_of (system_of n))) found) ∷ []) →
-    answers_from n L p a k ≡ bytes ++ answers_from n L p a (k + 1)
-unfolding answers_from
-ready_next n L p a k found bytes sys are l within ready is said =
-    let s = system_of n in
-    let ready_from : List ℕ → List ℕ = filter (λ j. is_ready (slice_get s.seats j)) in
-    let line : ℕ → List ℕ = λ j. answer_line (names_in n) j (answer (arena s) (map (entry_at s) L) (pair_at (sizes_of s) p) a j) in
-    let rest : List ℕ = ready_from (drop (k + 1) (below (length s.seats))) in
-    let below_seats : k < length s.seats = omega (arith, length-map n.seats (seat_of n.catalogue)) in
-    ap (λ ks. text_of_lines (map line (ready_from ks))) (numbers_from (length s.seats) k below_seats)
-    ∙ ap (λ ks. text_of_lines (map line ks)) (cond-true (is_ready (slice_get s.seats k)) (k ∷ rest) rest ready)
-    ∙ text_of_lines-append (line k ∷ []) (map line rest)
-    ∙ ap (λ (o : Option Pair). text_of_lines (answer_line (names_in n) k o ∷ []) ++ text_of_lines (map line rest)) (sym (answer_at s sys L are p l a k) ∙ ap (option_map (pair_at (sizes_of s))) (sym is))
-    ∙ ap (λ (bs : List ℕ). bs ++ text_of_lines (map line rest)) (sym said)
+-- each service has its line
+pub seat_in : (n : NamedSys) (k : ℕ) → k < length n.seats → slice_get (below (length (system_of n).seats)) k ≡ Some k
+seat_in n k l =
+    let seats = length (system_of n).seats in
+    let within : k < seats = omega (arith, length-map n.seats (seat_of n.catalogue)) in
+    slice_get-get_or (below seats) k 0 (omega (arith, length-below seats)) ∙ ap Some (get_or-below seats k 0 within)
 
-pub answers_next : (n : NamedSys) (board : Board) (i p a k : ℕ) (found : Option ℕ) (bytes : List ℕ) → IsNamedSys n → pairs_of board ≡ length (arena_of n).nodes → ((p : ℕ) → has_entry board.list p ≡ true → p < pairs_of board) →
-    slice_get board.list i ≡ Some (as_entry (p, Act a)) → k < length n.seats → IsTrue ((arena_of n).ready k) → found ≡ answer (arena_of n) board.list p a k → bytes ≡ text_of_lines (answer_line (names_in n) k (option_map (pair_at (sizes_of (system_of n))) found) ∷ []) →
-    answers_from n board.list p a k ≡ bytes ++ answers_from n board.list p a (k + 1)
-answers_next n board i p a k found bytes known shaped in_range e within ready is said =
-    let are : AreNumbers (system_of n) board.list = listed_numbers (system_of n) board shaped in_range in
-    ready_next n board.list p a k found bytes known.system are (are (as_entry (p, Act a)) (get_in board.list i (as_entry (p, Act a)) e)) within ready is said
+pub all_seats : (n : NamedSys) (k : ℕ) → length n.seats ≤ k → length (below (length (system_of n).seats)) ≤ k
+all_seats n k past = omega (arith, length-below (length (system_of n).seats), length-map n.seats (seat_of n.catalogue))
 
--- a seat that isn't ready is skipped
-pub answers_skip : (n : NamedSys) (L : List (Entry ℕ)) (p a k : ℕ) → k < length n.seats → IsFalse ((numbered (system_of n)).ready k) → answers_from n L p a k ≡ answers_from n L p a (k + 1)
-unfolding answers_from
-answers_skip n L p a k within frozen =
+pub seat_said : (n : NamedSys) (board : Board) (i p a k : ℕ) (found : Option ℕ) (bytes : List ℕ) → IsNamedSys n → pairs_of board ≡ length (arena_of n).nodes → ((p : ℕ) → has_entry board.list p ≡ true → p < pairs_of board) →
+    slice_get board.list i ≡ Some (as_entry (p, Act a)) → IsTrue ((arena_of n).ready k) → found ≡ answer (arena_of n) board.list p a k → bytes ≡ text_of_lines (answer_line (names_in n) k (option_map (pair_at (sizes_of (system_of n))) found) ∷ []) →
+    bytes ≡ seat_text n board.list p a k
+unfolding seat_text
+seat_said n board i p a k found bytes known shaped in_range e ready is said =
     let s = system_of n in
-    let ready_from : List ℕ → List ℕ = filter (λ j. is_ready (slice_get s.seats j)) in
-    let line : ℕ → List ℕ = λ j. answer_line (names_in n) j (answer (arena s) (map (entry_at s) L) (pair_at (sizes_of s) p) a j) in
-    let rest : List ℕ = ready_from (drop (k + 1) (below (length s.seats))) in
-    let below_seats : k < length s.seats = omega (arith, length-map n.seats (seat_of n.catalogue)) in
-    ap (λ ks. text_of_lines (map line (ready_from ks))) (numbers_from (length s.seats) k below_seats)
-    ∙ ap (λ ks. text_of_lines (map line ks)) (cond-false (is_ready (slice_get s.seats k)) (k ∷ rest) rest frozen)
+    let are : AreNumbers s board.list = listed_numbers s board shaped in_range in
+    let l = are (as_entry (p, Act a)) (get_in board.list i (as_entry (p, Act a)) e) in
+    said ∙ append-nil _ ∙ ap (λ (o : Option Pair). with_newline (answer_line (names_in n) k o)) (ap (option_map (pair_at (sizes_of s))) is ∙ answer_at s known.system board.list are p l a k)
+    ∙ sym (cond-true (is_ready (slice_get s.seats k)) _ [] ready)
 
-pub answers_end : (n : NamedSys) (L : List (Entry ℕ)) (p a k : ℕ) → length n.seats ≤ k → answers_from n L p a k ≡ []
-unfolding answers_from
-answers_end n L p a k past =
-    let s = system_of n in
-    let line : ℕ → List ℕ = λ j. answer_line (names_in n) j (answer (arena s) (map (entry_at s) L) (pair_at (sizes_of s) p) a j) in
-    let none : length (below (length s.seats)) ≤ k = omega (arith, length-map n.seats (seat_of n.catalogue), length-below (length s.seats)) in
-    ap (λ ks. text_of_lines (map line (filter (λ j. is_ready (slice_get s.seats j)) ks))) (drop_all k (below (length s.seats)) none)
+-- a service that isn't ready has none
+pub seat_frozen : (n : NamedSys) (L : List (Entry ℕ)) (p a k : ℕ) → IsFalse ((arena_of n).ready k) → [] ≡ seat_text n L p a k
+unfolding seat_text
+seat_frozen n L p a k frozen = sym (cond-false (is_ready (slice_get (system_of n).seats k)) _ [] frozen)

@@ -1,6 +1,6 @@
 -- The entries before a place of a removal list, and the defeating answers among them.
-use Rattle.roman_cert.proofs.Common.{◌≡◌, ℕ, zero, suc, ◌+◌, ◌<◌, ◌≤◌, Bool, true, false, ◌||◌, ◌⊎◌, List, [], ◌∷◌, ◌++◌, length, take, drop, Option, Some, IsTrue, IsFalse, refl, sym, ap, ap₂, ◌∙◌, subst, inl, inr, arith, take-append-drop, list_any, slice_get, list_any-append, Arena, Entry, is_listed, IsOrder, entries_before, answer, Act, by_test, any_from, get_in, IsSame, order_middle, before_is, IsNumbered, Leaves, numbered_same, Board, pairs_of, has_entry, cond, eqb, None, find, ltb, position_from, cases_Bool, or_parts, both_ways, le-ltb, lt-ltb, eq-eqb, is_justified, Sizes, empty_is, not_empty_in, find_some, justified_is, IsFinding, HasFinding, Finding, Good, NoOutcome, place_in_list, is_some-place_in_list, listed_is}
-use Rattle.roman_cert.proofs.Texts.{drop_at}
+use Rattle.roman_cert.proofs.Common.{Act, Arena, Entry, IsOrder, is_justified, is_listed, Board, has_entry, pairs_of, place_in_list, Bool, IsFalse, IsTrue, List, None, Option, Some, [], ap, ap₂, arith, cond, drop, eqb, false, find, inl, inr, length, refl, subst, suc, sym, take, take-append-drop, true, zero, ℕ, ◌++◌, ◌+◌, ◌<◌, ◌||◌, ◌∙◌, ◌∷◌, ◌≡◌, ◌≤◌, ◌⊎◌, Finding, Good, Leaves, NoOutcome, HasFinding, IsFinding, IsNumbered, IsSame, any_from, before_is, by_test, empty_is, find_some, get_in, justified_is, not_empty_in, order_middle, Sizes, answer, entries_before, both_ways, cases_Bool, eq-eqb, le-ltb, lt-ltb, or_parts, is_some-place_in_list, list_any, position_from, slice_get, list_any-append, listed_is, ltb, numbered_same}
+use Rattle.roman_cert.proofs.Rests.{drop_at}
 
 -- Places
 

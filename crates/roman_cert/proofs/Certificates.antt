@@ -1,26 +1,39 @@
 -- The parts of a certificate, and its verdict.
-use Rattle.roman_cert.proofs.Common.{◌≡◌, ℕ, ◌+◌, ◌*◌, ◌/◌, ◌<◌, ◌≤◌, List, [], ◌∷◌, ◌++◌, map, length, drop, codes, Option, Some, Result, decimal, append_assoc, append-nil, refl, sym, ap, ◌∙◌, inl, inr, arith, slice_get, drop_all, Puts, IsIn, text_of_lines, IsSys, Entry, sizes_of, count, pair_at, entry_at, IsCompleteList, reason_text, entry_line, cert_text, AreNumbers, NamedSys, system_of, IsNamedSys, Ok, Err, OnOk, mul-le-mul, product_of, div-lt_iff_lt-mul, Sys, Seat, IsPair, head_line, count_line, end_line, IsWithinCells, in_map, written_is_greatest, WroteGreatest}
-use Rattle.roman_cert.proofs.Texts.{text_of_lines-append, drop_at}
+use Rattle.roman_cert.proofs.Common.{Act, AreNumbers, in_map, written_is_greatest, Entry, Err, List, Ok, OnOk, Option, Result, [], ap, append_assoc, arith, codes, decimal, inl, inr, map, mul-le-mul, refl, subst, sym, ℕ, ◌%◌, ◌*◌, ◌++◌, ◌+◌, ◌/◌, ◌<◌, ◌∙◌, ◌∷◌, ◌≡◌, ◌≤◌, Gathers, IsCompleteList, count, entry_at, pair_at, sizes_of, IsIn, product_of, IsNamedSys, NamedSys, system_of, IsPair, IsSys, Seat, Sys, IsWithinCells, cert_text, count_line, end_line, entry_line, head_line, reason_text, Puts, Reason, WroteGreatest, as_entry, decimal_digit, decimal_pair, decimal_two, pair, div-lt_iff_lt-mul, flat_map-append, flat_map-map, text_of_lines, with_newline}
+use Rattle.roman_cert.proofs.Rests.{rest_of}
 
--- the lines of the entries from a place on, and the last line
-abbrev pub rest_from : List (Entry ℕ) → ℕ → List ℕ
-rest_from L i = text_of_lines (map entry_line (drop i L) ++ end_line ∷ [])
+-- the line of an entry, with its newline
+abbrev pub line_of : Entry ℕ → List ℕ
+line_of x = with_newline (entry_line x)
 
-pub cert_begins : (pairs : ℕ) (L : List (Entry ℕ)) (bytes : List ℕ) → bytes ≡ text_of_lines (head_line ∷ count_line pairs ∷ []) → bytes ++ rest_from L 0 ≡ cert_text pairs L
+pub cert_begins : (pairs : ℕ) (L : List (Entry ℕ)) (bytes : List ℕ) → bytes ≡ text_of_lines (head_line ∷ count_line pairs ∷ []) → bytes ++ rest_of line_of L (codes "end\n") 0 ≡ cert_text pairs L
+unfolding rest_of
 cert_begins pairs L bytes is =
-    ap (λ (bs : List ℕ). bs ++ rest_from L 0) is ∙ sym (text_of_lines-append (head_line ∷ count_line pairs ∷ []) (map entry_line L ++ end_line ∷ []))
-
-pub cert_next : (L : List (Entry ℕ)) (i : ℕ) (x : Entry ℕ) (bytes : List ℕ) → slice_get L i ≡ Some x → bytes ≡ text_of_lines (entry_line x ∷ []) → rest_from L i ≡ bytes ++ rest_from L (i + 1)
-cert_next L i x bytes e is =
-    ap (λ M. text_of_lines (map entry_line M ++ end_line ∷ [])) (drop_at L i x e)
-    ∙ text_of_lines-append (entry_line x ∷ []) (map entry_line (drop (i + 1) L) ++ end_line ∷ []) ∙ ap (λ (bs : List ℕ). bs ++ rest_from L (i + 1)) (sym is)
+    ap (λ (bs : List ℕ). bs ++ rest_of line_of L (codes "end\n") 0) is
+    ∙ ap (λ (bs : List ℕ). text_of_lines (head_line ∷ count_line pairs ∷ []) ++ (bs ++ codes "end\n")) (sym (flat_map-map with_newline entry_line L))
+    ∙ ap (λ (bs : List ℕ). text_of_lines (head_line ∷ count_line pairs ∷ []) ++ bs) (sym (flat_map-append with_newline (map entry_line L) (end_line ∷ [])))
+    ∙ sym (flat_map-append with_newline (head_line ∷ count_line pairs ∷ []) (map entry_line L ++ end_line ∷ []))
 
 -- the line of an entry: the number of its pair, a space and the reason
-pub entry_parts : (x : Entry ℕ) → decimal x.node ++ (32 ∷ (reason_text x.reason ++ 10 ∷ [])) ≡ text_of_lines (entry_line x ∷ [])
-entry_parts x = sym (append-nil (entry_line x ++ 10 ∷ []) ∙ append_assoc (decimal x.node) (32 ∷ reason_text x.reason) (10 ∷ []))
+pub line_said : (pair : ℕ) (reason : Reason) (text : List ℕ) → reason_text reason ≡ text → decimal pair ++ (32 ∷ (text ++ 10 ∷ [])) ≡ line_of (as_entry (pair, reason))
+line_said pair reason text is = ap (λ (bs : List ℕ). decimal pair ++ (32 ∷ (bs ++ 10 ∷ []))) (sym is) ∙ sym (append_assoc (decimal pair) (32 ∷ reason_text reason) (10 ∷ []))
 
-pub cert_ends : (L : List (Entry ℕ)) (i : ℕ) → length L ≤ i → rest_from L i ≡ codes "end\n" ++ []
-cert_ends L i past = ap (λ M. text_of_lines (map entry_line M ++ end_line ∷ [])) (drop_all i L past)
+-- an action of one digit, of two, and of three
+pub one_digit : (a : ℕ) → a < 10 → decimal a ≡ (48 + a % 10) ∷ []
+one_digit a high = decimal_digit a high ∙ ap (λ d. (48 + d) ∷ []) (omega arith)
+
+pub two_digits : (a : ℕ) → 10 ≤ a → a < 100 → decimal a ≡ (48 + a % 100 / 10) ∷ (48 + a % 10) ∷ []
+two_digits a low high = decimal_two a low high ∙ ap (λ d. (48 + d) ∷ (48 + a % 10) ∷ []) (omega arith)
+
+pub three_digits : (a : ℕ) → 100 ≤ a → a < 256 → decimal a ≡ (48 + a / 100) ∷ (48 + a % 100 / 10) ∷ (48 + a % 10) ∷ []
+three_digits a low high =
+    decimal_pair a low (omega arith) ∙ ap (λ (ds : List ℕ). ds ++ pair (a % 100)) (decimal_digit (a / 100) (omega arith)) ∙ ap (λ d. (48 + a / 100) ∷ (48 + a % 100 / 10) ∷ (48 + d) ∷ []) (omega arith)
+
+-- the line of an entry whose reason is an action is pushed
+pub action_pushed : {T E : Type 0} (old new : Option (List ℕ)) (held after : List ℕ) (pair a : ℕ) (reason : Reason) (text : List ℕ) (result : Result T E) → reason ≡ Act a → decimal a ≡ text →
+    Gathers old new after (held ++ (decimal pair ++ (32 ∷ (text ++ 10 ∷ [])))) result → Gathers old new after (held ++ line_of (as_entry (pair, reason))) result
+action_pushed old new held after pair a reason text result is said g =
+    subst (λ (line : List ℕ). Gathers old new after (held ++ line) result) (line_said pair reason text (ap reason_text is ∙ said)) g
 
 -- The verdict of a checker
 

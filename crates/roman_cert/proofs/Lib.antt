@@ -1,5 +1,5 @@
 pub mod Common
-pub mod Texts
+pub mod Rests
 pub mod Certificates
 pub mod Answering
 pub mod MarkLemmas

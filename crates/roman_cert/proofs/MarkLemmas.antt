@@ -1,7 +1,7 @@
 -- Marks that are set from the end of a removal list: each entry on which p's entry depends is marked
 -- before it is reached.
-use Rattle.roman_cert.proofs.Common.{◌≡◌, ℕ, ◌+◌, ◌<◌, ◌≤◌, Bool, true, false, ◌||◌, ◌⊎◌, List, [], ◌∷◌, ◌++◌, length, take, drop, Option, Some, IsTrue, IsFalse, filter, refl, sym, ap, ap₂, ◌∙◌, subst, inl, inr, arith, append_assoc, take-append-drop, list_any, slice_get, or-false, cond-true, cond-false, list_any-append, slice_get_within, IsIn, below, Arena, Entry, is_listed, IsOrder, entries_before, answer, rests_on, Act, any_from, by_test, IsSame, order_middle, before_is, IsNumbered, Board, is_marked, ◌≢◌, ◌-◌, ◌&&◌, length-append, length-take, option_to_list, or_cases, or_left, or_right, and_parts, false≢true, is_among, ready_seats, answers, same_test, any_true, any_within, in_append_right, from_append, split_at, list_any-flat_map, among_in, before_falls, answer_before, rests_is}
-use Rattle.roman_cert.proofs.Texts.{drop_at, some_at}
+use Rattle.roman_cert.proofs.Common.{Act, Arena, Entry, IsOrder, is_among, is_listed, Board, is_marked, Bool, IsFalse, IsTrue, List, Option, Some, [], ap, append_assoc, ap₂, arith, drop, false, filter, inl, inr, length, length-append, length-take, refl, subst, sym, take, take-append-drop, true, ℕ, ◌&&◌, ◌++◌, ◌+◌, ◌-◌, ◌<◌, ◌||◌, ◌∙◌, ◌∷◌, ◌≡◌, ◌≢◌, ◌≤◌, ◌⊎◌, IsIn, below, IsNumbered, IsSame, among_in, answer_before, any_from, any_true, any_within, before_falls, before_is, by_test, from_append, in_append_right, list_any-flat_map, order_middle, rests_is, same_test, split_at, there_is, and_parts, cond-false, cond-true, false≢true, or_cases, or_left, or_right, answer, answers, entries_before, ready_seats, rests_on, list_any, slice_get, list_any-append, option_to_list, or-false, slice_get_within}
+use Rattle.roman_cert.proofs.Rests.{drop_at}
 use Rattle.roman_cert.proofs.Answering.{entries_at, unready_answer}
 
 -- p's entry depends on that of x, and q is a defeating answer to x
@@ -72,7 +72,7 @@ module _ {N : Type 0} (A : Arena N) (same : IsSame A) (L : List (Entry N)) (orde
   pub rests_back : (M : List (Entry N)) (i : ℕ) (old new : N → Bool) → M ≡ L → 0 < i → i ≤ length L → ((q : N) → old q ≡ rests_from A L p i q) →
       ((x : Entry N) → slice_get M (i - 1) ≡ Some x → (q : N) → new q ≡ (old q || (old x.node && is_among A (answers A M x.node x.reason) q))) → (q : N) → new q ≡ rests_from A L p (i - 1) q
   rests_back M i old new whole some within was now =
-      let (x, e) = some_at L (i - 1) (omega arith) in
+      let (x, e) = there_is L (i - 1) (omega arith) in
       let back : i ≡ i - 1 + 1 = omega arith in
       rests_next (i - 1) x old new e (λ q. was q ∙ ap (λ j. rests_from A L p j q) back)
       (subst (λ K. slice_get K (i - 1) ≡ Some x → (q : N) → new q ≡ (old q || (old x.node && is_among A (answers A K x.node x.reason) q))) whole (now x) e)

@@ -1,6 +1,5 @@
 -- The texts of an explanation, for entries and lists over the numbers of pairs.
-use Rattle.std.specs.Prelude.{ℕ, List, [], ◌∷◌, ◌++◌, map, filter, codes}
-use Rattle.std.specs.List.{flat_map}
+use Rattle.std.specs.Prelude.{ℕ, List, [], ◌∷◌, ◌++◌, map, if◌then◌else◌}
 use Rattle.roman_model.specs.Lines.{text_of_lines}
 use Rattle.roman_model.specs.Arena.{Entry}
 use Rattle.roman_model.specs.Numbers.{sizes_of, pair_at, entry_at}
@@ -23,10 +22,6 @@ answers_text n L x =
 unfoldable pub entry_text : NamedSys → List (Entry ℕ) → Entry ℕ → List ℕ
 entry_text n L x = lost_text n x ++ answers_text n L x
 
--- the entries whose pairs are marked
-unfoldable pub marked_entries : Board → List (Entry ℕ)
-marked_entries board = filter (λ x. is_marked board x.node) board.list
-
--- the lines of the entries M of the list L, and the last line
-unfoldable pub slice_text : NamedSys → List (Entry ℕ) → List (Entry ℕ) → List ℕ
-slice_text n L M = flat_map (entry_text n L) M ++ codes "end\n"
+-- the lines of an entry of the order's list, or none where its pair isn't marked
+unfoldable pub marked_text : NamedSys → Board → Entry ℕ → List ℕ
+marked_text n board x = if is_marked board x.node then entry_text n board.list x else []

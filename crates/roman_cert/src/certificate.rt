@@ -2,8 +2,8 @@
 ghost use Rattle.std.specs.Prelude.{◌≡◌, ◌++◌, [], ◌∷◌, IfSome, OnOk};
 ghost use Rattle.roman_io.specs.Faults.{HasCause};
 ghost use Rattle.roman_io.specs.Sink.{Puts};
+ghost use Rattle.roman_text.specs.Lines.{with_newline};
 ghost use Rattle.roman_text.specs.Pages.{Gathers};
-ghost use Rattle.roman_model.specs.declared.reason.Reason.TheVariants.{Act};
 ghost use Rattle.roman_model.specs.Lines.{text_of_lines};
 ghost use Rattle.roman_model.specs.Certificate.{head_line, count_line, reason_text, entry_line, cert_text};
 ghost use Rattle.roman_model.specs.Numbers.{sizes_of, count, IsCompleteList};
@@ -12,6 +12,7 @@ ghost use Rattle.roman_order.specs.Board.{as_entry};
 ghost use Rattle.roman_cert.specs.Certified.{WroteGreatest};
 ghost use Rattle.roman_cert.specs.Templates.{IsTemplate};
 
+use crate::lines::finish;
 use crate::template::Template;
 use roman_io::{Failed, Sink};
 use roman_model::Reason;
@@ -51,8 +52,7 @@ pub(crate) fn write_list<O: Sink>(pairs: u32, order: &Order, out: &mut O) -> Res
         let (pair, reason) = order.walk(i, &mut ahead);
         push_entry(pair, reason, &mut template, &mut page, out)?;
     }
-    page.push(b"end\n", out)?;
-    page.flush(out)
+    finish(&mut page, out)
 }
 
 /// Returns the first two lines of a certificate.
@@ -92,7 +92,7 @@ fn push_entry<O: Sink>(
     requires template { IsTemplate template.old }
     ensures template { IsTemplate template.new }
     ensures gathers { Gathers (O.written out.old) (O.written out.new) page.new
-        (page.old ++ text_of_lines (entry_line (as_entry (pair, reason)) ∷ [])) result }
+        (page.old ++ with_newline (entry_line (as_entry (pair, reason)))) result }
     ensures cause { HasCause (O.faults out.old) (O.faults out.new) result }
 {
     let Some(letter) = letter_of(reason) else {
@@ -105,7 +105,7 @@ fn push_entry<O: Sink>(
     page.push_short(&template.text, template.len, out)
 }
 
-/// Pushes the line of an entry on the page, part by part.
+/// Pushes the line of an entry on the page, from its number and its reason.
 #[inline(never)]
 fn push_parts<O: Sink>(
     pair: u32,
@@ -114,24 +114,18 @@ fn push_parts<O: Sink>(
     out: &mut O,
 ) -> Result<(), Failed>
     ensures gathers { Gathers (O.written out.old) (O.written out.new) page.new
-        (page.old ++ text_of_lines (entry_line (as_entry (pair, reason)) ∷ [])) result }
+        (page.old ++ with_newline (entry_line (as_entry (pair, reason)))) result }
     ensures cause { HasCause (O.faults out.old) (O.faults out.new) result }
 {
-    match reason {
-        Reason::Final => page.push_number_then(pair, b" f\n", out),
-        Reason::Act(action) => push_action(pair, action, page, out),
-    }
-}
-
-/// Pushes the line of an entry whose reason is the action.
-fn push_action<O: Sink>(pair: u32, action: u8, page: &mut Page, out: &mut O) -> Result<(), Failed>
-    ensures gathers { Gathers (O.written out.old) (O.written out.new) page.new
-        (page.old ++ text_of_lines (entry_line (as_entry (pair, Act action)) ∷ [])) result }
-    ensures cause { HasCause (O.faults out.old) (O.faults out.new) result }
-{
+    let Reason::Act(action) = reason else {
+        return page.push_number_then(pair, b" f\n", out);
+    };
+    let (tens, ones) = (b'0' + action % 100 / 10, b'0' + action % 10);
     if action < 10 {
-        return page.push_number_then(pair, &[b' ', b'0' + action, b'\n'], out);
+        return page.push_number_then(pair, &[b' ', ones, b'\n'], out);
     }
-    page.push_number_then(pair, b" ", out)?;
-    page.push_number_then(u32::from(action), b"\n", out)
+    if action < 100 {
+        return page.push_number_then(pair, &[b' ', tens, ones, b'\n'], out);
+    }
+    page.push_number_then(pair, &[b' ', b'0' + action / 100, tens, ones, b'\n'], out)
 }

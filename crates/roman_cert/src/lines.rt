@@ -1,7 +1,8 @@
-//! Writes the lines of an explanation.
+//! Writes the lines of an explanation, and the last line of each text.
 ghost use Rattle.std.specs.Prelude.{◌≡◌, ◌<◌, ◌≤◌, ◌++◌, [], ◌∷◌, length, codes, slice_index};
 ghost use Rattle.std.specs.Option.{ForSome, option_map};
 ghost use Rattle.roman_io.specs.Faults.{HasCause};
+ghost use Rattle.roman_io.specs.Sink.{Puts};
 ghost use Rattle.roman_text.specs.Pages.{Gathers};
 ghost use Rattle.roman_model.specs.Explanation.{name_at, seat_names, reason_name, answer_line};
 ghost use Rattle.roman_model.specs.Lines.{text_of_lines};
@@ -16,6 +17,16 @@ use roman_io::{Failed, Sink};
 use roman_joint::Joint;
 use roman_model::Reason;
 use roman_text::{Page, Piece};
+
+/// Pushes the last line, and writes what the page holds.
+#[tactic(auto, using(crate::proofs::Rests::finished))]
+pub(crate) fn finish<O: Sink>(page: &mut Page, out: &mut O) -> Result<(), Failed>
+    ensures text { Puts (O.written out.old) (O.written out.new) (page.old ++ codes "end\n") result }
+    ensures cause { HasCause (O.faults out.old) (O.faults out.new) result }
+{
+    page.push(b"end\n", out)?;
+    page.flush(out)
+}
 
 /// Pushes the line that says that the pair `p` is lost, and why.
 pub(crate) fn push_lost<O: Sink>(

@@ -1,5 +1,6 @@
 //! Explains why a pair isn't related.
-ghost use Rattle.std.specs.Prelude.{◌≡◌, ◌<◌, ◌++◌, length, map, slice_get, Some};
+ghost use Rattle.std.specs.Prelude.{◌≡◌, ◌<◌, ◌++◌, length, map, slice_get, codes, Some};
+ghost use Rattle.std.specs.List.{flat_map};
 ghost use Rattle.roman_io.specs.Faults.{HasCause};
 ghost use Rattle.roman_io.specs.Sink.{Puts};
 ghost use Rattle.roman_text.specs.Pages.{Gathers};
@@ -13,10 +14,10 @@ ghost use Rattle.roman_joint.specs.NamedSys.{system_of};
 ghost use Rattle.roman_joint.specs.Names.{names_in};
 ghost use Rattle.roman_order.specs.Board.{pairs_of, as_entry};
 ghost use Rattle.roman_relation.specs.Greatest.{arena_of, IsRelation};
-ghost use Rattle.roman_cert.specs.Slices.{answers_text, entry_text, marked_entries, slice_text};
+ghost use Rattle.roman_cert.specs.Slices.{answers_text, entry_text, marked_text};
 
 use crate::answers::answer;
-use crate::lines::{answer_piece, push_lost};
+use crate::lines::{answer_piece, finish, push_lost};
 use crate::marking::mark_slice;
 use roman_io::{Failed, Sink, Steps};
 use roman_joint::Joint;
@@ -78,7 +79,7 @@ fn write_marked<O: Sink, L: Ledger>(
     requires shaped { pairs_of order.now ≡ length (arena_of joint.now).nodes }
     requires valid { IsOrder (arena_of joint.now) order.now.list }
     ensures text { Puts (O.written out.old) (O.written out.new)
-        (slice_text joint.now order.now.list (marked_entries order.now)) result }
+        (flat_map (marked_text joint.now order.now) order.now.list ++ codes "end\n") result }
     ensures cause { HasCause (O.faults out.old) (O.faults out.new) result }
 {
     joint.known(); // the system is well formed
@@ -92,8 +93,7 @@ fn write_marked<O: Sink, L: Ledger>(
         }
         push_entry(joint, order, i, p, reason, &mut page, out, steps)?;
     }
-    page.push(b"end\n", out)?;
-    page.flush(out)
+    finish(&mut page, out)
 }
 
 /// Pushes the lines of the entry at place `i`, whose pair is `p`, with this reason.

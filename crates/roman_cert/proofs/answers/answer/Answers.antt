@@ -1,4 +1,4 @@
-use Rattle.roman_cert.proofs.Common.{take, sym, ◌∙◌, has_entry, as_entry, Act, Leaves, rules}
+use Rattle.roman_cert.proofs.Common.{take, sym, ◌∙◌, rules, has_entry, as_entry, Act, Leaves}
 use Rattle.roman_cert.proofs.Answering.{entry_node, entry_allowed, no_pair, answer_found, answer_within, unready_answer}
 use Rattle.roman_cert.proofs.answers.answer.Goals as goal
 

@@ -1,6 +1,6 @@
-use Rattle.roman_cert.proofs.Common.{◌≡◌, ◌++◌, [], ap, sym, ◌∙◌, append-nil, err_from_is_err_and, Act, as_entry, fill_behind, fill_same, fill_more, fill_failed, fill_end, fill_last, answers_text}
+use Rattle.roman_cert.proofs.Common.{Act, Gathers-second, gathers_failed_first, List, [], ap, append-nil, ℕ, ◌∙◌, ◌≡◌, Reason, answers, answers_text, entry_text, lost_text, as_entry, err_from_is_err_and}
 use Rattle.roman_cert.proofs.AnswerTexts.{no_answers}
-use Rattle.roman_cert.proofs.SliceTexts.{entry_pair, entry_reason, entry_lines_are}
+use Rattle.roman_cert.proofs.SliceTexts.{entry_pair, entry_reason}
 use Rattle.roman_cert.proofs.slice.push_entry.Goals as goal
 
 pub push_lost-requires-clause-pair : goal.push_lost-requires-clause-pair
@@ -10,24 +10,25 @@ pub push_lost-requires-clause-reason : goal.push_lost-requires-clause-reason
 push_lost-requires-clause-reason g c = entry_reason c.args.joint.now c.args.order.now.list c.args.i (as_entry (c.args.p, c.args.reason)) c.known.ensures c.requires.valid c.requires.entry
 
 pub returns-in_err-push_lost-clause-gathers : goal.returns-in_err-push_lost-clause-gathers
+unfolding entry_text
 returns-in_err-push_lost-clause-gathers g c =
-    let lines = entry_lines_are c.args.joint.now c.args.order.now.list (as_entry (c.args.p, c.args.reason)) in
+    let n = c.args.joint.now in
+    let x = as_entry (c.args.p, c.args.reason) in
     let p = err_from_is_err_and c.from_residual.result c.from_residual.ensures.1 in
-    rw p.1 (fill_failed _ _ _ _ _ _ _ (fill_behind _ _ _ _ lines) c.in_err-push_lost.ensures.gathers.0, c.in_err-push_lost.ensures.gathers.1)
+    rw p.1 (gathers_failed_first _ _ c.args.page.now _ (lost_text n x) (answers_text n c.args.order.now.list x) c.in_err-push_lost.ensures.gathers.0 c.in_err-push_lost.ensures.gathers.1)
 
 pub returns-in-Final-clause-gathers : goal.returns-in-Final-clause-gathers
+unfolding entry_text
 returns-in-Final-clause-gathers g c =
     let n = c.args.joint.now in
     let L = c.args.order.now.list in
-    let lines = entry_lines_are n L (as_entry (c.args.p, c.args.reason)) in
     let none : answers_text n L (as_entry (c.args.p, c.args.reason)) ≡ [] = ap (λ r. answers_text n L (as_entry (c.args.p, r))) c.in-Final.is ∙ no_answers n L c.args.p in
-    fill_end _ _ _ _ (fill_same _ _ _ _ _ _ none (fill_more _ _ _ _ _ _ _ _ (fill_behind _ _ _ _ lines) c.in_ok-push_lost.ensures.gathers))
+    rw (none, append-nil (lost_text n (as_entry (c.args.p, c.args.reason)))) c.in_ok-push_lost.ensures.gathers
 
 pub returns-in-Act-clause-gathers : goal.returns-in-Act-clause-gathers
+unfolding entry_text
 returns-in-Act-clause-gathers g c =
     let n = c.args.joint.now in
-    let L = c.args.order.now.list in
-    let lines = entry_lines_are n L (as_entry (c.args.p, c.args.reason)) in
-    let answers = answers_text n L (as_entry (c.args.p, Act c.in-Act.a)) in
-    let rest : answers_text n L (as_entry (c.args.p, c.args.reason)) ≡ answers ++ [] = ap (λ r. answers_text n L (as_entry (c.args.p, r))) c.in-Act.is ∙ sym (append-nil answers) in
-    fill_last _ _ _ _ _ answers _ _ (fill_same _ _ _ _ _ _ rest (fill_more _ _ _ _ _ _ _ _ (fill_behind _ _ _ _ lines) c.in_ok-push_lost.ensures.gathers)) c.push_answers.ensures.gathers
+    let answers : Reason → List ℕ = λ r. answers_text n c.args.order.now.list (as_entry (c.args.p, r)) in
+    let lines = lost_text n (as_entry (c.args.p, c.args.reason)) in
+    rw (ap answers c.in-Act.is) (Gathers-second _ _ _ c.args.page.now _ _ lines (answers (Act c.in-Act.a)) _ c.in_ok-push_lost.ensures.gathers c.push_answers.ensures.gathers)

@@ -1,5 +1,5 @@
-use Rattle.roman_cert.proofs.Common.{◌≡◌, ℕ, length, ap, sym, subst, ◌∙◌, arith, IsOrder, rests_on, sizes_of, count, length-below, system_of, Board, is_marked, arena_of, listed_numbers, complete_order}
-use Rattle.roman_cert.proofs.Slicing.{explanation_written, unrelated_explained, unrelated_wins}
+use Rattle.roman_cert.proofs.Common.{Board, is_marked, IsOrder, ap, arith, length, subst, sym, ℕ, ◌∙◌, ◌≡◌, arena_of, complete_order, length-below, count, sizes_of, listed_numbers, rests_on, system_of}
+use Rattle.roman_cert.proofs.Slicing.{explanation_said, unrelated_explained, unrelated_wins}
 use Rattle.roman_cert.proofs.slice.write_slice.Goals as goal
 
 pub mark_slice-requires-clause-valid : goal.mark_slice-requires-clause-valid
@@ -23,9 +23,10 @@ pub returns-clause-text : goal.returns-clause-text
 returns-clause-text g c =
     let relation = c.args.relation.now in
     let s = system_of relation.joint in
-    explanation_written relation.joint c.mark_slice.new.order relation.order.list c.args.p (g.O.Sink.written c.args.out.now) (g.O.Sink.written c.write_marked.new.out) c.write_marked.result c.known.ensures
-    (listed_numbers s relation.order c.requires.relation.shaped.pairs c.known-2.ensures.in_range) c.requires.pair (ap (λ (b : Board). b.list) c.mark_slice.ensures.rest ∙ ap (λ (b : Board). b.list) c.place_all.ensures.same)
-    (subst (λ (b : Board). (q : ℕ) → is_marked c.mark_slice.new.order q ≡ rests_on (arena_of relation.joint) b.list (length b.list) c.args.p q) c.place_all.ensures.same c.mark_slice.ensures.marked) c.write_marked.ensures.text
+    let are = listed_numbers s relation.order c.requires.relation.shaped.pairs c.known-2.ensures.in_range in
+    let same = ap (λ (b : Board). b.list) c.mark_slice.ensures.rest ∙ ap (λ (b : Board). b.list) c.place_all.ensures.same in
+    let marked = subst (λ (b : Board). (q : ℕ) → is_marked c.mark_slice.new.order q ≡ rests_on (arena_of relation.joint) b.list (length b.list) c.args.p q) c.place_all.ensures.same c.mark_slice.ensures.marked in
+    rw (← explanation_said relation.joint c.mark_slice.new.order relation.order.list c.args.p c.known.ensures are c.requires.pair same marked) c.write_marked.ensures.text
 
 pub returns-clause-explained : goal.returns-clause-explained
 returns-clause-explained g c =
