@@ -1,5 +1,5 @@
 -- The meaning of a guard, by the form of its value.
-use Rattle.roman_parts.proofs.Common.{◌≡◌, ℕ, zero, suc, ◌+◌, ◌<◌, ◌≤◌, List, [], ◌∷◌, ◌++◌, length, get_or, map, Bool, Some, None, Ok, refl, sym, ap, ◌∙◌, arith, add-one, append_assoc, slice_get, drop, Result, Err, drop-cons, string_bytes, map_push, drop_all, Data, Items, depth, null, boolean, number, string, array, object, no_members, member, items_depth, as_object, as_bool, as_array, view, items_view, members_view, Value, Entry, ◌>>=◌, list_of, holds, Guard, holds-All, holds-Never, holds-Among, holds-Not, holds-Both, holds-Either, looked, sole_member, sole_of, no_guard, among_of, operator_of, guard_of, guards_of, each_guard, Steps, PartError}
+use Rattle.roman_parts.proofs.Common.{Bool, Err, List, None, Ok, Result, Some, [], ap, append_assoc, arith, get_or, length, refl, set, slice_get, string_bytes, suc, sym, zero, ℕ, ◌++◌, ◌+◌, ◌<◌, ◌∙◌, ◌∷◌, ◌≡◌, ◌≤◌, map_push, holds-All, holds-Among, holds-Both, holds-Either, holds-Never, holds-Not, at_start, is_done, pushed_ends, pushed_on, pushing, ◌>>=◌, each_item, list_of, Entry, Data, Items, array, boolean, depth, item, items_depth, member, no_items, no_members, object, as_array, as_bool, as_object, items_view, members_view, view, Value, among_of, each_guard, no_guard, operator_of, sole_member, sole_of, guard_of, guards_of, looked, Steps, PartError}
 use Rattle.std.proofs.lemmas.List.{append-nil}
 use Rattle.roman_parts.specs.declared.error.List.{List as Place}
 
@@ -55,15 +55,6 @@ module _ (states : List (List ℕ)) (i : ℕ) where
   guard_of-none (object (member name d no_members)) h j k = cc
   guard_of-none _ h j k = refl
 
-  pub guards_of-list : (d : Data) → guards_of states i d ≡ (looked Steps i (list_of d) >>= each_guard states i)
-  unfolding guards_of
-  guards_of-list null = refl
-  guards_of-list (boolean c) = refl
-  guards_of-list (number n) = refl
-  guards_of-list (string s) = refl
-  guards_of-list (array ds) = refl
-  guards_of-list (object ms) = refl
-
 -- the only member of an object is nested less deeply
 pub sole-depth : (d : Data) (name : List ℕ) (e : Data) → Some (name, e) ≡ sole_of d → depth e < depth d
 sole-depth (object (member k d no_members)) name e h = grind arith
@@ -85,55 +76,31 @@ listed-depth list i d items k x h lt is = grind (arith, item-depth, list-depth)
 
 -- ---- a list of guards
 
--- the guards read so far and the remaining ones give the result of all of them
-pub record GuardsLeft (states : List (List ℕ)) (i : ℕ) (items : List Value) (k : ℕ) (guards : List Guard) : Type 0 where
-  pub same : (each_guard states i (items_view (drop k items)) >>= (λ rest. Ok (map holds guards ++ rest))) ≡ each_guard states i (items_view items)
+module _ (states : List (List ℕ)) (i : ℕ) where
+  -- the guards of a list are read one by one
+  each_guard-is : (k : ℕ) (before : List (ℕ → Bool)) (ds : Items) → each_item (pushing (λ _. guard_of states i)) k before ds ≡ (each_guard states i ds >>= (λ rest. Ok (before ++ rest)))
+  unfolding each_item pushing guard_of
+  each_guard-is k before no_items = ap Ok (sym (append-nil before))
+  each_guard-is k before (item d ds) = by (guard_of states i d) (each_guard states i ds) (λ set. each_guard-is (k + 1) (before ++ set ∷ []) ds)
+    where
+      by : (first : Result (ℕ → Bool) PartError) (rest : Result (List (ℕ → Bool)) PartError)
+          → ((set : ℕ → Bool) → each_item (pushing (λ _. guard_of states i)) (k + 1) (before ++ set ∷ []) ds ≡ (rest >>= (λ sets. Ok ((before ++ set ∷ []) ++ sets))))
+          → ((first >>= (λ set. Ok (before ++ set ∷ []))) >>= (λ sets. each_item (pushing (λ _. guard_of states i)) (k + 1) sets ds))
+          ≡ ((first >>= (λ set. rest >>= (λ sets. Ok (set ∷ sets)))) >>= (λ sets. Ok (before ++ sets)))
+      by (Err e) rest more = refl
+      by (Ok set) (Err e) more = more set
+      by (Ok set) (Ok sets) more = more set ∙ ap Ok (append_assoc before (set ∷ []) sets)
 
-module _ (states : List (List ℕ)) (i : ℕ) (items : List Value) where
-  as_it_is : {X E : Type 0} (r : Result X E) → (r >>= (λ x. Ok x)) ≡ r
-  as_it_is (Ok x) = refl
-  as_it_is (Err e) = refl
-
-  pub guards_start : GuardsLeft states i items 0 []
-  guards_start = record { same = as_it_is (each_guard states i (items_view items)) }
-
-  here : (k : ℕ) (x : Value) → k < length items → x ≡ get_or items k x
-      → each_guard states i (items_view (drop k items))
-      ≡ (guard_of states i (view x) >>= (λ set. each_guard states i (items_view (drop (k + 1) items)) >>= (λ sets. Ok (set ∷ sets))))
-  unfolding guard_of
-  here k x h e = rw (drop-cons items k x h, ← e, add-one)
-
-  one_more : {E : Type 0} (sets : List (ℕ → Bool)) (set : ℕ → Bool) (r : Result (List (ℕ → Bool)) E)
-      → (r >>= (λ rest. Ok ((sets ++ set ∷ []) ++ rest))) ≡ ((r >>= (λ rest. Ok (set ∷ rest))) >>= (λ rest. Ok (sets ++ rest)))
-  one_more sets set (Ok rest) = ap Ok (append_assoc sets (set ∷ []) rest)
-  one_more sets set (Err e) = refl
-
-  pub guards_next : (k : ℕ) (guards more : List Guard) (guard : Guard) (x : Value) → k < length items → x ≡ get_or items k x
-      → guard_of states i (view x) ≡ Ok (holds guard) → more ≡ guards ++ guard ∷ [] → GuardsLeft states i items k guards → GuardsLeft states i items (k + 1) more
-  guards_next k guards more guard x h e ok new left = record {
-    same =
-        let pushed : map holds more ≡ map holds guards ++ holds guard ∷ [] = ap (map holds) new ∙ map_push holds guards guard in
-        let first : each_guard states i (items_view (drop k items)) ≡ (each_guard states i (items_view (drop (k + 1) items)) >>= (λ sets. Ok (holds guard ∷ sets))) =
-        here k x h e ∙ rw ok in
-        rw pushed (one_more (map holds guards) (holds guard) (each_guard states i (items_view (drop (k + 1) items))) ∙ rw (← first) left.same);
-  }
-
-  pub guards_stop : (k : ℕ) (guards : List Guard) (x : Value) (why : PartError) → k < length items → x ≡ get_or items k x
-      → guard_of states i (view x) ≡ Err why → GuardsLeft states i items k guards → each_guard states i (items_view items) ≡ Err why
-  guards_stop k guards x why h e bad left =
-      let first : each_guard states i (items_view (drop k items)) ≡ Err why = here k x h e ∙ rw bad in
-      sym left.same ∙ rw first
-
-  pub guards_done : (k : ℕ) (guards : List Guard) → length items ≤ k → GuardsLeft states i items k guards → each_guard states i (items_view items) ≡ Ok (map holds guards)
-  unfolding guard_of
-  guards_done k guards h left = sym left.same ∙ rw (drop_all k items h, append-nil (map holds guards))
+  pub guards_of-list : (d : Data) → guards_of states i d ≡ (looked Steps i (list_of d) >>= each_item (pushing (λ _. guard_of states i)) 0 [])
+  unfolding guards_of
+  guards_of-list (array ds) = grind (arith, each_guard-is)
+  guards_of-list _ = refl
 
 pub ruleset guards = (
   guard_of-boolean,
   guard_of-array,
   guard_of-sole,
   guard_of-none,
-  guards_of-list,
   sole-depth,
   listed-depth,
   holds-All,
@@ -144,4 +111,4 @@ pub ruleset guards = (
   holds-Either,
 )
 
-pub ruleset guard_lists = (guards_start, guards_next, guards_stop, guards_done, guards_of-list, listed-depth)
+pub ruleset guard_lists = (at_start, pushed_on, pushed_ends, is_done, map_push, guards_of-list, listed-depth)

@@ -1,5 +1,6 @@
 -- Rows made from the masks of a list of steps hold the steps of the record in normal form.
-use Rattle.roman_parts.proofs.Common.{◌≡◌, ℕ, zero, suc, ◌+◌, ◌*◌, ◌<◌, ◌≤◌, ◌==◌, Bool, true, false, IsTrue, List, [], ◌∷◌, ◌++◌, map, length, All, Option, Some, slice_get, filter, refl, sym, ap, ◌∙◌, subst, arith, ◌-◌, and_parts, eqb-true, eq-eqb, false_from_ne_true, get_or-map, length-map, slice_get-get_or, get_or_from_slice_get, same_Some, below, Env, Beh, has_triple, has_move, has, env_next, env_prev, beh_next, beh_prev, normal_env, normal_beh, MAX_STATES, MAX_ACTIONS, same_test, any_true, any_from, in_contains, in_below, from_below, filter_in, filter_same, any_same, in_filter, list_any-map, length-below, get_or-below, flat_map_same_in, has_state, states_below, states_of, states_below-zero, states_below-suc, states_below-same, states_below-past, triple_of, listed_env, listed_beh, AreTriples, AreMoves, cell_has, is_triple, leads, HasCells, is_move, goes, HasGuardedCells, filter-append, All-filter, All-contains, All-same, mul-add-lt, guarded_step, row_triples, HasRows, GuardedBeh, row_moves, HasGuardedRows}
+use Rattle.roman_parts.proofs.Common.{All, Bool, IsTrue, List, Option, Some, [], ap, arith, false, filter, length, map, refl, slice_get, subst, suc, sym, true, zero, ℕ, ◌*◌, ◌++◌, ◌+◌, ◌-◌, ◌<◌, ◌==◌, ◌∙◌, ◌∷◌, ◌≡◌, ◌≤◌, and_parts, eq-eqb, eqb-true, false_from_ne_true, get_or-map, length-map, All-contains, All-filter, All-same, filter-append, mul-add-lt, get_or_from_slice_get, same_Some, slice_get-get_or, list_any, if◌then◌else◌, states_below-past, states_below-same, states_below-suc, states_below-zero, has_state, states_of, states_below, any_from, any_same, any_true, filter_in, filter_same, flat_map_same_in, from_below, get_or-below, in_below, in_contains, in_filter, length-below, list_any-map, same_test, below, guarded_step, normal_beh, normal_env, Beh, Env, has, has_move, has_triple, beh_next, beh_prev, env_next, env_prev, MAX_ACTIONS, MAX_STATES, HasCells, ends, adds_move, adds_triple, cell_has, AreMoves, AreTriples, listed_beh, listed_env, GuardedBeh, HasGuardedRows, HasRows, row_moves, row_triples}
+use Rattle.roman_parts.proofs.CellLemmas.{adds_move-is, adds_triple-is}
 use Rattle.roman_parts.proofs.NormalLemmas.{env_next-normal, env_prev-normal, IsEnv-normal, beh_next-normal, beh_prev-normal, IsOver-normal, is_final-normal}
 
 -- the numbers below a bound that pass
@@ -18,15 +19,16 @@ unfolding cell_has
 row_of_cell masks k n p within small same past =
     slice_get-get_or _ k [] (omega (arith, length-map masks states_of)) ∙ ap Some (get_or-map states_of masks k 0 [] within ∙ mask_filter _ n p small same past)
 
--- the steps of the list are the steps of the record
-leads_is : (states actions start : ℕ) (steps : List (ℕ × ℕ × ℕ)) (e a e' : ℕ) → leads false steps e a e' ≡ has_triple (listed_env states actions start steps) e a e'
-unfolding leads is_triple
-leads_is states actions start steps e a e' = sym (list_any-map triple_of _ steps)
+-- a triple of the record is in range
+listed_triple_in_range : (states actions start : ℕ) (steps : List (ℕ × ℕ × ℕ)) (e a e' : ℕ) → AreTriples states actions steps → IsTrue (has_triple (listed_env states actions start steps) e a e') →
+    (e < states) × (a < actions) × (e' < states)
+listed_triple_in_range states actions start steps e a e' range t = grind (arith, All-contains, and_parts, any_true, eqb-true, in_contains, list_any-map)
 
--- a listed step is in range
-leads_in_range : (states actions : ℕ) (steps : List (ℕ × ℕ × ℕ)) (e a e' : ℕ) → AreTriples states actions steps → IsTrue (leads false steps e a e') → (e < states) × (a < actions) × (e' < states)
-unfolding leads is_triple
-leads_in_range states actions steps e a e' range t = grind (arith, All-contains, and_parts, any_true, eqb-true, in_contains)
+-- the steps that are added to a cell are the steps of the record
+triples_added : (back : Bool) (states actions start : ℕ) (steps : List (ℕ × ℕ × ℕ)) (e a n : ℕ) → AreTriples states actions steps → a < actions →
+    list_any (λ t. adds_triple back actions t (e * actions + a) n) steps ≡ (if back then has_triple (listed_env states actions start steps) n a e else has_triple (listed_env states actions start steps) e a n)
+triples_added false states actions start steps e a n range ha = grind (arith, All-contains, adds_triple-is, any_same, in_contains, list_any-map)
+triples_added true states actions start steps e a n range ha = grind (arith, All-contains, adds_triple-is, any_same, in_contains, list_any-map)
 
 -- rows with the next states have the triples of the normal form
 row_triples-normal : (env : Env) (rows : List (List ℕ)) →
@@ -48,21 +50,20 @@ module _ (states actions start : ℕ) (steps : List (ℕ × ℕ × ℕ)) (to fro
     (many_states : (0 < states) × (states ≤ MAX_STATES)) (many_actions : (0 < actions) × (actions ≤ MAX_ACTIONS)) (starts : start < states)
     (range : AreTriples states actions steps)
     (to_len : length to ≡ states * actions) (from_len : length from ≡ states * actions)
-    (to_has : HasCells actions (leads false steps) to) (from_has : HasCells actions (leads true steps) from) where
+    (to_has : HasCells (adds_triple false actions) steps to) (from_has : HasCells (adds_triple true actions) steps from) where
   steps_in_range : (e a e' : ℕ) → IsTrue (has_triple (listed_env states actions start steps) e a e') → (e < states) × (a < actions) × (e' < states)
-  steps_in_range e a e' t = leads_in_range states actions steps e a e' range (leads_is states actions start steps e a e' ∙ t)
+  steps_in_range e a e' t = listed_triple_in_range states actions start steps e a e' range t
 
   next_row : (e a : ℕ) → e < states → a < actions → slice_get (map states_of to) (e * actions + a) ≡ Some (env_next (listed_env states actions start steps) e a)
   next_row e a he ha =
       row_of_cell to (e * actions + a) states (has_triple (listed_env states actions start steps) e a) (omega (arith, mul-add-lt e actions a states he ha)) (omega arith)
-      (λ e'. to_has.has e a e' ha ∙ leads_is states actions start steps e a e')
+      (λ e'. to_has.has (e * actions + a) e' ∙ triples_added false states actions start steps e a e' range ha)
       (λ e' past. false_from_ne_true _ (λ t. let (l, m, n) = steps_in_range e a e' t in let none : ⊥ = omega arith in none))
 
   prev_row : (e' a : ℕ) → e' < states → a < actions → slice_get (map states_of from) (e' * actions + a) ≡ Some (env_prev (listed_env states actions start steps) e' a)
-  unfolding leads
   prev_row e' a he' ha =
       row_of_cell from (e' * actions + a) states (λ e. has_triple (listed_env states actions start steps) e a e') (omega (arith, mul-add-lt e' actions a states he' ha)) (omega arith)
-      (λ e. from_has.has e' a e ha ∙ leads_is states actions start steps e a e')
+      (λ e. from_has.has (e' * actions + a) e ∙ triples_added true states actions start steps e' a e range ha)
       (λ e past. false_from_ne_true _ (λ t. let (l, m, n) = steps_in_range e a e' t in let none : ⊥ = omega arith in none))
 
   pub laid_triples : AreLaidTriples states actions start steps to from
@@ -95,14 +96,17 @@ has_states_below p n i less = ap (λ xs. has xs i) (states_below-filter p n) ∙
 pub has_states_of : (mask i : ℕ) → i < 64 → has (states_of mask) i ≡ has_state mask i
 has_states_of mask i less = has_states_below (has_state mask) 64 i less
 
--- the steps of the list are the steps of the record
-goes_is : (states start : ℕ) (finals : List ℕ) (steps : List (ℕ × ℕ × ℕ × ℕ)) (b e a b' : ℕ) → e < 64 → goes false steps b e a b' ≡ has_move (listed_beh states start finals steps) b e a b'
-unfolding goes is_move
-goes_is states start finals steps b e a b' small = grind (arith, any_same, has_states_of, list_any-map)
+-- a step of the record is in range
+listed_move_in_range : (states actions start : ℕ) (finals : List ℕ) (steps : List (ℕ × ℕ × ℕ × ℕ)) (b e a b' : ℕ) → AreMoves states actions steps → IsTrue (has_move (listed_beh states start finals steps) b e a b') →
+    (b < states) × (a < actions) × (b' < states)
+listed_move_in_range states actions start finals steps b e a b' range t = grind (arith, All-contains, and_parts, any_true, eqb-true, in_contains, list_any-map)
 
-goes_in_range : (states actions : ℕ) (steps : List (ℕ × ℕ × ℕ × ℕ)) (b e a b' : ℕ) → AreMoves states actions steps → IsTrue (goes false steps b e a b') → (b < states) × (a < actions) × (b' < states)
-unfolding goes is_move
-goes_in_range states actions steps b e a b' range t = grind (arith, All-contains, and_parts, any_true, eqb-true, in_contains)
+-- the steps that are added to a cell are the steps of the record
+moves_added : (back : Bool) (states env_states actions start : ℕ) (finals : List ℕ) (steps : List (ℕ × ℕ × ℕ × ℕ)) (b e a n : ℕ) → AreMoves states actions steps → e < env_states → env_states ≤ 64 → a < actions →
+    list_any (λ m. adds_move back env_states actions m ((b * env_states + e) * actions + a) n) steps
+    ≡ (if back then has_move (listed_beh states start finals steps) n e a b else has_move (listed_beh states start finals steps) b e a n)
+moves_added false states env_states actions start finals steps b e a n range he small ha = grind (arith, All-contains, adds_move-is, any_same, has_states_of, in_contains, list_any-map)
+moves_added true states env_states actions start finals steps b e a n range he small ha = grind (arith, All-contains, adds_move-is, any_same, has_states_of, in_contains, list_any-map)
 
 -- rows with the next states have the steps of the normal form
 row_moves-normal : (env_states actions : ℕ) (beh : Beh) (rows : List (List ℕ)) →
@@ -127,9 +131,9 @@ module _ (states env_states actions start : ℕ) (finals : List ℕ) (steps : Li
     (ends : All (λ b. b < states) finals) (range : AreMoves states actions steps)
     (mask_has : (b : ℕ) → has_state mask b ≡ has finals b)
     (to_len : length to ≡ states * env_states * actions) (from_len : length from ≡ states * env_states * actions)
-    (to_has : HasGuardedCells env_states actions (goes false steps) to) (from_has : HasGuardedCells env_states actions (goes true steps) from) where
-  moves_in_range : (b e a b' : ℕ) → e < env_states → IsTrue (has_move (listed_beh states start finals steps) b e a b') → (b < states) × (a < actions) × (b' < states)
-  moves_in_range b e a b' he t = goes_in_range states actions steps b e a b' range (goes_is states start finals steps b e a b' (omega arith) ∙ t)
+    (to_has : HasCells (adds_move false env_states actions) steps to) (from_has : HasCells (adds_move true env_states actions) steps from) where
+  moves_in_range : (b e a b' : ℕ) → IsTrue (has_move (listed_beh states start finals steps) b e a b') → (b < states) × (a < actions) × (b' < states)
+  moves_in_range b e a b' t = listed_move_in_range states actions start finals steps b e a b' range t
 
   place : (b e a : ℕ) → b < states → e < env_states → a < actions → (b * env_states + e) * actions + a < states * env_states * actions
   place b e a hb he ha =
@@ -140,16 +144,15 @@ module _ (states env_states actions start : ℕ) (finals : List ℕ) (steps : Li
       slice_get (map states_of to) ((b * env_states + e) * actions + a) ≡ Some (beh_next (listed_beh states start finals steps) b e a)
   out_row b e a hb he ha =
       row_of_cell to ((b * env_states + e) * actions + a) states (has_move (listed_beh states start finals steps) b e a) (omega (arith, place b e a hb he ha)) (omega arith)
-      (λ b'. to_has.has b e a b' he ha ∙ goes_is states start finals steps b e a b' (omega arith))
-      (λ b' past. false_from_ne_true _ (λ t. let (l, m, n) = moves_in_range b e a b' he t in let none : ⊥ = omega arith in none))
+      (λ b'. to_has.has ((b * env_states + e) * actions + a) b' ∙ moves_added false states env_states actions start finals steps b e a b' range he (omega arith) ha)
+      (λ b' past. false_from_ne_true _ (λ t. let (l, m, n) = moves_in_range b e a b' t in let none : ⊥ = omega arith in none))
 
   into_row : (b' e a : ℕ) → b' < states → e < env_states → a < actions →
       slice_get (map states_of from) ((b' * env_states + e) * actions + a) ≡ Some (beh_prev (listed_beh states start finals steps) b' e a)
-  unfolding goes
   into_row b' e a hb' he ha =
       row_of_cell from ((b' * env_states + e) * actions + a) states (λ b. has_move (listed_beh states start finals steps) b e a b') (omega (arith, place b' e a hb' he ha)) (omega arith)
-      (λ b. from_has.has b' e a b he ha ∙ goes_is states start finals steps b e a b' (omega arith))
-      (λ b past. false_from_ne_true _ (λ t. let (l, m, n) = moves_in_range b e a b' he t in let none : ⊥ = omega arith in none))
+      (λ b. from_has.has ((b' * env_states + e) * actions + a) b ∙ moves_added true states env_states actions start finals steps b' e a b range he (omega arith) ha)
+      (λ b past. false_from_ne_true _ (λ t. let (l, m, n) = moves_in_range b e a b' t in let none : ⊥ = omega arith in none))
 
   laid_finals : states_of mask ≡ (normal_beh env_states actions (listed_beh states start finals steps)).finals
   laid_finals =

@@ -112,6 +112,7 @@ impl Behaviour {
         ensures count { length self.now.states ≡ self.now.beh.states }
         ensures known { IsOver self.now.env_states self.now.actions self.now.beh }
     {
+        self.known(); // the behaviour is well formed
         &self.states
     }
 

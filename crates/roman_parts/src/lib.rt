@@ -25,6 +25,6 @@ pub use environment::Environment;
 pub use error::{List, PartError};
 pub use names::place_in;
 pub use parts::{read_behaviour, read_environment, read_name, read_target};
-pub use reading::counted_member;
+pub use reading::{counted_member, looked, refused};
 pub use roman_read::{Kind, Name, NameTable};
 pub use target::Target;

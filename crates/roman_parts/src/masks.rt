@@ -1,6 +1,6 @@
 //! Masks of states, one for each cell of a table.
-ghost use Rattle.std.specs.Prelude.{◌≡◌, ℕ, ◌+◌, ◌*◌, ◌^◌, ◌<◌, ◌≤◌, length, IfOk, vec_len, if◌then◌else◌};
-ghost use Rattle.roman_parts.specs.Cells.{PutsIntoCell, leads, HasCells, goes, HasGuardedCells, MarksMove};
+ghost use Rattle.std.specs.Prelude.{◌≡◌, ℕ, ◌+◌, ◌*◌, ◌^◌, ◌<◌, ◌≤◌, length, IfOk, vec_len};
+ghost use Rattle.roman_parts.specs.Cells.{HasCells, MarksBelow, PutsIntoCell, adds_move, adds_triple, ends};
 ghost use Rattle.roman_parts.specs.Listed.{AreTriples, AreMoves};
 
 use crate::environment::Environment;
@@ -65,7 +65,7 @@ pub(crate) fn triple_masks<const BACK: bool>(
     requires actions { actions ≤ 32 }
     requires steps { AreTriples states actions steps.now }
     ensures len { IfOk result (λ masks. vec_len masks ≡ states * actions) }
-    ensures has { IfOk result (λ masks. HasCells actions (leads BACK steps.now) masks.items) }
+    ensures has { IfOk result (λ masks. HasCells (adds_triple BACK actions) steps.now masks.items) }
 {
     let mut masks = Vec::from_elem(alloc, 0, states * actions)?;
     for &(from, action, to) in steps {
@@ -84,7 +84,7 @@ pub(crate) fn move_masks<const BACK: bool>(
 ) -> Result<Vec<u64>, AllocError>
     requires { AreMoves cells.states cells.actions steps.now }
     ensures len { IfOk result (λ masks. vec_len masks ≡ cells.states * cells.env_states * cells.actions) }
-    ensures has { IfOk result (λ masks. HasGuardedCells cells.env_states cells.actions (goes BACK steps.now) masks.items) }
+    ensures has { IfOk result (λ masks. HasCells (adds_move BACK cells.env_states cells.actions) steps.now masks.items) }
 {
     let mut masks = Vec::from_elem(alloc, 0, cells.count())?;
     for &(from, guard, action, to) in steps {
@@ -97,7 +97,7 @@ pub(crate) fn move_masks<const BACK: bool>(
 /// Returns the state to whose cell a step is added, and the state that is added: the ends of the step,
 /// exchanged if `BACK`.
 fn ends<const BACK: bool>(from: u8, to: u8) -> (u8, u8)
-    ensures ends { result ≡ (if BACK then (to, from) else (from, to)) }
+    ensures ends { result ≡ ends BACK from to }
     ensures below { (n : ℕ) → from < n → to < n → (result.0 < n) × (result.1 < n) }
 {
     if BACK { (to, from) } else { (from, to) }
@@ -110,7 +110,7 @@ fn mark_move(masks: &mut [u64], cells: Cells, at: u8, guard: StateSet, action: u
     requires at { at < cells.states }
     requires action { action < cells.actions }
     requires small { n < 64 }
-    ensures { MarksMove cells.env_states cells.actions masks.old masks.new (at, guard, action, n) }
+    ensures { MarksBelow cells.env_states cells.env_states cells.actions masks.old masks.new (at, guard, action, n) }
 {
     for e in 0..cells.env_states {
         let e = e as u8;

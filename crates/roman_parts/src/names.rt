@@ -5,7 +5,7 @@ ghost use Rattle.roman_parts.specs.Reading.{Gives};
 ghost use Rattle.roman_parts.specs.Lists.{name_in, name_step, names_of, place_in, start_of};
 
 use crate::error::{List, PartError};
-use crate::reading::{counted_member, missed, refused};
+use crate::reading::{counted_member, looked, refused};
 use roman_read::{AddError, Kind, Name, NameTable, member, text};
 use serde_json::Value;
 use std::alloc::Global;
@@ -51,10 +51,7 @@ fn add_name(names: &mut NameTable, item: &Value, place: List, index: u32) -> Res
 pub(crate) fn name_in(v: &Value, place: List, index: u32) -> Result<Name, PartError>
     ensures { Gives (λ x. x) result (name_in place index (view v.now)) }
 {
-    let text = match text(v) {
-        Ok(text) => text,
-        Err(miss) => return Err(missed(miss, place, index)),
-    };
+    let text = looked(text(v), place, index)?;
     match Name::new(text.as_bytes()) {
         Some(name) => Ok(name),
         None => Err(refused(Kind::BadName, place, index)),
@@ -70,10 +67,7 @@ pub fn place_in(names: &NameTable, v: &Value, place: List, index: u32) -> Result
     ensures place { Gives (λ x. x) result (place_in names.now place index (view v.now)) }
     ensures within { IfOk result (λ found. found < length names.now) }
 {
-    let text = match text(v) {
-        Ok(text) => text,
-        Err(miss) => return Err(missed(miss, place, index)),
-    };
+    let text = looked(text(v), place, index)?;
     match names.find(text.as_bytes()) {
         Some(found) => Ok(found as u8),
         None => Err(refused(Kind::Unknown, place, index)),
@@ -87,8 +81,6 @@ pub(crate) fn read_start(states: &NameTable, v: &Value) -> Result<u8, PartError>
     ensures start { Gives (λ x. x) result (start_of states.now (view v.now)) }
     ensures within { IfOk result (λ start. start < length states.now) }
 {
-    match member(v, "start") {
-        Ok(start) => place_in(states, start, List::Start, 0),
-        Err(miss) => Err(missed(miss, List::Start, 0)),
-    }
+    let start = looked(member(v, "start"), List::Start, 0)?;
+    place_in(states, start, List::Start, 0)
 }

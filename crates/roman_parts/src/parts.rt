@@ -9,7 +9,7 @@ use crate::environment::Environment;
 use crate::error::{List, PartError};
 use crate::finals::read_finals;
 use crate::names::{name_in, read_names, read_start};
-use crate::reading::{missed, refused};
+use crate::reading::{looked, refused};
 use crate::steps::{read_moves, read_triples};
 use crate::target::Target;
 use roman_model::{MAX_ACTIONS, MAX_STATES};
@@ -76,9 +76,6 @@ pub fn read_target(alloc: Global, v: &Value, env: &Environment) -> Result<Target
 pub fn read_name(v: &Value) -> Result<Name, PartError>
     ensures name { Gives (λ x. x) result (name_of (view v.now)) }
 {
-    let name = match member(v, "name") {
-        Ok(name) => name,
-        Err(miss) => return Err(missed(miss, List::Name, 0)),
-    };
+    let name = looked(member(v, "name"), List::Name, 0)?;
     name_in(name, List::Name, 0)
 }

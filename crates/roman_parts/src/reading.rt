@@ -2,7 +2,6 @@
 ghost use Rattle.std.specs.Prelude.{◌≡◌, ◌≤◌, length, IfOk};
 ghost use Rattle.serde_json.specs.View.{view, items_view};
 ghost use Rattle.roman_read.specs.Json.{list_of};
-ghost use Rattle.roman_read.specs.Kinds.{kind_of};
 ghost use Rattle.roman_parts.specs.Reading.{Gives, looked, items_at, counted_items};
 ghost use Rattle.roman_parts.specs.declared.error.PartError.TheVariants.{Refused};
 
@@ -10,8 +9,8 @@ use crate::error::{List, PartError};
 use roman_read::{Kind, Miss, list, member};
 use serde_json::Value;
 
-/// Returns the refusal at a place.
-pub(crate) fn refused(kind: Kind, place: List, index: u32) -> PartError
+/// Returns the refusal at a place. Takes no memory.
+pub fn refused(kind: Kind, place: List, index: u32) -> PartError
     ensures { result ≡ Refused kind place index }
 {
     PartError::Refused {
@@ -21,21 +20,21 @@ pub(crate) fn refused(kind: Kind, place: List, index: u32) -> PartError
     }
 }
 
-/// Returns the refusal for a miss at a place.
-pub(crate) fn missed(miss: Miss, place: List, index: u32) -> PartError
-    ensures { result ≡ Refused (kind_of miss) place index }
+/// Returns the value that a look-up found, or the refusal of its miss, with the place. Takes no memory.
+pub fn looked<T>(read: Result<T, Miss>, place: List, index: u32) -> Result<T, PartError>
+    ensures { result ≡ looked place index read }
 {
-    refused(miss.into(), place, index)
+    match read {
+        Ok(value) => Ok(value),
+        Err(miss) => Err(refused(miss.into(), place, index)),
+    }
 }
 
 /// Returns the items of an array.
 pub(crate) fn list_at(v: &Value, place: List, index: u32) -> Result<&[Value], PartError>
     ensures { Gives (λ x. items_view x.now) result (looked place index (list_of (view v.now))) }
 {
-    match list(v) {
-        Ok(items) => Ok(items),
-        Err(miss) => Err(missed(miss, place, index)),
-    }
+    looked(list(v), place, index)
 }
 
 #[tactic(auto, unfolding(crate::specs::Reading::items_at))]
@@ -47,10 +46,8 @@ pub(crate) fn list_member<'a>(
 ) -> Result<&'a [Value], PartError>
     ensures { Gives (λ x. items_view x.now) result (items_at place name.now (view v.now)) }
 {
-    match member(v, name) {
-        Ok(member) => list_at(member, place, 0),
-        Err(miss) => Err(missed(miss, place, 0)),
-    }
+    let member = looked(member(v, name), place, 0)?;
+    list_at(member, place, 0)
 }
 
 #[tactic(auto, using(crate::proofs::ReadingLemmas::counts), unfolding(crate::specs::Reading::counted_items))]

@@ -111,6 +111,7 @@ impl Target {
         ensures known { IsOver self.now.env_states self.now.actions self.now.beh }
         ensures single { IsDeterministic self.now.beh }
     {
+        self.known(); // the target is well formed
         &self.states
     }
 

@@ -1,4 +1,0 @@
-use Rattle.roman_parts.proofs.target.Target.states.Goals as goal
-
-pub returns-clause-known : goal.returns-clause-known
-returns-clause-known c = rw (← c.self.view_is) c.self.invariant.known
