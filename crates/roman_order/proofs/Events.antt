@@ -54,8 +54,8 @@ all_last : {X : Type 0} (P : X → Type 0) (xs : List X) (x y : X) → AllByRecu
 all_last P [] x y all f = (f all.0, tt)
 all_last P (z ∷ xs) x y all f = (all.0, all_last P xs x y all.1 f)
 
-pub AreCounted-extended : (lanes count : ℕ) (firsts : List ℕ) (es : List Event) (e : Event) (x lost : ℕ) (reason : Reason) → AreCounted lanes count firsts (es ++ e ∷ []) → IsEvent lanes (record { row = x; reason = reason; lanes = lost }) → TakesLanes e x lost reason →
-    AreCounted lanes (count + length (set_lanes lost)) firsts (es ++ extended e lost ∷ [])
+pub AreCounted-extended : (lanes count : ℕ) (firsts : List ℕ) (es : List Event) (e : Event) (x lost : ℕ) (reason : Reason) →
+    AreCounted lanes count firsts (es ++ e ∷ []) → IsEvent lanes (record { row = x; reason = reason; lanes = lost }) → TakesLanes e x lost reason → AreCounted lanes (count + length (set_lanes lost)) firsts (es ++ extended e lost ∷ [])
 AreCounted-extended lanes count firsts es e x lost reason are is on = record {
   each = all_last (IsEvent lanes) es e (extended e lost) are.each (λ was. record {
     some = omega (arith, ap length (extended_lanes e x lost reason on), length-append (set_lanes e.lanes) (set_lanes lost), was.some);

@@ -43,7 +43,10 @@ without_lane-on n t lane on = (and_parts (is_on n lane) (is_on (bit_not w64 (1 *
 -- the numbers that pass one test or the other, where those of the first stand before those of the second
 filter-joined : (p q both : ℕ → Bool) (m : ℕ) → ((i : ℕ) → i < m → both i ≡ (p i || q i)) → ((i j : ℕ) → p i ≡ true → q j ≡ true → i < j) → filter both (below m) ≡ filter p (below m) ++ filter q (below m)
 filter-joined p q both zero is lower = refl
-filter-joined p q both (suc m) is lower = grind (arith, cases_Bool, append-nil, append_assoc, filter_below_more, (is m), (filter-joined p q both m (λ i l. is i (omega arith)) lower), (λ (on : p m ≡ true). none_below q m (λ i l. false_from_ne_true (q i) (λ t. omega (arith, l, lower m i on t)))))
+filter-joined p q both (suc m) is lower =
+    let rest = filter-joined p q both m (λ i l. is i (omega arith)) lower in
+    let alone = λ (on : p m ≡ true). none_below q m (λ i l. false_from_ne_true (q i) (λ t. omega (arith, l, lower m i on t))) in
+    grind (arith, cases_Bool, append-nil, append_assoc, filter_below_more, (is m), rest, alone)
 
 -- the lanes of a word that has those of two others, of which the lanes of the first are lower
 pub set_lanes-joined : (word low high : ℕ) → ((i : ℕ) → i < 64 → is_on word i ≡ (is_on low i || is_on high i)) → ((i j : ℕ) → is_on low i ≡ true → is_on high j ≡ true → i < j) → set_lanes word ≡ set_lanes low ++ set_lanes high

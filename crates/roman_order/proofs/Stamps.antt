@@ -58,13 +58,19 @@ has_entry-event lanes e x lane few low is = elim (cases_eq e.row x) [
 
 -- none of the entries for the lanes up to a lane is that of its pair
 none_at : (lanes : ℕ) (e : Event) (lane : ℕ) → list_any (λ (y : Entry ℕ). eqb (e.row * lanes + lane) y.node) (map (λ l. as_entry (e.row * lanes + l, e.reason)) (filter (is_on e.lanes) (below lane))) ≡ false
-none_at lanes e lane = list_any-map (λ l. as_entry (e.row * lanes + l, e.reason)) (λ y. eqb (e.row * lanes + lane) y.node) (filter (is_on e.lanes) (below lane)) ∙ none_from (λ l. eqb (e.row * lanes + lane) (e.row * lanes + l)) (filter (is_on e.lanes) (below lane)) (λ l j. ne_eqb _ _ (λ s. omega (arith, s, from_below lane l (filter_in (is_on e.lanes) l (below lane) j).0)))
+none_at lanes e lane =
+    let test = λ (l : ℕ). eqb (e.row * lanes + lane) (e.row * lanes + l) in
+    let before = filter (is_on e.lanes) (below lane) in
+    list_any-map (λ l. as_entry (e.row * lanes + l, e.reason)) (λ y. eqb (e.row * lanes + lane) y.node) before
+    ∙ none_from test before (λ l j. ne_eqb _ _ (λ s. omega (arith, s, from_below lane l (filter_in (is_on e.lanes) l (below lane) j).0)))
 
 -- among the entries for the lanes below m, the search for the pair of a lane passes over those for the lanes below it
 place_below : (lanes : ℕ) (e : Event) (lane i m : ℕ) (L : List (Entry ℕ)) → lane < m → is_on e.lanes lane ≡ true →
     position_from (λ (y : Entry ℕ). eqb (e.row * lanes + lane) y.node) i (map (λ l. as_entry (e.row * lanes + l, e.reason)) (filter (is_on e.lanes) (below m)) ++ L) ≡ Some (i + length (filter (is_on e.lanes) (below lane)))
 place_below lanes e lane i zero L low on = absurd (omega arith)
-place_below lanes e lane i (suc m) L low on = grind (arith, cases_eq, append_assoc, eq-eqb, filter_below_more, length-map, map-append, position_from-past, none_at, (place_below lanes e lane i m (map (λ l. as_entry (e.row * lanes + l, e.reason)) (cond (is_on e.lanes m) (m ∷ []) []) ++ L)))
+place_below lanes e lane i (suc m) L low on =
+    let last : List (Entry ℕ) = map (λ l. as_entry (e.row * lanes + l, e.reason)) (cond (is_on e.lanes m) (m ∷ []) []) in
+    grind (arith, cases_eq, append_assoc, eq-eqb, filter_below_more, length-map, map-append, position_from-past, none_at, (place_below lanes e lane i m (last ++ L)))
 
 -- the search for the pair of a lane of an event gives the number of lanes before it
 pub place_in_event : (lanes : ℕ) (e : Event) (lane i : ℕ) (L : List (Entry ℕ)) → lane < 64 → is_on e.lanes lane ≡ true →

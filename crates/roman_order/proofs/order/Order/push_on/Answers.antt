@@ -21,10 +21,12 @@ invariant_of-self c =
     let is = is_pushed (goal.at.invariant_of-self c).Else-not-goes_on in
     let list = listed (goal.at.invariant_of-self c).After-lanes_in in
     let many : length c.push_reserved.new.self.items ≡ length c.self.inside.events.items = omega (arith, c.in-Some.ensures.len, c.push_reserved.ensures.len) in
+    let takes = c.goes_on.ensures.last c.if-not-goes_on.false _ _ (c.deref.ensures.value ∙ c.in-Some.ensures.items) in
+    let was = rw c.in-Some.ensures.items at c.self.invariant.counted in
     let read = get_or_read c.self.inside.words.items c.args.x c.index_mut.result.now (omega (arith, is.row, c.self.invariant.sized.words_long)) c.index_mut.ensures.value 0 in
     record {
       placed = rw list is.placed;
-      counted = rw (many, c.push_reserved.ensures.items, c.in-Some.ensures.items, c.lanes_in.ensures) (AreCounted-extended _ _ _ _ _ _ _ _ (rw c.in-Some.ensures.items at c.self.invariant.counted) is.event (c.goes_on.ensures.last c.if-not-goes_on.false _ _ (c.deref.ensures.value ∙ c.in-Some.ensures.items)));
+      counted = rw (many, c.push_reserved.ensures.items, c.in-Some.ensures.items, c.lanes_in.ensures) (AreCounted-extended _ _ _ _ _ _ _ _ was is.event takes);
       waits = c.self.invariant.waits;
       stamped = rw c.clear.ensures.items (λ p h. absurd (omega arith));
       alive = rw (list, read) is.alive;
