@@ -1,5 +1,5 @@
 -- Loops that keep the best seat so far.
-use Rattle.roman_cost.proofs.Common.{◌≡◌, ◌≢◌, ℕ, ◌+◌, Bool, true, false, cond, List, [], ◌∷◌, ◌++◌, Option, Some, None, filter, refl, ap, ◌∙◌, inl, inr, add-one, append-nil, arith, nat_le, IsIn, below, has, least_from, first_least, same_test, filter_in, in_filter, filter_below_more, number_listed, filter_same, least_from_push, listed_number, better_of}
+use Rattle.roman_cost.proofs.Common.{◌≡◌, ◌≢◌, ℕ, ◌+◌, Bool, true, false, List, [], ◌∷◌, ◌++◌, Option, Some, None, filter, refl, ap, ◌∙◌, add-one, append-nil, arith, below, has, least_from, first_least, same_test, filter_in, in_filter, filter_below_more, number_listed, filter_same, least_from_push, listed_number, better_of}
 
 -- the first of the cheapest elements of a list, with its value
 abbrev pub best_of : (ℕ → ℕ) → List ℕ → Option (ℕ × ℕ)
@@ -33,19 +33,3 @@ best_of-passed f p k best fails before = grind (arith, filter_passed)
 -- filtering the numbers below a bound by a list of such numbers gives the list
 pub filter_has : (q : ℕ → Bool) (n : ℕ) → filter (has (filter q (below n))) (below n) ≡ filter q (below n)
 filter_has q n = grind (arith, filter_in, filter_same, in_filter, listed_number, number_listed, same_test)
-
--- the least is the same if the values agree on the list
-least_from_same : (f g : ℕ → ℕ) (x : ℕ) (xs : List ℕ) → f x ≡ g x → ((y : ℕ) → IsIn y xs → f y ≡ g y) → least_from f x xs ≡ least_from g x xs
-least_from_same f g x [] here same = refl
-least_from_same f g x (y ∷ ys) here same =
-    ap (λ v. cond (nat_le v (f y)) (least_from f x ys) (least_from f y ys)) here ∙ ap (λ v. cond (nat_le (g x) v) (least_from f x ys) (least_from f y ys)) (same y (inl refl))
-    ∙ by (nat_le (g x) (g y)) (least_from_same f g x ys here (λ z i. same z (inr i))) (least_from_same f g y ys (same y (inl refl)) (λ z i. same z (inr i)))
-  where
-    by : (b : Bool) → least_from f x ys ≡ least_from g x ys → least_from f y ys ≡ least_from g y ys →
-        cond b (least_from f x ys) (least_from f y ys) ≡ cond b (least_from g x ys) (least_from g y ys)
-    by true here there = here
-    by false here there = there
-
-pub first_least_same : (f g : ℕ → ℕ) (xs : List ℕ) → ((y : ℕ) → IsIn y xs → f y ≡ g y) → first_least f xs ≡ first_least g xs
-first_least_same f g [] same = refl
-first_least_same f g (x ∷ xs) same = least_from_same f g x xs (same x (inl refl)) (λ y i. same y (inr i))

@@ -1,8 +1,8 @@
 -- What the proof pages of this crate cite from elsewhere, passed on from one place. Declares nothing.
-pub use Rattle.std.proofs.Common.{All, Bool, Global, IsFalse, IsSome, IsTrue, List, None, Option, Some, Vec, [], add-one, ap, append-nil, append_assoc, ap₂, arith, codes, cond, decimal, drop, false, filter, get_or, inl, inr, length, length-append, map, nat_le, refl, replicate, set, slice_get, slice_index, slice_range, subst, suc, sym, take, true, unwrap_or, zero, ℕ, ◌&&◌, ◌*◌, ◌++◌, ◌+◌, ◌-◌, ◌<◌, ◌==◌, ◌↔◌, ◌∙◌, ◌∷◌, ◌≡◌, ◌≢◌, ◌≤◌, ◌⊎◌}
+pub use Rattle.std.proofs.Common.{All, Bool, Global, IsFalse, IsSome, IsTrue, List, None, Option, Some, Vec, [], add-one, ap, append-nil, append_assoc, ap₂, arith, codes, decimal, drop, false, filter, get_or, inl, inr, length, length-append, map, refl, replicate, set, slice_get, slice_index, slice_range, subst, suc, sym, take, true, unwrap_or, zero, ℕ, ◌&&◌, ◌*◌, ◌++◌, ◌+◌, ◌-◌, ◌<◌, ◌==◌, ◌^◌, ◌↔◌, ◌∙◌, ◌∷◌, ◌≡◌, ◌≢◌, ◌≤◌, ◌⊎◌}
 pub use Rattle.std.proofs.Math.Nat.{le-max_left, le-max_right, max-le, mul-le-mul_left}
 pub use Rattle.std.proofs.Math.Seq.{drop-append_seam, drop-cons, take-length, take-nil}
-pub use Rattle.std.proofs.lemmas.Bool.{and_from, and_parts, cases_eq, cases_order, cond-false, cond-true, eq-eqb, eqb-true, leb-false, leb-true}
+pub use Rattle.std.proofs.lemmas.Bool.{and_from, and_parts, both_ways, cases_eq, cases_order, cond-false, cond-true, eq-eqb, eqb-true, leb-false, leb-true}
 pub use Rattle.std.proofs.lemmas.Grind.{flat_map-append}
 pub use Rattle.std.proofs.lemmas.List.{drop-append-le, drop_all, get_or-map, get_or-set_other, get_or-set_same, get_or_read, length-drop, length-map, length-set, map-append, map_push, take-append-drop, take-append-le, take_all, take_more}
 pub use Rattle.std.proofs.lemmas.List.Elements.{All-push}
@@ -12,12 +12,12 @@ pub use Rattle.std.proofs.lemmas.Result.{err_from_is_err_and}
 pub use Rattle.std.specs.List.{flat_map}
 pub use Rattle.std.specs.Option.{option_map, option_or}
 pub use Rattle.std.specs.Prelude.{max, min}
-pub use Rattle.roman_joint.specs.NamedSys.{IsNamedSys, NamedSys, seat_of, system_of}
+pub use Rattle.roman_joint.specs.NamedSys.{NamedSys, seat_of, system_of}
 pub use Rattle.roman_joint.specs.Names.{beh_name, seat_name}
 pub use Rattle.roman_joint.specs.Outcomes.{IsPairWith, outcome_number, outcome_numbers}
 pub use Rattle.roman_joint.specs.declared.outcomes.Outcomes.{Outcomes}
 pub use Rattle.roman_joint.specs.declared.seat.Seat.{Seat}
-pub use Rattle.roman_model.proofs.CallerLemmas.{allowed_in, allowed_in_range, by_test, choice_is, filter_below_more, filter_in, filter_same, filter_sublist, flat_map_row, from_allowed, from_below, from_flat_map, from_map, from_outcome, get_or-below, great_related, in_append_left, in_append_right, in_below, in_filter, in_flat_map, in_map, in_not_empty, least_bound, least_from_push, length-below, length_rows, listed_number, max_over-append, max_over-map, max_over_le, max_over_push, max_over_same, ne_not_empty, not_empty_in, not_empty_ne, number_listed, numbers_are_pairs, offer_is, offers_are, outcome_in, outcome_pair, outcome_seat, plans_least, rank, rank_at, related_great, related_offers, same_test, through_numbered}
+pub use Rattle.roman_model.proofs.CallerLemmas.{allowed_in, allowed_in_range, by_test, choice_is, filter_below_more, filter_in, filter_same, filter_sublist, flat_map_row, from_allowed, from_below, from_map, from_outcome, get_or-below, great_related, in_append_left, in_append_right, in_below, in_filter, in_flat_map, in_map, in_not_empty, least_bound, least_from_push, length-below, length_rows, listed_number, map-flat_map, max_over-append, max_over-map, max_over_le, max_over_push, max_over_same, ne_not_empty, not_empty_in, not_empty_ne, number_listed, numbers_are_pairs, offer_is, offers_are, outcome_in, outcome_pair, outcome_seat, plans_least, rank, rank_at, related_great, related_offers, same_test, through_numbered}
 pub use Rattle.roman_model.specs.Composition.{Great, GreatCouple, Serves, couple}
 pub use Rattle.roman_model.specs.Explanation.{name_at}
 pub use Rattle.roman_model.specs.Lists.{IsIn, below}
@@ -40,11 +40,12 @@ pub use Rattle.roman_cost.specs.AdviceText.{certificate_text, choice_line, servi
 unfoldable pub use Rattle.roman_cost.specs.AdviceText.{advice_text}
 pub use Rattle.roman_cost.specs.Advised.{AdviceTable, Advises, HavePlaces, related_pairs, value_rows}
 pub use Rattle.roman_cost.specs.Costs.{cost_step}
-pub use Rattle.roman_cost.specs.Filling.{AreOutcomes, AreSmall, IsRanked, better_of, ranked}
+pub use Rattle.roman_cost.specs.Filling.{AreOutcomes, IsCostRow, IsOffered, IsRanked, better_of, ranked}
 pub use Rattle.roman_cost.specs.Laws.{AdviceIsLeast}
 pub use Rattle.roman_cost.specs.ServingPlans.{CostsBy, Event, IsCheapest, IsLeastCost, IsServingPlan, IsWorstCost, MayCome, cost_of_events}
-pub use Rattle.roman_cost.specs.Tables.{AreOf, CostTable, HoldsCosts, cell_of, cost_of, listed_cost, seat_costs}
+pub use Rattle.roman_cost.specs.Tables.{AreOf, CostTable, HoldsCosts, cost_of, listed_cost, seat_costs}
 pub use Rattle.roman_cost.specs.Terms.{action_terms, cheaper_of, nothing_yet, outcome_terms, pair_terms, service_terms, worked_out}
 pub use Rattle.roman_cost.specs.declared.costs.Listed.{Listed}
 pub use Rattle.roman_cost.specs.declared.limits.TheConstants.{MAX_COST, MAX_REQUESTS}
+pub use Rattle.roman_cost.specs.declared.terms.Standing.{Standing}
 pub use Rattle.roman_cost.specs.declared.terms.Term.{Term}

@@ -1,7 +1,7 @@
 -- The text of advice names least costs.
 use Rattle.roman_cost.proofs.Common.{◌≡◌, ℕ, ◌-◌, List, ◌++◌, codes, sym, ap, flat_map, below, sizes_of, count, number, pair_at, least, least_at, choice, through, allowed_actions, Pair, IsPair, is_allowed, related_great, great_related, numbers_are_pairs, filter_in, from_allowed, filter_sublist, NamedSys, system_of, worst_line, choice_line, certificate_text, advice_text, related_pairs, seat_costs, Listed, AdviceIsLeast}
 use Rattle.roman_cost.proofs.PlanningLemmas.{in_allowed, least_cost, choice_cheapest, cheapest_same}
-use Rattle.roman_cost.proofs.Ranks.{related_at, in_related, from_related}
+use Rattle.roman_cost.proofs.Ranks.{related_at, in_related, related_below, related_is}
 
 -- the first line has the cost of the requests at the pair with that number
 same_text : (n : NamedSys) (listed : List Listed) (requests : ℕ) (p : Pair) → IsPair (system_of n) p →
@@ -26,11 +26,11 @@ advice_least n listed requests p ok pair great =
       cost = λ a. through s C (least s C (requests - 1)) p a (choice s C (requests - 1) p a);
       pairs = related_pairs s;
       related = λ q. (
-        λ i. let (l, t) = from_related s q i in (l, related_great s (pair_at (sizes_of s) q) ok ((numbers_are_pairs s).pair q l) t),
+        λ i. let l = related_below s q i in let t = related_is s q i in (l, related_great s (pair_at (sizes_of s) q) ok ((numbers_are_pairs s).pair q l) t),
         λ (l, g). in_related s q l (great_related s (pair_at (sizes_of s) q) ok g),
       );
       order = filter_sublist (related_at s) (below (count (sizes_of s)));
-      least = λ h q i. let (l, t) = from_related s q i in
+      least = λ h q i. let l = related_below s q i in let t = related_is s q i in
           let there = (numbers_are_pairs s).pair q l in
           least_cost s C h (pair_at (sizes_of s) q) ok there (related_great s (pair_at (sizes_of s) q) ok there t);
       actions = allowed_actions s p;

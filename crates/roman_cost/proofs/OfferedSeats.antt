@@ -1,17 +1,11 @@
 -- The offered seats of a related pair: each has outcomes, all of them are related, and its cost is the one that the definition gives.
-use Rattle.roman_cost.proofs.Common.{Outcomes, AreOutcomes, ranked, IsRanked, AreSmall, IsPairWith, outcome_number, outcome_numbers, Sizes, sizes_of, count, pair_at, number, numbered, MAX_CELLS, in_flat_map, from_map, in_map, not_empty_in, ne_not_empty, outcome_pair, great_related, offer_is, numbers_are_pairs, max_over_le, number_listed, not_empty_ne, in_not_empty, outcome_seat, through_numbered, max_over_same, get_or, ◌≡◌, ◌≢◌, ℕ, suc, ◌+◌, ◌*◌, ◌<◌, ◌≤◌, Bool, List, [], ◌∷◌, map, length, filter, slice_index, inl, inr, IsTrue, All, refl, sym, ap, ◌∙◌, subst, arith, IsIn, below, Sys, Pair, IsSys, IsPair, has, outcomes, is_allowed, is_related, offers, Costs, max_over, first_least, least, least_at, choice, through, cond-true, has_seat_is, related_pairs, HavePlaces, MAX_COST, MAX_REQUESTS, HasBits, has_seat}
+use Rattle.roman_cost.proofs.Common.{Outcomes, AreOutcomes, IsCostRow, IsOffered, ranked, IsRanked, IsPairWith, outcome_number, outcome_numbers, Sizes, sizes_of, count, pair_at, number, numbered, MAX_CELLS, in_flat_map, from_map, in_map, not_empty_in, ne_not_empty, outcome_pair, great_related, offer_is, numbers_are_pairs, max_over_le, number_listed, not_empty_ne, in_not_empty, outcome_seat, through_numbered, max_over_same, least_bound, related_great, related_offers, get_or, ◌≡◌, ◌≢◌, ℕ, suc, ◌+◌, ◌*◌, ◌<◌, ◌≤◌, Bool, List, [], ◌∷◌, map, length, filter, slice_index, inl, inr, IsTrue, All, refl, sym, ap, ◌∙◌, subst, arith, Option, Some, ◌^◌, IsIn, below, Sys, Pair, IsSys, IsPair, has, outcomes, is_allowed, is_related, offers, Costs, max_over, least, least_at, choice, through, cond-true, has_seat_is, related_pairs, MAX_COST, HasBits, has_seat, length-map, NamedSys, system_of, seat_of}
 use Rattle.std.proofs.Common.{flat_map}
-use Rattle.roman_cost.proofs.Best.{filter_has, first_least_same}
+use Rattle.roman_cost.proofs.Best.{best_of, best_of-first, filter_has}
 use Rattle.roman_cost.proofs.Rows.{all_from, in_at}
 use Rattle.roman_cost.proofs.Ranks.{in_related, ranked_value}
 
--- the facts about a seat that is offered for a at the pair with the number p
-pub record IsOffered (s : Sys) (p a k : ℕ) : Type 0 where
-  pub seat : k < length s.seats
-  pub ready : IsTrue ((numbered s).ready k)
-  pub some : (numbered s).outcomes p a k ≢ []
-  pub related : (q : ℕ) → IsIn q ((numbered s).outcomes p a k) → IsIn q (related_pairs s)
-
+-- an offered seat has outcomes, and leads only to related pairs
 pub offered : (s : Sys) (p a k : ℕ) → IsSys s → p < count (sizes_of s) → IsIn k (offers s (pair_at (sizes_of s) p) a) → IsOffered s p a k
 offered s p a k ok l i =
     let n = sizes_of s in
@@ -20,6 +14,8 @@ offered s p a k ok l i =
     let (allowed, below, some, all) = offer_is s P a k ok pair i in
     let (Q, j) = not_empty_in (outcomes s P a k) (ne_not_empty (outcomes s P a k) some) in
     record {
+      pair = l;
+      allowed = allowed;
       seat = below;
       ready = (outcome_seat s P a k Q j).1;
       some = not_empty_ne (map (number n) (outcomes s P a k)) (in_not_empty (number n Q) (map (number n) (outcomes s P a k)) (in_map (number n) Q (outcomes s P a k) j));
@@ -38,35 +34,41 @@ told_offered s p a k bits has_it ok l tell few is it =
     let seats = offers s (pair_at (sizes_of s) p) a in
     offered s p a k ok l (number_listed seats k (sym (has_seat_is bits (has seats) k tell few) ∙ (sym is ∙ it)))
 
-pub offered_ranked : (s : Sys) (p a k : ℕ) (ranks row : List ℕ) → IsOffered s p a k → HavePlaces (related_pairs s) ranks → length row ≡ length (related_pairs s) →
-    All (IsRanked ranks row) ((numbered s).outcomes p a k)
-offered_ranked s p a k ranks row is are long =
-    all_from (IsRanked ranks row) ((numbered s).outcomes p a k) (λ q i.
-    (are.within q (is.related q i), subst (λ m. m) refl (let l = are.below q (is.related q i) in omega arith)))
+pub offered_ranked : (s : Sys) (C : Costs) (h p a k : ℕ) (ranks row : List ℕ) → IsOffered s p a k → IsCostRow s C h ranks row → All (IsRanked ranks row) ((numbered s).outcomes p a k)
+offered_ranked s C h p a k ranks row is known =
+    let long : length row ≡ length (related_pairs s) = ap length known.values ∙ length-map (related_pairs s) (least_at s C h) in
+    all_from (IsRanked ranks row) ((numbered s).outcomes p a k) (λ q i. (known.places.within q (is.related q i), subst (λ m. slice_index ranks q < m) (sym long) (known.places.below q (is.related q i))))
 
--- the cost of a seat, by a row for the requests that follow
-abbrev pub cost_by : Sys → Costs → List ℕ → List ℕ → ℕ → ℕ → ℕ → ℕ
-cost_by s C ranks row p a k = C k a + max_over (ranked ranks row) ((numbered s).outcomes p a k)
-
-pub cost_is : (s : Sys) (C : Costs) (ranks row : List ℕ) (p a k h : ℕ) → IsSys s → p < count (sizes_of s) → HavePlaces (related_pairs s) ranks →
-    row ≡ map (least_at s C h) (related_pairs s) → IsIn k (offers s (pair_at (sizes_of s) p) a) →
-    cost_by s C ranks row p a k ≡ through s C (least s C h) (pair_at (sizes_of s) p) a k
-cost_is s C ranks row p a k h ok l are is i =
-    let known : IsOffered s p a k = offered s p a k ok l i in
+-- the cost of an offered seat, by a row for the requests that follow
+pub cost_is : (s : Sys) (C : Costs) (h p a k : ℕ) (ranks row : List ℕ) → IsOffered s p a k → IsCostRow s C h ranks row →
+    C k a + max_over (ranked ranks row) ((numbered s).outcomes p a k) ≡ through s C (least s C h) (pair_at (sizes_of s) p) a k
+cost_is s C h p a k ranks row is known =
     ap (λ m. C k a + m) (max_over_same (ranked ranks row) (least_at s C h) ((numbered s).outcomes p a k)
-    (λ q j. ranked_value s C h (related_pairs s) ranks row q are (known.related q j) is)) ∙ through_numbered s C h p a k ok l
+    (λ q j. ranked_value s C h (related_pairs s) ranks row q known.places (is.related q j) known.values)) ∙ through_numbered s C h p a k known.system is.pair
 
--- the best of the offered seats by that row is the choice
-pub best_is_choice : (s : Sys) (C : Costs) (ranks row : List ℕ) (p a h : ℕ) → IsSys s → p < count (sizes_of s) → HavePlaces (related_pairs s) ranks →
-    row ≡ map (least_at s C h) (related_pairs s) →
-    first_least (cost_by s C ranks row p a) (offers s (pair_at (sizes_of s) p) a) ≡ choice s C h (pair_at (sizes_of s) p) a
-best_is_choice s C ranks row p a h ok l are is =
-    first_least_same (cost_by s C ranks row p a) (through s C (least s C h) (pair_at (sizes_of s) p) a) (offers s (pair_at (sizes_of s) p) a)
-    (λ k i. cost_is s C ranks row p a k h ok l are is i)
+-- no cost is too great for the type
+pub through_fits : (s : Sys) (C : Costs) (h a k : ℕ) (P : Pair) (ranks row : List ℕ) → IsCostRow s C h ranks row → through s C (least s C h) P a k < 2 ^ 32
+through_fits s C h a k P ranks row known =
+    let own : C k a ≤ MAX_COST = known.cheap k a in
+    let rest : max_over (least s C h) (outcomes s P a k) ≤ h * MAX_COST = max_over_le (least s C h) (h * MAX_COST) (outcomes s P a k) (λ Q i. least_bound s C MAX_COST h Q known.cheap) in
+    let few = known.few in
+    omega arith
 
 -- the offers are the seats of the system that are among them
 pub offers_among : (s : Sys) (P : Pair) (a : ℕ) → IsTrue (is_allowed s P a) → filter (has (offers s P a)) (below (length s.seats)) ≡ offers s P a
 offers_among s P a allowed = grind (arith, cond-true, filter_has)
+
+-- the best of all offered seats is the choice, at its cost
+pub best_chosen : (n : NamedSys) (C : Costs) (h p a k : ℕ) (best : Option (ℕ × ℕ)) → IsSys (system_of n) → p < count (sizes_of (system_of n)) → IsTrue (is_related (system_of n) (pair_at (sizes_of (system_of n)) p)) →
+    IsTrue (is_allowed (system_of n) (pair_at (sizes_of (system_of n)) p) a) → k ≡ length n.seats →
+    best ≡ best_of (through (system_of n) C (least (system_of n) C h) (pair_at (sizes_of (system_of n)) p) a) (filter (has (offers (system_of n) (pair_at (sizes_of (system_of n)) p) a)) (below k)) →
+    best ≡ Some (choice (system_of n) C h (pair_at (sizes_of (system_of n)) p) a, through (system_of n) C (least (system_of n) C h) (pair_at (sizes_of (system_of n)) p) a (choice (system_of n) C h (pair_at (sizes_of (system_of n)) p) a))
+best_chosen n C h p a k best ok l related allowed end is =
+    let s = system_of n in
+    let P = pair_at (sizes_of s) p in
+    let cost = through s C (least s C h) P a in
+    is ∙ ap (λ m. best_of cost (filter (has (offers s P a)) (below m))) (end ∙ sym (length-map n.seats (seat_of n.catalogue))) ∙ ap (best_of cost) (offers_among s P a allowed)
+    ∙ best_of-first cost (offers s P a) (related_offers s P a ok (related_great s P ok ((numbers_are_pairs s).pair p l) related) allowed)
 
 -- if a delegation has outcomes, the seat goes to some state
 states_some : (g : ℕ → ℕ → ℕ) (envs states : List ℕ) → flat_map (λ e. map (g e) states) envs ≢ [] → 0 < length states
@@ -94,8 +96,3 @@ are_outcomes n k P o numbers is some all places few = record {
   each = λ i d l j e m. all_in P numbers (outcome_number o (get_or o.envs.now i d) (get_or o.states.now j e)) all
       (rw is (in_flat_map _ (get_or o.envs.now i d) _ o.envs.now (in_at o.envs.now i d l) (in_map (outcome_number o (get_or o.envs.now i d)) (get_or o.states.now j e) o.states.now (in_at o.states.now j e m))));
 }
-
--- the greatest value is within its bound
-pub greatest_small : (ranks row qs : List ℕ) → All (IsRanked ranks row) qs → AreSmall row → max_over (ranked ranks row) qs ≤ MAX_REQUESTS * MAX_COST
-greatest_small ranks row qs each small =
-    max_over_le (ranked ranks row) (MAX_REQUESTS * MAX_COST) qs (λ q i. small (slice_index ranks q) 0 (all_in (IsRanked ranks row) qs q each i).1)

@@ -8,8 +8,11 @@ related_at s p = is_related s (pair_at (sizes_of s) p)
 pub in_related : (s : Sys) (p : ℕ) → p < count (sizes_of s) → IsTrue (related_at s p) → IsIn p (related_pairs s)
 in_related s p l t = in_filter (related_at s) p (below (count (sizes_of s))) (in_below (count (sizes_of s)) p l) t
 
-pub from_related : (s : Sys) (p : ℕ) → IsIn p (related_pairs s) → (p < count (sizes_of s)) × IsTrue (related_at s p)
-from_related s p i = grind (arith, filter_in, from_below)
+pub related_below : (s : Sys) (p : ℕ) → IsIn p (related_pairs s) → p < count (sizes_of s)
+related_below s p i = grind (arith, filter_in, from_below)
+
+pub related_is : (s : Sys) (p : ℕ) → IsIn p (related_pairs s) → IsTrue (related_at s p)
+related_is s p i = grind (arith, filter_in)
 
 -- the answer of a relation about a pair is that test
 pub told_related : (s : Sys) (p : ℕ) (told : Bool) → IsSys s → p < count (sizes_of s) → (IsTrue told ↔ Great s (pair_at (sizes_of s) p)) → told ≡ related_at s p

@@ -7,7 +7,6 @@ use Rattle.roman_model.specs.Numbers.{sizes_of, count, pair_at}
 use Rattle.roman_model.specs.Offers.{is_related}
 use Rattle.roman_model.specs.Plans.{Costs, least_at}
 use Rattle.roman_cost.specs.declared.limits.TheConstants.{MAX_REQUESTS}
-use Rattle.roman_cost.specs.Filling.{AreSmall}
 
 -- the numbers of the related pairs, in rising order
 abbrev pub related_pairs : Sys → List ℕ
@@ -34,9 +33,8 @@ pub record HavePlaces (pairs ranks : List ℕ) : Type 0 where
   pub below : (p : ℕ) → IsIn p pairs → slice_index ranks p < length pairs
   pub at : (p : ℕ) → IsIn p pairs → slice_index pairs (slice_index ranks p) ≡ p
 
--- the number of requests is within its limit, the pairs have ranks, and each row has one value within its bound for each of them
+-- the number of requests is within its limit, the pairs have ranks, and each row has one value for each of them
 pub record HasRanks (requests : ℕ) (pairs places values : List ℕ) : Type 0 where
   pub few : requests ≤ MAX_REQUESTS
   pub ranks : HavePlaces pairs places
   pub len : length values ≡ suc requests * length pairs
-  pub small : AreSmall values

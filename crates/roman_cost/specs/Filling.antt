@@ -1,9 +1,41 @@
 -- How values are computed from those for one request fewer: the worst case of outcomes, and the least of seats.
-use Rattle.std.specs.Prelude.{ℕ, ◌+◌, ◌<◌, ◌≤◌, ◌*◌, ◌^◌, List, length, Option, None, Some, nat_le, if◌then◌else◌, slice_index}
+use Rattle.std.specs.Prelude.{◌≡◌, ◌≢◌, ℕ, ◌+◌, ◌<◌, ◌≤◌, ◌*◌, ◌^◌, List, [], map, length, Option, None, Some, nat_le, if◌then◌else◌, slice_index, IsTrue}
 use Rattle.std.specs.List.{All}
+use Rattle.roman_model.specs.Lists.{IsIn}
+use Rattle.roman_model.specs.Numbers.{sizes_of, count, numbered}
+use Rattle.roman_model.specs.Plans.{Costs, least_at}
+use Rattle.roman_model.specs.System.{Sys, IsSys}
+use Rattle.roman_joint.specs.NamedSys.{system_of}
 use Rattle.roman_joint.specs.Outcomes.{outcome_number}
 use Rattle.roman_joint.specs.declared.outcomes.Outcomes.{Outcomes}
+use Rattle.roman_relation.specs.Greatest.{IsRelation}
+use Rattle.roman_relation.specs.declared.relation.Relation.{Relation}
+use Rattle.roman_cost.specs.Advised.{related_pairs, HavePlaces}
+use Rattle.roman_cost.specs.Tables.{CostTable, AreOf}
 use Rattle.roman_cost.specs.declared.limits.TheConstants.{MAX_COST, MAX_REQUESTS}
+
+-- values can be computed: the list is complete, the costs are of its system, and the related pairs have ranks
+pub record CanFill (relation : Relation) (costs : CostTable) (ranks : List ℕ) : Type 0 where
+  pub complete : IsRelation relation.joint relation.order
+  pub priced : AreOf relation.joint costs
+  pub places : HavePlaces (related_pairs (system_of relation.joint)) ranks
+
+-- a row has the least costs of h requests at the related pairs, where each cost is within its limit and one more request is too
+pub record IsCostRow (s : Sys) (C : Costs) (h : ℕ) (ranks row : List ℕ) : Type 0 where
+  pub system : IsSys s
+  pub cheap : (k a : ℕ) → C k a ≤ MAX_COST
+  pub few : h < MAX_REQUESTS
+  pub places : HavePlaces (related_pairs s) ranks
+  pub values : row ≡ map (least_at s C h) (related_pairs s)
+
+-- the seat k can serve the allowed action a at the pair with the number p, and leads only to related pairs
+pub record IsOffered (s : Sys) (p a k : ℕ) : Type 0 where
+  pub pair : p < count (sizes_of s)
+  pub allowed : IsTrue ((numbered s).allows p a)
+  pub seat : k < length s.seats
+  pub ready : IsTrue ((numbered s).ready k)
+  pub some : (numbered s).outcomes p a k ≢ []
+  pub related : (q : ℕ) → IsIn q ((numbered s).outcomes p a k) → IsIn q (related_pairs s)
 
 -- the value of a pair in a row, at the place of its rank
 abbrev pub ranked : List ℕ → List ℕ → ℕ → ℕ
@@ -18,10 +50,6 @@ pub record AreOutcomes (P : ℕ → Type 0) (o : Outcomes) : Type 0 where
   pub envs : All (λ e. o.base + e * o.env_stride < 2 ^ 32) o.envs.now
   pub fits : All (λ e. All (λ b. outcome_number o e b < 2 ^ 32) o.states.now) o.envs.now
   pub each : All (λ e. All (λ b. P (outcome_number o e b)) o.states.now) o.envs.now
-
--- no value is greater than the greatest cost of the greatest number of requests
-abbrev pub AreSmall : List ℕ → Type 0
-AreSmall row = All (λ value. value ≤ MAX_REQUESTS * MAX_COST) row
 
 -- the better of the best seat so far, if there is one, and the seat k at the given cost
 abbrev pub better_of : Option (ℕ × ℕ) → ℕ → ℕ → Option (ℕ × ℕ)

@@ -1,5 +1,5 @@
 -- Listed costs, and the costs of behaviours by them.
-use Rattle.std.specs.Prelude.{◌≡◌, ℕ, ◌+◌, ◌*◌, ◌<◌, ◌≤◌, ◌==◌, ◌&&◌, List, [], ◌∷◌, length, Option, None, Some, unwrap_or, slice_get, slice_index, if◌then◌else◌}
+use Rattle.std.specs.Prelude.{◌≡◌, ℕ, ◌+◌, ◌*◌, ◌<◌, ◌≤◌, ◌==◌, ◌&&◌, List, [], ◌∷◌, length, Option, None, Some, unwrap_or, get_or, slice_get, if◌then◌else◌}
 use Rattle.std.specs.List.{All}
 use Rattle.roman_model.specs.Plans.{Costs}
 use Rattle.roman_model.specs.declared.limits.TheConstants.{MAX_BEHAVIOURS, MAX_ACTIONS}
@@ -38,16 +38,11 @@ pub record AreOf (n : NamedSys) (table : CostTable) : Type 0 where
   pub actions : table.actions ≡ length n.environment.actions
   pub env_actions : table.actions ≡ n.environment.env.actions
 
--- the cost plus 1, or 0 for none
-abbrev pub cell_of : Option ℕ → ℕ
-cell_of None = 0
-cell_of (Some cost) = cost + 1
-
 -- no listed cost is too great, and the cell of each behaviour and action has the cost that is listed for them
-pub record HoldsCosts (table : CostTable) (laid : List ℕ) : Type 0 where
+pub record HoldsCosts (table : CostTable) (laid : List (Option ℕ)) : Type 0 where
   pub few_behaviours : table.behaviours ≤ MAX_BEHAVIOURS
   pub few_actions : table.actions ≤ MAX_ACTIONS
   pub small : All (λ x. x.cost ≤ MAX_COST) table.listed
   pub len : length laid ≡ table.behaviours * table.actions
   pub cells : (b a : ℕ) → b < table.behaviours → a < table.actions →
-      slice_index laid (b * table.actions + a) ≡ cell_of (listed_cost table.listed b a)
+      get_or laid (b * table.actions + a) None ≡ listed_cost table.listed b a

@@ -10,7 +10,6 @@ ghost use Rattle.roman_model.specs.Plans as plans;
 ghost use Rattle.roman_joint.specs.NamedSys.{system_of};
 ghost use Rattle.roman_relation.specs.Greatest.{IsRelation};
 ghost use Rattle.roman_cost.specs.Advised.{Advises};
-ghost use Rattle.roman_cost.specs.Filling.{AreSmall};
 ghost use Rattle.roman_cost.specs.Tables.{seat_costs, AreOf};
 ghost use Rattle.roman_cost.specs.declared.error.AdviceError.TheVariants as error;
 
@@ -18,7 +17,7 @@ use crate::costs::Costs;
 use crate::error::AdviceError;
 use crate::filling::{first_terms, push_row, ranked_pairs, row_of};
 use crate::limits::{MAX_REQUESTS, MAX_VALUES};
-use crate::seats::cheapest;
+use crate::seats::{better, cost_through};
 use roman_generator::offers;
 use roman_relation::Relation;
 use std::alloc::Global;
@@ -147,7 +146,6 @@ impl Advice {
         requires { h ≤ self.now.requests }
         ensures row { (s : Sys) (C : plans.Costs) → Advises s C self.now → result.now ≡ map (least_at s C h) self.now.pairs }
         ensures len { length result.now ≡ length self.now.pairs }
-        ensures small { AreSmall result.now }
     {
         row_of(&self.values, h as usize, self.pairs.len())
     }
@@ -172,8 +170,18 @@ impl Advice {
             let C = seat_costs relation.now.joint costs.now.listed in
             result.1 ≡ through s C (least s C (h - 1)) (pair_at (sizes_of s) p) a result.0 }
     {
+        relation.joint.known(); // the system is well formed
+        costs.known(); // no cost is greater than MAX_COST
+        let ranks: &[u32] = &self.ranks;
         let row = self.row(h - 1);
         let offered = offers(relation, p, a);
-        cheapest(&relation.joint, costs, &self.ranks, row, p, a, offered)
+        let mut best = None;
+        for k in 0..relation.joint.seats() {
+            if offered.has(k) {
+                let cost = cost_through(&relation.joint, costs, ranks, row, p, a, k);
+                best = better(best, k, cost);
+            }
+        }
+        best.unwrap()
     }
 }

@@ -24,8 +24,8 @@ pub struct Costs {
     behaviours: usize,
     actions: usize,
     listed: Vec<Listed>,
-    // By behaviour and then by action: the cost plus 1, or 0 if no cost is listed.
-    cells: Vec<u32>,
+    // By behaviour and then by action: the listed cost, if there is one.
+    cells: Vec<Option<u32>>,
 }
 
 // One call. At each exit of a function that owns costs, a derived drop would be a step for each vector.
@@ -73,7 +73,7 @@ impl Costs {
             (λ costs. costs ≡ record { behaviours = behaviours; actions = actions; listed = [] }) }
     {
         let listed = Vec::with_capacity(alloc, room)?;
-        let cells = Vec::from_elem(alloc, 0, behaviours * actions)?;
+        let cells = Vec::from_elem(alloc, None, behaviours * actions)?;
         Ok(Costs {
             behaviours,
             actions,
@@ -88,7 +88,7 @@ impl Costs {
         requires action { a < self.now.actions }
         ensures { result ≡ is_some (listed_cost self.now.listed behaviour a) }
     {
-        self.cells[behaviour as usize * self.actions + a as usize] != 0
+        self.cells[behaviour as usize * self.actions + a as usize].is_some()
     }
 
     /// Appends a cost to the list. Requires that no cost is listed for its behaviour and action
@@ -101,7 +101,7 @@ impl Costs {
         ensures put { OnOk result (self.new ≡ record self.old { listed = self.old.listed ++ item ∷ [] }) }
     {
         self.listed.push(item)?;
-        self.cells[item.behaviour as usize * self.actions + item.action as usize] = item.cost + 1;
+        self.cells[item.behaviour as usize * self.actions + item.action as usize] = Some(item.cost);
         Ok(())
     }
 
@@ -114,12 +114,13 @@ impl Costs {
 
     /// Returns the cost of a behaviour, given by its place in the catalogue, for the action `a`:
     /// the listed cost, or 0 if none is listed.
+    #[tactic(auto, using(crate::proofs::CostLemmas::cost_of_small))]
     pub fn cost(&self, behaviour: u8, a: u8) -> u32
         requires behaviour { behaviour < self.now.behaviours }
         requires action { a < self.now.actions }
         ensures cost { result ≡ cost_of self.now.listed behaviour a }
         ensures small { result ≤ MAX_COST }
     {
-        self.cells[behaviour as usize * self.actions + a as usize].saturating_sub(1)
+        self.cells[behaviour as usize * self.actions + a as usize].unwrap_or(0)
     }
 }

@@ -5,7 +5,7 @@ ghost use Rattle.roman_cost.specs.declared.error.CostError.TheVariants as cost;
 ghost use Rattle.roman_cost.specs.declared.error.AdviceError.TheVariants as advice;
 
 use roman_read::Kind;
-use std::alloc::{AllocError, AllocFailed};
+use std::alloc::AllocError;
 use thiserror::Error;
 
 /// The reasons why a text's costs can't be read.
@@ -51,14 +51,6 @@ impl From<AllocError> for CostError {
     }
 }
 
-impl<T: Drop> From<AllocFailed<T>> for CostError {
-    ghost from_gives = { λ _ error. error ≡ cost.Memory };
-
-    fn from(_error: AllocFailed<T>) -> CostError {
-        CostError::Memory
-    }
-}
-
 /// The reasons why advice can't be built.
 #[derive(Clone, Copy, Debug, PartialEq, Eq, Error)]
 pub enum AdviceError {
@@ -87,14 +79,6 @@ impl From<AllocError> for AdviceError {
     ghost from_gives = { λ _ error. error ≡ advice.Memory };
 
     fn from(_error: AllocError) -> AdviceError {
-        AdviceError::Memory
-    }
-}
-
-impl<T: Drop> From<AllocFailed<T>> for AdviceError {
-    ghost from_gives = { λ _ error. error ≡ advice.Memory };
-
-    fn from(_error: AllocFailed<T>) -> AdviceError {
         AdviceError::Memory
     }
 }

@@ -6,8 +6,8 @@ ghost use Rattle.roman_model.specs.Plans.{least_at};
 ghost use Rattle.roman_joint.specs.NamedSys.{system_of};
 ghost use Rattle.roman_relation.specs.Greatest.{IsRelation};
 ghost use Rattle.roman_cost.specs.Advised.{related_pairs, value_rows, HavePlaces};
-ghost use Rattle.roman_cost.specs.Filling.{AreSmall};
-ghost use Rattle.roman_cost.specs.Tables.{seat_costs, AreOf};
+ghost use Rattle.roman_cost.specs.Filling.{CanFill, IsCostRow};
+ghost use Rattle.roman_cost.specs.Tables.{seat_costs};
 ghost use Rattle.roman_cost.specs.Terms.{pair_terms};
 ghost use Rattle.roman_cost.specs.declared.limits.TheConstants.{MAX_REQUESTS};
 
@@ -28,7 +28,7 @@ pub(crate) fn ranked_pairs(
 ) -> Result<(Vec<u32>, Vec<u32>), AllocError>
     requires { IsRelation relation.now.joint relation.now.order }
     ensures pairs { IfOk result (λ made. made.0.items ≡ related_pairs (system_of relation.now.joint)) }
-    ensures ranks { IfOk result (λ made. HavePlaces made.0.items made.1.items) }
+    ensures ranks { IfOk result (λ made. HavePlaces (related_pairs (system_of relation.now.joint)) made.1.items) }
 {
     relation.joint.known(); // the system is well formed
     let count = relation.joint.shape().pairs();
@@ -52,10 +52,8 @@ pub(crate) fn first_terms(
     pairs: &[u32],
     ranks: &[u32],
 ) -> Result<(Vec<Term>, usize), AllocError>
-    requires relation { IsRelation relation.now.joint relation.now.order }
-    requires costs { AreOf relation.now.joint costs.now }
+    requires known { CanFill relation.now costs.now ranks.now }
     requires pairs { pairs.now ≡ related_pairs (system_of relation.now.joint) }
-    requires ranks { HavePlaces pairs.now ranks.now }
     ensures within { IfOk result (λ made. made.1 ≤ length pairs.now) }
     ensures terms { let n = relation.now.joint in IfOk result (λ made. made.0.items
         ≡ flat_map (pair_terms (system_of n) (seat_costs n costs.now.listed) ranks.now) (take made.1 pairs.now)) }
@@ -85,10 +83,8 @@ pub(crate) fn push_row(
     spare: &mut Vec<Term>,
     h: u8,
 ) -> Result<(), AllocError>
-    requires relation { IsRelation relation.now.joint relation.now.order }
-    requires costs { AreOf relation.now.joint costs.now }
+    requires known { CanFill relation.now costs.now ranks.now }
     requires pairs { pairs.now ≡ related_pairs (system_of relation.now.joint) }
-    requires ranks { HavePlaces pairs.now ranks.now }
     requires told { told ≤ length pairs.now }
     requires terms { let n = relation.now.joint in terms.now
         ≡ flat_map (pair_terms (system_of n) (seat_costs n costs.now.listed) ranks.now) (take told pairs.now) }
@@ -119,17 +115,12 @@ fn work_out_others(
     values: &mut Vec<u32>,
     spare: &mut Vec<Term>,
 ) -> Result<(), AllocError>
-    requires relation { IsRelation relation.now.joint relation.now.order }
-    requires costs { AreOf relation.now.joint costs.now }
+    requires known { CanFill relation.now costs.now ranks.now }
     requires others { (p : ℕ) → IsIn p others.now → IsIn p (related_pairs (system_of relation.now.joint)) }
-    requires ranks { HavePlaces (related_pairs (system_of relation.now.joint)) ranks.now }
-    requires small { AreSmall row.now }
     ensures { let n = relation.now.joint in let s = system_of n in let C = seat_costs n costs.now.listed in
-        (h : ℕ) → row.now ≡ map (least_at s C h) (related_pairs s) →
+        (h : ℕ) → IsCostRow s C h ranks.now row.now →
         OnOk result (values.new.items ≡ values.old.items ++ map (least_at s C (suc h)) others.now) }
 {
-    costs.known(); // no cost is greater than MAX_COST
-    relation.joint.known(); // the system is well formed
     for p in others {
         spare.clear();
         push_pair(spare, relation, costs, ranks, *p)?;

@@ -43,10 +43,7 @@ pub(crate) fn items_of(v: &Value) -> Result<&[Value], CostError>
     ensures items { ReadsAs (λ x. items_view x.now) result (looked list.Whole 0 (list_of (view v.now))) }
     ensures quiet { IsFaultless result }
 {
-    match list(v) {
-        Ok(items) => Ok(items),
-        Err(_) => Err(refused(Kind::Form)),
-    }
+    list(v).map_err(|_| refused(Kind::Form))
 }
 
 /// Returns the parts of the item `index`, which must be a list.
@@ -54,10 +51,7 @@ pub(crate) fn parts_of(v: &Value, index: u32) -> Result<&[Value], CostError>
     ensures parts { ReadsAs (λ x. items_view x.now) result (looked list.Steps index (list_of (view v.now))) }
     ensures quiet { IsFaultless result }
 {
-    match list(v) {
-        Ok(items) => Ok(items),
-        Err(_) => Err(refused_at(Kind::Form, index)),
-    }
+    list(v).map_err(|_| refused_at(Kind::Form, index))
 }
 
 /// Returns a number of the item `index`.
@@ -65,10 +59,7 @@ pub(crate) fn number_at(v: &Value, index: u32) -> Result<u64, CostError>
     ensures number { ReadsAs (λ x. x) result (looked list.Steps index (number_of (view v.now))) }
     ensures quiet { IsFaultless result }
 {
-    match number(v) {
-        Ok(found) => Ok(found),
-        Err(_) => Err(refused_at(Kind::Form, index)),
-    }
+    number(v).map_err(|_| refused_at(Kind::Form, index))
 }
 
 #[tactic(auto, unfolding(roman_parts::specs::Lists::place_in))]
@@ -82,14 +73,8 @@ pub(crate) fn behaviour_at(
     ensures within { IfOk result (λ place. place < length catalogue.now) }
     ensures quiet { IsFaultless result }
 {
-    let text = match text(v) {
-        Ok(text) => text,
-        Err(_) => return Err(refused_at(Kind::Form, index)),
-    };
-    match place_of_behaviour(catalogue, text.as_bytes()) {
-        Some(place) => Ok(place),
-        None => Err(refused_at(Kind::Unknown, index)),
-    }
+    let text = text(v).map_err(|_| refused_at(Kind::Form, index))?;
+    place_of_behaviour(catalogue, text.as_bytes()).ok_or_else(|| refused_at(Kind::Unknown, index))
 }
 
 #[tactic(auto, unfolding(roman_parts::specs::Lists::place_in))]
@@ -99,12 +84,8 @@ pub(crate) fn action_at(actions: &NameTable, v: &Value, index: u32) -> Result<u3
     ensures within { IfOk result (λ place. place < length actions.now) }
     ensures quiet { IsFaultless result }
 {
-    let text = match text(v) {
-        Ok(text) => text,
-        Err(_) => return Err(refused_at(Kind::Form, index)),
-    };
-    match actions.find(text.as_bytes()) {
-        Some(place) => Ok(place),
-        None => Err(refused_at(Kind::Unknown, index)),
-    }
+    let text = text(v).map_err(|_| refused_at(Kind::Form, index))?;
+    actions
+        .find(text.as_bytes())
+        .ok_or_else(|| refused_at(Kind::Unknown, index))
 }

@@ -1,14 +1,13 @@
 //! Represents the values of related pairs as terms, so that one pass over the terms computes each
 //! row of values.
-ghost use Rattle.std.specs.Prelude.{◌≡◌, ◌≢◌, ◌+◌, ◌*◌, ◌^◌, ◌<◌, ◌++◌, [], All, length, map, slice_index, IsTrue, OnOk};
+ghost use Rattle.std.specs.Prelude.{◌≡◌, ◌+◌, ◌*◌, ◌^◌, ◌<◌, ◌++◌, All, length, map, slice_index, IsTrue, OnOk};
+ghost use Rattle.roman_model.specs.Lists.{IsIn};
 ghost use Rattle.roman_model.specs.SystemArena.{is_allowed};
-ghost use Rattle.roman_model.specs.Numbers.{sizes_of, count, pair_at, numbered};
-ghost use Rattle.roman_model.specs.Offers.{is_related};
+ghost use Rattle.roman_model.specs.Numbers.{sizes_of, pair_at};
 ghost use Rattle.roman_joint.specs.NamedSys.{system_of};
 ghost use Rattle.roman_joint.specs.Outcomes.{outcome_numbers};
-ghost use Rattle.roman_relation.specs.Greatest.{IsRelation};
 ghost use Rattle.roman_cost.specs.Advised.{related_pairs, HavePlaces};
-ghost use Rattle.roman_cost.specs.Filling.{AreOutcomes};
+ghost use Rattle.roman_cost.specs.Filling.{AreOutcomes, CanFill, IsOffered};
 ghost use Rattle.roman_cost.specs.Tables.{seat_costs, AreOf};
 ghost use Rattle.roman_cost.specs.Terms.{nothing_yet, cheaper_of, stepped, worked_out, outcome_terms, service_terms, action_terms, pair_terms};
 
@@ -125,11 +124,8 @@ pub(crate) fn push_pair(
     ranks: &[u32],
     p: u32,
 ) -> Result<(), AllocError>
-    requires relation { IsRelation relation.now.joint relation.now.order }
-    requires costs { AreOf relation.now.joint costs.now }
-    requires pair { p < count (sizes_of (system_of relation.now.joint)) }
-    requires related { IsTrue (is_related (system_of relation.now.joint) (pair_at (sizes_of (system_of relation.now.joint)) p)) }
-    requires ranks { HavePlaces (related_pairs (system_of relation.now.joint)) ranks.now }
+    requires known { CanFill relation.now costs.now ranks.now }
+    requires pair { IsIn p (related_pairs (system_of relation.now.joint)) }
     ensures { let n = relation.now.joint in
         OnOk result (terms.new.items ≡ terms.old.items ++ pair_terms (system_of n) (seat_costs n costs.now.listed) ranks.now p) }
 {
@@ -142,6 +138,7 @@ pub(crate) fn push_pair(
     Ok(())
 }
 
+#[tactic(auto, using(crate::proofs::Ranks::related_below, crate::proofs::Ranks::related_is))]
 /// Appends the terms of the action `a` at the related pair `p`. Fails only when out of memory.
 fn push_action(
     terms: &mut Vec<Term>,
@@ -151,12 +148,9 @@ fn push_action(
     p: u32,
     a: u8,
 ) -> Result<(), AllocError>
-    requires relation { IsRelation relation.now.joint relation.now.order }
-    requires costs { AreOf relation.now.joint costs.now }
-    requires pair { p < count (sizes_of (system_of relation.now.joint)) }
-    requires related { IsTrue (is_related (system_of relation.now.joint) (pair_at (sizes_of (system_of relation.now.joint)) p)) }
+    requires known { CanFill relation.now costs.now ranks.now }
+    requires pair { IsIn p (related_pairs (system_of relation.now.joint)) }
     requires allowed { IsTrue (is_allowed (system_of relation.now.joint) (pair_at (sizes_of (system_of relation.now.joint)) p) a) }
-    requires ranks { HavePlaces (related_pairs (system_of relation.now.joint)) ranks.now }
     ensures { let n = relation.now.joint in
         OnOk result (terms.new.items ≡ terms.old.items ++ action_terms (system_of n) (seat_costs n costs.now.listed) ranks.now p a) }
 {
@@ -183,12 +177,9 @@ fn push_service(
     k: u8,
 ) -> Result<(), AllocError>
     requires costs { AreOf joint.now costs.now }
-    requires pair { p < count (sizes_of (system_of joint.now)) }
+    requires ranks { HavePlaces (related_pairs (system_of joint.now)) ranks.now }
     requires seat { k < length joint.now.seats }
-    requires allowed { IsTrue ((numbered (system_of joint.now)).allows p a) }
-    requires ready { IsTrue ((numbered (system_of joint.now)).ready k) }
-    requires some { (numbered (system_of joint.now)).outcomes p a k ≢ [] }
-    requires ranked { All (λ q. q < length ranks.now) ((numbered (system_of joint.now)).outcomes p a k) }
+    requires offered { IsOffered (system_of joint.now) p a k }
     ensures { OnOk result (terms.new.items
         ≡ terms.old.items ++ service_terms (system_of joint.now) (seat_costs joint.now costs.now.listed) ranks.now p a k) }
 {

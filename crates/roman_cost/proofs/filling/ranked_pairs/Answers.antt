@@ -1,4 +1,4 @@
-use Rattle.roman_cost.proofs.Common.{◌≡◌, ◌<◌, ℕ, Bool, Vec, Global, List, [], ◌∷◌, ◌++◌, length, ap, sym, ◌∙◌, arith, rank, sizes_of, count, system_of}
+use Rattle.roman_cost.proofs.Common.{◌≡◌, ◌<◌, ℕ, Bool, Vec, Global, List, [], ◌∷◌, ◌++◌, length, ap, sym, ◌∙◌, arith, filter, rank, below, related_pairs, sizes_of, count, system_of}
 use Rattle.roman_cost.proofs.Best.{filter_taken, filter_passed}
 use Rattle.roman_cost.proofs.Ranks.{related_at, told_related, rank-le, ranks_more, ranks_done}
 use Rattle.roman_cost.proofs.filling.ranked_pairs.Goals as goal
@@ -25,4 +25,6 @@ loop-p-preserved c =
 
 pub returns-clause-ranks : goal.returns-clause-ranks
 returns-clause-ranks c =
-    ranks_done (related_at (system_of c.args.relation.now.joint)) c.loop-p.p c.loop-p.pairs.items c.loop-p.ranks.items c.loop-p.invariant.pairs c.loop-p.invariant.ranks
+    let s = system_of c.args.relation.now.joint in
+    let end : c.loop-p.p ≡ count (sizes_of s) = omega (arith, c.loop-p-test.false, c.loop-p.auto.p-end, c.pairs-count.ensures, ap count c.shape.ensures) in
+    ranks_done (related_at s) c.loop-p.p (related_pairs s) c.loop-p.ranks.items (ap (λ n. filter (related_at s) (below n)) (sym end)) c.loop-p.invariant.ranks

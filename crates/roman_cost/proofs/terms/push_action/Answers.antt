@@ -1,21 +1,15 @@
-use Rattle.roman_cost.proofs.Common.{◌≡◌, ◌<◌, ℕ, Bool, ◌++◌, [], ◌∷◌, List, Vec, Global, length, filter, sym, ap, ◌∙◌, arith, append_assoc, flat_map, length-map, below, sizes_of, pair_at, numbered, offers, has, has_seat_is, system_of, seat_of, seat_costs, service_terms, Term}
+use Rattle.roman_cost.proofs.Common.{◌≡◌, ◌<◌, ℕ, Bool, ◌++◌, [], ◌∷◌, List, Vec, Global, length, filter, sym, ap, ◌∙◌, arith, append_assoc, flat_map, length-map, below, sizes_of, pair_at, offers, has, has_seat_is, system_of, seat_of, seat_costs, service_terms, Term}
 use Rattle.roman_cost.specs.declared.terms.Term.TheVariants as term
 use Rattle.roman_cost.proofs.OfferedSeats.{told_offered, offers_among}
-use Rattle.roman_cost.proofs.Rows.{all_from}
+use Rattle.roman_cost.proofs.Ranks.{related_below}
 use Rattle.roman_cost.proofs.TermLemmas.{flat_taken, flat_passed}
 use Rattle.roman_cost.proofs.terms.push_action.Goals as goal
 use Rattle.roman_cost.proofs.terms.push_action.Goals.{then-has+in_ok-push_service, else-has}
 
-pub push_service-requires-clause-ready : goal.push_service-requires-clause-ready
-push_service-requires-clause-ready c = (told_offered (system_of c.args.relation.now.joint) c.args.p c.args.a c.loop-k.k _ _ c.known.ensures.system c.requires.pair c.offers-offered.ensures.offers (omega arith) c.has.ensures c.if-has.true).ready
-
-pub push_service-requires-clause-some : goal.push_service-requires-clause-some
-push_service-requires-clause-some c = (told_offered (system_of c.args.relation.now.joint) c.args.p c.args.a c.loop-k.k _ _ c.known.ensures.system c.requires.pair c.offers-offered.ensures.offers (omega arith) c.has.ensures c.if-has.true).some
-
-pub push_service-requires-clause-ranked : goal.push_service-requires-clause-ranked
-push_service-requires-clause-ranked c =
-    let known = told_offered (system_of c.args.relation.now.joint) c.args.p c.args.a c.loop-k.k _ _ c.known.ensures.system c.requires.pair c.offers-offered.ensures.offers (omega arith) c.has.ensures c.if-has.true in
-    all_from (λ q. q < length c.args.ranks.now) ((numbered (system_of c.args.relation.now.joint)).outcomes c.args.p c.args.a c.loop-k.k) (λ q j. c.requires.ranks.within q (known.related q j))
+pub push_service-requires-clause-offered : goal.push_service-requires-clause-offered
+push_service-requires-clause-offered c =
+    let s = system_of c.args.relation.now.joint in
+    told_offered s c.args.p c.args.a c.loop-k.k _ _ c.known.ensures.system (related_below s c.args.p c.requires.pair) c.offers-offered.ensures.offers (omega arith) c.has.ensures c.if-has.true
 
 pub loop-k-preserved : goal.loop-k-preserved
 loop-k-preserved c =

@@ -1,7 +1,11 @@
 use Rattle.roman_cost.proofs.Common.{ℕ, Bool, List, Vec, Global, sym, ap, ◌∙◌, sizes_of, pair_at, is_allowed, system_of, seat_costs, action_terms, Term}
+use Rattle.roman_cost.proofs.Ranks.{related_below}
 use Rattle.roman_cost.proofs.TermLemmas.{flat_taken, flat_passed}
 use Rattle.roman_cost.proofs.terms.push_pair.Goals as goal
 use Rattle.roman_cost.proofs.terms.push_pair.Goals.{then-allowed+in_ok-push_action, else-allowed}
+
+pub allowed-requires-clause-pair : goal.allowed-requires-clause-pair
+allowed-requires-clause-pair c = related_below (system_of c.args.relation.now.joint) c.args.p c.requires.pair
 
 pub loop-a-preserved : goal.loop-a-preserved
 loop-a-preserved c =

@@ -1,6 +1,5 @@
-use Rattle.roman_cost.proofs.Common.{◌≡◌, suc, length, ap, sym, ◌∙◌, subst, arith, least_at, length_rows, system_of, value_rows, AreSmall, seat_costs}
-use Rattle.roman_cost.proofs.CostLemmas.{seat_costs_small}
-use Rattle.roman_cost.proofs.Rows.{resized_row, rows_small}
+use Rattle.roman_cost.proofs.Common.{◌≡◌, suc, length, ap, sym, ◌∙◌, subst, arith, least_at, length_rows, system_of, value_rows, HavePlaces, seat_costs}
+use Rattle.roman_cost.proofs.Rows.{resized_row}
 use Rattle.roman_cost.proofs.advice.Advice.build.Goals as goal
 
 pub loop-done-init : goal.loop-done-init
@@ -15,8 +14,6 @@ invariant_of-result c =
     c.loop-done.invariant ∙ ap (λ n. value_rows s C c.in_ok-pairs.pairs.items (suc n)) end in
     record {
       few = c.requires.requests.1;
-      ranks = c.in_ok-pairs.ensures.ranks;
+      ranks = subst (λ ps. HavePlaces ps c.in_ok-pairs.ranks.items) (sym c.in_ok-pairs.ensures.pairs) c.in_ok-pairs.ensures.ranks;
       len = ap length values ∙ length_rows (least_at s C) c.in_ok-pairs.pairs.items (suc c.args.h);
-      small = subst AreSmall (sym values)
-          (rows_small s C c.in_ok-pairs.pairs.items (suc c.args.h) (seat_costs_small c.args.relation.now.joint c.args.costs.now.listed c.known.ensures) (omega (arith, c.requires.requests.1)));
     }
