@@ -89,12 +89,12 @@ pub state_of_seat : (s : Sys) (t e b : ℕ) (x : Sight) (p : Pair) (seat : Seat)
 state_of_seat s t e b x p seat before seated = subst (λ n. n < seat.beh.states) before.state (state_within s p x.seat seat before.pair seated)
 
 -- the states that a shape of the system reads from the number of a pair are those of the pair
-pub at_number : (s : Sys) (shape : Sizes) (p t e b : ℕ) (x : Sight) → shape ≡ sizes_of s → p < count (sizes_of s) → t ≡ (pair_at shape p).t → e ≡ (pair_at shape p).e →
-    b ≡ slice_index (pair_at shape p).bs x.seat → IsTrue (is_allowed s (pair_at (sizes_of s) p) x.action) → IsBefore s t e b x (pair_at (sizes_of s) p)
-at_number s shape p t e b x same l t_is e_is b_is allowed = record {
+pub at_number : (s : Sys) (shape : Sizes) (p t e b a k b' e' : ℕ) → shape ≡ sizes_of s → p < count (sizes_of s) → t ≡ (pair_at shape p).t → e ≡ (pair_at shape p).e → b ≡ slice_index (pair_at shape p).bs k →
+    IsTrue (is_allowed s (pair_at (sizes_of s) p) a) → IsBefore s t e b (record { action = a; seat = k; state = b'; env = e' }) (pair_at (sizes_of s) p)
+at_number s shape p t e b a k b' e' same l t_is e_is b_is allowed = record {
   pair = (numbers_are_pairs s).pair p l;
   target = ap (λ (m : Sizes). (pair_at m p).t) (sym same) ∙ sym t_is;
   env = ap (λ (m : Sizes). (pair_at m p).e) (sym same) ∙ sym e_is;
-  state = ap (λ (m : Sizes). slice_index (pair_at m p).bs x.seat) (sym same) ∙ sym b_is;
+  state = ap (λ (m : Sizes). slice_index (pair_at m p).bs k) (sym same) ∙ sym b_is;
   allowed = allowed;
 }
