@@ -1,9 +1,9 @@
 -- A session after its services changed.
-use Rattle.roman_session.proofs.Common.{◌≡◌, ℕ, ◌<◌, ◌≤◌, ◌+◌, Bool, List, [], ◌∷◌, ◌++◌, true, false, Some, IsTrue, IsFalse, not, map, length, drop, slice_get, vec_capacity, refl, sym, ap, ap₂, ◌∙◌, subst, arith, length-map, get_or_from_slice_get, Sys, Pair, IsPair, is_ready, arena, Join, Sizes, sizes_of, number, MAX_BEHAVIOURS, MAX_SERVICES, there_is, NamedSys, IsNamedSys, Relation, reply_text, Reply, Situation, present_system, IsPhase, seat_at, with_room, CanJoin, Joining, states_long, cases_lt, freezing, thawing, dying, Does, Changes, situation_in, IsSession, Phase, Idle, Offered, Inside, take, Vec, Global, vec_len, inl, inr, take-append-drop, length-drop, length-take, remove, Entry, replay, IsComplete, CanChange, Freeze, Thaw, Die, rename, entry_at, turned, IsPair-turned, IsPair-grown, IsPair-without, sizes-turned, IsRepaired, Tally, Changing, growing, parts_after, Joins}
+use Rattle.roman_session.proofs.Common.{◌≡◌, ℕ, ◌<◌, ◌≤◌, ◌+◌, Bool, List, [], ◌∷◌, ◌++◌, true, false, Some, IsTrue, IsFalse, not, map, length, drop, slice_get, vec_capacity, refl, sym, ap, ap₂, ◌∙◌, subst, arith, length-map, get_or_from_slice_get, Sys, Pair, IsPair, is_ready, arena, Join, Sizes, sizes_of, number, MAX_BEHAVIOURS, MAX_SERVICES, there_is, NamedSys, IsNamedSys, Relation, reply_text, Reply, Situation, present_system, IsPhase, seat_at, with_room, CanJoin, Joining, states_long, cases_lt, freezing, thawing, dying, Does, Changes, situation_in, IsSession, Phase, Idle, Offered, Inside, take, Vec, Global, vec_len, inl, inr, take-append-drop, length-drop, length-take, remove, Entry, replay, IsComplete, CanChange, Change, freeze, thaw, die, after, died, frozen, thawed, Ok, Result, StepOn, LineShape, Dies, Thaws, Freezes, Freeze, Thaw, Die, rename, entry_at, turned, IsPair-turned, IsPair-grown, IsPair-without, sizes-turned, IsRepaired, Tally, Changing, growing, parts_after, Joins}
 use Rattle.roman_model.specs.System.{Seat}
 use Rattle.roman_joint.specs.NamedSys as joint
 use Rattle.roman_text.specs.declared.replies.Reply.TheVariants as reply
-use Rattle.roman_session.proofs.RulingLemmas.{cells_with, with_room_is, no_room_is}
+use Rattle.roman_session.proofs.RulingLemmas.{cells_with, with_room_is, no_room_is, frozen_is, thawed_is, died_is}
 
 -- the seat of a present service
 pub seat_is : (s : Situation) (k : ℕ) → k < length s.parts.seats → slice_get (present_system s).seats k ≡ Some (seat_at s k)
@@ -92,30 +92,6 @@ changed a b x tally ok old_idle new_idle parts here repaired known pair counted 
 abbrev pub turned_fields : Inside → Relation → Inside
 turned_fields a relation = record { relation = relation; target = a.target; env = a.env; states = a.states; number = a.number; phase = a.phase; mask = a.mask }
 
--- the pair and its number stay the same
-turned_pair : (a : Inside) (relation : Relation) (k : ℕ) (frozen : Bool) → IsSession a → joint.system_of relation.joint ≡ turned (joint.system_of a.relation.joint) k frozen →
-    IsPair (joint.system_of relation.joint) (situation_in a).here × (a.number ≡ number (sizes_of (joint.system_of relation.joint)) (situation_in a).here)
-turned_pair a relation k frozen ok same =
-    let s = joint.system_of a.relation.joint in
-    let here = (situation_in a).here in (
-      subst (λ (s : Sys). IsPair s here) (sym same) (IsPair-turned s k frozen here ok.known.here),
-      ok.numbered ∙ ap (λ (n : Sizes). number n here) (sym (sizes-turned s k frozen)) ∙ ap (λ (s : Sys). number (sizes_of s) here) (sym same),
-    )
-
-pub frozen_now : (a : Inside) (relation : Relation) (k : ℕ) (tally : Tally) → IsSession a → a.phase ≡ Idle → relation.joint ≡ parts_after (situation_in a) (freezing (situation_in a) k) →
-    IsRepaired (Freeze k) a.relation.joint a.relation.order relation.joint relation.order tally → IsNamedSys relation.joint →
-    HasChanged a (turned_fields a relation) (freezing (situation_in a) k) tally
-frozen_now a relation k tally ok idle parts repaired known =
-    let (pair, counted) = turned_pair a relation k true ok repaired.system in
-    changed a (turned_fields a relation) (freezing (situation_in a) k) tally ok idle idle parts refl repaired known pair counted ok.room
-
-pub thawed_now : (a : Inside) (relation : Relation) (k : ℕ) (tally : Tally) → IsSession a → a.phase ≡ Idle → relation.joint ≡ parts_after (situation_in a) (thawing (situation_in a) k) →
-    IsRepaired (Thaw k) a.relation.joint a.relation.order relation.joint relation.order tally → IsNamedSys relation.joint →
-    HasChanged a (turned_fields a relation) (thawing (situation_in a) k) tally
-thawed_now a relation k tally ok idle parts repaired known =
-    let (pair, counted) = turned_pair a relation k false ok repaired.system in
-    changed a (turned_fields a relation) (thawing (situation_in a) k) tally ok idle idle parts refl repaired known pair counted ok.room
-
 -- the fields with another relation and other states, after a service joined or died
 abbrev pub moved_fields : Inside → Relation → Vec ℕ Global → ℕ → Inside
 moved_fields a relation states n = record { relation = relation; target = a.target; env = a.env; states = states; number = n; phase = a.phase; mask = a.mask }
@@ -124,44 +100,88 @@ moved_fields a relation states n = record { relation = relation; target = a.targ
 abbrev pub with_states : Inside → List ℕ → Pair
 with_states a bs = record { t = a.target; e = a.env; bs = bs }
 
--- the number of the pair with these states, given as a slice
-pub counted_now : (a : Inside) (relation : Relation) (states : Vec ℕ Global) (bs : List ℕ) (n : ℕ) → bs ≡ states.items → n ≡ number (sizes_of (joint.system_of relation.joint)) (with_states a bs) →
-    n ≡ number (sizes_of (joint.system_of relation.joint)) (with_states a states.items)
-counted_now a relation states bs n same counted = counted ∙ ap (λ (bs : List ℕ). number (sizes_of (joint.system_of relation.joint)) (with_states a bs)) same
+-- the fields after an event hold a session, and the session made the event's step
+pub record HasAnswered (b : Inside) (s : Situation) (shape : LineShape) (said : Reply) : Type 0 where
+  pub session : IsSession b
+  pub step : StepOn s shape (reply_text said) (situation_in b)
+
+-- the step of an event that changes the services, from the fields
+answered : (a b : Inside) (s : Situation) (shape : LineShape) (x : Situation → Changing) (tally : Tally) (said : Reply) → situation_in a ≡ s → said ≡ reply.Kept tally.kept tally.added →
+    ((text : List ℕ) (new : Situation) → Changes s (x s) text new → StepOn s shape text new) → HasChanged a b (x (situation_in a)) tally → HasAnswered b s shape said
+answered a b s shape x tally said view says steps done = record {
+  session = done.session;
+  step = steps (reply_text said) (situation_in b)
+      (subst (λ (r : Reply). Changes s (x s) (reply_text r) (situation_in b)) (sym says)
+      (subst (λ (s : Situation). Changes s (x s) (reply_text (reply.Kept tally.kept tally.added)) (situation_in b)) view done.changes));
+}
+
+-- the pair and its number stay the same if a service freezes or thaws
+turned_now : (a : Inside) (relation : Relation) (x : Changing) (k : ℕ) (frozen : Bool) (tally : Tally) → IsSession a → a.phase ≡ Idle → relation.joint ≡ parts_after (situation_in a) x → (situation_in a).here ≡ x.here →
+    IsRepaired x.change a.relation.joint a.relation.order relation.joint relation.order tally → IsNamedSys relation.joint → joint.system_of relation.joint ≡ turned (joint.system_of a.relation.joint) k frozen →
+    HasChanged a (turned_fields a relation) x tally
+turned_now a relation x k frozen tally ok idle parts here repaired known same =
+    let s = joint.system_of a.relation.joint in
+    let p = (situation_in a).here in
+    let pair = subst (λ (s : Sys). IsPair s p) (sym same) (IsPair-turned s k frozen p ok.known.here) in
+    let counted = ok.numbered ∙ ap (λ (n : Sizes). number n p) (sym (sizes-turned s k frozen)) ∙ ap (λ (s : Sys). number (sizes_of s) p) (sym same) in
+    changed a (turned_fields a relation) x tally ok idle idle parts here repaired known pair counted ok.room
+
+pub frozen_now : (a : Inside) (relation : Relation) (s : Situation) (service : List ℕ) (k : ℕ) (tally : Tally) (said : Reply) → IsSession a → situation_in a ≡ s → Ok k ≡ frozen s service →
+    relation.joint ≡ parts_after (situation_in a) (freezing (situation_in a) k) → IsRepaired (Freeze k) a.relation.joint a.relation.order relation.joint relation.order tally → IsNamedSys relation.joint →
+    said ≡ reply.Kept tally.kept tally.added → HasAnswered (turned_fields a relation) s (freeze service) said
+frozen_now a relation s service k tally said ok view is parts repaired known says =
+    let idle = ap (λ (s : Situation). s.phase) view ∙ (frozen_is s service k (sym is)).idle in
+    answered a _ s (freeze service) (λ s. freezing s k) tally said view says (λ text new. subst (λ (r : Result ℕ Reply). Does Freezes s r text new) is)
+    (turned_now a relation _ k true tally ok idle parts refl repaired known repaired.system)
+
+pub thawed_now : (a : Inside) (relation : Relation) (s : Situation) (service : List ℕ) (k : ℕ) (tally : Tally) (said : Reply) → IsSession a → situation_in a ≡ s → Ok k ≡ thawed s service →
+    relation.joint ≡ parts_after (situation_in a) (thawing (situation_in a) k) → IsRepaired (Thaw k) a.relation.joint a.relation.order relation.joint relation.order tally → IsNamedSys relation.joint →
+    said ≡ reply.Kept tally.kept tally.added → HasAnswered (turned_fields a relation) s (thaw service) said
+thawed_now a relation s service k tally said ok view is parts repaired known says =
+    let idle = ap (λ (s : Situation). s.phase) view ∙ (thawed_is s service k (sym is)).idle in
+    answered a _ s (thaw service) (λ s. thawing s k) tally said view says (λ text new. subst (λ (r : Result ℕ Reply). Does Thaws s r text new) is)
+    (turned_now a relation _ k false tally ok idle parts refl repaired known repaired.system)
+
+-- a pair of the changed system is a pair of the system in the joint after the repair
+pair_there : (a : Inside) (relation : Relation) (change : Change) (tally : Tally) (p q : List ℕ) → IsRepaired change a.relation.joint a.relation.order relation.joint relation.order tally →
+    IsPair (after change (joint.system_of a.relation.joint)) (with_states a p) → q ≡ p → IsPair (joint.system_of relation.joint) (with_states a q)
+pair_there a relation change tally p q repaired pair same = grind arith
 
 pub joined_pair : (a : Inside) (relation : Relation) (states : List ℕ) (x : Joining) (tally : Tally) → IsSession a → CanJoin a.relation.joint x →
     IsRepaired (Join (joint.seat_of a.relation.joint.catalogue x.seat)) a.relation.joint a.relation.order relation.joint relation.order tally →
     states ≡ a.states.items ++ x.state ∷ [] → IsPair (joint.system_of relation.joint) (with_states a states)
-joined_pair a relation states x tally ok can repaired items =
-    subst (λ (bs : List ℕ). IsPair (joint.system_of relation.joint) (with_states a bs)) (sym items)
-    (subst (λ (s : Sys). IsPair s (with_states a (a.states.items ++ x.state ∷ []))) (sym repaired.system) (IsPair-grown _ _ _ _ ok.known.here can.state))
+joined_pair a relation states x tally ok can repaired items = pair_there a relation _ tally _ states repaired (IsPair-grown _ _ _ _ ok.known.here can.state) items
 
-pub joined_now : (a : Inside) (relation : Relation) (states : Vec ℕ Global) (n : ℕ) (x : Joining) (tally : Tally) → IsSession a → a.phase ≡ Idle → CanJoin a.relation.joint x →
+pub joined_now : (a : Inside) (relation : Relation) (states : Vec ℕ Global) (bs : List ℕ) (n : ℕ) (x : Joining) (tally : Tally) → IsSession a → a.phase ≡ Idle → CanJoin a.relation.joint x →
     relation.joint ≡ parts_after (situation_in a) (growing (situation_in a) x) →
     IsRepaired (Join (joint.seat_of a.relation.joint.catalogue x.seat)) a.relation.joint a.relation.order relation.joint relation.order tally → IsNamedSys relation.joint →
-    states.items ≡ a.states.items ++ x.state ∷ [] → n ≡ number (sizes_of (joint.system_of relation.joint)) (with_states a states.items) → MAX_SERVICES ≤ vec_capacity states →
+    states.items ≡ a.states.items ++ x.state ∷ [] → bs ≡ states.items → n ≡ number (sizes_of (joint.system_of relation.joint)) (with_states a bs) → vec_capacity a.states ≤ vec_capacity states →
     HasChanged a (moved_fields a relation states n) (growing (situation_in a) x) tally
-joined_now a relation states n x tally ok idle can parts repaired known items counted room =
-    changed _ _ _ _ ok idle idle parts (ap (with_states a) items) repaired known (joined_pair _ _ _ _ _ ok can repaired items) counted room
+joined_now a relation states bs n x tally ok idle can parts repaired known items same counted room =
+    let counts = subst (λ (bs : List ℕ). n ≡ number (sizes_of (joint.system_of relation.joint)) (with_states a bs)) same counted in
+    changed _ _ _ _ ok idle idle parts (ap (with_states a) items) repaired known (joined_pair _ _ _ _ _ ok can repaired items) counts (omega (arith, ok.room, room))
 
-pub died_pair : (a : Inside) (relation : Relation) (states : List ℕ) (k : ℕ) (tally : Tally) → IsSession a → k < length a.relation.joint.seats →
+pub died_pair : (a : Inside) (relation : Relation) (s : Situation) (states : List ℕ) (k : ℕ) (tally : Tally) → IsSession a → situation_in a ≡ s → k < length s.parts.seats →
     ((seat : Seat) → CanChange (Die k seat) (joint.system_of a.relation.joint) → IsRepaired (Die k seat) a.relation.joint a.relation.order relation.joint relation.order tally) →
     states ≡ remove a.states.items k → IsPair (joint.system_of relation.joint) (with_states a states)
-died_pair a relation states k tally ok l repaired items =
-    let s = situation_in a in
-    subst (λ (bs : List ℕ). IsPair (joint.system_of relation.joint) (with_states a bs)) (sym items)
-    (subst (λ (s : Sys). IsPair s (with_states a (remove a.states.items k))) (sym (repaired (seat_at s k) (seat_is s k l)).system)
-    (IsPair-without (joint.system_of a.relation.joint) k s.here ok.known.here))
+died_pair a relation s states k tally ok view l repaired items =
+    let t = situation_in a in
+    let seat = seat_is t k (subst (λ (s : Situation). k < length s.parts.seats) (sym view) l) in
+    pair_there a relation _ tally _ states (repaired (seat_at t k) seat) (IsPair-without (joint.system_of a.relation.joint) k t.here ok.known.here) items
 
-pub died_now : (a : Inside) (relation : Relation) (states : Vec ℕ Global) (n k : ℕ) (tally : Tally) → IsSession a → a.phase ≡ Idle → k < length a.relation.joint.seats →
-    relation.joint ≡ parts_after (situation_in a) (dying (situation_in a) k) →
+pub died_now : (a : Inside) (relation : Relation) (s : Situation) (states : Vec ℕ Global) (bs service : List ℕ) (n k : ℕ) (tally : Tally) (said : Reply) → IsSession a → situation_in a ≡ s → Ok k ≡ died s service →
+    k < length s.parts.seats → relation.joint ≡ parts_after (situation_in a) (dying (situation_in a) k) →
     ((seat : Seat) → CanChange (Die k seat) (joint.system_of a.relation.joint) → IsRepaired (Die k seat) a.relation.joint a.relation.order relation.joint relation.order tally) →
-    IsNamedSys relation.joint → states.items ≡ remove a.states.items k → n ≡ number (sizes_of (joint.system_of relation.joint)) (with_states a states.items) → MAX_SERVICES ≤ vec_capacity states →
-    HasChanged a (moved_fields a relation states n) (dying (situation_in a) k) tally
-died_now a relation states n k tally ok idle l parts repaired known items counted room =
-    let s = situation_in a in
-    changed a (moved_fields a relation states n) (dying s k) tally ok idle idle parts (ap (with_states a) items) (repaired (seat_at s k) (seat_is s k l)) known
-    (died_pair a relation states.items k tally ok l repaired items) counted room
+    IsNamedSys relation.joint → states.items ≡ remove a.states.items k → bs ≡ states.items → n ≡ number (sizes_of (joint.system_of relation.joint)) (with_states a bs) → vec_capacity states ≡ vec_capacity a.states →
+    said ≡ reply.Kept tally.kept tally.added → HasAnswered (moved_fields a relation states n) s (die service) said
+died_now a relation s states bs service n k tally said ok view is l parts repaired known items same counted room says =
+    let t = situation_in a in
+    let idle = ap (λ (s : Situation). s.phase) view ∙ (died_is s service k (sym is)).idle in
+    let seat = seat_is t k (subst (λ (s : Situation). k < length s.parts.seats) (sym view) l) in
+    let counts = subst (λ (bs : List ℕ). n ≡ number (sizes_of (joint.system_of relation.joint)) (with_states a bs)) same counted in
+    answered a _ s (die service) (λ s. dying s k) tally said view says (λ text new. subst (λ (r : Result ℕ Reply). Does Dies s r text new) is)
+    (changed a (moved_fields a relation states n) (dying t k) tally ok idle idle parts (ap (with_states a) items) (repaired (seat_at t k) seat) known
+    (died_pair a relation s states.items k tally ok view l repaired items) counts (omega (arith, ok.room, room)))
 
 -- there is a place for a service if the number of services isn't the greatest one
 pub has_place : (a : Inside) → IsSession a → (length a.relation.joint.seats ≡ MAX_SERVICES → ⊥) → length a.relation.joint.seats < MAX_SERVICES

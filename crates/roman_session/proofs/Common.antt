@@ -1,7 +1,7 @@
 -- What the proof pages of this crate cite from elsewhere, passed on from one place. Declares nothing.
 pub use Rattle.std.proofs.Common.{Bool, Err, Global, IfSome, IsFalse, IsTrue, List, None, Ok, Option, Result, Some, Vec, [], add-one, ap, append_assoc, ap₂, arith, codes, drop, false, get_or, inl, inr, is_ok, length, length-drop, map, not, refl, rules, slice_get, slice_index, slice_index_or, slice_set, subst, sym, take, take-append-drop, true, vec_capacity, vec_len, ℕ, ◌&&◌, ◌++◌, ◌+◌, ◌<◌, ◌↔◌, ◌∙◌, ◌∷◌, ◌≡◌, ◌≢◌, ◌≤◌}
 pub use Rattle.std.proofs.Math.Seq.{drop-cons}
-pub use Rattle.std.proofs.lemmas.Bool.{both_ways, cases_lt, cond-false, cond-true, le-leb, lt-ltb, not-true}
+pub use Rattle.std.proofs.lemmas.Bool.{both_ways, cases_lt, cond-false, cond-true, le-leb, le-ltb, lt-ltb, not-true}
 pub use Rattle.std.proofs.lemmas.Bool.Decides.{leb_tells}
 pub use Rattle.std.proofs.lemmas.List.{append-nil, drop_all, get_or-set_same, get_or_read, length-map, length-take}
 pub use Rattle.std.proofs.lemmas.List.Elements.{Contains-get_or}
@@ -14,7 +14,7 @@ pub use Rattle.std.specs.Option.{option_map}
 pub use Rattle.std.specs.Str.{bytes_eq}
 pub use Rattle.roman_generator.proofs.CallerLemmas.{state_within, states_long}
 pub use Rattle.roman_generator.specs.declared.sight.Sight.{Sight}
-pub use Rattle.roman_io.specs.Sink.{Puts}
+pub use Rattle.roman_io.specs.Sink.{Puts, WrotePrefix}
 pub use Rattle.roman_joint.proofs.CallerLemmas.{behaves, seat_beh_read, states_range}
 pub use Rattle.roman_joint.specs.Behaviours.{IsSeatBehaviour}
 pub use Rattle.roman_joint.specs.NamedSys.{IsNamedSys, NamedSys, beh_at, cells, seat_of, system_of}
@@ -23,7 +23,7 @@ pub use Rattle.roman_joint.specs.declared.seat.Seat.{Seat}
 pub use Rattle.roman_library.specs.Library.{PlainLibrary, plain}
 pub use Rattle.roman_model.proofs.CallerLemmas.{AreBelow-index, IsPair-grown, IsPair-turned, IsPair-without, IsPairOf-from, allowed_in_range, any_from, by_test, contains_in, filter_same, from_below, from_end, from_place, great_related, in_contains, length-pairs, mask_has, ne_not_empty, none_from, not_empty_in, number_listed, numbers_are_pairs, offer_is, outcome_in, outcome_pair, outcome_seat, related_great, related_offers, seat_in, sizes-turned, states_below, states_set, there_is, turned}
 pub use Rattle.roman_model.specs.Arena.{Entry, is_beaten, mask, replay}
-pub use Rattle.roman_model.specs.Change.{CanChange, Die, Freeze, Join, Thaw, after, rename}
+pub use Rattle.roman_model.specs.Change.{CanChange, Change, Die, Freeze, Join, Thaw, after, rename}
 pub use Rattle.roman_model.specs.CompleteLists.{IsComplete}
 pub use Rattle.roman_model.specs.Composition.{Great}
 pub use Rattle.roman_model.specs.Explanation.{explain_text, name_at, seat_names}
@@ -52,22 +52,22 @@ pub use Rattle.roman_text.specs.Lines.{with_newline}
 pub use Rattle.roman_text.specs.Pages.{Gathered, Gathers}
 pub use Rattle.roman_text.specs.Replies.{reply_text}
 pub use Rattle.roman_text.specs.Report.{line_text}
-pub use Rattle.roman_text.specs.Shapes.{LineShape, ask, shape_of}
+pub use Rattle.roman_text.specs.Shapes.{LineShape, ask, die, freeze, shape_of, thaw}
 pub use Rattle.roman_text.specs.declared.errors.LineError.{LineError}
 pub use Rattle.roman_text.specs.declared.replies.Reply.{Reply}
 pub use Rattle.roman_text.specs.declared.report.ReportLine.{ReportLine}
 pub use Rattle.roman_session.specs.Answering.{Answered, AnsweredOn, DoneOn, NamesSome, SeenStaysRelated}
 pub use Rattle.roman_session.specs.Joins.{CanJoin}
 pub use Rattle.roman_session.specs.Layout.{IsSession, situation_in}
-pub use Rattle.roman_session.specs.Reports.{offer_line, offer_lines, report_head, service_line, service_lines}
+pub use Rattle.roman_session.specs.Reports.{offer_line, offer_lines, offers_and_end, report_head, service_line, service_lines, services_and_answer, services_from}
 unfoldable pub use Rattle.roman_session.specs.Reports.{lines_text, report_text}
 pub use Rattle.roman_session.specs.Rulings.{delegation, demand, named, offered_action, seat_at, service_named, state_named, with_room}
 unfoldable pub use Rattle.roman_session.specs.Rulings.{asked, died, env_jumped, frozen, handed, joining, jumped, seen, thawed, unexplained}
-pub use Rattle.roman_session.specs.Serving.{seats_set, served}
+pub use Rattle.roman_session.specs.Serving.{seats_set, served, served_line}
 unfoldable pub use Rattle.roman_session.specs.Serving.{served_text}
 pub use Rattle.roman_session.specs.Situations.{IsOpen, IsPhase, IsSituation, Situation, is_idle, present_system}
 pub use Rattle.roman_session.specs.Starts.{IsStart}
-pub use Rattle.roman_session.specs.Steps.{Asks, Changes, Changing, Does, Hands, HasMoved, Joins, Jumps, Moves, StepBy, StepOn, dying, freezing, growing, pair_after, parts_after, service_at, thawing}
+pub use Rattle.roman_session.specs.Steps.{Asks, Changes, Changing, Dies, Does, Freezes, Hands, HasMoved, Joins, Jumps, Moves, StepBy, StepOn, Thaws, dying, freezing, growing, pair_after, parts_after, service_at, thawing}
 unfoldable pub use Rattle.roman_session.specs.Steps.{Step, offer_text}
 pub use Rattle.roman_session.specs.declared.events.Handing.{Handing}
 pub use Rattle.roman_session.specs.declared.events.Joining.{Joining}
@@ -75,3 +75,5 @@ pub use Rattle.roman_session.specs.declared.events.Jump.{Jump}
 pub use Rattle.roman_session.specs.declared.phase.Phase.{Phase}
 pub use Rattle.roman_session.specs.declared.phase.Phase.TheVariants.{Delegated, Idle, Offered}
 pub use Rattle.roman_session.specs.declared.session.Session.TheInside.{Inside}
+pub use Rattle.std.proofs.lemmas.Grind.{flat_map-append}
+pub use Rattle.std.specs.Result.{IsErrAnd}

@@ -3,7 +3,6 @@ pub mod RulingLemmas
 pub mod StepLemmas
 pub mod SituationLemmas
 pub mod NameLemmas
-pub mod ServingLemmas
 pub mod LineLemmas
 pub mod BeginLemmas
 pub mod AnswerLemmas

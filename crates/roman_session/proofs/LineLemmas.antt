@@ -1,26 +1,23 @@
--- Report lines, one after another.
-use Rattle.roman_session.proofs.Common.{◌≡◌, ℕ, ◌<◌, ◌≤◌, ◌+◌, Bool, List, [], ◌∷◌, ◌++◌, Some, IsTrue, IsFalse, length, drop, map, get_or, not, slice_get, slice_index, refl, sym, ap, ap₂, ◌∙◌, subst, arith, filter, flat_map, cond-true, cond-false, length-map, get_or_from_slice_get, below, Pair, IsPair, has, is_allowed, name_at, is_related, offers, from_place, from_end, there_is, reply_text, NamedBeh, HasBits, NamedSys, IsNamedSys, system_of, seat_of, Seat, seat_name, Situation, seats_set, served, served_text, service_lines, offer_lines, lines_text, offer_text, service_at, states_long, add-one, append_assoc, report_text, drop-cons, append-nil, drop_all, slice_get_within, line_text, ReportLine, report_head, service_line, offer_line}
+-- Lines of replies and of the report, one after another.
+use Rattle.roman_session.proofs.Common.{codes, ◌≡◌, ℕ, ◌<◌, ◌≤◌, ◌+◌, Bool, List, [], ◌∷◌, ◌++◌, Some, IsTrue, IsFalse, length, drop, map, get_or, not, slice_get, slice_index, refl, sym, ap, ap₂, ◌∙◌, arith, filter, flat_map, flat_map-append, cond-true, cond-false, length-map, get_or_from_slice_get, below, Sys, Pair, has, is_allowed, name_at, is_related, offers, from_place, from_end, reply_text, NamedBeh, HasBits, NamedSys, system_of, Seat, seat_name, Situation, seats_set, served, served_text, served_line, service_lines, services_from, services_and_answer, offers_and_end, lines_text, offer_text, add-one, append_assoc, report_text, drop-cons, append-nil, drop_all, slice_get_within, line_text, ReportLine, report_head, offer_line, IsIn, arena, has_seat, ◌&&◌, is_beaten, mask, from_below, filter_same, mask_has, has_seat_is}
 use Rattle.roman_text.specs.declared.replies.Reply.TheVariants as reply
 use Rattle.roman_text.specs.declared.report.ReportLine.TheVariants as line
 use Rattle.roman_session.specs.Situations as situation
 use Rattle.roman_session.proofs.SituationLemmas.{mapped_at}
-use Rattle.roman_session.proofs.ServingLemmas.{offers_set}
 
 -- ---- lists of lines
 
-pub lines-cons : (x : ReportLine) (xs : List ReportLine) → lines_text (x ∷ xs) ≡ line_text x ++ lines_text xs
+lines-cons : (x : ReportLine) (xs : List ReportLine) → lines_text (x ∷ xs) ≡ line_text x ++ lines_text xs
 unfolding lines_text
 lines-cons x xs = refl
 
-pub lines-nil : lines_text [] ≡ []
+lines-nil : lines_text [] ≡ []
 unfolding lines_text
 lines-nil = refl
 
-pub lines-append : (xs ys : List ReportLine) → lines_text (xs ++ ys) ≡ lines_text xs ++ lines_text ys
-lines-append [] ys = ap (λ (text : List ℕ). text ++ lines_text ys) (sym lines-nil)
-lines-append (x ∷ xs) ys =
-    lines-cons x (xs ++ ys) ∙ ap (λ (text : List ℕ). line_text x ++ text) (lines-append xs ys)
-    ∙ sym (append_assoc (line_text x) (lines_text xs) (lines_text ys)) ∙ ap (λ (text : List ℕ). text ++ lines_text ys) (sym (lines-cons x xs))
+lines-append : (xs ys : List ReportLine) → lines_text (xs ++ ys) ≡ lines_text xs ++ lines_text ys
+unfolding lines_text
+lines-append xs ys = flat_map-append line_text xs ys
 
 -- the line at a place comes next
 pub next_line : (lines : List ReportLine) (i : ℕ) (x : ReportLine) → i < length lines → x ≡ get_or lines i x → lines_text (drop i lines) ≡ line_text x ++ lines_text (drop (i + 1) lines)
@@ -30,152 +27,141 @@ next_line lines i x l is = grind (arith, drop-cons, lines-cons)
 pub no_line : (lines : List ReportLine) (i : ℕ) → length lines ≤ i → lines_text (drop i lines) ≡ []
 no_line lines i l = ap lines_text (drop_all i lines l) ∙ lines-nil
 
+-- ---- the numbers that pass a test
+
+-- the texts of the numbers below n from k on that pass a test, and a text after them
+pub walk : (ℕ → Bool) → (ℕ → List ℕ) → List ℕ → ℕ → ℕ → List ℕ
+walk test text tail n k = flat_map text (filter test (drop k (below n))) ++ tail
+
+-- a number that passes comes next
+pub walk_next : (test : ℕ → Bool) (text : ℕ → List ℕ) (tail : List ℕ) (n k : ℕ) → k < n → IsTrue (test k) → walk test text tail n k ≡ text k ++ walk test text tail n (k + 1)
+unfolding walk
+walk_next test text tail n k l passes = grind (arith, append_assoc, cond-true, from_place)
+
+-- any other number is passed over
+pub walk_over : (test : ℕ → Bool) (text : ℕ → List ℕ) (tail : List ℕ) (n k : ℕ) → k < n → IsFalse (test k) → walk test text tail n k ≡ walk test text tail n (k + 1)
+unfolding walk
+walk_over test text tail n k l fails = grind (arith, cond-false, from_place)
+
+-- only the text after them is left at the end
+pub walk_end : (test : ℕ → Bool) (text : ℕ → List ℕ) (tail : List ℕ) (n k : ℕ) → n ≤ k → walk test text tail n k ≡ tail ++ []
+unfolding walk
+walk_end test text tail n k l = grind (arith, append-nil, from_end)
+
 -- ---- offers
 
+-- the names of a mask's seats from k on, and the end of the line
+abbrev pub served_from : NamedSys → ℕ → ℕ → List ℕ
+served_from parts mask k = walk (has_seat mask) (served parts) (reply_text reply.Stop) (length parts.seats) k
+
+pub served_begin : (parts : NamedSys) (mask : ℕ) → served_from parts mask 0 ≡ served_line parts mask
+unfolding walk served_text
+served_begin parts mask = refl
+
+-- a seat of the mask comes next
+pub next_served : (parts : NamedSys) (mask k : ℕ) (seat : Seat) → k < length parts.seats → IsTrue (has_seat mask k) → slice_get parts.seats k ≡ Some seat →
+    served_from parts mask k ≡ (codes " " ++ seat.name) ++ served_from parts mask (k + 1)
+next_served parts mask k seat l set seated =
+    walk_next _ _ _ _ k l set ∙ ap (λ (name : List ℕ). (codes " " ++ name) ++ served_from parts mask (k + 1)) (mapped_at seat_name parts.seats k seat [] seated)
+
+-- the seats of a mask that has the offers' bits are the offers
+offers_set : (s : Sys) (p : Pair) (a mask : ℕ) → IsTrue (is_allowed s p a) → length s.seats ≤ 32 → HasBits mask (has (offers s p a)) → seats_set mask (length s.seats) ≡ offers s p a
+offers_set s p a bits allowed few has_bits =
+    let gone : Pair → Bool = λ q. not (is_related s q) in
+    let unbeaten : ℕ → Bool = λ k. not (is_beaten (arena s) gone p a k) in
+    let same : (k : ℕ) → IsIn k (below (length s.seats)) → has_seat bits k ≡ unbeaten k =
+    λ k i.
+    let l = from_below (length s.seats) k i in
+    has_seat_is bits (has (offers s p a)) k has_bits (omega arith) ∙ mask_has (arena s) gone p a k l ∙ ap (λ (b : Bool). b && unbeaten k) allowed in
+    filter_same (has_seat bits) unbeaten (below (length s.seats)) same ∙ sym (cond-true (is_allowed s p a) (filter unbeaten (below (length s.seats))) [] allowed)
+
+-- the line of a mask that has the offers' bits
+served_offers : (parts : NamedSys) (p : Pair) (a mask : ℕ) → length (system_of parts).seats ≤ 32 → IsTrue (is_allowed (system_of parts) p a) → HasBits mask (has (offers (system_of parts) p a)) →
+    served_line parts mask ≡ flat_map (served parts) (offers (system_of parts) p a) ++ reply_text reply.Stop
+unfolding served_text
+served_offers parts p a mask few allowed bits = grind (arith, length-map, (offers_set (system_of parts) p a mask allowed few bits))
+
 -- the services that a report line lists
-served_lines : (parts : NamedSys) (ks : List ℕ) → lines_text (map (λ k. line.Serves (name_at (map seat_name parts.seats) k)) ks) ≡ served_text parts ks
-unfolding lines_text served_text
+served_lines : (parts : NamedSys) (ks : List ℕ) → lines_text (map (λ k. line.Serves (name_at (map seat_name parts.seats) k)) ks) ≡ flat_map (served parts) ks
+unfolding lines_text
 served_lines parts [] = refl
 served_lines parts (k ∷ ks) = ap (λ (text : List ℕ). served parts k ++ text) (served_lines parts ks)
 
--- the services that a reply lists
-served_replies : (s : Situation) (ks : List ℕ) → served_text s.parts ks ≡ flat_map (λ k. reply_text (reply.Serves (service_at s k))) ks
-unfolding served_text
-served_replies s [] = refl
-served_replies s (k ∷ ks) = ap (λ (text : List ℕ). served s.parts k ++ text) (served_replies s ks)
-
--- the seats of a mask are the offered seats
-mask_offers : (parts : NamedSys) (p : Pair) (a mask : ℕ) → IsTrue (is_allowed (system_of parts) p a) → length (system_of parts).seats ≤ 32 → HasBits mask (has (offers (system_of parts) p a)) →
-    offers (system_of parts) p a ≡ seats_set mask (length parts.seats)
-mask_offers parts p a mask allowed few bits =
-    sym (offers_set (system_of parts) p a mask allowed few bits) ∙ ap (seats_set mask) (length-map parts.seats (seat_of parts.catalogue))
-
--- the names of the seats of a mask that has the offers' bits
-mask_names : (parts n : NamedSys) (p : Pair) (a mask : ℕ) → IsNamedSys parts → n ≡ parts → IsTrue (is_allowed (system_of parts) p a) → HasBits mask (has (offers (system_of parts) p a)) →
-    served_text n (seats_set mask (length n.seats)) ≡ served_text parts (offers (system_of parts) p a)
-mask_names parts n p a mask known same allowed bits = grind (arith, mask_offers)
-
 -- the line of an action, in the pieces in which it is pushed
-pub offer_line_is : (parts n : NamedSys) (p : Pair) (a mask : ℕ) (name : List ℕ) → IsNamedSys parts → n ≡ parts → name ≡ name_at parts.environment.actions a →
-    IsTrue (is_allowed (system_of parts) p a) → HasBits mask (has (offers (system_of parts) p a)) →
-    line_text (line.Offer name) ++ (served_text n (seats_set mask (length n.seats)) ++ (line_text line.Stop ++ [])) ≡ lines_text (offer_line parts p a)
-offer_line_is parts n p a mask name known same is allowed bits = grind (arith, lines-append, lines-cons, lines-nil, mask_names, served_lines)
+pub offer_line_is : (parts : NamedSys) (p : Pair) (a mask : ℕ) (name : List ℕ) → length (system_of parts).seats ≤ 32 → name ≡ name_at parts.environment.actions a → IsTrue (is_allowed (system_of parts) p a) →
+    HasBits mask (has (offers (system_of parts) p a)) → line_text (line.Offer name) ++ (served_line parts mask ++ []) ≡ lines_text (offer_line parts p a)
+offer_line_is parts p a mask name few is allowed bits = grind (arith, append-nil, lines-append, lines-cons, lines-nil, served_lines, served_offers)
 
 -- the reply to a request, in the pieces in which it is pushed
-pub offer_text_is : (s : Situation) (n : NamedSys) (a mask : ℕ) → IsNamedSys s.parts → n ≡ s.parts → IsTrue (is_allowed (situation.present_system s) s.here a) →
-    HasBits mask (has (offers (situation.present_system s) s.here a)) →
-    reply_text reply.Offer ++ (served_text n (seats_set mask (length n.seats)) ++ (reply_text reply.Stop ++ [])) ≡ offer_text s a
+pub offer_text_is : (s : Situation) (a mask : ℕ) → length (situation.present_system s).seats ≤ 32 → IsTrue (is_allowed (situation.present_system s) s.here a) → HasBits mask (has (offers (situation.present_system s) s.here a)) →
+    reply_text reply.Offer ++ (served_line s.parts mask ++ []) ≡ offer_text s a
 unfolding offer_text
-offer_text_is s n a mask known same allowed bits = grind (arith, append-nil, mask_names, served_replies)
+offer_text_is s a mask few allowed bits = grind (arith, append-nil, served_offers)
 
--- the lines of the actions from a on
-pub lines_from : NamedSys → Pair → ℕ → List ℕ
-lines_from parts p a = lines_text (flat_map (offer_line parts p) (filter (is_allowed (system_of parts) p) (drop a (below (system_of parts).env.actions))))
+-- the texts of lines, list by list
+lines_flat : (f : ℕ → List ReportLine) (ks : List ℕ) → lines_text (flat_map f ks) ≡ flat_map (λ k. lines_text (f k)) ks
+unfolding lines_text
+lines_flat f [] = refl
+lines_flat f (k ∷ ks) = lines-append (f k) (flat_map f ks) ∙ ap (λ (text : List ℕ). lines_text (f k) ++ text) (lines_flat f ks)
+
+-- the lines of the actions from a on, and the end of the report
+abbrev pub offers_from : NamedSys → Pair → ℕ → List ℕ
+offers_from parts p a = walk (is_allowed (system_of parts) p) (λ a. lines_text (offer_line parts p a)) (line_text line.End) (system_of parts).env.actions a
+
+-- if the pair is related the lines are those of all actions from 0 on
+pub offers_begin : (parts : NamedSys) (p : Pair) → IsTrue (is_related (system_of parts) p) → offers_from parts p 0 ≡ lines_text (offers_and_end parts p)
+unfolding walk lines_text
+offers_begin parts p related =
+    let actions = filter (is_allowed (system_of parts) p) (below (system_of parts).env.actions) in
+    let lines = flat_map (offer_line parts p) actions in
+    sym (ap (λ (xs : List ReportLine). lines_text (xs ++ line.End ∷ [])) (cond-true (is_related (system_of parts) p) lines [] related) ∙ lines-append lines (line.End ∷ [])
+    ∙ ap₂ (λ (xs ys : List ℕ). xs ++ ys) (lines_flat (offer_line parts p) actions) (append-nil (line_text line.End)))
 
 -- an allowed action comes next
 pub next_offer : (parts : NamedSys) (p : Pair) (a : ℕ) → a < (system_of parts).env.actions → IsTrue (is_allowed (system_of parts) p a) →
-    lines_from parts p a ≡ lines_text (offer_line parts p a) ++ lines_from parts p (a + 1)
-unfolding lines_from
-next_offer parts p a l allowed =
-    let n = (system_of parts).env.actions in
-    let test = is_allowed (system_of parts) p in
-    let rest = filter test (drop (a + 1) (below n)) in
-    ap (λ (xs : List ℕ). lines_text (flat_map (offer_line parts p) (filter test xs))) (from_place _ _ l)
-    ∙ ap (λ (xs : List ℕ). lines_text (flat_map (offer_line parts p) xs)) (cond-true (test a) (a ∷ rest) rest allowed) ∙ lines-append _ _
+    offers_from parts p a ≡ lines_text (offer_line parts p a) ++ offers_from parts p (a + 1)
+next_offer parts p a l allowed = walk_next _ _ _ _ a l allowed
 
--- an action that isn't allowed is passed over
-pub next_unallowed : (parts : NamedSys) (p : Pair) (a : ℕ) → a < (system_of parts).env.actions → IsFalse (is_allowed (system_of parts) p a) → lines_from parts p a ≡ lines_from parts p (a + 1)
-unfolding lines_from
-next_unallowed parts p a l unallowed = grind (arith, cond-false, from_place)
-
--- none is left at the end
-pub no_offer : (parts : NamedSys) (p : Pair) (a : ℕ) → (system_of parts).env.actions ≤ a → lines_from parts p a ≡ []
-unfolding lines_from
-no_offer parts p a l =
-    ap (λ (xs : List ℕ). lines_text (flat_map (offer_line parts p) (filter (is_allowed (system_of parts) p) xs))) (from_end (system_of parts).env.actions a l) ∙ lines-nil
-
--- if the pair is related the lines are those of all actions from 0 on
-pub offers_begin : (parts : NamedSys) (p : Pair) → IsTrue (is_related (system_of parts) p) → lines_from parts p 0 ≡ lines_text (offer_lines parts p)
-unfolding lines_from
-offers_begin parts p related =
-    ap lines_text (sym (cond-true (is_related (system_of parts) p) (flat_map (offer_line parts p) (filter (is_allowed (system_of parts) p) (below (system_of parts).env.actions))) [] related))
-
--- if the pair isn't related there are no such lines
-pub no_offers : (parts : NamedSys) (p : Pair) → IsFalse (is_related (system_of parts) p) → [] ≡ lines_text (offer_lines parts p)
-no_offers parts p unrelated =
-    sym (ap lines_text (cond-false (is_related (system_of parts) p) (flat_map (offer_line parts p) (filter (is_allowed (system_of parts) p) (below (system_of parts).env.actions))) [] unrelated) ∙ lines-nil)
+-- if the pair isn't related only the end is left
+pub no_offers : (parts : NamedSys) (p : Pair) → IsFalse (is_related (system_of parts) p) → line_text line.End ++ [] ≡ lines_text (offers_and_end parts p)
+no_offers parts p unrelated = grind (arith, cond-false, lines-cons, lines-nil)
 
 -- ---- services
 
--- the line of a service, by the behaviour that stands at its place and the name of its state
-pub service_line_is : (catalogue : List NamedBeh) (seat : Seat) (beh : NamedBeh) (b : ℕ) (name : List ℕ) → slice_get catalogue seat.behaviour ≡ Some beh → slice_get beh.states b ≡ Some name →
-    line.Service seat.name beh.name name seat.frozen (not seat.rests) ≡ service_line catalogue seat b
-service_line_is catalogue seat beh b name placed there = grind (arith, get_or_from_slice_get, mapped_at)
-
--- the lines of the services from k on
-pub services_from : NamedSys → Pair → ℕ → List ℕ
-services_from parts p k = lines_text (service_lines parts.catalogue (drop k parts.seats) (drop k p.bs))
-
--- the service at a place comes next
-pub next_service : (parts : NamedSys) (p : Pair) (k : ℕ) (seat : Seat) → slice_get parts.seats k ≡ Some seat → k < length p.bs →
-    services_from parts p k ≡ line_text (service_line parts.catalogue seat (slice_index p.bs k)) ++ services_from parts p (k + 1)
-unfolding services_from
-next_service parts p k seat seated l =
+-- the service at a place comes first
+pub service_first : (parts : NamedSys) (p : Pair) (k b : ℕ) (seat : Seat) (beh : NamedBeh) (name : List ℕ) → slice_get parts.seats k ≡ Some seat → k < length p.bs → b ≡ slice_index p.bs k →
+    slice_get parts.catalogue seat.behaviour ≡ Some beh → slice_get beh.states b ≡ Some name →
+    services_from parts p k ≡ line.Service seat.name beh.name name seat.frozen (not seat.rests) ∷ services_from parts p (k + 1)
+service_first parts p k b seat beh name seated l is placed there =
     let within = slice_get_within parts.seats k seat seated in
     let seats : drop k parts.seats ≡ seat ∷ drop (k + 1) parts.seats =
     drop-cons parts.seats k seat within ∙ ap₂ (λ (x : Seat) (j : ℕ). x ∷ drop j parts.seats) (get_or_from_slice_get parts.seats k seat seat seated) (sym (add-one k)) in
-    let bs : drop k p.bs ≡ slice_index p.bs k ∷ drop (k + 1) p.bs = drop-cons p.bs k 0 l ∙ ap (λ (j : ℕ). slice_index p.bs k ∷ drop j p.bs) (sym (add-one k)) in
-    ap₂ (λ (seats : List Seat) (bs : List ℕ). lines_text (service_lines parts.catalogue seats bs)) seats bs
-    ∙ lines-cons (service_line parts.catalogue seat (slice_index p.bs k)) (service_lines parts.catalogue (drop (k + 1) parts.seats) (drop (k + 1) p.bs))
+    let bs : drop k p.bs ≡ b ∷ drop (k + 1) p.bs = drop-cons p.bs k 0 l ∙ ap₂ (λ (b j : ℕ). b ∷ drop j p.bs) (sym is) (sym (add-one k)) in
+    grind (arith, get_or_from_slice_get, mapped_at)
 
--- the same for any line that equals the service's line
-pub service_next : (parts n : NamedSys) (p : Pair) (k b : ℕ) (x : ReportLine) → IsPair (system_of parts) p → n ≡ parts → k < length parts.seats → b ≡ slice_index p.bs k →
-    ((seat : Seat) → slice_get n.seats k ≡ Some seat → x ≡ service_line n.catalogue seat b) → services_from parts p k ≡ line_text x ++ services_from parts p (k + 1)
-service_next parts n p k b x pair same l is by_seat =
-    let (seat, seated) = there_is parts.seats k l in
-    let long : k < length p.bs = omega (arith, l, states_long (system_of parts) p pair, length-map parts.seats (seat_of parts.catalogue)) in
-    let by_same : (seat : Seat) → slice_get parts.seats k ≡ Some seat → x ≡ service_line parts.catalogue seat b =
-    subst (λ (n : NamedSys). (seat : Seat) → slice_get n.seats k ≡ Some seat → x ≡ service_line n.catalogue seat b) same by_seat in
-    next_service parts p k seat seated long
-    ∙ ap (λ (y : ReportLine). line_text y ++ services_from parts p (k + 1)) (sym (by_same seat seated ∙ ap (service_line parts.catalogue seat) is))
+-- the lines of the services from k on, and whether the pair is related
+abbrev pub services_left : NamedSys → Pair → ℕ → List ReportLine
+services_left parts p k = services_from parts p k ++ line.Answer (is_related (system_of parts) p) ∷ []
 
--- none is left at the end
-pub no_service : (parts : NamedSys) (p : Pair) (k : ℕ) → length parts.seats ≤ k → services_from parts p k ≡ []
-unfolding services_from
-no_service parts p k l = ap (λ (seats : List Seat). lines_text (service_lines parts.catalogue seats (drop k p.bs))) (drop_all k parts.seats l) ∙ lines-nil
+-- the line of a service comes next
+pub next_service : (parts : NamedSys) (p : Pair) (k : ℕ) (x : ReportLine) → services_from parts p k ≡ x ∷ services_from parts p (k + 1) →
+    lines_text (services_left parts p k) ≡ line_text x ++ lines_text (services_left parts p (k + 1))
+next_service parts p k x e = ap (λ (xs : List ReportLine). lines_text (xs ++ line.Answer (is_related (system_of parts) p) ∷ [])) e ∙ lines-cons _ _
 
--- the lines of all services are those from 0 on
-pub services_begin : (parts : NamedSys) (p : Pair) → services_from parts p 0 ≡ lines_text (service_lines parts.catalogue parts.seats p.bs)
-unfolding services_from
-services_begin parts p = refl
+-- only the answer is left at the end
+pub no_service : (parts : NamedSys) (p : Pair) (k : ℕ) (r : Bool) → length parts.seats ≤ k → r ≡ is_related (system_of parts) p → lines_text (services_left parts p k) ≡ line_text (line.Answer r) ++ []
+no_service parts p k r l is = grind (arith, drop_all, lines-cons, lines-nil)
 
 -- ---- the report
 
--- the report in pieces
-report_pieces : (parts : NamedSys) (p : Pair) →
-    lines_text (report_head parts p)
-    ++ (lines_text (service_lines parts.catalogue parts.seats p.bs)
-    ++ (lines_text (line.Answer (is_related (system_of parts) p) ∷ [])
-    ++ (lines_text (offer_lines parts p)
-    ++ (lines_text (line.End ∷ []) ++ [])))) ≡ report_text parts p
+-- the pieces in which the report is pushed
+pub report_is : (parts : NamedSys) (p : Pair) (head : List ReportLine) → head ≡ report_head parts p →
+    lines_text head ++ (lines_text (services_and_answer parts p) ++ (lines_text (offers_and_end parts p) ++ [])) ≡ report_text parts p
 unfolding report_text
-report_pieces parts p =
+report_is parts p head is =
     let services = service_lines parts.catalogue parts.seats p.bs in
     let answer = line.Answer (is_related (system_of parts) p) in
-    let offered = offer_lines parts p in
-    let ends = line.End ∷ [] in
-    let last : lines_text (offered ++ ends) ≡ lines_text offered ++ (lines_text ends ++ []) =
-    lines-append _ _ ∙ ap (λ (text : List ℕ). lines_text offered ++ text) (sym (append-nil (lines_text ends))) in
-    let after_services : lines_text (answer ∷ (offered ++ ends)) ≡ lines_text (answer ∷ []) ++ (lines_text offered ++ (lines_text ends ++ [])) =
-    lines-append _ _ ∙ ap (λ (text : List ℕ). lines_text (answer ∷ []) ++ text) last in
-    sym (lines-append _ _ ∙ ap (λ (text : List ℕ). lines_text (report_head parts p) ++ text)
-    (lines-append _ _ ∙ ap (λ (text : List ℕ). lines_text services ++ text) after_services))
-
--- the pieces in which the report is pushed
-pub report_is : (parts : NamedSys) (p : Pair) (head : List ReportLine) (related : Bool) → head ≡ report_head parts p → related ≡ is_related (system_of parts) p →
-    lines_text head
-    ++ (lines_text (service_lines parts.catalogue parts.seats p.bs)
-    ++ (lines_text (line.Answer related ∷ [])
-    ++ (lines_text (offer_lines parts p)
-    ++ (lines_text (line.End ∷ []) ++ [])))) ≡ report_text parts p
-report_is parts p head related is_head is_answer = grind (arith, report_pieces)
+    let last = offers_and_end parts p in
+    ap₂ (λ (xs : List ReportLine) (ys : List ℕ). lines_text xs ++ ys) is
+    (ap (λ (ys : List ℕ). lines_text (services_and_answer parts p) ++ ys) (append-nil (lines_text last)) ∙ sym (lines-append (services_and_answer parts p) last)
+    ∙ ap lines_text (append_assoc services (answer ∷ []) last)) ∙ sym (lines-append (report_head parts p) (services ++ answer ∷ last))

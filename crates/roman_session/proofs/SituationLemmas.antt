@@ -1,5 +1,5 @@
 -- What the fields of a session and the calls of its parts say of the situation.
-use Rattle.roman_session.proofs.Common.{◌≡◌, ℕ, ◌<◌, Bool, List, [], Option, Some, IfSome, IsTrue, IsFalse, map, length, slice_get, slice_set, slice_index, sym, ap, ◌∙◌, subst, arith, get_or_from_slice_get, length-map, both_ways, Sys, Pair, IsPair, is_ready, sizes_of, number, pair_at, IsIn, is_related, offers, Great, related_great, great_related, offer_is, numbers_are_pairs, there_is, moved, NamedBeh, NamedSys, Seat, IsSeatBehaviour, seat_name, names_in, states_long, Situation, present_system, IsPhase, IsSituation, service_at, situation_in, IsSession, Phase, Idle, Offered, Delegated, Inside, ◌↔◌, slice_index_or, option_map, slice_get-map, get_or-set_same, outcomes, seat_names, not_empty_in, ne_not_empty, by_test, outcome_seat, states_set, states_below, AreBelow-index, IsOpen}
+use Rattle.roman_session.proofs.Common.{◌≡◌, ℕ, ◌<◌, Bool, List, [], Option, Some, IfSome, IsTrue, IsFalse, map, length, slice_get, slice_set, slice_index, sym, ap, ◌∙◌, subst, arith, get_or_from_slice_get, length-map, both_ways, Sys, Pair, IsPair, is_ready, sizes_of, pair_at, IsIn, is_related, offers, Great, related_great, great_related, offer_is, there_is, moved, NamedBeh, NamedSys, Seat, IsSeatBehaviour, seat_name, names_in, states_long, Situation, present_system, IsPhase, IsSituation, service_at, situation_in, IsSession, Phase, Idle, Offered, Delegated, Inside, ◌↔◌, slice_index_or, option_map, slice_get-map, get_or-set_same, outcomes, seat_names, not_empty_in, ne_not_empty, by_test, outcome_seat, states_set, states_below, AreBelow-index, IsOpen}
 use Rattle.roman_model.specs.System.{Seat as Seat'}
 use Rattle.roman_joint.specs.NamedSys as joint
 
@@ -26,15 +26,6 @@ moved_within s p t e k b is ok l =
     subst (λ (n : ℕ). n < slice_index (sizes_of s).seats k) there
     (AreBelow-index (sizes_of s).seats bs k (states_below s.seats bs ok.bs) (omega (arith, l, length-map s.seats (λ (x : Seat'). x.beh.states))))
 
--- the pair with the number of the current one is the current one
-pub here_pair : (s : Situation) (p : ℕ) → IsSituation s → p ≡ number (sizes_of (present_system s)) s.here → pair_at (sizes_of (present_system s)) p ≡ s.here
-here_pair s p is h = ap (pair_at (sizes_of (present_system s))) h ∙ (numbers_are_pairs (present_system s)).back s.here is.here
-
--- what holds at the number of a pair holds at the pair
-pub at_here : {X : Type 0} (F : Sys → Pair → X) (s : Situation) (n : NamedSys) (p : ℕ) → IsSituation s → n ≡ s.parts → p ≡ number (sizes_of (present_system s)) s.here →
-    F (joint.system_of n) (pair_at (sizes_of (joint.system_of n)) p) ≡ F (present_system s) s.here
-at_here F s n p is same h = ap (λ (n : NamedSys). F (joint.system_of n) (pair_at (sizes_of (joint.system_of n)) p)) same ∙ ap (F (present_system s)) (here_pair s p is h)
-
 -- the item of a mapped list at a place
 pub mapped_at : {X Y : Type 0} (f : X → Y) (xs : List X) (k : ℕ) (x : X) (d : Y) → slice_get xs k ≡ Some x → slice_index_or (map f xs) k d ≡ f x
 mapped_at f xs k x d h = get_or_from_slice_get (map f xs) k (f x) d (slice_get-map f xs k ∙ ap (option_map f) h)
@@ -49,26 +40,30 @@ offered_within s a k is i =
     let (allowed, l, some, all) = offer_is (present_system s) s.here a k is.parts.system is.here i in
     omega (arith, l, length-map s.parts.seats (joint.seat_of s.parts.catalogue))
 
+-- what is so at the number of the current pair is so at the pair
+pub at_here : {X : Type 0} (F : Sys → Pair → X) (s : Situation) (n : NamedSys) (p : ℕ) → n ≡ s.parts → pair_at (sizes_of (present_system s)) p ≡ s.here →
+    F (joint.system_of n) (pair_at (sizes_of (joint.system_of n)) p) ≡ F (present_system s) s.here
+at_here F s n p same at = ap (λ (n : NamedSys). F (joint.system_of n) (pair_at (sizes_of (joint.system_of n)) p)) same ∙ ap (F (present_system s)) at
+
 -- what holds at the number of the current pair holds at the current pair
-pub holds_here : (P : Sys → Pair → Type 0) (s : Situation) (n : NamedSys) (p : ℕ) → IsSituation s → n ≡ s.parts → p ≡ number (sizes_of (present_system s)) s.here →
+holds_here : (P : Sys → Pair → Type 0) (s : Situation) (n : NamedSys) (p : ℕ) → n ≡ s.parts → pair_at (sizes_of (present_system s)) p ≡ s.here →
     P (joint.system_of n) (pair_at (sizes_of (joint.system_of n)) p) → P (present_system s) s.here
-holds_here P s n p is same h there =
-    subst (P (present_system s)) (here_pair s p is h) (subst (λ (n : NamedSys). P (joint.system_of n) (pair_at (sizes_of (joint.system_of n)) p)) same there)
+holds_here P s n p same at there = subst (P (present_system s)) at (subst (λ (n : NamedSys). P (joint.system_of n) (pair_at (sizes_of (joint.system_of n)) p)) same there)
 
 -- a flag that is true exactly for a related current pair is the definition's test
-pub related_is : (s : Situation) (n : NamedSys) (p : ℕ) (r : Bool) → IsSituation s → n ≡ s.parts → p ≡ number (sizes_of (present_system s)) s.here →
+pub related_is : (s : Situation) (n : NamedSys) (p : ℕ) (r : Bool) → IsSituation s → n ≡ s.parts → pair_at (sizes_of (present_system s)) p ≡ s.here →
     IsTrue r ↔ Great (joint.system_of n) (pair_at (sizes_of (joint.system_of n)) p) → r ≡ is_related (present_system s) s.here
-related_is s n p r is same h there =
-    let great = holds_here (λ s p. IsTrue r ↔ Great s p) s n p is same h there in
+related_is s n p r is same at there =
+    let great = holds_here (λ s p. IsTrue r ↔ Great s p) s n p same at there in
     let t = is_related (present_system s) s.here in
     by_test r (λ yes. yes ∙ sym (great_related (present_system s) s.here is.parts.system (great.0 yes)))
     (λ no. by_test t (λ yes. absurd (both_ways r no (great.1 (related_great (present_system s) s.here is.parts.system is.here yes)))) (λ other. no ∙ sym other))
 
 -- a current pair that isn't related is outside the greatest relation
-pub unrelated_there : (s : Situation) (n : NamedSys) (p : ℕ) → IsSituation s → n ≡ s.parts → p ≡ number (sizes_of (present_system s)) s.here → IsFalse (is_related (present_system s) s.here) →
+pub unrelated_there : (s : Situation) (n : NamedSys) (p : ℕ) → IsSituation s → n ≡ s.parts → pair_at (sizes_of (present_system s)) p ≡ s.here → IsFalse (is_related (present_system s) s.here) →
     Great (joint.system_of n) (pair_at (sizes_of (joint.system_of n)) p) → ⊥
-unrelated_there s n p is same h unrelated great =
-    both_ways (is_related (present_system s) s.here) unrelated (great_related (present_system s) s.here is.parts.system (holds_here Great s n p is same h great))
+unrelated_there s n p is same at unrelated great =
+    both_ways (is_related (present_system s) s.here) unrelated (great_related (present_system s) s.here is.parts.system (holds_here Great s n p same at great))
 
 -- a delegate is offered for its request
 pub delegated_is : (s : Situation) (a k : ℕ) → IsSituation s → s.phase ≡ Delegated a k → IsOpen s a × IsIn k (offers (present_system s) s.here a)

@@ -1,5 +1,5 @@
 -- The report: the services now present, the present states, and the services that can be offered.
-use Rattle.std.specs.Prelude.{ℕ, not, List, [], ◌∷◌, ◌++◌, map, length, if◌then◌else◌}
+use Rattle.std.specs.Prelude.{ℕ, not, List, [], ◌∷◌, ◌++◌, map, length, drop, if◌then◌else◌}
 use Rattle.std.specs.List.{filter, flat_map}
 use Rattle.roman_model.specs.Lists.{below}
 use Rattle.roman_model.specs.System.{Pair, is_final}
@@ -37,6 +37,18 @@ offer_lines parts p =
     if is_related (system_of parts) p
     then flat_map (offer_line parts p) (filter (is_allowed (system_of parts) p) (below (system_of parts).env.actions))
     else []
+
+-- the lines of the services from place k on
+abbrev pub services_from : NamedSys → Pair → ℕ → List ReportLine
+services_from parts p k = service_lines parts.catalogue (drop k parts.seats) (drop k p.bs)
+
+-- the lines of the services, and whether the pair is related
+abbrev pub services_and_answer : NamedSys → Pair → List ReportLine
+services_and_answer parts p = service_lines parts.catalogue parts.seats p.bs ++ line.Answer (is_related (system_of parts) p) ∷ []
+
+-- the lines of the offers, and the end of the report
+abbrev pub offers_and_end : NamedSys → Pair → List ReportLine
+offers_and_end parts p = offer_lines parts p ++ line.End ∷ []
 
 -- the first four lines of the report
 abbrev pub report_head : NamedSys → Pair → List ReportLine

@@ -1,5 +1,5 @@
 -- The names of the services of a mask.
-use Rattle.std.specs.Prelude.{ℕ, List, ◌++◌, map, codes}
+use Rattle.std.specs.Prelude.{ℕ, List, ◌++◌, map, length, codes}
 use Rattle.std.specs.List.{filter, flat_map}
 use Rattle.roman_model.specs.Lists.{below}
 use Rattle.roman_model.specs.Explanation.{name_at}
@@ -18,3 +18,7 @@ served parts k = codes " " ++ name_at (map seat_name parts.seats) k
 -- the names of the seats, each after a space
 unfoldable pub served_text : NamedSys → List ℕ → List ℕ
 served_text parts ks = flat_map (served parts) ks
+
+-- the names of the seats of a mask, each after a space, and the end of the line
+abbrev pub served_line : NamedSys → ℕ → List ℕ
+served_line parts mask = served_text parts (seats_set mask (length parts.seats)) ++ codes "\n"

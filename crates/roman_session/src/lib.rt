@@ -9,7 +9,6 @@ mod events;
 mod next;
 mod phase;
 mod session;
-mod writing;
 
 pub use events::{Handing, Joining, Jump};
 pub use next::Next;

@@ -3,12 +3,13 @@ ghost use Rattle.std.specs.Prelude.{◌≡◌, ◌≢◌, ℕ, ◌<◌, length, 
 ghost use Rattle.roman_model.specs.System.{IsPair, has};
 ghost use Rattle.roman_model.specs.SystemArena.{pairs, is_allowed};
 ghost use Rattle.roman_model.specs.System as model;
-ghost use Rattle.roman_model.specs.Numbers.{sizes_of, count, number};
+ghost use Rattle.roman_model.specs.Numbers.{sizes_of, count, number, pair_at};
 ghost use Rattle.roman_model.specs.Explanation.{name_at};
 ghost use Rattle.roman_model.specs.Offers.{is_related, offers, related_count};
 ghost use Rattle.roman_radix.specs.Radix.{moved};
 ghost use Rattle.roman_rules.specs.Bits.{HasBits};
 ghost use Rattle.roman_joint.specs.NamedSys as named;
+ghost use Rattle.roman_relation.specs.Greatest.{IsRelation};
 ghost use Rattle.roman_session.specs.Situations.{Situation, present_system, is_idle, IsOpen, IsPhase, IsSituation};
 
 mod answering;
@@ -16,7 +17,6 @@ mod building;
 mod changes;
 mod jumps;
 mod naming;
-mod replying;
 mod reports;
 mod requests;
 mod rulings;
@@ -86,21 +86,22 @@ impl Session {
     pub fn pairs(&self) -> u32
         ensures { result ≡ length (pairs (present_system self.now)) }
     {
-        self.relation.joint.shape().pairs()
+        self.joint().shape().pairs()
     }
 
     /// Returns the number of related pairs of the system with the services now present.
     pub fn related(&self) -> u32
         ensures { result ≡ related_count (present_system self.now) }
     {
-        self.relation.count()
+        self.relation().count()
     }
 
     /// Returns whether a composition exists from the current pair: whether the pair is related.
     pub fn composes(&self) -> bool
         ensures { result ≡ is_related (present_system self.now) self.now.here }
     {
-        self.relation.related(self.here())
+        self.known(); // the situation is well formed
+        self.relation().related(self.here())
     }
 
     /// Returns the phase. While a request is open, the current pair is related, and the target allows
@@ -119,10 +120,25 @@ impl Session {
         let _phase = self.phase;
     }
 
+    /// Returns the greatest relation of the system with the services now present.
+    fn relation(&self) -> &Relation
+        ensures joint { result.now.joint ≡ self.now.parts }
+        ensures known { IsRelation result.now.joint result.now.order }
+    {
+        &self.relation
+    }
+
+    /// Returns the system with the services now present.
+    fn joint(&self) -> &Joint
+        ensures { result.now ≡ self.now.parts }
+    {
+        &self.relation.joint
+    }
+
     /// Returns the number of the current pair.
     fn here(&self) -> u32
-        ensures number { result ≡ number (sizes_of (present_system self.now)) self.now.here }
         ensures below { result < count (sizes_of (present_system self.now)) }
+        ensures pair { pair_at (sizes_of (present_system self.now)) result ≡ self.now.here }
     {
         self.number
     }
@@ -141,7 +157,7 @@ impl Session {
         requires { a < (present_system self.now).env.actions }
         ensures { result ≡ is_allowed (present_system self.now) self.now.here a }
     {
-        self.relation.joint.allowed(self.here(), a)
+        self.joint().allowed(self.here(), a)
     }
 
     /// Returns the services that can be offered for the action `a`. Requires a related current pair
@@ -150,7 +166,7 @@ impl Session {
         requires { IsOpen self.now a }
         ensures { HasBits result (has (offers (present_system self.now) self.now.here a)) }
     {
-        offers(&self.relation, self.here(), a)
+        offers(self.relation(), self.here(), a)
     }
 
     /// Returns the services that are offered for the requested action `a`.
@@ -182,14 +198,14 @@ impl Session {
     fn target_name(&self) -> &Name
         ensures { result.now ≡ name_at self.now.parts.target.states self.now.here.t }
     {
-        self.relation.joint.target_name(self.target)
+        self.joint().target_name(self.target)
     }
 
     /// Returns the name of the environment's present state.
     fn env_name(&self) -> &Name
         ensures { result.now ≡ name_at self.now.parts.environment.states self.now.here.e }
     {
-        self.relation.joint.env_name(self.env)
+        self.joint().env_name(self.env)
     }
 
     /// Sets the phase. Requires a phase that is possible at the current pair, and isn't `Offered`.

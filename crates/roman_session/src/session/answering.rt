@@ -84,7 +84,8 @@ impl Session {
         Ok(next_after(event))
     }
 
-    /// Changes the session by an event, and pushes the reply on a page.
+    /// Changes the session by an event, and pushes the reply on a page. Each event has its own
+    /// function: a reply is large, and a function clears the places of all replies that it may hold.
     #[tactic(auto, using(crate::proofs::AnswerLemmas::done))]
     fn answer_event<O: Sink, L: Ledger>(
         &mut self,

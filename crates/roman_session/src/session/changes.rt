@@ -1,19 +1,19 @@
 //! Freezes, thaws, removes and adds services.
-ghost use Rattle.std.specs.Prelude.{◌≡◌, ◌<◌, length, slice_get, IsTrue, IsFalse};
-ghost use Rattle.roman_model.specs.SystemArena.{is_ready};
+ghost use Rattle.std.specs.Prelude.{◌≡◌};
+ghost use Rattle.roman_io.specs.Faults.{HasCause};
 ghost use Rattle.roman_text.specs.Replies.{reply_text};
 ghost use Rattle.roman_text.specs.Shapes.{freeze, thaw, die, join};
-ghost use Rattle.roman_session.specs.Situations.{present_system};
 ghost use Rattle.roman_session.specs.Rulings.{with_room};
 ghost use Rattle.roman_session.specs.Joins.{CanJoin};
-ghost use Rattle.roman_session.specs.Steps.{Does, Freezes, Thaws, Dies, Joins, StepOn};
+ghost use Rattle.roman_session.specs.Steps.{Does, Joins};
+ghost use Rattle.roman_session.specs.Answering.{DoneOn};
 
 use super::{Session, number_of};
 use crate::events::Joining;
 use crate::phase::Phase;
-use roman_io::Steps;
+use roman_io::{Failed, Sink, Steps};
 use roman_repair::{JoinError, Tally, die, freeze, join, thaw};
-use roman_text::Reply;
+use roman_text::{Page, Reply};
 use std::sync::ledger::Ledger;
 
 /// Returns the reply that counts the entries that a repair kept and added.
@@ -26,89 +26,90 @@ fn kept(tally: Tally) -> Reply
     }
 }
 
+#[tactic(auto, using(crate::proofs::AnswerLemmas::done))]
 impl Session {
-    /// Applies `freeze S`, and returns the reply. A refusal changes nothing.
-    pub(super) fn freeze<L: Ledger>(&mut self, service: &[u8], steps: &mut Steps<L>) -> Reply
-        ensures { StepOn self.old (freeze service.now) (reply_text result) self.new }
+    /// Answers `freeze S`, and pushes the reply on a page. A refusal changes nothing.
+    pub(super) fn answer_freeze<O: Sink, L: Ledger>(
+        &mut self,
+        service: &[u8],
+        page: &mut Page,
+        out: &mut O,
+        steps: &mut Steps<L>,
+    ) -> Result<(), Failed>
+        ensures step { DoneOn self.old (freeze service.now) self.new (O.written out.old) (O.written out.new) page.old page.new result }
+        ensures cause { HasCause (O.faults out.old) (O.faults out.new) result }
     {
-        match self.frozen(service) {
-            Ok(k) => self.freeze_seat(k, steps),
-            Err(refusal) => refusal,
-        }
+        let k = match self.frozen(service) {
+            Ok(k) => k,
+            Err(refusal) => return page.push_reply(&refusal, out),
+        };
+        let tally = freeze(&mut self.relation, k, steps);
+        self.relation.joint.known(); // the system is well formed
+        page.push_reply(&kept(tally), out)
     }
 
-    /// Applies `thaw S`, and returns the reply. A refusal changes nothing.
-    pub(super) fn thaw<L: Ledger>(&mut self, service: &[u8], steps: &mut Steps<L>) -> Reply
-        ensures { StepOn self.old (thaw service.now) (reply_text result) self.new }
+    /// Answers `thaw S`, and pushes the reply on a page. A refusal changes nothing.
+    pub(super) fn answer_thaw<O: Sink, L: Ledger>(
+        &mut self,
+        service: &[u8],
+        page: &mut Page,
+        out: &mut O,
+        steps: &mut Steps<L>,
+    ) -> Result<(), Failed>
+        ensures step { DoneOn self.old (thaw service.now) self.new (O.written out.old) (O.written out.new) page.old page.new result }
+        ensures cause { HasCause (O.faults out.old) (O.faults out.new) result }
     {
-        match self.thawed(service) {
-            Ok(k) => self.thaw_seat(k, steps),
-            Err(refusal) => refusal,
-        }
+        let k = match self.thawed(service) {
+            Ok(k) => k,
+            Err(refusal) => return page.push_reply(&refusal, out),
+        };
+        let tally = thaw(&mut self.relation, k, steps);
+        self.relation.joint.known(); // the system is well formed
+        page.push_reply(&kept(tally), out)
     }
 
-    /// Applies `die S`, and returns the reply. A refusal changes nothing.
-    pub(super) fn die<L: Ledger>(&mut self, service: &[u8], steps: &mut Steps<L>) -> Reply
-        ensures { StepOn self.old (die service.now) (reply_text result) self.new }
+    /// Answers `die S`, and pushes the reply on a page. A refusal changes nothing.
+    pub(super) fn answer_die<O: Sink, L: Ledger>(
+        &mut self,
+        service: &[u8],
+        page: &mut Page,
+        out: &mut O,
+        steps: &mut Steps<L>,
+    ) -> Result<(), Failed>
+        ensures step { DoneOn self.old (die service.now) self.new (O.written out.old) (O.written out.new) page.old page.new result }
+        ensures cause { HasCause (O.faults out.old) (O.faults out.new) result }
     {
-        match self.died(service) {
-            Ok(k) => self.die_seat(k, steps),
-            Err(refusal) => refusal,
-        }
+        let k = match self.died(service) {
+            Ok(k) => k,
+            Err(refusal) => return page.push_reply(&refusal, out),
+        };
+        let tally = die(&mut self.relation, k, steps);
+        self.relation.joint.known(); // the system is well formed
+        let _state = self.states.remove(k as usize);
+        self.number = number_of(&self.relation.joint, self.target, self.env, &self.states);
+        page.push_reply(&kept(tally), out)
     }
 
-    /// Applies `join S B STATE` or `join S B STATE loose`, and returns the reply. A refusal changes
-    /// nothing.
-    pub(super) fn join<L: Ledger>(
+    /// Answers `join S B STATE` or `join S B STATE loose`, and pushes the reply on a page. A refusal
+    /// changes nothing.
+    pub(super) fn answer_join<O: Sink, L: Ledger>(
         &mut self,
         service: &[u8],
         behaviour: &[u8],
         state: &[u8],
         loose: bool,
+        page: &mut Page,
+        out: &mut O,
         steps: &mut Steps<L>,
-    ) -> Reply
-        ensures { StepOn self.old (join service.now behaviour.now state.now loose) (reply_text result) self.new }
+    ) -> Result<(), Failed>
+        ensures step { DoneOn self.old (join service.now behaviour.now state.now loose) self.new (O.written out.old) (O.written out.new) page.old page.new result }
+        ensures cause { HasCause (O.faults out.old) (O.faults out.new) result }
     {
-        match self.joining(service, behaviour, state, loose) {
-            Ok(joining) => self.join_seat(joining, steps),
-            Err(refusal) => refusal,
-        }
-    }
-
-    /// Freezes the service at place `k`. Requires a ready service and the phase `Idle`.
-    fn freeze_seat<L: Ledger>(&mut self, k: u8, steps: &mut Steps<L>) -> Reply
-        requires idle { self.old.phase ≡ Phase.Idle }
-        requires ready { IsTrue (is_ready (slice_get (present_system self.old).seats k)) }
-        ensures { Freezes self.old k (reply_text result) self.new }
-    {
-        let tally = freeze(&mut self.relation, k, steps);
-        self.relation.joint.known(); // the system is well formed
-        kept(tally)
-    }
-
-    /// Makes the service at place `k` ready. Requires a frozen service and the phase `Idle`.
-    fn thaw_seat<L: Ledger>(&mut self, k: u8, steps: &mut Steps<L>) -> Reply
-        requires idle { self.old.phase ≡ Phase.Idle }
-        requires seat { k < length self.old.parts.seats }
-        requires frozen { IsFalse (is_ready (slice_get (present_system self.old).seats k)) }
-        ensures { Thaws self.old k (reply_text result) self.new }
-    {
-        let tally = thaw(&mut self.relation, k, steps);
-        self.relation.joint.known(); // the system is well formed
-        kept(tally)
-    }
-
-    /// Removes the service at place `k`. Requires the phase `Idle`.
-    fn die_seat<L: Ledger>(&mut self, k: u8, steps: &mut Steps<L>) -> Reply
-        requires idle { self.old.phase ≡ Phase.Idle }
-        requires seat { k < length self.old.parts.seats }
-        ensures { Dies self.old k (reply_text result) self.new }
-    {
-        let tally = die(&mut self.relation, k, steps);
-        self.relation.joint.known(); // the system is well formed
-        let _state = self.states.remove(k as usize);
-        self.number = number_of(&self.relation.joint, self.target, self.env, &self.states);
-        kept(tally)
+        let joining = match self.joining(service, behaviour, state, loose) {
+            Ok(joining) => joining,
+            Err(refusal) => return page.push_reply(&refusal, out),
+        };
+        page.push_reply(&self.join_seat(joining, steps), out)
     }
 
     /// Adds a service, or returns the refusal if there are too many services or cells. Requires

@@ -1,34 +1,49 @@
 //! Moves services and the environment to named states.
-ghost use Rattle.roman_text.specs.Replies.{reply_text};
+ghost use Rattle.roman_io.specs.Faults.{HasCause};
 ghost use Rattle.roman_text.specs.Shapes.{jump, jump_env};
-ghost use Rattle.roman_session.specs.Steps.{StepOn};
+ghost use Rattle.roman_session.specs.Answering.{DoneOn};
 
 use super::Session;
 use crate::events::Jump;
-use roman_text::Reply;
+use roman_io::{Failed, Sink};
+use roman_text::{Page, Reply};
 
+#[tactic(auto, using(crate::proofs::AnswerLemmas::done))]
 impl Session {
-    /// Applies `jump S STATE`, and returns the reply. A refusal changes nothing.
-    pub(super) fn jump(&mut self, service: &[u8], state: &[u8]) -> Reply
-        ensures { StepOn self.old (jump service.now state.now) (reply_text result) self.new }
+    /// Answers `jump S STATE`, and pushes the reply on a page. A refusal changes nothing.
+    pub(super) fn answer_jump<O: Sink>(
+        &mut self,
+        service: &[u8],
+        state: &[u8],
+        page: &mut Page,
+        out: &mut O,
+    ) -> Result<(), Failed>
+        ensures step { DoneOn self.old (jump service.now state.now) self.new (O.written out.old) (O.written out.new) page.old page.new result }
+        ensures cause { HasCause (O.faults out.old) (O.faults out.new) result }
     {
         let Jump { seat, state } = match self.jumped(service, state) {
             Ok(jump) => jump,
-            Err(refusal) => return refusal,
+            Err(refusal) => return page.push_reply(&refusal, out),
         };
         self.move_to(self.target, self.env, seat, state);
-        Reply::Jumped
+        page.push_reply(&Reply::Jumped, out)
     }
 
-    /// Applies `jumpenv E`, and returns the reply. A refusal changes nothing.
-    pub(super) fn jump_env(&mut self, env: &[u8]) -> Reply
-        ensures { StepOn self.old (jump_env env.now) (reply_text result) self.new }
+    /// Answers `jumpenv E`, and pushes the reply on a page. A refusal changes nothing.
+    pub(super) fn answer_jump_env<O: Sink>(
+        &mut self,
+        env: &[u8],
+        page: &mut Page,
+        out: &mut O,
+    ) -> Result<(), Failed>
+        ensures step { DoneOn self.old (jump_env env.now) self.new (O.written out.old) (O.written out.new) page.old page.new result }
+        ensures cause { HasCause (O.faults out.old) (O.faults out.new) result }
     {
         let env = match self.env_jumped(env) {
             Ok(env) => env,
-            Err(refusal) => return refusal,
+            Err(refusal) => return page.push_reply(&refusal, out),
         };
         self.move_env(env);
-        Reply::Jumped
+        page.push_reply(&Reply::Jumped, out)
     }
 }

@@ -1,9 +1,7 @@
 //! Looks up names.
 ghost use Rattle.std.specs.Prelude.{◌≡◌, ◌<◌, ◌≤◌, length, IfOk, IfSome, slice_get};
-ghost use Rattle.std.specs.Str.{bytes_eq};
 ghost use Rattle.roman_session.specs.Situations.{present_system};
 ghost use Rattle.roman_session.specs.Rulings.{named, service_named, state_named};
-ghost use Rattle.roman_session.specs.Steps.{service_at};
 
 use super::Session;
 use roman_read::NameTable;
@@ -28,16 +26,7 @@ impl Session {
         ensures place { result ≡ named self.now.parts.environment.states name.now }
         ensures within { IfOk result (λ e. e < (present_system self.now).env.states) }
     {
-        place(self.relation.joint.environment().states(), name)
-    }
-
-    /// Returns whether the service at place `k` has this name.
-    #[tactic(auto, using(crate::proofs::SituationLemmas::parts_shown, crate::proofs::SituationLemmas::service_named_at))]
-    fn has_name(&self, k: u8, name: &[u8]) -> bool
-        requires { k < length self.now.parts.seats }
-        ensures { result ≡ bytes_eq name.now (service_at self.now k) }
-    {
-        name == self.relation.joint.seat(k).name.bytes()
+        place(self.joint().environment().states(), name)
     }
 
     /// Returns the place of the present service with this name, or `ErrorName` if there is none.
@@ -45,8 +34,8 @@ impl Session {
         ensures place { result ≡ service_named self.now name.now }
         ensures within { IfOk result (λ k. k < length self.now.parts.seats) }
     {
-        for k in 0..self.relation.joint.seats() {
-            if self.has_name(k, name) {
+        for k in 0..self.joint().seats() {
+            if name == self.joint().seat(k).name.bytes() {
                 return Ok(k);
             }
         }
@@ -60,6 +49,7 @@ impl Session {
         ensures place { result ≡ state_named self.now k name.now }
         ensures within { IfOk result (λ b. IfSome (slice_get (present_system self.now).seats k) (λ seat. b < seat.beh.states)) }
     {
-        place(self.relation.joint.behaviour(k).states(), name)
+        self.known(); // behaviours are over the environment
+        place(self.joint().behaviour(k).states(), name)
     }
 }

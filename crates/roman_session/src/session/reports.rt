@@ -1,17 +1,29 @@
 //! Writes offers and reports.
-ghost use Rattle.std.specs.Prelude.{◌≡◌, ◌++◌};
+ghost use Rattle.std.specs.Prelude.{◌≡◌, ◌<◌, ◌+◌, ◌++◌, ◌∷◌, length};
 ghost use Rattle.roman_io.specs.Faults.{HasCause};
 ghost use Rattle.roman_io.specs.Sink.{Puts};
 ghost use Rattle.roman_text.specs.Pages.{Gathers};
 ghost use Rattle.roman_session.specs.Situations.{IsOpen};
-ghost use Rattle.roman_session.specs.Reports.{report_head, service_lines, offer_line, offer_lines, lines_text, report_text};
+ghost use Rattle.roman_session.specs.Reports.{report_head, services_from, services_and_answer, offer_line, offers_and_end, lines_text, report_text};
+ghost use Rattle.roman_session.specs.Serving.{served_line};
 ghost use Rattle.roman_session.specs.Steps.{offer_text};
 
 use super::Session;
 use crate::phase::Phase;
-use crate::writing::{push_lines, push_served, service_line};
 use roman_io::{Failed, Sink};
+use roman_rules::SeatSet;
 use roman_text::{Page, ReportLine};
+
+/// Pushes report lines.
+fn push_lines<O: Sink>(lines: &[ReportLine], page: &mut Page, out: &mut O) -> Result<(), Failed>
+    ensures gathers { Gathers (O.written out.old) (O.written out.new) page.new (page.old ++ lines_text lines.now) result }
+    ensures cause { HasCause (O.faults out.old) (O.faults out.new) result }
+{
+    for line in lines {
+        page.push_report_line(line, out)?;
+    }
+    Ok(())
+}
 
 impl Session {
     /// Writes the report: the numbers of pairs and of related pairs, the services now present, the
@@ -41,7 +53,25 @@ impl Session {
         self.known(); // an open request can be served
         let mask = self.offered(a);
         page.push(b"offer", out)?;
-        push_served(&self.relation.joint, mask, page, out)?;
+        self.push_served(mask, page, out)
+    }
+
+    /// Pushes the names of the services of a set, each after a space, and ends the line.
+    fn push_served<O: Sink>(
+        &self,
+        mask: SeatSet,
+        page: &mut Page,
+        out: &mut O,
+    ) -> Result<(), Failed>
+        ensures gathers { Gathers (O.written out.old) (O.written out.new) page.new (page.old ++ served_line self.now.parts mask) result }
+        ensures cause { HasCause (O.faults out.old) (O.faults out.new) result }
+    {
+        for k in 0..self.joint().seats() {
+            if !mask.has(k) {
+                continue;
+            }
+            page.push_name(b' ', &self.joint().seat(k).name, out)?;
+        }
         page.push(b"\n", out)
     }
 
@@ -52,9 +82,7 @@ impl Session {
     {
         push_lines(&self.head_lines(), page, out)?;
         self.push_services(page, out)?;
-        push_lines(&[ReportLine::Answer(self.composes())], page, out)?;
-        self.push_offers(page, out)?;
-        push_lines(&[ReportLine::End], page, out)
+        self.push_offers(page, out)
     }
 
     /// Returns the first four lines of the report.
@@ -68,41 +96,57 @@ impl Session {
             ReportLine::Environment(*self.env_name()),
             ReportLine::Target {
                 state: *self.target_name(),
-                is_final: self.relation.joint.target().is_final(here),
+                is_final: self.joint().target().is_final(here),
             },
         ]
     }
 
-    /// Pushes the lines of the services.
-    fn push_services<O: Sink>(&self, page: &mut Page, out: &mut O) -> Result<(), Failed>
-        ensures gathers { Gathers (O.written out.old) (O.written out.new) page.new
-            (page.old ++ lines_text (service_lines self.now.parts.catalogue self.now.parts.seats self.now.here.bs)) result }
-        ensures cause { HasCause (O.faults out.old) (O.faults out.new) result }
+    /// Returns the report line of the service at place `k`.
+    fn service_line(&self, k: u8) -> ReportLine
+        requires { k < length self.now.parts.seats }
+        ensures { services_from self.now.parts self.now.here k ≡ result ∷ services_from self.now.parts self.now.here (k + 1) }
     {
-        for k in 0..self.relation.joint.seats() {
-            let line = service_line(&self.relation.joint, k, self.state(k));
-            page.push_report_line(&line, out)?;
+        self.known(); // behaviours are over the environment
+        let seat = *self.joint().seat(k);
+        let behaviour = self.joint().behaviour(k);
+        ReportLine::Service {
+            name: seat.name,
+            behaviour: *behaviour.name(),
+            state: *behaviour.states().at(u32::from(self.state(k))),
+            frozen: seat.frozen,
+            loose: !seat.rests,
         }
-        Ok(())
     }
 
-    /// Pushes a line for each action that the target allows, if the current pair is related.
-    /// Pushes nothing for any other pair.
+    /// Pushes the lines of the services, and whether the current pair is related.
+    fn push_services<O: Sink>(&self, page: &mut Page, out: &mut O) -> Result<(), Failed>
+        ensures gathers { Gathers (O.written out.old) (O.written out.new) page.new
+            (page.old ++ lines_text (services_and_answer self.now.parts self.now.here)) result }
+        ensures cause { HasCause (O.faults out.old) (O.faults out.new) result }
+    {
+        for k in 0..self.joint().seats() {
+            page.push_report_line(&self.service_line(k), out)?;
+        }
+        page.push_report_line(&ReportLine::Answer(self.composes()), out)
+    }
+
+    /// Pushes a line for each action that the target allows, if the current pair is related, and the
+    /// end of the report.
     fn push_offers<O: Sink>(&self, page: &mut Page, out: &mut O) -> Result<(), Failed>
-        ensures gathers { Gathers (O.written out.old) (O.written out.new) page.new (page.old ++ lines_text (offer_lines self.now.parts self.now.here)) result }
+        ensures gathers { Gathers (O.written out.old) (O.written out.new) page.new (page.old ++ lines_text (offers_and_end self.now.parts self.now.here)) result }
         ensures cause { HasCause (O.faults out.old) (O.faults out.new) result }
     {
         if !self.composes() {
-            return Ok(());
+            return page.push_report_line(&ReportLine::End, out);
         }
-        let actions = self.relation.joint.environment().actions().len() as u8;
+        let actions = self.joint().environment().actions().len() as u8;
         for a in 0..actions {
             if !self.allows(a) {
                 continue;
             }
             self.push_offer(a, page, out)?;
         }
-        Ok(())
+        page.push_report_line(&ReportLine::End, out)
     }
 
     /// Pushes the line of the action `a`, with the services that are offered for it.
@@ -113,9 +157,8 @@ impl Session {
     {
         self.known(); // allowed actions are actions of the system
         let mask = self.offers(a);
-        let line = ReportLine::Offer(*self.relation.joint.action_name(a));
+        let line = ReportLine::Offer(*self.joint().action_name(a));
         page.push_report_line(&line, out)?;
-        push_served(&self.relation.joint, mask, page, out)?;
-        page.push_report_line(&ReportLine::Stop, out)
+        self.push_served(mask, page, out)
     }
 }

@@ -1,9 +1,6 @@
 //! Requests, delegations and their outcomes.
-ghost use Rattle.std.specs.Prelude.{◌≡◌};
 ghost use Rattle.roman_io.specs.Faults.{HasCause};
-ghost use Rattle.roman_text.specs.Replies.{reply_text};
 ghost use Rattle.roman_text.specs.Shapes.{ask, hand, saw, abort};
-ghost use Rattle.roman_session.specs.Steps.{StepOn};
 ghost use Rattle.roman_session.specs.Answering.{DoneOn};
 
 use super::Session;
@@ -13,9 +10,9 @@ use roman_generator::next_target;
 use roman_io::{Failed, Sink};
 use roman_text::{Page, Reply};
 
+#[tactic(auto, using(crate::proofs::AnswerLemmas::done))]
 impl Session {
     /// Answers `do A`, and pushes the reply on a page. A refusal changes nothing.
-    #[tactic(auto, using(crate::proofs::AnswerLemmas::done))]
     pub(super) fn answer_request<O: Sink>(
         &mut self,
         action: &[u8],
@@ -34,7 +31,6 @@ impl Session {
     }
 
     /// Answers `use S`, and pushes the reply on a page. A refusal changes nothing.
-    #[tactic(auto, using(crate::proofs::AnswerLemmas::done))]
     pub(super) fn answer_hand<O: Sink>(
         &mut self,
         service: &[u8],
@@ -48,24 +44,29 @@ impl Session {
             Ok(handing) => handing,
             Err(refusal) => return page.push_reply(&refusal, out),
         };
-        let pushed = page.push_using(&self.relation.joint.seat(seat).name, out);
+        self.known(); // the situation is well formed
+        let pushed = page.push_using(&self.joint().seat(seat).name, out);
         self.set_phase(Phase::Delegated(action, seat));
         pushed
     }
 
-    /// Applies `abort`, and returns the reply. A refusal changes nothing.
-    pub(super) fn abort(&mut self) -> Reply
-        ensures { StepOn self.old abort (reply_text result) self.new }
+    /// Answers `abort`, and pushes the reply on a page. A refusal changes nothing.
+    pub(super) fn answer_abort<O: Sink>(
+        &mut self,
+        page: &mut Page,
+        out: &mut O,
+    ) -> Result<(), Failed>
+        ensures step { DoneOn self.old abort self.new (O.written out.old) (O.written out.new) page.old page.new result }
+        ensures cause { HasCause (O.faults out.old) (O.faults out.new) result }
     {
         if let Err(refusal) = self.aborted() {
-            return refusal;
+            return page.push_reply(&refusal, out);
         }
         self.set_phase(Phase::Idle);
-        Reply::Aborted
+        page.push_reply(&Reply::Aborted, out)
     }
 
     /// Answers `saw B E`, and pushes the reply on a page. A refusal changes nothing.
-    #[tactic(auto, using(crate::proofs::AnswerLemmas::done))]
     pub(super) fn answer_sight<O: Sink>(
         &mut self,
         state: &[u8],

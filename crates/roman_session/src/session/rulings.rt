@@ -1,7 +1,7 @@
 //! Checks events. Each call returns what its event names, or the first refusal that applies.
 ghost use Rattle.std.specs.Prelude.{◌≡◌, ◌<◌, length, IfOk, IfSome, slice_get};
 ghost use Rattle.roman_session.specs.Joins.{CanJoin};
-ghost use Rattle.roman_session.specs.Situations.{present_system};
+ghost use Rattle.roman_session.specs.Situations.{present_system, IsPhase};
 ghost use Rattle.roman_session.specs.Rulings.{seat_at, asked, handed, seen, aborted, jumped, env_jumped, frozen, thawed, died, joining};
 
 use super::Session;
@@ -20,7 +20,7 @@ impl Session {
     pub(super) fn asked(&self, action: &[u8]) -> Result<u8, Reply>
         ensures { result ≡ asked self.now action.now }
     {
-        let a = place(self.relation.joint.environment().actions(), action)?;
+        let a = place(self.joint().environment().actions(), action)?;
         if !self.is_idle() {
             return Err(Reply::ErrorBusy);
         }
@@ -36,7 +36,8 @@ impl Session {
     /// Returns the action that `use` delegates and the service that it names, or its first refusal.
     #[tactic(auto, unfolding(crate::specs::Rulings::handed))]
     pub(super) fn handed(&self, service: &[u8]) -> Result<Handing, Reply>
-        ensures { result ≡ handed self.now service.now }
+        ensures handed { result ≡ handed self.now service.now }
+        ensures seat { IfOk result (λ x. x.seat < length self.now.parts.seats) }
     {
         let seat = self.service_place(service)?;
         let Phase::Offered(action) = self.phase else {
@@ -52,9 +53,11 @@ impl Session {
     /// whether the outcome is possible.
     #[tactic(auto, unfolding(crate::specs::Rulings::seen))]
     pub(super) fn seen(&self, state: &[u8], env: &[u8]) -> Result<Sight, Reply>
-        ensures { result ≡ seen self.now state.now env.now }
+        ensures seen { result ≡ seen self.now state.now env.now }
+        ensures phase { IfOk result (λ x. IsPhase self.now (Phase.Delegated x.action x.seat)) }
     {
-        let Phase::Delegated(action, seat) = self.phase else {
+        self.known(); // the situation is well formed
+        let Phase::Delegated(action, seat) = self.phase() else {
             return Err(Reply::ErrorIdle);
         };
         let state = self.state_place(seat, state)?;
@@ -111,7 +114,7 @@ impl Session {
         requires { k < length self.now.parts.seats }
         ensures { result ≡ (seat_at self.now k).frozen }
     {
-        self.relation.joint.seat(k).frozen
+        self.joint().seat(k).frozen
     }
 
     /// Returns the place of the service that `freeze` names, or its first refusal.

@@ -1,22 +1,15 @@
-use Rattle.roman_session.proofs.Common.{ℕ, List, IsTrue, slice_get, slice_set, sym, subst, is_allowed, is_ready, Situation, present_system, HasMoved, situation_in, SStep}
-use Rattle.roman_session.proofs.RulingLemmas.{seen_is}
-use Rattle.roman_session.proofs.SituationLemmas.{delegated_is, delegate_ready, offered_within}
+use Rattle.roman_session.proofs.Common.{ℕ, List, IsTrue, slice_get, slice_set, sym, subst, arith, is_allowed, is_ready, Situation, present_system, HasMoved, situation_in, SStep}
+use Rattle.roman_session.proofs.SituationLemmas.{delegate_ready, offered_within}
 use Rattle.roman_session.proofs.StepLemmas.{moved_pair}
 use Rattle.roman_session.proofs.session.Session.answer_sight.Goals as goal
 
 pub next_target-requires-clause-allowed : goal.next_target-requires-clause-allowed
 next_target-requires-clause-allowed g c =
-    let s = c.args.self.now in
-    let x = c.in-Ok.sight in
-    let phase = delegated_is s x.action x.seat c.known.ensures (seen_is s c.args.state.now c.args.env.now x (sym c.in-Ok.ensures)) in
-    subst (λ (s : Situation). IsTrue (is_allowed (present_system s) s.here x.action)) (sym c.self.view_is) phase.0.1
+    subst (λ (s : Situation). IsTrue (is_allowed (present_system s) s.here c.in-Ok.sight.action)) (sym c.self.view_is) c.in-Ok.ensures.phase.0.1
 
 pub next_target-requires-clause-ready : goal.next_target-requires-clause-ready
 next_target-requires-clause-ready g c =
-    let s = c.args.self.now in
-    let x = c.in-Ok.sight in
-    let phase = delegated_is s x.action x.seat c.known.ensures (seen_is s c.args.state.now c.args.env.now x (sym c.in-Ok.ensures)) in
-    subst (λ (s : Situation). IsTrue (is_ready (slice_get (present_system s).seats x.seat))) (sym c.self.view_is) (delegate_ready s x.action x.seat c.known.ensures phase.1)
+    subst (λ (s : Situation). IsTrue (is_ready (slice_get (present_system s).seats c.in-Ok.sight.seat))) (sym c.self.view_is) (delegate_ready _ _ _ c.known.ensures c.in-Ok.ensures.phase.1)
 
 pub move_to-requires-clause-pair : goal.move_to-requires-clause-pair
 move_to-requires-clause-pair g c =
@@ -31,8 +24,4 @@ move_to-requires-clause-pair g c =
     moved_pair c.args.self.now x c.in-Some.to c.known.ensures (subst (λ (s : Situation). HasMoved s x c.in-Some.to) c.self.view_is there)
 
 pub move_to-requires-clause-seat : goal.move_to-requires-clause-seat
-move_to-requires-clause-seat g c =
-    let s = c.args.self.now in
-    let x = c.in-Ok.sight in
-    let phase = seen_is s c.args.state.now c.args.env.now x (sym c.in-Ok.ensures) in
-    offered_within s x.action x.seat c.known.ensures (delegated_is s x.action x.seat c.known.ensures phase).1
+move_to-requires-clause-seat g c = offered_within _ _ _ c.known.ensures c.in-Ok.ensures.phase.1

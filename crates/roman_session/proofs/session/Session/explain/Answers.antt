@@ -1,13 +1,13 @@
-use Rattle.roman_session.proofs.Common.{◌≡◌, ℕ, List, sym, ap, ◌∙◌, subst, arith, err_from_is_err_and, sizes_of, number, Puts, names_in, Situation, present_system, situation_in, explain_text, Gathers-flushed, gathers_failed}
+use Rattle.roman_session.proofs.Common.{◌≡◌, ℕ, List, sym, ap, ◌∙◌, subst, arith, err_from_is_err_and, sizes_of, pair_at, Puts, names_in, Situation, present_system, situation_in, explain_text, Gathers-flushed, gathers_failed}
 use Rattle.roman_session.proofs.AnswerLemmas.{puts_gathered}
-use Rattle.roman_session.proofs.SituationLemmas.{situation_known, parts_shown, here_pair, unrelated_there}
+use Rattle.roman_session.proofs.SituationLemmas.{situation_known, parts_shown, unrelated_there}
 use Rattle.roman_session.proofs.session.Session.explain.Goals as goal
 
 pub write_slice-requires-clause-unrelated : goal.write_slice-requires-clause-unrelated
 write_slice-requires-clause-unrelated g c =
     let s = c.args.self.now in
     let a = c.self.inside in
-    unrelated_there s a.relation.joint c.here-here.result (situation_known a s c.self.invariant c.self.view_is) (parts_shown a s c.self.view_is) c.here-here.ensures.number c.requires
+    unrelated_there s a.relation.joint c.here-here.result (situation_known a s c.self.invariant c.self.view_is) (parts_shown a s c.self.view_is) c.here-here.ensures.pair c.requires
 
 pub returns-in_err-flush-clause-gathers : goal.returns-in_err-flush-clause-gathers
 returns-in_err-flush-clause-gathers g c = grind (arith, gathers_failed, err_from_is_err_and)
@@ -17,10 +17,9 @@ returns-clause-gathers g c =
     let s = c.args.self.now in
     let a = c.self.inside in
     let t = situation_in a in
-    let here : c.here-here.result ≡ number (sizes_of (present_system t)) t.here =
-    c.here-here.ensures.number ∙ ap (λ (s : Situation). number (sizes_of (present_system s)) s.here) (sym c.self.view_is) in
+    let at = subst (λ (s : Situation). pair_at (sizes_of (present_system s)) c.here-here.result ≡ s.here) (sym c.self.view_is) c.here-here.ensures.pair in
     let same =
-    ap (explain_text (present_system t) (names_in t.parts) t.list) (here_pair t c.here-here.result c.self.invariant.known here)
+    ap (explain_text (present_system t) (names_in t.parts) t.list) at
     ∙ ap (λ (s : Situation). explain_text (present_system s) (names_in s.parts) s.list s.here) c.self.view_is in
     let put = subst (λ (text : List ℕ). Puts (g.O.Sink.written c.flush.new.out) (g.O.Sink.written c.write_slice.new.out) text c.write_slice.result) same c.write_slice.ensures.text in
     Gathers-flushed _ _ _ c.args.page.now c.flush.new.self _ _ c.in_ok-flush.ensures.puts (puts_gathered _ _ _ _ _ c.flush.ensures.empty put)

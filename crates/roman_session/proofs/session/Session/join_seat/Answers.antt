@@ -1,6 +1,6 @@
-use Rattle.roman_session.proofs.Common.{◌≤◌, Err, vec_capacity, ap, sym, ◌∙◌, subst, arith, MAX_SERVICES, Situation, CanJoin, situation_in, NamedSys}
+use Rattle.roman_session.proofs.Common.{◌≤◌, Err, vec_capacity, ap, sym, ◌∙◌, subst, arith, Situation, CanJoin, situation_in, NamedSys}
 use Rattle.roman_session.proofs.RulingLemmas.{cells_with}
-use Rattle.roman_session.proofs.ChangedLemmas.{moved_fields, counted_now, joined_pair, joined_now, has_place, has_room, is_within, joins_by, limit_by}
+use Rattle.roman_session.proofs.ChangedLemmas.{moved_fields, joined_pair, joined_now, has_place, has_room, is_within, joins_by, limit_by}
 use Rattle.roman_session.proofs.SituationLemmas.{parts_shown}
 use Rattle.roman_session.proofs.session.Session.join_seat.Goals as goal
 
@@ -16,8 +16,8 @@ invariant_of-self g c =
     let x = c.args.joining in
     let idle = ap (λ (s : Situation). s.phase) c.self.view_is ∙ c.requires.idle in
     let can = subst (λ (n : NamedSys). CanJoin n x) (sym (parts_shown a c.args.self.now c.self.view_is)) c.requires.can in
-    let room : MAX_SERVICES ≤ vec_capacity c.push_reserved.new.self = omega (arith, c.self.invariant.room, c.push_reserved.ensures.capacity) in
-    (joined_now a c.join.new.relation c.push_reserved.new.self c.number_of-self-inside.result x c.in-Ok.tally c.self.invariant idle can c.in-Ok.ensures.joint c.in-Ok.ensures.repaired c.known.ensures c.push_reserved.ensures.items (counted_now a c.join.new.relation c.push_reserved.new.self c.deref.result.now c.number_of-self-inside.result c.deref.ensures.value c.number_of-self-inside.ensures) room).session
+    let room : vec_capacity a.states ≤ vec_capacity c.push_reserved.new.self = omega (arith, c.push_reserved.ensures.capacity) in
+    (joined_now a c.join.new.relation c.push_reserved.new.self c.deref.result.now c.number_of-self-inside.result x c.in-Ok.tally c.self.invariant idle can c.in-Ok.ensures.joint c.in-Ok.ensures.repaired c.known.ensures c.push_reserved.ensures.items c.deref.ensures.value c.number_of-self-inside.ensures room).session
 
 pub returns-in-Ok : goal.returns-in-Ok
 returns-in-Ok g c =
@@ -26,9 +26,9 @@ returns-in-Ok g c =
     let x = c.args.joining in
     let idle = ap (λ (s : Situation). s.phase) c.self.view_is ∙ c.requires.idle in
     let can = subst (λ (n : NamedSys). CanJoin n x) (sym (parts_shown a s c.self.view_is)) c.requires.can in
-    let room : MAX_SERVICES ≤ vec_capacity c.push_reserved.new.self = omega (arith, c.self.invariant.room, c.push_reserved.ensures.capacity) in
+    let room : vec_capacity a.states ≤ vec_capacity c.push_reserved.new.self = omega (arith, c.push_reserved.ensures.capacity) in
     let done =
-    joined_now a c.join.new.relation c.push_reserved.new.self c.number_of-self-inside.result x c.in-Ok.tally c.self.invariant idle can c.in-Ok.ensures.joint c.in-Ok.ensures.repaired c.known.ensures c.push_reserved.ensures.items (counted_now a c.join.new.relation c.push_reserved.new.self c.deref.result.now c.number_of-self-inside.result c.deref.ensures.value c.number_of-self-inside.ensures) room in
+    joined_now a c.join.new.relation c.push_reserved.new.self c.deref.result.now c.number_of-self-inside.result x c.in-Ok.tally c.self.invariant idle can c.in-Ok.ensures.joint c.in-Ok.ensures.repaired c.known.ensures c.push_reserved.ensures.items c.deref.ensures.value c.number_of-self-inside.ensures room in
     let few = has_place a c.self.invariant (λ full. absurd (cc (c.in-Ok.ensures.full.1 full))) in
     let fits = is_within (cells_with (situation_in a) x) a.relation.joint.limit (λ past. absurd (cc (c.in-Ok.ensures.limit.1 (few, past)))) in
     joins_by a (moved_fields a c.join.new.relation c.push_reserved.new.self c.number_of-self-inside.result) s x c.in-Ok.tally c.kept.result c.self.view_is few fits c.kept.ensures done

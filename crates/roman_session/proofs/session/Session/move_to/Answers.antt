@@ -1,5 +1,5 @@
 use Rattle.roman_session.proofs.Common.{◌≡◌, ◌<◌, length, slice_index, sym, ap, ◌∙◌, subst, arith, length-map, Pair, IsPair, Sizes, sizes_of, number, pair_at, moved, NamedSys, system_of, seat_of, Situation, present_system, situation_in}
-use Rattle.roman_session.proofs.SituationLemmas.{situation_known, parts_shown, here_pair, moved_within, state_there}
+use Rattle.roman_session.proofs.SituationLemmas.{situation_known, parts_shown, moved_within, state_there}
 use Rattle.roman_session.proofs.session.Session.move_to.Goals as goal
 
 pub moved-self-inside-requires-clause-state : goal.moved-self-inside-requires-clause-state
@@ -21,7 +21,7 @@ invariant_of-self c =
     let a = c.self.inside in
     let s = situation_in a in
     let known = c.self.invariant.known in
-    let here = subst (λ (s : Situation). c.here.result ≡ number (sizes_of (present_system s)) s.here) (sym c.self.view_is) c.here.ensures.number in
+    let at = subst (λ (s : Situation). pair_at (sizes_of (present_system s)) c.here.result ≡ s.here) (sym c.self.view_is) c.here.ensures.pair in
     record {
       relation = c.self.invariant.relation;
       known = record {
@@ -33,6 +33,6 @@ invariant_of-self c =
       few = c.self.invariant.few;
       room = c.self.invariant.room;
       numbered = c.moved-self-inside.ensures.number ∙ ap (λ (m : Sizes). number m (moved (pair_at m c.here.result) c.args.t c.args.e c.args.k c.args.b)) c.shape.ensures
-          ∙ ap (λ (p : Pair). number (sizes_of (present_system s)) (moved p c.args.t c.args.e c.args.k c.args.b)) (here_pair _ _ known here);
+          ∙ ap (λ (p : Pair). number (sizes_of (present_system s)) (moved p c.args.t c.args.e c.args.k c.args.b)) at;
       offered = λ action is. cc;
     }

@@ -1,6 +1,5 @@
 use Rattle.roman_session.proofs.Common.{arith, length-pairs}
-use Rattle.roman_session.proofs.SituationLemmas.{parts_shown}
 use Rattle.roman_session.proofs.session.Session.pairs.Goals as goal
 
 pub returns : goal.returns
-returns c = grind (arith, length-pairs, parts_shown)
+returns c = grind (arith, length-pairs)

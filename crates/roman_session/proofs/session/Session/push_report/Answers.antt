@@ -1,47 +1,26 @@
-use Rattle.roman_session.proofs.Common.{refl, err_from_is_err_and, fill_behind, fill_more, fill_failed, fill_last}
+use Rattle.roman_session.proofs.Common.{err_from_is_err_and, fill_behind, fill_more, fill_failed, fill_last}
 use Rattle.roman_session.proofs.LineLemmas.{report_is}
 use Rattle.roman_session.proofs.session.Session.push_report.Goals as goal
 
 pub returns-in_err-push_lines-clause-gathers : goal.returns-in_err-push_lines-clause-gathers
 returns-in_err-push_lines-clause-gathers g c =
     let s = c.args.self.now in
-    let all = report_is s.parts s.here _ _ c.head_lines.ensures refl in
+    let begun = fill_behind _ _ _ _ (report_is s.parts s.here _ c.head_lines.ensures) in
     let p = err_from_is_err_and c.from_residual.result c.from_residual.ensures.1 in
-    rw p.1 (fill_failed _ _ _ _ _ _ _ (fill_behind _ _ _ _ all) c.in_err-push_lines.ensures.gathers.0, c.in_err-push_lines.ensures.gathers.1)
+    rw p.1 (fill_failed _ _ _ _ _ _ _ begun c.in_err-push_lines.ensures.gathers.0, c.in_err-push_lines.ensures.gathers.1)
 
 pub returns-in_err-push_services-clause-gathers : goal.returns-in_err-push_services-clause-gathers
 returns-in_err-push_services-clause-gathers g c =
     let s = c.args.self.now in
-    let all = report_is s.parts s.here _ _ c.head_lines.ensures refl in
-    let first = fill_more _ _ _ _ _ _ _ _ (fill_behind _ _ _ _ all) c.in_ok-push_lines.ensures.gathers in
+    let begun = fill_behind _ _ _ _ (report_is s.parts s.here _ c.head_lines.ensures) in
+    let first = fill_more _ _ _ _ _ _ _ _ begun c.in_ok-push_lines.ensures.gathers in
     let p = err_from_is_err_and c.from_residual-in_err-push_services.result c.from_residual-in_err-push_services.ensures.1 in
     rw p.1 (fill_failed _ _ _ _ _ _ _ first c.in_err-push_services.ensures.gathers.0, c.in_err-push_services.ensures.gathers.1)
-
-pub returns-in_err-push_lines-2-clause-gathers : goal.returns-in_err-push_lines-2-clause-gathers
-returns-in_err-push_lines-2-clause-gathers g c =
-    let s = c.args.self.now in
-    let all = report_is s.parts s.here _ _ c.head_lines.ensures c.composes.ensures in
-    let first = fill_more _ _ _ _ _ _ _ _ (fill_behind _ _ _ _ all) c.in_ok-push_lines.ensures.gathers in
-    let second = fill_more _ _ _ _ _ _ _ _ first c.in_ok-push_services.ensures.gathers in
-    let p = err_from_is_err_and c.from_residual-in_err-push_lines-2.result c.from_residual-in_err-push_lines-2.ensures.1 in
-    rw p.1 (fill_failed _ _ _ _ _ _ _ second c.in_err-push_lines-2.ensures.gathers.0, c.in_err-push_lines-2.ensures.gathers.1)
-
-pub returns-in_err-push_offers-clause-gathers : goal.returns-in_err-push_offers-clause-gathers
-returns-in_err-push_offers-clause-gathers g c =
-    let s = c.args.self.now in
-    let all = report_is s.parts s.here _ _ c.head_lines.ensures c.composes.ensures in
-    let first = fill_more _ _ _ _ _ _ _ _ (fill_behind _ _ _ _ all) c.in_ok-push_lines.ensures.gathers in
-    let second = fill_more _ _ _ _ _ _ _ _ first c.in_ok-push_services.ensures.gathers in
-    let third = fill_more _ _ _ _ _ _ _ _ second c.in_ok-push_lines-2.ensures.gathers in
-    let p = err_from_is_err_and c.from_residual-in_err-push_offers.result c.from_residual-in_err-push_offers.ensures.1 in
-    rw p.1 (fill_failed _ _ _ _ _ _ _ third c.in_err-push_offers.ensures.gathers.0, c.in_err-push_offers.ensures.gathers.1)
 
 pub returns-clause-gathers : goal.returns-clause-gathers
 returns-clause-gathers g c =
     let s = c.args.self.now in
-    let all = report_is s.parts s.here _ _ c.head_lines.ensures c.composes.ensures in
-    let first = fill_more _ _ _ _ _ _ _ _ (fill_behind _ _ _ _ all) c.in_ok-push_lines.ensures.gathers in
+    let begun = fill_behind _ _ _ _ (report_is s.parts s.here _ c.head_lines.ensures) in
+    let first = fill_more _ _ _ _ _ _ _ _ begun c.in_ok-push_lines.ensures.gathers in
     let second = fill_more _ _ _ _ _ _ _ _ first c.in_ok-push_services.ensures.gathers in
-    let third = fill_more _ _ _ _ _ _ _ _ second c.in_ok-push_lines-2.ensures.gathers in
-    let fourth = fill_more _ _ _ _ _ _ _ _ third c.in_ok-push_offers.ensures.gathers in
-    fill_last _ _ _ _ _ _ _ _ fourth c.push_lines-3.ensures.gathers
+    fill_last _ _ _ _ _ _ _ _ second c.push_offers.ensures.gathers

@@ -1,5 +1,5 @@
 use Rattle.roman_session.proofs.Common.{◌≡◌, ◌++◌, drop, lines_text, IsFilling}
-use Rattle.roman_session.proofs.writing.push_lines.Given as goal
+use Rattle.roman_session.proofs.session.reports.push_lines.Given as goal
 
 -- the lines so far were pushed
 abbrev pub invariant-loop-line : goal.invariant-loop-line

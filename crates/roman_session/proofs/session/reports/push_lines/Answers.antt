@@ -1,6 +1,6 @@
-use Rattle.roman_session.proofs.Common.{◌∙◌, arith, err_from_is_err_and, fill_same, fill_more, fill_failed, fill_end}
+use Rattle.roman_session.proofs.Common.{arith, ◌∙◌, err_from_is_err_and, fill_same, fill_more, fill_failed, fill_end}
 use Rattle.roman_session.proofs.LineLemmas.{next_line, no_line}
-use Rattle.roman_session.proofs.writing.push_lines.Goals as goal
+use Rattle.roman_session.proofs.session.reports.push_lines.Goals as goal
 
 pub returns-in_err-push_report_line-clause-gathers : goal.returns-in_err-push_report_line-clause-gathers
 returns-in_err-push_report_line-clause-gathers g c =
@@ -17,5 +17,4 @@ loop-line-preserved g c =
     }
 
 pub returns-clause-gathers : goal.returns-clause-gathers
-returns-clause-gathers g c =
-    fill_end _ _ _ _ (fill_same _ _ _ _ _ _ (no_line c.args.lines.now c.loop-line.line-index (omega arith)) c.loop-line.invariant.filling)
+returns-clause-gathers g c = grind (arith, fill_end, fill_same, no_line)
