@@ -58,10 +58,7 @@ great_thawed s xs ys more p (R, sim, i) = (R, λ c j. meets_thawed s xs ys more 
 
 freeze_at_more : (at bt : ℕ → Bool) (xs : List Seat) → ((i : ℕ) → IsTrue (at i) → IsTrue (bt i)) → AreFrozenMore (freeze_at at xs) (freeze_at bt xs)
 freeze_at_more at bt [] more = tt
-freeze_at_more at bt (x ∷ xs) more = ((refl, refl, grind (arith, or_parts, or_from, by_test, clash)), freeze_at_more (λ i. at (suc i)) (λ i. bt (suc i)) xs (λ i t. more (suc i) t))
-  where
-    clash : IsTrue (bt 0) → IsFalse (bt 0) → ⊥
-    clash t f = cc
+freeze_at_more at bt (x ∷ xs) more = ((refl, refl, grind (arith, or_parts, or_from, by_test, both_ways)), freeze_at_more (λ i. at (suc i)) (λ i. bt (suc i)) xs (λ i t. more (suc i) t))
 
 pub freeze_at_besides : (at : ℕ → Bool) (xs : List Seat) → AreFrozenMore xs (freeze_at at xs)
 freeze_at_besides at [] = tt
@@ -70,11 +67,8 @@ freeze_at_besides at (x ∷ xs) = ((refl, refl, λ f. (or_parts x.frozen (at 0) 
 pub set_frozen_more : (xs : List Seat) (k : ℕ) → AreFrozenMore xs (set_frozen xs k true)
 set_frozen_more xs k = subst (AreFrozenMore xs) (freeze_one k xs) (freeze_at_besides (has (k ∷ [])) xs)
 
-has_more : (K J : List ℕ) → ((k : ℕ) → IsIn k K → IsIn k J) → (i : ℕ) → IsTrue (has K i) → IsTrue (has J i)
-has_more K J more i t = listed_number J i (more i (number_listed K i t))
-
 pub frozen_more : (s : Sys) (p : Pair) (K J : List ℕ) → ArePart K J → GreatWithout way.Freeze s p J → GreatWithout way.Freeze s p K
-frozen_more s p K J more great = great_thawed s (freeze_at (has K) s.seats) (freeze_at (has J) s.seats) (freeze_at_more (has K) (has J) s.seats (has_more K J more)) p great
+frozen_more s p K J more great = great_thawed s (freeze_at (has K) s.seats) (freeze_at (has J) s.seats) (freeze_at_more (has K) (has J) s.seats (λ i t. listed_number J i (more i (number_listed K i t)))) p great
 
 -- The loss of a seat that may go.
 

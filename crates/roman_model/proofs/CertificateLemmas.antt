@@ -93,13 +93,10 @@ cut_at c [] (y ∷ ys) ts us h g e = let same : c ≡ y = cc in absurd (both_way
 cut_at c (x ∷ xs) [] ts us h g e = let same : x ≡ c = cc in absurd (both_ways (x == c) (or_parts (x == c) (has xs c) h).0 (eq-eqb x c same))
 cut_at c (x ∷ xs) (y ∷ ys) ts us h g e = grind (arith, (cut_at c xs ys ts us (or_parts (x == c) (has xs c) h).1 (or_parts (y == c) (has ys c) g).1))
 
-letter_is_no_number : (a : ℕ) → a < 2 ^ 64 → 102 ∷ [] ≡ decimal a → ⊥
-letter_is_no_number a h e = grind (arith, (decimal_starts a h))
-
 reason_from_text : (q r : Reason) → IsSmallReason q → IsSmallReason r → reason_text q ≡ reason_text r → q ≡ r
 reason_from_text Final Final h g e = refl
-reason_from_text Final (Act b) h g e = absurd (letter_is_no_number b g e)
-reason_from_text (Act a) Final h g e = absurd (letter_is_no_number a h (sym e))
+reason_from_text Final (Act b) h g e = grind (arith, (decimal_starts b g))
+reason_from_text (Act a) Final h g e = grind (arith, (decimal_starts a h))
 reason_from_text (Act a) (Act b) h g e = ap Act (decimal_injective a b h g e)
 
 -- entries with the same text are equal
