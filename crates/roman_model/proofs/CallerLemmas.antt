@@ -4,7 +4,7 @@
 pub use Rattle.roman_model.proofs.Lists.{HasNoRepeats-below, HasNoRepeats-filter, HasNoRepeats-flat_map, HasNoRepeats-map, HasNoRepeats-push, all_below_at, all_below_from, any_false, any_from, any_same, any_true, any_within, by_test}
 pub use Rattle.roman_model.proofs.Lists.{contains_in, empty_is, filter_below_more, filter_in, filter_same, filter_sublist, find_first, find_found, find_least, find_not_found, find_some, flat_map_row, flat_map_same, flat_map_same_in}
 pub use Rattle.roman_model.proofs.Lists.{from_append, from_below, from_end, from_flat_map, from_get_map, from_map, from_place, from_push, get_in, get_map, get_or-below, in_append_left, in_append_right, in_below, in_contains, in_filter}
-pub use Rattle.roman_model.proofs.Lists.{in_flat_map, in_get, in_map, in_not_empty, in_push, length-below, length_rows, list_any-flat_map, list_any-map, map-flat_map, map-map, ne_not_empty, no_longer, none_from, not_empty_in, not_empty_ne}
+pub use Rattle.roman_model.proofs.Lists.{in_flat_map, in_map, in_not_empty, in_push, length-below, length_rows, list_any-flat_map, list_any-map, map-flat_map, map-map, ne_not_empty, no_longer, none_from, not_empty_in, not_empty_ne}
 pub use Rattle.roman_model.proofs.Lists.{rank, rank_at, same_test, split_at, sublist_in, sublist_length, sublist_none, sublist_skip, sum_by_same, sum_by_within, there_is}
 -- Lemmas on the pairs of a system, its steps and outcomes.
 pub use Rattle.roman_model.proofs.SystemLemmas.{allowed_in, allowed_in_range, from_allowed, from_beh_next, from_beh_prev, from_env_next, from_env_prev, from_outcome, from_pairs, from_seat_next, in_beh_next, in_beh_prev, in_env_next}
@@ -53,6 +53,6 @@ pub use Rattle.roman_model.proofs.WithoutLemmas.{freeze_one, freeze_two, leave_o
 -- Records built from tests: their steps are exactly those that pass, their numbers are in range, and equal tests build equal records.
 pub use Rattle.roman_model.proofs.MadeLemmas.{IsBeh-made, IsEnv-made, beh_from_same, env_from_same, from_made_final, from_made_move, from_made_triple, made_final, made_move, made_triple, move_passes}
 -- The combined target stands for several targets: its steps, its requests and its ND-simulations are those of the members.
-pub use Rattle.roman_model.proofs.CombinedLemmas.{IsMemberStep, all_from_great, combined_allows, combined_is_all, combined_served, combined_sstep, combined_system, combined_target_goes, combined_triple, decoded, from_combined_allows}
-pub use Rattle.roman_model.proofs.CombinedLemmas.{from_combined_sstep, from_combined_target, from_combined_triple, great_from_all, in_requests, member_served, member_step, request_there, stands_step, stands_uses, states_of, target_size_at}
+pub use Rattle.roman_model.proofs.CombinedLemmas.{IsMemberStep, all_from_great, combined_allows, combined_is_all, combined_served, combined_sstep, combined_system, combined_target_goes, decoded, from_combined_allows}
+pub use Rattle.roman_model.proofs.CombinedLemmas.{from_combined_sstep, from_combined_target, great_from_all, member_served, member_step, request_there, stands_step, stands_uses, target_size_at}
 pub use Rattle.roman_model.proofs.CombinedLemmas.{total, world_as}
