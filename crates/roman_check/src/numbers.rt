@@ -92,6 +92,7 @@ pub(crate) fn number_below(text: &[u8], bound: u32) -> Option<u32>
 }
 
 /// Returns whether the text is the decimal text of the number.
+#[tactic(auto, using(crate::proofs::DigitLemmas::no_decimal, crate::proofs::DigitLemmas::digits_of_all, crate::proofs::DigitLemmas::decimal_from_digits, crate::proofs::DigitLemmas::decimal_shape))]
 pub(crate) fn is_number(text: &[u8], n: u32) -> bool
     ensures { IsTrue result ↔ (decimal n ≡ text.now) }
 {

@@ -79,6 +79,7 @@ fn words_alike(a: &[u8], b: &[u8]) -> bool
 impl Shape {
     /// Sets the two bytes that stand for the last two digits of the pair in a text of this shape.
     #[inline(always)]
+    #[tactic(auto, using(crate::proofs::PatternLemmas::pattern_same))]
     fn put_digits(self, text: &mut [u8; WIDTH], tens: u8, ones: u8)
         requires { IsPattern text.old self }
         ensures pattern { IsPattern text.new self }

@@ -1,9 +1,6 @@
 use Rattle.roman_check.proofs.Common.{◌∙◌, sym, arith, eqb-true, eq-eqb, false≢true}
-use Rattle.roman_check.proofs.DigitLemmas.{decimal_shape, decimal_from_digits, digits_of_all, no_decimal}
+use Rattle.roman_check.proofs.DigitLemmas.{decimal_shape, decimal_from_digits, digits_of_all}
 use Rattle.roman_check.proofs.numbers.is_number.Goals as goal
-
-pub returns-then-end-text : goal.returns-then-end-text
-returns-then-end-text c = (λ t. absurd (false≢true t), λ e. absurd (no_decimal _ _ _ c.args.n c.front_digits-value.ensures c.if-end-text.true c.ranges.n.fits e))
 
 pub returns-then-is_trim : goal.returns-then-is_trim
 returns-then-is_trim c = (let (all, said) = digits_of_all _ _ _ c.front_digits-value.ensures c.if-end-text.false in grind (arith, decimal_from_digits, decimal_shape, eq-eqb, eqb-true))
