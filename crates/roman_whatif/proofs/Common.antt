@@ -1,5 +1,5 @@
 -- What the proof pages of this crate cite from elsewhere, passed on from one place. Declares nothing.
-pub use Rattle.std.proofs.Common.{Bool, IfSome, IsTrue, List, Some, [], ap, ap₂, arith, cond, drop, false, filter, flat_map, inl, inr, length, map, not, refl, remove, slice_get, slice_index, slice_set, subst, suc, sum_by, sym, take, true, zero, ℕ, ◌%◌, ◌&&◌, ◌*◌, ◌++◌, ◌+◌, ◌-◌, ◌/◌, ◌<◌, ◌||◌, ◌↔◌, ◌∙◌, ◌∷◌, ◌≡◌, ◌≢◌, ◌≤◌}
+pub use Rattle.std.proofs.Common.{Bool, IfSome, IsTrue, List, Some, [], ap, ap₂, arith, cond, drop, false, filter, flat_map, inl, inr, length, map, not, refl, remove, slice_get, slice_index, slice_set, subst, suc, sum_by, sym, take, true, unwrap_or, zero, ℕ, ◌%◌, ◌&&◌, ◌*◌, ◌++◌, ◌+◌, ◌-◌, ◌/◌, ◌<◌, ◌||◌, ◌↔◌, ◌∙◌, ◌∷◌, ◌≡◌, ◌≢◌, ◌≤◌}
 pub use Rattle.std.proofs.Math.Bool.{beq}
 pub use Rattle.std.proofs.Math.ListN.{set}
 pub use Rattle.std.proofs.Math.Seq.{take-append_seam}
@@ -7,7 +7,7 @@ pub use Rattle.std.proofs.lemmas.Bool.{cases_lt, eq-eqb, eqb-true, true≢false}
 pub use Rattle.std.proofs.lemmas.Bool.Decides.{nat_tests}
 pub use Rattle.std.proofs.lemmas.List.{get_or-set_other, get_or-set_same, length-map, length-set}
 pub use Rattle.std.proofs.lemmas.List.Sums.{length-filter, sum_by-cons}
-pub use Rattle.std.proofs.lemmas.Option.{same_Some, slice_get-get_or}
+pub use Rattle.std.proofs.lemmas.Option.{same_Some, slice_get-get_or, unwrap_or-slice_get}
 pub use Rattle.std.proofs.lemmas.Slice.Zip.{AllZip-long}
 pub use Rattle.std.specs.List.{AllZip, list_any}
 pub use Rattle.roman_joint.specs.Changes.{with_frozen}
@@ -28,7 +28,7 @@ pub use Rattle.roman_model.specs.declared.way.Way.TheVariants.{Die, Freeze}
 pub use Rattle.roman_order.specs.Board.{Board}
 pub use Rattle.roman_relation.specs.Greatest.{IsRelation}
 pub use Rattle.roman_relation.specs.declared.relation.Relation.{Relation}
-pub use Rattle.roman_whatif.specs.Alike.{AreAlike, IsRepeated}
+pub use Rattle.roman_whatif.specs.Alike.{AreAlike}
 pub use Rattle.roman_whatif.specs.Left.{IsIdleScratchOf, IsLeft, places}
 pub use Rattle.roman_whatif.specs.Losses.{AreTold, IsToldOf, left_of, told_at}
 pub use Rattle.roman_whatif.specs.Told.{told}

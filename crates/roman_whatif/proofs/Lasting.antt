@@ -1,5 +1,5 @@
 -- What remains after a change, and after two.
-use Rattle.roman_whatif.proofs.Common.{◌≡◌, ℕ, ◌<◌, Bool, true, false, not, List, [], ◌∷◌, length, Some, IsTrue, slice_get, refl, sym, ap, ap₂, ◌∙◌, subst, arith, length-map, Seat, Sys, Pair, Sizes, sizes_of, count, pair_at, is_related, related_count, choice_count, Outlook, outlook, system_without, pair_without, Way, same_test, leave_one, freeze_one, NamedSys, seat_of, system_of, IsLeft, left_of, ◌/◌, ◌↔◌, is_ready, Great, after, without, sizes_without, number, number_without-is, pair_at-without, numbers_are_pairs, related_great, great_related, sizes-turned, sizes-left, length-remove, length-set_frozen, get_map, without_changes, IsNamedSys, HasSameParts, Board, IsRelation}
+use Rattle.roman_whatif.proofs.Common.{◌≡◌, ℕ, ◌<◌, Bool, true, false, not, List, [], ◌∷◌, length, Some, IsTrue, slice_get, refl, sym, ap, ap₂, ◌∙◌, subst, arith, ◌/◌, ◌↔◌, length-map, Seat, Sizes, sizes_of, count, pair_at, sizes_without, number, is_related, related_count, choice_count, Outlook, outlook, system_without, pair_without, Way, same_test, leave_one, freeze_one, number_without-is, pair_at-without, numbers_are_pairs, related_great, great_related, sizes-turned, sizes-left, length-remove, length-set_frozen, get_map, without_changes, NamedSys, seat_of, system_of, IsNamedSys, IsLeft, left_of, is_ready, Great, after, without, HasSameParts, Board, IsRelation}
 use Rattle.roman_model.specs.Change.{Freeze, Die}
 use Rattle.roman_model.specs.declared.way.Way.TheVariants as way
 use Rattle.roman_joint.specs.declared.seat.Seat as joint
@@ -61,29 +61,20 @@ left_freezing old new order p k relation parts system l =
       pair = ap (λ m. pair_at m p) sizes;
     }
 
-left_dying_so : (old new : NamedSys) (order : Board) (p k q : ℕ) (seat : Seat) → IsRelation new order → HasSameParts new old → system_of new ≡ after (Die k seat) (system_of old) →
-    p < count (sizes_of (system_of old)) → k < length (sizes_of (system_of old)).seats →
-    q ≡ number (sizes_without k (sizes_of (system_of old))) (without k (pair_at (sizes_of (system_of old)) p)) → q < count (sizes_without k (sizes_of (system_of old))) →
-    IsLeft way.Die (k ∷ []) old p new order q
-left_dying_so old new order p k q seat relation parts system l within is below =
-    let s = system_of old in
-    let n = sizes_of s in
-    let sizes : sizes_of (system_of new) ≡ sizes_without k n = ap sizes_of system ∙ sizes-left s k in
-    let changes = without_changes s (pair_at n p) in
-    record {
-      relation = relation;
-      parts = parts;
-      system = system ∙ (changes.one_gone k seat).0;
-      within = subst (λ m. q < count m) (sym sizes) below;
-      pair = ap (λ m. pair_at m q) sizes ∙ (ap (pair_at (sizes_without k n)) (is ∙ number_without-is n p k l within) ∙ (pair_at-without n p k l within ∙ (changes.one_gone k seat).1));
-    }
-
 pub left_dying : (old new : NamedSys) (order : Board) (p k q : ℕ) (seat : Seat) (n : Sizes) → IsRelation new order → HasSameParts new old → system_of new ≡ after (Die k seat) (system_of old) →
     n ≡ sizes_of (system_of old) → p < count n → k < length n.seats → q ≡ number (sizes_without k n) (without k (pair_at n p)) → q < count (sizes_without k n) →
     IsLeft way.Die (k ∷ []) old p new order q
-left_dying old new order p k q seat shape relation parts system same l within is below =
-    left_dying_so old new order p k q seat relation parts system
-    (subst (λ m. p < count m) same l) (subst (λ m. k < length m.seats) same within) (subst (λ m. q ≡ number (sizes_without k m) (without k (pair_at m p))) same is) (subst (λ m. q < count (sizes_without k m)) same below)
+left_dying old new order p k q seat n relation parts system same l within is below =
+    let s = system_of old in
+    let sizes : sizes_of (system_of new) ≡ sizes_without k n = ap sizes_of system ∙ sizes-left s k ∙ ap (sizes_without k) (sym same) in
+    let changes = (without_changes s (pair_at (sizes_of s) p)).one_gone k seat in
+    record {
+      relation = relation;
+      parts = parts;
+      system = system ∙ changes.0;
+      within = subst (λ m. q < count m) (sym sizes) below;
+      pair = ap (λ m. pair_at m q) sizes ∙ ap (pair_at (sizes_without k n)) (is ∙ number_without-is n p k l within) ∙ pair_at-without n p k l within ∙ ap (λ m. without k (pair_at m p)) same ∙ changes.1;
+    }
 
 -- Two seats, the later one first.
 
@@ -107,19 +98,9 @@ still_there way.Die k j old mid order p q l within left = grind (arith, leave_on
 -- the outlook in the system in which the seats failed is the one of what remains
 pub told_left : (way : Way) (K L : List ℕ) (base old new : NamedSys) (order : Board) (p q : ℕ) (o : Outlook) → old ≡ base → K ≡ L → IsLeft way K old p new order q →
     o ≡ outlook (system_of new) (pair_at (sizes_of (system_of new)) q) → o ≡ left_of base p way L
-told_left way K L base old new order p q o same these left is =
-    is ∙ ap₂ outlook left.system left.pair ∙ ap (λ n. left_of n p way K) same ∙ ap (left_of base p way) these
-
-pub great_left : (way : Way) (K : List ℕ) (old new : NamedSys) (order : Board) (p q : ℕ) (composes : Bool) → IsLeft way K old p new order q →
-    IsTrue composes ↔ Great (system_of new) (pair_at (sizes_of (system_of new)) q) → IsTrue composes ↔ Great (system_without way K (system_of old)) (pair_without way K (pair_at (sizes_of (system_of old)) p))
-great_left way K old new order p q composes left great =
-    subst (λ (t : Sys). IsTrue composes ↔ Great t (pair_without way K (pair_at (sizes_of (system_of old)) p))) left.system (subst (λ (x : Pair). IsTrue composes ↔ Great (system_of new) x) left.pair great)
+told_left way K L base old new order p q o same these left is = rw (← same, ← these) (is ∙ ap₂ outlook left.system left.pair)
 
 pub great_told : (way : Way) (K L : List ℕ) (base old new : NamedSys) (order : Board) (p q : ℕ) (composes : Bool) → old ≡ base → K ≡ L → IsLeft way K old p new order q →
     IsTrue composes ↔ Great (system_of new) (pair_at (sizes_of (system_of new)) q) →
     IsTrue composes ↔ Great (system_without way L (system_of base)) (pair_without way L (pair_at (sizes_of (system_of base)) p))
-great_told way K L base old new order p q composes same these left great =
-    subst (λ M. IsTrue composes ↔ Great (system_without way M (system_of base)) (pair_without way M (pair_at (sizes_of (system_of base)) p))) these
-    (subst (λ n. IsTrue composes ↔ Great (system_without way K (system_of n)) (pair_without way K (pair_at (sizes_of (system_of n)) p))) same (great_left way K old new order p q composes left great))
-
--- Copies on which failures are tried.
+great_told way K L base old new order p q composes same these left great = rw (← same, ← these, ← left.system, ← left.pair) great

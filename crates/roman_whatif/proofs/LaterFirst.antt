@@ -1,5 +1,5 @@
 -- Two services that fail one after the other, the later one first.
-use Rattle.roman_whatif.proofs.Common.{◌≡◌, ℕ, zero, suc, ◌<◌, true, List, [], ◌∷◌, remove, refl, sym, ap, ◌∙◌, Seat, Sys, Pair, has, leave_out, freeze_at, system_without, pair_without, Way, Freeze, Die, leave_one, freeze_one, set_frozen, leave_two, freeze_two}
+use Rattle.roman_whatif.proofs.Common.{◌≡◌, ℕ, zero, suc, ◌<◌, true, List, [], ◌∷◌, remove, refl, sym, ap, ◌∙◌, Seat, Sys, Pair, has, leave_out, freeze_at, system_without, pair_without, Way, Freeze, Die, leave_one, freeze_one, leave_two, freeze_two, set_frozen}
 
 leave_later : {X : Type 0} (k j : ℕ) (xs : List X) → k < j → leave_out (has (k ∷ [])) (leave_out (has (j ∷ [])) xs) ≡ leave_out (has (k ∷ j ∷ [])) xs
 leave_later k j xs l = leave_one k (leave_out (has (j ∷ [])) xs) ∙ ap (λ ys. remove ys k) (leave_one j xs) ∙ sym (leave_two k j xs l)

@@ -1,5 +1,5 @@
 -- The outlooks of failures of services that are alike.
-use Rattle.roman_whatif.proofs.Common.{◌≡◌, ℕ, zero, suc, ◌+◌, ◌-◌, ◌*◌, ◌<◌, true, false, List, [], ◌∷◌, map, length, Some, slice_get, slice_index, refl, sym, ap, ap₂, ◌∙◌, subst, inl, inr, arith, length-map, cases_lt, has, Sizes, sizes_of, pair_at, Way, NamedSys, seat_of, system_of, left_of, told_at, IsToldOf, ◌%◌, nat_tests, slice_get-get_or, product_of, length-states_at, beh_at, AreAlike, IsRepeated}
+use Rattle.roman_whatif.proofs.Common.{◌≡◌, ℕ, zero, suc, ◌+◌, ◌-◌, ◌*◌, ◌<◌, true, false, List, [], ◌∷◌, map, length, Some, slice_get, slice_index, refl, sym, ap, ap₂, ◌∙◌, subst, inl, inr, arith, ◌%◌, length-map, cases_lt, has, Sizes, sizes_of, pair_at, Way, NamedSys, seat_of, system_of, beh_at, left_of, told_at, IsToldOf, nat_tests, slice_get-get_or, product_of, length-states_at, AreAlike}
 use Rattle.roman_joint.specs.declared.seat.Seat as joint
 use Rattle.roman_whatif.specs.declared.outlook.Outlook as declared
 use Rattle.roman_whatif.proofs.Swaps.{other, moved_on}
@@ -35,17 +35,13 @@ alike_moved parts p k way K L alike gone left is =
 -- two neighbours with the same behaviour and the same marks, in the same state
 pub repeated_when : (n : NamedSys) (p i k x y : ℕ) (before own : joint.Seat) (shape : Sizes) → k ≡ suc i → k < length n.seats → slice_get n.seats i ≡ Some before → slice_get n.seats k ≡ Some own →
     own.behaviour ≡ before.behaviour → own.frozen ≡ before.frozen → own.rests ≡ before.rests → shape ≡ sizes_of (system_of n) →
-    y ≡ slice_index (pair_at shape p).bs i → x ≡ slice_index (pair_at shape p).bs k → x ≡ y → IsRepeated n p k
+    y ≡ slice_index (pair_at shape p).bs i → x ≡ slice_index (pair_at shape p).bs k → x ≡ y → AreAlike n p i
 repeated_when n p i k x y before own shape next within there here behaviours frozens rest sizes is_before is_own same =
-    let seats : seat_of n.catalogue own ≡ seat_of n.catalogue before = λ j. record { beh = beh_at n.catalogue (behaviours j); frozen = frozens j; rests = rest j } in (
-      i,
-      next,
-      record {
-        within = subst (λ m. m < length n.seats) next within;
-        seats = seat_at_place n i before there ∙ ap Some (sym seats) ∙ sym (seat_at_place n k own here) ∙ ap (slice_get (system_of n).seats) next;
-        states = sym (is_before ∙ ap (λ m. slice_index (pair_at m p).bs i) sizes) ∙ sym same ∙ is_own ∙ ap₂ (λ m j. slice_index (pair_at m p).bs j) sizes next;
-      },
-    )
+    let seats : seat_of n.catalogue own ≡ seat_of n.catalogue before = λ j. record { beh = beh_at n.catalogue (behaviours j); frozen = frozens j; rests = rest j } in record {
+      within = subst (λ m. m < length n.seats) next within;
+      seats = seat_at_place n i before there ∙ ap Some (sym seats) ∙ sym (seat_at_place n k own here) ∙ ap (slice_get (system_of n).seats) next;
+      states = sym (is_before ∙ ap (λ m. slice_index (pair_at m p).bs i) sizes) ∙ sym same ∙ is_own ∙ ap₂ (λ m j. slice_index (pair_at m p).bs j) sizes next;
+    }
 
 pub alike_alone : (parts : NamedSys) (p k : ℕ) (way : Way) → AreAlike parts p k → left_of parts p way (suc k ∷ []) ≡ left_of parts p way (k ∷ [])
 alike_alone parts p k way alike =
@@ -75,12 +71,3 @@ row_repeats parts p b c way old new next before here row two last alone = record
         ∙ sym (alike_first parts p c (suc b) way before (omega arith)) ∙ ap (λ i. left_of parts p way (i ∷ suc b ∷ [])) (sym next ∙ sym same)
   ];
 }
-
-pub repeats_row : (parts : NamedSys) (p j : ℕ) (way : Way) (old new : List declared.Outlook) → 1 < j → IsRepeated parts p j → IsRepeated parts p (j - 1) → IsToldOf parts p way (j - 1) old →
-    ((k : ℕ) → k < j - 1 → told_at new (32 * (j - 1) + 32 + k) ≡ told_at old (32 * (j - 1) + k)) →
-    ((k : ℕ) → k + 1 ≡ j - 1 → told_at new (32 * (j - 1) + 32 + (j - 1)) ≡ told_at old (32 * (j - 1) + k)) →
-    told_at new (32 * (j - 1) + 33 + (j - 1)) ≡ told_at old (32 * (j - 1) + (j - 1)) → IsToldOf parts p way j new
-repeats_row parts p j way old new more (x, next, here) (y, before_next, before) row two last alone =
-    let same : x ≡ j - 1 = omega arith in
-    let is : suc (j - 1) ≡ j = omega arith in
-    subst (λ m. IsToldOf parts p way m new) is (row_repeats parts p (j - 1) y way old new before_next before (subst (AreAlike parts p) same here) row two last alone)

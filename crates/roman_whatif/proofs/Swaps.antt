@@ -1,5 +1,5 @@
 -- Two neighbouring seats in each other's place: the outlook of a pair stays the same.
-use Rattle.roman_whatif.proofs.Common.{◌≡◌, ℕ, zero, suc, ◌+◌, ◌<◌, Bool, true, false, not, List, [], ◌∷◌, map, length, IsTrue, slice_get, slice_index, refl, sym, ap, ap₂, ◌∙◌, subst, arith, eqb-true, length-set, Seat, Sys, Pair, has, is_related, related_count, choice_count, leave_out, freeze_at, outlook, system_without, pair_without, Way, same_test, ◌≤◌, cond, ◌&&◌, ◌||◌, filter, flat_map, slice_set, sum_by, list_any, AllZip, eq-eqb, sum_by-cons, length-filter, AllZip-long, same_Some, IsIn, HasNoRepeats, below, all_below, is_empty, IsPair, all_final, is_final, pairs, env_next, beh_next, seat_next, outcomes_by, outcomes, is_allowed, arena, is_beaten, mask, loses, any_same, list_any-map, all_below_at, all_below_from, from_map, from_below, in_below, HasNoRepeats-below, HasNoRepeats-map, sum_by_same, sum_by_within, map-map, map-flat_map, from_outcome, in_pairs, from_pairs, pairs_once}
+use Rattle.roman_whatif.proofs.Common.{◌≡◌, ℕ, zero, suc, ◌+◌, ◌<◌, Bool, true, false, not, List, [], ◌∷◌, map, length, IsTrue, slice_get, slice_index, refl, sym, ap, ap₂, ◌∙◌, subst, arith, ◌≤◌, cond, ◌&&◌, ◌||◌, filter, flat_map, slice_set, sum_by, unwrap_or, eqb-true, eq-eqb, length-set, Seat, Sys, Pair, has, IsPair, all_final, is_final, is_related, related_count, choice_count, leave_out, freeze_at, outlook, system_without, pair_without, Way, same_test, any_same, list_any-map, all_below_at, all_below_from, from_map, from_below, in_below, HasNoRepeats-below, HasNoRepeats-map, sum_by_same, sum_by_within, map-map, map-flat_map, from_outcome, in_pairs, from_pairs, pairs_once, list_any, AllZip, sum_by-cons, length-filter, AllZip-long, same_Some, unwrap_or-slice_get, IsIn, HasNoRepeats, below, all_below, is_empty, pairs, env_next, beh_next, seat_next, outcomes_by, outcomes, is_allowed, arena, is_beaten, mask, loses}
 use Rattle.roman_model.specs.declared.way.Way.TheVariants as way
 
 -- the list with the elements at the places k and k + 1 in each other's place
@@ -42,13 +42,7 @@ get-swapped (suc k) zero (x ∷ xs) w = refl
 get-swapped (suc k) (suc j) (x ∷ xs) w = get-swapped k j xs (omega arith)
 
 index-swapped : (k j : ℕ) (bs : List ℕ) → suc k < length bs → slice_index (swapped k bs) (other k j) ≡ slice_index bs j
-index-swapped k j [] w = absurd (omega arith)
-index-swapped zero j (b ∷ []) w = absurd (omega arith)
-index-swapped zero zero (b ∷ c ∷ bs) w = refl
-index-swapped zero (suc zero) (b ∷ c ∷ bs) w = refl
-index-swapped zero (suc (suc j)) (b ∷ c ∷ bs) w = refl
-index-swapped (suc k) zero (b ∷ bs) w = refl
-index-swapped (suc k) (suc j) (b ∷ bs) w = index-swapped k j bs (omega arith)
+index-swapped k j bs w = sym (unwrap_or-slice_get (swapped k bs) (other k j) 0) ∙ ap (λ o. unwrap_or o 0) (get-swapped k j bs w) ∙ unwrap_or-slice_get bs j 0
 
 set-swapped : (k j : ℕ) (bs : List ℕ) (b : ℕ) → suc k < length bs → slice_set (swapped k bs) (other k j) b ≡ swapped k (slice_set bs j b)
 set-swapped k j [] b w = absurd (omega arith)

@@ -1,5 +1,5 @@
 -- The outlooks in a table.
-use Rattle.roman_whatif.proofs.Common.{◌≡◌, ℕ, ◌+◌, ◌*◌, ◌<◌, false, List, length, inl, inr, sym, ap, ◌∙◌, subst, arith, cases_lt, Outlook, Way, NamedSys, told, told_at, IsToldOf, ◌≢◌, ◌++◌, take, drop, set, take-append_seam, get_or-set_same, get_or-set_other}
+use Rattle.roman_whatif.proofs.Common.{◌≡◌, ℕ, ◌+◌, ◌*◌, ◌<◌, false, List, length, inl, inr, sym, ap, ◌∙◌, subst, arith, ◌≢◌, ◌++◌, take, drop, cases_lt, Outlook, Way, NamedSys, told, told_at, IsToldOf, set, take-append_seam, get_or-set_same, get_or-set_other}
 use Rattle.roman_whatif.specs.declared.outlook.Outlook as declared
 
 -- an outlook is written

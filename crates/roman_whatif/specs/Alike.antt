@@ -1,5 +1,5 @@
 -- Services that are equal but for their names.
-use Rattle.std.specs.Prelude.{◌≡◌, ℕ, suc, ◌<◌, length, slice_get, slice_index}
+use Rattle.std.specs.Prelude.{◌≡◌, ℕ, suc, ◌-◌, ◌<◌, length, slice_get, slice_index}
 use Rattle.roman_model.specs.Numbers.{sizes_of, pair_at}
 use Rattle.roman_joint.specs.NamedSys.{NamedSys, system_of}
 
@@ -11,4 +11,4 @@ pub record AreAlike (parts : NamedSys) (p k : ℕ) : Type 0 where
 
 -- the service at place k and the one before are alike
 abbrev pub IsRepeated : NamedSys → ℕ → ℕ → Type 0
-IsRepeated parts p k = (before : ℕ) × (k ≡ suc before) × AreAlike parts p before
+IsRepeated parts p k = (0 < k) × AreAlike parts p (k - 1)

@@ -1,4 +1,4 @@
-use Rattle.roman_whatif.proofs.Common.{◌≡◌, ◌+◌, ◌-◌, ◌*◌, [], ◌∷◌, refl, sym, ap, ◌∙◌, arith, told, told_at, left_of}
+use Rattle.roman_whatif.proofs.Common.{◌≡◌, ◌+◌, ◌-◌, ◌*◌, suc, [], ◌∷◌, refl, sym, ap, ◌∙◌, arith, told, told_at, left_of}
 use Rattle.roman_whatif.proofs.Lasting.{still_there, left_again, told_left}
 use Rattle.roman_whatif.proofs.Repeats.{alike_first}
 use Rattle.roman_whatif.proofs.losses.try_second.Goals as goal
@@ -20,6 +20,8 @@ pub returns-then-is_repeated-clause-told : goal.returns-then-is_repeated-clause-
 returns-then-is_repeated-clause-told g c =
     let base = c.args.base.now.joint in
     let j = c.args.j in
-    let (i, next, alike) = c.is_repeated.ensures c.if-is_repeated.true in
+    let (some, alike) = c.is_repeated.ensures c.if-is_repeated.true in
+    let i = c.args.k - 1 in
+    let next : c.args.k ≡ suc i = omega arith in
     let there : 32 * j + c.args.k - 1 ≡ 32 * j + i = omega arith in
     ap (told_at c.args.table.now) there ∙ c.requires.two i (omega arith) ∙ sym (alike_first base c.args.p i j c.args.way alike (omega arith)) ∙ ap (λ m. left_of base c.args.p c.args.way (m ∷ j ∷ [])) (sym next)

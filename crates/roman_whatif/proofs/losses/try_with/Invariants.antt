@@ -1,4 +1,4 @@
-use Rattle.roman_whatif.proofs.Common.{◌≡◌, ℕ, ◌+◌, ◌*◌, ◌<◌, [], ◌∷◌, length, IsLeft, told_at, left_of, IsIdleScratchOf}
+use Rattle.roman_whatif.proofs.Common.{◌≡◌, ℕ, ◌+◌, ◌*◌, ◌<◌, [], ◌∷◌, length, IsLeft, IsIdleScratchOf, told_at, left_of}
 use Rattle.roman_whatif.proofs.losses.try_with.Given as goal
 
 -- the table has the outlook for the seat alone, and for it with each earlier seat so far
