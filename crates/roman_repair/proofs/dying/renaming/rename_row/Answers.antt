@@ -41,4 +41,5 @@ left-preserved c =
 pub returns-clause-list : goal.returns-clause-list
 returns-clause-list c =
     let n = lanes_in (system_of c.args.joint.now) in
-    subst (λ M. Renames (system_of c.args.joint.now) c.args.leaver.k (entries_at n c.args.event) M c.args.order.now.list c.left.order.list) (ap (λ w. entries_in n c.args.event.row w c.args.event.reason) c.left-test.false ∙ no_entries n c.args.event.row c.args.event.reason) c.left.invariant.renamed
+    let empty = ap (λ w. entries_in n c.args.event.row w c.args.event.reason) c.left-test.false ∙ no_entries n c.args.event.row c.args.event.reason in
+    subst (λ M. Renames (system_of c.args.joint.now) c.args.leaver.k (entries_at n c.args.event) M c.args.order.now.list c.left.order.list) empty c.left.invariant.renamed
