@@ -59,12 +59,16 @@ impl Order {
 
     /// Adds entries as [`push_lanes`](Order::push_lanes) does. They go into the last event where that one
     /// is of the same row and reason and all its lanes are lower.
+    #[inline(always)]
     pub fn push_on(&mut self, x: u32, lost: u64, reason: Reason)
         requires row { x < self.old.rows }
         requires within { (lane : ℕ) → is_on lost lane ≡ true → lane < self.old.lanes }
         requires alive { (lane : ℕ) → is_on lost lane ≡ true → has_entry self.old.list (x * self.old.lanes + lane) ≡ false }
         ensures { self.new ≡ record self.old { list = self.old.list ++ entries_in self.old.lanes x lost reason } }
     {
+        if lost == 0 {
+            return;
+        }
         if !goes_on(&self.events, x, lost, reason) {
             return self.push_lanes(x, lost, reason);
         }
@@ -98,7 +102,8 @@ impl Order {
 /// lanes are lower.
 #[tactic(auto, using(crate::proofs::Lanes::all_lower))]
 fn goes_on(events: &[Event], x: u32, lost: u64, reason: Reason) -> bool
-    ensures some { result ≡ true → (0 < length events.now) × (lost ≢ 0) }
+    requires { lost ≢ 0 }
+    ensures some { result ≡ true → 0 < length events.now }
     ensures last { result ≡ true → (front : List Event) (e : Event) → events.now ≡ front ++ e ∷ [] → TakesLanes e x lost reason }
 {
     let Some(last) = events.last() else {
