@@ -1,27 +1,25 @@
 -- What the proof pages of this crate cite from elsewhere, passed on from one place. Declares nothing.
-pub use Rattle.std.proofs.Common.{Bool, Err, Global, IfSome, IsFalse, IsTrue, List, None, Ok, Option, Result, Some, Vec, [], add-one, ap, append_assoc, ap₂, arith, codes, drop, false, get_or, inl, inr, is_ok, length, length-drop, map, not, refl, rules, slice_get, slice_index, slice_index_or, slice_set, subst, sym, take, take-append-drop, true, vec_capacity, vec_len, ℕ, ◌&&◌, ◌++◌, ◌+◌, ◌<◌, ◌↔◌, ◌∙◌, ◌∷◌, ◌≡◌, ◌≢◌, ◌≤◌}
+pub use Rattle.std.proofs.Common.{Bool, Err, Global, IfSome, IsFalse, IsTrue, List, None, Ok, Option, Result, Some, Vec, [], add-one, ap, append_assoc, ap₂, arith, codes, drop, false, get_or, inl, inr, is_ok, length, length-drop, map, not, refl, slice_get, slice_index, slice_index_or, slice_set, subst, sym, take, take-append-drop, true, vec_capacity, vec_len, ℕ, ◌&&◌, ◌++◌, ◌+◌, ◌<◌, ◌↔◌, ◌∙◌, ◌∷◌, ◌≡◌, ◌≢◌, ◌≤◌}
 pub use Rattle.std.proofs.Math.Seq.{drop-cons}
 pub use Rattle.std.proofs.lemmas.Bool.{both_ways, cases_lt, cond-false, cond-true, le-leb, le-ltb, lt-ltb, not-true}
 pub use Rattle.std.proofs.lemmas.Bool.Decides.{leb_tells}
 pub use Rattle.std.proofs.lemmas.List.{append-nil, drop_all, get_or-set_same, get_or_read, length-map, length-take}
-pub use Rattle.std.proofs.lemmas.List.Elements.{Contains-get_or}
-pub use Rattle.std.proofs.lemmas.List.Quantifiers.{position-Some}
-pub use Rattle.std.proofs.lemmas.Option.{get_or_from_slice_get, slice_get-get_or, slice_get-map, slice_get_within}
+pub use Rattle.std.proofs.lemmas.Option.{get_or_from_slice_get, slice_get-map, slice_get_within}
 pub use Rattle.std.proofs.lemmas.Result.{IfOk-weaker, err_from_is_err_and}
 pub use Rattle.std.proofs.lemmas.Slice.Eq.{bytes_eq-Decides}
-pub use Rattle.std.specs.List.{filter, flat_map, position, position_or_len, remove}
+pub use Rattle.std.specs.List.{filter, flat_map, position_or_len, remove}
 pub use Rattle.std.specs.Option.{option_map}
 pub use Rattle.std.specs.Str.{bytes_eq}
 pub use Rattle.roman_generator.proofs.CallerLemmas.{state_within, states_long}
 pub use Rattle.roman_generator.specs.declared.sight.Sight.{Sight}
-pub use Rattle.roman_io.specs.Sink.{Puts, WrotePrefix}
+pub use Rattle.roman_io.specs.Sink.{Puts}
 pub use Rattle.roman_joint.proofs.CallerLemmas.{behaves, seat_beh_read, states_range}
 pub use Rattle.roman_joint.specs.Behaviours.{IsSeatBehaviour}
 pub use Rattle.roman_joint.specs.NamedSys.{IsNamedSys, NamedSys, beh_at, cells, seat_of, system_of}
 pub use Rattle.roman_joint.specs.Names.{names_in, seat_name}
 pub use Rattle.roman_joint.specs.declared.seat.Seat.{Seat}
 pub use Rattle.roman_library.specs.Library.{PlainLibrary, plain}
-pub use Rattle.roman_model.proofs.CallerLemmas.{AreBelow-index, IsPair-grown, IsPair-turned, IsPair-without, IsPairOf-from, allowed_in_range, any_from, by_test, contains_in, filter_same, from_below, from_end, from_place, great_related, in_contains, length-pairs, mask_has, ne_not_empty, none_from, not_empty_in, number_listed, numbers_are_pairs, offer_is, outcome_in, outcome_pair, outcome_seat, related_great, related_offers, seat_in, sizes-turned, states_below, states_set, there_is, turned}
+pub use Rattle.roman_model.proofs.CallerLemmas.{AreBelow-index, IsPair-grown, IsPair-turned, IsPair-without, IsPairOf-from, allowed_in_range, any_from, by_test, filter_same, from_below, from_end, from_place, great_related, length-pairs, mask_has, ne_not_empty, not_empty_in, number_listed, numbers_are_pairs, offer_is, outcome_in, outcome_pair, outcome_seat, related_great, related_offers, seat_in, sizes-turned, states_below, states_set, there_is, turned}
 pub use Rattle.roman_model.specs.Arena.{Entry, is_beaten, mask, replay}
 pub use Rattle.roman_model.specs.Change.{CanChange, Change, Die, Freeze, Join, Thaw, after, rename}
 pub use Rattle.roman_model.specs.CompleteLists.{IsComplete}
@@ -35,7 +33,7 @@ pub use Rattle.roman_model.specs.SystemArena.{arena, is_allowed, is_ready, outco
 pub use Rattle.roman_model.specs.declared.limits.TheConstants.{MAX_BEHAVIOURS, MAX_SERVICES}
 pub use Rattle.roman_parts.specs.Named.{NamedBeh}
 pub use Rattle.roman_radix.specs.Radix.{moved}
-pub use Rattle.roman_read.proofs.CallerLemmas.{bind_ok, place_of-present, position-none, position-some, same_ok}
+pub use Rattle.roman_read.proofs.CallerLemmas.{bind_ok, place_of-present, same_ok}
 pub use Rattle.roman_read.specs.Items.{◌>>=◌}
 pub use Rattle.roman_read.specs.Names.{place_of}
 pub use Rattle.roman_relation.specs.Greatest.{IsRelation}
@@ -59,7 +57,7 @@ pub use Rattle.roman_text.specs.declared.report.ReportLine.{ReportLine}
 pub use Rattle.roman_session.specs.Answering.{Answered, AnsweredOn, DoneOn, NamesSome, SeenStaysRelated}
 pub use Rattle.roman_session.specs.Joins.{CanJoin}
 pub use Rattle.roman_session.specs.Layout.{IsSession, situation_in}
-pub use Rattle.roman_session.specs.Reports.{offer_line, offer_lines, offers_and_end, report_head, service_line, service_lines, services_and_answer, services_from}
+pub use Rattle.roman_session.specs.Reports.{offer_line, offers_and_end, report_head, service_lines, services_and_answer, services_from}
 unfoldable pub use Rattle.roman_session.specs.Reports.{lines_text, report_text}
 pub use Rattle.roman_session.specs.Rulings.{delegation, demand, named, offered_action, seat_at, service_named, state_named, with_room}
 unfoldable pub use Rattle.roman_session.specs.Rulings.{asked, died, env_jumped, frozen, handed, joining, jumped, seen, thawed, unexplained}
@@ -76,4 +74,3 @@ pub use Rattle.roman_session.specs.declared.phase.Phase.{Phase}
 pub use Rattle.roman_session.specs.declared.phase.Phase.TheVariants.{Delegated, Idle, Offered}
 pub use Rattle.roman_session.specs.declared.session.Session.TheInside.{Inside}
 pub use Rattle.std.proofs.lemmas.Grind.{flat_map-append}
-pub use Rattle.std.specs.Result.{IsErrAnd}

@@ -65,10 +65,6 @@ pub unrelated_there : (s : Situation) (n : NamedSys) (p : ℕ) → IsSituation s
 unrelated_there s n p is same at unrelated great =
     both_ways (is_related (present_system s) s.here) unrelated (great_related (present_system s) s.here is.parts.system (holds_here Great s n p same at great))
 
--- a delegate is offered for its request
-pub delegated_is : (s : Situation) (a k : ℕ) → IsSituation s → s.phase ≡ Delegated a k → IsOpen s a × IsIn k (offers (present_system s) s.here a)
-delegated_is s a k is phase = subst (IsPhase s) phase is.phase
-
 -- a delegate is ready
 pub delegate_ready : (s : Situation) (a k : ℕ) → IsSituation s → IsIn k (offers (present_system s) s.here a) → IsTrue (is_ready (slice_get (present_system s).seats k))
 delegate_ready s a k is i =

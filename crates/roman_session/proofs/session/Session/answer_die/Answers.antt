@@ -15,14 +15,16 @@ number_of-self-inside-requires g c =
 
 pub invariant_of-self : goal.invariant_of-self
 invariant_of-self g c =
+    let ruled = c.in-Ok.ensures in
     let made = c.die-tally.ensures in
     let rest = c.remove-state in
-    (died_now _ _ _ rest.new.self _ _ _ _ _ _ c.self.invariant c.self.view_is c.in-Ok.ensures.died c.in-Ok.ensures.within made.joint made.repaired c.known.ensures rest.ensures.items c.deref.ensures.value c.number_of-self-inside.ensures rest.ensures.capacity c.kept.ensures).session
+    (died_now _ _ _ rest.new.self _ _ _ _ _ _ c.self.invariant c.self.view_is ruled.died ruled.within made.joint made.repaired c.known.ensures rest.ensures.items c.deref.ensures.value c.number_of-self-inside.ensures rest.ensures.capacity c.kept.ensures).session
 
 pub returns-clause-step : goal.returns-clause-step
 returns-clause-step g c =
+    let ruled = c.in-Ok.ensures in
     let made = c.die-tally.ensures in
     let rest = c.remove-state in
     let died =
-    died_now _ _ _ rest.new.self _ _ _ _ _ _ c.self.invariant c.self.view_is c.in-Ok.ensures.died c.in-Ok.ensures.within made.joint made.repaired c.known.ensures rest.ensures.items c.deref.ensures.value c.number_of-self-inside.ensures rest.ensures.capacity c.kept.ensures in
+    died_now _ _ _ rest.new.self _ _ _ _ _ _ c.self.invariant c.self.view_is ruled.died ruled.within made.joint made.repaired c.known.ensures rest.ensures.items c.deref.ensures.value c.number_of-self-inside.ensures rest.ensures.capacity c.kept.ensures in
     done _ _ _ _ _ _ _ _ _ c.push_reply-2.ensures.gathers died.step
