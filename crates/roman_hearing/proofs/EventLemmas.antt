@@ -1,5 +1,5 @@
 -- Each line is read as its shape says.
-use Rattle.roman_hearing.proofs.Common.{◌≡◌, ℕ, ◌≤◌, Bool, true, false, List, [], ◌∷◌, length, cond, codes, Result, Ok, Err, IsFalse, inl, nat_lt, refl, sym, ◌∙◌, subst, ltb-true, ltb-false, arith, bytes_eq, false≢true, both_ways, cond-true, cond-false, by_test, LineShape, nothing, ask, hand, saw, abort, freeze, thaw, die, join, jump, jump_env, report, explain, quit, shape_of, words_of, is_comment, by_words, shape_of_words, spelling, LineError, strip_carriage_return, Form, Reads, LinesAreRead}
+use Rattle.roman_hearing.proofs.Common.{◌≡◌, ℕ, ◌≤◌, Bool, true, false, List, [], ◌∷◌, length, cond, codes, Result, Ok, Err, IsFalse, inl, nat_lt, refl, sym, ◌∙◌, subst, ltb-true, ltb-false, arith, bytes_eq, false≢true, both_ways, cond-true, cond-false, by_test, LineShape, nothing, join, shape_of, words_of, is_comment, by_words, shape_of_words, spelling, LineError, strip_carriage_return, Form, Reads, LinesAreRead}
 use Rattle.roman_text.specs.declared.errors.LineError.TheVariants.{TooLong}
 
 -- words that aren't a comment are read as some event or an error
@@ -27,19 +27,7 @@ module _ (read : (event : LineShape) → shape_of_words (spelling event) ≡ Ok 
       shape_of_words (word ∷ more) ≡ r → IsFalse (gives_nothing r) → Reads line r
   shape_reads word more (Err why) few words plain is some = grind (arith, both_ways)
   shape_reads word more (Ok nothing) few words plain is some = absurd (false≢true (sym some))
-  shape_reads word more (Ok (ask a)) few words plain is some = (few, words ∙ only (word ∷ more) (ask a) is (λ h. absurd (let e : ⊥ = cc in e)))
-  shape_reads word more (Ok (hand a)) few words plain is some = (few, words ∙ only (word ∷ more) (hand a) is (λ h. absurd (let e : ⊥ = cc in e)))
-  shape_reads word more (Ok (saw a b)) few words plain is some = (few, words ∙ only (word ∷ more) (saw a b) is (λ h. absurd (let e : ⊥ = cc in e)))
-  shape_reads word more (Ok abort) few words plain is some = (few, words ∙ only (word ∷ more) abort is (λ h. absurd (let e : ⊥ = cc in e)))
-  shape_reads word more (Ok (freeze a)) few words plain is some = (few, words ∙ only (word ∷ more) (freeze a) is (λ h. absurd (let e : ⊥ = cc in e)))
-  shape_reads word more (Ok (thaw a)) few words plain is some = (few, words ∙ only (word ∷ more) (thaw a) is (λ h. absurd (let e : ⊥ = cc in e)))
-  shape_reads word more (Ok (die a)) few words plain is some = (few, words ∙ only (word ∷ more) (die a) is (λ h. absurd (let e : ⊥ = cc in e)))
-  shape_reads word more (Ok (join a b c l)) few words plain is some = (few, words ∙ only (word ∷ more) (join a b c l) is (λ h. absurd (let e : ⊥ = cc in e)))
-  shape_reads word more (Ok (jump a b)) few words plain is some = (few, words ∙ only (word ∷ more) (jump a b) is (λ h. absurd (let e : ⊥ = cc in e)))
-  shape_reads word more (Ok (jump_env a)) few words plain is some = (few, words ∙ only (word ∷ more) (jump_env a) is (λ h. absurd (let e : ⊥ = cc in e)))
-  shape_reads word more (Ok report) few words plain is some = (few, words ∙ only (word ∷ more) report is (λ h. absurd (let e : ⊥ = cc in e)))
-  shape_reads word more (Ok explain) few words plain is some = (few, words ∙ only (word ∷ more) explain is (λ h. absurd (let e : ⊥ = cc in e)))
-  shape_reads word more (Ok quit) few words plain is some = (few, words ∙ only (word ∷ more) quit is (λ h. absurd (let e : ⊥ = cc in e)))
+  shape_reads word more (Ok event) few words plain is some = (few, words ∙ only (word ∷ more) event is (λ h. absurd (let e : ⊥ = cc in e)))
 
   words_read : (words : List (List ℕ)) → length line ≤ 256 → words_of (strip_carriage_return line) ≡ words → Reads line (shape_of_words words)
   words_read [] few is = (few, inl is)

@@ -1,5 +1,5 @@
 -- Steps of a session change no parts but the services.
-use Rattle.roman_hearing.proofs.Common.{◌≡◌, ℕ, List, [], ◌∷◌, Result, Ok, Err, refl, sym, ◌∙◌, subst, arith, LineShape, nothing, ask, hand, saw, abort, freeze, thaw, die, join, jump, jump_env, report, explain, quit, shape_of, LineError, Reply, Situation, asked, handed, aborted, jumped, env_jumped, frozen, thawed, died, unexplained, Asks, Hands, Aborts, Jumps, EnvJumps, Freezes, Thaws, Dies, Explains, Does, StepOn, StepBy, Step, Answers, AreBehaviours}
+use Rattle.roman_hearing.proofs.Common.{◌≡◌, ℕ, List, [], ◌∷◌, Result, Ok, Err, refl, sym, ◌∙◌, subst, arith, LineShape, shape_of, LineError, Reply, Situation, Does, StepOn, StepBy, Step, Answers, AreBehaviours}
 
 -- all parts but the services stay the same
 abbrev pub Keeps : Situation → Situation → Type 0
@@ -15,20 +15,7 @@ does_keeps Act old new (Err refusal) text act step = keeps_by old new old step.1
 does_keeps Act old new (Ok x) text act step = act x step
 
 step_keeps : (old new : Situation) (shape : LineShape) (text : List ℕ) → StepOn old shape text new → Keeps old new
-step_keeps old new nothing text step = keeps_by old new old step.1 refl
-step_keeps old new (ask action) text step = does_keeps Asks old new (asked old action) text (λ a asks. keeps_by old new _ asks.1 refl) step
-step_keeps old new (hand service) text step = does_keeps Hands old new (handed old service) text (λ x hands. keeps_by old new _ hands.1 refl) step
-step_keeps old new (saw state env) text step = grind (arith, does_keeps, keeps_by)
-step_keeps old new abort text step = does_keeps Aborts old new (aborted old) text (λ x aborts. keeps_by old new _ aborts.1 refl) step
-step_keeps old new (freeze service) text step = does_keeps Freezes old new (frozen old service) text (λ k changes. keeps_by old new _ changes.becomes refl) step
-step_keeps old new (thaw service) text step = does_keeps Thaws old new (thawed old service) text (λ k changes. keeps_by old new _ changes.becomes refl) step
-step_keeps old new (die service) text step = does_keeps Dies old new (died old service) text (λ k changes. keeps_by old new _ changes.becomes refl) step
-step_keeps old new (join service behaviour state loose) text step = grind (arith, does_keeps, keeps_by)
-step_keeps old new (jump service state) text step = does_keeps Jumps old new (jumped old service state) text (λ x jumps. keeps_by old new _ jumps.1 refl) step
-step_keeps old new (jump_env env) text step = does_keeps EnvJumps old new (env_jumped old env) text (λ e jumps. keeps_by old new _ jumps.1 refl) step
-step_keeps old new report text step = keeps_by old new old step.1 refl
-step_keeps old new explain text step = does_keeps Explains old new (unexplained old) text (λ x explains. keeps_by old new old explains.1 refl) step
-step_keeps old new quit text step = keeps_by old new old step.1 refl
+step_keeps old new shape text step = grind (arith, does_keeps, keeps_by)
 
 by_shape_keeps : (old new : Situation) (shape : Result LineShape LineError) (text : List ℕ) → StepBy old shape text new → Keeps old new
 by_shape_keeps old new (Err why) text step = keeps_by old new old step.1 refl

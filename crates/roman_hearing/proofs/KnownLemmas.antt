@@ -1,5 +1,5 @@
 -- Steps lead from well-formed situations to well-formed ones.
-use Rattle.roman_hearing.proofs.Common.{◌≡◌, ℕ, ◌<◌, Bool, true, false, List, length, Result, Ok, Err, inl, inr, slice_set, nat_lt, nat_le, refl, sym, subst, arith, ltb-true, leb-true, get_or_from_slice_get, Sys, IsPair, MAX_SERVICES, number_listed, there_is, IsPair-turned, IsPair-grown, IsPair-without, same_ok, bind_ok, LineShape, nothing, ask, hand, saw, abort, freeze, thaw, die, join, jump, jump_env, report, explain, quit, shape_of, LineError, Reply, IsNamedSys, seat_of, frozen_system, frozen_known, gone_system, gone_known, joined_system, joined_known, Situation, present_system, IsPhase, IsSituation, seat_at, asked, handed, seen, aborted, jumped, env_jumped, frozen, thawed, died, joining, join_of, unexplained, Asks, Hands, Sees, Aborts, Jumps, EnvJumps, Changing, Changes, Freezes, Thaws, Dies, Joins, freezing, thawing, dying, growing, Explains, Does, StepOn, StepBy, Step, parts_after, Handing, Joining, Jump, Sight, Idle, checked, asked_is, handed_is, jumped_is, env_jumped_is, frozen_is, thawed_is, died_is, joining_idle, cells_with, jumped_pair, moved_pair, AreBehaviours, AreNamed, StepsStayKnown}
+use Rattle.roman_hearing.proofs.Common.{◌≡◌, ℕ, ◌<◌, Bool, true, false, List, length, Result, Ok, Err, inl, inr, slice_set, nat_lt, nat_le, refl, sym, subst, arith, ltb-true, leb-true, get_or_from_slice_get, Sys, IsPair, MAX_SERVICES, number_listed, there_is, IsPair-turned, IsPair-grown, IsPair-without, same_ok, bind_ok, LineShape, ask, hand, saw, abort, freeze, thaw, die, join, jump, jump_env, explain, shape_of, LineError, Reply, IsNamedSys, seat_of, frozen_system, frozen_known, gone_system, gone_known, joined_system, joined_known, Situation, present_system, IsPhase, IsSituation, seat_at, asked, handed, seen, aborted, jumped, env_jumped, frozen, thawed, died, joining, join_of, unexplained, Asks, Hands, Sees, Aborts, Jumps, EnvJumps, Changing, Changes, Freezes, Thaws, Dies, Joins, freezing, thawing, dying, growing, Explains, Does, StepOn, StepBy, Step, parts_after, Handing, Joining, Jump, Sight, Idle, checked, asked_is, handed_is, jumped_is, env_jumped_is, frozen_is, thawed_is, died_is, joining_idle, cells_with, jumped_pair, moved_pair, AreBehaviours, AreNamed, StepsStayKnown}
 use Rattle.roman_text.specs.declared.replies.Reply.TheVariants as reply
 use Rattle.roman_joint.specs.NamedSys as joint
 use Rattle.roman_hearing.proofs.KeepLemmas.{line_keeps}
@@ -94,7 +94,6 @@ joins_known old new service behaviour state text loose x is behaviours ok change
 -- any line
 
 on_known : (old new : Situation) (shape : LineShape) (text : List ℕ) → IsSituation old → AreNamed old.parts → StepOn old shape text new → IsSituation new
-on_known old new nothing text is are step = subst IsSituation (sym step.1) is
 on_known old new (ask action) text is are step = does_known Asks old new (asked old action) text is (λ a ok. asks_known old new action text a is ok) step
 on_known old new (hand service) text is are step = does_known Hands old new (handed old service) text is (λ x ok. hands_known old new service text x is ok) step
 on_known old new (saw state env) text is are step = does_known Sees old new (seen old state env) text is (λ x ok. sees_known old new x text is) step
@@ -107,9 +106,8 @@ on_known old new (join service behaviour state loose) text is are step =
 on_known old new (jump service state) text is are step =
     does_known Jumps old new (jumped old service state) text is (λ x ok. jumps_known old new service state text x is are.behaviours ok) step
 on_known old new (jump_env env) text is are step = does_known EnvJumps old new (env_jumped old env) text is (λ e ok. env_jumps_known old new env text e is are ok) step
-on_known old new report text is are step = subst IsSituation (sym step.1) is
 on_known old new explain text is are step = does_known Explains old new (unexplained old) text is (λ x ok explains. subst IsSituation (sym explains.1) is) step
-on_known old new quit text is are step = subst IsSituation (sym step.1) is
+on_known old new _ text is are step = subst IsSituation (sym step.1) is
 
 by_known : (old new : Situation) (shape : Result LineShape LineError) (text : List ℕ) → IsSituation old → AreNamed old.parts → StepBy old shape text new → IsSituation new
 by_known old new (Err why) text is are step = subst IsSituation (sym step.1) is
