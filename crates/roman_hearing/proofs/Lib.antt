@@ -1,5 +1,4 @@
 pub mod Common
-pub mod OfferLemmas
 pub mod ReportLemmas
 pub mod HearingLines
 pub mod HearingLemmas

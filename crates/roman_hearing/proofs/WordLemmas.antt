@@ -1,5 +1,5 @@
 -- Offers, counts and reports are right by the greatest ND-simulation.
-use Rattle.roman_hearing.proofs.Common.{◌≡◌, ℕ, ◌+◌, Bool, List, [], ◌∷◌, ◌++◌, map, length, cond, true, false, IsTrue, ◌↔◌, refl, sym, ◌∙◌, length-append, arith, both_ways, length-map, IsIn, below, IsSublist, Sys, Pair, IsSys, IsPair, is_final, arena, is_allowed, Entry, IsComplete, Great, name_at, is_related, offers, related_count, filter_sublist, filter_in, in_filter, in_below, allowed_in, from_allowed, related_great, great_related, in_listed, listed_in, from_map, system_is_same, sublist_none, HasNoRepeats-filter, allowed_in_range, from_pairs, in_pairs, pairs_once, length-pairs, offers_are, order_new, new_once, in_map, system_of, seat_name, Situation, present_system, IsPhase, IsSituation, lines_text, report_text, service_lines, Phase, Idle, Offered, Delegated, shown, State, IsGreat, MayAsk, start_state, IsOpenGreat, afresh, Counts, flat_map, sizes_of, count, OpenIsGreat, AreServing, ReportsGreat}
+use Rattle.roman_hearing.proofs.Common.{◌≡◌, ℕ, ◌+◌, Bool, List, [], ◌∷◌, ◌++◌, map, length, cond, true, false, IsTrue, ◌↔◌, refl, sym, ◌∙◌, length-append, arith, not, IsFalse, ◌⊎◌, both_ways, or_cases, not-true, length-map, IsIn, below, IsSublist, Sys, Pair, IsSys, IsPair, is_final, arena, is_allowed, outcomes, Entry, is_beaten, IsComplete, Great, name_at, is_related, offers, related_count, filter_sublist, filter_in, in_filter, in_below, allowed_in, from_allowed, related_great, great_related, in_listed, listed_in, from_map, system_is_same, sublist_none, HasNoRepeats-filter, allowed_in_range, from_pairs, in_pairs, pairs_once, length-pairs, offers_are, order_new, new_once, in_map, by_test, empty_is, any_true, in_mask, system_of, seat_name, Situation, present_system, IsPhase, IsSituation, lines_text, report_text, service_lines, Phase, Idle, Offered, Delegated, shown, State, IsGreat, MayAsk, start_state, IsOpenGreat, afresh, Counts, flat_map, sizes_of, count, OpenIsGreat, NotOfferedFails, AreServing, ReportsGreat}
 use Rattle.std.specs.List.{filter}
 use Rattle.roman_text.specs.declared.report.ReportLine.TheVariants as line
 use Rattle.roman_hearing.proofs.ReportLemmas.{reports_afresh, afresh_known}
@@ -17,6 +17,18 @@ offers_serving s a sys pair allowed = record {
   order = picked_order (is_allowed (system_of s.parts) s.here a) _ (length (system_of s.parts).seats);
   exact = (offers_are (system_of s.parts) sys).offered s.here pair a allowed;
 }
+
+-- services that aren't offered
+
+-- a seat that is beaten has no outcome, or an outcome whose pair isn't related
+beaten_fails : (s : Sys) (p : Pair) (a k : ℕ) → IsTrue (is_beaten (arena s) (λ q. not (is_related s q)) p a k) →
+    (outcomes s p a k ≡ []) ⊎ ((q : Pair) × IsIn q (outcomes s p a k) × IsFalse (is_related s q))
+beaten_fails s p a k beaten = grind (arith, any_true, empty_is, not-true, or_cases)
+
+pub not_offered_fails : NotOfferedFails
+not_offered_fails s p a k l allowed out =
+    by_test (is_beaten (arena s) (λ q. not (is_related s q)) p a k) (beaten_fails s p a k)
+    (λ unbeaten. absurd (out (in_mask (arena s) (λ q. not (is_related s q)) p a k allowed l unbeaten)))
 
 -- open requests
 

@@ -18,7 +18,7 @@ pub fn outcomes_are_related()
 
 /// A service that isn't offered for an allowed action has no outcome, or an outcome whose pair isn't
 /// related.
-#[tactic(auto, using(crate::proofs::OfferLemmas::not_offered_fails))]
+#[tactic(auto, using(crate::proofs::WordLemmas::not_offered_fails))]
 pub fn services_not_offered_fail()
     ensures fails { NotOfferedFails }
 {}
