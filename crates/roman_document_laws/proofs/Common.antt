@@ -1,7 +1,7 @@
 -- What the proof pages of this crate cite from elsewhere, passed on from one place. Declares nothing.
-pub use Rattle.std.proofs.Common.{Bool, Err, IfSome, IsFalse, IsTrue, List, None, Ok, Option, Result, Some, [], ap, append-nil, append_assoc, ap₂, arith, codes, cond, eqb-true, false, find, get_or, inl, inr, is_none, is_some, leb-true, length, length-append, map, nat_le, not, refl, slice_get, subst, suc, sym, true, true≢false, zero, ℕ, ◌&&◌, ◌++◌, ◌+◌, ◌<◌, ◌==◌, ◌↔◌, ◌∙◌, ◌∷◌, ◌≡◌, ◌≢◌, ◌≤◌, ◌⊎◌}
+pub use Rattle.std.proofs.Common.{Bool, Err, IfSome, IsFalse, IsTrue, List, None, Ok, Option, Result, Some, [], ap, append-nil, append_assoc, ap₂, arith, codes, cond, eqb-true, false, find, get_or, inl, inr, is_none, is_some, leb-true, length, map, nat_le, not, refl, slice_get, subst, suc, sym, true, true≢false, zero, ℕ, ◌&&◌, ◌++◌, ◌+◌, ◌<◌, ◌==◌, ◌↔◌, ◌∙◌, ◌∷◌, ◌≡◌, ◌≢◌, ◌≤◌, ◌⊎◌}
 pub use Rattle.std.proofs.lemmas.Bool.{and_from, and_parts, both_ways, cases_order, cond-false, cond-true, eq-eqb, le-leb, not-true}
-pub use Rattle.std.proofs.lemmas.List.{length-map, map_push}
+pub use Rattle.std.proofs.lemmas.List.{length-map, length_push, map_push}
 pub use Rattle.std.proofs.lemmas.List.Quantifiers.{position-Some}
 pub use Rattle.std.proofs.lemmas.Option.{get_or_from_slice_get, same_Some, slice_get-get_or}
 pub use Rattle.std.proofs.lemmas.Slice.Eq.{bytes_eq-Decides}
@@ -13,7 +13,6 @@ pub use Rattle.roman_guard.specs.Meaning.{is_one_of, states_below}
 pub use Rattle.roman_io.specs.Shelf.{Texts}
 pub use Rattle.roman_laws.proofs.CallerLemmas.{listed_step, listed_triple, step_listed}
 pub use Rattle.roman_laws.specs.Outcomes.{HasStep}
-pub use Rattle.roman_library.proofs.CallerLemmas.{placed_is}
 pub use Rattle.roman_library.specs.Documents.{behaviour_in, behaviour_step}
 unfoldable pub use Rattle.roman_library.specs.Documents.{behaviour_place, catalogue_in, environment_in, file_of, frozen_of, library_in, limit_in, limit_of, listed_in, new_behaviour_of, new_name_of, part_of, parts_in, rests_of, service_of, service_step, services_of, state_of, target_in, version_of}
 pub use Rattle.roman_library.specs.Library.{IsService, PlainLibrary, behaviour_name, service_name}
@@ -29,10 +28,11 @@ pub use Rattle.roman_model.specs.Normal.{normal_beh, normal_env}
 pub use Rattle.roman_model.specs.System.{Beh, Env, IsBeh, IsDeterministic, IsEnv, Move, Triple, has, has_move, has_triple, is_final}
 pub use Rattle.roman_model.specs.SystemArena.{env_next}
 pub use Rattle.roman_model.specs.declared.limits.TheConstants.{MAX_BEHAVIOURS, MAX_CELLS, MAX_SERVICES, MAX_STATES, MAX_STEPS}
-pub use Rattle.roman_parts.proofs.CallerLemmas.{check_is, env_read, first_below-none, found_is, from_normal_move, from_normal_triple, has_move-normal, has_triple-normal, is_final-normal, none_absent, none_is, there_some}
+pub use Rattle.roman_parts.proofs.CallerLemmas.{env_read, first_below-none, from_normal_move, from_normal_triple, has_move-normal, has_triple-normal, is_final-normal, none_absent, none_is, there_some}
 pub use Rattle.roman_parts.specs.Choices.{refuse_choice}
 unfoldable pub use Rattle.roman_parts.specs.Choices.{choice_at, choice_between, choice_of, choice_with, single_of}
 unfoldable pub use Rattle.roman_parts.specs.Guards.{among_of, guard_of, guarded_states, state_in}
+pub use Rattle.roman_parts.specs.Lists.{name_in}
 unfoldable pub use Rattle.roman_parts.specs.Lists.{finals_of, name_step, names_of, place_in, start_of}
 pub use Rattle.roman_parts.specs.Named.{IsOver, NamedBeh, NamedEnv, NamedTarget}
 pub use Rattle.roman_parts.specs.Parts.{environment_of}
@@ -60,5 +60,5 @@ pub use Rattle.roman_document_laws.specs.DocumentReads.{BreaksService, DocumentL
 pub use Rattle.roman_document_laws.specs.DocumentWriter.{IsSayable, LibrariesAreSaid, catalogue_states, library_value, service_value}
 pub use Rattle.roman_document_laws.specs.Listed.{AreItems, BreaksList, FaultIn, IsListAt, IsListOf, MissesList}
 pub use Rattle.roman_document_laws.specs.Normals.{AreBefore, IsLess, IsMoveBefore, IsNormalBeh, IsNormalEnv, IsTripleBefore, NormalFormsAreNormal, NormalFormsAreUnique, Rises, SameBeh, SameEnv}
-pub use Rattle.roman_document_laws.specs.PartReads.{AreNames, BreaksMove, BreaksName, BreaksPlace, BreaksTriple, IsMoveItem, IsNewName, IsNoRow, IsPlace, IsTripleItem, ListsAreRead, ReadsList}
+pub use Rattle.roman_document_laws.specs.PartReads.{AreNames, BreaksMove, BreaksName, BreaksPlace, BreaksTriple, IsMoveItem, IsNewName, IsPlace, IsTripleItem, ListsAreRead, ReadsList}
 pub use Rattle.roman_document_laws.specs.PartWriter.{CanList, IsSayableBeh, IsSayableEnv, IsSayableTarget, PartsAreSaid, behaviour_value, environment_value, list_value, move_value, names_value, place_value, places_value, target_value, triple_value}

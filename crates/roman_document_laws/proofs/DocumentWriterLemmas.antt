@@ -1,7 +1,7 @@
 -- The written value of a library means that library.
 use Rattle.roman_document_laws.proofs.Common.{◌≡◌, ℕ, zero, suc, ◌<◌, ◌≤◌, ◌&&◌, List, [], ◌∷◌, ◌++◌, map, length, Bool, Option, Some, Ok, IsTrue, slice_get, inl, refl, sym, ap, subst, arith, IfSome, and_from, le-leb, length-map, map_push, Data, Texts, IsIn, HasNoRepeats, get_in, from_push, in_contains, in_map, there_is, AreItems, is_name, place_in, NamedEnv, NamedBeh, list_value, place_value, behaviour_value, IsSayableEnv, IsSayableBeh, IsSayableTarget, behaviour_in, catalogue_in, service_of, services_of, version_of, limit_in, limit_of, file_of, part_of, listed_in, new_name_of, environment_in, new_behaviour_of, target_in, parts_in, behaviour_place, state_of, frozen_of, rests_of, library_in, placed, Service, MAX_CELLS, PlainLibrary, IsService, behaviour_name, service_name, catalogue_states, service_value, library_value, IsSayable, LibrariesAreSaid}
 use Rattle.roman_parts.specs.declared.error.List.TheVariants as list
-use Rattle.roman_document_laws.proofs.PartReadLemmas.{ok_place, absent_none}
+use Rattle.roman_document_laws.proofs.PartReadLemmas.{place_exact, absent_none}
 use Rattle.roman_document_laws.proofs.PartWriterLemmas.{is_place, name_said, parts_said}
 use Rattle.roman_library.specs.declared.refusal.Part.TheVariants as part
 use Rattle.roman_document_laws.proofs.DocumentReadLemmas.{document_lists_read}
@@ -72,10 +72,10 @@ service_said env catalogue before x named new once is sayable =
     let state : x.state < length b.states = omega (arith, less, can.state_count) in
     service_read catalogue before d x.name x.behaviour b x.state x.frozen x.rests
     (rw (name_said d x.name refl named, absent_none (map service_name before) x.name new) refl)
-    (ok_place (map behaviour_name catalogue) list.Behaviour 0 (place_value (map behaviour_name catalogue) x.behaviour) x.behaviour (is_place (map behaviour_name catalogue) x.behaviour once inside))
+    (((place_exact (map behaviour_name catalogue) list.Behaviour 0 (place_value (map behaviour_name catalogue) x.behaviour)).gives x.behaviour).1 (is_place (map behaviour_name catalogue) x.behaviour once inside))
     there
     (subst (λ (states : List (List ℕ)). place_in b.states list.State 0 (place_value states x.state) ≡ Ok x.state) (sym (states_there catalogue x.behaviour b there))
-    (ok_place b.states list.State 0 (place_value b.states x.state) x.state (is_place b.states x.state can.states.once state)))
+    (((place_exact b.states list.State 0 (place_value b.states x.state)).gives x.state).1 (is_place b.states x.state can.states.once state)))
     refl refl
 
 are_services : (env : NamedEnv) (catalogue : List NamedBeh) (before xs : List Service) → HasNoRepeats (map behaviour_name catalogue) → ((b : NamedBeh) → IsIn b catalogue → IsSayableBeh env b) → ((x : Service) → IsIn x xs → IsTrue (is_name x.name)) →

@@ -1,10 +1,10 @@
 -- The written value of a part means that part.
 use Rattle.roman_document_laws.proofs.Common.{◌≡◌, ℕ, zero, suc, ◌<◌, ◌≤◌, ◌&&◌, Bool, List, [], ◌∷◌, ◌++◌, map, length, Option, None, Some, codes, Result, Ok, IsTrue, slice_get, inl, inr, refl, sym, ap, ◌∙◌, subst, arith, ◌==◌, not, cond, is_some, find, eqb-true, AllZip, filter, and_parts, both_ways, cond-true, cond-false, not-true, eq-eqb, length-map, same_Some, Data, string, items_of, IsIn, HasNoRepeats, below, Env, Beh, Move, has_move, is_final, IsEnv, IsBeh, IsDeterministic, has, normal_env, normal_beh, MAX_STEPS, MAX_STATES, by_test, get_in, in_contains, filter_in, number_listed, listed_number, same_test, none_from, find_not_found, contains_in, triple_in, filter_below_more, step_listed, listed_step, ◌>>=◌, each_item, pushing, text_of, member_of, is_name, IsListAt, AreItems, guarded_states, state_in, among_of, guard_of, names_of, finals_of, start_of, NamedEnv, NamedBeh, NamedTarget, IsOver, Rises, IsLess, IsNormalEnv, IsNormalBeh, IsPlace, BreaksPlace, IsTripleItem, IsMoveItem, triples_of, moves_of, list_value, place_value, behaviour_value, IsSayableEnv, IsSayableBeh, IsSayableTarget, names_value, places_value, triple_value, move_value, environment_value, target_value, CanList, PartsAreSaid, PartError, has_triple-normal, has_move-normal, is_final-normal, first_below-none, from_normal_triple, from_normal_move, env_read, as_object, is_one_of, states_below, in_states_below, states_below_are, states_below-suc, states_below-zero, name_at, choice_between, choice_at, choice_with, choice_of, refuse_choice, single_of, environment_of, name_of, behaviour_of, target_of}
-use Rattle.roman_document_laws.proofs.ListLemmas.{all_given, appends}
+use Rattle.roman_document_laws.proofs.ListLemmas.{all_exact, appends}
 use Rattle.roman_parts.specs.declared.error.List.{List as Place}
 use Rattle.roman_parts.specs.declared.error.List.TheVariants as list
 use Rattle.roman_document_laws.proofs.NormalForms.{forms_normal, forms_unique, rises_below, rises_filter, rises_same}
-use Rattle.roman_document_laws.proofs.PartReadLemmas.{ok_place, place_ok, place_err, err_place, lists_read}
+use Rattle.roman_document_laws.proofs.PartReadLemmas.{place_exact, lists_read}
 
 -- Names and their places
 
@@ -52,10 +52,9 @@ among_is n G rises within =
 guard_said : (states : List (List ℕ)) (i : ℕ) (G : List ℕ) → HasNoRepeats states → Rises IsLess G → ((e : ℕ) → IsIn e G → e < length states) → guarded_states states i (places_value states G) ≡ Ok G
 unfolding guarded_states guard_of among_of state_in pushing
 guard_said states i G once rises within =
-    let steps = appends (λ k before d. state_in states i k d) (λ before d x. IsPlace states d x) (λ k before d e. BreaksPlace states list.Steps i d e)
-    (λ k before d x at. (place_ok states list.Steps i d x, ok_place states list.Steps i d x)) (λ k before d e. (place_err states list.Steps i d e, err_place states list.Steps i d e)) in
-    let places : each_item (pushing (state_in states i)) 0 [] (items_of (map (place_value states) G)) ≡ Ok G =
-    (all_given (pushing (state_in states i)) (λ before d x. IsPlace states d x) (λ k before d e. BreaksPlace states list.Steps i d e) steps (map (place_value states) G) G).1 (are_each (λ before d k. IsPlace states d k) (place_value states) [] G (λ before k j. is_place states k once (within k j))) in
+    let steps = appends (λ k before d. state_in states i k d) (λ before d x. IsPlace states d x) (λ k before d e. BreaksPlace states list.Steps i d e) (λ k before d at. place_exact states list.Steps i d) in
+    let are : AreItems (λ before d x. IsPlace states d x) [] (map (place_value states) G) G = are_each _ (place_value states) [] G (λ before k j. is_place states k once (within k j)) in
+    let places : each_item (pushing (state_in states i)) 0 [] (items_of (map (place_value states) G)) ≡ Ok G = ((all_exact _ _ (λ k before d e. BreaksPlace states list.Steps i d e) steps (map (place_value states) G)).gives G).1 are in
     ap (λ (r : Result (List ℕ) PartError). (r >>= (λ places. Ok (is_one_of places))) >>= (λ set. Ok (states_below set (length states)))) places ∙ ap Ok (among_is (length states) G rises within)
 
 -- The normal form of a normal record is the record
@@ -124,7 +123,7 @@ names_said place name most d names at can = (lists_read.names place name most d 
 
 start_said : (d : Data) (states : List (List ℕ)) (k : ℕ) → member_of d (codes "start") ≡ Ok (place_value states k) → HasNoRepeats states → k < length states → start_of states d ≡ Ok k
 unfolding start_of
-start_said d states k at once less = rw at (ok_place states list.Start 0 (place_value states k) k (is_place states k once less))
+start_said d states k at once less = rw at (((place_exact states list.Start 0 (place_value states k)).gives k).1 (is_place states k once less))
 
 env_said : (env : NamedEnv) → IsSayableEnv env → environment_of (environment_value env) ≡ Ok env
 env_said env is =
