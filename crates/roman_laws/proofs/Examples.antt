@@ -50,44 +50,28 @@ pair_of t bs = record { t = t; e = 0; bs = bs }
 abbrev pub related_pairs : Sys → List Pair
 related_pairs s = filter (is_related s) (pairs s)
 
--- One lamp, at the seat 0: it follows the target.
-
-lamp_pairs : length (pairs lamp_system) ≡ 4
-lamp_pairs = refl
-
-lamp_related : related_pairs lamp_system ≡ pair_of 0 (0 ∷ []) ∷ pair_of 1 (1 ∷ []) ∷ []
-lamp_related = refl
-
-lamp_offers_on : offers lamp_system (pair_of 0 (0 ∷ [])) 0 ≡ 0 ∷ []
-lamp_offers_on = refl
-
-lamp_offers_off : offers lamp_system (pair_of 1 (1 ∷ [])) 1 ≡ 0 ∷ []
-lamp_offers_off = refl
-
-lamp_choices : choice_count lamp_system ≡ 2
-lamp_choices = refl
+-- One lamp, at the seat 0: it follows the target. The numbers of pairs and of choices, the related pairs, and the offers.
+lamp_follows :
+    (length (pairs lamp_system) ≡ 4)
+    × (related_pairs lamp_system ≡ pair_of 0 (0 ∷ []) ∷ pair_of 1 (1 ∷ []) ∷ [])
+    × (offers lamp_system (pair_of 0 (0 ∷ [])) 0 ≡ 0 ∷ [])
+    × (offers lamp_system (pair_of 1 (1 ∷ [])) 1 ≡ 0 ∷ [])
+    × (choice_count lamp_system ≡ 2)
+lamp_follows = (refl, refl, refl, refl, refl)
 
 -- One flaky lamp: no pair is related. One pair has the depth 0, three have 1, one has 2 and one has 3.
-
-flaky_pairs : length (pairs flaky_system) ≡ 6
-flaky_pairs = refl
-
-flaky_related : related_pairs flaky_system ≡ []
-flaky_related = refl
-
-flaky_depths : map (depth (arena flaky_system)) (pairs flaky_system) ≡ Some 2 ∷ Some 0 ∷ Some 1 ∷ Some 1 ∷ Some 3 ∷ Some 1 ∷ []
-flaky_depths = refl
+flaky_fails :
+    (length (pairs flaky_system) ≡ 6)
+    × (related_pairs flaky_system ≡ [])
+    × (map (depth (arena flaky_system)) (pairs flaky_system) ≡ Some 2 ∷ Some 0 ∷ Some 1 ∷ Some 1 ∷ Some 3 ∷ Some 1 ∷ [])
+flaky_fails = (refl, refl, refl)
 
 -- A flaky lamp at the seat 0, joined by a lamp at the seat 1: only the lamp is offered.
-
-joined_pairs : length (pairs joined_system) ≡ 12
-joined_pairs = refl
-
-joined_related : length (related_pairs joined_system) ≡ 5
-joined_related = refl
-
-joined_offers_on : offers joined_system (pair_of 0 (0 ∷ 0 ∷ [])) 0 ≡ 1 ∷ []
-joined_offers_on = refl
+joined_follows :
+    (length (pairs joined_system) ≡ 12)
+    × (length (related_pairs joined_system) ≡ 5)
+    × (offers joined_system (pair_of 0 (0 ∷ 0 ∷ [])) 0 ≡ 1 ∷ [])
+joined_follows = (refl, refl, refl)
 
 -- The lamp's system is well formed, so the premises of the laws can be met.
 
@@ -109,24 +93,16 @@ two = record { env = room; targets = lamp ∷ lamp ∷ []; seats = seat_of lamp 
 two_is : IsSeveral two
 two_is = grind (arith, room)
 
-two_requests : all_requests two ≡
-    record { target = 0; action = 0 } ∷ record { target = 0; action = 1 } ∷ record { target = 1; action = 0 } ∷ record { target = 1; action = 1 } ∷ []
-two_requests = refl
-
-two_pairs : length (pairs (combined two)) ≡ 16
-two_pairs = refl
-
--- exactly the pairs with as many lit lamps as the targets need are related
-two_related : related_pairs (combined two) ≡
-    pair_of 0 (0 ∷ 0 ∷ []) ∷ pair_of 1 (0 ∷ 1 ∷ []) ∷ pair_of 1 (1 ∷ 0 ∷ []) ∷ pair_of 2 (0 ∷ 1 ∷ []) ∷ pair_of 2 (1 ∷ 0 ∷ []) ∷ pair_of 3 (1 ∷ 1 ∷ []) ∷ []
-two_related = refl
-
-two_offers : offers (combined two) (pair_of 0 (0 ∷ 0 ∷ [])) 0 ≡ 0 ∷ 1 ∷ []
-two_offers = refl
-
--- where the second lamp is on for the second target, the first lamp is offered to the first target
-two_offers_on : offers (combined two) (pair_of 1 (0 ∷ 1 ∷ [])) 0 ≡ 0 ∷ []
-two_offers_on = refl
+-- Exactly the pairs with as many lit lamps as the targets need are related. Where the second lamp is on for the second target, the first
+-- lamp is offered to the first target.
+two_follow :
+    (all_requests two ≡ record { target = 0; action = 0 } ∷ record { target = 0; action = 1 } ∷ record { target = 1; action = 0 } ∷ record { target = 1; action = 1 } ∷ [])
+    × (length (pairs (combined two)) ≡ 16)
+    × (related_pairs (combined two)
+    ≡ pair_of 0 (0 ∷ 0 ∷ []) ∷ pair_of 1 (0 ∷ 1 ∷ []) ∷ pair_of 1 (1 ∷ 0 ∷ []) ∷ pair_of 2 (0 ∷ 1 ∷ []) ∷ pair_of 2 (1 ∷ 0 ∷ []) ∷ pair_of 3 (1 ∷ 1 ∷ []) ∷ [])
+    × (offers (combined two) (pair_of 0 (0 ∷ 0 ∷ [])) 0 ≡ 0 ∷ 1 ∷ [])
+    × (offers (combined two) (pair_of 1 (0 ∷ 1 ∷ [])) 0 ≡ 0 ∷ [])
+two_follow = (refl, refl, refl, refl, refl)
 
 -- The loss of a seat that rests outside a final state helps: a lamp with another seat that is never final.
 
@@ -141,19 +117,13 @@ lamp_and beh = record { env = room; target = lamp; seats = seat_of lamp ∷ seat
 abbrev begun : Pair
 begun = record { t = 0; e = 0; bs = 0 ∷ 0 ∷ [] }
 
-busy_unrelated : is_related (lamp_and busy) begun ≡ false
-busy_unrelated = refl
-
-busy_frozen : is_related (system_without way.Freeze (1 ∷ []) (lamp_and busy)) begun ≡ false
-busy_frozen = refl
-
-busy_gone : is_related (system_without way.Die (1 ∷ []) (lamp_and busy)) (pair_without way.Die (1 ∷ []) begun) ≡ true
-busy_gone = refl
+busy_helps_by_leaving :
+    (is_related (lamp_and busy) begun ≡ false)
+    × (is_related (system_without way.Freeze (1 ∷ []) (lamp_and busy)) begun ≡ false)
+    × (is_related (system_without way.Die (1 ∷ []) (lamp_and busy)) (pair_without way.Die (1 ∷ []) begun) ≡ true)
+busy_helps_by_leaving = (refl, refl, refl)
 
 -- one of two lamps is enough: the least set whose loss fails has both
-
-first_frozen : is_related (system_without way.Freeze (0 ∷ []) (lamp_and lamp)) begun ≡ true
-first_frozen = refl
-
-both_frozen : is_related (system_without way.Freeze (0 ∷ 1 ∷ []) (lamp_and lamp)) begun ≡ false
-both_frozen = refl
+one_lamp_is_enough :
+    (is_related (system_without way.Freeze (0 ∷ []) (lamp_and lamp)) begun ≡ true) × (is_related (system_without way.Freeze (0 ∷ 1 ∷ []) (lamp_and lamp)) begun ≡ false)
+one_lamp_is_enough = (refl, refl)

@@ -53,8 +53,8 @@ names = record {
   seats = record { service = codes "f1"; states = codes "off" ∷ codes "on" ∷ codes "stuck" ∷ [] } ∷ [];
 }
 
-explained : explain_text flaky_system names pair_order (pair_of 0 (0 ∷ [])) ≡ codes "lost on e stuck: off\n  f1 cannot\nlost off e off: on\n  f1 may answer stuck e\nend\n"
-explained = refl
-
-explained_final : explain_text flaky_system names pair_order (pair_of 0 (1 ∷ [])) ≡ codes "lost off e on: final\nend\n"
-explained_final = refl
+-- a pair that is lost by an answer, and one that is lost by clause 2
+explained :
+    (explain_text flaky_system names pair_order (pair_of 0 (0 ∷ [])) ≡ codes "lost on e stuck: off\n  f1 cannot\nlost off e off: on\n  f1 may answer stuck e\nend\n")
+    × (explain_text flaky_system names pair_order (pair_of 0 (1 ∷ [])) ≡ codes "lost off e on: final\nend\n")
+explained = (refl, refl)
