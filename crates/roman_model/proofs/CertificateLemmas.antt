@@ -185,13 +185,7 @@ faults_none A text (suc n) clean = grind (arith, faults_more, (faults_none A tex
 pub faults_first : (A : Arena ℕ) (text : List (List ℕ)) (n i : ℕ) (why : Why) → IsClean A text i → line_fault A (take i text) (slice_get text i) ≡ Some why → i < n →
     (rest : List Verdict) × (faults A text n ≡ Rejected (i + 1) why ∷ rest)
 faults_first A text zero i why clean fault l = absurd (omega arith)
-faults_first A text (suc n) i why clean fault l = elim (cases_lt i n) [
-  | inl less ↦ grind (arith, (faults_more A text n), (faults_first A text n i why clean fault less))
-  | inr more ↦ last (omega arith)
-]
-  where
-    last : i ≡ n → (rest : List Verdict) × (faults A text (suc n) ≡ Rejected (i + 1) why ∷ rest)
-    last e = grind (arith, faults_more, faults_none)
+faults_first A text (suc n) i why clean fault l = grind (arith, (cases_lt i n), faults_more, (faults_more A text n), faults_none, (faults_first A text n i why clean fault))
 
 -- the line of a text, where more follow
 get_front : {X : Type 0} (xs ys : List X) (i : ℕ) → i < length xs → slice_get (xs ++ ys) i ≡ slice_get xs i

@@ -155,8 +155,7 @@ final_combined w requests beh b ok = same_test (is_final (combined_beh w.env.sta
 
 pub all_final_combined : (w : Several) (requests : List Request) (seats : List Seat) (bs : List ℕ) → ((x : Seat) → IsIn x seats → IsBeh w.env x.beh) →
     all_final (map (combined_seat w.env.states requests) seats) bs ≡ all_final seats bs
-all_final_combined w requests (seat ∷ seats) (b ∷ bs) ok =
-    ap₂ (λ here rest. (not seat.rests || here) && rest) (final_combined w requests seat.beh b (ok seat (inl refl))) (all_final_combined w requests seats bs (λ x i. ok x (inr i)))
+all_final_combined w requests (seat ∷ seats) (b ∷ bs) ok = grind (arith, (final_combined w requests seat.beh b (ok seat (inl refl))), (all_final_combined w requests seats bs))
 all_final_combined _ _ _ _ _ = refl
 
 -- A combined action that is the request of a target.

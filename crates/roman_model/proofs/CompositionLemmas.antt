@@ -69,8 +69,7 @@ survives_meets s Related p ok survives = record {
 -- the clauses still hold in a larger relation
 
 pub serves_more : (s : Sys) (Related More : Couple → Type 0) (c : Couple) (a k : ℕ) → ((d : Couple) → Related d → More d) → Serves s Related c a k → Serves s More c a k
-serves_more s Related More c a k more serves t' e' step =
-    let (some, all) = serves t' e' step in (some, λ bs' r. more (record { t = t'; e = e'; bs = bs'; e2 = e' }) (all bs' r))
+serves_more s Related More c a k more serves t' e' step = grind arith
 
 pub meets_more : (s : Sys) (Related More : Couple → Type 0) (c : Couple) → ((d : Couple) → Related d → More d) → Meets s Related c → Meets s More c
 meets_more s Related More c more meets = record {
@@ -200,9 +199,7 @@ offers_are s ok = record {
 
 -- at a related pair each allowed action has an offer
 pub related_offers : (s : Sys) (p : Pair) (a : ℕ) → IsSys s → Great s p → IsTrue (is_allowed s p a) → offers s p a ≢ []
-related_offers s p a ok great allowed =
-    let (k, l, some, all) = (great_survives s p ok great).served a allowed in
-    not_empty_ne (offers s p a) (in_not_empty k (offers s p a) (in_offers s p a k ok allowed l some all))
+related_offers s p a ok great allowed = grind (arith, (great_survives s p ok great), not_empty_ne, in_not_empty, in_offers)
 
 -- Every removal list can be extended to a complete one.
 
@@ -239,12 +236,8 @@ one_more s L entries order some = grind (arith, and_parts, any_true, from_push, 
 
 -- entries can be added until no entry can follow
 complete_within : (s : Sys) (n : ℕ) (L : List (Entry Pair)) → IsSys s → AreEntries s L → IsOrder (arena s) L → length (pairs s) ≤ length L + n → (M : List (Entry Pair)) × IsComplete s (L ++ M)
-complete_within s zero L ok entries order enough = by_test (list_any (can_follow s L) (possible s))
-    (λ some. grind (arith, (one_more s L entries order some), order_fits, (system_is_same s), in_pairs, length-append))
-    (λ none. ([], subst (IsComplete s) (sym (append-nil L)) (last_complete s L ok entries order none)))
-complete_within s (suc n) L ok entries order enough = by_test (list_any (can_follow s L) (possible s))
-    (λ some. grind (arith, (one_more s L entries order some), length-append, append_assoc, (complete_within s n)))
-    (λ none. ([], subst (IsComplete s) (sym (append-nil L)) (last_complete s L ok entries order none)))
+complete_within s zero L ok entries order enough = grind (arith, by_test, can_follow, possible, one_more, order_fits, system_is_same, in_pairs, length-append, append-nil, last_complete)
+complete_within s (suc n) L ok entries order enough = grind (arith, by_test, can_follow, possible, one_more, length-append, append_assoc, append-nil, last_complete, (complete_within s n))
 
 -- every removal list can be extended to a complete one
 pub order_goes_on : (s : Sys) (L : List (Entry Pair)) → IsSys s → AreEntries s L → IsOrder (arena s) L → (M : List (Entry Pair)) × IsComplete s (L ++ M)

@@ -390,16 +390,12 @@ below_add : (m n : ℕ) → below (m + n) ≡ below m ++ map (λ j. m + j) (belo
 below_add m zero = let same : m + 0 ≡ m = omega arith in ap below same ∙ sym (append-nil (below m))
 below_add m (suc n) =
     let more : m + suc n ≡ suc (m + n) = omega arith in
-    ap below more ∙ ap (λ xs. xs ++ (m + n) ∷ []) (below_add m n) ∙ append_assoc (below m) (map (λ j. m + j) (below n)) ((m + n) ∷ [])
-    ∙ ap (λ ys. below m ++ ys) (sym (map_push (λ j. m + j) (below n) n))
+    grind (arith, append_assoc, map_push, (below_add m n))
 
 -- a map over the numbers below a product
 pub map_rows : {X : Type 0} (f : ℕ → X) (a b : ℕ) → map f (below (a * b)) ≡ flat_map (λ i. map (λ j. f (i * b + j)) (below b)) (below a)
 map_rows f zero b = let none : 0 * b ≡ 0 = omega arith in ap (λ n. map f (below n)) none
-map_rows f (suc a) b =
-    let more : suc a * b ≡ a * b + b = omega arith in
-    ap (λ n. map f (below n)) more ∙ ap (map f) (below_add (a * b) b) ∙ map-append f (below (a * b)) (map (λ j. a * b + j) (below b))
-    ∙ ap₂ (λ xs ys. xs ++ ys) (map_rows f a b) (map-map f (λ j. a * b + j) (below b)) ∙ sym (flat_map_row (λ i. map (λ j. f (i * b + j)) (below b)) a)
+map_rows f (suc a) b = grind (arith, (below_add (a * b) b), map-append, map-map, flat_map_row, (map_rows f a b))
 
 -- The items of a list at their places.
 

@@ -103,6 +103,4 @@ pub beh_from_same : (env_states actions states start : ℕ) (final finals : ℕ 
     beh_from env_states actions states start final goes ≡ beh_from env_states actions states start finals others
 beh_from_same env_states actions states start final finals goes others ends same = ap₂ (λ (fs : List ℕ) (ms : List Move). record { states = states; start = start; finals = fs; steps = ms })
     (filter_same final finals (below states) (λ b i. ends b (from_below states b i)))
-    (flat_map_same_in _ _ (below states) (λ b ib. flat_map_same_in _ _ (below actions) (λ a ia. flat_map_same_in _ _ (below states) (λ b' ib'.
-    ap (guarded_step b a b')
-    (grind (arith, filter_same, from_below))))))
+    (flat_map_same_in _ _ (below states) (λ b ib. flat_map_same_in _ _ (below actions) (λ a ia. flat_map_same_in _ _ (below states) (λ b' ib'. grind (arith, filter_same, from_below)))))

@@ -40,8 +40,7 @@ combinations_at (seat ∷ seats) =
     let sizes : List ℕ = map (λ seat. seat.beh.states) seats in
     flat_map_same (λ b. map (λ bs. b ∷ bs) (combinations seats)) (λ b. map (λ j. states_at (seat.beh.states ∷ sizes) (b * product_of sizes + j)) (below (product_of sizes))) (below seat.beh.states)
     (λ b. ap (map (λ bs. b ∷ bs)) (combinations_at seats) ∙ map-map (λ bs. b ∷ bs) (states_at sizes) (below (product_of sizes))
-    ∙ map_same_in (λ j. b ∷ states_at sizes j) (λ j. states_at (seat.beh.states ∷ sizes) (b * product_of sizes + j)) (below (product_of sizes)) (λ j i. let l : j < product_of sizes = from_below (product_of sizes) j i in
-    ap₂ (λ c bs. c ∷ bs) (sym (div-mul-add b (product_of sizes) j l)) (ap (states_at sizes) (sym (mod-mul-add b (product_of sizes) j l)))))
+    ∙ map_same_in (λ j. b ∷ states_at sizes j) (λ j. states_at (seat.beh.states ∷ sizes) (b * product_of sizes + j)) (below (product_of sizes)) (λ j i. grind (arith, (from_below (product_of sizes) j i), div-mul-add, mod-mul-add)))
     ∙ sym (map_rows (states_at (seat.beh.states ∷ sizes)) seat.beh.states (product_of sizes))
 
 pub pairs_at : (s : Sys) → pairs s ≡ map (pair_at (sizes_of s)) (below (count (sizes_of s)))
@@ -49,9 +48,7 @@ pairs_at s =
     flat_map_same_in (λ t. flat_map (λ e. map (λ bs. record { t = t; e = e; bs = bs }) (combinations s.seats)) (below s.env.states)) (λ t. map (λ j. pair_at n (t * (s.env.states * rest) + j)) (below (s.env.states * rest)))
     (below s.target.states)
     (λ t i. flat_map_same_in (λ e. map (λ bs. record { t = t; e = e; bs = bs }) (combinations s.seats)) (λ e. map (λ j. pair_at n (t * (s.env.states * rest) + (e * rest + j))) (below rest)) (below s.env.states)
-    (λ e k. ap (map (λ bs. record { t = t; e = e; bs = bs })) (combinations_at s.seats) ∙ map-map (λ bs. record { t = t; e = e; bs = bs }) (states_at n.seats) (below rest)
-    ∙ map_same_in (λ j. record { t = t; e = e; bs = states_at n.seats j }) (λ j. pair_at n (t * (s.env.states * rest) + (e * rest + j))) (below rest)
-    (λ j l. is t e j (from_below s.target.states t i) (from_below s.env.states e k) (from_below rest j l)))
+    (grind (arith, combinations_at, map-map, rest, map_same_in, n, is, from_below))
     ∙ sym (map_rows (λ j. pair_at n (t * (s.env.states * rest) + j)) s.env.states rest))
     ∙ sym (map_rows (pair_at n) s.target.states (s.env.states * rest)) ∙ ap (λ m. map (pair_at n) (below m)) whole
   where
