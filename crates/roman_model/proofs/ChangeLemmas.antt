@@ -44,25 +44,19 @@ place_before (suc k) zero = zero
 place_before (suc k) (suc j) = suc (place_before k j)
 
 pub get-remove : {X : Type 0} (xs : List X) (k j : ℕ) → slice_get (remove xs k) j ≡ slice_get xs (place_before k j)
-get-remove [] zero j = refl
 get-remove [] (suc k) j = refl
-get-remove (x ∷ xs) zero j = refl
-get-remove (x ∷ xs) (suc k) zero = refl
 get-remove (x ∷ xs) (suc k) (suc j) = get-remove xs k j
+get-remove _ _ _ = refl
 
 pub index-remove : (bs : List ℕ) (k j : ℕ) → slice_index (remove bs k) j ≡ slice_index bs (place_before k j)
-index-remove [] zero j = refl
 index-remove [] (suc k) j = refl
-index-remove (b ∷ bs) zero j = refl
-index-remove (b ∷ bs) (suc k) zero = refl
 index-remove (b ∷ bs) (suc k) (suc j) = index-remove bs k j
+index-remove _ _ _ = refl
 
 pub set-remove : (bs : List ℕ) (k j b : ℕ) → slice_set (remove bs k) j b ≡ remove (slice_set bs (place_before k j) b) k
-set-remove [] zero j b = refl
 set-remove [] (suc k) j b = refl
-set-remove (c ∷ bs) zero j b = refl
-set-remove (c ∷ bs) (suc k) zero b = refl
 set-remove (c ∷ bs) (suc k) (suc j) b = ap (λ cs. c ∷ cs) (set-remove bs k j b)
+set-remove _ _ _ _ = refl
 
 -- the state at another place stays the same
 pub index_set_place : (bs : List ℕ) (k j b : ℕ) → slice_index (slice_set bs (place_before k j) b) k ≡ slice_index bs k

@@ -1,5 +1,5 @@
 -- The combined target stands for several targets: its steps and final states are those of the members, and so are its ND-simulations.
-use Rattle.roman_model.proofs.Common.{◌≡◌, ℕ, zero, suc, ◌<◌, ◌==◌, not, ◌&&◌, ◌||◌, List, [], ◌∷◌, map, length, Option, Some, None, IsTrue, filter, slice_get, slice_index, slice_set, inl, inr, refl, sym, ap, ap₂, ◌∙◌, subst, arith, ◌≤◌, Bool, nat_lt, list_any, false≢true, and_parts, and_from, eqb-true, eq-eqb, not_from_false, not-true, ltb-true, lt-ltb, length-map, none-some, same_Some, slice_get_within, IsIn, below, is_empty, product_of, Env, Beh, Seat, has_triple, has_move, IsEnv, IsBeh, SStep, is_final, all_final, IsSys, Allows, IsDeterministic, beh_next, same_numbers, AreBelow, states_number, states_at, Request, Several, of_one, are_final, CoupleAll, ServesAll, MeetsAll, GreatAll, has_triple_on, has_move_on, targets_go, target_sizes, combined_start, combined_seat, all_requests, combined, IsSeveral, stands_in, uses, requests_of, member_goes, combined_beh, CombinedIsAll, MAX_SERVICES, Couple, couple, Serves, Meets, GreatCouple}
+use Rattle.roman_model.proofs.Common.{◌≡◌, ℕ, zero, suc, ◌<◌, ◌==◌, not, ◌&&◌, ◌||◌, List, [], ◌∷◌, map, length, Option, Some, None, IsTrue, filter, slice_get, slice_index, slice_set, inl, inr, refl, sym, ap, ap₂, ◌∙◌, subst, arith, ◌≤◌, Bool, nat_lt, list_any, false≢true, and_parts, and_from, eqb-true, eq-eqb, not_from_false, not-true, ltb-true, lt-ltb, length-map, none-some, same_Some, slice_get_within, IsIn, below, is_empty, product_of, Env, Beh, Seat, has_triple, has_move, IsEnv, IsBeh, SStep, is_final, all_final, IsSys, Allows, IsDeterministic, beh_next, same_numbers, AreBelow, states_number, states_at, Request, Several, of_one, are_final, CoupleAll, ServesAll, MeetsAll, GreatAll, has_triple_on, has_move_on, targets_go, target_sizes, combined_start, combined_seat, all_requests, combined, IsSeveral, stands_in, uses, requests_of, member_goes, combined_beh, CombinedIsAll, MAX_SERVICES, Couple, couple, Serves, Meets, GreatCouple, get_or_from_slice_get}
 use Rattle.roman_model.proofs.Lists.{get_in, from_get_map, get_map, index_set, in_get, same_test, in_map, in_flat_map, in_filter, any_true, any_from, in_not_empty, not_empty_in, in_below, from_map, filter_in}
 use Rattle.roman_model.proofs.SystemLemmas.{number_listed, move_in, same_numbers_is, same_numbers_itself, triple_in_range, move_in_range, in_beh_next, from_beh_next}
 use Rattle.roman_model.proofs.NumberLemmas.{AreBelow-length, AreBelow-at, AreBelow-set, states_number_below, states_at-number, states_number-at}
@@ -87,9 +87,7 @@ combined_sstep w target bs e n k bs' e' r ok at step = grind (arith, (combined_m
 -- The combined target.
 
 pub target_size_at : (targets : List Beh) (i : ℕ) (target : Beh) → slice_get targets i ≡ Some target → slice_index (target_sizes targets) i ≡ target.states
-target_size_at [] i target e = absurd (none-some target e)
-target_size_at (x ∷ targets) zero target e = ap (λ (y : Beh). y.states) (same_Some x target e)
-target_size_at (x ∷ targets) (suc i) target e = target_size_at targets i target e
+target_size_at targets i target e = grind (arith, get_or_from_slice_get, (get_map (λ (x : Beh). x.states) targets i target e))
 
 -- a step of the combined target: one member makes a step, and the others stay
 pub record IsMemberStep (w : Several) (n : ℕ) (ts : List ℕ) (e : ℕ) (ts' : List ℕ) (r : Request) (target : Beh) : Type 0 where

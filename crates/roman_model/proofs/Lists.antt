@@ -1,5 +1,5 @@
 -- Lemmas on lists, their elements and places, on numbers below a bound, and on tests.
-use Rattle.roman_model.proofs.Common.{◌≡◌, ◌≢◌, ℕ, zero, suc, ◌+◌, ◌<◌, ◌≤◌, Bool, true, false, cond, ◌&&◌, ◌||◌, ◌⊎◌, List, [], ◌∷◌, ◌++◌, map, length, get_or, Option, Some, None, IsTrue, IsFalse, filter, find, flat_map, sum_by, inl, inr, refl, sym, ap, ap₂, ◌∙◌, subst, arith, add-one, length-append, ◌↔◌, rules, Contains, ◌*◌, append-nil, append_assoc, drop, slice_get, slice_index, slice_set, drop-cons, list_any, false≢true, both_ways, or_cases, or_parts, or_left, or_right, or_from, and_from, cond-true, cases_eq, cases_order, true≢false, length_push, get_or_push, get_or_append_left, map_push, map-append, length-map, drop_all, sum_by-append, sum_by-cons, list_any-append, find-append, filter-append, none-some, same_Some, IsIn, IsSublist, HasNoRepeats, below, all_below, is_empty, option_or, flat_map-append}
+use Rattle.roman_model.proofs.Common.{◌≡◌, ◌≢◌, ℕ, zero, suc, ◌+◌, ◌<◌, ◌≤◌, Bool, true, false, cond, ◌&&◌, ◌||◌, ◌⊎◌, List, [], ◌∷◌, ◌++◌, map, length, get_or, Option, Some, None, IsTrue, IsFalse, filter, find, flat_map, sum_by, inl, inr, refl, sym, ap, ap₂, ◌∙◌, subst, arith, add-one, length-append, ◌↔◌, rules, Contains, ◌*◌, append-nil, append_assoc, drop, slice_get, slice_index, slice_set, drop-cons, list_any, false≢true, both_ways, or_cases, or_parts, or_left, or_right, or_from, and_from, cond-true, cases_eq, cases_order, true≢false, length_push, get_or_push, get_or_append_left, map_push, map-append, length-map, drop_all, sum_by-append, sum_by-cons, list_any-append, find-append, filter-append, none-some, same_Some, IsIn, IsSublist, HasNoRepeats, below, all_below, is_empty, option_or, flat_map-append, option_map, slice_get-map, slice_get_within, get_or_from_slice_get, slice_get-get_or}
 
 -- Tests.
 
@@ -406,14 +406,10 @@ there_is (x ∷ xs) zero l = (x, refl)
 there_is (x ∷ xs) (suc k) l = there_is xs k (omega arith)
 
 pub get_in : {X : Type 0} (xs : List X) (k : ℕ) (x : X) → slice_get xs k ≡ Some x → IsIn x xs
-get_in [] k x e = absurd (none-some x e)
-get_in (y ∷ xs) zero x e = inl (sym (same_Some y x e))
-get_in (y ∷ xs) (suc k) x e = inr (get_in xs k x e)
+get_in xs k x e = contains_in xs x (k, slice_get_within xs k x e, get_or_from_slice_get xs k x x e)
 
 pub in_get : {X : Type 0} (xs : List X) (x : X) → IsIn x xs → (k : ℕ) × (slice_get xs k ≡ Some x)
-in_get [] x i = absurd i
-in_get (y ∷ xs) x (inl e) = (0, ap Some (sym e))
-in_get (y ∷ xs) x (inr i) = let (k, e) = in_get xs x i in (suc k, e)
+in_get xs x i = let (k, l, e) = in_contains xs x i in (k, slice_get-get_or xs k x l ∙ ap Some e)
 
 pub from_get_map : {X Y : Type 0} (f : X → Y) (xs : List X) (k : ℕ) (y : Y) → slice_get (map f xs) k ≡ Some y → (x : X) × (slice_get xs k ≡ Some x) × (y ≡ f x)
 from_get_map f [] k y e = absurd (none-some y e)
@@ -421,9 +417,7 @@ from_get_map f (x ∷ xs) zero y e = (x, refl, sym (same_Some (f x) y e))
 from_get_map f (x ∷ xs) (suc k) y e = from_get_map f xs k y e
 
 pub get_map : {X Y : Type 0} (f : X → Y) (xs : List X) (k : ℕ) (x : X) → slice_get xs k ≡ Some x → slice_get (map f xs) k ≡ Some (f x)
-get_map f [] k x e = absurd (none-some x e)
-get_map f (y ∷ xs) zero x e = ap (λ z. Some (f z)) (same_Some y x e)
-get_map f (y ∷ xs) (suc k) x e = get_map f xs k x e
+get_map f xs k x e = slice_get-map f xs k ∙ ap (option_map f) e
 
 pub index_set : (bs : List ℕ) (k b : ℕ) → k < length bs → slice_index (slice_set bs k b) k ≡ b
 index_set [] k b l = absurd (omega arith)

@@ -1,5 +1,6 @@
 -- Numbers of lists of states and of pairs: bounds, and the change of a number where a state changes, comes or goes.
-use Rattle.roman_model.proofs.Common.{Some, slice_get, ◌≡◌, ℕ, zero, suc, ◌+◌, ◌*◌, ◌%◌, ◌<◌, List, [], ◌∷◌, ◌++◌, map, length, take, drop, slice_index, slice_set, remove, refl, sym, ap, ◌∙◌, arith, add-one, rules, ◌/◌, none-some, same_Some, AllZip-long, AllZip, mul-add-lt, div-mul-add, mod-mul-add, div_below, mod_below, product_of, Seat, Sys, Pair, IsPair, Sizes, sizes_of, AreBelow, grown_sizes, sizes_without, count, states_number, states_at, number, pair_at, IsPairOf, NumbersArePairs, grown, without, number_without, AllZip-get_or}
+use Rattle.roman_model.proofs.Common.{Some, slice_get, ◌≡◌, ℕ, zero, suc, ◌+◌, ◌*◌, ◌%◌, ◌<◌, List, [], ◌∷◌, ◌++◌, map, length, take, drop, slice_index, slice_set, remove, refl, sym, ap, ◌∙◌, arith, add-one, rules, ◌/◌, none-some, same_Some, AllZip-long, AllZip, mul-add-lt, div-mul-add, mod-mul-add, div_below, mod_below, product_of, Seat, Sys, Pair, IsPair, Sizes, sizes_of, AreBelow, grown_sizes, sizes_without, count, states_number, states_at, number, pair_at, IsPairOf, NumbersArePairs, grown, without, number_without, AllZip-get_or, get_or_from_slice_get}
+use Rattle.roman_model.proofs.Lists.{get_map}
 
 pub AreBelow-length : (sizes bs : List ℕ) → AreBelow sizes bs → length bs ≡ length sizes
 AreBelow-length sizes bs h = AllZip-long (λ size b. b < size) sizes bs h
@@ -228,9 +229,7 @@ below_states (seat ∷ seats) (b ∷ bs) h = (h.0, below_states seats bs h.1)
 below_states _ _ h = elim h [ ]
 
 pub size_at : (seats : List Seat) (k : ℕ) (seat : Seat) → slice_get seats k ≡ Some seat → slice_index (map (λ seat. seat.beh.states) seats) k ≡ seat.beh.states
-size_at [] k seat e = absurd (none-some seat e)
-size_at (x ∷ seats) zero seat e = ap (λ y. y.beh.states) (same_Some x seat e)
-size_at (x ∷ seats) (suc k) seat e = size_at seats k seat e
+size_at seats k seat e = grind (arith, get_or_from_slice_get, (get_map (λ x. x.beh.states) seats k seat e))
 
 pub IsPairOf-from : (s : Sys) (p : Pair) → IsPair s p → IsPairOf (sizes_of s) p
 IsPairOf-from s p ok = record { t = ok.t; e = ok.e; bs = states_below s.seats p.bs ok.bs }

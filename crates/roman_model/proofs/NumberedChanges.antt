@@ -67,10 +67,9 @@ die_named n k seat L h are = firsts_named (sizes_without k n) [] (map (number_en
 
 -- the sizes after a change
 abbrev pub sizes_after : Change → Sizes → Sizes
-sizes_after (Freeze k) n = n
-sizes_after (Thaw k) n = n
 sizes_after (Join seat) n = grown_sizes n seat.beh.states
 sizes_after (Die k seat) n = sizes_without k n
+sizes_after _ n = n
 
 pub sizes-after : (change : Change) (s : Sys) → sizes_of (after change s) ≡ sizes_after change (sizes_of s)
 sizes-after (Freeze k) s = sizes-turned s k true
@@ -93,8 +92,6 @@ pub numbers_renamed : (change : Change) (s : Sys) (L : List (Entry ℕ)) → Can
 numbers_renamed change s L can are = ap (λ n. map (pair_entry n) (rename_numbers change (sizes_of s) L)) (sizes-after change s) ∙ named change s L can are
 
 renamed_below : (change : Change) (s : Sys) (L : List (Entry ℕ)) → CanChange change s → AreNumbers s L → (x : Entry ℕ) → IsIn x (rename_numbers change (sizes_of s) L) → x.node < count (sizes_after change (sizes_of s))
-renamed_below (Freeze k) s L can are x i = are x i
-renamed_below (Thaw k) s L can are x i = are x i
 renamed_below (Join seat) s L can are x i = let (y, j, m) = from_flat_map (grown_numbers seat.beh.states) x L i in
     let (b, l, e) = from_map (λ b. record { node = y.node * seat.beh.states + b; reason = y.reason }) x (below seat.beh.states) m in
     let fits : y.node * seat.beh.states + b < seat.beh.states * count (sizes_of s) = mul-add-lt y.node seat.beh.states b (count (sizes_of s)) (are y j) (from_below seat.beh.states b l) in
@@ -107,6 +104,7 @@ renamed_below (Die k seat) s L can are x i =
     let (y, j, e) = from_map (number_entry_without k (sizes_of s)) x (filter (λ x. may_go k seat (pair_at (sizes_of s) x.node)) L) (first_numbers_in [] (map (number_entry_without k (sizes_of s)) (filter (λ x. may_go k seat (pair_at (sizes_of s) x.node)) L)) x i) in
     subst (λ z. z.node < count (sizes_without k (sizes_of s))) (sym e)
     (number_without_below (sizes_of s) y.node k (are y (filter_in (λ x. may_go k seat (pair_at (sizes_of s) x.node)) y L j).0) (seat_place s k seat can))
+renamed_below _ _ _ _ are x i = are x i
 
 -- the renamed entries are of the numbers of pairs
 pub numbers_below : (change : Change) (s : Sys) (L : List (Entry ℕ)) → CanChange change s → AreNumbers s L → AreNumbers (after change s) (rename_numbers change (sizes_of s) L)

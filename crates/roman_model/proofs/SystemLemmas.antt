@@ -15,9 +15,8 @@ listed_number ns n i = any_from (λ m. m == n) n ns i (eq-eqb n n refl)
 
 pub same_numbers_is : (ms ns : List ℕ) → IsTrue (same_numbers ms ns) → ms ≡ ns
 same_numbers_is [] [] h = refl
-same_numbers_is [] (n ∷ ns) h = absurd (false≢true h)
-same_numbers_is (m ∷ ms) [] h = absurd (false≢true h)
 same_numbers_is (m ∷ ms) (n ∷ ns) h = grind (arith, eqb-true, (same_numbers_is ms ns))
+same_numbers_is _ _ h = absurd (false≢true h)
 
 pub same_numbers_itself : (ns : List ℕ) → IsTrue (same_numbers ns ns)
 same_numbers_itself [] = refl
