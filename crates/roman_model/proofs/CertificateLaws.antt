@@ -1,5 +1,5 @@
 -- The certificate of a complete list is accepted, an accepted certificate is complete, and the verdict on a text whose first lines have been read.
-use Rattle.roman_model.proofs.Common.{Verdict, head_line, count_line, reason_text, entry_line, end_line, Why, TooLong, reasons, possible_entries, entry_of, entries_on, unless_over, body_fault, line_fault, faults, unlisted, cert_verdict, IsClean, cert_text, Form, Unlisted, Greatest, cert_lines, unless_is, entry_fault, could_be_listed, end_fault, greatest, IsWithinCells, WrittenIsGreatest, GreatestIsComplete, Rejected, ◌≡◌, ℕ, zero, suc, ◌+◌, ◌*◌, ◌^◌, ◌<◌, ◌≤◌, Bool, not, ◌&&◌, List, [], ◌∷◌, ◌++◌, map, length, take, Option, Some, None, IsTrue, IsFalse, if◌then◌else◌, filter, find, option_map, slice_get, slice_index_or, codes, decimal, refl, sym, ap, ap₂, ◌∙◌, subst, inl, inr, arith, append_assoc, append-nil, length-append, le-leb, ◌-◌, list_any, cons_option, cases_lt, both_ways, and_left, not-false, not_from_true, cond-true, cond-false, and_from, lt-leb, length-map, map_push, filter_map-append, list_any-append, none-some, IsIn, below, lines, ended_lines, text_of_lines, IsLine, AreLines, Sys, IsSys, pairs, same_numbers, arena, Arena, Entry, is_listed, is_justified, IsOrder, Great, sizes_of, count, pair_at, numbered, entry_at, IsCompleteList, is_related, MAX_CERTIFICATE_BYTES, MAX_CELLS, Reason, Final, Act, not-not, mul-le, length-decimal-le}
+use Rattle.roman_model.proofs.Common.{Verdict, head_line, count_line, reason_text, entry_line, end_line, Why, TooLong, reasons, possible_entries, entry_of, entries_on, unless_over, body_fault, line_fault, faults, unlisted, cert_verdict, IsClean, cert_text, Form, Unlisted, Greatest, cert_lines, unless_is, entry_fault, could_be_listed, end_fault, greatest, IsWithinCells, WrittenIsGreatest, GreatestIsComplete, Rejected, ◌≡◌, ℕ, zero, suc, ◌+◌, ◌*◌, ◌^◌, ◌<◌, ◌≤◌, Bool, not, ◌&&◌, List, [], ◌∷◌, ◌++◌, map, length, take, Option, Some, None, IsTrue, IsFalse, if◌then◌else◌, filter, find, option_map, slice_get, slice_index_or, codes, decimal, refl, sym, ap, ap₂, ◌∙◌, subst, inl, inr, arith, append_assoc, append-nil, length-append, le-leb, ◌-◌, list_any, cons_option, cases_lt, both_ways, and_left, not-false, not_from_true, cond-true, cond-false, and_from, lt-leb, length-map, map_push, filter_map-append, list_any-append, none-some, IsIn, below, lines, ended_lines, text_of_lines, IsLine, AreLines, Sys, IsSys, pairs, same_numbers, arena, Arena, Entry, is_listed, is_justified, IsOrder, Great, sizes_of, count, pair_at, numbered, entry_at, IsCompleteList, is_related, MAX_CERTIFICATE_BYTES, MAX_CELLS, Reason, Final, Act, not-not, mul-le, length-decimal-le, take-append-add}
 use Rattle.roman_model.proofs.Lists.{by_test, none_from, any_from, from_map, in_append_left, in_append_right, from_append, in_push, in_below, from_below, filter_same, find_not_found, length-below, filter-map, any_false, find_none, from_push}
 use Rattle.roman_model.proofs.SystemLemmas.{same_numbers_is, same_numbers_itself, pairs_at}
 use Rattle.roman_model.proofs.ArenaLemmas.{reason_in, unjustified}
@@ -382,9 +382,7 @@ pub verdict_within : (A : Arena ℕ) (start : ℕ) (bytes : List ℕ) (ls : List
 verdict_within A start bytes ls line more why long is clean fault = grind (arith, (judged_long A start bytes long), (first_fault A ls line more (length (ls ++ line ∷ more)) why TooLong clean fault (omega (arith, length-append ls (line ∷ more)))))
 
 take_past : {X : Type 0} (n : ℕ) (xs ys : List X) → length xs ≤ n → take n (xs ++ ys) ≡ xs ++ take (n - length xs) ys
-take_past n [] ys l = grind arith
-take_past zero (x ∷ xs) ys l = absurd (omega arith)
-take_past (suc n) (x ∷ xs) ys l = grind (arith, (take_past n xs ys (omega arith)))
+take_past n xs ys l = let same : n ≡ length xs + (n - length xs) = omega arith in ap (λ m. take m (xs ++ ys)) same ∙ take-append-add xs ys (n - length xs)
 
 -- the verdict where the newline of a faulty line is within the limit, whatever follows
 pub verdict_rejected : (A : Arena ℕ) (start : ℕ) (bytes : List ℕ) (ls : List (List ℕ)) (line more : List ℕ) (why : Why) →

@@ -1,5 +1,5 @@
 -- Lines of texts and of certificates: the entry that a line states, and the first fault.
-use Rattle.roman_model.proofs.Common.{slice_get_past, ◌≡◌, ℕ, zero, suc, ◌+◌, ◌%◌, ◌^◌, ◌<◌, ◌≤◌, ◌==◌, false, ◌⊎◌, List, [], ◌∷◌, ◌++◌, map, length, take, Option, Some, None, IsFalse, option_map, slice_get, decimal, refl, sym, ap, ap₂, ◌∙◌, subst, inl, inr, arith, length-append, ◌≢◌, append_assoc, append-nil, cons_option, both_ways, or_parts, or_from, eq-eqb, cases_lt, ne_eqb, cond-false, list_any-append, filter_map-append, IsIn, below, IsLine, lines, ended_lines, text_of_lines, AreLines, has, same_numbers, Arena, Entry, reason_text, entry_line, end_line, Why, Verdict, Rejected, reasons, possible_entries, entry_of, entries_on, line_fault, IsClean, faults, Reason, Final, Act, take-append-le, take_all, take_at, decimal_by_steps, decimal_injective, decimal_nonempty}
+use Rattle.roman_model.proofs.Common.{slice_get_past, slice_get-get_or, get_or_append_left, take-append-le, take_all, take_at, get_or-append_seam, ◌≡◌, ℕ, zero, suc, ◌+◌, ◌%◌, ◌^◌, ◌<◌, ◌≤◌, ◌==◌, false, ◌⊎◌, List, [], ◌∷◌, ◌++◌, map, length, take, Option, Some, None, IsFalse, option_map, slice_get, decimal, refl, sym, ap, ap₂, ◌∙◌, subst, inl, inr, arith, length-append, ◌≢◌, append_assoc, append-nil, cons_option, both_ways, or_parts, or_from, eq-eqb, cases_lt, ne_eqb, cond-false, list_any-append, filter_map-append, IsIn, below, IsLine, lines, ended_lines, text_of_lines, AreLines, has, same_numbers, Arena, Entry, reason_text, entry_line, end_line, Why, Verdict, Rejected, reasons, possible_entries, entry_of, entries_on, line_fault, IsClean, faults, Reason, Final, Act, decimal_by_steps, decimal_injective, decimal_nonempty}
 use Rattle.roman_model.proofs.Lists.{by_test, none_from, in_map, from_map, in_flat_map, from_flat_map, from_push, in_below, from_below, find_some, find_found, find_not_found, any_from}
 use Rattle.roman_model.proofs.SystemLemmas.{same_numbers_is, same_numbers_itself}
 
@@ -120,9 +120,6 @@ reason_small actions r h (inl e) = subst IsSmallReason (sym e) tt
 reason_small actions r h (inr i) = let (a, j, e) = from_map Act r (below actions) i in
     let l : a < actions = from_below actions a j in
     grind arith
-  where
-    small : (a : ℕ) → a < actions → a < 2 ^ 64
-    small a l = omega arith
 
 pub in_possible : (pairs actions : ℕ) (x : Entry ℕ) → x.node < pairs → IsIn x.reason (reasons actions) → IsIn x (possible_entries pairs actions)
 in_possible pairs actions x l i =
@@ -188,14 +185,11 @@ faults_first A text zero i why clean fault l = absurd (omega arith)
 faults_first A text (suc n) i why clean fault l = grind (arith, (cases_lt i n), faults_more, (faults_more A text n), faults_none, (faults_first A text n i why clean fault))
 
 -- the line of a text, where more follow
-get_front : {X : Type 0} (xs ys : List X) (i : ℕ) → i < length xs → slice_get (xs ++ ys) i ≡ slice_get xs i
-get_front [] ys i l = absurd (omega arith)
-get_front (x ∷ xs) ys zero l = refl
-get_front (x ∷ xs) ys (suc i) l = get_front xs ys i (omega arith)
+get_front : (xs ys : List (List ℕ)) (i : ℕ) → i < length xs → slice_get (xs ++ ys) i ≡ slice_get xs i
+get_front xs ys i l = grind (arith, (slice_get-get_or (xs ++ ys) i []), (slice_get-get_or xs i []), get_or_append_left, length-append)
 
 get_after : {X : Type 0} (xs : List X) (y : X) (ys : List X) → slice_get (xs ++ y ∷ ys) (length xs) ≡ Some y
-get_after [] y ys = refl
-get_after (x ∷ xs) y ys = get_after xs y ys
+get_after xs y ys = grind (arith, (slice_get-get_or (xs ++ y ∷ ys) (length xs) y), (get_or-append_seam xs y ys y), length-append)
 
 pub clean_front : (A : Arena ℕ) (text more : List (List ℕ)) → IsClean A text (length text) → IsClean A (text ++ more) (length text)
 clean_front A text more clean i l = ap₂ (line_fault A) (take-append-le i text more (omega arith)) (get_front text more i l) ∙ clean i l

@@ -2,10 +2,11 @@
 pub use Rattle.std.proofs.Common.{Bool, Contains, IsFalse, IsTrue, List, None, Option, Some, [], add-one, ap, append-nil, append_assoc, ap₂, arith, codes, cond, count_by, decimal, drop, drop-cons, false, filter, find, flat_map, get_or, if◌then◌else◌, inl, inr, le-leb, length, length-append, length-drop, length-take, map, nat_le, nat_lt, not, option_map, pred, refl, remove, rules, slice_get, slice_index, slice_index_or, slice_set, subst, suc, sum_by, sym, take, take-append-drop, true, zero, ℕ, ◌%◌, ◌&&◌, ◌*◌, ◌++◌, ◌+◌, ◌-◌, ◌/◌, ◌<◌, ◌==◌, ◌^◌, ◌||◌, ◌↔◌, ◌∙◌, ◌∷◌, ◌≡◌, ◌≢◌, ◌≤◌, ◌⊎◌}
 pub use Rattle.std.proofs.Math.Bool.{not-not, or-false, or-true}
 pub use Rattle.std.proofs.Math.Nat.{le-max_left, le-max_right, max-le}
+pub use Rattle.std.proofs.Math.Seq.{get_or-append_seam, take-append-add}
 pub use Rattle.std.proofs.lemmas.Bool.{and_cases, and_from, and_left, and_parts, both_ways, cases_eq, cases_lt, cases_order, cond-false, cond-true, eq-eqb, eqb-true, false≢true, leb-false, leb-true, lt-leb, lt-ltb, ltb-true, ne_eqb, not-false, not-true, not_from_false, not_from_true, or_cases, or_from, or_left, or_parts, or_right, true≢false}
 pub use Rattle.std.proofs.lemmas.Fmt.{decimal_by_steps, decimal_injective, decimal_nonempty, length-decimal-le}
 pub use Rattle.std.proofs.lemmas.Grind.{flat_map-append}
-pub use Rattle.std.proofs.lemmas.List.{drop-map, drop_all, drop_more, get_or_append_left, get_or_push, length-map, length_push, map-append, map_push, same_from_push, take-append-le, take-map, take_all, take_at}
+pub use Rattle.std.proofs.lemmas.List.{drop-map, drop_all, drop_more, get_or-set_same, get_or_append_left, get_or_push, length-map, length_push, map-append, map_push, same_from_push, take-append-le, take-map, take_all, take_at}
 pub use Rattle.std.proofs.lemmas.List.Concat.{length-flat_map}
 pub use Rattle.std.proofs.lemmas.List.Elements.{AllZip-get_or, filter-append, filter_map-append}
 pub use Rattle.std.proofs.lemmas.List.Filters.{length-filter_both}

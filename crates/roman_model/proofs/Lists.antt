@@ -1,5 +1,5 @@
 -- Lemmas on lists, their elements and places, on numbers below a bound, and on tests.
-use Rattle.roman_model.proofs.Common.{◌≡◌, ◌≢◌, ℕ, zero, suc, ◌+◌, ◌<◌, ◌≤◌, Bool, true, false, cond, ◌&&◌, ◌||◌, ◌⊎◌, List, [], ◌∷◌, ◌++◌, map, length, get_or, Option, Some, None, IsTrue, IsFalse, filter, find, flat_map, sum_by, inl, inr, refl, sym, ap, ap₂, ◌∙◌, subst, arith, add-one, length-append, ◌↔◌, rules, Contains, ◌*◌, append-nil, append_assoc, drop, slice_get, slice_index, slice_set, drop-cons, list_any, false≢true, both_ways, or_cases, or_parts, or_left, or_right, or_from, and_from, cond-true, cases_eq, cases_order, true≢false, length_push, get_or_push, get_or_append_left, map_push, map-append, length-map, drop_all, sum_by-append, sum_by-cons, list_any-append, find-append, filter-append, none-some, same_Some, IsIn, IsSublist, HasNoRepeats, below, all_below, is_empty, option_or, flat_map-append, option_map, slice_get-map, slice_get_within, get_or_from_slice_get, slice_get-get_or}
+use Rattle.roman_model.proofs.Common.{◌≡◌, ◌≢◌, ℕ, zero, suc, ◌+◌, ◌<◌, ◌≤◌, Bool, true, false, cond, ◌&&◌, ◌||◌, ◌⊎◌, List, [], ◌∷◌, ◌++◌, map, length, get_or, Option, Some, None, IsTrue, IsFalse, filter, find, flat_map, sum_by, inl, inr, refl, sym, ap, ap₂, ◌∙◌, subst, arith, add-one, length-append, ◌↔◌, rules, Contains, ◌*◌, append-nil, append_assoc, drop, slice_get, slice_index, slice_set, drop-cons, option_map, list_any, false≢true, both_ways, or_cases, or_parts, or_left, or_right, or_from, and_from, cond-true, cases_eq, cases_order, true≢false, length_push, get_or_push, get_or_append_left, map_push, map-append, length-map, drop_all, get_or-set_same, sum_by-append, sum_by-cons, list_any-append, find-append, filter-append, none-some, same_Some, slice_get-map, slice_get_within, get_or_from_slice_get, slice_get-get_or, IsIn, IsSublist, HasNoRepeats, below, all_below, is_empty, option_or, flat_map-append}
 
 -- Tests.
 
@@ -420,9 +420,7 @@ pub get_map : {X Y : Type 0} (f : X → Y) (xs : List X) (k : ℕ) (x : X) → s
 get_map f xs k x e = slice_get-map f xs k ∙ ap (option_map f) e
 
 pub index_set : (bs : List ℕ) (k b : ℕ) → k < length bs → slice_index (slice_set bs k b) k ≡ b
-index_set [] k b l = absurd (omega arith)
-index_set (c ∷ bs) zero b l = refl
-index_set (c ∷ bs) (suc k) b l = index_set bs k b (omega arith)
+index_set bs k b l = get_or-set_same bs k b 0 l
 
 -- the numbers from k on
 pub from_place : (n k : ℕ) → k < n → drop k (below n) ≡ k ∷ drop (k + 1) (below n)

@@ -1,5 +1,5 @@
 -- Numbers of lists of states and of pairs: bounds, and the change of a number where a state changes, comes or goes.
-use Rattle.roman_model.proofs.Common.{Some, slice_get, ◌≡◌, ℕ, zero, suc, ◌+◌, ◌*◌, ◌%◌, ◌<◌, List, [], ◌∷◌, ◌++◌, map, length, take, drop, slice_index, slice_set, remove, refl, sym, ap, ◌∙◌, arith, add-one, rules, ◌/◌, none-some, same_Some, AllZip-long, AllZip, mul-add-lt, div-mul-add, mod-mul-add, div_below, mod_below, product_of, Seat, Sys, Pair, IsPair, Sizes, sizes_of, AreBelow, grown_sizes, sizes_without, count, states_number, states_at, number, pair_at, IsPairOf, NumbersArePairs, grown, without, number_without, AllZip-get_or, get_or_from_slice_get}
+use Rattle.roman_model.proofs.Common.{Some, slice_get, ◌≡◌, ℕ, zero, suc, ◌+◌, ◌*◌, ◌%◌, ◌<◌, List, [], ◌∷◌, ◌++◌, map, length, take, drop, slice_index, slice_set, remove, refl, sym, ap, ◌∙◌, arith, add-one, rules, ◌/◌, AllZip-long, AllZip, mul-add-lt, div-mul-add, mod-mul-add, div_below, mod_below, product_of, Seat, Sys, Pair, IsPair, Sizes, sizes_of, AreBelow, grown_sizes, sizes_without, count, states_number, states_at, number, pair_at, IsPairOf, NumbersArePairs, grown, without, number_without, AllZip-get_or, get_or_from_slice_get}
 use Rattle.roman_model.proofs.Lists.{get_map}
 
 pub AreBelow-length : (sizes bs : List ℕ) → AreBelow sizes bs → length bs ≡ length sizes

@@ -1,5 +1,5 @@
 -- The arenas over numbers of pairs and over pairs carry over to each other, with their removal lists, complete lists and counts.
-use Rattle.roman_model.proofs.Common.{Sizes, sizes_of, count, number, pair_at, numbered, entry_at, IsCompleteList, ◌≡◌, ℕ, ◌<◌, ◌==◌, List, [], ◌∷◌, map, refl, sym, ap, ap₂, ◌∙◌, subst, inl, inr, arith, ◌+◌, not, length, IsFalse, filter, sum_by, rules, eqb-true, eq-eqb, both_ways, not-false, IsIn, below, Sys, Pair, IsSys, IsPair, outcomes, same_pair, arena, pairs, Entry, is_listed, mask, IsOrder, is_justified, loses, choices, Reason, AreEntries, IsComplete, OrderCompletes, NumberedCompletes, length-map, is_related, offers, choice_count, Final, Act, length-filter_both}
+use Rattle.roman_model.proofs.Common.{Sizes, sizes_of, count, number, pair_at, numbered, entry_at, IsCompleteList, ◌≡◌, ℕ, ◌<◌, ◌==◌, List, [], ◌∷◌, map, refl, sym, ap, ap₂, ◌∙◌, subst, inl, inr, arith, ◌+◌, not, length, IsFalse, filter, sum_by, rules, eqb-true, eq-eqb, both_ways, not-false, IsIn, below, Sys, Pair, IsSys, IsPair, outcomes, same_pair, arena, pairs, Entry, is_listed, mask, IsOrder, is_justified, loses, choices, Reason, AreEntries, IsComplete, NumberedCompletes, length-map, is_related, offers, choice_count, Final, Act, length-filter_both}
 use Rattle.roman_model.proofs.Lists.{same_test, from_map, in_map, in_filter, filter_in, in_below, from_below, length-below, same_length, sum_by-map, sum_by_same, HasNoRepeats-filter, HasNoRepeats-below}
 use Rattle.roman_model.proofs.SystemLemmas.{same_pair_is, same_pair_from, outcome_pair, in_pairs, from_pairs, pairs_at, pairs_once}
 use Rattle.roman_model.proofs.NumberLemmas.{number-pair_at, numbers_are_pairs}
@@ -72,9 +72,9 @@ module _ (s : Sys) where
   order_at sys L are order = order_renamed (numbered s) (arena s) (pair_at (sizes_of s)) IsNumber (numbers_rename sys) L are order
 
 -- a settled list over numbers is complete, since the same list over pairs is
-pub numbered_completes_by : OrderCompletes → NumberedCompletes
-numbered_completes_by completes s L sys are order fine masked =
-    completes s (map (entry_at s) L) sys (entries_at s L are) (order_at s sys L are order)
+pub numbered_completed : NumberedCompletes
+numbered_completed s L sys are order fine masked =
+    order_completed s (map (entry_at s) L) sys (entries_at s L are) (order_at s sys L are order)
     (λ p ok unlisted.
     let i : IsNumber s (number (sizes_of s) p) = (numbers_are_pairs s).below p ok in
     let is : pair_at (sizes_of s) (number (sizes_of s) p) ≡ p = (numbers_are_pairs s).back p ok in
@@ -107,7 +107,7 @@ pub numbered_completed_by : (s : Sys) (L : List (Entry ℕ)) → IsSys s → Are
     ((i : ℕ) → i < count (sizes_of s) → IsFalse (is_listed (numbered s) L i) → (r : Reason) → IsFalse (is_justified (numbered s) (is_listed (numbered s) L) i r)) →
     IsCompleteList s L
 numbered_completed_by s L ok are order no_reason =
-    numbered_completes_by order_completed s L ok are order
+    numbered_completed s L ok are order
     (λ i l f. not-false ((numbered s).fine i) (no_reason i l f Final))
     (λ i l f a allowed empty.
     both_ways (is_justified (numbered s) (is_listed (numbered s) L) i (Act a)) (no_reason i l f (Act a))

@@ -97,9 +97,6 @@ renamed_below (Join seat) s L can are x i = let (y, j, m) = from_flat_map (grown
     let fits : y.node * seat.beh.states + b < seat.beh.states * count (sizes_of s) = mul-add-lt y.node seat.beh.states b (count (sizes_of s)) (are y j) (from_below seat.beh.states b l) in
     let more : count (grown_sizes (sizes_of s) seat.beh.states) ≡ count (sizes_of s) * seat.beh.states = count-grown (sizes_of s) seat.beh.states in
     grind arith
-  where
-    fits_as : (i b size n m : ℕ) → i * size + b < size * n → m ≡ n * size → i * size + b < m
-    fits_as i b size n m h e = omega arith
 renamed_below (Die k seat) s L can are x i =
     let (y, j, e) = from_map (number_entry_without k (sizes_of s)) x (filter (λ x. may_go k seat (pair_at (sizes_of s) x.node)) L) (first_numbers_in [] (map (number_entry_without k (sizes_of s)) (filter (λ x. may_go k seat (pair_at (sizes_of s) x.node)) L)) x i) in
     subst (λ z. z.node < count (sizes_without k (sizes_of s))) (sym e)

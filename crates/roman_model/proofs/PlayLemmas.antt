@@ -50,19 +50,14 @@ request_wins s L n p k ks Final l j later = omega arith
 request_wins s L n p k ks (Act a) l j later =
     answered_wins s (is_listed (arena s) (entries_before (arena s) L p)) (λ q. play s L q ks) n p a k l j (λ q i t. later q t)
 
--- the opponent wins within one request more than there are entries before the pair's entry
-pub list_wins : (s : Sys) (L : List (Entry Pair)) → IsOrder (arena s) L → (n : ℕ) (p : Pair) (ks : List ℕ) → AreSeats s ks → n < length ks →
-    IsTrue (is_listed (arena s) L p) → length (entries_before (arena s) L p) ≤ n → WinsWithin (suc n) (play s L p ks)
-list_wins s L order n p [] seats enough t few = let none : ⊥ = omega arith in absurd none
-list_wins s L order zero p (k ∷ ks) seats enough t few =
-    let (r, e, j) = reason_found s L p order t in
-    subst (λ o. WinsWithin 1 (play_at s L (k ∷ ks) p o)) (sym e)
-    (request_wins s L zero p k ks r seats.0 j
-    (λ q g. let less : length (entries_before (arena s) L q) < length (entries_before (arena s) L p) = before_falls (arena s) L p q g in let none : ⊥ = omega arith in absurd none))
+-- the opponent wins within more requests than there are entries before the pair's entry
+pub list_wins : (s : Sys) (L : List (Entry Pair)) → IsOrder (arena s) L → (n : ℕ) (p : Pair) (ks : List ℕ) → AreSeats s ks → n ≤ length ks →
+    IsTrue (is_listed (arena s) L p) → length (entries_before (arena s) L p) < n → WinsWithin n (play s L p ks)
+list_wins s L order zero p ks seats enough t few = absurd (omega arith)
+list_wins s L order (suc n) p [] seats enough t few = let none : ⊥ = omega arith in absurd none
 list_wins s L order (suc n) p (k ∷ ks) seats enough t few = let (r, e, j) = reason_found s L p order t in
-    subst (λ o. WinsWithin (suc (suc n)) (play_at s L (k ∷ ks) p o)) (sym e)
-    (request_wins s L (suc n) p k ks r seats.0 j
-    (grind (arith, before_falls, before_listed, (list_wins s L order n))))
+    subst (λ o. WinsWithin (suc n) (play_at s L (k ∷ ks) p o)) (sym e)
+    (request_wins s L n p k ks r seats.0 j (grind (arith, before_falls, before_listed, (list_wins s L order n))))
 
 -- The opponent that plays by a removal list wins.
 pub order_won : OrderWins

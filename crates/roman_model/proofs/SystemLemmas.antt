@@ -1,5 +1,5 @@
 -- Lemmas on the pairs of a system, its steps and outcomes.
-use Rattle.roman_model.proofs.Common.{◌≡◌, ℕ, ◌<◌, ◌==◌, not, ◌&&◌, List, [], ◌∷◌, map, length, Option, Some, None, IsTrue, IsFalse, flat_map, slice_get, slice_index, slice_set, refl, sym, ap, ap₂, ◌∙◌, subst, arith, rules, ◌+◌, ◌*◌, AllZip, false≢true, and_parts, and_from, not-true, not_from_false, eqb-true, eq-eqb, cond-true, cond-false, slice_get_within, IsIn, HasNoRepeats, below, is_empty, product_of, Env, Beh, Seat, Sys, Pair, has, has_triple, has_move, IsEnv, IsBeh, IsSys, IsPair, SStep, Move, TStep, Allows, pairs, env_next, beh_next, seat_next, outcomes_by, outcomes, is_allowed, same_numbers, same_pair, combinations, env_prev, beh_prev, is_ready, states_at, sizes_of, count, pair_at, number, Sizes, div-mul-add, mod-mul-add}
+use Rattle.roman_model.proofs.Common.{◌≡◌, ℕ, ◌<◌, ◌==◌, not, ◌&&◌, List, [], ◌∷◌, map, length, Option, Some, None, IsTrue, IsFalse, flat_map, slice_get, slice_index, slice_set, refl, sym, ap, ◌∙◌, subst, arith, rules, ◌+◌, ◌*◌, AllZip, false≢true, and_parts, and_from, not-true, not_from_false, eqb-true, eq-eqb, cond-true, cond-false, slice_get_within, IsIn, HasNoRepeats, below, is_empty, product_of, Env, Beh, Seat, Sys, Pair, has, has_triple, has_move, IsEnv, IsBeh, IsSys, IsPair, SStep, Move, TStep, Allows, pairs, env_next, beh_next, seat_next, outcomes_by, outcomes, is_allowed, same_numbers, same_pair, combinations, env_prev, beh_prev, is_ready, states_at, sizes_of, count, pair_at, number, Sizes, div-mul-add, mod-mul-add}
 use Rattle.roman_model.proofs.NumberLemmas.{AreBelow-at, numbers_are_pairs, pair_at-number, states_number-at, AreBelow-set, below_states, size_at, states_below}
 use Rattle.roman_model.proofs.Lists.{get_in, flat_map_same, flat_map_same_in, map-map, map_same_in, map_rows, by_test, in_map, from_map, in_flat_map, from_flat_map, in_filter, filter_in, any_true, any_from, in_not_empty, not_empty_in, in_below, from_below, HasNoRepeats-map, HasNoRepeats-below}
 

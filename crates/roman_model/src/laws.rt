@@ -63,6 +63,7 @@ pub fn renaming_keeps()
 
 /// A removal list over the numbers is complete over the pairs where every unlisted number meets
 /// clause 2 and has a seat in the mask of each allowed action.
+#[tactic(auto, using(crate::proofs::NumberedArena::numbered_completed))]
 pub fn numbered_completes()
     ensures complete { NumberedCompletes }
 {}
