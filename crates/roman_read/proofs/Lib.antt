@@ -1,6 +1,3 @@
-mod NameLemmas
-mod JsonLemmas
-pub mod PlaceLemmas
-pub mod Each
-pub mod Given
+pub mod NameLemmas
+pub mod ReadingLemmas
 pub mod CallerLemmas

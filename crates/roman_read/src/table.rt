@@ -71,6 +71,7 @@ impl NameTable {
     }
 
     /// Returns a table with the same names in the same order. Fails only when out of memory.
+    #[tactic(auto, using(crate::proofs::NameLemmas::copies))]
     pub fn copy(&self, alloc: Global) -> Result<NameTable, AllocError>
         ensures same { IfOk result (λ copy. copy ≡ self.now) }
     {
@@ -100,7 +101,7 @@ impl NameTable {
     /// Adds a name at the end, and returns its place. Requires fewer than 2^32 - 1 names. Fails with
     /// `Repeated` and the place of the name exactly where the table already has it, and with `Memory`
     /// only when out of memory. The table then stays as it was.
-    #[tactic(auto, using(crate::proofs::PlaceLemmas::places))]
+    #[tactic(auto, using(crate::proofs::NameLemmas::places))]
     pub fn add(&mut self, name: Name) -> Result<u32, AddError>
         requires { length self.old < 2 ^ 32 - 1 }
         ensures add { Adds self.old self.new name result }
@@ -144,7 +145,7 @@ impl NameTable {
     }
 
     /// Returns the place of the name with these bytes. Looks it up by its hash.
-    #[tactic(auto, using(crate::proofs::PlaceLemmas::places))]
+    #[tactic(auto, using(crate::proofs::NameLemmas::places))]
     fn looked_up(&self, bytes: &[u8]) -> Option<usize>
         ensures place { result ≡ place_of self.now bytes.now }
         ensures within { IfSome result (λ i. i < length self.now) }

@@ -34,7 +34,7 @@ impl ParseError {
 /// no number beyond the range of an `f64`. Where an object names a member twice, the last value
 /// counts. Fails with `NotJson` exactly where the bytes aren't UTF-8 or `serde_json` reads no value
 /// from them, and with `Memory` only when out of memory.
-#[tactic(auto, using(crate::proofs::JsonLemmas::json_of_text, crate::proofs::JsonLemmas::json_of_no_text))]
+#[tactic(auto, using(crate::proofs::ReadingLemmas::texts))]
 pub fn parse(alloc: Global, bytes: &[u8]) -> Result<Value, ParseError>
     ensures parse { Parses bytes.now result }
 {

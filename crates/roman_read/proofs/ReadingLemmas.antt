@@ -1,10 +1,19 @@
--- Loops over the items of a list, each of which may be refused: the remaining steps give the result of all steps.
+-- Readings that succeed, and loops over the items of a list, each of which may be refused: the remaining steps give the result of all steps.
 use Rattle.std.proofs.Common.{◌≡◌, ℕ, ◌+◌, ◌<◌, ◌≤◌, List, [], ◌∷◌, ◌++◌, length, drop, get_or, Result, Ok, Err, refl, sym, ◌∙◌, add-one, drop-cons}
 use Rattle.std.proofs.lemmas.List.{drop_all}
+use Rattle.std.proofs.lemmas.Str.{is_utf8-from_IsUtf8, IsUtf8-from_is_utf8}
 use Rattle.serde_json.specs.Data.{Data}
 use Rattle.serde_json.specs.View.{view, items_view}
 use Rattle.serde_json.specs.declared.value.Value.{Value}
 use Rattle.roman_read.specs.Items.{◌>>=◌, each_item, pushing}
+
+pub same_ok : {X E : Type 0} (x y : X) → ◌≡◌ {A = Result X E} (Ok x) (Ok y) → x ≡ y
+same_ok x y h = cc
+
+-- where a sequence of two readings succeeds, the first succeeds and the second continues from its value
+pub bind_ok : {X Y E : Type 0} (r : Result X E) (f : X → Result Y E) (y : Y) → (r >>= f) ≡ Ok y → (x : X) × (r ≡ Ok x) × (f x ≡ Ok y)
+bind_ok (Ok x) f y h = (x, refl, h)
+bind_ok (Err e) f y h = cc
 
 -- the steps from item i and the state s on give the result of all steps
 pub record IsLeft {S E : Type 0} (step : ℕ → S → Data → Result S E) (items : List Value) (i : ℕ) (s : S) (all : Result S E) : Type 0 where
@@ -52,3 +61,6 @@ module _ {X E : Type 0} (read : ℕ → Data → Result X E) (items : List Value
 pub ruleset each = (at_start, goes_on, ends, is_done)
 
 pub ruleset pushes = (at_start, pushed_on, pushed_ends, is_done)
+
+-- the rules for bytes that are a text
+pub ruleset texts = (is_utf8-from_IsUtf8, IsUtf8-from_is_utf8)
