@@ -1,17 +1,17 @@
 -- The cells of a table after one more step.
-use Rattle.roman_parts.proofs.Common.{Bool, List, [], add-one, ap, ap₂, arith, false, get_or, inl, inr, length, replicate, set, subst, sym, take, true, ℕ, ◌%◌, ◌&&◌, ◌*◌, ◌+◌, ◌<◌, ◌==◌, ◌^◌, ◌||◌, ◌∙◌, ◌∷◌, ◌≡◌, and_from, and_parts, cases_eq, cases_lt, eq-eqb, eqb-true, ne_eqb, get_or-replicate, get_or-set_other, get_or-set_same, get_or_past, length-replicate, list_any-append, list_any_more, same_from_place, bit_at-zero, bit_at_set_other, bit_at_set_same, bit_at, w64, bit_or, if◌then◌else◌, has_state, any_from, any_true, from_below, in_below, same_test, below, has, HasCells, MarksBelow, PutsIntoCell, adds_below, adds_move, adds_triple, cell_has, or-false, or-true, or_assoc}
+use Rattle.roman_parts.proofs.Common.{Bool, List, [], ap, ap₂, arith, false, get_or, inl, inr, length, replicate, set, subst, sym, take, true, ℕ, ◌%◌, ◌&&◌, ◌*◌, ◌+◌, ◌<◌, ◌≤◌, ◌==◌, ◌^◌, ◌||◌, ◌∙◌, ◌≡◌, refl, and_from, and_parts, cases_eq, cases_lt, eq-eqb, eqb-true, ne_eqb, get_or-replicate, get_or-set_other, get_or-set_same, get_or_past, length-replicate, list_any_more, same_from_place, bit_at-zero, bit_at_set_other, bit_at_set_same, bit_at, w64, bit_or, if◌then◌else◌, has_state, same_test, HasMoves, HasTriples, PutsIntoCell, PutsIntoCells, cell_has, ends, goes, leads, and-true, or-false, or-true}
 
 -- the mask after n is added
-pub has_set : (mask n m : ℕ) → n < 64 → has_state (bit_or mask (1 * 2 ^ n % 2 ^ 64)) m ≡ (has_state mask m || m == n)
-has_set mask n m small = elim (cases_eq m n) [
+pub has_set : (mask n m : ℕ) → n < 64 → has_state (bit_or mask (1 * 2 ^ n % 2 ^ 64)) m ≡ (has_state mask m || n == m)
+has_set mask n m small = elim (cases_eq n m) [
   | inl e ↦
-      ap (λ b. b == 1) (subst (λ j. bit_at (bit_or mask (1 * 2 ^ n % 2 ^ 64)) j ≡ 1) (sym e) (bit_at_set_same w64 mask n small))
+      ap (λ b. b == 1) (subst (λ j. bit_at (bit_or mask (1 * 2 ^ n % 2 ^ 64)) j ≡ 1) e (bit_at_set_same w64 mask n small))
       ∙ sym (or-true (has_state mask m))
-      ∙ ap (λ b. has_state mask m || b) (sym (eq-eqb m n e))
+      ∙ ap (λ b. has_state mask m || b) (sym (eq-eqb n m e))
   | inr ne ↦
-      ap (λ b. b == 1) (bit_at_set_other w64 mask n small m ne)
+      ap (λ b. b == 1) (bit_at_set_other w64 mask n small m (λ e. ne (sym e)))
       ∙ sym (or-false (has_state mask m))
-      ∙ ap (λ b. has_state mask m || b) (sym (ne_eqb m n ne))
+      ∙ ap (λ b. has_state mask m || b) (sym (ne_eqb n m ne))
 ]
 
 -- mask k after the bit of n is set
@@ -28,40 +28,11 @@ empty_has : (size j m : ℕ) → cell_has (replicate size 0) j m ≡ false
 unfolding cell_has
 empty_has size j m = grind (arith, bit_at-zero, cases_lt, get_or-replicate, get_or_past, length-replicate)
 
-pub cells_none : {S : Type 0} (adds : S → ℕ → ℕ → Bool) (size : ℕ) → HasCells adds [] (replicate size 0)
-cells_none adds size = record { has = empty_has size }
+pub triples_none : (back : Bool) (actions size : ℕ) → HasTriples back actions [] (replicate size 0)
+triples_none back actions size = record { has = λ e a n ha. empty_has size _ n }
 
--- the cells after the next step is added
-pub cells_more : {S : Type 0} (adds : S → ℕ → ℕ → Bool) (steps : List S) (i : ℕ) (d : S) (old new : List ℕ) → i < length steps → HasCells adds (take i steps) old →
-    ((k n : ℕ) → cell_has new k n ≡ (cell_has old k n || adds (get_or steps i d) k n)) → HasCells adds (take (i + 1) steps) new
-cells_more adds steps i d old new less cells grows = record {
-  has = λ k n. grows k n ∙ ap (λ b. b || adds (get_or steps i d) k n) (cells.has k n) ∙ sym (list_any_more (λ s. adds s k n) steps i d less);
-}
-
-module _ (bound env_states actions : ℕ) (move : ℕ × ℕ × ℕ × ℕ) where
-  adds_next : (k n : ℕ) → adds_below (bound + 1) env_states actions move k n
-      ≡ (adds_below bound env_states actions move k n || (has_state move.1 bound && (k == (move.0 * env_states + bound) * actions + move.2 && n == move.3)))
-  unfolding adds_below
-  adds_next k n = rw add-one (list_any-append _ (below bound) (bound ∷ []) ∙ ap (λ b. adds_below bound env_states actions move k n || b) (or-false _))
-
-  -- an environment state in the guard, whose cell is marked
-  pub marks_more : (old mid new : List ℕ) → has_state move.1 bound ≡ true → MarksBelow bound env_states actions old mid move →
-      PutsIntoCell mid new ((move.0 * env_states + bound) * actions + move.2) move.3 → MarksBelow (bound + 1) env_states actions old new move
-  marks_more old mid new has_it marks puts = grind (arith, adds_next, or_assoc)
-
-  -- an environment state that isn't in the guard
-  pub marks_same : (old new : List ℕ) → has_state move.1 bound ≡ false → MarksBelow bound env_states actions old new move → MarksBelow (bound + 1) env_states actions old new move
-  marks_same old new lacks marks = grind (arith, adds_next, or-false)
-
-pub marks_none : (env_states actions : ℕ) (masks : List ℕ) (move : ℕ × ℕ × ℕ × ℕ) → MarksBelow 0 env_states actions masks masks move
-unfolding adds_below
-marks_none env_states actions masks move = record { has = λ k n. sym (or-false (cell_has masks k n)) }
-
--- Steps and cells
-
--- the converse
-pub same_eqb : (a b : ℕ) → (a == b) ≡ (b == a)
-same_eqb a b = same_test (a == b) (b == a) (λ t. eq-eqb b a (sym (eqb-true a b t))) (λ t. eq-eqb a b (sym (eqb-true b a t)))
+pub moves_none : (back : Bool) (env_states actions size : ℕ) → HasMoves back env_states actions [] (replicate size 0)
+moves_none back env_states actions size = record { has = λ b e a n he ha. empty_has size _ n }
 
 -- two places in a table are equal where their rows and columns are equal
 same_place : (e a e1 a1 w : ℕ) → a < w → a1 < w → (e * w + a == e1 * w + a1) ≡ (e == e1 && a == a1)
@@ -69,38 +40,90 @@ same_place e a e1 a1 w h h1 = same_test (e * w + a == e1 * w + a1) (e == e1 && a
     (λ t. let (row, column) = same_from_place e a e1 a1 w h h1 (eqb-true (e * w + a) (e1 * w + a1) t) in and_from (e == e1) (a == a1) (eq-eqb e e1 row) (eq-eqb a a1 column))
     (λ t. let (row, column) = and_parts (e == e1) (a == a1) t in eq-eqb (e * w + a) (e1 * w + a1) (ap₂ (λ i j. i * w + j) (eqb-true e e1 row) (eqb-true a a1 column)))
 
+-- the cells after the next triple t is added
+pub triples_more : (back : Bool) (actions : ℕ) (steps : List (ℕ × ℕ × ℕ)) (i : ℕ) (d t : ℕ × ℕ × ℕ) (old new : List ℕ) → i < length steps → t ≡ get_or steps i d → t.1 < actions →
+    HasTriples back actions (take i steps) old → PutsIntoCell old new ((ends back t.0 t.2).0 * actions + t.1) (ends back t.0 t.2).1 → HasTriples back actions (take (i + 1) steps) new
+triples_more back actions steps i d t old new less is within cells puts = record {
+  has = λ e a n ha.
+      puts.has (e * actions + a) n
+      ∙ ap (λ q. cell_has old (e * actions + a) n || (q && (ends back t.0 t.2).1 == n)) (same_place (ends back t.0 t.2).0 t.1 e a actions within ha)
+      ∙ ap₂ (λ p s. p || leads back s e a n) (cells.has e a n ha) is
+      ∙ sym (list_any_more (λ s. leads back s e a n) steps i d less);
+}
+
+-- the cells after the next step m is added
+pub moves_more : (back : Bool) (env_states actions : ℕ) (steps : List (ℕ × ℕ × ℕ × ℕ)) (i : ℕ) (d m : ℕ × ℕ × ℕ × ℕ) (old new : List ℕ) → i < length steps → m ≡ get_or steps i d →
+    HasMoves back env_states actions (take i steps) old → PutsIntoCells env_states actions old new (ends back m.0 m.3).0 m.1 m.2 (ends back m.0 m.3).1 → HasMoves back env_states actions (take (i + 1) steps) new
+moves_more back env_states actions steps i d m old new less is cells puts = record {
+  has = λ b e a n he ha.
+      puts.has b e a n he ha ∙ ap₂ (λ p s. p || goes back s b e a n) (cells.has b e a n he ha) is ∙ sym (list_any_more (λ s. goes back s b e a n) steps i d less);
+}
+
+-- the cells of the environment states below the bound are marked, and the others aren't yet
+pub record MarksBelow (bound env_states actions : ℕ) (old new : List ℕ) (at guard action n : ℕ) : Type 0 where
+  pub marked : (b e a m : ℕ) → e < bound → a < actions →
+      cell_has new ((b * env_states + e) * actions + a) m ≡ (cell_has old ((b * env_states + e) * actions + a) m || (at == b && action == a && has_state guard e && n == m))
+  pub others : (b e a m : ℕ) → bound ≤ e → e < env_states → a < actions → cell_has new ((b * env_states + e) * actions + a) m ≡ cell_has old ((b * env_states + e) * actions + a) m
+
+-- a test in the middle, where it is known
+known_test : (x r y : Bool) → r ≡ true → ((x && r) && y) ≡ (x && y)
+known_test true r y h = rw h
+known_test false r y h = refl
+
+failed_test : (x r y : Bool) → r ≡ false → ((x && r) && y) ≡ false
+failed_test true r y h = rw h
+failed_test false r y h = refl
+
+module _ (env_states actions bound at guard action n : ℕ) (old : List ℕ) (within : bound < env_states) where
+  -- an environment state in the guard, whose cell is marked
+  pub marks_more : (mid new : List ℕ) → action < actions → has_state guard bound ≡ true → MarksBelow bound env_states actions old mid at guard action n →
+      PutsIntoCell mid new ((at * env_states + bound) * actions + action) n → MarksBelow (bound + 1) env_states actions old new at guard action n
+  marks_more mid new acts has_it marks puts = record {
+    marked = λ b e a m less ha. elim (cases_eq bound e) [
+      | inl same ↦
+          subst (λ x. cell_has new ((b * env_states + x) * actions + a) m ≡ (cell_has old ((b * env_states + x) * actions + a) m || (at == b && action == a && has_state guard x && n == m))) same
+          (puts.has ((b * env_states + bound) * actions + a) m
+          ∙ ap₂ (λ p q. p || (q && n == m)) (marks.others b bound a m (omega arith) within ha) (own b a ha)
+          ∙ ap (λ q. cell_has old ((b * env_states + bound) * actions + a) m || q) (sym (known_test (at == b && action == a) (has_state guard bound) (n == m) has_it)))
+      | inr ne ↦ kept b e a m (omega arith) ha ne ∙ marks.marked b e a m (omega arith) ha
+    ];
+    others = λ b e a m past he ha. kept b e a m he ha (λ same. omega arith) ∙ marks.others b e a m (omega arith) he ha;
+  }
+    where
+      -- the cell of the environment state at hand
+      own : (b a : ℕ) → a < actions → ((at * env_states + bound) * actions + action == (b * env_states + bound) * actions + a) ≡ (at == b && action == a)
+      own b a ha =
+          same_place (at * env_states + bound) action (b * env_states + bound) a actions acts ha
+          ∙ ap (λ q. q && action == a) (same_place at bound b bound env_states within within ∙ rw (eq-eqb bound bound refl) (and-true (at == b)))
+
+      -- the cell of another environment state
+      kept : (b e a m : ℕ) → e < env_states → a < actions → (bound ≡ e → ⊥) → cell_has new ((b * env_states + e) * actions + a) m ≡ cell_has mid ((b * env_states + e) * actions + a) m
+      kept b e a m he ha ne =
+          puts.has ((b * env_states + e) * actions + a) m
+          ∙ ap (λ q. cell_has mid ((b * env_states + e) * actions + a) m || (q && n == m)) (ne_eqb _ _ (λ same.
+          let (row, column) = same_from_place (at * env_states + bound) action (b * env_states + e) a actions acts ha same in
+          ne (same_from_place at bound b e env_states within he row).1))
+          ∙ or-false _
+
+  -- an environment state that isn't in the guard
+  pub marks_same : (new : List ℕ) → has_state guard bound ≡ false → MarksBelow bound env_states actions old new at guard action n → MarksBelow (bound + 1) env_states actions old new at guard action n
+  marks_same new lacks marks = record {
+    marked = λ b e a m less ha. elim (cases_eq bound e) [
+      | inl same ↦
+          subst (λ x. cell_has new ((b * env_states + x) * actions + a) m ≡ (cell_has old ((b * env_states + x) * actions + a) m || (at == b && action == a && has_state guard x && n == m))) same
+          (marks.others b bound a m (omega arith) within ha
+          ∙ sym (or-false _)
+          ∙ ap (λ q. cell_has old ((b * env_states + bound) * actions + a) m || q) (sym (failed_test (at == b && action == a) (has_state guard bound) (n == m) lacks)))
+      | inr ne ↦ marks.marked b e a m (omega arith) ha
+    ];
+    others = λ b e a m past he ha. marks.others b e a m (omega arith) he ha;
+  }
+
+-- Steps and cells
+
 -- swaps the first and the last of three tests
-and_turned : (x y z : Bool) → ((x && y) && z) ≡ ((z && y) && x)
+pub and_turned : (x y z : Bool) → ((x && y) && z) ≡ ((z && y) && x)
 and_turned x y z = same_test _ _ (λ t. grind (arith, and_parts, and_from)) (λ t. grind (arith, and_parts, and_from))
 
-four_turned : (x y z w : Bool) → (((x && y) && z) && w) ≡ (((w && y) && z) && x)
+pub four_turned : (x y z w : Bool) → (((x && y) && z) && w) ≡ (((w && y) && z) && x)
 four_turned x y z w = same_test _ _ (λ t. grind (arith, and_parts, and_from)) (λ t. grind (arith, and_parts, and_from))
-
--- a triple is added to the cell of its first end and its action
-pub adds_triple-is : (back : Bool) (actions : ℕ) (t : ℕ × ℕ × ℕ) (e a n : ℕ) → t.1 < actions → a < actions →
-    adds_triple back actions t (e * actions + a) n ≡ (if back then t.0 == n && t.1 == a && t.2 == e else t.0 == e && t.1 == a && t.2 == n)
-unfolding adds_triple
-adds_triple-is false actions t e a n ht ha = grind (arith, same_place, same_eqb)
-adds_triple-is true actions t e a n ht ha = grind (arith, same_place, same_eqb, and_turned)
-
--- a step is added to the cells of its first end, its action and the states of its guard
-adds_below-is : (env_states actions : ℕ) (m : ℕ × ℕ × ℕ × ℕ) (b e a n : ℕ) → m.2 < actions → a < actions → e < env_states →
-    adds_below env_states env_states actions m ((b * env_states + e) * actions + a) n ≡ (m.0 == b && m.2 == a && has_state m.1 e && m.3 == n)
-unfolding adds_below
-adds_below-is env_states actions m b e a n hm ha he = same_test _ _
-    (λ t.
-    let (x, i, passes) = any_true _ (below env_states) t in
-    let (guard, put) = and_parts (has_state m.1 x) _ passes in
-    let (at, to) = and_parts ((b * env_states + e) * actions + a == (m.0 * env_states + x) * actions + m.2) (n == m.3) put in
-    let (row, action) = same_from_place (b * env_states + e) a (m.0 * env_states + x) m.2 actions ha hm (eqb-true _ _ at) in
-    let (from, same) = same_from_place b e m.0 x env_states he (from_below env_states x i) row in
-    grind (arith, and_from, eq-eqb, eqb-true))
-    (λ t. any_from _ e (below env_states) (in_below env_states e he) (grind (arith, and_from, and_parts, eq-eqb, eqb-true)))
-
-pub adds_move-is : (back : Bool) (env_states actions : ℕ) (m : ℕ × ℕ × ℕ × ℕ) (b e a n : ℕ) → m.2 < actions → a < actions → e < env_states →
-    adds_move back env_states actions m ((b * env_states + e) * actions + a) n
-    ≡ (if back then m.0 == n && m.2 == a && has_state m.1 e && m.3 == b else m.0 == b && m.2 == a && has_state m.1 e && m.3 == n)
-unfolding adds_move
-adds_move-is false env_states actions m b e a n hm ha he = adds_below-is env_states actions m b e a n hm ha he
-adds_move-is true env_states actions m b e a n hm ha he =
-    adds_below-is env_states actions (m.3, m.1, m.2, m.0) b e a n hm ha he ∙ four_turned (m.3 == b) (m.2 == a) (has_state m.1 e) (m.0 == n)

@@ -1,5 +1,5 @@
 -- Choices between steps, searched pair by pair.
-use Rattle.roman_parts.proofs.Common.{◌≡◌, ℕ, zero, suc, ◌+◌, ◌<◌, ◌≤◌, ◌==◌, ◌&&◌, not, List, [], ◌∷◌, length, get_or, take, map, filter, cond, Bool, Option, Some, None, is_some, option_map, refl, ap, ◌∙◌, arith, slice_get, find, below_more, and_from, cond-true, eq-eqb, ne_eqb, get_or-map, length-map, get_or-take, length-take, slice_get-get_or, below, has, from_below, find_first, find_not_found, none_from, has_state, states_of, states_below, has_both, least_below, move_of, first_below, choice_between, choice_at, range_with_len}
+use Rattle.roman_parts.proofs.Common.{◌≡◌, ℕ, zero, suc, ◌+◌, ◌<◌, ◌≤◌, ◌==◌, ◌&&◌, List, [], ◌∷◌, length, get_or, take, map, filter, cond, Bool, Option, Some, None, is_some, option_map, refl, ap, ◌∙◌, arith, slice_get, find, below_more, eq-eqb, ne_eqb, get_or-map, length-map, get_or-take, length-take, slice_get-get_or, below, has, from_below, find_first, find_not_found, none_from, has_state, states_of, states_below, has_both, least_below, move_of, first_below, choice_between, choice_at, range_with_len}
 use Rattle.roman_parts.proofs.TableLemmas.{has_states_of}
 
 -- ---- the least number at which a function has a value
@@ -41,31 +41,12 @@ find_same p q a (suc m) same =
     rw (same a (omega arith) (omega arith)) (ap (λ r. cond (q a) (Some a) r) (find_same p q (a + 1) m (λ e low high. same e (omega arith) (omega arith))))
 
 -- the first state of one guard that is in the other is the least state of both
-common_first : (a b : ℕ) → find (has (states_of b)) (states_of a) ≡ least_below (has_both a b) 64
+pub common_first : (a b : ℕ) → find (has (states_of b)) (states_of a) ≡ least_below (has_both a b) 64
 unfolding states_below least_below
 common_first a b = grind (arith, (find-filter (has_state a) (has (states_of b)) (range_with_len 0 64)), find_same, has_states_of)
 
-module _ (m n : ℕ × ℕ × ℕ × ℕ) where
-  pub between_steps : m.0 ≡ n.0 → m.2 ≡ n.2 → (m.3 ≡ n.3 → ⊥) → choice_between (Some (move_of m)) (Some (move_of n)) ≡ least_below (has_both m.1 n.1) 64
-  unfolding choice_between
-  between_steps from action to =
-      cond-true (m.0 == n.0 && m.2 == n.2 && not (m.3 == n.3)) _ None
-      (and_from (m.0 == n.0 && m.2 == n.2) (not (m.3 == n.3)) (and_from (m.0 == n.0) (m.2 == n.2) (eq-eqb m.0 n.0 from) (eq-eqb m.2 n.2 action)) (ap not (ne_eqb m.3 n.3 to)))
-      ∙ common_first m.1 n.1
-
-  pub other_from : (m.0 ≡ n.0 → ⊥) → choice_between (Some (move_of m)) (Some (move_of n)) ≡ None
-  unfolding choice_between
-  other_from h = rw (ne_eqb m.0 n.0 h)
-
-  pub other_action : m.0 ≡ n.0 → (m.2 ≡ n.2 → ⊥) → choice_between (Some (move_of m)) (Some (move_of n)) ≡ None
-  unfolding choice_between
-  other_action from h = rw (eq-eqb m.0 n.0 from, ne_eqb m.2 n.2 h)
-
-  pub same_to : m.0 ≡ n.0 → m.2 ≡ n.2 → m.3 ≡ n.3 → choice_between (Some (move_of m)) (Some (move_of n)) ≡ None
-  unfolding choice_between
-  same_to from action h = rw (eq-eqb m.0 n.0 from, eq-eqb m.2 n.2 action, eq-eqb m.3 n.3 h)
-
-pub ruleset pairs = (between_steps, other_from, other_action, same_to)
+-- the rules for the tests of two steps
+pub ruleset pairs = (common_first, eq-eqb, ne_eqb)
 
 -- ---- steps of a list
 

@@ -1,11 +1,11 @@
 -- What the proof pages of this crate cite from elsewhere, passed on from one place. Declares nothing.
 pub use Rattle.std.proofs.Common.{All, Bool, Err, IsTrue, List, MatchOption, None, Ok, Option, Result, Some, [], add-one, ap, append-nil, append_assoc, ap₂, arith, below_more, codes, cond, false, filter, find, get_or, inl, inr, is_none, is_some, length, length-append, map, not, option_map, refl, replicate, rules, set, slice_get, slice_range, string_bytes, subst, suc, sym, take, true, zero, ℕ, ◌%◌, ◌&&◌, ◌*◌, ◌++◌, ◌+◌, ◌-◌, ◌<◌, ◌==◌, ◌^◌, ◌||◌, ◌∙◌, ◌∷◌, ◌≡◌, ◌≢◌, ◌≤◌}
-pub use Rattle.std.proofs.Math.Bool.{or-false, or-true, or_assoc}
-pub use Rattle.std.proofs.lemmas.Bool.{and_from, and_parts, cases_eq, cases_lt, cases_order, cond-false, cond-true, cond_both, eq-eqb, eqb-true, false_from_ne_true, ne_eqb, true≢false}
+pub use Rattle.std.proofs.Math.Bool.{and-true, or-false, or-true}
+pub use Rattle.std.proofs.lemmas.Bool.{and_from, and_parts, cases_eq, cases_lt, cases_order, cond-true, cond_both, eq-eqb, eqb-true, false_from_ne_true, ne_eqb, true≢false}
 pub use Rattle.std.proofs.lemmas.Grind.{common_steps}
 pub use Rattle.std.proofs.lemmas.List.{drop_at, get_or-map, get_or-replicate, get_or-set_other, get_or-set_same, get_or-take, get_or_append_left, get_or_past, get_or_push, length-map, length-replicate, length-take, length_push, map_more, map_push, take-append-le, take_all, take_at}
 pub use Rattle.std.proofs.lemmas.List.Elements.{All-contains, All-filter, All-same, filter-append}
-pub use Rattle.std.proofs.lemmas.List.Folds.{list_any-append, list_any_more}
+pub use Rattle.std.proofs.lemmas.List.Folds.{list_any_more}
 pub use Rattle.std.proofs.lemmas.List.Quantifiers.{position-Some}
 pub use Rattle.std.proofs.lemmas.Nat.{mul-add-lt, same_from_place}
 pub use Rattle.std.proofs.lemmas.Nat.Bits.{bit_at-trailing_zeros, bit_at-zero, bit_at_above, bit_at_clear_other, bit_at_clear_same, bit_at_set_other, bit_at_set_same}
@@ -16,14 +16,14 @@ pub use Rattle.std.specs.Int.{bit_at, bit_not, trailing_zeros, w64}
 pub use Rattle.std.specs.Int.RustNames.{bit_and, bit_or}
 pub use Rattle.std.specs.List.{list_any, position_or_len, range_with_len}
 pub use Rattle.std.specs.Option.{option_and_then}
-pub use Rattle.std.specs.Prelude.{if◌then◌else◌}
+pub use Rattle.std.specs.Prelude.{if◌then◌else◌, slice_index_or}
 pub use Rattle.std.specs.Str.{bytes_eq}
 pub use Rattle.roman_guard.proofs.CallerLemmas.{holds-All, holds-Among, holds-Both, holds-Either, holds-Never, holds-Not, states_below-past, states_below-same, states_below-suc, states_below-zero, states_below_are}
 pub use Rattle.roman_guard.specs.Meaning.{has_both, has_state, holds, states_of}
 unfoldable pub use Rattle.roman_guard.specs.Meaning.{least_below, states_below}
-pub use Rattle.roman_model.proofs.CallerLemmas.{HasNoRepeats-below, HasNoRepeats-filter, IsBeh-made, IsEnv-made, any_from, any_same, any_true, by_test, filter_in, filter_same, find_first, find_found, find_least, find_not_found, find_some, flat_map_same_in, from_below, from_made_final, from_made_move, from_made_triple, get_or-below, in_below, in_contains, in_filter, length-below, list_any-map, made_final, made_move, made_triple, move_test, none_from, same_test}
+pub use Rattle.roman_model.proofs.CallerLemmas.{HasNoRepeats-below, HasNoRepeats-filter, IsBeh-made, IsEnv-made, any_from, any_same, any_true, beh_from_same, by_test, env_from_same, filter_in, filter_same, find_first, find_found, find_least, find_not_found, find_some, from_below, from_made_final, from_made_move, from_made_triple, get_or-below, in_below, in_contains, in_filter, length-below, list_any-map, made_final, made_move, made_triple, move_test, none_from, same_test}
 pub use Rattle.roman_model.specs.Lists.{HasNoRepeats, IsIn, below}
-pub use Rattle.roman_model.specs.Made.{guarded_step}
+pub use Rattle.roman_model.specs.Made.{env_from}
 pub use Rattle.roman_model.specs.Normal.{normal_beh, normal_env}
 pub use Rattle.roman_model.specs.System.{Beh, Env, IsBeh, IsDeterministic, IsEnv, Move, Triple, has, has_move, has_triple, is_final}
 pub use Rattle.roman_model.specs.SystemArena.{beh_next, beh_prev, env_next, env_prev}
@@ -41,8 +41,8 @@ pub use Rattle.serde_json.specs.Find.{as_array, as_bool, as_object}
 pub use Rattle.serde_json.specs.View.{items_view, members_view, view}
 pub use Rattle.serde_json.specs.declared.value.Value.{Value}
 pub use mir.Val.{bits}
-pub use Rattle.roman_parts.specs.Cells.{HasCells, MarksBelow, PutsIntoCell, ends}
-unfoldable pub use Rattle.roman_parts.specs.Cells.{adds_below, adds_move, adds_triple, cell_has}
+pub use Rattle.roman_parts.specs.Cells.{HasMoves, HasTriples, PutsIntoCell, PutsIntoCells, ends, goes, leads}
+unfoldable pub use Rattle.roman_parts.specs.Cells.{cell_has}
 unfoldable pub use Rattle.roman_parts.specs.Choices.{choice_at, choice_between, choice_of, choice_with, first_below, single_of}
 pub use Rattle.roman_parts.specs.Guards.{among_of, each_guard, no_guard, operator_of, sole_member, sole_of, state_in}
 unfoldable pub use Rattle.roman_parts.specs.Guards.{guard_of, guards_of}
@@ -56,7 +56,6 @@ pub use Rattle.roman_parts.specs.Reading.{check, found, items_at, looked}
 unfoldable pub use Rattle.roman_parts.specs.Reading.{counted_items}
 pub use Rattle.roman_parts.specs.Rows.{IsCut, pieces}
 pub use Rattle.roman_parts.specs.Steps.{four_of, move_item, moves_of, three_of, triple_item, triples_of}
-pub use Rattle.roman_parts.specs.Tables.{GuardedBeh, HasGuardedRows, HasRows}
-unfoldable pub use Rattle.roman_parts.specs.Tables.{row_moves, row_triples}
+pub use Rattle.roman_parts.specs.Tables.{GuardedBeh, HasGuardedRows, HasRows, automaton_of, row_has}
 pub use Rattle.roman_parts.specs.declared.error.List.TheVariants.{Finals, Steps}
 pub use Rattle.roman_parts.specs.declared.error.PartError.{PartError}

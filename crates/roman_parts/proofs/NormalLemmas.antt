@@ -38,18 +38,15 @@ pub beh_prev-normal : (env_states actions : ℕ) (beh : Beh) (b' e a : ℕ) → 
     beh_prev (normal_beh env_states actions beh) b' e a ≡ beh_prev beh b' e a
 beh_prev-normal env_states actions beh b' e a hb' he ha = search (rules, filter_same, from_below, has_move-normal)
 
--- the numbers of the normal form of a behaviour are in range, whatever its steps
-pub IsBeh-normal : (env : Env) (beh : Beh) → (0 < beh.states) × (beh.states ≤ MAX_STATES) → beh.start < beh.states → IsBeh env (normal_beh env.states env.actions beh)
-IsBeh-normal env beh states start = IsBeh-made env beh.states beh.start (is_final beh) (has_move beh) states start
-
 pub is_final-normal : (env_states actions : ℕ) (beh : Beh) (b : ℕ) → b < beh.states → is_final (normal_beh env_states actions beh) b ≡ is_final beh b
 is_final-normal env_states actions beh b hb = same_test (is_final (normal_beh env_states actions beh) b) (is_final beh b)
     (λ t. from_made_final env_states actions beh.states beh.start (is_final beh) (has_move beh) b t)
     (λ t. made_final env_states actions beh.states beh.start (is_final beh) (has_move beh) b hb t)
 
+-- the numbers of the normal form of a behaviour are in range, whatever its steps
 pub IsOver-normal : (env_states actions : ℕ) (beh : Beh) → (0 < beh.states) × (beh.states ≤ MAX_STATES) → beh.start < beh.states → IsOver env_states actions (normal_beh env_states actions beh)
 IsOver-normal env_states actions beh states start =
-    λ env hs ha. subst (λ n. IsBeh env (normal_beh n actions beh)) hs (subst (λ n. IsBeh env (normal_beh env.states n beh)) ha (IsBeh-normal _ _ states start))
+    λ env hs ha. subst (λ n. IsBeh env (normal_beh n actions beh)) hs (subst (λ n. IsBeh env (normal_beh env.states n beh)) ha (IsBeh-made env beh.states beh.start (is_final beh) (has_move beh) states start))
 
 -- the bounds on the numbers of a behaviour in range
 pub IsOver-states : (env_states actions : ℕ) (beh : Beh) → IsOver env_states actions beh → (0 < beh.states) × (beh.states ≤ MAX_STATES)

@@ -1,8 +1,7 @@
 -- Tables with a cell for each state and action, or for each state, environment state and action. Each cell has a mask of states.
-use Rattle.std.specs.Prelude.{◌≡◌, ℕ, ◌+◌, ◌*◌, ◌==◌, ◌&&◌, ◌||◌, Bool, List, slice_index, if◌then◌else◌}
+use Rattle.std.specs.Prelude.{◌≡◌, ℕ, ◌+◌, ◌*◌, ◌<◌, ◌==◌, ◌&&◌, ◌||◌, Bool, List, slice_index, if◌then◌else◌}
 use Rattle.std.specs.List.{list_any}
 use Rattle.roman_guard.specs.Meaning.{has_state}
-use Rattle.roman_model.specs.Lists.{below}
 
 -- the mask of cell k has state n
 unfoldable pub cell_has : List ℕ → ℕ → ℕ → Bool
@@ -10,28 +9,29 @@ cell_has masks k n = has_state (slice_index masks k) n
 
 -- n was added to cell k
 pub record PutsIntoCell (old new : List ℕ) (k n : ℕ) : Type 0 where
-  pub has : (j m : ℕ) → cell_has new j m ≡ (cell_has old j m || (j == k && m == n))
+  pub has : (j m : ℕ) → cell_has new j m ≡ (cell_has old j m || (k == j && n == m))
 
--- each cell has exactly the states that some step adds to it
-pub record HasCells {S : Type 0} (adds : S → ℕ → ℕ → Bool) (steps : List S) (masks : List ℕ) : Type 0 where
-  pub has : (k n : ℕ) → cell_has masks k n ≡ list_any (λ s. adds s k n) steps
+-- n was added to the cells of state `at`, the action and each environment state of the guard
+pub record PutsIntoCells (env_states actions : ℕ) (old new : List ℕ) (at guard action n : ℕ) : Type 0 where
+  pub has : (b e a m : ℕ) → e < env_states → a < actions →
+      cell_has new ((b * env_states + e) * actions + a) m ≡ (cell_has old ((b * env_states + e) * actions + a) m || (at == b && action == a && has_state guard e && n == m))
 
 -- the ends of a step, exchanged where the steps are taken back
 abbrev pub ends : Bool → ℕ → ℕ → ℕ × ℕ
 ends back from to = if back then (to, from) else (from, to)
 
--- the step (e, a, e') adds state n to cell k
-unfoldable pub adds_triple : Bool → ℕ → ℕ × ℕ × ℕ → ℕ → ℕ → Bool
-adds_triple back actions t k n = k == (ends back t.0 t.2).0 * actions + t.1 && n == (ends back t.0 t.2).1
+-- the step leads from state e by action a to state n, or back
+abbrev pub leads : Bool → ℕ × ℕ × ℕ → ℕ → ℕ → ℕ → Bool
+leads back t e a n = (ends back t.0 t.2).0 == e && t.1 == a && (ends back t.0 t.2).1 == n
 
--- a step (b, G, a, b') adds state n to cell k for some environment state of G below the bound
-unfoldable pub adds_below : ℕ → ℕ → ℕ → ℕ × ℕ × ℕ × ℕ → ℕ → ℕ → Bool
-adds_below bound env_states actions m k n = list_any (λ e. has_state m.1 e && (k == (m.0 * env_states + e) * actions + m.2 && n == m.3)) (below bound)
+-- the step goes from state b in environment state e by action a to state n, or back
+abbrev pub goes : Bool → ℕ × ℕ × ℕ × ℕ → ℕ → ℕ → ℕ → ℕ → Bool
+goes back m b e a n = (ends back m.0 m.3).0 == b && m.2 == a && has_state m.1 e && (ends back m.0 m.3).1 == n
 
--- the step (b, G, a, b') adds state n to cell k
-unfoldable pub adds_move : Bool → ℕ → ℕ → ℕ × ℕ × ℕ × ℕ → ℕ → ℕ → Bool
-adds_move back env_states actions m k n = adds_below env_states env_states actions ((ends back m.0 m.3).0, m.1, m.2, (ends back m.0 m.3).1) k n
+-- each cell of a state and an action has exactly the states to which some step leads
+pub record HasTriples (back : Bool) (actions : ℕ) (steps : List (ℕ × ℕ × ℕ)) (masks : List ℕ) : Type 0 where
+  pub has : (e a n : ℕ) → a < actions → cell_has masks (e * actions + a) n ≡ list_any (λ t. leads back t e a n) steps
 
--- the step was added to the cells of the environment states of its guard below the bound
-pub record MarksBelow (bound env_states actions : ℕ) (old new : List ℕ) (move : ℕ × ℕ × ℕ × ℕ) : Type 0 where
-  pub has : (k n : ℕ) → cell_has new k n ≡ (cell_has old k n || adds_below bound env_states actions move k n)
+-- each cell of a state, an environment state and an action has exactly the states to which some step goes
+pub record HasMoves (back : Bool) (env_states actions : ℕ) (steps : List (ℕ × ℕ × ℕ × ℕ)) (masks : List ℕ) : Type 0 where
+  pub has : (b e a n : ℕ) → e < env_states → a < actions → cell_has masks ((b * env_states + e) * actions + a) n ≡ list_any (λ m. goes back m b e a n) steps

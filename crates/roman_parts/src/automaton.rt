@@ -5,6 +5,7 @@ ghost use Rattle.roman_model.specs.System.{has, is_final};
 ghost use Rattle.roman_model.specs.SystemArena.{beh_next, beh_prev};
 ghost use Rattle.roman_model.specs.Normal.{normal_beh};
 ghost use Rattle.roman_parts.specs.Listed.{listed_beh, AreMoves};
+ghost use Rattle.roman_parts.specs.Named.{IsOver};
 
 use crate::masks::{Cells, move_masks};
 use crate::rows::Rows;
@@ -28,32 +29,14 @@ pub(crate) struct Automaton {
 }
 
 impl Model for Automaton {
-    ghost use Rattle.roman_guard.specs.Meaning.{states_of};
-    ghost use Rattle.roman_parts.specs.Tables.{GuardedBeh, row_moves, HasGuardedRows};
+    ghost use Rattle.roman_parts.specs.Tables.{GuardedBeh, automaton_of, HasGuardedRows};
 
     ghost Value = { GuardedBeh };
 
-    ghost view = { λ s. record {
-      env_states = s.cells.env_states;
-      actions = s.cells.actions;
-      beh = record {
-        states = s.cells.states;
-        start = s.start;
-        finals = states_of s.finals;
-        steps = row_moves s.cells.states s.cells.env_states s.cells.actions s.next;
-      };
-    } };
+    ghost view = { λ s. automaton_of s.cells.states s.cells.env_states s.cells.actions s.start s.finals s.next };
 
-    ghost invariant = { λ s. HasGuardedRows (record {
-      env_states = s.cells.env_states;
-      actions = s.cells.actions;
-      beh = record {
-        states = s.cells.states;
-        start = s.start;
-        finals = states_of s.finals;
-        steps = row_moves s.cells.states s.cells.env_states s.cells.actions s.next;
-      };
-    }) s.finals s.next s.prev };
+    ghost invariant = { λ s. HasGuardedRows
+        (automaton_of s.cells.states s.cells.env_states s.cells.actions s.start s.finals s.next) s.finals s.next s.prev };
 }
 
 impl Automaton {
@@ -100,6 +83,13 @@ impl Automaton {
         })
     }
 
+    /// Does nothing. Its contract states that the numbers of the automaton are in range.
+    pub(crate) fn known(&self)
+        ensures { IsOver self.now.env_states self.now.actions self.now.beh }
+    {
+        let _cells = &self.cells;
+    }
+
     /// Returns the start state.
     pub(crate) fn start(&self) -> u8
         ensures start { result ≡ self.now.beh.start }
@@ -117,6 +107,7 @@ impl Automaton {
     }
 
     /// Returns the states to which action `a` goes from state `b` in environment state `e`, rising.
+    #[tactic(auto, using(crate::proofs::TableLemmas::look_ups))]
     pub(crate) fn next(&self, b: u8, e: u8, a: u8) -> &[u8]
         requires state { b < self.now.beh.states }
         requires env_state { e < self.now.env_states }
@@ -128,6 +119,7 @@ impl Automaton {
     }
 
     /// Returns the states from which action `a` goes to state `b` in environment state `e`, rising.
+    #[tactic(auto, using(crate::proofs::TableLemmas::look_ups))]
     pub(crate) fn prev(&self, b: u8, e: u8, a: u8) -> &[u8]
         requires state { b < self.now.beh.states }
         requires env_state { e < self.now.env_states }

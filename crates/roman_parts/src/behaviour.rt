@@ -30,7 +30,7 @@ pub struct Behaviour {
 
 impl Model for Behaviour {
     ghost use Rattle.roman_parts.specs.Named.{NamedBeh};
-    ghost use Rattle.roman_parts.specs.Tables.{IsNamed};
+    ghost use Rattle.std.specs.Prelude.{◌≡◌, length};
 
     ghost Value = { NamedBeh };
 
@@ -42,7 +42,7 @@ impl Model for Behaviour {
       beh = s.automaton.beh;
     } };
 
-    ghost invariant = { λ s. IsNamed s.states s.automaton };
+    ghost invariant = { λ s. length s.states ≡ s.automaton.beh.states };
 }
 
 impl Behaviour {
@@ -96,7 +96,7 @@ impl Behaviour {
         ensures count { length self.now.states ≡ self.now.beh.states }
         ensures known { IsOver self.now.env_states self.now.actions self.now.beh }
     {
-        let _states = &self.states;
+        self.automaton.known(); // the automaton is well formed
     }
 
     /// Returns the name of the behaviour.

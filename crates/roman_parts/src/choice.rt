@@ -12,7 +12,7 @@ use roman_read::{Kind, NameTable};
 
 /// Refuses the first transition that forms a choice with an earlier one. The refusal names the first
 /// such earlier transition, and the least environment state of their choice. Takes no memory.
-#[tactic(auto, using(crate::proofs::SingleLemmas::choice_within), unfolding(crate::specs::Choices::single_of))]
+#[tactic(auto, using(std::proofs::lemmas::Option::get_or_from_slice_get), unfolding(crate::specs::Choices::single_of))]
 pub(crate) fn check_single(
     env_states: &NameTable,
     steps: &[(u8, StateSet, u8, u8)],
@@ -66,7 +66,7 @@ fn choice_with(steps: &[(u8, StateSet, u8, u8)], j: usize) -> Option<(usize, u8)
 }
 
 /// Returns the least environment state in which two transitions form a choice.
-#[tactic(auto, using(crate::proofs::ChoiceLemmas::pairs))]
+#[tactic(auto, using(crate::proofs::ChoiceLemmas::pairs), unfolding(crate::specs::Choices::choice_between))]
 fn choice_between(step: &(u8, StateSet, u8, u8), other: &(u8, StateSet, u8, u8)) -> Option<u8>
     ensures { result ≡ choice_between (Some (move_of step.now)) (Some (move_of other.now)) }
 {

@@ -43,27 +43,19 @@ impl Drop for Environment {
 impl Model for Environment {
     ghost use Rattle.std.specs.Prelude.{length};
     ghost use Rattle.roman_parts.specs.Named.{NamedEnv};
-    ghost use Rattle.roman_parts.specs.Tables.{row_triples, HasRows};
+    ghost use Rattle.roman_parts.specs.Tables.{row_has, HasRows};
+    ghost use Rattle.roman_model.specs.Made.{env_from};
 
     ghost Value = { NamedEnv };
 
     ghost view = { λ s. record {
       states = s.states;
       actions = s.actions;
-      env = record {
-        states = length s.states;
-        actions = length s.actions;
-        start = s.start;
-        triples = row_triples (length s.states) (length s.actions) s.next;
-      };
+      env = env_from (length s.states) (length s.actions) s.start (row_has (length s.actions) s.next);
     } };
 
-    ghost invariant = { λ s. HasRows (record {
-      states = length s.states;
-      actions = length s.actions;
-      start = s.start;
-      triples = row_triples (length s.states) (length s.actions) s.next;
-    }) s.next s.prev };
+    ghost invariant = { λ s. HasRows
+        (env_from (length s.states) (length s.actions) s.start (row_has (length s.actions) s.next)) s.next s.prev };
 }
 
 impl Environment {
@@ -145,6 +137,7 @@ impl Environment {
     }
 
     /// Returns the states to which action `a` leads from state `e`, rising and without repeats.
+    #[tactic(auto, using(crate::proofs::TableLemmas::look_ups))]
     pub fn next(&self, e: u8, a: u8) -> &[u8]
         requires state { e < self.now.env.states }
         requires action { a < self.now.env.actions }
@@ -156,6 +149,7 @@ impl Environment {
     }
 
     /// Returns the states from which action `a` leads to state `e`, rising and without repeats.
+    #[tactic(auto, using(crate::proofs::TableLemmas::look_ups))]
     pub fn prev(&self, e: u8, a: u8) -> &[u8]
         requires state { e < self.now.env.states }
         requires action { a < self.now.env.actions }

@@ -1,6 +1,6 @@
 //! Masks of states, one for each cell of a table.
 ghost use Rattle.std.specs.Prelude.{◌≡◌, ℕ, ◌+◌, ◌*◌, ◌^◌, ◌<◌, ◌≤◌, length, IfOk, vec_len};
-ghost use Rattle.roman_parts.specs.Cells.{HasCells, MarksBelow, PutsIntoCell, adds_move, adds_triple, ends};
+ghost use Rattle.roman_parts.specs.Cells.{HasMoves, HasTriples, PutsIntoCell, PutsIntoCells, ends};
 ghost use Rattle.roman_parts.specs.Listed.{AreTriples, AreMoves};
 
 use crate::environment::Environment;
@@ -65,7 +65,7 @@ pub(crate) fn triple_masks<const BACK: bool>(
     requires actions { actions ≤ 32 }
     requires steps { AreTriples states actions steps.now }
     ensures len { IfOk result (λ masks. vec_len masks ≡ states * actions) }
-    ensures has { IfOk result (λ masks. HasCells (adds_triple BACK actions) steps.now masks.items) }
+    ensures has { IfOk result (λ masks. HasTriples BACK actions steps.now masks.items) }
 {
     let mut masks = Vec::from_elem(alloc, 0, states * actions)?;
     for &(from, action, to) in steps {
@@ -84,7 +84,7 @@ pub(crate) fn move_masks<const BACK: bool>(
 ) -> Result<Vec<u64>, AllocError>
     requires { AreMoves cells.states cells.actions steps.now }
     ensures len { IfOk result (λ masks. vec_len masks ≡ cells.states * cells.env_states * cells.actions) }
-    ensures has { IfOk result (λ masks. HasCells (adds_move BACK cells.env_states cells.actions) steps.now masks.items) }
+    ensures has { IfOk result (λ masks. HasMoves BACK cells.env_states cells.actions steps.now masks.items) }
 {
     let mut masks = Vec::from_elem(alloc, 0, cells.count())?;
     for &(from, guard, action, to) in steps {
@@ -110,7 +110,7 @@ fn mark_move(masks: &mut [u64], cells: Cells, at: u8, guard: StateSet, action: u
     requires at { at < cells.states }
     requires action { action < cells.actions }
     requires small { n < 64 }
-    ensures { MarksBelow cells.env_states cells.env_states cells.actions masks.old masks.new (at, guard, action, n) }
+    ensures { PutsIntoCells cells.env_states cells.actions masks.old masks.new at guard action n }
 {
     for e in 0..cells.env_states {
         let e = e as u8;

@@ -101,7 +101,7 @@ impl Target {
         ensures known { IsOver self.now.env_states self.now.actions self.now.beh }
         ensures single { IsDeterministic self.now.beh }
     {
-        let _states = &self.states;
+        self.automaton.known(); // the automaton is well formed
     }
 
     /// Returns the names of the states, by number.
@@ -133,6 +133,7 @@ impl Target {
 
     /// Returns the state to which action `a` goes from state `t` in environment state `e`, or `None`
     /// exactly where there is no such state.
+    #[tactic(auto, using(crate::proofs::NormalLemmas::single_next))]
     pub fn step(&self, t: u8, e: u8, a: u8) -> Option<u8>
         requires state { t < self.now.beh.states }
         requires env_state { e < self.now.env_states }

@@ -1,5 +1,5 @@
 -- A choice is between two steps of the list, in a state of both guards.
-use Rattle.roman_parts.proofs.Common.{length, sym, arith, get_or_from_slice_get, single_of}
+use Rattle.roman_parts.proofs.Common.{length, sym, arith}
 use Rattle.roman_parts.proofs.SingleLemmas.{choice_within}
 use Rattle.roman_parts.proofs.choice.check_single.Goals as goal
 
@@ -11,7 +11,3 @@ at-requires c = grind (arith, (choice_within c.args.steps.now (length c.args.env
 
 pub overflow_cast-j : goal.overflow_cast-j
 overflow_cast-j c = grind (arith, (choice_within c.args.steps.now (length c.args.env_states.now) c.in-Some.j c.in-Some.i c.in-Some.state c.requires.guards (sym c.in-Some.ensures)))
-
-pub returns-in-Some-clause-single : goal.returns-in-Some-clause-single
-unfolding single_of
-returns-in-Some-clause-single c = grind (arith, get_or_from_slice_get)

@@ -13,7 +13,7 @@ invariant_of-result c =
       c.deref.ensures.value,
       c.in_ok-prev.ensures.rows,
       c.deref-2.ensures.value,
-      laid.triples,
+      laid.env,
     )
     laid.rows
 
@@ -26,5 +26,5 @@ returns-clause-normal c =
     rw (
       c.in_ok-next.ensures.rows,
       c.deref.ensures.value,
-      laid.triples,
+      laid.env,
     )
