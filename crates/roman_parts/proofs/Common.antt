@@ -1,10 +1,10 @@
 -- What the proof pages of this crate cite from elsewhere, passed on from one place. Declares nothing.
 pub use Rattle.std.proofs.Common.{All, Bool, Err, IsTrue, List, MatchOption, None, Ok, Option, Result, Some, [], add-one, ap, append-nil, append_assoc, ap₂, arith, below_more, codes, cond, false, filter, find, get_or, inl, inr, is_none, is_some, length, length-append, map, not, option_map, refl, replicate, rules, set, slice_get, slice_range, string_bytes, subst, suc, sym, take, true, zero, ℕ, ◌%◌, ◌&&◌, ◌*◌, ◌++◌, ◌+◌, ◌-◌, ◌<◌, ◌==◌, ◌^◌, ◌||◌, ◌∙◌, ◌∷◌, ◌≡◌, ◌≢◌, ◌≤◌}
 pub use Rattle.std.proofs.Math.Bool.{and-true, or-false, or-true}
-pub use Rattle.std.proofs.lemmas.Bool.{and_from, and_parts, cases_eq, cases_lt, cases_order, cond-true, cond_both, eq-eqb, eqb-true, false_from_ne_true, ne_eqb, true≢false}
+pub use Rattle.std.proofs.lemmas.Bool.{and_from, and_parts, cases_eq, cases_lt, cases_order, cond_both, eq-eqb, eqb-true, false_from_ne_true, ne_eqb, true≢false}
 pub use Rattle.std.proofs.lemmas.Grind.{common_steps}
 pub use Rattle.std.proofs.lemmas.List.{drop_at, get_or-map, get_or-replicate, get_or-set_other, get_or-set_same, get_or-take, get_or_append_left, get_or_past, get_or_push, length-map, length-replicate, length-take, length_push, map_more, map_push, take-append-le, take_all, take_at}
-pub use Rattle.std.proofs.lemmas.List.Elements.{All-contains, All-filter, All-same, filter-append}
+pub use Rattle.std.proofs.lemmas.List.Elements.{All-contains, All-filter, filter-append}
 pub use Rattle.std.proofs.lemmas.List.Folds.{list_any_more}
 pub use Rattle.std.proofs.lemmas.List.Quantifiers.{position-Some}
 pub use Rattle.std.proofs.lemmas.Nat.{mul-add-lt, same_from_place}
@@ -56,6 +56,6 @@ pub use Rattle.roman_parts.specs.Reading.{check, found, items_at, looked}
 unfoldable pub use Rattle.roman_parts.specs.Reading.{counted_items}
 pub use Rattle.roman_parts.specs.Rows.{IsCut, pieces}
 pub use Rattle.roman_parts.specs.Steps.{four_of, move_item, moves_of, three_of, triple_item, triples_of}
-pub use Rattle.roman_parts.specs.Tables.{GuardedBeh, HasGuardedRows, HasRows, automaton_of, row_has}
+pub use Rattle.roman_parts.specs.Tables.{HasGuardedRows, HasRows, automaton_of, row_has}
 pub use Rattle.roman_parts.specs.declared.error.List.TheVariants.{Finals, Steps}
 pub use Rattle.roman_parts.specs.declared.error.PartError.{PartError}

@@ -4,7 +4,6 @@ mod CellLemmas
 pub mod Common
 pub mod NormalLemmas
 mod TableLemmas
-mod ReadingLemmas
 mod GuardLemmas
 pub mod StepLemmas
 mod ChoiceLemmas

@@ -1,5 +1,5 @@
--- Lists of three and four items, and lists of steps that are read item by item.
-use Rattle.roman_parts.proofs.Common.{◌≡◌, List, [], ◌∷◌, length, get_or, Some, None, refl, arith, map_push, view, items_view, Value, at_start, pushed_on, pushed_ends, is_done, three_of, four_of}
+-- Lists of three and four items, counted lists, and lists of steps that are read item by item.
+use Rattle.roman_parts.proofs.Common.{◌≡◌, List, [], ◌∷◌, length, get_or, Some, None, refl, arith, map_push, items_len-items_view, view, items_view, Value, at_start, pushed_on, pushed_ends, is_done, three_of, four_of}
 
 pub three_of-items : (items : List Value) (a b c : Value) → length items ≡ 3 → a ≡ get_or items 0 a → b ≡ get_or items 1 b → c ≡ get_or items 2 c
     → three_of (items_view items) ≡ Some (view a, view b, view c)
@@ -21,6 +21,9 @@ four_of-others _ h = refl
 
 -- the rules for the parts of a step
 pub ruleset items = (three_of-items, three_of-others, four_of-items, four_of-others)
+
+-- the rules for counting the items of a list
+pub ruleset counts = (items_len-items_view)
 
 -- the rules for lists of steps
 pub ruleset step_lists = (at_start, pushed_on, pushed_ends, is_done, map_push)

@@ -50,7 +50,7 @@ pub(crate) fn list_member<'a>(
     list_at(member, place, 0)
 }
 
-#[tactic(auto, using(crate::proofs::ReadingLemmas::counts), unfolding(crate::specs::Reading::counted_items))]
+#[tactic(auto, using(crate::proofs::StepLemmas::counts), unfolding(crate::specs::Reading::counted_items))]
 /// Returns the items of a member that is an array with `least` to `most` items. Fails with `Refused`
 /// exactly where the value isn't an object, or the member is missing, isn't an array, or has fewer or
 /// more items. The refusal names the list `place`. Takes no memory.
