@@ -1,15 +1,11 @@
 -- A word whose bits are set one by one, and its states.
-use Rattle.roman_guard.proofs.Common.{◌≡◌, ℕ, ◌+◌, ◌-◌, ◌*◌, ◌%◌, ◌^◌, ◌<◌, ◌≤◌, ◌==◌, ◌↔◌, Bool, true, false, IsTrue, Contains, ap, sym, ◌∙◌, arith, inl, inr, w64, bit_or, below_more, true≢false, bit_at, if◌then◌else◌, pow-lt, mod-le, cases_lt, or_lt, bit_at_above, bit_at_set_same, bit_at_set_other, has_state, states_below, states_of}
+use Rattle.roman_guard.proofs.Common.{◌≡◌, ℕ, ◌+◌, ◌-◌, ◌*◌, ◌%◌, ◌^◌, ◌<◌, ◌≤◌, ◌==◌, ◌↔◌, Bool, true, false, IsTrue, Contains, ap, sym, ◌∙◌, arith, w64, bit_or, below_more, true≢false, if◌then◌else◌, pow-lt, mod-le, cases_lt, or_lt, bit_at_above, bit_at_set_same, bit_at_set_other, has_state, states_below, states_of}
 use Rattle.roman_guard.proofs.StateLemmas.{states_below-same, states_below-past, in_states_below, states_below_are}
 
--- 1 for true and 0 for false
-abbrev pub bit : Bool → ℕ
-bit b = if b then 1 else 0
-
--- the word has a bit for exactly the numbers below n that pass the test
+-- the word has exactly the states below n that pass the test
 pub record Marks (word n : ℕ) (test : ℕ → Bool) : Type 0 where
   pub fits : word < 2 ^ n
-  pub bits : (e : ℕ) → e < n → bit_at word e ≡ bit (test e)
+  pub has : (e : ℕ) → e < n → has_state word e ≡ test e
 
 -- a state past the bits of a word isn't in its set
 pub has_state_past : (word e : ℕ) → word < 2 ^ 64 → 64 ≤ e → has_state word e ≡ false
@@ -27,36 +23,23 @@ marks_one word n test within m passes =
           let wider : 2 ^ n < 2 ^ (n + 1) = pow-lt (omega arith) in
           let cut : 1 * 2 ^ n % 2 ^ 64 ≤ 1 * 2 ^ n = mod-le (1 * 2 ^ n) (2 ^ 64) in
           or_lt (n + 1) word (1 * 2 ^ n % 2 ^ 64) (omega (arith, m.fits)) (omega arith);
-      bits = below_more (λ e. bit_at (bit_or word (1 * 2 ^ n % 2 ^ 64)) e ≡ bit (test e)) n (λ e h. bit_at_set_other w64 word n within e (λ same. omega arith) ∙ m.bits e h)
-          (bit_at_set_same w64 word n within ∙ sym (ap bit passes));
+      has = below_more (λ e. has_state (bit_or word (1 * 2 ^ n % 2 ^ 64)) e ≡ test e) n (λ e h. ap (λ b. b == 1) (bit_at_set_other w64 word n within e (λ same. omega arith)) ∙ m.has e h)
+          (ap (λ b. b == 1) (bit_at_set_same w64 word n within) ∙ sym passes);
     }
-
-is_bit : (b : Bool) (k : ℕ) → k ≡ bit b → (k == 1) ≡ b
-is_bit true k h = rw h
-is_bit false k h = rw h
-
--- below n the word has exactly the states that pass
-pub marked_has : (word n : ℕ) (test : ℕ → Bool) → Marks word n test → (e : ℕ) → e < n → has_state word e ≡ test e
-marked_has word n test m e h = is_bit (test e) (bit_at word e) (m.bits e h)
 
 -- the word has no state from n on
 pub marked_past : (word n : ℕ) (test : ℕ → Bool) → Marks word n test → (e : ℕ) → n ≤ e → has_state word e ≡ false
-marked_past word n test m e h = is_bit false (bit_at word e) (bit_at_above word n e m.fits h)
+marked_past word n test m e h = ap (λ b. b == 1) (bit_at_above word n e m.fits h)
 
 -- the states of the word are the states below n that pass
 pub marked_states : (word n : ℕ) (test : ℕ → Bool) → n ≤ 64 → Marks word n test → states_of word ≡ states_below test n
 marked_states word n test h m =
     let whole : 64 ≡ n + (64 - n) = omega arith in
-    ap (states_below (has_state word)) whole ∙ states_below-past _ _ _ (marked_past _ _ _ m) ∙ states_below-same _ _ _ (marked_has _ _ _ m)
+    ap (states_below (has_state word)) whole ∙ states_below-past _ _ _ (marked_past _ _ _ m) ∙ states_below-same _ _ _ m.has
 
 has_below : (word n : ℕ) (test : ℕ → Bool) → Marks word n test → (e : ℕ) → has_state word e ≡ true → Contains (states_below test n) e
-has_below word n test m e has =
-    elim (cases_lt e n) [
-      | inl below ↦ in_states_below test n e below (sym (marked_has word n test m e below) ∙ has)
-      | inr past ↦ absurd (true≢false (sym has ∙ marked_past word n test m e past))
-    ]
+has_below word n test m e has = grind (arith, cases_lt, in_states_below, (m.has e), (marked_past word n test m e), true≢false)
 
 -- the word has exactly the states below n that pass
 pub marked_has_exactly : (word n : ℕ) (test : ℕ → Bool) → Marks word n test → (e : ℕ) → IsTrue (has_state word e) ↔ Contains (states_below test n) e
-marked_has_exactly word n test m e =
-    (has_below word n test m e, λ c. let p = states_below_are test n e c in marked_has word n test m e p.0 ∙ p.1)
+marked_has_exactly word n test m e = (has_below word n test m e, λ c. let p = states_below_are test n e c in m.has e p.0 ∙ p.1)

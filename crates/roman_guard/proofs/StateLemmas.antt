@@ -24,10 +24,6 @@ states_below-zero test = refl
 pub states_below-passing : (test : ℕ → Bool) (n : ℕ) → test n ≡ true → states_below test (n + 1) ≡ states_below test n ++ n ∷ []
 states_below-passing test n h = states_below-more test n ∙ rw h
 
--- a number that fails is left out
-pub states_below-failing : (test : ℕ → Bool) (n : ℕ) → test n ≡ false → states_below test (n + 1) ≡ states_below test n
-states_below-failing test n h = states_below-more test n ∙ rw h (append-nil (states_below test n))
-
 -- tests that agree below n are passed by the same numbers
 pub states_below-same : (p q : ℕ → Bool) (n : ℕ) → ((e : ℕ) → e < n → p e ≡ q e) → states_below p n ≡ states_below q n
 states_below-same p q zero h = states_below-zero p ∙ sym (states_below-zero q)
@@ -38,6 +34,11 @@ states_below-same p q (suc n) h =
       h n (omega arith),
       states_below-same p q n (λ e k. h e (omega arith)),
     )
+
+-- no number passes where the test fails below n
+pub states_below-none : (test : ℕ → Bool) (n : ℕ) → ((e : ℕ) → e < n → test e ≡ false) → states_below test n ≡ []
+states_below-none test zero h = states_below-zero test
+states_below-none test (suc n) h = rw (states_below-suc test n, h n (omega arith), states_below-none test n (λ e k. h e (omega arith)))
 
 -- a higher bound adds nothing where no number from n on passes
 pub states_below-past : (test : ℕ → Bool) (n m : ℕ) → ((e : ℕ) → n ≤ e → test e ≡ false) → states_below test (n + m) ≡ states_below test n
