@@ -9,15 +9,11 @@ open_here s row x a lane ok l = ap₂ (λ t e. not (is_empty (env_next s.env e a
 pub turn_open : (s : Sys) (row : Row) (a : ℕ) (turn : TargetMove) → IsTargetMove s row a turn → is_open s row a ≡ true
 turn_open s row a turn ok = grind arith
 
--- where an action isn't allowed, it is no reason
-pub refused : (s : Sys) (row : Row) (x a lane : ℕ) (gone : ℕ → Bool) → IsRow s x row → lane < lanes_in s → is_open s row a ≡ false → false ≡ is_justified (numbered s) gone (x * lanes_in s + lane) (Act a)
-refused s row x a lane gone ok l off =
-    sym (ap (λ b. b && all_below (is_beaten (numbered s) gone (x * lanes_in s + lane) a) (length s.seats)) (open_here s row x a lane ok l ∙ off))
-
-pub judged : (s : Sys) (row : Row) (x a lane : ℕ) (gone : ℕ → Bool) → IsRow s x row → lane < lanes_in s → is_open s row a ≡ true →
-    all_below (is_beaten (numbered s) gone (x * lanes_in s + lane) a) (length s.seats) ≡ is_justified (numbered s) gone (x * lanes_in s + lane) (Act a)
-judged s row x a lane gone ok l on =
-    sym (ap (λ b. b && all_below (is_beaten (numbered s) gone (x * lanes_in s + lane) a) (length s.seats)) (open_here s row x a lane ok l ∙ on))
+-- an action is a reason exactly where it is allowed and no seat serves it
+pub judged : (s : Sys) (row : Row) (x a lane : ℕ) (allowed : Bool) (gone : ℕ → Bool) → IsRow s x row → lane < lanes_in s → is_open s row a ≡ allowed →
+    (allowed && all_below (is_beaten (numbered s) gone (x * lanes_in s + lane) a) (length s.seats)) ≡ is_justified (numbered s) gone (x * lanes_in s + lane) (Act a)
+judged s row x a lane allowed gone ok l is =
+    sym (ap (λ b. b && all_below (is_beaten (numbered s) gone (x * lanes_in s + lane) a) (length s.seats)) (open_here s row x a lane ok l ∙ is))
 
 -- where an action isn't allowed, no seat serves it
 pub unopened : (s : Sys) (row : Row) (x a k lane : ℕ) (gone : ℕ → Bool) → IsNumbered (numbered s) → IsRow s x row → lane < lanes_in s → is_open s row a ≡ false →
