@@ -16,8 +16,6 @@ pub mod GoodLemmas
 pub mod AllowedLemmas
 pub mod MarkLemmas
 pub mod MoveLemmas
-pub mod NameLemmas
-pub mod RunLemmas
 pub mod BandLemmas
 pub mod CallerLemmas
 pub mod RestLemmas
