@@ -1,7 +1,7 @@
 -- Rows of a band.
-use Rattle.roman_joint.proofs.Common.{length-below, any_same, part_at, AreWithin, SuitsRows, ◌||◌, ◌≡◌, ℕ, ◌+◌, ◌-◌, ◌*◌, ◌/◌, ◌%◌, ◌<◌, ◌≤◌, ◌^◌, Bool, true, false, not, ◌&&◌, List, [], length, slice_get, slice_index, inl, inr, refl, sym, ap, ap₂, ◌∙◌, subst, arith, list_any, set, cases_eq, cases_lt, mul-add-lt, mul-le, mod_below, get_or-set_same, get_or-set_other, get_or_past, IsIn, is_empty, product_of, all_below, Sys, seat_next, is_beaten, sizes_of, count, pair_at, numbered, IsSizes, stride_of, low_of, row_sizes, env_rows_of, exact, lanes_few, AreSizes-index, low_of-le, lanes_positive, row_div, row_mod, row_below, env_rows_are, count_rows, length_rows, row_size, row_stride_of, IsSizes-rows, rows_are, is_on, AreRows, Keeps, lanes_in, low_in, lane_state_of, AreRowsOf, IsRow, IsTargetMove, mid_in, band_in, turn_at, AllAlive, AreRowsBefore, Rows, Row, TargetMove, and_assoc, on_zero, Outcomes}
+use Rattle.roman_joint.proofs.Common.{not-not, and_assoc, length-below, any_same, part_at, AreWithin, SuitsRows, ◌||◌, ◌≡◌, ℕ, ◌+◌, ◌-◌, ◌*◌, ◌/◌, ◌%◌, ◌<◌, ◌≤◌, ◌^◌, Bool, true, false, not, ◌&&◌, List, [], length, slice_get, slice_index, inl, inr, refl, sym, ap, ap₂, ◌∙◌, subst, arith, list_any, set, cases_eq, cases_lt, mul-add-lt, mul-le, mod_below, get_or-set_same, get_or-set_other, get_or_past, IsIn, is_empty, product_of, all_below, Sys, seat_next, is_beaten, sizes_of, count, pair_at, numbered, IsSizes, stride_of, low_of, row_sizes, env_rows_of, exact, lanes_few, AreSizes-index, low_of-le, lanes_positive, row_div, row_mod, row_below, env_rows_are, count_rows, length_rows, row_size, row_stride_of, IsSizes-rows, rows_are, is_on, AreRows, Keeps, lanes_in, low_in, lane_state_of, AreRowsOf, IsRow, IsTargetMove, mid_in, band_in, turn_at, AllAlive, AreRowsBefore, Rows, Row, TargetMove, on_zero, Outcomes}
 use Rattle.roman_joint.proofs.AllowedLemmas.{cut_off, and_nothing}
-use Rattle.roman_joint.proofs.WordLemmas.{not_not, all_pass}
+use Rattle.roman_joint.proofs.WordLemmas.{all_pass}
 use Rattle.roman_joint.proofs.SplitLemmas.{factor, positive_of, stride_rows, row_number, row_made}
 use Rattle.roman_joint.proofs.LeadLemmas.{lanes_parts, stride_positive, lane_state, lane_part, leads_before, leads_beaten}
 use Rattle.roman_joint.proofs.GoodLemmas.{Known, are_within, next_few, rows_there, alive_there, beaten_before, rows_few, suits_rows, before_there, serves_before}
@@ -149,7 +149,7 @@ module _ (s : Sys) (r : Rows) (y a : ℕ) (first : Row) (turn : TargetMove) (h :
 pub keeps_more : (s : Sys) (x i good word : ℕ) (test : ℕ → Bool) (old now : List ℕ) → i < length now → Keeps (lanes_in s) x i test old now →
     ((lane : ℕ) → lane < lanes_in s → is_on good lane ≡ not (test ((x + i) * lanes_in s + lane))) →
     ((lane : ℕ) → is_on word lane ≡ (is_on (slice_index now i) lane && not (is_on good lane))) → Keeps (lanes_in s) x (i + 1) test old (set now i word)
-keeps_more s x i good word test old now room before served told = grind (arith, cases_eq, get_or-set_other, get_or-set_same, not_not, set)
+keeps_more s x i good word test old now room before served told = grind (arith, cases_eq, get_or-set_other, get_or-set_same, not-not, set)
 
 -- where all pairs pass, nothing is cleared
 pub keeps_all : (s : Sys) (x many : ℕ) (test : ℕ → Bool) (now : List ℕ) → ((i lane : ℕ) → i < many → lane < lanes_in s → test ((x + i) * lanes_in s + lane) ≡ true) → Keeps (lanes_in s) x many test now now
@@ -248,7 +248,7 @@ module _ (s : Sys) (r : Rows) (y a : ℕ) (first : Row) (turn : TargetMove) (h :
       (is_states ∙ ap (λ b. seat_next (slice_get s.seats k) b first.env a) is) (ap₂ (λ m d. m - d * u) there.base is) in
       leads_beaten (numbered s) gone (x * w + lane) a k turn.envs.now states (to lane) (λ b. not (is_on (slice_index alive (i - part * u + b * u)) lane)) leads ok.some (λ b j.
       let inside : i - part * u + b * u < band_in s = omega (arith, taken, rw is_part at (own.moves i b l (next_few s k part first.env a b h.sys (subst (λ bs. IsIn b bs) is_states j)))) in
-      ap not ((living.each (i - part * u + b * u) inside).each lane m) ∙ (sym (not_not (list_any (λ e. gone ((turn.base + (i - part * u + b * u) + e * R) * w + lane)) turn.envs.now))
+      ap not ((living.each (i - part * u + b * u) inside).each lane m) ∙ (not-not (list_any (λ e. gone ((turn.base + (i - part * u + b * u) + e * R) * w + lane)) turn.envs.now)
       ∙ any_same (λ e. gone ((turn.base + (i - part * u + b * u) + e * R) * w + lane)) (λ e. gone (to lane e b)) turn.envs.now
       (λ e v. let place : turn.base + (i - part * u + b * u) + e * R ≡ base + e * R + b * u = omega (arith, taken) in ap (λ z. gone (z * w + lane)) place)))
 
@@ -279,7 +279,7 @@ keeps_seat s x many k p old now new before here = grind (arith, and_assoc)
 pub keeps_clear : (s : Sys) (x many : ℕ) (test : ℕ → Bool) (old new : List ℕ) → length old ≡ many → length new ≡ length old →
     ((i : ℕ) → i < many → (good : ℕ) × ((lane : ℕ) → lane < lanes_in s → is_on good lane ≡ not (test ((x + i) * lanes_in s + lane))) × ((lane : ℕ) → is_on (slice_index new i) lane ≡ (is_on (slice_index old i) lane && not (is_on good lane)))) → Keeps (lanes_in s) x many test old new
 keeps_clear s x many test old new few long served = record {
-  each = λ i lane l m. (served i l).2 lane ∙ ap (λ b. is_on (slice_index old i) lane && b) (ap not ((served i l).1 lane m) ∙ sym (not_not (test ((x + i) * lanes_in s + lane))));
+  each = λ i lane l m. (served i l).2 lane ∙ ap (λ b. is_on (slice_index old i) lane && b) (ap not ((served i l).1 lane m) ∙ not-not (test ((x + i) * lanes_in s + lane)));
   others = λ i l. get_or_past new i 0 (omega (arith, l, few, long)) ∙ sym (get_or_past old i 0 (omega (arith, l, few)));
   none = λ i lane off. elim (cases_lt i many) [
     | inl less ↦ (served i less).2 lane ∙ ap (λ b. b && not (is_on (served i less).0 lane)) off

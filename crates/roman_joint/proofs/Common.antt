@@ -8,11 +8,11 @@ pub use Rattle.std.proofs.lemmas.Bool.{and_parts, both_ways, cases_eq, cases_lt,
 pub use Rattle.std.proofs.lemmas.Bool.Decides.{nat_tests}
 pub use Rattle.std.proofs.lemmas.List.{append-nil, append_assoc, drop-append-le, drop-map, drop_all, drop_more, get_or-map, get_or-set_other, get_or-set_same, get_or_append_left, get_or_past, length-append, length-map, length-set, length-take, map-append, map_push, nil_from_length, set-get_or, set-set, take-append-le, take-map, take_all, take_more, take_more_set}
 pub use Rattle.std.proofs.lemmas.List.Elements.{All-append, All-drop, All-from_recursion, All-get_or, All-map, All-push, All-take, recursion_from_All}
-pub use Rattle.std.proofs.lemmas.List.Folds.{find-append, list_any-append}
+pub use Rattle.std.proofs.lemmas.List.Folds.{find-append, list_any_more}
 pub use Rattle.std.proofs.lemmas.List.Sums.{count_by-le-length, length-filter, sum_by-append, sum_by-cons}
 pub use Rattle.std.proofs.lemmas.Nat.{div-add-mod', div-mul-add, div_below, mod-mul-add, mod_below, mul-add-lt, mul-le, pow_pos, same_from_place, shr-shr}
 pub use Rattle.std.proofs.lemmas.Nat.Bits.{bit_at-zero, bit_at_above, bit_at_cat_high, bit_at_cat_low, bit_at_ones, bit_at_ones_above, shr_and_one}
-pub use Rattle.std.proofs.lemmas.Option.{get_or_from_slice_get, slice_get-get_or, slice_get-map, slice_get_past, slice_get_within}
+pub use Rattle.std.proofs.lemmas.Option.{get_or_from_slice_get, same_Some, slice_get-get_or, slice_get-map, slice_get_past, slice_get_within}
 pub use Rattle.std.proofs.lemmas.Simd.{Each1-get_or, get_or-replicate, get_or-zip2, length-replicate, length-zip2, shifts_fit_splat, zip2_splat, zip2_splat_left}
 pub use Rattle.std.specs.Int.{bit_at, bit_not, w64}
 pub use Rattle.std.specs.List.{AllByRecursion, filter, find, flat_map, list_any, remove}
@@ -22,7 +22,7 @@ pub use Rattle.roman_lanes.proofs.CallerLemmas.{on_and, on_not, on_ones, on_or, 
 unfoldable pub use Rattle.roman_lanes.specs.Flags.{has_flag}
 pub use Rattle.roman_lanes.specs.Rows.{AreRows, HasLanes, Keeps}
 unfoldable pub use Rattle.roman_lanes.specs.Rows.{is_on}
-pub use Rattle.roman_model.proofs.CallerLemmas.{AreBelow-index, AreBelow-length, HasNoRepeats-below, HasNoRepeats-filter, HasNoRepeats-flat_map, HasNoRepeats-map, HasNoRepeats-push, IsArena, IsPairOf-at, IsPairOf-from, all_below_at, all_below_from, allowed_in_range, any_from, any_same, any_true, by_test, count-without, empty_is, filter_below_more, filter_in, from_back, from_beh_next, from_beh_prev, from_below, from_env_next, from_env_prev, from_flat_map, from_map, from_outcome, from_push, from_seat_next, get_or-below, in_back, in_beh_prev, in_below, in_env_prev, in_filter, in_flat_map, in_map, in_not_empty, length-below, list_any-flat_map, list_any-map, move_in_range, no_longer, not_empty_in, number-pair_at, number_below, numbered_is_arena, numbered_is_same, numbers_are_pairs, outcome_in, outcome_pair, part_at, parts_of_number, remove_in, renaming_keeps, same_test, seat_in, states_frozen, states_number-set, states_set, sum_by_same, triple_in_range}
+pub use Rattle.roman_model.proofs.CallerLemmas.{AreBelow-index, AreBelow-length, HasNoRepeats-below, HasNoRepeats-filter, HasNoRepeats-flat_map, HasNoRepeats-map, HasNoRepeats-push, IsArena, IsPairOf-at, IsPairOf-from, all_below_at, all_below_from, allowed_in_range, any_from, any_same, any_true, by_test, count-without, empty_is, filter_below_more, filter_in, from_back, from_beh_next, from_beh_prev, from_below, from_env_next, from_env_prev, from_flat_map, from_map, from_outcome, from_push, from_seat_next, get_or-below, in_back, in_beh_prev, in_below, in_env_prev, in_filter, in_flat_map, in_map, in_not_empty, length-below, list_any-flat_map, list_any-map, map-map, move_in_range, no_longer, not_empty_in, number-pair_at, number_below, numbered_is_arena, numbered_is_same, numbers_are_pairs, outcome_in, outcome_pair, part_at, parts_of_number, remove_in, renaming_keeps, same_test, seat_in, states_frozen, states_number-set, states_set, sum_by_same, triple_in_range}
 pub use Rattle.roman_model.specs.Arena.{Arena, Delegation, back, delegations, is_among, is_beaten, is_justified, mask}
 pub use Rattle.roman_model.specs.Change.{CanChange, Change, Die, Freeze, Join, Thaw, after, set_frozen}
 pub use Rattle.roman_model.specs.Explanation.{SeatNames, name_at, seat_names}

@@ -1,10 +1,10 @@
 -- The pairs of a row at which a seat serves an action.
-use Rattle.roman_joint.proofs.Common.{IsSizes-rows, product_positive, low_of-le, lanes_few, lanes_positive, row_least, row_below, env_rows_are, row_sizes, low_of, lanes_of, env_rows_of, target_rows_of, AreWithin, SuitsRows, outcome_number, Move, AreLaneMoves, same_test, length-below, any_same, not_empty_in, triple_in_range, from_env_next, move_in_range, from_seat_next, seat_in, cases_lt, ne_eqb, eqb-true, lt-ltb, le-ltb, eq-eqb, ◌∷◌, ◌≡◌, ◌⊎◌, ℕ, ◌+◌, ◌-◌, ◌*◌, ◌/◌, ◌%◌, ◌<◌, ◌≤◌, ◌^◌, Bool, true, false, not, ◌&&◌, ◌||◌, eqb, ltb, inl, inr, List, [], length, get_or, slice_get, slice_index, IsFalse, refl, sym, ap, ap₂, ◌∙◌, subst, arith, list_any, length-map, mul-add-lt, mul-le, mod_below, div_below, div-add-mod', nat_tests, IsIn, is_empty, Sys, Seat, IsSys, seat_next, is_beaten, Sizes, sizes_of, count, numbered, IsSizes, stride_of, is_on, HasLanes, AreRows, IsNumbered, NamedSys, system_of, seat_of, IsNamedSys, lanes_in, low_in, lane_has_state, lane_state_of, AreRowsOf, IsRow, IsTargetMove, AreAlive, Rows, Row, TargetMove, on_and, on_zero, mul-add-div_right, add-mod-mod, mod-eq_of_lt, mul-mod_left, AreRowsBefore, Outcomes, and-false}
+use Rattle.roman_joint.proofs.Common.{not-not, and-false, IsSizes-rows, product_positive, low_of-le, lanes_few, lanes_positive, row_least, row_below, env_rows_are, row_sizes, low_of, lanes_of, env_rows_of, target_rows_of, AreWithin, SuitsRows, outcome_number, Move, AreLaneMoves, same_test, length-below, any_same, not_empty_in, triple_in_range, from_env_next, move_in_range, from_seat_next, seat_in, cases_lt, ne_eqb, eqb-true, lt-ltb, le-ltb, eq-eqb, ◌∷◌, ◌≡◌, ◌⊎◌, ℕ, ◌+◌, ◌-◌, ◌*◌, ◌/◌, ◌%◌, ◌<◌, ◌≤◌, ◌^◌, Bool, true, false, not, ◌&&◌, ◌||◌, eqb, ltb, inl, inr, List, [], length, get_or, slice_get, slice_index, IsFalse, refl, sym, ap, ap₂, ◌∙◌, subst, arith, list_any, length-map, mul-add-lt, mul-le, mod_below, div_below, div-add-mod', nat_tests, IsIn, is_empty, Sys, Seat, IsSys, seat_next, is_beaten, Sizes, sizes_of, count, numbered, IsSizes, stride_of, is_on, HasLanes, AreRows, IsNumbered, NamedSys, system_of, seat_of, IsNamedSys, lanes_in, low_in, lane_has_state, lane_state_of, AreRowsOf, IsRow, IsTargetMove, AreAlive, Rows, Row, TargetMove, on_and, on_zero, mul-add-div_right, add-mod-mod, mod-eq_of_lt, mul-mod_left, AreRowsBefore, Outcomes}
 use Rattle.roman_joint.proofs.ArenaFacts.{joint_numbered}
 use Rattle.roman_joint.proofs.OutcomeLemmas.{target_in_range}
 use Rattle.roman_joint.proofs.Finds.{in_at}
 use Rattle.roman_joint.proofs.Rows.{size_of_seat}
-use Rattle.roman_joint.proofs.WordLemmas.{on_shl, on_below, not_not}
+use Rattle.roman_joint.proofs.WordLemmas.{on_shl, on_below}
 use Rattle.roman_joint.proofs.SplitLemmas.{joint_sizes, factor}
 use Rattle.roman_joint.proofs.LeadLemmas.{Leads, leads_within, leads_served, leads_beaten, leads_nothing, start_before, leads_before, lane_state, leads_lanes}
 
@@ -148,7 +148,7 @@ module _ (s : Sys) (x a k : ℕ) (row : Row) (turn : TargetMove) (to : Outcomes)
   serves_before word lane words gone room rows l told =
       told ∙ ap not (leads_served (numbered s) gone (x * lanes_in s + lane) a k to.envs.now to.states.now (λ e b. outcome_number to e b * lanes_in s + lane)
       (λ e b. not (is_on (slice_index words (outcome_number to e b)) lane)) (before_leads lane l) (rw of.worlds ok.some) of.some
-      (λ e b i j. ap not ((rows.each (outcome_number to e b) (before_there (length words) e b room i j)).each lane l) ∙ sym (not_not (gone (outcome_number to e b * lanes_in s + lane)))))
+      (λ e b i j. ap not ((rows.each (outcome_number to e b) (before_there (length words) e b room i j)).each lane l) ∙ not-not (gone (outcome_number to e b * lanes_in s + lane))))
 
 -- the alive lanes of a turn
 pub alive_there : (s : Sys) (r : Rows) (x a alive : ℕ) (row : Row) (turn : TargetMove) (words : List ℕ) (gone : ℕ → Bool) → Known s x row → AreRowsOf (sizes_of s) r → IsTargetMove s row a turn → length words * lanes_in s ≡ count (sizes_of s) →
@@ -163,7 +163,7 @@ alive_there s r x a alive row turn words gone h laid ok room rows told = record 
     same lane e l i =
         let all = rows_there s r x a (length words) row turn h laid ok room in
         let here : is_on (slice_index words (turn.base + e * r.env_rows)) lane ≡ not (gone ((turn.base + e * r.env_rows) * lanes_in s + lane)) = (rows.each (turn.base + e * r.env_rows) (all.there e i)).each lane l in
-        ap not here ∙ (sym (not_not (gone ((turn.base + e * r.env_rows) * lanes_in s + lane))) ∙ ap (λ m. gone ((turn.base + e * m) * lanes_in s + lane)) laid.env)
+        ap not here ∙ (not-not (gone ((turn.base + e * r.env_rows) * lanes_in s + lane)) ∙ ap (λ m. gone ((turn.base + e * m) * lanes_in s + lane)) laid.env)
 
 -- the lanes of a state begin within the word
 pub state_below : (n : Sizes) (k b : ℕ) → IsSizes n → low_of n.seats ≤ k → k < length n.seats → b < slice_index n.seats k → b * stride_of n k < 64
@@ -218,7 +218,7 @@ module _ (s : Sys) (x a k alive : ℕ) (row : Row) (turn : TargetMove) (gone : �
   beaten_within lane l =
       leads_beaten (numbered s) gone (x * lanes_in s + lane) a k turn.envs.now (states_at lane) (λ e b. (turn.base + e * env_rows_of (sizes_of s)) * lanes_in s + lane_to lane b) (λ b. not (is_on alive (lane_to lane b)))
       (leads_lanes s row x lane a k ok.to turn.base (lane_state_of (sizes_of s) k lane) turn.envs.now (states_at lane) h.sys h.sizes h.looked l low seat refl ok.target ok.worlds refl ok.base) ok.some
-      (λ b i. ap not (living.each (lane_to lane b) (lane_there lane b l i)) ∙ sym (not_not _))
+      (λ b i. ap not (living.each (lane_to lane b) (lane_there lane b l i)) ∙ not-not _)
 
   pub serves_within : (some good : ℕ) (moves : List Move) → AreLaneMoves (sizes_of s) k (λ b. seat_next (slice_get s.seats k) b row.env a) some moves →
       ((lane : ℕ) → lane < 64 → ((move : Move) → IsIn move moves → is_on move.lanes lane ≡ true → (move.from ≤ lane) × (lane + move.to - move.from < 64)) →

@@ -1,5 +1,5 @@
 -- Moves of services within the lanes.
-use Rattle.roman_joint.proofs.Common.{IsServiceAt, AreMovesOf, AreSeatsIn, AreWays, HoldsMoves, HoldsSpans, IsAdded, IsKept, IsSpan, SuitsEnv, lane_move, lane_moves_from, span_place, system_in, ways_room, within_in, AreSizes, IsSizes, stride_of, AreSizes-drop, AreSizes-index, lanes_few, product_positive, Beh, Env, Seat, Sys, Bool, List, Some, [], ap, ap₂, arith, cond, drop, eqb, get_or, inl, inr, length, not, refl, slice_get, slice_index, slice_index_or, slice_range, subst, suc, sym, true, zero, ℕ, ◌%◌, ◌&&◌, ◌*◌, ◌++◌, ◌+◌, ◌-◌, ◌/◌, ◌<◌, ◌==◌, ◌∙◌, ◌∷◌, ◌≡◌, ◌≢◌, ◌≤◌, IsIn, below, product_of, Move, Moves, NamedBeh, NamedSys, seat_of, system_of, Parts, Sizes, count, sizes_of, Span, Ways, and_parts, cases_eq, cases_lt, eq-eqb, eqb-true, false≢true, ne_eqb, not_from_false, any_from, any_true, filter_below_more, filter_in, from_below, from_map, in_below, in_filter, in_map, length-below, same_test, append_assoc, drop-append-le, drop_all, drop_more, get_or_append_left, length-append, length-map, map-append, take-append-le, take_all, beh_next, count_by-le-length, length-filter, div-add-mod', div_below, mod_below, mul-add-lt, same_from_place, filter, list_any, get_or-append_seam, is_on, lane_state_of, low_in, lanes_of, low_of, mul-le-mul_right, named_in, on_zero, slice_get-get_or, slice_get_within, with_frozen}
+use Rattle.roman_joint.proofs.Common.{same_Some, slice_get-get_or, slice_get_within, IsServiceAt, AreMovesOf, AreSeatsIn, AreWays, HoldsMoves, HoldsSpans, IsAdded, IsKept, IsSpan, SuitsEnv, lane_move, lane_moves_from, span_place, system_in, ways_room, within_in, AreSizes, IsSizes, stride_of, AreSizes-drop, AreSizes-index, lanes_few, product_positive, Beh, Env, Seat, Sys, Bool, List, Some, [], ap, ap₂, arith, cond, drop, eqb, get_or, inl, inr, length, not, refl, slice_get, slice_index, slice_index_or, slice_range, subst, suc, sym, true, zero, ℕ, ◌%◌, ◌&&◌, ◌*◌, ◌++◌, ◌+◌, ◌-◌, ◌/◌, ◌<◌, ◌==◌, ◌∙◌, ◌∷◌, ◌≡◌, ◌≢◌, ◌≤◌, IsIn, below, product_of, Move, Moves, NamedBeh, NamedSys, seat_of, system_of, Parts, Sizes, count, sizes_of, Span, Ways, and_parts, cases_eq, cases_lt, eq-eqb, eqb-true, false≢true, ne_eqb, not_from_false, any_from, any_true, filter_below_more, filter_in, from_below, from_map, in_below, in_filter, in_map, length-below, same_test, append_assoc, drop-append-le, drop_all, drop_more, get_or_append_left, length-append, length-map, map-append, take-append-le, take_all, beh_next, count_by-le-length, length-filter, div-add-mod', div_below, mod_below, mul-add-lt, same_from_place, filter, list_any, get_or-append_seam, is_on, lane_state_of, low_in, lanes_of, low_of, mul-le-mul_right, named_in, on_zero, with_frozen}
 use Rattle.std.proofs.lemmas.List.{length-drop}
 use Rattle.roman_joint.specs.declared.seat.Seat as declared
 use Rattle.roman_joint.proofs.SeatChanges.{with_seats, frozen_sizes, frozen_at}
@@ -125,16 +125,13 @@ spans_more s k e a seat beh old new seated is_beh within action long held added 
     moves_long : length new.moves.items ≡ length old.moves.items + length added.more
     moves_long = ap length added.moves ∙ length-append old.moves.items added.more
 
-    some_same : (x y : Seat) → Some x ≡ Some y → x ≡ y
-    some_same x y e = cc
-
     here : (i : ℕ) → i ≡ length old.spans.items → IsSpan s i added.span new.moves.items
     here i at = record {
       first = omega (arith, added.first, added.end, moves_long);
       last = omega (arith, added.end);
       moves_of = λ f b j other is action_other low_other seated_there.
           let (envs, actions, seats) = own_place s e a k f b j (slice_get_within s.seats k seat seated) (slice_get_within s.seats j other seated_there) within low_other action action_other (sym (at ∙ long) ∙ is) in
-          let same : seat ≡ other = some_same seat other (sym seated ∙ (ap (slice_get s.seats) seats ∙ seated_there)) in
+          let same : seat ≡ other = same_Some seat other (sym seated ∙ (ap (slice_get s.seats) seats ∙ seated_there)) in
           let range : slice_range new.moves.items added.span.first added.span.end ≡ added.more =
           ap (λ ms. slice_range ms added.span.first added.span.end) added.moves ∙ range_new old.moves.items added.more added.span.first added.span.end added.first (added.end ∙ ap length added.moves) in
           rw (← envs, ← actions, ← seats, ← same, ← is_beh, range) added.moves_of;

@@ -1,5 +1,5 @@
 -- The system after a service is frozen, dropped or added.
-use Rattle.roman_joint.proofs.Common.{Inside, IsJoint, IsJointOf, named_sys_in, ◌≡◌, ℕ, zero, suc, ◌*◌, ◌/◌, ◌<◌, ◌≤◌, ◌↔◌, Bool, true, false, if◌then◌else◌, List, [], ◌∷◌, ◌++◌, Some, slice_get, slice_index, get_or, map, length, take, drop, refl, sym, ap, ap₂, ◌∙◌, subst, arith, All, slice_get-get_or, AllByRecursion, remove, set, mul-le-mul_left, mul-le-mul_right, le-div_iff_mul-le, map_push, map-append, length-map, take-map, drop-map, All-from_recursion, All-append, All-drop, All-push, All-take, recursion_from_All, IsIn, HasNoRepeats, Sys, IsSys, IsBeh, Join, Die, after, Change, Freeze, Thaw, set_frozen, CanChange, Sizes, sizes_of, count, grown_sizes, sizes_without, MAX_SERVICES, seat_in, HasNoRepeats-push, states_frozen, remove_in, renaming_keeps, count-without, NamedBeh, NamedSys, beh_at, seat_of, system_of, cells, IsNamedSys, with_frozen, HasSameParts}
+use Rattle.roman_joint.proofs.Common.{same_Some, slice_get-get_or, Inside, IsJoint, IsJointOf, named_sys_in, ◌≡◌, ℕ, zero, suc, ◌*◌, ◌/◌, ◌<◌, ◌≤◌, ◌↔◌, Bool, true, false, if◌then◌else◌, List, [], ◌∷◌, ◌++◌, Some, slice_get, slice_index, get_or, map, length, take, drop, refl, sym, ap, ap₂, ◌∙◌, subst, arith, All, AllByRecursion, remove, set, mul-le-mul_left, mul-le-mul_right, le-div_iff_mul-le, map_push, map-append, length-map, take-map, drop-map, All-from_recursion, All-append, All-drop, All-push, All-take, recursion_from_All, IsIn, HasNoRepeats, Sys, IsSys, IsBeh, Join, Die, after, Change, Freeze, Thaw, set_frozen, CanChange, Sizes, sizes_of, count, grown_sizes, sizes_without, MAX_SERVICES, seat_in, HasNoRepeats-push, states_frozen, remove_in, renaming_keeps, count-without, NamedBeh, NamedSys, beh_at, seat_of, system_of, cells, IsNamedSys, with_frozen, HasSameParts}
 use Rattle.roman_model.specs.System as model
 use Rattle.roman_joint.specs.declared.seat.Seat.{Seat}
 use Rattle.roman_joint.proofs.Rows.{size_of_seat}
@@ -152,10 +152,7 @@ pub frozen_at : (catalogue : List NamedBeh) (seats : List Seat) (k : ℕ) (froze
     (y : model.Seat) × (slice_get (map (seat_of catalogue) seats) j ≡ Some y) × (y.beh ≡ x.beh)
 frozen_at catalogue [] k frozen j x e = (x, e, refl)
 frozen_at catalogue (seat ∷ seats) zero frozen zero x e =
-    (seat_of catalogue seat, refl, some_beh (seat_of catalogue (record { name = seat.name; behaviour = seat.behaviour; frozen = frozen; rests = seat.rests })) x e)
-  where
-    some_beh : (y z : model.Seat) → Some y ≡ Some z → y.beh ≡ z.beh
-    some_beh y z is = let same : y ≡ z = cc in ap (λ (v : model.Seat). v.beh) same
+    (seat_of catalogue seat, refl, ap (λ (y : model.Seat). y.beh) (same_Some (seat_of catalogue (record { name = seat.name; behaviour = seat.behaviour; frozen = frozen; rests = seat.rests })) x e))
 frozen_at catalogue (seat ∷ seats) zero frozen (suc j) x e = (x, e, refl)
 frozen_at catalogue (seat ∷ seats) (suc k) frozen zero x e = (x, e, refl)
 frozen_at catalogue (seat ∷ seats) (suc k) frozen (suc j) x e = frozen_at catalogue seats k frozen j x e

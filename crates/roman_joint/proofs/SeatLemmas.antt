@@ -1,5 +1,5 @@
 -- Services and their behaviours, read one after another.
-use Rattle.roman_joint.proofs.Common.{All, List, Some, [], ap, ap₂, arith, get_or, inl, inr, length, map, refl, subst, sym, take, ℕ, ◌++◌, ◌+◌, ◌-◌, ◌<◌, ◌==◌, ◌∙◌, ◌∷◌, ◌≡◌, ◌≤◌, All-map, All-push, recursion_from_All, AllByRecursion, Env, IsBeh, IsDeterministic, IsEnv, IsSys, IsIn, is_empty, IsOver, NamedBeh, NamedEnv, IsOverEnv, NamedSys, beh_at, seat_of, system_of, MAX_SERVICES, Sizes, sizes_of, length-map, length-set, map_push, take_more, take_more_set, ne_eqb, set, slice_get-get_or}
+use Rattle.roman_joint.proofs.Common.{map-map, All, List, Some, [], ap, ap₂, arith, get_or, inl, inr, length, map, refl, subst, sym, take, ℕ, ◌++◌, ◌+◌, ◌-◌, ◌<◌, ◌==◌, ◌∙◌, ◌∷◌, ◌≡◌, ◌≤◌, All-map, All-push, recursion_from_All, AllByRecursion, Env, IsBeh, IsDeterministic, IsEnv, IsSys, IsIn, is_empty, IsOver, NamedBeh, NamedEnv, IsOverEnv, NamedSys, beh_at, seat_of, system_of, MAX_SERVICES, Sizes, sizes_of, length-map, length-set, map_push, take_more, take_more_set, ne_eqb, set, slice_get-get_or}
 use Rattle.roman_model.specs.System as model
 use Rattle.roman_joint.specs.declared.seat.Seat.{Seat}
 use Rattle.roman_joint.proofs.BehaviourLemmas.{beh_read}
@@ -40,8 +40,7 @@ one_read catalogue seats sizes k size x y within room at_seat at_beh place is ov
 
 -- the seats' sizes are those of the system
 pub same_sizes : (catalogue : List NamedBeh) (seats : List Seat) → map (λ seat. (beh_at catalogue seat.behaviour).states) seats ≡ map (λ x. x.beh.states) (map (seat_of catalogue) seats)
-same_sizes catalogue [] = refl
-same_sizes catalogue (seat ∷ seats) = ap (λ ns. (beh_at catalogue seat.behaviour).states ∷ ns) (same_sizes catalogue seats)
+same_sizes catalogue seats = sym (map-map (λ x. x.beh.states) (seat_of catalogue) seats)
 
 -- what holds of the services' behaviours holds of the system's seats
 pub seats_known : (catalogue : List NamedBeh) (seats : List Seat) (env : Env) → AllByRecursion (λ seat. IsBeh env (beh_at catalogue seat.behaviour)) seats →

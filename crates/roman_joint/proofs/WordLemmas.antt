@@ -1,5 +1,5 @@
 -- The lanes of words that are combined.
-use Rattle.roman_joint.proofs.Common.{◌≡◌, ℕ, ◌+◌, ◌-◌, ◌*◌, ◌/◌, ◌%◌, ◌^◌, ◌<◌, Bool, true, false, not, ◌&&◌, ◌||◌, List, [], ◌∷◌, length, take, drop, get_or, inl, inr, sym, ap, ◌∙◌, arith, eqb, ltb, bit_and, length-drop, and-true, or-false, not-not, bit_at, list_any, cases_lt, lt-ltb, le-ltb, shr_and_one, bit_at-zero, bit_at_ones, bit_at_ones_above, bit_at_cat_low, bit_at_cat_high, bit_at_above, take_more, is_on, on_and, shr-shr, pow_pos, list_any-append}
+use Rattle.roman_joint.proofs.Common.{list_any_more, ◌≡◌, ℕ, ◌+◌, ◌-◌, ◌*◌, ◌/◌, ◌%◌, ◌^◌, ◌<◌, Bool, true, false, not, ◌&&◌, ◌||◌, List, [], ◌∷◌, length, take, drop, get_or, inl, inr, sym, ap, ◌∙◌, arith, eqb, ltb, bit_and, length-drop, and-true, or-false, bit_at, list_any, cases_lt, lt-ltb, le-ltb, shr_and_one, bit_at-zero, bit_at_ones, bit_at_ones_above, bit_at_cat_low, bit_at_cat_high, bit_at_above, is_on, on_and, shr-shr, pow_pos}
 use Rattle.std.proofs.Common.{take_all}
 pub use Rattle.roman_lanes.proofs.CallerLemmas.{on_set_same, on_set_other}
 
@@ -32,14 +32,10 @@ on_below a d i l = elim (cases_lt i 64) [
   | inr past ↦ let small : a * 2 ^ d % 2 ^ 64 < 2 ^ 64 = omega arith in ap (λ n. eqb n 1) (bit_at_above (a * 2 ^ d % 2 ^ 64) 64 i small past)
 ]
 
--- the test of one more element
-pub some_more : {X : Type 0} (p : X → Bool) (xs : List X) (i : ℕ) (d : X) → i < length xs → list_any p (take (i + 1) xs) ≡ (list_any p (take i xs) || p (get_or xs i d))
-some_more p xs i d l = ap (list_any p) (take_more xs i d l) ∙ (list_any-append p (take i xs) (get_or xs i d ∷ []) ∙ ap (λ b. list_any p (take i xs) || b) (or-false (p (get_or xs i d))))
-
 -- whether no element so far passes, with one more element
 pub none_after : {X : Type 0} (test : X → Bool) (xs : List X) (i : ℕ) (d : X) (good alive next : Bool) → i < length xs →
     alive ≡ (good && not (list_any test (take i xs))) → next ≡ (alive && not (test (get_or xs i d))) → next ≡ (good && not (list_any test (take (i + 1) xs)))
-none_after test xs i d good alive next l before here = grind (arith, some_more test xs i d l)
+none_after test xs i d good alive next l before here = grind (arith, list_any_more test xs i d l)
 
 -- the alive lanes with one more word
 pub alive_more : {X : Type 0} (test : X → Bool) (xs : List X) (i : ℕ) (d : X) (good alive word lane : ℕ) → i < length xs →
@@ -47,10 +43,6 @@ pub alive_more : {X : Type 0} (test : X → Bool) (xs : List X) (i : ℕ) (d : X
     is_on (bit_and alive word) lane ≡ (is_on good lane && not (list_any test (take (i + 1) xs)))
 alive_more test xs i d good alive word lane l before here =
     none_after test xs i d (is_on good lane) (is_on alive lane) (is_on (bit_and alive word) lane) l before (on_and alive word lane ∙ ap (λ b. is_on alive lane && b) here)
-
--- a double negation
-pub not_not : (b : Bool) → b ≡ not (not b)
-not_not b = sym (not-not b)
 
 -- the words from a place on
 pub words_from : (words : List ℕ) (from : ℕ) → take (length words - from) (drop from words) ≡ drop from words

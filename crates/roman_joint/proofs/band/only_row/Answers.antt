@@ -1,5 +1,5 @@
-use Rattle.roman_joint.proofs.Common.{◌≡◌, ℕ, ◌+◌, ◌-◌, ◌*◌, ◌^◌, ◌<◌, ◌≤◌, ◌∙◌, not, ◌&&◌, sym, ap, drop, length, slice_index, arith, get_or-drop, is_on, system_of, band_in}
-use Rattle.roman_joint.proofs.WordLemmas.{any_one, not_not}
+use Rattle.roman_joint.proofs.Common.{not-not, ◌≡◌, ℕ, ◌+◌, ◌-◌, ◌*◌, ◌^◌, ◌<◌, ◌≤◌, ◌∙◌, not, ◌&&◌, sym, ap, drop, length, slice_index, arith, get_or-drop, is_on, system_of, band_in}
+use Rattle.roman_joint.proofs.WordLemmas.{any_one}
 use Rattle.roman_joint.proofs.GoodLemmas.{known}
 use Rattle.roman_joint.proofs.BandLemmas.{band_there, alive_at}
 use Rattle.roman_joint.proofs.band.only_row.Goals as goal
@@ -38,4 +38,4 @@ returns-clause-alive c gone rows =
     let word = λ (e : ℕ). is_on (slice_index words (turn.base + i + e * r.env_rows)) lane in
     let place : from + i ≡ turn.base + i + c.from.result * r.env_rows = omega arith in
     ap (λ z. is_on z lane) (get_or-drop from words i 0 ∙ ap (slice_index words) place)
-    ∙ (not_not _ ∙ ap not (ap (λ e. not (word e)) c.from.ensures ∙ sym (any_one (λ e. not (word e)) turn.envs.now 0 (omega (arith, c.if-to-ne1.false))))))
+    ∙ (sym (not-not _) ∙ ap not (ap (λ e. not (word e)) c.from.ensures ∙ sym (any_one (λ e. not (word e)) turn.envs.now 0 (omega (arith, c.if-to-ne1.false))))))

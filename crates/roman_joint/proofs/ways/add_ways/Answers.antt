@@ -1,5 +1,4 @@
-use Rattle.roman_joint.proofs.Common.{◌≡◌, ℕ, ◌+◌, ◌<◌, ◌==◌, ◌&&◌, ◌||◌, eqb, List, length, get_or, slice_index, ap, ◌∙◌, arith, set, bit_or, cases_eq, nat_tests, get_or-set_same, get_or-set_other, length-set, is_on, on_or}
-use Rattle.roman_joint.proofs.WordLemmas.{some_more}
+use Rattle.roman_joint.proofs.Common.{list_any_more, ◌≡◌, ℕ, ◌+◌, ◌<◌, ◌==◌, ◌&&◌, ◌||◌, eqb, List, length, get_or, slice_index, ap, ◌∙◌, arith, set, bit_or, cases_eq, nat_tests, get_or-set_same, get_or-set_other, length-set, is_on, on_or}
 use Rattle.roman_joint.proofs.ways.add_ways.Goals as goal
 
 -- the lanes are added to one more way
@@ -17,5 +16,5 @@ loop-b-preserved c =
       ways = λ j lane.
           let test = λ (b : ℕ). b + c.args.up == j in
           put c.loop-b.lanes p c.args.here j lane room ∙ (ap (λ t. t || (is_on c.args.here lane && eqb p j)) (c.loop-b.invariant.ways j lane)
-          ∙ grind (arith, some_more test states i 0 (omega arith)));
+          ∙ grind (arith, list_any_more test states i 0 (omega arith)));
     }

@@ -1,15 +1,12 @@
-use Rattle.roman_joint.proofs.Common.{◌≡◌, ℕ, zero, suc, ◌+◌, ◌-◌, ◌/◌, ◌<◌, ◌==◌, true, false, not, ◌&&◌, ◌||◌, eqb, ltb, replicate, slice_index, refl, ap, ap₂, ◌∙◌, arith, list_any, lt-ltb, le-ltb, nat_tests, mod_below, is_empty, any_same, beh_next, stride_of, AreSizes-index, is_on, lane_state_of, on_zero}
+use Rattle.roman_joint.proofs.Common.{cases_lt, lt-ltb, le-ltb, inl, inr, ◌≡◌, ℕ, zero, ◌+◌, ◌-◌, ◌/◌, ◌<◌, ◌==◌, true, false, not, ◌&&◌, ◌||◌, eqb, ltb, replicate, slice_index, refl, ap, ap₂, ◌∙◌, arith, get_or-replicate, length-replicate, get_or_past, list_any, nat_tests, mod_below, is_empty, any_same, beh_next, stride_of, AreSizes-index, is_on, lane_state_of, on_zero}
 use Rattle.roman_joint.proofs.SeatLemmas.{len_empty}
 use Rattle.roman_joint.proofs.GoodLemmas.{one_more, state_is}
 use Rattle.roman_joint.proofs.ways.ways_of.Goals as goal
 
 nothing_on : (n j lane : ℕ) → is_on (slice_index (replicate n zero) j) lane ≡ false
-nothing_on n j lane = ap (λ w. is_on w lane) (nothing n j) ∙ on_zero lane
-  where
-    nothing : (n j : ℕ) → slice_index (replicate n zero) j ≡ zero
-    nothing zero j = refl
-    nothing (suc n) zero = refl
-    nothing (suc n) (suc j) = nothing n j
+nothing_on n j lane =
+    let none : slice_index (replicate n zero) j ≡ zero = elim (cases_lt j n) [ inl l ↦ get_or-replicate n j zero 0 l | inr past ↦ get_or_past (replicate n zero) j 0 (omega (arith, length-replicate n zero, past)) ] in
+    ap (λ w. is_on w lane) none ∙ on_zero lane
 
 -- the number of a way
 same_way : (b size d j : ℕ) → d < size → eqb (b + (size - 1 - d)) j ≡ eqb (b + size) (j + 1 + d)
