@@ -26,6 +26,19 @@ pub with_the_seats : (m n : NamedSys) (seats : List Seat) → HasSameParts m n �
 with_the_seats m n seats parts same =
     λ i. record { environment = parts.environment i; catalogue = parts.catalogue i; target = parts.target i; seats = same i; limit = parts.limit i }
 
+-- after a change, the named system is well formed if its cells are within the limit and its services are
+seats_known : (n : NamedSys) (seats : List Seat) (change : Change) → IsNamedSys n → CanChange change (system_of n) → system_of (with_seats n seats) ≡ after change (system_of n) → cells (system_of (with_seats n seats)) ≤ n.limit →
+    All (λ seat. seat.behaviour < length n.catalogue) seats → HasNoRepeats (map (λ seat. seat.name) seats) → IsNamedSys (with_seats n seats)
+seats_known n seats change known can is fits behaviours names = record {
+  system = subst IsSys (sym is) (changed change (system_of n) known.system can);
+  fits = fits;
+  limit = known.limit;
+  behaviours = behaviours;
+  names = names;
+  catalogue = known.catalogue;
+  target = known.target;
+}
+
 -- A service is frozen or made ready.
 
 pub frozen_set : (seats : List Seat) (k : ℕ) (x : Seat) (frozen : Bool) → x ≡ get_or seats k x →
@@ -65,17 +78,11 @@ pub frozen_sizes : (n : NamedSys) (k : ℕ) (frozen : Bool) → sizes_of (system
 frozen_sizes n k frozen = grind (arith, frozen_seats, states_frozen)
 
 pub frozen_known : (n : NamedSys) (k : ℕ) (frozen : Bool) → IsNamedSys n → k < length n.seats → IsNamedSys (with_seats n (with_frozen n.seats k frozen))
-frozen_known n k frozen known within = record {
-  system = subst IsSys (sym (frozen_system n k frozen))
-      (changed (if frozen then Freeze k else Thaw k) (system_of n) known.system (can_freeze (system_of n) k frozen (omega (arith, length-map n.seats (seat_of n.catalogue)))));
-  fits = omega (arith, ap (λ m. count m * n.environment.env.actions) (frozen_sizes n k frozen), known.fits);
-  limit = known.limit;
-  behaviours = All-from_recursion (λ seat. seat.behaviour < length n.catalogue) (with_frozen n.seats k frozen)
-      (frozen_places (length n.catalogue) n.seats k frozen (recursion_from_All (λ seat. seat.behaviour < length n.catalogue) n.seats known.behaviours));
-  names = subst HasNoRepeats (sym (frozen_names n.seats k frozen)) known.names;
-  catalogue = known.catalogue;
-  target = known.target;
-}
+frozen_known n k frozen known within =
+    seats_known n (with_frozen n.seats k frozen) (if frozen then Freeze k else Thaw k) known (can_freeze (system_of n) k frozen (omega (arith, length-map n.seats (seat_of n.catalogue)))) (frozen_system n k frozen)
+    (omega (arith, ap (λ m. count m * n.environment.env.actions) (frozen_sizes n k frozen), known.fits))
+    (All-from_recursion (λ seat. seat.behaviour < length n.catalogue) (with_frozen n.seats k frozen) (frozen_places (length n.catalogue) n.seats k frozen (recursion_from_All (λ seat. seat.behaviour < length n.catalogue) n.seats known.behaviours)))
+    (subst HasNoRepeats (sym (frozen_names n.seats k frozen)) known.names)
 
 -- A service is dropped.
 
@@ -109,15 +116,8 @@ gone_known n k x known within is =
     let fewer : count (sizes_without k (sizes_of s)) * 1 ≤ count (sizes_without k (sizes_of s)) * slice_index (sizes_of s).seats k = mul-le-mul_left (count (sizes_without k (sizes_of s))) some in
     let less : count (sizes_without k (sizes_of s)) ≤ count (sizes_of s) = omega arith in
     let cells_less : count (sizes_without k (sizes_of s)) * s.env.actions ≤ count (sizes_of s) * s.env.actions = mul-le-mul_right s.env.actions less in
-    record {
-      system = subst IsSys (sym (gone_system n k seat)) (changed (Die k seat) s known.system seated);
-      fits = omega (arith, ap (λ m. count m * s.env.actions) (gone_sizes n k), cells_less, known.fits);
-      limit = known.limit;
-      behaviours = All-remove (λ y. y.behaviour < length n.catalogue) n.seats k known.behaviours;
-      names = subst HasNoRepeats (sym (map-remove (λ (y : Seat). y.name) n.seats k)) (HasNoRepeats-remove (map (λ (y : Seat). y.name) n.seats) k known.names);
-      catalogue = known.catalogue;
-      target = known.target;
-    }
+    seats_known n (remove n.seats k) (Die k seat) known seated (gone_system n k seat) (omega (arith, ap (λ m. count m * s.env.actions) (gone_sizes n k), cells_less, known.fits)) (All-remove (λ y. y.behaviour < length n.catalogue) n.seats k known.behaviours)
+    (subst HasNoRepeats (sym (map-remove (λ (y : Seat). y.name) n.seats k)) (HasNoRepeats-remove (map (λ (y : Seat). y.name) n.seats) k known.names))
 
 -- A service is added.
 
@@ -130,16 +130,10 @@ joined_sizes n seat = grind (arith, map_push)
 pub joined_known : (n : NamedSys) (seat : Seat) → IsNamedSys n → length n.seats < MAX_SERVICES → seat.behaviour < length n.catalogue →
     IsBeh n.environment.env (beh_at n.catalogue seat.behaviour) → (IsIn seat.name (map (λ (y : Seat). y.name) n.seats) → ⊥) →
     cells (after (Join (seat_of n.catalogue seat)) (system_of n)) ≤ n.limit → IsNamedSys (with_seats n (n.seats ++ seat ∷ []))
-joined_known n seat known room place beh new fits = record {
-  system = subst IsSys (sym (joined_system n seat))
-      (changed (Join (seat_of n.catalogue seat)) (system_of n) known.system (beh, omega (arith, length-map n.seats (seat_of n.catalogue))));
-  fits = subst (λ x. x ≤ n.limit) (sym (ap cells (joined_system n seat))) fits;
-  limit = known.limit;
-  behaviours = All-push (λ y. y.behaviour < length n.catalogue) n.seats seat known.behaviours place;
-  names = subst HasNoRepeats (sym (map_push (λ (y : Seat). y.name) n.seats seat)) (HasNoRepeats-push (map (λ (y : Seat). y.name) n.seats) seat.name known.names new);
-  catalogue = known.catalogue;
-  target = known.target;
-}
+joined_known n seat known room place beh new fits =
+    seats_known n (n.seats ++ seat ∷ []) (Join (seat_of n.catalogue seat)) known (beh, omega (arith, length-map n.seats (seat_of n.catalogue))) (joined_system n seat) (subst (λ x. x ≤ n.limit) (sym (ap cells (joined_system n seat))) fits)
+    (All-push (λ y. y.behaviour < length n.catalogue) n.seats seat known.behaviours place)
+    (subst HasNoRepeats (sym (map_push (λ (y : Seat). y.name) n.seats seat)) (HasNoRepeats-push (map (λ (y : Seat). y.name) n.seats) seat.name known.names new))
 
 -- the grown pairs fit exactly if the grown cells are within the limit, for numbers that are equal to the system's
 pub joined_test : (n : NamedSys) (seat : Seat) (m : Sizes) (size actions : ℕ) → IsNamedSys n → m ≡ sizes_of (system_of n) → size ≡ (beh_at n.catalogue seat.behaviour).states →
