@@ -11,14 +11,14 @@ pub use Rattle.std.proofs.lemmas.List.Elements.{All-append, All-drop, All-from_r
 pub use Rattle.std.proofs.lemmas.List.Folds.{find-append, list_any_more}
 pub use Rattle.std.proofs.lemmas.List.Sums.{count_by-le-length, length-filter, sum_by-append, sum_by-cons}
 pub use Rattle.std.proofs.lemmas.Nat.{div-add-mod', div-mul-add, div_below, mod-mul-add, mod_below, mul-add-lt, mul-le, pow_pos, same_from_place, shr-shr}
-pub use Rattle.std.proofs.lemmas.Nat.Bits.{bit_at-zero, bit_at_above, bit_at_cat_high, bit_at_cat_low, bit_at_ones, bit_at_ones_above, shr_and_one}
+pub use Rattle.std.proofs.lemmas.Nat.Bits.{bit_at-zero, bit_at_above, bit_at_cat_high, bit_at_cat_low, shr_and_one}
 pub use Rattle.std.proofs.lemmas.Option.{get_or_from_slice_get, same_Some, slice_get-get_or, slice_get-map, slice_get_past, slice_get_within}
 pub use Rattle.std.proofs.lemmas.Simd.{Each1-get_or, get_or-replicate, get_or-zip2, length-replicate, length-zip2, shifts_fit_splat, zip2_splat, zip2_splat_left}
 pub use Rattle.std.specs.Int.{bit_at, bit_not, w64}
 pub use Rattle.std.specs.List.{AllByRecursion, filter, find, flat_map, list_any, remove}
 pub use Rattle.std.specs.Option.{IsSome, option_map, option_or}
 pub use Rattle.std.specs.Prelude.{bit_or}
-pub use Rattle.roman_lanes.proofs.CallerLemmas.{on_and, on_not, on_ones, on_or, on_zero}
+pub use Rattle.roman_lanes.proofs.CallerLemmas.{on_and, on_full, on_full_past, on_not, on_ones, on_or, on_zero}
 unfoldable pub use Rattle.roman_lanes.specs.Flags.{has_flag}
 pub use Rattle.roman_lanes.specs.Rows.{AreRows, HasLanes, Keeps}
 unfoldable pub use Rattle.roman_lanes.specs.Rows.{is_on}
@@ -40,7 +40,7 @@ pub use Rattle.roman_rules.proofs.CallerLemmas.{action_counted, has_good, mask_a
 pub use Rattle.roman_rules.specs.Bits.{HasBits, bit_of}
 pub use Rattle.roman_rules.specs.Numbered.{IsNumbered}
 pub use Rattle.roman_joint.specs.Backward.{from_action, from_all, from_env, from_seat, from_states, from_target, seat_prev}
-pub use Rattle.roman_joint.specs.Bands.{AllAlive, AreRowsBefore, LosesRun, band_in, mid_in, turn_at}
+pub use Rattle.roman_joint.specs.Bands.{AllAlive, AreRowsBefore, ClearsAllServed, LosesRun, band_in, fails, mid_in, turn_at}
 pub use Rattle.roman_joint.specs.Behaviours.{IsSeatBehaviour, IsServiceAt}
 pub use Rattle.roman_joint.specs.Changes.{with_frozen}
 pub use Rattle.roman_joint.specs.Layout.{IsJoint, IsJointOf, named_sys_in}
@@ -60,8 +60,8 @@ pub use Rattle.roman_joint.specs.declared.moves.Move.{Move}
 pub use Rattle.roman_joint.specs.declared.moves.Moves.{Moves}
 pub use Rattle.roman_joint.specs.declared.moves.Span.{Span}
 pub use Rattle.roman_joint.specs.declared.outcomes.Outcomes.{Outcomes}
-pub use Rattle.roman_joint.specs.declared.parts.Parts.{Parts}
 pub use Rattle.roman_joint.specs.declared.row.Row.{Row}
+pub use Rattle.roman_joint.specs.declared.seat.Parts.{Parts}
 pub use Rattle.roman_joint.specs.declared.target_view.TargetView.{TargetView}
 pub use Rattle.roman_joint.specs.declared.turn.TargetMove.{TargetMove}
 pub use Rattle.roman_joint.specs.declared.walk.Walk.{Walk}

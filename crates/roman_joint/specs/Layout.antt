@@ -3,7 +3,7 @@ use Rattle.std.specs.Prelude.{◌≡◌, ◌≤◌, vec_capacity}
 use Rattle.roman_model.specs.Numbers.{Sizes, sizes_of}
 use Rattle.roman_model.specs.declared.limits.TheConstants.{MAX_SERVICES}
 use Rattle.roman_joint.specs.declared.joint.Joint.TheInside.{Inside}
-use Rattle.roman_joint.specs.declared.parts.Parts.{Parts}
+use Rattle.roman_joint.specs.declared.seat.Parts.{Parts}
 use Rattle.roman_joint.specs.declared.tables.Tables.{Tables}
 use Rattle.roman_joint.specs.NamedSys.{NamedSys, system_of, IsNamedSys}
 use Rattle.roman_joint.specs.TargetViews.{AreTargetViews}

@@ -1,7 +1,7 @@
 -- The parts of a system, and joints that differ only in their services.
 use Rattle.std.specs.Prelude.{◌≡◌, ℕ}
 use Rattle.roman_joint.specs.NamedSys.{NamedSys, named_parts}
-use Rattle.roman_joint.specs.declared.parts.Parts.{Parts}
+use Rattle.roman_joint.specs.declared.seat.Parts.{Parts}
 
 -- the two have the same environment, catalogue, target and limit
 pub record HasSameParts (m n : NamedSys) : Type 0 where

@@ -19,7 +19,6 @@ mod moves;
 mod moving;
 mod numbered;
 mod outcomes;
-mod parts;
 mod row;
 mod runs;
 mod seat;

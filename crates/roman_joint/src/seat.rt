@@ -1,7 +1,7 @@
-//! The services of a system.
+//! The services of a system, and its parts, borrowed together.
 
 use roman_model::MAX_SERVICES;
-use roman_parts::Name;
+use roman_parts::{Behaviour, Environment, Name, Target};
 
 /// The number of services that a table has room for.
 pub(crate) const PLACES: usize = MAX_SERVICES as usize;
@@ -18,4 +18,13 @@ pub struct Seat {
     /// Whether the service's state must be final wherever the target's is. If not, the service is
     /// loose.
     pub rests: bool,
+}
+
+/// The parts of which a system is made.
+#[derive(Clone, Copy)]
+pub(crate) struct Parts<'a> {
+    pub(crate) environment: &'a Environment,
+    pub(crate) catalogue: &'a [Behaviour],
+    pub(crate) target: &'a Target,
+    pub(crate) seats: &'a [Seat],
 }

@@ -7,8 +7,7 @@ ghost use Rattle.roman_parts.specs.Named.{NamedEnv};
 ghost use Rattle.roman_joint.specs.NamedSys.{beh_at, system_of, cells, IsOverEnv, TargetIsOverEnv};
 ghost use Rattle.roman_joint.specs.Parts.{named_in};
 
-use crate::parts::Parts;
-use crate::seat::{PLACES, Seat};
+use crate::seat::{PLACES, Parts, Seat};
 use roman_model::MAX_SERVICES;
 use roman_parts::Behaviour;
 use roman_radix::Shape;

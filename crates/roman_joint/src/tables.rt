@@ -6,8 +6,7 @@ ghost use Rattle.roman_joint.specs.Layout.{AreTables};
 
 use crate::layout::{Rows, rows_of};
 use crate::moves::{Moves, moves_of};
-use crate::parts::Parts;
-use crate::seat::Seat;
+use crate::seat::{Parts, Seat};
 use crate::seats::copy_seats;
 use crate::target_view::{TargetView, all_target_views};
 use roman_radix::Shape;

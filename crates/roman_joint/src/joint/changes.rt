@@ -12,8 +12,7 @@ ghost use Rattle.roman_joint.specs.Changes.{with_frozen};
 use super::Joint;
 use crate::error::SeatError;
 use crate::layout::rows_of;
-use crate::parts::Parts;
-use crate::seat::Seat;
+use crate::seat::{Parts, Seat};
 use roman_model::MAX_SERVICES;
 use roman_radix::Shape;
 

@@ -4,8 +4,7 @@ ghost use Rattle.roman_joint.specs.Parts.{HasSameParts};
 
 use super::Joint;
 use crate::moves::moves_of;
-use crate::parts::Parts;
-use crate::seat::Seat;
+use crate::seat::{Parts, Seat};
 use crate::seats::copy_seats;
 use roman_parts::Behaviour;
 use std::alloc::{AllocError, Global};
