@@ -1,12 +1,10 @@
 -- The lanes of words that are combined.
-use Rattle.roman_joint.proofs.Common.{list_any_more, ◌≡◌, ℕ, ◌+◌, ◌-◌, ◌*◌, ◌/◌, ◌%◌, ◌^◌, ◌<◌, Bool, true, false, not, ◌&&◌, ◌||◌, List, [], ◌∷◌, length, take, drop, get_or, inl, inr, sym, ap, ◌∙◌, arith, eqb, ltb, bit_and, length-drop, and-true, or-false, bit_at, list_any, cases_lt, lt-ltb, le-ltb, shr_and_one, bit_at-zero, bit_at_ones, bit_at_ones_above, bit_at_cat_low, bit_at_cat_high, bit_at_above, is_on, on_and, shr-shr, pow_pos}
+use Rattle.roman_joint.proofs.Common.{on_full, on_full_past, on_and, list_any_more, ◌≡◌, ℕ, ◌+◌, ◌-◌, ◌*◌, ◌/◌, ◌%◌, ◌^◌, ◌<◌, Bool, true, false, not, ◌&&◌, ◌||◌, List, [], ◌∷◌, length, take, drop, get_or, inl, inr, sym, ap, ◌∙◌, arith, eqb, bit_and, length-drop, and-true, or-false, bit_at, list_any, cases_lt, lt-ltb, le-ltb, shr_and_one, bit_at-zero, bit_at_cat_low, bit_at_cat_high, bit_at_above, is_on, shr-shr, pow_pos}
 use Rattle.std.proofs.Common.{take_all}
 pub use Rattle.roman_lanes.proofs.CallerLemmas.{on_set_same, on_set_other}
 
--- the first lanes
-pub on_first : (k i : ℕ) → is_on (2 ^ k - 1) i ≡ ltb i k
-unfolding is_on
-on_first k i = grind (arith, bit_at_ones, bit_at_ones_above, cases_lt, le-ltb, lt-ltb)
+-- the first lanes of a full word
+pub ruleset first_lanes = (cases_lt, le-ltb, lt-ltb, on_full, on_full_past)
 
 pub on_shr : (a d i j : ℕ) → j ≡ d + i → is_on (a / 2 ^ d) i ≡ is_on a j
 unfolding is_on

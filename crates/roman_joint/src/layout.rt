@@ -78,6 +78,7 @@ fn scaled(stride: u32, lanes: u32, in_rows: bool) -> u32
 }
 
 /// Returns the word with the first `lanes` lanes set.
+#[tactic(auto, using(crate::proofs::WordLemmas::first_lanes))]
 fn all_lanes(lanes: u32) -> u64
     requires { (0 < lanes) × (lanes ≤ 64) }
     ensures { (lane : ℕ) → is_on result lane ≡ ltb lane lanes }
@@ -86,6 +87,7 @@ fn all_lanes(lanes: u32) -> u64
 }
 
 /// Returns the lanes in which a service of the given stride and size is in its first state.
+#[tactic(auto, using(crate::proofs::GoodLemmas::lane_steps))]
 fn first_lanes(stride: u32, size: u8) -> u64
     requires stride { 0 < stride }
     requires size { 0 < size }

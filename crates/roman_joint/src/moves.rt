@@ -6,7 +6,7 @@ ghost use Rattle.roman_joint.specs.Rows.{AreRowsOf};
 ghost use Rattle.roman_joint.specs.Moves.{lane_moves_from, system_in, AreSeatsIn, SuitsWays, SuitsEnv, HoldsTurns, HoldsMoves, HasPlaces, IsAdded};
 
 use crate::layout::Rows;
-use crate::parts::Parts;
+use crate::seat::Parts;
 use crate::ways::{Ways, ways_of};
 use roman_model::MAX_SERVICES;
 use roman_parts::Behaviour;
@@ -59,13 +59,6 @@ pub(crate) fn part(moves: &[Move], first: u32, end: u32) -> &[Move]
     &moves[first as usize..end as usize]
 }
 
-/// Returns `a - b`, or 0 where `b` is greater.
-fn beyond(a: u8, b: u8) -> u32
-    ensures { result ≡ a - b }
-{
-    if a > b { u32::from(a - b) } else { 0 }
-}
-
 /// Adds the move of a way, if some lane moves in that way.
 fn push_way(moves: &mut Vec<Move>, lanes: u64, j: u8, last: u8, stride: u32)
     requires room { vec_len moves.old < vec_capacity moves.old }
@@ -79,8 +72,8 @@ fn push_way(moves: &mut Vec<Move>, lanes: u64, j: u8, last: u8, stride: u32)
     }
     moves.push_reserved(Move {
         lanes,
-        from: beyond(last, j) * stride,
-        to: beyond(j, last) * stride,
+        from: u32::from(last.saturating_sub(j)) * stride,
+        to: u32::from(j.saturating_sub(last)) * stride,
     });
 }
 

@@ -38,26 +38,6 @@ pub(crate) fn all_alive(words: &[u64], rows: &Outcomes<'_>, good: u64) -> u64
     alive
 }
 
-/// Returns the words whose lane l is lane `l + by` of the given ones.
-#[inline(always)]
-fn moved_down<const N: usize>(words: Simd<u64, N>, by: u64) -> Simd<u64, N>
-    requires { by < 64 }
-    ensures long { length result ≡ N }
-    ensures each { (i lane : ℕ) → i < N → is_on (slice_index result i) lane ≡ is_on (slice_index words.entry i) (by + lane) }
-{
-    words >> Simd::<u64, N>::splat(by)
-}
-
-/// Returns the words whose lane `l + by` is lane l of the given ones.
-#[inline(always)]
-fn moved_up<const N: usize>(words: Simd<u64, N>, by: u64) -> Simd<u64, N>
-    requires { by < 64 }
-    ensures long { length result ≡ N }
-    ensures each { (i lane : ℕ) → i < N → by + lane < 64 → is_on (slice_index result i) (by + lane) ≡ is_on (slice_index words.entry i) lane }
-{
-    words << Simd::<u64, N>::splat(by)
-}
-
 /// Returns the words whose lane l is lane `l + to - from` of the given ones.
 #[inline(always)]
 fn shifted<const N: usize>(words: Simd<u64, N>, from: u32, to: u32) -> Simd<u64, N>
@@ -67,10 +47,9 @@ fn shifted<const N: usize>(words: Simd<u64, N>, from: u32, to: u32) -> Simd<u64,
     ensures each { (i lane : ℕ) → i < N → from ≤ lane → lane < 64 → lane + to - from < 64 → is_on (slice_index result i) lane ≡ is_on (slice_index words.entry i) (lane + to - from) }
 {
     if to >= from {
-        moved_down(words, u64::from(to - from))
-    } else {
-        moved_up(words, u64::from(from - to))
+        return words >> Simd::<u64, N>::splat(u64::from(to - from));
     }
+    words << Simd::<u64, N>::splat(u64::from(from - to))
 }
 
 /// Returns, for each word, the lanes that don't move, or that move to a set lane. `lanes` are the lanes
