@@ -1,10 +1,10 @@
 -- Rows of a band.
-use Rattle.roman_joint.proofs.Common.{not-not, and_assoc, length-below, any_same, part_at, AreWithin, SuitsRows, ◌||◌, ◌≡◌, ℕ, ◌+◌, ◌-◌, ◌*◌, ◌/◌, ◌%◌, ◌<◌, ◌≤◌, ◌^◌, Bool, true, false, not, ◌&&◌, List, [], length, slice_get, slice_index, inl, inr, refl, sym, ap, ap₂, ◌∙◌, subst, arith, list_any, set, cases_eq, cases_lt, mul-add-lt, mul-le, mod_below, get_or-set_same, get_or-set_other, get_or_past, IsIn, is_empty, product_of, all_below, Sys, seat_next, is_beaten, sizes_of, count, pair_at, numbered, IsSizes, stride_of, low_of, row_sizes, env_rows_of, exact, lanes_few, AreSizes-index, low_of-le, lanes_positive, row_div, row_mod, row_below, env_rows_are, count_rows, length_rows, row_size, row_stride_of, IsSizes-rows, rows_are, is_on, AreRows, Keeps, lanes_in, low_in, lane_state_of, AreRowsOf, IsRow, IsTargetMove, mid_in, band_in, turn_at, AllAlive, AreRowsBefore, Rows, Row, TargetMove, on_zero, Outcomes}
+use Rattle.roman_joint.proofs.Common.{AreLaneMoves, Move, not-not, length-below, any_same, part_at, AreWithin, SuitsRows, ◌||◌, ◌≡◌, ℕ, ◌+◌, ◌-◌, ◌*◌, ◌/◌, ◌%◌, ◌<◌, ◌≤◌, ◌^◌, Bool, true, false, not, ◌&&◌, List, [], length, slice_get, slice_index, refl, sym, ap, ap₂, ◌∙◌, subst, arith, list_any, set, cases_eq, cases_lt, mul-add-lt, mul-le, mod_below, get_or-set_same, get_or-set_other, get_or_past, IsIn, is_empty, product_of, all_below, Sys, seat_next, is_beaten, sizes_of, count, pair_at, numbered, IsSizes, stride_of, low_of, row_sizes, env_rows_of, exact, lanes_few, AreSizes-index, low_of-le, lanes_positive, row_div, row_mod, row_below, env_rows_are, count_rows, length_rows, row_size, row_stride_of, IsSizes-rows, rows_are, is_on, AreRows, Keeps, lanes_in, low_in, lane_state_of, AreRowsOf, IsRow, IsTargetMove, mid_in, band_in, turn_at, AllAlive, AreRowsBefore, Rows, Row, TargetMove, on_zero, Outcomes}
 use Rattle.roman_joint.proofs.AllowedLemmas.{cut_off, and_nothing}
 use Rattle.roman_joint.proofs.WordLemmas.{all_pass}
 use Rattle.roman_joint.proofs.SplitLemmas.{factor, positive_of, stride_rows, row_number, row_made}
 use Rattle.roman_joint.proofs.LeadLemmas.{lanes_parts, stride_positive, lane_state, lane_part, leads_before, leads_beaten}
-use Rattle.roman_joint.proofs.GoodLemmas.{Known, are_within, next_few, rows_there, alive_there, beaten_before, rows_few, suits_rows, before_there, serves_before}
+use Rattle.roman_joint.proofs.GoodLemmas.{Known, are_within, next_few, rows_there, alive_there, beaten_before, rows_few, suits_rows, before_there, before_beaten, moves_beaten}
 
 -- the i-th row of a band, from the first
 abbrev pub row_in : Sys → ℕ → Row → Row
@@ -81,6 +81,17 @@ bands_are s sizes =
     let n = sizes_of s in
     ap (λ z. z * lanes_in s) (rows_are (row_sizes n) (IsSizes-rows n sizes)) ∙ (count_rows n ∙ sym (length-below (count n)))
 
+pub bands_counted : (s : Sys) (r : Rows) → AreRowsOf (sizes_of s) r → r.rows / r.band * band_in s * lanes_in s ≡ length (numbered s).nodes
+bands_counted s r laid =
+    let rows = factor r.rows (count (row_sizes (sizes_of s))) (lanes_in s) (lanes_positive (sizes_of s).seats laid.ok.seats) (laid.rows ∙ sym (count_rows (sizes_of s))) in
+    ap₂ (λ x v. x / v * band_in s * lanes_in s) rows laid.band ∙ bands_are s laid.ok
+
+-- the first row of a band has a number of 32 bits
+pub first_fits : (s : Sys) (r : Rows) (y : ℕ) → AreRowsOf (sizes_of s) r → y * band_in s * lanes_in s < length (numbered s).nodes → y * r.band < 2 ^ 32
+first_fits s r y laid inside =
+    let least = mul-le (y * band_in s) 1 (y * band_in s) (lanes_in s) (omega arith) (lanes_positive (sizes_of s).seats laid.ok.seats) in
+    omega (arith, ap (λ m. y * m) laid.band, least, laid.ok.counted, length-below (count (sizes_of s)))
+
 module _ (s : Sys) (r : Rows) (y a : ℕ) (first : Row) (turn : TargetMove) (h : Known s (y * band_in s) first) (laid : AreRowsOf (sizes_of s) r) (ok : IsTargetMove s first a turn) where
   here : (i : ℕ) → i < band_in s → InBand s y i first
   here i l = in_band s y i first h.sizes h.looked l
@@ -132,18 +143,22 @@ module _ (s : Sys) (r : Rows) (y a : ℕ) (first : Row) (turn : TargetMove) (h :
             (band_before last k to l before of) long e b room i j,
       ))
 
-  pub serves_band : (i k word lane : ℕ) (to : Outcomes) (words : List ℕ) (gone : ℕ → Bool) → i < band_in s → k < mid_in s → length words * lanes_in s ≡ count (sizes_of s) → AreRowsBefore s first turn a k to → AreRows (lanes_in s) (λ q. not (gone q)) words → lane < lanes_in s →
-      is_on word lane ≡ not (list_any (λ e. list_any (λ b. not (is_on (slice_index words (to.base + i + e * to.env_stride + b * to.stride)) lane)) to.states.now) to.envs.now) →
-      is_on word lane ≡ not (is_beaten (numbered s) gone ((y * band_in s + i) * lanes_in s + lane) a k)
-  serves_band i k word lane to words gone l before room of rows m told =
-      serves_before s (y * band_in s + i) a k (row_in s (y * band_in s + i) first) (turn_at turn i) (record to { base = to.base + i }) (known_at i l) (turned i l) (mid_low s k before) (band_before i k to l before of)
-      word lane words gone room rows m told
+  pub band_beaten : (i k lane : ℕ) (to : Outcomes) (words : List ℕ) (gone : ℕ → Bool) → i < band_in s → k < mid_in s → length words * lanes_in s ≡ count (sizes_of s) → AreRowsBefore s first turn a k to → AreRows (lanes_in s) (λ q. not (gone q)) words → lane < lanes_in s →
+      list_any (λ e. list_any (λ b. not (is_on (slice_index words (to.base + i + e * to.env_stride + b * to.stride)) lane)) to.states.now) to.envs.now ≡ is_beaten (numbered s) gone ((y * band_in s + i) * lanes_in s + lane) a k
+  band_beaten i k lane to words gone l before room of rows m =
+      before_beaten s (y * band_in s + i) a k (row_in s (y * band_in s + i) first) (turn_at turn i) (record to { base = to.base + i }) (known_at i l) (turned i l) (mid_low s k before) (band_before i k to l before of)
+      lane words gone room rows m
 
   pub beaten_band : (i k lane : ℕ) (gone : ℕ → Bool) → i < band_in s → k < mid_in s → seat_next (slice_get s.seats k) (slice_index first.states k) first.env a ≡ [] → lane < lanes_in s →
       is_beaten (numbered s) gone ((y * band_in s + i) * lanes_in s + lane) a k ≡ true
   beaten_band i k lane gone l before none m =
       beaten_before s r (y * band_in s + i) a k lane (row_in s (y * band_in s + i) first) (turn_at turn i) gone (known_at i l) laid (turned i l) (mid_low s k before)
       (ap (λ b. seat_next (slice_get s.seats k) b first.env a) ((here i l).before k before) ∙ none) m
+
+  pub beaten_moving : (i k some lane : ℕ) (moves : List Move) (alive : List ℕ) (gone : ℕ → Bool) → i < band_in s → low_in s ≤ k → k < length s.seats → AreLaneMoves (sizes_of s) k (λ b. seat_next (slice_get s.seats k) b first.env a) some moves → AllAlive s gone turn alive → lane < lanes_in s →
+      not (is_on some lane && not (list_any (λ move. is_on move.lanes lane && not (is_on (slice_index alive i) (lane + move.to - move.from))) moves)) ≡ is_beaten (numbered s) gone ((y * band_in s + i) * lanes_in s + lane) a k
+  beaten_moving i k some lane moves alive gone l within seat are living m =
+      moves_beaten s (y * band_in s + i) a k (slice_index alive i) (row_in s (y * band_in s + i) first) (turn_at turn i) gone (known_at i l) (turned i l) within seat (living.each i l) some moves are lane m
 
 -- one more row is judged
 pub keeps_more : (s : Sys) (x i good word : ℕ) (test : ℕ → Bool) (old now : List ℕ) → i < length now → Keeps (lanes_in s) x i test old now →
@@ -271,32 +286,8 @@ pub keeps_nothing : (s : Sys) (x many : ℕ) (p : ℕ → Bool) (old now : List 
     ((i lane : ℕ) → i < many → lane < lanes_in s → false ≡ p ((x + i) * lanes_in s + lane)) → Keeps (lanes_in s) x many p old now
 keeps_nothing s x many p old now few long clear off = grind (arith, and_nothing, cases_lt, get_or_past, on_zero)
 
--- one more seat is judged
-pub keeps_seat : (s : Sys) (x many k : ℕ) (p : ℕ → ℕ → Bool) (old now new : List ℕ) → Keeps (lanes_in s) x many (λ q. all_below (p q) k) old now → Keeps (lanes_in s) x many (λ q. p q k) now new → Keeps (lanes_in s) x many (λ q. all_below (p q) (k + 1)) old new
-keeps_seat s x many k p old now new before here = grind (arith, and_assoc)
-
--- all rows are judged at once, each by a word of the lanes at which its pairs are served
-pub keeps_clear : (s : Sys) (x many : ℕ) (test : ℕ → Bool) (old new : List ℕ) → length old ≡ many → length new ≡ length old →
-    ((i : ℕ) → i < many → (good : ℕ) × ((lane : ℕ) → lane < lanes_in s → is_on good lane ≡ not (test ((x + i) * lanes_in s + lane))) × ((lane : ℕ) → is_on (slice_index new i) lane ≡ (is_on (slice_index old i) lane && not (is_on good lane)))) → Keeps (lanes_in s) x many test old new
-keeps_clear s x many test old new few long served = record {
-  each = λ i lane l m. (served i l).2 lane ∙ ap (λ b. is_on (slice_index old i) lane && b) (ap not ((served i l).1 lane m) ∙ not-not (test ((x + i) * lanes_in s + lane)));
-  others = λ i l. get_or_past new i 0 (omega (arith, l, few, long)) ∙ sym (get_or_past old i 0 (omega (arith, l, few)));
-  none = λ i lane off. elim (cases_lt i many) [
-    | inl less ↦ (served i less).2 lane ∙ ap (λ b. b && not (is_on (served i less).0 lane)) off
-    | inr past ↦ ap (λ z. is_on z lane) (get_or_past new i 0 (omega (arith, past, long, few))) ∙ on_zero lane
-  ];
-}
-
--- in the meant rows of the band that begins at row x, exactly the set lanes whose pairs pass the test stay set; no lane is newly set, and other rows stay
-pub record KeepsWhere (s : Sys) (x : ℕ) (meant : ℕ → Type 0) (test : ℕ → Bool) (old new : List ℕ) : Type 0 where
-  pub each : (i lane : ℕ) → i < band_in s → lane < lanes_in s → meant i → is_on (slice_index new i) lane ≡ (is_on (slice_index old i) lane && test ((x + i) * lanes_in s + lane))
-  pub others : (i : ℕ) → (meant i → ⊥) → slice_index new i ≡ slice_index old i
-  pub none : (i lane : ℕ) → is_on (slice_index old i) lane ≡ false → is_on (slice_index new i) lane ≡ false
-
--- the rows of one more state
-pub where_more : (s : Sys) (x b : ℕ) (digit : ℕ → ℕ) (test : ℕ → Bool) (old now new : List ℕ) → KeepsWhere s x (λ i. digit i < b) test old now → KeepsWhere s x (λ i. digit i ≡ b) test now new → KeepsWhere s x (λ i. digit i < b + 1) test old new
-where_more s x b digit test old now new before here = grind (arith, cases_lt)
-
--- the rows of all states
-pub where_all : (s : Sys) (x : ℕ) (meant : ℕ → Type 0) (test : ℕ → Bool) (old new : List ℕ) → length old ≡ band_in s → length new ≡ length old → ((i : ℕ) → i < band_in s → meant i) → KeepsWhere s x meant test old new → Keeps (lanes_in s) x (band_in s) test old new
-where_all s x meant test old new few long all h = grind (arith, get_or_past)
+-- all rows are judged at once
+pub keeps_by : (s : Sys) (x many : ℕ) (test : ℕ → Bool) (old new : List ℕ) → length old ≡ many → length new ≡ length old →
+    ((i lane : ℕ) → i < many → lane < lanes_in s → is_on (slice_index new i) lane ≡ (is_on (slice_index old i) lane && test ((x + i) * lanes_in s + lane))) →
+    ((i lane : ℕ) → i < many → is_on (slice_index old i) lane ≡ false → is_on (slice_index new i) lane ≡ false) → Keeps (lanes_in s) x many test old new
+keeps_by s x many test old new few long each none = grind (arith, cases_lt, get_or_past, on_zero)

@@ -1,5 +1,5 @@
 -- The pairs of a row at which a seat serves an action.
-use Rattle.roman_joint.proofs.Common.{not-not, and-false, IsSizes-rows, product_positive, low_of-le, lanes_few, lanes_positive, row_least, row_below, env_rows_are, row_sizes, low_of, lanes_of, env_rows_of, target_rows_of, AreWithin, SuitsRows, outcome_number, Move, AreLaneMoves, same_test, length-below, any_same, not_empty_in, triple_in_range, from_env_next, move_in_range, from_seat_next, seat_in, cases_lt, ne_eqb, eqb-true, lt-ltb, le-ltb, eq-eqb, ◌∷◌, ◌≡◌, ◌⊎◌, ℕ, ◌+◌, ◌-◌, ◌*◌, ◌/◌, ◌%◌, ◌<◌, ◌≤◌, ◌^◌, Bool, true, false, not, ◌&&◌, ◌||◌, eqb, ltb, inl, inr, List, [], length, get_or, slice_get, slice_index, IsFalse, refl, sym, ap, ap₂, ◌∙◌, subst, arith, list_any, length-map, mul-add-lt, mul-le, mod_below, div_below, div-add-mod', nat_tests, IsIn, is_empty, Sys, Seat, IsSys, seat_next, is_beaten, Sizes, sizes_of, count, numbered, IsSizes, stride_of, is_on, HasLanes, AreRows, IsNumbered, NamedSys, system_of, seat_of, IsNamedSys, lanes_in, low_in, lane_has_state, lane_state_of, AreRowsOf, IsRow, IsTargetMove, AreAlive, Rows, Row, TargetMove, on_and, on_zero, mul-add-div_right, add-mod-mod, mod-eq_of_lt, mul-mod_left, AreRowsBefore, Outcomes}
+use Rattle.roman_joint.proofs.Common.{not-not, and-false, or-false, IsSizes-rows, product_positive, low_of-le, lanes_few, lanes_positive, row_least, row_below, env_rows_are, row_sizes, low_of, lanes_of, env_rows_of, target_rows_of, AreWithin, SuitsRows, outcome_number, Move, AreLaneMoves, same_test, length-below, any_same, not_empty_in, triple_in_range, from_env_next, move_in_range, from_seat_next, seat_in, cases_lt, ne_eqb, eqb-true, lt-ltb, le-ltb, eq-eqb, cases_eq, ◌∷◌, ◌≡◌, ◌⊎◌, ℕ, ◌+◌, ◌-◌, ◌*◌, ◌/◌, ◌%◌, ◌<◌, ◌≤◌, ◌^◌, Bool, true, false, not, ◌&&◌, ◌||◌, eqb, ltb, inl, inr, List, [], length, get_or, slice_get, slice_index, IsFalse, refl, sym, ap, ap₂, ◌∙◌, subst, arith, cond, list_any, length-map, get_or-set_other, get_or-set_same, length-set, mul-add-lt, mul-le, mod_below, div_below, div-add-mod', nat_tests, IsIn, is_empty, Sys, Seat, IsSys, seat_next, is_beaten, Sizes, sizes_of, count, numbered, IsSizes, stride_of, is_on, HasLanes, AreRows, IsNumbered, NamedSys, system_of, seat_of, IsNamedSys, lanes_in, low_in, lane_has_state, lane_state_of, AreRowsOf, IsRow, IsTargetMove, AreAlive, Rows, Row, TargetMove, on_and, on_zero, mul-add-div_right, add-mod-mod, mod-eq_of_lt, mul-mod_left, AreRowsBefore, Outcomes}
 use Rattle.roman_joint.proofs.ArenaFacts.{joint_numbered}
 use Rattle.roman_joint.proofs.OutcomeLemmas.{target_in_range}
 use Rattle.roman_joint.proofs.Finds.{in_at}
@@ -142,13 +142,12 @@ module _ (s : Sys) (x a k : ℕ) (row : Row) (turn : TargetMove) (to : Outcomes)
             (λ c d. outcome_number to c d * lanes_in s + 0) h.nodes (omega (arith, h.looked.below 0 pos, all)) (before_leads 0 pos) i j,
       ))
 
-  pub serves_before : (word lane : ℕ) (words : List ℕ) (gone : ℕ → Bool) → length words * lanes_in s ≡ count (sizes_of s) → AreRows (lanes_in s) (λ q. not (gone q)) words → lane < lanes_in s →
-      is_on word lane ≡ not (list_any (λ e. list_any (λ b. not (is_on (slice_index words (outcome_number to e b)) lane)) to.states.now) to.envs.now) →
-      is_on word lane ≡ not (is_beaten (numbered s) gone (x * lanes_in s + lane) a k)
-  serves_before word lane words gone room rows l told =
-      told ∙ ap not (leads_served (numbered s) gone (x * lanes_in s + lane) a k to.envs.now to.states.now (λ e b. outcome_number to e b * lanes_in s + lane)
+  pub before_beaten : (lane : ℕ) (words : List ℕ) (gone : ℕ → Bool) → length words * lanes_in s ≡ count (sizes_of s) → AreRows (lanes_in s) (λ q. not (gone q)) words → lane < lanes_in s →
+      list_any (λ e. list_any (λ b. not (is_on (slice_index words (outcome_number to e b)) lane)) to.states.now) to.envs.now ≡ is_beaten (numbered s) gone (x * lanes_in s + lane) a k
+  before_beaten lane words gone room rows l =
+      leads_served (numbered s) gone (x * lanes_in s + lane) a k to.envs.now to.states.now (λ e b. outcome_number to e b * lanes_in s + lane)
       (λ e b. not (is_on (slice_index words (outcome_number to e b)) lane)) (before_leads lane l) (rw of.worlds ok.some) of.some
-      (λ e b i j. ap not ((rows.each (outcome_number to e b) (before_there (length words) e b room i j)).each lane l) ∙ not-not (gone (outcome_number to e b * lanes_in s + lane))))
+      (λ e b i j. ap not ((rows.each (outcome_number to e b) (before_there (length words) e b room i j)).each lane l) ∙ not-not (gone (outcome_number to e b * lanes_in s + lane)))
 
 -- the alive lanes of a turn
 pub alive_there : (s : Sys) (r : Rows) (x a alive : ℕ) (row : Row) (turn : TargetMove) (words : List ℕ) (gone : ℕ → Bool) → Known s x row → AreRowsOf (sizes_of s) r → IsTargetMove s row a turn → length words * lanes_in s ≡ count (sizes_of s) →
@@ -220,18 +219,15 @@ module _ (s : Sys) (x a k alive : ℕ) (row : Row) (turn : TargetMove) (gone : �
       (leads_lanes s row x lane a k ok.to turn.base (lane_state_of (sizes_of s) k lane) turn.envs.now (states_at lane) h.sys h.sizes h.looked l low seat refl ok.target ok.worlds refl ok.base) ok.some
       (λ b i. ap not (living.each (lane_to lane b) (lane_there lane b l i)) ∙ not-not _)
 
-  pub serves_within : (some good : ℕ) (moves : List Move) → AreLaneMoves (sizes_of s) k (λ b. seat_next (slice_get s.seats k) b row.env a) some moves →
-      ((lane : ℕ) → lane < 64 → ((move : Move) → IsIn move moves → is_on move.lanes lane ≡ true → (move.from ≤ lane) × (lane + move.to - move.from < 64)) →
-      is_on good lane ≡ (is_on some lane && not (list_any (λ move. is_on move.lanes lane && not (is_on alive (lane + move.to - move.from))) moves))) →
-      ((lane : ℕ) → is_on some lane ≡ false → is_on good lane ≡ false) → HasLanes (lanes_in s) x (λ p. not (is_beaten (numbered s) gone p a k)) good
-  serves_within some good moves are told off = record {
-    each = λ lane l.
-        let here = told lane (omega (arith, lanes_few (sizes_of s).seats)) (λ move i on. let (taken, below) = are.within move lane i l on in (taken, omega (arith, below, lanes_few (sizes_of s).seats))) in
-        let same = are.leads (λ y. not (is_on alive y)) lane l in
-        let is = beaten_within lane l in
-        grind (arith, are.each lane l);
-    rest = λ lane l. off lane (are.rest lane l);
-  }
+  pub moves_beaten : (some : ℕ) (moves : List Move) → AreLaneMoves (sizes_of s) k (λ b. seat_next (slice_get s.seats k) b row.env a) some moves → (lane : ℕ) → lane < lanes_in s →
+      not (is_on some lane && not (list_any (λ move. is_on move.lanes lane && not (is_on alive (lane + move.to - move.from))) moves)) ≡ is_beaten (numbered s) gone (x * lanes_in s + lane) a k
+  moves_beaten some moves are lane l = let same = are.leads (λ y. not (is_on alive y)) lane l in let is = beaten_within lane l in grind (arith, are.each lane l)
+
+-- the moves from a lane stay below 64 lanes
+pub moves_few : (n : Sizes) (k some lane : ℕ) (next : ℕ → List ℕ) (moves : List Move) → AreLaneMoves n k next some moves → lane < lanes_of n.seats →
+    (lane < 64) × ((move : Move) → IsIn move moves → is_on move.lanes lane ≡ true → (move.from ≤ lane) × (lane + move.to - move.from < 64))
+moves_few n k some lane next moves are l =
+    (omega (arith, lanes_few n.seats), λ move i on. let (taken, below) = are.within move lane i l on in (taken, omega (arith, below, lanes_few n.seats)))
 
 any_all : (p : ℕ → Bool) (xs : List ℕ) → ((x : ℕ) → IsIn x xs → p x ≡ true) → (is_empty xs || list_any p xs) ≡ true
 any_all p [] all = refl
@@ -251,12 +247,19 @@ pub state_is : (st size b lane : ℕ) → lane_has_state st size b lane ≡ eqb 
 unfolding lane_has_state
 state_is st size b lane = refl
 
+-- a lane that wasn't set is set exactly if the test holds
+pub set_by : (b old : Bool) → old ≡ false → cond b true old ≡ b
+set_by b old off = grind (arith, or-false)
+
+-- the lanes so far, with one more
+pub ruleset lane_steps = (cases_eq, on_zero, set_by, state_is)
+
 -- the seats before the lanes are services, of which there are few
 pub seats_few : (n : NamedSys) → IsNamedSys n → (low_in (system_of n) ≤ length n.seats) × (length n.seats ≤ 32)
 seats_few n ok = grind (arith, length-map, low_of-le)
 
-pub low_few : (n : NamedSys) (k : ℕ) → IsNamedSys n → k < low_in (system_of n) → (k < 32) × (k < length n.seats)
-low_few n k ok l = omega (arith, seats_few n ok)
+-- the states so far, with one more
+pub ruleset table_steps = (cases_eq, get_or-set_other, get_or-set_same, length-set, seats_few)
 
 -- a service has a size
 pub in_sizes : (n : NamedSys) (k : ℕ) → k < length n.seats → k < length (sizes_of (system_of n)).seats

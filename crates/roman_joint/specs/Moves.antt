@@ -16,7 +16,7 @@ use Rattle.roman_joint.specs.declared.layout.Rows.{Rows}
 use Rattle.roman_joint.specs.declared.moves.Move.{Move}
 use Rattle.roman_joint.specs.declared.moves.Span.{Span}
 use Rattle.roman_joint.specs.declared.moves.Moves.{Moves}
-use Rattle.roman_joint.specs.declared.parts.Parts.{Parts}
+use Rattle.roman_joint.specs.declared.seat.Parts.{Parts}
 use Rattle.roman_joint.specs.declared.ways.Ways.{Ways}
 
 -- these are the moves of seat k, from each lane to those of the next states of its state there; `some` are the lanes with a next state
@@ -39,11 +39,9 @@ pub record SuitsMoving (alive : List ℕ) (moves : List Move) (many : ℕ) : Typ
 
 -- the new word is the old one without those lanes of `some` from which all moves lead to alive lanes
 pub record LosesMoving (some : ℕ) (moves : List Move) (alive old new : ℕ) : Type 0 where
-  pub good : ℕ
-  pub served : (lane : ℕ) → lane < 64 → ((move : Move) → IsIn move moves → is_on move.lanes lane ≡ true → (move.from ≤ lane) × (lane + move.to - move.from < 64)) →
-      is_on good lane ≡ (is_on some lane && not (list_any (λ move. is_on move.lanes lane && not (is_on alive (lane + move.to - move.from))) moves))
-  pub within : (lane : ℕ) → is_on some lane ≡ false → is_on good lane ≡ false
-  pub left : (lane : ℕ) → is_on new lane ≡ (is_on old lane && not (is_on good lane))
+  pub each : (lane : ℕ) → lane < 64 → ((move : Move) → IsIn move moves → is_on move.lanes lane ≡ true → (move.from ≤ lane) × (lane + move.to - move.from < 64)) →
+      is_on new lane ≡ (is_on old lane && not (is_on some lane && not (list_any (λ move. is_on move.lanes lane && not (is_on alive (lane + move.to - move.from))) moves)))
+  pub none : (lane : ℕ) → is_on old lane ≡ false → is_on new lane ≡ false
 
 -- the rows are those of the sizes, seat k is within the lanes and has the behaviour, and e and a are a state of its environment and an action
 pub record SuitsWays (n : Sizes) (rows : Rows) (k : ℕ) (behaviour : NamedBeh) (e a : ℕ) : Type 0 where

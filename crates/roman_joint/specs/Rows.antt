@@ -4,10 +4,11 @@ use Rattle.std.specs.List.{list_any}
 use Rattle.roman_model.specs.Lists.{is_empty, all_below}
 use Rattle.roman_model.specs.System.{Sys, Seat, is_final}
 use Rattle.roman_model.specs.SystemArena.{env_next, beh_next}
-use Rattle.roman_model.specs.Numbers.{Sizes, sizes_of, count, pair_at}
+use Rattle.roman_model.specs.Arena.{is_beaten}
+use Rattle.roman_model.specs.Numbers.{Sizes, sizes_of, count, pair_at, numbered}
 use Rattle.roman_radix.specs.Radix.{IsSizes, stride_of}
 use Rattle.roman_radix.specs.Rows.{low_of, lanes_of, row_sizes, env_rows_of, target_rows_of}
-use Rattle.roman_lanes.specs.Rows.{is_on, AreRows}
+use Rattle.roman_lanes.specs.Rows.{is_on, AreRows, HasLanes}
 use Rattle.roman_joint.specs.TargetViews.{ArePermitted, AreLeading}
 use Rattle.roman_joint.specs.declared.layout.Rows.{Rows}
 use Rattle.roman_joint.specs.declared.row.Row.{Row}
@@ -99,3 +100,7 @@ pub record IsTurn (s : Sys) (x : ℕ) (turn : Turn) : Type 0 where
   pub to : IsTargetMove s turn.row.now turn.action turn.to
   pub action : turn.action < s.env.actions
   pub room : length turn.words.now * lanes_in s ≡ count (sizes_of s)
+
+-- the word has exactly the lanes at which seat k serves the turn's action, where `alive` has the alive lanes of the turn
+pub record AreServed (s : Sys) (turn : Turn) (alive k word : ℕ) : Type 0 where
+  pub each : (x : ℕ) (gone : ℕ → Bool) → IsRow s x turn.row.now → HasAlive s gone turn.words.now → AreAlive s gone turn.to alive → HasLanes (lanes_in s) x (λ p. not (is_beaten (numbered s) gone p turn.action k)) word

@@ -1,18 +1,18 @@
 //! The pairs of a band of rows that no service serves.
-ghost use Rattle.std.specs.Prelude.{◌≡◌, ℕ, ◌+◌, ◌*◌, ◌<◌, ◌≤◌, Bool, not, count_by, sum_by, drop, length, IfSome};
+ghost use Rattle.std.specs.Prelude.{◌≡◌, ℕ, ◌+◌, ◌*◌, ◌<◌, ◌≤◌, Bool, List, not, count_by, sum_by, drop, length, IfSome};
 ghost use Rattle.roman_model.specs.Lists.{all_below, below};
 ghost use Rattle.roman_model.specs.Arena.{is_beaten};
 ghost use Rattle.roman_model.specs.Numbers.{sizes_of, count, numbered};
 ghost use Rattle.roman_lanes.specs.Rows.{Keeps};
 ghost use Rattle.roman_joint.specs.NamedSys.{system_of};
-ghost use Rattle.roman_joint.specs.Rows.{lanes_in, low_in, HasAlive, IsRow, IsTurn};
-ghost use Rattle.roman_joint.specs.Bands.{mid_in, band_in, AllAlive, ClearsServed};
+ghost use Rattle.roman_joint.specs.Rows.{lanes_in, low_in, HasAlive, IsRow};
+ghost use Rattle.roman_joint.specs.Bands.{mid_in, band_in, AllAlive, IsBandTurn, SuitsBand, ClearsServed, ClearsAllServed};
 
 use crate::joint::Joint;
 use crate::moving::clear_moving;
 use crate::row::Row;
 use crate::runs::{BAND, Run, clear_alive, clear_state, is_clear, rows_alive_each, set_first};
-use crate::states::{moves_within, service};
+use crate::states::service;
 use crate::turn::{Turn, rows_before, target_move_of};
 use crate::words::less;
 
@@ -20,13 +20,10 @@ use crate::words::less;
 /// before the band's own.
 #[tactic(auto, using(roman_radix::proofs::CallerLemmas::lanes_few))]
 fn clear_before(joint: &Joint, turn: &Turn<'_>, k: u8, left: &mut [u64])
-    requires turn { (y : ℕ) × IsTurn (system_of joint.now) (y * band_in (system_of joint.now)) turn.now }
+    requires turn { IsBandTurn (system_of joint.now) turn.now }
     requires seat { k < mid_in (system_of joint.now) }
     requires long { length left.old ≡ band_in (system_of joint.now) }
-    ensures long { length left.new ≡ length left.old }
-    ensures left { let s = system_of joint.now in
-        (y : ℕ) (gone : ℕ → Bool) → IsRow s (y * band_in s) turn.now.row.now → HasAlive s gone turn.now.words.now →
-        Keeps (lanes_in s) (y * band_in s) (band_in s) (λ p. is_beaten (numbered s) gone p turn.now.action k) left.old left.new }
+    ensures { (alive : List ℕ) → ClearsServed (system_of joint.now) turn.now alive k left.old left.new }
 {
     let rows = joint.layout();
     let Some(to) = rows_before(joint, turn, k) else {
@@ -38,7 +35,7 @@ fn clear_before(joint: &Joint, turn: &Turn<'_>, k: u8, left: &mut [u64])
 /// Writes, for each row of a band, the alive lanes of its turn: those at which it leads to no pair
 /// that is gone, in any state of the environment.
 pub(crate) fn alive_each(joint: &Joint, turn: &Turn<'_>, alive: &mut [u64])
-    requires turn { (y : ℕ) × IsTurn (system_of joint.now) (y * band_in (system_of joint.now)) turn.now }
+    requires turn { IsBandTurn (system_of joint.now) turn.now }
     requires long { band_in (system_of joint.now) ≤ length alive.old }
     ensures long { length alive.new ≡ length alive.old }
     ensures alive { (gone : ℕ → Bool) → HasAlive (system_of joint.now) gone turn.now.words.now →
@@ -55,7 +52,7 @@ pub(crate) fn alive_each(joint: &Joint, turn: &Turn<'_>, alive: &mut [u64])
 /// Returns the only row to which the turn leads from the first row of a band. Its word and those of the
 /// next rows hold the alive lanes of each row's turn. Returns `None` where it leads to several rows.
 fn only_row(joint: &Joint, turn: &Turn<'_>) -> Option<usize>
-    requires turn { (y : ℕ) × IsTurn (system_of joint.now) (y * band_in (system_of joint.now)) turn.now }
+    requires turn { IsBandTurn (system_of joint.now) turn.now }
     ensures within { IfSome result (λ from. from + band_in (system_of joint.now) ≤ length turn.now.words.now) }
     ensures alive { (gone : ℕ → Bool) → HasAlive (system_of joint.now) gone turn.now.words.now →
         IfSome result (λ from. AllAlive (system_of joint.now) gone turn.now.to (drop from turn.now.words.now)) }
@@ -70,15 +67,11 @@ fn only_row(joint: &Joint, turn: &Turn<'_>) -> Option<usize>
 
 /// Clears, in `left`, the pairs of a band at which the seat `k` serves the action. The seat is one of
 /// the band's own. `alive` holds the alive lanes of each row's turn.
-fn clear_own(joint: &Joint, row: &Row, alive: &[u64], a: u8, k: u8, left: &mut [u64])
-    requires row { (y : ℕ) × IsRow (system_of joint.now) (y * band_in (system_of joint.now)) row.now }
-    requires action { a < (system_of joint.now).env.actions }
+fn clear_own(joint: &Joint, turn: &Turn<'_>, alive: &[u64], k: u8, left: &mut [u64])
+    requires band { SuitsBand (system_of joint.now) turn.now alive.now left.old }
     requires within { mid_in (system_of joint.now) ≤ k }
     requires seat { k < low_in (system_of joint.now) }
-    requires alive { band_in (system_of joint.now) ≤ length alive.now }
-    requires long { length left.old ≡ band_in (system_of joint.now) }
-    ensures long { length left.new ≡ length left.old }
-    ensures left { ClearsServed (system_of joint.now) row.now alive.now a k left.old left.new }
+    ensures { ClearsServed (system_of joint.now) turn.now alive.now k left.old left.new }
 {
     let rows = joint.layout();
     let (seat, behaviour) = service(joint, k);
@@ -88,7 +81,8 @@ fn clear_own(joint: &Joint, row: &Row, alive: &[u64], a: u8, k: u8, left: &mut [
     let size = rows.sizes[k as usize];
     let stride = rows.strides[k as usize];
     let blocks = rows.band / (u32::from(size) * stride);
-    let e = row.env;
+    let e = turn.row.env;
+    let a = turn.action;
     for b in 0..size {
         let states = behaviour.out(b, e, a);
         if states.is_empty() {
@@ -106,18 +100,14 @@ fn clear_own(joint: &Joint, row: &Row, alive: &[u64], a: u8, k: u8, left: &mut [
 
 /// Clears, in `left`, the pairs of a band at which the seat `k` serves the action. The seat is within
 /// the lanes. `alive` holds the alive lanes of each row's turn.
-fn clear_within(joint: &Joint, row: &Row, alive: &[u64], a: u8, k: u8, left: &mut [u64])
-    requires row { (y : ℕ) × IsRow (system_of joint.now) (y * band_in (system_of joint.now)) row.now }
-    requires action { a < (system_of joint.now).env.actions }
+fn clear_within(joint: &Joint, turn: &Turn<'_>, alive: &[u64], k: u8, left: &mut [u64])
+    requires band { SuitsBand (system_of joint.now) turn.now alive.now left.old }
     requires within { low_in (system_of joint.now) ≤ k }
     requires seat { k < length joint.now.seats }
-    requires alive { band_in (system_of joint.now) ≤ length alive.now }
-    requires long { length left.old ≡ band_in (system_of joint.now) }
-    ensures long { length left.new ≡ length left.old }
-    ensures left { ClearsServed (system_of joint.now) row.now alive.now a k left.old left.new }
+    ensures { ClearsServed (system_of joint.now) turn.now alive.now k left.old left.new }
 {
     joint.layout();
-    let (some, moves) = moves_within(joint, k, row.env, a);
+    let (some, moves) = joint.lane_moves(k, turn.row.env, turn.action);
     if some == 0 {
         return;
     }
@@ -127,37 +117,25 @@ fn clear_within(joint: &Joint, row: &Row, alive: &[u64], a: u8, k: u8, left: &mu
 /// Clears, in `left`, the pairs of a band at which the seat `k` serves the action. `alive` holds the
 /// alive lanes of each row's turn.
 fn clear_seat(joint: &Joint, turn: &Turn<'_>, alive: &[u64], k: u8, left: &mut [u64])
-    requires turn { (y : ℕ) × IsTurn (system_of joint.now) (y * band_in (system_of joint.now)) turn.now }
+    requires band { SuitsBand (system_of joint.now) turn.now alive.now left.old }
     requires seat { k < length joint.now.seats }
-    requires alive { band_in (system_of joint.now) ≤ length alive.now }
-    requires long { length left.old ≡ band_in (system_of joint.now) }
-    ensures long { length left.new ≡ length left.old }
-    ensures left { let s = system_of joint.now in
-        (y : ℕ) (gone : ℕ → Bool) → IsRow s (y * band_in s) turn.now.row.now → HasAlive s gone turn.now.words.now →
-        AllAlive s gone turn.now.to alive.now →
-        Keeps (lanes_in s) (y * band_in s) (band_in s) (λ p. is_beaten (numbered s) gone p turn.now.action k) left.old left.new }
+    ensures { ClearsServed (system_of joint.now) turn.now alive.now k left.old left.new }
 {
     let rows = joint.layout();
     if k < rows.mid {
         clear_before(joint, turn, k, left);
     } else if k < rows.low {
-        clear_own(joint, turn.row, alive, turn.action, k, left);
+        clear_own(joint, turn, alive, k, left);
     } else {
-        clear_within(joint, turn.row, alive, turn.action, k, left);
+        clear_within(joint, turn, alive, k, left);
     }
 }
 
 /// Clears, in `left`, the pairs of a band at which some seat serves the action. `alive` holds the alive
 /// lanes of each row's turn.
 fn clear_seats(joint: &Joint, turn: &Turn<'_>, alive: &[u64], left: &mut [u64])
-    requires turn { (y : ℕ) × IsTurn (system_of joint.now) (y * band_in (system_of joint.now)) turn.now }
-    requires alive { band_in (system_of joint.now) ≤ length alive.now }
-    requires long { length left.old ≡ band_in (system_of joint.now) }
-    ensures long { length left.new ≡ length left.old }
-    ensures left { let s = system_of joint.now in
-        (y : ℕ) (gone : ℕ → Bool) → IsRow s (y * band_in s) turn.now.row.now → HasAlive s gone turn.now.words.now →
-        AllAlive s gone turn.now.to alive.now →
-        Keeps (lanes_in s) (y * band_in s) (band_in s) (λ p. all_below (is_beaten (numbered s) gone p turn.now.action) (length s.seats)) left.old left.new }
+    requires { SuitsBand (system_of joint.now) turn.now alive.now left.old }
+    ensures { ClearsAllServed (system_of joint.now) turn.now alive.now (length (system_of joint.now).seats) left.old left.new }
 {
     for k in 0..joint.seats() {
         if is_clear(left) {
@@ -170,7 +148,7 @@ fn clear_seats(joint: &Joint, turn: &Turn<'_>, alive: &[u64], left: &mut [u64])
 /// Clears, in `left`, the pairs of a band at which some seat serves the action.
 #[tactic(auto, using(roman_radix::proofs::CallerLemmas::lanes_few))]
 pub(crate) fn clear_served(joint: &Joint, turn: &Turn<'_>, left: &mut [u64])
-    requires turn { (y : ℕ) × IsTurn (system_of joint.now) (y * band_in (system_of joint.now)) turn.now }
+    requires turn { IsBandTurn (system_of joint.now) turn.now }
     requires long { length left.old ≡ band_in (system_of joint.now) }
     ensures long { length left.new ≡ length left.old }
     ensures left { let s = system_of joint.now in
@@ -189,7 +167,7 @@ pub(crate) fn clear_served(joint: &Joint, turn: &Turn<'_>, left: &mut [u64])
 /// Returns the number of pairs of a band at which the seat `k` serves the action. `alive` holds the
 /// alive lanes of each row's turn.
 pub(crate) fn served_by(joint: &Joint, turn: &Turn<'_>, alive: &[u64], k: u8) -> u32
-    requires turn { (y : ℕ) × IsTurn (system_of joint.now) (y * band_in (system_of joint.now)) turn.now }
+    requires turn { IsBandTurn (system_of joint.now) turn.now }
     requires seat { k < length joint.now.seats }
     requires alive { band_in (system_of joint.now) ≤ length alive.now }
     ensures counted { let s = system_of joint.now in

@@ -4,12 +4,10 @@ ghost use Rattle.roman_model.specs.Arena.{is_beaten};
 ghost use Rattle.roman_model.specs.Numbers.{sizes_of, count, numbered};
 ghost use Rattle.roman_lanes.specs.Rows.{HasLanes};
 ghost use Rattle.roman_joint.specs.NamedSys.{system_of};
-ghost use Rattle.roman_joint.specs.Rows.{lanes_in, low_in, HasAlive, IsRow, IsTargetMove, IsTurn, AreAlive};
-ghost use Rattle.roman_joint.specs.declared.turn.TargetMove.{TargetMove};
+ghost use Rattle.roman_joint.specs.Rows.{lanes_in, low_in, HasAlive, IsRow, IsTurn, AreAlive, AreServed};
 
 use crate::joint::Joint;
 use crate::row::Row;
-use crate::states::moves_within;
 use crate::turn::{Turn, rows_before, target_move_of};
 use crate::words::{all_alive, moves_alive, rows_alive};
 
@@ -18,9 +16,7 @@ use crate::words::{all_alive, moves_alive, rows_alive};
 fn good_before(joint: &Joint, turn: &Turn<'_>, k: u8) -> u64
     requires turn { (x : ℕ) × IsTurn (system_of joint.now) x turn.now }
     requires seat { k < low_in (system_of joint.now) }
-    ensures { let s = system_of joint.now in
-        (x : ℕ) (gone : ℕ → Bool) → IsRow s x turn.now.row.now → HasAlive s gone turn.now.words.now →
-        HasLanes (lanes_in s) x (λ p. not (is_beaten (numbered s) gone p turn.now.action k)) result }
+    ensures { (alive : ℕ) → AreServed (system_of joint.now) turn.now alive k result }
 {
     let rows = joint.layout();
     let Some(to) = rows_before(joint, turn, k) else {
@@ -44,18 +40,14 @@ pub(crate) fn alive_on(joint: &Joint, turn: &Turn<'_>) -> u64
 /// Returns the lanes at which a seat within the lanes serves the action. `alive` holds the alive lanes
 /// of the turn.
 #[inline(always)]
-fn good_within(joint: &Joint, row: &Row, alive: u64, a: u8, k: u8) -> u64
-    requires row { (x : ℕ) × IsRow (system_of joint.now) x row.now }
-    requires action { a < (system_of joint.now).env.actions }
+fn good_within(joint: &Joint, turn: &Turn<'_>, alive: u64, k: u8) -> u64
+    requires turn { (x : ℕ) × IsTurn (system_of joint.now) x turn.now }
     requires within { low_in (system_of joint.now) ≤ k }
     requires seat { k < length joint.now.seats }
-    ensures { let s = system_of joint.now in
-        (x : ℕ) (gone : ℕ → Bool) (turn : TargetMove) → IsRow s x row.now →
-        IsTargetMove s row.now a turn → AreAlive s gone turn alive →
-        HasLanes (lanes_in s) x (λ p. not (is_beaten (numbered s) gone p a k)) result }
+    ensures { AreServed (system_of joint.now) turn.now alive k result }
 {
     joint.known(); // outcomes need an allowed action and a ready seat
-    let (some, moves) = moves_within(joint, k, row.env, a);
+    let (some, moves) = joint.lane_moves(k, turn.row.env, turn.action);
     moves_alive(alive, moves, some)
 }
 
@@ -64,15 +56,12 @@ fn good_within(joint: &Joint, row: &Row, alive: u64, a: u8, k: u8) -> u64
 pub(crate) fn good_on(joint: &Joint, turn: &Turn<'_>, alive: u64, k: u8) -> u64
     requires turn { (x : ℕ) × IsTurn (system_of joint.now) x turn.now }
     requires seat { k < length joint.now.seats }
-    ensures { let s = system_of joint.now in
-        (x : ℕ) (gone : ℕ → Bool) → IsRow s x turn.now.row.now → HasAlive s gone turn.now.words.now →
-        AreAlive s gone turn.now.to alive →
-        HasLanes (lanes_in s) x (λ p. not (is_beaten (numbered s) gone p turn.now.action k)) result }
+    ensures { AreServed (system_of joint.now) turn.now alive k result }
 {
     if k < joint.layout().low {
         good_before(joint, turn, k)
     } else {
-        good_within(joint, turn.row, alive, turn.action, k)
+        good_within(joint, turn, alive, k)
     }
 }
 

@@ -6,8 +6,8 @@ ghost use Rattle.roman_model.specs.declared.limits.TheConstants.{MAX_SERVICES, M
 ghost use Rattle.roman_joint.specs.Behaviours.{IsSeatBehaviour};
 ghost use Rattle.roman_joint.specs.NamedSys.{NamedSys, named_parts, system_of, cells, IsOverEnv, TargetIsOverEnv, IsNamedSys};
 ghost use Rattle.roman_joint.specs.Rows.{AreRowsOf, low_in};
-ghost use Rattle.roman_joint.specs.Moves.{AreMovesOf, HoldsMoves};
-ghost use Rattle.roman_model.specs.System as model;
+ghost use Rattle.roman_joint.specs.Moves.{AreLaneMoves, HoldsMoves};
+ghost use Rattle.roman_model.specs.SystemArena.{seat_next};
 
 mod changes;
 mod copies;
@@ -18,8 +18,7 @@ mod walks;
 use crate::error::JointError;
 use crate::layout::Rows;
 use crate::moves::{Move, Moves, part};
-use crate::parts::Parts;
-use crate::seat::Seat;
+use crate::seat::{Parts, Seat};
 use crate::seats::shape_of;
 use crate::tables::tables_of;
 use crate::target_view::TargetView;
@@ -201,15 +200,18 @@ impl Joint {
     }
 
     // Returns the moves of the service at place `k`, within the lanes, on an action in a state of the
-    // environment: the lanes from which its behaviour has a step, and the moves of these lanes. They
-    // don't depend on whether the service is frozen.
+    // environment: the lanes from which it has a step, and the moves of these lanes. A frozen service
+    // has none.
     pub(crate) fn lane_moves(&self, k: u8, e: u8, a: u8) -> (u64, &[Move])
         requires within { low_in (system_of self.now) ≤ k }
         requires seat { k < length self.now.seats }
         requires env { e < (system_of self.now).env.states }
         requires action { a < (system_of self.now).env.actions }
-        ensures { (seat : model.Seat) → slice_get (system_of self.now).seats k ≡ Some seat → AreMovesOf (sizes_of (system_of self.now)) k seat.beh e a result.0 result.1.now }
+        ensures { AreLaneMoves (sizes_of (system_of self.now)) k (λ b. seat_next (slice_get (system_of self.now).seats k) b e a) result.0 result.1.now }
     {
+        if self.seat(k).frozen {
+            return (0, &[]);
+        }
         let rows = self.layout();
         let table = self.table();
         let turn = u32::from(e) * table.actions + u32::from(a);

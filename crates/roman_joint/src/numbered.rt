@@ -90,6 +90,7 @@ impl Rules for Joint {
         }
     }
 
+    #[tactic(auto, using(crate::proofs::ArenaFacts::pair_count, crate::proofs::BandLemmas::first_fits))]
     fn first_row(&self, y: u32) -> Row {
         self.row(y * self.layout().band)
     }

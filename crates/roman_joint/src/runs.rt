@@ -80,22 +80,6 @@ pub(crate) fn all_alive_each(all: &mut [u64], words: &[u64], rows: &Outcomes<'_>
 }
 
 /// Clears, in each word of `left`, the lanes of `full` that are set in all rows of the word: the rows
-/// of word i are the numbers of `rows`, each plus i.
-fn clear_by_all(left: &mut [u64], words: &[u64], rows: &Outcomes<'_>, full: u64)
-    requires few { length left.old ≤ 64 }
-    requires rows { SuitsRows rows.now (length left.old) (length words.now) }
-    ensures long { length left.new ≡ length left.old }
-    ensures each { (i : ℕ) → i < length left.old → LosesAlive rows.now words.now full i (slice_index left.old i) (slice_index left.new i) }
-{
-    let mut room = [0; BAND];
-    let many = left.len();
-    let all = &mut room[..many];
-    set_first(all, many, full);
-    all_alive_each(all, words, rows);
-    less(left, all);
-}
-
-/// Clears, in each word of `left`, the lanes of `full` that are set in all rows of the word: the rows
 /// of word i are the numbers of `rows`, each plus i. There are at most 64 words in `left`.
 pub(crate) fn clear_alive(left: &mut [u64], words: &[u64], rows: &Outcomes<'_>, full: u64)
     requires few { length left.old ≤ 64 }
@@ -104,7 +88,12 @@ pub(crate) fn clear_alive(left: &mut [u64], words: &[u64], rows: &Outcomes<'_>, 
     ensures each { (i : ℕ) → i < length left.old → LosesAlive rows.now words.now full i (slice_index left.old i) (slice_index left.new i) }
 {
     if rows.envs.len() != 1 || rows.states.len() != 1 {
-        clear_by_all(left, words, rows, full);
+        let mut room = [0; BAND];
+        let many = left.len();
+        let all = &mut room[..many];
+        set_first(all, many, full);
+        all_alive_each(all, words, rows);
+        less(left, all);
         return;
     }
     let from = rows.number(rows.envs[0], rows.states[0]) as usize;
@@ -194,7 +183,6 @@ fn clear_run(left: &mut [u64], to: usize, run: &Run<'_>)
     ensures each { (j : ℕ) → j < run.now.stride → LosesRun run.now j (slice_index left.old (to + j)) (slice_index left.new (to + j)) }
     ensures below { (i : ℕ) → i < to → slice_index left.new i ≡ slice_index left.old i }
     ensures above { (i : ℕ) → to + run.now.stride ≤ i → slice_index left.new i ≡ slice_index left.old i }
-    ensures none { (i lane : ℕ) → is_on (slice_index left.old i) lane ≡ false → is_on (slice_index left.new i) lane ≡ false }
 {
     change_run(&mut left[to..to + run.stride], run);
 }
@@ -210,7 +198,6 @@ pub(crate) fn clear_state(left: &mut [u64], run: &Run<'_>, b: u8, size: u8, bloc
     ensures each { (i : ℕ) → i < length left.old → i / run.now.stride % size ≡ b →
         LosesRun run.now (i - b * run.now.stride) (slice_index left.old i) (slice_index left.new i) }
     ensures others { (i : ℕ) → i / run.now.stride % size ≢ b → slice_index left.new i ≡ slice_index left.old i }
-    ensures none { (i lane : ℕ) → is_on (slice_index left.old i) lane ≡ false → is_on (slice_index left.new i) lane ≡ false }
 {
     let step = usize::from(size) * run.stride;
     let own = usize::from(b) * run.stride;

@@ -8,12 +8,10 @@ ghost use Rattle.roman_lanes.specs.Rows.{is_on};
 ghost use Rattle.roman_joint.specs.NamedSys.{system_of};
 ghost use Rattle.roman_joint.specs.Backward.{seat_prev};
 ghost use Rattle.roman_joint.specs.Behaviours.{IsServiceAt};
-ghost use Rattle.roman_joint.specs.Moves.{AreLaneMoves};
 ghost use Rattle.roman_joint.specs.Rows.{low_in, lane_has_state, lane_state_of, AreRowsOf, may_rest as may_rest_in};
 
 use crate::joint::Joint;
 use crate::layout::Rows;
-use crate::moves::Move;
 use crate::seat::{PLACES, Seat};
 use roman_parts::Behaviour;
 use roman_radix::Shape;
@@ -33,7 +31,7 @@ pub(crate) fn row_state(joint: &Joint, k: u8, x: u32) -> u8
 
 /// Returns the states of the services before the lanes at the pairs of row `x`, in the first places of
 /// a table.
-#[tactic(auto, using(crate::proofs::GoodLemmas::seats_few))]
+#[tactic(auto, using(crate::proofs::GoodLemmas::table_steps))]
 pub(crate) fn row_states(joint: &Joint, x: u32) -> [u8; PLACES]
     ensures { (k : ℕ) → k < low_in (system_of joint.now) → slice_index result k ≡ lane_state_of (row_sizes (sizes_of (system_of joint.now))) k x }
 {
@@ -55,22 +53,6 @@ pub(crate) fn service(joint: &Joint, k: u8) -> (&Seat, &Behaviour)
     joint.known(); // each seat's behaviour is in the catalogue
     let seat = joint.seat(k);
     (seat, &joint.catalogue()[seat.behaviour as usize])
-}
-
-/// Returns the moves of a service within the lanes: the lanes from which it has a step, and the moves
-/// of these lanes. A frozen service has none.
-#[inline(always)]
-pub(crate) fn moves_within(joint: &Joint, k: u8, e: u8, a: u8) -> (u64, &[Move])
-    requires within { low_in (system_of joint.now) ≤ k }
-    requires seat { k < length joint.now.seats }
-    requires env { e < (system_of joint.now).env.states }
-    requires action { a < (system_of joint.now).env.actions }
-    ensures { AreLaneMoves (sizes_of (system_of joint.now)) k (λ b. seat_next (slice_get (system_of joint.now).seats k) b e a) result.0 result.1.now }
-{
-    if joint.seat(k).frozen {
-        return (0, &[]);
-    }
-    joint.lane_moves(k, e, a)
 }
 
 /// Returns the states to which a service goes from state `b`. Returns none if it is frozen.
@@ -98,9 +80,7 @@ pub(crate) fn prev_states<'a>(joint: &'a Joint, k: u8, b: u8, e: u8, a: u8) -> &
     requires action { a < (system_of joint.now).env.actions }
     ensures prev { result.now ≡ seat_prev (slice_get (system_of joint.now).seats k) b e a }
     ensures below { All (λ c. c < slice_index (sizes_of (system_of joint.now)).seats k) result.now }
-    ensures few { length result.now ≤ 64 }
 {
-    joint.known(); // a behaviour has few states
     let (seat, behaviour) = service(joint, k);
     if seat.frozen {
         return &[];

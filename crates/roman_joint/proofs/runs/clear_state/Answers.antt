@@ -57,5 +57,4 @@ loop-block-preserved c =
         ]
       ];
       above = λ i l. c.clear_run.ensures.above i (omega (arith, l, next, room, step, own)) ∙ before.above i (omega (arith, l, next));
-      none = λ i lane off. c.clear_run.ensures.none i lane (before.none i lane off);
     }

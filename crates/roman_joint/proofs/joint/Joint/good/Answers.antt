@@ -10,4 +10,4 @@ returns-in_default c x gone ok rows =
     none_served _ x (λ p. is_beaten (numbered (system_of n)) gone p c.args.a c.args.k) (λ lane l. unopened _ _ _ _ _ lane gone (joint_numbered n c.known.ensures) ok l c.in_default.ensures)
 
 pub returns : goal.returns
-returns c x gone ok rows = c.good_on.ensures x gone ok rows (c.alive_on-alive.ensures gone rows)
+returns c x gone ok rows = c.good_on.ensures.each x gone ok rows (c.alive_on-alive.ensures gone rows)

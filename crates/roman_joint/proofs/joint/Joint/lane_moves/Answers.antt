@@ -1,4 +1,5 @@
-use Rattle.roman_joint.proofs.Common.{IsSpan, span_place, within_in, Span, arith, length, refl, slice_index_or, ℕ, ◌*◌, ◌+◌, ◌-◌, ◌<◌, ◌≡◌, count, length-map, low_in, seat_of, system_of}
+use Rattle.roman_joint.proofs.Common.{IsSpan, span_place, within_in, AreLaneMoves, Span, arith, length, refl, slice_index_or, ℕ, ◌*◌, ◌+◌, ◌-◌, ◌<◌, ◌≡◌, not, [], cond, slice_get, sym, ap, subst, ◌∙◌, Option, Some, IsTrue, Bool, count, sizes_of, length-map, low_in, lane_state_of, seat_of, system_of, beh_next, seat_next, is_empty, on_zero, Seat, list_any, stride_of}
+use Rattle.roman_joint.proofs.BehaviourLemmas.{seat_read}
 use Rattle.roman_joint.proofs.MoveLemmas.{place_within}
 use Rattle.roman_joint.proofs.joint.Joint.lane_moves.Goals as goal
 use Rattle.roman_joint.proofs.joint.Joint.lane_moves.Goals.{After-from-5}
@@ -35,7 +36,28 @@ part-requires-clause-order c = ((stands (goal.at.part-requires-clause-order c).A
 pub part-requires-clause-within : goal.part-requires-clause-within
 part-requires-clause-within c = rw c.deref.ensures.value ((stands (goal.at.part-requires-clause-within c).After-from-5).span c.index-span.result.now c.index-span.ensures).last
 
+frozen_next : (o : Option Seat) (seat : Seat) (b e a : ℕ) → o ≡ Some seat → IsTrue seat.frozen → seat_next o b e a ≡ []
+frozen_next o seat b e a is frozen = ap (λ x. seat_next x b e a) is ∙ ap (λ f. cond f [] (beh_next seat.beh b e a)) frozen
+
+pub returns-then-seat : goal.returns-then-seat
+returns-then-seat c =
+    let n = c.args.self.now in
+    let none : (b : ℕ) → seat_next (slice_get (system_of n).seats c.args.k) b c.args.e c.args.a ≡ [] = λ b. frozen_next _ (seat_of n.catalogue c.seat.result.now) b c.args.e c.args.a (seat_read n c.args.k _ c.seat.ensures) c.if-seat.true in
+    record {
+      each = λ lane l. on_zero lane ∙ sym (ap (λ xs. not (is_empty xs)) (none _));
+      rest = λ lane l. on_zero lane;
+      small = λ move i. absurd i;
+      within = λ move lane i l on. absurd i;
+      leads = λ test lane l. sym (ap (list_any (λ b. test (lane + b * stride_of (sizes_of (system_of n)) c.args.k - lane_state_of (sizes_of (system_of n)) c.args.k lane * stride_of (sizes_of (system_of n)) c.args.k))) (none _));
+    }
+
 pub returns : goal.returns
-returns c seat seated =
-    rw (c.part.ensures, c.deref.ensures.value)
-    (((stands (goal.at.returns c).After-from-5).span c.index-span.result.now c.index-span.ensures).moves_of c.args.e c.args.a c.args.k seat refl c.requires.action c.requires.within seated)
+returns c =
+    let n = c.args.self.now in
+    let seat = seat_of n.catalogue c.seat.result.now in
+    let seated = seat_read n c.args.k _ c.seat.ensures in
+    let next = λ (f : Bool) (b : ℕ). cond f [] (beh_next seat.beh b c.args.e c.args.a) in
+    subst (λ o. AreLaneMoves (sizes_of (system_of n)) c.args.k (λ b. seat_next o b c.args.e c.args.a) c.index-span.result.now.some c.part.result.now) (sym seated)
+    (subst (λ f. AreLaneMoves (sizes_of (system_of n)) c.args.k (next f) c.index-span.result.now.some c.part.result.now) (sym c.if-seat.false)
+    (rw (c.part.ensures, c.deref.ensures.value)
+    (((stands (goal.at.returns c).After-from-5).span c.index-span.result.now c.index-span.ensures).moves_of c.args.e c.args.a c.args.k seat refl c.requires.action c.requires.within seated)))

@@ -12,7 +12,7 @@ loop-k-preserved c = record {
       let p = x * lanes_in (system_of n) + c.args.lane in
       let k = c.loop-k.k in
       let seat : k < A.seats = omega (arith, length-map n.seats (seat_of n.catalogue), c.serving-k-end.ensures.few, c.loop-k-test.true) in
-      let word = c.good_on-good.ensures x gone ok rows (c.alive_on-alive.ensures gone rows) in
+      let word = c.good_on-good.ensures.each x gone ok rows (c.alive_on-alive.ensures gone rows) in
       let good : eqb (bit_and (c.good_on-good.result / 2 ^ c.args.lane) 1) 1 ≡ has (mask A gone p c.args.a) k =
       ap (λ w. eqb w 1) (shr_and_one c.good_on-good.result c.args.lane) ∙ (word.each c.args.lane c.requires.lane ∙ sym (has_good A (joint_numbered n c.known.ensures) gone p c.args.a k seat)) in
       mask_more A gone p c.args.a k c.loop-k.mask c.with-mask.result _ good c.with-mask.ensures.own c.with-mask.ensures.others (c.loop-k.invariant.bits x gone ok rows) c.loop-k.invariant.rest;

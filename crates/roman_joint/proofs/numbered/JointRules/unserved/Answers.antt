@@ -27,7 +27,7 @@ loop-k-preserved c = record {
   lost = λ x gone ok rows lane l.
       let s = system_of c.args.self.now in
       let beaten = is_beaten (numbered s) gone (x * lanes_in s + lane) c.args.a in
-      c.less-left.ensures lane ∙ (ap₂ (λ u v. u && not v) (c.loop-k.invariant.lost x gone ok rows lane l) ((c.good_on-good.ensures x gone ok rows (c.alive_on-alive.ensures gone rows)).each lane l) ∙ one_more beaten c.loop-k.k (is_on c.args.wanted lane));
+      c.less-left.ensures lane ∙ (ap₂ (λ u v. u && not v) (c.loop-k.invariant.lost x gone ok rows lane l) ((c.good_on-good.ensures.each x gone ok rows (c.alive_on-alive.ensures gone rows)).each lane l) ∙ one_more beaten c.loop-k.k (is_on c.args.wanted lane));
   within = λ lane off. c.less-left.ensures lane ∙ ap (λ u. u && not (is_on c.good_on-good.result lane)) (c.loop-k.invariant.within lane off);
 }
 
