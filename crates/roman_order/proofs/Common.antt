@@ -17,7 +17,7 @@ pub use Rattle.std.proofs.lemmas.Map.Made.{length-IsIntersection}
 pub use Rattle.std.proofs.lemmas.Nat.{and_le_l, and_mask, div-add-mod', div_below, mod-pow-add, mod_below, mul-add-lt, ones_cat, ones_le_self, same_from_place, shr-shr, zero_from_ones}
 pub use Rattle.std.proofs.lemmas.Nat.Bits.{bit_at-lt, bit_at-trailing_zeros, shr_and_one}
 pub use Rattle.std.proofs.lemmas.Option.{slice_get-get_or}
-pub use Rattle.std.specs.Int.{bit_at, bit_not, w64}
+pub use Rattle.std.specs.Int.{bit_at, bit_not, trailing_zeros, w64}
 pub use Rattle.std.specs.List.{AllByRecursion, list_any, position_from}
 unfoldable pub use Rattle.std.specs.List.{IsDistinct}
 pub use Rattle.std.specs.Option.{unwrap_or}

@@ -1,5 +1,5 @@
 -- Lists of events.
-use Rattle.roman_order.proofs.Common.{or_cases, or_right, slice_get, Some, ◌-◌, ◌≡◌, ℕ, suc, ◌+◌, ◌*◌, ◌<◌, ◌≤◌, true, List, [], ◌∷◌, ◌++◌, length, refl, ap, ◌∙◌, arith, eqb, append-nil, length-append, bit_or, append_assoc, sym, slice_get-get_or, get_or-append_seam, list_any-append, AllByRecursion, length-map, map-append, flat_map-append, Entry, is_on, as_entry, set_lanes, has_entry, entries_in, IsEvent, entries_at, entries_of, TakesLanes, firsts_of, AreCounted, CanWait, Event, on_or, Reason}
+use Rattle.roman_order.proofs.Common.{or_cases, or_right, slice_get, Some, ◌-◌, ◌≡◌, ℕ, suc, ◌+◌, ◌*◌, ◌<◌, ◌≤◌, true, List, [], ◌∷◌, ◌++◌, length, refl, ap, ◌∙◌, arith, eqb, append-nil, length-append, bit_or, append_assoc, sym, slice_get-get_or, get_or-append_seam, list_any-append, AllByRecursion, length-map, map-append, flat_map-append, Entry, is_on, as_entry, set_lanes, has_entry, IsEvent, entries_at, entries_of, TakesLanes, firsts_of, AreCounted, CanWait, Event, on_or}
 use Rattle.roman_order.proofs.Lanes.{set_lanes-joined}
 
 -- ---- one more event
@@ -33,36 +33,35 @@ AreCounted-push lanes count firsts es e are some = grind (arith, (all_push (IsEv
 
 -- ---- an event with more lanes
 
--- the event with the added lanes
-abbrev pub extended : Event → ℕ → Event
-extended e lost = record e { lanes = bit_or e.lanes lost }
+-- the event with the lanes of another
+abbrev pub extended : Event → Event → Event
+extended e d = record e { lanes = bit_or e.lanes d.lanes }
 
-extended_lanes : (e : Event) (x lost : ℕ) (reason : Reason) → TakesLanes e x lost reason → set_lanes (bit_or e.lanes lost) ≡ set_lanes e.lanes ++ set_lanes lost
-extended_lanes e x lost reason on = set_lanes-joined _ _ _ (λ i l. on_or e.lanes lost i) on.lower
+extended_lanes : (e d : Event) → TakesLanes e d → set_lanes (bit_or e.lanes d.lanes) ≡ set_lanes e.lanes ++ set_lanes d.lanes
+extended_lanes e d takes = set_lanes-joined _ _ _ (λ i l. on_or e.lanes d.lanes i) takes.lower
 
 -- the last of the events, as it is read
 pub last_is : (es : List Event) (e d : Event) → Some d ≡ slice_get (es ++ e ∷ []) (length (es ++ e ∷ []) - 1) → d ≡ e
 last_is es e d read = grind (arith, length-append, (slice_get-get_or (es ++ e ∷ []) (length es) e), (get_or-append_seam es e [] e))
 
--- its entries are followed by those for the added lanes
-pub entries_of-extended : (lanes : ℕ) (es : List Event) (e : Event) (x lost : ℕ) (reason : Reason) → TakesLanes e x lost reason →
-    entries_of lanes (es ++ extended e lost ∷ []) ≡ entries_of lanes (es ++ e ∷ []) ++ entries_in lanes x lost reason
-entries_of-extended lanes es e x lost reason on = rw (← on.row, ← on.why, entries_of-push, entries_of-push, extended_lanes e x lost reason on) (grind (arith, append_assoc, map-append))
+-- its entries are followed by those of the other event
+pub entries_of-extended : (lanes : ℕ) (es : List Event) (e d : Event) → TakesLanes e d → entries_of lanes (es ++ extended e d ∷ []) ≡ entries_of lanes (es ++ e ∷ []) ++ entries_at lanes d
+entries_of-extended lanes es e d takes = rw (← takes.row, ← takes.why, entries_of-push, entries_of-push, extended_lanes e d takes) (grind (arith, append_assoc, map-append))
 
 -- another last element
 all_last : {X : Type 0} (P : X → Type 0) (xs : List X) (x y : X) → AllByRecursion P (xs ++ x ∷ []) → (P x → P y) → AllByRecursion P (xs ++ y ∷ [])
 all_last P [] x y all f = (f all.0, tt)
 all_last P (z ∷ xs) x y all f = (all.0, all_last P xs x y all.1 f)
 
-pub AreCounted-extended : (lanes count : ℕ) (firsts : List ℕ) (es : List Event) (e : Event) (x lost : ℕ) (reason : Reason) →
-    AreCounted lanes count firsts (es ++ e ∷ []) → IsEvent lanes (record { row = x; reason = reason; lanes = lost }) → TakesLanes e x lost reason → AreCounted lanes (count + length (set_lanes lost)) firsts (es ++ extended e lost ∷ [])
-AreCounted-extended lanes count firsts es e x lost reason are is on = record {
-  each = all_last (IsEvent lanes) es e (extended e lost) are.each (λ was. record {
-    some = omega (arith, ap length (extended_lanes e x lost reason on), length-append (set_lanes e.lanes) (set_lanes lost), was.some);
+pub AreCounted-extended : (lanes count : ℕ) (firsts : List ℕ) (es : List Event) (e d : Event) → AreCounted lanes count firsts (es ++ e ∷ []) → IsEvent lanes d → TakesLanes e d →
+    AreCounted lanes (count + length (set_lanes d.lanes)) firsts (es ++ extended e d ∷ [])
+AreCounted-extended lanes count firsts es e d are is takes = record {
+  each = all_last (IsEvent lanes) es e (extended e d) are.each (λ was. record {
+    some = omega (arith, ap length (extended_lanes e d takes), length-append (set_lanes e.lanes) (set_lanes d.lanes), was.some);
     within = λ lane t. grind (arith, or_cases, on_or, was.within, is.within);
   });
-  count = grind (arith, are.count, (entries_of-extended lanes es e x lost reason on), length-append, length-map);
-  firsts = are.firsts ∙ firsts_of-push lanes 0 es e ∙ sym (firsts_of-push lanes 0 es (extended e lost));
+  count = grind (arith, are.count, (entries_of-extended lanes es e d takes), length-append, length-map);
+  firsts = are.firsts ∙ firsts_of-push lanes 0 es e ∙ sym (firsts_of-push lanes 0 es (extended e d));
 }
 
 pub AreCounted-nil : (lanes : ℕ) → AreCounted lanes 0 [] []

@@ -1,5 +1,5 @@
 -- The lanes of a word, and the entries of the pairs at them.
-use Rattle.roman_order.proofs.Common.{◌≡◌, ◌≢◌, ℕ, zero, suc, ◌+◌, ◌-◌, ◌*◌, ◌/◌, ◌%◌, ◌^◌, ◌<◌, ◌≤◌, Bool, true, false, not, ◌&&◌, ◌||◌, eqb, List, [], ◌∷◌, ◌++◌, map, length, get_or, refl, ap, sym, ◌∙◌, subst, inl, inr, arith, filter, bit_and, append-nil, append_assoc, IsTrue, list_any, w64, bit_not, set, or-false, pow-lt, cases_eq, and_parts, eq-eqb, ne_eqb, eqb-true, both_ways, cases_Bool, false_from_ne_true, cases_lt, length-set, get_or-set_same, get_or-set_other, list_any-append, div-add-mod', mod_below, same_from_place, and_le_l, shr-shr, bit_at-trailing_zeros, shr_and_one, IsIn, HasNoRepeats, below, Entry, Reason, list_any-map, none_from, filter_in, from_below, filter_below_more, flat_map_row, any_true, any_from, in_filter, in_below, same_test, HasNoRepeats-filter, HasNoRepeats-below, is_on, HasLanes, AreRows, on_zero, on_ones, on_ones_above, on_clear_same, on_clear_other, on_and, on_less, on_pow_same, on_pow_other, as_entry, set_lanes, entries_in, entries_in_rows, has_entry}
+use Rattle.roman_order.proofs.Common.{◌≡◌, ◌≢◌, ℕ, zero, suc, ◌+◌, ◌-◌, ◌*◌, ◌/◌, ◌%◌, ◌^◌, ◌<◌, ◌≤◌, Bool, true, false, not, ◌&&◌, ◌||◌, eqb, List, [], ◌∷◌, ◌++◌, map, length, get_or, refl, ap, sym, ◌∙◌, subst, inl, inr, arith, filter, bit_and, append-nil, append_assoc, IsTrue, list_any, w64, bit_not, trailing_zeros, set, or-false, pow-lt, cases_eq, and_parts, eq-eqb, ne_eqb, eqb-true, both_ways, cases_Bool, false_from_ne_true, cases_lt, length-set, get_or-set_same, get_or-set_other, get_or_read, list_any-append, div-add-mod', mod_below, same_from_place, and_le_l, shr-shr, div_below, bit_at-trailing_zeros, shr_and_one, IsIn, HasNoRepeats, below, Entry, Reason, list_any-map, none_from, filter_in, from_below, filter_below_more, flat_map_row, any_true, any_from, in_filter, in_below, same_test, HasNoRepeats-filter, HasNoRepeats-below, is_on, HasLanes, AreRows, on_zero, on_ones, on_ones_above, on_clear_same, on_clear_other, on_and, on_less, on_pow_same, on_pow_other, as_entry, set_lanes, entries_in, entries_in_rows, has_entry}
 
 -- ---- the first lane of a word, and the rest
 
@@ -62,13 +62,14 @@ on_lowered a d i = ap (λ n. eqb n 1) (sym (shr_and_one (a / 2 ^ d) i) ∙ (ap (
 pub all_lower : (word more t i j : ℕ) → word / 2 ^ t ≡ 0 → ((bit : ℕ) → bit < t → is_on more bit ≡ false) → is_on word i ≡ true → is_on more j ≡ true → i < j
 all_lower word more t i j none first on there = grind (arith, both_ways, cases_lt, on_zero, first, (on_lowered word t (i - t)))
 
+-- the lowest lane of a word that isn't 0
+pub lowest_lane : (word : ℕ) → word ≢ 0 → word < 2 ^ 64 → (trailing_zeros w64 word < 64) × (is_on word (trailing_zeros w64 word) ≡ true) × ((bit : ℕ) → bit < trailing_zeros w64 word → is_on word bit ≡ false)
+unfolding is_on
+lowest_lane word some fits = grind (arith, eq-eqb, (bit_at-trailing_zeros w64 word))
+
 -- a word that isn't 0 has a lane
 pub some_lane : (word : ℕ) → word ≢ 0 → word < 2 ^ 64 → 0 < length (set_lanes word)
-unfolding is_on
-some_lane word some fits =
-    let h = bit_at-trailing_zeros w64 word (omega arith) fits in
-    let is = without_first word _ h.0 (eq-eqb _ 1 h.1) (λ bit l. ap (λ n. eqb n 1) (h.2 bit l)) in
-    omega (arith, ap length (set_lanes-first word _ _ is))
+some_lane word some fits = let (low, on, before) = lowest_lane word some fits in omega (arith, ap length (set_lanes-first word _ _ (without_first word _ low on before)))
 
 pub no_lane : (word : ℕ) → 0 < length (set_lanes word) → word ≢ 0
 no_lane word some none = omega (arith, ap (λ w. length (set_lanes w)) none, ap length set_lanes-zero, some)
@@ -76,8 +77,11 @@ no_lane word some none = omega (arith, ap (λ w. length (set_lanes w)) none, ap 
 -- the lowest lane of a word, and the rest
 pub ruleset lane_rules = (and_le_l, no_lane, some_lane, set_lanes-first, set_lanes-zero, without_first, without_lane, without_lane-on)
 
+-- a word without lanes
+pub ruleset no_lanes = (both_ways, on_zero, set_lanes-zero)
+
 -- the word with one lane, as it is computed
-one_pow : (k : ℕ) → k < 64 → 1 * 2 ^ k % 2 ^ 64 ≡ 2 ^ k
+pub one_pow : (k : ℕ) → k < 64 → 1 * 2 ^ k % 2 ^ 64 ≡ 2 ^ k
 one_pow k l = let below : 2 ^ k < 2 ^ 64 = pow-lt l in omega arith
 
 pub set_lanes-one : (k : ℕ) → k < 64 → set_lanes (1 * 2 ^ k % 2 ^ 64) ≡ k ∷ []
@@ -93,6 +97,10 @@ pub ruleset one_rules = (one_lane, set_lanes-one)
 pub in_lanes : (word lane : ℕ) → IsIn lane (set_lanes word) → (lane < 64) × (is_on word lane ≡ true)
 unfolding set_lanes
 in_lanes word lane i = let (j, t) = filter_in (is_on word) lane (below 64) i in (from_below 64 lane j, t)
+
+pub on_in : (word lane : ℕ) → lane < 64 → is_on word lane ≡ true → IsIn lane (set_lanes word)
+unfolding set_lanes
+on_in word lane l on = in_filter (is_on word) lane (below 64) (in_below 64 lane l) on
 
 pub lanes_once : (word : ℕ) → HasNoRepeats (set_lanes word)
 unfolding set_lanes
@@ -116,7 +124,7 @@ has_entry-lane L first lost lane reason low =
     let equal = eqb-true (first + lane) (first + l) e in
     let same : l ≡ lane = omega arith in
     subst (λ j. IsTrue (is_on lost j)) same (filter_in (is_on lost) l (below 64) i).1)
-    (λ t. any_from (λ l. eqb (first + lane) (first + l)) lane (set_lanes lost) (in_filter (is_on lost) lane (below 64) (in_below 64 lane low) t) (eq-eqb (first + lane) (first + lane) refl)))
+    (λ t. any_from (λ l. eqb (first + lane) (first + l)) lane (set_lanes lost) (on_in lost lane low t) (eq-eqb (first + lane) (first + lane) refl)))
 
 -- another pair is listed if it was before
 pub has_entry-elsewhere : (L : List (Entry ℕ)) (first lost p : ℕ) (reason : Reason) → ((lane : ℕ) → lane < 64 → is_on lost lane ≡ true → p ≢ first + lane) →
@@ -126,6 +134,9 @@ has_entry-elsewhere L first lost p reason apart = grind (arith, has_entry-lanes,
 -- the row and the lane of a pair
 pub lane_place : (lanes row lane : ℕ) → lane < lanes → ((row * lanes + lane) / lanes ≡ row) × ((row * lanes + lane) % lanes ≡ lane)
 lane_place lanes row lane l = grind (arith, div-add-mod', mod_below, (same_from_place ((row * lanes + lane) / lanes) ((row * lanes + lane) % lanes) row lane lanes))
+
+-- the place of a pair, and its word
+pub ruleset place_rules = (div-add-mod', div_below, get_or_read, mod_below)
 
 -- ---- entries of neighbouring rows
 
@@ -143,6 +154,8 @@ has_entry-later L lanes x words reason within (suc rows) i lane past l =
     ∙ (has_entry-elsewhere (L ++ entries_in_rows lanes x rows words reason) ((x + rows) * lanes) (get_or words rows 0) ((x + i) * lanes + lane) reason
     (λ j low t e. let same = (same_from_place (x + i) lane (x + rows) j lanes l (within rows j t) e).0 in omega arith)
     ∙ has_entry-later L lanes x words reason within rows i lane (omega arith) l)
+
+pub ruleset has_later = (has_entry-later)
 
 -- ---- the words of the pairs that aren't listed
 

@@ -1,5 +1,5 @@
 -- The entries from a place of the list on.
-use Rattle.roman_order.proofs.Common.{◌≡◌, ◌≢◌, ℕ, zero, suc, ◌+◌, ◌-◌, ◌*◌, ◌%◌, ◌^◌, ◌<◌, ◌≤◌, true, List, [], ◌∷◌, ◌++◌, map, length, get_or, take, drop, Some, inl, inr, refl, sym, ap, ◌∙◌, subst, arith, eqb, length-append, slice_get, AllByRecursion, cases_lt, eq-eqb, or_right, or_left, length-drop, take-append-drop, get_or_past, drop-set, length-set, drop-append-le, drop-drop, drop-map, get_or_default, list_any-append, flat_map-append, Entry, Board, as_entry, set_lanes, has_entry, is_on, IsEvent, entries_at, entries_of, board_of, firsts_of, AreCounted, CanWait, IsSound, places_of, Event, Inside, lt_of_mul-lt-mul_right, drop-append_seam, take-add, slice_get-get_or, IsIn, in_append_right, IsEventOf}
+use Rattle.roman_order.proofs.Common.{◌≡◌, ◌≢◌, ℕ, zero, suc, ◌+◌, ◌-◌, ◌*◌, ◌%◌, ◌^◌, ◌<◌, ◌≤◌, true, List, [], ◌∷◌, ◌++◌, map, length, get_or, take, drop, Some, inl, inr, refl, sym, ap, ◌∙◌, subst, arith, eqb, length-append, slice_get, add-one, AllByRecursion, cases_lt, eq-eqb, or_right, or_left, length-drop, take-append-drop, get_or_past, drop-set, length-set, drop-append-le, drop-drop, drop-map, get_or_default, list_any-append, flat_map-append, Entry, Board, as_entry, set_lanes, has_entry, is_on, IsEvent, entries_at, entries_of, board_of, firsts_of, AreCounted, CanWait, IsSound, places_of, Event, Inside, lt_of_mul-lt-mul_right, drop-append_seam, take-add, drop-cons, slice_get-get_or, IsIn, in_append_right, IsEventOf}
 use Rattle.std.proofs.lemmas.List.{get_or-drop}
 use Rattle.roman_order.proofs.Tables.{few}
 use Rattle.roman_order.proofs.Lanes.{no_lane, set_lanes-zero}
@@ -25,6 +25,9 @@ all_in P (y ∷ ys) x all (inr i) = all_in P ys x all.1 i
 
 all_at : {X : Type 0} (P : X → Type 0) (xs : List X) (i : ℕ) (x : X) (ys : List X) → AllByRecursion P xs → drop i xs ≡ x ∷ ys → P x
 all_at P xs i x ys all e = all_in P xs x all (subst (IsIn x) (take-append-drop i xs) (in_append_right x (take i xs) (drop i xs) (rw e (inl refl))))
+
+-- the next event
+pub ruleset one_event = (add-one, drop-cons)
 
 -- ---- the events of a list
 
@@ -92,20 +95,14 @@ pub begins : (a : Inside) (b : Board) (i : ℕ) → board_of a ≡ b → IsSound
 begins a b i is sound low = grind (arith, first_begins, length-firsts_of)
 
 -- the event at place j has the entry at place i, where no later event begins at place i or before
-pub found : (a : Inside) (b : Board) (firsts : List ℕ) (events : List Event) (many j i first : ℕ) (e : Event) → board_of a ≡ b → IsSound a → i < length b.list → firsts ≡ a.firsts.items → events ≡ a.events.items → many ≡ length a.events.items →
-    j < many → drop j events ≡ e ∷ drop (j + 1) events → first ≡ get_or (places_of many firsts) j 0 → get_or (places_of many firsts) j 0 ≤ i → (j + 1 < many → i < get_or (places_of many firsts) (j + 1) 0) →
-    IsEventOf b.rows b.lanes b.list i first e
-found a b firsts events many j i first e is sound low same_firsts same counted h split read from to =
+pub found : (a : Inside) (b : Board) (j i first : ℕ) (e : Event) → board_of a ≡ b → IsSound a → i < length b.list → j < length a.events.items → drop j a.events.items ≡ e ∷ drop (j + 1) a.events.items →
+    first ≡ get_or (places_of (length a.events.items) a.firsts.items) j 0 → first ≤ i → (j + 1 < length a.events.items → i < get_or (places_of (length a.events.items) a.firsts.items) (j + 1) 0) → IsEventOf b.rows b.lanes b.list i first e
+found a b j i first e is sound low h split read from to =
     let es = a.events.items in
     let n = a.lanes in
-    let split = rw same at split in
     let F = places_of (length es) a.firsts.items in
     let whole : length F ≡ length es = ap length sound.counted.firsts ∙ length-firsts_of 0 es in
-    let inside : j < length F = omega (arith, h, counted, whole) in
-    let read : first ≡ get_or F j 0 = rw (counted, same_firsts) at read in
-    let to : j + 1 < length es → i < get_or F (j + 1) 0 = rw (counted, same_firsts) at to in
-    let from : get_or F j 0 ≤ i = rw (counted, same_firsts) at from in
-    let start : first ≡ length (entries_of n (take j es)) = read ∙ (get_or_default F j 0 a.count inside ∙ begins_at n a.count F es j sound.counted) in
+    let start : first ≡ length (entries_of n (take j es)) = read ∙ (get_or_default F j 0 a.count (omega (arith, h, whole)) ∙ begins_at n a.count F es j sound.counted) in
     let next : i < length (entries_of n (take (j + 1) es)) = grind (arith, cases_lt, whole, (get_or_past F (j + 1) a.count), (get_or_default F (j + 1) 0 a.count), (begins_at n a.count F es (j + 1) sound.counted)) in
     let rest : drop first (entries_of n es) ≡ entries_at n e ++ entries_of n (drop (j + 1) es) = rw start (from_event n es j ∙ ap (entries_of n) split) in
     let long = length-entries_at n e in
@@ -113,7 +110,7 @@ found a b firsts events many j i first e is sound low same_firsts same counted h
     let more : length (entries_of n (take (j + 1) es)) ≡ first + length (set_lanes e.lanes) = grind (arith, entries_of-push, length-append, length-entries_at) in
     rw (← is) (record {
       parts = rw (← long, drop_past (entries_of n es) (entries_at n e) _ first rest) rest;
-      from = grind (arith, get_or_default);
+      from = from;
       within = omega (arith, next, more);
       to = omega (arith, more, ap length (entries_split n es (j + 1)), length-append (entries_of n (take (j + 1) es)) (entries_of n (drop (j + 1) es)));
       event = all_at (IsEvent n) es j e _ sound.counted.each split;

@@ -1,5 +1,5 @@
 -- The contents of an order's tables, and the room in them.
-use Rattle.roman_order.proofs.Common.{◌≡◌, ◌≢◌, ℕ, ◌+◌, ◌-◌, ◌*◌, ◌/◌, ◌^◌, ◌<◌, ◌≤◌, true, false, not, [], ◌∷◌, ◌++◌, length, drop, get_or, replicate, sym, ◌∙◌, subst, arith, bit_and, length-append, ap, w64, bit_not, set, length-replicate, get_or-replicate, length-take-le, replicate-append-replicate, take_all, Reason, is_on, AreRows, full_word, Board, set_lanes, entries_in, has_entry, entries_at, IsEvent, board_of, IsPlaced, CanWait, IsSound, IsSized, removal_list, Event, Inside, take-add}
+use Rattle.roman_order.proofs.Common.{◌≡◌, ◌≢◌, ℕ, ◌+◌, ◌-◌, ◌*◌, ◌/◌, ◌^◌, ◌<◌, ◌≤◌, true, false, not, [], ◌∷◌, ◌++◌, length, drop, get_or, replicate, sym, ◌∙◌, subst, arith, bit_and, length-append, ap, w64, bit_not, set, length-replicate, get_or-replicate, length-take-le, replicate-append-replicate, take_all, is_on, AreRows, full_word, Board, set_lanes, has_entry, entries_at, IsEvent, board_of, IsPlaced, CanWait, IsSound, IsSized, removal_list, Event, Inside, take-add}
 use Rattle.roman_order.proofs.Lanes.{AreRows-full, AreRows-pushed, in_lanes, lanes_once, some_lane}
 use Rattle.roman_order.proofs.Places.{IsPlaced-nil, place_in_list-from_greatest}
 use Rattle.roman_order.proofs.Counts.{counted_unlisted}
@@ -50,29 +50,28 @@ pub ruleset reset_rules = (CanWait-nil, few)
 -- the stamps of the pairs
 pub ruleset stamp_rules = (few, few_listed, place_in_list-from_greatest)
 
--- ---- entries for the lanes of a row
+-- ---- the entries of an event
 
--- what is known once the pairs of the row x whose lanes are in `lost` are listed
-pub record IsPushed (a : Inside) (x lost : ℕ) (reason : Reason) : Type 0 where
-  pub placed : IsPlaced (a.rows * a.lanes) (removal_list a ++ entries_in a.lanes x lost reason)
-  pub event : IsEvent a.lanes (record { row = x; reason = reason; lanes = lost })
-  pub alive : AreRows a.lanes (λ p. not (has_entry (removal_list a ++ entries_in a.lanes x lost reason) p)) (set a.words.items x (bit_and (get_or a.words.items x 0) (bit_not w64 lost)))
-  pub room : a.count + length (set_lanes lost) ≤ a.room
-  pub row : x < a.rows
+-- what is known once the pairs of an event are listed
+pub record IsPushed (a : Inside) (e : Event) : Type 0 where
+  pub placed : IsPlaced (a.rows * a.lanes) (removal_list a ++ entries_at a.lanes e)
+  pub event : IsEvent a.lanes e
+  pub alive : AreRows a.lanes (λ p. not (has_entry (removal_list a ++ entries_at a.lanes e) p)) (set a.words.items e.row (bit_and (get_or a.words.items e.row 0) (bit_not w64 e.lanes)))
+  pub room : a.count + length (set_lanes e.lanes) ≤ a.room
+  pub row : e.row < a.rows
 
-pub pushed : (a : Inside) (b : Board) (x lost : ℕ) (reason : Reason) → board_of a ≡ b → IsSound a → x < b.rows → ((lane : ℕ) → is_on lost lane ≡ true → lane < b.lanes) →
-    ((lane : ℕ) → is_on lost lane ≡ true → has_entry b.list (x * b.lanes + lane) ≡ false) → lost < 2 ^ 64 → lost ≢ 0 → IsPushed a x lost reason
-pushed a b x lost reason is sound row within alive fits some =
-    let r : x < a.rows = rw (ap (λ (d : Board). d.rows) is) row in
-    let w : (lane : ℕ) → is_on lost lane ≡ true → lane < a.lanes = rw (ap (λ (d : Board). d.lanes) is) within in
-    let f : (lane : ℕ) → is_on lost lane ≡ true → has_entry (removal_list a) (x * a.lanes + lane) ≡ false =
-    subst (λ (d : Board). (lane : ℕ) → is_on lost lane ≡ true → has_entry d.list (x * d.lanes + lane) ≡ false) (sym is) alive in
-    let placed = IsPlaced-lanes (a.rows * a.lanes) (x * a.lanes) reason (set_lanes lost) (removal_list a) (lanes_once lost)
-    (λ lane i. let on = (in_lanes lost lane i).1 in (pair_below a.rows a.lanes x lane r (w lane on), f lane on)) sound.placed in
-    let e : Event = record { row = x; reason = reason; lanes = lost } in
+pub pushed : (a : Inside) (b : Board) (e : Event) → board_of a ≡ b → IsSound a → e.row < b.rows → ((lane : ℕ) → is_on e.lanes lane ≡ true → lane < b.lanes) →
+    ((lane : ℕ) → is_on e.lanes lane ≡ true → has_entry b.list (e.row * b.lanes + lane) ≡ false) → e.lanes < 2 ^ 64 → e.lanes ≢ 0 → IsPushed a e
+pushed a b e is sound row within alive fits some =
+    let r : e.row < a.rows = rw (ap (λ (d : Board). d.rows) is) row in
+    let w : (lane : ℕ) → is_on e.lanes lane ≡ true → lane < a.lanes = rw (ap (λ (d : Board). d.lanes) is) within in
+    let f : (lane : ℕ) → is_on e.lanes lane ≡ true → has_entry (removal_list a) (e.row * a.lanes + lane) ≡ false =
+    subst (λ (d : Board). (lane : ℕ) → is_on e.lanes lane ≡ true → has_entry d.list (e.row * d.lanes + lane) ≡ false) (sym is) alive in
+    let placed = IsPlaced-lanes (a.rows * a.lanes) (e.row * a.lanes) e.reason (set_lanes e.lanes) (removal_list a) (lanes_once e.lanes)
+    (λ lane i. let on = (in_lanes e.lanes lane i).1 in (pair_below a.rows a.lanes e.row lane r (w lane on), f lane on)) sound.placed in
     record {
       placed = placed;
-      event = record { some = some_lane lost some fits; within = w };
+      event = record { some = some_lane e.lanes some fits; within = w };
       alive = AreRows-pushed _ _ _ _ _ _ sound.sized.few_lanes.1 (omega (arith, r, sound.sized.words_long)) fits w sound.alive;
       room = omega (arith, counted_unlisted _ _ placed.apart placed.in_range, length-append (removal_list a) (entries_at a.lanes e), length-entries_at a.lanes e, sound.counted.count, sound.sized.room);
       row = r;

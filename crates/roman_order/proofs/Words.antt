@@ -1,5 +1,5 @@
 -- Flags, 64 to a word.
-use Rattle.roman_order.proofs.Common.{◌≡◌, ◌≢◌, ℕ, zero, ◌+◌, ◌-◌, ◌*◌, ◌/◌, ◌%◌, ◌^◌, ◌<◌, ◌≤◌, false, List, ◌++◌, length, get_or, replicate, ap, sym, ◌∙◌, inl, inr, arith, ltb, take, drop, set, cases_eq, cases_lt, lt-ltb, le-ltb, get_or-set_same, get_or-set_other, get_or-replicate, length-replicate, get_or_past, full_word, on_zero, on_ones, on_ones_above, on_clear_other, on_clear_same, on_set_other, on_set_same, is_on, has_flag, take-append_seam, rewritten}
+use Rattle.roman_order.proofs.Common.{◌≡◌, ◌≢◌, ℕ, zero, ◌+◌, ◌-◌, ◌*◌, ◌/◌, ◌%◌, ◌^◌, ◌<◌, ◌≤◌, false, List, ◌++◌, length, get_or, replicate, ap, sym, ◌∙◌, inl, inr, arith, ltb, take, drop, bit_and, set, cases_eq, cases_lt, lt-ltb, le-ltb, get_or-set_same, get_or-set_other, get_or-replicate, length-replicate, get_or_past, full_word, on_zero, on_ones, on_ones_above, on_clear_other, on_clear_same, on_set_other, on_set_same, is_on, has_flag, bit_not, w64, take-append_seam, rewritten}
 
 -- a blank table has zeros at each place, also past its end
 pub blank_at : (n i : ℕ) → get_or (replicate n zero) i 0 ≡ 0
@@ -21,6 +21,10 @@ has_flag-others words i w p q h e same ne = grind (arith, cases_eq, get_or-set_o
 pub has_flag-at : (words : List ℕ) (i t : ℕ) → t < 64 → has_flag words (i * 64 + t) ≡ is_on (get_or words i 0) t
 unfolding has_flag is_on
 has_flag-at words i t within = grind arith
+
+-- the other flags of words of which one bit is cleared
+pub has_flag-cleared : (words : List ℕ) (i t q : ℕ) → i < length words → t < 64 → q ≢ i * 64 + t → has_flag (set words i (bit_and (get_or words i 0) (bit_not w64 (1 * 2 ^ t % 2 ^ 64)))) q ≡ has_flag words q
+has_flag-cleared words i t q h low ne = let bit : (i * 64 + t) % 64 ≡ t = omega arith in grind (arith, (has_flag-others words i (bit_and (get_or words i 0) (bit_not w64 (1 * 2 ^ t % 2 ^ 64))) (i * 64 + t) q h), on_clear_other)
 
 -- ---- words without a bit have no flag
 
@@ -47,8 +51,11 @@ has_flag-front words end whole part rest p = elim (cases_lt (p / 64) (end / 64))
 pub rewritten_whole : (xs ys : List ℕ) → length ys ≡ length xs → rewritten xs ys ≡ ys
 rewritten_whole xs ys e = ap (λ n. take n (ys ++ drop (length ys) xs)) (sym e) ∙ take-append_seam ys (drop (length ys) xs)
 
--- a flag that is set or cleared
-pub ruleset flag_rules = (get_or-set_same, has_flag-at, has_flag-others, has_flag-written, on_clear_other, on_clear_same, on_set_other, on_set_same)
+-- a flag that is set
+pub ruleset set_rules = (get_or-set_same, has_flag-others, has_flag-written, on_set_other, on_set_same)
+
+-- a flag that is cleared
+pub ruleset clear_rules = (get_or-set_same, has_flag-at, has_flag-cleared, has_flag-written, on_clear_same)
 
 -- the words with the flags below a number
 pub ruleset front_rules = (full_word, get_or-set_other, get_or-set_same, has_flag-front, set)

@@ -1,7 +1,6 @@
 -- The entries of events.
 use Rattle.std.specs.Prelude.{◌≡◌, ℕ, ◌<◌, true, false, List, length, flat_map, slice_index}
 use Rattle.roman_model.specs.Arena.{Entry}
-use Rattle.roman_model.specs.declared.reason.Reason.{Reason}
 use Rattle.roman_lanes.specs.Rows.{is_on}
 use Rattle.roman_order.specs.Board.{set_lanes, entries_in}
 use Rattle.roman_order.specs.declared.event.Event.{Event}
@@ -23,8 +22,8 @@ entries_of lanes es = flat_map (entries_at lanes) es
 abbrev pub IsApart : List ℕ → Event → Type 0
 IsApart words e = (lane : ℕ) → is_on e.lanes lane ≡ true → is_on (slice_index words e.row) lane ≡ false
 
--- the lanes can go into the event of the row x for the reason: its lanes are lower
-pub record TakesLanes (e : Event) (x lost : ℕ) (reason : Reason) : Type 0 where
-  pub row : e.row ≡ x
-  pub why : e.reason ≡ reason
-  pub lower : (l m : ℕ) → is_on e.lanes l ≡ true → is_on lost m ≡ true → l < m
+-- the first event is of the row and the reason of the second, and all its lanes are lower than the second's
+pub record TakesLanes (e d : Event) : Type 0 where
+  pub row : e.row ≡ d.row
+  pub why : e.reason ≡ d.reason
+  pub lower : (l m : ℕ) → is_on e.lanes l ≡ true → is_on d.lanes m ≡ true → l < m

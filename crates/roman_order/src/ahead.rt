@@ -18,6 +18,7 @@ pub struct Ahead {
 impl Ahead {
     /// Returns an `Ahead` without entries, for any list. The walk first looks for its next entries in
     /// the event at place `next`. If they aren't there, it searches for them.
+    #[tactic(auto, using(crate::proofs::Lanes::no_lanes))]
     pub fn nothing(next: usize) -> Ahead
         ensures { (order : Board) (i : ℕ) → IsAhead order i result }
     {

@@ -24,6 +24,7 @@ pub(crate) fn has(words: &[u64], p: u32) -> bool
 
 /// Returns whether a bit of a word is set.
 #[inline(always)]
+#[tactic(auto, using(std::proofs::lemmas::Nat::Bits::shr_and_one), unfolding(roman_lanes::specs::Rows::is_on))]
 pub(crate) fn is_set(word: u64, bit: u32) -> bool
     requires { bit < 64 }
     ensures { result ≡ is_on word bit }
@@ -32,7 +33,7 @@ pub(crate) fn is_set(word: u64, bit: u32) -> bool
 }
 
 /// Sets flag `p`.
-#[tactic(auto, using(crate::proofs::Words::flag_rules))]
+#[tactic(auto, using(crate::proofs::Words::set_rules))]
 pub(crate) fn set(words: &mut [u64], p: u32)
     requires { p / 64 < length words.old }
     ensures set { has_flag words.new p ≡ true }
@@ -106,6 +107,7 @@ pub(crate) fn first_lane(word: u64) -> (u32, u64)
 }
 
 /// Returns the number of lanes of a word: of its set bits.
+#[tactic(auto, using(crate::proofs::Ones::ones_of))]
 pub(crate) fn lanes_in(word: u64) -> u32
     ensures { result ≡ length (set_lanes word) }
 {
@@ -114,7 +116,7 @@ pub(crate) fn lanes_in(word: u64) -> u32
 
 /// Clears the lowest set flag of word `i`, and returns its number among all flags. Requires a word
 /// that isn't 0.
-#[tactic(auto, using(crate::proofs::Words::flag_rules))]
+#[tactic(auto, using(crate::proofs::Words::clear_rules))]
 pub(crate) fn take_first(words: &mut [u64], i: usize) -> u32
     requires place { i < length words.old }
     requires some { slice_index words.old i ≢ 0 }

@@ -299,6 +299,7 @@ impl Order {
     /// Does nothing. Its contract states what holds of every order: the pairs of the list are distinct
     /// and in range, there is room for the pairs of the shape, a row has 1 to 64 lanes, and there are
     /// as many mark words and kept words as the shape needs.
+    #[tactic(auto, using(crate::proofs::Tables::few_listed))]
     pub fn known(&self)
         ensures distinct { IsDistinct (λ x y. x == y) (nodes_of self.now.list) }
         ensures in_range { (p : ℕ) → has_entry self.now.list p ≡ true → p < pairs_of self.now }
@@ -330,6 +331,7 @@ impl Order {
     }
 
     /// Returns whether the pair `p` isn't listed, by the bit of its lane in its row's word.
+    #[tactic(auto, using(crate::proofs::Lanes::place_rules))]
     pub fn alive(&self, p: u32) -> bool
         requires { p < pairs_of self.now }
         ensures { result ≡ not (has_entry self.now.list p) }

@@ -72,6 +72,7 @@ fn has_lane(row: u32, word: u64, x: u32, lane: u32) -> bool
 }
 
 /// Returns the number of a word's lanes below `lane`.
+#[tactic(auto, using(crate::proofs::Ones::ones_below))]
 fn lanes_before(word: u64, lane: u32) -> u32
     requires { lane < 64 }
     ensures { result ≡ length (filter (is_on word) (below lane)) }

@@ -1,9 +1,9 @@
 //! Adding entries.
 ghost use Rattle.std.specs.Prelude.{◌≡◌, ◌≢◌, ℕ, ◌+◌, ◌*◌, ◌<◌, ◌≤◌, true, false, List, [], ◌∷◌, ◌++◌, length, slice_index, vec_capacity};
 ghost use Rattle.roman_lanes.specs.Rows.{is_on};
-ghost use Rattle.roman_order.specs.Board.{pairs_of, as_entry, entries_in, entries_in_rows, has_entry};
-ghost use Rattle.roman_order.specs.Events.{TakesLanes};
-ghost use Rattle.roman_order.specs.Sound.{places_of};
+ghost use Rattle.roman_order.specs.Board.{pairs_of, as_entry, set_lanes, entries_in, entries_in_rows, has_entry};
+ghost use Rattle.roman_order.specs.Events.{IsEvent, TakesLanes, entries_at, entries_of};
+ghost use Rattle.roman_order.specs.Sound.{AreCounted, places_of};
 ghost use Rattle.roman_order.specs.declared.event.Event.{Event};
 
 use super::Order;
@@ -13,6 +13,7 @@ use roman_model::Reason;
 
 impl Order {
     /// Adds an entry for the pair `p` at the end of the list. Requires a pair that isn't listed.
+    #[tactic(auto, using(crate::proofs::Lanes::place_rules))]
     pub fn push(&mut self, p: u32, reason: Reason)
         requires in_range { p < pairs_of self.old }
         requires alive { has_entry self.old.list p ≡ false }
@@ -43,18 +44,7 @@ impl Order {
         requires alive { (lane : ℕ) → is_on lost lane ≡ true → has_entry self.old.list (x * self.old.lanes + lane) ≡ false }
         ensures { self.new ≡ record self.old { list = self.old.list ++ entries_in self.old.lanes x lost reason } }
     {
-        if lost == 0 {
-            return;
-        }
-        self.words[x as usize] &= !lost;
-        self.stamps.clear();
-        push_first(&mut self.firsts, self.events.len(), self.count);
-        self.events.push_reserved(Event {
-            row: x,
-            reason,
-            lanes: lost,
-        });
-        self.count += lanes_in(lost);
+        self.push_row::<false>(x, lost, reason);
     }
 
     /// Adds entries as [`push_lanes`](Order::push_lanes) does. They go into the last event where that one
@@ -66,25 +56,36 @@ impl Order {
         requires alive { (lane : ℕ) → is_on lost lane ≡ true → has_entry self.old.list (x * self.old.lanes + lane) ≡ false }
         ensures { self.new ≡ record self.old { list = self.old.list ++ entries_in self.old.lanes x lost reason } }
     {
+        self.push_row::<true>(x, lost, reason);
+    }
+
+    /// Adds the entries of a row. If `JOINS` is true, they go into the last event where that one takes them.
+    #[inline(always)]
+    #[tactic(auto, using(crate::proofs::Tables::few))]
+    fn push_row<const JOINS: bool>(&mut self, x: u32, lost: u64, reason: Reason)
+        requires row { x < self.old.rows }
+        requires within { (lane : ℕ) → is_on lost lane ≡ true → lane < self.old.lanes }
+        requires alive { (lane : ℕ) → is_on lost lane ≡ true → has_entry self.old.list (x * self.old.lanes + lane) ≡ false }
+        ensures { self.new ≡ record self.old { list = self.old.list ++ entries_in self.old.lanes x lost reason } }
+    {
         if lost == 0 {
             return;
         }
-        if !goes_on(&self.events, x, lost, reason) {
-            return self.push_lanes(x, lost, reason);
-        }
-        let Some(last) = self.events.pop() else {
-            unreachable!()
-        };
         self.words[x as usize] &= !lost;
         self.stamps.clear();
-        let lanes = last.lanes | lost;
-        self.events.push_reserved(Event { lanes, ..last });
+        let event = Event {
+            row: x,
+            reason,
+            lanes: lost,
+        };
+        add_event::<JOINS>(&mut self.events, &mut self.firsts, self.count, event);
         self.count += lanes_in(lost);
     }
 
     /// Adds entries for pairs of neighbouring rows, from the row `x` on, row by row, all for one
     /// reason. Word i of `lost` has the lanes of the pairs of row `x + i`. Requires pairs that aren't
     /// listed.
+    #[tactic(auto, using(crate::proofs::Lanes::has_later))]
     pub fn push_rows(&mut self, x: u32, lost: &[u64], reason: Reason)
         requires rows { x + length lost.now ≤ self.old.rows }
         requires within { (i lane : ℕ) → is_on (slice_index lost.now i) lane ≡ true → lane < self.old.lanes }
@@ -98,18 +99,46 @@ impl Order {
     }
 }
 
-/// Returns whether the lanes can go into the last event: it is of the row `x` and the reason, and all its
-/// lanes are lower.
-#[tactic(auto, using(crate::proofs::Lanes::all_lower))]
-fn goes_on(events: &[Event], x: u32, lost: u64, reason: Reason) -> bool
-    requires { lost ≢ 0 }
+/// Adds an event to others, which have `count` entries. If `JOINS` is true, its lanes go into the last of
+/// these where that one takes them.
+#[inline(always)]
+fn add_event<const JOINS: bool>(
+    events: &mut Vec<Event>,
+    firsts: &mut Vec<u32>,
+    count: u32,
+    event: Event,
+)
+    requires lanes { event.lanes ≢ 0 }
+    requires few { length firsts.old.items ≤ length events.old.items }
+    requires room { (length events.old.items < vec_capacity events.old) × (length firsts.old.items < vec_capacity firsts.old) }
+    ensures entries { (lanes : ℕ) → entries_of lanes events.new.items ≡ entries_of lanes events.old.items ++ entries_at lanes event }
+    ensures counted { (lanes : ℕ) → AreCounted lanes count (places_of (length events.old.items) firsts.old.items) events.old.items → IsEvent lanes event →
+        AreCounted lanes (count + length (set_lanes event.lanes)) (places_of (length events.new.items) firsts.new.items) events.new.items }
+    ensures room { (vec_capacity events.new ≡ vec_capacity events.old) × (vec_capacity firsts.new ≡ vec_capacity firsts.old) }
+{
+    if JOINS && takes(events, event) {
+        let Some(last) = events.pop() else {
+            unreachable!()
+        };
+        let lanes = last.lanes | event.lanes;
+        events.push_reserved(Event { lanes, ..last });
+        return;
+    }
+    push_first(firsts, events.len(), count);
+    events.push_reserved(event);
+}
+
+/// Returns whether the last event takes the lanes of another one, which has lanes: it is of the same row
+/// and reason, and all its lanes are lower.
+fn takes(events: &[Event], event: Event) -> bool
+    requires { event.lanes ≢ 0 }
     ensures some { result ≡ true → 0 < length events.now }
-    ensures last { result ≡ true → (front : List Event) (e : Event) → events.now ≡ front ++ e ∷ [] → TakesLanes e x lost reason }
+    ensures last { result ≡ true → (front : List Event) (e : Event) → events.now ≡ front ++ e ∷ [] → TakesLanes e event }
 {
     let Some(last) = events.last() else {
         return false;
     };
-    lost != 0 && last.row == x && last.reason == reason && last.lanes >> lowest(lost) == 0
+    last.row == event.row && last.reason == event.reason && last.lanes >> lowest(event.lanes) == 0
 }
 
 /// Adds the place of the first entry of an event after `many` others. A place that equals its number is

@@ -125,6 +125,7 @@ fn first_in(firsts: &[u32], many: usize, j: usize) -> u32
 }
 
 /// Returns the event at place `j` of a table.
+#[tactic(auto, using(crate::proofs::Reading::one_event))]
 pub(super) fn event_in(events: &[Event], j: usize) -> Event
     requires { j < length events.now }
     ensures { drop j events.now ≡ result ∷ drop (j + 1) events.now }

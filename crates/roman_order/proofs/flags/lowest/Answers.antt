@@ -1,6 +1,5 @@
-use Rattle.roman_order.proofs.Common.{arith, w64, eq-eqb, bit_at-trailing_zeros, is_on}
+use Rattle.roman_order.proofs.Lanes.{lowest_lane}
 use Rattle.roman_order.proofs.flags.lowest.Goals as goal
 
 pub returns : goal.returns
-unfolding is_on
-returns c = grind (arith, eq-eqb, (bit_at-trailing_zeros w64 c.args.word))
+returns c = let (within, on, first) = lowest_lane c.args.word c.requires c.ranges.word.fits in record { within = within; on = on; first = first }

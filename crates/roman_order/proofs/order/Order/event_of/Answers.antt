@@ -1,4 +1,4 @@
-use Rattle.roman_order.proofs.Common.{◌≡◌, arith, length, refl}
+use Rattle.roman_order.proofs.Common.{◌≡◌, arith, length}
 use Rattle.roman_order.proofs.Reading.{begins, found, rises}
 use Rattle.roman_order.proofs.order.Order.event_of.Goals as goal
 
@@ -16,6 +16,5 @@ place_of-place-requires-clause-rising c j low =
 pub returns : goal.returns
 returns c =
     let many : c.len.result ≡ length c.self.inside.events.items = omega (arith, c.len.ensures) in
-    let place = rw c.deref.ensures.value at c.place_of-place.ensures in
-    found _ _ c.self.inside.firsts.items _ _ _ _ _ _ c.self.view_is c.self.invariant c.requires refl c.deref-2.ensures.value many place.within c.event_in.ensures
-    place.first (rw place.first at place.from) place.to
+    let place = rw (many, c.deref.ensures.value) at c.place_of-place.ensures in
+    found _ _ _ _ _ _ c.self.view_is c.self.invariant c.requires place.within (rw c.deref-2.ensures.value at c.event_in.ensures) place.first place.from place.to

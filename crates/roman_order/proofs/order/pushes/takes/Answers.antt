@@ -1,7 +1,7 @@
 use Rattle.roman_order.proofs.Common.{◌≡◌, arith}
 use Rattle.roman_order.proofs.Events.{last_is}
 use Rattle.roman_order.proofs.Lanes.{all_lower}
-use Rattle.roman_order.proofs.order.pushes.goes_on.Goals as goal
+use Rattle.roman_order.proofs.order.pushes.takes.Goals as goal
 
 pub returns-then-eq-clause-last : goal.returns-then-eq-clause-last
 returns-then-eq-clause-last c low front e same =
