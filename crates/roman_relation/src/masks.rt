@@ -46,8 +46,8 @@ fn band_choices<J: Rules>(joint: &J, order: &Order, y: u32) -> u64
     requires shaped { IsShaped (J.arena joint.now) (J.lanes joint.now) order.now }
     requires band { y * J.band joint.now < order.now.rows }
     ensures counted { let A = J.arena joint.now in
-        result ≡ sum_by (λ i. sum_by (λ lane. sum_by (λ a. length (mask_of A (is_listed A order.now.list) ((y * J.band joint.now + i) * J.lanes joint.now + lane) a))
-        (below A.actions)) (below (J.lanes joint.now))) (below (J.band joint.now)) }
+        result ≡ sum_by (λ a. sum_by (λ i. sum_by (λ lane. length (mask_of A (is_listed A order.now.list) ((y * J.band joint.now + i) * J.lanes joint.now + lane) a))
+        (below (J.lanes joint.now))) (below (J.band joint.now))) (below A.actions) }
     ensures bound { result ≤ 4194304 }
 {
     joint.known(); // there are at most 32 actions, a row has 1 to 64 lanes

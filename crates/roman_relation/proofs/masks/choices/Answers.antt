@@ -1,4 +1,4 @@
-use Rattle.roman_relation.proofs.Common.{◌≡◌, ℕ, ◌+◌, ◌*◌, length, sum_by, sym, ap, ◌∙◌, arith, below, is_listed, mask}
+use Rattle.roman_relation.proofs.Common.{◌≡◌, ℕ, ◌+◌, ◌*◌, length, sum_by, sym, ap, ◌∙◌, arith, below, is_listed, mask, sum_by_same, sum_turned}
 use Rattle.roman_relation.proofs.Bands.{band_inside}
 use Rattle.roman_relation.proofs.Lanes.{sum_rows}
 use Rattle.roman_relation.proofs.masks.choices.Goals as goal
@@ -12,9 +12,12 @@ returns g c =
     let A = g.J.Rules.arena c.args.joint.now in
     let n = g.J.Rules.lanes c.args.joint.now in
     let w = g.J.Rules.band c.args.joint.now in
-    let gone = is_listed A c.args.order.now.list in
-    let f : ℕ → ℕ = λ p. sum_by (λ a. length (mask A gone p a)) (below A.actions) in
-    let row : ℕ → ℕ = λ x. sum_by (λ lane. f (x * n + lane)) (below n) in
-    let end : c.loop-y.y ≡ c.bands-y-end.result = omega (arith, c.loop-y-test.false) in
-    let all : c.loop-y.y * w * n ≡ length A.nodes = ap (λ m. m * w * n) end ∙ c.bands-y-end.ensures in
-    c.loop-y.invariant.counted ∙ (sum_rows row w c.loop-y.y ∙ (sum_rows f n (c.loop-y.y * w) ∙ (ap (λ m. sum_by f (below m)) all ∙ ap (sum_by f) (sym c.known.ensures.numbered.nodes))))
+    let bands = c.loop-y.y in
+    let one : ℕ → ℕ → ℕ = λ a p. length (mask A (is_listed A c.args.order.now.list) p a) in
+    let row : ℕ → ℕ → ℕ = λ a x. sum_by (λ lane. one a (x * n + lane)) (below n) in
+    let end : bands ≡ c.bands-y-end.result = omega (arith, c.loop-y-test.false) in
+    let all : bands * w * n ≡ length A.nodes = ap (λ m. m * w * n) end ∙ c.bands-y-end.ensures in
+    c.loop-y.invariant.counted ∙ sum_turned (λ y a. sum_by (λ i. row a (y * w + i)) (below w)) bands A.actions
+    ∙ sum_by_same (λ a. sum_by (λ y. sum_by (λ i. row a (y * w + i)) (below w)) (below bands)) (λ a. sum_by (one a) (below (length A.nodes))) (below A.actions)
+    (λ a i. sum_rows (row a) w bands ∙ sum_rows (one a) n (bands * w) ∙ ap (λ m. sum_by (one a) (below m)) all)
+    ∙ sum_turned one A.actions (length A.nodes) ∙ ap (sum_by (λ p. sum_by (λ a. one a p) (below A.actions))) (sym c.known.ensures.numbered.nodes)

@@ -8,6 +8,6 @@ invariant-loop-y g l =
     let n = g.J.Rules.lanes l.joint in
     let w = g.J.Rules.band l.joint in
     record {
-      counted : l.count ≡ sum_by (λ y. sum_by (λ i. sum_by (λ lane. sum_by (λ a. length (mask A (is_listed A l.order.list) ((y * w + i) * n + lane) a)) (below A.actions)) (below n)) (below w)) (below l.y);
+      counted : l.count ≡ sum_by (λ y. sum_by (λ a. sum_by (λ i. sum_by (λ lane. length (mask A (is_listed A l.order.list) ((y * w + i) * n + lane) a)) (below n)) (below w)) (below A.actions)) (below l.y);
       bound : l.count ≤ 4194304 * l.y;
     }
