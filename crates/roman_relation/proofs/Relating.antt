@@ -6,6 +6,9 @@ pub either_levels : (A : Arena ℕ) (L : List (Entry ℕ)) (board : Board) → (
 either_levels A [] board fresh stale = inr (fresh refl)
 either_levels A (x ∷ L) board fresh stale = inl (stale (λ e. cc))
 
+-- the number of a joint's pairs
+pub ruleset counted = (length-below)
+
 -- a settled list is complete
 pub completed : (n : NamedSys) (board : Board) → IsNamedSys n → IsSettled (arena_of n) board.list → board.waiting ≡ [] → (board.levels ≡ []) ⊎ AreLevels (arena_of n) board.levels board.list → HasCompleteList n board
 completed n board known settled idle levels =

@@ -94,6 +94,7 @@ impl Relation {
     }
 
     /// Returns whether the pair `p` is related, by looking up one bit.
+    #[tactic(auto, using(crate::proofs::Relating::counted))]
     pub fn related(&self, p: u32) -> bool
         requires shaped { IsShaped (arena_of self.now.joint) (row_lanes self.now.joint) self.now.order }
         requires pair { p < count (sizes_of (system_of self.now.joint)) }
@@ -108,6 +109,7 @@ impl Relation {
     }
 
     /// Returns the number of related pairs, without a pass over them.
+    #[tactic(auto, using(crate::proofs::Relating::counted))]
     pub fn count(&self) -> u32
         requires { IsShaped (arena_of self.now.joint) (row_lanes self.now.joint) self.now.order }
         ensures listed { result + length self.now.order.list
@@ -123,6 +125,7 @@ impl Relation {
     /// Returns the mask of the action `a` at the pair `p`, related or not: the services that are ready
     /// and have an outcome there, and none that is listed. The mask is empty where the target doesn't
     /// allow the action. It is computed from the services, and not stored.
+    #[tactic(auto, using(crate::proofs::Relating::counted))]
     pub fn mask(&self, p: u32, a: u8) -> SeatSet
         requires shaped { IsShaped (arena_of self.now.joint) (row_lanes self.now.joint) self.now.order }
         requires pair { p < count (sizes_of (system_of self.now.joint)) }

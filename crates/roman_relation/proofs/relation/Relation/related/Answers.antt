@@ -1,9 +1,6 @@
-use Rattle.roman_relation.proofs.Common.{arith, sizes_of, count, length-below, system_of}
+use Rattle.roman_relation.proofs.Common.{system_of}
 use Rattle.roman_relation.proofs.Relating.{listed_numbers, alive_related}
 use Rattle.roman_relation.proofs.relation.Relation.related.Goals as goal
-
-pub alive-requires : goal.alive-requires
-alive-requires c = omega (arith, c.requires.shaped.pairs, c.requires.pair, length-below (count (sizes_of (system_of c.args.self.now.joint))))
 
 pub returns-clause-great : goal.returns-clause-great
 returns-clause-great c complete =
