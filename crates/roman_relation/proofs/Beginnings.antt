@@ -1,5 +1,5 @@
 -- Lists of entries that begin with other lists.
-use Rattle.roman_relation.proofs.Common.{◌≡◌, ℕ, ◌≤◌, ◌==◌, List, length, take, drop, IsTrue, IsFalse, sym, ap, ◌∙◌, subst, arith, take-append-drop, ◌++◌, take-append_seam, both_ways, or_left, false_from_ne_true, take-take, length-take, Arena, Entry, is_listed, any_same, listed_append, IsNumbered, has_entry, Begins}
+use Rattle.roman_relation.proofs.Common.{◌≡◌, ℕ, ◌≤◌, ◌==◌, List, length, take, drop, IsTrue, IsFalse, sym, ap, ◌∙◌, subst, arith, take-append-drop, ◌++◌, ◌+◌, take-append_seam, take-length, both_ways, or_left, false_from_ne_true, take-take, length-take, Arena, Entry, is_listed, fall, any_same, listed_append, fall_append, IsNumbered, has_entry, Board, Begins, SettlesOn, IsShaped}
 
 -- a node is listed where the order has an entry for it
 pub listed_is : (A : Arena ℕ) → IsNumbered A → (L : List (Entry ℕ)) (p : ℕ) → is_listed A L p ≡ has_entry L p
@@ -29,3 +29,21 @@ begins_listed A L M p b t = take_listed A (length L) M p (subst (λ N. IsTrue (i
 
 pub begins_unlisted : (A : Arena ℕ) (L M : List (Entry ℕ)) (p : ℕ) → Begins L M → IsFalse (is_listed A M p) → IsFalse (is_listed A L p)
 begins_unlisted A L M p b f = false_from_ne_true (is_listed A L p) (λ t. both_ways (is_listed A M p) f (begins_listed A L M p b t))
+
+-- Orders that extend others.
+
+pub goes_on_on : (A : Arena ℕ) (a b c : Board) → SettlesOn A a b → SettlesOn A b c → SettlesOn A a c
+goes_on_on A a b c p q = grind (arith, begins_on)
+
+-- an order that extends another keeps its shape
+pub shaped_on : (A : Arena ℕ) (lanes : ℕ) (b c : Board) → IsShaped A lanes b → SettlesOn A b c → IsShaped A lanes c
+shaped_on A lanes b c s g = rw g.rest (record { pairs = s.pairs; lanes = s.lanes })
+
+-- the fall of a longer list is that of its prefix and that of the rest
+pub fall_added : (A : Arena ℕ) (L M : List (Entry ℕ)) → Begins L M → fall A M ≡ fall A L + fall A (drop (length L) M)
+fall_added A L M b =
+    ap (fall A) (sym (take-append-drop (length L) M) ∙ ap (λ N. N ++ drop (length L) M) b) ∙ fall_append A L (drop (length L) M)
+
+-- a list that begins with a list of the same length is that list
+pub same_list : (L M : List (Entry ℕ)) → Begins L M → length M ≡ length L → M ≡ L
+same_list L M b e = sym (take-length M) ∙ (ap (λ n. take n M) e ∙ b)

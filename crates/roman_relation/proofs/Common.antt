@@ -13,14 +13,14 @@ pub use Rattle.std.proofs.lemmas.Nat.{and_le_l, div-add-mod', div_below, mod_bel
 pub use Rattle.std.proofs.lemmas.Nat.Bits.{bit_at-zero}
 pub use Rattle.std.proofs.lemmas.Option.{get_or_from_slice_get, slice_get_within}
 pub use Rattle.std.specs.Int.{bit_at}
-pub use Rattle.std.specs.List.{AllByRecursion, IsDistinct}
+pub use Rattle.std.specs.List.{IsDistinct}
 pub use Rattle.std.specs.Prelude.{count_by}
 pub use Rattle.roman_joint.specs.NamedSys.{IsNamedSys, NamedSys, system_of}
 pub use Rattle.roman_lanes.proofs.CallerLemmas.{on_and, on_zero}
 unfoldable pub use Rattle.roman_lanes.specs.Flags.{has_flag}
 pub use Rattle.roman_lanes.specs.Rows.{AreRows, HasLanes, Keeps}
 unfoldable pub use Rattle.roman_lanes.specs.Rows.{is_on}
-pub use Rattle.roman_model.proofs.CallerLemmas.{AreNumbers, any_from, any_same, any_true, by_test, contains_in, fall_append, from_below, from_flat_map, from_map, great_related, in_append_left, in_append_right, in_below, in_filter, in_flat_map, in_listed, in_map, justified_more, justified_same, length-below, listed_append, listed_in, listed_push, loses_up, none_from, numbered_choices, numbered_completed_by, numbered_is_same, numbered_listed, numbered_related_count, numbers_are_pairs, order_entry, order_push, related_great, same_test, sum_by_same, sum_by_within, unallowed_unjustified}
+pub use Rattle.roman_model.proofs.CallerLemmas.{AreNumbers, any_from, any_same, any_true, by_test, contains_in, fall_append, from_below, from_flat_map, from_map, great_related, in_append_left, in_append_right, in_below, in_flat_map, in_listed, in_map, justified_more, justified_same, length-below, listed_append, listed_in, listed_push, loses_up, none_from, numbered_choices, numbered_completed_by, numbered_is_same, numbered_listed, numbered_related_count, numbers_are_pairs, order_entry, order_push, related_great, same_test, sum_by_same, sum_by_within, unallowed_unjustified}
 pub use Rattle.roman_model.specs.Arena.{Arena, Delegation, Entry, IsOrder, back, choices, fall, is_justified, is_listed, loses, mask}
 pub use Rattle.roman_model.specs.Composition.{Great}
 pub use Rattle.roman_model.specs.Lists.{IsIn, below}
@@ -30,9 +30,8 @@ pub use Rattle.roman_model.specs.System.{Sys}
 pub use Rattle.roman_model.specs.SystemArena.{pairs}
 pub use Rattle.roman_model.specs.declared.reason.Reason.{Reason}
 pub use Rattle.roman_model.specs.declared.reason.Reason.TheVariants.{Act, Final}
-pub use Rattle.roman_order.proofs.CallerLemmas.{has_entry-event, in_lanes, lane_place, length-entries_at, rewritten_whole, some_lane}
-pub use Rattle.roman_order.specs.Board.{Board, as_entry, entries_in, entries_in_rows, has_entry, is_marked, nodes_of, pairs_of}
-unfoldable pub use Rattle.roman_order.specs.Board.{set_lanes}
+pub use Rattle.roman_order.proofs.CallerLemmas.{all_in, has_entry-event, in_lanes, lane_place, length-entries_at, on_in, rewritten_whole, some_lane}
+pub use Rattle.roman_order.specs.Board.{Board, as_entry, entries_in, entries_in_rows, has_entry, is_marked, nodes_of, pairs_of, set_lanes}
 pub use Rattle.roman_order.specs.Events.{IsEvent, entries_at}
 pub use Rattle.roman_order.specs.Walks.{AreUnkept}
 pub use Rattle.roman_order.specs.declared.event.Event.{Event}

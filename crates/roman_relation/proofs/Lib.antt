@@ -1,13 +1,10 @@
 pub mod Common
 pub mod Beginnings
-pub mod Going
 pub mod Lanes
 pub mod Bands
 pub mod Pushing
-pub mod Playing
 pub mod Marks
 pub mod Losses
 pub mod Noting
-pub mod Rising
 pub mod Relating
 pub mod CallerLemmas

@@ -1,5 +1,5 @@
 -- Noting the entries of an event together.
-use Rattle.roman_relation.proofs.Common.{◌≡◌, ◌≢◌, ℕ, ◌+◌, ◌*◌, ◌<◌, ◌≤◌, true, ◌&&◌, List, [], ◌∷◌, ◌++◌, length, take, drop, IsTrue, inl, inr, refl, sym, ap, ◌∙◌, subst, arith, take-append-drop, ◌==◌, ◌^◌, bit_and, and_parts, or_left, or_right, eq-eqb, in_map, in_below, in_filter, sum_by_within, list_any-append, IsIn, below, Arena, Entry, is_listed, fall, back, is_on, IsNumbered, as_entry, entries_in, set_lanes, has_entry, Reason, IsEvent, entries_at, Event, in_lanes, has_entry-event, some_lane, and_le_l, on_and}
+use Rattle.roman_relation.proofs.Common.{on_in, in_lanes, has_entry-event, some_lane, ◌≡◌, ◌≢◌, ℕ, ◌+◌, ◌*◌, ◌<◌, ◌≤◌, true, ◌&&◌, List, [], ◌∷◌, ◌++◌, length, take, drop, IsTrue, inl, inr, refl, sym, ap, ◌∙◌, subst, arith, take-append-drop, ◌==◌, ◌^◌, bit_and, and_parts, or_left, or_right, eq-eqb, in_map, sum_by_within, list_any-append, IsIn, Arena, Entry, is_listed, fall, back, is_on, IsNumbered, as_entry, entries_in, set_lanes, has_entry, Reason, IsEvent, entries_at, Event, and_le_l, on_and}
 use Rattle.roman_relation.proofs.Beginnings.{listed_is}
 
 -- ---- words that meet
@@ -20,13 +20,9 @@ meeting_words word other fits some =
 
 -- ---- the entries of an event
 
-pub lane_in : (word lane : ℕ) → lane < 64 → is_on word lane ≡ true → IsIn lane (set_lanes word)
-unfolding set_lanes
-lane_in word lane low on = in_filter (is_on word) lane (below 64) (in_below 64 lane low) on
-
 -- the entry of a lane
 pub in_entries : (lanes row word lane : ℕ) (reason : Reason) → lane < 64 → is_on word lane ≡ true → IsIn (as_entry (row * lanes + lane, reason)) (entries_in lanes row word reason)
-in_entries lanes row word lane reason low on = in_map (λ lane. as_entry (row * lanes + lane, reason)) lane (set_lanes word) (lane_in word lane low on)
+in_entries lanes row word lane reason low on = in_map (λ lane. as_entry (row * lanes + lane, reason)) lane (set_lanes word) (on_in word lane low on)
 
 -- at most as many delegations lead to one pair of an event as to all
 pub fall_one : (A : Arena ℕ) (n : ℕ) (e : Event) (lane : ℕ) → lane < 64 → is_on e.lanes lane ≡ true → length (back A (e.row * n + lane)) ≤ fall A (entries_at n e)

@@ -1,14 +1,9 @@
 -- Lists with entries for the lanes of rows.
-use Rattle.roman_relation.proofs.Common.{◌≡◌, ℕ, ◌+◌, ◌*◌, ◌<◌, ◌≤◌, ◌==◌, Bool, true, false, not, List, [], ◌∷◌, ◌++◌, length, take, drop, slice_index, IsTrue, IsFalse, inl, inr, refl, sym, ap, ◌∙◌, subst, arith, append-nil, append_assoc, take-append-drop, both_ways, cases_lt, cases_eq, false_from_ne_true, or_cases, or_left, and_parts, and_from, not_from_false, not-true, eq-eqb, ne_eqb, get_or_past, take-take, IsIn, below, Arena, Entry, is_listed, is_justified, IsOrder, Reason, from_map, from_flat_map, in_flat_map, from_below, in_map, in_below, in_append_right, listed_append, listed_in, in_listed, listed_push, justified_more, order_push, is_on, Keeps, on_zero, IsNumbered, numbered_same, Board, as_entry, set_lanes, has_entry, nodes_of, entries_in_rows, entries_in, in_lanes, lane_place, AreUnlisted, AddsTo, AddsLost, AreLostRows, AllByRecursion, IsDistinct, IsDistinct-head, IsDistinct-tail}
+use Rattle.roman_relation.proofs.Common.{all_in, in_lanes, lane_place, ◌≡◌, ℕ, ◌+◌, ◌*◌, ◌<◌, ◌≤◌, ◌==◌, Bool, true, false, not, List, [], ◌∷◌, ◌++◌, length, take, drop, slice_index, IsTrue, IsFalse, inl, inr, refl, sym, ap, ◌∙◌, subst, arith, append-nil, append_assoc, take-append-drop, both_ways, cases_lt, cases_eq, false_from_ne_true, or_cases, or_left, and_parts, and_from, not_from_false, not-true, eq-eqb, ne_eqb, get_or_past, take-take, IsIn, below, Arena, Entry, is_listed, is_justified, IsOrder, Reason, from_map, from_flat_map, in_flat_map, from_below, in_map, in_below, in_append_right, listed_append, listed_in, in_listed, listed_push, justified_more, order_push, is_on, Keeps, on_zero, IsNumbered, numbered_same, Board, as_entry, set_lanes, has_entry, nodes_of, entries_in_rows, entries_in, AreUnlisted, AddsTo, AddsLost, AreLostRows, IsDistinct, IsDistinct-head, IsDistinct-tail}
 use Rattle.roman_relation.proofs.Beginnings.{begins_append, begins_listed, begins_on, begins_unlisted, listed_is, take_listed}
 use Rattle.roman_relation.proofs.Losses.{in_entries}
 
 -- ---- entries of distinct pairs
-
-all_in : {X : Type 0} (P : X → Type 0) (xs : List X) (x : X) → AllByRecursion P xs → IsIn x xs → P x
-all_in P [] x all i = absurd i
-all_in P (y ∷ xs) x all (inl e) = rw e all.0
-all_in P (y ∷ xs) x all (inr i) = all_in P xs x all.1 i
 
 -- no entry has the pair of a later one
 apart : (L M : List (Entry ℕ)) (x : Entry ℕ) → IsDistinct (λ p q. p == q) (nodes_of (L ++ M)) → IsIn x M → has_entry L x.node ≡ false

@@ -1,6 +1,6 @@
 use Rattle.roman_relation.proofs.Common.{◌∙◌, both_ways, lt-ltb}
 use Rattle.roman_relation.proofs.Bands.{band_of}
-use Rattle.roman_relation.proofs.Going.{shaped_on}
+use Rattle.roman_relation.proofs.Beginnings.{shaped_on}
 use Rattle.roman_relation.proofs.Lanes.{words_rows}
 use Rattle.roman_relation.proofs.rounds.begin_rounds.Goals as goal
 

@@ -1,7 +1,6 @@
 use Rattle.roman_relation.proofs.Common.{◌*◌, inl, inr, ap, ◌∙◌, arith, cases_lt, Board}
 use Rattle.roman_relation.proofs.Bands.{band_inside, pair_past}
-use Rattle.roman_relation.proofs.Beginnings.{begins_unlisted}
-use Rattle.roman_relation.proofs.Going.{goes_on_on}
+use Rattle.roman_relation.proofs.Beginnings.{begins_unlisted, goes_on_on}
 use Rattle.roman_relation.proofs.rounds.unfine.list_unfine.Goals as goal
 
 pub list_unfine_band-requires-clause-band : goal.list_unfine_band-requires-clause-band
