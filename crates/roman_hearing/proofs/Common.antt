@@ -1,5 +1,5 @@
 -- What the proof pages of this crate cite from elsewhere, passed on from one place. Declares nothing.
-pub use Rattle.std.proofs.Common.{All, Bool, Err, IfOk, IfSome, IsErrOf, IsFalse, IsTrue, List, None, Ok, OnOk, Option, Result, Some, [], ap, append-nil, append_assoc, ap₂, arith, codes, cond, drop, eq-eqb, eqb-true, false, filter, find, get_or, if◌then◌else◌, inl, inr, is_none, is_ok, le-leb, leb-true, length, length-append, length-take, length-take-le, ltb, ltb-false, ltb-true, map, min, nat_le, nat_lt, not, ok_or, refl, rules, slice_get, slice_set, subst, suc, sym, take, take-append-drop, take_at, true, zero, ℕ, ◌&&◌, ◌++◌, ◌+◌, ◌-◌, ◌<◌, ◌==◌, ◌||◌, ◌↔◌, ◌∙◌, ◌∷◌, ◌≡◌, ◌≤◌, ◌⊎◌}
+pub use Rattle.std.proofs.Common.{All, Bool, Err, IfOk, IfSome, IsErrOf, IsFalse, IsTrue, List, None, Ok, OnOk, Option, Result, Some, [], ap, append-nil, append_assoc, ap₂, arith, codes, cond, drop, eq-eqb, eqb-true, false, filter, find, get_or, if◌then◌else◌, inl, inr, is_none, is_ok, le-leb, leb-true, length, length-append, length-take, length-take-le, ltb, ltb-false, ltb-true, map, min, nat_le, nat_lt, not, ok_or, refl, rules, slice_get, slice_set, subst, suc, sym, take, take-append-drop, take_at, true, zero, ℕ, ◌&&◌, ◌++◌, ◌+◌, ◌-◌, ◌<◌, ◌==◌, ◌↔◌, ◌∙◌, ◌∷◌, ◌≡◌, ◌≤◌, ◌⊎◌}
 pub use Rattle.std.proofs.Math.Seq.{take-append-add}
 pub use Rattle.std.proofs.lemmas.Bool.{and_from, and_parts, both_ways, cond-false, cond-true, false≢true, lt-leb, lt-ltb, not-false, not-true, or_cases, or_from, or_left, or_parts, or_right}
 pub use Rattle.std.proofs.lemmas.List.{length-map, nil_from_length, take_all, take_min}
@@ -22,7 +22,7 @@ pub use Rattle.roman_joint.proofs.CallerLemmas.{beh_read, frozen_known, frozen_s
 pub use Rattle.roman_joint.specs.NamedSys.{IsNamedSys, NamedSys, beh_at, cells, seat_of, system_of}
 pub use Rattle.roman_joint.specs.Names.{beh_name, names_in, seat_name, states_of_behaviour}
 pub use Rattle.roman_joint.specs.declared.seat.Seat.{Seat}
-pub use Rattle.roman_library.proofs.CallerLemmas.{behaviour_there, libraries_known, targets_combined}
+pub use Rattle.roman_library.proofs.CallerLemmas.{libraries_known, targets_combined}
 pub use Rattle.roman_library.specs.Library.{PlainLibrary}
 pub use Rattle.roman_library.specs.Targets.{CombinesTargets, PlainTargets}
 pub use Rattle.roman_model.proofs.CallerLemmas.{HasNoRepeats-below, HasNoRepeats-filter, IsPair-grown, IsPair-turned, IsPair-without, allowed_in, allowed_in_range, any_false, any_true, before_is, by_test, combined_is_all, empty_is, explanation_is_least, explanation_is_order, filter_in, filter_sublist, find_found, find_some, flat_map_same, flat_map_same_in, from_allowed, from_map, from_outcome, from_pairs, from_push, get_in, great_related, in_append_left, in_append_right, in_below, in_filter, in_flat_map, in_listed, in_map, in_mask, in_pairs, justified_is, length-pairs, listed_in, listed_number, new_once, no_longer, number_listed, offers_are, order_goes_on, order_middle, order_new, outcome_in, pairs_once, related_great, renaming_keeps, replay_sublist, same_numbers_is, same_numbers_itself, same_test, sublist_in, sublist_none, system_is_same, there_is}
@@ -59,7 +59,7 @@ unfoldable pub use Rattle.roman_session.specs.Reports.{lines_text, report_text}
 pub use Rattle.roman_session.specs.Rulings.{check_idle, delegation, demand, join_of, named, offered_action, seat_at, service_named, state_named, with_room}
 unfoldable pub use Rattle.roman_session.specs.Rulings.{aborted, asked, died, env_jumped, frozen, handed, joining, jumped, seen, thawed, unexplained}
 pub use Rattle.roman_session.specs.Situations.{IsPhase, IsSituation, Situation, is_idle, present_system}
-pub use Rattle.roman_session.specs.Steps.{Aborts, Asks, CanBe, Changes, Changing, Dies, Does, EnvJumps, Explains, Freezes, Hands, Joins, Jumps, Says, Sees, StepBy, StepOn, Thaws, dying, freezing, growing, pair_after, parts_after, thawing}
+pub use Rattle.roman_session.specs.Steps.{Aborts, Asks, CanBe, Changes, Changing, Dies, Does, EnvJumps, Explains, Freezes, Hands, Joins, Jumps, Sees, StepBy, Thaws, dying, freezing, growing, pair_after, parts_after, service_at, thawing}
 unfoldable pub use Rattle.roman_session.specs.Steps.{Step, offer_text}
 pub use Rattle.roman_session.specs.declared.events.Handing.{Handing}
 pub use Rattle.roman_session.specs.declared.events.Joining.{Joining}

@@ -1,5 +1,5 @@
 -- Steps of a session change no parts but the services.
-use Rattle.roman_hearing.proofs.Common.{◌≡◌, ℕ, List, [], ◌∷◌, Result, Ok, Err, refl, sym, ◌∙◌, subst, arith, LineShape, shape_of, LineError, Reply, Situation, Does, StepOn, StepBy, Step, Answers, AreBehaviours}
+use Rattle.roman_hearing.proofs.Common.{◌≡◌, ℕ, List, [], ◌∷◌, Result, Ok, Err, refl, sym, subst, arith, LineShape, shape_of, LineError, Reply, Situation, Does, StepBy, Step, Answers, AreBehaviours}
 
 -- all parts but the services stay the same
 abbrev pub Keeps : Situation → Situation → Type 0
@@ -14,17 +14,13 @@ does_keeps : {X : Type 0} (Act : Situation → X → List ℕ → Situation → 
 does_keeps Act old new (Err refusal) text act step = keeps_by old new old step.1 refl
 does_keeps Act old new (Ok x) text act step = act x step
 
-step_keeps : (old new : Situation) (shape : LineShape) (text : List ℕ) → StepOn old shape text new → Keeps old new
+step_keeps : (old new : Situation) (shape : Result LineShape LineError) (text : List ℕ) → StepBy old shape text new → Keeps old new
 step_keeps old new shape text step = grind (arith, does_keeps, keeps_by)
-
-by_shape_keeps : (old new : Situation) (shape : Result LineShape LineError) (text : List ℕ) → StepBy old shape text new → Keeps old new
-by_shape_keeps old new (Err why) text step = keeps_by old new old step.1 refl
-by_shape_keeps old new (Ok shape) text step = step_keeps old new shape text step
 
 -- no line changes these parts
 pub line_keeps : (old new : Situation) (line text : List ℕ) → Step old line text new → Keeps old new
 unfolding Step
-line_keeps old new line text step = by_shape_keeps old new (shape_of line) text step
+line_keeps old new line text step = step_keeps old new (shape_of line) text step
 
 -- no list of lines changes these parts
 pub answers_keep : (old new : Situation) (ls : List (List ℕ)) (text : List ℕ) → Answers old ls text new → Keeps old new

@@ -3,6 +3,7 @@ pub mod ReportLemmas
 pub mod HearingLines
 pub mod HearingLemmas
 pub mod WithinLemmas
+pub mod ChangeLemmas
 pub mod KeepLemmas
 pub mod KnownLemmas
 pub mod SeveralLemmas

@@ -1,20 +1,15 @@
 -- The report of a session equals the report of the library that begins in the present states of the session.
 use Rattle.roman_hearing.proofs.Common.{◌≡◌, ℕ, ◌<◌, List, [], ◌∷◌, map, refl, ap, arith, NamedBeh, NamedSys, seat_of, system_of, Beh, IsBeh, IsSys, IsPair, Env, Situation, IsSituation, lines_text, report_text, afresh, services_in, shown, Seat, AllZip, seat_of_service, parts_of, start_pair_of, ReportsAreAfresh}
 
--- the present services give the same seats again
-seats_again : (catalogue : List NamedBeh) (seats : List Seat) (bs : List ℕ) → AllZip (λ seat b. b < seat.beh.states) (map (seat_of catalogue) seats) bs →
-    map seat_of_service (services_in seats bs) ≡ seats
-seats_again catalogue [] bs zip = refl
-seats_again catalogue (seat ∷ seats) [] zip = absurd zip
-seats_again catalogue (seat ∷ seats) (b ∷ bs) zip = ap (λ (xs : List Seat). seat ∷ xs) (seats_again catalogue seats bs zip.1)
-
--- the present services begin in the same states
-states_again : (catalogue : List NamedBeh) (seats : List Seat) (bs : List ℕ) → AllZip (λ seat b. b < seat.beh.states) (map (seat_of catalogue) seats) bs →
-    map (λ x. x.state) (services_in seats bs) ≡ bs
-states_again catalogue [] [] zip = refl
-states_again catalogue [] (b ∷ bs) zip = absurd zip
-states_again catalogue (seat ∷ seats) [] zip = absurd zip
-states_again catalogue (seat ∷ seats) (b ∷ bs) zip = ap (λ (xs : List ℕ). b ∷ xs) (states_again catalogue seats bs zip.1)
+-- the present services give the same seats again, and begin in the same states
+services_again : (catalogue : List NamedBeh) (seats : List Seat) (bs : List ℕ) → AllZip (λ seat b. b < seat.beh.states) (map (seat_of catalogue) seats) bs →
+    (map seat_of_service (services_in seats bs) ≡ seats) × (map (λ x. x.state) (services_in seats bs) ≡ bs)
+services_again catalogue [] [] zip = (refl, refl)
+services_again catalogue [] (b ∷ bs) zip = absurd zip
+services_again catalogue (seat ∷ seats) [] zip = absurd zip
+services_again catalogue (seat ∷ seats) (b ∷ bs) zip =
+    let (same, states) = services_again catalogue seats bs zip.1 in
+    (ap (λ (xs : List Seat). seat ∷ xs) same, ap (λ (xs : List ℕ). b ∷ xs) states)
 
 -- the parts that begin in these states, with these seats
 abbrev begun : Situation → List Seat → NamedSys
@@ -32,7 +27,7 @@ unfolding report_text lines_text
 start_unsaid s = refl
 
 pub reports_afresh : ReportsAreAfresh
-reports_afresh s is = grind (arith, seats_again, start_unsaid, states_again)
+reports_afresh s is = let (seats, states) = services_again s.parts.catalogue s.parts.seats s.here.bs is.here.bs in grind (arith, start_unsaid)
 
 -- The steps don't depend on the starting states of the library
 
@@ -52,4 +47,4 @@ begun_known s is =
 
 -- the library that begins in the present states of the session has a well-formed system, and its start pair is one of the system
 pub afresh_known : (s : Situation) → IsSituation s → IsSys (system_of (parts_of (afresh (shown s)))) × IsPair (system_of (parts_of (afresh (shown s)))) (start_pair_of (afresh (shown s)))
-afresh_known s is = grind (arith, begun_known, seats_again, states_again)
+afresh_known s is = let (seats, states) = services_again s.parts.catalogue s.parts.seats s.here.bs is.here.bs in grind (arith, begun_known)

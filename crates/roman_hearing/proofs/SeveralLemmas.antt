@@ -1,9 +1,10 @@
 -- In a session of a document with several targets the present system combines them, after any lines.
-use Rattle.roman_hearing.proofs.Common.{◌≡◌, ◌↔◌, ℕ, zero, suc, ◌<◌, List, [], ◌∷◌, map, length, refl, sym, ap, ap₂, ◌∙◌, subst, arith, All, length-map, IsIn, product_of, Beh, Sys, Pair, IsBeh, IsPair, Great, from_map, there_is, combined_is_all, NamedBeh, NamedEnv, NamedSys, IsNamedSys, beh_at, seat_of, system_of, beh_read, Situation, Answers, until_quit, AreNamed, IsKnownSituation, Seat, GreatAll, combined, combined_beh, combined_seat, couple_all, target_sizes, IsSeveral, MAX_STATES, Request, PlainCombined, combined_behaviour, combined_parts, machines, requests_in, good_count, all_in, machines_known, are_allowed, PlainLibrary, PlainTargets, CombinesTargets, libraries_known, behaviour_there, targets_combined, several_with, MeansAll, SeveralAreServed}
+use Rattle.roman_hearing.proofs.Common.{◌≡◌, ◌↔◌, ℕ, zero, suc, ◌<◌, List, [], ◌∷◌, map, length, refl, sym, ap, ap₂, ◌∙◌, subst, arith, All, length-map, IsIn, product_of, Beh, Sys, Pair, IsBeh, IsPair, Great, from_map, combined_is_all, NamedBeh, NamedEnv, NamedSys, IsNamedSys, beh_at, seat_of, system_of, Situation, Answers, until_quit, AreNamed, IsKnownSituation, Seat, GreatAll, combined, combined_beh, combined_seat, couple_all, target_sizes, IsSeveral, MAX_STATES, Request, PlainCombined, combined_behaviour, combined_parts, machines, requests_in, good_count, all_in, machines_known, are_allowed, PlainLibrary, PlainTargets, CombinesTargets, libraries_known, targets_combined, several_with, MeansAll, SeveralAreServed}
 use Rattle.std.proofs.lemmas.Bool.{ltb-false}
 use Rattle.roman_model.specs.System as model
 use Rattle.roman_hearing.proofs.KeepLemmas.{answers_keep}
 use Rattle.roman_hearing.proofs.KnownLemmas.{steps_known}
+use Rattle.roman_hearing.proofs.WithinLemmas.{beh_within}
 
 -- The system over combined actions
 
@@ -53,17 +54,11 @@ module _ (said : PlainTargets) (library : PlainLibrary) (parts : NamedSys) (comb
   system_is : system_of parts ≡ combined (several_with said parts.seats)
   system_is = ap (λ (made : PlainCombined). made_system made parts.seats) parts_are ∙ made_combined said parts.seats seats_within
 
-  seat_known : (seat : Seat) → seat.behaviour < length said.catalogue → IsBeh said.environment.env (beh_at said.catalogue seat.behaviour)
-  seat_known seat l =
-      let (b, there) = there_is said.catalogue seat.behaviour l in
-      let known = behaviour_there said.environment said.catalogue seat.behaviour b combines.behaviours there in
-      subst (IsBeh said.environment.env) (sym (beh_read said.catalogue seat.behaviour b there)) (known.known said.environment.env (sym known.env_states) (sym known.actions))
-
   seats_known : (x : model.Seat) → IsIn x (several_with said parts.seats).seats → IsBeh said.environment.env x.beh
   seats_known x i =
       let (seat, j, same) = from_map (seat_of said.catalogue) x parts.seats i in
       subst (λ (x : model.Seat). IsBeh said.environment.env x.beh) (sym same)
-      (seat_known seat (all_in (λ (seat : Seat). seat.behaviour < length said.catalogue) parts.seats seat seats_within j))
+      (beh_within said.environment said.catalogue seat.behaviour combines.behaviours.known (all_in (λ (seat : Seat). seat.behaviour < length said.catalogue) parts.seats seat seats_within j))
 
   several_are : IsSeveral (several_with said parts.seats)
   several_are =

@@ -1,5 +1,5 @@
 -- What an event names is in range: the place of a service, a state or a behaviour.
-use Rattle.roman_hearing.proofs.Common.{◌≡◌, ℕ, ◌<◌, Bool, List, [], map, length, Option, None, Some, ok_or, is_none, is_ok, false, Ok, IsTrue, slice_get, refl, sym, ◌∙◌, subst, arith, IfSome, length-map, position-Some, get_or_from_slice_get, IsBeh, seat_names, there_is, is_name, place_of, same_ok, bind_ok, NamedBeh, IsBehaviour, beh_at, seat_name, beh_name, states_of_behaviour, names_in, beh_read, seat_read, Situation, present_system, is_idle, IsSituation, named, joining, service_named, state_named, Joining, name_is_new, checked, mapped_at, states_named, AreBehaviours, All-get_or, CanJoin}
+use Rattle.roman_hearing.proofs.Common.{◌≡◌, ℕ, ◌<◌, Bool, List, map, length, Option, None, Some, ok_or, is_none, is_ok, false, Ok, IsTrue, slice_get, refl, sym, subst, arith, IfSome, length-map, position-Some, get_or_from_slice_get, IsBeh, seat_names, there_is, is_name, place_of, same_ok, bind_ok, NamedBeh, IsBehaviour, beh_at, seat_name, beh_name, states_of_behaviour, names_in, beh_read, seat_read, Situation, present_system, is_idle, IsSituation, named, joining, service_named, state_named, Joining, name_is_new, checked, mapped_at, states_named, AreBehaviours, All-get_or, CanJoin, All, NamedEnv}
 use Rattle.roman_model.specs.System.{Seat}
 use Rattle.roman_text.specs.declared.replies.Reply.TheVariants as reply
 use Rattle.roman_joint.specs.declared.seat.Seat.{Seat as Place}
@@ -12,12 +12,17 @@ named_within names name i h = grind (arith, position-Some)
 pub seat_within : (s : Situation) (service : List ℕ) (k : ℕ) → service_named s service ≡ Ok k → k < length s.parts.seats
 seat_within s service k h = omega (arith, named_within (map seat_name s.parts.seats) service k h, length-map s.parts.seats seat_name)
 
--- the behaviour at a place of the catalogue has a name for each of its states
-pub placed_behaviour : (s : Situation) (i : ℕ) → AreBehaviours s.parts → i < length s.parts.catalogue → (y : NamedBeh) × (slice_get s.parts.catalogue i ≡ Some y) × IsBehaviour s.parts.environment y
-placed_behaviour s i behaviours l = grind (arith, (there_is s.parts.catalogue i l), get_or_from_slice_get, All-get_or)
+-- the behaviour at a place of a catalogue is well formed, and has a name for each of its states
+placed_behaviour : (env : NamedEnv) (catalogue : List NamedBeh) (i : ℕ) → All (IsBehaviour env) catalogue → i < length catalogue → (y : NamedBeh) × (slice_get catalogue i ≡ Some y) × IsBehaviour env y
+placed_behaviour env catalogue i behaviours l = grind (arith, (there_is catalogue i l), get_or_from_slice_get, All-get_or)
 
-pub states_counted : (s : Situation) (i : ℕ) → AreBehaviours s.parts → i < length s.parts.catalogue → length (states_of_behaviour s.parts.catalogue i) ≡ (beh_at s.parts.catalogue i).states
-states_counted s i behaviours l = grind (arith, (placed_behaviour s i behaviours l), mapped_at, beh_read)
+pub beh_within : (env : NamedEnv) (catalogue : List NamedBeh) (i : ℕ) → All (IsBehaviour env) catalogue → i < length catalogue → IsBeh env.env (beh_at catalogue i)
+beh_within env catalogue i behaviours l =
+    let (y, there, is) = placed_behaviour env catalogue i behaviours l in
+    subst (IsBeh env.env) (sym (beh_read catalogue i y there)) (is.known env.env (sym is.env_states) (sym is.actions))
+
+states_counted : (s : Situation) (i : ℕ) → AreBehaviours s.parts → i < length s.parts.catalogue → length (states_of_behaviour s.parts.catalogue i) ≡ (beh_at s.parts.catalogue i).states
+states_counted s i behaviours l = grind (arith, (placed_behaviour s.parts.environment s.parts.catalogue i behaviours l), mapped_at, beh_read)
 
 -- a named state is one of the service's behaviour
 pub state_within : (s : Situation) (k b : ℕ) (state : List ℕ) → IsSituation s → AreBehaviours s.parts → k < length s.parts.seats → state_named s k state ≡ Ok b →
@@ -25,7 +30,7 @@ pub state_within : (s : Situation) (k b : ℕ) (state : List ℕ) → IsSituatio
 state_within s k b state is behaviours l h =
     let (seat, seated) = there_is s.parts.seats k l in
     let inside : seat.behaviour < length s.parts.catalogue = grind (arith, (get_or_from_slice_get s.parts.seats k seat seat seated), All-get_or) in
-    let (beh, placed, known) = placed_behaviour s seat.behaviour behaviours inside in
+    let (beh, placed, known) = placed_behaviour s.parts.environment s.parts.catalogue seat.behaviour behaviours inside in
     let names = states_named s.parts k beh (record { seat = seat; seated = seated; placed = placed }) in
     let less : b < length (seat_names (names_in s.parts) k).states = named_within (seat_names (names_in s.parts) k).states state b h in
     let count : length (seat_names (names_in s.parts) k).states ≡ (beh_at s.parts.catalogue seat.behaviour).states = grind (arith, (beh_read s.parts.catalogue seat.behaviour beh placed)) in
@@ -50,9 +55,3 @@ joining_new s service behaviour state loose x behaviours h =
     not_ok : (o : Option ℕ) → IsTrue (is_none o) → is_ok (ok_or o reply.ErrorName) ≡ false
     not_ok None h = refl
     not_ok (Some k) h = absurd (let e : ⊥ = cc in e)
-
--- its behaviour is well formed over the environment
-pub joining_beh : (s : Situation) (i : ℕ) → AreBehaviours s.parts → i < length s.parts.catalogue → IsBeh s.parts.environment.env (beh_at s.parts.catalogue i)
-joining_beh s i behaviours l =
-    let (y, there, is) = placed_behaviour s i behaviours l in
-    subst (IsBeh s.parts.environment.env) (sym (beh_read s.parts.catalogue i y there)) (is.known s.parts.environment.env (sym is.env_states) (sym is.actions))
