@@ -33,24 +33,14 @@ joined_in_turn s service behaviour state loose = do
   _ ← demand (is_none (place_of (map seat_name s.parts.seats) service)) reply.ErrorTaken
   with_room s (record { seat = record { name = service; behaviour = i; frozen = false; rests = not loose }; state = b })
 
-state_in_turn : (o : Option ℕ) (idle free : Bool) (x : ℕ → Joining) (g : Joining → Result Joining Reply) →
-    ((ok_or o reply.ErrorName >>= (λ b. demand idle reply.ErrorBusy >>= (λ _. demand free reply.ErrorTaken >>= (λ _. Ok (x b))))) >>= g)
-    ≡ (ok_or o reply.ErrorName >>= (λ b. demand idle reply.ErrorBusy >>= (λ _. demand free reply.ErrorTaken >>= (λ _. g (x b)))))
-state_in_turn None idle free x g = refl
-state_in_turn (Some b) false free x g = refl
-state_in_turn (Some b) true false x g = refl
-state_in_turn (Some b) true true x g = refl
-
-behaviour_in_turn : (good : Bool) (o : Option ℕ) (p : ℕ → Option ℕ) (idle free : Bool) (x : ℕ → ℕ → Joining) (g : Joining → Result Joining Reply) →
-    ((demand good reply.ErrorName >>= (λ _. ok_or o reply.ErrorName >>= (λ i. ok_or (p i) reply.ErrorName >>= (λ b. demand idle reply.ErrorBusy >>= (λ _. demand free reply.ErrorTaken >>= (λ _. Ok (x i b))))))) >>= g)
-    ≡ (demand good reply.ErrorName >>= (λ _. ok_or o reply.ErrorName >>= (λ i. ok_or (p i) reply.ErrorName >>= (λ b. demand idle reply.ErrorBusy >>= (λ _. demand free reply.ErrorTaken >>= (λ _. g (x i b)))))))
-behaviour_in_turn false o p idle free x g = refl
-behaviour_in_turn true None p idle free x g = refl
-behaviour_in_turn true (Some i) p idle free x g = state_in_turn (p i) idle free (x i) g
+-- a sequence within a sequence
+in_turn : {X Y Z E : Type 0} (r : Result X E) (f : X → Result Y E) (g : Y → Result Z E) → ((r >>= f) >>= g) ≡ (r >>= (λ x. f x >>= g))
+in_turn (Ok x) f g = refl
+in_turn (Err e) f g = refl
 
 join_in_turn : (s : Situation) (service behaviour state : List ℕ) (loose : Bool) → join_of s service behaviour state loose ≡ joined_in_turn s service behaviour state loose
 unfolding joining
-join_in_turn s service behaviour state loose = grind (arith, behaviour_in_turn)
+join_in_turn s service behaviour state loose = simp in_turn
 
 -- a service isn't ready exactly when it is frozen
 ready_tells : (s : Situation) (k : ℕ) → k < length s.parts.seats → IsReady (shown s) k → IsFalse (seat_at s k).frozen
@@ -95,9 +85,9 @@ module _ (old new : Situation) (text : List ℕ) (Refused : Reply → Type 0) (L
   needs_offered {X} Act f Then does go = by_phase old.phase refl does
     where
       by_phase : (phase : Phase) → old.phase ≡ phase → Does Act old (offered_action phase >>= f) text new → Needs ((a : ℕ) × (old.phase ≡ Offered a)) (Refused reply.ErrorIdle) Then
-      by_phase Idle e does = inr (λ (a, is). absurd (let h : Idle ≡ Offered a = sym e ∙ is in let h : ⊥ = cc in h), refused reply.ErrorIdle does.0 does.1)
+      by_phase Idle e does = inr (λ (a, is). absurd (let h : ⊥ = cc in h), refused reply.ErrorIdle does.0 does.1)
       by_phase (Offered a) e does = inl ((a, e), go a e does)
-      by_phase (Delegated b k) e does = inr (λ (a, is). absurd (let h : Delegated b k ≡ Offered a = sym e ∙ is in let h : ⊥ = cc in h), refused reply.ErrorIdle does.0 does.1)
+      by_phase (Delegated b k) e does = inr (λ (a, is). absurd (let h : ⊥ = cc in h), refused reply.ErrorIdle does.0 does.1)
 
   needs_handed : {X : Type 0} (Act : Situation → X → List ℕ → Situation → Type 0) (f : Handing → Result X Reply) (Then : ((a : ℕ) × (k : ℕ) × (old.phase ≡ Delegated a k)) → Type 0) →
       Does Act old (delegation old.phase >>= f) text new → ((a k : ℕ) (handed : old.phase ≡ Delegated a k) → Does Act old (f (record { action = a; seat = k })) text new → Then (a, k, handed)) →
@@ -105,8 +95,8 @@ module _ (old new : Situation) (text : List ℕ) (Refused : Reply → Type 0) (L
   needs_handed {X} Act f Then does go = by_phase old.phase refl does
     where
       by_phase : (phase : Phase) → old.phase ≡ phase → Does Act old (delegation phase >>= f) text new → Needs ((a : ℕ) × (k : ℕ) × (old.phase ≡ Delegated a k)) (Refused reply.ErrorIdle) Then
-      by_phase Idle e does = inr (λ (a, k, is). absurd (let h : Idle ≡ Delegated a k = sym e ∙ is in let h : ⊥ = cc in h), refused reply.ErrorIdle does.0 does.1)
-      by_phase (Offered b) e does = inr (λ (a, k, is). absurd (let h : Offered b ≡ Delegated a k = sym e ∙ is in let h : ⊥ = cc in h), refused reply.ErrorIdle does.0 does.1)
+      by_phase Idle e does = inr (λ (a, k, is). absurd (let h : ⊥ = cc in h), refused reply.ErrorIdle does.0 does.1)
+      by_phase (Offered b) e does = inr (λ (a, k, is). absurd (let h : ⊥ = cc in h), refused reply.ErrorIdle does.0 does.1)
       by_phase (Delegated a k) e does = inl ((a, k, e), go a k e does)
 
   -- the events
@@ -121,45 +111,12 @@ module _ (old new : Situation) (text : List ℕ) (Refused : Reply → Type 0) (L
   unfolding offer_text
   offers_said a allowed says = record { services = offers (present_system old) old.here a; serving = offers_serving seen_state a known.situation.parts.system known.situation.here allowed; says = says }
 
-  asks : (action : List ℕ) → Does Asks old (asked old action) text new → Comes (ask action)
-  unfolding asked
-  asks action does =
-      let sys = known.situation.parts.system in
-      let pair = known.situation.here in
-      needs_place Asks old.parts.environment.actions action _ _ does (λ a there at does.
-      needs_idle Asks _ _ does (λ idle does.
-      needs_test Asks (is_related (present_system old) old.here) reply.NoComposition _ (IsGreat seen_state) _ does
-      (related_great (present_system old) old.here sys pair) (great_related (present_system old) old.here sys) (λ great related does.
-      needs_test Asks (is_allowed (present_system old) old.here a) reply.NotAllowed _ (MayAsk seen_state a) _ does
-      (from_allowed (present_system old) old.here a) (allowed_in (present_system old) old.here a sys) (grind (arith, seen_state, offers_said)))))
-
-  hands : (service : List ℕ) → Does Hands old (handed old service) text new → Comes (hand service)
-  unfolding handed
-  hands service does =
-      needs_place Hands (map seat_name old.parts.seats) service _ _ does (λ k there at does.
-      needs_offered Hands _ _ does (λ a asked does.
-      let serving = offers_serving seen_state a known.situation.parts.system known.situation.here (subst (IsPhase old) asked known.situation.phase).1 in
-      let less : k < length (present_system old).seats = omega (arith, seat_within old service k at, length-map old.parts.seats (seat_of old.parts.catalogue)) in
-      needs_test Hands (has (offers (present_system old) old.here a) k) reply.NotOffered _ (ServesHere seen_state a k) _ does
-      (λ offered. ((serving.exact k).0 (number_listed (offers (present_system old) old.here a) k offered)).1)
-      (λ serves. listed_number (offers (present_system old) old.here a) k ((serving.exact k).1 (less, serves))) (λ serves offered does.
-      leads (record seen_state { phase = Delegated a k }) (Replies (reply.Using service)) (ap shown does.1)
-      (does.0 ∙ ap (λ (name : List ℕ). reply_text (reply.Using name)) (get_or_from_slice_get (map seat_name old.parts.seats) k service [] there)))))
-
   sees : (state env : List ℕ) → Does Sees old (seen old state env) text new → Comes (saw state env)
   unfolding seen
   sees state env does =
       needs_handed Sees _ _ does (λ a k handed does.
       needs_place Sees (seat_names (names_in old.parts) k).states state _ _ does (λ b there at does.
       needs_place Sees old.parts.environment.states env _ _ does (λ e named at does. grind (arith, (get_or_from_slice_get old.parts.environment.states e env)))))
-
-  aborts : Does Aborts old (aborted old) text new → Comes abort
-  unfolding aborted
-  aborts does =
-      unless_alone Aborts (not (is_idle old.phase)) reply.ErrorIdle (old.phase ≡ Idle) _ does
-      (λ busy idle. both_ways (is_idle old.phase) (not-true (is_idle old.phase) busy) (ap is_idle idle))
-      (λ idle. idle_is old.phase (not-false (is_idle old.phase) idle))
-      (λ busy does. leads (record seen_state { phase = Idle }) (Replies reply.Aborted) (ap shown does.1) does.0)
 
   -- a change of the services, after which the reply counts the pairs that aren't related
   changed : (x : Changing) → Changes old x text new →
@@ -172,32 +129,6 @@ module _ (old new : Situation) (text : List ℕ) (Refused : Reply → Type 0) (L
             (lost_counted (present_system new) changes.kept changes.added changes.complete);
         says = changes.says;
       })
-
-  freezes : (service : List ℕ) → Does Freezes old (frozen old service) text new → Comes (freeze service)
-  unfolding frozen
-  freezes service does =
-      needs_place Freezes (map seat_name old.parts.seats) service _ _ does (λ k there at does.
-      needs_idle Freezes _ _ does (λ idle does.
-      let l = seat_within old service k at in
-      needs_test Freezes (not (seat_at old k).frozen) reply.ErrorFrozen _ (IsReady seen_state k) _ does
-      (λ ready. (seat_at old k, seat_is old k l, not-true (seat_at old k).frozen ready)) (λ ready. ap not (ready_tells old k l ready))
-      (λ ready told does. changed (freezing old k) does)))
-
-  thaws : (service : List ℕ) → Does Thaws old (thawed old service) text new → Comes (thaw service)
-  unfolding thawed
-  thaws service does =
-      needs_place Thaws (map seat_name old.parts.seats) service _ _ does (λ k there at does.
-      needs_idle Thaws _ _ does (λ idle does.
-      let l = seat_within old service k at in
-      unless_test Thaws (seat_at old k).frozen reply.ErrorReady _ (IsReady seen_state k) _ does
-      (λ frozen ready. both_ways (seat_at old k).frozen (ready_tells old k l ready) frozen) (λ ready. (seat_at old k, seat_is old k l, ready))
-      (λ does. changed (thawing old k) does)))
-
-  dies : (service : List ℕ) → Does Dies old (died old service) text new → Comes (die service)
-  unfolding died
-  dies service does =
-      needs_place Dies (map seat_name old.parts.seats) service _ _ does (λ k there at does.
-      needs_idle Dies _ _ does (λ idle does. changed (dying old k) does))
 
   joins : (service behaviour state : List ℕ) (loose : Bool) → Does Joins old (joined_in_turn old service behaviour state loose) text new → Comes (join service behaviour state loose)
   joins service behaviour state loose does =
@@ -224,20 +155,63 @@ module _ (old new : Situation) (text : List ℕ) (Refused : Reply → Type 0) (L
       some_there None e some = absurd (false≢true (sym some))
       some_there (Some k) e some = get_in (map seat_name old.parts.seats) k service (place_there (map seat_name old.parts.seats) service k e)
 
-  jumps : (service state : List ℕ) → Does Jumps old (jumped old service state) text new → Comes (jump service state)
-  unfolding jumped
-  jumps service state does =
+  comes : (shape : Result LineShape LineError) → StepBy old shape text new → ComesTo seen_state shape Refused Leads
+  unfolding asked handed aborted frozen thawed died jumped env_jumped unexplained
+  comes (Err why) step = refused reply.ErrorLine step.0 step.1
+  comes (Ok nothing) step = leads seen_state _ (ap shown step.1) step.0
+  comes (Ok (ask action)) does =
+      let sys = known.situation.parts.system in
+      let pair = known.situation.here in
+      needs_place Asks old.parts.environment.actions action _ _ does (λ a there at does.
+      needs_idle Asks _ _ does (λ idle does.
+      needs_test Asks (is_related (present_system old) old.here) reply.NoComposition _ (IsGreat seen_state) _ does
+      (related_great (present_system old) old.here sys pair) (great_related (present_system old) old.here sys) (λ great related does.
+      needs_test Asks (is_allowed (present_system old) old.here a) reply.NotAllowed _ (MayAsk seen_state a) _ does
+      (from_allowed (present_system old) old.here a) (allowed_in (present_system old) old.here a sys) (λ may allowed does.
+      leads (record seen_state { phase = Offered a }) (OffersServing seen_state a) (ap shown does.1) (offers_said a allowed does.0)))))
+  comes (Ok (hand service)) does =
+      needs_place Hands (map seat_name old.parts.seats) service _ _ does (λ k there at does.
+      needs_offered Hands _ _ does (λ a asked does.
+      let serving = offers_serving seen_state a known.situation.parts.system known.situation.here (subst (IsPhase old) asked known.situation.phase).1 in
+      let less : k < length (present_system old).seats = omega (arith, seat_within old service k at, length-map old.parts.seats (seat_of old.parts.catalogue)) in
+      needs_test Hands (has (offers (present_system old) old.here a) k) reply.NotOffered _ (ServesHere seen_state a k) _ does
+      (λ offered. ((serving.exact k).0 (number_listed (offers (present_system old) old.here a) k offered)).1)
+      (λ serves. listed_number (offers (present_system old) old.here a) k ((serving.exact k).1 (less, serves))) (λ serves offered does.
+      leads (record seen_state { phase = Delegated a k }) (Replies (reply.Using service)) (ap shown does.1)
+      (does.0 ∙ ap (λ (name : List ℕ). reply_text (reply.Using name)) (get_or_from_slice_get (map seat_name old.parts.seats) k service [] there)))))
+  comes (Ok (saw state env)) does = sees state env does
+  comes (Ok abort) does =
+      unless_alone Aborts (not (is_idle old.phase)) reply.ErrorIdle (old.phase ≡ Idle) _ does
+      (λ busy idle. both_ways (is_idle old.phase) (not-true (is_idle old.phase) busy) (ap is_idle idle))
+      (λ idle. idle_is old.phase (not-false (is_idle old.phase) idle))
+      (λ busy does. leads (record seen_state { phase = Idle }) (Replies reply.Aborted) (ap shown does.1) does.0)
+  comes (Ok (freeze service)) does =
+      needs_place Freezes (map seat_name old.parts.seats) service _ _ does (λ k there at does.
+      needs_idle Freezes _ _ does (λ idle does.
+      let l = seat_within old service k at in
+      needs_test Freezes (not (seat_at old k).frozen) reply.ErrorFrozen _ (IsReady seen_state k) _ does
+      (λ ready. (seat_at old k, seat_is old k l, not-true (seat_at old k).frozen ready)) (λ ready. ap not (ready_tells old k l ready))
+      (λ ready told does. changed (freezing old k) does)))
+  comes (Ok (thaw service)) does =
+      needs_place Thaws (map seat_name old.parts.seats) service _ _ does (λ k there at does.
+      needs_idle Thaws _ _ does (λ idle does.
+      let l = seat_within old service k at in
+      unless_test Thaws (seat_at old k).frozen reply.ErrorReady _ (IsReady seen_state k) _ does
+      (λ frozen ready. both_ways (seat_at old k).frozen (ready_tells old k l ready) frozen) (λ ready. (seat_at old k, seat_is old k l, ready))
+      (λ does. changed (thawing old k) does)))
+  comes (Ok (die service)) does =
+      needs_place Dies (map seat_name old.parts.seats) service _ _ does (λ k there at does.
+      needs_idle Dies _ _ does (λ idle does. changed (dying old k) does))
+  comes (Ok (join service behaviour state loose)) does = joins service behaviour state loose (subst (λ (r : Result Joining Reply). Does Joins old r text new) (join_in_turn old service behaviour state loose) does)
+  comes (Ok (jump service state)) does =
       needs_place Jumps (map seat_name old.parts.seats) service _ _ does (λ k there at does.
-      needs_place Jumps (seat_names (names_in old.parts) k).states state _ _ does (grind (arith, needs_idle)))
-
-  env_jumps : (env : List ℕ) → Does EnvJumps old (env_jumped old env) text new → Comes (jump_env env)
-  unfolding env_jumped
-  env_jumps env does =
-      needs_place EnvJumps old.parts.environment.states env _ _ does (grind (arith, needs_idle))
-
-  explains : Does Explains old (unexplained old) text new → Comes explain
-  unfolding unexplained
-  explains does =
+      needs_place Jumps (seat_names (names_in old.parts) k).states state _ _ does (λ b named at does.
+      needs_idle Jumps _ _ does (λ idle does. leads _ (Replies reply.Jumped) (ap shown does.1) does.0)))
+  comes (Ok (jump_env env)) does =
+      needs_place EnvJumps old.parts.environment.states env _ _ does (λ e named at does.
+      needs_idle EnvJumps _ _ does (λ idle does. leads _ (Replies reply.Jumped) (ap shown does.1) does.0))
+  comes (Ok report) step = leads seen_state _ (ap shown step.1) (reports_both old text known.situation step.0)
+  comes (Ok explain) does =
       let sys = known.situation.parts.system in
       let related = is_related (present_system old) old.here in
       unless_alone Explains (not related) reply.ErrorRelated (IsGreat seen_state) _ does
@@ -245,22 +219,6 @@ module _ (old new : Situation) (text : List ℕ) (Refused : Reply → Type 0) (L
       (λ great. related_great (present_system old) old.here sys known.situation.here (not-false related great))
       (λ lost does. leads seen_state (Refutes seen_state) (ap shown does.1)
       (refutes old text known.situation (λ great. both_ways related (not-true related lost) (great_related (present_system old) old.here sys great)) does.0))
-
-  comes : (shape : Result LineShape LineError) → StepBy old shape text new → ComesTo seen_state shape Refused Leads
-  comes (Err why) step = refused reply.ErrorLine step.0 step.1
-  comes (Ok nothing) step = leads seen_state _ (ap shown step.1) step.0
-  comes (Ok (ask action)) step = asks action step
-  comes (Ok (hand service)) step = hands service step
-  comes (Ok (saw state env)) step = sees state env step
-  comes (Ok abort) step = aborts step
-  comes (Ok (freeze service)) step = freezes service step
-  comes (Ok (thaw service)) step = thaws service step
-  comes (Ok (die service)) step = dies service step
-  comes (Ok (join service behaviour state loose)) step = grind (arith, joins, join_in_turn)
-  comes (Ok (jump service state)) step = jumps service state step
-  comes (Ok (jump_env env)) step = env_jumps env step
-  comes (Ok report) step = leads seen_state _ (ap shown step.1) (reports_both old text known.situation step.0)
-  comes (Ok explain) step = explains step
   comes (Ok quit) step = leads seen_state (Replies reply.Bye) (ap shown step.1) step.0
 
 -- A step leads from state to state, and its text answers the event.
