@@ -44,8 +44,9 @@ answered_heard session =
     let few = nat_le (length session) MAX_SESSION_BYTES in
     let all = lines session in
     let first = ended_lines (take MAX_SESSION_BYTES session) in
+    let begins = ended_more (take MAX_SESSION_BYTES session) (drop MAX_SESSION_BYTES session) in
     by_test few (λ short. ap until_quit (cond-true (is_heard_out session) all first (or_left few (has_quit first) short) ∙ sym (cond-true few all first short)))
-    (λ long. by_test (has_quit first) (grind (arith, (lines_more session), (ended_more (take MAX_SESSION_BYTES session) (drop MAX_SESSION_BYTES session)), (take-append-drop MAX_SESSION_BYTES session), append_assoc, cond-true, or_right, stops, (cond-false few all first long)))
+    (λ long. by_test (has_quit first) (grind (arith, (lines_more session), begins, (take-append-drop MAX_SESSION_BYTES session), append_assoc, cond-true, or_right, stops, (cond-false few all first long)))
     (λ quitless. ap until_quit (cond-false (is_heard_out session) all first (or_from few (has_quit first) long quitless) ∙ sym (cond-false few all first long))))
 
 -- any last line is answered

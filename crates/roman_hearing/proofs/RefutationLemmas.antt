@@ -1,5 +1,5 @@
 -- The explanation of a pair that isn't related is a removal list in terms of steps, and the opponent who plays by it wins.
-use Rattle.roman_hearing.proofs.Common.{◌≡◌, ℕ, zero, suc, ◌+◌, ◌<◌, Bool, not, List, [], ◌∷◌, ◌++◌, length, codes, Option, None, Some, IsTrue, IsFalse, inl, inr, slice_get, refl, sym, ap, ◌∙◌, subst, arith, append_assoc, ◌||◌, filter, find, list_any, false≢true, both_ways, or_cases, or_parts, not-true, cond-true, cond-false, not-false, IsIn, below, is_empty, text_of_lines, Sys, Pair, IsSys, arena, outcomes, is_ready, Entry, is_beaten, is_listed, is_justified, IsOrder, Great, explain_text, Names, entries_before, answer, ready_seats, answers, rests_on, explanation, lost_line, entry_lines, by_test, empty_is, filter_in, in_filter, filter_sublist, in_below, listed_in, in_listed, from_allowed, from_outcome, outcome_in, system_is_same, find_some, find_found, in_append_right, in_append_left, from_push, in_flat_map, flat_map_same, justified_is, order_middle, before_is, explanation_is_order, explanation_is_least, names_in, Situation, present_system, IsSituation, shown, IsReady, Refutes, lines_of_answers, option_to_list, none-some, slice_get_within, Reason, Final, Act, MayAnswer, IsLost, AreLost, WinsBy}
+use Rattle.roman_hearing.proofs.Common.{◌≡◌, ℕ, zero, suc, ◌+◌, ◌<◌, Bool, not, List, [], ◌∷◌, ◌++◌, length, codes, Option, None, Some, IsTrue, IsFalse, inl, inr, slice_get, refl, sym, ap, ◌∙◌, subst, arith, append_assoc, filter, find, list_any, false≢true, both_ways, or_cases, or_parts, not-true, cond-true, cond-false, not-false, IsIn, below, is_empty, text_of_lines, Sys, Pair, IsSys, arena, outcomes, is_ready, Entry, is_beaten, is_listed, is_justified, IsOrder, Great, explain_text, Names, entries_before, answer, ready_seats, answers, rests_on, explanation, lost_line, entry_lines, by_test, empty_is, filter_in, in_filter, filter_sublist, in_below, listed_in, in_listed, from_allowed, from_outcome, outcome_in, system_is_same, find_some, find_found, in_append_right, in_append_left, from_push, in_flat_map, flat_map_same, justified_is, order_middle, before_is, explanation_is_order, explanation_is_least, names_in, Situation, present_system, IsSituation, shown, IsReady, Refutes, lines_of_answers, option_to_list, none-some, slice_get_within, Reason, Final, Act, MayAnswer, IsLost, AreLost, WinsBy, ◌≤◌}
 
 -- Losing more
 
@@ -9,27 +9,23 @@ lost_more s Gone More answers p Final more lost = lost
 lost_more s Gone More answers p (Act a) more lost = grind arith
 
 module _ (s : Sys) (answers : Entry Pair → ℕ → Option Pair) (all : List (Entry Pair)) where
-  wins_more : (n : ℕ) (p : Pair) → WinsBy s answers all n p → WinsBy s answers all (suc n) p
-  wins_more zero p none = absurd none
-  wins_more (suc n) p (x, i, same, lost) = grind (arith, lost_more, (wins_more n))
-
-  wins_later : (m n : ℕ) (p : Pair) → WinsBy s answers all n p → WinsBy s answers all (m + n) p
-  wins_later zero n p wins = subst (λ (k : ℕ). WinsBy s answers all k p) (let e : n ≡ 0 + n = omega arith in e) wins
-  wins_later (suc m) n p wins = subst (λ (k : ℕ). WinsBy s answers all k p) (let e : suc (m + n) ≡ suc m + n = omega arith in e) (wins_more (m + n) p (wins_later m n p wins))
+  wins_more : (n m : ℕ) (p : Pair) → n ≤ m → WinsBy s answers all n p → WinsBy s answers all m p
+  wins_more zero m p l none = absurd none
+  wins_more (suc n) zero p l wins = absurd (omega (arith, l))
+  wins_more (suc n) (suc m) p l (x, i, same, lost) = (x, i, same, lost_more s (WinsBy s answers all n) (WinsBy s answers all m) (answers x) p x.reason (λ q. wins_more n m q (omega (arith, l))) lost)
 
   -- the opponent who wins from the earlier pairs wins from the others, by as many more entries as there are others
-  wins_from : (n : ℕ) (before : List Pair) (rest : List (Entry Pair)) → ((q : Pair) → IsIn q before → WinsBy s answers all n q) → ((x : Entry Pair) → IsIn x rest → IsIn x all) →
-      AreLost s answers before rest → (x : Entry Pair) → IsIn x rest → WinsBy s answers all (length rest + n) x.node
-  wins_from n before [] wins within lost x none = absurd none
-  wins_from n before (y ∷ rest) wins within lost x i =
+  wins_from : (n m : ℕ) (before : List Pair) (rest : List (Entry Pair)) → length rest + n ≤ m → ((q : Pair) → IsIn q before → WinsBy s answers all n q) → ((x : Entry Pair) → IsIn x rest → IsIn x all) →
+      AreLost s answers before rest → (x : Entry Pair) → IsIn x rest → WinsBy s answers all m x.node
+  wins_from n m before [] l wins within lost x none = absurd none
+  wins_from n m before (y ∷ rest) l wins within lost x i =
       let here : WinsBy s answers all (suc n) y.node = grind (arith, lost_more) in
-      let sum : length rest + suc n ≡ length (y ∷ rest) + n = omega arith in
-      subst (λ (k : ℕ). WinsBy s answers all k x.node) sum (elim i [
-        | inl e ↦ wins_later (length rest) (suc n) x.node (subst (λ (x : Entry Pair). WinsBy s answers all (suc n) x.node) (sym e) here)
-        | inr j ↦ wins_from (suc n) (y.node ∷ before) rest
-            (λ q k. elim k [ inl e ↦ subst (WinsBy s answers all (suc n)) (sym e) here | inr l ↦ wins_more n q (wins q l) ])
+      elim i [
+        | inl e ↦ wins_more (suc n) m x.node (omega (arith, l)) (subst (λ (x : Entry Pair). WinsBy s answers all (suc n) x.node) (sym e) here)
+        | inr j ↦ wins_from (suc n) m (y.node ∷ before) rest (omega (arith, l))
+            (λ q k. elim k [ inl e ↦ subst (WinsBy s answers all (suc n)) (sym e) here | inr b ↦ wins_more n (suc n) q (omega arith) (wins q b) ])
             (λ x i. within x (inr i)) lost.2 x j
-      ])
+      ]
 
 -- The explanation
 
@@ -66,7 +62,9 @@ module _ (s : Sys) (ok : IsSys s) (L : List (Entry Pair)) (p : Pair) (order : Is
   answers_lose : (done : List (Entry Pair)) (x : Entry Pair) (rest : List (Entry Pair)) (before : List Pair) (a k : ℕ) → L ≡ done ++ x ∷ rest → IsTrue (is_shown x) → x.reason ≡ Act a → k < length s.seats →
       ((y : Entry Pair) → IsIn y done → IsTrue (is_shown y) → IsIn y.node before) → IsTrue (is_beaten (arena s) (is_listed (arena s) done) x.node a k) →
       (o : Option Pair) → answer (arena s) L x.node a k ≡ o → find (is_listed (arena s) done) (outcomes s x.node a k) ≡ o → MayAnswer s (λ q. IsIn q before) x.node a k o
-  answers_lose done x rest before a k whole told act l holds beaten None is found = λ q (target, system). grind (arith, (outcome_in s x.node a k q.t q.e q.bs ok target system), (or_cases (is_empty (outcomes s x.node a k)) (list_any (is_listed (arena s) done) (outcomes s x.node a k)) beaten), empty_is, find_found, none-some)
+  answers_lose done x rest before a k whole told act l holds beaten None is found = λ q (target, system).
+      let some_gone = or_cases (is_empty (outcomes s x.node a k)) (list_any (is_listed (arena s) done) (outcomes s x.node a k)) beaten in
+      grind (arith, (outcome_in s x.node a k q.t q.e q.bs ok target system), empty_is, find_found, none-some)
   answers_lose done x rest before a k whole told act l holds beaten (Some q) is found =
       let (out, there) = find_some (is_listed (arena s) done) (outcomes s x.node a k) q found in
       let (y, j, shown_too, same) = answer_shown done x rest a k q whole told act l there out is in
@@ -78,7 +76,8 @@ module _ (s : Sys) (ok : IsSys s) (L : List (Entry Pair)) (p : Pair) (order : Is
   lost_by done x rest before Final whole new told act holds justified = grind (arith, or_parts, not-true, not-false)
   lost_by done x rest before (Act a) whole new told act holds justified =
       let (allowed, each) = justified_is (arena s) (is_listed (arena s) done) x.node a justified in
-      let before_is : entries_before (arena s) L x.node ≡ done = ap (λ (M : List (Entry Pair)). entries_before (arena s) M x.node) whole ∙ before_is (arena s) done x rest ((system_is_same s).itself x.node) new in grind (arith, from_allowed, answers_lose, before_is)
+      let before_is : entries_before (arena s) L x.node ≡ done = ap (λ (M : List (Entry Pair)). entries_before (arena s) M x.node) whole ∙ before_is (arena s) done x rest ((system_is_same s).itself x.node) new in
+      grind (arith, from_allowed, answers_lose, before_is)
 
   told_lost : (done rest : List (Entry Pair)) (before : List Pair) → L ≡ done ++ rest → ((y : Entry Pair) → IsIn y done → IsTrue (is_shown y) → IsIn y.node before) →
       ((q : Pair) → IsIn q before → IsTrue (is_listed (arena s) done q)) → AreLost s answer_to before (filter is_shown rest)
@@ -119,10 +118,9 @@ refutes s text is lost says =
       answers = answer_to sys is.parts.system s.list s.here is.list.order listed;
       lost = removed;
       last = explained.last;
-      wins = subst (λ (k : ℕ). WinsBy sys (answer_to sys is.parts.system s.list s.here is.list.order listed) told k s.here) (let e : length told + 0 ≡ length told = omega arith in e)
-          (subst (WinsBy sys (answer_to sys is.parts.system s.list s.here is.list.order listed) told (length told + 0)) here
-          (wins_from sys (answer_to sys is.parts.system s.list s.here is.list.order listed) told 0 [] told (λ q none. absurd none) (λ x i. i) removed x
-          (subst (λ (M : List (Entry Pair)). IsIn x M) (sym whole) (in_append_right x front (x ∷ []) (inl refl)))));
+      wins = subst (WinsBy sys (answer_to sys is.parts.system s.list s.here is.list.order listed) told (length told)) here
+          (wins_from sys (answer_to sys is.parts.system s.list s.here is.list.order listed) told 0 (length told) [] told (omega arith) (λ q none. absurd none) (λ x i. i) removed x
+          (subst (λ (M : List (Entry Pair)). IsIn x M) (sym whole) (in_append_right x front (x ∷ []) (inl refl))));
       ready = ready_seats (arena sys);
       order = filter_sublist (arena sys).ready (below (length sys.seats));
       exact = λ k. (ready_exact s k, ready_from s k);
