@@ -16,7 +16,7 @@ pub use Rattle.std.specs.Str.Lines.{strip_carriage_return}
 pub use Rattle.roman_generator.specs.declared.sight.Sight.{Sight}
 pub use Rattle.roman_io.proofs.CallerLemmas.{Gave-nil, Gave-then, Wrote-then, WrotePrefix-after, WrotePrefix-append, gave_at_most, had_all, had_more}
 pub use Rattle.roman_io.specs.Sink.{Wrote, WrotePrefix}
-pub use Rattle.roman_io.specs.Source.{EndsAt, Gave, Had}
+pub use Rattle.roman_io.specs.Source.{EndsAt, Gave, GaveAtMost, Had}
 pub use Rattle.roman_io.specs.declared.failed.Failed.{Failed}
 pub use Rattle.roman_joint.proofs.CallerLemmas.{beh_read, frozen_known, frozen_system, gone_known, gone_system, joined_known, joined_system, seat_read}
 pub use Rattle.roman_joint.specs.NamedSys.{IsNamedSys, NamedSys, beh_at, cells, seat_of, system_of}
@@ -71,7 +71,6 @@ pub use Rattle.roman_session.specs.declared.phase.Phase.TheVariants.{Delegated, 
 pub use Rattle.roman_start.specs.Starts.{parts_of, seat_of_service, start_pair_of}
 pub use Rattle.roman_text.proofs.CallerLemmas.{Gathered-empty, Gathered-put, Gathered-then, WrotePrefix-gathered, ended_lines-append, ended_lines-newline, ended_lines-part, kept-again, kept-append, kept-nil, lines_are, lines_none, lines_only, lines_rest, unfinished-newline, unfinished-nil, unfinished-part}
 pub use Rattle.roman_text.specs.Lines.{kept, unfinished}
-pub use Rattle.roman_text.specs.Pages.{Gathered}
 pub use Rattle.roman_text.specs.Replies.{reply_text}
 pub use Rattle.roman_text.specs.Shapes.{LineShape, abort, ask, by_words, die, explain, freeze, hand, is_comment, join, jump, jump_env, nothing, quit, report, saw, shape_of_words, spelling, thaw, words_of}
 unfoldable pub use Rattle.roman_text.specs.Shapes.{shape_of}
@@ -82,7 +81,7 @@ pub use Rattle.roman_text.specs.declared.report.ReportLine.{ReportLine}
 pub use Rattle.roman_hearing.specs.Afresh.{afresh, services_in}
 pub use Rattle.roman_hearing.specs.Events.{LinesAreRead, Reads}
 pub use Rattle.roman_hearing.specs.Hearing.{Cursor, GaveQuit, IsCutOff, IsHeardOut, StopsShort, StreamState, Tells, TellsPrefix, TellsPrefixOfAll, cursor, ends_session, has_quit, heard_lines, is_heard_out, prefix_of, stream_state}
-pub use Rattle.roman_hearing.specs.HearingBytes.{FailsIn, FallsShort, HearsBytes, HearsPiece, HearsRest, IsHearing, StopsAtQuit, TellsOnPage, reader_state}
+pub use Rattle.roman_hearing.specs.HearingBytes.{FailsIn, FallsShort, HearsBytes, HearsPiece, HearsRest, IsHearing, ReaderState, StopsAtQuit, TellsOnPage, reader_state}
 pub use Rattle.roman_hearing.specs.Known.{AreBehaviours, AreNamed, IsKnownSituation, StepsStayKnown, shown}
 pub use Rattle.roman_hearing.specs.Laws.{NotOfferedFails, OpenIsGreat, ReportsAreAfresh, ReportsAreFixed, StepsAreTurns}
 pub use Rattle.roman_hearing.specs.Refutations.{AreLost, IsLost, MayAnswer, WinsBy}

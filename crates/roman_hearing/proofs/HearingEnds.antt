@@ -1,5 +1,5 @@
 -- How a session that is read from a source ends.
-use Rattle.roman_hearing.proofs.Common.{◌≡◌, ℕ, ◌+◌, ◌<◌, ◌≤◌, false, List, [], ◌∷◌, ◌++◌, length, take, drop, nat_le, Option, Result, Ok, Err, IsTrue, refl, sym, ap, ◌∙◌, subst, arith, append_assoc, append-nil, length-append, take-append-drop, ◌-◌, ltb, OnOk, IsErrOf, length-take, take_at, le-leb, cond-true, cond-false, or_from, or_left, or_right, lt-leb, Gave, EndsAt, Had, Gave-then, WrotePrefix-append, had_more, had_all, lines, ended_lines, text_of_lines, MAX_SESSION_BYTES, by_test, unfinished, kept, lines_none, kept-nil, lines_are, lines_only, Situation, Told, AreBehaviours, has_quit, is_heard_out, heard_lines, cursor, Tells, TellsPrefix, prefix_of, GaveQuit, StreamState, stream_state, IsHeardOut, IsCutOff, StopsShort, TellsPrefixOfAll, reader_state, IsHearing, StopsAtQuit, FallsShort, FailsIn, HearsPiece, HearsRest, take-append-add, HearError, ReadFault, WriteFault, TooLong}
+use Rattle.roman_hearing.proofs.Common.{◌≡◌, ℕ, ◌+◌, ◌<◌, ◌≤◌, false, List, [], ◌∷◌, ◌++◌, length, take, drop, nat_le, Option, Result, Ok, Err, IsTrue, refl, sym, ap, ◌∙◌, subst, arith, append_assoc, append-nil, length-append, take-append-drop, ◌-◌, ltb, OnOk, IsErrOf, length-take, take_at, le-leb, cond-true, cond-false, or_from, or_left, or_right, lt-leb, Gave, GaveAtMost, EndsAt, Had, Gave-then, gave_at_most, WrotePrefix-append, had_more, had_all, lines, ended_lines, text_of_lines, MAX_SESSION_BYTES, by_test, unfinished, kept, lines_none, kept-nil, lines_are, lines_only, Situation, Told, AreBehaviours, has_quit, is_heard_out, heard_lines, cursor, Tells, TellsPrefix, prefix_of, GaveQuit, StreamState, IsHeardOut, IsCutOff, StopsShort, TellsPrefixOfAll, reader_state, IsHearing, StopsAtQuit, FallsShort, FailsIn, HearsPiece, HearsRest, take-append-add, HearError, ReadFault, WriteFault, TooLong}
 use Rattle.roman_hearing.proofs.HearingLines.{ended_more, lines_more, quit_left, told_stops}
 use Rattle.roman_hearing.proofs.HearingSteps.{told_more}
 use Rattle.roman_hearing.proofs.HearingLemmas.{whole_told}
@@ -27,7 +27,9 @@ heard_more heard rest few =
       prefix ++ last,
       grind (arith, cond-true, append_assoc),
     )) (λ long.
-    let (more, e) = ended_more heard (take (MAX_SESSION_BYTES - length heard) rest) in grind (arith, (cond-false (is_heard_out (heard ++ rest)) (lines (heard ++ rest)) (ended_lines (prefix_of (heard ++ rest))) long), (prefix-append MAX_SESSION_BYTES heard rest few)))
+    let (more, e) = ended_more heard (take (MAX_SESSION_BYTES - length heard) rest) in
+    let first = cond-false (is_heard_out (heard ++ rest)) (lines (heard ++ rest)) (ended_lines (prefix_of (heard ++ rest))) long in
+    grind (arith, (prefix-append MAX_SESSION_BYTES heard rest few)))
 
 -- how a session ends without a fault of the source
 pub record Ends (old new : StreamState) (r : Result (Unit {0}) HearError) : Type 0 where
@@ -37,42 +39,43 @@ pub record Ends (old new : StreamState) (r : Result (Unit {0}) HearError) : Type
   pub write_fault : IsErrOf r WriteFault → StopsShort old new
   pub prefix : IsErrOf r WriteFault → AreBehaviours old.cursor.situation.parts → TellsPrefixOfAll old new.cursor.written
 
+-- at most one piece is taken past the limit
+pub gave_pieces : (before mid now : Option (List ℕ)) (taken into : List ℕ) (room n : ℕ) → Gave before mid taken → Gave mid now (take n into) → room + length taken ≡ MAX_SESSION_BYTES → length into ≤ 4096 →
+    GaveAtMost 16781312 before now
+gave_pieces before mid now taken into room n first second fits few = gave_at_most 16781312 before mid now taken (take n into) first second (omega (arith, length-take n into))
+
 -- ---- at the end of the source
 
-module _ (old new : Situation) (start mid : Option (List ℕ)) (taken : List ℕ) (n : ℕ) (before now : Option (List ℕ)) (gave : Gave start mid taken) (ends : EndsAt mid n) (none : n ≡ 0)
+module _ (old new : StreamState) (mid : Option (List ℕ)) (taken : List ℕ) (n : ℕ) (into : List ℕ) (first : Gave old.rest mid taken) (second : Gave mid new.rest (take n into)) (ends : EndsAt mid n) (none : n ≡ 0)
     (few : length taken ≤ MAX_SESSION_BYTES) where
   -- all lines are answered
-  out_at_end : Tells (cursor old before) (lines taken) (cursor new now) → IsHeardOut (stream_state old start before) (cursor new now)
-  out_at_end tells = grind (arith, had_all, short_out)
+  out_at_end : (r : Result (Unit {0}) HearError) → HearsRest old.cursor taken new.cursor r → OnOk r (IsHeardOut old new.cursor)
+  out_at_end (Ok x) tells = grind (arith, (had_all old.rest mid taken n first ends none), short_out)
+  out_at_end (Err error) h = tt
 
   -- the reply to the last line wasn't written whole
-  prefixes_rest : FallsShort (cursor old before) (lines taken) (cursor new now) → TellsPrefixOfAll (stream_state old start before) now
+  prefixes_rest : FallsShort old.cursor (lines taken) new.cursor → TellsPrefixOfAll old new.cursor.written
   prefixes_rest fails = record {
     session = taken;
-    had = had_all start mid taken n gave ends none;
-    last = new;
-    tells = subst (λ (ls : List (List ℕ)). TellsPrefix (cursor old before) ls (cursor new now)) (sym (cond-true (is_heard_out taken) (lines taken) (ended_lines (prefix_of taken)) (short_out taken few))) fails.tells;
+    had = had_all old.rest mid taken n first ends none;
+    last = new.cursor.situation;
+    tells = subst (λ (ls : List (List ℕ)). TellsPrefix old.cursor ls new.cursor) (sym (cond-true (is_heard_out taken) (lines taken) (ended_lines (prefix_of taken)) (short_out taken few))) fails.tells;
   }
 
-  -- the last reply wasn't written whole
-  rest_stops : (has : Option (List ℕ)) (into : List ℕ) → Gave mid has (take n into) → FallsShort (cursor old before) (lines taken) (cursor new now) → StopsShort (stream_state old start before) (stream_state new has now)
-  rest_stops has into second fails =
+  rest_stops : FallsShort old.cursor (lines taken) new.cursor → StopsShort old new
+  rest_stops fails =
       let got : take n into ≡ [] = ap (λ (n : ℕ). take n into) none in
-      grind (arith, (Gave-then start mid has taken (take n into) gave second), (had_all start mid taken n gave ends none))
-
-  rest_out : (r : Result (Unit {0}) HearError) → HearsRest (cursor old before) taken (cursor new now) r → OnOk r (IsHeardOut (stream_state old start before) (cursor new now))
-  rest_out (Ok x) tells = out_at_end tells
-  rest_out (Err error) h = tt
+      grind (arith, (Gave-then old.rest mid new.rest taken (take n into) first second), (had_all old.rest mid taken n first ends none))
 
   -- all results of the last line
-  pub rest_ends : (has : Option (List ℕ)) (into : List ℕ) (r : Result (Unit {0}) HearError) → Gave mid has (take n into) → HearsRest (cursor old before) taken (cursor new now) r → Ends (stream_state old start before) (stream_state new has now) r
-  rest_ends has into r second h =
-      let at : (error : HearError) → IsErrOf r error → HearsRest (cursor old before) taken (cursor new now) (Err error) = λ error is. subst (HearsRest (cursor old before) taken (cursor new now)) is h in
+  pub rest_ends : (r : Result (Unit {0}) HearError) → HearsRest old.cursor taken new.cursor r → Ends old new r
+  rest_ends r h =
+      let at : (error : HearError) → IsErrOf r error → HearsRest old.cursor taken new.cursor (Err error) = λ error is. subst (HearsRest old.cursor taken new.cursor) is h in
       record {
-        ok = rest_out r h;
+        ok = out_at_end r h;
         too_long = λ is. absurd (at TooLong is);
         untroubled = λ is. at ReadFault is;
-        write_fault = λ is. rest_stops has into second (at WriteFault is);
+        write_fault = λ is. rest_stops (at WriteFault is);
         prefix = λ is behaviours. prefixes_rest (at WriteFault is);
       }
 
@@ -96,8 +99,7 @@ quit_split taken part heard past e = ap (λ (part : List ℕ). taken ++ part) e 
 told_all : (old new : Situation) (heard rest text : List ℕ) → IsTrue (has_quit (ended_lines heard)) → Told old (ended_lines heard) text new → Told old (lines (heard ++ rest)) text new
 told_all old new heard rest text quit told = grind (arith, (ended_more heard rest), (lines_more (heard ++ rest)), append_assoc, told_stops)
 
-module _ (old new : Situation) (start mid has : Option (List ℕ)) (taken got : List ℕ) (room : ℕ) (before now : Option (List ℕ)) (first : Gave start mid taken) (second : Gave mid has got)
-    (fits : room + length taken ≡ MAX_SESSION_BYTES) where
+module _ (old new : StreamState) (mid : Option (List ℕ)) (taken got : List ℕ) (room : ℕ) (first : Gave old.rest mid taken) (second : Gave mid new.rest got) (fits : room + length taken ≡ MAX_SESSION_BYTES) where
   -- the bytes that were taken, up to the limit and past it
   whole_part : (after : List ℕ) → (taken ++ got) ++ after ≡ (taken ++ take room got) ++ (drop room got ++ after)
   whole_part after = grind (arith, (take-append-drop room got), (append_assoc taken (take room got) (drop room got)), (append_assoc (taken ++ take room got) (drop room got) after))
@@ -109,11 +111,11 @@ module _ (old new : Situation) (start mid has : Option (List ℕ)) (taken got : 
   part_split : (after heard past : List ℕ) → taken ++ take room got ≡ heard ++ past → (taken ++ got) ++ after ≡ heard ++ (past ++ (drop room got ++ after))
   part_split after heard past split = whole_part after ∙ ap (λ (bytes : List ℕ). bytes ++ (drop room got ++ after)) split ∙ append_assoc heard past (drop room got ++ after)
 
-  had_after : (after : List ℕ) × Had start ((taken ++ got) ++ after)
-  had_after = had_more start has (taken ++ got) (Gave-then start mid has taken got first second)
+  had_after : (after : List ℕ) × Had old.rest ((taken ++ got) ++ after)
+  had_after = had_more old.rest new.rest (taken ++ got) (Gave-then old.rest mid new.rest taken got first second)
 
   -- a line `quit` ends in the piece
-  pub out_at_quit : StopsAtQuit (cursor old before) taken (take room got) (cursor new now) [] → IsHeardOut (stream_state old start before) (cursor new now)
+  pub out_at_quit : StopsAtQuit old.cursor taken (take room got) new.cursor [] → IsHeardOut old new.cursor
   out_at_quit stops =
       let (after, had) = had_after in
       let heard : List ℕ = taken ++ stops.heard ++ 10 ∷ [] in
@@ -121,15 +123,20 @@ module _ (old new : Situation) (start mid has : Option (List ℕ)) (taken got : 
       let split : taken ++ take room got ≡ heard ++ stops.past = quit_split taken (take room got) stops.heard stops.past stops.split in
       let session : (taken ++ got) ++ after ≡ heard ++ rest = part_split after heard stops.past split in
       let few : length heard ≤ MAX_SESSION_BYTES = omega (arith, part_fits, ap length split, length-append heard stops.past) in
-      let whole = whole_told (cursor old before) (cursor new now) (ended_lines heard) stops.tells in
-      grind (arith, (quit_out heard rest few stops.quit), (told_all old new heard rest whole.text stops.quit whole.told))
+      let whole = whole_told old.cursor new.cursor (ended_lines heard) stops.tells in
+      grind (arith, (quit_out heard rest few stops.quit), (told_all old.cursor.situation new.cursor.situation heard rest whole.text stops.quit whole.told))
 
   -- less than a piece follows its newline
-  pub gave_quit : (most : ℕ) → length got ≤ most + 1 → StopsAtQuit (cursor old before) taken (take room got) (cursor new now) [] → GaveQuit most start has
-  gave_quit most l stops = grind (arith, (take-append-drop room got), (append_assoc stops.heard (10 ∷ stops.past) (drop room got)), (append_assoc taken stops.heard (10 ∷ (stops.past ++ drop room got))), (Gave-then start mid has taken got first second), (length-append taken got), (length-append taken stops.heard), (length-append (taken ++ stops.heard) (10 ∷ (stops.past ++ drop room got))))
+  pub gave_quit : (most : ℕ) → length got ≤ most + 1 → StopsAtQuit old.cursor taken (take room got) new.cursor [] → GaveQuit most old.rest new.rest
+  gave_quit most l stops =
+      let past = stops.past ++ drop room got in
+      let heard = taken ++ stops.heard in
+      let split : taken ++ got ≡ heard ++ 10 ∷ past = grind (arith, (take-append-drop room got), (append_assoc stops.heard (10 ∷ stops.past) (drop room got)), (append_assoc taken stops.heard (10 ∷ past))) in
+      let gave = Gave-then old.rest mid new.rest taken got first second in
+      grind (arith, (length-append taken got), (length-append taken stops.heard), (length-append heard (10 ∷ past)))
 
   -- the piece has more bytes than `room`
-  cut_off : (held : List ℕ) → IsHearing (cursor old before) (taken ++ take room got) (reader_state new now [] held) → room < length got → IsCutOff (stream_state old start before) (cursor new now)
+  cut_off : (held : List ℕ) → IsHearing old.cursor (taken ++ take room got) (reader_state new.cursor.situation new.cursor.written [] held) → room < length got → IsCutOff old new.cursor
   cut_off held hearing more =
       let (after, had) = had_after in
       let full : length (taken ++ take room got) ≡ MAX_SESSION_BYTES = omega (arith, length-append taken (take room got), length-take room got) in
@@ -139,11 +146,11 @@ module _ (old new : Situation) (start mid has : Option (List ℕ)) (taken got : 
         session = (taken ++ got) ++ after;
         had = had;
         long = grind (arith, or_from, lt-leb, length-append);
-        tells = subst (λ (bytes : List ℕ). Tells (cursor old before) (ended_lines bytes) (cursor new now)) (sym prefix) (whole_told (cursor old before) (cursor new now) (ended_lines (taken ++ take room got)) hearing.tells);
+        tells = subst (λ (bytes : List ℕ). Tells old.cursor (ended_lines bytes) new.cursor) (sym prefix) (whole_told old.cursor new.cursor (ended_lines (taken ++ take room got)) hearing.tells);
       }
 
   -- the reply to a line wasn't written whole
-  stops_short : FailsIn (cursor old before) (taken ++ take room got) (cursor new now) → StopsShort (stream_state old start before) (stream_state new has now)
+  stops_short : FailsIn old.cursor (taken ++ take room got) new.cursor → StopsShort old new
   stops_short fails =
       let rest : List ℕ = fails.past ++ (drop room got ++ []) in
       let given : taken ++ got ≡ fails.heard ++ rest = sym (append-nil (taken ++ got)) ∙ part_split [] fails.heard fails.past fails.split in
@@ -151,27 +158,27 @@ module _ (old new : Situation) (start mid has : Option (List ℕ)) (taken got : 
       let split : fails.heard ≡ whole ++ unfinished fails.heard = (lines_are fails.heard).whole in
       let (ended, all) = whole_lines fails.heard in
       let parts : taken ++ got ≡ whole ++ (unfinished fails.heard ++ rest) = grind (arith, append_assoc) in
-      grind (arith, (Gave-then start mid has taken got first second), part_fits, (length-append fails.heard fails.past), (length-append whole (unfinished fails.heard)))
+      grind (arith, (Gave-then old.rest mid new.rest taken got first second), part_fits, (length-append fails.heard fails.past), (length-append whole (unfinished fails.heard)))
 
-  prefixes_all : AreBehaviours old.parts → FailsIn (cursor old before) (taken ++ take room got) (cursor new now) → TellsPrefixOfAll (stream_state old start before) now
+  prefixes_all : AreBehaviours old.cursor.situation.parts → FailsIn old.cursor (taken ++ take room got) new.cursor → TellsPrefixOfAll old new.cursor.written
   prefixes_all behaviours fails =
       let (after, had) = had_after in
       let rest : List ℕ = fails.past ++ (drop room got ++ after) in
       let session : (taken ++ got) ++ after ≡ fails.heard ++ rest = part_split after fails.heard fails.past fails.split in
       let few : length fails.heard ≤ MAX_SESSION_BYTES = omega (arith, part_fits, ap length fails.split, length-append fails.heard fails.past) in
       let (more, e) = heard_more fails.heard rest few in
-      let (text, last, told) = told_more old new (ended_lines fails.heard) more fails.fails.tells.text behaviours fails.fails.known fails.fails.tells.told in
+      let (text, last, told) = told_more old.cursor.situation new.cursor.situation (ended_lines fails.heard) more fails.fails.tells.text behaviours fails.fails.known fails.fails.tells.told in
       record {
         session = (taken ++ got) ++ after;
         had = had;
         last = last;
-        tells = grind (arith, (WrotePrefix-append before now fails.fails.tells.text text fails.fails.tells.wrote));
+        tells = grind (arith, (WrotePrefix-append old.cursor.written new.cursor.written fails.fails.tells.text text fails.fails.tells.wrote));
       }
 
   -- all errors of a piece
-  pub piece_ends : (held : List ℕ) (error : HearError) → HearsPiece room (cursor old before) taken got (reader_state new now [] held) (Err error) → Ends (stream_state old start before) (stream_state new has now) (Err error)
+  pub piece_ends : (held : List ℕ) (error : HearError) → HearsPiece room old.cursor taken got (reader_state new.cursor.situation new.cursor.written [] held) (Err error) → Ends old new (Err error)
   piece_ends held error h =
-      let at : (other : HearError) → error ≡ other → HearsPiece room (cursor old before) taken got (reader_state new now [] held) (Err other) = grind arith in
+      let at : (other : HearError) → error ≡ other → HearsPiece room old.cursor taken got (reader_state new.cursor.situation new.cursor.written [] held) (Err other) = grind arith in
       record {
         ok = tt;
         too_long = λ is. let (hearing, more) = at TooLong cc in cut_off held hearing more;

@@ -1,13 +1,13 @@
 //! Sessions whose lines are read from a stream.
-ghost use Rattle.std.specs.Prelude.{◌≡◌, ℕ, ◌+◌, ◌-◌, ◌⊎◌, ◌∷◌, ◌++◌, List, [], Option, IfOk, IsErrOf, OnOk};
+ghost use Rattle.std.specs.Prelude.{◌≡◌, ℕ, ◌+◌, ◌-◌, ◌⊎◌, ◌∷◌, ◌++◌, List, [], IfOk, IsErrOf, OnOk};
 ghost use Rattle.roman_io.specs.Faults.{HasCause};
 ghost use Rattle.roman_io.specs.Source.{IsAtEnd, GaveAtMost};
 ghost use Rattle.roman_model.specs.Lines.{IsLine};
 ghost use Rattle.roman_text.specs.Lines.{kept};
-ghost use Rattle.roman_session.specs.Situations.{Situation, IsSituation};
+ghost use Rattle.roman_session.specs.Situations.{IsSituation};
 ghost use Rattle.roman_session.specs.Answering.{AnsweredOn, next_of};
 ghost use Rattle.roman_hearing.specs.Known.{AreBehaviours};
-ghost use Rattle.roman_hearing.specs.Hearing.{GaveQuit, cursor, stream_state, IsHeardOut, IsCutOff, GoesOn, StopsShort, TellsPrefixOfAll, CausedBy};
+ghost use Rattle.roman_hearing.specs.Hearing.{GaveQuit, Cursor, cursor, stream_state, IsHeardOut, IsCutOff, GoesOn, StopsShort, TellsPrefixOfAll, CausedBy};
 ghost use Rattle.roman_hearing.specs.HearingBytes.{reader_state, IsHearing, HearsBytes, HearsPiece, HearsRest};
 
 use roman_io::{Failed, Sink, Source, Steps};
@@ -97,7 +97,7 @@ pub fn hear<S: Source, O: Sink, L: Ledger>(
 
 /// Reads the first `room` bytes of a piece, and writes the replies to all lines that end in them.
 /// Fails with `TooLong` if the piece has more bytes and no line `quit` ends in the first ones.
-/// Requires an empty page, and leaves it empty.
+/// Leaves the page empty.
 fn hear_piece<O: Sink, L: Ledger>(
     session: &mut Session,
     splitter: &mut Splitter,
@@ -107,9 +107,8 @@ fn hear_piece<O: Sink, L: Ledger>(
     out: &mut O,
     steps: &mut Steps<L>,
 ) -> Result<Next, HearError>
-    requires { page.old ≡ [] }
-    ensures hears { (old : Situation) (before : Option (List ℕ)) (taken : List ℕ) → IsHearing (cursor old before) taken (reader_state session.old (O.written out.old) [] splitter.old) →
-        HearsPiece room (cursor old before) taken piece.now (reader_state session.new (O.written out.new) [] splitter.new) result }
+    ensures hears { (old : Cursor) (taken : List ℕ) → IsHearing old taken (reader_state session.old (O.written out.old) page.old splitter.old) →
+        HearsPiece room old taken piece.now (reader_state session.new (O.written out.new) [] splitter.new) result }
     ensures empty { IfOk result (λ _. page.new ≡ []) }
     ensures cause { CausedBy HearError.WriteFault (O.faults out.old) (O.faults out.new) result }
 {
@@ -136,8 +135,8 @@ fn hear_bytes<O: Sink, L: Ledger>(
     out: &mut O,
     steps: &mut Steps<L>,
 ) -> Result<Next, Failed>
-    ensures hears { (old : Situation) (before : Option (List ℕ)) (taken : List ℕ) → IsHearing (cursor old before) taken (reader_state session.old (O.written out.old) page.old splitter.old) →
-        HearsBytes (cursor old before) taken bytes.now (reader_state session.new (O.written out.new) page.new splitter.new) result }
+    ensures hears { (old : Cursor) (taken : List ℕ) → IsHearing old taken (reader_state session.old (O.written out.old) page.old splitter.old) →
+        HearsBytes old taken bytes.now (reader_state session.new (O.written out.new) page.new splitter.new) result }
     ensures cause { HasCause (O.faults out.old) (O.faults out.new) result }
 {
     let mut rest = bytes;
@@ -162,8 +161,8 @@ fn hear_ended<O: Sink, L: Ledger>(
     steps: &mut Steps<L>,
 ) -> Result<Next, Failed>
     requires { IsLine part.now }
-    ensures hears { (old : Situation) (before : Option (List ℕ)) (taken : List ℕ) → IsHearing (cursor old before) taken (reader_state session.old (O.written out.old) page.old splitter.old) →
-        HearsBytes (cursor old before) taken (part.now ++ 10 ∷ []) (reader_state session.new (O.written out.new) page.new splitter.new) result }
+    ensures hears { (old : Cursor) (taken : List ℕ) → IsHearing old taken (reader_state session.old (O.written out.old) page.old splitter.old) →
+        HearsBytes old taken (part.now ++ 10 ∷ []) (reader_state session.new (O.written out.new) page.new splitter.new) result }
     ensures cause { HasCause (O.faults out.old) (O.faults out.new) result }
 {
     if !splitter.rest() {
@@ -185,8 +184,8 @@ fn hear_rest<O: Sink, L: Ledger>(
     steps: &mut Steps<L>,
 ) -> Result<(), HearError>
     requires { page.old ≡ [] }
-    ensures hears { (old : Situation) (before : Option (List ℕ)) (taken : List ℕ) → IsHearing (cursor old before) taken (reader_state session.old (O.written out.old) [] splitter.now) →
-        HearsRest (cursor old before) taken (cursor session.new (O.written out.new)) result }
+    ensures hears { (old : Cursor) (taken : List ℕ) → IsHearing old taken (reader_state session.old (O.written out.old) page.old splitter.now) →
+        HearsRest old taken (cursor session.new (O.written out.new)) result }
     ensures cause { CausedBy HearError.WriteFault (O.faults out.old) (O.faults out.new) result }
 {
     if !splitter.rest() {

@@ -5,7 +5,7 @@ abbrev pub invariant-takes : goal.invariant-takes
 invariant-takes g l = record {
   taken : List ℕ;
   gave : Gave (g.S.Source.rest l.initial.source) (g.S.Source.rest l.source) taken;
-  hearing : IsHearing (cursor l.initial.session (g.O.Sink.written l.initial.out)) taken (reader_state l.session (g.O.Sink.written l.out) [] l.splitter);
+  hearing : IsHearing (cursor l.initial.session (g.O.Sink.written l.initial.out)) taken (reader_state l.session (g.O.Sink.written l.out) l.page l.splitter);
   page : l.page ≡ [];
   room : l.room + length taken ≡ MAX_SESSION_BYTES;
   piece : length l.piece ≡ 4096;
