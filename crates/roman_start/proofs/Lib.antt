@@ -1,4 +1,3 @@
 pub mod Common
 pub mod StartLemmas
-pub mod SeatingLemmas
 pub mod CallerLemmas

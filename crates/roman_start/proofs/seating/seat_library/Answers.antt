@@ -1,6 +1,5 @@
 use Rattle.roman_start.proofs.Common.{◌≡◌, ◌<◌, List, All, map, length, sym, ap, ◌∙◌, subst, arith, HasNoRepeats, Seat, plain, seat_of_service, state_of_service, parts_of, start_pair_of}
-use Rattle.roman_start.proofs.StartLemmas.{behaviours_within, names_once}
-use Rattle.roman_start.proofs.SeatingLemmas.{seated_pair, seated}
+use Rattle.roman_start.proofs.StartLemmas.{behaviours_within, names_once, seated_pair, seated}
 use Rattle.roman_start.proofs.seating.seat_library.Goals as goal
 
 pub build-requires-clause-behaviours : goal.build-requires-clause-behaviours
