@@ -35,10 +35,10 @@ pub use Rattle.roman_model.specs.Counting.{Counts}
 pub use Rattle.roman_model.specs.Explanation.{Names, answer, answers, entries_before, entry_lines, explain_text, explanation, lost_line, name_at, ready_seats, rests_on, seat_names}
 pub use Rattle.roman_model.specs.Lines.{IsLine, ended_lines, lines, text_of_lines}
 pub use Rattle.roman_model.specs.Lists.{HasNoRepeats, IsIn, IsSublist, below, is_empty, product_of}
-pub use Rattle.roman_model.specs.Numbers.{count, sizes_of}
+pub use Rattle.roman_model.specs.Numbers.{count}
 pub use Rattle.roman_model.specs.Offers.{is_related, offers, related_count}
 pub use Rattle.roman_model.specs.Several.{GreatAll}
-pub use Rattle.roman_model.specs.System.{Beh, Env, IsBeh, IsPair, IsSys, Pair, Sys, has, is_final}
+pub use Rattle.roman_model.specs.System.{Beh, Env, IsBeh, IsPair, IsSys, Pair, Sys, has}
 pub use Rattle.roman_model.specs.SystemArena.{arena, is_allowed, is_ready, outcomes, same_numbers}
 pub use Rattle.roman_model.specs.declared.limits.TheConstants.{MAX_SERVICES, MAX_SESSION_BYTES, MAX_STATES}
 pub use Rattle.roman_model.specs.declared.reason.Reason.{Reason}
@@ -54,7 +54,6 @@ pub use Rattle.roman_read.specs.Names.{is_name, place_of}
 pub use Rattle.roman_session.proofs.CallerLemmas.{asked_is, cells_with, checked, died_is, env_jumped_is, frozen_is, handed_is, joining_idle, jumped_is, jumped_pair, mapped_at, moved_pair, name_is_new, outcomes_related, requests_offered, seat_is, seen_is, states_named, thawed_is}
 pub use Rattle.roman_session.specs.Answering.{AnsweredOn, next_of}
 pub use Rattle.roman_session.specs.Joins.{CanJoin}
-pub use Rattle.roman_session.specs.Reports.{service_lines}
 unfoldable pub use Rattle.roman_session.specs.Reports.{lines_text, report_text}
 pub use Rattle.roman_session.specs.Rulings.{check_idle, delegation, demand, join_of, named, offered_action, seat_at, service_named, state_named, with_room}
 unfoldable pub use Rattle.roman_session.specs.Rulings.{aborted, asked, died, env_jumped, frozen, handed, joining, jumped, seen, thawed, unexplained}

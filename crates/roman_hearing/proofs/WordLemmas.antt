@@ -1,5 +1,5 @@
 -- Offers, counts and reports are right by the greatest ND-simulation.
-use Rattle.roman_hearing.proofs.Common.{◌≡◌, ℕ, ◌+◌, Bool, List, [], ◌∷◌, ◌++◌, map, length, cond, true, false, IsTrue, ◌↔◌, refl, sym, ◌∙◌, length-append, arith, not, IsFalse, ◌⊎◌, both_ways, or_cases, not-true, length-map, IsIn, below, IsSublist, Sys, Pair, IsSys, IsPair, is_final, arena, is_allowed, outcomes, Entry, is_beaten, IsComplete, Great, name_at, is_related, offers, related_count, filter_sublist, filter_in, in_filter, in_below, allowed_in, from_allowed, related_great, great_related, in_listed, listed_in, from_map, system_is_same, sublist_none, HasNoRepeats-filter, allowed_in_range, from_pairs, in_pairs, pairs_once, length-pairs, offers_are, order_new, new_once, in_map, by_test, empty_is, any_true, in_mask, system_of, seat_name, Situation, present_system, IsPhase, IsSituation, lines_text, report_text, service_lines, Phase, Idle, Offered, Delegated, shown, State, IsGreat, MayAsk, start_state, IsOpenGreat, afresh, Counts, flat_map, sizes_of, count, OpenIsGreat, NotOfferedFails, AreServing, ReportsGreat}
+use Rattle.roman_hearing.proofs.Common.{◌≡◌, ℕ, ◌+◌, Bool, List, [], ◌∷◌, ◌++◌, map, length, cond, true, false, IsTrue, ◌↔◌, refl, sym, ◌∙◌, length-append, arith, not, IsFalse, ◌⊎◌, both_ways, or_cases, not-true, length-map, IsIn, below, IsSublist, Sys, Pair, IsSys, IsPair, arena, is_allowed, outcomes, Entry, is_beaten, IsComplete, Great, is_related, offers, related_count, filter_sublist, filter_in, in_filter, in_below, allowed_in, from_allowed, related_great, great_related, in_listed, listed_in, from_map, system_is_same, sublist_none, HasNoRepeats-filter, allowed_in_range, from_pairs, in_pairs, pairs_once, length-pairs, offers_are, order_new, new_once, in_map, by_test, empty_is, any_true, in_mask, system_of, Situation, present_system, IsPhase, IsSituation, report_text, Phase, Idle, Offered, Delegated, shown, State, IsGreat, MayAsk, start_state, IsOpenGreat, afresh, Counts, flat_map, count, OpenIsGreat, NotOfferedFails, AreServing, ReportsGreat}
 use Rattle.std.specs.List.{filter}
 use Rattle.roman_text.specs.declared.report.ReportLine.TheVariants as line
 use Rattle.roman_hearing.proofs.ReportLemmas.{reports_afresh, afresh_known}
@@ -89,27 +89,9 @@ actions_are s false a eb sys pair = (
   λ (great, may). absurd (both_ways (is_related (system_of s.parts) s.here) (sym eb) (great_related (system_of s.parts) s.here sys great)),
 )
 
-report_says : (s : State) → report_text s.parts s.here ≡ lines_text (
-    line.Pairs (count (sizes_of (system_of s.parts)))
-    ∷ line.Related (related_count (system_of s.parts))
-    ∷ line.Environment (name_at s.parts.environment.states s.here.e)
-    ∷ line.Target (name_at s.parts.target.states s.here.t) (is_final s.parts.target.beh s.here.t)
-    ∷ (service_lines s.parts.catalogue s.parts.seats s.here.bs
-    ++ line.Answer (is_related (system_of s.parts) s.here)
-    ∷ (flat_map (λ a.
-    line.Offer (name_at s.parts.environment.actions a)
-    ∷ (map (λ k. line.Serves (name_at (map seat_name s.parts.seats) k)) (offers (system_of s.parts) s.here a) ++ line.Stop ∷ []))
-    (actions_offered s (is_related (system_of s.parts) s.here))
-    ++ line.End ∷ [])))
-unfolding report_text actions_offered
-report_says s = grind (arith, length-pairs, picked_lines)
-
-actions_order : (s : State) (b : Bool) → IsSublist (actions_offered s b) (below s.parts.environment.env.actions)
-unfolding actions_offered
-actions_order s b = picked_order b (is_allowed (system_of s.parts) s.here) s.parts.environment.env.actions
-
 -- a report is right for a pair of a well-formed system
 pub reports_great : (s : State) (text : List ℕ) → IsSys (system_of s.parts) → IsPair (system_of s.parts) s.here → text ≡ report_text s.parts s.here → ReportsGreat s text
+unfolding report_text actions_offered
 reports_great s text sys pair says =
     let related = is_related (system_of s.parts) s.here in
     record {
@@ -118,11 +100,11 @@ reports_great s text sys pair says =
       composes = related;
       great = (related_great (system_of s.parts) s.here sys pair, great_related (system_of s.parts) s.here sys);
       actions = actions_offered s related;
-      order = actions_order s related;
+      order = picked_order related (is_allowed (system_of s.parts) s.here) s.parts.environment.env.actions;
       allowed = λ a. actions_are s related a refl sys pair;
       services = offers (system_of s.parts) s.here;
       serving = λ a i. offers_serving s a sys pair (allowed_in (system_of s.parts) s.here a sys ((actions_are s related a refl sys pair).0 i).1);
-      says = says ∙ report_says s;
+      says = says ∙ (grind (arith, length-pairs, picked_lines));
     }
 
 -- the report of the library that begins in the present states of the session is right too
