@@ -4,7 +4,7 @@
 pub use Rattle.roman_model.proofs.Lists.{HasNoRepeats-below, HasNoRepeats-filter, HasNoRepeats-flat_map, HasNoRepeats-map, HasNoRepeats-push, all_below_at, all_below_from, any_false, any_from, any_same, any_true, any_within, by_test}
 pub use Rattle.roman_model.proofs.Lists.{contains_in, empty_is, filter_below_more, filter_in, filter_same, filter_sublist, find_first, find_found, find_least, find_not_found, find_some, flat_map_row, flat_map_same, flat_map_same_in}
 pub use Rattle.roman_model.proofs.Lists.{from_append, from_below, from_end, from_flat_map, from_get_map, from_map, from_place, from_push, get_in, get_map, get_or-below, in_append_left, in_append_right, in_below, in_contains, in_filter}
-pub use Rattle.roman_model.proofs.Lists.{in_flat_map, in_map, in_not_empty, in_push, length-below, length_rows, list_any-flat_map, list_any-map, map-flat_map, map-map, ne_not_empty, no_longer, none_from, not_empty_in, not_empty_ne}
+pub use Rattle.roman_model.proofs.Lists.{in_flat_map, in_map, in_not_empty, in_push, length-below, length_rows, list_any-flat_map, list_any-map, map-flat_map, map-map, map_same_in, ne_not_empty, no_longer, none_from, not_empty_in, not_empty_ne}
 pub use Rattle.roman_model.proofs.Lists.{rank, rank_at, same_test, split_at, sublist_in, sublist_length, sublist_none, sublist_skip, sum_by_same, sum_by_within, there_is}
 -- Lemmas on the pairs of a system, its steps and outcomes.
 pub use Rattle.roman_model.proofs.SystemLemmas.{allowed_in, allowed_in_range, from_allowed, from_beh_next, from_beh_prev, from_env_next, from_env_prev, from_outcome, from_pairs, from_seat_next, in_beh_next, in_beh_prev, in_env_next}
@@ -24,7 +24,7 @@ pub use Rattle.roman_model.proofs.CompositionLemmas.{related_offers, serves_more
 pub use Rattle.roman_model.proofs.PlayLemmas.{depth_least, depth_won, great_holds, lost_fails, order_won, unlost_holds}
 -- Numbers of lists of states and of pairs: bounds, and the change of a number where a state changes, comes or goes.
 pub use Rattle.roman_model.proofs.NumberLemmas.{AreBelow-at, AreBelow-index, AreBelow-length, IsPairOf-at, IsPairOf-from, IsPairOf-grown, IsPairOf-moved, IsPairOf-without, count-grown, count-without, length-states_at, number-grown}
-pub use Rattle.roman_model.proofs.NumberLemmas.{number-pair_at, number-set, number_below, number_without-is, numbers_are_pairs, pair_at-grown, pair_at-number, pair_at-without, part_at, parts_of_number, size_at, states_at-number}
+pub use Rattle.roman_model.proofs.NumberLemmas.{number-pair_at, number-set, number_below, number_without-is, numbers_are_pairs, pair_at-grown, pair_at-number, pair_at-without, part_at, parts_of_number, product_append, size_at, states_at-number}
 pub use Rattle.roman_model.proofs.NumberLemmas.{states_below, states_number-at, states_number-set, states_number_below}
 -- Removal lists, masks and depths carry over between arenas whose nodes correspond by a renaming.
 pub use Rattle.roman_model.proofs.Renames.{order_named}
@@ -43,7 +43,7 @@ pub use Rattle.roman_model.proofs.ExplanationLemmas.{answer_before, before_falls
 pub use Rattle.roman_model.proofs.ExplanationRenames.{answer_at, explanation_at}
 -- Lines of texts and of certificates: the entry that a line states, and the first fault.
 pub use Rattle.roman_model.proofs.CertificateLemmas.{AreFew, act_reason, append_line, clean_push, cut_at, decimal_without, ended_lines-text, ended_lines_last, entry_is_line, entry_is_no_end, entry_of-is, entry_of-line, entry_of_none}
-pub use Rattle.roman_model.proofs.CertificateLemmas.{entry_of_other, faults_none, from_possible, in_possible, lines-text, lines_last, possible_small, text_of_lines-push}
+pub use Rattle.roman_model.proofs.CertificateLemmas.{entry_of_other, faults_none, from_possible, get_front, in_possible, lines-text, lines_last, possible_small, text_of_lines-push}
 -- The certificate of a complete list is accepted, an accepted certificate is complete, and the verdict on a text whose first lines were read.
 pub use Rattle.roman_model.proofs.CertificateLaws.{complete_order, due_is, fault_after_end, fault_in_body, verdict_accepted, verdict_at, verdict_ended, verdict_rejected, verdict_too_long, written_is_greatest}
 -- The plan of the choices costs least of all plans at a related pair, and costs are computed one action, one seat and one outcome at a time.

@@ -185,8 +185,10 @@ faults_first A text zero i why clean fault l = absurd (omega arith)
 faults_first A text (suc n) i why clean fault l = grind (arith, (cases_lt i n), faults_more, (faults_more A text n), faults_none, (faults_first A text n i why clean fault))
 
 -- the line of a text, where more follow
-get_front : (xs ys : List (List ℕ)) (i : ℕ) → i < length xs → slice_get (xs ++ ys) i ≡ slice_get xs i
-get_front xs ys i l = grind (arith, (slice_get-get_or (xs ++ ys) i []), (slice_get-get_or xs i []), get_or_append_left, length-append)
+pub get_front : {X : Type 0} (xs ys : List X) (i : ℕ) → i < length xs → slice_get (xs ++ ys) i ≡ slice_get xs i
+get_front [] ys i l = absurd (omega arith)
+get_front (x ∷ xs) ys zero l = refl
+get_front (x ∷ xs) ys (suc i) l = get_front xs ys i (omega arith)
 
 get_after : {X : Type 0} (xs : List X) (y : X) (ys : List X) → slice_get (xs ++ y ∷ ys) (length xs) ≡ Some y
 get_after xs y ys = grind (arith, (slice_get-get_or (xs ++ y ∷ ys) (length xs) y), (get_or-append_seam xs y ys y), length-append)

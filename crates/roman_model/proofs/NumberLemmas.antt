@@ -34,7 +34,7 @@ states_number-at (size ∷ sizes) i h = grind (arith, mod_below, (states_number-
 
 -- Lists of states, cut in two or at a place
 
-product_append : (ms ns : List ℕ) → product_of (ms ++ ns) ≡ product_of ms * product_of ns
+pub product_append : (ms ns : List ℕ) → product_of (ms ++ ns) ≡ product_of ms * product_of ns
 product_append [] ns = omega arith
 product_append (m ∷ ms) ns = rw (product_append ms ns) (omega arith)
 

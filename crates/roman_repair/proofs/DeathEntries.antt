@@ -1,8 +1,6 @@
 -- The entries of a removal list after a death.
-use Rattle.roman_repair.proofs.Common.{◌≡◌, ℕ, ◌+◌, ◌-◌, ◌*◌, ◌/◌, ◌%◌, ◌^◌, ◌<◌, ◌≤◌, Bool, true, false, not, ◌||◌, if◌then◌else◌, cond, List, [], ◌∷◌, ◌++◌, map, length, filter, remove, slice_index, IsFalse, inl, inr, refl, sym, ap, ◌∙◌, subst, arith, append-nil, append_assoc, bit_and, ◌==◌, cases_lt, both_ways, and_parts, eqb-true, false_from_ne_true, div-add-mod', mod_below, map-append, list_any-append, mul-le-mul_left, IsIn, HasNoRepeats, Seat, Sys, is_final, Entry, Sizes, sizes_of, sizes_without, count, pair_at, numbered, number, number_without, number_entry_without, first_numbers, Reason, map-map, list_any-map, length-below, left, count-without, sizes-left, number_without-is, from_map, is_on, HasLanes, on_and, lanes_of, NamedSys, system_of, lanes_in, Board, as_entry, pairs_of, has_entry, nodes_of, set_lanes, entries_in, in_lanes, lanes_once, IsShaped, list_with, entries_from, AreInPart, Renames, list_any, IsSizes, may_go, Die, CanChange, without, AreSizes-index}
-use Rattle.roman_repair.proofs.DeathStates.{seat_in_sizes}
+use Rattle.roman_repair.proofs.Common.{in_sizes, map_same_in, map-map, list_any-map, length-below, left, count-without, sizes-left, number_without-is, from_map, ◌≡◌, ℕ, ◌+◌, ◌-◌, ◌*◌, ◌/◌, ◌%◌, ◌^◌, ◌<◌, ◌≤◌, Bool, true, false, not, ◌||◌, if◌then◌else◌, cond, List, [], ◌∷◌, ◌++◌, map, length, filter, remove, slice_index, IsFalse, inl, inr, refl, sym, ap, ◌∙◌, subst, arith, append-nil, append_assoc, bit_and, ◌==◌, cases_lt, both_ways, and_parts, eqb-true, false_from_ne_true, div-add-mod', mod_below, map-append, list_any-append, mul-le-mul_left, IsIn, HasNoRepeats, Seat, Sys, is_final, Entry, Sizes, sizes_of, sizes_without, count, pair_at, numbered, number, number_without, number_entry_without, first_numbers, Reason, is_on, HasLanes, on_and, lanes_of, NamedSys, system_of, lanes_in, Board, as_entry, pairs_of, has_entry, nodes_of, set_lanes, entries_in, in_lanes, lanes_once, IsShaped, list_with, entries_from, AreInPart, Renames, list_any, IsSizes, may_go, Die, CanChange, without, AreSizes-index}
 use Rattle.roman_repair.proofs.DeathParts.{part_number, part_state, part_place, row_of_left, moved_lanes}
-use Rattle.roman_repair.proofs.Joined.{map_as}
 use Rattle.roman_repair.proofs.Fronts.{filter_alike}
 
 -- The first entry for each number.
@@ -77,12 +75,12 @@ part_left s k first word left lanes alive reason L is goes number_is wide few ro
   list = λ seat seated. append-nil _ ∙ ap (λ M. L ++ M) (
       ap (map (λ lane. as_entry (left / lanes * lanes + lane, reason))) (moved_lanes word alive (left % lanes) new (omega (arith, mod_below left lanes few.0, few.1)) each)
       ∙ map-map (λ lane. as_entry (left / lanes * lanes + lane, reason)) (λ i. left % lanes + i) (filter new (set_lanes word))
-      ∙ map_as (λ i. as_entry (left / lanes * lanes + (left % lanes + i), reason)) f (filter new (set_lanes word)) (λ i h. ap (λ p. as_entry (p, reason)) (place i))
+      ∙ map_same_in (λ i. as_entry (left / lanes * lanes + (left % lanes + i), reason)) f (filter new (set_lanes word)) (λ i h. ap (λ p. as_entry (p, reason)) (place i))
       ∙ sym (first_apart f (λ i. has_entry L (left + i)) (nodes_of L) (set_lanes word) (λ i j e. omega (arith, e)) (lanes_once word) (λ i h. list_any-map (λ (x : Entry ℕ). x.node) (λ j. left + i == j) L))
       ∙ ap (first_numbers (nodes_of L)) (sym (
       ap (map (number_entry_without k n)) (part_goes n k seat first word true reason is (goes seat seated))
       ∙ map-map (number_entry_without k n) (λ i. as_entry (first + i, reason)) (set_lanes word)
-      ∙ map_as (λ i. number_entry_without k n (as_entry (first + i, reason))) f (set_lanes word) (λ i h. ap (λ p. as_entry (p, reason)) (number_at i (in_lanes word i h).1)))));
+      ∙ map_same_in (λ i. number_entry_without k n (as_entry (first + i, reason))) f (set_lanes word) (λ i h. ap (λ p. as_entry (p, reason)) (number_at i (in_lanes word i h).1)))));
 }
   where
     n : Sizes
@@ -126,7 +124,7 @@ lost_within lanes x other alive lane L rows on = grind (arith, and_parts, both_w
 pub fewer_pairs : (n : NamedSys) (shape : Sizes) (k : ℕ) → shape ≡ sizes_of (system_of n) → IsSizes shape → k < length n.seats → count (sizes_without k (sizes_of (system_of n))) ≤ count (sizes_of (system_of n))
 fewer_pairs n shape k is sizes l =
     let all = sizes_of (system_of n) in
-    let seat : k < length all.seats = seat_in_sizes n k l in
+    let seat : k < length all.seats = in_sizes n k l in
     let once : count (sizes_without k all) * 1 ≤ count (sizes_without k all) * slice_index all.seats k =
     mul-le-mul_left (count (sizes_without k all)) (AreSizes-index all.seats k (subst IsSizes is sizes).seats seat).0 in
     omega (arith, once, count-without all k seat)

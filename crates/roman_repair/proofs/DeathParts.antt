@@ -1,8 +1,35 @@
 -- The parts of rows that stay together when a service dies.
-use Rattle.roman_repair.proofs.Common.{◌≡◌, ℕ, zero, suc, ◌+◌, ◌-◌, ◌*◌, ◌/◌, ◌%◌, ◌^◌, ◌<◌, ◌≤◌, Bool, true, false, ◌&&◌, List, [], ◌∷◌, map, length, drop, filter, eqb, remove, slice_index, inl, inr, refl, sym, ap, ◌∙◌, subst, arith, bit_and, mul-le-mul_left, cases_lt, div-add-mod', pow_pos, below, product_of, IsIn, Sizes, count, pair_at, sizes_of, number_without, is_on, on_and, AreSizes, low_of, lanes_of, row_mod, lanes_few, tails_from, row_div, row_below, lanes_positive, set_lanes, as_entry, IsPart, IsWithin, AreInPart, by_test, in_map, part_at, Sys, Event, lanes_in, in_lanes, bit_at, bit_at-zero, bit_at_cat_low, bit_at_cat_high, IsFirstPart, NamedSys, system_of}
+use Rattle.roman_repair.proofs.Common.{in_sizes, on_below, on_shl, Behaves, behaves, seat_read, on_in, in_lanes, ◌≡◌, ℕ, zero, suc, ◌+◌, ◌-◌, ◌*◌, ◌/◌, ◌%◌, ◌^◌, ◌<◌, ◌≤◌, Bool, true, ◌&&◌, List, [], ◌∷◌, map, length, drop, filter, remove, slice_index, inl, inr, refl, sym, ap, ◌∙◌, subst, arith, bit_and, not, ◌||◌, IsTrue, IsFalse, slice_get, Some, mul-le-mul_left, cases_lt, div-add-mod', below, product_of, IsIn, Sizes, count, pair_at, sizes_of, number_without, is_on, on_and, AreSizes, low_of, lanes_of, row_mod, lanes_few, tails_from, row_div, row_below, lanes_positive, set_lanes, as_entry, IsPart, IsWithin, AreInPart, by_test, in_map, part_at, size_at, there_is, Sys, Seat, is_final, Event, lanes_in, IsFirstPart, NamedSys, system_of, IsNamedSys, seat_of, length-map, Die, CanChange, same_Some, NamedBeh, IsSeatBehaviour}
 use Rattle.roman_repair.proofs.Joined.{positive, grown_within, whole_row, shorter_row, few_behind, part_of_more}
-use Rattle.roman_repair.proofs.DeathStates.{seat_in_sizes}
-use Rattle.roman_repair.proofs.Fronts.{on_in, some_in, moved_so_far, only_so_far}
+use Rattle.roman_repair.proofs.Fronts.{some_in, moved_so_far, only_so_far}
+use Rattle.roman_joint.specs.declared.seat.Seat as joint
+
+-- ---- the service that dies, and the states that it may leave behind
+
+pub seat_there : (n : NamedSys) (k : ℕ) → k < length n.seats → (seat : Seat) × CanChange (Die k seat) (system_of n)
+seat_there n k l = there_is (system_of n).seats k (omega (arith, length-map n.seats (seat_of n.catalogue)))
+
+-- the service at a place is the seat of the system there
+pub seat_is : (n : NamedSys) (k : ℕ) (here : joint.Seat) (seat : Seat) → slice_get n.seats k ≡ Some here → CanChange (Die k seat) (system_of n) → seat_of n.catalogue here ≡ seat
+seat_is n k here seat there seated = same_Some (seat_of n.catalogue here) seat (sym (seat_read n k here there) ∙ seated)
+
+-- a service that doesn't rest may leave any state behind
+pub loose_goes : (n : NamedSys) (k b : ℕ) (here : joint.Seat) (seat : Seat) → slice_get n.seats k ≡ Some here → CanChange (Die k seat) (system_of n) → IsFalse here.rests →
+    not here.rests ≡ (not seat.rests || is_final seat.beh b)
+loose_goes n k b here seat there seated loose = grind (arith, (ap (λ (x : Seat). x.rests) (seat_is n k here seat there seated)))
+
+-- a service that rests may leave its final states behind
+pub final_goes : (n : NamedSys) (k b : ℕ) (here : joint.Seat) (beh : NamedBeh) (final : Bool) (seat : Seat) → IsNamedSys n → slice_get n.seats k ≡ Some here → IsSeatBehaviour n k beh →
+    IsTrue here.rests → final ≡ is_final beh.beh b → CanChange (Die k seat) (system_of n) → final ≡ (not seat.rests || is_final seat.beh b)
+final_goes n k b here beh final seat known there of rest is seated =
+    let at : Behaves n k beh = behaves n k beh known of in
+    grind (arith, at.is, (ap (λ (x : Seat). x.rests) (seat_is n k here seat there seated)), (ap (λ (x : Seat). x.beh) (same_Some at.seat seat (sym at.seated ∙ seated))))
+
+-- the size of a service is its number of states
+pub size_is : (n : NamedSys) (k : ℕ) (beh : NamedBeh) → IsNamedSys n → IsSeatBehaviour n k beh → slice_index (sizes_of (system_of n)).seats k ≡ beh.beh.states
+size_is n k beh known of =
+    let at : Behaves n k beh = behaves n k beh known of in
+    size_at (system_of n).seats k at.seat at.seated ∙ ap (λ x. x.states) at.is
 
 -- ---- the width of the parts
 
@@ -60,22 +87,6 @@ row_of_left left lanes rows l = row_below (left / lanes) lanes (left % lanes) ro
 
 -- ---- the lanes of a part
 
-on_fitting : (a d i : ℕ) → i < 64 → is_on (a * 2 ^ d % 2 ^ 64) i ≡ is_on (a * 2 ^ d + 0) i
-unfolding is_on
-on_fitting a d i h =
-    let whole : a * 2 ^ d + 0 ≡ (a * 2 ^ d / 2 ^ 64) * 2 ^ 64 + a * 2 ^ d % 2 ^ 64 = omega arith in
-    ap (λ n. eqb n 1) (sym (ap (λ n. bit_at n i) whole ∙ bit_at_cat_low (a * 2 ^ d / 2 ^ 64) 64 (a * 2 ^ d % 2 ^ 64) i h))
-
-on_raised : (a d i : ℕ) → d + i < 64 → is_on (a * 2 ^ d % 2 ^ 64) (d + i) ≡ is_on a i
-unfolding is_on
-on_raised a d i h =
-    let place : d + i - d ≡ i = omega arith in
-    on_fitting a d (d + i) h ∙ ap (λ n. eqb n 1) (bit_at_cat_high a d 0 (d + i) (pow_pos d) (omega arith) ∙ ap (bit_at a) place)
-
-on_under : (a d i : ℕ) → i < d → i < 64 → is_on (a * 2 ^ d % 2 ^ 64) i ≡ false
-unfolding is_on
-on_under a d i l h = on_fitting a d i h ∙ ap (λ n. eqb n 1) (bit_at_cat_low a d 0 i l ∙ bit_at-zero i)
-
 -- the elements that pass both tests
 both_tests : {X : Type 0} (f g : X → Bool) (xs : List X) → filter f (filter g xs) ≡ filter (λ x. g x && f x) xs
 both_tests f g [] = refl
@@ -89,8 +100,8 @@ moved_lanes word alive place test few each =
     let whole : 64 ≡ place + (64 - place) = omega arith in
     let ends : 64 ≡ 64 - place + place = omega arith in
     ap (λ n. filter (is_on (bit_and (word * 2 ^ place % 2 ^ 64) alive)) (below n)) whole
-    ∙ moved_so_far (λ i. is_on word i && test i) (is_on (bit_and (word * 2 ^ place % 2 ^ 64) alive)) place (64 - place) (λ i l. grind (arith, (on_and (word * 2 ^ place % 2 ^ 64) alive i), (on_under word place i l)))
-    (λ i l. by_test (is_on word i) (λ on. grind (arith, (each i (omega arith) on), (on_and (word * 2 ^ place % 2 ^ 64) alive (place + i)), (on_raised word place i))) (λ off. grind (arith, (on_and (word * 2 ^ place % 2 ^ 64) alive (place + i)), (on_raised word place i))))
+    ∙ moved_so_far (λ i. is_on word i && test i) (is_on (bit_and (word * 2 ^ place % 2 ^ 64) alive)) place (64 - place) (λ i l. grind (arith, (on_and (word * 2 ^ place % 2 ^ 64) alive i), (on_below word place i l)))
+    (λ i l. by_test (is_on word i) (λ on. grind (arith, (each i (omega arith) on), (on_and (word * 2 ^ place % 2 ^ 64) alive (place + i)), (on_shl word place (place + i) i))) (λ off. grind (arith, (on_and (word * 2 ^ place % 2 ^ 64) alive (place + i)), (on_shl word place (place + i) i))))
     ∙ ap (map (λ i. place + i)) (sym (both_tests test (is_on word) (below (64 - place)))
     ∙ ap (filter test) (sym (ap (λ n. filter (is_on word) (below n)) ends ∙ only_so_far (is_on word) (64 - place) place (λ i l. by_test (is_on word (64 - place + i)) (λ on. absurd (let (h, s) = each (64 - place + i) (omega arith) on in omega (arith, h))) (λ off. off)))))
 
@@ -111,7 +122,7 @@ part_in n shape e k first left w i part rest is same there row wide within begin
     let slices : e.row * lanes_in s ≡ e.row * (c * w) = ap (λ m. e.row * m) whole in
     let (lane, j) = some_in (set_lanes part) begins.some in
     record {
-      seat = seat_in_sizes n k there;
+      seat = in_sizes n k there;
       inside = omega (arith, row, pair lane (in_lanes part lane j).1);
       pair = λ lane on. omega (arith, row, pair lane on);
       part = (w, e.row * c + i, parts, omega (arith, row, slices), λ lane on. (begins.in_part lane on).0);

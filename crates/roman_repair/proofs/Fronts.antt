@@ -1,5 +1,5 @@
 -- The lanes of words.
-use Rattle.roman_repair.proofs.Common.{◌≡◌, ◌≢◌, ℕ, zero, suc, ◌+◌, ◌-◌, ◌*◌, ◌/◌, ◌%◌, ◌^◌, ◌<◌, ◌≤◌, Bool, true, false, not, ◌&&◌, List, [], ◌∷◌, ◌++◌, map, length, filter, cond, inl, inr, refl, sym, ap, ap₂, ◌∙◌, arith, append-nil, append_assoc, bit_and, eqb, length-append, cases_Bool, cases_lt, both_ways, and_parts, eq-eqb, false_from_ne_true, and_right, ne_eqb, set_lanes-joined, none_below, on_lowered, no_lane, trailing_zeros, w64, bit_not, map-append, length-map, IsIn, below, filter_below_more, in_below, map-map, in_filter, filter_same, from_below, is_on, on_and, on_full, on_not, on_zero, on_less, on_ones, on_ones_above, on_full_past, set_lanes, as_entry, entries_in, Reason, entries_from, pow-lt, and-true, and_le_l, bit_at-trailing_zeros, shr_and_one, HasFront, HasLanesBetween, IsCutAt, IsFirstPart}
+use Rattle.roman_repair.proofs.Common.{on_in, one_pow, set_lanes-joined, none_below, on_lowered, no_lane, not-not, and-true, ◌≡◌, ◌≢◌, ℕ, zero, suc, ◌+◌, ◌-◌, ◌*◌, ◌/◌, ◌%◌, ◌^◌, ◌<◌, ◌≤◌, Bool, true, false, not, ◌&&◌, List, [], ◌∷◌, ◌++◌, map, length, filter, cond, inl, inr, refl, sym, ap, ap₂, ◌∙◌, arith, append-nil, append_assoc, bit_and, eqb, length-append, cases_Bool, cases_lt, both_ways, and_parts, eq-eqb, false_from_ne_true, and_right, ne_eqb, trailing_zeros, w64, bit_not, map-append, length-map, IsIn, below, filter_below_more, map-map, filter_same, from_below, is_on, on_and, on_full, on_not, on_zero, on_less, on_ones, on_ones_above, on_full_past, set_lanes, as_entry, entries_in, Reason, entries_from, pow-lt, and_le_l, bit_at-trailing_zeros, shr_and_one, HasFront, HasLanesBetween, IsCutAt, IsFirstPart}
 
 -- ---- the first lane of a word
 
@@ -26,10 +26,6 @@ first_low word fits some = (bit_at-trailing_zeros w64 word (let ne = no_lane wor
 
 pub both_fit : (word end : ℕ) → word < 2 ^ 64 → bit_and word end < 2 ^ 64
 both_fit word end fits = omega (arith, and_le_l word end)
-
-pub not_twice : (b : Bool) → not (not b) ≡ b
-not_twice true = refl
-not_twice false = refl
 
 -- ---- the numbers that pass
 
@@ -86,11 +82,6 @@ is_cut word cut fits few = record {
 
     less : (lane : ℕ) → lane < 64 → is_on rest lane ≡ (is_on word lane && not (is_on front lane))
     less lane l = on_less word front lane (both_fit word _ fits) l
-
--- a lane that is on is one of a word's lanes
-pub on_in : (word lane : ℕ) → lane < 64 → is_on word lane ≡ true → IsIn lane (set_lanes word)
-unfolding set_lanes
-on_in word lane l on = in_filter (is_on word) lane (below 64) (in_below 64 lane l) on
 
 pub some_in : (xs : List ℕ) → 0 < length xs → (x : ℕ) × IsIn x xs
 some_in [] some = absurd (omega arith)
@@ -153,7 +144,7 @@ on_read a d = ap (λ n. eqb n 1) (sym (shr_and_one a d))
 
 pub held_front : (word held : ℕ) → word < 2 ^ 64 → held < 2 ^ 64 → 0 < length (set_lanes word) → bit_and (held / 2 ^ trailing_zeros w64 word) 1 ≡ 1 → IsFront word held (bit_and word (bit_not w64 held)) true
 held_front word held fits held_fits some one =
-    alike_front word held (bit_not w64 held) true fits some (on_not held _ held_fits (first_low word fits some) ∙ ap not (on_read held _ ∙ eq-eqb _ 1 one)) (λ lane l off. sym (not_twice _) ∙ ap not (sym (on_not held lane held_fits l) ∙ off))
+    alike_front word held (bit_not w64 held) true fits some (on_not held _ held_fits (first_low word fits some) ∙ ap not (on_read held _ ∙ eq-eqb _ 1 one)) (λ lane l off. sym (not-not _) ∙ ap not (sym (on_not held lane held_fits l) ∙ off))
 
 pub other_front : (word held : ℕ) → word < 2 ^ 64 → 0 < length (set_lanes word) → bit_and (held / 2 ^ trailing_zeros w64 word) 1 ≢ 1 → IsFront word held (bit_and word held) false
 other_front word held fits some ne = alike_front word held held false fits some (on_read held _ ∙ ne_eqb _ 1 ne) (λ lane l off. off)
@@ -198,9 +189,6 @@ first_part_is word width i front rest cut fits some begun less end few here is =
 
 -- ---- neighbouring lanes
 
-bit_is : (n : ℕ) → n < 64 → 1 * 2 ^ n % 2 ^ 64 ≡ 2 ^ n
-bit_is n few = let fits : 2 ^ n < 2 ^ 64 = pow-lt few in omega arith
-
 -- the word of neighbouring lanes, as the code computes it
 abbrev pub between : ℕ → ℕ → ℕ
 between begin end = bit_and ((2 ^ 64 - 1) / 2 ^ (64 - end)) (bit_not w64 (1 * 2 ^ begin % 2 ^ 64 - 1))
@@ -210,7 +198,7 @@ is_between begin end some few =
     let full : ℕ = (2 ^ 64 - 1) / 2 ^ (64 - end) in
     let less : begin < 64 = omega arith in
     let fits : 2 ^ begin - 1 < 2 ^ 64 = (let small : 2 ^ begin < 2 ^ 64 = pow-lt less in omega arith) in
-    let same = λ (i : ℕ). ap (λ m. is_on (bit_and full (bit_not w64 (m - 1))) i) (bit_is begin less) in
+    let same = λ (i : ℕ). ap (λ m. is_on (bit_and full (bit_not w64 (m - 1))) i) (one_pow begin less) in
     record {
       low = λ i l. same i ∙ on_less full (2 ^ begin - 1) i fits (omega arith) ∙ and_right (is_on full i) (not (is_on (2 ^ begin - 1) i)) (ap not (on_ones begin i l));
       mid = λ i l h. same i ∙ on_less full (2 ^ begin - 1) i fits (omega arith) ∙ ap₂ (λ a b. a && not b) (on_full end i few h) (on_ones_above begin i l);

@@ -1,9 +1,9 @@
 -- The replay of a row's entries that stand for several pairs each, part by part.
-use Rattle.roman_repair.proofs.Common.{Bool, ◌≡◌, ℕ, zero, suc, ◌+◌, ◌-◌, ◌*◌, ◌/◌, ◌%◌, ◌<◌, ◌≤◌, true, false, ◌||◌, append-nil, List, [], ◌∷◌, ◌++◌, map, flat_map, filter, cond, sym, ap, ap₂, ◌∙◌, subst, arith, append_assoc, bit_or, not, ◌^◌, inl, inr, length, cases_lt, cases_eq, both_ways, filter_below_more, in_append_left, in_below, in_map, in_flat_map, from_below, bit_not, w64, on_not, on_or, mul-le-mul_left, below, IsIn, Arena, Entry, grown_numbers, Reason, is_on, as_entry, set_lanes, entries_in, Board, Event, entries_at, IsEvent, AreSlices, candidates, with_replay, CanReplay, CanReplayEvent, GoesOnTo, Replays, flat_map-append, or-false, div-mul-add, CanGrow, HasReplayedAll, IsGrown, entries_grown, HasLanesBetween, IsFirstPart, IsSpread, AskedBand, Newcomer}
+use Rattle.roman_repair.proofs.Common.{not-not, or-false, Bool, ◌≡◌, ℕ, zero, suc, ◌+◌, ◌-◌, ◌*◌, ◌/◌, ◌%◌, ◌<◌, ◌≤◌, true, false, ◌||◌, append-nil, List, [], ◌∷◌, ◌++◌, map, flat_map, filter, cond, sym, ap, ap₂, ◌∙◌, subst, arith, append_assoc, bit_or, not, ◌^◌, inl, inr, length, cases_lt, cases_eq, both_ways, filter_below_more, in_append_left, in_below, in_map, in_flat_map, from_below, bit_not, w64, on_not, on_or, mul-le-mul_left, below, IsIn, Arena, Entry, grown_numbers, Reason, is_on, as_entry, set_lanes, entries_in, Board, Event, entries_at, IsEvent, AreSlices, candidates, with_replay, CanReplay, CanReplayEvent, GoesOnTo, Replays, flat_map-append, div-mul-add, CanGrow, HasReplayedAll, IsGrown, entries_grown, HasLanesBetween, IsFirstPart, IsSpread, AskedBand, Newcomer}
 use Rattle.roman_repair.proofs.Waiting.{grown_by_one}
 use Rattle.roman_repair.proofs.Joined.{positive, grown_part}
 use Rattle.roman_repair.proofs.Replayed.{replayed_on}
-use Rattle.roman_repair.proofs.Fronts.{filter_alike, filter_split, has_some, lanes_below, not_twice, part_entries, some_in}
+use Rattle.roman_repair.proofs.Fronts.{filter_alike, filter_split, has_some, lanes_below, part_entries, some_in}
 
 -- ---- spread lanes
 
@@ -27,7 +27,7 @@ spread_list word spread lanes width few is =
 
 -- the first lane that isn't the word's ends a run of lanes that are
 pub run_lanes : (word lane end : ℕ) → word < 2 ^ 64 → end ≤ 64 → ((l : ℕ) → lane ≤ l → l < end → is_on (bit_not w64 word) l ≡ false) → (l : ℕ) → lane ≤ l → l < end → is_on word l ≡ true
-run_lanes word lane end fits few off l past less = sym (not_twice (is_on word l)) ∙ ap not (sym (on_not word l fits (omega (arith, less, few))) ∙ off l past less)
+run_lanes word lane end fits few off l past less = sym (not-not (is_on word l)) ∙ ap not (sym (on_not word l fits (omega (arith, less, few))) ∙ off l past less)
 
 pub run_some : (word lane end lanes : ℕ) → word < 2 ^ 64 → lanes ≤ 64 → lane < lanes → lane ≤ end → is_on word lane ≡ true → (end < lanes → is_on (bit_not w64 word) end ≡ true) → lane < end
 run_some word lane end lanes fits few less past here next = grind (arith, both_ways, cases_eq, (on_not word lane fits), next)

@@ -1,5 +1,5 @@
 -- The candidates for a system that a service has joined.
-use Rattle.roman_repair.proofs.Common.{◌≡◌, ℕ, ◌+◌, ◌*◌, ◌%◌, ◌<◌, ◌≤◌, List, [], ◌∷◌, ◌++◌, map, flat_map, drop, cond, zero, suc, IsTrue, inl, inr, refl, sym, ap, ap₂, ◌∙◌, subst, arith, mul-le-mul_left, cases_lt, lt-ltb, le-ltb, same_from_place, mod_below, IsIn, HasNoRepeats, below, product_of, Sys, Seat, IsSys, Entry, Join, after, CanChange, Sizes, sizes_of, count, pair_at, numbered, Reason, Final, Act, grown_numbers, from_map, in_append_right, length-below, map-map, NumbersReplay, from_below, pair_at-grown, sizes-joined, from_flat_map, HasNoRepeats-map, HasNoRepeats-flat_map, HasNoRepeats-below, flat_map_same, map-flat_map, AreSizes, low_of, lanes_of, row_mod, lanes_few, lanes_in, NamedSys, system_of, IsNamedSys, nodes_of, as_entry, set_lanes, entries_in, is_possible, AreCandidates, AreSlices, length_push, flat_map-map, is_allowed}
+use Rattle.roman_repair.proofs.Common.{map_same_in, product_append, from_map, in_append_right, length-below, map-map, NumbersReplay, from_below, pair_at-grown, sizes-joined, from_flat_map, HasNoRepeats-map, HasNoRepeats-flat_map, HasNoRepeats-below, flat_map_same, map-flat_map, ◌≡◌, ℕ, ◌+◌, ◌*◌, ◌%◌, ◌<◌, ◌≤◌, List, [], ◌∷◌, ◌++◌, map, flat_map, drop, cond, zero, suc, IsTrue, inl, inr, refl, sym, ap, ◌∙◌, subst, arith, mul-le-mul_left, cases_lt, lt-ltb, le-ltb, same_from_place, mod_below, IsIn, HasNoRepeats, below, product_of, Sys, Seat, IsSys, Entry, Join, after, CanChange, Sizes, sizes_of, count, pair_at, numbered, Reason, Final, Act, grown_numbers, AreSizes, low_of, lanes_of, row_mod, lanes_few, lanes_in, NamedSys, system_of, IsNamedSys, nodes_of, as_entry, set_lanes, entries_in, is_possible, AreCandidates, AreSlices, length_push, flat_map-map, is_allowed}
 use Rattle.roman_repair.proofs.Keeping.{grown_number}
 
 -- the new system shows that the service could join
@@ -45,10 +45,6 @@ joined_candidates s seat L are replays = record {
 
 -- ---- the rows of the grown pairs
 
-product_last : (ns : List ℕ) (n : ℕ) → product_of (ns ++ n ∷ []) ≡ product_of ns * n
-product_last [] n = omega arith
-product_last (x ∷ ns) n = ap (λ p. x * p) (product_last ns n) ∙ (let same : x * (product_of ns * n) ≡ x * product_of ns * n = omega arith in same)
-
 -- where the states of all components fit into a row
 pub whole_row : (ns : List ℕ) → product_of ns ≤ 64 → (low_of ns ≡ 0) × (lanes_of ns ≡ product_of ns)
 whole_row [] few = (refl, refl)
@@ -79,7 +75,7 @@ lanes_last (x ∷ ns) n h some few = elim (cases_lt 64 (product_of (x ∷ (ns ++
       let (e, more_part) = part_of_more x ns m h.0 (d, part) in
       (m, ap (λ b. product_of (drop (cond b (suc (low_of (ns ++ n ∷ []))) 0) (x ∷ (ns ++ n ∷ [])))) (lt-ltb 64 (product_of (x ∷ (ns ++ n ∷ []))) more) ∙ is, e, more_part)
   | inr less ↦
-      let whole = product_last (x ∷ ns) n in
+      let whole : product_of (x ∷ (ns ++ n ∷ [])) ≡ product_of (x ∷ ns) * n = product_append (x ∷ ns) (n ∷ []) ∙ omega arith in
       let most : product_of (x ∷ ns) * 1 ≤ product_of (x ∷ ns) * n = mul-le-mul_left (product_of (x ∷ ns)) some in
       let same = (whole_row (x ∷ ns) (omega (arith, most, whole, less))).1 in
       (product_of (x ∷ ns), ap (λ b. product_of (drop (cond b (suc (low_of (ns ++ n ∷ []))) 0) (x ∷ (ns ++ n ∷ [])))) (le-ltb 64 (product_of (x ∷ (ns ++ n ∷ []))) less) ∙ whole, 1, omega (arith, same))
@@ -90,10 +86,6 @@ joined_lanes s seat can sizes =
     let (m, is, d, part) = lanes_last (sizes_of s).seats seat.beh.states sizes can.0.states.0 can.0.states.1 in
     record { few = lanes_few (sizes_of s).seats; slices = (m, ap (λ (n : Sizes). lanes_of n.seats) (sizes-joined s seat) ∙ is, d, part) }
 
-pub map_as : {X Y : Type 0} (f g : X → Y) (xs : List X) → ((x : X) → IsIn x xs → f x ≡ g x) → map f xs ≡ map g xs
-map_as f g [] same = refl
-map_as f g (x ∷ xs) same = ap₂ (λ y ys. y ∷ ys) (same x (inl refl)) (map_as f g xs (λ y i. same y (inr i)))
-
 -- the entries of a part of a row are grown to those of a row
 pub grown_part : (n m d states lanes x i word : ℕ) (reason : Reason) (L : List ℕ) → n ≡ m * states → lanes ≡ d * m → set_lanes word ≡ flat_map (λ lane. map (λ b. lane * states + b) (below states)) L →
     entries_in n (x * d + i) word reason ≡ flat_map (grown_numbers states) (map (λ lane. as_entry (x * lanes + i * m + lane, reason)) L)
@@ -102,7 +94,7 @@ grown_part n m d states lanes x i word reason L whole parts spread =
     ∙ map-flat_map (λ lane. as_entry ((x * d + i) * n + lane, reason)) (λ lane. map (λ b. lane * states + b) (below states)) L
     ∙ flat_map_same (λ lane. map (λ lane. as_entry ((x * d + i) * n + lane, reason)) (map (λ b. lane * states + b) (below states))) (λ lane. grown_numbers states (as_entry (x * lanes + i * m + lane, reason))) L (λ lane.
     map-map (λ lane. as_entry ((x * d + i) * n + lane, reason)) (λ b. lane * states + b) (below states)
-    ∙ map_as (λ b. as_entry ((x * d + i) * n + (lane * states + b), reason)) (grown_number states (as_entry (x * lanes + i * m + lane, reason))) (below states) (λ b j. ap (λ p. as_entry (p, reason)) (place lane b)))
+    ∙ map_same_in (λ b. as_entry ((x * d + i) * n + (lane * states + b), reason)) (grown_number states (as_entry (x * lanes + i * m + lane, reason))) (below states) (λ b j. ap (λ p. as_entry (p, reason)) (place lane b)))
     ∙ sym (flat_map-map (grown_numbers states) (λ lane. as_entry (x * lanes + i * m + lane, reason)) L)
   where
     place : (lane b : ℕ) → (x * d + i) * n + (lane * states + b) ≡ (x * lanes + i * m + lane) * states + b

@@ -3,13 +3,10 @@ pub mod Repairing
 pub mod Keeping
 pub mod Waiting
 pub mod Joined
-pub mod DeathStates
 pub mod DeathParts
 pub mod DeathEntries
-pub mod Whole
 pub mod Fronts
 pub mod Growing
 pub mod BandAnswers
 pub mod OtherSeats
 pub mod Replayed
-pub mod Readmitted

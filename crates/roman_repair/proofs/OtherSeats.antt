@@ -1,7 +1,9 @@
 -- After a thaw or a join each entry of the old list would be kept if the changed seat had no outcomes.
-use Rattle.roman_repair.proofs.Common.{◌≡◌, ℕ, zero, suc, ◌+◌, ◌*◌, ◌%◌, ◌<◌, ◌==◌, Bool, true, false, not, ◌&&◌, ◌||◌, List, [], ◌∷◌, ◌++◌, map, flat_map, length, Some, IsTrue, IsFalse, if◌then◌else◌, slice_get, slice_index, inl, inr, refl, sym, ap, ◌∙◌, subst, arith, append-nil, append_assoc, both_ways, eqb-true, or_left, and_from, and_parts, eq-eqb, or_cases, or_right, IsIn, below, product_of, all_below, is_empty, Arena, Entry, is_listed, is_justified, is_among, IsOrderFrom, Reason, Final, Act, length-map, length_push, get_or_append_left, set-append_left, Sys, Seat, IsSys, is_final, Pair, all_final, Sizes, sizes_of, count, pair_at, numbered, number, turned, sizes-turned, in_map, from_map, AreNumbers, in_below, justified_more, listed_append, map-map, all_below_from, any_from, any_true, by_test, from_below, justified_is, number_allows-turned, pair_at-grown, sizes-joined, IsPairOf-from, is_fine-turned, length-set_frozen, length-states_at, number-grown, numbers_are_pairs, outcome_pair, moved_named, outcomes-turned, grown_numbers, NamedSys, system_of, IsNamedSys, Board, pairs_of, has_entry, IsRelation, listed_numbers, list_any, is_ready, is_fine, outcomes, outcomes_by, seat_next, without_seat, MayAskAlone, AreKept, slice_get-get_or, grown, set_frozen}
-use Rattle.roman_repair.proofs.Repairing.{numbers_order}
-use Rattle.roman_repair.proofs.Joined.{map_as, possible-joined}
+use Rattle.roman_repair.proofs.Common.{get_front, map_same_in, complete_order, turned, sizes-turned, in_map, from_map, AreNumbers, in_below, justified_more, listed_append, map-map, all_below_from, any_from, any_true, by_test, from_below, justified_is, number_allows-turned, pair_at-grown, sizes-joined, IsPairOf-from, is_fine-turned, length-set_frozen, length-states_at, number-grown, numbers_are_pairs, outcome_pair, moved_named, outcomes-turned, ◌≡◌, ℕ, zero, suc, ◌+◌, ◌*◌, ◌%◌, ◌<◌, ◌==◌, Bool, true, false, not, ◌&&◌, ◌||◌, List, [], ◌∷◌, ◌++◌, map, flat_map, length, Some, IsTrue, IsFalse, if◌then◌else◌, slice_get, slice_index, inl, inr, refl, sym, ap, ◌∙◌, subst, arith, append-nil, append_assoc, both_ways, eqb-true, or_left, and_from, and_parts, eq-eqb, or_cases, or_right, IsIn, below, product_of, all_below, is_empty, Arena, Entry, is_listed, is_justified, is_among, IsOrderFrom, IsOrder, replay, Reason, Final, Act, length-map, length_push, get_or_append_left, set-append_left, Sys, Seat, IsSys, is_final, Pair, all_final, Sizes, sizes_of, count, pair_at, numbered, number, grown_numbers, NamedSys, system_of, IsNamedSys, seat_of, Board, pairs_of, has_entry, IsRelation, listed_numbers, list_any, is_ready, is_fine, outcomes, outcomes_by, seat_next, without_seat, MayAskAlone, AreKept, grown, set_frozen, Join, after, Thaw, AreSizes, lanes_of, lanes_few, lanes_in, AreCandidates, Newcomer}
+use Rattle.roman_repair.proofs.Joined.{possible-joined, joined_can, joined_candidates, joined_lanes}
+use Rattle.roman_repair.proofs.Repairing.{relation_replays}
+use Rattle.roman_repair.proofs.Waiting.{IsReadmission, grown_by_one, relation_candidates, turned_candidates}
+use Rattle.roman_repair.proofs.Growing.{same_slices}
 
 -- ---- entries that are kept
 
@@ -75,7 +77,7 @@ relation_kept : (joint : NamedSys) (old : Board) (t : Sys) (k m : ℕ) → IsNam
     AreKept (without_seat (numbered t) k) [] (flat_map (grown_numbers m) old.list)
 relation_kept joint old t k m known relation in_range over =
     let are : AreNumbers (system_of joint) old.list = listed_numbers (system_of joint) old relation.shaped.pairs in_range in
-    carried_kept (system_of joint) t k m over [] [] old.list are (λ q b h none. none) (numbers_order (system_of joint) old.list known.system are relation.complete.list)
+    carried_kept (system_of joint) t k m over [] [] old.list are (λ q b h none. none) (complete_order (system_of joint) old.list known.system are relation.complete.list)
 
 -- ---- a thaw
 
@@ -104,11 +106,6 @@ thaw_carries s k = record {
 
 -- ---- a join
 
-get_before : {X : Type 0} (xs : List X) (x : X) (j : ℕ) → j < length xs → slice_get (xs ++ x ∷ []) j ≡ slice_get xs j
-get_before xs x j l =
-    slice_get-get_or (xs ++ x ∷ []) j x (let more : length (xs ++ x ∷ []) ≡ length xs + 1 = length_push xs x in omega (arith, more, l))
-    ∙ ap Some (get_or_append_left xs (x ∷ []) x j l) ∙ sym (slice_get-get_or xs j x l)
-
 -- a pair that isn't final for the seats isn't final for one seat more
 final_fewer : (seats : List Seat) (seat : Seat) (bs : List ℕ) (b : ℕ) → IsTrue (all_final (seats ++ seat ∷ []) (bs ++ b ∷ [])) → length bs ≡ length seats → IsTrue (all_final seats bs)
 final_fewer [] seat bs b f long = refl
@@ -122,7 +119,7 @@ with_last s seat = record { env = s.env; target = s.target; seats = s.seats ++ s
 -- the outcomes of the old seats
 outcomes_grown : (s : Sys) (seat : Seat) (p : Pair) (b a j : ℕ) → length p.bs ≡ length s.seats → j < length s.seats → outcomes (with_last s seat) (grown p b) a j ≡ map (λ q. grown q b) (outcomes s p a j)
 outcomes_grown s seat p b a j long l =
-    ap (λ o. outcomes_by (with_last s seat) (grown p b) a j (seat_next o (slice_index (p.bs ++ b ∷ []) j) p.e a)) (get_before s.seats seat j l)
+    ap (λ o. outcomes_by (with_last s seat) (grown p b) a j (seat_next o (slice_index (p.bs ++ b ∷ []) j) p.e a)) (get_front s.seats (seat ∷ []) j l)
     ∙ ap (λ c. outcomes_by (with_last s seat) (grown p b) a j (seat_next (slice_get s.seats j) c p.e a)) (get_or_append_left p.bs (b ∷ []) 0 j (omega (arith, l, long)))
     ∙ moved_named s (s.seats ++ seat ∷ []) p a j j (seat_next (slice_get s.seats j) (slice_index p.bs j) p.e a) (λ bs. bs ++ b ∷ []) (p.bs ++ b ∷ []) (λ c. set-append_left p.bs (b ∷ []) j c (omega (arith, l, long)))
 
@@ -137,7 +134,7 @@ join_carries s seat ok = record {
       ap (λ q. map (number (sizes_of t)) (outcomes t q a j)) (place p b l h)
       ∙ ap (map (number (sizes_of t))) (outcomes_grown s seat (pair_at n p) b a j (long p) inner)
       ∙ map-map (number (sizes_of t)) (λ q. grown q b) (outcomes s (pair_at n p) a j)
-      ∙ map_as (λ q. number (sizes_of t) (grown q b)) (λ q. number n q * seat.beh.states + b) (outcomes s (pair_at n p) a j)
+      ∙ map_same_in (λ q. number (sizes_of t) (grown q b)) (λ q. number n q * seat.beh.states + b) (outcomes s (pair_at n p) a j)
       (λ q i. ap (λ m. number m (grown q b)) (sizes-joined s seat) ∙ number-grown n q seat.beh.states b (IsPairOf-from s q (outcome_pair s (pair_at n p) a j q ok ((numbers_are_pairs s).pair p l) i)))
       ∙ sym (map-map (λ q. q * seat.beh.states + b) (number n) (outcomes s (pair_at n p) a j));
 }
@@ -181,3 +178,47 @@ join_alone joint old seat known relation in_range thawed =
     let s = system_of joint in
     let more : length (s.seats ++ seat ∷ []) ≡ length s.seats + 1 = length_push s.seats seat in
     (omega (arith, more), last_ready s.seats seat thawed, relation_kept joint old (with_last s seat) (length s.seats) seat.beh.states known relation in_range (join_carries s seat known.system))
+
+-- ---- the lists that are readmitted
+
+pub thaw_readmits : (n joint : NamedSys) (order : Board) (k lanes : ℕ) → IsNamedSys n → IsRelation n order → ((p : ℕ) → has_entry order.list p ≡ true → p < pairs_of order) → k < length n.seats → system_of joint ≡ turned (system_of n) k false → lanes ≡ lanes_in (system_of n) →
+    IsReadmission (Thaw k) n joint (record { k = k; states = 1; lanes = lanes }) order
+thaw_readmits n joint order k lanes known relation in_range there system wide =
+    let s = system_of n in
+    let t = turned s k false in
+    let place : k < length s.seats = omega (arith, there, length-map n.seats (seat_of n.catalogue)) in
+    let same : lanes_in t ≡ lanes = ap (λ (m : Sizes). lanes_of m.seats) (sizes-turned s k false) ∙ sym wide in
+    let replays = relation_replays (Thaw k) n order known relation in_range place in
+    let itself = grown_by_one order.list in
+    record {
+      replays = replays;
+      system = system;
+      those = itself;
+      can = record {
+        idle = relation.complete.idle;
+        lanes = relation.shaped.lanes ∙ sym wide;
+        slices = same_slices _ _ same (omega (arith, wide, lanes_few (sizes_of s).seats));
+        are = subst (AreCandidates (numbered t) []) (sym itself) (turned_candidates s k false order.list (relation_candidates n order known relation in_range));
+        may = thaw_alone n order k known relation in_range place;
+        valid = subst (λ L. IsOrder (numbered t) (replay (numbered t) L)) (sym itself) replays.order;
+      };
+    }
+
+pub join_readmits : (n joint : NamedSys) (order : Board) (seat : Seat) (newcomer : Newcomer) → IsNamedSys n → IsRelation n order → ((p : ℕ) → has_entry order.list p ≡ true → p < pairs_of order) → IsNamedSys joint → system_of joint ≡ after (Join seat) (system_of n) → IsFalse seat.frozen →
+    AreSizes (sizes_of (system_of n)).seats → newcomer ≡ record { k = length (system_of n).seats; states = seat.beh.states; lanes = lanes_in (system_of n) } → IsReadmission (Join seat) n joint newcomer order
+join_readmits n joint order seat newcomer known relation in_range new_known system thawed sizes is =
+    let can = joined_can joint (system_of n) seat new_known system in
+    let replays = relation_replays (Join seat) n order known relation in_range can in
+    subst (λ m. IsReadmission (Join seat) n joint m order) (sym is) (record {
+      replays = replays;
+      system = system;
+      those = refl;
+      can = record {
+        idle = relation.complete.idle;
+        lanes = relation.shaped.lanes;
+        slices = joined_lanes (system_of n) seat can sizes;
+        are = joined_candidates (system_of n) seat order.list (relation_candidates n order known relation in_range) replays;
+        may = join_alone n order seat known relation in_range thawed;
+        valid = replays.order;
+      };
+    })

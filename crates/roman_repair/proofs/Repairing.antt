@@ -1,14 +1,10 @@
 -- The end of a repair, in numbers of pairs.
-use Rattle.roman_repair.proofs.Common.{◌≡◌, ℕ, ◌+◌, ◌<◌, true, List, [], ap, ◌∙◌, arith, length-map, take-map, Sys, IsSys, Entry, IsOrder, replay, Change, after, CanChange, sizes_of, pair_at, numbered, IsCompleteList, rename_numbers, NumbersReplay, AreNumbers, order_named, numbers_replay, IsNumber, numbers_rename, NamedSys, system_of, IsNamedSys, Board, pairs_of, has_entry, HasCaps, IsRelation, listed_numbers, Tally, IsRepaired, IsSettledOn, arena}
+use Rattle.roman_repair.proofs.Common.{complete_order, NumbersReplay, AreNumbers, numbers_replay, ◌≡◌, ℕ, ◌+◌, ◌<◌, true, List, [], ap, ◌∙◌, arith, length-map, take-map, Sys, Entry, replay, Change, after, CanChange, sizes_of, numbered, rename_numbers, NamedSys, system_of, IsNamedSys, Board, pairs_of, has_entry, HasCaps, IsRelation, listed_numbers, Tally, IsRepaired, IsSettledOn}
 use Rattle.roman_joint.specs.declared.seat.Seat.{Seat}
 
 -- the replay of the renamed old list, in numbers
 abbrev pub numbers_replayed : Change → Sys → List (Entry ℕ) → List (Entry ℕ)
 numbers_replayed change s old = replay (numbered (after change s)) (rename_numbers change (sizes_of s) old)
-
--- a complete list is an order of the numbers
-pub numbers_order : (s : Sys) (L : List (Entry ℕ)) → IsSys s → AreNumbers s L → IsCompleteList s L → IsOrder (numbered s) L
-numbers_order s L ok are complete = order_named (numbered s) (arena s) (pair_at (sizes_of s)) (IsNumber s) (numbers_rename s ok) L are complete.order
 
 -- the replay of a relation's renamed list
 pub relation_replays : (change : Change) (joint : NamedSys) (order : Board) → IsNamedSys joint → IsRelation joint order → ((p : ℕ) → has_entry order.list p ≡ true → p < pairs_of order) →
@@ -16,7 +12,7 @@ pub relation_replays : (change : Change) (joint : NamedSys) (order : Board) → 
 relation_replays change joint order known relation in_range can =
     let s = system_of joint in
     let are : AreNumbers s order.list = listed_numbers s order relation.shaped.pairs in_range in
-    numbers_replay change s order.list known.system can are (numbers_order s order.list known.system are relation.complete.list)
+    numbers_replay change s order.list known.system can are (complete_order s order.list known.system are relation.complete.list)
 
 -- a relation that was completed from that replay is what the repair should end in
 pub repaired_from : (change : Change) (old_joint : NamedSys) (old : Board) (start : List (Entry ℕ)) (mid joint : NamedSys) (new : Board) (tally : Tally) → NumbersReplay change (system_of old_joint) old.list →

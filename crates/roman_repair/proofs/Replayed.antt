@@ -1,8 +1,8 @@
 -- Replays that go on, and the replay of an event lane by lane.
-use Rattle.roman_repair.proofs.Common.{◌≡◌, ◌≢◌, ℕ, zero, suc, ◌+◌, ◌*◌, ◌<◌, ◌≤◌, ◌==◌, Bool, true, false, if◌then◌else◌, ◌||◌, List, [], ◌∷◌, ◌++◌, map, length, Option, None, Some, IsTrue, IsFalse, count_by, inl, inr, refl, sym, ap, ◌∙◌, subst, arith, append-nil, append_assoc, add-one, length-append, some_lane, set_lanes-zero, in_lanes, both_ways, and_from, eqb-true, false_from_ne_true, cases_eq, cases_lt, false≢true, mul-le-mul_left, map-append, sum_by-cons, sum_by-append, IsIn, below, all_below, is_empty, list_any, Arena, Entry, is_listed, is_justified, is_beaten, Reason, Final, Act, all_below_from, by_test, justified_is, in_append_left, in_map, from_map, is_on, readings_of_reason, IsReasonOf, readings_of-allowed, count_below_more, IsNumbered, Board, as_entry, has_entry, set_lanes, entries_in, entries_at, Event, IsShaped, HoldsInBand, is_possible, AreCandidates, with_replay, readings_of_entries, MayAskAlone, passes, without_seat, IsSeatOf, questions_of, CanReplay, CanReplayEvent, GoesOnTo, Replays, HasJudged, HasFront, AskedBand}
+use Rattle.roman_repair.proofs.Common.{on_in, some_lane, set_lanes-zero, in_lanes, ◌≡◌, ◌≢◌, ℕ, zero, suc, ◌+◌, ◌*◌, ◌<◌, ◌≤◌, ◌==◌, Bool, true, false, if◌then◌else◌, ◌||◌, List, [], ◌∷◌, ◌++◌, map, length, Option, None, Some, IsTrue, IsFalse, count_by, inl, inr, refl, sym, ap, ◌∙◌, subst, arith, append-nil, append_assoc, add-one, length-append, both_ways, and_from, eqb-true, false_from_ne_true, cases_eq, cases_lt, false≢true, mul-le-mul_left, map-append, sum_by-cons, sum_by-append, IsIn, below, all_below, is_empty, list_any, Arena, Entry, is_listed, is_justified, is_beaten, Reason, Final, Act, all_below_from, by_test, justified_is, in_append_left, in_map, from_map, is_on, readings_of_reason, IsReasonOf, readings_of-allowed, count_below_more, IsNumbered, Board, as_entry, has_entry, set_lanes, entries_in, entries_at, Event, IsShaped, HoldsInBand, is_possible, AreCandidates, with_replay, readings_of_entries, MayAskAlone, passes, without_seat, IsSeatOf, questions_of, CanReplay, CanReplayEvent, GoesOnTo, Replays, HasJudged, HasJudgedFront, HasFront, AskedBand}
 use Rattle.roman_repair.proofs.BandAnswers.{known_more, listed_more, passes_more}
 use Rattle.roman_repair.proofs.Keeping.{candidates_step, possible_reason, with_one, with_replay_step}
-use Rattle.roman_repair.proofs.Fronts.{on_in, some_in}
+use Rattle.roman_repair.proofs.Fronts.{some_in}
 
 -- ---- one entry
 
@@ -136,10 +136,10 @@ paid A x (y ∷ L) i = grind (arith, (paid A x L), (sum_by-cons (λ (z : Entry �
 judged : (A : Arena ℕ) (n rest front held : ℕ) (holds : Bool) (e : Event) (old new : Board) (asked now : AskedBand) (before after : ℕ) → HasFront e.lanes held front rest holds →
     ((N : List (Entry ℕ)) → CanReplay A n old.list asked (entries_in n e.row front e.reason ++ N) → (with_replay A new.list N ≡ with_replay A old.list (entries_in n e.row front e.reason ++ N)) × CanReplay A n new.list now N) →
     ((lane : ℕ) → is_on front lane ≡ true → IsTrue (is_possible A (e.row * n + lane) e.reason) → after ≤ before + questions_of A asked.alone (e.row * n + lane) e.reason) → new ≡ record old { list = new.list } →
-    (length (set_lanes rest) < length (set_lanes e.lanes)) × HasJudged A n (entries_at n) e rest old new asked now before after
-judged A n rest front held holds e old new asked now before after split step cost is = (
-  omega (arith, ap length split.parts, length-append (set_lanes front) (set_lanes rest), split.some),
-  record {
+    HasJudgedFront A n e rest old new asked now before after
+judged A n rest front held holds e old new asked now before after split step cost is = record {
+  fewer = omega (arith, ap length split.parts, length-append (set_lanes front) (set_lanes rest), split.some);
+  judged = record {
     some = λ ne. some_lane rest ne split.fits;
     within = split.in_rest;
     rest = is;
@@ -160,14 +160,14 @@ judged A n rest front held holds e old new asked now before after split step cos
           }
           );
     };
-  },
-)
+  };
+}
 
 -- entries that pass were listed
 pub listed : (A : Arena ℕ) (n rest front held : ℕ) (e : Event) (old new : Board) (asked now : AskedBand) (before after : ℕ) → CanReplayEvent A n n (entries_at n) old asked e → HasFront e.lanes held front rest true →
     ((lane : ℕ) → lane < n → is_on held lane ≡ true → IsTrue (passes A (is_listed A old.list) asked.alone (e.row * n + lane) e.reason)) → now.alone ≡ asked.alone → HoldsInBand A n (is_listed A old.list) now →
     ((lane : ℕ) → lane < n → IsTrue (is_possible A (e.row * n + lane) e.reason) → after ≤ before + questions_of A asked.alone (e.row * n + lane) e.reason) →
-    new ≡ record old { list = old.list ++ entries_in old.lanes e.row front e.reason } → (length (set_lanes rest) < length (set_lanes e.lanes)) × HasJudged A n (entries_at n) e rest old new asked now before after
+    new ≡ record old { list = old.list ++ entries_in old.lanes e.row front e.reason } → HasJudgedFront A n e rest old new asked now before after
 listed A n rest front held e old new asked now before after can split each alone known cost is =
     let those = entries_in n e.row front e.reason in
     let list : new.list ≡ old.list ++ those = ap (λ (b : Board). b.list) is ∙ ap (λ m. old.list ++ entries_in m e.row front e.reason) can.shaped.lanes in
@@ -183,7 +183,7 @@ listed A n rest front held e old new asked now before after can split each alone
 pub dropped : (A : Arena ℕ) (n rest front held : ℕ) (e : Event) (old : Board) (asked now : AskedBand) (before after : ℕ) → CanReplayEvent A n n (entries_at n) old asked e → HasFront e.lanes held front rest false →
     ((lane : ℕ) → lane < n → is_on held lane ≡ passes A (is_listed A old.list) asked.alone (e.row * n + lane) e.reason) → now.alone ≡ None → HoldsInBand A n (is_listed A old.list) now →
     ((lane : ℕ) → lane < n → IsTrue (is_possible A (e.row * n + lane) e.reason) → after ≤ before + questions_of A asked.alone (e.row * n + lane) e.reason) →
-    (length (set_lanes rest) < length (set_lanes e.lanes)) × HasJudged A n (entries_at n) e rest old old asked now before after
+    HasJudgedFront A n e rest old old asked now before after
 dropped A n rest front held e old asked now before after can split each all known cost =
     let within = λ (lane : ℕ) (on : is_on front lane ≡ true). can.event.within lane (split.in_front lane on) in
     judged A n rest front held false e old old asked now before after split (λ N ready.

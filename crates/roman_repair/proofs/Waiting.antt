@@ -1,7 +1,8 @@
--- Orders that are reopened for a changed system, and their replay.
-use Rattle.roman_repair.proofs.Common.{◌≡◌, ℕ, ◌*◌, ◌<◌, ◌≤◌, Bool, true, List, [], ◌∷◌, ◌++◌, flat_map, length, IsTrue, refl, ap, ap₂, ◌∙◌, arith, sym, subst, below, Sys, Arena, Entry, is_justified, IsOrder, replay, Change, after, sizes_of, count, numbered, Reason, Final, Act, grown_numbers, rename_numbers, length-below, turned, AreNumbers, sizes-turned, NumbersReplay, justified_is, number_allows-turned, order_new, new_once, order_justified, numbered_is_same, NamedSys, system_of, IsNamedSys, Board, pairs_of, has_entry, arena_of, IsRelation, listed_numbers, Tally, IsRepaired, IsSettledOn, is_possible, AreCandidates, CanReadmit, list_grown, replay_grown, Newcomer}
+-- Orders that are reopened or kept whole for a changed system, and their replay.
+use Rattle.roman_repair.proofs.Common.{complete_order, length-below, turned, AreNumbers, sizes-turned, NumbersReplay, justified_is, number_allows-turned, order_new, new_once, order_justified, numbered_is_same, ◌≡◌, ℕ, ◌*◌, ◌<◌, ◌≤◌, Bool, true, List, [], ◌∷◌, ◌++◌, flat_map, length, IsTrue, refl, ap, ap₂, ◌∙◌, arith, sym, subst, slice_get, below, Sys, Seat, Arena, Entry, is_justified, IsOrder, replay, Change, after, KeepsAll, sizes_of, count, numbered, Reason, Final, Act, grown_numbers, rename_numbers, NamedSys, system_of, IsNamedSys, Board, pairs_of, has_entry, arena_of, IsRelation, HasCaps, listed_numbers, Tally, IsRepaired, IsSettledOn, IsBegun, is_possible, AreCandidates, CanReadmit, list_grown, replay_grown, Newcomer, cases_lt, lanes_in, IsShaped, is_ready, slice_get_past}
 use Rattle.roman_repair.proofs.Keeping.{grown_once}
-use Rattle.roman_repair.proofs.Repairing.{numbers_order, repaired_from}
+use Rattle.roman_repair.proofs.Repairing.{repaired_from, numbers_replayed, caps_kept}
+use Rattle.roman_joint.specs.declared.seat.Seat as declared
 
 -- Candidates.
 
@@ -29,7 +30,7 @@ pub relation_candidates : (joint : NamedSys) (order : Board) → IsNamedSys join
     AreCandidates (arena_of joint) [] order.list
 relation_candidates joint order known relation in_range =
     let are : AreNumbers (system_of joint) order.list = listed_numbers (system_of joint) order relation.shaped.pairs in_range in
-    listed_candidates (system_of joint) order.list are (numbers_order (system_of joint) order.list known.system are relation.complete.list)
+    listed_candidates (system_of joint) order.list are (complete_order (system_of joint) order.list known.system are relation.complete.list)
 
 -- Reopened orders.
 
@@ -55,3 +56,22 @@ readmitted change n mid joint newcomer order new tally is settled =
 pub grown_by_one : (L : List (Entry ℕ)) → flat_map (grown_numbers 1) L ≡ L
 grown_by_one [] = refl
 grown_by_one (x ∷ L) = ap₂ (λ (M N : List (Entry ℕ)). M ++ N) (grown_once 1 x refl) (grown_by_one L)
+
+-- Changes that keep the whole renamed list: a freeze or a death.
+
+pub ready_there : (seats : List Seat) (k : ℕ) → IsTrue (is_ready (slice_get seats k)) → k < length seats
+ready_there seats k ready = grind (arith, cases_lt, slice_get_past)
+
+-- the replay keeps the whole renamed list
+pub whole_replay : (change : Change) (s : Sys) (old new : List (Entry ℕ)) → NumbersReplay change s old → KeepsAll change → new ≡ rename_numbers change (sizes_of s) old → new ≡ numbers_replayed change s old
+whole_replay change s old new replays all list = list ∙ sym (replays.whole all)
+
+-- the repair can go on from the renamed list
+pub whole_begun : (change : Change) (old_joint new_joint : NamedSys) (seats : List declared.Seat) (old new : Board) → NumbersReplay change (system_of old_joint) old.list → KeepsAll change → HasCaps old_joint old →
+    new_joint ≡ record old_joint { seats = seats } → system_of new_joint ≡ after change (system_of old_joint) → new.list ≡ rename_numbers change (sizes_of (system_of old_joint)) old.list →
+    IsShaped (arena_of new_joint) (lanes_in (system_of new_joint)) new → new.cap_pairs ≡ old.cap_pairs → new.waiting ≡ [] → IsBegun new_joint new
+whole_begun change old_joint new_joint seats old new replays all caps joint system list shaped room idle = grind (arith, caps_kept, whole_replay)
+
+-- a freeze keeps the pairs and their rows
+pub shaped_turned : (s : Sys) (k : ℕ) (frozen : Bool) (board : Board) → IsShaped (numbered s) (lanes_in s) board → IsShaped (numbered (turned s k frozen)) (lanes_in (turned s k frozen)) board
+shaped_turned s k frozen board shaped = grind (arith, nodes-turned, sizes-turned)

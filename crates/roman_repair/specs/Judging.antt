@@ -3,7 +3,7 @@ use Rattle.std.specs.Prelude.{◌≡◌, ◌≢◌, ℕ, ◌+◌, ◌<◌, ◌�
 use Rattle.roman_lanes.specs.Rows.{is_on}
 use Rattle.roman_model.specs.Arena.{Arena, Entry, is_listed}
 use Rattle.roman_order.specs.Board.{Board, set_lanes}
-use Rattle.roman_order.specs.Events.{IsEvent}
+use Rattle.roman_order.specs.Events.{IsEvent, entries_at}
 use Rattle.roman_order.specs.declared.event.Event.{Event}
 use Rattle.roman_relation.specs.Shaped.{IsShaped}
 use Rattle.roman_repair.specs.Alone.{MayAskAlone}
@@ -39,3 +39,8 @@ pub record HasJudged (A : Arena ℕ) (row : ℕ) (entries : Event → List (Entr
   pub within : (lane : ℕ) → is_on left lane ≡ true → is_on e.lanes lane ≡ true
   pub replayed : Replays A row (entries e) (entries (record e { lanes = left })) old.list new.list asked on before after
   pub rest : new ≡ record old { list = new.list }
+
+-- the first entries of an event were judged: its lanes `left`, of which there are fewer, are to be judged
+pub record HasJudgedFront (A : Arena ℕ) (row : ℕ) (e : Event) (left : ℕ) (old new : Board) (asked on : AskedBand) (before after : ℕ) : Type 0 where
+  pub fewer : length (set_lanes left) < length (set_lanes e.lanes)
+  pub judged : HasJudged A row (entries_at row) e left old new asked on before after

@@ -1,9 +1,8 @@
 //! Replays events. An event is a run of waiting entries of one row with one reason. An entry is
 //! kept where the entries kept before it justify it.
-ghost use Rattle.std.specs.Prelude.{◌≡◌, ◌<◌, [], length};
-ghost use Rattle.roman_order.specs.Board.{set_lanes};
+ghost use Rattle.std.specs.Prelude.{◌≡◌, []};
 ghost use Rattle.roman_order.specs.Events.{entries_at};
-ghost use Rattle.roman_repair.specs.Judging.{CanReplayEvent, HasJudged, Replays};
+ghost use Rattle.roman_repair.specs.Judging.{CanReplayEvent, HasJudgedFront, Replays};
 
 use crate::alone::OneSeat;
 use crate::asked_band::AskedBand;
@@ -24,8 +23,7 @@ fn keep_front<J: OneSeat, L: Ledger>(
     steps: &mut Steps<L>,
 ) -> u64
     requires { let lanes = J.lanes joint.now in CanReplayEvent (J.arena joint.now) lanes lanes (entries_at lanes) order.old asked.old event }
-    ensures fewer { length (set_lanes result) < length (set_lanes event.lanes) }
-    ensures judged { let lanes = J.lanes joint.now in HasJudged (J.arena joint.now) lanes (entries_at lanes) event result order.old order.new asked.old asked.new steps.old steps.new }
+    ensures { HasJudgedFront (J.arena joint.now) (J.lanes joint.now) event result order.old order.new asked.old asked.new steps.old steps.new }
 {
     joint.known(); // allowed actions are actions of the system, a row has 1 to 64 lanes
     order.known(); // a row has 1 to 64 lanes

@@ -5,9 +5,8 @@ use Rattle.roman_repair.proofs.events.keep_front.Goals as goal
 pub returns-then-holds : goal.returns-then-holds
 returns-then-holds g c =
     let known = c.requires.ready.1.known in
-    let done = listed _ (g.J.Rules.lanes c.args.joint.now) _ _ _ c.args.event c.args.order.now _ _ _ _ _ c.requires (subst (HasFront _ _ _ _) c.if-holds.true c.first_alike-front.ensures)
-    (c.known_at-known.ensures _ _ _ known).each refl known (λ lane l possible. omega arith) c.push_lanes.ensures in
-    record { fewer = done.0; judged = done.1 }
+    listed _ (g.J.Rules.lanes c.args.joint.now) _ _ _ c.args.event c.args.order.now _ _ _ _ _ c.requires (subst (HasFront _ _ _ _) c.if-holds.true c.first_alike-front.ensures)
+    (c.known_at-known.ensures _ _ _ known).each refl known (λ lane l possible. omega arith) c.push_lanes.ensures
 
 pub ask-held-requires : goal.ask-held-requires
 ask-held-requires g c =
@@ -18,17 +17,15 @@ pub returns-then-holds-2 : goal.returns-then-holds-2
 returns-then-holds-2 g c =
     let held = c.ask-held.ensures in
     let rows = words_rows _ c.known.ensures.numbered _ c.args.order.now c.words.result.now c.requires.shaped c.words.ensures.alive in
-    let done = listed _ (g.J.Rules.lanes c.args.joint.now) _ _ _ c.args.event c.args.order.now _ _ _ _ _ c.requires (subst (HasFront _ _ _ _) c.if-holds-2.true c.first_alike-front-2.ensures)
-    (λ lane l on. sym (held.holds _ rows lane l) ∙ on) held.alone (held.known _ rows c.requires.ready.1.known) (λ lane l possible. omega (arith, held.cost lane l possible)) c.push_lanes-then-holds-2.ensures in
-    record { fewer = done.0; judged = done.1 }
+    listed _ (g.J.Rules.lanes c.args.joint.now) _ _ _ c.args.event c.args.order.now _ _ _ _ _ c.requires (subst (HasFront _ _ _ _) c.if-holds-2.true c.first_alike-front-2.ensures)
+    (λ lane l on. sym (held.holds _ rows lane l) ∙ on) held.alone (held.known _ rows c.requires.ready.1.known) (λ lane l possible. omega (arith, held.cost lane l possible)) c.push_lanes-then-holds-2.ensures
 
 pub returns : goal.returns
 returns g c =
     let held = c.ask-held.ensures in
     let rows = words_rows _ c.known.ensures.numbered _ c.args.order.now c.words.result.now c.requires.shaped c.words.ensures.alive in
-    let done = dropped _ (g.J.Rules.lanes c.args.joint.now) _ _ _ c.args.event c.args.order.now _ _ _ _ c.requires (subst (HasFront _ _ _ _) c.if-holds-2.false c.first_alike-front-2.ensures) (held.holds _ rows) c.ask_all.ensures.alone
-    (c.ask_all.ensures.known _ _ _ (held.known _ rows c.requires.ready.1.known)) (λ lane l possible. omega (arith, held.cost lane l possible)) in
-    record { fewer = done.0; judged = done.1 }
+    dropped _ (g.J.Rules.lanes c.args.joint.now) _ _ _ c.args.event c.args.order.now _ _ _ _ c.requires (subst (HasFront _ _ _ _) c.if-holds-2.false c.first_alike-front-2.ensures) (held.holds _ rows) c.ask_all.ensures.alone
+    (c.ask_all.ensures.known _ _ _ (held.known _ rows c.requires.ready.1.known)) (λ lane l possible. omega (arith, held.cost lane l possible))
 
 pub push_lanes-requires-clause-row : goal.push_lanes-requires-clause-row
 push_lanes-requires-clause-row g c = (in_row _ _ _ _ _ c.known.ensures.numbered c.requires).row

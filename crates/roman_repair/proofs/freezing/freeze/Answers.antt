@@ -1,6 +1,6 @@
 use Rattle.roman_repair.proofs.Common.{true, refl, sym, subst, Sys, numbered, system_of, lanes_in, IsShaped, Freeze, with_frozen}
 use Rattle.roman_repair.proofs.Repairing.{relation_replays, repaired_from}
-use Rattle.roman_repair.proofs.Whole.{ready_there, whole_replay, whole_begun, shaped_turned}
+use Rattle.roman_repair.proofs.Waiting.{ready_there, whole_replay, whole_begun, shaped_turned}
 use Rattle.roman_repair.proofs.freezing.freeze.Goals as goal
 
 pub settle_on-requires : goal.settle_on-requires

@@ -1,6 +1,6 @@
 use Rattle.roman_repair.proofs.Common.{sym, ◌∙◌, subst, AreSizes, Sizes, length-map, Newcomer, seat_of}
 use Rattle.roman_repair.proofs.Waiting.{can_readmit, readmitted}
-use Rattle.roman_repair.proofs.Readmitted.{join_readmits}
+use Rattle.roman_repair.proofs.OtherSeats.{join_readmits}
 use Rattle.roman_repair.proofs.joining.join.Goals as goal
 
 pub replay_and_settle_on-requires-clause-ready : goal.replay_and_settle_on-requires-clause-ready

@@ -1,5 +1,5 @@
 use Rattle.roman_repair.proofs.Waiting.{can_readmit, readmitted}
-use Rattle.roman_repair.proofs.Readmitted.{thaw_readmits}
+use Rattle.roman_repair.proofs.OtherSeats.{thaw_readmits}
 use Rattle.roman_repair.proofs.thawing.thaw.Goals as goal
 
 pub replay_and_settle_on-requires-clause-ready : goal.replay_and_settle_on-requires-clause-ready

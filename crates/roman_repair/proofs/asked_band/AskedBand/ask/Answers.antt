@@ -1,12 +1,11 @@
-use Rattle.roman_repair.proofs.Common.{refl, ap, not, ◌∙◌, arith, ◌+◌, ◌*◌, ◌<◌, on_not}
+use Rattle.roman_repair.proofs.Common.{not-not, refl, ap, not, ◌∙◌, arith, ◌+◌, ◌*◌, ◌<◌, on_not}
 use Rattle.roman_repair.proofs.BandAnswers.{none_known}
-use Rattle.roman_repair.proofs.Fronts.{not_twice}
 use Rattle.roman_repair.proofs.asked_band.AskedBand.ask.Goals as goal
 
 pub returns-in-Some : goal.returns-in-Some
 returns-in-Some g c = record {
   holds = λ gone words lane l. rw c.in-Some.is
-      (on_not c.ask_row_alone.result lane c.ask_row_alone.type_inv (omega (arith, l, c.known.ensures.lanes.1)) ∙ ap not (c.ask_row_alone.ensures.served gone words lane l) ∙ not_twice _);
+      (on_not c.ask_row_alone.result lane c.ask_row_alone.type_inv (omega (arith, l, c.known.ensures.lanes.1)) ∙ ap not (c.ask_row_alone.ensures.served gone words lane l) ∙ not-not _);
   known = λ gone words known. record { row = none_known _ _ gone _ _ _; rows = known.rows };
   alone = refl;
   cost = λ lane l possible. rw c.in-Some.is (c.ask_row_alone.ensures.cost (c.args.event.row * g.J.Rules.lanes c.args.joint.now + lane));
