@@ -47,12 +47,10 @@ pub use Rattle.roman_rules.specs.declared.asked.Asked.{Asked}
 pub use Rattle.roman_check.specs.Audits.{HasListed, HasRead, IsInRows, Judges, TakesEntry, due_after}
 pub use Rattle.roman_check.specs.Checks.{HaveVerdict, NoneAtFault}
 pub use Rattle.roman_check.specs.Decimals.{HasDigits, IsNumberTo, IsTrim}
-pub use Rattle.roman_check.specs.Lines.{Holds}
-pub use Rattle.roman_check.specs.Missing.{NoneMissing, could_be_by}
-pub use Rattle.roman_check.specs.Patterns.{IsPattern}
+pub use Rattle.roman_check.specs.Lines.{Holds, IsPattern}
 pub use Rattle.roman_check.specs.Readers.{Closes, EndsLine, HasLines, HasReached, IsAtFault, IsBetween, IsReading, ReadsPart, SplitsAfter, one_if_clean}
 pub use Rattle.roman_check.specs.Readings.{HasEntry, HasParts, IsEndedAt, ReadsOff, entry_with}
-pub use Rattle.roman_check.specs.Remain.{Clears, Remain, Removes}
+pub use Rattle.roman_check.specs.Remain.{Clears, NoneMissing, Remain, Removes, could_be_by}
 pub use Rattle.roman_check.specs.Verdicts.{fault_of}
 pub use Rattle.roman_check.specs.declared.audit.Audit.{Audit}
 pub use Rattle.roman_check.specs.declared.audit.Due.{Due}

@@ -1,10 +1,8 @@
 pub mod Decimals
 pub mod Readings
-pub mod Patterns
 pub mod Verdicts
 pub mod Remain
 pub mod Audits
-pub mod Missing
 pub mod Lines
 pub mod Readers
 pub mod Checks

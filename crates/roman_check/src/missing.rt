@@ -4,7 +4,7 @@ ghost use Rattle.std.specs.List.{find};
 ghost use Rattle.roman_model.specs.Arena.{Entry, is_listed};
 ghost use Rattle.roman_model.specs.Certificate.{could_be_listed};
 ghost use Rattle.roman_lanes.specs.Rows.{HasLanes, AreRows};
-ghost use Rattle.roman_check.specs.Missing.{NoneMissing};
+ghost use Rattle.roman_check.specs.Remain.{NoneMissing};
 
 use roman_rules::{Rules, are_clear, copy_rows};
 

@@ -1,10 +1,9 @@
 //! Reads lines of a certificate that differ only in the last two digits of the pair.
 ghost use Rattle.std.specs.Prelude.{◌≡◌, ℕ, ◌+◌, ◌*◌, ◌<◌, ◌≤◌, length, IfSome, IsTrue, slice_index};
-ghost use Rattle.std.specs.Int.{from_le_bytes, w32, w64};
 ghost use Rattle.roman_model.specs.Lists.{IsIn};
 ghost use Rattle.roman_model.specs.Certificate.{reasons};
 ghost use Rattle.roman_check.specs.Readings.{entry_with, HasEntry, HasParts};
-ghost use Rattle.roman_check.specs.Patterns.{IsPattern, four, eight};
+ghost use Rattle.roman_check.specs.Lines.{IsPattern};
 
 use crate::entries::{ROOM, front_entry};
 use crate::numbers::digit;
@@ -36,26 +35,6 @@ pub(crate) struct Pattern {
     pub(crate) shape: Shape,
 }
 
-/// Returns the first four bytes as a little-endian number.
-#[inline(always)]
-fn half(bytes: &[u8]) -> u32
-    requires { 4 ≤ length bytes.now }
-    ensures { result ≡ from_le_bytes w32 (four bytes.now) }
-{
-    u32::from_le_bytes([bytes[0], bytes[1], bytes[2], bytes[3]])
-}
-
-/// Returns the first eight bytes as a little-endian number.
-#[inline(always)]
-fn word(bytes: &[u8]) -> u64
-    requires { 8 ≤ length bytes.now }
-    ensures { result ≡ from_le_bytes w64 (eight bytes.now) }
-{
-    u64::from_le_bytes([
-        bytes[0], bytes[1], bytes[2], bytes[3], bytes[4], bytes[5], bytes[6], bytes[7],
-    ])
-}
-
 /// Returns whether the first four bytes are equal.
 #[inline(always)]
 fn halves_alike(a: &[u8], b: &[u8]) -> bool
@@ -63,7 +42,7 @@ fn halves_alike(a: &[u8], b: &[u8]) -> bool
     requires right { 4 ≤ length b.now }
     ensures { IsTrue result → (k : ℕ) → k < 4 → slice_index a.now k ≡ slice_index b.now k }
 {
-    half(a) == half(b)
+    u32::from_le_bytes([a[0], a[1], a[2], a[3]]) == u32::from_le_bytes([b[0], b[1], b[2], b[3]])
 }
 
 /// Returns whether the first eight bytes are equal.
@@ -73,7 +52,8 @@ fn words_alike(a: &[u8], b: &[u8]) -> bool
     requires right { 8 ≤ length b.now }
     ensures { IsTrue result → (k : ℕ) → k < 8 → slice_index a.now k ≡ slice_index b.now k }
 {
-    word(a) == word(b)
+    u64::from_le_bytes([a[0], a[1], a[2], a[3], a[4], a[5], a[6], a[7]])
+        == u64::from_le_bytes([b[0], b[1], b[2], b[3], b[4], b[5], b[6], b[7]])
 }
 
 impl Shape {

@@ -5,9 +5,8 @@ ghost use Rattle.roman_model.specs.Lines.{lines};
 ghost use Rattle.roman_model.specs.Arena.{Arena};
 ghost use Rattle.roman_model.specs.Certificate.{reasons};
 ghost use Rattle.roman_rules.specs.Numbered.{IsNumbered};
-ghost use Rattle.roman_check.specs.Lines.{Holds};
+ghost use Rattle.roman_check.specs.Lines.{Holds, IsPattern};
 ghost use Rattle.roman_check.specs.Audits.{IsInRows, Judges};
-ghost use Rattle.roman_check.specs.Patterns.{IsPattern};
 ghost use Rattle.roman_check.specs.Readers.{IsReading, HasLines, IsBetween, ReadsPart, ReadsPiece, EndsLine, Closes, Decides};
 
 use crate::audit::{Audit, Due};
