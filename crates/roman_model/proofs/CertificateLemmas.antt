@@ -1,5 +1,5 @@
 -- Lines of texts and of certificates: the entry that a line states, and the first fault.
-use Rattle.roman_model.proofs.Common.{slice_get_past, slice_get-get_or, get_or_append_left, take-append-le, take_all, take_at, get_or-append_seam, ◌≡◌, ℕ, zero, suc, ◌+◌, ◌%◌, ◌^◌, ◌<◌, ◌≤◌, ◌==◌, false, ◌⊎◌, List, [], ◌∷◌, ◌++◌, map, length, take, Option, Some, None, IsFalse, option_map, slice_get, decimal, refl, sym, ap, ap₂, ◌∙◌, subst, inl, inr, arith, length-append, ◌≢◌, append_assoc, append-nil, cons_option, both_ways, or_parts, or_from, eq-eqb, cases_lt, ne_eqb, cond-false, list_any-append, filter_map-append, IsIn, below, IsLine, lines, ended_lines, text_of_lines, AreLines, has, same_numbers, Arena, Entry, reason_text, entry_line, end_line, Why, Verdict, Rejected, reasons, possible_entries, entry_of, entries_on, line_fault, IsClean, faults, Reason, Final, Act, decimal_by_steps, decimal_injective, decimal_nonempty}
+use Rattle.roman_model.proofs.Common.{slice_get_past, slice_get-get_or, take-append-le, take_all, take_at, get_or-append_seam, ◌≡◌, ℕ, zero, suc, ◌+◌, ◌%◌, ◌^◌, ◌<◌, ◌≤◌, ◌==◌, false, ◌⊎◌, List, [], ◌∷◌, ◌++◌, map, length, take, Option, Some, None, IsFalse, option_map, slice_get, decimal, refl, sym, ap, ap₂, ◌∙◌, subst, inl, inr, arith, length-append, ◌≢◌, append_assoc, append-nil, cons_option, both_ways, or_parts, or_from, eq-eqb, cases_lt, ne_eqb, cond-false, list_any-append, filter_map-append, IsIn, below, IsLine, lines, ended_lines, text_of_lines, AreLines, has, same_numbers, Arena, Entry, reason_text, entry_line, end_line, Why, Verdict, Rejected, reasons, possible_entries, entry_of, entries_on, line_fault, IsClean, faults, Reason, Final, Act, decimal_by_steps, decimal_injective, decimal_nonempty}
 use Rattle.roman_model.proofs.Lists.{by_test, none_from, in_map, from_map, in_flat_map, from_flat_map, from_push, in_below, from_below, find_some, find_found, find_not_found, any_from}
 use Rattle.roman_model.proofs.SystemLemmas.{same_numbers_is, same_numbers_itself}
 
