@@ -39,10 +39,7 @@ module _ {X : Type 0} (step : ℕ → List X → Data → Result (List X) Refusa
 listed_grow : {X : Type 0} (at : PartAt) (read : ReadAfter X) (env : NamedEnv) (Keeps : List X → Type 0) (keeps : (before : List X) (d : Data) (x : X) → read env before d ≡ Ok x → Keeps before → Keeps (before ++ x ∷ []))
     (texts : Texts) (document : List ℕ) (i : ℕ) (before : List X) (d : Data) (more : List X) → listed_step at read texts document env i before d ≡ Ok more → Keeps before → Grown Keeps more (length before + 1)
 unfolding listed_step listed_in
-listed_grow at read env Keeps keeps texts document i before d more h are =
-    let (x, e, h1) = bind_ok (listed_in at read texts document env before i d) _ more h in
-    let (p, e1, h2) = bind_ok (part_of texts document (at i) d) _ x e in
-    subst (λ (xs : List _). Grown Keeps xs (length before + 1)) (same_ok _ more h1) (record { known = keeps before p.1 x (placed_is p.0 (at i) (read env before p.1) x h2) are; count = length-append before (x ∷ []) })
+listed_grow at read env Keeps keeps texts document i before d more h are = grind (arith, bind_ok, placed_is, same_ok, length-append, keeps before)
 
 behaviours_grow : (env : NamedEnv) (before : List NamedBeh) (d : Data) (b : NamedBeh) → new_behaviour_of env before d ≡ Ok b → IsCatalogue env before → IsCatalogue env (before ++ b ∷ [])
 unfolding new_behaviour_of
@@ -106,12 +103,7 @@ service_known version env catalogue before d x are h old =
 services_grow : (document : List ℕ) (version : ℕ) (env : NamedEnv) (catalogue : List NamedBeh) → IsCatalogue env catalogue → (i : ℕ) (before : List Service) (d : Data) (more : List Service) →
     service_step document version catalogue i before d ≡ Ok more → AreServices catalogue before → Grown (AreServices catalogue) more (length before + 1)
 unfolding service_step
-services_grow document version env catalogue behaviours i before d more h are =
-    let (x, e, h1) = bind_ok (placed document (part.Service i) (service_of version catalogue before d)) _ more h in
-    subst (λ (xs : List Service). Grown (AreServices catalogue) xs (length before + 1)) (same_ok _ more h1) (record {
-      known = service_known version env catalogue before d x behaviours (placed_is document (part.Service i) (service_of version catalogue before d) x e) are;
-      count = length-append before (x ∷ []);
-    })
+services_grow document version env catalogue behaviours i before d more h are = grind (arith, bind_ok, placed_is, same_ok, length-append, service_known version env catalogue before d)
 
 no_services : (catalogue : List NamedBeh) → AreServices catalogue []
 no_services catalogue = record { known = λ d i l. absurd (omega (arith, l)); names = tt }

@@ -1,5 +1,5 @@
 -- Properties of the parts of a library.
-use Rattle.roman_library.proofs.Common.{Bool, Err, IfOk, List, None, Ok, Result, [], ap, arith, cond, map, not, refl, subst, sym, ℕ, ◌++◌, ◌+◌, ◌∙◌, ◌∷◌, ◌≡◌, length-map, map_push, All-push, position, prefix_len, bytes_eq, HasNoRepeats-push, HasNoRepeats, behaviour_known, none_absent, IsBehaviour, NamedBeh, NamedEnv, behaviour_of, name_of, Gives, PartError, same_ok, place_of, Data, AreServices, IsCatalogue, IsService, behaviour_name, service_name, Service}
+use Rattle.roman_library.proofs.Common.{Bool, Err, IfOk, List, None, Ok, Result, [], ap, arith, cond, map, not, refl, subst, sym, ℕ, ◌++◌, ◌+◌, ◌∙◌, ◌∷◌, ◌≡◌, length-map, map_push, IsOver-states, behaviour_known, none_absent, All-push, position, prefix_len, bytes_eq, HasNoRepeats-push, HasNoRepeats, IsBehaviour, NamedBeh, NamedEnv, behaviour_of, name_of, Gives, PartError, same_ok, place_of, Data, AreServices, IsCatalogue, IsService, behaviour_name, service_name, Service}
 
 -- Lists of named items
 
@@ -38,3 +38,6 @@ AreServices-push catalogue before after s old known new is = rw is (record {
   known = All-push (IsService catalogue) before s old.known known;
   names = new_name service_name before s old.names new;
 })
+
+-- the rules for the states of a behaviour
+pub ruleset states = (IsOver-states)

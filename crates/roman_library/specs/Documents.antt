@@ -29,7 +29,7 @@ use Rattle.roman_library.specs.declared.refusal.Part.{Part}
 use Rattle.roman_library.specs.declared.refusal.Part.TheVariants as part
 use Rattle.roman_library.specs.declared.refusal.Refusal.{Refusal}
 
--- the value read from a member, or the default if the member is missing
+-- the value read from a member, or the default if the member is missing or the value isn't an object
 abbrev pub optional : {X : Type 0} → (Data → Result X PartError) → X → Result Data Miss → Result X PartError
 optional read absent (Ok member) = read member
 optional read absent (Err miss) = Ok absent

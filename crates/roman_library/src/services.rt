@@ -76,7 +76,7 @@ fn read_behaviour_place(v: &Value, catalogue: &[Behaviour]) -> Result<u8, PartEr
     }
 }
 
-#[tactic(auto, unfolding(crate::specs::Documents::state_of))]
+#[tactic(auto, using(crate::proofs::LibraryLemmas::states), unfolding(crate::specs::Documents::state_of))]
 /// Reads the state of a service, or returns the start state of its behaviour if none is named.
 fn read_state(v: &Value, behaviour: &Behaviour) -> Result<u8, PartError>
     ensures state { Gives (λ x. x) result (state_of behaviour.now (view v.now)) }
