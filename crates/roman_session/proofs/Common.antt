@@ -60,7 +60,7 @@ pub use Rattle.roman_session.specs.Layout.{IsSession, situation_in}
 pub use Rattle.roman_session.specs.Reports.{offer_line, offers_and_end, report_head, service_lines, services_and_answer, services_from}
 unfoldable pub use Rattle.roman_session.specs.Reports.{lines_text, report_text}
 pub use Rattle.roman_session.specs.Rulings.{delegation, demand, named, offered_action, seat_at, service_named, state_named, with_room}
-unfoldable pub use Rattle.roman_session.specs.Rulings.{asked, died, env_jumped, frozen, handed, joining, jumped, seen, thawed, unexplained}
+unfoldable pub use Rattle.roman_session.specs.Rulings.{asked, died, env_jumped, frozen, handed, joining, jumped, seen, thawed}
 pub use Rattle.roman_session.specs.Serving.{seats_set, served, served_line}
 unfoldable pub use Rattle.roman_session.specs.Serving.{served_text}
 pub use Rattle.roman_session.specs.Situations.{IsOpen, IsPhase, IsSituation, Situation, is_idle, present_system}

@@ -1,11 +1,29 @@
 -- What the fields of a session and the calls of its parts say of the situation.
-use Rattle.roman_session.proofs.Common.{◌≡◌, ℕ, ◌<◌, Bool, List, [], Option, Some, IfSome, IsTrue, IsFalse, map, length, slice_get, slice_set, slice_index, sym, ap, ◌∙◌, subst, arith, get_or_from_slice_get, length-map, both_ways, Sys, Pair, IsPair, is_ready, sizes_of, pair_at, IsIn, is_related, offers, Great, related_great, great_related, offer_is, there_is, moved, NamedBeh, NamedSys, Seat, IsSeatBehaviour, seat_name, names_in, states_long, Situation, present_system, IsPhase, IsSituation, service_at, situation_in, IsSession, Phase, Idle, Offered, Delegated, Inside, ◌↔◌, slice_index_or, option_map, slice_get-map, get_or-set_same, outcomes, seat_names, not_empty_in, ne_not_empty, by_test, outcome_seat, states_set, states_below, AreBelow-index, IsOpen}
+use Rattle.roman_session.proofs.Common.{◌≤◌, Vec, Global, vec_capacity, ◌≡◌, ℕ, ◌<◌, Bool, List, [], Option, Some, IfSome, IsTrue, IsFalse, map, length, slice_get, slice_set, slice_index, sym, ap, ◌∙◌, subst, arith, ◌↔◌, slice_index_or, MAX_SERVICES, number, sizes_of, pair_at, has, Sys, Pair, IsPair, HasBits, get_or_from_slice_get, slice_get-map, length-map, get_or-set_same, both_ways, is_ready, outcomes, IsIn, is_related, offers, Great, related_great, great_related, offer_is, there_is, not_empty_in, ne_not_empty, by_test, outcome_seat, states_set, states_below, AreBelow-index, moved, NamedBeh, NamedSys, Seat, IsSeatBehaviour, seat_name, names_in, states_long, Situation, present_system, IsPhase, IsSituation, IsOpen, service_at, situation_in, IsSession, Phase, Idle, Offered, Delegated, Inside, option_map, seat_names}
 use Rattle.roman_model.specs.System.{Seat as Seat'}
 use Rattle.roman_joint.specs.NamedSys as joint
 
 -- the situation in the fields is well formed
 pub situation_known : (a : Inside) (s : Situation) → IsSession a → situation_in a ≡ s → IsSituation s
 situation_known a s ok view = subst IsSituation view ok.known
+
+-- the fields at another pair or in another phase
+abbrev pub fields_at : Inside → ℕ → ℕ → Vec ℕ Global → ℕ → Phase → ℕ → Inside
+fields_at a t e states n phase mask = record { relation = a.relation; target = t; env = e; states = states; number = n; phase = phase; mask = mask }
+
+-- they hold a session too
+pub session_at : (a : Inside) (t e : ℕ) (states : Vec ℕ Global) (n : ℕ) (phase : Phase) (mask : ℕ) → IsSession a → MAX_SERVICES ≤ vec_capacity states →
+    let s = situation_in (fields_at a t e states n phase mask) in
+    IsPair (present_system s) s.here → n ≡ number (sizes_of (present_system s)) s.here → IsPhase s phase →
+    ((action : ℕ) → phase ≡ Offered action → HasBits mask (has (offers (present_system s) s.here action))) → IsSession (fields_at a t e states n phase mask)
+session_at a t e states n phase mask ok room pair counted opens offered = record {
+  relation = ok.relation;
+  known = record { parts = ok.known.parts; here = pair; list = ok.known.list; phase = opens };
+  few = ok.few;
+  room = room;
+  numbered = counted;
+  offered = offered;
+}
 
 -- the situation's parts are the joint's
 pub parts_shown : (a : Inside) (s : Situation) → situation_in a ≡ s → a.relation.joint ≡ s.parts

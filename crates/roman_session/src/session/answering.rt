@@ -122,6 +122,7 @@ impl Session {
 
     /// Answers `explain`. Pushes a refusal on the page. Writes an explanation to the sink, after the
     /// bytes that the page held.
+    #[tactic(auto, using(crate::proofs::AnswerLemmas::done), unfolding(crate::specs::Rulings::unexplained))]
     fn answer_question<O: Sink, L: Ledger>(
         &mut self,
         page: &mut Page,

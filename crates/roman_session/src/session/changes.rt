@@ -92,6 +92,7 @@ impl Session {
 
     /// Answers `join S B STATE` or `join S B STATE loose`, and pushes the reply on a page. A refusal
     /// changes nothing.
+    #[tactic(auto, using(crate::proofs::AnswerLemmas::done, crate::proofs::RulingLemmas::joining_idle))]
     pub(super) fn answer_join<O: Sink, L: Ledger>(
         &mut self,
         service: &[u8],

@@ -30,6 +30,7 @@ impl Session {
     }
 
     /// Answers `jumpenv E`, and pushes the reply on a page. A refusal changes nothing.
+    #[tactic(auto, using(crate::proofs::AnswerLemmas::done, crate::proofs::RulingLemmas::env_jumped_is))]
     pub(super) fn answer_jump_env<O: Sink>(
         &mut self,
         env: &[u8],

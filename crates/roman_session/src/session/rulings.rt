@@ -51,7 +51,7 @@ impl Session {
 
     /// Returns the delegation and the states that `saw` names, or its first refusal. Doesn't check
     /// whether the outcome is possible.
-    #[tactic(auto, unfolding(crate::specs::Rulings::seen))]
+    #[tactic(auto, using(crate::proofs::SituationLemmas::offered_within), unfolding(crate::specs::Rulings::seen))]
     pub(super) fn seen(&self, state: &[u8], env: &[u8]) -> Result<Sight, Reply>
         ensures seen { result ≡ seen self.now state.now env.now }
         ensures phase { IfOk result (λ x. IsPhase self.now (Phase.Delegated x.action x.seat)) }

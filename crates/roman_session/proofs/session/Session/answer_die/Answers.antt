@@ -18,7 +18,9 @@ invariant_of-self g c =
     let ruled = c.in-Ok.ensures in
     let made = c.die-tally.ensures in
     let rest = c.remove-state in
-    (died_now _ _ _ rest.new.self _ _ _ _ _ _ c.self.invariant c.self.view_is ruled.died ruled.within made.joint made.repaired c.known.ensures rest.ensures.items c.deref.ensures.value c.number_of-self-inside.ensures rest.ensures.capacity c.kept.ensures).session
+    let died =
+    died_now _ _ _ rest.new.self _ _ _ _ _ _ c.self.invariant c.self.view_is ruled.died ruled.within made.joint made.repaired c.known.ensures rest.ensures.items c.deref.ensures.value c.number_of-self-inside.ensures rest.ensures.capacity c.kept.ensures in
+    died.session
 
 pub returns-clause-step : goal.returns-clause-step
 returns-clause-step g c =

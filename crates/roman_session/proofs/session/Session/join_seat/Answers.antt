@@ -16,8 +16,11 @@ invariant_of-self g c =
     let x = c.args.joining in
     let idle = ap (λ (s : Situation). s.phase) c.self.view_is ∙ c.requires.idle in
     let can = subst (λ (n : NamedSys). CanJoin n x) (sym (parts_shown a c.args.self.now c.self.view_is)) c.requires.can in
-    let room : vec_capacity a.states ≤ vec_capacity c.push_reserved.new.self = omega (arith, c.push_reserved.ensures.capacity) in
-    (joined_now a c.join.new.relation c.push_reserved.new.self c.deref.result.now c.number_of-self-inside.result x c.in-Ok.tally c.self.invariant idle can c.in-Ok.ensures.joint c.in-Ok.ensures.repaired c.known.ensures c.push_reserved.ensures.items c.deref.ensures.value c.number_of-self-inside.ensures room).session
+    let made = c.in-Ok.ensures in
+    let pushed = c.push_reserved in
+    let start = c.number_of-self-inside in
+    let room : vec_capacity a.states ≤ vec_capacity pushed.new.self = omega (arith, pushed.ensures.capacity) in
+    (joined_now a c.join.new.relation pushed.new.self c.deref.result.now start.result x c.in-Ok.tally c.self.invariant idle can made.joint made.repaired c.known.ensures pushed.ensures.items c.deref.ensures.value start.ensures room).session
 
 pub returns-in-Ok : goal.returns-in-Ok
 returns-in-Ok g c =
@@ -26,12 +29,14 @@ returns-in-Ok g c =
     let x = c.args.joining in
     let idle = ap (λ (s : Situation). s.phase) c.self.view_is ∙ c.requires.idle in
     let can = subst (λ (n : NamedSys). CanJoin n x) (sym (parts_shown a s c.self.view_is)) c.requires.can in
-    let room : vec_capacity a.states ≤ vec_capacity c.push_reserved.new.self = omega (arith, c.push_reserved.ensures.capacity) in
-    let done =
-    joined_now a c.join.new.relation c.push_reserved.new.self c.deref.result.now c.number_of-self-inside.result x c.in-Ok.tally c.self.invariant idle can c.in-Ok.ensures.joint c.in-Ok.ensures.repaired c.known.ensures c.push_reserved.ensures.items c.deref.ensures.value c.number_of-self-inside.ensures room in
-    let few = has_place a c.self.invariant (λ full. absurd (cc (c.in-Ok.ensures.full.1 full))) in
-    let fits = is_within (cells_with (situation_in a) x) a.relation.joint.limit (λ past. absurd (cc (c.in-Ok.ensures.limit.1 (few, past)))) in
-    joins_by a (moved_fields a c.join.new.relation c.push_reserved.new.self c.number_of-self-inside.result) s x c.in-Ok.tally c.kept.result c.self.view_is few fits c.kept.ensures done
+    let made = c.in-Ok.ensures in
+    let pushed = c.push_reserved in
+    let start = c.number_of-self-inside in
+    let room : vec_capacity a.states ≤ vec_capacity pushed.new.self = omega (arith, pushed.ensures.capacity) in
+    let done = joined_now a c.join.new.relation pushed.new.self c.deref.result.now start.result x c.in-Ok.tally c.self.invariant idle can made.joint made.repaired c.known.ensures pushed.ensures.items c.deref.ensures.value start.ensures room in
+    let few = has_place a c.self.invariant (λ full. absurd (cc (made.full.1 full))) in
+    let fits = is_within (cells_with (situation_in a) x) a.relation.joint.limit (λ past. absurd (cc (made.limit.1 (few, past)))) in
+    joins_by a (moved_fields a c.join.new.relation pushed.new.self start.result) s x c.in-Ok.tally c.kept.result c.self.view_is few fits c.kept.ensures done
 
 pub returns-in-Err-Limit : goal.returns-in-Err-Limit
 returns-in-Err-Limit g c =

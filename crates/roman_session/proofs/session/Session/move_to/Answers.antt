@@ -1,5 +1,5 @@
-use Rattle.roman_session.proofs.Common.{◌≡◌, ◌<◌, length, slice_index, sym, ap, ◌∙◌, subst, arith, length-map, Pair, IsPair, Sizes, sizes_of, number, pair_at, moved, NamedSys, system_of, seat_of, Situation, present_system, situation_in}
-use Rattle.roman_session.proofs.SituationLemmas.{situation_known, parts_shown, moved_within, state_there}
+use Rattle.roman_session.proofs.Common.{◌≡◌, ◌<◌, length, slice_index, sym, ap, ◌∙◌, subst, arith, length-map, Pair, IsPair, Sizes, sizes_of, number, pair_at, moved, NamedSys, system_of, seat_of, Situation, present_system, situation_in, Idle}
+use Rattle.roman_session.proofs.SituationLemmas.{situation_known, session_at, parts_shown, moved_within, state_there}
 use Rattle.roman_session.proofs.session.Session.move_to.Goals as goal
 
 pub moved-self-inside-requires-clause-state : goal.moved-self-inside-requires-clause-state
@@ -18,21 +18,11 @@ index_mut-requires c =
 
 pub invariant_of-self : goal.invariant_of-self
 invariant_of-self c =
-    let a = c.self.inside in
-    let s = situation_in a in
-    let known = c.self.invariant.known in
+    let s = situation_in c.self.inside in
+    let ok = c.self.invariant in
     let at = subst (λ (s : Situation). pair_at (sizes_of (present_system s)) c.here.result ≡ s.here) (sym c.self.view_is) c.here.ensures.pair in
-    record {
-      relation = c.self.invariant.relation;
-      known = record {
-        parts = known.parts;
-        here = subst (λ (s : Situation). IsPair (present_system s) (moved s.here c.args.t c.args.e c.args.k c.args.b)) (sym c.self.view_is) c.requires.pair;
-        list = known.list;
-        phase = tt;
-      };
-      few = c.self.invariant.few;
-      room = c.self.invariant.room;
-      numbered = c.moved-self-inside.ensures.number ∙ ap (λ (m : Sizes). number m (moved (pair_at m c.here.result) c.args.t c.args.e c.args.k c.args.b)) c.shape.ensures
-          ∙ ap (λ (p : Pair). number (sizes_of (present_system s)) (moved p c.args.t c.args.e c.args.k c.args.b)) at;
-      offered = λ action is. cc;
-    }
+    let pair = subst (λ (s : Situation). IsPair (present_system s) (moved s.here c.args.t c.args.e c.args.k c.args.b)) (sym c.self.view_is) c.requires.pair in
+    let numbered =
+    c.moved-self-inside.ensures.number ∙ ap (λ (m : Sizes). number m (moved (pair_at m c.here.result) c.args.t c.args.e c.args.k c.args.b)) c.shape.ensures
+    ∙ ap (λ (p : Pair). number (sizes_of (present_system s)) (moved p c.args.t c.args.e c.args.k c.args.b)) at in
+    session_at c.self.inside _ _ _ _ Idle _ ok ok.room pair numbered tt (λ action is. cc)
