@@ -1,5 +1,5 @@
 -- Known answers of a row stay right, and counts of the numbers below a bound.
-use Rattle.roman_rules.proofs.Common.{◌≡◌, ℕ, ◌+◌, ◌<◌, Bool, true, false, cond, [], ◌∷◌, count_by, IsTrue, IsFalse, refl, ◌∙◌, arith, cond-true, below, Arena, justified_more, unallowed_unjustified, on_zero, on_full, shr_and_one, bit_of, HoldsWhereKept, readings_of, Asked}
+use Rattle.roman_rules.proofs.Common.{◌≡◌, ◌≢◌, ℕ, ◌+◌, ◌*◌, ◌%◌, ◌^◌, ◌<◌, bit_at, bit_or, w32, bit_at_set_same, bit_at_set_other, Bool, true, false, cond, [], ◌∷◌, count_by, IsTrue, IsFalse, refl, ◌∙◌, arith, cond-true, below, Arena, justified_more, unallowed_unjustified, on_zero, on_full, shr_and_one, bit_of, HoldsWhereKept, readings_of, Asked}
 use Rattle.roman_rules.proofs.Serving.{sum_below_more}
 
 -- known answers stay right after more pairs are gone
@@ -7,6 +7,12 @@ pub known_more : (A : Arena ℕ) (lanes : ℕ) (gone more : ℕ → Bool) (asked
 known_more A lanes gone more asked h known = grind (arith, justified_more)
 
 -- Bits of a set.
+
+pub added_same : (bits k : ℕ) → k < 32 → bit_at (bit_or bits (1 * 2 ^ k % 2 ^ 32)) k ≡ 1
+added_same = bit_at_set_same w32
+
+pub added_other : (bits k : ℕ) → k < 32 → (j : ℕ) → j ≢ k → bit_at (bit_or bits (1 * 2 ^ k % 2 ^ 32)) j ≡ bit_at bits j
+added_other = bit_at_set_other w32
 
 pub bit_off : (test : Bool) → bit_of test ≡ 0 → IsFalse test
 bit_off true off = absurd (omega arith)

@@ -1,5 +1,5 @@
 -- What the proof pages of this crate cite from elsewhere, passed on from one place. Declares nothing.
-pub use Rattle.std.proofs.Common.{Bool, IsFalse, IsTrue, [], ap, arith, cond, count_by, count_ones, false, inl, inr, length, not, refl, rules, slice_index, subst, suc, sum_by, sym, true, zero, ℕ, ◌%◌, ◌*◌, ◌+◌, ◌-◌, ◌<◌, ◌^◌, ◌∙◌, ◌∷◌, ◌≡◌, ◌≤◌}
+pub use Rattle.std.proofs.Common.{Bool, IsFalse, IsTrue, [], ap, arith, bit_or, cond, count_by, count_ones, false, inl, inr, length, not, refl, rules, slice_index, subst, suc, sum_by, sym, true, zero, ℕ, ◌%◌, ◌*◌, ◌+◌, ◌-◌, ◌<◌, ◌^◌, ◌∙◌, ◌∷◌, ◌≡◌, ◌≢◌, ◌≤◌}
 pub use Rattle.std.proofs.Math.Nat.{add-suc, add-zero}
 pub use Rattle.std.proofs.Math.Pow.{pow_pos}
 pub use Rattle.std.proofs.lemmas.Bool.{both_ways, cases_eq, cases_lt, cond-false, cond-true, eq-eqb, eqb-true, ne_eqb, not_from_true}

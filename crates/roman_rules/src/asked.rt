@@ -1,5 +1,5 @@
 //! Reasons of a list's entries, asked row by row.
-ghost use Rattle.std.specs.Prelude.{◌≡◌, ℕ, ◌+◌, ◌*◌, ◌/◌, ◌%◌, ◌<◌, ◌≤◌, ◌==◌, Bool, true, not, length, count_by, IsTrue, MatchOption};
+ghost use Rattle.std.specs.Prelude.{◌≡◌, ℕ, ◌+◌, ◌*◌, ◌<◌, Bool, true, not, length, count_by, IsTrue};
 ghost use Rattle.roman_model.specs.Lists.{below};
 ghost use Rattle.roman_model.specs.Arena.{Arena, is_justified};
 ghost use Rattle.roman_lanes.specs.Rows.{is_on, AreRows};
@@ -24,15 +24,6 @@ pub struct Asked {
     pub reason: Reason,
     /// The lanes of the pairs at which the reason is known to hold, one bit each.
     pub lanes: u64,
-}
-
-/// Returns whether the bit of a lane is set.
-#[tactic(auto, using(std::proofs::lemmas::Nat::Bits::shr_and_one), unfolding(roman_lanes::specs::Rows::is_on))]
-fn has_lane(word: u64, lane: u32) -> bool
-    requires { lane < 64 }
-    ensures { result ≡ is_on word lane }
-{
-    (word >> lane) & 1 == 1
 }
 
 /// Counts a step for each ready seat.
@@ -75,32 +66,6 @@ fn ask_seats<J: Rules, L: Ledger>(
     joint.unserved(row, words, a, u64::MAX >> (64 - joint.lanes()))
 }
 
-/// Returns the pairs of the row `x` at which the reason holds.
-fn ask_row<J: Rules, L: Ledger>(
-    joint: &J,
-    words: &[u64],
-    x: u32,
-    reason: Reason,
-    steps: &mut Steps<L>,
-) -> u64
-    requires row { x * J.lanes joint.now < length (J.arena joint.now).nodes }
-    requires reason { IsReasonOf (J.arena joint.now) reason }
-    requires room { length words.now * J.lanes joint.now ≡ length (J.arena joint.now).nodes }
-    ensures holds { let A = J.arena joint.now in let lanes = J.lanes joint.now in
-        (gone : ℕ → Bool) → AreRows lanes (λ q. not (gone q)) words.now →
-        (lane : ℕ) → lane < lanes →
-        is_on result lane ≡ is_justified A gone (x * lanes + lane) reason }
-    ensures cost { let A = J.arena joint.now in let lanes = J.lanes joint.now in
-        (lane : ℕ) → lane < lanes →
-        steps.new ≡ steps.old + readings_of_reason A (x * lanes + lane) reason }
-{
-    let row = joint.row(x);
-    match reason {
-        Reason::Final => joint.unfine(&row),
-        Reason::Act(a) => ask_seats(joint, &row, words, a, steps),
-    }
-}
-
 impl Asked {
     /// Returns an `Asked` for which nothing is known.
     #[tactic(auto, using(std::proofs::lemmas::Bool::both_ways, roman_lanes::proofs::CallerLemmas::on_zero))]
@@ -112,18 +77,6 @@ impl Asked {
             reason: Reason::Final,
             lanes: 0,
         }
-    }
-
-    /// Returns the lane of the pair `p`, or `None` where it lies in another row.
-    fn lane_of(&self, p: u32, lanes: u32) -> Option<u32>
-        ensures { MatchOption result (Unit {0}) (λ lane. (lane < lanes) × (p ≡ self.now.row * lanes + lane)) }
-    {
-        let first = u64::from(self.row) * u64::from(lanes);
-        let p = u64::from(p);
-        if p < first || p - first >= u64::from(lanes) {
-            return None;
-        }
-        Some((p - first) as u32)
     }
 
     /// Returns the lanes of the row `x` at which the reason is known to hold. Returns no lane where
@@ -168,81 +121,16 @@ impl Asked {
             (lane : ℕ) → lane < lanes →
             steps.new ≡ steps.old + readings_of_reason A (x * lanes + lane) reason }
     {
-        let lanes = ask_row(joint, words, x, reason, steps);
+        let row = joint.row(x);
+        let lanes = match reason {
+            Reason::Final => joint.unfine(&row),
+            Reason::Act(a) => ask_seats(joint, &row, words, a, steps),
+        };
         *self = Asked {
             row: x,
             reason,
             lanes,
         };
         lanes
-    }
-
-    /// Asks the row `x` about a reason, and returns whether it holds at the given lane.
-    fn ask_at<J: Rules, L: Ledger>(
-        &mut self,
-        joint: &J,
-        words: &[u64],
-        x: u32,
-        lane: u32,
-        reason: Reason,
-        steps: &mut Steps<L>,
-    ) -> bool
-        requires row { x * J.lanes joint.now < length (J.arena joint.now).nodes }
-        requires lane { lane < J.lanes joint.now }
-        requires reason { IsReasonOf (J.arena joint.now) reason }
-        requires room { length words.now * J.lanes joint.now ≡ length (J.arena joint.now).nodes }
-        ensures justified { let A = J.arena joint.now in let lanes = J.lanes joint.now in
-            (gone : ℕ → Bool) → AreRows lanes (λ q. not (gone q)) words.now →
-            result ≡ is_justified A gone (x * lanes + lane) reason }
-        ensures known { let A = J.arena joint.now in let lanes = J.lanes joint.now in
-            (gone : ℕ → Bool) → AreRows lanes (λ q. not (gone q)) words.now →
-            HoldsWhereKept A lanes gone self.new }
-        ensures row { self.new.row ≡ x }
-        ensures cost { let A = J.arena joint.now in let lanes = J.lanes joint.now in
-            steps.new ≡ steps.old + readings_of_reason A (x * lanes + lane) reason }
-    {
-        joint.known(); // a row has 1 to 64 lanes
-        let lanes = self.ask(joint, words, x, reason, steps);
-        has_lane(lanes, lane)
-    }
-
-    /// Returns whether a reason holds at the pair `p`. `words` has, row by row, the bits of the pairs
-    /// that aren't gone. Requires that the reason's action, if any, is an action of the system. The
-    /// answer is right if each pair that was gone when the row was asked is still gone.
-    ///
-    /// Asks nothing where the answer is known: where the last question was about the pair's row and
-    /// the same reason, and the reason held at the pair. Afterwards, `row` is the row of the pair.
-    ///
-    /// Counts a step for each ready seat where the row is asked about an action that is allowed there,
-    /// and otherwise none.
-    pub fn holds<J: Rules, L: Ledger>(
-        &mut self,
-        joint: &J,
-        words: &[u64],
-        p: u32,
-        reason: Reason,
-        steps: &mut Steps<L>,
-    ) -> bool
-        requires pair { p < length (J.arena joint.now).nodes }
-        requires reason { IsReasonOf (J.arena joint.now) reason }
-        requires room { length words.now * J.lanes joint.now ≡ length (J.arena joint.now).nodes }
-        ensures justified { let A = J.arena joint.now in let lanes = J.lanes joint.now in
-            (gone : ℕ → Bool) → AreRows lanes (λ q. not (gone q)) words.now →
-            HoldsWhereKept A lanes gone self.old → result ≡ is_justified A gone p reason }
-        ensures known { let A = J.arena joint.now in let lanes = J.lanes joint.now in
-            (gone : ℕ → Bool) → AreRows lanes (λ q. not (gone q)) words.now →
-            HoldsWhereKept A lanes gone self.old → HoldsWhereKept A lanes gone self.new }
-        ensures row { let first = self.new.row * J.lanes joint.now in (first ≤ p) × (p < first + J.lanes joint.now) }
-        ensures cost { let A = J.arena joint.now in
-            steps.new ≤ steps.old + readings_of_reason A p reason }
-    {
-        let lanes = joint.lanes();
-        let Some(lane) = self.lane_of(p, lanes) else {
-            return self.ask_at(joint, words, p / lanes, p % lanes, reason, steps);
-        };
-        if self.reason == reason && has_lane(self.lanes, lane) {
-            return true;
-        }
-        self.ask_at(joint, words, self.row, lane, reason, steps)
     }
 }

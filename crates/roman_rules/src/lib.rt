@@ -9,15 +9,13 @@
 #![tactic(auto)]
 
 mod asked;
-mod bits;
 mod finding;
 mod rules;
 mod seat_set;
 mod words;
 
 pub use asked::Asked;
-pub use bits::with_bit;
 pub use finding::Finding;
 pub use rules::Rules;
-pub use seat_set::SeatSet;
+pub use seat_set::{SeatSet, with_bit};
 pub use words::{are_clear, copy_rows};

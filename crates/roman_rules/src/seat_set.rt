@@ -1,10 +1,19 @@
-//! Sets of seats in one word.
+//! Sets of seats, and of other small numbers, in one word.
 ghost use Rattle.std.specs.Prelude.{◌≡◌, ◌≢◌, ℕ, ◌<◌, ◌==◌, if◌then◌else◌};
 ghost use Rattle.std.specs.Int.{bit_at};
 ghost use Rattle.roman_rules.specs.Bits.{has_seat};
 
-use crate::bits::with_bit;
 use std::marker::Model;
+
+/// Returns the set `bits` of numbers below 32, with `k` added if `is_in` is true.
+#[tactic(auto, using(crate::proofs::Asking::added_same, crate::proofs::Asking::added_other))]
+pub fn with_bit(bits: u32, k: u8, is_in: bool) -> u32
+    requires { k < 32 }
+    ensures own { bit_at result k ≡ (if is_in then 1 else bit_at bits k) }
+    ensures others { (j : ℕ) → j ≢ k → bit_at result j ≡ bit_at bits j }
+{
+    if is_in { bits | 1 << k } else { bits }
+}
 
 /// A set of seats, each below 32. It is `Copy`. Contracts see the word whose bit `k` is 1 exactly
 /// where seat `k` is in the set.
