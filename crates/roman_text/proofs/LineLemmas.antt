@@ -1,5 +1,5 @@
 -- The lines of a text that grows.
-use Rattle.roman_text.proofs.Common.{◌≡◌, ℕ, suc, ◌+◌, ◌≤◌, List, [], ◌∷◌, ◌++◌, length, take, drop, get_or, Bool, true, false, not, cond, None, Some, refl, sym, ap, ap₂, ◌∙◌, subst, append_assoc, drop-cons, arith, ◌≢◌, zero, ◌==◌, min, ◌||◌, inl, inr, ltb-true, eqb-true, ltb, append-nil, take_all, length-take, append_cancel_left, take-append-drop, take_min, passes_at_first, position, position_or_len, is_newline, kept, unfinished, IsSplit, both_ways, or_from, list_any-append, has, lines, ended_lines, onto_ended_line, text_of_lines, IsLine, from_push, ended_lines-text, ended_lines_last, lines-text, lines_last, text_of_lines-push}
+use Rattle.roman_text.proofs.Common.{◌≡◌, ℕ, suc, ◌+◌, ◌≤◌, List, [], ◌∷◌, ◌++◌, length, take, drop, get_or, Bool, true, false, cond, None, Some, refl, sym, ap, ap₂, ◌∙◌, subst, append_assoc, drop-cons, arith, ◌≢◌, zero, ◌==◌, min, ◌||◌, inl, inr, ltb-true, eqb-true, ltb, append-nil, take_all, length-take, append_cancel_left, take-append-drop, take_min, passes_at_first, position, position_or_len, is_newline, kept, unfinished, IsSplit, both_ways, or_from, list_any-append, by_test, from_push, ended_lines-text, ended_lines_last, lines-text, lines_last, text_of_lines-push, has, lines, ended_lines, onto_ended_line, text_of_lines, IsLine}
 use Rattle.roman_text.proofs.WordLemmas.{none_at, some_at}
 
 -- ---- lines
@@ -81,14 +81,10 @@ unfinished-nil = refl
 
 -- ---- the first newline
 
-until_step : (b : Bool) (x : ℕ) (xs : List ℕ) (n : ℕ) → is_newline x ≡ b → IsLine (take n xs) → IsLine (take (cond (not b) (1 + n) 0) (x ∷ xs))
-until_step true x xs n e h = refl
-until_step false x xs n e h = let next : 1 + n ≡ suc n = omega arith in rw next (or_from (x == 10) (has (take n xs) 10) e h)
-
 -- the bytes before the first newline have none
 line_until : (bytes : List ℕ) → IsLine (take (position_or_len is_newline bytes) bytes)
 line_until [] = refl
-line_until (x ∷ xs) = until_step (is_newline x) x xs (position_or_len is_newline xs) refl (line_until xs)
+line_until (x ∷ xs) = (let next : 1 + position_or_len is_newline xs ≡ suc (position_or_len is_newline xs) = omega arith in by_test (is_newline x) (λ t. rw t refl) (λ f. rw (f, next) (or_from (x == 10) (has (take (position_or_len is_newline xs) xs) 10) f (line_until xs))))
 
 -- without a first newline there is none
 pub no_newline : (bytes : List ℕ) → position is_newline bytes ≡ None → IsLine bytes

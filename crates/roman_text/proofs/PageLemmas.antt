@@ -39,6 +39,11 @@ Puts-after_Gathered old mid new held text result g p = rw g.rest (Puts-after old
 pub Gathered-put : (old new : Option (List ℕ)) (bytes : List ℕ) → Wrote old new bytes → Gathered old new [] bytes
 Gathered-put old new bytes wrote = record { prefix = bytes; wrote = wrote; rest = sym (append-nil bytes) }
 
+-- the same on an empty page, whatever the result
+pub Gathers-put : {T E : Type 0} (old new : Option (List ℕ)) (held bytes : List ℕ) (result : Result T E) → held ≡ [] → Puts old new bytes result → Gathers old new held bytes result
+Gathers-put old new held bytes (Ok x) empty wrote = rw empty (Gathered-put old new bytes wrote)
+Gathers-put old new held bytes (Err e) empty wrote = (wrote, empty)
+
 -- bytes on a page after its held bytes were written
 pub Gathers-flushed : {T E : Type 0} (old mid new : Option (List ℕ)) (held after more : List ℕ) (result : Result T E)
     → Wrote old mid held → Gathers mid new after more result → Gathers old new after (held ++ more) result
@@ -59,7 +64,7 @@ pub Gathers-second : {T E : Type 0} (old mid new : Option (List ℕ)) (start hel
 Gathers-second old mid new start held after first second result g h = rw (← append_assoc start first second) (Gathers-after old mid new held after (start ++ first) second result g h)
 
 -- several texts on a page, whatever the results
-pub ruleset in_pieces = (gathers_failed, gathers_failed_first, Gathers-second, Gathers-flushed, Puts-after_Gathered, err_from_is_err_and)
+pub ruleset in_pieces = (gathers_failed, gathers_failed_first, Gathers-put, Gathers-second, Gathers-flushed, Puts-after_Gathered, err_from_is_err_and)
 
 -- the number of digits
 pub ruleset digit_counts = (length_one, length_two, length_pair, length_four)

@@ -1,39 +1,22 @@
 -- The words of a line, from its first word on.
-use Rattle.roman_text.proofs.Common.{◌≡◌, ℕ, suc, ◌+◌, ◌<◌, ◌≤◌, List, [], ◌∷◌, length, take, drop, get_or, Bool, true, false, not, cond, None, Some, refl, sym, ap, ◌∙◌, arith, drop-cons, filter, unwrap_or, ltb-true, ltb-false, not-true, passes_at_first, ltb, position, position_or_len, slice_split, words_of, is_blank, is_part, has_bytes, drop_all, slice_split-cons_yes, slice_split-cons_no}
+use Rattle.roman_text.proofs.Common.{◌≡◌, ℕ, suc, ◌+◌, ◌<◌, ◌≤◌, List, [], ◌∷◌, length, take, drop, get_or, Bool, true, false, not, cond, None, Some, refl, sym, ap, ◌∙◌, arith, drop-cons, filter, unwrap_or, not-true, nat_tests, prefix_len-le-length, passes_at_first, position, position_or_len, slice_split, words_of, is_blank, is_part, has_bytes, drop_all, slice_split-cons_yes, slice_split-cons_no}
 
 -- ---- places in a list
 
-within_step : (b : Bool) (m n : ℕ) → m ≤ n → cond b (1 + m) 0 ≤ suc n
-within_step true m n h = omega arith
-within_step false m n h = omega arith
-
 -- the first place that passes is at most the end
 pub position_or_len-le : {X : Type 0} (p : X → Bool) (xs : List X) → position_or_len p xs ≤ length xs
-position_or_len-le p [] = omega arith
-position_or_len-le p (x ∷ xs) = within_step (not (p x)) (position_or_len p xs) (length xs) (position_or_len-le p xs)
-
-unwrap_step : (b : Bool) (m n : ℕ) → ltb m n ≡ b → m ≤ n → unwrap_or (cond b (Some m) None) n ≡ m
-unwrap_step true m n e h = refl
-unwrap_step false m n e h = let low : n ≤ m = ltb-false m n e in omega arith
+position_or_len-le p xs = prefix_len-le-length (λ x. not (p x)) xs
 
 -- the first place that passes, or the end
 pub unwrap_or-position : {X : Type 0} (p : X → Bool) (xs : List X) → unwrap_or (position p xs) (length xs) ≡ position_or_len p xs
-unwrap_or-position p xs = unwrap_step (ltb (position_or_len p xs) (length xs)) (position_or_len p xs) (length xs) refl (position_or_len-le p xs)
-
-none_step : (b : Bool) (m n : ℕ) → ltb m n ≡ b → cond b (Some m) None ≡ None → n ≤ m
-none_step true m n e h = absurd (cc)
-none_step false m n e h = ltb-false m n e
-
-some_step : (b : Bool) (m n i : ℕ) → ltb m n ≡ b → cond b (Some m) None ≡ Some i → (i ≡ m) × (m < n)
-some_step true m n i e h = (cc, ltb-true m n e)
-some_step false m n i e h = absurd (cc)
+unwrap_or-position p xs = grind (arith, nat_tests, position_or_len-le)
 
 -- the place of the first element that passes, if there is one
 pub none_at : {X : Type 0} (p : X → Bool) (xs : List X) → position p xs ≡ None → length xs ≤ position_or_len p xs
-none_at p xs h = none_step (ltb (position_or_len p xs) (length xs)) (position_or_len p xs) (length xs) refl h
+none_at p xs h = grind (arith, nat_tests)
 
 pub some_at : {X : Type 0} (p : X → Bool) (xs : List X) (i : ℕ) → position p xs ≡ Some i → (i ≡ position_or_len p xs) × (position_or_len p xs < length xs)
-some_at p xs i h = some_step (ltb (position_or_len p xs) (length xs)) (position_or_len p xs) (length xs) i refl h
+some_at p xs i h = grind (arith, nat_tests)
 
 -- ---- words
 

@@ -71,7 +71,11 @@ impl Page {
             return Ok(());
         }
         self.flush(out)?;
-        self.begin(bytes, out)
+        if bytes.len() > PIECE_BYTES {
+            return out.put(bytes);
+        }
+        self.add(bytes);
+        Ok(())
     }
 
     /// Writes the held bytes, as one piece, and leaves the page empty. Writes nothing if no bytes
@@ -89,14 +93,6 @@ impl Page {
         result
     }
 
-    /// Appends a number, in decimal digits, as [`Page::push`] appends bytes.
-    fn push_number<O: Sink>(&mut self, n: u32, out: &mut O) -> Result<(), Failed>
-        ensures gathers { Gathers (O.written out.old) (O.written out.new) self.new (self.old ++ decimal n) result }
-        ensures cause { HasCause (O.faults out.old) (O.faults out.new) result }
-    {
-        self.push(Buffer::new().format(n).as_bytes(), out)
-    }
-
     /// Appends a number, in decimal digits, and bytes after it, as [`Page::push`] appends bytes.
     #[inline(always)]
     #[tactic(auto, using(crate::proofs::PageLemmas::in_pieces))]
@@ -111,7 +107,7 @@ impl Page {
         ensures cause { HasCause (O.faults out.old) (O.faults out.new) result }
     {
         if self.room() < DIGITS + behind.len() {
-            self.push_number(n, out)?;
+            self.push(Buffer::new().format(n).as_bytes(), out)?;
             return self.push(behind, out);
         }
         self.add_number(n);
@@ -164,20 +160,6 @@ impl Page {
         ensures cause { HasCause (O.faults out.old) (O.faults out.new) result }
     {
         self.push(report_piece(line).bytes(), out)
-    }
-
-    /// Adds bytes to an empty page. Writes them to the sink at once if the page is too small.
-    /// Requires an empty page.
-    fn begin<O: Sink>(&mut self, bytes: &[u8], out: &mut O) -> Result<(), Failed>
-        requires { self.old ≡ [] }
-        ensures gathers { Gathers (O.written out.old) (O.written out.new) self.new bytes.now result }
-        ensures cause { HasCause (O.faults out.old) (O.faults out.new) result }
-    {
-        if bytes.len() > PIECE_BYTES {
-            return out.put(bytes);
-        }
-        self.add(bytes);
-        Ok(())
     }
 
     /// Writes the held bytes if there is no room after them for the longest reply.

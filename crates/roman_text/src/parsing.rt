@@ -1,8 +1,8 @@
 //! Parses lines into events. All calls are inlined, so that an event is matched where it is made and isn't
 //! copied.
-ghost use Rattle.std.specs.Prelude.{◌≡◌, ◌<◌, ◌↔◌, length};
+ghost use Rattle.std.specs.Prelude.{◌≡◌, ◌<◌, ◌↔◌, codes, length, if◌then◌else◌};
 ghost use Rattle.std.specs.Str.{bytes_eq};
-ghost use Rattle.roman_text.specs.Shapes.{Shapes, shape_of, words_of, by_words, alone, with_one, with_two, with_three, with_four};
+ghost use Rattle.roman_text.specs.Shapes.{Shapes, shape_of, words_of, by_words, alone, with_one, with_two, join};
 
 use crate::errors::LineError;
 use crate::events::Event;
@@ -50,12 +50,12 @@ fn by_words<'a>(word: &[u8], rest: &'a [u8]) -> Result<Event<'a>, LineError>
         return with_two(word, a, b);
     };
     let Some((d, rest)) = first_word(rest) else {
-        return with_three(word, a, b, c);
+        return join(word, a, b, c, false);
     };
-    let Some(_) = first_word(rest) else {
-        return with_four(word, a, b, c, d);
-    };
-    Err(LineError::Form)
+    if first_word(rest).is_some() || !is(d, "loose") {
+        return Err(LineError::Form);
+    }
+    join(word, a, b, c, true)
 }
 
 /// Returns whether a word equals the text.
@@ -129,15 +129,16 @@ fn with_two<'a>(word: &[u8], a: &'a [u8], b: &'a [u8]) -> Result<Event<'a>, Line
     Err(LineError::Form)
 }
 
-/// Returns the event of a word and three operands.
+/// Returns the event of a word and the three operands of `join`.
 #[inline(always)]
-fn with_three<'a>(
+fn join<'a>(
     word: &[u8],
     service: &'a [u8],
     behaviour: &'a [u8],
     state: &'a [u8],
+    loose: bool,
 ) -> Result<Event<'a>, LineError>
-    ensures { Shapes (with_three word.now service.now behaviour.now state.now) result }
+    ensures { Shapes (if bytes_eq word.now (codes "join") then Ok (join service.now behaviour.now state.now loose) else Err LineError.Form) result }
 {
     if !is(word, "join") {
         return Err(LineError::Form);
@@ -146,31 +147,6 @@ fn with_three<'a>(
         service,
         behaviour,
         state,
-        loose: false,
-    })
-}
-
-/// Returns the event of a word, three operands and `loose`.
-#[inline(always)]
-fn with_four<'a>(
-    word: &[u8],
-    service: &'a [u8],
-    behaviour: &'a [u8],
-    state: &'a [u8],
-    last: &[u8],
-) -> Result<Event<'a>, LineError>
-    ensures { Shapes (with_four word.now service.now behaviour.now state.now last.now) result }
-{
-    if !is(word, "join") {
-        return Err(LineError::Form);
-    }
-    if !is(last, "loose") {
-        return Err(LineError::Form);
-    }
-    Ok(Event::Join {
-        service,
-        behaviour,
-        state,
-        loose: true,
+        loose,
     })
 }

@@ -1,8 +1,7 @@
 //! Pushes replies on a page.
-ghost use Rattle.std.specs.Prelude.{◌≡◌, ◌+◌, ◌≤◌, ◌++◌, length, decimal};
+ghost use Rattle.std.specs.Prelude.{◌≡◌, ◌+◌, ◌≤◌, ◌++◌, length};
 ghost use Rattle.roman_io.specs.Faults.{HasCause};
 ghost use Rattle.roman_model.specs.declared.limits.TheConstants.{PIECE_BYTES};
-ghost use Rattle.roman_text.specs.declared.page.TheConstants.{DIGITS};
 ghost use Rattle.roman_text.specs.declared.piece.TheConstants.{LONGEST};
 ghost use Rattle.roman_text.specs.Pages.{Gathers};
 ghost use Rattle.roman_text.specs.Replies.{reply_text};
@@ -107,18 +106,10 @@ impl Page {
         requires { length self.old + LONGEST ≤ PIECE_BYTES }
         ensures { self.new ≡ self.old ++ reply_text (reply.Kept kept added) }
     {
-        self.add_counted(b"kept ", kept);
-        self.add_counted(b" added ", added);
+        self.add(b"kept ");
+        self.add_number(kept);
+        self.add(b" added ");
+        self.add_number(added);
         self.add(b"\n");
-    }
-
-    /// Adds bytes and a number after them. Requires room for both.
-    fn add_counted(&mut self, before: &[u8], n: u32)
-        requires { length self.old + length before.now + DIGITS ≤ PIECE_BYTES }
-        ensures text { self.new ≡ self.old ++ (before.now ++ decimal n) }
-        ensures len { length self.new ≤ length self.old + length before.now + DIGITS }
-    {
-        self.add(before);
-        self.add_number(n);
     }
 }
