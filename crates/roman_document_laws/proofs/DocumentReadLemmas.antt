@@ -10,17 +10,8 @@ use Rattle.roman_library.specs.declared.refusal.Part.TheVariants as part
 -- with the document and the part in its refusal
 exact_placed : {X : Type 0} (document : List ℕ) (part : Part) (r : Result X PartError) (Is : X → Type 0) (Breaks : PartError → Type 0) → IsExact r Is Breaks →
     IsExact (placed document part r) Is (λ e. (why : PartError) × Breaks why × (e ≡ refusal_of document part why))
-exact_placed document part (Ok x) Is Breaks exact = record {
-  gives = λ y. (λ h. (exact.gives y).0 (ap Ok (same_ok x y h)), λ is. ap Ok (same_ok x y ((exact.gives y).1 is)));
-  refuses = λ e. (λ h. let f : ⊥ = cc in absurd f, λ (why, breaks, is). let h = (exact.refuses why).1 breaks in let f : ⊥ = cc in absurd f);
-}
-exact_placed document part (Err why) Is Breaks exact = record {
-  gives = λ y. (λ h. let f : ⊥ = cc in absurd f, λ is. let h = (exact.gives y).1 is in let f : ⊥ = cc in absurd f);
-  refuses = λ e. (
-    λ h. (why, (exact.refuses why).0 refl, sym (same_err (refusal_of document part why) e h)),
-    λ (other, breaks, is). let h = (exact.refuses other).1 breaks in let same : why ≡ other = same_err why other h in cc,
-  );
-}
+exact_placed document part (Ok x) Is Breaks exact = grind (arith, same_ok)
+exact_placed document part (Err why) Is Breaks exact = grind (arith, same_err)
 
 -- a list with at most `most` items
 at_most : ℕ → ℕ → Type 0
@@ -62,9 +53,7 @@ module _ (texts : Texts) (document : List ℕ) (env : NamedEnv) where
 
   behaviours_step : IsStep (behaviour_step texts document env) IsBehaviourItem BreaksBehaviour
   unfolding listed_step IsBehaviourItem BreaksBehaviour
-  behaviours_step = appends _ _ _ (λ i before d at.
-      let r = behaviour_in texts document env before i d in
-      subst (λ (k : ℕ). IsExact r (λ x. behaviour_in texts document env before k d ≡ Ok x) (λ e. r ≡ Err e)) at (exact_same r))
+  behaviours_step = appends _ _ _ (grind (arith, IsExact, exact_same))
 
   behaviours_read : ReadsBehaviours texts document env
   unfolding catalogue_in IsBehaviourItem BreaksBehaviour at_most

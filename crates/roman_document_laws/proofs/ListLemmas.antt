@@ -13,10 +13,7 @@ pub record IsExact {X E : Type 0} (r : Result X E) (Is : X → Type 0) (Breaks :
 
 -- the same, where the properties are said in other words
 pub exact_as : {X E : Type 0} (r : Result X E) (Is More : X → Type 0) (Breaks Fails : E → Type 0) → IsExact r Is Breaks → ((x : X) → Is x ↔ More x) → ((e : E) → Breaks e ↔ Fails e) → IsExact r More Fails
-exact_as r Is More Breaks Fails exact value refusal = record {
-  gives = λ x. (λ h. (value x).0 ((exact.gives x).0 h), λ is. (exact.gives x).1 ((value x).1 is));
-  refuses = λ e. (λ h. (refusal e).0 ((exact.refuses e).0 h), λ is. (exact.refuses e).1 ((refusal e).1 is));
-}
+exact_as r Is More Breaks Fails exact value refusal = grind arith
 
 pub exact_value : {X E : Type 0} (x : X) → IsExact {X = X} {E = E} (Ok x) (λ y. x ≡ y) (λ e. ⊥)
 exact_value x = record { gives = λ y. (λ h. same_ok x y h, λ e. ap Ok e); refuses = λ e. (λ h. let f : ⊥ = cc in f, λ none. absurd none) }
@@ -33,36 +30,17 @@ bind_err (Err d) f e h = inl (ap Err (same_err d e h))
 -- a reading, and then one that depends on its value
 pub exact_then : {X Y E : Type 0} (r : Result X E) (f : X → Result Y E) (Is : X → Type 0) (Breaks : E → Type 0) (More : X → Y → Type 0) (Fails : X → E → Type 0) → IsExact r Is Breaks →
     ((x : X) → Is x → IsExact (f x) (More x) (Fails x)) → IsExact (r >>= f) (λ y. (x : X) × Is x × More x y) (λ e. Breaks e ⊎ ((x : X) × Is x × Fails x e))
-exact_then {X} {Y} {E} r f Is Breaks More Fails first next = record {
-  gives = λ y. (
-    λ h. let (x, e, h1) = bind_ok r f y h in let is = (first.gives x).0 e in (x, is, ((next x is).gives y).0 h1),
-    λ (x, is, more). ap (λ (r : Result X E). r >>= f) ((first.gives x).1 is) ∙ ((next x is).gives y).1 more,
-  );
-  refuses = λ e. (
-    λ h. elim (bind_err r f e h) [
-      | inl bad ↦ inl ((first.refuses e).0 bad)
-      | inr (x, given, h1) ↦ let is = (first.gives x).0 given in inr (x, is, ((next x is).refuses e).0 h1)
-    ],
-    λ bad. elim bad [
-      | inl breaks ↦ ap (λ (r : Result X E). r >>= f) ((first.refuses e).1 breaks)
-      | inr (x, is, fails) ↦ ap (λ (r : Result X E). r >>= f) ((first.gives x).1 is) ∙ ((next x is).refuses e).1 fails
-    ],
-  );
-}
+exact_then {X} {Y} {E} r f Is Breaks More Fails first next = grind (arith, bind_ok, bind_err)
 
 -- the same, where the refusals of the second reading don't depend on the first value
 pub exact_and : {X Y E : Type 0} (r : Result X E) (f : X → Result Y E) (Is : X → Type 0) (Breaks : E → Type 0) (More : X → Y → Type 0) (Fails : E → Type 0) → IsExact r Is Breaks →
     ((x : X) → Is x → IsExact (f x) (More x) Fails) → IsExact (r >>= f) (λ y. (x : X) × Is x × More x y) (λ e. Breaks e ⊎ (((x : X) × Is x) × Fails e))
 exact_and r f Is Breaks More Fails first next =
-    exact_as _ _ _ _ _ (exact_then r f Is Breaks More (λ x. Fails) first next) (λ y. (λ h. h, λ h. h)) (λ e. (
-      λ bad. elim bad [ inl breaks ↦ inl breaks | inr (x, is, fails) ↦ inr ((x, is), fails) ],
-      λ bad. elim bad [ inl breaks ↦ inl breaks | inr ((x, is), fails) ↦ inr (x, is, fails) ],
-    ))
+    exact_as _ _ _ _ _ (exact_then r f Is Breaks More (λ x. Fails) first next) (λ y. (λ h. h, λ h. h)) (grind arith)
 
 -- a reading whose value is passed on in another form
 pub exact_map : {X Y E : Type 0} (r : Result X E) (g : X → Y) (Is : X → Type 0) (Breaks : E → Type 0) → IsExact r Is Breaks → IsExact (r >>= (λ x. Ok (g x))) (λ y. (x : X) × Is x × (g x ≡ y)) Breaks
-exact_map r g Is Breaks exact =
-    exact_as _ _ _ _ _ (exact_then r _ _ _ _ _ exact (λ x is. exact_value (g x))) (λ y. (λ h. h, λ h. h)) (λ e. (λ bad. elim bad [ inl breaks ↦ breaks | inr (x, is, none) ↦ absurd none ], λ breaks. inl breaks))
+exact_map r g Is Breaks exact = grind (arith, exact_as, exact_then, exact_value)
 
 -- Items
 
@@ -90,8 +68,7 @@ IsStep {X} step Is Breaks = (i : ℕ) (before : List X) (d : Data) → i ≡ len
 -- a step that reads an item, and appends its value to those before it
 pub appends : {X E : Type 0} (read : ℕ → List X → Data → Result X E) (Is : List X → Data → X → Type 0) (Breaks : ℕ → List X → Data → E → Type 0) →
     ((i : ℕ) (before : List X) (d : Data) → i ≡ length before → IsExact (read i before d) (Is before d) (Breaks i before d)) → IsStep (λ i before d. read i before d >>= (λ x. Ok (before ++ x ∷ []))) Is Breaks
-appends read Is Breaks exact i before d at =
-    exact_as _ _ _ _ _ (exact_map (read i before d) (λ x. before ++ x ∷ []) _ _ (exact i before d at)) (λ out. (λ (x, is, same). (x, same, is), λ (x, same, is). (x, is, same))) (λ e. (λ h. h, λ h. h))
+appends read Is Breaks exact i before d at = grind (arith, exact_as, exact_map)
 
 module _ {X E : Type 0} (step : ℕ → List X → Data → Result (List X) E) (Is : List X → Data → X → Type 0) (Breaks : ℕ → List X → Data → E → Type 0) (ok : IsStep step Is Breaks) where
   each_gives : (i : ℕ) (before : List X) (ds : List Data) (out : List X) → i ≡ length before → each_item step i before (items_of ds) ≡ Ok out →

@@ -53,10 +53,7 @@ items_exact : (list : Place) (name : List ℕ) (d : Data) → IsListing name (λ
 unfolding items_at
 items_exact list name d =
     exact_as _ _ _ _ _ (exact_then (looked list 0 (member_of d name)) _ _ _ _ _ (exact_looked list 0 (member_of d name)) (λ value there. exact_looked list 0 (list_of value)))
-    (λ items. (
-      λ (value, there, h). (record { value = value; there = there; list = h ∙ ap Ok (sym (items_listed items)) }, tt),
-      λ (is, fits). (is.value, is.there, is.list ∙ ap Ok (items_listed items)),
-    ))
+    (grind (arith, items_listed))
     (λ e. (grind arith, grind arith))
 
 within_is : (least most n : ℕ) → IsTrue (nat_le least n && nat_le n most) ↔ ((least ≤ n) × (n ≤ most))
@@ -183,11 +180,7 @@ triple_exact states actions i d =
         | inr (items, row, inl (none, is)) ↦ inl (inr (listed items, row ∙ ap Ok (sym (items_listed items)), not_three items none, is))
         | inr (items, row, inr ((a, b, c), three, faulty)) ↦ inr (a, b, c, row ∙ ap Ok (three_is items a b c three), faulty)
       ],
-      λ bad. elim bad [
-        | inl (inl missed) ↦ inl missed
-        | inl (inr (ds, row, few, is)) ↦ inr (items_of ds, row, inl (no_three ds few, is))
-        | inr (a, b, c, row, faulty) ↦ inr (items_of (a ∷ b ∷ c ∷ []), row, inr ((a, b, c), refl, faulty))
-      ],
+      grind (arith, no_three),
     ))
 
 at_most_steps : ℕ → Type 0
@@ -224,11 +217,7 @@ move_exact env_states actions states i d =
         | inr (items, row, inl (none, is)) ↦ inl (inr (listed items, row ∙ ap Ok (sym (items_listed items)), not_four items none, is))
         | inr (items, row, inr ((a, g, b, c), four, faulty)) ↦ inr (a, g, b, c, row ∙ ap Ok (four_is items a g b c four), faulty)
       ],
-      λ bad. elim bad [
-        | inl (inl missed) ↦ inl missed
-        | inl (inr (ds, row, few, is)) ↦ inr (items_of ds, row, inl (no_four ds few, is))
-        | inr (a, g, b, c, row, faulty) ↦ inr (items_of (a ∷ g ∷ b ∷ c ∷ []), row, inr ((a, g, b, c), refl, faulty))
-      ],
+      grind (arith, no_four),
     ))
 
 moves_read : (env_states actions states : List (List ℕ)) →
