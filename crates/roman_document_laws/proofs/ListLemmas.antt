@@ -15,9 +15,6 @@ pub record IsExact {X E : Type 0} (r : Result X E) (Is : X → Type 0) (Breaks :
 pub exact_as : {X E : Type 0} (r : Result X E) (Is More : X → Type 0) (Breaks Fails : E → Type 0) → IsExact r Is Breaks → ((x : X) → Is x ↔ More x) → ((e : E) → Breaks e ↔ Fails e) → IsExact r More Fails
 exact_as r Is More Breaks Fails exact value refusal = grind arith
 
-pub exact_value : {X E : Type 0} (x : X) → IsExact {X = X} {E = E} (Ok x) (λ y. x ≡ y) (λ e. ⊥)
-exact_value x = record { gives = λ y. (λ h. same_ok x y h, λ e. ap Ok e); refuses = λ e. (λ h. let f : ⊥ = cc in f, λ none. absurd none) }
-
 -- each reading is exact by its own results
 pub exact_same : {X E : Type 0} (r : Result X E) → IsExact r (λ x. r ≡ Ok x) (λ e. r ≡ Err e)
 exact_same r = record { gives = λ x. (λ h. h, λ h. h); refuses = λ e. (λ h. h, λ h. h) }
@@ -40,7 +37,7 @@ exact_and r f Is Breaks More Fails first next =
 
 -- a reading whose value is passed on in another form
 pub exact_map : {X Y E : Type 0} (r : Result X E) (g : X → Y) (Is : X → Type 0) (Breaks : E → Type 0) → IsExact r Is Breaks → IsExact (r >>= (λ x. Ok (g x))) (λ y. (x : X) × Is x × (g x ≡ y)) Breaks
-exact_map r g Is Breaks exact = grind (arith, exact_as, exact_then, exact_value)
+exact_map r g Is Breaks exact = grind (arith, exact_as, exact_then, same_ok)
 
 -- Items
 

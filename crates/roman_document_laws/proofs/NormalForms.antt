@@ -162,12 +162,7 @@ at_one_place m n f a t less = grind arith
 -- a rising list has one step with the same states and action
 one_at_place : (ms : List Move) (m n : Move) → Rises IsMoveBefore ms → IsIn m ms → IsIn n ms → m.from ≡ n.from → m.action ≡ n.action → m.to ≡ n.to → m ≡ n
 one_at_place [] m n h i j f a t = absurd i
-one_at_place (x ∷ xs) m n h (inl e) (inl g) f a t = e ∙ sym g
-one_at_place (x ∷ xs) m n h (inl e) (inr j) f a t =
-    absurd (at_one_place x n (subst (λ (z : Move). z.from ≡ n.from) e f) (subst (λ (z : Move). z.action ≡ n.action) e a) (subst (λ (z : Move). z.to ≡ n.to) e t) (h.0 n j))
-one_at_place (x ∷ xs) m n h (inr i) (inl g) f a t = absurd (at_one_place x m
-    (subst (λ (z : Move). z.from ≡ m.from) g (sym f)) (subst (λ (z : Move). z.action ≡ m.action) g (sym a)) (subst (λ (z : Move). z.to ≡ m.to) g (sym t)) (h.0 m i))
-one_at_place (x ∷ xs) m n h (inr i) (inr j) f a t = one_at_place xs m n h.1 i j f a t
+one_at_place (x ∷ xs) m n h i j f a t = grind (arith, at_one_place, (one_at_place xs m n h.1))
 
 first_of : (ns : List ℕ) → ns ≢ [] → (n : ℕ) × IsIn n ns
 first_of [] some = absurd (some refl)

@@ -188,21 +188,16 @@ pub name_said : (d : Data) (name : List ℕ) → member_of d (codes "name") ≡ 
 unfolding name_of
 name_said d name at named = rw (at, named) refl
 
-same_named_beh : (name : List ℕ) (states : List (List ℕ)) (m n k l : ℕ) (x y : Beh) → m ≡ n → k ≡ l → x ≡ y →
-    ◌≡◌ {A = NamedBeh} (record { name = name; states = states; env_states = m; actions = k; beh = x }) (record { name = name; states = states; env_states = n; actions = l; beh = y })
-same_named_beh name states m n k l x y hm hk hx = rw (hm, hk, hx) refl
-
 beh_said : (env : NamedEnv) (b : NamedBeh) → IsSayableEnv env → IsSayableBeh env b → behaviour_of env (behaviour_value env b) ≡ Ok b
 beh_said env b env_is is =
     let d = behaviour_value env b in
     let known : IsBeh env.env b.beh = is.known env.env refl refl in
     let start : b.beh.start < length b.states = omega (arith, known.start, is.state_count) in
-    beh_read _ _ _ _ _ _ _ refl (name_said _ _ refl is.name) (names_said _ _ _ _ _ (record { value = names_value b.states; there = refl; list = refl }) is.states)
-    (start_said _ _ _ refl is.states.once start)
-    (finals_said _ _ _ _ is.states.once is.state_count known (record { value = places_value b.states b.beh.finals; there = refl; list = refl }))
-    (moves_said _ _ _ _ env_is is.states.once is.state_count is.known is.form is.few
-    (record { value = list_value (map (move_value env.states env.actions b.states) b.beh.steps); there = refl; list = refl }))
-    ∙ ap Ok (grind (arith, same_named_beh, same_beh, normal_beh_is))
+    let read = beh_read env d b.name b.states b.beh.start b.beh.finals b.beh.steps refl (name_said d b.name refl is.name) (names_said list.States _ MAX_STATES d b.states (record { value = names_value b.states; there = refl; list = refl }) is.states)
+    (start_said d b.states b.beh.start refl is.states.once start)
+    (finals_said env.env b.states b.beh d is.states.once is.state_count known (record { value = places_value b.states b.beh.finals; there = refl; list = refl }))
+    (moves_said env b.states b.beh d env_is is.states.once is.state_count is.known is.form is.few (record { value = list_value (map (move_value env.states env.actions b.states) b.beh.steps); there = refl; list = refl })) in
+    grind (arith, read, (same_beh b.states b.beh is.state_count), (normal_beh_is env.env.states env.env.actions b.beh is.known is.form))
 
 target_read : (env : NamedEnv) (d : Data) (states : List (List ℕ)) (start : ℕ) (finals : List ℕ) (steps : List Move) → IsTrue (is_some (as_object d)) → names_of list.States (codes "states") MAX_STATES d ≡ Ok states →
     start_of states d ≡ Ok start → finals_of states d ≡ Ok finals → moves_of env.states env.actions states d ≡ Ok steps → single_of env.states steps ≡ Ok steps →
