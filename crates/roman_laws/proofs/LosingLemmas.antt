@@ -45,10 +45,7 @@ meets_thawed s xs ys more Related c meets = record {
       let (k, serves) = meets.served a allows in (
         k,
         λ t' e' step.
-            let (some, all) = serves t' e' step in (
-              (some.0, step_thawed s xs ys more c.bs c.e2 a k some.0 e' some.1),
-              λ bs' r. all bs' (step_frozen s xs ys more c.bs c.e2 a k bs' e' some.1.seat some.1.seated some.1.ready r),
-            ),
+            let (some, all) = serves t' e' step in grind (arith, step_thawed, step_frozen),
       );
 }
 
