@@ -1,7 +1,7 @@
 -- The rule that forbids the targets to be combined.
-use Rattle.roman_multi.proofs.Common.{All, ◌≡◌, ℕ, ◌<◌, ◌≤◌, List, [], ◌∷◌, map, length, None, Ok, Err, IsTrue, IsFalse, refl, ap, ap₂, ◌∙◌, arith, IsTarget, NamedEnv, NamedBeh, NamedTarget, ltb-false, lt-ltb, le-ltb, true≢false, length-map, below, product_of, target_sizes, count, MAX_STATES, MAX_ACTIONS, Request, length-below, machines, requests_in, has_many_states, has_bad_count, forbidding, combined_behaviour, PlainCombined, combined_state_names, request_names, KeepsRules, combined_parts, flat, AreCombinedNames, Named, IsMerge, combined_environment, one_target, Merge, CombineError}
+use Rattle.roman_multi.proofs.Common.{All, ◌≡◌, ℕ, ◌<◌, ◌≤◌, List, [], ◌∷◌, map, length, None, Ok, Err, IsTrue, IsFalse, refl, ap, ap₂, ◌∙◌, arith, IsTarget, NamedEnv, NamedBeh, NamedTarget, ltb-false, lt-ltb, le-ltb, true≢false, false≢true, length-map, below, product_of, target_sizes, count, MAX_STATES, MAX_ACTIONS, Request, length-below, machines, requests_in, has_many_states, has_bad_count, forbidding, combined_behaviour, PlainCombined, combined_state_names, request_names, KeepsRules, combined_parts, flat, AreCombinedNames, Named, IsMerge, combined_environment, one_target, Merge, CombineError}
 use Rattle.roman_multi.specs.declared.error.CombineError.TheVariants as error
-use Rattle.roman_multi.proofs.FlatLemmas.{fits_within}
+use Rattle.roman_multi.proofs.FlatLemmas.{fits_within, within_fits}
 use Rattle.roman_multi.proofs.MoveLemmas.{requests_in_range}
 
 -- an error of the names is the first rule that forbids the combination
@@ -72,3 +72,9 @@ few_requests (r ∷ requests) some = le-ltb MAX_ACTIONS (length (r ∷ requests)
 -- the counts of a merge break no rule
 pub merge_allows : (m : Merge) → IsMerge m → IsFalse (has_many_states m.targets.now) × IsFalse (has_bad_count (requests_in m.env.now m.targets.now))
 merge_allows m is = (few_states m.targets.now is.few, rw is.requests at (few_requests m.requests.now is.some))
+
+-- the lengths of the lists of names
+pub ruleset name_counts = (length-below, length-map)
+
+-- whether the shape of the targets fits, and which rule it breaks otherwise
+pub ruleset fitting = (few_states, many_states, fits_within, within_fits, false≢true)

@@ -40,3 +40,6 @@ found_before names table i place name l front there found =
 pub named_more : (names table new : List (List ℕ)) (i : ℕ) (name : List ℕ) → i < length names → table ≡ take i names → get_or names i [] ≡ name → new ≡ table ++ name ∷ [] → new ≡ take (i + 1) names
 named_more names table new i name l front there step =
     step ∙ ap₂ (λ xs x. xs ++ x ∷ []) front (sym there) ∙ sym (take_more names i [] l)
+
+-- the rules for tables of words
+pub ruleset tables = (found_before, length-map, made_is, named_more, new_more, word_at)

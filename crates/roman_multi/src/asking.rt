@@ -66,6 +66,7 @@ fn push_requests(
     Ok(())
 }
 
+#[tactic(auto, using(crate::proofs::ListLemmas::flat_map_begun, crate::proofs::KnownLemmas::machine_at, crate::proofs::MoveLemmas::all_requests_are))]
 /// Returns the combined actions: target by target, the actions by which it has a step.
 pub(crate) fn requests(
     alloc: Global,

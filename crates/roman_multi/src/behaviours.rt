@@ -36,7 +36,7 @@ fn push_moves(steps: &mut Vec<Move>, b: u8, e: u8, n: u8, next: &[u8]) -> Result
 }
 
 /// Appends the steps from `b` by combined action `n`.
-#[tactic(auto, using(crate::proofs::ListLemmas::flat_map_pushed))]
+#[tactic(auto, using(crate::proofs::ListLemmas::pushed))]
 fn push_action(steps: &mut Vec<Move>, member: &Member, b: u8, n: u8) -> Result<(), AllocError>
     requires member { IsMember member.now }
     requires state { b < member.now.behaviour.now.beh.states }

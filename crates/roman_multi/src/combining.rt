@@ -20,6 +20,7 @@ use roman_radix::Shape;
 use roman_read::NameTable;
 use std::alloc::Global;
 
+#[tactic(auto, using(crate::proofs::CombineLemmas::fitting), unfolding(crate::specs::Combining::forbidding))]
 /// Combines 2 to 4 targets into one, with the environment and the catalogue over its actions.
 /// Requires targets and a catalogue over `env`. The combined actions are, target by target, the
 /// actions that occur in some step of the target. Each is named by the action, a dash and the target.
@@ -87,6 +88,7 @@ fn combine_parts(
     })
 }
 
+#[tactic(auto, using(crate::proofs::CombineLemmas::name_counts))]
 /// Returns the names of the combined states and actions.
 fn names_of(alloc: Global, merge: &Merge) -> Result<(NameTable, NameTable), CombineError>
     requires { IsMerge merge.now }

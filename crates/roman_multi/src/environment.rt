@@ -59,6 +59,7 @@ fn triples_of(
 }
 
 /// Returns the environment with the combined actions, which have the given names.
+#[tactic(auto, using(crate::proofs::TripleLemmas::listed_in_range))]
 pub(crate) fn combine_environment(
     alloc: Global,
     merge: &Merge,

@@ -10,6 +10,7 @@ use std::alloc::Global;
 
 /// Returns the table of the words as names, in order. Fails with `Repeated` exactly when two are
 /// equal.
+#[tactic(auto, using(crate::proofs::TableLemmas::tables))]
 pub(crate) fn table_of(alloc: Global, words: &[Vec<u8>]) -> Result<NameTable, CombineError>
     requires few { length words.now ≤ 64 }
     requires words { All (λ word. IsTrue (is_word word.items)) words.now }

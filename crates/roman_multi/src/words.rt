@@ -48,6 +48,7 @@ fn state_word(alloc: Global, merge: &Merge, t: u32) -> Result<Vec<u8>, AllocErro
     Ok(word)
 }
 
+#[tactic(auto, using(std::proofs::lemmas::Grind::common_steps))]
 /// Returns the names of the combined states.
 pub(crate) fn state_words(alloc: Global, merge: &Merge) -> Result<Vec<Vec<u8>>, AllocError>
     requires { IsMerge merge.now }
@@ -80,6 +81,7 @@ fn request_word(
     Ok(word)
 }
 
+#[tactic(auto, using(std::proofs::lemmas::Grind::common_steps))]
 /// Returns the names of the combined actions.
 pub(crate) fn request_words(alloc: Global, merge: &Merge) -> Result<Vec<Vec<u8>>, AllocError>
     requires { IsMerge merge.now }

@@ -1,6 +1,5 @@
-use Rattle.roman_multi.proofs.Common.{◌<◌, sym, subst, ◌∙◌, refl, All, arith, false≢true, forbidding}
-use Rattle.roman_multi.proofs.CombineLemmas.{few_states, many_states, merge_is}
-use Rattle.roman_multi.proofs.FlatLemmas.{fits_within, within_fits}
+use Rattle.roman_multi.proofs.Common.{◌<◌, sym, subst, ◌∙◌, refl, All, arith}
+use Rattle.roman_multi.proofs.CombineLemmas.{merge_is}
 use Rattle.roman_multi.proofs.KnownLemmas.{sizes_positive}
 use Rattle.roman_multi.proofs.combining.combine.Goals as goal
 
@@ -12,11 +11,3 @@ pub combine_parts-requires-clause-merge : goal.combine_parts-requires-clause-mer
 combine_parts-requires-clause-merge c =
     merge_is _ _ _ c.requires.count c.in_ok-sizes.ensures.known c.in-Some.ensures.shape (c.deref.ensures.value ∙ c.in_ok-sizes.ensures.sizes) c.from.ensures (c.in-Some.ensures.fits.0 refl)
     (c.deref-3.ensures.value ∙ c.in_ok-requests.ensures.requests) (rw c.deref-3.ensures.value (rw c.deref-2.ensures.value at (sym c.has_bad_count.ensures ∙ c.if-has_bad_count.false)))
-
-pub returns-in_default-clause-rules : goal.returns-in_default-clause-rules
-unfolding forbidding
-returns-in_default-clause-rules c = grind (arith, false≢true, many_states, within_fits)
-
-pub returns-then-has_bad_count-clause-rules : goal.returns-then-has_bad_count-clause-rules
-unfolding forbidding
-returns-then-has_bad_count-clause-rules c = grind (arith, few_states, fits_within)

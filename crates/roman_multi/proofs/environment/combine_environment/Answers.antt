@@ -1,11 +1,8 @@
-use Rattle.roman_multi.proofs.Common.{ap, ◌∙◌, length, arith}
+use Rattle.roman_multi.proofs.Common.{ap, ◌∙◌, length}
 use Rattle.roman_multi.proofs.CombineLemmas.{same_env}
 use Rattle.roman_multi.proofs.PartLemmas.{if_ok_three}
-use Rattle.roman_multi.proofs.TripleLemmas.{listed_in_range, made_env_is}
+use Rattle.roman_multi.proofs.TripleLemmas.{made_env_is}
 use Rattle.roman_multi.proofs.environment.combine_environment.Goals as goal
-
-pub from_lists-requires : goal.from_lists-requires
-from_lists-requires c = grind (arith, listed_in_range)
 
 pub returns : goal.returns
 returns c =
