@@ -1,4 +1,4 @@
-use Rattle.roman_session.proofs.Common.{ℕ, List, IsTrue, slice_get, slice_set, sym, subst, arith, is_allowed, is_ready, Situation, present_system, HasMoved, situation_in, SStep}
+use Rattle.roman_session.proofs.Common.{ℕ, List, IsTrue, slice_get, slice_set, sym, subst, is_allowed, is_ready, Situation, present_system, HasMoved, situation_in, SStep}
 use Rattle.roman_session.proofs.SituationLemmas.{delegate_ready, offered_within}
 use Rattle.roman_session.proofs.StepLemmas.{moved_pair}
 use Rattle.roman_session.proofs.session.Session.answer_sight.Goals as goal

@@ -1,4 +1,3 @@
-use Rattle.roman_session.proofs.Common.{arith}
 use Rattle.roman_session.proofs.SituationLemmas.{related_is}
 use Rattle.roman_session.proofs.session.Session.composes.Goals as goal
 
