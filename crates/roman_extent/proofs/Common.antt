@@ -1,10 +1,9 @@
 -- What the proof pages of this crate cite from elsewhere, passed on from one place. Declares nothing.
 pub use Rattle.std.proofs.Common.{All, List, [], add-one, ap, ap₂, arith, get_or, length, length-append, length-take-le, map, min, nat_le, refl, string_bytes, subst, suc, sym, take, zero, ℕ, ◌%◌, ◌*◌, ◌++◌, ◌+◌, ◌-◌, ◌/◌, ◌<◌, ◌^◌, ◌∙◌, ◌∷◌, ◌≡◌, ◌≤◌}
 pub use Rattle.std.proofs.Math.Nat.{min-eq_left, min-eq_right, mul-le-mul_right, pow-suc, pow-zero}
-pub use Rattle.std.proofs.Math.Seq.{take-suc}
 pub use Rattle.std.proofs.lemmas.Bool.{leb-false, leb-true}
 pub use Rattle.std.proofs.lemmas.Int.Digits.{digits_value_push}
-pub use Rattle.std.proofs.lemmas.List.{map_push}
+pub use Rattle.std.proofs.lemmas.List.{map_push, take_more}
 pub use Rattle.std.proofs.lemmas.List.Elements.{All-push}
 pub use Rattle.std.proofs.lemmas.Str.{digit_value_digit}
 pub use Rattle.std.specs.Char.{digit_value}

@@ -1,18 +1,21 @@
 -- Numbers by their decimal digits: one digit more, and the digits of a product.
-use Rattle.roman_extent.proofs.Common.{◌≡◌, ℕ, ◌+◌, ◌*◌, ◌/◌, ◌%◌, ◌^◌, ◌<◌, ◌≤◌, min, List, [], ◌∷◌, ◌++◌, length, length-append, get_or, take, refl, sym, ap, ◌∙◌, arith, add-one, take-suc, AllDigits, digits_value, product_of, AreDigits, number_with_digits, zero, suc, nat_le, length-take-le, pow-zero, pow-suc, min-eq_left, min-eq_right, leb-true, leb-false, digit_value, digits_value_push, All-push, digit_value_digit, by_test}
-use Rattle.roman_extent.proofs.ExtentLemmas.{product_push}
+use Rattle.roman_extent.proofs.Common.{◌≡◌, ℕ, ◌+◌, ◌*◌, ◌/◌, ◌%◌, ◌^◌, ◌<◌, ◌≤◌, min, List, [], ◌∷◌, ◌++◌, length, length-append, get_or, take, sym, ap, ap₂, ◌∙◌, arith, add-one, take_more, AllDigits, digits_value, product_of, AreDigits, number_with_digits, zero, suc, nat_le, length-take-le, pow-zero, pow-suc, min-eq_left, min-eq_right, leb-true, leb-false, digit_value, digits_value_push, All-push, digit_value_digit, by_test}
 
 number_push : (ds : List ℕ) (d : ℕ) → number_with_digits (ds ++ d ∷ []) ≡ number_with_digits ds + d * 10 ^ length ds
 number_push [] d = omega (arith, ap (λ x. d * x) (pow-zero 10))
 number_push (x ∷ ds) d = omega (arith, number_push ds d, ap (λ x. d * x) (pow-suc 10 (length ds)))
+
+-- one more of the digits
+number_more : (ds : List ℕ) (k d other : ℕ) → k < length ds → d ≡ get_or ds k other → number_with_digits (take (k + 1) ds) ≡ number_with_digits (take k ds) + d * 10 ^ k
+number_more ds k d other l at =
+    ap number_with_digits (take_more ds k other l) ∙ number_push (take k ds) _ ∙ ap₂ (λ (d n : ℕ). number_with_digits (take k ds) + d * 10 ^ n) (sym at) (length-take-le k ds (omega arith))
 
 -- the last digit of the carry is appended to the digits, and the rest is carried on
 pub carry_step : (ds : List ℕ) (s total : ℕ) → number_with_digits ds + s * 10 ^ length ds ≡ total →
     number_with_digits (ds ++ (s % 10) ∷ []) + s / 10 * 10 ^ length (ds ++ (s % 10) ∷ []) ≡ total
 carry_step ds s total h =
     let p = 10 ^ length ds in
-    let longer : length (ds ++ (s % 10) ∷ []) ≡ suc (length ds) = length-append ds ((s % 10) ∷ []) ∙ add-one (length ds) in
-    let power : 10 ^ length (ds ++ (s % 10) ∷ []) ≡ p * 10 = ap (λ k. 10 ^ k) longer ∙ pow-suc 10 (length ds) in
+    let power : 10 ^ length (ds ++ (s % 10) ∷ []) ≡ p * 10 = ap (λ k. 10 ^ k) (length-append ds ((s % 10) ∷ []) ∙ add-one (length ds)) ∙ pow-suc 10 (length ds) in
     let parts : s ≡ s / 10 * 10 + s % 10 = omega arith in
     omega (arith, h, number_push ds (s % 10), ap (λ x. s / 10 * x) power, ap (λ x. x * p) parts)
 
@@ -20,9 +23,8 @@ carry_step ds s total h =
 pub times_step : (ds items : List ℕ) (k d other f carry : ℕ) → k < length ds → d ≡ get_or ds k other → length items ≡ k → number_with_digits items + carry * 10 ^ length items ≡ number_with_digits (take k ds) * f →
     number_with_digits items + (d * f + carry) * 10 ^ length items ≡ number_with_digits (take (k + 1) ds) * f
 times_step ds items k d other f carry l at long h =
-    let more : take (k + 1) ds ≡ take k ds ++ d ∷ [] = rw add-one (take-suc ds k other l) ∙ ap (λ z. take k ds ++ z ∷ []) (sym at) in
-    let here : number_with_digits (take (k + 1) ds) ≡ number_with_digits (take k ds) + d * 10 ^ length items = ap number_with_digits more ∙ (number_push (take k ds) d ∙ ap (λ n. number_with_digits (take k ds) + d * 10 ^ n) (length-take-le k ds (omega arith) ∙ sym long)) in
-    omega (arith, h, ap (λ x. x * f) here)
+    let more = number_more ds k d other l at ∙ ap (λ (n : ℕ). number_with_digits (take k ds) + d * 10 ^ n) (sym long) in
+    omega (arith, h, ap (λ x. x * f) more)
 
 -- The text of digits
 
@@ -37,30 +39,23 @@ glyph_value d l = omega (arith, digit_value_digit (48 + d) (omega arith, omega a
 pub text_step : (ds bs : List ℕ) (i d other : ℕ) → i < length ds → d ≡ get_or ds i other → d < 10 → digits_value 10 bs * 10 ^ (i + 1) + number_with_digits (take (i + 1) ds) ≡ number_with_digits ds →
     digits_value 10 (bs ++ (48 + d) ∷ []) * 10 ^ i + number_with_digits (take i ds) ≡ number_with_digits ds
 text_step ds bs i d other l at low h =
-    let p = 10 ^ i in
-    let more : take (i + 1) ds ≡ take i ds ++ d ∷ [] = rw add-one (take-suc ds i other l) ∙ ap (λ z. take i ds ++ z ∷ []) (sym at) in
-    let here : number_with_digits (take (i + 1) ds) ≡ number_with_digits (take i ds) + d * p = ap number_with_digits more ∙ (number_push (take i ds) d ∙ ap (λ n. number_with_digits (take i ds) + d * 10 ^ n) (length-take-le i ds (omega arith))) in
-    let power : 10 ^ (i + 1) ≡ p * 10 = rw add-one (pow-suc 10 i) in
+    let power : 10 ^ (i + 1) ≡ 10 ^ i * 10 = rw add-one (pow-suc 10 i) in
     let value : digits_value 10 (bs ++ (48 + d) ∷ []) ≡ digits_value 10 bs * 10 + d = digits_value_push 10 bs (48 + d) ∙ ap (λ v. digits_value 10 bs * 10 + v) (glyph_value d low) in
-    omega (arith, h, here, ap (λ x. digits_value 10 bs * x) power, ap (λ x. x * p) value)
+    omega (arith, h, number_more ds i d other l at, ap (λ x. digits_value 10 bs * x) power, ap (λ x. x * 10 ^ i) value)
 
 -- Products
 
+pub product_push : (ns : List ℕ) (n : ℕ) → product_of (ns ++ n ∷ []) ≡ product_of ns * n
+product_push [] n = omega arith
+product_push (m ∷ ns) n = rw (product_push ns n) (omega arith)
+
 pub product_more : (ns : List ℕ) (k n other : ℕ) → k < length ns → n ≡ get_or ns k other → product_of (take (k + 1) ns) ≡ product_of (take k ns) * n
-product_more ns k n other l at =
-    let more : take (k + 1) ns ≡ take k ns ++ n ∷ [] = rw add-one (take-suc ns k other l) ∙ ap (λ z. take k ns ++ z ∷ []) (sym at) in
-    ap product_of more ∙ product_push (take k ns) n
+product_more ns k n other l at = ap product_of (take_more ns k other l) ∙ product_push _ _ ∙ ap (λ (n : ℕ). product_of (take k ns) * n) (sym at)
 
 -- multiplying a product that is cut off at a limit gives the whole product, cut off at it
 pub cut_step : (p n most : ℕ) → min (min p most * n) most ≡ min (p * n) most
 cut_step p zero most = omega arith
-cut_step p (suc n) most = by_test (nat_le p most)
-    (λ t. rw (min-eq_left (leb-true p most t)) refl)
-    (λ f.
-    let less : most ≤ p = omega (arith, leb-false p most f) in
-    let left : most ≤ most * suc n = omega arith in
-    let right : most ≤ p * suc n = omega arith in
-    rw (min-eq_right less) (min-eq_right left ∙ sym (min-eq_right right)))
+cut_step p (suc n) most = by_test (nat_le p most) (λ t. grind (arith, min-eq_left, leb-true)) (λ f. grind (arith, min-eq_right, leb-false))
 
 -- each pushed digit is a decimal digit
 pub digits_push : (ds : List ℕ) (s : ℕ) → AreDigits ds → AreDigits (ds ++ (s % 10) ∷ [])

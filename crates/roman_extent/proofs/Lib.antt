@@ -1,3 +1,3 @@
 pub mod Common
-pub mod ExtentLemmas
 pub mod DigitLemmas
+pub mod ExtentLemmas
