@@ -41,8 +41,9 @@ no_place_before L q i e =
 
 -- Entries
 
-pub entry_node : (A : Arena ℕ) (board : Board) (i : ℕ) (x : Entry ℕ) → pairs_of board ≡ length A.nodes → ((p : ℕ) → has_entry board.list p ≡ true → p < pairs_of board) → slice_get board.list i ≡ Some x → x.node < length A.nodes
-entry_node A board i x shaped in_range e = subst (λ n. x.node < n) shaped (in_range x.node (any_from (λ y. eqb x.node y.node) x board.list (get_in board.list i x e) (eq-eqb x.node x.node refl)))
+-- the pair of an entry is one of the board's
+pub entry_node : (board : Board) (i : ℕ) (x : Entry ℕ) → ((p : ℕ) → has_entry board.list p ≡ true → p < pairs_of board) → slice_get board.list i ≡ Some x → x.node < pairs_of board
+entry_node board i x in_range e = in_range x.node (any_from (λ y. eqb x.node y.node) x board.list (get_in board.list i x e) (eq-eqb x.node x.node refl))
 
 pub entry_split : {X : Type 0} (xs : List X) (i : ℕ) (x : X) → slice_get xs i ≡ Some x → xs ≡ take i xs ++ x ∷ drop (i + 1) xs
 entry_split xs i x e = sym (take-append-drop i xs) ∙ ap (λ ys. take i xs ++ ys) (drop_at xs i x e)

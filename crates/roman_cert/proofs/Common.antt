@@ -37,6 +37,7 @@ pub use Rattle.roman_order.specs.Walks.{IsAhead}
 pub use Rattle.roman_relation.proofs.CallerLemmas.{listed_is, listed_numbers}
 pub use Rattle.roman_relation.specs.Greatest.{arena_of}
 pub use Rattle.roman_rules.proofs.CallerLemmas.{numbered_same}
+pub use Rattle.roman_rules.specs.Asked.{IsReasonOf}
 pub use Rattle.roman_rules.specs.Finding.{HasFinding, IsFinding}
 pub use Rattle.roman_rules.specs.Numbered.{IsNumbered}
 pub use Rattle.roman_rules.specs.declared.finding.Finding.{Finding}
@@ -44,8 +45,6 @@ pub use Rattle.roman_rules.specs.declared.finding.Finding.TheVariants.{Good, Lea
 pub use Rattle.roman_text.proofs.CallerLemmas.{Gathers-second, IsFilling, Puts-after_Gathered, fill_behind, fill_end, fill_failed, fill_last, fill_more, fill_same, fill_whole, gathers_failed_first}
 pub use Rattle.roman_text.specs.Lines.{with_newline}
 pub use Rattle.roman_text.specs.Pages.{Gathered, Gathers}
-pub use Rattle.roman_cert.specs.Certified.{WroteGreatest}
-pub use Rattle.roman_cert.specs.Reasons.{NamesAction}
+pub use Rattle.roman_cert.specs.Certified.{IsTemplate, WroteGreatest}
 unfoldable pub use Rattle.roman_cert.specs.Slices.{answers_text, entry_text, lost_text, marked_text}
-pub use Rattle.roman_cert.specs.Templates.{IsTemplate}
 pub use Rattle.roman_cert.specs.declared.template.Template.{Template}

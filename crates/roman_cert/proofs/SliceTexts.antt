@@ -1,6 +1,5 @@
 -- The entries of an explanation, one after the other.
-use Rattle.roman_cert.proofs.Common.{Act, Final, Board, has_entry, is_marked, pairs_of, Entry, IsOrder, IsFalse, IsTrue, List, Some, [], length, sym, true, ℕ, ◌<◌, ◌≡◌, IsNamedSys, NamedSys, system_of, NamesAction, Reason, arena_of, cond-false, cond-true, count, sizes_of, entry_text, marked_text, get_in, numbered_is_arena, listed_numbers}
-use Rattle.std.proofs.Common.{slice_get}
+use Rattle.roman_cert.proofs.Common.{slice_get, IsFalse, IsTrue, List, Some, [], length, sym, true, ℕ, ◌<◌, ◌≡◌, Act, Final, Board, has_entry, is_marked, pairs_of, Entry, IsOrder, IsNamedSys, NamedSys, system_of, IsReasonOf, Reason, arena_of, cond-false, cond-true, count, sizes_of, entry_text, marked_text, get_in, numbered_is_arena, listed_numbers}
 use Rattle.roman_cert.proofs.Answering.{entry_allowed}
 
 -- An entry
@@ -11,10 +10,10 @@ pub entry_pair : (n : NamedSys) (board : Board) (i : ℕ) (x : Entry ℕ) → pa
 entry_pair n board i x shaped in_range e = listed_numbers (system_of n) board shaped in_range x (get_in board.list i x e)
 
 -- its reason names an action of the system
-pub entry_reason : (n : NamedSys) (L : List (Entry ℕ)) (i : ℕ) (x : Entry ℕ) → IsNamedSys n → IsOrder (arena_of n) L → slice_get L i ≡ Some x → NamesAction (system_of n).env.actions x.reason
+pub entry_reason : (n : NamedSys) (L : List (Entry ℕ)) (i : ℕ) (x : Entry ℕ) → IsNamedSys n → IsOrder (arena_of n) L → slice_get L i ≡ Some x → IsReasonOf (arena_of n) x.reason
 entry_reason n L i x known order e = by_reason x.reason e
   where
-    by_reason : (r : Reason) → slice_get L i ≡ Some (record { node = x.node; reason = r }) → NamesAction (system_of n).env.actions r
+    by_reason : (r : Reason) → slice_get L i ≡ Some (record { node = x.node; reason = r }) → IsReasonOf (arena_of n) r
     by_reason Final f = tt
     by_reason (Act a) f = (numbered_is_arena (system_of n) known.system).allowed x.node a (entry_allowed (arena_of n) L i x.node a order f)
 

@@ -1,12 +1,25 @@
--- The verdict of a checker on the text that was written.
-use Rattle.std.specs.Prelude.{◌≡◌, ℕ, ◌<◌, List, Option}
+-- Certificates: the verdict of a checker on the text that was written, and lines that are made from the line before.
+use Rattle.std.specs.Prelude.{◌≡◌, ℕ, ◌+◌, ◌*◌, ◌<◌, ◌≤◌, List, Option, take, slice_index, decimal}
 use Rattle.roman_io.specs.Sink.{Wrote}
 use Rattle.roman_model.specs.System.{Sys}
 use Rattle.roman_model.specs.Numbers.{sizes_of, count, numbered}
 use Rattle.roman_model.specs.Certificate.{cert_verdict, greatest}
+use Rattle.roman_cert.specs.declared.template.Template.{Template}
 
 -- a certificate was written that a checker accepts: the verdict states the greatest ND-simulation
 pub record WroteGreatest (s : Sys) (before now : Option (List ℕ)) : Type 0 where
   pub bytes : List ℕ
   pub wrote : Wrote before now bytes
   pub accepted : (start : ℕ) → start < count (sizes_of s) → cert_verdict (numbered s) start bytes ≡ greatest s start
+
+-- the template's text begins with the digits of a number, two more bytes, a space, the letter and a newline
+pub record IsTemplate (t : Template) : Type 0 where
+  pub high : ℕ
+  pub some : 0 < high
+  pub base : t.base ≡ high * 100
+  pub front : take t.place t.text ≡ decimal high
+  pub space : slice_index t.text (t.place + 2) ≡ 32
+  pub reason : slice_index t.text (t.place + 3) ≡ t.letter
+  pub newline : slice_index t.text (t.place + 4) ≡ 10
+  pub len : t.len ≡ t.place + 5
+  pub fits : t.len ≤ 16

@@ -1,4 +1,2 @@
 pub mod Certified
-pub mod Reasons
 pub mod Slices
-pub mod Templates

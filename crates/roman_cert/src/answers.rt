@@ -11,6 +11,7 @@ use roman_rules::{Finding, Rules};
 use std::sync::ledger::Ledger;
 
 /// Returns whether the list has an entry of the pair `q` before place `i`.
+#[tactic(auto, using(crate::proofs::Answering::place_before, crate::proofs::Answering::no_place_before))]
 fn is_before(order: &Order, i: u32, q: u32) -> bool
     requires { q < pairs_of order.now }
     ensures { result ≡ has_entry (take i order.now.list) q }

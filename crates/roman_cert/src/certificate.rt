@@ -9,8 +9,7 @@ ghost use Rattle.roman_model.specs.Certificate.{head_line, count_line, reason_te
 ghost use Rattle.roman_model.specs.Numbers.{sizes_of, count, IsCompleteList};
 ghost use Rattle.roman_joint.specs.NamedSys.{system_of};
 ghost use Rattle.roman_order.specs.Board.{as_entry};
-ghost use Rattle.roman_cert.specs.Certified.{WroteGreatest};
-ghost use Rattle.roman_cert.specs.Templates.{IsTemplate};
+ghost use Rattle.roman_cert.specs.Certified.{IsTemplate, WroteGreatest};
 
 use crate::lines::finish;
 use crate::template::Template;
@@ -65,6 +64,7 @@ fn head_piece(pairs: u32) -> Piece
 
 /// Returns the letter that is the text of a reason, or `None` where the text is longer.
 #[inline(always)]
+#[tactic(auto, using(std::proofs::lemmas::Fmt::decimal_digit))]
 fn letter_of(reason: Reason) -> Option<u8>
     ensures { IfSome result (λ letter. reason_text reason ≡ letter ∷ []) }
 {

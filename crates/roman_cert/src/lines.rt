@@ -9,8 +9,9 @@ ghost use Rattle.roman_model.specs.Lines.{text_of_lines};
 ghost use Rattle.roman_model.specs.Numbers.{sizes_of, count, pair_at};
 ghost use Rattle.roman_joint.specs.NamedSys.{system_of};
 ghost use Rattle.roman_joint.specs.Names.{names_in};
+ghost use Rattle.roman_rules.specs.Asked.{IsReasonOf};
 ghost use Rattle.roman_order.specs.Board.{as_entry};
-ghost use Rattle.roman_cert.specs.Reasons.{NamesAction};
+ghost use Rattle.roman_relation.specs.Greatest.{arena_of};
 ghost use Rattle.roman_cert.specs.Slices.{lost_text};
 
 use roman_io::{Failed, Sink};
@@ -37,7 +38,7 @@ pub(crate) fn push_lost<O: Sink>(
     out: &mut O,
 ) -> Result<(), Failed>
     requires pair { p < count (sizes_of (system_of joint.now)) }
-    requires reason { NamesAction (system_of joint.now).env.actions reason }
+    requires reason { IsReasonOf (arena_of joint.now) reason }
     ensures gathers { Gathers (O.written out.old) (O.written out.new) page.new
         (page.old ++ lost_text joint.now (as_entry (p, reason))) result }
     ensures cause { HasCause (O.faults out.old) (O.faults out.new) result }
@@ -78,7 +79,7 @@ fn state_piece(joint: &Joint, p: u32, k: u8) -> Piece
 
 /// Returns the end of a pair's line: the reason why the pair is lost.
 fn reason_piece(joint: &Joint, reason: Reason) -> Piece
-    requires { NamesAction (system_of joint.now).env.actions reason }
+    requires { IsReasonOf (arena_of joint.now) reason }
     ensures { result ≡ codes ": " ++ reason_name (names_in joint.now) reason ++ 10 ∷ [] }
 {
     let text = Piece::new().text(b": ");

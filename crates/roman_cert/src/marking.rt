@@ -35,6 +35,7 @@ pub(crate) fn mark_slice<J: Rules, L: Ledger>(
 }
 
 /// Marks the defeating answers to the entry at place `i`, where that entry is marked.
+#[tactic(auto, using(crate::proofs::Answering::entry_node))]
 fn visit<J: Rules, L: Ledger>(joint: &J, order: &mut Order, i: u32, steps: &mut Steps<L>)
     requires shaped { pairs_of order.old ≡ length (J.arena joint.now).nodes }
     requires valid { IsOrder (J.arena joint.now) order.old.list }

@@ -70,6 +70,7 @@ pub fn write_slice<O: Sink, L: Ledger>(
 }
 
 /// Writes the lines of the entries whose pairs are marked, and then the last line.
+#[tactic(auto, using(crate::proofs::Answering::entry_node))]
 fn write_marked<O: Sink, L: Ledger>(
     joint: &Joint,
     order: &Order,

@@ -1,6 +1,6 @@
 //! Makes the line of an entry from the line before.
 ghost use Rattle.std.specs.Prelude.{◌≡◌, ◌≢◌, ℕ, ◌+◌, ◌*◌, ◌<◌, ◌≤◌, ◌++◌, [], ◌∷◌, take, decimal};
-ghost use Rattle.roman_cert.specs.Templates.{IsTemplate};
+ghost use Rattle.roman_cert.specs.Certified.{IsTemplate};
 
 use itoa::Buffer;
 use roman_text::SHORT;
@@ -22,6 +22,7 @@ pub(crate) struct Template {
 
 impl Template {
     /// Returns the template with the line of pair 100 and clause 2.
+    #[tactic(auto, using(std::proofs::lemmas::Fmt::decimal_digit))]
     pub(crate) fn new() -> Template
         ensures { IsTemplate result }
     {
@@ -53,6 +54,7 @@ impl Template {
 
     /// Sets the last two digits of the pair.
     #[inline(always)]
+    #[tactic(auto, using(crate::proofs::Templating::line_of_two))]
     fn put_digits(&mut self, two: u32)
         requires template { IsTemplate self.old }
         requires two { two < 100 }

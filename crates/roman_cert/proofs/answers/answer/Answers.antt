@@ -1,4 +1,4 @@
-use Rattle.roman_cert.proofs.Common.{take, sym, ◌∙◌, rules, has_entry, as_entry, Act, Leaves}
+use Rattle.roman_cert.proofs.Common.{◌<◌, take, subst, sym, ◌∙◌, rules, has_entry, as_entry, Act, Leaves}
 use Rattle.roman_cert.proofs.Answering.{entry_node, entry_allowed, no_pair, answer_found, answer_within, unready_answer}
 use Rattle.roman_cert.proofs.answers.answer.Goals as goal
 
@@ -8,7 +8,7 @@ returns-then-not-is_ready-clause-answer g c =
 
 pub examine-requires-clause-pair : goal.examine-requires-clause-pair
 examine-requires-clause-pair g c =
-    entry_node (g.J.Rules.arena c.args.joint.now) c.args.order.now c.args.i (as_entry (c.args.p, Act c.args.a)) c.requires.shaped c.known-2.ensures.in_range c.requires.entry
+    subst (λ n. c.args.p < n) c.requires.shaped (entry_node c.args.order.now c.args.i (as_entry (c.args.p, Act c.args.a)) c.known-2.ensures.in_range c.requires.entry)
 
 pub examine-requires-clause-allowed : goal.examine-requires-clause-allowed
 examine-requires-clause-allowed g c = entry_allowed (g.J.Rules.arena c.args.joint.now) c.args.order.now.list c.args.i c.args.p c.args.a c.requires.valid c.requires.entry
@@ -24,7 +24,7 @@ returns-in-Leaves-clause-within g c =
     let A = g.J.Rules.arena c.args.joint.now in
     let L = c.args.order.now.list in
     answer_within A c.known.ensures.numbered L c.args.p c.args.a c.args.k c.in-Leaves.pair
-    (entry_node A c.args.order.now c.args.i (as_entry (c.args.p, Act c.args.a)) c.requires.shaped c.known-2.ensures.in_range c.requires.entry)
+    (subst (λ n. c.args.p < n) c.requires.shaped (entry_node c.args.order.now c.args.i (as_entry (c.args.p, Act c.args.a)) c.known-2.ensures.in_range c.requires.entry))
     (answer_found A c.known.ensures.numbered (g.J.Rules.sizes c.args.joint.now) L c.args.i c.args.p c.args.a c.args.k (Leaves c.in-Leaves.env c.in-Leaves.state c.in-Leaves.pair)
     c.requires.valid c.requires.entry (c.in-Leaves.ensures.finding (has_entry (take c.args.i L)) (λ q b l h. search rules)))
 

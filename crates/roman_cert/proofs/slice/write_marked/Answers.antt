@@ -1,17 +1,11 @@
-use Rattle.roman_cert.proofs.Common.{arena_of, arith, refl, sym, ◌∙◌, as_entry, err_from_is_err_and, fill_whole}
+use Rattle.roman_cert.proofs.Common.{arith, refl, sym, ◌∙◌, as_entry, err_from_is_err_and, fill_whole}
 use Rattle.roman_cert.proofs.Rests.{rest_of, fill_next, fill_stops, fill_skips, fill_ends, fill_written}
-use Rattle.roman_cert.proofs.Answering.{entry_node}
 use Rattle.roman_cert.proofs.SliceTexts.{marked_said, unmarked_said}
 use Rattle.roman_cert.proofs.slice.write_marked.Goals as goal
 
 pub loop-i-init : goal.loop-i-init
 unfolding rest_of
 loop-i-init g c = record { filling = fill_whole _ _ _ _ c.new-page.ensures.empty refl; ahead = c.nothing-ahead.ensures c.args.order.now 0; cause = refl }
-
-pub marked-requires : goal.marked-requires
-marked-requires g c =
-    let n = c.args.joint.now in
-    omega (arith, c.requires.shaped, entry_node (arena_of n) c.args.order.now c.loop-i.i (as_entry c.walk-p.result) c.requires.shaped c.known-2.ensures.in_range c.walk-p.ensures.entry)
 
 pub loop-i-preserved-then-not-marked : goal.loop-i-preserved-then-not-marked
 loop-i-preserved-then-not-marked g c =
