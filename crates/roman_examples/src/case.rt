@@ -5,7 +5,10 @@ use crate::texts::Text;
 use roman_io::{MemShelf, MemSink, QuietSource, Sink, Source, Steps, Words};
 use roman_top::{Status, serve};
 use std::alloc::{AllocError, Global};
+use std::marker::Brand;
+use std::process::Abort;
 use std::sync::ledger::{Blank, Ledger};
+use std::test::Fail;
 
 /// The line that is written if the words are no command.
 pub(crate) const USAGE: &str =
@@ -23,36 +26,34 @@ pub(crate) const LAMP_LINES: &[&str] = &[
     "end",
 ];
 
-/// The report `LAMP_LINES` as bytes.
-pub(crate) const LAMP_REPORT: &[u8] =
-    b"pairs 4\nrelated 2\nenvironment e\ntarget off final\nservice l1 lamp off ready\nanswer composition\noffer on: l1\nend\n";
-
 /// The name of a text on the shelf, and the text.
 pub(crate) type File = (&'static str, Text);
 
 /// The expected outcome of a run.
 #[derive(Clone, Copy)]
-pub(crate) enum Outcome {
+pub(crate) enum Outcome<'a> {
     /// These lines are written, and the status is `Done`. A line `tally N` stands for any line
     /// `kept K added M` in which K and M add up to N.
-    Done(&'static [&'static str]),
+    Done(&'a [&'a str]),
     /// These lines and then those of a report are written, and the status is `Done`.
-    Reports(&'static [&'static str], &'static [&'static str]),
+    Reports(&'a [&'a str], &'a [&'a str]),
     /// These lines are written, and the status is `No`.
-    No(&'static [&'static str]),
+    No(&'a [&'a str]),
     /// A text is refused. The value is the refusal line after its first word.
-    Refused(&'static str),
+    Refused(&'a str),
     /// The system has more cells than this limit.
-    Limit(&'static str),
+    Limit(&'a str),
     /// The words are no command.
     Usage,
     /// A text isn't on the shelf, and nothing is written.
     Gone,
+    /// The input is too long, and nothing is written.
+    TooLong,
 }
 
-impl Outcome {
+impl Outcome<'_> {
     /// Returns whether a run that ended with this status and wrote this text has this outcome.
-    pub(crate) fn is(self, status: Status, text: &str) -> bool {
+    fn is(self, status: Status, text: &str) -> bool {
         match self {
             Outcome::Done(lines) => status == Status::Done && has_lines(text, lines, &[]),
             Outcome::Reports(lines, report) => {
@@ -63,7 +64,21 @@ impl Outcome {
             Outcome::Limit(rest) => status == Status::Limit && is_line(text, "limit ", rest),
             Outcome::Usage => status == Status::Usage && is_line(text, USAGE, ""),
             Outcome::Gone => status == Status::ShelfFault && text.is_empty(),
+            Outcome::TooLong => status == Status::TooLong && text.is_empty(),
         }
+    }
+
+    /// Asserts that the run of this name, which ended with this status and wrote to this sink, has this
+    /// outcome.
+    pub(crate) fn expect(self, rt: &impl Abort, name: &str, status: Status, out: &MemSink) {
+        let text = str::from_utf8(out.bytes()).unwrap_or("no text");
+        assert!(rt;
+            self.is(status, text),
+            "{}: status {}\n{}",
+            name,
+            status.number(),
+            text
+        );
     }
 }
 
@@ -79,11 +94,50 @@ pub(crate) struct Case<'a> {
     /// The lines of the input.
     pub(crate) input: &'a [&'a str],
     /// The expected outcome.
-    pub(crate) comes_to: Outcome,
+    pub(crate) comes_to: Outcome<'static>,
+}
+
+impl Case<'_> {
+    /// Asserts that the run has its expected outcome.
+    pub(crate) fn holds(&self, rt: &(impl Abort + AllocGlobal)) -> Result<(), Fail> {
+        let alloc = rt.alloc();
+        let mut shelf = MemShelf::new(files_of(alloc, self.files)?, Vec::new(alloc));
+        let mut input = QuietSource::new(text_of(alloc, self.input)?);
+        let mut out = MemSink::new(alloc, Vec::new(alloc));
+        let status = run(alloc, self.words, &mut shelf, &mut input, &mut out)?;
+        self.comes_to.expect(rt, self.name, status, &out);
+        Ok(())
+    }
+}
+
+/// What a run shows, the texts on the shelf, the words after the program's name, and its expected outcome.
+pub(crate) type Command = (
+    &'static str,
+    &'static [File],
+    &'static [&'static str],
+    Outcome<'static>,
+);
+
+/// Asserts that each of these runs without input has its expected outcome.
+pub(crate) fn commands_hold(
+    rt: &(impl Abort + AllocGlobal),
+    commands: &[Command],
+) -> Result<(), Fail> {
+    for (name, files, words, comes_to) in commands {
+        let case = Case {
+            name,
+            files,
+            words,
+            input: &[],
+            comes_to: *comes_to,
+        };
+        case.holds(rt)?;
+    }
+    Ok(())
 }
 
 /// What a run shows, the text in which it differs from other runs, and its expected outcome.
-pub(crate) type Row = (&'static str, Text, Outcome);
+pub(crate) type Row = (&'static str, Text, Outcome<'static>);
 
 /// Runs that differ in one text.
 #[derive(Clone, Copy)]
@@ -98,136 +152,106 @@ pub(crate) struct Runs<'a> {
     pub(crate) rows: &'a [Row],
 }
 
-/// Runs of `synth` on a document.
-pub(crate) const SYNTH: Runs<'static> = Runs {
-    words: &["synth", "lamp.json"],
-    file: "lamp.json",
-    beside: &[],
-    rows: &[],
-};
+/// Returns runs of `synth` on documents.
+pub(crate) fn synth(rows: &[Row]) -> Runs<'_> {
+    Runs {
+        words: &["synth", "lamp.json"],
+        file: "lamp.json",
+        beside: &[],
+        rows,
+    }
+}
+
+impl Runs<'_> {
+    /// Asserts that each run has its expected outcome.
+    pub(crate) fn hold(&self, rt: &(impl Abort + AllocGlobal)) -> Result<(), Fail> {
+        for (name, text, comes_to) in self.rows {
+            let mut files = Vec::from_slice(rt.alloc(), self.beside)?;
+            files.push((self.file, *text))?;
+            let case = Case {
+                name,
+                files: &files,
+                words: self.words,
+                input: &[],
+                comes_to: *comes_to,
+            };
+            case.holds(rt)?;
+        }
+        Ok(())
+    }
+}
 
 /// What a session shows, its document, the lines of the input, and its expected outcome.
-pub(crate) type Talk = (&'static str, Text, &'static [&'static str], Outcome);
+pub(crate) type Talk = (
+    &'static str,
+    Text,
+    &'static [&'static str],
+    Outcome<'static>,
+);
 
-/// Returns the name, the status and the output of the first run with a wrong outcome. Returns an empty
-/// text if each run has its expected outcome.
-pub(crate) fn first_wrong<L: Ledger>(
-    alloc: Global,
-    cases: &[Case<'_>],
-    blank: Blank,
-) -> Result<String, AllocError>
-    requires name { blank.name ≡ L.name }
-    requires parts { blank.parts ≡ L.parts }
-    requires some { 0 < L.parts }
-{
-    let mut steps = Steps::<L>::new(blank);
-    for case in cases {
-        let wrong = wrong(alloc, case, &mut steps)?;
-        if !wrong.is_empty() {
-            return Ok(wrong);
-        }
-    }
-    Ok(String::new(alloc))
-}
-
-/// Does the same as `first_wrong` for runs that differ in one text.
-pub(crate) fn first_row<L: Ledger>(
-    alloc: Global,
-    runs: &Runs<'_>,
-    blank: Blank,
-) -> Result<String, AllocError>
-    requires name { blank.name ≡ L.name }
-    requires parts { blank.parts ≡ L.parts }
-    requires some { 0 < L.parts }
-{
-    let mut steps = Steps::<L>::new(blank);
-    for (name, text, comes_to) in runs.rows {
-        let mut files = Vec::from_slice(alloc, runs.beside)?;
-        files.push((runs.file, *text))?;
-        let case = Case {
-            name,
-            files: &files,
-            words: runs.words,
-            input: &[],
-            comes_to: *comes_to,
-        };
-        let wrong = wrong(alloc, &case, &mut steps)?;
-        if !wrong.is_empty() {
-            return Ok(wrong);
-        }
-    }
-    Ok(String::new(alloc))
-}
-
-/// Does the same as `first_wrong` for sessions.
-pub(crate) fn first_talk<L: Ledger>(
-    alloc: Global,
-    talks: &[Talk],
-    blank: Blank,
-) -> Result<String, AllocError>
-    requires name { blank.name ≡ L.name }
-    requires parts { blank.parts ≡ L.parts }
-    requires some { 0 < L.parts }
-{
-    let mut steps = Steps::<L>::new(blank);
+/// Asserts that each of these sessions has its expected outcome.
+pub(crate) fn talks_hold(rt: &(impl Abort + AllocGlobal), talks: &[Talk]) -> Result<(), Fail> {
     for (name, text, input, comes_to) in talks {
-        let files = [("lamp.json", *text)];
         let case = Case {
             name,
-            files: &files,
-            words: &["run", "lamp.json"],
+            files: &[("system.json", *text)],
+            words: &["run", "system.json"],
             input,
             comes_to: *comes_to,
         };
-        let wrong = wrong(alloc, &case, &mut steps)?;
-        if !wrong.is_empty() {
-            return Ok(wrong);
-        }
+        case.holds(rt)?;
     }
-    Ok(String::new(alloc))
+    Ok(())
 }
 
-/// Returns the name, the status and the output of the run if its outcome is wrong, and an empty text
-/// otherwise.
-fn wrong<L: Ledger>(
+/// Runs the program on a shelf, and returns the status.
+pub(crate) fn run<I: Source, O: Sink>(
     alloc: Global,
-    case: &Case<'_>,
-    steps: &mut Steps<L>,
-) -> Result<String, AllocError> {
-    let mut input = QuietSource::new(text_of(alloc, case.input)?);
-    let mut out = MemSink::new(alloc, Vec::new(alloc));
-    let status = run(alloc, case.files, case.words, &mut input, &mut out, steps)?;
-    told(alloc, case.name, case.comes_to, status, out.bytes())
-}
-
-/// Returns the name of a run, its status and what it wrote, unless they make the expected outcome.
-/// Returns an empty text if they do.
-pub(crate) fn told(
-    alloc: Global,
-    name: &str,
-    comes_to: Outcome,
-    status: Status,
-    written: &[u8],
-) -> Result<String, AllocError> {
-    let written = str::from_utf8(written).unwrap_or("no text");
-    if comes_to.is(status, written) {
-        return Ok(String::new(alloc));
-    }
-    format!(in alloc; "{}: status {}\n{}", name, status.number(), written)
-}
-
-/// Runs the program on these files, and returns the status.
-pub(crate) fn run<I: Source, O: Sink, L: Ledger>(
-    alloc: Global,
-    files: &[File],
     words: &[&str],
+    shelf: &mut MemShelf,
     input: &mut I,
     out: &mut O,
-    steps: &mut Steps<L>,
 ) -> Result<Status, AllocError> {
-    let words = words_of(alloc, words)?;
-    let mut shelf = MemShelf::new(files_of(alloc, files)?, Vec::new(alloc));
-    Ok(serve(alloc, &words, &mut shelf, input, out, steps))
+    let mut all = Words::new(alloc);
+    for word in words {
+        all.push(word)?;
+    }
+    let blank = Blank::new(1);
+    Ok(counted::<I, O, Brand>(alloc, &all, shelf, input, out, blank))
+}
+
+/// Runs the program with a counter of steps on `blank`, and returns the status.
+fn counted<I: Source, O: Sink, L: Ledger>(
+    alloc: Global,
+    words: &Words,
+    shelf: &mut MemShelf,
+    input: &mut I,
+    out: &mut O,
+    blank: Blank,
+) -> Status
+    requires name { blank.name ≡ L.name }
+    requires parts { blank.parts ≡ L.parts }
+    requires some { 0 < L.parts }
+{
+    serve(alloc, words, shelf, input, out, &mut Steps::<L>::new(blank))
+}
+
+/// Runs the program on these files and on one more, without input. Returns the status, and the sink with
+/// what was written.
+pub(crate) fn run_beside(
+    alloc: Global,
+    words: &[&str],
+    files: &[File],
+    name: &str,
+    text: Vec<u8>,
+) -> Result<(Status, MemSink), AllocError> {
+    let mut files = files_of(alloc, files)?;
+    files.push((String::from_str(alloc, name)?, text))?;
+    let mut shelf = MemShelf::new(files, Vec::new(alloc));
+    let mut input = QuietSource::new(Vec::new(alloc));
+    let mut out = MemSink::new(alloc, Vec::new(alloc));
+    let status = run(alloc, words, &mut shelf, &mut input, &mut out)?;
+    Ok((status, out))
 }
 
 /// Returns the files with their bytes, as a shelf takes them.
@@ -237,17 +261,7 @@ pub(crate) fn files_of(
 ) -> Result<Vec<(String, Vec<u8>)>, AllocError> {
     let mut all = Vec::new(alloc);
     for (name, text) in files {
-        let name = String::from_str(alloc, name)?;
-        all.push((name, text.bytes(alloc)?))?;
-    }
-    Ok(all)
-}
-
-/// Returns these words as the program takes them.
-pub(crate) fn words_of(alloc: Global, words: &[&str]) -> Result<Words, AllocError> {
-    let mut all = Words::new(alloc);
-    for word in words {
-        all.push(word)?;
+        all.push((String::from_str(alloc, name)?, text.bytes(alloc)?))?;
     }
     Ok(all)
 }

@@ -1,40 +1,40 @@
 //! Certificates that are checked.
-ghost use Rattle.std.specs.Prelude.{◌≡◌, ◌<◌};
 
 use crate::case::Outcome::{Done, No};
-use crate::case::{Row, Runs, SYNTH, files_of, first_row, run, words_of};
-use crate::texts::Text;
-use roman_io::{MemShelf, MemSink, QuietSource, Steps};
-use roman_top::{Status, serve};
-use std::alloc::{AllocError, Global};
-use std::marker::Brand;
-use std::sync::ledger::{Blank, Ledger};
+use crate::case::{Row, Runs, run_beside};
+use crate::texts::Text::Plain;
+use crate::texts::{FLAKY, LAMP, document};
+use roman_top::Status;
 use std::test::Fail;
 
 /// Certificates of the flaky lamp.
 static ROWS: [Row; 6] = [
     (
         "accepted",
-        Text::Order,
+        Plain("roman-order 1\npairs 6\n1 f\n2 0\n3 1\n5 1\n0 0\n4 1\nend\n"),
         Done(&["greatest 0", "answer none"]),
     ),
     (
         "two entries exchanged",
-        Text::OrderExchanged,
+        Plain("roman-order 1\npairs 6\n1 f\n2 0\n3 1\n0 0\n5 1\n4 1\nend\n"),
         No(&["rejected 6 unjustified"]),
     ),
     (
         "an entry missing",
-        Text::OrderShort,
+        Plain("roman-order 1\npairs 6\n1 f\n2 0\n3 1\n5 1\n0 0\nend\n"),
         No(&["rejected 8 unlisted 4"]),
     ),
-    ("no end", Text::OrderUnended, No(&["rejected 9 form"])),
+    (
+        "no end",
+        Plain("roman-order 1\npairs 6\n1 f\n2 0\n3 1\n5 1\n0 0\n4 1\n"),
+        No(&["rejected 9 form"]),
+    ),
     (
         "an entry twice",
-        Text::OrderTwice,
+        Plain("roman-order 1\npairs 6\n1 f\n1 f\n2 0\n3 1\n5 1\n0 0\n4 1\nend\n"),
         No(&["rejected 4 repeated"]),
     ),
-    ("empty", Text::Nothing, No(&["rejected 1 form"])),
+    ("empty", Plain(""), No(&["rejected 1 form"])),
 ];
 
 #[test]
@@ -42,51 +42,22 @@ fn certificates_are_checked(rt: HostRuntime) -> Result<(), Fail> {
     let runs = Runs {
         words: &["check", "flaky.json", "c.txt"],
         file: "c.txt",
-        beside: &[("flaky.json", Text::Flaky)],
+        beside: &[("flaky.json", document!(FLAKY))],
         rows: &ROWS,
-        ..SYNTH
     };
-    let wrong = first_row::<Brand>(rt.alloc(), &runs, Blank::new(1))?;
-    assert_eq!(rt; wrong.as_str(), "");
-    Ok(())
-}
-
-/// Runs `check` on the certificate that `certify` writes for the lamp. Returns the status, and the sink
-/// with what was written.
-fn checked<L: Ledger>(alloc: Global, blank: Blank) -> Result<(Status, MemSink), AllocError>
-    requires name { blank.name ≡ L.name }
-    requires parts { blank.parts ≡ L.parts }
-    requires some { 0 < L.parts }
-{
-    let mut steps = Steps::<L>::new(blank);
-    let mut input = QuietSource::new(Vec::new(alloc));
-    let mut certificate = MemSink::new(alloc, Vec::new(alloc));
-    let files = [("lamp.json", Text::Lamp)];
-    let certified = run(
-        alloc,
-        &files,
-        &["certify", "lamp.json"],
-        &mut input,
-        &mut certificate,
-        &mut steps,
-    )?;
-    if certified != Status::Done {
-        return Ok((certified, certificate));
-    }
-    let mut files = files_of(alloc, &files)?;
-    let name = String::from_str(alloc, "c.txt")?;
-    files.push((name, Vec::from_slice(alloc, certificate.bytes())?))?;
-    let mut shelf = MemShelf::new(files, Vec::new(alloc));
-    let words = words_of(alloc, &["check", "lamp.json", "c.txt"])?;
-    let mut out = MemSink::new(alloc, Vec::new(alloc));
-    let status = serve(alloc, &words, &mut shelf, &mut input, &mut out, &mut steps);
-    Ok((status, out))
+    runs.hold(&rt)
 }
 
 #[test]
 fn what_is_certified_is_accepted(rt: HostRuntime) -> Result<(), Fail> {
-    let (status, out) = checked::<Brand>(rt.alloc(), Blank::new(1))?;
+    let alloc = rt.alloc();
+    let lamp = [("lamp.json", document!(LAMP))];
+    let words = ["certify", "lamp.json"];
+    let (status, certificate) = run_beside(alloc, &words, &lamp, "c.txt", Vec::new(alloc))?;
     assert_eq!(rt; status, Status::Done);
-    assert_eq!(rt; out.bytes(), b"greatest 2\nanswer composition\n".as_slice());
+    let certificate = Vec::from_slice(alloc, certificate.bytes())?;
+    let words = ["check", "lamp.json", "c.txt"];
+    let (status, out) = run_beside(alloc, &words, &lamp, "c.txt", certificate)?;
+    Done(&["greatest 2", "answer composition"]).expect(&rt, "what is certified", status, &out);
     Ok(())
 }

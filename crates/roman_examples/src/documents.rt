@@ -1,28 +1,48 @@
 //! Documents that are accepted and refused.
-ghost use Rattle.std.specs.Prelude.{◌≡◌, ◌<◌};
 
-use crate::case::Outcome::{Done, Gone, Limit, Refused};
-use crate::case::{
-    Case, LAMP_LINES, LAMP_REPORT, Row, Runs, SYNTH, first_row, first_wrong, words_of,
+use crate::case::Outcome::{self, Done, Gone, Limit, Refused};
+use crate::case::{Command, LAMP_LINES, Row, Runs, commands_hold, run_beside, synth};
+use crate::texts::Part::{Each, Is};
+use crate::texts::Text::Plain;
+use crate::texts::{
+    FROM_GUARD, FULL, LAMP, LAMP_AND_WIDE, NEXT_DOT, NEXT_WIDE, Part, RESTS_ONE, SERVICE, TARGET,
+    UP_TO_GUARD, document,
 };
-use crate::texts::Text;
-use roman_io::{MemShelf, MemSink, QuietSource, Steps};
-use roman_top::{Status, serve};
-use std::alloc::{AllocError, Global};
-use std::marker::Brand;
-use std::sync::ledger::{Blank, Ledger};
+use std::alloc::AllocError;
+use std::process::Abort;
 use std::test::Fail;
+
+/// An environment with three states, each of which both actions keep.
+const THREE_STATES: &[Part] = &[
+    Is(r#"{"states":["e1","e2","e3"],"start":"e1","actions":["on","off"],"#),
+    Is(r#""steps":[["e1","on","e1"],["e2","on","e2"],["e3","on","e3"],"#),
+    Is(r#"["e1","off","e1"],["e2","off","e2"],["e3","off","e3"]]}"#),
+];
 
 /// Documents that are accepted or refused.
 static ROWS: [Row; 20] = [
     (
         "choice",
-        Text::Choice,
+        document!(
+            LAMP,
+            environment: THREE_STATES,
+            target: &[
+                Is(r#"{"states":["off","on"],"start":"off","final":["off"],"steps":["#),
+                Is(r#"["off",["e1","e2"],"on","on"],["off",["e2","e3"],"on","off"],["on",true,"off","off"]]}"#),
+            ],
+        ),
         Refused("lamp.json choice target 0 steps 1 0 e2"),
     ),
     (
         "no choice",
-        Text::NoChoice,
+        document!(
+            LAMP,
+            environment: THREE_STATES,
+            target: &[
+                Is(r#"{"states":["off","on"],"start":"off","final":["off"],"steps":["#),
+                Is(r#"["off",["e1","e2"],"on","on"],["off",["e3"],"on","off"],["on",true,"off","off"]]}"#),
+            ],
+        ),
         Done(&[
             "pairs 12",
             "related 4",
@@ -36,68 +56,121 @@ static ROWS: [Row; 20] = [
     ),
     (
         "repeated",
-        Text::OnTwice,
+        document!(
+            LAMP,
+            environment: &[
+                Is(r#"{"states":["e"],"start":"e","actions":["on","on"],"steps":[["e","on","e"],["e","off","e"]]}"#),
+            ],
+        ),
         Refused("lamp.json repeated environment 0 actions 1"),
     ),
     (
         "missing",
-        Text::NoTarget,
+        document!(LAMP, target: &[]),
         Refused("lamp.json missing target 0 whole 0"),
     ),
     (
         "no guard",
-        Text::NoGuard,
+        document!(LAMP, target: &[Is(UP_TO_GUARD), Is(r#"{"any":["e"]}"#), Is(FROM_GUARD)]),
         Refused("lamp.json form target 0 steps 0"),
     ),
     (
         "version",
-        Text::Roman9,
+        document!(LAMP, version: "9"),
         Refused("lamp.json version system 0 roman 0"),
     ),
-    ("version 2", Text::Roman2, Done(LAMP_LINES)),
-    ("a hundred levels", Text::Not100, Done(LAMP_LINES)),
+    ("version 2", document!(LAMP, version: "2"), Done(LAMP_LINES)),
+    (
+        "a hundred levels",
+        document!(
+            LAMP,
+            target: &[
+                Is(UP_TO_GUARD),
+                Each(r#"{"not":"#, 1, 100),
+                Is("true"),
+                Each("}", 1, 100),
+                Is(FROM_GUARD),
+            ],
+        ),
+        Done(LAMP_LINES),
+    ),
     (
         "two hundred levels",
-        Text::Not200,
+        document!(
+            LAMP,
+            target: &[
+                Is(UP_TO_GUARD),
+                Each(r#"{"not":"#, 1, 200),
+                Is("true"),
+                Each("}", 1, 200),
+                Is(FROM_GUARD),
+            ],
+        ),
         Refused("lamp.json notjson system 0 whole 0"),
     ),
     (
         "no UTF-8",
-        Text::Lamp255,
+        document!(LAMP, end: 255),
         Refused("lamp.json notjson system 0 whole 0"),
     ),
-    ("a final state twice", Text::FinalTwice, Done(LAMP_LINES)),
-    ("wide services", Text::Wide16, Limit("262144")),
+    (
+        "a final state twice",
+        document!(
+            LAMP,
+            target: &[
+                Is(r#"{"states":["off","on"],"start":"off","final":["off","off"],"#),
+                Is(r#""steps":[["off",true,"on","on"],["on",true,"off","off"]]}"#),
+            ],
+        ),
+        Done(LAMP_LINES),
+    ),
+    (
+        "wide services",
+        document!(
+            LAMP,
+            behaviours: LAMP_AND_WIDE,
+            services: &[Is(SERVICE), Each(NEXT_WIDE, 1, 16)],
+        ),
+        Limit("262144"),
+    ),
     (
         "no behaviours",
-        Text::NoBehaviours,
+        document!(LAMP, behaviours: &[]),
         Refused("lamp.json unknown service 0 behaviour 0"),
     ),
     (
         "a limit that is no u64",
-        Text::LimitHuge,
+        document!(LAMP, limit: "18446744073709551616"),
         Refused("lamp.json form system 0 limit 0"),
     ),
     (
         "the limit 0",
-        Text::Limit0,
+        document!(LAMP, limit: "0"),
         Refused("lamp.json count system 0 limit 0"),
     ),
-    ("a limit below the cells", Text::Limit7, Limit("7")),
+    (
+        "a limit below the cells",
+        document!(LAMP, limit: "7"),
+        Limit("7"),
+    ),
     (
         "too many services",
-        Text::Overfull,
+        document!(FULL, services: &[Is(SERVICE), Each(NEXT_DOT, 1, 32)]),
         Refused("lamp.json count system 0 services 0"),
     ),
     (
         "a number for rests",
-        Text::Rests1,
+        document!(RESTS_ONE),
         Refused("lamp.json form service 1 rests 0"),
     ),
-    ("a file that is not there", Text::TargetGone, Gone),
+    (
+        "a file that is not there",
+        document!(LAMP, target: &[Is(r#"{"file":"gone.json"}"#)]),
+        Gone,
+    ),
     (
         "a limit before a file that is not there",
-        Text::TargetGoneLimit0,
+        document!(LAMP, limit: "0", target: &[Is(r#"{"file":"gone.json"}"#)]),
         Refused("lamp.json count system 0 limit 0"),
     ),
 ];
@@ -106,117 +179,74 @@ static ROWS: [Row; 20] = [
 static TARGETS: [Row; 3] = [
     (
         "a part file with an unknown action",
-        Text::TargetDim,
+        Plain(
+            r#"{"states":["off","on"],"start":"off","final":["off"],"steps":[["off",true,"on","on"],["on",true,"dim","off"]]}"#,
+        ),
         Refused("t.json unknown target 0 steps 1"),
     ),
-    ("a part file", Text::Target, Done(LAMP_LINES)),
+    ("a part file", Plain(TARGET), Done(LAMP_LINES)),
     (
         "a part file that names another",
-        Text::FileAgain,
+        Plain(r#"{"file":"u.json"}"#),
         Refused("t.json missing target 0 states 0"),
     ),
 ];
 
 /// A document that isn't on the shelf.
-static CASES: [Case; 1] = [Case {
-    name: "a document that is not there",
-    files: &[("lamp.json", Text::Lamp)],
-    words: &["synth", "gone.json"],
-    input: &[],
-    comes_to: Gone,
-}];
+static COMMANDS: [Command; 1] = [(
+    "a document that is not there",
+    &[("lamp.json", document!(LAMP))],
+    &["synth", "gone.json"],
+    Gone,
+)];
 
 #[test]
 fn documents_are_read(rt: HostRuntime) -> Result<(), Fail> {
-    let runs = Runs {
-        rows: &ROWS,
-        ..SYNTH
-    };
-    let wrong = first_row::<Brand>(rt.alloc(), &runs, Blank::new(1))?;
-    assert_eq!(rt; wrong.as_str(), "");
+    synth(&ROWS).hold(&rt)?;
     let runs = Runs {
         file: "t.json",
-        beside: &[("lamp.json", Text::TargetByFile)],
-        rows: &TARGETS,
-        ..SYNTH
+        beside: &[(
+            "lamp.json",
+            document!(LAMP, target: &[Is(r#"{"file":"t.json"}"#)]),
+        )],
+        ..synth(&TARGETS)
     };
-    let wrong = first_row::<Brand>(rt.alloc(), &runs, Blank::new(1))?;
-    assert_eq!(rt; wrong.as_str(), "");
-    let wrong = first_wrong::<Brand>(rt.alloc(), &CASES, Blank::new(1))?;
-    assert_eq!(rt; wrong.as_str(), "");
-    Ok(())
+    runs.hold(&rt)?;
+    commands_hold(&rt, &COMMANDS)
 }
 
-/// Runs `synth` on this text. Returns the status, and the sink with what was written.
-fn synth<L: Ledger>(
-    alloc: Global,
+/// Asserts that `synth` on this text has the expected outcome.
+fn synth_on(
+    rt: &(impl Abort + AllocGlobal),
+    name: &str,
     text: Vec<u8>,
-    steps: &mut Steps<L>,
-) -> Result<(Status, MemSink), AllocError> {
-    let mut files = Vec::new(alloc);
-    files.push((String::from_str(alloc, "lamp.json")?, text))?;
-    let mut shelf = MemShelf::new(files, Vec::new(alloc));
-    let mut input = QuietSource::new(Vec::new(alloc));
-    let mut out = MemSink::new(alloc, Vec::new(alloc));
-    let words = words_of(alloc, &["synth", "lamp.json"])?;
-    let status = serve(alloc, &words, &mut shelf, &mut input, &mut out, steps);
-    Ok((status, out))
-}
-
-/// Returns the least length to which the lamp's text can be cut without being refused, or `None` if each
-/// shorter text is refused.
-fn first_read<L: Ledger>(alloc: Global, blank: Blank) -> Result<Option<usize>, AllocError>
-    requires name { blank.name ≡ L.name }
-    requires parts { blank.parts ≡ L.parts }
-    requires some { 0 < L.parts }
-{
-    let lamp = Text::Lamp.bytes(alloc)?;
-    let mut steps = Steps::<L>::new(blank);
-    for len in 0..lamp.len() {
-        let text = Vec::from_slice(alloc, &lamp[..len])?;
-        let (status, out) = synth(alloc, text, &mut steps)?;
-        let line = b"refused lamp.json notjson system 0 whole 0\n";
-        if status != Status::Refused || out.bytes() != line.as_slice() {
-            return Ok(Some(len));
-        }
-    }
-    Ok(None)
+    comes_to: Outcome<'_>,
+) -> Result<(), AllocError> {
+    let words = ["synth", "lamp.json"];
+    let (status, out) = run_beside(rt.alloc(), &words, &[], "lamp.json", text)?;
+    comes_to.expect(rt, name, status, &out);
+    Ok(())
 }
 
 #[test]
 fn a_cut_document_is_refused(rt: HostRuntime) -> Result<(), Fail> {
-    let read = first_read::<Brand>(rt.alloc(), Blank::new(1))?;
-    assert_eq!(rt; read, None);
+    let lamp = document!(LAMP).bytes(rt.alloc())?;
+    for len in 0..lamp.len() {
+        let text = Vec::from_slice(rt.alloc(), &lamp[..len])?;
+        let outcome = Refused("lamp.json notjson system 0 whole 0");
+        synth_on(&rt, "a cut document", text, outcome)?;
+    }
     Ok(())
-}
-
-/// Runs `synth` on the lamp's text, with spaces after it up to `len` bytes. Returns the status, and the
-/// sink with what was written.
-fn padded<L: Ledger>(
-    alloc: Global,
-    len: usize,
-    blank: Blank,
-) -> Result<(Status, MemSink), AllocError>
-    requires name { blank.name ≡ L.name }
-    requires parts { blank.parts ≡ L.parts }
-    requires some { 0 < L.parts }
-{
-    let mut text = Text::Lamp.bytes(alloc)?;
-    text.resize(len, b' ')?;
-    let mut steps = Steps::<L>::new(blank);
-    synth(alloc, text, &mut steps)
 }
 
 #[test]
 fn a_document_has_a_greatest_length(rt: HostRuntime) -> Result<(), Fail> {
-    let (status, out) = padded::<Brand>(rt.alloc(), 1_048_576, Blank::new(1))?;
-    assert_eq!(rt; status, Status::Done);
-    assert_eq!(rt; out.bytes(), LAMP_REPORT);
-    let (status, out) = padded::<Brand>(rt.alloc(), 1_048_577, Blank::new(1))?;
-    assert_eq!(rt; status, Status::Refused);
-    assert_eq!(rt;
-        out.bytes(),
-        b"refused lamp.json toolong system 0 whole 0\n".as_slice()
-    );
+    let mut text = document!(LAMP).bytes(rt.alloc())?;
+    text.resize(1_048_576, b' ')?;
+    synth_on(&rt, "1,048,576 bytes", text, Done(LAMP_LINES))?;
+    let mut text = document!(LAMP).bytes(rt.alloc())?;
+    text.resize(1_048_577, b' ')?;
+    let outcome = Refused("lamp.json toolong system 0 whole 0");
+    synth_on(&rt, "1,048,577 bytes", text, outcome)?;
     Ok(())
 }

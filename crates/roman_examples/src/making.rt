@@ -1,18 +1,15 @@
 //! Systems made from a number.
 
 use crate::case::Outcome::{Done, Usage};
-use crate::case::{Case, first_wrong};
-use std::marker::Brand;
-use std::sync::ledger::Blank;
+use crate::case::{Command, commands_hold};
 use std::test::Fail;
 
-static CASES: [Case; 8] = [
-    Case {
-        name: "make 1",
-        files: &[],
-        words: &["make", "1"],
-        input: &[],
-        comes_to: Done(&[
+static COMMANDS: [Command; 8] = [
+    (
+        "make 1",
+        &[],
+        &["make", "1"],
+        Done(&[
             "made 1",
             "start pairs 12 related 5 composition",
             "freeze pairs 12 related 0 none",
@@ -22,13 +19,12 @@ static CASES: [Case; 8] = [
             "round pairs 12 related 5 composition",
             "end",
         ]),
-    },
-    Case {
-        name: "make 2",
-        files: &[],
-        words: &["make", "2"],
-        input: &[],
-        comes_to: Done(&[
+    ),
+    (
+        "make 2",
+        &[],
+        &["make", "2"],
+        Done(&[
             "made 2",
             "start pairs 36 related 15 composition",
             "freeze pairs 36 related 10 composition",
@@ -38,13 +34,12 @@ static CASES: [Case; 8] = [
             "round pairs 36 related 15 composition",
             "end",
         ]),
-    },
-    Case {
-        name: "make 5",
-        files: &[],
-        words: &["make", "5"],
-        input: &[],
-        comes_to: Done(&[
+    ),
+    (
+        "make 5",
+        &[],
+        &["make", "5"],
+        Done(&[
             "made 5",
             "start pairs 972 related 223 composition",
             "freeze pairs 972 related 190 composition",
@@ -54,13 +49,12 @@ static CASES: [Case; 8] = [
             "round pairs 972 related 223 composition",
             "end",
         ]),
-    },
-    Case {
-        name: "make 10",
-        files: &[],
-        words: &["make", "10"],
-        input: &[],
-        comes_to: Done(&[
+    ),
+    (
+        "make 10",
+        &[],
+        &["make", "10"],
+        Done(&[
             "made 10",
             "start pairs 236196 related 12287 composition",
             "freeze pairs 236196 related 11262 composition",
@@ -70,40 +64,14 @@ static CASES: [Case; 8] = [
             "round pairs 236196 related 12287 composition",
             "end",
         ]),
-    },
-    Case {
-        name: "make 11",
-        files: &[],
-        words: &["make", "11"],
-        input: &[],
-        comes_to: Usage,
-    },
-    Case {
-        name: "make 0",
-        files: &[],
-        words: &["make", "0"],
-        input: &[],
-        comes_to: Usage,
-    },
-    Case {
-        name: "make 01",
-        files: &[],
-        words: &["make", "01"],
-        input: &[],
-        comes_to: Usage,
-    },
-    Case {
-        name: "make",
-        files: &[],
-        words: &["make"],
-        input: &[],
-        comes_to: Usage,
-    },
+    ),
+    ("make 11", &[], &["make", "11"], Usage),
+    ("make 0", &[], &["make", "0"], Usage),
+    ("make 01", &[], &["make", "01"], Usage),
+    ("make", &[], &["make"], Usage),
 ];
 
 #[test]
 fn systems_are_made(rt: HostRuntime) -> Result<(), Fail> {
-    let wrong = first_wrong::<Brand>(rt.alloc(), &CASES, Blank::new(1))?;
-    assert_eq!(rt; wrong.as_str(), "");
-    Ok(())
+    commands_hold(&rt, &COMMANDS)
 }

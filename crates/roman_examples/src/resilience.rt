@@ -1,14 +1,12 @@
 //! What remains when services fail.
-ghost use Rattle.std.specs.Prelude.{◌≡◌, ◌<◌};
 
 use crate::case::Outcome::{Done, Limit, Refused};
-use crate::case::{File, Row, Runs, SYNTH, first_row, run};
-use crate::texts::Text;
-use roman_io::{MemSink, QuietSource, Steps};
+use crate::case::{Row, Runs, run_beside, synth};
+use crate::texts::{
+    BARE, FROZEN, FROZEN_AND_LOOSE, FULL, LAMP, LOOSE, TWO_LAMPS, WITH_X, document,
+};
 use roman_top::Status;
 use std::alloc::{AllocError, Global};
-use std::marker::Brand;
-use std::sync::ledger::{Blank, Ledger};
 use std::test::Fail;
 
 /// The lines for a lamp beside a loose service.
@@ -28,7 +26,7 @@ const LOOSE_LINES: &[&str] = &[
 static ROWS: [Row; 9] = [
     (
         "lamp",
-        Text::Lamp,
+        document!(LAMP),
         Done(&[
             "services 1",
             "start composition related 2 choices 2",
@@ -39,7 +37,7 @@ static ROWS: [Row; 9] = [
     ),
     (
         "two lamps",
-        Text::TwoLamps,
+        document!(TWO_LAMPS),
         Done(&[
             "services 2",
             "start composition related 3 choices 4",
@@ -54,7 +52,7 @@ static ROWS: [Row; 9] = [
     ),
     (
         "a frozen service",
-        Text::LampFrozen,
+        document!(FROZEN),
         Done(&[
             "services 1",
             "start none related 0 choices 0",
@@ -65,18 +63,18 @@ static ROWS: [Row; 9] = [
     ),
     (
         "no services",
-        Text::Bare,
+        document!(BARE),
         Done(&["services 0", "start composition related 1 choices 0", "end"]),
     ),
-    ("a loose service", Text::LampAndLooseX, Done(LOOSE_LINES)),
+    ("a loose service", document!(LOOSE), Done(LOOSE_LINES)),
     (
         "a service that is frozen and loose",
-        Text::FrozenAndLoose,
+        document!(FROZEN_AND_LOOSE),
         Done(LOOSE_LINES),
     ),
     (
         "a service that needn't be there",
-        Text::LampAndX,
+        document!(WITH_X),
         Done(&[
             "services 2",
             "start composition related 2 choices 2",
@@ -89,10 +87,10 @@ static ROWS: [Row; 9] = [
             "end",
         ]),
     ),
-    ("past the limit", Text::Limit7, Limit("7")),
+    ("past the limit", document!(LAMP, limit: "7"), Limit("7")),
     (
         "refused",
-        Text::Roman9,
+        document!(LAMP, version: "9"),
         Refused("lamp.json version system 0 roman 0"),
     ),
 ];
@@ -101,12 +99,9 @@ static ROWS: [Row; 9] = [
 fn services_fail(rt: HostRuntime) -> Result<(), Fail> {
     let runs = Runs {
         words: &["resilience", "lamp.json"],
-        rows: &ROWS,
-        ..SYNTH
+        ..synth(&ROWS)
     };
-    let wrong = first_row::<Brand>(rt.alloc(), &runs, Blank::new(1))?;
-    assert_eq!(rt; wrong.as_str(), "");
-    Ok(())
+    runs.hold(&rt)
 }
 
 /// Appends the two lines for services that fail. Only the lamp is needed: without it no composition
@@ -157,24 +152,12 @@ fn full_text(alloc: Global) -> Result<String, AllocError> {
     Ok(text)
 }
 
-/// Returns whether `resilience` writes that text for a lamp and thirty-one dots.
-fn full_fails<L: Ledger>(alloc: Global, blank: Blank) -> Result<bool, AllocError>
-    requires name { blank.name ≡ L.name }
-    requires parts { blank.parts ≡ L.parts }
-    requires some { 0 < L.parts }
-{
-    let mut steps = Steps::<L>::new(blank);
-    let mut input = QuietSource::new(Vec::new(alloc));
-    let mut out = MemSink::new(alloc, Vec::new(alloc));
-    let files: [File; 1] = [("lamp.json", Text::Full)];
-    let words = ["resilience", "lamp.json"];
-    let status = run(alloc, &files, &words, &mut input, &mut out, &mut steps)?;
-    let wanted = full_text(alloc)?;
-    Ok(status == Status::Done && out.bytes() == wanted.as_bytes())
-}
-
 #[test]
 fn thirty_two_services_fail(rt: HostRuntime) -> Result<(), Fail> {
-    assert!(rt; full_fails::<Brand>(rt.alloc(), Blank::new(1))?);
+    let full = document!(FULL).bytes(rt.alloc())?;
+    let words = ["resilience", "lamp.json"];
+    let (status, out) = run_beside(rt.alloc(), &words, &[], "lamp.json", full)?;
+    assert_eq!(rt; status, Status::Done);
+    assert!(rt; out.bytes() == full_text(rt.alloc())?.as_bytes());
     Ok(())
 }

@@ -1,27 +1,26 @@
 //! Sessions.
-ghost use Rattle.std.specs.Prelude.{◌≡◌, ◌<◌};
 
-use crate::case::Outcome::{Done, Reports};
-use crate::case::{Case, LAMP_LINES, Talk, first_talk, first_wrong, run};
-use crate::texts::Text;
-use roman_io::{EndlessSource, MemSink, QuietSource, Source, Steps};
-use roman_top::Status;
-use std::alloc::{AllocError, Global};
-use std::marker::Brand;
-use std::sync::ledger::{Blank, Ledger};
+use crate::case::Outcome::{self, Done, Reports, TooLong};
+use crate::case::{LAMP_LINES, Talk, files_of, run, talks_hold};
+use crate::texts::{
+    FLAKY, FULL, LAMP, LOOSE, NO_ON, RESTS_ONE, TWO_LAMPS, WITH_X, WORKSHOP, document,
+};
+use roman_io::{EndlessSource, MemShelf, MemSink, QuietSource, Source};
+use std::alloc::AllocError;
+use std::process::Abort;
 use std::test::Fail;
 
-/// Sessions with lamps.
-static TALKS: [Talk; 25] = [
+/// Sessions with lamps, and one with the workshop.
+static TALKS: [Talk; 26] = [
     (
         "nothing asked",
-        Text::NoOn,
+        document!(NO_ON),
         &["do on"],
         Done(&["not allowed"]),
     ),
     (
         "lamp, on and off",
-        Text::Lamp,
+        document!(LAMP),
         &[
             "do on",
             "use l1",
@@ -41,7 +40,7 @@ static TALKS: [Talk; 25] = [
     ),
     (
         "impossible, abort",
-        Text::Lamp,
+        document!(LAMP),
         &["do on", "use l1", "saw off e", "abort", "report"],
         Reports(
             &["offer l1", "using l1", "impossible", "aborted"],
@@ -50,7 +49,7 @@ static TALKS: [Talk; 25] = [
     ),
     (
         "freeze, thaw",
-        Text::Lamp,
+        document!(LAMP),
         &["freeze l1", "do on", "thaw l1", "report"],
         Reports(
             &["kept 2 added 2", "no composition", "kept 2 added 0"],
@@ -59,7 +58,7 @@ static TALKS: [Talk; 25] = [
     ),
     (
         "flaky, joined by a lamp",
-        Text::Flaky,
+        document!(FLAKY),
         &["join l1 lamp off", "report", "do on", "use f1"],
         Done(&[
             "tally 7",
@@ -78,7 +77,7 @@ static TALKS: [Talk; 25] = [
     ),
     (
         "join, die",
-        Text::Flaky,
+        document!(FLAKY),
         &["join l1 lamp off", "die l1", "report"],
         Done(&[
             "tally 7",
@@ -94,7 +93,7 @@ static TALKS: [Talk; 25] = [
     ),
     (
         "a bad service",
-        Text::LampAndX,
+        document!(WITH_X),
         &[
             "jump x bad",
             "do on",
@@ -119,27 +118,27 @@ static TALKS: [Talk; 25] = [
     ),
     (
         "a limit",
-        Text::Limit8,
+        document!(LAMP, limit: "8"),
         &["join l2 lamp off", "report"],
         Reports(&["error limit"], LAMP_LINES),
     ),
     (
         "full",
-        Text::Full,
+        document!(FULL),
         &["join l2 lamp off"],
         Done(&["error full"]),
     ),
-    ("empty", Text::Lamp, &[], Done(&[])),
-    ("quit", Text::Lamp, &["quit", "do on"], Done(&["bye"])),
+    ("empty", document!(LAMP), &[], Done(&[])),
+    ("quit", document!(LAMP), &["quit", "do on"], Done(&["bye"])),
     (
         "busy",
-        Text::Lamp,
+        document!(LAMP),
         &["do on", "freeze l1", "use l1"],
         Done(&["offer l1", "error busy", "using l1"]),
     ),
     (
         "refusals in a row",
-        Text::Lamp,
+        document!(LAMP),
         &[
             "do dim",
             "do",
@@ -167,13 +166,13 @@ static TALKS: [Talk; 25] = [
     ),
     (
         "jumps",
-        Text::Lamp,
+        document!(LAMP),
         &["jump l1 on", "do on", "jump l1 off", "do on"],
         Done(&["jumped", "no composition", "jumped", "offer l1"]),
     ),
     (
         "an explanation",
-        Text::Flaky,
+        document!(FLAKY),
         &["explain"],
         Done(&[
             "lost on e stuck: off",
@@ -185,7 +184,7 @@ static TALKS: [Talk; 25] = [
     ),
     (
         "a long line",
-        Text::Lamp,
+        document!(LAMP),
         &[
             "aaaaaaaaaaaaaaaaaaaaaaaaaaaaaaaaaaaaaaaaaaaaaaaaaaaaaaaaaaaaaaaaaaaaaaaaaaaaaaaaaaaaaaaaaaaaaaaaaaaaaaaaaaaaaaaaaaaaaaaaaaaaaaaaaaaaaaaaaaaaaaaaaaaaaaaaaaaaaaaaaaaaaaaaaaaaaaaaaaaaaaaaaaaaaaaaaaaaaaaaaaaaaaaaaaaaaaaaaaaaaaaaaaaaaaaaaaaaaaaaaaaaaaaaaaaaaaaaa",
         ],
@@ -193,13 +192,13 @@ static TALKS: [Talk; 25] = [
     ),
     (
         "a second lamp",
-        Text::TwoLamps,
+        document!(TWO_LAMPS),
         &["freeze l1", "do on"],
         Done(&["kept 5 added 1", "offer l2"]),
     ),
     (
         "freeze both",
-        Text::TwoLamps,
+        document!(TWO_LAMPS),
         &["freeze l1", "freeze l2", "thaw l1", "report"],
         Done(&[
             "kept 5 added 1",
@@ -218,7 +217,7 @@ static TALKS: [Talk; 25] = [
     ),
     (
         "die, then join",
-        Text::TwoLamps,
+        document!(TWO_LAMPS),
         &["die l1", "join l1 lamp off", "report"],
         Done(&[
             "kept 2 added 0",
@@ -236,25 +235,25 @@ static TALKS: [Talk; 25] = [
     ),
     (
         "a loose service dies",
-        Text::LampAndLooseX,
+        document!(LOOSE),
         &["die x", "report"],
         Reports(&["kept 2 added 0"], LAMP_LINES),
     ),
     (
         "rests is ignored",
-        Text::RestsIgnored,
+        document!(RESTS_ONE, version: "1"),
         &["do on"],
         Done(&["no composition"]),
     ),
     (
         "a loose service joins",
-        Text::LampAndX,
+        document!(WITH_X),
         &["die x", "join x x bad loose", "do on"],
         Done(&["tally 2", "tally 4", "offer l1"]),
     ),
     (
         "a lamp, with each kind of reply",
-        Text::Lamp,
+        document!(LAMP),
         &[
             "do on",
             "use l1",
@@ -298,7 +297,7 @@ static TALKS: [Talk; 25] = [
     ),
     (
         "services change, one after another",
-        Text::Lamp,
+        document!(LAMP),
         &[
             "explain",
             "do on",
@@ -344,132 +343,112 @@ static TALKS: [Talk; 25] = [
     ),
     (
         "a return before the newline",
-        Text::Lamp,
+        document!(LAMP),
         &["quit\r"],
         Done(&["bye"]),
     ),
+    (
+        "the workshop",
+        document!(WORKSHOP),
+        &[
+            "do clean",
+            "use arm1",
+            "saw worn full",
+            "do dip",
+            "use arm3",
+            "saw loaded half",
+            "die arm2",
+            "do paint",
+            "use arm3",
+            "saw free half",
+            "jumpenv spilt",
+            "do clean",
+            "explain",
+            "join arm2 dipper free",
+            "jump arm1 fresh",
+            "do clean",
+            "use arm1",
+            "saw fresh low",
+            "do recharge",
+            "use arm3",
+            "saw free full",
+            "report",
+        ],
+        Done(&[
+            "offer arm1 arm3",
+            "using arm1",
+            "now cleaned full",
+            "offer arm2 arm3",
+            "using arm3",
+            "now dipped half",
+            "kept 45 added 0",
+            "offer arm3",
+            "using arm3",
+            "now painted half",
+            "jumped",
+            "no composition",
+            "lost painted spilt worn free: clean",
+            "  arm1 cannot",
+            "  arm3 cannot",
+            "end",
+            "tally 118",
+            "jumped",
+            "offer arm1",
+            "using arm1",
+            "now tidied low",
+            "offer arm1 arm3",
+            "using arm3",
+            "now rest full",
+            "pairs 160",
+            "related 42",
+            "environment full",
+            "target rest final",
+            "service arm1 cleaner fresh ready",
+            "service arm3 allround free ready",
+            "service arm2 dipper free ready",
+            "answer composition",
+            "offer clean: arm1 arm3",
+            "end",
+        ]),
+    ),
 ];
-
-/// A session with the workshop.
-static CASES: [Case; 1] = [Case {
-    name: "the workshop",
-    files: &[("workshop.json", Text::Workshop)],
-    words: &["run", "workshop.json"],
-    input: &[
-        "do clean",
-        "use arm1",
-        "saw worn full",
-        "do dip",
-        "use arm3",
-        "saw loaded half",
-        "die arm2",
-        "do paint",
-        "use arm3",
-        "saw free half",
-        "jumpenv spilt",
-        "do clean",
-        "explain",
-        "join arm2 dipper free",
-        "jump arm1 fresh",
-        "do clean",
-        "use arm1",
-        "saw fresh low",
-        "do recharge",
-        "use arm3",
-        "saw free full",
-        "report",
-    ],
-    comes_to: Done(&[
-        "offer arm1 arm3",
-        "using arm1",
-        "now cleaned full",
-        "offer arm2 arm3",
-        "using arm3",
-        "now dipped half",
-        "kept 45 added 0",
-        "offer arm3",
-        "using arm3",
-        "now painted half",
-        "jumped",
-        "no composition",
-        "lost painted spilt worn free: clean",
-        "  arm1 cannot",
-        "  arm3 cannot",
-        "end",
-        "tally 118",
-        "jumped",
-        "offer arm1",
-        "using arm1",
-        "now tidied low",
-        "offer arm1 arm3",
-        "using arm3",
-        "now rest full",
-        "pairs 160",
-        "related 42",
-        "environment full",
-        "target rest final",
-        "service arm1 cleaner fresh ready",
-        "service arm3 allround free ready",
-        "service arm2 dipper free ready",
-        "answer composition",
-        "offer clean: arm1 arm3",
-        "end",
-    ]),
-}];
 
 #[test]
 fn sessions_are_answered(rt: HostRuntime) -> Result<(), Fail> {
-    let wrong = first_talk::<Brand>(rt.alloc(), &TALKS, Blank::new(1))?;
-    assert_eq!(rt; wrong.as_str(), "");
-    let wrong = first_wrong::<Brand>(rt.alloc(), &CASES, Blank::new(1))?;
-    assert_eq!(rt; wrong.as_str(), "");
-    Ok(())
+    talks_hold(&rt, &TALKS)
 }
 
-/// Runs a session with the lamp. Returns the status, and the sink with what was written.
-fn lamp_session<I: Source, L: Ledger>(
-    alloc: Global,
+/// Asserts that a session with the lamp has the expected outcome.
+fn lamp_session<I: Source>(
+    rt: &(impl Abort + AllocGlobal),
+    name: &str,
     input: &mut I,
-    blank: Blank,
-) -> Result<(Status, MemSink), AllocError>
-    requires name { blank.name ≡ L.name }
-    requires parts { blank.parts ≡ L.parts }
-    requires some { 0 < L.parts }
-{
-    let mut steps = Steps::<L>::new(blank);
+    comes_to: Outcome<'_>,
+) -> Result<(), AllocError> {
+    let alloc = rt.alloc();
+    let files = files_of(alloc, &[("lamp.json", document!(LAMP))])?;
+    let mut shelf = MemShelf::new(files, Vec::new(alloc));
     let mut out = MemSink::new(alloc, Vec::new(alloc));
-    let files = [("lamp.json", Text::Lamp)];
-    let status = run(
-        alloc,
-        &files,
-        &["run", "lamp.json"],
-        input,
-        &mut out,
-        &mut steps,
-    )?;
-    Ok((status, out))
+    let words = ["run", "lamp.json"];
+    let status = run(alloc, &words, &mut shelf, input, &mut out)?;
+    comes_to.expect(rt, name, status, &out);
+    Ok(())
 }
 
 #[test]
 fn the_last_line_may_be_unended(rt: HostRuntime) -> Result<(), Fail> {
     let mut input = QuietSource::new(b"do on".to_vec(rt.alloc())?);
-    let (status, out) = lamp_session::<_, Brand>(rt.alloc(), &mut input, Blank::new(1))?;
-    assert_eq!(rt; status, Status::Done);
-    assert_eq!(rt; out.bytes(), b"offer l1\n".as_slice());
+    lamp_session(&rt, "an unended line", &mut input, Done(&["offer l1"]))?;
     Ok(())
 }
 
 #[test]
 fn a_session_has_a_greatest_length(rt: HostRuntime) -> Result<(), Fail> {
-    let alloc = rt.alloc();
-    let mut input = QuietSource::new(Vec::from_elem(alloc, b'\n', 16_777_216)?);
-    let (status, out) = lamp_session::<_, Brand>(alloc, &mut input, Blank::new(1))?;
-    assert_eq!(rt; (status, out.bytes().len()), (Status::Done, 0));
-    let mut input = QuietSource::new(Vec::from_elem(alloc, b'\n', 16_777_217)?);
-    let (status, out) = lamp_session::<_, Brand>(alloc, &mut input, Blank::new(1))?;
-    assert_eq!(rt; (status, out.bytes().len()), (Status::TooLong, 0));
+    let mut input = QuietSource::new(Vec::from_elem(rt.alloc(), b'\n', 16_777_216)?);
+    lamp_session(&rt, "16,777,216 bytes", &mut input, Done(&[]))?;
+    let mut input = QuietSource::new(Vec::from_elem(rt.alloc(), b'\n', 16_777_217)?);
+    lamp_session(&rt, "16,777,217 bytes", &mut input, TooLong)?;
     let mut input = EndlessSource::new(b'\n');
-    let (status, out) = lamp_session::<_, Brand>(alloc, &mut input, Blank::new(1))?;
-    assert_eq!(rt; (status, out.bytes().len()), (Status::TooLong, 0));
+    lamp_session(&rt, "bytes without end", &mut input, TooLong)?;
     Ok(())
 }

@@ -1,10 +1,13 @@
 //! Reports on starting states.
 
 use crate::case::Outcome::{Done, Limit, No, Refused, Usage};
-use crate::case::{Case, LAMP_LINES, Row, Runs, SYNTH, first_row, first_wrong};
-use crate::texts::Text;
-use std::marker::Brand;
-use std::sync::ledger::Blank;
+use crate::case::{Command, LAMP_LINES, Row, Runs, commands_hold, synth};
+use crate::texts::Part::{Each, Is};
+use crate::texts::Text::Plain;
+use crate::texts::{
+    BARE, BEHAVIOUR, ENVIRONMENT, FLAKY, FROM_GUARD, FROZEN, FROZEN_AND_LOOSE, LAMP, LAMP_AND_WIDE,
+    LOOSE, NEXT_LAMP, NEXT_WIDE, NO_ON, SERVICE, UP_TO_GUARD, document,
+};
 use std::test::Fail;
 
 /// The report on a lamp from which nothing is requested.
@@ -20,10 +23,10 @@ const UNASKED_LINES: &[&str] = &[
 
 /// Systems with a composition and without one.
 static ROWS: [Row; 15] = [
-    ("lamp", Text::Lamp, Done(LAMP_LINES)),
+    ("lamp", document!(LAMP), Done(LAMP_LINES)),
     (
         "flaky",
-        Text::Flaky,
+        document!(FLAKY),
         No(&[
             "pairs 6",
             "related 0",
@@ -36,7 +39,7 @@ static ROWS: [Row; 15] = [
     ),
     (
         "no services",
-        Text::Bare,
+        document!(BARE),
         Done(&[
             "pairs 1",
             "related 1",
@@ -46,10 +49,10 @@ static ROWS: [Row; 15] = [
             "end",
         ]),
     ),
-    ("nothing asked", Text::NoOn, Done(UNASKED_LINES)),
+    ("nothing asked", document!(NO_ON), Done(UNASKED_LINES)),
     (
         "started elsewhere",
-        Text::LampOn,
+        document!(LAMP, services: &[Is(r#"{"name":"l1","behaviour":"lamp","state":"on"}"#)]),
         No(&[
             "pairs 4",
             "related 2",
@@ -62,7 +65,7 @@ static ROWS: [Row; 15] = [
     ),
     (
         "started frozen",
-        Text::LampFrozen,
+        document!(FROZEN),
         No(&[
             "pairs 4",
             "related 0",
@@ -75,7 +78,7 @@ static ROWS: [Row; 15] = [
     ),
     (
         "eighteen lamps",
-        Text::Lamps18,
+        document!(LAMP, limit: "16777216", services: &[Is(SERVICE), Each(NEXT_LAMP, 2, 18)]),
         Done(&[
             "pairs 524288",
             "related 19",
@@ -104,16 +107,28 @@ static ROWS: [Row; 15] = [
             "end",
         ]),
     ),
-    ("twenty-two lamps", Text::Lamps22, Limit("16777215")),
+    (
+        "twenty-two lamps",
+        document!(LAMP, limit: "16777215", services: &[Is(SERVICE), Each(NEXT_LAMP, 2, 22)]),
+        Limit("16777215"),
+    ),
     (
         "a limit past the greatest",
-        Text::LimitGreater,
+        document!(LAMP, limit: "16777217"),
         Refused("lamp.json count system 0 limit 0"),
     ),
-    ("wide services", Text::Wide32, Limit("262144")),
+    (
+        "wide services",
+        document!(
+            LAMP,
+            behaviours: LAMP_AND_WIDE,
+            services: &[Is(r#"{"name":"w0","behaviour":"wide"}"#), Each(NEXT_WIDE, 1, 31)],
+        ),
+        Limit("262144"),
+    ),
     (
         "a loose service",
-        Text::LampAndLooseX,
+        document!(LOOSE),
         Done(&[
             "pairs 8",
             "related 4",
@@ -126,16 +141,31 @@ static ROWS: [Row; 15] = [
             "end",
         ]),
     ),
-    ("a limit that is just met", Text::Limit8, Done(LAMP_LINES)),
-    ("guards of other words", Text::OtherGuards, Done(LAMP_LINES)),
+    (
+        "a limit that is just met",
+        document!(LAMP, limit: "8"),
+        Done(LAMP_LINES),
+    ),
+    (
+        "guards of other words",
+        document!(
+            LAMP,
+            target: &[
+                Is(r#"{"states":["off","on"],"start":"off","final":["off"],"steps":["#),
+                Is(r#"["off",{"any":[false,["e"]]},"on","on"],["off",{"all":[true,false]},"off","on"],"#),
+                Is(r#"["on",{"all":[true,{"not":[]}]},"off","off"]]}"#),
+            ],
+        ),
+        Done(LAMP_LINES),
+    ),
     (
         "a guard that is false",
-        Text::FalseGuard,
+        document!(LAMP, target: &[Is(UP_TO_GUARD), Is("false"), Is(FROM_GUARD)]),
         Done(UNASKED_LINES),
     ),
     (
         "a service that is frozen and loose",
-        Text::FrozenAndLoose,
+        document!(FROZEN_AND_LOOSE),
         Done(&[
             "pairs 8",
             "related 4",
@@ -151,50 +181,41 @@ static ROWS: [Row; 15] = [
 ];
 
 /// Words that aren't a command, and parts in files.
-static CASES: [Case; 4] = [
-    Case {
-        name: "no system",
-        files: &[("lamp.json", Text::Lamp)],
-        words: &["synth"],
-        input: &[],
-        comes_to: Usage,
-    },
-    Case {
-        name: "no command",
-        files: &[("lamp.json", Text::Lamp)],
-        words: &["fly", "lamp.json"],
-        input: &[],
-        comes_to: Usage,
-    },
-    Case {
-        name: "no words",
-        files: &[("lamp.json", Text::Lamp)],
-        words: &[],
-        input: &[],
-        comes_to: Usage,
-    },
-    Case {
-        name: "an environment and a behaviour in files",
-        files: &[
-            ("lamp.json", Text::PartsByFile),
-            ("e.json", Text::Environment),
-            ("b.json", Text::Behaviour),
+static COMMANDS: [Command; 4] = [
+    (
+        "no system",
+        &[("lamp.json", document!(LAMP))],
+        &["synth"],
+        Usage,
+    ),
+    (
+        "no command",
+        &[("lamp.json", document!(LAMP))],
+        &["fly", "lamp.json"],
+        Usage,
+    ),
+    ("no words", &[("lamp.json", document!(LAMP))], &[], Usage),
+    (
+        "an environment and a behaviour in files",
+        &[
+            (
+                "lamp.json",
+                document!(
+                LAMP,
+                environment: &[Is(r#"{"file":"e.json"}"#)],
+                behaviours: &[Is(r#"{"file":"b.json"}"#)],
+            ),
+            ),
+            ("e.json", Plain(ENVIRONMENT)),
+            ("b.json", Plain(BEHAVIOUR)),
         ],
-        words: &["synth", "lamp.json"],
-        input: &[],
-        comes_to: Done(LAMP_LINES),
-    },
+        &["synth", "lamp.json"],
+        Done(LAMP_LINES),
+    ),
 ];
 
 #[test]
 fn systems_are_composed(rt: HostRuntime) -> Result<(), Fail> {
-    let runs = Runs {
-        rows: &ROWS,
-        ..SYNTH
-    };
-    let wrong = first_row::<Brand>(rt.alloc(), &runs, Blank::new(1))?;
-    assert_eq!(rt; wrong.as_str(), "");
-    let wrong = first_wrong::<Brand>(rt.alloc(), &CASES, Blank::new(1))?;
-    assert_eq!(rt; wrong.as_str(), "");
-    Ok(())
+    synth(&ROWS).hold(&rt)?;
+    commands_hold(&rt, &COMMANDS)
 }

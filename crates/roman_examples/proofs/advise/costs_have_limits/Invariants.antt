@@ -1,4 +1,0 @@
-use Rattle.roman_examples.proofs.advise.costs_have_limits.Given as goal
-
-abbrev pub ghosts-past_limits : goal.ghosts-past_limits
-ghosts-past_limits g a = record { name = a.blank.name; parts = a.blank.parts }

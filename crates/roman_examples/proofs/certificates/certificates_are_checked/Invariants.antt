@@ -1,4 +1,0 @@
-use Rattle.roman_examples.proofs.certificates.certificates_are_checked.Given as goal
-
-abbrev pub ghosts-first_row : goal.ghosts-first_row
-ghosts-first_row g a = record { name = a.blank.name; parts = a.blank.parts }
