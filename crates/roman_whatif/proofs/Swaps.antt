@@ -20,59 +20,49 @@ other (suc k) (suc j) = suc (other k j)
 other_twice : (k j : ℕ) → other k (other k j) ≡ j
 other_twice zero zero = refl
 other_twice zero (suc zero) = refl
-other_twice zero (suc (suc j)) = refl
-other_twice (suc k) zero = refl
 other_twice (suc k) (suc j) = ap suc (other_twice k j)
+other_twice k j = refl
 
 other_within : (k j n : ℕ) → suc k < n → j < n → other k j < n
-other_within zero zero n w l = w
 other_within zero (suc zero) n w l = omega arith
-other_within zero (suc (suc j)) n w l = l
-other_within (suc k) zero n w l = omega arith
-other_within (suc k) (suc j) zero w l = absurd (omega arith)
+other_within zero (suc (suc j)) n w l = omega arith
 other_within (suc k) (suc j) (suc n) w l = let h : other k j < n = other_within k j n (omega arith) (omega arith) in omega arith
+other_within k j n w l = omega arith
 
 get-swapped : {X : Type 0} (k j : ℕ) (xs : List X) → suc k < length xs → slice_get (swapped k xs) (other k j) ≡ slice_get xs j
-get-swapped k j [] w = absurd (omega arith)
-get-swapped zero j (x ∷ []) w = absurd (omega arith)
 get-swapped zero zero (x ∷ y ∷ xs) w = refl
 get-swapped zero (suc zero) (x ∷ y ∷ xs) w = refl
 get-swapped zero (suc (suc j)) (x ∷ y ∷ xs) w = refl
 get-swapped (suc k) zero (x ∷ xs) w = refl
 get-swapped (suc k) (suc j) (x ∷ xs) w = get-swapped k j xs (omega arith)
+get-swapped k j xs w = absurd (omega arith)
 
 index-swapped : (k j : ℕ) (bs : List ℕ) → suc k < length bs → slice_index (swapped k bs) (other k j) ≡ slice_index bs j
 index-swapped k j bs w = sym (unwrap_or-slice_get (swapped k bs) (other k j) 0) ∙ ap (λ o. unwrap_or o 0) (get-swapped k j bs w) ∙ unwrap_or-slice_get bs j 0
 
 set-swapped : (k j : ℕ) (bs : List ℕ) (b : ℕ) → suc k < length bs → slice_set (swapped k bs) (other k j) b ≡ swapped k (slice_set bs j b)
-set-swapped k j [] b w = absurd (omega arith)
-set-swapped zero j (c ∷ []) b w = absurd (omega arith)
 set-swapped zero zero (c ∷ d ∷ bs) b w = refl
 set-swapped zero (suc zero) (c ∷ d ∷ bs) b w = refl
 set-swapped zero (suc (suc j)) (c ∷ d ∷ bs) b w = refl
 set-swapped (suc k) zero (c ∷ bs) b w = refl
 set-swapped (suc k) (suc j) (c ∷ bs) b w = ap (λ cs. c ∷ cs) (set-swapped k j bs b (omega arith))
+set-swapped k j bs b w = absurd (omega arith)
 
 swapped_twice : {X : Type 0} (k : ℕ) (xs : List X) → swapped k (swapped k xs) ≡ xs
-swapped_twice zero [] = refl
-swapped_twice (suc k) [] = refl
 swapped_twice zero (x ∷ []) = refl
-swapped_twice zero (x ∷ y ∷ xs) = refl
 swapped_twice (suc k) (x ∷ xs) = ap (λ ys. x ∷ ys) (swapped_twice k xs)
+swapped_twice k xs = refl
 
 length-swapped : {X : Type 0} (k : ℕ) (xs : List X) → length (swapped k xs) ≡ length xs
-length-swapped zero [] = refl
-length-swapped (suc k) [] = refl
 length-swapped zero (x ∷ []) = refl
-length-swapped zero (x ∷ y ∷ xs) = refl
 length-swapped (suc k) (x ∷ xs) = ap suc (length-swapped k xs)
+length-swapped k xs = refl
 
 -- equal neighbours can be swapped
 swapped_same : {X : Type 0} (k : ℕ) (xs : List X) → suc k < length xs → slice_get xs k ≡ slice_get xs (suc k) → swapped k xs ≡ xs
-swapped_same k [] w e = absurd (omega arith)
-swapped_same zero (x ∷ []) w e = absurd (omega arith)
 swapped_same zero (x ∷ y ∷ xs) w e = ap₂ (λ u v. u ∷ v ∷ xs) (sym (same_Some x y e)) (same_Some x y e)
 swapped_same (suc k) (x ∷ xs) w e = ap (λ ys. x ∷ ys) (swapped_same k xs (omega arith) e)
+swapped_same k xs w e = absurd (omega arith)
 
 and_swap : (a b c : Bool) → (a && (b && c)) ≡ (b && (a && c))
 and_swap true b c = refl
@@ -80,23 +70,18 @@ and_swap false true c = refl
 and_swap false false c = refl
 
 final-swapped : (k : ℕ) (seats : List Seat) (bs : List ℕ) → suc k < length seats → suc k < length bs → all_final (swapped k seats) (swapped k bs) ≡ all_final seats bs
-final-swapped k [] bs w l = absurd (omega arith)
-final-swapped k (x ∷ seats) [] w l = absurd (omega arith)
-final-swapped zero (x ∷ []) (b ∷ bs) w l = absurd (omega arith)
-final-swapped zero (x ∷ y ∷ seats) (b ∷ []) w l = absurd (omega arith)
 final-swapped zero (x ∷ y ∷ seats) (b ∷ c ∷ bs) w l = and_swap (not y.rests || is_final y.beh c) (not x.rests || is_final x.beh b) (all_final seats bs)
 final-swapped (suc k) (x ∷ seats) (b ∷ bs) w l = ap (λ t. (not x.rests || is_final x.beh b) && t) (final-swapped k seats bs (omega arith) (omega arith))
+final-swapped k seats bs w l = absurd (omega arith)
 
 states-swapped : (k : ℕ) (seats : List Seat) (bs : List ℕ) → AllZip (λ seat b. b < seat.beh.states) seats bs → AllZip (λ seat b. b < seat.beh.states) (swapped k seats) (swapped k bs)
-states-swapped zero [] [] h = h
-states-swapped (suc k) [] [] h = h
 states-swapped k [] (b ∷ bs) h = absurd h
 states-swapped k (x ∷ seats) [] h = absurd h
-states-swapped zero (x ∷ []) (b ∷ []) h = h
 states-swapped zero (x ∷ []) (b ∷ c ∷ bs) h = absurd h.1
 states-swapped zero (x ∷ y ∷ seats) (b ∷ []) h = absurd h.1
 states-swapped zero (x ∷ y ∷ seats) (b ∷ c ∷ bs) h = (h.1.0, (h.0, h.1.1))
 states-swapped (suc k) (x ∷ seats) (b ∷ bs) h = (h.0, states-swapped k seats bs h.1)
+states-swapped k seats bs h = h
 
 sum_by-map : {X Y : Type 0} (g : Y → ℕ) (f : X → Y) (xs : List X) → sum_by g (map f xs) ≡ sum_by (λ x. g (f x)) xs
 sum_by-map g f [] = refl
@@ -259,21 +244,19 @@ module _ (s : Sys) (k : ℕ) (within : suc k < length s.seats) where
 -- Equal neighbours, of which one fails.
 
 freeze-swapped : (at : ℕ → Bool) (k : ℕ) (seats : List Seat) → suc k < length seats → freeze_at at (swapped k seats) ≡ swapped k (freeze_at (λ j. at (other k j)) seats)
-freeze-swapped at k [] w = absurd (omega arith)
-freeze-swapped at zero (x ∷ []) w = absurd (omega arith)
 freeze-swapped at zero (x ∷ y ∷ seats) w = refl
 freeze-swapped at (suc k) (x ∷ seats) w =
     ap (λ ys. record { beh = x.beh; frozen = x.frozen || at 0; rests = x.rests } ∷ ys) (freeze-swapped (λ j. at (suc j)) k seats (omega arith))
+freeze-swapped at k seats w = absurd (omega arith)
 
 length-freeze : (at : ℕ → Bool) (seats : List Seat) → length (freeze_at at seats) ≡ length seats
 length-freeze at [] = refl
 length-freeze at (x ∷ seats) = ap suc (length-freeze (λ j. at (suc j)) seats)
 
 leave-swapped : {X : Type 0} (at : ℕ → Bool) (k : ℕ) (xs : List X) → suc k < length xs → at k ≡ true → at (suc k) ≡ false → leave_out at (swapped k xs) ≡ leave_out (λ j. at (other k j)) xs
-leave-swapped at k [] w gone left = absurd (omega arith)
-leave-swapped at zero (x ∷ []) w gone left = absurd (omega arith)
 leave-swapped at zero (x ∷ y ∷ xs) w gone left = rw (gone, left) refl
 leave-swapped at (suc k) (x ∷ xs) w gone left = ap (λ ys. cond (at 0) ys (x ∷ ys)) (leave-swapped (λ j. at (suc j)) k xs (omega arith) gone left)
+leave-swapped at k xs w gone left = absurd (omega arith)
 
 leave_same : {X : Type 0} (k : ℕ) (K : List ℕ) (xs : List X) → suc k < length xs → slice_get xs k ≡ slice_get xs (suc k) → has K k ≡ true → has K (suc k) ≡ false →
     leave_out (has K) xs ≡ leave_out (has (map (other k) K)) xs

@@ -1,5 +1,3 @@
-pub mod Alike
 pub mod Left
 pub mod Losses
 pub mod Told
-pub mod Trials

@@ -1,5 +1,5 @@
 -- What remains when services fail: each of them alone, and each two.
-use Rattle.std.specs.Prelude.{◌≡◌, ℕ, ◌+◌, ◌*◌, ◌<◌, ◌≤◌, false, List, [], ◌∷◌, length, get_or, Option, IfSome}
+use Rattle.std.specs.Prelude.{◌≡◌, ℕ, suc, ◌+◌, ◌-◌, ◌*◌, ◌<◌, ◌≤◌, false, List, [], ◌∷◌, length, get_or, slice_get, slice_index, Option, IfSome}
 use Rattle.roman_model.specs.Numbers.{sizes_of, count, pair_at}
 use Rattle.roman_model.specs.Without.{Outlook, outlook, system_without, pair_without}
 use Rattle.roman_model.specs.declared.way.Way.{Way}
@@ -7,7 +7,9 @@ use Rattle.roman_model.specs.declared.way.Way.TheVariants.{Freeze, Die}
 use Rattle.roman_joint.specs.NamedSys.{NamedSys, system_of}
 use Rattle.roman_whatif.specs.Told.{told}
 use Rattle.roman_whatif.specs.declared.outlook.Outlook as declared
+use Rattle.roman_whatif.specs.Left.{IsIdleScratchOf}
 use Rattle.roman_whatif.specs.declared.losses.Losses.{Losses}
+use Rattle.roman_whatif.specs.declared.losses.Trials.{Trials}
 
 -- the outlook at a place of a table
 abbrev pub told_at : List declared.Outlook → ℕ → Outlook
@@ -38,3 +40,18 @@ pub record AreLosses (parts : NamedSys) (losses : Losses) : Type 0 where
   pub within : losses.pair < count (sizes_of (system_of parts))
   pub frozen : AreTold parts losses.pair Freeze losses.frozen.items
   pub gone : AreTold parts losses.pair Die losses.gone.items
+
+-- the services at the places k and k + 1 are equal but for their names, and in the same state at the pair with the number p
+pub record AreAlike (parts : NamedSys) (p k : ℕ) : Type 0 where
+  pub within : suc k < length parts.seats
+  pub seats : slice_get (system_of parts).seats k ≡ slice_get (system_of parts).seats (suc k)
+  pub states : slice_index (pair_at (sizes_of (system_of parts)) p).bs k ≡ slice_index (pair_at (sizes_of (system_of parts)) p).bs (suc k)
+
+-- the service at place k and the one before are alike
+abbrev pub IsRepeated : NamedSys → ℕ → ℕ → Type 0
+IsRepeated parts p k = (0 < k) × AreAlike parts p (k - 1)
+
+-- failures of the base can be tried on both copies
+pub record AreTrialsOf (base : NamedSys) (trials : Trials) : Type 0 where
+  pub middle : IsIdleScratchOf base trials.middle.joint trials.middle.order
+  pub scratch : IsIdleScratchOf base trials.scratch.joint trials.scratch.order

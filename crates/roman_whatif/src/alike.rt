@@ -2,7 +2,7 @@
 ghost use Rattle.std.specs.Prelude.{◌-◌, ◌<◌, length, IsTrue};
 ghost use Rattle.roman_model.specs.Numbers.{sizes_of, count};
 ghost use Rattle.roman_joint.specs.NamedSys.{system_of};
-ghost use Rattle.roman_whatif.specs.Alike.{IsRepeated};
+ghost use Rattle.roman_whatif.specs.Losses.{IsRepeated};
 
 use roman_relation::Relation;
 

@@ -5,8 +5,7 @@ ghost use Rattle.roman_joint.specs.NamedSys.{NamedSys, system_of};
 ghost use Rattle.roman_relation.specs.Greatest.{IsRelation};
 ghost use Rattle.roman_whatif.specs.Left.{places, IsIdleScratchOf, IsLeft};
 ghost use Rattle.roman_whatif.specs.Told.{told};
-ghost use Rattle.roman_whatif.specs.Losses.{told_at, left_of, MayFail, IsToldOf, AreTold, AreLosses};
-ghost use Rattle.roman_whatif.specs.Trials.{AreTrialsOf};
+ghost use Rattle.roman_whatif.specs.Losses.{told_at, left_of, MayFail, IsToldOf, AreTold, AreLosses, AreTrialsOf};
 
 use crate::alike::{is_repeated, is_third};
 use crate::failing::fail_on;
