@@ -1,5 +1,5 @@
--- Listed costs, and their cells.
-use Rattle.roman_cost.proofs.Common.{◌≡◌, ◌≢◌, ℕ, zero, suc, ◌+◌, ◌-◌, ◌*◌, ◌<◌, ◌≤◌, List, [], ◌∷◌, ◌++◌, length, get_or, Option, Some, None, All, inl, inr, refl, sym, ap, ◌∙◌, ap₂, arith, ◌==◌, ◌&&◌, set, both_ways, cond-false, cond-true, cases_order, eq-eqb, eqb-true, and_parts, and_from, All-push, mul-add-lt, by_test, NamedSys, CostTable, listed_cost, seat_costs, HoldsCosts, cost_of, Listed, MAX_COST, option_or, get_or-set_same, get_or-set_other, length-set}
+-- Listed costs, and their cells, and how many items a text lists.
+use Rattle.roman_cost.proofs.Common.{◌≡◌, ◌≢◌, ℕ, zero, suc, ◌+◌, ◌-◌, ◌*◌, ◌<◌, ◌≤◌, List, [], ◌∷◌, ◌++◌, length, get_or, Option, Some, None, All, inl, inr, refl, sym, ap, ◌∙◌, ap₂, arith, ◌==◌, ◌&&◌, set, both_ways, cond-false, cond-true, cases_order, eq-eqb, eqb-true, and_parts, and_from, All-push, mul-add-lt, by_test, NamedSys, CostTable, listed_cost, seat_costs, HoldsCosts, cost_of, Listed, MAX_COST, items_len-items_view, option_or, get_or-set_same, get_or-set_other, length-set}
 
 -- One item more.
 
@@ -67,3 +67,6 @@ cost_of_small (x ∷ listed) each b a = grind (arith, (each zero x (omega arith)
 
 pub seat_costs_small : (n : NamedSys) (listed : List Listed) → All (λ x. x.cost ≤ MAX_COST) listed → (k a : ℕ) → seat_costs n listed k a ≤ MAX_COST
 seat_costs_small n listed each k a = grind (arith, cost_of_small)
+
+-- the facts on which the count of the items of a text rests
+pub ruleset counts = (items_len-items_view)

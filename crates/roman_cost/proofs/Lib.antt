@@ -1,4 +1,3 @@
-mod ReadingLemmas
 mod CostLemmas
 mod Greatest
 mod Best

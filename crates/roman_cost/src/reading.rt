@@ -60,7 +60,7 @@ fn read_value<F: Shelf>(alloc: Global, shelf: &mut F, name: &str) -> Result<Valu
     }
 }
 
-#[tactic(auto, using(crate::proofs::ReadingLemmas::counts), unfolding(crate::specs::Costs::costs_in))]
+#[tactic(auto, using(crate::proofs::CostLemmas::counts), unfolding(crate::specs::Costs::costs_in))]
 /// Reads the costs that a value lists.
 fn costs_in(alloc: Global, joint: &Joint, v: &Value) -> Result<Costs, CostError>
     requires few { length joint.now.catalogue ≤ MAX_BEHAVIOURS }

@@ -14,6 +14,7 @@ ghost use Rattle.roman_joint.specs.NamedSys.{system_of};
 ghost use Rattle.roman_relation.specs.Greatest.{IsRelation};
 ghost use Rattle.roman_cost.specs.AdviceText.{advice_text, worst_line, choice_line, value_head, value_tail, value_lines, certificate_text, service_text};
 ghost use Rattle.roman_cost.specs.Advised.{Advises};
+ghost use Rattle.roman_cost.specs.Laws.{AdviceIsLeast};
 ghost use Rattle.roman_cost.specs.Tables.{seat_costs, AreOf};
 
 use crate::advice::Advice;
@@ -174,3 +175,12 @@ fn push_value<O: Sink>(
     page.push_number_then(p, b" ", out)?;
     page.push_number_then(value, b"\n", out)
 }
+
+/// Does nothing. Its contract states a law on the text of advice. Each value of the text is the least
+/// worst-case cost of that number of requests, over all plans, at a pair of the greatest ND-simulation.
+/// The text names all such pairs and no others. For each action that the target allows at the pair of
+/// the advice it names the first of the services that serve the action at the least cost, and that cost.
+#[tactic(auto, using(crate::proofs::LawLemmas::advice_least))]
+pub fn advice_is_least()
+    ensures least { AdviceIsLeast }
+{}
