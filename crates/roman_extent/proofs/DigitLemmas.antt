@@ -1,5 +1,5 @@
 -- Numbers by their decimal digits: one digit more, and the digits of a product.
-use Rattle.roman_extent.proofs.Common.{◌≡◌, ℕ, ◌+◌, ◌*◌, ◌/◌, ◌%◌, ◌^◌, ◌<◌, ◌≤◌, min, List, [], ◌∷◌, ◌++◌, length, length-append, get_or, take, sym, ap, ap₂, ◌∙◌, arith, add-one, take_more, AllDigits, digits_value, product_of, AreDigits, number_with_digits, zero, suc, nat_le, length-take-le, pow-zero, pow-suc, min-eq_left, min-eq_right, leb-true, leb-false, digit_value, digits_value_push, All-push, digit_value_digit, by_test}
+use Rattle.roman_extent.proofs.Common.{◌≡◌, ℕ, ◌+◌, ◌*◌, ◌/◌, ◌%◌, ◌^◌, ◌<◌, ◌≤◌, min, List, [], ◌∷◌, ◌++◌, length, length-append, get_or, take, sym, ap, ap₂, ◌∙◌, arith, add-one, zero, suc, nat_le, length-take-le, take_more, AllDigits, digits_value, product_of, AreDigits, number_with_digits, pow-zero, pow-suc, min-eq_left, min-eq_right, mul-le-mul_right, leb-true, leb-false, digit_value, digits_value_push, All-push, digit_value_digit, by_test}
 
 number_push : (ds : List ℕ) (d : ℕ) → number_with_digits (ds ++ d ∷ []) ≡ number_with_digits ds + d * 10 ^ length ds
 number_push [] d = omega (arith, ap (λ x. d * x) (pow-zero 10))
@@ -53,10 +53,22 @@ pub product_more : (ns : List ℕ) (k n other : ℕ) → k < length ns → n ≡
 product_more ns k n other l at = ap product_of (take_more ns k other l) ∙ product_push _ _ ∙ ap (λ (n : ℕ). product_of (take k ns) * n) (sym at)
 
 -- multiplying a product that is cut off at a limit gives the whole product, cut off at it
-pub cut_step : (p n most : ℕ) → min (min p most * n) most ≡ min (p * n) most
+cut_step : (p n most : ℕ) → min (min p most * n) most ≡ min (p * n) most
 cut_step p zero most = omega arith
 cut_step p (suc n) most = by_test (nat_le p most) (λ t. grind (arith, min-eq_left, leb-true)) (λ f. grind (arith, min-eq_right, leb-false))
 
 -- each pushed digit is a decimal digit
 pub digits_push : (ds : List ℕ) (s : ℕ) → AreDigits ds → AreDigits (ds ++ (s % 10) ∷ [])
 digits_push ds s h = All-push (λ d. d < 10) ds (s % 10) h (omega arith)
+
+-- one more factor of a product that is cut off at a limit
+pub cut_more : (ns : List ℕ) (k n other most cut : ℕ) → k < length ns → n ≡ get_or ns k other → cut ≡ min (product_of (take k ns)) most → min (cut * n) most ≡ min (product_of (take (k + 1) ns)) most
+cut_more ns k n other most cut l at is = ap (λ (c : ℕ). min (c * n) most) is ∙ (cut_step _ n most ∙ sym (ap (λ (p : ℕ). min p most) (product_more ns k n other l at)))
+
+-- the carry stays small
+pub small_carry : (d f carry : ℕ) → d < 10 → f < 2 ^ 32 → carry < 2 ^ 40 → (d * f + carry) / 10 < 2 ^ 40
+small_carry d f carry digit factor small =
+    let most : d * f ≤ 9 * f = mul-le-mul_right f (omega arith) in
+    omega arith
+
+pub ruleset times_steps = (carry_step, times_step, digits_push, small_carry, length-append, add-one)

@@ -1,5 +1,5 @@
 -- The product of the sizes of a library is the number of cells of its system.
-use Rattle.roman_extent.proofs.Common.{◌≡◌, ℕ, ◌+◌, ◌*◌, ◌<◌, List, [], ◌∷◌, ◌++◌, map, length, get_or, take, refl, sym, ap, ap₂, ◌∙◌, subst, arith, take_more, product_of, states_in, All, map_push, sizes_of, NamedBeh, cells, system_of, seat_beh_read, PlainLibrary, IsService, Service, parts_of}
+use Rattle.roman_extent.proofs.Common.{◌≡◌, ℕ, ◌+◌, ◌*◌, ◌<◌, List, [], ◌∷◌, ◌++◌, map, length, get_or, take, refl, sym, ap, ap₂, ◌∙◌, subst, arith, All, take_more, map_push, product_of, states_in, sizes_of, NamedBeh, cells, system_of, seat_beh_read, PlainLibrary, IsService, Service, parts_of}
 use Rattle.roman_extent.proofs.DigitLemmas.{product_push}
 
 -- one more service and its size

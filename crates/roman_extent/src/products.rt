@@ -7,6 +7,7 @@ ghost use Rattle.roman_extent.specs.Digits.{AreDigits, number_with_digits};
 use std::alloc::{AllocError, Global};
 
 /// Returns whether the product of the factors is at most the limit.
+#[tactic(auto, using(crate::proofs::DigitLemmas::cut_more))]
 pub fn is_within(factors: &[u32], limit: u32) -> bool
     ensures { result ≡ nat_le (product_of factors.now) limit }
 {
@@ -19,6 +20,7 @@ pub fn is_within(factors: &[u32], limit: u32) -> bool
 
 /// Returns the product of the factors, however large, in decimal digits. Returns `1` when there are
 /// no factors. Fails only when out of memory.
+#[tactic(auto, using(crate::proofs::DigitLemmas::product_more))]
 pub fn product(alloc: Global, factors: &[u32]) -> Result<String, AllocError>
     ensures digits { IfOk result (λ text. AllDigits 10 (string_bytes text)) }
     ensures value { IfOk result (λ text. digits_value 10 (string_bytes text) ≡ product_of factors.now) }
@@ -33,6 +35,7 @@ pub fn product(alloc: Global, factors: &[u32]) -> Result<String, AllocError>
 
 /// Multiplies the number with the given digits by `factor`, and returns the digits of the product.
 /// Both lists have the least significant digit first.
+#[tactic(auto, using(crate::proofs::DigitLemmas::times_steps))]
 fn times(alloc: Global, digits: &[u8], factor: u32) -> Result<Vec<u8>, AllocError>
     requires { AreDigits digits.now }
     ensures digits { IfOk result (λ product. AreDigits product.items) }
@@ -51,6 +54,7 @@ fn times(alloc: Global, digits: &[u8], factor: u32) -> Result<Vec<u8>, AllocErro
 
 /// Appends the digits of `number` to `digits`, both with the least significant digit first. Appends
 /// nothing when `number` is 0.
+#[tactic(auto, using(crate::proofs::DigitLemmas::carry_step, crate::proofs::DigitLemmas::digits_push))]
 fn push_number(digits: &mut Vec<u8>, number: u64) -> Result<(), AllocError>
     requires { AreDigits digits.now.items }
     ensures digits { AreDigits digits.new.items }
