@@ -1,12 +1,8 @@
 -- Commands are answered.
-use Rattle.roman_top.proofs.Common.{◌≡◌, ◌≢◌, ℕ, Bool, true, false, IsTrue, MatchBool, List, Option, None, Some, IfSome, refl, sym, subst, false≢true, Texts, shelf_text, lines, ended_lines, Sys, Pair, sizes_of, number, numbered, Verdict, Greatest, Rejected, TooLong, cert_verdict, PlainLibrary, start_pair_of, prefix_of, is_heard_out, Job, Synth, Run, Certify, Check, Shortest, Advise, Resilience, Command, On, Make, IsAnswered, library_system, document_opening, EndsBy, SaysVerdict, Talks, JobDoes, IsSessionText, HasRun, Served, ToldFromStart, World, Status, Suffices, CanAnswer, IsUndisturbed, AnswersWherePossible, texts_for}
+use Rattle.roman_top.proofs.Common.{◌∙◌, ◌≡◌, ◌≢◌, ℕ, IsTrue, List, Option, None, Some, IfSome, refl, sym, subst, Texts, shelf_text, Sys, Pair, sizes_of, number, numbered, Verdict, Greatest, Rejected, TooLong, cert_verdict, PlainLibrary, start_pair_of, is_heard_out, Job, Synth, Run, Certify, Check, Shortest, Advise, Resilience, Command, On, Make, IsAnswered, Suffices, CanAnswer, IsUndisturbed, AnswersWherePossible, library_system, document_opening, EndsBy, SaysVerdict, Talks, JobDoes, IsSessionText, HasRun, texts_for, Served, World, Status, cond-true}
 use Rattle.roman_top.specs.declared.status.Status.TheVariants as status
 use Rattle.roman_top.proofs.AdviseLemmas.{advice_answered}
 use Rattle.roman_top.proofs.EndingLemmas.{told_all, told_more, work_of}
-
-matched_true : (b : Bool) (P Q : Type 0) → IsTrue b → MatchBool b P Q → P
-matched_true true P Q e p = p
-matched_true false P Q e p = absurd (false≢true e)
 
 -- The answers
 
@@ -25,8 +21,7 @@ judged_answered (Rejected line why) text result short judges = subst IsAnswered 
 judged_answered TooLong text result short judges = absurd (short refl)
 
 talked_answered : (session : List ℕ) (library : PlainLibrary) (text : List ℕ) (result : Status) → IsTrue (is_heard_out session) → Talks session library text result → IsAnswered result
-talked_answered session library text result short talks =
-    is_done result (matched_true (is_heard_out session) (ToldFromStart library (lines session) text × (result ≡ status.Done)) (ToldFromStart library (ended_lines (prefix_of session)) text × (result ≡ status.TooLong)) short talks).1
+talked_answered session library text result short talks = is_done result (talks.1 ∙ cond-true (is_heard_out session) status.Done status.TooLong short)
 
 -- a job on its library is answered
 job_answered : (job : Job) (texts : Texts) (system : List ℕ) (rest : Option (List ℕ)) (session text : List ℕ) (library : PlainLibrary) (result : Status) → IsSessionText (Some (On system job)) texts rest session → Suffices job texts rest library →

@@ -1,5 +1,5 @@
 -- The text of a session keeps its promise.
-use Rattle.roman_top.proofs.Common.{◌≡◌, ℕ, Bool, true, false, MatchBool, List, length, take, nat_le, Option, Some, sym, subst, arith, Texts, Wrote, GreatestIsComplete, lines, ended_lines, IsIn, MAX_SESSION_BYTES, PlainLibrary, Situation, report_text, parts_of, start_pair_of, Answers, prefix_of, is_heard_out, State, start_state, IsState, LinesAreRead, Synth, Run, Command, On, IsFree, MeansTargets, IsTurnOfTargets, Turn, Accepted, document_opening, Talks, Synthesises, HasRun, Served, ToldFromStart, World, Status, PlainTargets, library_of, cond, if◌then◌else◌, targets_combined, ReportsGreat, reports_great, answered_heard, KeepsPromise, HasHeadline, HasReported, KeepsTargets, HasAnsweredTargets, Means, HasAnsweredLines, NamesTargets}
+use Rattle.roman_top.proofs.Common.{◌≡◌, ℕ, List, length, take, nat_le, Option, Some, sym, subst, arith, if◌then◌else◌, Texts, Wrote, GreatestIsComplete, lines, ended_lines, IsIn, MAX_SESSION_BYTES, PlainLibrary, Situation, report_text, parts_of, start_pair_of, Answers, State, start_state, IsState, LinesAreRead, Synth, Run, Command, On, IsFree, MeansTargets, IsTurnOfTargets, KeepsTargets, HasAnsweredTargets, Turn, Means, HasAnsweredLines, Accepted, document_opening, Talks, Synthesises, HasRun, Served, World, Status, PlainTargets, NamesTargets, library_of, targets_combined, ReportsGreat, reports_great, answered_heard, KeepsPromise, HasHeadline, HasReported}
 use Rattle.roman_top.specs.declared.status.Status.TheVariants as status
 use Rattle.roman_top.proofs.EndingLemmas.{told_more, work_of, opens_within}
 use Rattle.roman_top.proofs.JobLemmas.{keeps_text}
@@ -11,11 +11,6 @@ use Rattle.roman_top.proofs.TurnLemmas.{StepsTell, HasTurns, state_known, start_
 means_accepted : (texts : Texts) (system : List ℕ) (library : PlainLibrary) → Means texts system library → document_opening texts system ≡ Accepted library
 means_accepted texts system library (is, fits) = opens_within (library_of texts system) library is fits
 
--- the replies to the lines that are read
-heard_tells : (b : Bool) (library : PlainLibrary) (ls ms : List (List ℕ)) (text : List ℕ) (P Q : Type 0) → MatchBool b (ToldFromStart library ls text × P) (ToldFromStart library ms text × Q) → ToldFromStart library (cond b ls ms) text
-heard_tells true library ls ms text P Q tells = tells.0
-heard_tells false library ls ms text P Q tells = tells.0
-
 -- the lines of a session, or those that end within the limit
 abbrev lines_within : List ℕ → List (List ℕ)
 lines_within session = if nat_le (length session) MAX_SESSION_BYTES then lines session else ended_lines (take MAX_SESSION_BYTES session)
@@ -23,7 +18,7 @@ lines_within session = if nat_le (length session) MAX_SESSION_BYTES then lines s
 talked : (P : Turn → Type 0) (texts : Texts) (system session : List ℕ) (library : PlainLibrary) (text : List ℕ) (result : Status) → LinesAreRead → StepsTell library P → document_opening texts system ≡ Accepted library → Talks session library text result →
     (now : Situation) × HasTurns P library (start_state library) now (lines_within session) text
 talked P texts system session library text result read tell accepted talks =
-    let tells = heard_tells (is_heard_out session) library (lines session) (ended_lines (prefix_of session)) text (result ≡ status.Done) (result ≡ status.TooLong) talks in
+    let tells = talks.0 in
     let known = starts_known texts system library tells.start accepted tells.begins in
     let told = subst (λ (ls : List (List ℕ)). Answers tells.start ls text tells.now) (answered_heard session) tells.told in (
       tells.now,

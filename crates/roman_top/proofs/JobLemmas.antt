@@ -36,15 +36,11 @@ job_kept law Resilience texts session library text result begins does = (
   does.1,
 )
 
-keeps_job : GreatestIsComplete → (job : Job) (texts : Texts) (system session : List ℕ) (library : PlainLibrary) (text : List ℕ) (result : Status) → document_opening texts system ≡ Accepted library →
-    JobDoes job texts session library text result → KeepsJob job texts library text result
-keeps_job law job texts system session library text result accepted does = job_kept law job texts session library text result (library_begins texts system library accepted) does
-
 pub keeps_text : LinesAreRead → GreatestIsComplete → (asked : Option Command) (old new : World) (result : Status) → Served asked old new result → IsFree result → KeepsText asked old new result
 keeps_text read law (Some (On system job)) old new result served free = told_more _ _ (λ texts. (library : PlainLibrary) → document_opening texts system ≡ Accepted library → WritesText (KeepsJob job texts library) old.written new.written result) (served.run free)
     (λ texts run library accepted. record {
       text = run.text;
-      run = keeps_job law job texts system run.session library run.text result accepted
+      run = job_kept law job texts run.session library run.text result (library_begins texts system library accepted)
           (work_of (JobDoes job texts run.session) (document_opening texts system) library run.text result accepted run.run);
       wrote = run.wrote;
     })

@@ -6,10 +6,6 @@ pub mod ServedLemmas
 pub mod SynthLemmas
 pub mod AdviseLemmas
 pub mod CompleteLemmas
-pub mod RefusalLemmas
-pub mod CertifyLemmas
-pub mod ShortestLemmas
-pub mod ResilienceLemmas
 pub mod OutlookLemmas
 pub mod StageLemmas
 pub mod TalkLemmas

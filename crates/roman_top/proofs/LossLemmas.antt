@@ -1,7 +1,5 @@
 -- The system and the pair that are left after one or two services fail, and what `resilience` writes of them.
-use Rattle.roman_top.proofs.Common.{◌≡◌, ℕ, zero, suc, ◌+◌, ◌<◌, ◌≤◌, true, List, [], ◌∷◌, map, length, drop, Some, slice_get, inl, inr, refl, sym, subst, arith, cases_lt, length-map, IsIn, below, Sys, Pair, IsSys, IsPair, outlook, system_without, pair_without, Way, from_map, from_flat_map, from_place, from_end, there_is, NamedSys, seat_of, system_of, TellsLosses, lines_without, outlook_text, remove, Change, Freeze, after, without, CanChange, from_below, IsPair-turned, IsPair-without, length-set_frozen, length-remove, renaming_keeps, without_changes, AreFailing}
-use Rattle.roman_model.specs.System.{Seat}
-use Rattle.roman_model.specs.Change.{Die}
+use Rattle.roman_top.proofs.Common.{◌∙◌, ◌≡◌, ℕ, suc, ◌+◌, ◌<◌, ◌≤◌, true, List, [], ◌∷◌, map, length, drop, Some, slice_get, inl, inr, refl, sym, subst, arith, remove, get_or, length-map, length-drop, get_or-drop, IsIn, below, Sys, Pair, IsSys, IsPair, Seat, outlook, system_without, pair_without, Way, from_map, from_flat_map, there_is, from_below, IsPair-turned, IsPair-without, length-set_frozen, length-remove, renaming_keeps, without_changes, in_contains, length-below, get_or-below, NamedSys, seat_of, system_of, TellsLosses, AreFailing, lines_without, outlook_text, Change, Freeze, after, without, CanChange, Die}
 use Rattle.roman_model.specs.declared.way.Way.TheVariants as way
 use Rattle.roman_top.proofs.ServingLemmas.{outlook_right}
 
@@ -11,15 +9,12 @@ record IsWhole (s : Sys) (p : Pair) : Type 0 where
   pair : IsPair s p
 
 -- a place from k on isn't below k
-later_place : (d n k j : ℕ) → n ≤ k + d → IsIn j (drop k (below n)) → (k ≤ j) × (j < n)
-later_place zero n k j l i = absurd (subst (λ ks. IsIn j ks) (from_end n k (omega arith)) i)
-later_place (suc d) n k j l i = elim (cases_lt k n) [
-  | inl less ↦ elim (subst (λ ks. IsIn j ks) (from_place n k less) i) [
-    | inl e ↦ (omega arith, omega arith)
-    | inr later ↦ let (m, h) = later_place d n (k + 1) j (omega arith) later in (omega arith, h)
-  ]
-  | inr past ↦ absurd (subst (λ ks. IsIn j ks) (from_end n k (omega arith)) i)
-]
+later_place : (n k j : ℕ) → IsIn j (drop k (below n)) → (k ≤ j) × (j < n)
+later_place n k j i =
+    let (m, l, e) = in_contains (drop k (below n)) j i in
+    let within : k + m < n = omega (arith, l, length-drop k (below n), length-below n) in
+    let is : get_or (drop k (below n)) m j ≡ k + m = get_or-drop k (below n) m j ∙ get_or-below n (k + m) j within in
+    (omega (arith, e, is), omega (arith, e, is))
 
 changed : (change : Change) (s : Sys) → IsSys s → CanChange change s → IsSys (after change s)
 changed change s ok can = (renaming_keeps change s [] ok can (λ x none. absurd none) tt).system
@@ -57,7 +52,7 @@ failing_left how K s p ok pair (inl one) =
 failing_left how K s p ok pair (inr two) =
     let (k, i, rest) = from_flat_map (λ k. map (λ j. k ∷ j ∷ []) (drop (k + 1) (below (length s.seats)))) K (below (length s.seats)) two in
     let (j, later, e) = from_map (λ j. k ∷ j ∷ []) K (drop (k + 1) (below (length s.seats))) rest in
-    let (m, h) = later_place (length s.seats) (length s.seats) (k + 1) j (omega arith) later in
+    let (m, h) = later_place (length s.seats) (k + 1) j later in
     subst (λ J. IsWhole (system_without how J s) (pair_without how J p)) (sym e) (two_left how k j s p ok pair (omega arith) h)
 
 -- The text.

@@ -1,5 +1,5 @@
 -- The session of a made system goes from stage to stage by turns.
-use Rattle.roman_top.proofs.Common.{◌≡◌, ℕ, List, [], ◌∷◌, refl, sym, ap, ◌∙◌, subst, is_related, related_count, length-pairs, PlainLibrary, Situation, present_system, shape_of, until_quit, Answers, shown, IsKnownSituation, State, LinesAreRead, made, standing, stages, Passes, Makes, Status, words_of, TellsStanding, TellsStages, KeepsMade, stage_line}
+use Rattle.roman_top.proofs.Common.{◌≡◌, ℕ, List, [], ◌∷◌, refl, sym, ap, subst, is_related, related_count, length-pairs, PlainLibrary, Situation, present_system, shape_of, words_of, until_quit, Answers, shown, IsKnownSituation, State, LinesAreRead, made, standing, stages, Passes, stage_line, Makes, Status, TellsStanding, TellsStages, KeepsMade}
 use Rattle.roman_top.proofs.ServingLemmas.{outlook_right}
 use Rattle.roman_top.proofs.TurnLemmas.{IsFrom, start_seen, start_from, turns_of}
 

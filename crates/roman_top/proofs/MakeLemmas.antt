@@ -1,7 +1,5 @@
 -- Made systems, as part of a run.
-use Rattle.roman_top.proofs.Common.{◌≡◌, ℕ, ◌<◌, ◌≤◌, ◌++◌, Bool, IsTrue, IsFalse, List, length, Option, Result, nat_le, refl, sym, subst, arith, Puts, all_below, by_test, PlainLibrary, IsLibrary, made, cells, Situation, IsStart, IsKnownSituation, made_line, stages, Passes, library_system, is_past_limit, Makes, Finishes, Writes, Status, ltb-true, leb-true, all_below_at, floor, worker, shift}
-use Rattle.roman_top.specs.declared.status.Status.TheVariants as status
-use Rattle.roman_top.proofs.EndingLemmas.{writes_put}
+use Rattle.roman_top.proofs.Common.{◌≡◌, ℕ, ◌<◌, ◌≤◌, Bool, IsTrue, IsFalse, length, nat_le, refl, sym, subst, arith, ltb-true, all_below, by_test, all_below_at, PlainLibrary, IsLibrary, made, floor, worker, shift, cells, Situation, IsStart, IsKnownSituation, library_system, is_past_limit, leb-true}
 use Rattle.roman_top.proofs.StartsKnown.{start_known}
 
 -- ---- the limit
@@ -37,11 +35,3 @@ made_start library n s is few known start =
     let within : IsFalse (is_past_limit library) = by_test (is_past_limit library)
     (λ past. absurd (not_past_limit library n is few (ltb-true library.limit (cells (library_system library)) past))) (λ within. within) in
     start_known library s (record { known = known; states = states; actions = actions }) within start
-
--- ---- the summary
-
--- the summary of a session that went from stage to stage was put
-pub summarised : {T E : Type 0} (n : ℕ) (start : Situation) (lines : List ℕ) (old new : Option (List ℕ)) (result : Status) (r : Result T E) → IsStart (made n) start → IsKnownSituation start → Passes start stages lines →
-    Puts old new (made_line n ++ lines) r → Finishes r status.Done result → Writes (Makes n) old new result
-summarised n start lines old new result r begins known passes puts finishes =
-    writes_put _ _ _ _ _ _ _ puts finishes (record { start = start; begins = begins; known = known; rest = lines; passes = passes; whole = refl }, refl) (λ w. w)

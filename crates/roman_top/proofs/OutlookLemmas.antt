@@ -1,18 +1,6 @@
 -- The lines of `resilience`, pushed one after another.
-use Rattle.roman_top.proofs.Common.{◌≡◌, ℕ, ◌+◌, ◌<◌, ◌≤◌, List, [], ◌∷◌, ◌++◌, map, length, drop, Some, slice_get, codes, decimal, refl, sym, ap, ap₂, ◌∙◌, append_assoc, arith, flat_map, append-nil, below, Pair, outlook, system_without, pair_without, Way, Die, from_place, from_end, NamedSys, system_of, outlook_words, service_names, lines_without, ones, twos, outlook_text, flat_map-append, Outlook, seat_name, Seat, mapped_at, way_word, line_without, head_text}
-use Rattle.roman_model.specs.declared.way.Way.TheVariants.{Freeze}
-
--- Names.
-
-pub one_named : (parts : NamedSys) (k : ℕ) (seat : Seat) → slice_get parts.seats k ≡ Some seat → codes "without " ++ seat.name ≡ codes "without" ++ service_names parts (k ∷ [])
-one_named parts k seat there = grind (arith, append-nil, mapped_at)
-
-pub two_named : (parts : NamedSys) (k j : ℕ) (seat other : Seat) → slice_get parts.seats k ≡ Some seat → slice_get parts.seats j ≡ Some other →
-    ((codes "without " ++ seat.name) ++ codes " ") ++ other.name ≡ codes "without" ++ service_names parts (k ∷ j ∷ [])
-two_named parts k j seat other there there_too =
-    ap (λ (x : List ℕ). codes "without " ++ x) (append_assoc seat.name (codes " ") other.name)
-    ∙ ap (λ (x : List ℕ). codes "without " ++ (seat.name ++ (codes " " ++ x))) (sym (append-nil other.name))
-    ∙ ap₂ (λ (x y : List ℕ). codes "without" ++ ((codes " " ++ x) ++ ((codes " " ++ y) ++ []))) (sym (mapped_at seat_name parts.seats k seat [] there)) (sym (mapped_at seat_name parts.seats j other [] there_too))
+use Rattle.roman_top.proofs.Common.{◌≡◌, ℕ, ◌+◌, ◌<◌, ◌≤◌, List, [], ◌++◌, map, length, drop, codes, decimal, refl, ap, ap₂, ◌∙◌, arith, flat_map, append-nil, below, Pair, outlook, system_without, pair_without, Outlook, Way, from_place, from_end, NamedSys, system_of, outlook_words, service_names, lines_without, ones, twos, outlook_text, way_word, line_without, head_text, flat_map-append}
+use Rattle.roman_model.specs.declared.way.Way.TheVariants.{Freeze, Die}
 
 -- Lines.
 

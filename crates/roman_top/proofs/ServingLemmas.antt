@@ -1,5 +1,5 @@
 -- Outlooks are right: they count the related pairs, and the cases in which a seat serves an action.
-use Rattle.roman_top.proofs.Common.{◌≡◌, ℕ, List, [], map, length, IsTrue, refl, sym, ap, ◌∙◌, subst, arith, cond-true, cond-false, length-map, slice_get_within, IsIn, below, Sys, Pair, IsSys, IsPair, pairs, is_allowed, is_related, related_count, outlook, by_test, in_map, from_map, from_flat_map, allowed_in, from_allowed, related_great, great_related, filter, length-flat_map, HasNoRepeats, offers, choice_count, in_flat_map, in_filter, filter_in, in_below, HasNoRepeats-map, HasNoRepeats-flat_map, HasNoRepeats-filter, HasNoRepeats-below, sum_by_same, in_pairs, from_pairs, pairs_once, allowed_in_range, offers_are, offer_is, Great, Counts, Serving, IsServing, AreServings, IsRightOutlook}
+use Rattle.roman_top.proofs.Common.{◌≡◌, ℕ, List, [], map, length, IsTrue, refl, sym, ap, ◌∙◌, subst, arith, filter, cond-true, cond-false, length-map, slice_get_within, IsIn, below, HasNoRepeats, Sys, Pair, IsSys, IsPair, pairs, is_allowed, is_related, related_count, offers, choice_count, outlook, by_test, in_map, from_map, from_flat_map, allowed_in, from_allowed, related_great, great_related, in_flat_map, in_filter, filter_in, in_below, HasNoRepeats-map, HasNoRepeats-flat_map, HasNoRepeats-filter, HasNoRepeats-below, sum_by_same, in_pairs, from_pairs, pairs_once, allowed_in_range, offers_are, offer_is, length-flat_map, Great, Counts, Serving, IsServing, AreServings, IsRightOutlook}
 use Rattle.std.proofs.Common.{flat_map}
 
 -- The related pairs.

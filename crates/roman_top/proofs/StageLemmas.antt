@@ -1,5 +1,5 @@
 -- Lines of a script, answered one after another.
-use Rattle.roman_top.proofs.Common.{◌≡◌, ℕ, ◌+◌, ◌-◌, ◌<◌, ◌≤◌, List, [], ◌∷◌, ◌++◌, length, take, drop, Option, Some, Result, slice_get, codes, refl, sym, ap, ◌∙◌, subst, arith, append_assoc, append-nil, get_or_from_slice_get, script_lines, Situation, Step, Answers, made_line, standing, stages, Passes, HasComeTo, line_of_stage, lines_of, get_or, add-one, drop-cons, drop_all, get_or-drop, length-drop, take_more, Answered, Stage}
+use Rattle.roman_top.proofs.Common.{◌≡◌, ℕ, ◌+◌, ◌-◌, ◌<◌, ◌≤◌, List, [], ◌∷◌, ◌++◌, length, take, drop, Option, Some, Result, slice_get, codes, refl, sym, ap, ◌∙◌, subst, arith, append_assoc, get_or, add-one, drop-cons, append-nil, drop_all, get_or-drop, length-drop, take_more, get_or_from_slice_get, script_lines, Situation, Step, Answers, made_line, standing, stages, Passes, HasComeTo, line_of_stage, lines_of, Answered, Stage}
 
 -- one more line is answered
 Answers-push : (old : Situation) (ls : List (List ℕ)) (text : List ℕ) (mid : Situation) (line more : List ℕ) (new : Situation) → Answers old ls text mid → Step mid line more new → Answers old (ls ++ line ∷ []) (text ++ more) new
@@ -42,18 +42,12 @@ pub script_passes : (s0 s1 s2 s3 s4 s5 : Situation) (start freeze thaw die join 
     HasComeTo s4 (take 9 (drop 4 script_lines)) s5 → line_of_stage round ≡ standing (codes "round") s5 →
     Passes s0 stages (lines_of (start ∷ freeze ∷ thaw ∷ die ∷ join ∷ round ∷ []))
 script_passes s0 s1 s2 s3 s4 s5 start freeze thaw die join round at_start h1 at_freeze h2 at_thaw h3 at_die h4 at_join h5 at_round =
-    let fifth : Passes s4 ((codes "round", take 9 (drop 4 script_lines)) ∷ []) (lines_of (round ∷ [])) =
-    passes_on s4 s5 (codes "round") (take 9 (drop 4 script_lines)) [] (line_of_stage round) (codes "end\n") h5 at_round refl in
-    let fourth : Passes s3 ((codes "join", take 1 (drop 3 script_lines)) ∷ (codes "round", take 9 (drop 4 script_lines)) ∷ []) (lines_of (join ∷ round ∷ [])) =
-    passes_on s3 s4 (codes "join") (take 1 (drop 3 script_lines)) ((codes "round", take 9 (drop 4 script_lines)) ∷ []) (line_of_stage join) (lines_of (round ∷ [])) h4 at_join fifth in
-    let third : Passes s2 ((codes "die", take 1 (drop 2 script_lines)) ∷ (codes "join", take 1 (drop 3 script_lines)) ∷ (codes "round", take 9 (drop 4 script_lines)) ∷ []) (lines_of (die ∷ join ∷ round ∷ [])) =
-    passes_on s2 s3 (codes "die") (take 1 (drop 2 script_lines)) ((codes "join", take 1 (drop 3 script_lines)) ∷ (codes "round", take 9 (drop 4 script_lines)) ∷ []) (line_of_stage die) (lines_of (join ∷ round ∷ [])) h3 at_die fourth in
-    let second = passes_on s1 s2 (codes "thaw") (take 1 (drop 1 script_lines)) ((codes "die", take 1 (drop 2 script_lines)) ∷ (codes "join", take 1 (drop 3 script_lines)) ∷ (codes "round", take 9 (drop 4 script_lines)) ∷ [])
-    (line_of_stage thaw) (lines_of (die ∷ join ∷ round ∷ [])) h2 at_thaw third in
-    let first = passes_on s0 s1 (codes "freeze") (take 1 script_lines)
-    ((codes "thaw", take 1 (drop 1 script_lines)) ∷ (codes "die", take 1 (drop 2 script_lines)) ∷ (codes "join", take 1 (drop 3 script_lines)) ∷ (codes "round", take 9 (drop 4 script_lines)) ∷ [])
-    (line_of_stage freeze) (lines_of (thaw ∷ die ∷ join ∷ round ∷ [])) h1 at_freeze second in
-    ([], lines_of (freeze ∷ thaw ∷ die ∷ join ∷ round ∷ []), s0, (refl, refl), first, ap (λ prefix. prefix ++ lines_of (freeze ∷ thaw ∷ die ∷ join ∷ round ∷ [])) at_start)
+    let from_round = passes_on s4 s5 (codes "round") (take 9 (drop 4 script_lines)) [] (line_of_stage round) (codes "end\n") h5 at_round refl in
+    let from_join = passes_on s3 s4 (codes "join") (take 1 (drop 3 script_lines)) (drop 5 stages) (line_of_stage join) _ h4 at_join from_round in
+    let from_die = passes_on s2 s3 (codes "die") (take 1 (drop 2 script_lines)) (drop 4 stages) (line_of_stage die) _ h3 at_die from_join in
+    let from_thaw = passes_on s1 s2 (codes "thaw") (take 1 (drop 1 script_lines)) (drop 3 stages) (line_of_stage thaw) _ h2 at_thaw from_die in
+    let from_freeze = passes_on s0 s1 (codes "freeze") (take 1 script_lines) (drop 2 stages) (line_of_stage freeze) _ h1 at_freeze from_thaw in
+    passes_on s0 s0 (codes "start") [] (drop 1 stages) (line_of_stage start) _ (record { replies = []; answers = (refl, refl) }) at_start from_freeze
 
 -- ---- lines that are pushed one after another
 

@@ -1,14 +1,10 @@
 -- Sessions, as part of a run.
-use Rattle.roman_top.proofs.Common.{◌≡◌, ℕ, ◌+◌, ◌-◌, List, Option, None, Some, IfSome, Result, Ok, Err, IsTrue, IsFalse, refl, sym, subst, arith, inr, cond-true, cond-false, Texts, rest_from, shelf_text, lines, ended_lines, MAX_SESSION_BYTES, by_test, Situation, IsStart, prefix_of, is_heard_out, Run, On, Accepts, Opens, HasRunPrefix, document_opening, Talks, IsSessionText, HasRun, Served, ServedBeside, World, Outputs, beside, Status, OnOk, IsErrOf, ◌⊎◌, cond, Had, IsAtEnd, GaveAtMost, Gave-told, PIECE_BYTES, GaveQuit, StreamState, stream_state, cursor, IsHeardOut, IsCutOff, GoesOn, StopsShort, TellsPrefixOfAll, CausedBy, AreBehaviours, HearError, short_out, GoesOnFrom, HearsText, heard_status, HasAnswered, HasPrefixOfTaken, IsOfSession, TakesInput, HasAnsweredPrefix, HasAnsweredInput, Runs}
+use Rattle.roman_top.proofs.Common.{◌≡◌, ℕ, ◌+◌, ◌-◌, List, Option, None, Some, IfSome, Result, Ok, Err, IsTrue, refl, sym, subst, arith, inr, OnOk, IsErrOf, ◌⊎◌, if◌then◌else◌, cond-true, cond-false, Texts, rest_from, shelf_text, lines, MAX_SESSION_BYTES, PIECE_BYTES, Situation, IsStart, is_heard_out, GaveQuit, StreamState, stream_state, cursor, IsHeardOut, IsCutOff, GoesOn, StopsShort, TellsPrefixOfAll, CausedBy, heard_lines, Run, On, Accepts, OpensDocument, GoesOnFrom, HearsText, heard_status, HasRunPrefix, HasAnswered, HasPrefixOfTaken, IsOfSession, TakesInput, HasAnsweredPrefix, HasAnsweredInput, document_opening, Talks, IsSessionText, HasRun, Runs, Served, ServedBeside, World, Outputs, beside, Status, Had, IsAtEnd, GaveAtMost, Gave-told, AreBehaviours, HearError, short_out}
 use Rattle.roman_hearing.specs.Told.{Told}
 use Rattle.roman_hearing.specs.declared.hearing.HearError.TheVariants as hear
 use Rattle.roman_top.specs.declared.status.Status.TheVariants as status
-use Rattle.roman_top.proofs.EndingLemmas.{told_more, match_true, match_false, on_accepted, told_known}
-use Rattle.roman_top.proofs.ServedLemmas.{served_by, opened_from}
-
--- a source over a whole text has that text
-pub text_source : (told given : Option Texts) (name given_name : List ℕ) (at : ℕ) → given ≡ told → given_name ≡ name → at ≡ 0 → rest_from given given_name at ≡ rest_from told name 0
-text_source told given name given_name at same_texts same_name at_start = rw (same_texts, same_name, at_start) refl
+use Rattle.roman_top.proofs.EndingLemmas.{told_more, on_accepted, told_known, opened_from}
+use Rattle.roman_top.proofs.ServedLemmas.{served_by}
 
 -- what a session from the input did
 pub record Heard (old new : StreamState) (result : Result (Unit {0}) HearError) : Type 0 where
@@ -22,33 +18,21 @@ pub record Heard (old new : StreamState) (result : Result (Unit {0}) HearError) 
 
 -- Sessions of accepted documents
 
-module _ (texts : Texts) (system : List ℕ) (start : Situation) (accepts : Accepts (document_opening texts system) (λ library. IsStart library start)) where
-  -- the replies to a whole session, or to its prefix, are a run
-  talked : (name : Option (List ℕ)) (session text : List ℕ) (ends : Status) → Talks session accepts.library text ends → Runs (Some (On system (Run name))) texts session text ends
-  talked name session text ends talks = on_accepted (Talks session) (document_opening texts system) accepts.library text ends accepts.accepted talks
+module _ (texts : Texts) (system : List ℕ) (start : Situation) (accepts : Accepts system texts (λ library. IsStart library start)) where
+  -- the replies to the lines that are answered are a run
+  talks : (name : Option (List ℕ)) (session text : List ℕ) (ls : List (List ℕ)) (now : Situation) (ends : Status) → ls ≡ heard_lines session → ends ≡ (if is_heard_out session then status.Done else status.TooLong) →
+      Told start ls text now → Runs (Some (On system (Run name))) texts session text ends
+  talks name session text ls now ends are is told = on_accepted (Talks session) (document_opening texts system) accepts.library text ends accepts.accepted
+      (record { start = start; now = now; begins = accepts.holds; told = subst (λ (ls : List (List ℕ)). Told start ls text now) are told }, is)
 
-  talks_all : (session text : List ℕ) (now : Situation) → IsTrue (is_heard_out session) → Told start (lines session) text now → Talks session accepts.library text status.Done
-  talks_all session text now out told = match_true (is_heard_out session) _ _ out (record { start = start; now = now; begins = accepts.holds; told = told }, refl)
-
-  talks_prefix : (session text : List ℕ) (now : Situation) → IsFalse (is_heard_out session) → Told start (ended_lines (prefix_of session)) text now → Talks session accepts.library text status.TooLong
-  talks_prefix session text now long told = match_false (is_heard_out session) _ _ long (record { start = start; now = now; begins = accepts.holds; told = told }, refl)
-
-  -- the replies to the lines that may be heard
-  talks_within : (session text : List ℕ) (now : Situation) → Told start (cond (is_heard_out session) (lines session) (ended_lines (prefix_of session))) text now → (ends : Status) × Talks session accepts.library text ends
-  talks_within session text now told = by_test (is_heard_out session)
-      (λ out. (status.Done, talks_all session text now out (subst (λ (ls : List (List ℕ)). Told start ls text now) (cond-true (is_heard_out session) (lines session) (ended_lines (prefix_of session)) out) told)))
-      (λ long. (status.TooLong, talks_prefix session text now long (subst (λ (ls : List (List ℕ)). Told start ls text now) (cond-false (is_heard_out session) (lines session) (ended_lines (prefix_of session)) long) told)))
+  -- the replies to a whole session are
+  talks_all : (name : Option (List ℕ)) (session text : List ℕ) (now : Situation) → IsTrue (is_heard_out session) → Told start (lines session) text now → Runs (Some (On system (Run name))) texts session text status.Done
+  talks_all name session text now out = talks name session text (lines session) now status.Done (sym (cond-true (is_heard_out session) _ _ out)) (sym (cond-true (is_heard_out session) _ _ out))
 
   module _ (name : Option (List ℕ)) (old new : World) (from : Option (List ℕ)) (now : Situation) (given : (session : List ℕ) → Had from session → IsSessionText (Some (On system (Run name))) texts old.rest session) where
     -- the session was read to its end, or to `quit`
     runs_out : IsHeardOut (stream_state start from old.written) (cursor now new.written) → HasRun (Some (On system (Run name))) texts old new status.Done
-    runs_out h = record {
-      session = h.session;
-      given = given h.session h.had;
-      text = h.tells.text;
-      run = talked name h.session h.tells.text status.Done (talks_all h.session h.tells.text now h.out h.tells.told);
-      wrote = h.tells.wrote;
-    }
+    runs_out h = record { session = h.session; given = given h.session h.had; text = h.tells.text; run = talks_all name h.session h.tells.text now h.out h.tells.told; wrote = h.tells.wrote }
 
     -- the session is too long
     runs_long : IsCutOff (stream_state start from old.written) (cursor now new.written) → HasRun (Some (On system (Run name))) texts old new status.TooLong
@@ -56,15 +40,13 @@ module _ (texts : Texts) (system : List ℕ) (start : Situation) (accepts : Acce
       session = h.session;
       given = given h.session h.had;
       text = h.tells.text;
-      run = talked name h.session h.tells.text status.TooLong (talks_prefix h.session h.tells.text now h.long h.tells.told);
+      run = talks name h.session h.tells.text _ now status.TooLong (sym (cond-false (is_heard_out h.session) _ _ h.long)) (sym (cond-false (is_heard_out h.session) _ _ h.long)) h.tells.told;
       wrote = h.tells.wrote;
     }
 
     -- a prefix of possible replies was written
     runs_prefix : TellsPrefixOfAll (stream_state start from old.written) new.written → HasRunPrefix (Some (On system (Run name))) texts old.rest old new
-    runs_prefix h =
-        let (ends, talks) = talks_within h.session h.tells.text h.last h.tells.told in
-        record { session = h.session; given = given h.session h.had; text = h.tells.text; ends = ends; run = talked name h.session h.tells.text ends talks; wrote = h.tells.wrote }
+    runs_prefix h = record { session = h.session; given = given h.session h.had; text = h.tells.text; ends = _; run = talks name h.session h.tells.text _ h.last _ refl refl h.tells.told; wrote = h.tells.wrote }
 
   -- a prefix of the replies to the lines that were taken was written
   taken_prefix : (old new : World) (now : Situation) → StopsShort (stream_state start old.rest old.written) (stream_state now new.rest new.written) → HasPrefixOfTaken texts system old new
@@ -78,7 +60,7 @@ module _ (texts : Texts) (system : List ℕ) (start : Situation) (accepts : Acce
       given = refl;
       text = h.tells.text;
       ends = status.Done;
-      run = talked None h.heard h.tells.text status.Done (talks_all h.heard h.tells.text now (short_out h.heard h.few) h.tells.told);
+      run = talks_all None h.heard h.tells.text now (short_out h.heard h.few) h.tells.told;
       wrote = h.tells.wrote;
     };
   }
@@ -98,7 +80,7 @@ module _ (texts : Texts) (system : List ℕ) (start : Situation) (accepts : Acce
 
 -- A session from the input
 
-module _ (system : List ℕ) (start now : Situation) (old new : World) (opens : IfSome old.texts (λ texts. Accepts (document_opening texts system) (λ library. IsStart library start))) (behaviours : AreBehaviours start.parts)
+module _ (system : List ℕ) (start now : Situation) (old new : World) (opens : IfSome old.texts (λ texts. Accepts system texts (λ library. IsStart library start))) (behaviours : AreBehaviours start.parts)
     (texts : new.texts ≡ old.texts) (shelf : new.shelf_faults ≡ old.shelf_faults) where
   input_served : (heard : Result (Unit {0}) HearError) → Heard (stream_state start old.rest old.written) (stream_state now new.rest new.written) heard → CausedBy hear.ReadFault old.input_faults new.input_faults heard →
       CausedBy hear.WriteFault old.out_faults new.out_faults heard → Served (Some (On system (Run None))) old new (heard_status status.ReadFault heard)
@@ -126,12 +108,12 @@ of_session (Err hear.WriteFault) = tt
 of_session (Err hear.TooLong) = tt
 
 pub input_done : (system : List ℕ) (start now : Situation) (old mid new : Outputs) (rest rest_now : Option (List ℕ)) (input input_now : ℕ) (heard : Result (Unit {0}) HearError) (result : Status) →
-    Opens IsStart system old mid (Ok start) → AreBehaviours start.parts → Heard (stream_state start rest mid.written) (stream_state now rest_now new.written) heard → CausedBy hear.ReadFault input input_now heard →
+    OpensDocument IsStart system old mid (Ok start) → AreBehaviours start.parts → Heard (stream_state start rest mid.written) (stream_state now rest_now new.written) heard → CausedBy hear.ReadFault input input_now heard →
     CausedBy hear.WriteFault mid.out_faults new.out_faults heard → result ≡ heard_status status.ReadFault heard → new.texts ≡ mid.texts → new.shelf_faults ≡ mid.shelf_faults →
     Served (Some (On system (Run None))) (beside old rest input) (beside new rest_now input_now) result × TakesInput (Some (On system (Run None))) (beside old rest input) (beside new rest_now input_now) result
 input_done system start now old mid new rest rest_now input input_now heard result opens behaviours h reads writes is texts shelf =
     let after = beside new rest_now input_now in
-    opened_from IsStart start system old mid
+    opened_from _ start old mid
     (λ (old : Outputs). Served (Some (On system (Run None))) (beside old rest input) after result × TakesInput (Some (On system (Run None))) (beside old rest input) after result) opens (λ accepted. (
       subst (Served (Some (On system (Run None))) (beside mid rest input) after) (sym is)
           (input_served system start now (beside mid rest input) after accepted behaviours texts shelf heard h reads writes),
@@ -145,11 +127,11 @@ input_done system start now old mid new rest rest_now input input_now heard resu
 -- A session from a text of the shelf
 
 -- the session would go on
-broken_shelf : (texts : Texts) (system name : List ℕ) (start now : Situation) (accepts : Accepts (document_opening texts system) (λ library. IsStart library start)) (old new : World) →
+broken_shelf : (texts : Texts) (system name : List ℕ) (start now : Situation) (accepts : Accepts system texts (λ library. IsStart library start)) (old new : World) →
     GoesOnFrom (stream_state start (rest_from (Some texts) name 0) old.written) (cursor now new.written) → HasAnsweredPrefix texts system name old new
 broken_shelf texts system name start now accepts old new (has, goes) = grind (arith, Gave-told, answered)
 
-module _ (system name : List ℕ) (start now : Situation) (old new : World) (opens : IfSome old.texts (λ texts. Accepts (document_opening texts system) (λ library. IsStart library start))) (behaviours : AreBehaviours start.parts)
+module _ (system name : List ℕ) (start now : Situation) (old new : World) (opens : IfSome old.texts (λ texts. Accepts system texts (λ library. IsStart library start))) (behaviours : AreBehaviours start.parts)
     (texts : new.texts ≡ old.texts) (input : new.input_faults ≡ old.input_faults) where
   from_text : (held : Texts) → old.texts ≡ Some held → (session : List ℕ) → Had (rest_from old.texts name 0) session → session ≡ shelf_text held name
   from_text held is session had = sym (subst (λ (t : Option Texts). Had (rest_from t name 0) session) is had)
@@ -170,13 +152,14 @@ module _ (system name : List ℕ) (start now : Situation) (old new : World) (ope
       (told_known _ _ _ opens (λ held is accepts. runs_long held system start accepts (Some name) old new (rest_from old.texts name 0) now (from_text held is) (h.too_long refl)))
       (reads.stayed (λ e. cc)) input (writes.stayed (λ e. cc)) tt texts
 
-pub shelf_served : (system name : List ℕ) (start now : Situation) (old mid new : Outputs) (heard : Result (Unit {0}) HearError) (result : Status) → Opens IsStart system old mid (Ok start) → AreBehaviours start.parts →
+pub shelf_served : (system name : List ℕ) (start now : Situation) (old mid new : Outputs) (heard : Result (Unit {0}) HearError) (result : Status) → OpensDocument IsStart system old mid (Ok start) → AreBehaviours start.parts →
     HearsText (stream_state start (rest_from mid.texts name 0) mid.written) (cursor now new.written) heard → CausedBy hear.ReadFault mid.shelf_faults new.shelf_faults heard → CausedBy hear.WriteFault mid.out_faults new.out_faults heard →
     new.texts ≡ mid.texts → result ≡ heard_status status.ShelfFault heard → ServedBeside (Some (On system (Run (Some name)))) old new result
 shelf_served system name start now old mid new heard result opens behaviours h reads writes texts is =
-    opened_from IsStart start system old mid (λ (old : Outputs). ServedBeside (Some (On system (Run (Some name)))) old new result) opens (λ accepted rest input.
-    subst (Served (Some (On system (Run (Some name)))) (beside mid rest input) (beside new rest input)) (sym is)
-    (shelf_heard system name start now (beside mid rest input) (beside new rest input) accepted behaviours texts refl heard h reads writes))
+    opened_from _ start old mid (λ (old : Outputs). ServedBeside (Some (On system (Run (Some name)))) old new result) opens (λ accepted. record {
+      served = λ rest input. subst (Served (Some (On system (Run (Some name)))) (beside mid rest input) (beside new rest input)) (sym is)
+          (shelf_heard system name start now (beside mid rest input) (beside new rest input) accepted behaviours texts refl heard h reads writes);
+    })
 
 -- a session from a source over a whole text
 pub text_heard : (start now : Situation) (from given has : Option (List ℕ)) (old new : Option (List ℕ)) (heard : Result (Unit {0}) HearError) → given ≡ from → OnOk heard (IsHeardOut (stream_state start given old) (cursor now new)) →

@@ -1,5 +1,5 @@
 -- A turn of a session on a document with several targets, target by target.
-use Rattle.roman_top.proofs.Common.{◌≡◌, ◌↔◌, ℕ, ◌<◌, List, [], length, Result, Ok, Some, IsTrue, inl, inr, slice_get, sym, ap, ◌∙◌, subst, arith, length-map, slice_get_within, get_or_from_slice_get, below, product_of, Sys, IsPair, length-below, there_is, LineShape, LineError, NamedSys, seat_of, system_of, PlainLibrary, PlainTargets, Situation, Idle, shown, IsKnownSituation, State, TurnsInto, open_great, MeansTargets, IsTurnOfTargets, slice_set, IsOpenGreat, slice_get-get_or, IsSublist, Beh, has_move, TStep, SStep, Allows, couple, Serves, GreatCouple, name_at, states_at, Several, of_one, ServesAll, GreatAll, all_requests, couple_all, target_sizes, Request, from_get_map, get_map, get_or-below, move_in_range, TargetAllows, IsRequestOf, IsMoveOf, TurnsAreOf, request_at, turns_of, reply_text, ask, hand, saw, PlainCombined, machines, requests_in, joined, names_at, combined_state_names, request_name, request_names, combined_parts, CombinesTargets, MeansAll, several_with, MayAsk, ServesHere, Needs, Replies, OffersServing, means_all, parts_are, parts_in, couple_now, TargetAction, OffersServingAll, MovesOne, TellsTarget}
+use Rattle.roman_top.proofs.Common.{◌≡◌, ◌↔◌, ℕ, ◌<◌, List, [], length, Result, Ok, Some, IsTrue, inl, inr, slice_get, sym, ap, ◌∙◌, subst, arith, slice_set, length-map, slice_get_within, get_or_from_slice_get, slice_get-get_or, below, product_of, IsSublist, Sys, IsPair, Beh, has_move, TStep, SStep, Allows, length-below, there_is, from_get_map, get_map, get_or-below, move_in_range, LineShape, ask, hand, saw, LineError, NamedSys, seat_of, system_of, PlainLibrary, PlainTargets, CombinesTargets, Situation, Idle, shown, IsKnownSituation, State, IsOpenGreat, MayAsk, TurnsInto, Needs, open_great, means_all, parts_are, parts_in, MeansTargets, IsTurnOfTargets, couple_now, TargetAction, OffersServingAll, MovesOne, TellsTarget, couple, Serves, GreatCouple, name_at, states_at, Several, of_one, ServesAll, GreatAll, all_requests, couple_all, target_sizes, Request, TargetAllows, IsRequestOf, IsMoveOf, TurnsAreOf, request_at, turns_of, reply_text, PlainCombined, machines, requests_in, joined, names_at, combined_state_names, request_name, request_names, combined_parts, MeansAll, several_with, Replies, OffersServing}
 use Rattle.roman_text.specs.declared.replies.Reply.TheVariants as reply
 use Rattle.roman_top.proofs.TurnLemmas.{IsFrom, StepsTell}
 
@@ -37,20 +37,6 @@ module _ (said : PlainTargets) (library : PlainLibrary) (s : Situation) (combine
   turns : TurnsAreOf w s.here
   turns = turns_of w means.known s.here (subst (λ (sys : Sys). IsPair sys s.here) means.system known.situation.here)
 
-  may : (n i : ℕ) (target : Beh) (a : ℕ) → IsRequestOf w n i target a → MayAsk here n ↔ TargetAllows w s.here i target a
-  may = subst (λ (sys : Sys). (n i : ℕ) (target : Beh) (a : ℕ) → IsRequestOf w n i target a → Allows sys s.here.t s.here.e n ↔ TargetAllows w s.here i target a) (sym means.system) turns.asked
-
-  serves : (n i : ℕ) (target : Beh) (a : ℕ) → IsRequestOf w n i target a → (k : ℕ) → ServesHere here n k ↔ ServesAll w (GreatAll w) (couple_all w s.here) i target a k
-  serves =
-      subst (λ (sys : Sys). (n i : ℕ) (target : Beh) (a : ℕ) → IsRequestOf w n i target a → (k : ℕ) → Serves sys (GreatCouple sys) (couple s.here) n k ↔ ServesAll w (GreatAll w) (couple_all w s.here) i target a k)
-      (sym means.system) turns.served
-
-  answers : (n i : ℕ) (target : Beh) (a : ℕ) → IsRequestOf w n i target a → (k : ℕ) (bs' : List ℕ) (e' : ℕ) →
-      SStep (system_of s.parts) s.here.bs s.here.e n k bs' e' ↔ SStep (of_one w target) s.here.bs s.here.e a k bs' e'
-  answers =
-      subst (λ (sys : Sys). (n i : ℕ) (target : Beh) (a : ℕ) → IsRequestOf w n i target a → (k : ℕ) (bs' : List ℕ) (e' : ℕ) → SStep sys s.here.bs s.here.e n k bs' e' ↔ SStep (of_one w target) s.here.bs s.here.e a k bs' e')
-      (sym means.system) turns.answered
-
   -- The request that an action is
 
   record HasRequest (n : ℕ) : Type 0 where
@@ -85,6 +71,16 @@ module _ (said : PlainTargets) (library : PlainLibrary) (s : Situation) (combine
       let (i, target, a, is) = turns.named n (subst (λ (sys : Sys). Allows sys s.here.t s.here.e n) means.system asked) in
       request_is n (record { target = i; action = a }) is.request
 
+  -- the action is allowed where its target allows it, and the same services serve it and take the same steps
+  abbrev TellsOfAction : Sys → ℕ → ℕ → Beh → ℕ → Type 0
+  TellsOfAction sys n i target a =
+      (Allows sys s.here.t s.here.e n ↔ TargetAllows w s.here i target a)
+      × ((k : ℕ) → Serves sys (GreatCouple sys) (couple s.here) n k ↔ ServesAll w (GreatAll w) (couple_all w s.here) i target a k)
+      × ((k : ℕ) (bs' : List ℕ) (e' : ℕ) → SStep sys s.here.bs s.here.e n k bs' e' ↔ SStep (of_one w target) s.here.bs s.here.e a k bs' e')
+
+  same : (n : ℕ) (at : HasRequest n) → TellsOfAction (system_of s.parts) n at.asks.place at.asks.target.target.beh at.asks.action
+  same n at = subst (λ (sys : Sys). TellsOfAction sys n at.asks.place at.asks.target.target.beh at.asks.action) (sym means.system) (turns.asked n _ _ _ at.is, turns.served n _ _ _ at.is, turns.answered n _ _ _ at.is)
+
   -- The state
 
   pub means_targets : MeansTargets said here
@@ -92,7 +88,7 @@ module _ (said : PlainTargets) (library : PlainLibrary) (s : Situation) (combine
     great = means.great;
     actions = λ n l.
         let at = request_there n l in
-        record { asks = at.asks; may = may n at.asks.place at.asks.target.target.beh at.asks.action at.is; serves = serves n at.asks.place at.asks.target.target.beh at.asks.action at.is };
+        record { asks = at.asks; may = (same n at).0; serves = (same n at).1 };
   }
 
   -- The events
@@ -102,9 +98,9 @@ module _ (said : PlainTargets) (library : PlainLibrary) (s : Situation) (combine
     services = offers.services;
     order = subst (λ m. IsSublist offers.services (below m)) seats_length offers.serving.order;
     exact = λ k.
-        let same = serves n at.asks.place at.asks.target.target.beh at.asks.action at.is k in (
-          λ i. let (l, one) = (offers.serving.exact k).0 i in (subst (λ m. k < m) seats_length l, same.0 one),
-          λ (l, all). (offers.serving.exact k).1 (subst (λ m. k < m) (sym seats_length) l, same.1 all),
+        let served = (same n at).1 k in (
+          λ i. let (l, one) = (offers.serving.exact k).0 i in (subst (λ m. k < m) seats_length l, served.0 one),
+          λ (l, all). (offers.serving.exact k).1 (subst (λ m. k < m) (sym seats_length) l, served.1 all),
         );
     says = offers.says;
   }
@@ -141,14 +137,14 @@ module _ (said : PlainTargets) (library : PlainLibrary) (s : Situation) (combine
       let great = means.great s.here known.situation.here in
       needs_same turn (λ (n, named, asks). (n, named)) (λ (n, named) rest.
       let at = request_there n (slice_get_within s.parts.environment.actions n action named) in
-      let same = may n at.asks.place at.asks.target.target.beh at.asks.action at.is in (
+      let may = (same n at).0 in (
         (n, named, at.asks),
         needs_same rest (λ idle. idle) (λ idle rest. (
           idle,
           needs_same rest great.1 (λ related rest. (
             great.0 related,
-            needs_same rest same.1 (λ allowed rest.
-                (same.0 allowed, (offers_all n at text rest.0, rest.1))),
+            needs_same rest may.1 (λ allowed rest.
+                (may.0 allowed, (offers_all n at text rest.0, rest.1))),
           )),
         )),
       ))
@@ -157,8 +153,8 @@ module _ (said : PlainTargets) (library : PlainLibrary) (s : Situation) (combine
         (k, there),
         needs_same rest (λ (n, asked, asks). (n, asked)) (λ (n, asked) rest.
             let at = request_open n (subst (IsOpenGreat here) asked (open_great s known.situation)).1 in
-            let same = serves n at.asks.place at.asks.target.target.beh at.asks.action at.is k in
-            ((n, asked, at.asks), needs_same rest same.1 (λ one rest. (same.0 one, rest)))),
+            let served = (same n at).1 k in
+            ((n, asked, at.asks), needs_same rest served.1 (λ one rest. (served.0 one, rest)))),
       ))
   tells_target (Ok (saw state env)) text new turn =
       needs_same turn (λ (n, k, handed, asks). (n, k, handed)) (λ (n, k, handed) rest.
@@ -168,10 +164,10 @@ module _ (said : PlainTargets) (library : PlainLibrary) (s : Situation) (combine
         needs_same rest (λ place. place) (λ (b, there) rest. (
           (b, there),
           needs_same rest (λ place. place) (λ (e, named) rest.
-              let same = answers n at.asks.place at.asks.target.target.beh at.asks.action at.is k (slice_set s.here.bs k b) e in (
+              let step_is = (same n at).2 k (slice_set s.here.bs k b) e in (
                 (e, named),
-                needs_same rest same.1 (λ possible (t, step, (says, becomes)).
-                    (same.0 possible, moves_one n at t e (slice_set s.here.bs k b) env text new step says becomes)),
+                needs_same rest step_is.1 (λ possible (t, step, (says, becomes)).
+                    (step_is.0 possible, moves_one n at t e (slice_set s.here.bs k b) env text new step says becomes)),
               )),
         )),
       ))

@@ -1,5 +1,5 @@
 -- Each answered line has its turn.
-use Rattle.roman_top.proofs.Common.{◌≡◌, ℕ, List, [], ◌∷◌, ◌++◌, Result, Ok, inl, inr, IsTrue, refl, sym, ap, ◌∙◌, subst, arith, false≢true, both_ways, cond-true, cond-false, flat_map, IsIn, by_test, NamedSys, PlainLibrary, Situation, IsStart, Step, LineShape, shape_of, LineError, parts_of, until_quit, Answers, shown, IsKnownSituation, State, start_state, IsState, LinesAreRead, TurnsInto, open_great, Turn, is_quit, quit, steps_known, steps_turns, line_keeps, AreTurns, after_turns}
+use Rattle.roman_top.proofs.Common.{◌≡◌, ℕ, List, [], ◌∷◌, ◌++◌, Result, Ok, inl, inr, IsTrue, refl, sym, ap, ◌∙◌, subst, arith, false≢true, both_ways, cond-true, cond-false, flat_map, IsIn, by_test, NamedSys, PlainLibrary, Situation, IsStart, Step, is_quit, LineShape, shape_of, quit, LineError, parts_of, until_quit, Answers, shown, IsKnownSituation, State, start_state, IsState, LinesAreRead, TurnsInto, open_great, steps_known, steps_turns, line_keeps, Turn, AreTurns, after_turns}
 
 -- all parts but the services are the library's
 abbrev pub IsFrom : PlainLibrary → Situation → Type 0

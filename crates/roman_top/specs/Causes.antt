@@ -1,5 +1,5 @@
 -- Which counts of faults rose, by the status.
-use Rattle.std.specs.Prelude.{◌≡◌, ℕ, Result, Ok, Err}
+use Rattle.std.specs.Prelude.{◌≡◌, ℕ}
 use Rattle.roman_io.specs.Faults.{Rose}
 use Rattle.roman_top.specs.declared.status.Status.{Status}
 use Rattle.roman_top.specs.declared.status.Status.TheVariants as status
@@ -18,8 +18,3 @@ InputCause old new _ = new ≡ old
 abbrev pub SinkCause : ℕ → ℕ → Status → Type 0
 SinkCause old new status.WriteFault = Rose old new
 SinkCause old new _ = new ≡ old
-
--- the count stayed the same if a value is returned; a returned status says whether it rose
-abbrev pub CauseIn : {X : Type 0} → (ℕ → ℕ → Status → Type 0) → ℕ → ℕ → Result X Status → Type 0
-CauseIn Cause old new (Ok x) = new ≡ old
-CauseIn Cause old new (Err result) = Cause old new result

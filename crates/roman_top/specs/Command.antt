@@ -2,8 +2,7 @@
 use Rattle.std.specs.Prelude.{ℕ, List, [], ◌∷◌, Option, None, Some, codes, if◌then◌else◌}
 use Rattle.std.specs.Option.{option_map}
 use Rattle.std.specs.Str.{bytes_eq}
-use Rattle.roman_top.specs.Requests.{request_count_of}
-use Rattle.roman_top.specs.Workers.{workers_of}
+use Rattle.roman_top.specs.Arguments.{request_count_of, workers_of}
 use Rattle.roman_top.specs.declared.command.Command.{Command as Asked}
 use Rattle.roman_top.specs.declared.command.Command.TheVariants as asked
 

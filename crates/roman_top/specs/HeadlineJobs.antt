@@ -2,6 +2,8 @@
 use Rattle.std.specs.Prelude.{◌≡◌, ℕ, List, Option, None, Some, IfSome}
 use Rattle.roman_io.specs.Shelf.{Texts, shelf_text}
 use Rattle.roman_library.specs.Library.{PlainLibrary}
+use Rattle.roman_start.specs.Starts.{start_pair_of}
+use Rattle.roman_rank.specs.DepthText.{TellsDepths}
 use Rattle.roman_top.specs.Command.{Job, Certify, Check, Shortest, Advise, Resilience, Command, On, Make}
 use Rattle.roman_top.specs.Endings.{WritesText}
 use Rattle.roman_top.specs.HeadlineAdvise.{KeepsAdvice}
@@ -9,12 +11,17 @@ use Rattle.roman_top.specs.HeadlineCertify.{KeepsCertificate}
 use Rattle.roman_top.specs.HeadlineCheck.{KeepsVerdict}
 use Rattle.roman_top.specs.HeadlineMake.{KeepsMade}
 use Rattle.roman_top.specs.HeadlineResilience.{KeepsResilience}
-use Rattle.roman_top.specs.HeadlineShortest.{KeepsShortest}
-use Rattle.roman_top.specs.Opening.{Accepted, document_opening}
+use Rattle.roman_top.specs.Opening.{Accepted, document_opening, library_system}
 use Rattle.roman_top.specs.World.{World}
 use Rattle.roman_top.specs.declared.status.Status.{Status}
+use Rattle.roman_top.specs.declared.status.Status.TheVariants as status
 
--- each command by the page with its name; the page `Headline` has `synth` and `run`
+-- shortest: the text gives the depths of the library's pairs, and for its starting states the least number of requests within which
+-- the opponent wins against every delegation
+abbrev pub KeepsShortest : PlainLibrary → List ℕ → Status → Type 0
+KeepsShortest library text result = TellsDepths (library_system library) (start_pair_of library) text × (result ≡ status.Done)
+
+-- each other command by the page with its name; the page `Headline` has `synth` and `run`
 abbrev pub KeepsJob : Job → Texts → PlainLibrary → List ℕ → Status → Type 0
 KeepsJob Certify texts library text result = KeepsCertificate library text result
 KeepsJob (Check certificate) texts library text result = KeepsVerdict (shelf_text texts certificate) library text result

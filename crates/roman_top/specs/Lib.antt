@@ -1,5 +1,5 @@
-pub mod Accepted
 pub mod Advice
+pub mod Arguments
 pub mod Causes
 pub mod Command
 pub mod Complete
@@ -11,16 +11,13 @@ pub mod Numbers
 pub mod Opening
 pub mod Outlooks
 pub mod RefusalLine
-pub mod Requests
 pub mod Run
 pub mod Served
 pub mod Sessions
 pub mod Stages
 pub mod Verdicts
-pub mod Workers
 pub mod World
 pub mod HeadlineResilience
-pub mod HeadlineShortest
 pub mod HeadlineAdvise
 pub mod HeadlineCertify
 pub mod HeadlineCheck

@@ -1,9 +1,8 @@
 -- Runs: what a call writes and how it ends, given its words, the texts of the shelf and the bytes of the session.
-use Rattle.std.specs.Prelude.{◌≡◌, ℕ, List, [], Option, None, Some, IfSome, MatchBool}
+use Rattle.std.specs.Prelude.{◌≡◌, ℕ, List, [], Option, None, Some, IfSome, if◌then◌else◌}
 use Rattle.roman_io.specs.Shelf.{Texts, shelf_text}
 use Rattle.roman_io.specs.Sink.{Wrote}
 use Rattle.roman_io.specs.Source.{Had}
-use Rattle.roman_model.specs.Lines.{lines, ended_lines}
 use Rattle.roman_model.specs.System.{Sys, Pair}
 use Rattle.roman_model.specs.Arena.{Entry}
 use Rattle.roman_model.specs.Composition.{Great}
@@ -12,7 +11,7 @@ use Rattle.roman_model.specs.Certificate.{Verdict, Greatest, Rejected, TooLong, 
 use Rattle.roman_library.specs.Library.{PlainLibrary}
 use Rattle.roman_session.specs.Reports.{report_text}
 use Rattle.roman_start.specs.Starts.{parts_of, start_pair_of}
-use Rattle.roman_hearing.specs.Hearing.{prefix_of, is_heard_out}
+use Rattle.roman_hearing.specs.Hearing.{heard_lines, is_heard_out}
 use Rattle.roman_rank.specs.DepthText.{TellsDepths}
 use Rattle.roman_top.specs.Command.{Job, Synth, Run, Certify, Check, Shortest, Advise, Resilience, Command, On, Make, usage_line}
 use Rattle.roman_top.specs.Advice.{GivesAdvice}
@@ -75,10 +74,7 @@ Foresees library out result = EndsSaying (outlook_text (parts_of library) (start
 
 -- run: the replies to the lines of the session; of a session that is too long, to the lines that end within the limit
 abbrev pub Talks : List ℕ → PlainLibrary → List ℕ → Status → Type 0
-Talks session library out result =
-    MatchBool (is_heard_out session)
-    (ToldFromStart library (lines session) out × (result ≡ status.Done))
-    (ToldFromStart library (ended_lines (prefix_of session)) out × (result ≡ status.TooLong))
+Talks session library out result = ToldFromStart library (heard_lines session) out × (result ≡ (if is_heard_out session then status.Done else status.TooLong))
 
 -- make: the summary of the system of n workers
 abbrev pub Makes : ℕ → List ℕ → Status → Type 0

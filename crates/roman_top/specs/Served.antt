@@ -23,5 +23,5 @@ pub record Served (asked : Option Command) (old new : World) (result : Status) :
   pub texts : new.texts ≡ old.texts
 
 -- what a call does that leaves the input unchanged, for any input
-abbrev pub ServedBeside : Option Command → Outputs → Outputs → Status → Type 0
-ServedBeside asked old new result = (rest : Option (List ℕ)) (faults : ℕ) → Served asked (beside old rest faults) (beside new rest faults) result
+pub record ServedBeside (asked : Option Command) (old new : Outputs) (result : Status) : Type 0 where
+  pub served : (rest : Option (List ℕ)) (faults : ℕ) → Served asked (beside old rest faults) (beside new rest faults) result

@@ -1,12 +1,19 @@
--- The replies of a session, from its start on.
-use Rattle.std.specs.Prelude.{ℕ, ◌≤◌, List, length, IsFalse}
+-- How a session of a library begins, and its replies from there on.
+use Rattle.std.specs.Prelude.{◌≡◌, ℕ, ◌≤◌, List, length, IsFalse}
+use Rattle.roman_io.specs.Shelf.{Texts}
 use Rattle.roman_model.specs.Lines.{ended_lines}
 use Rattle.roman_model.specs.declared.limits.TheConstants.{MAX_SESSION_BYTES}
 use Rattle.roman_library.specs.Library.{PlainLibrary}
 use Rattle.roman_session.specs.Situations.{Situation}
 use Rattle.roman_session.specs.Starts.{IsStart}
+use Rattle.roman_hearing.specs.Known.{IsKnownSituation}
 use Rattle.roman_hearing.specs.Told.{Told}
 use Rattle.roman_hearing.specs.Hearing.{has_quit}
+use Rattle.roman_top.specs.Opening.{Accepted, document_opening}
+
+-- a session of an accepted document within its limit starts in a well-formed situation
+abbrev pub StartsAreKnown : Type 0
+StartsAreKnown = (texts : Texts) (system : List ℕ) (library : PlainLibrary) (s : Situation) → document_opening texts system ≡ Accepted library → IsStart library s → IsKnownSituation s
 
 -- the text is the replies to the lines in a session of that library, from one of its starting situations
 pub record ToldFromStart (library : PlainLibrary) (lines : List (List ℕ)) (text : List ℕ) : Type 0 where

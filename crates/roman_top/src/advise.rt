@@ -1,25 +1,26 @@
 //! The command `advise SYSTEM COSTS H`.
-ghost use Rattle.std.specs.Prelude.{◌≡◌, ◌<◌, false, Some, IfOk};
+ghost use Rattle.std.specs.Prelude.{◌≡◌, ℕ, ◌<◌, ◌≤◌, false, length, Ok, Option, IfOk};
 ghost use Rattle.roman_io.specs.Faults.{HasCause};
+ghost use Rattle.roman_io.specs.Shelf.{Texts};
 ghost use Rattle.roman_io.specs.Sink.{Puts};
 ghost use Rattle.roman_model.specs.Numbers.{sizes_of, count, pair_at};
+ghost use Rattle.roman_model.specs.declared.limits.TheConstants.{MAX_BEHAVIOURS};
 ghost use Rattle.roman_parts.specs.declared.error.PartError.TheVariants as part_error;
 ghost use Rattle.roman_joint.specs.NamedSys.{system_of};
 ghost use Rattle.roman_library.specs.Refusals.{refusal_of};
 ghost use Rattle.roman_library.specs.declared.refusal.Part.TheVariants as part;
 ghost use Rattle.roman_relation.specs.Greatest.{IsRelation};
 ghost use Rattle.roman_cost.specs.AdviceText.{advised_by};
+ghost use Rattle.roman_cost.specs.Costs.{costs_of};
 ghost use Rattle.roman_cost.specs.Refusals.{place_of_rule};
 ghost use Rattle.roman_cost.specs.Tables.{AreOf};
 ghost use Rattle.roman_text.specs.Report.{line_text};
 ghost use Rattle.roman_text.specs.declared.report.ReportLine.TheVariants as line;
-ghost use Rattle.roman_top.specs.Advice.{SaysAdvice, TellsRead, CausedByRead};
-ghost use Rattle.roman_top.specs.Causes.{SinkCause};
-ghost use Rattle.roman_top.specs.Command.{Advise, On};
-ghost use Rattle.roman_top.specs.Endings.{EndsBare, IsSpoken, Writes};
+ghost use Rattle.roman_top.specs.Advice.{OnCosts, SaysAdvice};
+ghost use Rattle.roman_top.specs.Command.{Advise};
+ghost use Rattle.roman_top.specs.Endings.{DoesJob, EndsEarly, Opens, Prints};
 ghost use Rattle.roman_top.specs.Opening.{EndsSaying};
 ghost use Rattle.roman_top.specs.RefusalLine.{refusal_line};
-ghost use Rattle.roman_top.specs.Served.{ServedBeside};
 ghost use Rattle.roman_top.specs.World.{outputs};
 ghost use Rattle.roman_top.specs.declared.status.Status.TheVariants as status;
 
@@ -31,6 +32,7 @@ use crate::status::{Status, finish};
 use crate::verdicts::answer_line;
 use roman_cost::{Advice, AdviceError, CostError, Costs, MAX_VALUES, put_advice, read_costs};
 use roman_io::{Failed, Shelf, Sink, Steps};
+use roman_joint::Joint;
 use roman_library::{FileName, Part, Refusal};
 use roman_parts::List;
 use roman_read::Kind;
@@ -42,6 +44,7 @@ use std::sync::ledger::Ledger;
 /// Writes the least worst cost of that many requests by the costs on the shelf, and the services to
 /// use. Writes `answer none` if the start pair isn't related, and the line of the limit if there are
 /// too many values.
+#[tactic(auto, using(crate::proofs::OpeningLemmas::early_does))]
 pub(crate) fn advise<F: Shelf, O: Sink, L: Ledger>(
     alloc: Global,
     system: &str,
@@ -51,7 +54,7 @@ pub(crate) fn advise<F: Shelf, O: Sink, L: Ledger>(
     out: &mut O,
     steps: &mut Steps<L>,
 ) -> Status
-    ensures served { ServedBeside (Some (On system.now (Advise costs.now requests.count)))
+    ensures { DoesJob system.now (Advise costs.now requests.count)
         (outputs (F.texts shelf.old) (F.faults shelf.old) (O.written out.old) (O.faults out.old))
         (outputs (F.texts shelf.new) (F.faults shelf.new) (O.written out.new) (O.faults out.new)) result }
 {
@@ -59,35 +62,34 @@ pub(crate) fn advise<F: Shelf, O: Sink, L: Ledger>(
         Ok(seated) => seated,
         Err(status) => return status,
     };
-    let read = read_costs(alloc, shelf, costs, &seated.joint);
-    tell_read(alloc, read, costs, seated, requests, out, steps)
+    match open_costs(alloc, costs, &seated.joint, shelf, out) {
+        Ok(read) => tell_costs(alloc, &read, seated, requests, out, steps),
+        Err(status) => status,
+    }
 }
 
-/// Writes the advice by costs that were accepted, or the refusal line of costs that were refused.
-fn tell_read<O: Sink, L: Ledger>(
+/// Reads the costs named `name` on the shelf. If that fails, returns the status with which the run
+/// ends, and writes the line of a refusal.
+fn open_costs<F: Shelf, O: Sink>(
     alloc: Global,
-    read: Result<Costs, CostError>,
     name: &str,
-    seated: Seated,
-    requests: Requests,
+    joint: &Joint,
+    shelf: &mut F,
     out: &mut O,
-    steps: &mut Steps<L>,
-) -> Status
-    requires costs { IfOk read (AreOf seated.joint) }
-    requires start { seated.start < count (sizes_of (system_of seated.joint)) }
-    ensures writes { Writes (TellsRead name.now seated.joint requests.count (pair_at (sizes_of (system_of seated.joint)) seated.start) read)
-        (O.written out.old) (O.written out.new) result }
-    ensures stops { EndsBare (O.written out.old) (O.written out.new) result }
-    ensures shelf { CausedByRead read result }
-    ensures out { SinkCause (O.faults out.old) (O.faults out.new) result }
+) -> Result<Costs, Status>
+    requires { length joint.now.catalogue ≤ MAX_BEHAVIOURS }
+    ensures opens { Opens (λ texts costs. costs_of texts name.now joint.now ≡ Ok costs.listed) (λ texts. OnCosts name.now (λ listed out result. ⊥) (costs_of texts name.now joint.now))
+        (outputs (F.texts shelf.old) (F.faults shelf.old) (O.written out.old) (O.faults out.old))
+        (outputs (F.texts shelf.new) (F.faults shelf.new) (O.written out.new) (O.faults out.new)) result }
+    ensures of { IfOk result (AreOf joint.now) }
 {
-    match read {
-        Ok(costs) => tell_costs(alloc, &costs, seated, requests, out, steps),
-        Err(CostError::Fault) => Status::ShelfFault,
+    match read_costs(alloc, shelf, name, joint) {
+        Ok(costs) => Ok(costs),
+        Err(CostError::Fault) => Err(Status::ShelfFault),
         Err(CostError::Refused { kind, whole, index }) => {
-            refuse(alloc, name, kind, whole, index, out)
+            Err(refuse(alloc, name, kind, whole, index, out))
         }
-        Err(CostError::Memory) => Status::Memory,
+        Err(CostError::Memory) => Err(Status::Memory),
     }
 }
 
@@ -100,10 +102,9 @@ fn refuse<O: Sink>(
     index: u32,
     out: &mut O,
 ) -> Status
-    ensures writes { Writes (EndsSaying (refusal_line (refusal_of name.now part.Costs (part_error.Refused kind (place_of_rule whole) index))) status.Refused)
-        (O.written out.old) (O.written out.new) result }
-    ensures spoken { IsSpoken (O.written out.old) (O.written out.new) result }
-    ensures out { SinkCause (O.faults out.old) (O.faults out.new) result }
+    ensures { (told : Option Texts) (shelf : ℕ) → EndsEarly (λ texts. EndsSaying (refusal_line (refusal_of name.now part.Costs (part_error.Refused kind (place_of_rule whole) index))) status.Refused)
+        (outputs told shelf (O.written out.old) (O.faults out.old))
+        (outputs told shelf (O.written out.new) (O.faults out.new)) result }
 {
     let Ok(document) = FileName::new(alloc, name) else {
         return Status::Memory;
@@ -136,10 +137,8 @@ fn tell_costs<O: Sink, L: Ledger>(
 ) -> Status
     requires costs { AreOf seated.joint costs.now }
     requires start { seated.start < count (sizes_of (system_of seated.joint)) }
-    ensures writes { Writes (SaysAdvice (advised_by seated.joint costs.now.listed requests.count (pair_at (sizes_of (system_of seated.joint)) seated.start)))
-        (O.written out.old) (O.written out.new) result }
-    ensures spoken { IsSpoken (O.written out.old) (O.written out.new) result }
-    ensures out { SinkCause (O.faults out.old) (O.faults out.new) result }
+    ensures { Prints (SaysAdvice (advised_by seated.joint costs.now.listed requests.count (pair_at (sizes_of (system_of seated.joint)) seated.start)))
+        (O.written out.old) (O.faults out.old) (O.written out.new) (O.faults out.new) result }
 {
     let Seated { joint, start, .. } = seated;
     match Relation::build(alloc, joint, steps) {
@@ -160,10 +159,8 @@ fn tell_relation<O: Sink>(
     requires relation { IsRelation relation.now.joint relation.now.order }
     requires costs { AreOf relation.now.joint costs.now }
     requires start { start < count (sizes_of (system_of relation.now.joint)) }
-    ensures writes { Writes (SaysAdvice (advised_by relation.now.joint costs.now.listed requests.count (pair_at (sizes_of (system_of relation.now.joint)) start)))
-        (O.written out.old) (O.written out.new) result }
-    ensures spoken { IsSpoken (O.written out.old) (O.written out.new) result }
-    ensures out { SinkCause (O.faults out.old) (O.faults out.new) result }
+    ensures { Prints (SaysAdvice (advised_by relation.now.joint costs.now.listed requests.count (pair_at (sizes_of (system_of relation.now.joint)) start)))
+        (O.written out.old) (O.faults out.old) (O.written out.new) (O.faults out.new) result }
 {
     relation.joint.known(); // the system is well formed
     if !relation.related(start) {

@@ -1,14 +1,11 @@
 //! The command `check SYSTEM CERT`.
-ghost use Rattle.std.specs.Prelude.{◌≡◌, ◌<◌, Some, IfSome};
-ghost use Rattle.roman_io.specs.Shelf.{shelf_text};
+ghost use Rattle.std.specs.Prelude.{ℕ, ◌<◌, List, Option};
 ghost use Rattle.roman_model.specs.Numbers.{sizes_of, count, numbered};
 ghost use Rattle.roman_check.specs.Verdicts.{verdict_of};
 ghost use Rattle.roman_joint.specs.NamedSys.{system_of};
-ghost use Rattle.roman_top.specs.Causes.{SinkCause};
-ghost use Rattle.roman_top.specs.Command.{Check, On};
-ghost use Rattle.roman_top.specs.Endings.{FindsVerdict, CheckCause, JudgesCheck, CausedByCheck, IsTold, EndsBare, Writes};
+ghost use Rattle.roman_top.specs.Command.{Check};
+ghost use Rattle.roman_top.specs.Endings.{DoesJob, FindsVerdict, IsTooLong, Opens, Prints};
 ghost use Rattle.roman_top.specs.Run.{SaysVerdict};
-ghost use Rattle.roman_top.specs.Served.{ServedBeside};
 ghost use Rattle.roman_top.specs.World.{outputs};
 
 use crate::opening::open_system;
@@ -21,6 +18,7 @@ use std::alloc::Global;
 use std::sync::ledger::Ledger;
 
 /// Checks a certificate on the shelf against the system, and writes the verdict.
+#[tactic(auto, using(crate::proofs::OpeningLemmas::early_does))]
 pub(crate) fn check_certificate<F: Shelf, O: Sink, L: Ledger>(
     alloc: Global,
     system: &str,
@@ -29,7 +27,7 @@ pub(crate) fn check_certificate<F: Shelf, O: Sink, L: Ledger>(
     out: &mut O,
     steps: &mut Steps<L>,
 ) -> Status
-    ensures served { ServedBeside (Some (On system.now (Check certificate.now)))
+    ensures { DoesJob system.now (Check certificate.now)
         (outputs (F.texts shelf.old) (F.faults shelf.old) (O.written out.old) (O.faults out.old))
         (outputs (F.texts shelf.new) (F.faults shelf.new) (O.written out.new) (O.faults out.new)) result }
 {
@@ -37,29 +35,15 @@ pub(crate) fn check_certificate<F: Shelf, O: Sink, L: Ledger>(
         Ok(seated) => seated,
         Err(status) => return status,
     };
-    tell(verdict_on(alloc, &seated, certificate, shelf, steps), out)
-}
-
-/// Writes the verdict of a check, or returns the status of its error.
-fn tell<O: Sink>(checked: Result<Verdict, CheckError>, out: &mut O) -> Status
-    ensures writes { Writes (JudgesCheck checked) (O.written out.old) (O.written out.new) result }
-    ensures stops { EndsBare (O.written out.old) (O.written out.new) result }
-    ensures shelf { CausedByCheck checked result }
-    ensures out { SinkCause (O.faults out.old) (O.faults out.new) result }
-{
-    match checked {
-        Ok(verdict) => tell_verdict(verdict, out),
-        Err(CheckError::Fault) => Status::ShelfFault,
-        Err(CheckError::TooLong) => Status::TooLong,
-        Err(CheckError::Memory) => Status::Memory,
+    match verdict_on(alloc, &seated, certificate, shelf, steps) {
+        Ok(verdict) => tell(verdict, out),
+        Err(status) => status,
     }
 }
 
 /// Writes a verdict.
-fn tell_verdict<O: Sink>(verdict: Verdict, out: &mut O) -> Status
-    ensures writes { Writes (SaysVerdict (verdict_of verdict)) (O.written out.old) (O.written out.new) result }
-    ensures stops { IsTold result }
-    ensures out { SinkCause (O.faults out.old) (O.faults out.new) result }
+fn tell<O: Sink>(verdict: Verdict, out: &mut O) -> Status
+    ensures { Prints (SaysVerdict (verdict_of verdict)) (O.written out.old) (O.faults out.old) (O.written out.new) (O.faults out.new) result }
 {
     match verdict {
         Verdict::Greatest { related, start } => {
@@ -69,19 +53,25 @@ fn tell_verdict<O: Sink>(verdict: Verdict, out: &mut O) -> Status
     }
 }
 
-/// Returns the verdict on the certificate named `name` on the shelf.
+/// Returns the verdict on the certificate named `name` on the shelf, or the status with which the run
+/// ends without one.
 fn verdict_on<F: Shelf, L: Ledger>(
     alloc: Global,
     seated: &Seated,
     name: &str,
     shelf: &mut F,
     steps: &mut Steps<L>,
-) -> Result<Verdict, CheckError>
+) -> Result<Verdict, Status>
     requires { seated.now.start < count (sizes_of (system_of seated.now.joint)) }
-    ensures finds { IfSome (F.texts shelf.old) (λ texts. FindsVerdict (numbered (system_of seated.now.joint)) seated.now.start (shelf_text texts name.now) result) }
-    ensures texts { F.texts shelf.new ≡ F.texts shelf.old }
-    ensures cause { CheckCause (F.faults shelf.old) (F.faults shelf.new) result }
+    ensures { (written : Option (List ℕ)) (faults : ℕ) →
+        Opens (FindsVerdict (numbered (system_of seated.now.joint)) seated.now.start name.now) (IsTooLong (numbered (system_of seated.now.joint)) seated.now.start name.now)
+        (outputs (F.texts shelf.old) (F.faults shelf.old) written faults) (outputs (F.texts shelf.new) (F.faults shelf.new) written faults) result }
 {
     let mut source = ShelfSource::new(shelf, name);
-    check(alloc, &seated.joint, seated.start, &mut source, steps)
+    match check(alloc, &seated.joint, seated.start, &mut source, steps) {
+        Ok(verdict) => Ok(verdict),
+        Err(CheckError::Fault) => Err(Status::ShelfFault),
+        Err(CheckError::TooLong) => Err(Status::TooLong),
+        Err(CheckError::Memory) => Err(Status::Memory),
+    }
 }

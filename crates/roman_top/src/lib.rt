@@ -7,7 +7,6 @@ mod advise;
 mod certify;
 mod check;
 mod command;
-mod laws;
 mod limits;
 mod make;
 mod opening;
@@ -25,6 +24,6 @@ mod talking;
 mod verdicts;
 mod workers;
 
-pub use laws::starts_are_known;
+pub use opening::starts_are_known;
 pub use run::serve;
 pub use status::Status;

@@ -1,10 +1,6 @@
 //! The command `make N`.
-ghost use Rattle.roman_make.specs.Made.{made};
-ghost use Rattle.roman_session.specs.Starts.{IsStart};
-ghost use Rattle.roman_hearing.specs.Known.{IsKnownSituation};
+ghost use Rattle.roman_top.specs.Endings.{Prints};
 ghost use Rattle.roman_top.specs.Run.{Makes};
-ghost use Rattle.roman_top.specs.Causes.{SinkCause};
-ghost use Rattle.roman_top.specs.Endings.{IsSpoken, Writes};
 
 use crate::status::{Status, finish};
 use crate::summary::{put_summary, run_script};
@@ -22,9 +18,7 @@ pub(crate) fn summarise<O: Sink, L: Ledger>(
     out: &mut O,
     steps: &mut Steps<L>,
 ) -> Status
-    ensures writes { Writes (Makes workers.count) (O.written out.old) (O.written out.new) result }
-    ensures spoken { IsSpoken (O.written out.old) (O.written out.new) result }
-    ensures out { SinkCause (O.faults out.old) (O.faults out.new) result }
+    ensures { Prints (Makes workers.count) (O.written out.old) (O.faults out.old) (O.written out.new) (O.faults out.new) result }
 {
     let n = workers.count;
     let library = match make(alloc, n) {
@@ -32,27 +26,11 @@ pub(crate) fn summarise<O: Sink, L: Ledger>(
         Err(MakeError::Range) => unreachable!(),
         Err(MakeError::Memory) => return Status::Memory,
     };
-    match Session::build(alloc, library, steps) {
-        Ok(session) => summarise_session(session, n, out, steps),
+    let mut session = match Session::build(alloc, library, steps) {
+        Ok(session) => session,
         Err(BuildError::Limit) => unreachable!(),
-        Err(BuildError::Memory) => Status::Memory,
-    }
-}
-
-/// Runs the script on a session that stands at its start, and writes the summary.
-fn summarise_session<O: Sink, L: Ledger>(
-    session: Session,
-    n: u8,
-    out: &mut O,
-    steps: &mut Steps<L>,
-) -> Status
-    requires start { IsStart (made n) session }
-    requires known { IsKnownSituation session }
-    ensures writes { Writes (Makes n) (O.written out.old) (O.written out.new) result }
-    ensures spoken { IsSpoken (O.written out.old) (O.written out.new) result }
-    ensures out { SinkCause (O.faults out.old) (O.faults out.new) result }
-{
-    let mut session = session;
+        Err(BuildError::Memory) => return Status::Memory,
+    };
     let stages = run_script(&mut session, steps);
     finish(put_summary(n, &stages, out), Status::Done)
 }

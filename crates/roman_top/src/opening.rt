@@ -5,7 +5,8 @@ ghost use Rattle.roman_library.specs.Library.{PlainLibrary, IsLibrary, plain};
 ghost use Rattle.roman_start.specs.Seating.{IsSeated};
 ghost use Rattle.roman_session.specs.Starts.{IsStart};
 ghost use Rattle.roman_hearing.specs.Known.{AreBehaviours};
-ghost use Rattle.roman_top.specs.Endings.{Opens, OpensLibrary};
+ghost use Rattle.roman_top.specs.Endings.{IsRelated, MeansLibrary, Opens, OpensDocument, TurnsAway};
+ghost use Rattle.roman_top.specs.Sessions.{StartsAreKnown};
 ghost use Rattle.roman_top.specs.World.{outputs};
 
 use crate::limits::put_limit;
@@ -14,10 +15,20 @@ use crate::status::{Status, finish};
 use roman_io::{Shelf, Sink, Steps};
 use roman_joint::JointError;
 use roman_library::{Library, LoadError, load};
+use roman_relation::Relation;
 use roman_session::{BuildError, Session};
 use roman_start::{Seated, seat_library};
 use std::alloc::Global;
 use std::sync::ledger::Ledger;
+
+/// A system as its greatest relation.
+#[derive(Drop)]
+pub(crate) struct Related {
+    /// The relation.
+    pub(crate) relation: Relation,
+    /// The number of the start pair.
+    pub(crate) start: u32,
+}
 
 /// Loads the document `name`, and builds the joint of its system with the start pair. If that fails,
 /// returns the status with which the run ends, and writes the line of a refusal or of an exceeded
@@ -28,7 +39,7 @@ pub(crate) fn open_system<F: Shelf, O: Sink>(
     shelf: &mut F,
     out: &mut O,
 ) -> Result<Seated, Status>
-    ensures opens { Opens IsSeated name.now
+    ensures opens { OpensDocument IsSeated name.now
         (outputs (F.texts shelf.old) (F.faults shelf.old) (O.written out.old) (O.faults out.old))
         (outputs (F.texts shelf.new) (F.faults shelf.new) (O.written out.new) (O.faults out.new)) result }
     ensures seated { IfOk result (λ seated. (library : PlainLibrary) × IsSeated library seated) }
@@ -46,6 +57,30 @@ pub(crate) fn open_system<F: Shelf, O: Sink>(
     }
 }
 
+/// Loads the document `name`, and builds the greatest relation of its system. If that fails, returns
+/// the status with which the run ends, and writes the line of a refusal or of an exceeded limit.
+pub(crate) fn open_relation<F: Shelf, O: Sink, L: Ledger>(
+    alloc: Global,
+    name: &str,
+    shelf: &mut F,
+    out: &mut O,
+    steps: &mut Steps<L>,
+) -> Result<Related, Status>
+    ensures opens { OpensDocument IsRelated name.now
+        (outputs (F.texts shelf.old) (F.faults shelf.old) (O.written out.old) (O.faults out.old))
+        (outputs (F.texts shelf.new) (F.faults shelf.new) (O.written out.new) (O.faults out.new)) result }
+    ensures related { IfOk result (λ related. (library : PlainLibrary) × IsRelated library related) }
+{
+    let Seated { joint, start, .. } = match open_system(alloc, name, shelf, out) {
+        Ok(seated) => seated,
+        Err(status) => return Err(status),
+    };
+    match Relation::build(alloc, joint, steps) {
+        Ok(relation) => Ok(Related { relation, start }),
+        Err(_) => Err(Status::Memory),
+    }
+}
+
 /// Loads the document `name`, and begins a session of its system. If that fails, returns the status
 /// with which the run ends, and writes the line of a refusal or of an exceeded limit.
 pub(crate) fn open_session<F: Shelf, O: Sink, L: Ledger>(
@@ -55,7 +90,7 @@ pub(crate) fn open_session<F: Shelf, O: Sink, L: Ledger>(
     out: &mut O,
     steps: &mut Steps<L>,
 ) -> Result<Session, Status>
-    ensures opens { Opens IsStart name.now
+    ensures opens { OpensDocument IsStart name.now
         (outputs (F.texts shelf.old) (F.faults shelf.old) (O.written out.old) (O.faults out.old))
         (outputs (F.texts shelf.new) (F.faults shelf.new) (O.written out.new) (O.faults out.new)) result }
     ensures behaviours { IfOk result (λ session. AreBehaviours session.parts) }
@@ -72,6 +107,11 @@ pub(crate) fn open_session<F: Shelf, O: Sink, L: Ledger>(
     }
 }
 
+/// Law: a session of an accepted document within its limit starts in a well-formed situation.
+pub fn starts_are_known()
+    ensures known { StartsAreKnown }
+{}
+
 /// Loads the library of the document `name`. If that fails, returns the status with which the run
 /// ends, and writes the line of a refusal.
 fn read_library<F: Shelf, O: Sink>(
@@ -80,7 +120,7 @@ fn read_library<F: Shelf, O: Sink>(
     shelf: &mut F,
     out: &mut O,
 ) -> Result<Library, Status>
-    ensures reads { OpensLibrary plain name.now
+    ensures reads { Opens (λ texts library. MeansLibrary name.now texts (plain library)) (TurnsAway name.now)
         (outputs (F.texts shelf.old) (F.faults shelf.old) (O.written out.old) (O.faults out.old))
         (outputs (F.texts shelf.new) (F.faults shelf.new) (O.written out.new) (O.faults out.new)) result }
     ensures library { IfOk result (λ library. IsLibrary (plain library)) }

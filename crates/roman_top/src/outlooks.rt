@@ -3,10 +3,12 @@ ghost use Rattle.std.specs.Prelude.{◌≡◌, ◌+◌, ◌<◌, ◌≤◌, [], 
 ghost use Rattle.std.specs.List.{flat_map};
 ghost use Rattle.roman_io.specs.Faults.{HasCause};
 ghost use Rattle.roman_io.specs.Sink.{Puts};
+ghost use Rattle.roman_model.specs.Explanation.{name_at};
 ghost use Rattle.roman_model.specs.Lists.{below};
 ghost use Rattle.roman_model.specs.Numbers.{sizes_of, count, pair_at};
 ghost use Rattle.roman_model.specs.Without.{outlook};
 ghost use Rattle.roman_joint.specs.NamedSys.{system_of};
+ghost use Rattle.roman_joint.specs.Names.{seat_name};
 ghost use Rattle.roman_relation.specs.Greatest.{IsRelation};
 ghost use Rattle.roman_text.specs.Pages.{Gathers};
 ghost use Rattle.roman_whatif.specs.Left.{places};
@@ -171,11 +173,22 @@ fn names_piece(joint: &Joint, first: u8, second: Option<u8>) -> Piece
     ensures text { result ≡ codes "without" ++ service_names joint.now (places first second) }
     ensures short { length result ≤ 80 }
 {
-    let one = Piece::new().text(b"without ").name(&joint.seat(first).name);
+    let one = with_name(Piece::new().text(b"without"), joint, first);
     match second {
         None => one,
-        Some(second) => one.text(b" ").name(&joint.seat(second).name),
+        Some(second) => with_name(one, joint, second),
     }
+}
+
+/// Appends a space and the name of the service at place `k`.
+#[tactic(auto, using(roman_session::proofs::CallerLemmas::mapped_at))]
+fn with_name(piece: Piece, joint: &Joint, k: u8) -> Piece
+    requires place { k < length joint.now.seats }
+    requires room { length piece ≤ 95 }
+    ensures text { result ≡ piece ++ (codes " " ++ name_at (map seat_name joint.now.seats) k) }
+    ensures len { length result ≤ length piece + 33 }
+{
+    piece.text(b" ").name(&joint.seat(k).name)
 }
 
 /// Returns the word for the way in which services fail, after a space.

@@ -2,7 +2,7 @@
 ghost use Rattle.std.specs.Prelude.{◌≡◌, ◌≤◌};
 ghost use Rattle.std.specs.Option.{option_map};
 ghost use Rattle.roman_cost.specs.declared.limits.TheConstants.{MAX_REQUESTS};
-ghost use Rattle.roman_top.specs.Requests.{request_count_of};
+ghost use Rattle.roman_top.specs.Arguments.{request_count_of};
 
 use roman_cost::MAX_REQUESTS;
 

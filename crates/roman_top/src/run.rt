@@ -104,6 +104,7 @@ fn put_usage<O: Sink>(out: &mut O) -> Result<(), Failed>
 }
 
 /// Runs a command.
+#[tactic(auto, using(crate::proofs::ServedLemmas::job_served))]
 fn obey<F: Shelf, I: Source, O: Sink, L: Ledger>(
     alloc: Global,
     command: Command<'_>,

@@ -48,7 +48,7 @@ pub(crate) fn talk_shelf<F: Shelf, O: Sink, L: Ledger>(
     out: &mut O,
     steps: &mut Steps<L>,
 ) -> Status
-    ensures served { ServedBeside (Some (On system.now (Run (Some name.now))))
+    ensures { ServedBeside (Some (On system.now (Run (Some name.now))))
         (outputs (F.texts shelf.old) (F.faults shelf.old) (O.written out.old) (O.faults out.old))
         (outputs (F.texts shelf.new) (F.faults shelf.new) (O.written out.new) (O.faults out.new)) result }
 {

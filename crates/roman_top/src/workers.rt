@@ -1,7 +1,7 @@
 //! The number of workers of a made system.
 ghost use Rattle.std.specs.Prelude.{◌≡◌, ◌≤◌};
 ghost use Rattle.std.specs.Option.{option_map};
-ghost use Rattle.roman_top.specs.Workers.{workers_of};
+ghost use Rattle.roman_top.specs.Arguments.{workers_of};
 
 /// A number of workers, from 1 to 10.
 #[derive(Clone, Copy)]

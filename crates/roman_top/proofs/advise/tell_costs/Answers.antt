@@ -1,6 +1,7 @@
-use Rattle.roman_top.proofs.AdviseLemmas.{advice_moved}
+use Rattle.roman_top.proofs.Common.{NamedSys, system_of, subst, Prints, SaysAdvice, advised_by, pair_at, sizes_of}
 use Rattle.roman_top.proofs.advise.tell_costs.Goals as goal
 
-pub returns-in-Ok-clause-writes : goal.returns-in-Ok-clause-writes
-returns-in-Ok-clause-writes g c =
-    advice_moved c.in-Ok.relation.joint c.args.seated.joint c.args.costs.now.listed c.args.requests.count c.args.seated.start _ _ c.tell_relation.result c.in-Ok.ensures.joint c.tell_relation.ensures.writes
+pub returns-in-Ok : goal.returns-in-Ok
+returns-in-Ok g c =
+    subst (λ (n : NamedSys). Prints (SaysAdvice (advised_by n c.args.costs.now.listed c.args.requests.count (pair_at (sizes_of (system_of n)) c.args.seated.start))) (g.O.Sink.written c.args.out.now) (g.O.Sink.faults c.args.out.now)
+    (g.O.Sink.written c.tell_relation.new.out) (g.O.Sink.faults c.tell_relation.new.out) c.tell_relation.result) c.in-Ok.ensures.joint c.tell_relation.ensures

@@ -1,10 +1,11 @@
-use Rattle.roman_top.proofs.Common.{refl, system_of, IsSeated, Certify, CertifiesSystem}
-use Rattle.roman_top.proofs.CertifyLemmas.{certified_is_run}
-use Rattle.roman_top.proofs.ServedLemmas.{opened_served}
+use Rattle.roman_top.proofs.Common.{refl, Pair, NamedSys, system_of, sizes_of, count, cert_text, Certify, CertifiesSystem}
+use Rattle.roman_top.specs.declared.status.Status.TheVariants as status
+use Rattle.roman_top.proofs.OpeningLemmas.{related_does, says_ends}
 use Rattle.roman_top.proofs.certify.certify.Goals as goal
 
 pub returns-in-Ok : goal.returns-in-Ok
-returns-in-Ok g c = record {
-  served = opened_served IsSeated c.in-Ok.field-0 (CertifiesSystem (system_of c.in-Ok.field-0.joint)) c.args.system.now Certify _ _ _ c.certify_joint.result tt (λ texts. certified_is_run c.in-Ok.field-0)
-      c.in-Ok.ensures.opens c.certify_joint.ensures.writes c.certify_joint.ensures.spoken c.certify_joint.ensures.out refl refl;
-}
+returns-in-Ok g c =
+    let r = c.in-Ok.related.relation in
+    related_does (λ (n : NamedSys) (p : Pair). CertifiesSystem (system_of n)) c.in-Ok.related c.args.system.now Certify _ _ _ c.finish.result c.in-Ok.ensures.opens (λ texts library text ends certifies. certifies)
+    ((says_ends (CertifiesSystem (system_of r.joint)) _ _ _ _ (cert_text (count (sizes_of (system_of r.joint))) r.order.list) status.Done c.finish.result c.write_order.result tt
+    (record { list = r.order.list; complete = c.in-Ok.ensures.related.1.whole.complete.list; says = (refl, refl) }) c.write_order.ensures.text c.write_order.ensures.cause c.finish.ensures).ends _ _)

@@ -1,11 +1,25 @@
-use Rattle.roman_top.proofs.Common.{ap, numbered, length-below, system_of}
-use Rattle.roman_top.proofs.CheckLemmas.{finds_text}
+use Rattle.roman_top.proofs.Common.{Err, [], rules, refl, ap, Wrote-nil, numbered, length-below, system_of, IsTooLong, TooLong, WritesText}
+use Rattle.roman_top.specs.declared.status.Status.TheVariants as status
+use Rattle.roman_top.proofs.CheckLemmas.{found}
+use Rattle.roman_top.proofs.EndingLemmas.{told_more}
 use Rattle.roman_top.proofs.check.verdict_on.Goals as goal
 
 pub check-requires : goal.check-requires
 check-requires g c = rw length-below c.requires
 
-pub returns-clause-finds : goal.returns-clause-finds
-returns-clause-finds g c =
-    finds_text (numbered (system_of c.args.seated.now.joint)) c.args.seated.now.start (g.F.Shelf.texts c.args.shelf.now) _ c.args.name.now _ _ c.check.result
-    (ap g.F.Shelf.texts c.new-source.ensures.shelf) c.new-source.ensures.name c.new-source.ensures.at c.check.ensures.verdict c.check.ensures.too_long
+pub returns-in-Err-TooLong : goal.returns-in-Err-TooLong
+returns-in-Err-TooLong g c = λ written faults.
+    let A = numbered (system_of c.args.seated.now.joint) in
+    let start = c.args.seated.now.start in
+    let name = c.args.name.now in
+    let long = found A start (g.F.Shelf.texts c.args.shelf.now) _ name _ _ TooLong (ap g.F.Shelf.texts c.new-source.ensures.shelf) c.new-source.ensures.name c.new-source.ensures.at (c.in-Err-TooLong.ensures.too_long (ap Err c.in-Err-TooLong.field-0-is)) in
+    record {
+      ends = record {
+        writes = told_more _ _ (λ texts. WritesText (IsTooLong A start name texts) written written status.TooLong) long (λ texts e. record { text = []; run = (e, (refl, refl)); wrote = Wrote-nil written });
+        stops = tt;
+        texts = search rules;
+        shelf = search rules;
+        out = refl;
+      };
+      early = λ e. let h : ⊥ = cc in h;
+    }

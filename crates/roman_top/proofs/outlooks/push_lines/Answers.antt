@@ -1,4 +1,5 @@
-use Rattle.roman_top.proofs.Common.{refl, err_from_is_err_and, sizes_of, pair_at, outlook, system_without, pair_without, Die, system_of, fill_behind, fill_more, fill_failed, fill_last, places, told}
+use Rattle.roman_top.proofs.Common.{refl, err_from_is_err_and, sizes_of, pair_at, outlook, system_without, pair_without, system_of, fill_behind, fill_more, fill_failed, fill_last, places, told}
+use Rattle.roman_model.specs.declared.way.Way.TheVariants.{Die}
 use Rattle.roman_top.proofs.OutlookLemmas.{both_lines}
 use Rattle.roman_top.proofs.outlooks.push_lines.Goals as goal
 

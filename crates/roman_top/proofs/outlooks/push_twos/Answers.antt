@@ -1,4 +1,4 @@
-use Rattle.roman_top.proofs.Common.{ℕ, ◌+◌, ◌<◌, ◌≤◌, List, [], ◌∷◌, map, length, drop, ◌∙◌, arith, err_from_is_err_and, below, sizes_of, pair_at, system_of, fill_same, fill_more, fill_failed, fill_end, lines_without}
+use Rattle.roman_top.proofs.Common.{ℕ, ◌+◌, ◌<◌, List, [], ◌∷◌, map, length, drop, arith, err_from_is_err_and, below, sizes_of, pair_at, system_of, fill_same, fill_more, fill_failed, fill_end, lines_without}
 use Rattle.roman_top.proofs.OutlookLemmas.{all_next, all_end}
 use Rattle.roman_top.proofs.outlooks.push_twos.Goals as goal
 

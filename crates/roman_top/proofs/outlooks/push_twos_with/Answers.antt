@@ -1,4 +1,4 @@
-use Rattle.roman_top.proofs.Common.{ℕ, ◌<◌, ◌≤◌, [], ◌∷◌, length, ◌∙◌, arith, err_from_is_err_and, sizes_of, pair_at, system_of, fill_same, fill_more, fill_failed, fill_end, lines_without}
+use Rattle.roman_top.proofs.Common.{ℕ, ◌<◌, [], ◌∷◌, length, arith, err_from_is_err_and, sizes_of, pair_at, system_of, fill_same, fill_more, fill_failed, fill_end, lines_without}
 use Rattle.roman_top.proofs.OutlookLemmas.{each_next, each_end}
 use Rattle.roman_top.proofs.outlooks.push_twos_with.Goals as goal
 

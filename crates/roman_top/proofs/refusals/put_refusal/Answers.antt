@@ -1,6 +1,12 @@
-use Rattle.roman_top.proofs.Common.{refl, ◌∙◌, err_from_is_err_and, fill_whole, fill_more, fill_failed, fill_put}
-use Rattle.roman_top.proofs.RefusalLemmas.{refusal_pieces}
+use Rattle.roman_top.proofs.Common.{◌≡◌, ℕ, List, [], ◌++◌, codes, refl, ◌∙◌, append_assoc, append-nil, err_from_is_err_and, fill_whole, fill_more, fill_failed, fill_put, Refusal, refusal_line, rule_text}
 use Rattle.roman_top.proofs.refusals.put_refusal.Goals as goal
+
+regroup : (a b c : List ℕ) → a ++ (b ++ (c ++ [])) ≡ a ++ b ++ c
+regroup a b c = simp (append_assoc, append-nil)
+
+-- the pieces of the line
+refusal_pieces : (r : Refusal) (document rule : List ℕ) → document ≡ r.document → rule ≡ rule_text r → codes "refused " ++ (document ++ (rule ++ [])) ≡ refusal_line r
+refusal_pieces r document rule is_document is_rule = rw (is_document, is_rule) (regroup (codes "refused ") r.document (rule_text r))
 
 pub returns-in_err-push-clause-puts : goal.returns-in_err-push-clause-puts
 returns-in_err-push-clause-puts g c =

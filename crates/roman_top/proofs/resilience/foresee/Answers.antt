@@ -1,16 +1,12 @@
-use Rattle.roman_top.proofs.Common.{refl, ◌<◌, sym, subst, sizes_of, count, NamedSys, system_of, IsSeated, Resilience, EndsSaying}
+use Rattle.roman_top.proofs.Common.{refl, Pair, NamedSys, system_of, Resilience, EndsSaying, outlook_text, pair_at, sizes_of}
 use Rattle.roman_top.specs.declared.status.Status.TheVariants as status
-use Rattle.roman_top.proofs.ResilienceLemmas.{text_at, foreseen_is_run}
-use Rattle.roman_top.proofs.ServedLemmas.{opened_served}
+use Rattle.roman_top.proofs.OpeningLemmas.{related_does, says_ends}
 use Rattle.roman_top.proofs.resilience.foresee.Goals as goal
 
-pub foresee_from-requires : goal.foresee_from-requires
-foresee_from-requires g c =
-    let (library, seated) = c.in-Ok.ensures.seated in
-    subst (λ (n : NamedSys). c.in-Ok.field-0.start < count (sizes_of (system_of n))) (sym seated.parts) seated.below
-
-pub returns-in-Ok : goal.returns-in-Ok
-returns-in-Ok g c = record {
-  served = opened_served IsSeated c.in-Ok.field-0 (EndsSaying (text_at c.in-Ok.field-0.joint c.in-Ok.field-0.start) status.Done) c.args.system.now Resilience _ _ _ c.foresee_from.result tt
-      (λ texts. foreseen_is_run c.in-Ok.field-0) c.in-Ok.ensures.opens c.foresee_from.ensures.writes c.foresee_from.ensures.spoken c.foresee_from.ensures.out refl refl;
-}
+pub returns-in-Ok-build : goal.returns-in-Ok-build
+returns-in-Ok-build g c =
+    let joint = c.in-Ok.related.relation.joint in
+    let text = outlook_text joint (pair_at (sizes_of (system_of joint)) c.in-Ok.related.start) in
+    let puts = rw c.in-Ok-build.ensures.pair at c.put_outlooks.ensures.puts in
+    related_does (λ (n : NamedSys) (p : Pair). EndsSaying (outlook_text n p) status.Done) c.in-Ok.related c.args.system.now Resilience _ _ _ c.finish.result c.in-Ok.ensures.opens (λ texts library text ends says. says)
+    ((says_ends (EndsSaying text status.Done) _ _ _ _ text status.Done c.finish.result c.put_outlooks.result tt (refl, refl) puts c.put_outlooks.ensures.cause c.finish.ensures).ends _ _)

@@ -1,13 +1,12 @@
-use Rattle.roman_top.proofs.Common.{refl, system_of, IsSeated, Shortest, TellsShortestOf}
-use Rattle.roman_top.proofs.ServedLemmas.{opened_served}
-use Rattle.roman_top.proofs.ShortestLemmas.{start_pair, start_below, shortened_is_run}
+use Rattle.roman_top.proofs.Common.{refl, Pair, NamedSys, system_of, pair_at, sizes_of, Shortest, TellsShortestOf}
+use Rattle.roman_top.specs.declared.status.Status.TheVariants as status
+use Rattle.roman_top.proofs.OpeningLemmas.{related_does, says_ends}
 use Rattle.roman_top.proofs.shortest.shortest.Goals as goal
 
-pub tell_depths-requires : goal.tell_depths-requires
-tell_depths-requires g c = start_below c.in-Ok.ensures.seated.0 c.in-Ok.field-0 c.in-Ok.ensures.seated.1
-
-pub returns-in-Ok : goal.returns-in-Ok
-returns-in-Ok g c = record {
-  served = opened_served IsSeated c.in-Ok.field-0 (TellsShortestOf (system_of c.in-Ok.field-0.joint) (start_pair c.in-Ok.field-0)) c.args.system.now Shortest _ _ _ c.tell_depths.result tt
-      (λ texts. shortened_is_run c.in-Ok.field-0) c.in-Ok.ensures.opens c.tell_depths.ensures.writes c.tell_depths.ensures.spoken c.tell_depths.ensures.out refl refl;
-}
+pub returns-in-Ok-build : goal.returns-in-Ok-build
+returns-in-Ok-build g c =
+    let joint = c.in-Ok.related.relation.joint in
+    let puts = c.write_depths.ensures.tells (system_of joint) c.in-Ok-build.ensures.depths in
+    related_does (λ (n : NamedSys) (p : Pair). TellsShortestOf (system_of n) p) c.in-Ok.related c.args.system.now Shortest _ _ _ c.finish.result c.in-Ok.ensures.opens (λ texts library text ends tells. tells)
+    ((says_ends (TellsShortestOf (system_of joint) (pair_at (sizes_of (system_of joint)) c.in-Ok.related.start)) _ _ _ _ puts.text status.Done c.finish.result c.write_depths.result tt
+    (puts.tells, refl) puts.puts c.write_depths.ensures.cause c.finish.ensures).ends _ _)

@@ -1,5 +1,6 @@
 use Rattle.roman_top.proofs.Common.{ap}
-use Rattle.roman_top.proofs.TalkLemmas.{text_source, text_heard}
+use Rattle.roman_top.proofs.OpeningLemmas.{text_source}
+use Rattle.roman_top.proofs.TalkLemmas.{text_heard}
 use Rattle.roman_top.proofs.talking.hear_text.Goals as goal
 
 pub returns-clause-hears : goal.returns-clause-hears

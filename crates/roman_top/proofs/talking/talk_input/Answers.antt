@@ -1,11 +1,11 @@
-use Rattle.roman_top.proofs.Common.{refl, None, inr, IsStart, Run, outputs}
+use Rattle.roman_top.proofs.Common.{refl, None, inr, outputs}
 use Rattle.roman_top.proofs.ServedLemmas.{away_served}
 use Rattle.roman_top.proofs.TalkLemmas.{input_done}
 use Rattle.roman_top.proofs.talking.talk_input.Goals as goal
 
 pub returns-in-Err-clause-served : goal.returns-in-Err-clause-served
 returns-in-Err-clause-served g c =
-    away_served IsStart c.args.system.now (Run None) _ _ c.in-Err.status c.in-Err.ensures.opens (g.I.Source.rest c.args.input.now) (g.I.Source.faults c.args.input.now)
+    (away_served c.args.system.now None _ _ c.in-Err.status c.in-Err.ensures.opens).served (g.I.Source.rest c.args.input.now) (g.I.Source.faults c.args.input.now)
 
 pub returns : goal.returns
 returns g c =

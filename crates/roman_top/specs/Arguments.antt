@@ -1,5 +1,6 @@
--- The number of requests that a word gives.
-use Rattle.std.specs.Prelude.{ℕ, ◌+◌, ◌-◌, ◌*◌, ◌&&◌, Bool, List, [], ◌∷◌, Option, None, Some, nat_le, if◌then◌else◌}
+-- The numbers that words give: of workers, and of requests.
+use Rattle.std.specs.Prelude.{ℕ, ◌+◌, ◌-◌, ◌*◌, ◌&&◌, Bool, List, [], ◌∷◌, Option, None, Some, codes, nat_le, if◌then◌else◌}
+use Rattle.std.specs.Str.{bytes_eq}
 use Rattle.roman_cost.specs.declared.limits.TheConstants.{MAX_REQUESTS}
 
 -- the byte is a digit other than 0
@@ -9,6 +10,20 @@ is_first_digit byte = nat_le 49 byte && nat_le byte 57
 -- the byte is a digit
 abbrev pub is_digit : ℕ → Bool
 is_digit byte = nat_le 48 byte && nat_le byte 57
+
+-- ---- workers
+
+-- the number that a word of one digit is, from 1 to 9
+abbrev pub digit_of : List ℕ → Option ℕ
+digit_of [] = None
+digit_of (byte ∷ []) = if is_first_digit byte then Some (byte - 48) else None
+digit_of (byte ∷ another ∷ more) = None
+
+-- the number that a word from `1` to `9`, or `10`, is
+abbrev pub workers_of : List ℕ → Option ℕ
+workers_of word = if bytes_eq word (codes "10") then Some 10 else digit_of word
+
+-- ---- requests
 
 -- the number that two digits form
 abbrev pub two_digits : ℕ → ℕ → ℕ

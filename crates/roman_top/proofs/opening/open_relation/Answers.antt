@@ -1,0 +1,24 @@
+use Rattle.roman_top.proofs.Common.{refl, Accepts, IsRelated, IsRelation}
+use Rattle.roman_top.proofs.EndingLemmas.{told_more}
+use Rattle.roman_top.proofs.OpeningLemmas.{opens_none, relation_is}
+use Rattle.roman_top.proofs.opening.open_relation.Goals as goal
+
+pub returns-in-Ok-build-clause-opens : goal.returns-in-Ok-build-clause-opens
+returns-in-Ok-build-clause-opens g c =
+    let built = c.in-Ok-build in
+    let whole : IsRelation built.relation.joint built.relation.order = record { complete = built.ensures.complete; shaped = built.ensures.shaped; caps = built.ensures.caps } in
+    record {
+      holds = told_more _ _ (λ texts. Accepts c.args.name.now texts (λ library. IsRelated library (record { relation = built.relation; start = c.in-Ok.seated.start }))) c.in-Ok.ensures.opens.holds (λ texts accepts.
+          record { library = accepts.library; accepted = accepts.accepted; holds = relation_is accepts.library c.in-Ok.seated _ accepts.holds built.ensures.joint refl whole });
+      same = c.in-Ok.ensures.opens.same;
+    }
+
+pub returns-in-Ok-build-clause-related : goal.returns-in-Ok-build-clause-related
+returns-in-Ok-build-clause-related g c =
+    let built = c.in-Ok-build in
+    let whole : IsRelation built.relation.joint built.relation.order = record { complete = built.ensures.complete; shaped = built.ensures.shaped; caps = built.ensures.caps } in
+    let (library, seated) = c.in-Ok.ensures.seated in
+    (library, relation_is library c.in-Ok.seated _ seated built.ensures.joint refl whole)
+
+pub returns-in-Err-build-clause-opens : goal.returns-in-Err-build-clause-opens
+returns-in-Err-build-clause-opens g c = opens_none _ _ _ c.in-Ok.ensures.opens.same
