@@ -11,7 +11,7 @@ use std::process::Abort;
 use std::test::Fail;
 
 /// Sessions with lamps, and one with the workshop.
-static TALKS: [Talk; 26] = [
+static TALKS: [Talk; 16] = [
     (
         "nothing asked",
         document!(NO_ON),
@@ -190,6 +190,10 @@ static TALKS: [Talk; 26] = [
         ],
         Done(&["error line"]),
     ),
+];
+
+/// Sessions in which several services change, and longer ones.
+static CHANGES: [Talk; 10] = [
     (
         "a second lamp",
         document!(TWO_LAMPS),
@@ -416,6 +420,11 @@ static TALKS: [Talk; 26] = [
 #[test]
 fn sessions_are_answered(rt: HostRuntime) -> Result<(), Fail> {
     talks_hold(&rt, &TALKS)
+}
+
+#[test]
+fn changes_are_answered(rt: HostRuntime) -> Result<(), Fail> {
+    talks_hold(&rt, &CHANGES)
 }
 
 /// Asserts that a session with the lamp has the expected outcome.

@@ -33,8 +33,8 @@ const TWO_LINES: &[&str] = &[
     "end",
 ];
 
-/// Documents of version 3, and documents of other versions that name several targets.
-static ROWS: [Row; 32] = [
+/// Documents of version 3, and the rules on the list of targets and on each target's name.
+static ROWS: [Row; 14] = [
     ("two targets", document!(TWO), Done(TWO_LINES)),
     (
         "two targets and one lamp",
@@ -121,6 +121,10 @@ static ROWS: [Row; 32] = [
         targets!(TARGET_A, r#"{"name":"a"}"#),
         Refused("lamp.json repeated target 1 name 0"),
     ),
+];
+
+/// Documents whose combined states or actions are too many, too long or alike, or just few and short enough.
+static COMBINATIONS: [Row; 11] = [
     (
         "sixty-five combined states",
         targets!(
@@ -263,6 +267,10 @@ static ROWS: [Row; 32] = [
         ),
         Refused("lamp.json repeated system 0 targets 4"),
     ),
+];
+
+/// Documents that break two rules, and documents of other versions that name several targets.
+static PRECEDENCE: [Row; 7] = [
     (
         "the states come first",
         document!(
@@ -383,11 +391,25 @@ static TALKS: [Talk; 2] = [
 #[test]
 fn several_targets_are_one(rt: HostRuntime) -> Result<(), Fail> {
     synth(&ROWS).hold(&rt)?;
+    talks_hold(&rt, &TALKS)
+}
+
+#[test]
+fn targets_are_combined(rt: HostRuntime) -> Result<(), Fail> {
+    synth(&COMBINATIONS).hold(&rt)
+}
+
+#[test]
+fn the_first_rule_is_named(rt: HostRuntime) -> Result<(), Fail> {
+    synth(&PRECEDENCE).hold(&rt)
+}
+
+#[test]
+fn a_target_may_be_in_a_file(rt: HostRuntime) -> Result<(), Fail> {
     let runs = Runs {
         file: "t.json",
         beside: &[("lamp.json", document!(SECOND_BY_FILE))],
         ..synth(&TARGETS)
     };
-    runs.hold(&rt)?;
-    talks_hold(&rt, &TALKS)
+    runs.hold(&rt)
 }
