@@ -11,7 +11,9 @@ import unittest
 from pathlib import Path
 from typing import Any, Callable, Dict, List, Tuple
 
-from . import PROGRAM, TOP, reference, test_talk
+from tools import test_talk
+
+from . import PROGRAM, TOP, reference
 
 GUIDE = (TOP / "docs" / "GUIDE.md").read_text(encoding="utf-8")
 README = (TOP / "README.md").read_text(encoding="utf-8")
@@ -61,7 +63,7 @@ class Guide(unittest.TestCase):
 
     def runs(self, example: str) -> str:
         """What an example for Python writes."""
-        path = {**os.environ, "PYTHONPATH": str(TOP / "clients" / "python")}
+        path = {**os.environ, "PYTHONPATH": str(TOP / "python" / "src")}
         with tempfile.TemporaryDirectory() as folder:
             words = {'"./roman"': repr(PROGRAM), '"home.journal"': repr(f"{folder}/journal")}
             for shown, here in words.items():
@@ -156,7 +158,7 @@ class Guide(unittest.TestCase):
             r"\./roman run .* \| diff": self.check_words,
             r'\{"name":"belt"': lambda block: self.check_json(block, "depot"),
             r"\$ tools/roman-lint ": self.check_findings,
-            r"\$ tools/draw ": self.check_told,
+            r"\$ tools/roman-draw ": self.check_told,
             r"\$ echo explain \| ": self.check_play,
             r"> do ": self.check_talk,
             r"set makeprg=": self.check_vim,

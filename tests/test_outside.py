@@ -174,8 +174,8 @@ class Tree(unittest.TestCase):
         self.prefix = Path(folder.name) / "prefix"
         for name in ("roman", "install"):
             self.copy(name)
-        for name in ("schema", "tools", "clients", "docs", "samples"):
-            shutil.copytree(TOP / name, self.top / name)
+        for name in ("schema", "tools", "python", "docs", "samples"):
+            shutil.copytree(TOP / name, self.top / name, symlinks=True)
         self.program = self.top / "crates/roman_cli/out/roman_cli"
         self.program.parent.mkdir(parents=True)
 
@@ -269,7 +269,7 @@ class Install(Tree):
         "bin/roman",
         "bin/roman-draw",
         *(f"share/man/man1/roman{name}.1" for name in ("", "-draw", "-expand", "-lint", "-live", "-talk")),
-        "share/doc/roman/examples/roman-live.service",
+        "share/doc/roman/samples/live/roman-live.service",
         "share/doc/roman/roman-live.md",
         "share/roman/schema/system.schema.json",
         "share/roman/schema/costs.schema.json",
@@ -278,8 +278,8 @@ class Install(Tree):
         "bin/roman-expand",
         "bin/roman-talk",
         "bin/roman-draw",
-        *(f"share/roman/python/roman_tools/{file.name}" for file in (TOP / "tools/roman_tools").glob("*.py")),
-        *(f"share/roman/python/roman_client/{file.name}" for file in (TOP / "clients/python/roman_client").glob("*.py")),
+        *(f"share/roman/python/roman_tools/{file.name}" for file in (TOP / "python/src/roman_tools").glob("*.*")),
+        *(f"share/roman/python/roman_client/{file.name}" for file in (TOP / "python/src/roman_client").glob("*.py")),
         "share/roman/python/roman_client/aio/__init__.py",
         "share/zsh/site-functions/_roman",
         *(f"share/bash-completion/completions/{name}" for name in NAMES),
@@ -302,7 +302,7 @@ class Install(Tree):
         done = run(str(self.prefix / "bin" / "roman"), "synth", lamp)
         self.assertEqual(done.returncode, 0)
         self.assertIn("answer composition", done.stdout)
-        shutil.rmtree(self.top / "clients")
+        shutil.rmtree(self.top / "python")
         done = run(str(self.prefix / "bin" / "roman-draw"), lamp, "--dot")
         self.assertEqual((done.returncode, done.stderr), (0, ""))
         self.assertIn("digraph roman", done.stdout)
@@ -390,7 +390,7 @@ class Install(Tree):
 
     def test_what_an_earlier_one_had_goes_away(self) -> None:
         self.build()
-        old = self.top / "clients/python/roman_client/old.py"
+        old = self.top / "python/src/roman_client/old.py"
         old.touch()
         self.assertEqual(self.install(str(self.prefix)).returncode, 0)
         gone = self.prefix / "share/roman/python/roman_client/old.py"
@@ -415,7 +415,7 @@ class Install(Tree):
         done = run(str(root / "usr/bin/roman"), "synth", lamp)
         self.assertEqual((done.returncode, done.stderr), (0, ""))
         path = {**os.environ, "PYTHONPATH": str(root / "usr/lib/python3/dist-packages")}
-        shutil.rmtree(self.top / "clients")
+        shutil.rmtree(self.top / "python")
         for words in (["roman-draw", lamp, "--dot"], ["roman-live", "--help"]):
             done = run(str(root / "usr/bin" / words[0]), *words[1:], env=path)
             self.assertEqual((done.returncode, done.stderr), (0, ""))
@@ -494,7 +494,7 @@ class Gate(unittest.TestCase):
         folder = tempfile.TemporaryDirectory()
         self.addCleanup(folder.cleanup)
         self.top = Path(folder.name)
-        for name in (".ci/run", "tools/debian", "samples/try", "tests/run", "tests/__init__.py"):
+        for name in (".ci/run", "tools/debian", "samples/try", "tests/run", "tests/__init__.py", "pytest.ini"):
             (self.top / name).parent.mkdir(exist_ok=True)
             shutil.copy(TOP / name, self.top / name)
 
@@ -601,12 +601,12 @@ class Gate(unittest.TestCase):
 
 
 class Client(unittest.TestCase):
-    """The client as it is installed, and its types."""
+    """The Python side as pip installs it."""
 
     def test_it_is_installed_from_its_folder(self) -> None:
         with tempfile.TemporaryDirectory() as folder:
             source = Path(folder) / "source"
-            shutil.copytree(TOP / "clients/python", source, ignore=shutil.ignore_patterns("__pycache__", "build", "*.egg-info"))
+            shutil.copytree(TOP / "python", source, ignore=shutil.ignore_patterns("__pycache__", "build", "*.egg-info"))
             done = run("/usr/bin/python3", "-m", "pip", "install", "--quiet", "--no-deps", "--no-index", "--no-build-isolation",
                        "--target", f"{folder}/site", str(source), env={**os.environ, "PIP_ROOT_USER_ACTION": "ignore", "PIP_DISABLE_PIP_VERSION_CHECK": "1"})
             self.assertEqual(done.returncode, 0, done.stderr)
@@ -615,11 +615,12 @@ class Client(unittest.TestCase):
                       "    print(roman_client.__file__.startswith(" + repr(folder) + "), session.do('on').services)")
             done = run("/usr/bin/python3", "-c", script, cwd=TOP, env={**os.environ, "PYTHONPATH": f"{folder}/site"})
             self.assertEqual((done.returncode, done.stdout, done.stderr), (0, "True ('l1',)\n", ""))
-
-    def test_its_types(self) -> None:
-        with tempfile.TemporaryDirectory() as folder:
-            done = run("mypy", "--strict", "--cache-dir", folder, "roman_client", "demonstration.py", cwd=TOP / "clients/python")
-        self.assertEqual((done.returncode, done.stderr), (0, ""), done.stdout)
+            for name in ("roman-live", *TOOLS):
+                done = run(f"{folder}/site/bin/{name}", "--help", cwd="/", env={**os.environ, "PYTHONPATH": f"{folder}/site"})
+                self.assertEqual((done.returncode, done.stderr), (0, ""))
+                self.assertTrue(done.stdout.startswith(f"usage: {name} "), done.stdout)
+            done = run(f"{folder}/site/bin/roman-expand", "samples/short/home.json", cwd=TOP, env={**os.environ, "PYTHONPATH": f"{folder}/site"})
+            self.assertEqual((done.returncode, done.stderr), (0, ""))
 
 
 class Manual(unittest.TestCase):
@@ -671,17 +672,16 @@ class Completion(unittest.TestCase):
     def test_tools(self) -> None:
         for tool in TOOLS:
             with self.subTest(tool):
-                place = TOP / "tools" / (tool if (TOP / "tools" / tool).is_file() else tool.removeprefix("roman-"))
-                told = set(re.findall(r"(?<!\w)--?[a-z][a-z-]*", run(str(place), "--help").stdout.split("\n\n")[0])) - {"-h"}
+                told = set(re.findall(r"(?<!\w)--?[a-z][a-z-]*", run(str(TOP / "tools" / tool), "--help").stdout.split("\n\n")[0])) - {"-h"}
                 self.assertEqual(set(self.complete(tool, "-")), told | {"--help"})
                 self.assertEqual(self.complete(tool, "samples/ho"), ["samples/home.json"])
         self.assertEqual(self.complete("roman-draw", "--explanation", "samples/home.s"), ["samples/home.session"])
 
     def test_roman_live(self) -> None:
-        demo = "clients/live/demo/home.toml"
+        demo = "samples/live/demo/home.toml"
         for words in ((), ("ask",)):
             with self.subTest(words):
-                usage = run(str(TOP / "clients/live/roman-live"), *words, "--help").stdout
+                usage = run(str(TOP / "tools/roman-live"), *words, "--help").stdout
                 told = set(re.findall(r"(?m)^  (?:-h, )?(--[a-z]+)", usage))
                 self.assertEqual(set(self.complete("roman-live", *words, "-")), told)
                 self.assertEqual(self.complete("roman-live", *words, demo[:-5]), [demo])
@@ -749,7 +749,7 @@ class OtherShells(unittest.TestCase):
         self.zsh("roman synth samples/hom", "samples/home.json")
         self.zsh("roman-lint --st", "--strict")
         self.zsh("roman-live --ch", "--check")
-        self.zsh("roman-live ask clients/live/demo/hom", "home.toml")
+        self.zsh("roman-live ask samples/live/demo/hom", "home.toml")
         self.zsh("roman-talk samples/hom", "samples/home.json")
         self.zsh("roman run samples/home.json samples/hom", "samples/home.session")
 

@@ -1,7 +1,7 @@
 """The built program against the reference, on runs made at random.
 
 One seed is fixed, the other one is fresh and printed; ROMAN_SEED repeats it. What fails is made smaller and
-kept in tests/corpus, whose cases are tried each time. `tests/soak` goes on for longer.
+kept in tests/corpus, whose cases are tried each time. `python3 -m tests.soak` goes on for longer.
 """
 
 from __future__ import annotations
@@ -14,8 +14,12 @@ from concurrent.futures import ProcessPoolExecutor
 from pathlib import Path
 from typing import Iterable, Iterator, List, Optional, Tuple
 
+import pytest
+
 from . import TOP
 from .cases import Case, cases, smallest
+
+pytestmark = pytest.mark.alone
 
 CORPUS = os.environ.get("ROMAN_CORPUS", str(TOP / "tests" / "corpus"))
 """Where failures are kept; nowhere, where it is empty."""

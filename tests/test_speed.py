@@ -1,5 +1,5 @@
 """What the program costs on large systems: instructions, as valgrind counts them over each process of a run,
-and memory. tests/speed.json has the last figures reached, with what was written then; `tests/speed` prints
+and memory. tests/speed.json has the last figures reached, with what was written then; `python3 -m tests.speed` prints
 that table anew, and `docs/DESIGN.md` says how the figures came about.
 
 A figure may grow by a tenth. One that falls below seven tenths of the last is a gain that isn't written down:
@@ -18,7 +18,11 @@ from dataclasses import dataclass
 from pathlib import Path
 from typing import Any, Dict, List, Tuple
 
+import pytest
+
 from . import PROGRAM, TOP
+
+pytestmark = pytest.mark.alone
 
 TABLE = TOP / "tests" / "speed.json"
 LIMIT = 16_777_216
@@ -211,7 +215,7 @@ class Speed(unittest.TestCase):
             with self.subTest(system=name, command=command):
                 room = SLACK if figure == "megabytes" else 0
                 self.assertLess(now[figure], reached[figure] * MOST + room)
-                self.assertGreater(now[figure], reached[figure] * LEAST - room, "a gain: write it down by tests/speed")
+                self.assertGreater(now[figure], reached[figure] * LEAST - room, "a gain: write it down by tests/speed.py")
 
     def test_instructions(self) -> None:
         self.bounded("millions")

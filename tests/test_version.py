@@ -17,7 +17,7 @@ def text(name: str) -> str:
 
 class Version(unittest.TestCase):
     def setUp(self) -> None:
-        self.version = re.findall(r'^version = "(.*)"$', text("clients/python/pyproject.toml"), re.M)[0]
+        self.version = re.findall(r'^version = "(.*)"$', text("python/pyproject.toml"), re.M)[0]
 
     def test_the_changelog_has_it_last_of_all_releases(self) -> None:
         heads = HEAD.findall(text("CHANGELOG.md"))
@@ -29,7 +29,7 @@ class Version(unittest.TestCase):
         self.assertLess(set(re.findall(r"^### (.*)$", text("CHANGELOG.md"), re.M)), KINDS)
 
     def test_the_client_and_the_manual_page_name_it(self) -> None:
-        self.assertIn(f'\n__version__ = "{self.version}"\n', text("clients/python/roman_client/__init__.py"))
+        self.assertIn(f'\n__version__ = "{self.version}"\n', text("python/src/roman_client/__init__.py"))
         self.assertIn(f"\n.Sh HISTORY\nThis page is of version {self.version}.\n", text("docs/roman.1"))
 
     def test_the_package_is_named_by_it(self) -> None:

@@ -14,27 +14,30 @@ from dataclasses import dataclass
 from pathlib import Path
 from typing import Sequence
 
+import pytest
+
 from . import PROGRAM, TOP
 
-CLIENT = "clients/python:"
-"""Stands before the name of a test of the client."""
+pytestmark = pytest.mark.alone
+
+CLIENT = "python/tests/client/"
 SAMPLES = "samples/try"
 
-EACH_BLOCK = "tests.test_guide.Guide.test_each_block_is_tried"
-TABLES = "tests.test_guide.Guide.test_the_tables_of_the_workshop"
-LATE = "tests.test_edges.Outside.test_output_that_is_read_late"
-ACCEPTED = "tests.test_schema.Schemas.test_what_the_program_accepts_the_schema_accepts"
-RANDOM = "tests.test_random.Random.test_the_fixed_seed_and_a_fresh_one"
-CORPUS = "tests.test_random.Random.test_what_failed_once"
-SPEED = "tests.test_speed.Speed"
-FAULTS = "tests.test_faults.Faults"
-FEW_BYTES = FAULTS + ".test_calls_that_move_few_bytes"
-TRIED = FAULTS + ".test_what_is_tried_is_right"
-ENDS = "tests.test_outside.Ends"
-EVENTS = CLIENT + "tests.test_session.Events"
-DISPATCHING = CLIENT + "tests.test_dispatcher.Dispatching"
-STATES = CLIENT + "tests.test_documents.Writing.test_a_document_with_the_states_of_a_report"
-OTHER_SAMPLES = CLIENT + "tests.test_dispatcher.Demonstration.test_the_other_samples"
+EACH_BLOCK = "tests/test_guide.py::Guide::test_each_block_is_tried"
+TABLES = "tests/test_guide.py::Guide::test_the_tables_of_the_workshop"
+LATE = "tests/test_edges.py::Outside::test_output_that_is_read_late"
+ACCEPTED = "tests/test_schema.py::Schemas::test_what_the_program_accepts_the_schema_accepts"
+RANDOM = "tests/test_random.py::Random::test_the_fixed_seed_and_a_fresh_one"
+CORPUS = "tests/test_random.py::Random::test_what_failed_once"
+SPEED = "tests/test_speed.py::Speed"
+FAULTS = "tests/test_faults.py::Faults"
+FEW_BYTES = FAULTS + "::test_calls_that_move_few_bytes"
+TRIED = FAULTS + "::test_what_is_tried_is_right"
+ENDS = "tests/test_outside.py::Ends"
+EVENTS = CLIENT + "test_session.py::Events"
+DISPATCHING = CLIENT + "test_dispatcher.py::Dispatching"
+STATES = CLIENT + "test_documents.py::Writing::test_a_document_with_the_states_of_a_report"
+OTHER_SAMPLES = CLIENT + "test_dispatcher.py::Demonstration::test_the_other_samples"
 LONG = (RANDOM, SPEED, FAULTS)
 """Tests that take long, or look at the process itself."""
 
@@ -127,25 +130,25 @@ ENDED = "\nexit ${PIPESTATUS[0]}\n"
 
 WRONG = [
     Wrong("does nothing", "exit 0\n", [
-        LATE, EACH_BLOCK, TABLES, ACCEPTED, RANDOM, CORPUS, OTHER_SAMPLES, SAMPLES, f"{SPEED}.test_what_is_measured_is_right",
-        f"{FAULTS}.test_memory", f"{FAULTS}.test_reads", f"{FAULTS}.test_writes", FEW_BYTES, TRIED,
-        f"{ENDS}.test_a_file_that_can_not_be_read", "tests.test_schema.Schemas.test_parts_by_file",
-        "tests.test_edges.Outside.test_input_in_odd_pieces", f"{EVENTS}.test_each_refusal",
-        f"{DISPATCHING}.test_a_failure_goes_to_another", STATES]),
+        LATE, EACH_BLOCK, TABLES, ACCEPTED, RANDOM, CORPUS, OTHER_SAMPLES, SAMPLES, f"{SPEED}::test_what_is_measured_is_right",
+        f"{FAULTS}::test_memory", f"{FAULTS}::test_reads", f"{FAULTS}::test_writes", FEW_BYTES, TRIED,
+        f"{ENDS}::test_a_file_that_can_not_be_read", "tests/test_schema.py::Schemas::test_parts_by_file",
+        "tests/test_edges.py::Outside::test_input_in_odd_pieces", f"{EVENTS}::test_each_refusal",
+        f"{DISPATCHING}::test_a_failure_goes_to_another", STATES]),
     Wrong("always out of memory", "exit 9\n", [
-        ACCEPTED, EACH_BLOCK, RANDOM, OTHER_SAMPLES, SAMPLES, CORPUS, f"{FAULTS}.test_memory", FEW_BYTES, TRIED,
-        f"{EVENTS}.test_an_explanation"]),
+        ACCEPTED, EACH_BLOCK, RANDOM, OTHER_SAMPLES, SAMPLES, CORPUS, f"{FAULTS}::test_memory", FEW_BYTES, TRIED,
+        f"{EVENTS}::test_an_explanation"]),
     Wrong("no composition to each do", f"{RUN} | sed -u 's/^offer [^:]*$/no composition/'{ENDED}", [
-        TABLES, EACH_BLOCK, RANDOM, SAMPLES, OTHER_SAMPLES, TRIED, f"{DISPATCHING}.test_services_come_back",
-        "tests.test_edges.Outside.test_each_reply_comes_before_the_next_line_is_asked_for"]),
+        TABLES, EACH_BLOCK, RANDOM, SAMPLES, OTHER_SAMPLES, TRIED, f"{DISPATCHING}::test_services_come_back",
+        "tests/test_edges.py::Outside::test_each_reply_comes_before_the_next_line_is_asked_for"]),
     Wrong("the first offer alone", f"{RUN} | sed -u -E 's/^(offer [^ :]+|offer [^ ]+: [^ ]+) .*/\\1/'{ENDED}", [
-        TABLES, EACH_BLOCK, RANDOM, SAMPLES, f"{EVENTS}.test_a_request", f"{DISPATCHING}.test_the_least_cost"]),
+        TABLES, EACH_BLOCK, RANDOM, SAMPLES, f"{EVENTS}::test_a_request", f"{DISPATCHING}::test_the_least_cost"]),
     Wrong("all services are offered",
           'names=$("@ROMAN@" synth "$2" | sed -n "s/^service \\([^ ]*\\).*/ \\1/p" | tr -d "\\n")\n'
           f'{RUN} | sed -u "s/^offer [^:]*$/offer$names/"{ENDED}', [
-              TABLES, RANDOM, SAMPLES, OTHER_SAMPLES, f"{DISPATCHING}.test_a_failure_goes_to_another"]),
+              TABLES, RANDOM, SAMPLES, OTHER_SAMPLES, f"{DISPATCHING}::test_a_failure_goes_to_another"]),
     Wrong("replies only at the end", f'kept=$(mktemp)\n{RUN} >"$kept"\nended=$?\ncat "$kept"\nrm "$kept"\nexit $ended\n', [
-        "tests.test_edges.Outside.test_each_reply_comes_before_the_next_line_is_asked_for"]),
+        "tests/test_edges.py::Outside::test_each_reply_comes_before_the_next_line_is_asked_for"]),
     Wrong("a report of the start after a jump",
           'start=$("@ROMAN@" synth "$2")\n'
           f'{RUN} | while IFS= read -r line; do\n'
@@ -158,26 +161,26 @@ WRONG = [
     Wrong("half of a page is lost", f"{RUN} | {{ head -c 2048; head -c 2048 >/dev/null; cat; }}{ENDED}", [LATE, RANDOM]),
     Wrong("the replies turned round by one", f"{RUN} | sed '1{{h;d}};${{p;x}}'{ENDED}", [TABLES, SAMPLES, RANDOM, EACH_BLOCK]),
     Wrong("kept and added are swapped", f"{RUN} | sed -u -E 's/^kept (.*) added (.*)/kept \\2 added \\1/'{ENDED}", [
-        TABLES, RANDOM, SAMPLES, EACH_BLOCK, TRIED, f"{EVENTS}.test_changes"]),
+        TABLES, RANDOM, SAMPLES, EACH_BLOCK, TRIED, f"{EVENTS}::test_changes"]),
     Wrong("an explanation without its first line", f"{RUN} | sed -u '0,/^lost /{{/^lost /d}}'{ENDED}", [
-        EACH_BLOCK, RANDOM, TRIED, f"{EVENTS}.test_an_explanation", f"{DISPATCHING}.test_no_composition_has_its_explanation"]),
+        EACH_BLOCK, RANDOM, TRIED, f"{EVENTS}::test_an_explanation", f"{DISPATCHING}::test_no_composition_has_its_explanation"]),
     Wrong("a rejected certificate is fine", f'{RUN}\nended=$?\n[ "$1" = check ] && exit 0\nexit $ended\n', [
-        RANDOM, "tests.test_guide.Guide.test_the_rejections_of_certificates"]),
+        RANDOM, "tests/test_guide.py::Guide::test_the_rejections_of_certificates"]),
     Wrong("nothing on the standard error", f"exec {RUN} 2>/dev/null\n", [
-        f"{ENDS}.test_a_file_that_can_not_be_read", f"{ENDS}.test_an_input_that_can_not_be_read",
-        f"{ENDS}.test_an_output_that_can_not_be_written", f"{ENDS}.test_a_session_that_is_too_long",
-        f"{ENDS}.test_a_system_past_its_limit", f"{ENDS}.test_advice_with_too_many_values"]),
+        f"{ENDS}::test_a_file_that_can_not_be_read", f"{ENDS}::test_an_input_that_can_not_be_read",
+        f"{ENDS}::test_an_output_that_can_not_be_written", f"{ENDS}::test_a_session_that_is_too_long",
+        f"{ENDS}::test_a_system_past_its_limit", f"{ENDS}::test_advice_with_too_many_values"]),
     Wrong("ten times the work",
-          f"for time in 1 2 3 4 5 6 7 8 9; do {RUN} </dev/null >/dev/null; done\nexec {RUN}\n", [f"{SPEED}.test_instructions"]),
-    Wrong("64 MB that nothing needs", TAKES_MEMORY, [f"{SPEED}.test_memory"], is_c=True),
+          f"for time in 1 2 3 4 5 6 7 8 9; do {RUN} </dev/null >/dev/null; done\nexec {RUN}\n", [f"{SPEED}::test_instructions"]),
+    Wrong("64 MB that nothing needs", TAKES_MEMORY, [f"{SPEED}::test_memory"], is_c=True),
     Wrong("one write for all", ONE_WRITE, [
-        FEW_BYTES, f"{FAULTS}.test_calls_that_are_interrupted"], is_c=True, is_static=False),
-    Wrong("done where memory ran out", ends_well(9), [f"{FAULTS}.test_memory"], is_c=True),
+        FEW_BYTES, f"{FAULTS}::test_calls_that_are_interrupted"], is_c=True, is_static=False),
+    Wrong("done where memory ran out", ends_well(9), [f"{FAULTS}::test_memory"], is_c=True),
     Wrong("done where nothing could be read", ends_well(5, 6), [
-        f"{FAULTS}.test_reads", "tests.test_edges.Outside.test_folders_and_files_that_are_not_there",
-        CLIENT + "tests.test_session.Ends.test_a_document_that_is_not_there"], is_c=True),
+        f"{FAULTS}::test_reads", "tests/test_edges.py::Outside::test_folders_and_files_that_are_not_there",
+        CLIENT + "test_session.py::Ends::test_a_document_that_is_not_there"], is_c=True),
     Wrong("done where nothing could be written", ends_well(7), [
-        f"{FAULTS}.test_writes", "tests.test_edges.Outside.test_output_that_is_closed"], is_c=True),
+        f"{FAULTS}::test_writes", "tests/test_edges.py::Outside::test_output_that_is_closed"], is_c=True),
 ]
 HARMLESS = Wrong("harmless", f"exec {RUN}\n", sorted(
     {test for each in WRONG for test in each.tests if not test.startswith(LONG)}))
@@ -186,13 +189,12 @@ HARMLESS = Wrong("harmless", f"exec {RUN}\n", sorted(
 def failed(program: Path, test: str) -> "tuple[bool, str]":
     """Whether a test fails with a program, and what it says."""
     environment = {**os.environ, "ROMAN": str(program), "ROMAN_CORPUS": "", "ROMAN_MEASURED": "lamps synth"}
-    folder, words = TOP, [str(TOP / SAMPLES)]
+    words = [str(TOP / SAMPLES)]
     if test != SAMPLES:
-        folder = TOP / "clients/python" if test.startswith(CLIENT) else TOP
-        words = [sys.executable, "-m", "unittest", test.removeprefix(CLIENT)]
-    done = subprocess.run(words, cwd=folder, env=environment, capture_output=True, text=True, timeout=400, check=False)
+        words = [sys.executable, "-m", "pytest", "-q", test]
+    done = subprocess.run(words, cwd=TOP, env=environment, capture_output=True, text=True, timeout=400, check=False)
     said = done.stdout + done.stderr
-    if test != SAMPLES and (not re.search(r"^Ran 1 test", said, re.M) or "_FailedTest" in said):
+    if test != SAMPLES and not re.search(rf"^1 {'failed' if done.returncode else 'passed'} in ", said, re.M):
         raise AssertionError(f"{test} wasn't run: {said}")
     return done.returncode != 0, said
 

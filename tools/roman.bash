@@ -55,4 +55,4 @@ _roman_live() {
 
 complete -F _roman roman ./roman
 complete -F _roman_live roman-live
-complete -F _roman_tool roman-lint roman-expand roman-draw roman-talk tools/draw tools/talk
+complete -F _roman_tool roman-lint roman-expand roman-draw roman-talk

@@ -1,0 +1,348 @@
+"""Runs devices by the offers of a session, for callers that wait."""
+
+from __future__ import annotations
+
+import functools
+import logging
+import queue
+import threading
+from concurrent.futures import Future
+from types import TracebackType
+from typing import Any, Callable, Dict, FrozenSet, Mapping, Optional, Tuple, Type, Union
+
+from . import protocol
+from .devices import Act, Back, Call, Device, DeviceTimeout, FunctionDevice
+from .core import (
+    Append,
+    AskBack,
+    AskState,
+    Choose,
+    Dispatching,
+    Notify,
+    Posted,
+    Reread,
+    Restore,
+    Rotate,
+    Serve,
+    TakeSnapshot,
+    Tell,
+)
+from .documents import PathLike
+from .errors import InsideRequest, SessionOver
+from .journal import Journal
+from .notices import Done, Failure, Notice, Recovery, Watch
+from .policies import Policy, first_offered
+from .protocol import Effect, Event, Steps, Value
+from .replies import Explanation, Repair, Report
+from .session import Session
+
+LOG = logging.getLogger("roman_client.dispatcher")
+
+
+class Dispatcher:
+    """Serves requests by devices.
+
+    Each request goes to an offered service that the policy chooses. A service whose device fails, doesn't
+    answer by its deadline, or gives an impossible outcome, is frozen, and the request goes to another one.
+    It is thawed when it is back: where the dispatcher is given `back`, it asks so before each request; or
+    call `thaw`. Where there is no composition, `NoComposition` is raised with its explanation, and nothing
+    has moved.
+
+    With a `store` it goes on where it stood after it was killed, or the program was. Requests and changes
+    may come from several threads, and take turns; changes that come while a request is open are made when
+    no device is at work for it. All changes go through the dispatcher, and none through its session.
+    """
+
+    def __init__(
+        self,
+        session: Session,
+        devices: Mapping[str, Union[Device, Act]],
+        *,
+        policy: Policy = first_offered,
+        back: Optional[Back] = None,
+        on_failure: Optional[Callable[[Failure], None]] = None,
+        store: Optional[PathLike] = None,
+        watch: Optional[Watch] = None,
+    ) -> None:
+        """For a session between two requests. There is a device for each of its services.
+
+        `store` is the name of a journal. Where there is one, the session goes on from it, in place of its
+        own states, and `recovered` says what became of a request that was under way. Raises `StoreLocked`
+        where another dispatcher is at work on it, and `StoreBroken` where it isn't one for this document.
+        `on_failure` is told each `Failure`, and `watch` everything.
+        """
+        self.session = session
+        self.policy = policy
+        self._back = back
+        self._on_failure = on_failure
+        self._watch = watch
+        self._turn = threading.Lock()
+        self._inside = threading.local()
+        self._journal = None if store is None else Journal(store)
+        self.core: Dispatching[Device] = Dispatching(
+            {name: as_device(each) for name, each in devices.items()},
+            back is not None,
+            self._journal,
+        )
+        try:
+            self._in_turn(lambda: self.core.begin(session.core.document))
+        except BaseException:
+            self.close()
+            raise
+
+    # What it knows.
+
+    @property
+    def failed(self) -> FrozenSet[str]:
+        """The services that are frozen since they failed, or were when the dispatcher began."""
+        return frozenset(self.core.failed)
+
+    @property
+    def served(self) -> int:
+        """How many requests were served, over all runs with this store."""
+        return self.core.served
+
+    @property
+    def under_way(self) -> Optional[Call]:
+        """What a device is at work on."""
+        return self.core.under_way
+
+    @property
+    def recovered(self) -> Optional[Recovery]:
+        """What became of the call that was under way when the dispatcher was killed."""
+        return self.core.recovered
+
+    def report(self) -> Report:
+        """The present states. It may be called while a request is open, too."""
+        try:
+            return self.session.report()
+        except SessionOver:
+            return self._in_turn(lambda: self.core.event(protocol.report()))
+
+    def explain(self) -> Explanation:
+        """Why the present pair isn't related. Refused as `Related` where it is."""
+        return self._in_turn(lambda: self.core.event(protocol.explain()))
+
+    # Requests.
+
+    def request(self, action: str, key: Optional[str] = None) -> Done:
+        """Has an action served. Raises `NoComposition`, and `NotAllowed` or `UnknownName` for an action that
+        the target doesn't allow here, or that isn't there.
+
+        With a `key` of its own a request can be made again when the dispatcher was killed meanwhile. Where
+        it was served, that is given, and nobody is asked; where that is in doubt, `InDoubt` is raised. The
+        last thousand keys are kept.
+        """
+        return self._in_turn(lambda: self.core.request(action, key))
+
+    def record(
+        self, action: str, service: str, state: str, environment: str, key: Optional[str] = None
+    ) -> Done:
+        """Takes a request as served, with that outcome, and asks no device: so a request that was in doubt
+        is settled where it was done."""
+        return self._in_turn(
+            lambda: self.core.record(action, service, (state, environment), key)
+        )
+
+    # Changes.
+
+    def thaw(self, service: str, state: Optional[str] = None) -> Repair:
+        """A frozen service is back, in that state, or in the one that it had."""
+        return self._in_turn(lambda: self.core.thaw(service, state))
+
+    def freeze(self, service: str) -> Repair:
+        """Takes a service out of use, until `thaw`."""
+        return self._in_turn(lambda: self.core.event(protocol.freeze(service)))
+
+    def die(self, service: str) -> Repair:
+        """A service is gone."""
+        return self._in_turn(lambda: self.core.event(protocol.die(service)))
+
+    def join(
+        self,
+        service: str,
+        behaviour: str,
+        state: str,
+        device: Union[Device, Act],
+        *,
+        loose: bool = False,
+    ) -> Repair:
+        """A new service joins, with its device."""
+        return self._in_turn(
+            lambda: self.core.join(service, behaviour, state, loose, as_device(device))
+        )
+
+    def jump(self, service: str, state: str) -> None:
+        """A service is in that state now, whatever its transitions say."""
+        self._in_turn(lambda: self.core.event(protocol.jump(service, state)))
+
+    def jumpenv(self, environment: str) -> None:
+        """The environment is in that state now, whatever its transitions say."""
+        self._in_turn(lambda: self.core.event(protocol.jumpenv(environment)))
+
+    def post(self, event: Event[Value]) -> Future[Value]:
+        """Has a change of `roman_client.protocol` made, as `jumpenv("dusk")`, without waiting for it: at
+        once, or where a request is open in its turn. It can be called by devices and policies, too."""
+        future = self._posted(lambda: self.core.event(event))
+        if not self._is_inside():
+            self._drain()
+        return future
+
+    def close(self) -> None:
+        """Lets go of the store. The session goes on."""
+        if self._journal is not None:
+            self._journal.close()
+
+    def __enter__(self) -> Dispatcher:
+        return self
+
+    def __exit__(
+        self,
+        kind: Optional[Type[BaseException]],
+        error: Optional[BaseException],
+        trace: Optional[TracebackType],
+    ) -> None:
+        self.close()
+
+    # Turns.
+
+    def _in_turn(self, steps: Callable[[], Steps[Value]]) -> Value:
+        """Waits for its turn, and gives the value of the steps."""
+        if self._is_inside():
+            raise InsideRequest("the request of this device or policy is open: call post")
+        try:
+            with self._turn:
+                return protocol.run(self.core.turn(steps), self._perform)
+        finally:
+            self._drain()
+
+    def _posted(self, steps: Callable[[], Steps[Value]]) -> Future[Value]:
+        future: Future[Value] = Future()
+
+        def settle(value: Value, error: Optional[BaseException]) -> None:
+            if not future.set_running_or_notify_cancel():
+                return
+            if error is None:
+                future.set_result(value)
+            else:
+                future.set_exception(error)
+
+        self.core.inbox.append(Posted(steps, settle))
+        return future
+
+    def _drain(self) -> None:
+        """Does what was posted, unless somebody has the turn, who will."""
+        while self.core.inbox and self._turn.acquire(blocking=False):
+            try:
+                protocol.run(self.core.turn(_nothing), self._perform)
+            finally:
+                self._turn.release()
+
+    def _is_inside(self) -> bool:
+        return getattr(self._inside, "here", False)
+
+    def _within(self, call: Callable[[], Value]) -> Value:
+        """Calls what is the owner's, which can't wait for its own request."""
+        self._inside.here = True
+        try:
+            return call()
+        finally:
+            self._inside.here = False
+
+    # Its steps.
+
+    def _perform(self, effect: Effect) -> Any:
+        """Does one step of the dispatcher."""
+        return self._performers[type(effect)](self, effect)
+
+    def _tell(self, effect: Tell[Any]) -> Any:
+        return self.session.tell(effect.event)
+
+    def _serve(self, effect: Serve) -> Any:
+        device = self.core.devices[effect.call.service]
+        return self._by(device, lambda: device.serve(effect.call))
+
+    def _state(self, effect: AskState) -> Any:
+        device = self.core.devices[effect.call.service]
+        return self._by(device, lambda: device.state(effect.call))
+
+    def _ask_back(self, effect: AskBack) -> Any:
+        assert self._back is not None
+        return self._by(
+            self.core.devices[effect.service], functools.partial(self._back, effect.service)
+        )
+
+    def _choose(self, effect: Choose) -> str:
+        return self._within(lambda: self.policy(effect.choice))
+
+    def _append(self, effect: Append) -> None:
+        assert self._journal is not None
+        self._journal.append(*effect.entries, keep=effect.keep)
+
+    def _rotate(self, effect: Rotate) -> None:
+        assert self._journal is not None
+        self._journal.rotate(effect.head)
+
+    def _reread(self, effect: Reread) -> None:
+        assert self._journal is not None
+        self._journal.reread()
+
+    def _notify(self, effect: Notify) -> None:
+        self._told(self._watch, effect.notice)
+        if isinstance(effect.notice, Failure):
+            self._told(self._on_failure, effect.notice)
+
+    def _told(self, listener: Optional[Callable[[Any], None]], notice: Notice) -> None:
+        """Tells a listener, whose errors are logged."""
+        if listener is None:
+            return
+        try:
+            self._within(functools.partial(listener, notice))
+        except Exception:
+            LOG.exception("a listener failed at %r", notice)
+
+    _performers: Mapping[Type[Effect], Callable[[Any, Any], Any]] = {
+        Tell: _tell,
+        TakeSnapshot: lambda self, effect: self.session.snapshot(),
+        Restore: lambda self, effect: self.session.restore(effect.snapshot),
+        Serve: _serve,
+        AskState: _state,
+        AskBack: _ask_back,
+        Choose: _choose,
+        Append: _append,
+        Rotate: _rotate,
+        Reread: _reread,
+        Notify: _notify,
+    }
+
+    def _by(self, device: Device, call: Callable[[], Value]) -> Value:
+        """Calls a device, and waits until its deadline."""
+        if device.timeout is None:
+            return self._within(call)
+        answers: queue.SimpleQueue[Tuple[Any, Optional[BaseException]]] = queue.SimpleQueue()
+
+        def answer() -> None:
+            try:
+                answers.put((self._within(call), None))
+            except BaseException as error:
+                answers.put((None, error))
+
+        threading.Thread(target=answer, name="device", daemon=True).start()
+        try:
+            value, error = answers.get(timeout=device.timeout)
+        except queue.Empty:
+            raise DeviceTimeout(f"no answer within {device.timeout} seconds") from None
+        if error is not None:
+            raise error
+        result: Value = value
+        return result
+
+
+def _nothing() -> Steps[None]:
+    """No steps of its own."""
+    yield from ()
+
+
+def as_device(given: Union[Device, Act]) -> Device:
+    """A device, where a function is given as one."""
+    return given if isinstance(given, Device) else FunctionDevice(given, None, None, False)

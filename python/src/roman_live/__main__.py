@@ -1,0 +1,7 @@
+"""`python3 -m roman_live` is `roman-live`."""
+
+import sys
+
+from .command_line import main
+
+sys.exit(main())

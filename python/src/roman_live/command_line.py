@@ -1,0 +1,130 @@
+"""roman-live: runs a home with real devices, or asks a running one."""
+
+from __future__ import annotations
+
+import argparse
+import asyncio
+import contextlib
+import logging
+import os
+import signal
+import sys
+from typing import Optional, Sequence
+
+from roman_client import RomanError
+
+from .asking import ask
+from .home import Home
+from .config import HomeFile, HomeFileError
+from .requests import Requests
+from .http_api import Server
+from .systemd import Supervisor, begin_log, complain, greet
+
+LOG = logging.getLogger("roman_live")
+
+DONE, NO, USAGE, FAILED = 0, 1, 2, 3
+"""The statuses: all is well; the request wasn't served; the words or the home file are wrong; it couldn't
+be begun, or nobody was there to ask."""
+
+INTERRUPTED = 130
+"""The status of `ask` on Ctrl-C."""
+
+PATIENCE = 20.0
+"""How many seconds an open request has to come to its end, before the home ends as if it were killed."""
+
+
+def parser() -> argparse.ArgumentParser:
+    """The words of the command."""
+    words = argparse.ArgumentParser(
+        prog="roman-live",
+        usage="roman-live [--check] [--simulate] [--verbose] HOME.toml\n       roman-live ask [--key KEY] HOME.toml ACTION",
+        description="Runs the home that HOME.toml describes, until it is ended; or asks a running one for an action.",
+    )
+    words.add_argument("--check", action="store_true", help="say what is wrong with the file, and ask no device")
+    words.add_argument("--simulate", action="store_true", help="play all devices by hand, on the page")
+    words.add_argument("--verbose", action="store_true", help="say each event")
+    words.add_argument("home", metavar="HOME.toml")
+    return words
+
+
+def ask_parser() -> argparse.ArgumentParser:
+    """The words of `ask`."""
+    words = argparse.ArgumentParser(prog="roman-live ask", description="Asks a running home for an action.")
+    words.add_argument("--key", help="a text that no other request has: asked again, it isn't served twice")
+    words.add_argument("home", metavar="HOME.toml")
+    words.add_argument("action", metavar="ACTION")
+    return words
+
+
+def main(words: Optional[Sequence[str]] = None) -> int:
+    """Runs the command that the words name, by default those of the command line, and returns the status."""
+    words = sys.argv[1:] if words is None else words
+    try:
+        if words[:1] == ["ask"]:
+            given = ask_parser().parse_args(words[1:])
+            return asyncio.run(ask(HomeFile.read(given.home), given.action, given.key))
+        given = parser().parse_args(words)
+        begin_log(logging.INFO if given.verbose else logging.WARNING)
+        if given.check:
+            asyncio.run(Home(HomeFile.read(given.home), simulate=given.simulate).check())
+            print(f"{given.home}: nothing is wrong")
+            return DONE
+        asyncio.run(run(HomeFile.read(given.home), given.simulate))
+        return DONE
+    except HomeFileError as error:
+        complain(error)
+        return USAGE
+    except (OSError, RomanError) as error:
+        complain(error)
+        return FAILED
+    except KeyboardInterrupt:
+        return INTERRUPTED  # Whoever asked waits no more; the request goes on.
+
+
+async def begun(home: Home, ending: asyncio.Event) -> bool:
+    """Begins a home. False where it was to end before that was done, since a device takes its time."""
+    beginning = asyncio.ensure_future(home.begin())
+    ended = asyncio.ensure_future(ending.wait())
+    await asyncio.wait({beginning, ended}, return_when=asyncio.FIRST_COMPLETED)
+    ended.cancel()
+    if not beginning.done():
+        beginning.cancel()
+        with contextlib.suppress(asyncio.CancelledError):
+            await beginning
+        return False
+    await beginning
+    return True
+
+
+async def run(file: HomeFile, simulate: bool) -> None:
+    """Runs a home until it is ended: by SIGTERM, by SIGINT, or by SIGHUP, where its terminal is closed."""
+    ending = asyncio.Event()
+    ends = [signal.SIGTERM, signal.SIGINT]
+    if signal.getsignal(signal.SIGHUP) != signal.SIG_IGN:  # It is below nohup.
+        ends.append(signal.SIGHUP)
+    for each in ends:
+        asyncio.get_running_loop().add_signal_handler(each, ending.set)
+    home = Home(file, simulate=simulate)
+    server = Server(home, file.page)
+    if not await begun(home, ending):
+        return
+    try:
+        await Requests(home).begin()
+        await server.begin()
+        supervisor = Supervisor()
+        supervisor.ready(server.url)
+        if supervisor.listens:
+            home.shown.listener = supervisor.status
+            home.dirty.set()
+        greet(f"{file.document.name} is at {server.url}/")
+        await supervisor.watch(ending)
+        supervisor.stopping()
+        if not simulate and home.open:
+            LOG.warning("a device is at work, and has %g seconds to come to its end", PATIENCE)
+        if not simulate and not await home.settle(PATIENCE):
+            LOG.warning("a device is still at work; the next start finds out what came of it")
+            logging.shutdown()
+            os._exit(DONE)
+    finally:
+        await server.close()
+        await home.close()

@@ -1,0 +1,309 @@
+"""Devices that are commands: one for each call, or one that is kept and reads lines."""
+
+from __future__ import annotations
+
+import asyncio
+import contextlib
+import os
+import re
+import shutil
+import signal
+from typing import Any, Dict, Iterator, Optional, Set, Tuple
+
+from roman_client import Call, DeviceFailed
+
+from ..config import CommandReach
+from .base import LONGEST_ANSWER, STATE_WORD, Answer, Listener, Reach, short
+
+REST = 0.5
+"""How many seconds are waited for the rest of what a command wrote that has ended. What it left running may keep
+its output open."""
+
+STILL = "is still at work on an earlier call, and this home may not end it: it runs for another user"
+"""What is said of a command that was given up and runs on, as one that is called by sudo."""
+
+
+class Command(Reach):
+    """A device that is a command with the action as its last word. It writes one line, its state and that
+    of the environment, and ends with status 0. With `?` for the action it tells its present state."""
+
+    reached = "command"
+
+    def __init__(self, service: str, listener: Listener, entry: CommandReach) -> None:
+        super().__init__(service, listener)
+        self._entry = entry
+        self._left: Optional[asyncio.SubprocessTransport] = None
+
+    def hindrance(self) -> Optional[str]:
+        return _hindrance(self._entry)
+
+    async def ask(self, number: int, call: Call) -> Answer:
+        return await self._run(call.action, number)
+
+    async def tell(self, number: Optional[int]) -> Optional[Answer]:
+        return await self._run(STATE_WORD, number)
+
+    async def _run(self, word: str, number: Optional[int]) -> Answer:
+        """Runs the command once. What is still running when this is cancelled is ended."""
+        if self._left is not None and self._left.get_returncode() is None:
+            raise DeviceFailed(STILL)
+        loop = asyncio.get_running_loop()
+        with _naming(self._entry):
+            transport, written = await loop.subprocess_exec(
+                Written,
+                *self._entry.command,
+                word,
+                stdin=asyncio.subprocess.DEVNULL,
+                **_around(self._entry, number, self.holds),
+            )
+        try:
+            await written.ended
+            await asyncio.wait({written.closed}, timeout=REST)
+        finally:
+            ends = transport.get_returncode() is not None or _kill(transport.get_pid())
+            with contextlib.suppress(PermissionError):  # It would end the command, too.
+                transport.close()
+            if ends:
+                await asyncio.wait({written.closed})
+            else:
+                self._left = transport
+        status = transport.get_returncode()
+        if status != 0:
+            last = written.errors.decode(errors="replace").strip().splitlines()[-1:]
+            raise DeviceFailed(f"ended with status {status}: {''.join(last)}".rstrip(": "))
+        return _answer(bytes(written.output))
+
+
+class Written(asyncio.SubprocessProtocol):
+    """What a command writes that runs once: its `output`, and the last of its `errors`. `ended` is done when it
+    has ended, or has written too much, and `closed` when nobody can write any more."""
+
+    def __init__(self) -> None:
+        loop = asyncio.get_running_loop()
+        self.output, self.errors = bytearray(), bytearray()
+        self.ended: asyncio.Future[None] = loop.create_future()
+        self.closed: asyncio.Future[None] = loop.create_future()
+
+    def pipe_data_received(self, fd: int, data: bytes) -> None:
+        if fd == 2:
+            self.errors += data
+            del self.errors[:-LONGEST_ANSWER]
+        elif len(self.output) <= LONGEST_ANSWER:
+            self.output += data
+            if len(self.output) > LONGEST_ANSWER and not self.ended.done():
+                self.ended.set_exception(DeviceFailed(f"answered more than {LONGEST_ANSWER} bytes"))
+
+    def process_exited(self) -> None:
+        if not self.ended.done():
+            self.ended.set_result(None)
+
+    def connection_lost(self, error: Optional[Exception]) -> None:
+        self.closed.set_result(None)
+
+
+class KeptCommand(Reach):
+    """A command that is kept, reads a line for each call, and writes one with its state and that of the
+    environment. To `?` it tells its present state.
+
+    Where it is numbered each line begins with the number of a call, and the answer to it does, so that a late
+    one is known by that; a line that begins with `-` says where it is by itself. Where it isn't, it is ended
+    when it is late, or writes what nobody asked for, so that no line is taken for another call's. A command
+    that doesn't tell its state in time is ended, too. It is started again when it is asked next.
+    """
+
+    reached = "command"
+
+    def __init__(self, service: str, listener: Listener, entry: CommandReach) -> None:
+        super().__init__(service, listener)
+        self._entry = entry
+        self._process: Optional[asyncio.subprocess.Process] = None
+        self._left: Optional[asyncio.subprocess.Process] = None
+        self._listening: Set[asyncio.Task[None]] = set()
+        self._waiting: Optional[Tuple[int, asyncio.Future[Answer]]] = None
+        self._last = 0
+        self._turn = asyncio.Lock()
+
+    def hindrance(self) -> Optional[str]:
+        return _hindrance(self._entry)
+
+    async def close(self) -> None:
+        if self._process is not None:
+            await self._drop(self._process)
+        if self._listening:
+            _, deaf = await asyncio.wait(self._listening, timeout=REST)
+            for task in deaf:
+                task.cancel()
+
+    async def ask(self, number: int, call: Call) -> Answer:
+        return await self._exchange(number, call.action)
+
+    async def tell(self, number: Optional[int]) -> Optional[Answer]:
+        self._last -= 1  # Numbers below 0 are those of no call.
+        return await self._exchange(self._last, STATE_WORD)
+
+    async def _exchange(self, number: int, word: str) -> Answer:
+        """Writes a line, and waits for the one that answers it."""
+        async with self._turn:
+            process = await self._running()
+            answer: asyncio.Future[Answer] = asyncio.get_running_loop().create_future()
+            self._waiting = number, answer
+            try:
+                assert process.stdin is not None
+                line = f"{number} {word}\n" if self._entry.numbered else f"{word}\n"
+                process.stdin.write(line.encode())
+                await process.stdin.drain()
+                return await answer
+            except OSError as error:
+                await self._drop(process)
+                raise DeviceFailed(f"can't be reached: {error}") from None
+            except asyncio.CancelledError:
+                if not self._entry.numbered or word == STATE_WORD:
+                    await self._drop(process)
+                raise
+            finally:
+                self._waiting = None
+
+    async def _running(self) -> asyncio.subprocess.Process:
+        """The command, which is started where it doesn't run."""
+        if self._left is not None and self._left.returncode is None:
+            raise DeviceFailed(STILL)
+        if self._process is None or self._process.returncode is not None:
+            self._process = await _start(self._entry, self.holds)
+            listening = asyncio.ensure_future(self._listen(self._process))
+            self._listening.add(listening)
+            listening.add_done_callback(self._listening.discard)
+        return self._process
+
+    async def _listen(self, process: asyncio.subprocess.Process) -> None:
+        """Hears what the command writes, until it ends, or writes a line of which it isn't known whose it is."""
+        assert process.stdout is not None
+        try:
+            while True:
+                line = await process.stdout.readline()
+                if process is not self._process:
+                    return
+                if not line.endswith(b"\n"):
+                    raise DeviceFailed("ended in place of an answer" if self._awaited(None) else "ended")
+                self._hear(line.strip())
+        except DeviceFailed as error:
+            await self._fail(process, str(error))
+        except ValueError:
+            await self._fail(process, f"wrote a line of more than {LONGEST_ANSWER} bytes")
+
+    def _hear(self, line: bytes) -> None:
+        """A line. Raises DeviceFailed where it isn't known whose it is."""
+        if self._entry.numbered:
+            self._hear_numbered(line)
+            return
+        answer = self._awaited(None)
+        if answer is None:
+            raise DeviceFailed(f"wrote {short(line)}, which nobody asked for")
+        answer.set_result(_answer(line))
+        self.listener.answered(self.service)
+
+    def _hear_numbered(self, line: bytes) -> None:
+        first, _, rest = line.partition(b" ")
+        if first == b"-":
+            self.listener.moved(self.service, _answer(rest))
+            return
+        if not re.fullmatch(rb"-?[0-9]{1,18}", first):
+            raise DeviceFailed(f"wrote {short(line)}, which begins with no number")
+        answer = self._awaited(int(first))
+        if answer is None:
+            self.listener.late(self.service, f"answered to {int(first)}, which nobody waits for")
+            return
+        try:
+            answer.set_result(_answer(rest))
+        except DeviceFailed as error:
+            answer.set_exception(error)
+        self.listener.answered(self.service)
+
+    def _awaited(self, number: Optional[int]) -> Optional[asyncio.Future[Answer]]:
+        """The answer that is waited for, unless it is that to another number."""
+        if self._waiting is None or self._waiting[1].done():
+            return None
+        return self._waiting[1] if number in (None, self._waiting[0]) else None
+
+    async def _fail(self, process: asyncio.subprocess.Process, text: str) -> None:
+        """Ends the command, and says why to the one who waits for an answer; where nobody does, as what came
+        late."""
+        if process is not self._process:
+            return
+        answer = self._awaited(None)
+        if answer is not None:
+            answer.set_exception(DeviceFailed(text))
+        else:
+            self.listener.late(self.service, text)
+        await self._drop(process)
+
+    async def _drop(self, process: asyncio.subprocess.Process) -> None:
+        """Ends the command. What it wrote is heard no more."""
+        if process is self._process:
+            self._process = None
+        if process.returncode is not None:
+            return
+        if _kill(process.pid):
+            await process.wait()
+        else:
+            assert process.stdin is not None
+            process.stdin.close()  # It ends by that, where it does what it should.
+            self._left = process
+
+
+def _around(entry: CommandReach, number: Optional[int], holds: Tuple[int, ...]) -> Dict[str, Any]:
+    """What a command runs in: a group of its own, beside the home file, with these files open. The number of a
+    call is in its environment."""
+    known = {} if number is None else {"ROMAN_CALL": str(number)}
+    env = {**os.environ, **known}
+    return {"cwd": entry.folder, "env": env, "start_new_session": True, "pass_fds": holds}
+
+
+def _hindrance(entry: CommandReach) -> Optional[str]:
+    """Why a command can't be run, as far as that is known without running it."""
+    word = entry.command[0]
+    path = str(entry.folder / word) if "/" in word else word
+    if shutil.which(path) is not None:
+        return None
+    if "/" not in word:
+        return f"{word} isn't in PATH"
+    return f"{word} may not be executed, as after chmod +x" if os.path.exists(path) else f"{word} isn't there"
+
+
+@contextlib.contextmanager
+def _naming(entry: CommandReach) -> Iterator[None]:
+    """Raises DeviceFailed, with the name of a command, where it can't be started."""
+    try:
+        yield
+    except OSError as error:
+        raise DeviceFailed(f"{entry.command[0]} can't be started: {error.strerror}") from None
+
+
+async def _start(entry: CommandReach, holds: Tuple[int, ...]) -> asyncio.subprocess.Process:
+    """Starts a command that is kept."""
+    with _naming(entry):
+        return await asyncio.create_subprocess_exec(
+            *entry.command,
+            stdin=asyncio.subprocess.PIPE,
+            stdout=asyncio.subprocess.PIPE,
+            limit=LONGEST_ANSWER,
+            **_around(entry, None, holds),
+        )
+
+
+def _kill(group: int) -> bool:
+    """Ends all processes of a group. False where none of them may be ended from here."""
+    try:
+        with contextlib.suppress(ProcessLookupError):
+            os.killpg(group, signal.SIGKILL)
+    except PermissionError:
+        return False
+    return True
+
+
+def _answer(data: bytes) -> Answer:
+    """The answer in a line: a state, and that of the environment where it is known."""
+    lines = data.decode(errors="replace").splitlines()
+    words = lines[0].split() if lines else []
+    if len(lines) != 1 or not 1 <= len(words) <= 2:
+        raise DeviceFailed(f"answered {short(data)}, and not a line with its state and the environment's")
+    return Answer(words[0], words[1] if len(words) == 2 else None)

@@ -1,0 +1,114 @@
+"""Devices that are functions or devices of a Python module."""
+
+from __future__ import annotations
+
+import asyncio
+import importlib
+import inspect
+import sys
+import threading
+from typing import Any, Awaitable, Callable, Optional
+
+import roman_client
+from roman_client import Call, aio
+from roman_client.aio.dispatcher import settle
+
+from ..config import HomeFileError, PythonReach
+from .base import Answer, Listener, Reach
+
+
+class PythonDevice(Reach):
+    """A function of the requested action, a `roman_client.Device` or an `aio.Device`, or the class of one.
+    What isn't for asyncio runs in a thread. A device tells its present state where it has a method
+    `present`, which gives the state, or it and that of the environment."""
+
+    reached = "python"
+
+    def __init__(self, service: str, listener: Listener, entry: PythonReach) -> None:
+        super().__init__(service, listener)
+        self._device = _load(entry, f"devices.{service}.call is '{entry.module}:{entry.name}', which")
+        self._at_work = False
+
+    async def ask(self, number: int, call: Call) -> Answer:
+        if isinstance(self._device, (roman_client.Device, aio.Device)):
+            value = await self._value(self._device.serve, call)
+        else:
+            value = await self._value(self._device, call.request)
+        return _answer(value)
+
+    async def tell(self, number: Optional[int]) -> Optional[Answer]:
+        present = getattr(self._device, "present", None)
+        if present is None:
+            return None
+        value = await self._value(present)
+        return None if value is None else _answer(value)
+
+    async def _value(self, call: Callable[..., Any], *words: Any) -> Any:
+        """The value of a call: of a coroutine function here, and of another one in a thread. Raises DeviceFailed
+        while an earlier call in a thread hasn't come to its end, so that none pile up."""
+        if inspect.iscoroutinefunction(call):
+            return await _value_of(call(*words))
+        if self._at_work:
+            raise roman_client.DeviceFailed("is still at work on an earlier call")
+        loop = asyncio.get_running_loop()
+        answer: asyncio.Future[Any] = loop.create_future()
+
+        def ended(value: Any, error: Optional[BaseException]) -> None:
+            self._at_work = False
+            settle(answer, value, error)
+
+        def work() -> None:
+            value, failure = None, None
+            try:
+                value = call(*words)
+            except BaseException as error:
+                failure = _failure(error)
+            if not loop.is_closed():
+                loop.call_soon_threadsafe(ended, value, failure)
+
+        self._at_work = True
+        # A daemon, since one that hangs must not keep the home from its end.
+        threading.Thread(target=work, daemon=True).start()
+        value = await answer
+        return await _value_of(value) if inspect.isawaitable(value) else value
+
+
+async def _value_of(work: Awaitable[Any]) -> Any:
+    """What a device gives in the loop of the home."""
+    try:
+        return await work
+    except (SystemExit, KeyboardInterrupt) as error:
+        raise _failure(error) from None
+
+
+def _failure(error: BaseException) -> Exception:
+    """What a device raised, as an error of the device: SystemExit and its like would end the home, and nobody can
+    wait for a StopIteration."""
+    if isinstance(error, Exception) and not isinstance(error, StopIteration):
+        return error
+    return roman_client.DeviceFailed(f"raised {error!r}")
+
+
+def _load(entry: PythonReach, which: str) -> Any:
+    """The device that an entry names, looked for beside the home file first. Raises HomeFileError, which begins
+    with those words."""
+    folder = str(entry.folder)
+    if folder not in sys.path:
+        sys.path.insert(0, folder)
+    try:
+        found = getattr(importlib.import_module(entry.module), entry.name)
+    except (Exception, SystemExit) as error:
+        raise HomeFileError(f"{which} can't be loaded: {error!r}") from None
+    if inspect.isclass(found):
+        found = found()
+    if not callable(found) and not isinstance(found, (roman_client.Device, aio.Device)):
+        raise HomeFileError(f"{which} is neither a function nor a device")
+    return found
+
+
+def _answer(value: Any) -> Answer:
+    if isinstance(value, str):
+        return Answer(value)
+    if isinstance(value, (tuple, list)) and len(value) == 2 and all(isinstance(each, str) for each in value):
+        return Answer(value[0], value[1])
+    raise roman_client.DeviceFailed(f"gave {value!r}, which is no outcome")

@@ -1,0 +1,376 @@
+"""The HTTP API and the page."""
+
+from __future__ import annotations
+
+import asyncio
+import base64
+import hashlib
+import hmac
+import json
+import re
+from http import HTTPStatus
+from pathlib import Path
+from typing import Any, Awaitable, Callable, Dict, Mapping, Optional, Tuple
+from urllib.parse import urlsplit
+
+from aiohttp import web
+from roman_client import InDoubt, NoComposition, NotAllowed, Refusal, StoreFailed
+
+from .events import Message
+from .home import Home
+from .config import Page, is_loopback
+from .pictures import picture
+from .states import explanation_to_json, failures_to_json
+from .errors import TROUBLE, Busy, NoDevice, NoPage, Nowhere, UnknownAction, in_words
+
+LONGEST_BODY = 65_536
+"""The most bytes of a body."""
+
+COOKIE = "roman_live_token"
+
+PAGE = Path(__file__).resolve().parent / "page" / "index.html"
+
+HEARTBEAT = 15.0
+"""After how many seconds without a message a listener is sent a comment, so that it sees the end."""
+
+Handler = Callable[[web.Request], Awaitable[web.StreamResponse]]
+
+
+class Server:
+    """Serves a home over HTTP, from `begin` to `close`."""
+
+    def __init__(self, home: Home, page: Page) -> None:
+        self.home = home
+        self.page = page
+        self.url = ""
+        self._runner: Optional[web.AppRunner] = None
+        self._closing = asyncio.Event()
+
+    async def begin(self) -> None:
+        """Begins to listen. Raises NoPage where that can't be."""
+        app = web.Application(client_max_size=LONGEST_BODY, middlewares=[self._guard])
+        app.add_routes(
+            [
+                web.get("/", self._get_page),
+                web.get("/picture.svg", self._get_picture),
+                web.get("/state", self._get_state),
+                web.get("/events", self._get_events),
+                web.get("/metrics", self._get_metrics),
+                web.post("/requests", self._post_request),
+                web.post("/services/{service}/{change:freeze|thaw|die|jump}", self._post_change),
+                web.post("/join", self._post_join),
+                web.post("/environment/jump", self._post_environment),
+                web.post("/record", self._post_record),
+                web.post("/outcome", self._post_outcome),
+            ]
+        )
+        self._runner = web.AppRunner(app, access_log=None)
+        await self._runner.setup()
+        site = web.TCPSite(self._runner, self.page.host, self.page.port, shutdown_timeout=2.0)
+        try:
+            await site.start()
+        except OSError as error:
+            place = f"{self.page.host}, port {self.page.port}"
+            raise NoPage(f"{self.home.file.path}: page: it can't be at {place}: {in_words(error)}") from None
+        port = self._runner.addresses[0][1]
+        host = f"[{self.page.host}]" if ":" in self.page.host else self.page.host
+        self.url = f"http://{host}:{port}"
+
+    async def close(self) -> None:
+        """Stops to listen."""
+        self._closing.set()
+        if self._runner is not None:
+            await self._runner.cleanup()
+
+    # Who may.
+
+    @web.middleware
+    async def _guard(self, request: web.Request, handler: Handler) -> web.StreamResponse:
+        """Lets through what may be: of one who knows the token, and of the page itself."""
+        try:
+            self._check_host(request)
+            entered = self._check_token(request)
+            if request.method not in ("GET", "HEAD"):
+                self._check_origin(request)
+            # A response without members is false, so that `or` won't do.
+            response = await handler(request) if entered is None else entered
+        except web.HTTPException as error:
+            if error.status == HTTPStatus.REQUEST_ENTITY_TOO_LARGE:
+                error.text = f"a body has at most {LONGEST_BODY} bytes"
+            response = _json({"error": error.text or error.reason}, error.status)
+        except TROUBLE as error:
+            response = _json({"error": str(error)}, HTTPStatus.SERVICE_UNAVAILABLE)
+        if not response.prepared:
+            response.headers.setdefault("Cache-Control", "no-store")
+            response.headers["X-Content-Type-Options"] = "nosniff"
+            response.headers["Referrer-Policy"] = "no-referrer"
+        return response
+
+    def _check_host(self, request: web.Request) -> None:
+        """Without a token only names of this machine are taken, so that no other page can use one of its
+        own that leads here."""
+        if self.page.token is None:
+            try:
+                host = urlsplit(f"//{request.headers.get('Host', '')}").hostname
+            except ValueError:
+                host = None
+            if host is None or not (is_loopback(host) or host == self.page.host):
+                raise web.HTTPForbidden(text="another name than that of this machine was called")
+
+    def _check_token(self, request: web.Request) -> Optional[web.Response]:
+        """Raises HTTPUnauthorized for one who doesn't know the token. One who shows it in the address of
+        the page is let in, and has it in a cookie from then on."""
+        token = self.page.token
+        if token is None:
+            return None
+        kind, _, shown = request.headers.get("Authorization", "").partition(" ")
+        if kind.lower() == "bearer" and _same(shown.strip(), token):
+            return None
+        if _same(request.cookies.get(COOKIE, ""), token):
+            return None
+        if request.method == "GET" and _same(request.query.get("token", ""), token):
+            if request.path != "/":
+                return None
+            response = web.Response(status=HTTPStatus.SEE_OTHER, headers={"Location": "/"})
+            response.set_cookie(COOKIE, token, httponly=True, samesite="Strict", path="/")
+            return response
+        raise web.HTTPUnauthorized(text="the token is missing, or another one")
+
+    def _check_origin(self, request: web.Request) -> None:
+        """Raises HTTPForbidden for what another page sends."""
+        origin = request.headers.get("Origin")
+        site = request.headers.get("Sec-Fetch-Site", "none")
+        own = request.headers.get("Host", "")
+        foreign = origin is not None and origin.partition("://")[2] != own
+        if foreign or site not in ("same-origin", "none"):
+            raise web.HTTPForbidden(text="only this home's own page may change it")
+
+    # What it gives.
+
+    async def _get_page(self, request: web.Request) -> web.Response:
+        text = PAGE.read_text(encoding="utf-8")
+        headers = {"Content-Security-Policy": _policy_of(text)}
+        return web.Response(text=text, content_type="text/html", headers=headers)
+
+    async def _get_picture(self, request: web.Request) -> web.Response:
+        drawn = await picture(self.home.file.document)
+        if drawn is None:
+            raise web.HTTPNotFound(text="there is no picture: roman-draw and graphviz make it")
+        headers = {"Content-Security-Policy": "default-src 'none'; style-src 'unsafe-inline'"}
+        return web.Response(body=drawn, content_type="image/svg+xml", headers=headers)
+
+    async def _get_state(self, request: web.Request) -> web.Response:
+        return await self._state()
+
+    async def _get_metrics(self, request: web.Request) -> web.Response:
+        text = await self.home.shown.figures()
+        return web.Response(body=text, headers={"Content-Type": "text/plain; version=0.0.4"})
+
+    async def _get_events(self, request: web.Request) -> web.StreamResponse:
+        """The events that were missed, the state, and what comes."""
+        response = web.StreamResponse(
+            headers={"Content-Type": "text/event-stream", "Cache-Control": "no-store"}
+        )
+        await response.prepare(request)
+        last = request.headers.get("Last-Event-ID", "")
+        listener = self.home.events.listen()
+        closing = asyncio.ensure_future(self._closing.wait())
+        try:
+            for event in self.home.events.after(int(last) if last.isdecimal() else -1):
+                await response.write(_sent(Message("event", event.to_json(), event.number)))
+            await response.write(_sent(Message("state", await self.home.shown.state())))
+            while not self._closing.is_set():
+                waiting = asyncio.ensure_future(listener.get())
+                await asyncio.wait(
+                    {waiting, closing}, timeout=HEARTBEAT, return_when=asyncio.FIRST_COMPLETED
+                )
+                if not waiting.done():
+                    waiting.cancel()
+                    await response.write(b": still here\n\n")
+                    continue
+                message = waiting.result()
+                if message is None:
+                    break
+                await response.write(_sent(message))
+        except TROUBLE:
+            pass  # The listener is gone, or the state can't be had; the page connects again.
+        finally:
+            closing.cancel()
+            self.home.events.leave(listener)
+        return response
+
+    # What it does.
+
+    async def _post_request(self, request: web.Request) -> web.Response:
+        body = await _body(request)
+        action, key = _text(body, "action"), _optional_text(body, "key")
+        return await answer(self.home, action, key, _flag(body, "wait", True))
+
+    async def _post_change(self, request: web.Request) -> web.Response:
+        body = await _body(request)
+        service, change = request.match_info["service"], request.match_info["change"]
+        if change == "jump":
+            return await self._changed(self.home.jump(service, _text(body, "state")))
+        changes = {"freeze": self.home.freeze, "thaw": self.home.thaw, "die": self.home.die}
+        return await self._changed(changes[change](service))
+
+    async def _post_join(self, request: web.Request) -> web.Response:
+        body = await _body(request)
+        service, behaviour = _text(body, "service"), _text(body, "behaviour")
+        joined = self.home.join(service, behaviour, _text(body, "state"), _flag(body, "loose", False))
+        return await self._changed(joined)
+
+    async def _post_environment(self, request: web.Request) -> web.Response:
+        body = await _body(request)
+        return await self._changed(self.home.jump_environment(_text(body, "state")))
+
+    async def _post_record(self, request: web.Request) -> web.Response:
+        body = await _body(request)
+        action, service, key = _text(body, "action"), _text(body, "service"), _optional_text(body, "key")
+        outcome = _text(body, "state"), _text(body, "environment")
+        return await self._changed(self.home.record(action, service, outcome, key))
+
+    async def _post_outcome(self, request: web.Request) -> web.Response:
+        body = await _body(request)
+        service = _text(body, "service")
+        outcome = None
+        if not _flag(body, "fail", False):
+            outcome = (_text(body, "state"), _text(body, "environment"))
+        try:
+            await self.home.answer(service, outcome)
+        except LookupError as error:
+            return _json({"error": str(error.args[0])}, HTTPStatus.CONFLICT)
+        return await self._state()
+
+    async def _changed(self, change: Awaitable[None]) -> web.Response:
+        """Makes a change, and gives the state after it."""
+        try:
+            await asyncio.shield(asyncio.ensure_future(change))
+        except Refusal as refusal:
+            return _json({"error": refusal.reply}, HTTPStatus.CONFLICT)
+        except (NoDevice, Nowhere) as error:
+            return _json({"error": str(error)}, HTTPStatus.CONFLICT)
+        except (TypeError, ValueError) as error:
+            return _json({"error": str(error)}, HTTPStatus.BAD_REQUEST)
+        except StoreFailed as error:
+            text = f"it was done, and is written later, since the journal can't be written: {error}"
+            return _json({"error": text}, HTTPStatus.SERVICE_UNAVAILABLE)
+        except TROUBLE as error:
+            return _json({"error": str(error)}, HTTPStatus.SERVICE_UNAVAILABLE)
+        return await self._state()
+
+    async def _state(self) -> web.Response:
+        return _json(await self.home.shown.state())
+
+
+async def answer(home: Home, action: str, key: Optional[str], wait: bool) -> web.Response:
+    """What came of a request, as the HTTP API says it."""
+    status, value = await result(home, action, key, wait)
+    return _json(value, status)
+
+
+async def result(
+    home: Home, action: str, key: Optional[str], wait: bool
+) -> Tuple[HTTPStatus, Dict[str, Any]]:
+    """Has an action served, and gives the status and the JSON of what came of it."""
+    try:
+        return HTTPStatus.OK, await home.request(action, key, wait)
+    except UnknownAction as error:
+        return HTTPStatus.NOT_FOUND, {"error": str(error), "actions": list(home.document.actions)}
+    except Busy:
+        return HTTPStatus.CONFLICT, {"error": "busy"}
+    except NoComposition as refusal:
+        explanation = refusal.explanation
+        return HTTPStatus.CONFLICT, {
+            "error": refusal.reply,
+            "explanation": None if explanation is None else explanation_to_json(explanation),
+            "allowed": [],
+            "frozen": list(refusal.frozen),
+            "failures": failures_to_json(refusal.failures),
+        }
+    except NotAllowed as refusal:
+        return HTTPStatus.CONFLICT, {
+            "error": refusal.reply,
+            "explanation": None,
+            "allowed": await home.shown.allowed(),
+            "failures": [],
+        }
+    except InDoubt as error:
+        return HTTPStatus.CONFLICT, {"error": "in doubt", "text": str(error)}
+    except StoreFailed as error:
+        return HTTPStatus.SERVICE_UNAVAILABLE, {"error": f"the journal can't be written: {error}"}
+    except TROUBLE as error:
+        return HTTPStatus.SERVICE_UNAVAILABLE, {"error": str(error)}
+
+
+def _same(shown: str, token: str) -> bool:
+    # Headers are read with what isn't UTF-8 in them kept.
+    return hmac.compare_digest(shown.encode(errors="surrogateescape"), token.encode())
+
+
+def _json(value: Any, status: int = HTTPStatus.OK) -> web.Response:
+    return web.json_response(value, status=status)
+
+
+def _sent(message: Message) -> bytes:
+    """A message as an event that the server sends."""
+    number = "" if message.number is None else f"id: {message.number}\n"
+    return f"{number}event: {message.name}\ndata: {json.dumps(message.value)}\n\n".encode()
+
+
+async def _body(request: web.Request) -> Mapping[str, Any]:
+    """The object in a body; an empty one where there is no body."""
+    if (request.content_length or 0) > LONGEST_BODY:
+        raise web.HTTPRequestEntityTooLarge(LONGEST_BODY, request.content_length or 0)
+    data = await request.read()
+    if not data:
+        return {}
+    if request.content_type != "application/json":
+        raise web.HTTPUnsupportedMediaType(text="a body is application/json")
+    try:
+        value = json.loads(data)
+    except (ValueError, RecursionError):
+        raise web.HTTPBadRequest(text="the body is no JSON") from None
+    if not isinstance(value, dict):
+        raise web.HTTPBadRequest(text="the body is no object")
+    return value
+
+
+def _text(body: Mapping[str, Any], name: str) -> str:
+    value = body.get(name)
+    if not isinstance(value, str):
+        raise web.HTTPBadRequest(text=f"{name} has to be a text")
+    return value
+
+
+def _optional_text(body: Mapping[str, Any], name: str) -> Optional[str]:
+    return None if body.get(name) is None else _text(body, name)
+
+
+def _flag(body: Mapping[str, Any], name: str, otherwise: bool) -> bool:
+    value = body.get(name, otherwise)
+    if not isinstance(value, bool):
+        raise web.HTTPBadRequest(text=f"{name} has to be true or false")
+    return value
+
+
+def _policy_of(page: str) -> str:
+    """The policy for a page that has nothing but what stands in it."""
+
+    def hashes(element: str) -> str:
+        found = re.findall(rf"<{element}>(.*?)</{element}>", page, re.DOTALL)
+        digests = (hashlib.sha256(each.encode()).digest() for each in found)
+        return " ".join(f"'sha256-{base64.b64encode(each).decode()}'" for each in digests) or "'none'"
+
+    return "; ".join(
+        [
+            "default-src 'none'",
+            f"script-src {hashes('script')}",
+            f"style-src {hashes('style')}",
+            "connect-src 'self'",
+            "img-src 'self' data:",
+            "base-uri 'none'",
+            "form-action 'none'",
+            "frame-ancestors 'none'",
+        ]
+    )

@@ -1,0 +1,42 @@
+"""Documents in the short form, which the program doesn't read: the home runs their plain form."""
+
+from __future__ import annotations
+
+from pathlib import Path
+
+from roman_client import DocumentError
+from roman_client.documents import read_json
+
+SHORT = "short"
+"""What stands for the version in the short form."""
+
+
+def is_short(document: Path) -> bool:
+    """Whether a file is a document in the short form. What can't be read is none: the reader of plain ones
+    says what is wrong with it."""
+    try:
+        value = read_json(document)
+    except DocumentError:
+        return False
+    return isinstance(value, dict) and value.get("roman") == SHORT
+
+
+def plain_text(document: Path) -> str:
+    """The plain form of a document in the short form. Raises DocumentError with all that is wrong in it,
+    each with its place in what the person wrote."""
+    try:
+        # It needs python3-lark and python3-jsonschema, which a plain document doesn't.
+        from roman_tools.documents import read
+        from roman_tools.findings import in_order
+        from roman_tools.reader import Shelf
+        from roman_tools.writer import written
+    except ImportError as error:
+        raise DocumentError(f"{document.name} is in the short form, which needs {error.name}") from None
+    try:
+        checker = read(document.name, Shelf(document.parent))
+    except OSError as error:
+        raise DocumentError(f"{error.filename}: {error.strerror}") from None
+    if checker.system is None:
+        shown = [line for each in in_order(checker.findings) for line in each.shown()]
+        raise DocumentError("\n".join(["it can't be expanded", *shown]))
+    return written(checker.system).text

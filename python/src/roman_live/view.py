@@ -1,0 +1,194 @@
+"""What is shown of a home: over HTTP, to Prometheus, and on the broker."""
+
+from __future__ import annotations
+
+import asyncio
+import contextlib
+import json
+import logging
+from typing import TYPE_CHECKING, Any, Callable, Dict, List, Optional, Tuple
+
+from roman_client import Explanation, Report, RomanError, SessionOver
+
+from .mqtt_api import GONE
+from .events import Message, now
+from .states import actions_to_json, explanation_to_json, target_to_json
+from .errors import TROUBLE
+
+if TYPE_CHECKING:
+    from .home import Home
+
+LOG = logging.getLogger("roman_live")
+
+BETWEEN_STATES = 0.05
+"""How many seconds there are at least between two states that listeners are sent."""
+
+
+class Shown:
+    """What is shown of a home."""
+
+    def __init__(self, home: Home) -> None:
+        self._home = home
+        self.listener: Optional[Callable[[str], None]] = None
+        """Is told in a line how it is with the home, whenever that may have changed."""
+        self._report: Report
+        self._explained: Optional[Tuple[Report, Optional[Explanation]]] = None
+
+    def begin(self, report: Report) -> None:
+        """Begins with that report, which is shown where there is no newer one."""
+        self._report = report
+
+    async def state(self) -> Dict[str, Any]:
+        """The present state as JSON."""
+        report = await self._present_report()
+        explanation = await self._explanation(report)
+        services = [self._service_to_json(name) for name in self._home.known]
+        return {
+            "document": self._home.file.document.name,
+            "time": now(),
+            "simulated": self._home.simulate,
+            "target": target_to_json(self._home.document, report),
+            "environment": report.environment,
+            "environments": list(self._home.document.environment.states),
+            "composes": report.composition,
+            "actions": actions_to_json(self._home.document, report),
+            "services": services,
+            "behaviours": {
+                each.name: list(each.states) for each in self._home.document.behaviours.values()
+            },
+            "request": self._request_to_json(report),
+            "explanation": None if explanation is None else explanation_to_json(explanation),
+            "counts": {
+                "served": self._home.dispatcher.served,
+                "waiting": max(0, self._home.open - 1),
+                "frozen": sum(each["status"] == "frozen" for each in services),
+                "dead": sum(each["status"] == "dead" for each in services),
+            },
+            "broker": None if self._home.broker is None else self._home.broker.connected,
+        }
+
+    async def figures(self) -> bytes:
+        """The figures for Prometheus."""
+        report = await self._present_report()
+        services = [(name, self._status(name)) for name in self._home.known]
+        self._home.metrics.show(self._home.dispatcher.served, report.composition, services)
+        return self._home.metrics.text()
+
+    async def allowed(self) -> List[str]:
+        """The actions that are offered now."""
+        report = await self._present_report()
+        return list(report.offers)
+
+    async def _present_report(self) -> Report:
+        """The newest report. While the program is started again it may be the one before."""
+        try:
+            self._report = await self._home.reply(self._home.session.report())
+        except SessionOver:
+            if not self._home.open:
+                self._report = await self._home.dispatcher.report()
+        return self._report
+
+    async def _explanation(self, report: Report) -> Optional[Explanation]:
+        """Why there is no composition, where there is none and no request is open."""
+        if report.composition or self._home.open:
+            return None
+        if self._explained is None or self._explained[0] != report:
+            try:
+                explanation: Optional[Explanation] = await self._home.reply(self._home.session.explain())
+            except RomanError:
+                return None
+            self._explained = (report, explanation)
+        return self._explained[1]
+
+    def _status(self, service: str) -> str:
+        known = self._home.known[service]
+        if known.dead:
+            return "dead"
+        if self._home.call is not None and self._home.call[0].service == service:
+            return "under way"
+        return "frozen" if known.frozen else "ready"
+
+    def _service_to_json(self, name: str) -> Dict[str, Any]:
+        known = self._home.known[name]
+        device = self._home.devices.get(name)
+        return {
+            "name": name,
+            "behaviour": known.behaviour,
+            "state": known.state,
+            "states": list(self._home.document.behaviours[known.behaviour].states),
+            "status": self._status(name),
+            "by_hand": known.frozen and name in self._home.kept.held,
+            "loose": known.loose,
+            "reached": None if device is None else device.reach.reached,
+            "since": known.since,
+            "last_error": known.last_error,
+            "next_try": known.next_try,
+        }
+
+    def _request_to_json(self, report: Report) -> Optional[Dict[str, Any]]:
+        """What is under way; with simulated devices the possible outcomes, too."""
+        if self._home.call is None:
+            return None
+        call, since = self._home.call
+        shown: Dict[str, Any] = {
+            "id": self._home.number(call),
+            "action": call.request,
+            "service": call.service,
+            "since": since,
+        }
+        if self._home.simulate:
+            known = self._home.known[call.service]
+            shown["outcomes"] = [
+                {"state": state, "environment": environment}
+                for state, environment in self._home.document.outcomes(
+                    known.behaviour, known.state, report.environment, call.request
+                )
+            ]
+        return shown
+
+    async def publish(self) -> None:
+        """Sends listeners and the broker the state whenever it has changed."""
+        while True:
+            await self._home.dirty.wait()
+            self._home.dirty.clear()
+            try:
+                if self._home.events.listeners:
+                    self._home.events.send(Message("state", await self.state()))
+                if self._home.broker is not None:
+                    self._home.broker.publish_now(self._home.broker.state_topic, await self._summary(), retain=True)
+                if self.listener is not None:
+                    self.listener(self._line(await self._present_report()))
+            except TROUBLE as error:
+                LOG.warning("the state can't be had: %s", error)
+            await asyncio.sleep(BETWEEN_STATES)
+
+    def _line(self, report: Report) -> str:
+        """How it is with the home, in a line."""
+        words = ["there is a composition" if report.composition else "there is no composition"]
+        frozen = [each.name for each in report.services if each.frozen]
+        if frozen:
+            words.append(f"frozen: {', '.join(frozen)}")
+        if self._home.broker is not None and not self._home.broker.connected:
+            words.append("the broker is away")
+        return "; ".join(words)
+
+    def hear_state(self, payload: bytes, retained: bool) -> None:
+        """What stands for the state on the broker. It is said anew where it is that the home is gone: so says a
+        connection that the broker found lost late, or another start of this home that came to nothing."""
+        with contextlib.suppress(ValueError, RecursionError):
+            if json.loads(payload) == GONE:
+                self._home.dirty.set()
+
+    async def _summary(self) -> Dict[str, Any]:
+        """The state in short, for others on the broker."""
+        report = await self._present_report()
+        return {
+            "target": report.target,
+            "environment": report.environment,
+            "composes": report.composition,
+            "offers": {action: list(services) for action, services in report.offers.items()},
+            "services": {
+                name: {"state": known.state, "status": self._status(name)}
+                for name, known in self._home.known.items()
+            },
+        }

@@ -1,0 +1,112 @@
+"""roman-draw SYSTEM [--explanation FILE [--all] [--text] | --offers] [-o SVG] [--dot]
+
+Draws a system document as one SVG: the environment, each behaviour and the target, and what roman-lint finds in
+them. With --explanation, draws the last explanation in FILE (`-` for the standard input), as `explain` writes it:
+one line of the game that an opponent wins, or with --all the whole game; --text writes it in words. With --offers,
+draws what can happen from the start when offered services are used. The drawing goes to the standard output, or to
+the file after -o. --dot writes the text for Graphviz in place of the SVG. Names of part files count from the
+working folder.
+"""
+
+from __future__ import annotations
+
+import argparse
+import sys
+from pathlib import Path
+from typing import Any, Optional, Sequence
+
+from . import explanations, finished, offers_picture, program
+from .documents import looked_up, plain_file, read
+from .lint import all_findings
+from .pictures import Wrong, svg
+from .system_picture import Picture
+from .systems import System
+
+
+def system_of(name: str) -> System:
+    """The system of a document that breaks no rule."""
+    checker = read(name)
+    if checker.system is None:
+        raise Wrong(checker.findings[0].heading)
+    return checker.system
+
+
+def system_picture(name: str) -> Any:
+    """A document as it stands, with what is found in it."""
+    checker = read(name)
+    if not any(part.word == "environment" for part in checker.parts):
+        raise Wrong(checker.findings[0].heading)
+    return Picture(checker, all_findings(checker)).draw()
+
+
+def play_of(system: System, name: str) -> explanations.Play:
+    """The last explanation in a file."""
+    try:
+        text = sys.stdin.read() if name == "-" else Path(name).read_text(encoding="utf-8")
+    except ValueError as error:
+        raise Wrong(f"{name}: {error}") from None
+    explanation = explanations.last_explanation(text)
+    if explanation is None:
+        raise Wrong(f"{name} has no explanation: lines from `lost ..` to `end`")
+    return explanations.Play(looked_up(system), explanation)
+
+
+def offers_of(system: System, roman: Optional[str]) -> Any:
+    """What is offered from the start, by the program's own certificate."""
+    found = program.find(roman)
+    if found is None:
+        raise Wrong("the program isn't here, which says what is offered; ./build makes it")
+    with plain_file(system) as file:
+        done = program.run(found, "certify", file)
+    if done.returncode != 0:
+        raise Wrong(f"roman says: {(done.stdout or done.stderr).strip()}")
+    return offers_picture.picture(looked_up(system), done.stdout)
+
+
+def drawn(asked: argparse.Namespace) -> str:
+    """What is asked for, as a text."""
+    if asked.explanation is not None:
+        play = play_of(system_of(asked.system), asked.explanation)
+        if asked.text:
+            return play.text(asked.all)
+        picture = play.picture(asked.all)
+    elif asked.offers:
+        picture = offers_of(system_of(asked.system), asked.program)
+    else:
+        picture = system_picture(asked.system)
+    return str(picture.source) if asked.dot else svg(picture)
+
+
+def main(arguments: Optional[Sequence[str]] = None) -> int:
+    words = argparse.ArgumentParser(prog="roman-draw", description=(__doc__ or "").split("\n\n")[1])
+    words.add_argument("system", metavar="SYSTEM")
+    kinds = words.add_mutually_exclusive_group()
+    kinds.add_argument("--explanation", metavar="FILE", help="draw the last explanation in FILE")
+    kinds.add_argument("--offers", action="store_true", help="draw what can happen when offers are followed")
+    words.add_argument("--all", action="store_true", help="the whole game of an explanation")
+    words.add_argument("--text", action="store_true", help="write the explanation in words")
+    words.add_argument("-o", metavar="SVG", dest="out", help="write to this file")
+    words.add_argument("--dot", action="store_true", help="write the text for Graphviz")
+    words.add_argument("--program", metavar="ROMAN", help="the program that says what is offered")
+    asked = words.parse_args(arguments)
+    try:
+        data = drawn(asked).encode("utf-8", "replace")
+    except OSError as error:
+        if error.filename is None:
+            raise  # What it gives the program can't be written.
+        print(f"roman-draw: {error.filename}: {error.strerror}", file=sys.stderr)
+        return 1
+    except Wrong as error:
+        print(f"roman-draw: {error}".encode("ascii", "backslashreplace").decode(), file=sys.stderr)
+        return 1
+    if asked.out is None:
+        sys.stdout.buffer.write(data)
+        sys.stdout.flush()
+    else:
+        Path(asked.out).write_bytes(data)
+    return 0
+
+
+def command() -> int:
+    """The console script."""
+    return finished(main)

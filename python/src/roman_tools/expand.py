@@ -1,0 +1,54 @@
+"""roman-expand FILE: the plain document of a short one.
+
+The plain document is of the least version, and says everything in the shortest way; expanding it again gives
+the same text. Mistakes are shown where they stand in the short one. The status is 3 where there are some, 5
+where the file can't be read, 7 where what it writes can't be written, and 0 otherwise. Part files are put in
+place.
+"""
+
+from __future__ import annotations
+
+import argparse
+import json
+import sys
+from pathlib import Path
+from typing import Optional, Sequence
+
+from . import finished
+from .documents import read
+from .findings import in_order
+from .lint import CLEAN, UNREADABLE, WRONG
+from .writer import written
+
+
+def main(arguments: Optional[Sequence[str]] = None) -> int:
+    words = argparse.ArgumentParser(prog="roman-expand", description=(__doc__ or "").split("\n\n")[1])
+    words.add_argument("file", metavar="FILE")
+    words.add_argument("-o", metavar="OUT", dest="out", help="write to this file")
+    words.add_argument(
+        "--map", metavar="MAP", help="write to this file where each name and step of the plain document comes from"
+    )
+    asked = words.parse_args(arguments)
+    try:
+        checker = read(asked.file)
+    except OSError as error:
+        print(f"roman-expand: {error.filename}: {error.strerror}", file=sys.stderr)
+        return UNREADABLE
+    if checker.system is None:
+        for each in in_order(checker.findings):
+            print(*each.shown(), sep="\n", file=sys.stderr)
+        return WRONG
+    document = written(checker.system)
+    if asked.map is not None:
+        places = {pointer: str(span) for pointer, span in document.places.items()}
+        Path(asked.map).write_text(json.dumps(places, indent=1) + "\n", encoding="utf-8")
+    if asked.out is None:
+        sys.stdout.write(document.text)
+    else:
+        Path(asked.out).write_text(document.text, encoding="utf-8")
+    return CLEAN
+
+
+def command() -> int:
+    """The console script."""
+    return finished(main)

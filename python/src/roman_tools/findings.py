@@ -1,0 +1,94 @@
+"""What is found in documents: errors and warnings, each with its place."""
+
+from __future__ import annotations
+
+import difflib
+import enum
+from dataclasses import dataclass
+from typing import Any, Dict, Iterable, List, Optional
+
+from .reader import Span
+
+
+class Level(enum.Enum):
+    """How much a finding weighs."""
+
+    ERROR = "error"
+    WARNING = "warning"
+
+
+@dataclass(frozen=True)
+class Refusal:
+    """A refusal of the format, by the words of its line."""
+
+    document: str
+    kind: str
+    part: str
+    number: int
+    list: str
+    index: int
+    more: str = ""
+
+    def __str__(self) -> str:
+        """The line that the program writes where this is the first refusal."""
+        line = f"refused {self.document} {self.kind} {self.part} {self.number} {self.list} {self.index}"
+        return f"{line} {self.more}" if self.more else line
+
+
+@dataclass(frozen=True)
+class Finding:
+    """Something that is wrong, or probably so, at a place."""
+
+    span: Span
+    level: Level
+    message: str
+    refusal: Optional[Refusal] = None
+
+    @property
+    def heading(self) -> str:
+        """`FILE:LINE:COLUMN: error: MESSAGE`, the form that editors know from compilers."""
+        return f"{self.span}: {self.level.value}: {self.message}"
+
+    def shown(self) -> List[str]:
+        """The heading, the line, and a mark below the word."""
+        number, column = self.span.place
+        line = self.span.source.line(number)
+        length = max(1, min(self.span.end - self.span.start, len(line) - column + 1))
+        below = "".join("\t" if letter == "\t" else " " for letter in line[: column - 1])
+        return [printable(self.heading), "  " + printable(line), "  " + below + "^" + "~" * (length - 1)]
+
+    def value(self) -> Dict[str, Any]:
+        """The finding as a JSON value."""
+        line, column = self.span.place
+        end_line, end_column = self.span.source.place(self.span.end)
+        found: Dict[str, Any] = {
+            "file": printable(self.span.source.name),
+            "line": line,
+            "column": column,
+            "endLine": end_line,
+            "endColumn": end_column,
+            "severity": self.level.value,
+            "message": printable(self.message),
+        }
+        if self.refusal is not None:
+            found["refusal"] = str(self.refusal)
+        return found
+
+
+def printable(text: str) -> str:
+    """The text with what can't be written, as half of a character, replaced. Tabs stay."""
+    text = text.encode("utf-8", "replace").decode("utf-8")
+    return "".join(letter if letter == "\t" or letter.isprintable() else "\ufffd" for letter in text)
+
+
+def in_order(findings: Iterable[Finding]) -> List[Finding]:
+    """The findings file by file, in the order of the text, each once."""
+    unrepeated = list(dict.fromkeys(findings))
+    files = list(dict.fromkeys(each.span.source for each in unrepeated))
+    return sorted(unrepeated, key=lambda each: (files.index(each.span.source), each.span.start))
+
+
+def meant(word: str, known: Iterable[str]) -> str:
+    """`; did you mean "..."?` where a known word is near."""
+    near = difflib.get_close_matches(word, list(known), n=1, cutoff=0.6)
+    return f'; did you mean "{near[0]}"?' if near else ""

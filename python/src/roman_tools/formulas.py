@@ -1,0 +1,172 @@
+"""Guards in words: `time = day and not who = away`."""
+
+from __future__ import annotations
+
+import functools
+import re
+from typing import Any, Callable, Dict, List, Optional, Tuple
+
+from lark import Lark, Token, Tree, UnexpectedInput
+
+from .findings import meant
+from .reader import Constant, Items, Members, Span, Text, Value
+
+GRAMMAR = r"""
+?start: either
+?either: both (_OR both)*
+?both: one (_AND one)*
+?one: _NOT one -> negation
+    | "(" either ")"
+    | NAME _IS NAME -> test
+    | NAME _ISNT NAME -> difference
+    | NAME -> word
+_OR.2: /or\b(?!-)/
+_AND.2: /and\b(?!-)/
+_NOT.2: /not\b(?!-)/
+_ISNT: "!="
+_IS: "="
+NAME: /(?!(?:and|or|not)(?![A-Za-z0-9_-]))[A-Za-z0-9_-]+/
+%ignore /[ \t\r\n]+/
+"""
+
+Report = Callable[[Span, str], None]
+"""Is told of what is wrong, and where."""
+
+
+@functools.lru_cache(maxsize=None)
+def parser() -> Lark:
+    return Lark(GRAMMAR, parser="lalr")
+
+
+class Space:
+    """The states of an environment, as guards see them: by their names, and by the values of variables."""
+
+    def __init__(self, states: List[str], variables: Dict[str, List[str]], values: List[Dict[str, str]]) -> None:
+        self.states = states
+        self.variables = variables
+        self.values = values
+        """For each state the value of each variable."""
+        self.everything = (1 << len(states)) - 1
+
+    def where(self, variable: str, value: str) -> int:
+        """The states in which a variable has a value, a bit for each."""
+        return sum(1 << number for number, each in enumerate(self.values) if each.get(variable) == value)
+
+    # The meaning of guards.
+
+    def guard(self, value: Value, report: Report) -> int:
+        """The states that a guard means. What is wrong is reported, and means all states."""
+        if isinstance(value, Constant) and value.constant is not None:
+            return self.everything if value.constant else 0
+        if isinstance(value, Text):
+            return self.formula(value, report)
+        if isinstance(value, Items):
+            return self.joined([self.guard(each, report) for each in value.items], False)
+        if isinstance(value, Members):
+            return self.joined([self.member(*each, report) for each in value.last.items()], True)
+        report(value.span, f"{value.word} is no guard")
+        return self.everything
+
+    def member(self, word: str, member: Any, report: Report) -> int:
+        """The states that a member of a guard means: of `not`, `all` and `any`, or of a variable."""
+        inner: Value = member.value
+        if word == "not":
+            return self.everything & ~self.guard(inner, report)
+        if word in ("all", "any") and isinstance(inner, Items):
+            return self.joined([self.guard(each, report) for each in inner.items], word == "all")
+        if word not in self.variables:
+            known = [*self.variables, "not", "all", "any"]
+            report(member.name.span, f'"{word}" is no variable{meant(word, known)}')
+            return self.everything
+        values = inner.items if isinstance(inner, Items) else [inner]
+        masks = [self.test(word, each.text, each.span, report) for each in values if isinstance(each, Text)]
+        return self.joined(masks, False)
+
+    def joined(self, masks: List[int], by_all: bool) -> int:
+        meaning = self.everything if by_all else 0
+        for mask in masks:
+            meaning = meaning & mask if by_all else meaning | mask
+        return meaning
+
+    def test(self, variable: str, value: str, span: Span, report: Report) -> int:
+        """The states in which a variable has that value."""
+        if variable not in self.variables:
+            report(span, f'"{variable}" is no variable{meant(variable, self.variables)}')
+            return self.everything
+        if value not in self.variables[variable]:
+            near = meant(value, self.variables[variable])
+            report(span, f'"{value}" is no value of "{variable}"{near}')
+            return self.everything
+        return self.where(variable, value)
+
+    def word(self, word: str, span: Span, report: Report) -> int:
+        """The states that a word alone means: one state, or those in which the variable that has this value has
+        it."""
+        if word in self.states:
+            return 1 << self.states.index(word)
+        if word in ("true", "false"):
+            return self.everything if word == "true" else 0
+        owners = [name for name, values in self.variables.items() if word in values]
+        if len(owners) == 1:
+            return self.where(owners[0], word)
+        if owners:
+            report(span, f'"{word}" is a value of {" and of ".join(owners)}; say "{owners[0]} = {word}"')
+            return self.everything
+        values = [value for each in self.variables.values() for value in each]
+        what = "state of the environment" if not self.variables else "state and no value of a variable"
+        report(span, f'"{word}" is no {what}{meant(word, [*self.states, *values])}')
+        return self.everything
+
+    # Formulas.
+
+    def formula(self, text: Text, report: Report) -> int:
+        """The states that a text means."""
+        try:
+            tree = parser().parse(text.text)
+        except UnexpectedInput as error:
+            span, rest = piece(text, error)
+            report(span, f"the formula isn't understood {rest}; it may have and, or, not, =, != and brackets")
+            return self.everything
+        return self.meaning(tree, text, report)
+
+    def meaning(self, tree: Tree[Token], text: Text, report: Report) -> int:
+        """The states that a formula means. Its parts come first, however deep they stand."""
+        masks: Dict[int, int] = {}
+        for part in tree.iter_subtrees():
+            within = [masks[id(each)] for each in part.children if isinstance(each, Tree)]
+            masks[id(part)] = self.part(part, within, text, report)
+        return masks[id(tree)]
+
+    def part(self, tree: Any, masks: List[int], text: Text, report: Report) -> int:
+        """The states that a part of a formula means, by those of its own parts."""
+        if tree.data == "word":
+            return self.word(str(tree.children[0]), spot(text, tree.children[0]), report)
+        if tree.data in ("test", "difference"):
+            variable, value = tree.children
+            wrong = value if variable in self.variables else variable
+            mask = self.test(str(variable), str(value), spot(text, wrong), report)
+            return mask if tree.data == "test" else self.everything & ~mask
+        if tree.data == "negation":
+            return self.everything & ~masks[0]
+        return self.joined(masks, tree.data == "both")
+
+
+def spot(text: Text, token: Token) -> Span:
+    """Where a word of a formula stands; the whole text where it has escapes."""
+    if text.span.end - text.span.start != len(text.text) + 2:
+        return text.span
+    assert token.start_pos is not None and token.end_pos is not None
+    return text.span.within(token.start_pos + 1, token.end_pos + 1)
+
+
+def piece(text: Text, error: UnexpectedInput) -> Tuple[Span, str]:
+    """Where a formula breaks off, and that in words."""
+    at: Optional[int] = error.pos_in_stream
+    if at is None or at < 0 or at >= len(text.text) or getattr(getattr(error, "token", None), "type", "") == "$END":
+        return text.span, "at its end"
+    word = re.compile(r"[A-Za-z0-9_-]+|.", re.S).match(text.text, at)
+    assert word is not None
+    if text.span.end - text.span.start != len(text.text) + 2:
+        return text.span, f'at "{word[0]}"'
+    return text.span.within(word.start() + 1, word.end() + 1), f'at "{word[0]}"'
+

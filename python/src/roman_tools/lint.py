@@ -1,0 +1,98 @@
+"""roman-lint FILE: what is wrong with a document, and what is probably not meant, each with its place.
+
+The last line is what the program says itself, and the program decides. The status is 3 where there are
+errors, 1 where there are warnings under --strict, 5 where the file can't be read, and 0 otherwise.
+"""
+
+from __future__ import annotations
+
+import argparse
+import contextlib
+import json
+import sys
+from typing import List, Optional, Sequence, Tuple
+
+from . import finished, program
+from .cautions import Judge, of_text
+from .checks import Checker
+from .documents import plain_file, read
+from .findings import Finding, Level, in_order
+
+CLEAN, WARNED, WRONG, UNREADABLE = 0, 1, 3, 5
+
+
+def lint(name: str) -> List[Finding]:
+    """All findings in a document, in the order of its text. OSError where it can't be read."""
+    return all_findings(read(name))
+
+
+def all_findings(checker: Checker) -> List[Finding]:
+    """The errors of a document that was read, and its warnings."""
+    findings = [*checker.findings, *of_text(checker)]
+    if checker.system is not None:
+        findings += Judge(checker.system).findings()
+    return in_order(findings)
+
+
+def said(words: argparse.Namespace, checker: Checker) -> Optional[str]:
+    """What the program says of the document, in a line; of a short one, what it says of the plain one."""
+    found = None if words.no_program else program.find(words.program)
+    if found is None:
+        return None
+    if checker.short and checker.system is None:
+        return "nothing, since no plain document comes of it"
+    try:
+        with contextlib.ExitStack() as stack:
+            file = words.file
+            if checker.short and checker.system is not None:
+                file = stack.enter_context(plain_file(checker.system))
+            done = program.run(found, "synth", file)
+    except OSError as error:
+        return f"can't be called: {error.strerror}"
+    lines = done.stdout.splitlines()
+    told = [line for line in lines if line.startswith(("refused ", "limit ", "answer "))]
+    return (told or done.stderr.splitlines() or [f"status {done.returncode}"])[-1]
+
+
+def counts(findings: Sequence[Finding]) -> Tuple[int, int]:
+    """How many errors there are, and how many warnings."""
+    errors = sum(each.level is Level.ERROR for each in findings)
+    return errors, len(findings) - errors
+
+
+def plural(count: int, word: str) -> str:
+    return f"{count} {word}" if count == 1 else f"{count} {word}s"
+
+
+def main(arguments: Optional[Sequence[str]] = None) -> int:
+    words = argparse.ArgumentParser(prog="roman-lint", description=(__doc__ or "").split("\n\n")[1])
+    words.add_argument("file", metavar="FILE")
+    words.add_argument("--json", action="store_true", help="write a JSON value, for editors")
+    words.add_argument("--strict", action="store_true", help="end with status 1 where there are warnings")
+    words.add_argument("--program", metavar="ROMAN", help="the program that has the last word")
+    words.add_argument("--no-program", action="store_true", help="don't ask the program")
+    asked = words.parse_args(arguments)
+    try:
+        checker = read(asked.file)
+    except OSError as error:
+        print(f"roman-lint: {asked.file}: {error.strerror}", file=sys.stderr)
+        return UNREADABLE
+    findings = all_findings(checker)
+    answer = said(asked, checker)
+    errors, warnings = counts(findings)
+    if asked.json:
+        value = {"findings": [each.value() for each in findings], "roman": answer}
+        print(json.dumps(value, indent=2, ensure_ascii=True))
+    else:
+        for each in findings:
+            print(*each.shown(), sep="\n")
+        print(f"{plural(errors, 'error')}, {plural(warnings, 'warning')}")
+        print(f"roman says: {answer}" if answer else "roman isn't here to say what it thinks of it")
+    if errors:
+        return WRONG
+    return WARNED if warnings and asked.strict else CLEAN
+
+
+def command() -> int:
+    """The console script."""
+    return finished(main)

@@ -1,0 +1,241 @@
+"""Targets by plans: sequences, choices and loops of actions, made into machines without choices."""
+
+from __future__ import annotations
+
+import itertools
+from dataclasses import dataclass, field
+from typing import Dict, FrozenSet, List, Optional, Sequence, Set, Tuple
+
+from .reader import Span
+
+Place = int
+"""The number of an action's place in a plan; -1 is before all of them."""
+
+BEGIN: Place = -1
+
+MOST = 512
+"""How many actions a plan may name, and how many states its machine may have before those that can't be told
+apart become one."""
+
+
+class TooLarge(Exception):
+    """A plan with more actions or states than it may have."""
+
+
+@dataclass(frozen=True)
+class Request:
+    """A place of a plan: which actions may be requested there, in which environment states, and the name of the
+    state that follows."""
+
+    actions: Tuple[str, ...]
+    guard: int
+    name: Optional[str]
+    span: Span
+
+
+@dataclass
+class Shape:
+    """A piece of a plan: whether it may be left out, and with which places it begins and ends."""
+
+    empty: bool
+    first: FrozenSet[Place]
+    last: FrozenSet[Place]
+
+
+@dataclass
+class Plan:
+    """The places of a plan, and which of them may come after which."""
+
+    requests: List[Request] = field(default_factory=list)
+    after: Dict[Place, Set[Place]] = field(default_factory=dict)
+
+    # Pieces.
+
+    def one(self, request: Request) -> Shape:
+        place = len(self.requests)
+        if place == MOST:
+            raise TooLarge(f"the plan names more than {MOST} actions")
+        self.requests.append(request)
+        return Shape(False, frozenset({place}), frozenset({place}))
+
+    def sequence(self, pieces: Sequence[Shape]) -> Shape:
+        whole = Shape(True, frozenset(), frozenset())
+        for piece in pieces:
+            self.join(whole.last, piece.first)
+            whole = Shape(
+                whole.empty and piece.empty,
+                whole.first | piece.first if whole.empty else whole.first,
+                whole.last | piece.last if piece.empty else piece.last,
+            )
+        return whole
+
+    def choice(self, pieces: Sequence[Shape]) -> Shape:
+        return Shape(
+            any(piece.empty for piece in pieces),
+            frozenset().union(*(piece.first for piece in pieces)),
+            frozenset().union(*(piece.last for piece in pieces)),
+        )
+
+    def loop(self, piece: Shape) -> Shape:
+        self.join(piece.last, piece.first)
+        return Shape(True, piece.first, piece.last)
+
+    def join(self, ends: FrozenSet[Place], starts: FrozenSet[Place]) -> None:
+        for end in ends:
+            self.after.setdefault(end, set()).update(starts)
+
+
+State = FrozenSet[Place]
+"""The places of which one was the last."""
+
+
+@dataclass(frozen=True)
+class Way:
+    """A step of a plan's machine."""
+
+    state: str
+    guard: int
+    action: str
+    to: str
+    span: Span
+
+
+@dataclass
+class Made:
+    """A plan's machine: the names of its states with where they come from, the final ones, and its steps."""
+
+    states: Dict[str, Optional[Span]]
+    finals: List[str]
+    ways: List[Way]
+
+
+class Maker:
+    """Makes the machine of a plan: sets of places as its states, those that can't be told apart as one."""
+
+    def __init__(self, plan: Plan, whole: Shape, start: str, size: int, finals: Optional[Set[str]]) -> None:
+        self.plan = plan
+        self.plan.after.setdefault(BEGIN, set()).update(whole.first)
+        self.ends = whole.last | ({BEGIN} if whole.empty else frozenset())
+        self.start = start
+        self.size = size
+        self.given_finals = finals
+        self.ways: Dict[State, List[Tuple[str, int, State, Span]]] = {}
+        self.explore()
+
+    def explore(self) -> None:
+        """All states to which the plan leads, with their ways."""
+        waiting: List[State] = [frozenset({BEGIN})]
+        while waiting:
+            state = waiting.pop(0)
+            if state in self.ways:
+                continue
+            if len(self.ways) == MOST:
+                raise TooLarge(f"the plan has more than {MOST} states")
+            self.ways[state] = self.ways_of(state)
+            waiting += [to for _, _, to, _ in self.ways[state]]
+
+    def ways_of(self, state: State) -> List[Tuple[str, int, State, Span]]:
+        """For each action the sets of places to which it leads, with the environment states in which it does."""
+        places = sorted(set().union(*(self.plan.after.get(place, set()) for place in state)))
+        requests = [(place, self.plan.requests[place]) for place in places]
+        found = []
+        for action in dict.fromkeys(each for _, request in requests for each in request.actions):
+            able = [(place, request.guard) for place, request in requests if action in request.actions]
+            guards: Dict[State, int] = {}
+            for part in parts((1 << self.size) - 1, {guard for _, guard in able}):
+                to = frozenset(place for place, guard in able if guard & part)
+                if to:
+                    guards[to] = guards.get(to, 0) | part
+            for to, guard in guards.items():
+                found.append((action, guard, to, self.plan.requests[min(to)].span))
+        return found
+
+    def name(self, state: State) -> Optional[str]:
+        """The name that the plan gives a state."""
+        if state == frozenset({BEGIN}):
+            return self.start
+        names = [self.plan.requests[place].name for place in sorted(state) if place != BEGIN]
+        return next((name for name in names if name), None)
+
+    def is_final(self, state: State) -> bool:
+        if self.given_finals is None:
+            return bool(state & self.ends)
+        return self.name(state) in self.given_finals
+
+    def blocks(self) -> Dict[State, int]:
+        """The number of each state's block: states in one block can't be told apart."""
+        blocks = {state: int(self.is_final(state)) for state in self.ways}
+        count = 0
+        while count != len(set(blocks.values())):
+            count = len(set(blocks.values()))
+            numbers: Dict[object, int] = {}
+            finer = {}
+            for state, ways in self.ways.items():
+                seen = {
+                    (action, number, blocks[to])
+                    for action, guard, to, _ in ways
+                    for number in range(self.size)
+                    if guard >> number & 1
+                }
+                key = (blocks[state], frozenset(seen))
+                finer[state] = numbers.setdefault(key, len(numbers))
+            blocks = finer
+        return blocks
+
+    def clashes(self) -> List[Tuple[str, Span]]:
+        """The names that the plan gives to states that can be told apart."""
+        blocks = self.blocks()
+        owners: Dict[str, int] = {}
+        found = []
+        for state in self.ways:
+            name = self.name(state)
+            if name is not None and owners.setdefault(name, blocks[state]) != blocks[state]:
+                found.append((name, self.plan.requests[max(state)].span))
+        return found
+
+    def made(self) -> Made:
+        blocks = self.blocks()
+        names: Dict[int, List[str]] = {}
+        for state in self.ways:
+            name = self.name(state)
+            if name is not None and name not in names.setdefault(blocks[state], []):
+                names[blocks[state]].append(name)
+        titles: Dict[State, str] = {}
+        taken = {name for each in names.values() for name in each}
+        fresh: Dict[int, str] = {}
+        for state in self.ways:
+            name, block = self.name(state), blocks[state]
+            if name is None and names.get(block):
+                name = names[block][0]
+            if name is None:
+                name = fresh.get(block) or free_name(self.action_of(state), taken)
+                fresh[block] = name
+                taken.add(name)
+            titles[state] = name
+        made = Made({}, [], [])
+        for state, title in titles.items():
+            if title in made.states:
+                continue
+            made.states[title] = self.plan.requests[min(state)].span if min(state) >= 0 else None
+            if self.is_final(state):
+                made.finals.append(title)
+            made.ways += [Way(title, guard, action, titles[to], span) for action, guard, to, span in self.ways[state]]
+        return made
+
+    def action_of(self, state: State) -> str:
+        return self.plan.requests[min(place for place in state if place != BEGIN)].actions[0]
+
+
+def parts(everything: int, guards: Set[int]) -> List[int]:
+    """The largest sets of environment states that no guard tells apart, from the first state on."""
+    found = [everything]
+    for guard in guards:
+        found = [piece for each in found for piece in (each & guard, each & ~guard) if piece]
+    return sorted(found, key=lambda each: each & -each)
+
+
+def free_name(action: str, taken: Set[str]) -> str:
+    """`after-ACTION`, with a number where that is taken."""
+    base = f"after-{action}"[:29]
+    names = itertools.chain([base], (f"{base}-{number}" for number in itertools.count(2)))
+    return next(name for name in names if name not in taken)

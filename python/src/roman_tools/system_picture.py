@@ -1,0 +1,324 @@
+"""The picture of a document: its environment, behaviours and targets, with what roman-lint finds in them."""
+
+from __future__ import annotations
+
+from dataclasses import dataclass, field
+from typing import Any, Dict, Iterable, List, Optional, Sequence, Set, Tuple
+
+from .checks import Checker, Part
+from .findings import Finding
+from .pictures import CHOICE, FADED, GUARD, PLAIN, WRONG, coloured, folded, graph, html, marked
+from .reader import Constant, Items, Members, Number, Span, Text, Value
+
+LABELS = 4
+"""How many actions an arrow shows; of more it shows the first ones."""
+
+KEYS = {"environment": "e", "behaviour": "b", "target": "t"}
+"""What the names of a machine's nodes begin with, by the part."""
+
+Arrow = Tuple[str, str, str]
+"""The state that it leaves, the one that it leads to, and its marks: `guard`, `choice`, `wrong`."""
+
+
+@dataclass
+class Drawn:
+    """A step as it is drawn: its states, its guard in words, its action."""
+
+    state: str
+    to: str
+    action: str
+    guard: str
+    holds: Optional[Set[str]]
+    """The environment states in which it can be taken; None where that isn't known."""
+    spans: List[Span] = field(default_factory=list)
+
+
+def guard_text(value: Value) -> str:
+    """A guard in words; none where it is always true."""
+    if isinstance(value, Constant):
+        return "" if value.constant else "never"
+    if isinstance(value, Items):
+        return " or ".join(word_of(each) for each in value.items) or "never"
+    if not isinstance(value, Members) or len(value.last) != 1:
+        return "?"
+    ((word, member),) = value.last.items()
+    if word == "not":
+        return f"not {bracketed(member.value)}"
+    if not isinstance(member.value, Items):
+        return "?"
+    texts = [bracketed(each) for each in member.value.items]
+    return (" and " if word == "all" else " or ").join(texts) or ("" if word == "all" else "never")
+
+
+def bracketed(value: Value) -> str:
+    text = guard_text(value) or "always"
+    return f"({text})" if " " in text else text
+
+
+def word_of(value: Value) -> str:
+    """A name, or what stands in its place."""
+    if isinstance(value, Text):
+        return value.text
+    return value.literal if isinstance(value, Number) else value.word
+
+
+def held(value: Value, states: Set[str]) -> Optional[Set[str]]:
+    """The environment states that a guard means, or None where it is none."""
+    if isinstance(value, Constant):
+        return states if value.constant else set()
+    if isinstance(value, Items):
+        return {each.text for each in value.items if isinstance(each, Text)}
+    if not isinstance(value, Members) or len(value.last) != 1:
+        return None
+    ((word, member),) = value.last.items()
+    inner = member.value.items if isinstance(member.value, Items) and word != "not" else [member.value]
+    masks = [held(each, states) for each in inner]
+    known = [each for each in masks if each is not None]
+    if len(known) < len(masks):
+        return None
+    if word == "not":
+        return states - known[0]
+    return states.intersection(*known) if word == "all" else set().union(*known)
+
+
+class Picture:
+    """Draws the parts of a document as they stand, right or wrong."""
+
+    def __init__(self, checker: Checker, findings: Sequence[Finding]) -> None:
+        self.checker = checker
+        self.findings = findings
+        self.told: Set[Finding] = set()
+        environment = self.part("environment", 0)
+        self.states = {word_of(each) for each in listed(environment, "states")}
+        self.picture = graph("LR", compound="true")
+
+    def part(self, word: str, number: int) -> Optional[Part]:
+        return next((p for p in self.checker.parts if (p.word, p.number) == (word, number)), None)
+
+    def draw(self) -> Any:
+        """All machines, from the environment above to the target; many behaviours in columns."""
+        parts = [part for part in self.checker.parts if part.word in KEYS]
+        parts.sort(key=lambda part: (list(KEYS).index(part.word), part.number))
+        behaviours = [part for part in parts if part.word == "behaviour"]
+        columns = 1 if len(behaviours) < 5 else 2 if len(behaviours) < 11 else 3
+        rows = -(-len(behaviours) // columns)
+        # Graphviz stacks machines from below.
+        self.legend()
+        for part in reversed(parts):
+            self.machine(part)
+        for left, right in zip(behaviours, behaviours[rows:]):
+            self.beside(left, right)
+        self.remarks()
+        return self.picture
+
+    def beside(self, left: Part, right: Part) -> None:
+        """Puts a machine to the right of all states of another."""
+        for state in dict.fromkeys(word_of(each) for each in listed(left, "states")):
+            self.picture.edge(f"{key_of(left)} {state}", f"{key_of(right)}  start", style="invis")
+
+    def remarks(self) -> None:
+        """What is found elsewhere than in a machine."""
+        rest = [each for each in self.findings if each not in self.told]
+        if rest:
+            with self.picture.subgraph(name="cluster_y") as cluster:
+                cluster.attr(label="roman-lint", labeljust="l", color=WRONG, fontcolor=WRONG)
+                lines = [coloured(note(each), WRONG) for each in rest[:12]]
+                cluster.node("y", label=marked(lines), shape="plaintext")
+
+    # Machines.
+
+    def machine(self, part: Part) -> None:
+        """A machine as a cluster: its states, where it starts, where it may be left, its steps."""
+        key = key_of(part)
+        mine = [each for each in self.findings if within(each.span, part.value.span)]
+        self.told.update(mine)
+        wrong = {each.span: each for each in mine}
+        names = listed(part, "states")
+        states = [word_of(each) for each in names]
+        finals = {word_of(each) for each in listed(part, "final")}
+        steps = [step for step in map(self.step, listed(part, "steps")) if step is not None]
+        still: List[str] = []
+        if part.word == "environment":
+            steps, still = without_loops(steps, states)
+        with self.picture.subgraph(name=f"cluster_{key}") as cluster:
+            lines = [self.title(part)]
+            if still:
+                lines.append(coloured(f"never moved by {folded(still, 8)}", FADED, True))
+            lines += [coloured(note(each), WRONG, True) for each in mine[:6]]
+            cluster.attr(label=marked(lines), labeljust="l")
+            for name, state in zip(names, states):
+                options = {"label": state, "tooltip": state}
+                if state in finals:
+                    options["peripheries"] = "2"
+                if name.span in wrong:
+                    options.update(color=WRONG, fontcolor=WRONG, style="dashed", tooltip=wrong[name.span].message)
+                cluster.node(f"{key} {state}", **options)
+            used = dict.fromkeys([step.state for step in steps] + [step.to for step in steps])
+            for state in used:
+                if state not in states:
+                    cluster.node(f"{key} {state}", label=f"{state} ?", color=WRONG, fontcolor=WRONG, style="dashed")
+            start = part.value.get("start")
+            cluster.node(f"{key}  start", shape="point", width="0.12", label="")
+            if start is not None and word_of(start) in (*states, *used):
+                cluster.edge(f"{key}  start", f"{key} {word_of(start)}")
+            for (state, to, marks), labels in self.arrows(steps, wrong).items():
+                options = arrow_options(marks, labels)
+                cluster.edge(f"{key} {state}", f"{key} {to}", **options)
+
+    def title(self, part: Part) -> str:
+        if part.word == "environment":
+            return "environment"
+        name = part.value.get("name")
+        several = part.word == "behaviour" or self.checker.version == 3
+        text = part.word + (f" <B>{html(word_of(name))}</B>" if name is not None and several else "")
+        if part.word == "behaviour":
+            text += ": " + html(", ".join(self.services_of(name)) or "no service")
+        return text
+
+    def services_of(self, behaviour: Optional[Value]) -> List[str]:
+        """The services of a behaviour, each with what is not as usual."""
+        told = []
+        for part in self.checker.parts:
+            kind = part.value.get("behaviour") if part.word == "service" else None
+            if kind is None or behaviour is None or word_of(kind) != word_of(behaviour):
+                continue
+            state, name = part.value.get("state"), part.value.get("name")
+            notes = [f"in {word_of(state)}"] if state is not None else []
+            notes += ["frozen"] if is_constant(part.value.get("frozen"), True) else []
+            loose = self.checker.version != 1 and is_constant(part.value.get("rests"), False)
+            notes += ["loose"] if loose else []
+            told.append((word_of(name) if name else "?") + (f" ({', '.join(notes)})" if notes else ""))
+        return told
+
+    def step(self, value: Value) -> Optional[Drawn]:
+        """A step, where it has the form of one."""
+        if not isinstance(value, Items) or len(value.items) not in (3, 4):
+            return None
+        one, *guards, action, other = value.items
+        text = self.guard_words(guards[0]) if guards else ""
+        holds = held(guards[0], self.states) if guards else self.states
+        spans = [value.span, *(each.span for each in value.items)]
+        return Drawn(word_of(one), word_of(other), word_of(action), text, holds, spans)
+
+    def guard_words(self, guard: Value) -> str:
+        """A guard in words; in a short document those of its formula."""
+        written = guard.span.source.text[guard.span.start : guard.span.end]
+        if self.checker.short and written.startswith('"'):
+            return written[1:-1]
+        return guard_text(guard)
+
+    def arrows(self, steps: Sequence[Drawn], wrong: Dict[Span, Finding]) -> Dict[Arrow, List[str]]:
+        """The arrows with their labels: those with equal ends and marks as one, and on each state one loop,
+        since several would be drawn over one another."""
+        found: Dict[Arrow, Dict[str, None]] = {}
+        for step in steps:
+            marks = "guard" if step.guard else ""
+            marks += "choice" if has_choice(step, steps) else ""
+            marks += "wrong" if is_wrong(step, wrong) else ""
+            label = label_of(step.action, step.guard, marks)
+            found.setdefault((step.state, step.to, marks), {})[label] = None
+        merged: Dict[Arrow, Dict[str, None]] = {}
+        loops: Dict[str, List[str]] = {}
+        for (state, to, marks), labels in found.items():
+            if state == to:
+                loops.setdefault(state, []).append(marks)
+        for (state, to, marks), labels in found.items():
+            if state == to:
+                marks = "".join(m for m in ("guard", "choice", "wrong") if all(m in each for each in loops[state]))
+            merged.setdefault((state, to, marks), {}).update(labels)
+        return {arrow: list(labels) for arrow, labels in merged.items()}
+
+    def legend(self) -> None:
+        """What the marks mean."""
+        with self.picture.subgraph(name="cluster_z") as cluster:
+            cluster.attr(label="how to read it", labeljust="l", style="rounded,dotted", fontcolor=FADED)
+            cluster.node("z  start", shape="point", width="0.12", label="")
+            cluster.node("z a", label="start")
+            cluster.node("z b", label="final", peripheries="2")
+            cluster.node("z c", label=" ")
+            cluster.node("z d", label=" ")
+            cluster.edge("z  start", "z a")
+            for one, other, action, guard, marks in (
+                ("a", "b", "action", "", ""),
+                ("b", "c", "action", "in these states", "guard"),
+                ("c", "d", "action, one of its answers", "", "choice"),
+            ):
+                cluster.edge(f"z {one}", f"z {other}", **arrow_options(marks, [label_of(action, guard, marks)]))
+
+
+def key_of(part: Part) -> str:
+    """What the names of a machine's nodes begin with."""
+    return KEYS[part.word] + ("" if part.word == "environment" else str(part.number))
+
+
+def listed(part: Optional[Part], name: str) -> List[Value]:
+    """The items of a member that is a list."""
+    value = part.value.get(name) if part else None
+    return value.items if isinstance(value, Items) else []
+
+
+def is_constant(value: Optional[Value], constant: bool) -> bool:
+    return isinstance(value, Constant) and value.constant is constant
+
+
+def within(inner: Span, outer: Span) -> bool:
+    return inner.source is outer.source and outer.start <= inner.start and inner.end <= outer.end
+
+
+def note(finding: Finding) -> str:
+    """A finding in a picture: its line and its message."""
+    return f"{finding.level.value}, line {finding.span.place[0]}: {finding.message}"
+
+
+def without_loops(steps: Sequence[Drawn], states: Sequence[str]) -> Tuple[List[Drawn], List[str]]:
+    """The steps of the environment without those of actions that leave each of its states, and these actions."""
+    moves: Dict[str, Set[Tuple[str, str]]] = {}
+    for step in steps:
+        moves.setdefault(step.action, set()).add((step.state, step.to))
+    all_loops = {(state, state) for state in states}
+    still = [action for action, ways in moves.items() if ways == all_loops]
+    if len(states) < 2 or not still:
+        return list(steps), []
+    return [step for step in steps if step.action not in still], still
+
+
+def has_choice(one: Drawn, steps: Iterable[Drawn]) -> bool:
+    """Whether something else than that step may come of its action, where it can be taken."""
+    return any(
+        other.state == one.state
+        and other.action == one.action
+        and other.to != one.to
+        and (one.holds is None or other.holds is None or bool(one.holds & other.holds))
+        for other in steps
+    )
+
+
+def is_wrong(step: Drawn, wrong: Dict[Span, Finding]) -> bool:
+    """Whether something is found in a step that isn't drawn at one of its states."""
+    return any(within(span, step.spans[0]) for span in wrong)
+
+
+def label_of(action: str, guard: str, marks: str) -> str:
+    colour = WRONG if "wrong" in marks else CHOICE if "choice" in marks else PLAIN
+    text = coloured(action, colour)
+    if guard:
+        shown = guard if len(guard) <= 80 else guard[:76].rsplit(" ", 1)[0] + " .."
+        text += f' <FONT COLOR="{GUARD}"><I>[{html(shown)}]</I></FONT>'
+    return text
+
+
+def arrow_options(marks: str, labels: Sequence[str]) -> Dict[str, str]:
+    """How an arrow looks: a guard makes it dashed, a choice of the service orange, from a dot, and a finding
+    red."""
+    shown = list(labels)
+    if len(shown) > LABELS:
+        shown = shown[: LABELS - 1] + [coloured(f"and {len(labels) - LABELS + 1} more", FADED)]
+    options = {"label": marked(shown)}
+    if "guard" in marks:
+        options["style"] = "dashed"
+    if "choice" in marks:
+        options.update(color=CHOICE, dir="both", arrowtail="dot")
+    if "wrong" in marks:
+        options["color"] = WRONG
+    return options
+

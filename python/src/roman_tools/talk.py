@@ -1,0 +1,384 @@
+"""roman-talk SYSTEM: a session for people.
+
+At a terminal it has a history, completes the names that are allowed now, and says what a line may be (`help`). With
+a session that comes in, as `roman-talk SYSTEM < FILE`, it shows each line beside its reply. SYSTEM may be in the
+short form.
+"""
+
+from __future__ import annotations
+
+import argparse
+import atexit
+import contextlib
+import os
+import readline
+import subprocess
+import sys
+import tempfile
+from pathlib import Path
+from typing import Callable, Dict, Iterator, List, Optional, Sequence, Tuple
+
+from roman_client import (
+    Document,
+    NoComposition,
+    Offer,
+    ProgramEnded,
+    Refusal,
+    Report,
+    RomanError,
+    Session,
+)
+
+from . import explanations, finished, program
+from .checks import Checker
+from .documents import looked_up, plain_file, read
+from .findings import in_order, meant
+from .lint import UNREADABLE, WRONG
+from .pictures import Wrong
+from .systems import System
+
+EVENTS: Dict[str, Tuple[str, str]] = {
+    "do": ("ACTION", "request an action; the services that may serve it are offered"),
+    "use": ("SERVICE", "give the request to one of them"),
+    "saw": ("STATE ENVIRONMENT", "say what became of it: the service's state, and the environment's"),
+    "abort": ("", "drop the request"),
+    "freeze": ("SERVICE", "a service takes no requests any more"),
+    "thaw": ("SERVICE", "it does again"),
+    "die": ("SERVICE", "a service is gone"),
+    "join": ("SERVICE BEHAVIOUR STATE [loose]", "a new service joins"),
+    "jump": ("SERVICE STATE", "a service was moved by hand"),
+    "jumpenv": ("ENVIRONMENT", "the environment was moved by hand"),
+    "report": ("", "the present states, and what is offered"),
+    "explain": ("", "why there is no composition"),
+    "help": ("", "what a line may be, and which names are allowed now"),
+    "quit": ("", "end the session"),
+}
+"""What a line may be: its names, and what it does."""
+
+WIDTH = 30
+"""How wide the column of the lines is, beside their replies."""
+
+
+# A session that comes in.
+
+
+def beside(lines: Sequence[str], replies: Sequence[str]) -> Iterator[str]:
+    """Each line beside its reply. Comments and blank lines have none; those to `report` and `explain` go on up to
+    the line `end`."""
+    rest = iter(replies)
+    for line in lines:
+        words = line.split()
+        if not words or words[0].startswith("#"):
+            yield line
+            continue
+        first = next(rest, None)
+        if first is None:
+            return
+        yield f"{line:{WIDTH}} {first}"
+        goes_on = words[0] in ("report", "explain") and not first.startswith("error ")
+        while goes_on:
+            more = next(rest, "end")
+            yield f"{'':{WIDTH}} {more}"
+            goes_on = more != "end"
+    yield from rest
+
+
+@contextlib.contextmanager
+def document_of(checker: Checker) -> Iterator[str]:
+    """A file that the program reads: the document itself, or the plain one of a short one."""
+    if checker.system is None or not checker.short:
+        yield checker.name
+    else:
+        with plain_file(checker.system) as file:
+            yield file
+
+
+def echo(checker: Checker, roman: str, data: bytes) -> int:
+    """Runs a session that is whole, and shows it beside the replies."""
+    with document_of(checker) as file, tempfile.TemporaryFile() as session:
+        session.write(data)
+        session.seek(0)
+        done = subprocess.run([roman, "run", file], stdin=session, stdout=subprocess.PIPE, check=False)
+    lines = data.decode("utf-8", "replace").splitlines()
+    for line in beside(lines, done.stdout.decode("utf-8", "replace").splitlines()):
+        print(line)
+    return done.returncode
+
+
+# A session at a terminal.
+
+
+class Talk:
+    """A session with what may be said in it next."""
+
+    def __init__(self, document: Document, session: Session) -> None:
+        self.document = document
+        self.session = session
+        self.report: Report = session.opening
+        self.offer: Optional[Offer] = None
+        self.used: Optional[str] = None
+
+    # What may be said.
+
+    def states_of(self, behaviour: str) -> List[str]:
+        found = self.document.behaviours.get(behaviour)
+        return list(found.states) if found else []
+
+    def service_states(self, name: str) -> List[str]:
+        return next((self.states_of(s.behaviour) for s in self.report.services if s.name == name), [])
+
+    def allowed(self) -> List[str]:
+        """The actions that the target allows in the present states: those for which the program offers
+        something, or for which it would where there is no composition."""
+        if self.report.composition:
+            return list(self.report.offers)
+        return list(self.document.allowed(self.report.target, self.report.environment))
+
+    def events(self) -> List[str]:
+        """The words with which a line may begin now."""
+        if self.used is not None:
+            return ["saw", "abort", "report", "help", "quit"]
+        if self.offer is not None:
+            return ["use", "abort", "report", "help", "quit"]
+        refused = {"use", "saw", "abort", "explain" if self.report.composition else "do"}
+        if all(service.frozen for service in self.report.services):
+            refused.add("freeze")
+        if not any(service.frozen for service in self.report.services):
+            refused.add("thaw")
+        if not self.report.services:
+            refused |= {"die", "jump"}
+        return [word for word in EVENTS if word not in refused]
+
+    def names(self, words: Sequence[str]) -> List[str]:
+        """The names that may come behind these words."""
+        event, given = words[0], words[1:]
+        environments = list(self.document.environment.states)
+        services = [service.name for service in self.report.services]
+        if event == "join":
+            behaviours = list(self.document.behaviours)
+            joined: List[List[str]] = [[], behaviours, self.states_of(given[1]) if len(given) > 1 else [], ["loose"]]
+            return joined[len(given)] if len(given) < 4 else []
+        places: Dict[str, List[List[str]]] = {
+            "do": [self.allowed()],
+            "use": [list(self.offer.services) if self.offer else []],
+            "saw": [self.service_states(self.used or ""), environments],
+            "freeze": [[each.name for each in self.report.services if not each.frozen]],
+            "thaw": [[each.name for each in self.report.services if each.frozen]],
+            "die": [services],
+            "jump": [services, self.service_states(given[0]) if given else []],
+            "jumpenv": [environments],
+        }
+        lists = places.get(event, [])
+        return lists[len(given)] if len(given) < len(lists) else []
+
+    def complete(self, before: str, text: str) -> List[str]:
+        """The words that may stand where that one is begun."""
+        words = before.split()
+        known = self.names(words) if words else self.events()
+        return [f"{each} " for each in known if each.startswith(text)]
+
+    def help(self) -> str:
+        """What a line may be now."""
+        now = self.events()
+        lines = [f"  {word + ' ' + EVENTS[word][0]:36} {EVENTS[word][1]}" for word in now]
+        for word in now:
+            names = self.names([word])
+            if names and word in ("do", "use", "saw"):
+                lines.append(f"  now: {word} {' | '.join(names)}")
+        if not self.report.composition:
+            requests = " | ".join(self.allowed())
+            then = f"so do {requests} is refused until something changes" if requests else "and the target allows no request"
+            lines.append(f"  now: there is no composition (explain says why), {then}")
+        return "\n".join(lines)
+
+    # What is said.
+
+    def answer(self, line: str) -> str:
+        """Says a line to the session, and gives what is shown."""
+        event, *given = line.split()
+        if event == "help":
+            return self.help()
+        if event not in EVENTS:
+            return f'"{event}" is no event{meant(event, EVENTS)}\nknown are: {", ".join(self.events())}'
+        names, does = EVENTS[event]
+        least = len(names.replace("[loose]", "").split())
+        most = len(names.split())
+        if not least <= len(given) <= most or (len(given) == 4 and given[3] != "loose"):
+            return f"a line is: {event} {names}".rstrip() + f" - {does}"
+        try:
+            return self.said(event, given)
+        except NoComposition as refusal:
+            return refusal.reply
+        except Refusal as refusal:
+            return refusal.reply + self.unknown(event, given)
+        except ValueError as error:
+            return str(error)  # A key that writes no letter was pressed.
+
+    def unknown(self, event: str, given: Sequence[str]) -> str:
+        """Behind a refusal the word that isn't known, and those that are."""
+        for place, word in enumerate(given):
+            if event == "join" and place == 0:
+                continue
+            known = self.names([event, *given[:place]])
+            everything = list(self.document.actions) if event == "do" else known
+            if event in ("use", "freeze", "thaw"):
+                everything = [service.name for service in self.report.services]
+            if everything and word not in known:
+                is_known = word in everything
+                what = "can't be taken now" if is_known else f"isn't known{meant(word, everything)}"
+                return f'\n"{word}" {what}; now: {", ".join(known) or "none"}'
+        return ""
+
+    def said(self, event: str, given: Sequence[str]) -> str:
+        """The reply to an event."""
+        session = self.session
+        if event == "do":
+            self.offer = session.do(given[0])
+            return f"offer {' '.join(self.offer.services)}"
+        if event == "use":
+            session.use(given[0])
+            self.used = given[0]
+            return f"using {given[0]}"
+        if event == "explain":
+            return self.explained()
+        if event == "report":
+            return shown(session.report())
+        told = self.changed(event, given)
+        self.offer = self.used = None
+        self.report = session.report()
+        return told
+
+    def changed(self, event: str, given: Sequence[str]) -> str:
+        """The reply to an event after which something else may be said."""
+        session = self.session
+        if event == "saw":
+            move = session.saw(given[0], given[1])
+            return f"now {move.target} {move.environment}"
+        if event == "abort":
+            session.abort()
+            return "aborted"
+        if event == "jump":
+            session.jump(given[0], given[1])
+            return "jumped"
+        if event == "jumpenv":
+            session.jumpenv(given[0])
+            return "jumped"
+        changes: Dict[str, Callable[[str], object]] = {
+            "freeze": session.freeze,
+            "thaw": session.thaw,
+            "die": session.die,
+        }
+        if event == "join":
+            session.join(given[0], given[1], given[2], loose=len(given) == 4)
+        else:
+            changes[event](given[0])
+        report = session.report()
+        related = "there is a composition" if report.composition else "there is no composition; explain says why"
+        return f"{related} ({report.related} of {report.pairs} pairs are related)"
+
+    def explained(self) -> str:
+        """The explanation as a play; as the program writes it where that can't be told."""
+        explanation = self.session.explain()
+        try:
+            return explanations.Play(self.document, explanation).text(False).rstrip("\n")
+        except Wrong:
+            return f"{explanation}\nend"
+
+
+def shown(report: Report) -> str:
+    """A report for people."""
+    finality = "may be left" if report.final else "is under way"
+    lines = [f"target {report.target} ({finality}), environment {report.environment}"]
+    for each in report.services:
+        notes = [word for word, holds in (("frozen", each.frozen), ("loose", each.loose)) if holds]
+        lines.append(f"  {each.name}: {each.state}" + (f" ({', '.join(notes)})" if notes else ""))
+    if not report.composition:
+        lines.append("there is no composition; explain says why")
+    lines += [f"  do {action}: {' '.join(services)}" for action, services in report.offers.items()]
+    return "\n".join(lines)
+
+
+def prepare(talk: Talk) -> None:
+    """The history, and the completion of names."""
+    history = Path(os.environ.get("XDG_STATE_HOME") or Path.home() / ".local" / "state") / "roman" / "history"
+    with contextlib.suppress(OSError):
+        readline.read_history_file(history)
+
+    def keep() -> None:
+        with contextlib.suppress(OSError):
+            history.parent.mkdir(parents=True, exist_ok=True)
+            readline.write_history_file(history)
+
+    def complete(text: str, state: int) -> Optional[str]:
+        found = talk.complete(readline.get_line_buffer()[: readline.get_begidx()], text)
+        return found[state] if state < len(found) else None
+
+    atexit.register(keep)
+    readline.set_completer_delims(" \t")
+    readline.set_completer(complete)
+    readline.parse_and_bind("tab: complete")
+
+
+def talk_at_terminal(checker: Checker, system: System, roman: str) -> int:
+    """Asks for lines until the end."""
+    with document_of(checker) as file, Session(file, program=roman) as session:
+        talk = Talk(looked_up(system), session)
+        prepare(talk)
+        print(shown(session.opening))
+        print("help says what a line may be; the tab key completes names")
+        while True:
+            try:
+                line = input("> ").strip()
+            except EOFError:
+                print()
+                break
+            except KeyboardInterrupt:
+                print()
+                continue
+            if line.split()[:1] == ["quit"]:
+                break
+            if line and not line.startswith("#"):
+                print(talk.answer(line))
+        return session.quit()
+
+
+def unproved() -> Optional[str]:
+    """The script of the repository that runs the sources where the program isn't built."""
+    script = program.PACKAGES.parents[1] / "roman"
+    return str(script) if os.access(script, os.X_OK) and script.is_file() else None
+
+
+def main(arguments: Optional[Sequence[str]] = None) -> int:
+    words = argparse.ArgumentParser(prog="roman-talk", description=(__doc__ or "").split("\n\n", 1)[1])
+    words.add_argument("system", metavar="SYSTEM")
+    words.add_argument("--program", metavar="ROMAN", help="the program that answers")
+    asked = words.parse_args(arguments)
+    try:
+        checker = read(asked.system)
+        if checker.system is None:
+            for each in in_order(checker.findings):
+                print(*each.shown(), sep="\n", file=sys.stderr)
+            return WRONG
+        roman = program.find(asked.program) or unproved()
+        if roman is None:
+            print("roman-talk: the program isn't here; ./build makes it", file=sys.stderr)
+            return UNREADABLE
+        if sys.stdin.isatty():
+            return talk_at_terminal(checker, checker.system, roman)
+        return echo(checker, roman, sys.stdin.buffer.read())
+    except OSError as error:
+        if error.filename is None:
+            raise  # What it writes can't be written.
+        print(f"roman-talk: {error.filename}: {error.strerror}", file=sys.stderr)
+        return UNREADABLE
+    except ProgramEnded as ended:
+        print(f"roman-talk: {ended}", file=sys.stderr)
+        return ended.status
+    except RomanError as error:
+        print(f"roman-talk: {error}", file=sys.stderr)
+        return 1
+
+
+def command() -> int:
+    """The console script."""
+    return finished(main)

@@ -1,0 +1,136 @@
+"""Dispatchers and programs that are killed at random moments."""
+
+import os
+import random
+import signal
+import subprocess
+import sys
+import tempfile
+import threading
+import time
+import unittest
+from contextlib import suppress
+from pathlib import Path
+from typing import List, Tuple
+
+from roman_client import Dispatcher, Document, Session
+
+from . import PROGRAM, TOP, sample
+from .world import Remote, Server, World
+
+PYTHON = TOP / "python"
+
+
+def kill_children(parent: int) -> int:
+    """Kills the programs that a process runs, and says how many there were."""
+    try:
+        children = Path(f"/proc/{parent}/task/{parent}/children").read_text(encoding="ascii")
+    except OSError:
+        return 0
+    for child in children.split():
+        with suppress(ProcessLookupError):
+            os.kill(int(child), signal.SIGKILL)
+    return len(children.split())
+
+
+class Kills(unittest.TestCase):
+    """Whatever is killed, and when: each request is served once, in its turn, and none is lost."""
+
+    def setUp(self) -> None:
+        folder = tempfile.TemporaryDirectory()
+        self.addCleanup(folder.cleanup)
+        self.folder = Path(folder.name)
+        self.world = World(Document.load(sample("home.json")), seed=3, failing=0.02)
+        self.server = Server(str(self.folder / "socket"), self.world)
+        threading.Thread(target=self.server.serve_forever, daemon=True).start()
+        self.addCleanup(self.server.server_close)
+        self.addCleanup(self.server.shutdown)
+
+    def start(self, count: int) -> "subprocess.Popen[str]":
+        words = [sample("home.json"), PROGRAM, str(self.folder), str(count)]
+        return subprocess.Popen(
+            [sys.executable, "-m", "client.world", *words],
+            cwd=PYTHON / "tests",
+            env={**os.environ, "PYTHONPATH": str(PYTHON / "src")},
+            stderr=subprocess.PIPE,
+            text=True,
+        )
+
+    def served(self) -> int:
+        return len(self.world.played)
+
+    def check(self, count: int) -> None:
+        self.assertEqual(self.world.wrong, [])
+        cycle = ("brighten", "boil", "pour", "dim")
+        expected = [cycle[number % 4] for number in range(count)]
+        self.assertEqual(self.world.played, expected)
+        with Session(sample("home.json"), program=PROGRAM) as session:
+            remote = Remote(str(self.folder / "socket"))
+            devices = {name: remote for name in ("window", "ceiling", "kettle")}
+            with Dispatcher(session, devices, store=self.folder / "journal") as dispatcher:
+                self.assertEqual(dispatcher.served, count)
+                report = dispatcher.report()
+        states = {service.name: service.state for service in report.services}
+        self.assertEqual(states, self.world.states)
+        self.assertEqual(report.environment, self.world.environment)
+
+    def finish(self, running: "subprocess.Popen[str]") -> None:
+        errors = running.communicate(timeout=600)[1]
+        self.assertEqual((running.returncode, errors), (0, ""))
+
+    def kill_often(self, kills: int, chance: random.Random) -> Tuple[int, List[int]]:
+        """Kills the dispatcher so often, each time after some more requests and a moment. There are more to
+        serve whenever it has served them all. Gives how many there are, and how many it had served at each kill."""
+        count, reached = 150, []
+        for _ in range(kills):
+            running = self.start(count)
+            goal = self.served() + chance.choice((0, 0, 1, 2, 5, 9))
+            while self.served() < goal and running.poll() is None:
+                time.sleep(0.0005)
+            time.sleep(chance.random() * chance.choice((0.002, 0.02, 0.2)))
+            running.kill()
+            running.communicate()
+            reached.append(self.served())
+            if reached[-1] == count:
+                count += 150
+        return count, reached
+
+    def test_the_dispatcher(self) -> None:
+        count, reached = self.kill_often(20, random.Random(11))
+        self.assertGreater(len(set(reached)), 8)
+        self.finish(self.start(count))
+        self.check(count)
+
+    def test_the_program(self) -> None:
+        """More than ten kills, however few of them a busy machine lets into so many requests."""
+        chance = random.Random(12)
+        killed = count = 0
+        while killed <= 10:
+            count += 300
+            self.assertLess(count, 30_000, f"killed only {killed} times")
+            running = self.start(count)
+            while running.poll() is None:
+                killed += kill_children(running.pid)
+                goal = self.served() + chance.choice((0, 1, 4, 30))
+                while self.served() < goal and running.poll() is None:
+                    time.sleep(0.0005)
+                time.sleep(chance.random() * chance.choice((0.002, 0.02, 0.2)))
+            self.finish(running)
+        self.check(count)
+
+    def test_both(self) -> None:
+        chance = random.Random(13)
+        for _ in range(6):
+            running = self.start(100)
+            until = time.monotonic() + 0.5 + chance.random()
+            while time.monotonic() < until and running.poll() is None:
+                kill_children(running.pid)
+                time.sleep(chance.random() * 0.2)
+            running.kill()
+            running.communicate()
+        self.finish(self.start(100))
+        self.check(100)
+
+
+if __name__ == "__main__":
+    unittest.main()

@@ -1,0 +1,212 @@
+"""What the tests start: a mosquitto, and roman-live itself."""
+
+import http.client
+import json
+import os
+import random
+import signal
+import socket
+import subprocess
+import time
+import urllib.error
+import urllib.request
+from pathlib import Path
+from typing import IO, Any, Callable, Dict, List, Optional, Tuple, Type, Union
+
+from . import PROGRAM, ROMAN_LIVE
+
+PATIENCE = 120.0
+"""How many seconds are waited for what has to come: the machine may be very busy."""
+
+
+def free_port() -> int:
+    """A port of 127.0.0.1 that is free, and that the system gives to no connection by itself."""
+    given = Path("/proc/sys/net/ipv4/ip_local_port_range").read_text(encoding="ascii").split()
+    while True:
+        port = random.randrange(10_000, max(int(given[0]), 20_000))
+        with socket.socket() as listening:
+            try:
+                listening.bind(("127.0.0.1", port))
+                return port
+            except OSError:
+                continue
+
+
+def until(
+    holds: Callable[[], Any], what: str, passing: Tuple[Type[Exception], ...] = ()
+) -> Any:
+    """Waits until something is so, and gives it; an error that is `passing` says that it isn't so yet. Raises
+    AssertionError where it takes far too long."""
+    end = time.monotonic() + PATIENCE
+    while True:
+        try:
+            value = holds()
+            if value:
+                return value
+        except passing:
+            pass
+        if time.monotonic() > end:
+            raise AssertionError(f"{what} didn't come")
+        time.sleep(0.02)
+
+
+class Mosquitto:
+    """A broker of its own, on a free port. `more` is what else its file says."""
+
+    def __init__(self, folder: Path, more: str = "") -> None:
+        self.port = free_port()
+        self._file = folder / "mosquitto.conf"
+        self._file.write_text(
+            f"listener {self.port} 127.0.0.1\nallow_anonymous true\npersistence false\n{more}",
+            encoding="utf-8",
+        )
+        self.start()
+
+    def start(self) -> None:
+        """Starts it, and waits until it listens."""
+        self._process = subprocess.Popen(
+            ["/usr/sbin/mosquitto", "-c", str(self._file)],
+            stdout=subprocess.DEVNULL,
+            stderr=subprocess.DEVNULL,
+        )
+        until(self._listens, "the broker")
+
+    def _listens(self) -> bool:
+        with socket.socket() as to:
+            return to.connect_ex(("127.0.0.1", self.port)) == 0
+
+    def pause(self) -> None:
+        """Has it do nothing any more, and keep its connections, as one that has lost its network."""
+        self._process.send_signal(signal.SIGSTOP)
+
+    def stop(self) -> None:
+        """Ends it."""
+        self._process.kill()
+        self._process.wait()
+
+
+OPENER = urllib.request.build_opener(urllib.request.ProxyHandler({}))
+
+
+def call(
+    url: str, body: Any = None, headers: Optional[Dict[str, str]] = None, timeout: float = PATIENCE
+) -> Tuple[int, Any]:
+    """Gets what is at a URL, or posts JSON to it. Gives the status and the JSON, or the text."""
+    data = None if body is None else body if isinstance(body, bytes) else json.dumps(body).encode()
+    given = {"Content-Type": "application/json"} if data is not None else {}
+    request = urllib.request.Request(url, data, {**given, **(headers or {})})
+    try:
+        with OPENER.open(request, timeout=timeout) as response:
+            status, text = response.status, response.read()
+    except urllib.error.HTTPError as error:
+        status, text = error.code, error.read()
+    try:
+        return status, json.loads(text)
+    except ValueError:
+        return status, text.decode()
+
+
+class Live:
+    """roman-live on a home file in a folder, as a process."""
+
+    def __init__(self, folder: Path, home: str, *words: str) -> None:
+        self.folder = folder
+        self.port = free_port()
+        self.url = f"http://127.0.0.1:{self.port}"
+        self.file = folder / "home.toml"
+        self.words = words
+        self.file.write_text(
+            f'program = "{PROGRAM}"\n{home}\n[page]\nport = {self.port}\n', encoding="utf-8"
+        )
+        self.log = folder / "log"
+        self.process: "subprocess.Popen[bytes]"
+
+    def start(self, wait: bool = True, output: Union[int, IO[bytes]] = subprocess.DEVNULL) -> None:
+        """Starts it, and waits until its page is there."""
+        with self.log.open("ab") as log:
+            self.process = subprocess.Popen(
+                [str(ROMAN_LIVE), *self.words, str(self.file)],
+                stdout=output,
+                stderr=log,
+                env={**os.environ, "PYTHONUNBUFFERED": "1"},
+            )
+        if wait:
+            until(self.answers, f"{self.url}: {self.text()}")
+
+    def text(self) -> str:
+        """What it wrote."""
+        return self.log.read_text(encoding="utf-8", errors="replace")[-2000:]
+
+    def answers(self) -> bool:
+        """Whether its page is there."""
+        if self.process.poll() is not None:
+            raise AssertionError(f"it ended with {self.process.returncode}: {self.text()}")
+        try:
+            return self.get("/state")[0] == 200
+        except (OSError, http.client.HTTPException):
+            return False
+
+    def kill(self) -> None:
+        """Kills it."""
+        self.process.kill()
+        self.process.wait()
+
+    def stop(self) -> int:
+        """Ends it as systemd does, and gives its status."""
+        self.process.terminate()
+        return self.process.wait(PATIENCE)
+
+    def programs(self) -> List[int]:
+        """The processes of the program that it runs."""
+        path = f"/proc/{self.process.pid}/task/{self.process.pid}/children"
+        try:
+            children = Path(path).read_text(encoding="ascii").split()
+        except OSError:
+            return []
+        return [int(each) for each in children if _runs(int(each))]
+
+    def get(self, path: str) -> Tuple[int, Any]:
+        """Gets something."""
+        return call(self.url + path)
+
+    def post(self, path: str, body: Any) -> Tuple[int, Any]:
+        """Posts something."""
+        return call(self.url + path, body)
+
+    def state(self) -> Dict[str, Any]:
+        """Its state."""
+        status, value = self.get("/state")
+        assert status == 200, value
+        shown: Dict[str, Any] = value
+        return shown
+
+    def service(self, name: str) -> Dict[str, Any]:
+        """A service in its state."""
+        for each in self.state()["services"]:
+            if each["name"] == name:
+                found: Dict[str, Any] = each
+                return found
+        raise AssertionError(f"{name} isn't shown")
+
+    def kinds(self, kind: str) -> List[str]:
+        """The texts of the events of one kind."""
+        request = urllib.request.Request(f"{self.url}/events")
+        texts = []
+        with OPENER.open(request, timeout=PATIENCE) as response:
+            for line in response:
+                if line == b"event: state\n":
+                    break
+                if line.startswith(b"data: "):
+                    event = json.loads(line[6:])
+                    if event["kind"] == kind:
+                        texts.append(event["text"])
+        return texts
+
+
+def _runs(process: int) -> bool:
+    """Whether a process runs the program."""
+    try:
+        words = Path(f"/proc/{process}/cmdline").read_bytes().split(b"\0")
+    except OSError:
+        return False
+    return b"run" in words[:-1] and any(word.endswith(b"home.json") for word in words)

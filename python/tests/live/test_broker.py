@@ -1,0 +1,159 @@
+"""The connection to a broker: what is published before there is one, topics that it refuses, and over TLS."""
+
+import asyncio
+import json
+import subprocess
+import tempfile
+import unittest
+from pathlib import Path
+from typing import List, Tuple
+from unittest import mock
+
+import paho.mqtt.client as mqtt  # type: ignore[import]
+
+from roman_live.mqtt_api import REFUSED, Client, Connection
+from roman_live.config import Broker, Tls
+
+from .machinery import PATIENCE, Mosquitto
+
+
+class Later(unittest.IsolatedAsyncioTestCase):
+    async def test_an_answer_waits_for_a_connection(self) -> None:
+        folder = tempfile.TemporaryDirectory()
+        self.addCleanup(folder.cleanup)
+        broker = Mosquitto(Path(folder.name))
+        self.addCleanup(broker.stop)
+        loop = asyncio.get_running_loop()
+        heard: "asyncio.Queue[Tuple[str, object]]" = asyncio.Queue()
+        listening = asyncio.Event()
+        listener = mqtt.Client()
+        listener.on_connect = lambda *words: listener.subscribe("home/#", qos=1)
+        listener.on_subscribe = lambda *words: loop.call_soon_threadsafe(listening.set)
+        listener.on_message = lambda client, data, message: loop.call_soon_threadsafe(
+            heard.put_nowait, (message.topic, json.loads(message.payload))
+        )
+        listener.connect("127.0.0.1", broker.port)
+        listener.loop_start()
+        self.addCleanup(listener.loop_stop)
+        self.addCleanup(listener.disconnect)
+        await asyncio.wait_for(listening.wait(), PATIENCE)
+        connection = Connection(Broker(port=broker.port), lambda connected, text: None)
+        self.assertFalse(connection.publish_now("home/lamp/ask", {"id": 1}))
+        connection.publish("home/answers", {"id": "\ud800"})
+        await connection.open()
+        self.addAsyncCleanup(connection.close)
+        self.assertEqual(
+            await asyncio.wait_for(heard.get(), PATIENCE), ("home/answers", {"id": "\ud800"})
+        )
+        self.assertTrue(connection.publish_now("home/lamp/ask", {"id": 2}))
+        self.assertEqual(await asyncio.wait_for(heard.get(), PATIENCE), ("home/lamp/ask", {"id": 2}))
+
+
+class Versions(unittest.TestCase):
+    def test_paho_2_calls_back_as_paho_1_does(self) -> None:
+        """Debian 12 has paho 1. The clients of paho 2 are made with a word more, in front of the others."""
+        begin = mqtt.Client.__init__
+        words: List[object] = []
+
+        def begun(client: mqtt.Client, *given: object) -> None:
+            words.append(given)
+            begin(client)
+
+        versions = mock.Mock(VERSION1="as paho 1")
+        with mock.patch.object(mqtt.Client, "__init__", begun):
+            with mock.patch.object(mqtt, "CallbackAPIVersion", versions, create=True):
+                Client(lambda error: None)
+        self.assertEqual(words, [("as paho 1",)])
+
+
+class Refused(unittest.IsolatedAsyncioTestCase):
+    async def test_it_is_said_which_topic(self) -> None:
+        said: List[Tuple[bool, str]] = []
+        connection = Connection(Broker(), lambda connected, text: said.append((connected, text)))
+        connection._loop = asyncio.get_running_loop()
+        connection._asked = {1: "home/window/answer", 2: "home/lamp/answer"}
+        connection._agreed.clear()
+        connection._on_subscribe(None, None, 1, [REFUSED])
+        connection._on_subscribe(None, None, 2, [1])
+        await connection.agreed()
+        self.assertEqual(said, [(False, "the broker doesn't let this home listen to home/window/answer")])
+
+
+class Unknown(unittest.IsolatedAsyncioTestCase):
+    """A broker that wants to know who is there."""
+
+    async def test_it_is_said_once_that_it_refuses(self) -> None:
+        folder = tempfile.TemporaryDirectory()
+        self.addCleanup(folder.cleanup)
+        broker = Mosquitto(Path(folder.name), "allow_anonymous false\n")
+        self.addCleanup(broker.stop)
+        said: List[str] = []
+        connection = Connection(Broker(port=broker.port), lambda connected, text: said.append(text))
+        refused = connection._on_connect
+        times: List[int] = []
+
+        def counted(client: object, data: object, flags: object, code: int) -> None:
+            times.append(code)
+            refused(client, data, flags, code)
+
+        connection._client.on_connect = counted
+        await connection.open()
+        self.addAsyncCleanup(connection.close)
+        self.assertGreater(len(times), 1)
+        self.assertEqual(said, ["the broker refuses: Connection Refused: not authorised."])
+
+
+class Encrypted(unittest.IsolatedAsyncioTestCase):
+    """A broker that wants to see a certificate, and shows one."""
+
+    def setUp(self) -> None:
+        folder = tempfile.TemporaryDirectory()
+        self.addCleanup(folder.cleanup)
+        self.folder = Path(folder.name)
+        self.openssl("req -x509 -newkey rsa:2048 -nodes -keyout ca.key -out ca.pem -days 2 -subj /CN=home")
+        (self.folder / "names").write_text("subjectAltName = IP:127.0.0.1\n", encoding="ascii")
+        for name in ("broker", "live"):
+            self.openssl(f"req -newkey rsa:2048 -nodes -keyout {name}.key -out {name}.asked -subj /CN={name}")
+            self.openssl(
+                f"x509 -req -in {name}.asked -CA ca.pem -CAkey ca.key -CAcreateserial -days 2 -extfile names -out {name}.pem"
+            )
+        files = (("cafile", "ca.pem"), ("certfile", "broker.pem"), ("keyfile", "broker.key"))
+        more = "".join(f"{word} {self.folder / file}\n" for word, file in files)
+        self.broker = Mosquitto(self.folder, f"user root\n{more}require_certificate true\n")
+        self.addCleanup(self.broker.stop)
+        self.said: List[Tuple[bool, str]] = []
+
+    def openssl(self, words: str) -> None:
+        """Makes a key or a certificate."""
+        subprocess.run(["/usr/bin/openssl", *words.split()], cwd=self.folder, check=True, capture_output=True)
+
+    async def connection(self, tls: Tls) -> Connection:
+        broker = Broker(port=self.broker.port, tls=tls)
+        connection = Connection(broker, lambda connected, text: self.said.append((connected, text)))
+        await connection.open()
+        self.addAsyncCleanup(connection.close)
+        return connection
+
+    async def test_it_is_there(self) -> None:
+        tls = Tls(*(self.folder / name for name in ("ca.pem", "live.pem", "live.key")))
+        self.assertTrue((await self.connection(tls)).connected)
+        self.assertEqual(self.said, [(True, "the broker is there")])
+
+    async def test_a_broker_that_is_not_believed(self) -> None:
+        connection = await self.connection(Tls())
+        self.assertFalse(connection.connected)
+        ((connected, text),) = self.said
+        self.assertFalse(connected)
+        self.assertRegex(text, "^the broker at 127.0.0.1:[0-9]+ can't be reached: .*certificate verify failed")
+
+    async def test_a_home_that_shows_no_certificate(self) -> None:
+        connection = await self.connection(Tls(self.folder / "ca.pem"))
+        self.assertFalse(connection.connected)
+        ((_, text),) = self.said
+        self.assertRegex(text, "can't be reached: .*certificate required")
+        assert connection._client._thread is not None
+        self.assertTrue(connection._client._thread.is_alive(), "so that it tries again")
+
+
+if __name__ == "__main__":
+    unittest.main()

@@ -1,0 +1,157 @@
+"""The guide's chapter about running devices: its commands and messages, against a broker, and its device."""
+
+from __future__ import annotations
+
+import json
+import os
+import re
+import shlex
+import signal
+import subprocess
+import sys
+import threading
+import time
+import unittest
+from typing import Any, Dict, List
+
+import paho.mqtt.client as mqtt  # type: ignore[import]
+import paho.mqtt.publish as publish  # type: ignore[import]
+
+from . import DEMO, ROMAN_LIVE, TOP
+from .browser import Demonstrated, Running, wait_until
+from .machinery import PATIENCE, call, free_port, until
+
+GUIDE = (TOP / "docs" / "GUIDE.md").read_text(encoding="utf-8")
+CHAPTER = GUIDE[GUIDE.index("## Running your devices") : GUIDE.index("## Samples")]
+
+
+def block(language: str) -> str:
+    """The block of the chapter in that language, without what it is indented by."""
+    blocks = re.findall(r"^( *)```(\w*)\n(.*?)^ *```$", CHAPTER, re.M | re.S)
+    ((indent, text),) = [(indent, text) for indent, name, text in blocks if name == language]
+    return str(re.sub(f"^{indent}", "", text, flags=re.M))
+
+
+class Messages(unittest.TestCase):
+    def test_the_commands_request_and_make_it_dusk(self) -> None:
+        home = Demonstrated()
+        self.addCleanup(home.close)
+        home.begin(0)
+        answers = Answers(home.broker)
+        self.addCleanup(answers.close)
+        commands = [shlex.split(command) for command in block("sh").splitlines()]
+        self.assertEqual(len(commands), 2)
+        for words in commands:
+            self.assertEqual(words[:3], ["mosquitto_pub", "-p", "18830"])
+            topic, message = words[words.index("-t") + 1], words[words.index("-m") + 1]
+            self.publish(home, topic, message)
+            if topic == "demo/requests":
+                wait_until(lambda: answers.heard or self.publish(home, topic, message), "an answer")
+        answer = answers.heard[0]
+        self.assertEqual((answer["id"], answer["status"], answer["action"]), (1, 200, "brighten"))
+        wait_until(lambda: home.state()["environment"] == "dusk", "dusk")
+
+    def test_all_ends_where_the_terminal_is_closed(self) -> None:
+        home = Demonstrated()
+        self.addCleanup(home.close)
+        home.begin(0)
+        home.end(signal.SIGHUP)
+        with self.assertRaises(ConnectionRefusedError):
+            publish.single("demo/requests", "", hostname="127.0.0.1", port=home.broker)
+
+    def publish(self, home: Demonstrated, topic: str, message: str) -> bool:
+        """Publishes a message, and waits a little: nobody may listen yet. Gives False: it isn't answered."""
+        publish.single(topic, message, qos=1, hostname="127.0.0.1", port=home.broker)
+        time.sleep(1)
+        return False
+
+
+class Kettle(unittest.TestCase):
+    def test_it_tells_nothing_while_it_acts(self) -> None:
+        """Else a home that was killed and begins again would have it act twice."""
+        port = free_port()
+        url = f"http://127.0.0.1:{port}/kettle"
+        seconds = {"DEMO_SECONDS": "2", "DEMO_FAILURES": "0"}
+        words = [sys.executable, str(DEMO / "kettle.py"), str(port)]
+        with subprocess.Popen(words, env={**os.environ, **seconds}) as kettle:
+            self.addCleanup(kettle.kill)
+            until(lambda: call(url), "the kettle", (OSError,))
+            boils = threading.Thread(target=call, args=(url, {"id": 7, "action": "boil"}))
+            boils.start()
+            time.sleep(1)
+            _, told = call(f"{url}?id=7")
+            boils.join()
+            kettle.kill()
+        self.assertTrue(told["done"])
+        self.assertIn(told["state"], ("warm", "hot"))
+
+
+class OwnDevice(unittest.TestCase):
+    def porch(self, script: str, more: str = "") -> Porch:
+        """A home with a script as the lamp at the porch, which served."""
+        home = Porch(free_port(), script, more)
+        self.addCleanup(home.close)
+        home.begin()
+        answer = home.post("requests", {"action": "brighten"})
+        self.assertEqual((answer["served_by"], answer["state"]), ("porch", "on"))
+        return home
+
+    def test_the_porch_serves(self) -> None:
+        home = self.porch(block(""))
+        self.assertEqual((home.folder / "porch.state").read_text(), "on\n")
+
+    def test_the_kept_lamp_serves(self) -> None:
+        home = self.porch(block("py"), "lines = true\nnumbered = true\n")
+        for action in ("boil", "pour", "dim", "brighten"):
+            home.post("requests", {"action": action})
+        (porch,) = [each for each in home.state()["services"] if each["name"] == "porch"]
+        self.assertEqual((porch["status"], porch["state"], porch["last_error"]), ("ready", "on", None))
+
+
+class Porch(Running):
+    """A home with the chapter's device alone beside a kettle."""
+
+    def __init__(self, port: int, text: str, more: str) -> None:
+        super().__init__(port)
+        document = json.loads((DEMO / "home.json").read_text(encoding="utf-8"))
+        (service,) = re.findall(r"`(\{\"name\": \"porch\".*?\})`", CHAPTER)
+        document["services"] = [json.loads(service), {"name": "kettle", "behaviour": "kettle"}]
+        (self.folder / "home.json").write_text(json.dumps(document), encoding="utf-8")
+        script = self.folder / "porch"
+        script.write_text(text, encoding="utf-8")
+        script.chmod(0o755)
+        (self.folder / "pots.py").write_text(
+            "def kettle(action):\n    return 'hot' if action == 'boil' else 'empty'\n", encoding="utf-8"
+        )
+        (self.folder / "home.toml").write_text(
+            f'document = "home.json"\n[page]\nport = {port}\n{block("toml")}{more}'
+            '[devices.kettle]\nreach = "python"\ncall = "pots:kettle"\n',
+            encoding="utf-8",
+        )
+
+    def begin(self) -> None:
+        self.start(str(ROMAN_LIVE), "home.toml")
+
+
+class Answers:
+    """What is on the topic of answers."""
+
+    def __init__(self, port: int) -> None:
+        self.heard: List[Dict[str, Any]] = []
+        subscribed = threading.Event()
+        self._client = mqtt.Client()
+        self._client.on_message = lambda client, data, message: self.heard.append(json.loads(message.payload))
+        self._client.on_subscribe = lambda *words: subscribed.set()
+        self._client.connect("127.0.0.1", port)
+        self._client.loop_start()
+        self._client.subscribe("demo/answers", qos=1)
+        if not subscribed.wait(PATIENCE):
+            raise TimeoutError("the broker doesn't answer")
+
+    def close(self) -> None:
+        self._client.disconnect()
+        self._client.loop_stop()
+
+
+if __name__ == "__main__":
+    unittest.main()

@@ -1,0 +1,168 @@
+"""Home files, and what is wrong with them."""
+
+import tempfile
+import unittest
+from pathlib import Path
+
+from roman_live.config import (
+    CommandReach,
+    HomeFile,
+    HomeFileError,
+    HttpReach,
+    MqttReach,
+    PolicyName,
+    PythonReach,
+    Tls,
+)
+
+GOOD = """
+document = "home.json"
+program = "/opt/roman"
+program_seconds = 30
+[policy]
+choose = "least worst"
+costs = "home.costs"
+requests = 12
+[journal]
+path = "state/journal"
+[page]
+host = "0.0.0.0"
+port = 81
+token_file = "token"
+[mqtt]
+host = "broker"
+port = 1884
+username = "me"
+password_file = "token"
+prefix = "house"
+[devices.window]
+reach = "mqtt"
+ask = "w/ask"
+answer = "w/answer"
+seconds = 2.5
+repeat = true
+[devices.ceiling]
+reach = "http"
+url = "http://10.0.0.2/lamp"
+[devices.kettle]
+reach = "command"
+command = ["./kettle", "-q"]
+lines = true
+numbered = true
+[devices.fan]
+reach = "python"
+call = "things.fans:fan"
+"""
+
+DEVICE = 'document = "h"\n[devices.fan]\nreach = '
+
+WRONG = (
+    ("document = =", "at line 1, column 12"),
+    ('documents = "h"', 'document is missing, as in document = "home.json"'),
+    ("document = 5", "document is 5, and not a text"),
+    ('document = "h"\nprogram_seconds = 0', "program_seconds is 0, and not a number of seconds"),
+    ('document = "h"\nextra = 1', "extra isn't known; known are document, program, policy"),
+    ('document = "h"\n[policy]\nchoose = "best"', "policy.choose is 'best', and not one of 'first'"),
+    ('document = "h"\n[policy]\nchoose = "least cost"', "policy.costs is missing"),
+    ('document = "h"\n[policy]\nrequests = 65', "policy.requests is 65, and not a whole number from 1 to 64"),
+    ('document = "h"\n[policy]\ncosts = "c"', "policy.costs is there, and policy.choose is 'first', which takes none"),
+    ('document = "h"\n[policy]\nchoose = "round robin"\ncosts = "c"', "policy.costs is there, and policy.choose is 'rou"),
+    ('document = "h"\n[policy]\nrequests = 8', "policy.requests is there, and policy.choose is 'first', which doesn't"),
+    ('document = "h"\n[page]\nhost = "0.0.0.0"', "page.token_file is missing"),
+    ('document = "h"\n[page]\nport = true', "page.port is True, and not a whole number"),
+    ('document = "h"\n[page]\ntoken_file = "none"', "page.token_file is 'none', which can't be read"),
+    ('document = "h"\n[page]\ntoken_file = "empty"', "page.token_file is 'empty', whose first line"),
+    ('document = "h"\n[journal]', "journal.path is missing"),
+    ('document = "h"\njournal = "x"', "journal isn't a table"),
+    ('document = "h"\n[mqtt]\nprefix = "a/#"', "mqtt.prefix is 'a/#', and not a topic"),
+    ('document = "h"\n[mqtt]\ntls = true', "mqtt.tls isn't a table"),
+    ('document = "h"\n[mqtt.tls]\nca_file = "none"', "mqtt.tls.ca_file is 'none', which can't be used: [Errno 2]"),
+    ('document = "h"\n[mqtt.tls]\nca_file = "token"', "mqtt.tls.ca_file is 'token', which can't be used"),
+    ('document = "h"\n[mqtt.tls]\nkey_file = "token"', "mqtt.tls.certificate_file is missing"),
+    ('document = "h"\n[mqtt.tls]\ncertificate_file = "none"', "mqtt.tls.certificate_file is 'none', which can't"),
+    ('document = "h"\n[mqtt.tls]\nca = "x"', "mqtt.tls.ca isn't known; known are ca_file, certificate_file"),
+    ('document = "h"\n[devices]\nfan = 1', "devices.fan isn't a table"),
+    ('document = "h"\n[devices.fan]', 'devices.fan.reach is missing, as in reach = "mqtt" or "http"'),
+    (f'{DEVICE}"radio"', "devices.fan.reach is 'radio', and not one of 'mqtt', 'http'"),
+    (f'{DEVICE}"mqtt"\nask = "a"', "devices.fan.answer is missing"),
+    (f'{DEVICE}"mqtt"\nask = "a"\nanswer = "b"', "devices.fan.reach is 'mqtt', and there is no table [mqtt]"),
+    ('document = "h"\n[mqtt]\npassword_file = "token"', "mqtt.username is missing, whose password"),
+    (f'{DEVICE}"mqtt"\nask = "a"\nanswer = "a"\n[mqtt]', "devices.fan.answer is 'a', and so is devices.fan.ask"),
+    (
+        f'{DEVICE}"mqtt"\nask = "a"\nanswer = "b"\n[devices.lamp]\nreach = "mqtt"\nask = "c"\nanswer = "b"\n[mqtt]',
+        "devices.lamp.answer is 'b', and so is devices.fan.answer",
+    ),
+    (
+        f'{DEVICE}"mqtt"\nask = "roman/requests"\nanswer = "b"\n[mqtt]',
+        "devices.fan.ask is 'roman/requests', and so is one of mqtt.prefix",
+    ),
+    (f'{DEVICE}"http"\nurl = "ftp://x"', "devices.fan.url is 'ftp://x', and not a URL"),
+    (f'{DEVICE}"http"\nurl = "http://x:70000/"', "devices.fan.url is 'http://x:70000/', and not a URL"),
+    (f'{DEVICE}"http"\nurl = "http://[::1/"', "devices.fan.url is 'http://[::1/', and not a URL"),
+    (f'{DEVICE}"http"\nurl = "http://x"\nseconds = 0', "devices.fan.seconds is 0, and not a number"),
+    (f'{DEVICE}"command"\ncommand = "./x"', "devices.fan.command is './x', and not a list"),
+    (f'{DEVICE}"command"\ncommand = ["x"]\nlines = 1', "devices.fan.lines is 1, and not true or false"),
+    (f'{DEVICE}"command"\ncommand = ["x"]\nnumbered = true', "devices.fan.numbered is true, and lines isn't"),
+    (f'{DEVICE}"python"\ncall = "fan"', "devices.fan.call is 'fan', and not a module and a name"),
+    (f'{DEVICE}"http"\nurl = "http://x"\nlines = true', "devices.fan.lines isn't known; known are reach"),
+)
+
+
+class HomeFiles(unittest.TestCase):
+    def setUp(self) -> None:
+        folder = tempfile.TemporaryDirectory()
+        self.addCleanup(folder.cleanup)
+        self.folder = Path(folder.name)
+        (self.folder / "token").write_text("secret\nmore\n", encoding="utf-8")
+        (self.folder / "empty").write_text("\n", encoding="utf-8")
+
+    def read(self, text: str) -> HomeFile:
+        file = self.folder / "home.toml"
+        file.write_text(text, encoding="utf-8")
+        return HomeFile.read(file)
+
+    def test_what_it_says(self) -> None:
+        home = self.read(GOOD)
+        self.assertEqual(home.document, self.folder / "home.json")
+        self.assertEqual((home.program, home.program_seconds), ("/opt/roman", 30.0))
+        self.assertEqual(home.policy.choose, PolicyName.LEAST_WORST)
+        self.assertEqual(home.policy.costs, self.folder / "home.costs")
+        self.assertEqual(home.policy.requests, 12)
+        self.assertEqual(home.journal, self.folder / "state/journal")
+        self.assertEqual((home.page.host, home.page.port, home.page.token), ("0.0.0.0", 81, "secret"))
+        assert home.mqtt is not None
+        self.assertEqual((home.mqtt.host, home.mqtt.port, home.mqtt.prefix), ("broker", 1884, "house"))
+        self.assertEqual((home.mqtt.username, home.mqtt.password), ("me", "secret"))
+        self.assertEqual(
+            {name: entry.reach for name, entry in home.devices.items()},
+            {
+                "window": MqttReach("w/ask", "w/answer"),
+                "ceiling": HttpReach("http://10.0.0.2/lamp"),
+                "kettle": CommandReach(("./kettle", "-q"), True, self.folder, True),
+                "fan": PythonReach("things.fans", "fan", self.folder),
+            },
+        )
+        window, fan = home.devices["window"], home.devices["fan"]
+        self.assertEqual((window.seconds, window.repeat, window.reached), (2.5, True, "mqtt"))
+        self.assertEqual((fan.seconds, fan.repeat), (10.0, False))
+
+    def test_a_broker_over_tls(self) -> None:
+        home = self.read('document = "h"\n[mqtt]\nhost = "broker"\ntls = {}')
+        assert home.mqtt is not None
+        self.assertEqual((home.mqtt.port, home.mqtt.tls), (8883, Tls()))
+
+    def test_what_is_wrong_is_named(self) -> None:
+        for text, expected in WRONG:
+            with self.subTest(text):
+                with self.assertRaises(HomeFileError) as caught:
+                    self.read(text)
+                self.assertIn(expected, str(caught.exception))
+                self.assertIn("home.toml: ", str(caught.exception))
+
+    def test_no_file(self) -> None:
+        with self.assertRaisesRegex(HomeFileError, "none.toml: No such file"):
+            HomeFile.read(self.folder / "none.toml")
+
+
+if __name__ == "__main__":
+    unittest.main()

@@ -1,0 +1,105 @@
+"""roman-live as systemd runs it: it says when it is ready, that it is alive, that it ends, and what is how bad."""
+
+import configparser
+import logging
+import os
+import socket
+import tempfile
+import threading
+import unittest
+from pathlib import Path
+from typing import List
+from unittest import mock
+
+from roman_live.command_line import PATIENCE as PATIENCE_OF_THE_HOME
+from roman_live.command_line import USAGE
+from roman_live.systemd import Lines
+
+from . import TOP, sample
+from .machinery import PATIENCE, Live, until
+
+
+class Systemd:
+    """What listens on NOTIFY_SOCKET. It always does, since the socket holds a few messages only."""
+
+    def __init__(self, path: Path) -> None:
+        self.heard: List[bytes] = []
+        self._socket = socket.socket(socket.AF_UNIX, socket.SOCK_DGRAM)
+        self._socket.bind(str(path))
+        threading.Thread(target=self._listen, daemon=True).start()
+
+    def _listen(self) -> None:
+        while True:
+            self.heard.append(self._socket.recv(4096))
+
+
+class Service(unittest.TestCase):
+    def test_what_systemd_is_told(self) -> None:
+        folder = tempfile.TemporaryDirectory()
+        self.addCleanup(folder.cleanup)
+        live = Live(Path(folder.name), f'document = "{sample("home.json")}"', "--simulate")
+        systemd = Systemd(Path(folder.name) / "notify")
+        told = {"NOTIFY_SOCKET": f"{folder.name}/notify", "WATCHDOG_USEC": "400000"}
+        with mock.patch.dict(os.environ, told):
+            live.start(wait=False)
+        self.addCleanup(live.kill)
+        until(lambda: systemd.heard, "its first word")
+        self.assertEqual(live.get("/state")[0], 200)
+        until(lambda: b"WATCHDOG=1" in systemd.heard, "what says that it is alive")
+        for service in ("window", "ceiling"):
+            self.assertEqual(live.post(f"/services/{service}/freeze", {})[0], 200)
+        lines = [
+            f"STATUS=at {live.url}/: there is {text}".encode()
+            for text in ("a composition", "a composition; frozen: window", "no composition; frozen: window, ceiling")
+        ]
+        until(lambda: lines[-1] in systemd.heard, "how it is with the home")
+        self.assertEqual(live.stop(), 0)
+        until(lambda: systemd.heard[-1] == b"STOPPING=1", "its last word")
+        self.assertEqual(systemd.heard[0], f"READY=1\nSTATUS=at {live.url}/".encode())
+        self.assertLessEqual(set(systemd.heard[1:-1]), {b"WATCHDOG=1", *lines})
+
+
+    def test_a_greeting_that_cannot_be_written(self) -> None:
+        folder = tempfile.TemporaryDirectory()
+        self.addCleanup(folder.cleanup)
+        live = Live(Path(folder.name), f'document = "{sample("home.json")}"', "--simulate")
+        with open("/dev/full", "wb") as full:
+            live.start(output=full)
+        self.addCleanup(live.kill)
+        self.assertEqual(live.stop(), 0)
+
+
+class Unit(unittest.TestCase):
+    def test_how_it_ends_and_is_started_again(self) -> None:
+        """What a device does isn't cut short by a stop, and a wrong file isn't tried for ever."""
+        unit = configparser.ConfigParser(strict=False, interpolation=None)
+        unit.read(TOP / "samples" / "live" / "roman-live.service", encoding="utf-8")
+        service = unit["Service"]
+        self.assertEqual(service["KillMode"], "mixed")
+        self.assertEqual(service["RestartPreventExitStatus"], str(USAGE))
+        self.assertGreater(90, PATIENCE_OF_THE_HOME)  # That of systemd, before it kills.
+
+
+class Journal(unittest.TestCase):
+    """systemd's journal reads the priority of a line in front of it."""
+
+    def test_why_it_ends(self) -> None:
+        folder = tempfile.TemporaryDirectory()
+        self.addCleanup(folder.cleanup)
+        live = Live(Path(folder.name), 'document = "none.json"')
+        live.log.touch()
+        place = live.log.stat()
+        with mock.patch.dict(os.environ, JOURNAL_STREAM=f"{place.st_dev}:{place.st_ino}"):
+            live.start(wait=False)
+        self.assertEqual(live.process.wait(PATIENCE), 2)
+        self.assertRegex(live.text(), "^<3>roman-live: .*No such file")
+
+    def test_each_line_of_a_message(self) -> None:
+        lines = Lines("%(name)s: %(message)s")
+        for level, mark in ((logging.INFO, "<6>"), (logging.WARNING, "<4>"), (logging.ERROR, "<3>")):
+            record = logging.LogRecord("live", level, "", 0, "it fails\nand fails", (), None)
+            self.assertEqual(lines.format(record), f"{mark}live: it fails\n{mark}and fails")
+
+
+if __name__ == "__main__":
+    unittest.main()

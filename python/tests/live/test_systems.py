@@ -1,0 +1,163 @@
+"""Home Assistant and Node-RED as the guide's chapter writes them, played here, as the ceiling lamp of a home."""
+
+from __future__ import annotations
+
+import json
+import unittest
+from typing import Any, Callable, Dict, List
+
+import jinja2
+import paho.mqtt.client as mqtt  # type: ignore[import]
+import yaml  # type: ignore[import]
+
+from roman_live.config import HomeFile
+
+from . import DEMO, ROMAN_LIVE
+from .browser import Running, browser
+from .machinery import PATIENCE, Mosquitto, free_port, until
+from .test_chapter import block
+
+REACH: Any = HomeFile.read(DEMO / "home.toml").devices["ceiling"].reach
+"""How the home to try reaches its ceiling lamp."""
+
+NODE = """
+window.kept ??= {};
+const flow = {get: name => window.kept[name], set: (name, value) => { window.kept[name] = value; }};
+const msg = {payload: JSON.parse(arguments[0])};
+return JSON.stringify(new Function("msg", "flow", arguments[1])(msg, flow).payload);
+"""
+"""What Node-RED makes of a message, with a function between two nodes of MQTT that read and write objects."""
+
+
+class Automation:
+    """An automation of Home Assistant, with the lights that it switches."""
+
+    def __init__(self, text: str) -> None:
+        (self.written,) = yaml.safe_load(text)
+        self.topic: str = self.written["trigger"]["topic"]
+        self.lights = {"light.ceiling": "off"}
+        self.published: Dict[str, str] = {}
+
+    def run(self, message: str) -> Dict[str, str]:
+        """What it publishes when a message comes on its topic."""
+        self.published = {}
+        self.steps(self.written["action"], {"payload_json": json.loads(message)})
+        return self.published
+
+    def steps(self, steps: List[Any], trigger: Any) -> None:
+        for step in steps:
+            if "if" in step:
+                if self.render(step["if"], trigger) == "True":
+                    self.steps(step["then"], trigger)
+            elif "wait_template" in step:
+                assert self.render(step["wait_template"], trigger) == "True", step
+            else:
+                self.serve(self.render(step["service"], trigger), step, trigger)
+
+    def serve(self, service: str, step: Any, trigger: Any) -> None:
+        if service == "mqtt.publish":
+            self.published[step["data"]["topic"]] = self.render(step["data"]["payload"], trigger)
+        else:
+            word = {"light.turn_on": "on", "light.turn_off": "off"}[service]
+            self.lights[step["target"]["entity_id"]] = word
+
+    def render(self, template: str, trigger: Any) -> str:
+        environment = jinja2.Environment(undefined=jinja2.StrictUndefined)
+        return environment.from_string(template).render(
+            trigger=trigger,
+            states=self.lights.__getitem__,
+            is_state=lambda entity, state: self.lights[entity] == state,
+        )
+
+
+class Ceiling:
+    """The ceiling lamp at a broker. What it answers to a message is what `answer` makes of it."""
+
+    def __init__(self, port: int, answer: Callable[[str], str]) -> None:
+        self.heard: List[Any] = []
+        self._answer = answer
+        subscribed: List[bool] = []
+        self._client = mqtt.Client()
+        self._client.on_message = self._asked
+        self._client.on_subscribe = lambda *words: subscribed.append(True)
+        self._client.connect("127.0.0.1", port)
+        self._client.loop_start()
+        self._client.subscribe(REACH.ask, qos=1)
+        until(lambda: subscribed, "the broker's word")
+
+    def _asked(self, client: Any, data: Any, message: Any) -> None:
+        text = message.payload.decode()
+        self.heard.append(json.loads(text)["action"])
+        client.publish(REACH.answer, self._answer(text))
+
+    def close(self) -> None:
+        self._client.disconnect()
+        self._client.loop_stop()
+
+
+class Lit(Running):
+    """A home with the ceiling lamp at a broker, and a kettle."""
+
+    def __init__(self) -> None:
+        self._port = free_port()
+        super().__init__(self._port)
+        self.broker = Mosquitto(self.folder)
+
+    def begin(self) -> None:
+        document = json.loads((DEMO / "home.json").read_text(encoding="utf-8"))
+        kept = ("ceiling", "kettle")
+        document["services"] = [each for each in document["services"] if each["name"] in kept]
+        (self.folder / "home.json").write_text(json.dumps(document), encoding="utf-8")
+        (self.folder / "pots.py").write_text(
+            "def kettle(action):\n    return 'hot' if action == 'boil' else 'empty'\n", encoding="utf-8"
+        )
+        (self.folder / "home.toml").write_text(
+            f'document = "home.json"\n[page]\nport = {self._port}\n[mqtt]\nport = {self.broker.port}\n'
+            f'[devices.ceiling]\nreach = "mqtt"\nask = "{REACH.ask}"\nanswer = "{REACH.answer}"\n'
+            f'seconds = {PATIENCE}\n[devices.kettle]\nreach = "python"\ncall = "pots:kettle"\n',
+            encoding="utf-8",
+        )
+        self.start(str(ROMAN_LIVE), "home.toml")
+
+    def close(self) -> None:
+        super().close()
+        self.broker.stop()
+
+
+class Systems(unittest.TestCase):
+    def serves(self, answer: Callable[[str], str]) -> None:
+        """What answers so is asked where the lamp is, and serves twice."""
+        home = Lit()
+        self.addCleanup(home.close)
+        ceiling = Ceiling(home.broker.port, answer)
+        self.addCleanup(ceiling.close)
+        home.begin()
+        done = [home.post("requests", {"action": each}) for each in ("brighten", "boil", "pour", "dim")]
+        self.assertEqual(
+            [(each["served_by"], each["state"]) for each in done],
+            [("ceiling", "on"), ("kettle", "hot"), ("kettle", "empty"), ("ceiling", "off")],
+        )
+        self.assertEqual(ceiling.heard, [None, "brighten", "dim"])
+        shown = {each["name"]: each for each in home.state()["services"]}["ceiling"]
+        self.assertEqual((shown["status"], shown["last_error"]), ("ready", None))
+
+    def test_home_assistant(self) -> None:
+        automation = Automation(block("yaml"))
+        self.assertEqual(automation.topic, REACH.ask)
+
+        def answer(message: str) -> str:
+            ((topic, text),) = automation.run(message).items()
+            self.assertEqual(topic, REACH.answer)
+            return text
+
+        self.serves(answer)
+        self.assertEqual(automation.lights, {"light.ceiling": "off"})
+
+    def test_node_red(self) -> None:
+        driver = browser()
+        self.addCleanup(driver.quit)
+        self.serves(lambda message: str(driver.execute_script(NODE, message, block("js"))))
+
+
+if __name__ == "__main__":
+    unittest.main()

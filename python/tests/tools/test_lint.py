@@ -1,0 +1,549 @@
+"""roman-lint: each refusal at its place, the warnings, and random faults beside the program's word."""
+
+import json
+import os
+import random
+import re
+import subprocess
+import sys
+import tempfile
+import unittest
+from pathlib import Path
+from typing import Iterator, List, Set, Tuple
+
+from . import PROGRAM, TOP
+from .broken import Broken, seeds
+
+from roman_tools.documents import read
+from roman_tools.findings import Finding, Level
+from roman_tools.lint import all_findings, lint
+
+Row = Tuple[str, str, str]
+"""A refusal without its document, a text of the sample, and what stands in its place: the faulty word between
+« and »."""
+
+TAP = '{"file": "tap.json"}'
+
+
+def sample(name: str) -> str:
+    return (TOP / "samples" / f"{name}.json").read_text(encoding="utf-8")
+
+
+def many(count: int, item: str) -> str:
+    """A list of so many items; `#` in them is their number."""
+    return "[" + ", ".join(item.replace("#", str(number)) for number in range(count)) + "]"
+
+
+def list_of_names(part: str, member: str, old: str, most: int) -> Iterator[Row]:
+    """The refusals of a list of names, `old` in the text of the sample."""
+    member_text = f'"{member}": {old}'
+    yield f"missing {part} {member} 0", member_text, '"note": 1'
+    yield f"form {part} {member} 0", member_text, f'"{member}": «5»'
+    yield f"count {part} {member} 0", member_text, f'"{member}": «[]»'
+    yield f"count {part} {member} 0", member_text, f'"{member}": «{many(most + 1, chr(34) + "n#" + chr(34))}»'
+    first = old[:-1]
+    yield f"form {part} {member} {old.count(',') + 1}", member_text, f'"{member}": {first}, «null»]'
+    yield f"badname {part} {member} {old.count(',') + 1}", member_text, f'"{member}": {first}, «"a b"»]'
+    again = re.findall('"[^"]*"', old)[0]
+    yield f"repeated {part} {member} {old.count(',') + 1}", member_text, f'"{member}": {first}, «{again}»]'
+
+
+def start_of(part: str, old: str) -> Iterator[Row]:
+    yield f"missing {part} start 0", f'"start": "{old}"', '"note": 1'
+    yield f"form {part} start 0", f'"start": "{old}"', '"start": «true»'
+    yield f"unknown {part} start 0", f'"start": "{old}"', '"start": «"nowhere"»'
+
+
+def name_of(part: str, old: str, other: str) -> Iterator[Row]:
+    """The refusals of a name, where an earlier part has another one."""
+    yield f"missing {part} name 0", f'"name": "{old}"', '"note": 1'
+    yield f"form {part} name 0", f'"name": "{old}"', '"name": «[]»'
+    yield f"badname {part} name 0", f'"name": "{old}"', '"name": «"ça"»'
+    yield f"repeated {part} name 0", f'"name": "{old}"', f'"name": «"{other}"»'
+
+
+def finals_of(part: str, old: str) -> Iterator[Row]:
+    yield f"missing {part} final 0", f'"final": {old}', '"note": 1'
+    yield f"form {part} final 0", f'"final": {old}', '"final": «{}»'
+    yield f"form {part} final 0", f'"final": {old}', '"final": [«1»]'
+    yield f"unknown {part} final 0", f'"final": {old}', '"final": [«"nowhere"»]'
+
+
+def guards_of(part: str, step: str) -> Iterator[Row]:
+    """The refusals of a guard, `true` in step 0."""
+    for kind, guard in (
+        ("form", "«5»"),
+        ("form", "«{}»"),
+        ("form", '«{"all": [], "any": []}»'),
+        ("form", '{«"some"»: []}'),
+        ("form", '{"all": «true»}'),
+        ("form", '["day", «1»]'),
+        ("form", '{"not": {"any": [true, «"day"»]}}'),
+        ("unknown", '["day", «"dya"»]'),
+        ("unknown", '{"all": [true, {"not": [«"night"»]}]}'),
+    ):
+        yield f"{kind} {part} steps 0", step, step.replace("true", guard)
+
+
+def steps_of(part: str, step: str) -> Iterator[Row]:
+    """The refusals of a list of steps, the first of which is given."""
+    words = re.findall('"([^"]*)"', step)
+    yield f"form {part} steps 0", step, "«5»"
+    yield f"form {part} steps 0", step, f"«{step[:-1]}, 1]»"
+    for word in words:
+        yield f"form {part} steps 0", step, step.replace(f'"{word}"', "«null»", 1)
+        yield f"unknown {part} steps 0", step, step.replace(f'"{word}"', f'«"{word}x"»', 1)
+
+
+def of_home() -> Iterator[Row]:
+    """The refusals of a document with one target."""
+    yield "missing system 0 roman 0", '"roman": 1', '"note": 1'
+    for number in ("1.0", "-0", '"1"', "18446744073709551616"):
+        yield "form system 0 roman 0", '"roman": 1', f'"roman": «{number}»'
+    yield "version system 0 roman 0", '"roman": 1', '"roman": «4»'
+    yield "form system 0 limit 0", '"roman": 1', '"roman": 1, "limit": «1e3»'
+    yield "count system 0 limit 0", '"roman": 1', '"roman": 1, "limit": «0»'
+    yield "missing environment 0 whole 0", '"environment"', '"env"'
+    yield from list_of_names("environment 0", "states", '["day", "dusk"]', 64)
+    yield from start_of("environment 0", "day")
+    actions = '["brighten", "boil", "pour", "dim"]'
+    yield from list_of_names("environment 0", "actions", actions, 32)
+    yield from steps_of("environment 0", '["day", "brighten", "day"]')
+    yield "missing system 0 behaviours 0", '"behaviours"', '"behaviors"'
+    yield from name_of("behaviour 1", "lamp", "blind")
+    yield from list_of_names("behaviour 0", "states", '["shut", "ajar", "open"]', 64)
+    yield from start_of("behaviour 0", "shut")
+    yield from finals_of("behaviour 0", '["shut", "ajar"]')
+    lamp = '["off", true, "brighten", "on"]'
+    yield from steps_of("behaviour 1", lamp)
+    yield from guards_of("behaviour 1", lamp)
+    yield "missing system 0 services 0", '"services"', '"service"'
+    yield from name_of("service 1", "ceiling", "window")
+    kettle = '{"name": "kettle", "behaviour": "kettle"}'
+    yield "form service 2 whole 0", kettle, '«"kettle"»'
+    yield "missing service 2 behaviour 0", kettle, '«{»"name": "kettle"}'
+    for kind, member in (
+        ("form", '"behaviour": «1»'),
+        ("unknown", '"behaviour": «"ketle"»'),
+        ("form", '"behaviour": "kettle", "state": «null»'),
+        ("unknown", '"behaviour": "kettle", "state": «"boiling"»'),
+        ("form", '"behaviour": "kettle", "frozen": «0»'),
+    ):
+        place = re.findall(r'"(\w+)": «', member)[0]
+        yield f"{kind} service 2 {place} 0", kettle, f'{{"name": "kettle", {member}}}'
+    yield "missing target 0 whole 0", '"target"', '"aim"'
+    quiet = '["quiet", true, "brighten", "bright"]'
+    yield from list_of_names("target 0", "states", '["quiet", "bright", "boiled", "served"]', 64)
+    yield from start_of("target 0", "quiet")
+    yield from finals_of("target 0", '["quiet"]')
+    yield from steps_of("target 0", quiet)
+    yield from guards_of("target 0", quiet)
+    again = '«["quiet", {"not": ["dusk"]}, "brighten", "served"]»'
+    yield "choice target 0 steps 1 0 day", quiet, f"{quiet}, {again}"
+
+
+def of_members(member: str, part: str, step: str) -> Iterator[Row]:
+    """The refusals of a list of steps that is none, of one that is missing, and of one too long."""
+    yield f"missing {part} steps 0", member, '"note": 1'
+    yield f"form {part} steps 0", member, '"steps": «"a"»'
+    yield f"count {part} steps 0", member, f'"steps": «{many(16385, step)}»'
+
+
+def of_lamp() -> Iterator[Row]:
+    """The refusals that are told in a document whose lists stand in one line each."""
+    loops = '"steps": [["e", "on", "e"], ["e", "off", "e"]]'
+    lamp = '"steps": [["off", true, "on", "on"], ["on", true, "off", "off"]]'
+    yield from of_members(loops, "environment 0", '["e", "on", "e"]')
+    yield from of_members(lamp, "behaviour 0", '["off", true, "on", "on"]')
+    yield from of_members(lamp + "}}", "target 0", '["off", true, "on", "on"]')
+    services = '"services": [{"name": "l1", "behaviour": "lamp"}]'
+    item = '{"name": "l#", "behaviour": "lamp"}'
+    yield "form system 0 services 0", services, '"services": «{}»'
+    yield "count system 0 services 0", services, f'"services": «{many(33, item)}»'
+    yield "form behaviour 0 whole 0", '"behaviours": [', '"behaviours": [«null», '
+    yield "form environment 0 whole 0", '"environment": {', '"environment": «[]», "note": {'
+    yield "form target 0 whole 0", '"target": {', '"target": «"lamp"», "note": {'
+    yield "form system 0 behaviours 0", '"behaviours": [', '"behaviours": «1», "note": ['
+    more = '{"name": "b#", "states": ["x"], "start": "x", "final": [], "steps": []}'
+    yield "count system 0 behaviours 0", '"behaviours": [', f'"behaviours": «{many(33, more)}», "note": ['
+    for part, place in (("environment 0", '"environment": {'), ("target 0", '"target": {')):
+        yield f"form {part} file 0", place, place + '"file": «1», '
+        yield f"badname {part} file 0", place, place + '"file": «""», '
+        yield f"badname {part} file 0", place, place + f'"file": «"{"é" * 128}"», '
+    place = '"behaviours": [{'
+    yield "form behaviour 0 file 0", place, place + '"file": «[]», '
+    yield "badname behaviour 0 file 0", place, place + f'"file": «"{"x" * 256}"», '
+    yield "form system 0 whole 0", "{", "«5»"
+    for text in ("«nul»", '{"a"«1»}', '{"a":1«,»}', '["a«\t»"]', '"«\\x»"', '«"a»', "[1]«2»", '{"a"«:»', "«'a'»"):
+        yield "notjson system 0 whole 0", "{", text
+    for text in ('«"\\ud800"»', "«1e999»", "[" * 127 + "«[»" + "]" * 128, "«//» a", "«\ufeff»5"):
+        yield "notjson system 0 whole 0", "{", text
+    yield "toolong system 0 whole 0", "{", "«{»" + " " * 1_048_576
+
+
+def of_two() -> Iterator[Row]:
+    """The refusals of several targets."""
+    yield "missing system 0 targets 0", '"targets"', '"target"'
+    yield "form system 0 targets 0", '"targets": [', '"targets": «{}», "note": ['
+    yield "count system 0 targets 0", '"targets": [', '"targets": «[{}]», "note": ['
+    yield from name_of("target 1", "b", "a")
+    yield "form service 1 rests 0", '"behaviour": "lamp"}]', '"behaviour": "lamp", "rests": «"no"»}]'
+    yield "badname system 0 targets 3", '"name": "b"', f'"name": "{"b" * 30}"'
+    for number, states in ((1, many(33, '"s#"')), (3, f'["s0", "{"x" * 31}"]')):
+        kind = "count" if number == 1 else "badname"
+        machine = f'"states": {states}, "start": "s0", "final": [], "steps": [["s0", true, "on", "s0"]]}}'
+        wrong = f'«[{{"name": "a", {machine}, {{"name": "b", {machine}]»'
+        yield f"{kind} system 0 targets {number}", '"targets": [', f'"targets": {wrong}, "note": ['
+    loops = '"states": ["x", "x-x"], "start": "x", "final": [], "steps": '
+    for line, steps in (("count system 0 targets 2", "[]"), ("repeated system 0 targets 4", '[["x", true, "on", "x"]]')):
+        wrong = "«[" + ", ".join(f'{{"name": "{name}", {loops}{steps}}}' for name in "ab") + "]»"
+        yield line, '"targets": [', f'"targets": {wrong}, "note": ['
+
+
+def of_part() -> Iterator[Row]:
+    """The refusals of a part in a file of its own, the lamp."""
+    yield "form behaviour 0 whole 0", "{", "«[]»"
+    yield "notjson behaviour 0 whole 0", "{", "«x»"
+    yield "toolong behaviour 0 whole 0", "{", "«{»" + " " * 1_048_576
+    yield "unknown behaviour 0 start 0", '"start": "off"', '"start": «"of"»'
+
+
+KINDS = {
+    "system": "toolong notjson form whole|missing form version roman|form count limit|missing form count behaviours|"
+    "missing form count services|missing form count badname repeated targets",
+    "environment": "missing form notjson toolong whole|form badname file|missing form count badname repeated states|"
+    "missing form unknown start|missing form count badname repeated actions|missing form count unknown steps",
+    "behaviour": "form notjson toolong whole|form badname file|missing form badname repeated name|"
+    "missing form count badname repeated states|missing form unknown start|missing form unknown final|"
+    "missing form count unknown steps",
+    "service": "form whole|missing form badname repeated name|missing form unknown behaviour|form unknown state|"
+    "form frozen|form rests",
+    "target": "missing form notjson toolong whole|form badname file|missing form badname repeated name|"
+    "missing form count badname repeated states|missing form unknown start|missing form unknown final|"
+    "missing form count unknown choice steps",
+}
+"""All refusals of the format: of each part the kinds, then the list."""
+
+
+def all_refusals() -> Set[Tuple[str, str, str]]:
+    """The kind, part and list of each refusal of the format."""
+    found = set()
+    for part, groups in KINDS.items():
+        for group in groups.split("|"):
+            *kinds, place = group.split()
+            found |= {(kind, part, place) for kind in kinds}
+    return found
+
+
+class Folder(unittest.TestCase):
+    """Tests that write documents into a folder, and work there."""
+
+    def setUp(self) -> None:
+        folder = tempfile.TemporaryDirectory()
+        self.addCleanup(folder.cleanup)
+        self.addCleanup(os.chdir, os.getcwd())
+        os.chdir(folder.name)
+
+    def write(self, name: str, text: str) -> None:
+        Path(name).write_bytes(text.encode("utf-8", "surrogateescape"))
+
+    def said(self) -> str:
+        """What the program says where it refuses."""
+        done = subprocess.run([PROGRAM, "synth", "s.json"], capture_output=True, text=True, timeout=60, check=False)
+        return done.stdout.rstrip("\n") if done.returncode == 3 else ""
+
+    def errors(self) -> List[Finding]:
+        return [each for each in lint("s.json") if each.level is Level.ERROR]
+
+    def warnings(self, text: str) -> List[str]:
+        """The warnings of a document that the program takes: the word that is marked, and the message."""
+        self.write("s.json", text)
+        self.assertEqual((self.said(), self.errors()), ("", []))
+        return [f"{marked(each)}: {each.message}" for each in lint("s.json")]
+
+
+def marked(finding: Finding) -> str:
+    return finding.span.source.text[finding.span.start : finding.span.end]
+
+
+class Refusals(Folder):
+    """Each refusal of the format is found first, at its place."""
+
+    seen: Set[Tuple[str, str, str]]
+
+    def row(self, text: str, row: Row, document: str = "s.json") -> None:
+        line, old, new = row
+        self.assertIn(old, text)
+        edited = new if old == "{" else text.replace(old, new, 1)
+        if old.endswith("}}") and new.startswith('"'):
+            edited = text.replace(old, new + "}}", 1)
+        parts = re.split("[«»]", edited)
+        self.write(document, "".join(parts))
+        refusal = f"refused {document} {line}"
+        self.assertEqual(self.said(), refusal)
+        finding = read("s.json").findings[0]
+        self.assertEqual(str(finding.refusal), refusal)
+        self.assertEqual(finding.span.source.name, document)
+        if len(parts) > 1:
+            before = parts[0]
+            place = (before.count("\n") + 1, len(before) - before.rfind("\n"))
+            self.assertEqual(finding.span.place, place)
+            self.assertEqual(marked(finding), parts[1])
+        kind, part, _, place_word, *_ = line.split()
+        self.seen.add((kind, part, place_word))
+
+    def test_each_refusal_at_its_place(self) -> None:
+        self.seen = set()
+        for name, rows in (("home", of_home()), ("lamp", of_lamp()), ("two", of_two())):
+            text = sample(name)
+            if name != "home":
+                text = json.dumps(json.loads(text))
+            for row in rows:
+                with self.subTest(document=name, refusal=row[0], edit=row[2][:80]):
+                    self.row(text, row)
+        lamp = json.loads(sample("lamp"))
+        for part, member in (("behaviour", "behaviours"), ("environment", "environment"), ("target", "target")):
+            value = lamp[member][0] if part == "behaviour" else lamp[member]
+            by_file = [json.loads(TAP)] if part == "behaviour" else json.loads(TAP)
+            self.write("s.json", json.dumps({**lamp, member: by_file}))
+            for line, old, new in of_part():
+                start = value["start"]
+                row = (line.replace("behaviour", part), old.replace("off", start), new)
+                with self.subTest(part=part, refusal=row[0]):
+                    self.row(json.dumps(value), row, "tap.json")
+        self.assertEqual(all_refusals() - self.seen, set())
+
+    def test_all_errors_and_not_the_first_alone(self) -> None:
+        text = sample("home").replace('"start": "day"', '"start": "dya"')
+        text = text.replace('["dusk", "dim", "day"]', '["dusk", "dimm", "night"]')
+        text = text.replace('{"name": "kettle", "behaviour": "kettle"}', '{"name": "kettle", "behaviour": "ketle"}')
+        self.write("s.json", text)
+        self.assertEqual([marked(each) for each in self.errors()], ['"dya"', '"dimm"', '"night"', '"ketle"'])
+        self.assertIn('did you mean "day"?', self.errors()[0].message)
+        self.assertNotIn("did you mean", self.errors()[2].message)
+        self.assertIn('did you mean "kettle"?', self.errors()[3].message)
+
+    def test_one_mistake_is_one_error(self) -> None:
+        """A list that is wrong as a whole isn't told again by each of its names."""
+        for old, new in (
+            ('"states": ["day", "dusk"]', '"states": 5'),
+            ('"states": ["day", "dusk"]', '"states": ["day", 5]'),
+            ('"actions": ["brighten", "boil", "pour", "dim"]', '"note": 1'),
+            ('"name": "blind"', '"name": 5'),
+        ):
+            with self.subTest(new):
+                self.write("s.json", sample("home").replace(old, new))
+                self.assertEqual(len(self.errors()), 1)
+
+    def test_tabs_ends_of_lines_and_letters(self) -> None:
+        text = '{\r\n\t"note": "é→𝄞",\t"roman": 4\r\n}'
+        self.write("s.json", text)
+        (version,) = [each for each in self.errors() if marked(each) == "4"]
+        shown = version.shown()
+        self.assertTrue(shown[0].startswith("s.json:2:26: error: "), shown[0])
+        self.assertEqual(shown[1], '  \t"note": "é→𝄞",\t"roman": 4')
+        self.assertEqual(shown[2], "  \t" + " " * 14 + "\t" + " " * 9 + "^")
+
+    def test_a_part_file_that_is_not_there(self) -> None:
+        self.write("s.json", sample("lamp").replace('"target": {', '"target": {"file": "gone.json",'))
+        self.assertEqual([marked(each) for each in self.errors()], ['"gone.json"'])
+        self.assertIn("No such file", self.errors()[0].message)
+
+
+class Warnings(Folder):
+    """What the program takes, and nobody means."""
+
+    def only(self, text: str, word: str, message: str) -> None:
+        """The document has that warning at that word, and no other."""
+        self.assertEqual(self.warnings(text), [f"{word}: {message}"])
+
+    def home(self, old: str, new: str) -> str:
+        self.assertIn(old, sample("home"))
+        return sample("home").replace(old, new, 1)
+
+    def test_samples_have_none(self) -> None:
+        os.chdir(TOP)
+        for file in sorted((TOP / "samples").glob("*.json")):
+            if "behaviour" not in file.name:
+                self.assertEqual(lint(str(file)), [], file.name)
+
+    def test_members_that_are_ignored(self) -> None:
+        kettle = '{"name": "kettle", "behaviour": "kettle"'
+        text = self.home('"roman": 1', '"roman": 2').replace(kettle, kettle + ', "rest": false')
+        message = '"rest" is no member of service "kettle", and is ignored; did you mean "rests"?'
+        self.only(text, '"rest"', message)
+        text = self.home(kettle, kettle + ', "frozne": true')
+        message = '"frozne" is no member of service "kettle", and is ignored; did you mean "frozen"?'
+        self.only(text, '"frozne"', message)
+        text = self.home(kettle, kettle + ', "rests": false')
+        message = 'version 1 ignores "rests", and this service rests; version 2 knows loose services'
+        self.only(text, '"rests"', message)
+        self.only(self.home('"roman": 1', '"roman": 1, "targets": 5'), '"targets"', 'version 1 ignores "targets"')
+        two = sample("two").replace('"roman": 3', '"roman": 3, "target": 5')
+        self.only(two, '"target"', 'version 3 ignores "target"')
+        self.assertEqual(self.warnings(self.home('"roman": 1', '"roman": 1, "note": 1')), [])
+
+    def test_members_given_twice(self) -> None:
+        text = self.home('"start": "day"', '"start": "dusk", "start": "day"')
+        self.only(text, '"start"', '"start" is given twice; that of line 6, column 22 counts')
+        text = self.home('["quiet", true,', '["quiet", {"not": [], "not": ["day"], "n\\u006ft": []},')
+        found = self.warnings(text)
+        self.assertEqual([each.split(":")[0] for each in found], ['"not"', '"not"'])
+
+    def test_actions_that_come_to_nothing(self) -> None:
+        text = self.home('"pour", "dim"]', '"pour", "dim", "sweep"]')
+        message = 'the environment has no step on "sweep", so nobody is ever asked for it'
+        self.only(text, '"sweep"', message)
+        loops = '["day", "brighten", "day"], ["day", "sweep", "day"]'
+        text = text.replace('["day", "brighten", "day"]', loops)
+        self.only(text, '"sweep"', 'the target never allows "sweep"')
+        text = text.replace('["quiet", true, "brighten", "bright"]', '["quiet", true, "brighten", "bright"], ["quiet", true, "sweep", "quiet"]')
+        self.only(text, '"sweep"', 'the target allows "sweep", and no service can ever take it')
+
+    def test_the_targets_action_without_a_step_of_the_environment(self) -> None:
+        text = self.home('["day", "dim", "day"],\n      ["dusk", "dim", "day"]', "").replace('"dusk"],\n      \n', '"dusk"]\n')
+        found = self.warnings(text)
+        self.assertIn('"dim": the environment has no step on "dim", so nobody is ever asked for it', found)
+        self.assertIn('"served": the target stops in "served", which isn\'t final: nothing is allowed there', found)
+
+    def test_states_that_nobody_comes_into(self) -> None:
+        text = self.home('"states": ["day", "dusk"]', '"states": ["day", "dusk", "night"]')
+        self.only(text, '"night"', 'the environment never comes into "night"')
+        text = self.home('"states": ["off", "on"]', '"states": ["off", "on", "broken"]')
+        self.only(text, '"broken"', 'behaviour "lamp" never comes into "broken"')
+        lamp = '"ceiling", "behaviour": "lamp"'
+        text = text.replace('["on", true, "dim", "off"]', '["on", true, "dim", "off"], ["broken", true, "dim", "off"]')
+        self.assertEqual(self.warnings(text.replace(lamp, lamp + ', "state": "broken"')), [])
+        text = self.home('"states": ["quiet",', '"states": ["asleep", "quiet",')
+        self.only(text, '"asleep"', 'the target never comes into "asleep"')
+
+    def test_guards_that_never_hold(self) -> None:
+        text = self.home('["off", true, "brighten", "on"]', '["off", true, "brighten", "on"], ["on", {"all": [["day"], ["dusk"]]}, "boil", "on"]')
+        self.only(text, '{"all": [["day"], ["dusk"]]}', "this guard never holds")
+        text = self.home('["dusk", "dim", "day"]', '["dusk", "boil", "day"]')
+        text = text.replace('["on", true, "dim", "off"]', '["on", true, "dim", "off"], ["on", ["dusk"], "dim", "on"]')
+        message = 'where this guard holds the environment has no step on "dim"'
+        self.only(text, '["dusk"]', message)
+
+    def test_services_that_never_serve(self) -> None:
+        stone = '{"name": "stone", "states": ["x"], "start": "x", "final": ["x"], "steps": []}, {'
+        text = self.home('"behaviours": [\n    {', '"behaviours": [\n    ' + stone)
+        text = text.replace('"services": [', '"services": [{"name": "rock", "behaviour": "stone"},')
+        self.only(text, '"rock"', 'service "rock" can never serve a request')
+
+    def test_finals_that_services_have_not(self) -> None:
+        text = self.home('"final": ["off"]', '"final": []')
+        message = 'the target may be left in "quiet", and service "ceiling" can never be in a final state'
+        self.only(text, '"ceiling"', message)
+        text = text.replace('"roman": 1', '"roman": 2')
+        lamp = '"ceiling", "behaviour": "lamp"'
+        self.assertEqual(self.warnings(text.replace(lamp, lamp + ', "rests": false')), [])
+
+    def test_a_target_that_stops(self) -> None:
+        text = self.home('["quiet", true, "brighten", "bright"]', '["quiet", true, "brighten", "bright"], ["bright", true, "pour", "stuck"]')
+        text = text.replace('"states": ["quiet",', '"states": ["stuck", "quiet",')
+        self.only(text, '"stuck"', 'the target stops in "stuck", which isn\'t final: nothing is allowed there')
+
+    def test_more_cells_than_the_limit(self) -> None:
+        text = self.home('"roman": 1', '"roman": 1, "limit": 575')
+        self.only(text, "575", "the system has 576 cells, and its limit is 575")
+        self.assertEqual(self.warnings(text.replace("575", "576")), [])
+
+
+class Command(Folder):
+    """The words, the statuses, and the forms in which it is shown."""
+
+    wrong = sample("home").replace('"start": "day"', '"start": "dya"')
+
+    def lint(self, *words: str) -> "subprocess.CompletedProcess[str]":
+        return subprocess.run(
+            [sys.executable, str(TOP / "tools" / "roman-lint"), *words],
+            env={**os.environ, "ROMAN": PROGRAM, "PYTHONIOENCODING": "utf-8"},
+            capture_output=True,
+            text=True,
+            timeout=60,
+            check=False,
+        )
+
+    def test_what_is_shown(self) -> None:
+        self.write("s.json", self.wrong)
+        done = self.lint("s.json")
+        self.assertEqual((done.returncode, done.stderr), (3, ""))
+        self.assertEqual(
+            done.stdout,
+            's.json:6:14: error: "dya" is no state of the environment; did you mean "day"?\n'
+            '      "start": "dya",\n'
+            "               ^~~~~\n"
+            "1 error, 0 warnings\n"
+            "roman says: refused s.json unknown environment 0 start 0\n",
+        )
+
+    def test_statuses(self) -> None:
+        self.write("s.json", self.wrong)
+        self.write("warned.json", sample("home").replace('"roman": 1', '"roman": 1, "limits": 1'))
+        self.write("good.json", sample("home"))
+        cases: List[Tuple[int, List[str]]] = [
+            (3, ["s.json"]),
+            (3, ["--strict", "s.json"]),
+            (0, ["warned.json"]),
+            (1, ["--strict", "warned.json"]),
+            (0, ["--strict", "good.json"]),
+            (5, ["gone.json"]),
+            (5, ["."]),
+            (2, []),
+        ]
+        for status, words in cases:
+            with self.subTest(words):
+                self.assertEqual(self.lint(*words).returncode, status)
+
+    def test_the_program_has_the_last_word(self) -> None:
+        self.write("good.json", sample("flaky"))
+        self.assertIn("\nroman says: answer none\n", self.lint("good.json").stdout)
+        self.assertIn("isn't here", self.lint("--no-program", "good.json").stdout)
+        self.assertIn("can't be called", self.lint("--program", "./gone", "good.json").stdout)
+
+    def test_json(self) -> None:
+        self.write("s.json", self.wrong)
+        value = json.loads(self.lint("--json", "s.json").stdout)
+        (found,) = value["findings"]
+        self.assertEqual((found["line"], found["column"], found["endLine"], found["endColumn"]), (6, 14, 6, 19))
+        self.assertEqual((found["file"], found["severity"]), ("s.json", "error"))
+        self.assertEqual(found["refusal"], value["roman"])
+
+    def test_bytes_that_are_no_text(self) -> None:
+        for data in (b"\xff", b'{"a": "\xff\x00"}', b'{"\\ud800": 1, "roman": 4}', b""):
+            Path("s.json").write_bytes(data)
+            with self.subTest(data):
+                done = self.lint("s.json")
+                self.assertEqual((done.returncode, done.stderr), (3, ""))
+                self.assertEqual(self.lint("--json", "s.json").returncode, 3)
+
+
+class Random(Folder):
+    """Documents with random faults: an error exactly where the program refuses, the first one the same."""
+
+    def test_an_error_where_the_program_refuses(self) -> None:
+        refused = 0
+        for seed, kind in seeds(fixed=200, fresh=100).items():
+            broken = Broken(random.Random(seed))
+            broken.write(Path("."))
+            done = subprocess.run([PROGRAM, "synth", "broken.json"], capture_output=True, text=True, timeout=60, check=False)
+            with self.subTest(seed=seed, kind=kind):
+                checker = read("broken.json")
+                found = all_findings(checker)
+                errors = [each for each in found if each.level is Level.ERROR]
+                if done.returncode == 5:
+                    self.assertNotEqual(errors, [])
+                    continue
+                said = done.stdout.rstrip("\n") if done.returncode == 3 else ""
+                self.assertEqual(str(checker.findings[0].refusal) if checker.findings else "", said)
+                self.assertEqual(bool(errors), done.returncode == 3)
+                for each in found:
+                    json.dumps(each.value()).encode()
+                    "\n".join(each.shown()).encode()
+                refused += done.returncode == 3
+        self.assertGreater(refused, 100)
+
+
+if __name__ == "__main__":
+    unittest.main()
