@@ -19,16 +19,7 @@ import sys
 from pathlib import Path
 from typing import Any, Dict, List, Optional, Tuple
 
-from roman_client import (
-    Choice,
-    DeviceFailed,
-    Dispatcher,
-    Document,
-    DocumentError,
-    NoComposition,
-    ProgramEnded,
-    Session,
-)
+from roman_client import Choice, DeviceFailed, Dispatcher, Document, DocumentError, NoComposition, ProgramEnded, Session
 
 TOP = Path(__file__).resolve().parents[2]
 
@@ -44,9 +35,7 @@ class World:
         self.document = document
         self.chance = chance
         self.failing = failing
-        self.behaviours = {
-            each.name: document.behaviours[each.behaviour] for each in document.services
-        }
+        self.behaviours = {each.name: document.behaviours[each.behaviour] for each in document.services}
         self.loose = {each.name for each in document.services if each.loose}
         self.states: Dict[str, str] = {each.name: each.state for each in document.services}
         self.environment = document.environment.start

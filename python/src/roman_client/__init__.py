@@ -7,18 +7,7 @@ calls for asyncio are in `roman_client.aio`.
 
 import logging
 
-from .devices import (
-    Act,
-    Back,
-    Call,
-    Device,
-    DeviceFailed,
-    DeviceTimeout,
-    NOT_DONE,
-    Outcome,
-    Verdict,
-    device,
-)
+from .devices import NOT_DONE, Act, Back, Call, Device, DeviceFailed, DeviceTimeout, Outcome, Verdict, device
 from .dispatcher import Dispatcher
 from .documents import Document, DocumentError, Environment, Machine
 from .errors import (

@@ -10,21 +10,7 @@ import contextlib
 import logging
 from collections import deque
 from dataclasses import dataclass
-from typing import (
-    Any,
-    Callable,
-    Deque,
-    Dict,
-    Generic,
-    List,
-    Mapping,
-    Optional,
-    Protocol,
-    Sequence,
-    Set,
-    Tuple,
-    TypeVar,
-)
+from typing import Any, Callable, Deque, Dict, Generic, List, Mapping, Optional, Protocol, Sequence, Set, Tuple, TypeVar
 
 from . import protocol
 from .devices import NOT_DONE, Call, Outcome, Told, Verdict
@@ -171,9 +157,7 @@ class Posted:
 class Dispatching(Generic[DeviceKind]):
     """What a dispatcher knows and does. Its generators are for one at a time."""
 
-    def __init__(
-        self, devices: Mapping[str, DeviceKind], asks_back: bool, journal: Optional[Journal]
-    ) -> None:
+    def __init__(self, devices: Mapping[str, DeviceKind], asks_back: bool, journal: Optional[Journal]) -> None:
         self.devices: Dict[str, DeviceKind] = dict(devices)
         self.behaviours: Dict[str, str] = {}
         self.failed: Set[str] = set()
@@ -426,9 +410,7 @@ class Dispatching(Generic[DeviceKind]):
     def _delegated(self, action: str) -> str:
         return action if self.document is None else self.document.delegated(action)
 
-    def record(
-        self, action: str, service: str, outcome: Outcome, key: Optional[str]
-    ) -> Steps[Done]:
+    def record(self, action: str, service: str, outcome: Outcome, key: Optional[str]) -> Steps[Done]:
         """Takes a request as served, without asking a device."""
         call = Call(service, self._delegated(action), action, self.calls + 1, key)
         self._failures = []
@@ -469,9 +451,7 @@ class Dispatching(Generic[DeviceKind]):
                 yield from self.event(protocol.jump(service, state))
         return (yield from self.event(protocol.thaw(service)))
 
-    def join(
-        self, service: str, behaviour: str, state: str, loose: bool, device: DeviceKind
-    ) -> Steps[Repair]:
+    def join(self, service: str, behaviour: str, state: str, loose: bool, device: DeviceKind) -> Steps[Repair]:
         """A new service joins."""
         try:
             repair = yield from self.event(protocol.join(service, behaviour, state, loose=loose))
@@ -638,9 +618,7 @@ class Dispatching(Generic[DeviceKind]):
         self.under_way, self._open = None, False
         self.served += 1
         failures, self._failures = tuple(self._failures), []
-        done = Done(
-            call.request, call.service, outcome[0], move.target, move.environment, failures
-        )
+        done = Done(call.request, call.service, outcome[0], move.target, move.environment, failures)
         self._keep(call, done)
         return done
 
@@ -722,11 +700,7 @@ class Dispatching(Generic[DeviceKind]):
         assert self.document is not None
         report = yield from self._surely(protocol.report())
         (before,) = (each for each in report.services if each.name == call.service)
-        outcomes = list(
-            self.document.outcomes(
-                before.behaviour, before.state, report.environment, call.request
-            )
-        )
+        outcomes = list(self.document.outcomes(before.behaviour, before.state, report.environment, call.request))
         if told[0] == before.state and not repeated:
             return None if any(state == told[0] for state, _ in outcomes) else NOT_DONE
         return told if told in outcomes else None

@@ -82,9 +82,7 @@ State = Callable[[Call], Told]
 class FunctionDevice(Device):
     """A device made of functions."""
 
-    def __init__(
-        self, act: Act, state: Optional[State], timeout: Optional[float], repeatable: bool
-    ) -> None:
+    def __init__(self, act: Act, state: Optional[State], timeout: Optional[float], repeatable: bool) -> None:
         self._act = act
         self._state = state
         self.timeout = timeout

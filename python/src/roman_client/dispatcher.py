@@ -8,10 +8,9 @@ import queue
 import threading
 from concurrent.futures import Future
 from types import TracebackType
-from typing import Any, Callable, Dict, FrozenSet, Mapping, Optional, Tuple, Type, Union
+from typing import Any, Callable, FrozenSet, Mapping, Optional, Tuple, Type, Union
 
 from . import protocol
-from .devices import Act, Back, Call, Device, DeviceTimeout, FunctionDevice
 from .core import (
     Append,
     AskBack,
@@ -27,6 +26,7 @@ from .core import (
     TakeSnapshot,
     Tell,
 )
+from .devices import Act, Back, Call, Device, DeviceTimeout, FunctionDevice
 from .documents import PathLike
 from .errors import InsideRequest, SessionOver
 from .journal import Journal
@@ -135,14 +135,10 @@ class Dispatcher:
         """
         return self._in_turn(lambda: self.core.request(action, key))
 
-    def record(
-        self, action: str, service: str, state: str, environment: str, key: Optional[str] = None
-    ) -> Done:
+    def record(self, action: str, service: str, state: str, environment: str, key: Optional[str] = None) -> Done:
         """Takes a request as served, with that outcome, and asks no device: so a request that was in doubt
         is settled where it was done."""
-        return self._in_turn(
-            lambda: self.core.record(action, service, (state, environment), key)
-        )
+        return self._in_turn(lambda: self.core.record(action, service, (state, environment), key))
 
     # Changes.
 
@@ -168,9 +164,7 @@ class Dispatcher:
         loose: bool = False,
     ) -> Repair:
         """A new service joins, with its device."""
-        return self._in_turn(
-            lambda: self.core.join(service, behaviour, state, loose, as_device(device))
-        )
+        return self._in_turn(lambda: self.core.join(service, behaviour, state, loose, as_device(device)))
 
     def jump(self, service: str, state: str) -> None:
         """A service is in that state now, whatever its transitions say."""
@@ -268,9 +262,7 @@ class Dispatcher:
 
     def _ask_back(self, effect: AskBack) -> Any:
         assert self._back is not None
-        return self._by(
-            self.core.devices[effect.service], functools.partial(self._back, effect.service)
-        )
+        return self._by(self.core.devices[effect.service], functools.partial(self._back, effect.service))
 
     def _choose(self, effect: Choose) -> str:
         return self._within(lambda: self.policy(effect.choice))

@@ -12,19 +12,7 @@ import math
 import os
 from dataclasses import dataclass
 from pathlib import Path
-from typing import (
-    Any,
-    Dict,
-    FrozenSet,
-    Iterator,
-    List,
-    Mapping,
-    NamedTuple,
-    Optional,
-    Sequence,
-    Tuple,
-    Union,
-)
+from typing import Any, Dict, FrozenSet, Iterator, List, Mapping, NamedTuple, Optional, Sequence, Tuple, Union
 
 from .errors import RomanError
 from .replies import Report, Service
@@ -243,16 +231,12 @@ class Document:
         states = self.target_states(state)
         return all(each in target.final for each, target in zip(states, self.targets))
 
-    def outcomes(
-        self, behaviour: str, state: str, environment: str, action: str
-    ) -> Iterator[Tuple[str, str]]:
+    def outcomes(self, behaviour: str, state: str, environment: str, action: str) -> Iterator[Tuple[str, str]]:
         """What may come of a request that is delegated to a service in that state, in that state of the
         environment: its states afterwards with those of the environment."""
         plain = self.delegated(action)
         machine = self.behaviours[behaviour]
-        return itertools.product(
-            machine.after(state, environment, plain), self.environment.after(environment, plain)
-        )
+        return itertools.product(machine.after(state, environment, plain), self.environment.after(environment, plain))
 
     def has_same_machines(self, other: Document) -> bool:
         """Whether both have the same environment, catalogue and targets, wherever they start."""
@@ -285,9 +269,7 @@ class Document:
         else:
             value["target"] = {**value["target"], "start": states[0]}
         kept = {each["name"]: each for each in self.value["services"]}
-        value["services"] = [
-            _entry(service, kept.get(service.name, {})) for service in report.services
-        ]
+        value["services"] = [_entry(service, kept.get(service.name, {})) for service in report.services]
         return Document(value)
 
     def text(self) -> str:
@@ -346,11 +328,7 @@ def nesting(value: Any) -> int:
         if not level:
             return depth
         depth += 1
-        level = [
-            inner
-            for each in level
-            for inner in (each.values() if isinstance(each, dict) else each)
-        ]
+        level = [inner for each in level for inner in (each.values() if isinstance(each, dict) else each)]
 
 
 def text(value: Any) -> str:
@@ -406,9 +384,7 @@ def _part(value: Any, folder: Path) -> Any:
 
 def _environment(value: Any) -> Environment:
     steps = tuple(EnvironmentStep(*_words(step, 3)) for step in listed(value["steps"]))
-    return Environment(
-        texts(value["states"]), text(value["start"]), texts(value["actions"]), steps
-    )
+    return Environment(texts(value["states"]), text(value["start"]), texts(value["actions"]), steps)
 
 
 def _machine(value: Any, name: str) -> Machine:
@@ -445,10 +421,7 @@ def _check_guard(guard: Any) -> None:
 
 def _unguarded(steps: Sequence[Step]) -> FrozenSet[Tuple[str, str, str, str]]:
     """Steps as a set, with each guard as its text."""
-    return frozenset(
-        (step.state, json.dumps(step.guard, sort_keys=True), step.action, step.to)
-        for step in steps
-    )
+    return frozenset((step.state, json.dumps(step.guard, sort_keys=True), step.action, step.to) for step in steps)
 
 
 SERVICE_MEMBERS = ("name", "behaviour", "state", "frozen", "rests")

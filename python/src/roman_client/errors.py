@@ -93,9 +93,7 @@ class NoComposition(Refusal):
     names of all that are `frozen`. For a session the explanation is None, and `Session.explain` gives it.
     """
 
-    def __init__(
-        self, line: str, reply: str, explanation: Optional[Explanation] = None
-    ) -> None:
+    def __init__(self, line: str, reply: str, explanation: Optional[Explanation] = None) -> None:
         super().__init__(line, reply)
         self.explanation = explanation
         self.failures: Tuple[Failure, ...] = ()

@@ -119,9 +119,7 @@ def _call_to_json(call: Call) -> Dict[str, Any]:
 
 
 def _call_of_json(value: Any) -> Call:
-    return Call(
-        value["service"], value["action"], value["request"], value["number"], value["key"]
-    )
+    return Call(value["service"], value["action"], value["request"], value["number"], value["key"])
 
 
 def _done_to_json(done: Done) -> Dict[str, Any]:
@@ -202,10 +200,7 @@ class Head:
             tuple(value["failed"]),
             value["served"],
             value["calls"],
-            {
-                key: _done_of_json(kept) if kind == "done" else _call_of_json(kept)
-                for key, kind, kept in value["keys"]
-            },
+            {key: _done_of_json(kept) if kind == "done" else _call_of_json(kept) for key, kind, kept in value["keys"]},
         )
 
 

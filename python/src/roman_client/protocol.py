@@ -13,19 +13,7 @@ import re
 import tempfile
 from dataclasses import dataclass
 from pathlib import Path
-from typing import (
-    Any,
-    Callable,
-    Generator,
-    Generic,
-    List,
-    Mapping,
-    Optional,
-    Sequence,
-    Tuple,
-    TypeVar,
-    Union,
-)
+from typing import Any, Callable, Generator, Generic, List, Mapping, Optional, Sequence, Tuple, TypeVar, Union
 
 from .documents import Document, DocumentError, PathLike
 from .errors import REFUSALS, UnexpectedReply
@@ -88,9 +76,7 @@ def _nothing(first: str, count: int) -> Callable[[Sequence[str]], None]:
 
 def do(action: str) -> Event[Offer]:
     """Requests an action."""
-    return Event(
-        ("do", action), lambda lines: Offer(action, tuple(_words("offer", None, lines)[1:]))
-    )
+    return Event(("do", action), lambda lines: Offer(action, tuple(_words("offer", None, lines)[1:])))
 
 
 def use(service: str) -> Event[None]:
@@ -231,9 +217,7 @@ def is_farewell(line: str) -> bool:
 class Conversation:
     """What a session knows and does, whatever the transport."""
 
-    def __init__(
-        self, system: PathLike, program: Program, folder: Optional[PathLike], longest: int
-    ) -> None:
+    def __init__(self, system: PathLike, program: Program, folder: Optional[PathLike], longest: int) -> None:
         self.words = (program,) if isinstance(program, str) else tuple(program)
         self.system = os.fspath(system)
         self.folder = folder

@@ -137,9 +137,7 @@ def report_of(lines: Sequence[str]) -> Report:
     for words in rest[4:-1]:
         if words[0] == "service" and composition is None:
             _, name, behaviour, state, readiness, *loose = words
-            services.append(
-                Service(name, behaviour, state, readiness == "frozen", loose == ["loose"])
-            )
+            services.append(Service(name, behaviour, state, readiness == "frozen", loose == ["loose"]))
         elif words[0] == "answer" and composition is None:
             composition = words[1] == "composition"
         elif words[0] == "offer" and composition:

@@ -10,18 +10,7 @@ from . import protocol
 from .documents import PathLike
 from .errors import NotBegun
 from .pipes import Pipes
-from .protocol import (
-    LONGEST,
-    Conversation,
-    Effect,
-    Event,
-    Exchange,
-    Program,
-    Start,
-    Steps,
-    Stop,
-    Value,
-)
+from .protocol import LONGEST, Conversation, Effect, Event, Exchange, Program, Start, Steps, Stop, Value
 from .replies import Explanation, Move, Offer, Repair, Report
 from .snapshots import Snapshot
 

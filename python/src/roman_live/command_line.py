@@ -14,10 +14,10 @@ from typing import Optional, Sequence
 from roman_client import RomanError
 
 from .asking import ask
-from .home import Home
 from .config import HomeFile, HomeFileError
-from .requests import Requests
+from .home import Home
 from .http_api import Server
+from .requests import Requests
 from .systemd import Supervisor, begin_log, complain, greet
 
 LOG = logging.getLogger("roman_live")
@@ -37,7 +37,8 @@ def parser() -> argparse.ArgumentParser:
     """The words of the command."""
     words = argparse.ArgumentParser(
         prog="roman-live",
-        usage="roman-live [--check] [--simulate] [--verbose] HOME.toml\n       roman-live ask [--key KEY] HOME.toml ACTION",
+        usage="roman-live [--check] [--simulate] [--verbose] HOME.toml\n"
+        "       roman-live ask [--key KEY] HOME.toml ACTION",
         description="Runs the home that HOME.toml describes, until it is ended; or asks a running one for an action.",
     )
     words.add_argument("--check", action="store_true", help="say what is wrong with the file, and ask no device")

@@ -5,12 +5,13 @@ from __future__ import annotations
 import ipaddress
 import os
 import ssl
-import tomllib
 from dataclasses import dataclass, field
 from enum import Enum
 from pathlib import Path
 from typing import Any, Callable, Dict, Iterable, Mapping, Optional, Sequence, Tuple, TypeVar, Union
 from urllib.parse import urlsplit
+
+import tomllib
 
 Value = TypeVar("Value")
 
@@ -378,9 +379,7 @@ def _page(table: Optional[Table], folder: Path) -> Page:
     token = _secret(table, "token_file", folder)
     table.end()
     if token is None and not is_loopback(host):
-        raise table.wrong(
-            "token_file", f"is missing, which the address {host} needs: a file with a secret word"
-        )
+        raise table.wrong("token_file", f"is missing, which the address {host} needs: a file with a secret word")
     return Page(host, port, token)
 
 

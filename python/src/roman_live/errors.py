@@ -6,6 +6,7 @@ import os
 import ssl
 
 from aiohttp import ClientConnectorCertificateError, ClientConnectorError
+
 from roman_client import RomanError
 
 TROUBLE = (RomanError, OSError)

@@ -44,21 +44,21 @@ from roman_client.journal import Journal
 from roman_client.policies import Choice
 from roman_client.protocol import Event
 
-from .processes import AtWork
-from .mqtt_api import Connection
+from .config import HomeFile, HomeFileError, Policy
 from .devices import Answer, Reach, Simulated
 from .devices.factory import make_reach
-from .events import EventLog, now
-from .config import HomeFile, HomeFileError, Policy
-from .persisted import ANEW, GONE, Kept, check_folder, check_journal
-from .registry import Knowledge
-from .metrics import Metrics
-from .policies import Choose, make_policy
-from .recovery import Returning
-from .short_form import is_short, plain_text
-from .view import Shown
-from .states import done_to_json, error_of
 from .errors import TROUBLE, Busy, Ending, Moved, NoDevice, NoProgram, Nowhere, UnknownAction
+from .events import EventLog, now
+from .metrics import Metrics
+from .mqtt_api import Connection
+from .persisted import ANEW, GONE, Kept, check_folder, check_journal
+from .policies import Choose, make_policy
+from .processes import AtWork
+from .recovery import Returning
+from .registry import Knowledge
+from .short_form import is_short, plain_text
+from .states import done_to_json, error_of
+from .view import Shown
 
 LOG = logging.getLogger("roman_live")
 
@@ -757,9 +757,7 @@ class Home:
         if verdict is Verdict.IN_DOUBT:
             self.known[call.service].last_error = "it isn't known whether it did what it was asked"
             self.known[call.service].frozen = True
-        self.events.add(
-            "recovered", text, service=call.service, action=call.request, verdict=verdict.value
-        )
+        self.events.add("recovered", text, service=call.service, action=call.request, verdict=verdict.value)
 
     async def _refresh(self) -> None:
         """Takes all states as the program has them."""

@@ -14,14 +14,15 @@ from typing import Any, Awaitable, Callable, Dict, Mapping, Optional, Tuple
 from urllib.parse import urlsplit
 
 from aiohttp import web
+
 from roman_client import InDoubt, NoComposition, NotAllowed, Refusal, StoreFailed
 
+from .config import Page, is_loopback
+from .errors import TROUBLE, Busy, NoDevice, NoPage, Nowhere, UnknownAction, in_words
 from .events import Message
 from .home import Home
-from .config import Page, is_loopback
 from .pictures import picture
 from .states import explanation_to_json, failures_to_json
-from .errors import TROUBLE, Busy, NoDevice, NoPage, Nowhere, UnknownAction, in_words
 
 LONGEST_BODY = 65_536
 """The most bytes of a body."""
@@ -168,9 +169,7 @@ class Server:
 
     async def _get_events(self, request: web.Request) -> web.StreamResponse:
         """The events that were missed, the state, and what comes."""
-        response = web.StreamResponse(
-            headers={"Content-Type": "text/event-stream", "Cache-Control": "no-store"}
-        )
+        response = web.StreamResponse(headers={"Content-Type": "text/event-stream", "Cache-Control": "no-store"})
         await response.prepare(request)
         last = request.headers.get("Last-Event-ID", "")
         listener = self.home.events.listen()
@@ -181,9 +180,7 @@ class Server:
             await response.write(_sent(Message("state", await self.home.shown.state())))
             while not self._closing.is_set():
                 waiting = asyncio.ensure_future(listener.get())
-                await asyncio.wait(
-                    {waiting, closing}, timeout=HEARTBEAT, return_when=asyncio.FIRST_COMPLETED
-                )
+                await asyncio.wait({waiting, closing}, timeout=HEARTBEAT, return_when=asyncio.FIRST_COMPLETED)
                 if not waiting.done():
                     waiting.cancel()
                     await response.write(b": still here\n\n")
@@ -269,9 +266,7 @@ async def answer(home: Home, action: str, key: Optional[str], wait: bool) -> web
     return _json(value, status)
 
 
-async def result(
-    home: Home, action: str, key: Optional[str], wait: bool
-) -> Tuple[HTTPStatus, Dict[str, Any]]:
+async def result(home: Home, action: str, key: Optional[str], wait: bool) -> Tuple[HTTPStatus, Dict[str, Any]]:
     """Has an action served, and gives the status and the JSON of what came of it."""
     try:
         return HTTPStatus.OK, await home.request(action, key, wait)

@@ -15,27 +15,13 @@ class Metrics:
     def __init__(self) -> None:
         registry = CollectorRegistry()
         self._registry = registry
-        self.requests = Counter(
-            "roman_requests", "Requests, by what came of them", ["result"], registry=registry
-        )
-        self.seconds = Histogram(
-            "roman_request_seconds", "How long requests took that were served", registry=registry
-        )
-        self.asked = Counter(
-            "roman_device_asked", "How often a device was asked", ["service"], registry=registry
-        )
-        self.failures = Counter(
-            "roman_device_failures", "How often a device failed", ["service"], registry=registry
-        )
-        self.restarts = Counter(
-            "roman_program_restarts", "How often the program was started again", registry=registry
-        )
-        self.served = Gauge(
-            "roman_served", "Requests served, over all runs with this journal", registry=registry
-        )
-        self.composes = Gauge(
-            "roman_composes", "1 where there is a composition", registry=registry
-        )
+        self.requests = Counter("roman_requests", "Requests, by what came of them", ["result"], registry=registry)
+        self.seconds = Histogram("roman_request_seconds", "How long requests took that were served", registry=registry)
+        self.asked = Counter("roman_device_asked", "How often a device was asked", ["service"], registry=registry)
+        self.failures = Counter("roman_device_failures", "How often a device failed", ["service"], registry=registry)
+        self.restarts = Counter("roman_program_restarts", "How often the program was started again", registry=registry)
+        self.served = Gauge("roman_served", "Requests served, over all runs with this journal", registry=registry)
+        self.composes = Gauge("roman_composes", "1 where there is a composition", registry=registry)
         self.status = Gauge(
             "roman_service", "1 for the status of each service", ["service", "status"], registry=registry
         )

@@ -6,9 +6,9 @@ import asyncio
 import json
 from typing import Any, Dict, Optional, Set
 
-from .mqtt_api import Connection
 from .home import Home
 from .http_api import result
+from .mqtt_api import Connection
 
 
 class Requests:
@@ -52,9 +52,7 @@ class Requests:
     def _publish(self, number: Any, status: int, answer: Dict[str, Any]) -> None:
         broker: Optional[Connection] = self._home.broker
         assert broker is not None
-        broker.publish(
-            broker.topic("answers"), {**answer, "id": number, "status": int(status)}
-        )
+        broker.publish(broker.topic("answers"), {**answer, "id": number, "status": int(status)})
 
     def _hear_environment(self, payload: bytes, retained: bool) -> None:
         value = _object(payload)

@@ -46,8 +46,7 @@ def explanation_to_json(explanation: Explanation) -> Dict[str, Any]:
                 "states": list(entry.states),
                 "request": entry.request,
                 "answers": [
-                    {"service": each.service, "outcome": each.outcome and list(each.outcome)}
-                    for each in entry.answers
+                    {"service": each.service, "outcome": each.outcome and list(each.outcome)} for each in entry.answers
                 ],
             }
             for entry in explanation.entries

@@ -10,7 +10,6 @@ import sys
 
 from systemd import daemon  # type: ignore[import]
 
-
 PRIORITIES = {logging.WARNING: 4, logging.ERROR: 3, logging.CRITICAL: 2}
 """The priorities of syslog for the levels of messages. Other messages have that of an information, 6."""
 

@@ -10,10 +10,10 @@ from typing import TYPE_CHECKING, Any, Callable, Dict, List, Optional, Tuple
 
 from roman_client import Explanation, Report, RomanError, SessionOver
 
-from .mqtt_api import GONE
-from .events import Message, now
-from .states import actions_to_json, explanation_to_json, target_to_json
 from .errors import TROUBLE
+from .events import Message, now
+from .mqtt_api import GONE
+from .states import actions_to_json, explanation_to_json, target_to_json
 
 if TYPE_CHECKING:
     from .home import Home
@@ -53,9 +53,7 @@ class Shown:
             "composes": report.composition,
             "actions": actions_to_json(self._home.document, report),
             "services": services,
-            "behaviours": {
-                each.name: list(each.states) for each in self._home.document.behaviours.values()
-            },
+            "behaviours": {each.name: list(each.states) for each in self._home.document.behaviours.values()},
             "request": self._request_to_json(report),
             "explanation": None if explanation is None else explanation_to_json(explanation),
             "counts": {
@@ -188,7 +186,6 @@ class Shown:
             "composes": report.composition,
             "offers": {action: list(services) for action, services in report.offers.items()},
             "services": {
-                name: {"state": known.state, "status": self._status(name)}
-                for name, known in self._home.known.items()
+                name: {"state": known.state, "status": self._status(name)} for name, known in self._home.known.items()
             },
         }

@@ -67,8 +67,7 @@ class Judge:
         self.live = [self.live_of(each) for each in system.behaviours]
         self.target_live = [self.live_of(each) for each in system.targets]
         self.target_reached = [
-            target.reached({target.start}, live)
-            for target, live in zip(system.targets, self.target_live)
+            target.reached({target.start}, live) for target, live in zip(system.targets, self.target_live)
         ]
         self.requested: Set[int] = {
             step.action
@@ -87,9 +86,7 @@ class Judge:
         yield from self.actions()
         for number, behaviour in enumerate(self.system.behaviours):
             yield from self.steps(behaviour)
-            starts = {behaviour.start} | {
-                each.state for each in self.system.services if each.behaviour == number
-            }
+            starts = {behaviour.start} | {each.state for each in self.system.services if each.behaviour == number}
             reached = behaviour.reached(starts, self.live[number])
             yield from unreached(title_of(behaviour, "the behaviour"), behaviour.states, reached)
         yield from self.services()
@@ -112,11 +109,7 @@ class Judge:
     def actions(self) -> Iterator[Finding]:
         """Actions that nobody asks for, or nobody can take."""
         wanted = {step.action for target in self.system.targets for step in target.steps}
-        served = {
-            step.action
-            for service in self.system.services
-            for step in self.live[service.behaviour]
-        }
+        served = {step.action for service in self.system.services for step in self.live[service.behaviour]}
         for number, action in enumerate(self.environment.actions):
             if not self.taken[number]:
                 message = f'the environment has no step on "{action.text}", so nobody is ever asked for it'
@@ -178,4 +171,3 @@ def unreached(title: str, states: List[Name], reached: Set[int]) -> Iterator[Fin
 def title_of(machine: Machine, kind: str) -> str:
     """A machine in words."""
     return f'{kind.split()[1]} "{machine.name.text}"' if machine.name else kind
-

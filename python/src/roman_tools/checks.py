@@ -10,18 +10,7 @@ from typing import Dict, Iterator, List, Optional, Sequence, Tuple
 from roman_client.documents import LONGEST_DOCUMENT
 
 from .findings import Finding, Level, Refusal, meant
-from .reader import (
-    Broken,
-    Constant,
-    Items,
-    Members,
-    Number,
-    Shelf,
-    Span,
-    Text,
-    Value,
-    parsed,
-)
+from .reader import Broken, Constant, Items, Members, Number, Shelf, Span, Text, Value, parsed
 from .systems import Environment, Machine, Move, Name, Service, Step, System, combined_actions
 
 NAME = re.compile(r"[A-Za-z0-9_-]{1,32}", re.ASCII)
@@ -229,9 +218,7 @@ class Checker:
                 names.add(found)
         return names
 
-    def known(
-        self, part: Part, value: Value, at: Tuple[str, int], what: str, names: Names
-    ) -> Optional[int]:
+    def known(self, part: Part, value: Value, at: Tuple[str, int], what: str, names: Names) -> Optional[int]:
         """The number of a name that has to be in a list."""
         text = self.text(part, value, at, f"the name of {what}")
         if text is None:
@@ -275,7 +262,7 @@ class Checker:
             self.no_guard(part, value, index, f"{value.word} is no guard")
             return None
         if len(value.last) != 1:
-            message = f'a guard that is an object has one member, and here are {len(value.last)}'
+            message = f"a guard that is an object has one member, and here are {len(value.last)}"
             self.no_guard(part, value, index, message)
             return None
         (member,) = value.last.values()
@@ -334,9 +321,7 @@ class Checker:
                 environment.moves.append(Move(*found, step.span))  # type: ignore[arg-type]
         return environment, states, actions
 
-    def machine(
-        self, part: Part, name: Optional[Name], env_states: Names, actions: Names
-    ) -> Tuple[Machine, Names]:
+    def machine(self, part: Part, name: Optional[Name], env_states: Names, actions: Names) -> Tuple[Machine, Names]:
         """The members of a behaviour and of a target behind the name."""
         states = self.names(part, "states", 64)
         machine = Machine(part.value.span, name, states.known, self.start(part, states))

@@ -169,4 +169,3 @@ def piece(text: Text, error: UnexpectedInput) -> Tuple[Span, str]:
     if text.span.end - text.span.start != len(text.text) + 2:
         return text.span, f'at "{word[0]}"'
     return text.span.within(word.start() + 1, word.end() + 1), f'at "{word[0]}"'
-

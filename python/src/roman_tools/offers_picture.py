@@ -108,7 +108,9 @@ def picture(document: Document, certificate: str) -> Any:
             drawn.edge(names[pair], names[to], label=marked(labels[:4]))
         if lost:
             drawn.node(f"l{names[pair]}", label="lost", shape="box", style="rounded", color=WRONG, fontcolor=WRONG)
-            drawn.edge(names[pair], f"l{names[pair]}", label=folded(lost, 4), color=WRONG, fontcolor=WRONG, style="dashed")
+            drawn.edge(
+                names[pair], f"l{names[pair]}", label=folded(lost, 4), color=WRONG, fontcolor=WRONG, style="dashed"
+            )
     for name in sorted(cut):
         drawn.node(f"m{name}", label="and more", shape="plaintext", fontcolor=FADED)
         drawn.edge(name, f"m{name}", style="dotted", color=FADED)
@@ -122,4 +124,3 @@ def label_of(arena: Arena, before: Pair, after: Pair, request: str, seat: int, i
     change = f": {one} → {other}" if one != other else ""
     colour = CHOICE if is_choice else PLAIN
     return coloured(f"{request} by {name}{change}", colour)
-

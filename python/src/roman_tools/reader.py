@@ -339,9 +339,7 @@ def character_fault(source: Source, at: int) -> Broken:
         return Broken(Span(source, at, single.end()), "texts stand between double quotes")
     word = re.compile(r"\w+").match(text, at)
     if word is not None:
-        return Broken(
-            Span(source, at, word.end()), f"{word[0]} is no value; texts stand between double quotes"
-        )
+        return Broken(Span(source, at, word.end()), f"{word[0]} is no value; texts stand between double quotes")
     return Broken(one, f"{text[at]!r} has no place here")
 
 

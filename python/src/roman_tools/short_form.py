@@ -307,13 +307,17 @@ class Expander:
         """The state to which a way leads from one."""
         if way is None:
             return state
-        return way if isinstance(way, Text) else self.changed(dict(self.space.values[number]), way)  # type: ignore[arg-type]
+        if isinstance(way, Text):
+            return way
+        return self.changed(dict(self.space.values[number]), way)  # type: ignore[arg-type]
 
     def step_guard(self, step: Members) -> int:
         """The environment states in which a step of the environment can be taken: by `from` and `when`."""
         guard = self.space.everything
         if "from" in step.last:
-            guard &= self.space.joined([self.space.word(t.text, t.span, self.report) for t in texts(step.get("from"))], False)
+            guard &= self.space.joined(
+                [self.space.word(t.text, t.span, self.report) for t in texts(step.get("from"))], False
+            )
         when = step.get("when")
         return guard if when is None else guard & self.space.guard(when, self.report)
 
@@ -487,7 +491,15 @@ class Expander:
         if isinstance(final, Constant):
             final = Items(final.span, list(states))
         steps = [
-            Items(way.span, [text(way.span, way.state), self.listed(way.guard, way.span), text(way.span, way.action), text(way.span, way.to)])
+            Items(
+                way.span,
+                [
+                    text(way.span, way.state),
+                    self.listed(way.guard, way.span),
+                    text(way.span, way.action),
+                    text(way.span, way.to),
+                ],
+            )
             for way in made.ways
         ]
         return members(

@@ -321,4 +321,3 @@ def arrow_options(marks: str, labels: Sequence[str]) -> Dict[str, str]:
     if "wrong" in marks:
         options["color"] = WRONG
     return options
-

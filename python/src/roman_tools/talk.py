@@ -18,16 +18,7 @@ import tempfile
 from pathlib import Path
 from typing import Callable, Dict, Iterator, List, Optional, Sequence, Tuple
 
-from roman_client import (
-    Document,
-    NoComposition,
-    Offer,
-    ProgramEnded,
-    Refusal,
-    Report,
-    RomanError,
-    Session,
-)
+from roman_client import Document, NoComposition, Offer, ProgramEnded, Refusal, Report, RomanError, Session
 
 from . import explanations, finished, program
 from .checks import Checker
@@ -187,7 +178,11 @@ class Talk:
                 lines.append(f"  now: {word} {' | '.join(names)}")
         if not self.report.composition:
             requests = " | ".join(self.allowed())
-            then = f"so do {requests} is refused until something changes" if requests else "and the target allows no request"
+            then = (
+                f"so do {requests} is refused until something changes"
+                if requests
+                else "and the target allows no request"
+            )
             lines.append(f"  now: there is no composition (explain says why), {then}")
         return "\n".join(lines)
 

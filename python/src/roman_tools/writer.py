@@ -82,9 +82,7 @@ def environment_text(document: Written, env: Environment) -> str:
     return block(members, 1, "{}")
 
 
-def machine_text(
-    document: Written, pointer: str, machine: Machine, env: Environment, depth: int, named: bool
-) -> str:
+def machine_text(document: Written, pointer: str, machine: Machine, env: Environment, depth: int, named: bool) -> str:
     """A behaviour or a target. Steps that only their guards tell apart are one; those that can never be taken
     are left out."""
     guards: Dict[Tuple[int, int, int], int] = {}
@@ -97,7 +95,9 @@ def machine_text(
     steps = []
     for number, ((state, action, to), guard) in enumerate(guards.items()):
         document.places[f"{pointer}/steps/{number}"] = spans[state, action, to]
-        words = [json.dumps(each) for each in (machine.states[state].text, env.actions[action].text, machine.states[to].text)]
+        words = [
+            json.dumps(each) for each in (machine.states[state].text, env.actions[action].text, machine.states[to].text)
+        ]
         steps.append(f"[{words[0]}, {guard_text(guard, env)}, {words[1]}, {words[2]}]")
     finals = [name.text for number, name in enumerate(machine.states) if number in machine.finals]
     members = [

@@ -162,10 +162,10 @@ class Sessions(unittest.IsolatedAsyncioTestCase):
         self.assertLess(time.monotonic() - begun, LONG / 2)
 
     async def test_a_long_report_and_a_flood_of_errors(self) -> None:
-        code = f"""
+        code = """
 sys.stdin.readline()
 sys.stderr.write("x" * 3_000_000)
-services = " ".join(f"s{{i}}" for i in range(20_000))
+services = " ".join(f"s{i}" for i in range(20_000))
 say("pairs 4\\nrelated 2\\nenvironment e\\ntarget off final\\n")
 say("service l1 lamp off ready\\nanswer composition\\noffer on: " + services + "\\nend\\n")
 sys.stderr.write("x" * 3_000_000)
@@ -196,9 +196,7 @@ class Dispatchers(unittest.IsolatedAsyncioTestCase):
         told: List[roman.Failure] = []
         async with lamp() as session:
             await self.lamps(session, 2)
-            async with aio.Dispatcher(
-                session, {"l1": broken, "l2": works}, on_failure=told.append
-            ) as dispatcher:
+            async with aio.Dispatcher(session, {"l1": broken, "l2": works}, on_failure=told.append) as dispatcher:
                 done = await dispatcher.request("on")
                 self.assertEqual((done.service, done.failures), ("l2", tuple(told)))
                 self.assertEqual(dispatcher.failed, {"l1"})
@@ -232,9 +230,7 @@ class Dispatchers(unittest.IsolatedAsyncioTestCase):
                 await self.lamps(session, 2)
                 await session.freeze("l2")
                 devices = {"l1": works, "l2": works}
-                async with aio.Dispatcher(
-                    session, devices, policy=policy, back=is_back
-                ) as dispatcher:
+                async with aio.Dispatcher(session, devices, policy=policy, back=is_back) as dispatcher:
                     self.assertEqual((await dispatcher.request("on")).service, "l2")
 
     async def test_deadlines(self) -> None:
@@ -322,9 +318,7 @@ class Dispatchers(unittest.IsolatedAsyncioTestCase):
         with tempfile.TemporaryDirectory() as folder:
             store = f"{folder}/journal"
             async with lamp() as session:
-                async with aio.Dispatcher(
-                    session, {"l1": kills}, store=store, watch=notices.append
-                ) as dispatcher:
+                async with aio.Dispatcher(session, {"l1": kills}, store=store, watch=notices.append) as dispatcher:
                     done = await dispatcher.request("on", key="a")
                     self.assertEqual(done.target, "on")
                     other = aio.Dispatcher(session, {"l1": works}, store=store)
@@ -386,9 +380,7 @@ class Dispatchers(unittest.IsolatedAsyncioTestCase):
             with self.subTest(moment), tempfile.TemporaryDirectory() as folder:
                 async with lamp() as session:
                     device = aio.device(is_asked, state=self.is_on(session))
-                    async with aio.Dispatcher(
-                        session, {"l1": device}, store=f"{folder}/journal"
-                    ) as dispatcher:
+                    async with aio.Dispatcher(session, {"l1": device}, store=f"{folder}/journal") as dispatcher:
                         request = asyncio.ensure_future(dispatcher.request("on", key="a"))
                         for _ in range(moment):
                             await asyncio.sleep(0)

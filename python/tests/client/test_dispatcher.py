@@ -53,17 +53,13 @@ class Dispatching(unittest.TestCase):
     def test_the_first_offered_serves(self) -> None:
         with lamps(2) as session:
             dispatcher = Dispatcher(session, {"l1": works, "l2": works})
-            self.assertEqual(
-                dispatcher.request("on"), roman.Done("on", "l1", "on", "on", "e", ())
-            )
+            self.assertEqual(dispatcher.request("on"), roman.Done("on", "l1", "on", "on", "e", ()))
             self.assertEqual(dispatcher.request("off").target, "off")
 
     def test_a_failure_goes_to_another(self) -> None:
         told: List[roman.Failure] = []
         with lamps(2) as session:
-            dispatcher = Dispatcher(
-                session, {"l1": broken, "l2": works}, on_failure=told.append
-            )
+            dispatcher = Dispatcher(session, {"l1": broken, "l2": works}, on_failure=told.append)
             done = dispatcher.request("on")
             self.assertEqual((done.service, len(done.failures)), ("l2", 1))
             self.assertEqual(done.failures, tuple(told))
@@ -466,9 +462,7 @@ class Surviving(unittest.TestCase):
             raise RuntimeError("deaf")
 
         with lamps(2) as session:
-            dispatcher = Dispatcher(
-                session, {"l1": broken, "l2": works}, watch=fails, on_failure=fails
-            )
+            dispatcher = Dispatcher(session, {"l1": broken, "l2": works}, watch=fails, on_failure=fails)
             with self.assertLogs("roman_client", "ERROR"):
                 self.assertEqual(dispatcher.request("on").service, "l2")
 

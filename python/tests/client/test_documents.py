@@ -61,9 +61,7 @@ class Reading(unittest.TestCase):
         garden = Document.load(sample("garden.json"))
         self.assertEqual(garden.delegated("draw-beds"), "draw")
         self.assertEqual(garden.target_states("bright-watering"), ("bright", "watering"))
-        self.assertEqual(
-            garden.target_after("bright-resting", "day", "draw-beds"), "bright-watering"
-        )
+        self.assertEqual(garden.target_after("bright-resting", "day", "draw-beds"), "bright-watering")
         self.assertTrue(garden.is_final("quiet-resting"))
         self.assertFalse(garden.is_final("quiet-watering"))
 
@@ -244,9 +242,7 @@ def happens(session: Session, document: Document, chance: random.Random) -> None
         serving = chance.choice(session.do(action).services)
         session.use(serving)
         (service,) = (each for each in services if each.name == serving)
-        outcomes = document.outcomes(
-            service.behaviour, service.state, report.environment, action
-        )
+        outcomes = document.outcomes(service.behaviour, service.state, report.environment, action)
         session.saw(*chance.choice(list(outcomes)))
 
 

@@ -11,7 +11,10 @@ from unittest import mock
 import roman_client as roman
 from roman_client import Session
 
-OPENING = r"pairs 4\nrelated 2\nenvironment e\ntarget off final\nservice l1 lamp off ready\nanswer composition\noffer on: l1\nend\n"
+OPENING = (
+    r"pairs 4\nrelated 2\nenvironment e\ntarget off final\n"
+    r"service l1 lamp off ready\nanswer composition\noffer on: l1\nend\n"
+)
 
 
 LONG = 600

@@ -43,9 +43,7 @@ class Events(unittest.TestCase):
             self.assertEqual(session.changes, 6)
             report = session.report()
             self.assertEqual(report.environment, "dusk")
-            self.assertEqual(
-                report.services[-1], roman.Service("blind2", "blind", "shut", False, True)
-            )
+            self.assertEqual(report.services[-1], roman.Service("blind2", "blind", "shut", False, True))
 
     def test_a_report(self) -> None:
         with home() as session:
@@ -90,9 +88,7 @@ class Events(unittest.TestCase):
     def test_an_explanation_by_finality(self) -> None:
         with Session(sample("lamp.json"), program=PROGRAM) as session:
             session.jump("l1", "on")
-            self.assertEqual(
-                session.explain().entries, (roman.Lost("off", "e", ("on",), None, ()),)
-            )
+            self.assertEqual(session.explain().entries, (roman.Lost("off", "e", ("on",), None, ()),))
 
     def test_each_refusal(self) -> None:
         with Session(sample("lamp.json"), program=PROGRAM) as session:
@@ -220,9 +216,9 @@ class GoingOn(unittest.TestCase):
         """With little room for each program, in any phase of a request, nothing is to be seen of it."""
         outcomes = {"brighten": ("on", "day"), "dim": ("off", "day")}
         pids = set()
-        with Session(
-            sample("lamp.json"), program=PROGRAM, timeout=60, longest=1000
-        ) as plain, Session(sample("home.json"), program=PROGRAM, longest=120) as session:
+        with Session(sample("lamp.json"), program=PROGRAM, timeout=60, longest=1000) as plain, Session(
+            sample("home.json"), program=PROGRAM, longest=120
+        ) as session:
             self.assertEqual(plain.do("on").services, ("l1",))
             session.freeze("window")
             session.join("spare", "lamp", "off", loose=True)
@@ -289,9 +285,7 @@ class Ends(unittest.TestCase):
             with self.assertRaises(roman.ProgramEnded) as caught:
                 Session("empty.json", program=PROGRAM, folder=folder)
         self.assertEqual(caught.exception.status, 3)
-        self.assertEqual(
-            caught.exception.output, ("refused empty.json missing system 0 roman 0",)
-        )
+        self.assertEqual(caught.exception.output, ("refused empty.json missing system 0 roman 0",))
 
     def test_a_document_over_its_limit(self) -> None:
         document = json.loads(Path(sample("lamp.json")).read_text(encoding="utf-8"))

@@ -60,13 +60,9 @@ class Stores(unittest.TestCase):
         self.devices = {name: Home() for name in ("window", "ceiling", "kettle")}
 
     @contextmanager
-    def dispatcher(
-        self, store: Optional[Path] = None, devices: Any = None, **words: Any
-    ) -> Iterator[Dispatcher]:
+    def dispatcher(self, store: Optional[Path] = None, devices: Any = None, **words: Any) -> Iterator[Dispatcher]:
         with Session(sample("home.json"), program=PROGRAM, timeout=60) as session:
-            with Dispatcher(
-                session, devices or self.devices, store=store or self.store, **words
-            ) as dispatcher:
+            with Dispatcher(session, devices or self.devices, store=store or self.store, **words) as dispatcher:
                 yield dispatcher
 
     def lines(self) -> List[Any]:
@@ -133,9 +129,7 @@ class GoingOn(Stores):
             return OUTCOMES[call.service, call.action]
 
         with self.dispatcher() as dispatcher:
-            with mock.patch("os.fsync", synced), mock.patch.object(
-                self.devices["window"], "serve", served
-            ):
+            with mock.patch("os.fsync", synced), mock.patch.object(self.devices["window"], "serve", served):
                 dispatcher.request("brighten")
         self.assertEqual(seen, ["begun", "asked", "answered"])
 
@@ -172,9 +166,7 @@ class GoingOn(Stores):
                 copy = self.folder / "copy"
                 copy.write_bytes(whole[:cut])
                 told_devices = {name: Home(told=NOT_DONE) for name in self.devices}
-                with self.subTest(number=number, cut=cut), self.dispatcher(
-                    copy, told_devices
-                ) as dispatcher:
+                with self.subTest(number=number, cut=cut), self.dispatcher(copy, told_devices) as dispatcher:
                     if number in told:
                         report, served, failed = told[number]
                         now = (dispatcher.report(), dispatcher.served, dispatcher.failed)
@@ -422,9 +414,7 @@ class UnderWay(Stores):
         """A KeyboardInterrupt while the journal is written: the next call puts it right."""
         for number in range(2):
             self.begin_anew()
-            devices = {
-                name: Home(("open", "day") if number else NOT_DONE) for name in self.devices
-            }
+            devices = {name: Home(("open", "day") if number else NOT_DONE) for name in self.devices}
             with self.subTest(number), self.dispatcher(devices=devices) as dispatcher:
                 append = Journal.append
                 seen: List[int] = []

@@ -53,9 +53,7 @@ class World:
             if self.chance.random() < self.failing:
                 return None
             outcomes = list(
-                self.document.outcomes(
-                    self.behaviours[service], self.states[service], self.environment, action
-                )
+                self.document.outcomes(self.behaviours[service], self.states[service], self.environment, action)
             )
             if not outcomes:
                 self.wrong.append(f"{service} can't {action} in {self.states[service]}")

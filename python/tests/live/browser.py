@@ -14,11 +14,7 @@ from pathlib import Path
 from typing import Any, Callable, Optional
 
 from selenium import webdriver
-from selenium.common.exceptions import (
-    NoSuchElementException,
-    StaleElementReferenceException,
-    WebDriverException,
-)
+from selenium.common.exceptions import NoSuchElementException, StaleElementReferenceException, WebDriverException
 from selenium.webdriver.chrome.service import Service
 
 from . import DEMO, PROGRAM, ROMAN_LIVE
@@ -94,9 +90,7 @@ class Played(Running):
         super().__init__(port)
         document = (DEMO / "home.json").read_text(encoding="utf-8")
         (self.folder / name).write_text(document, encoding="utf-8")
-        (self.folder / "home.toml").write_text(
-            f'document = "{name}"\n[page]\nport = {port}\n{more}', encoding="utf-8"
-        )
+        (self.folder / "home.toml").write_text(f'document = "{name}"\n[page]\nport = {port}\n{more}', encoding="utf-8")
 
     def begin(self) -> None:
         self.start(str(ROMAN_LIVE), "--simulate", "home.toml")

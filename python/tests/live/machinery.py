@@ -32,9 +32,7 @@ def free_port() -> int:
                 continue
 
 
-def until(
-    holds: Callable[[], Any], what: str, passing: Tuple[Type[Exception], ...] = ()
-) -> Any:
+def until(holds: Callable[[], Any], what: str, passing: Tuple[Type[Exception], ...] = ()) -> Any:
     """Waits until something is so, and gives it; an error that is `passing` says that it isn't so yet. Raises
     AssertionError where it takes far too long."""
     end = time.monotonic() + PATIENCE
@@ -115,9 +113,7 @@ class Live:
         self.url = f"http://127.0.0.1:{self.port}"
         self.file = folder / "home.toml"
         self.words = words
-        self.file.write_text(
-            f'program = "{PROGRAM}"\n{home}\n[page]\nport = {self.port}\n', encoding="utf-8"
-        )
+        self.file.write_text(f'program = "{PROGRAM}"\n{home}\n[page]\nport = {self.port}\n', encoding="utf-8")
         self.log = folder / "log"
         self.process: "subprocess.Popen[bytes]"
 

@@ -22,13 +22,13 @@ import time
 from pathlib import Path
 from typing import Dict, List, Optional, Set, Tuple
 
-TOP = Path(__file__).resolve().parents[3]
+import roman_live.recovery
 from roman_client import NOT_DONE, Call, DeviceFailed, Document, NoComposition, aio
 from roman_client.devices import Told
-
-import roman_live.recovery
-from roman_live.home import Home
 from roman_live.config import HomeFile
+from roman_live.home import Home
+
+TOP = Path(__file__).resolve().parents[3]
 
 FAILURES = 0.001
 
@@ -63,9 +63,7 @@ class World:
             raise DeviceFailed("it doesn't answer")
         if self.done.get(service) == call.number:
             raise AssertionError(f"{service} was asked twice for call {call.number}")
-        outcomes = self._outcomes(
-            self.behaviours[service], self.states[service], self.environment, call.request
-        )
+        outcomes = self._outcomes(self.behaviours[service], self.states[service], self.environment, call.request)
         self.states[service], self.environment = self.chance.choice(outcomes)
         self.done[service] = call.number
         self.acted += 1
@@ -126,9 +124,7 @@ async def soak(requests: int, folder: Path) -> List[str]:
     document = Document.load("home.json", TOP / "samples" / "live" / "demo")
     WORLD = World(document, 1)
     document.write(folder / "home.json")
-    tables = [
-        f'[devices.{each.name}]\nreach = "python"\ncall = "soak:{each.name}"\n' for each in document.services
-    ]
+    tables = [f'[devices.{each.name}]\nreach = "python"\ncall = "soak:{each.name}"\n' for each in document.services]
     sys.modules["soak"] = sys.modules[__name__]
     for each in document.services:
         globals()[each.name] = device(each.name)

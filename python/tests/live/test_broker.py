@@ -11,8 +11,8 @@ from unittest import mock
 
 import paho.mqtt.client as mqtt  # type: ignore[import]
 
-from roman_live.mqtt_api import REFUSED, Client, Connection
 from roman_live.config import Broker, Tls
+from roman_live.mqtt_api import REFUSED, Client, Connection
 
 from .machinery import PATIENCE, Mosquitto
 
@@ -42,9 +42,7 @@ class Later(unittest.IsolatedAsyncioTestCase):
         connection.publish("home/answers", {"id": "\ud800"})
         await connection.open()
         self.addAsyncCleanup(connection.close)
-        self.assertEqual(
-            await asyncio.wait_for(heard.get(), PATIENCE), ("home/answers", {"id": "\ud800"})
-        )
+        self.assertEqual(await asyncio.wait_for(heard.get(), PATIENCE), ("home/answers", {"id": "\ud800"}))
         self.assertTrue(connection.publish_now("home/lamp/ask", {"id": 2}))
         self.assertEqual(await asyncio.wait_for(heard.get(), PATIENCE), ("home/lamp/ask", {"id": 2}))
 
@@ -115,7 +113,8 @@ class Encrypted(unittest.IsolatedAsyncioTestCase):
         for name in ("broker", "live"):
             self.openssl(f"req -newkey rsa:2048 -nodes -keyout {name}.key -out {name}.asked -subj /CN={name}")
             self.openssl(
-                f"x509 -req -in {name}.asked -CA ca.pem -CAkey ca.key -CAcreateserial -days 2 -extfile names -out {name}.pem"
+                f"x509 -req -in {name}.asked -CA ca.pem -CAkey ca.key -CAcreateserial -days 2"
+                f" -extfile names -out {name}.pem"
             )
         files = (("cafile", "ca.pem"), ("certfile", "broker.pem"), ("keyfile", "broker.key"))
         more = "".join(f"{word} {self.folder / file}\n" for word, file in files)

@@ -10,9 +10,9 @@ from pathlib import Path
 from typing import Any, Callable, List, Tuple
 
 from roman_client import Call, DeviceFailed
+from roman_live.config import CommandReach
 from roman_live.devices import Answer
 from roman_live.devices.command import KeptCommand
-from roman_live.config import CommandReach
 
 from .machinery import PATIENCE
 

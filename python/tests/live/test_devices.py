@@ -9,10 +9,10 @@ import unittest
 from pathlib import Path
 from typing import Any, Dict, List, Tuple
 
+from roman_client import Document
+
 from . import sample
 from .machinery import PATIENCE, Live, Mosquitto, until
-
-from roman_client import Document
 from .world import HttpDevices, MqttDevices, World
 
 CYCLE = ("brighten", "boil", "pour", "dim")
@@ -86,13 +86,9 @@ class Serving(Devices):
             value = self.served(action)
             self.assertEqual(value["failures"], [])
         self.assertEqual([action for _, action in self.world.played], list(CYCLE * 2))
-        self.assertEqual(
-            {service for service, _ in self.world.played}, {"window", "kettle"}
-        )
+        self.assertEqual({service for service, _ in self.world.played}, {"window", "kettle"})
         state = self.live.state()
-        self.assertEqual(
-            {each["name"]: each["state"] for each in state["services"]}, self.world.states
-        )
+        self.assertEqual({each["name"]: each["state"] for each in state["services"]}, self.world.states)
         self.assertEqual(state["environment"], self.world.environment)
         self.assertEqual(state["counts"]["served"], 8)
         self.assertEqual(self.world.wrong, [])
@@ -376,7 +372,6 @@ class Deadlines(Devices):
         self.back("window")
         self.assertEqual(self.live.service("window")["state"], "open")
         self.assertEqual(self.live.state()["counts"]["served"], 1)
-
 
     def test_what_could_not_be_delivered_is_not_done_later(self) -> None:
         self.broker.pause()

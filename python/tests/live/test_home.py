@@ -10,16 +10,17 @@ from pathlib import Path
 from typing import Any, Dict, List, Optional
 from unittest import mock
 
-from . import PROGRAM, sample
-
 from roman_client import Call, DeviceFailed, InDoubt, StoreLocked
 from roman_client.journal import Journal
+from roman_live import errors
 from roman_live import home as homes
-from roman_live import errors, recovery
+from roman_live import recovery
+from roman_live.config import HomeFile, HomeFileError
 from roman_live.devices import Answer, Listener, Reach
 from roman_live.home import Home
-from roman_live.config import HomeFile, HomeFileError
 from roman_live.http_api import Server, result
+
+from . import PROGRAM, sample
 
 HOME = ("window", "ceiling", "kettle")
 SERVICES = {"depot": ("belt", "drone", "van", "broom"), "home": HOME, "short/home": HOME}
@@ -43,9 +44,7 @@ class Played(Reach):
             await waited.wait()
         home = self.test.home
         known = home.known[self.service]
-        outcomes = home.document.outcomes(
-            known.behaviour, known.state, home.known.environment, call.request
-        )
+        outcomes = home.document.outcomes(known.behaviour, known.state, home.known.environment, call.request)
         state, environment = next(iter(outcomes))
         self.test.states[self.service] = state
         return Answer(state, environment)
@@ -82,8 +81,7 @@ class InProcess(unittest.IsolatedAsyncioTestCase):
 
     async def begin(self, name: str, more: str = "") -> Home:
         devices = "".join(
-            f'[devices.{each}]\nreach = "http"\nurl = "http://x"\nseconds = {self.seconds}\n'
-            for each in SERVICES[name]
+            f'[devices.{each}]\nreach = "http"\nurl = "http://x"\nseconds = {self.seconds}\n' for each in SERVICES[name]
         )
         file = self.folder / "home.toml"
         head = f'document = "{sample(name)}.json"\nprogram = "{PROGRAM}"\n'
@@ -149,7 +147,10 @@ class Policies(InProcess):
 
     async def test_costs_of_what_is_not_there(self) -> None:
         costs = self.folder / "costs"
-        for text, wrong in (('["dron", "ship", 1]', "dron is no behaviour"), ('["drone", "shp", 1]', "shp is no action")):
+        for text, wrong in (
+            ('["dron", "ship", 1]', "dron is no behaviour"),
+            ('["drone", "shp", 1]', "shp is no action"),
+        ):
             costs.write_text(f'[["van", "ship", 1], {text}]', encoding="utf-8")
             for choose in ("least cost", "least worst"):
                 with self.subTest(choose=choose, text=text), self.assertRaisesRegex(HomeFileError, wrong):
@@ -325,7 +326,9 @@ class Checked(InProcess):
         await self.check()
         text = (self.folder / "home.toml").read_text(encoding="utf-8")
         (self.folder / "home.toml").write_text(text.partition("[devices.spare]")[0], encoding="utf-8")
-        with self.assertRaisesRegex(HomeFileError, "no device for the service spare, which the journal has; .* is gone"):
+        with self.assertRaisesRegex(
+            HomeFileError, "no device for the service spare, which the journal has; .* is gone"
+        ):
             await self.check()
         await home.die("spare")
         await self.check()
@@ -333,7 +336,9 @@ class Checked(InProcess):
     async def test_a_command_that_is_not_there(self) -> None:
         await (await self.begin("home")).close()
         spare = '[devices.spare]\nreach = "command"\ncommand = ["./spare"]\n'
-        with self.assertRaisesRegex(HomeFileError, "home.toml: devices.spare.command can't be run: ./spare isn't there"):
+        with self.assertRaisesRegex(
+            HomeFileError, "home.toml: devices.spare.command can't be run: ./spare isn't there"
+        ):
             await self.check(spare)
         (self.folder / "spare").touch(mode=0o644)
         with self.assertRaisesRegex(HomeFileError, "spare.command can't be run: ./spare may not be executed, .* chmod"):
@@ -369,9 +374,7 @@ class ShortForm(InProcess):
         text = Path(sample("short/home.json")).read_text(encoding="utf-8")
         wrong = text.replace('"when": "day"', '"when": "dya"', 1)
         (self.folder / "mine.json").write_text(wrong, encoding="utf-8")
-        (self.folder / "home.toml").write_text(
-            f'document = "mine.json"\nprogram = "{PROGRAM}"\n', encoding="utf-8"
-        )
+        (self.folder / "home.toml").write_text(f'document = "mine.json"\nprogram = "{PROGRAM}"\n', encoding="utf-8")
         with self.assertRaises(HomeFileError) as raised:
             await Home(HomeFile.read(self.folder / "home.toml")).begin()
         line = wrong[: wrong.index('"dya"')].count("\n") + 1
@@ -494,7 +497,9 @@ class ProgramHangs(InProcess):
     def program(self, hangs: str) -> Any:
         """Has another program run, which hangs where it is called so."""
         program = self.folder / "program"
-        program.write_text(f'#!/bin/sh\n[ "$1" != {hangs} ] || exec sleep 3600\nexec {PROGRAM} "$@"\n', encoding="utf-8")
+        program.write_text(
+            f'#!/bin/sh\n[ "$1" != {hangs} ] || exec sleep 3600\nexec {PROGRAM} "$@"\n', encoding="utf-8"
+        )
         program.chmod(0o755)
         return mock.patch(f"{__name__}.PROGRAM", str(program))
 

@@ -4,16 +4,7 @@ import tempfile
 import unittest
 from pathlib import Path
 
-from roman_live.config import (
-    CommandReach,
-    HomeFile,
-    HomeFileError,
-    HttpReach,
-    MqttReach,
-    PolicyName,
-    PythonReach,
-    Tls,
-)
+from roman_live.config import CommandReach, HomeFile, HomeFileError, HttpReach, MqttReach, PolicyName, PythonReach, Tls
 
 GOOD = """
 document = "home.json"
@@ -66,7 +57,10 @@ WRONG = (
     ('document = "h"\n[policy]\nchoose = "least cost"', "policy.costs is missing"),
     ('document = "h"\n[policy]\nrequests = 65', "policy.requests is 65, and not a whole number from 1 to 64"),
     ('document = "h"\n[policy]\ncosts = "c"', "policy.costs is there, and policy.choose is 'first', which takes none"),
-    ('document = "h"\n[policy]\nchoose = "round robin"\ncosts = "c"', "policy.costs is there, and policy.choose is 'rou"),
+    (
+        'document = "h"\n[policy]\nchoose = "round robin"\ncosts = "c"',
+        "policy.costs is there, and policy.choose is 'rou",
+    ),
     ('document = "h"\n[policy]\nrequests = 8', "policy.requests is there, and policy.choose is 'first', which doesn't"),
     ('document = "h"\n[page]\nhost = "0.0.0.0"', "page.token_file is missing"),
     ('document = "h"\n[page]\nport = true', "page.port is True, and not a whole number"),

@@ -7,10 +7,10 @@ import unittest
 from pathlib import Path
 from unittest import mock
 
-from roman_live.processes import AtWork
 from roman_live.config import HomeFileError
-from roman_live.persisted import Kept, check_folder
 from roman_live.errors import NoRoom
+from roman_live.persisted import Kept, check_folder
+from roman_live.processes import AtWork
 
 from .machinery import PATIENCE
 
@@ -96,7 +96,9 @@ class CommandsAtWork(unittest.IsolatedAsyncioTestCase):
             waiting = asyncio.ensure_future(home.those_before())
             await asyncio.sleep(0.2)
         self.assertFalse(waiting.done())
-        self.assertEqual(logged.output, ["WARNING:roman_live:a command of the last run is still at work, and is waited for"])
+        self.assertEqual(
+            logged.output, ["WARNING:roman_live:a command of the last run is still at work, and is waited for"]
+        )
         first.kill()
         await asyncio.wait_for(waiting, PATIENCE)
 

@@ -15,10 +15,10 @@ import unittest
 from contextlib import suppress
 from pathlib import Path
 
+from roman_client import Document
+
 from . import sample
 from .machinery import PATIENCE, Live, Mosquitto, until
-
-from roman_client import Document
 from .test_devices import CYCLE
 from .world import HttpDevices, MqttDevices, World
 

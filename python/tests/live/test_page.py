@@ -403,10 +403,7 @@ class Demonstration(Browsing):
         return (
             f"It is {state['target']['state']}." in self.text("target")
             and f"{state['counts']['served']} served" in self.text("counts")
-            and all(
-                f"{each['status']} · {each['state']}" in self.service(each["name"])
-                for each in state["services"]
-            )
+            and all(f"{each['status']} · {each['state']}" in self.service(each["name"]) for each in state["services"])
         )
 
 

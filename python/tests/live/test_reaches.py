@@ -16,11 +16,11 @@ from typing import Any, Optional
 from unittest import mock
 
 from roman_client import Call, DeviceFailed
+from roman_live.config import CommandReach, HomeFileError, HttpReach, PythonReach
 from roman_live.devices import Answer, Reach
 from roman_live.devices.command import Command, KeptCommand
 from roman_live.devices.http import Http
 from roman_live.devices.python import PythonDevice
-from roman_live.config import CommandReach, HomeFileError, HttpReach, PythonReach
 
 from .machinery import PATIENCE, free_port
 from .test_commands import Heard
@@ -120,7 +120,10 @@ class HttpDevices(unittest.IsolatedAsyncioTestCase):
             writer.write(b"HTTP/1.1 400 Bad Request\r\n\r\n")
             writer.close()
 
-        for context, why in ((own, "its certificate isn't believed: self-signed certificate"), (None, "TLS: wrong version number")):
+        for context, why in (
+            (own, "its certificate isn't believed: self-signed certificate"),
+            (None, "TLS: wrong version number"),
+        ):
             async with await asyncio.start_server(close, "127.0.0.1", 0, ssl=context) as server:
                 device = await self.device(f"https://127.0.0.1:{server.sockets[0].getsockname()[1]}/")
                 with self.subTest(why), self.assertRaisesRegex(DeviceFailed, f"^https://127.0.0.1:[0-9]+/: {why}$"):

@@ -15,7 +15,7 @@ from typing import Any, Dict, List
 from . import ROMAN_LIVE, sample
 from .machinery import OPENER, PATIENCE, Live, call, until
 
-WORLD = '''
+WORLD = """
 import os
 states = {"window": "shut", "ceiling": "off", "kettle": "empty"}
 after = {("window", "brighten"): "open", ("window", "dim"): "shut", ("ceiling", "brighten"): "on",
@@ -34,11 +34,10 @@ window, ceiling, kettle, spare = map(Thing, ("window", "ceiling", "kettle", "spa
 states["spare"] = "off"
 after["spare", "brighten"] = "on"
 after["spare", "dim"] = "off"
-'''
+"""
 
 DEVICES = "".join(
-    f'[devices.{name}]\nreach = "python"\ncall = "things:{name}"\n'
-    for name in ("window", "ceiling", "kettle", "spare")
+    f'[devices.{name}]\nreach = "python"\ncall = "things:{name}"\n' for name in ("window", "ceiling", "kettle", "spare")
 )
 
 
@@ -246,9 +245,7 @@ class Token(Served):
         self.assertEqual(call(url, {"action": "brighten"}, {})[0], 401)
         foreign = {"Authorization": "Bearer open sesame", "Origin": "http://evil.example"}
         self.assertEqual(call(url, {"action": "brighten"}, foreign)[0], 403)
-        opener = urllib.request.build_opener(
-            urllib.request.ProxyHandler({}), urllib.request.HTTPCookieProcessor()
-        )
+        opener = urllib.request.build_opener(urllib.request.ProxyHandler({}), urllib.request.HTTPCookieProcessor())
         with opener.open(f"{self.live.url}/?token=open%20sesame") as response:
             self.assertEqual(response.url, f"{self.live.url}/")
         with opener.open(f"{self.live.url}/state") as response:

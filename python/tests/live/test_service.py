@@ -58,7 +58,6 @@ class Service(unittest.TestCase):
         self.assertEqual(systemd.heard[0], f"READY=1\nSTATUS=at {live.url}/".encode())
         self.assertLessEqual(set(systemd.heard[1:-1]), {b"WATCHDOG=1", *lines})
 
-
     def test_a_greeting_that_cannot_be_written(self) -> None:
         folder = tempfile.TemporaryDirectory()
         self.addCleanup(folder.cleanup)

@@ -16,6 +16,7 @@ from typing import Any, Dict, List, Optional, Set, Tuple
 
 if __name__ != "__main__":
     import paho.mqtt.client as mqtt  # type: ignore[import]
+
     from roman_client import Document
 
     from .machinery import PATIENCE
@@ -76,9 +77,7 @@ class World:
                 self.wrong.append(f"call {number} came twice")
                 return self.done[number]
             outcomes = list(
-                self.document.outcomes(
-                    self.behaviours[service], self.states[service], self.environment, action
-                )
+                self.document.outcomes(self.behaviours[service], self.states[service], self.environment, action)
             )
             if not outcomes:
                 self.wrong.append(f"{service} can't {action} in {self.states[service]}")

@@ -46,11 +46,7 @@ def parsed(drawing: str) -> Any:
 
 def titles(root: Any, kind: str) -> List[str]:
     """The titles of the clusters, nodes or edges of a drawing."""
-    return [
-        group.findtext(SVG + "title") or ""
-        for group in root.iter(SVG + "g")
-        if group.get("class") == kind
-    ]
+    return [group.findtext(SVG + "title") or "" for group in root.iter(SVG + "g") if group.get("class") == kind]
 
 
 def texts(root: Any) -> "Counter[str]":
@@ -68,9 +64,7 @@ class Systems(unittest.TestCase):
                 done = draw(f"samples/{file.name}", "--dot")
                 self.assertEqual((done.returncode, done.stderr), (0, ""))
                 behaviours = [
-                    json.loads((TOP / each["file"]).read_text(encoding="utf-8"))
-                    if "file" in each
-                    else each
+                    json.loads((TOP / each["file"]).read_text(encoding="utf-8")) if "file" in each else each
                     for each in document["behaviours"]
                 ]
                 targets = document["targets"] if document["roman"] == 3 else [document["target"]]
@@ -136,7 +130,9 @@ class Systems(unittest.TestCase):
         home = (TOP / "samples" / "home.json").read_text(encoding="utf-8")
         with tempfile.TemporaryDirectory() as folder:
             path = Path(folder) / "home.json"
-            path.write_text(home.replace('["dusk", "brighten", "dusk"]', '["dusk", "brighten", "night"]'), encoding="utf-8")
+            path.write_text(
+                home.replace('["dusk", "brighten", "dusk"]', '["dusk", "brighten", "night"]'), encoding="utf-8"
+            )
             dot = draw(str(path), "--dot").stdout
             self.assertIn('"e night" [label="night ?"', dot)
             self.assertIn("error, line 10: &quot;night&quot;".replace("&quot;", '"'), dot)
@@ -200,7 +196,10 @@ class Systems(unittest.TestCase):
         words = [str(TOP / "tools/roman-draw"), "samples/workshop.json"]
         plain = {name: value for name, value in os.environ.items() if not name.startswith(("LC_", "LANG", "PYTHON"))}
         drawn = []
-        for given in ({"LC_ALL": "C.UTF-8"}, {"LC_ALL": "C", "PYTHONCOERCECLOCALE": "0", "PYTHONUTF8": "0", "HOME": "/nowhere"}):
+        for given in (
+            {"LC_ALL": "C.UTF-8"},
+            {"LC_ALL": "C", "PYTHONCOERCECLOCALE": "0", "PYTHONUTF8": "0", "HOME": "/nowhere"},
+        ):
             done = subprocess.run(words, cwd=TOP, env={**plain, **given}, capture_output=True, timeout=60, check=False)
             self.assertEqual((done.returncode, done.stderr), (0, b""))
             done.stdout.decode("utf-8")

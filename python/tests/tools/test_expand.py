@@ -11,15 +11,15 @@ import unittest
 from pathlib import Path
 from typing import Any, Callable, Dict, List, Tuple
 
-from . import PROGRAM, TOP
-from .broken import Broken, seeds, walk
-
 from jsonschema import Draft202012Validator  # type: ignore[import]
 
 from roman_tools.documents import read
 from roman_tools.findings import Level
 from roman_tools.lint import all_findings
 from roman_tools.writer import written
+
+from . import PROGRAM, TOP
+from .broken import Broken, seeds, walk
 
 SCHEMA = json.loads((TOP / "schema" / "short.schema.json").read_text(encoding="utf-8"))
 SHORT = TOP / "samples" / "short"
@@ -181,7 +181,9 @@ class Guards(Folder):
         return step[1]
 
     def test_formulas_and_their_json_forms(self) -> None:
-        states = [f"{time}-{who}-{tap}" for time in ("day", "night") for who in ("home", "away") for tap in ("home", "hot")]
+        states = [
+            f"{time}-{who}-{tap}" for time in ("day", "night") for who in ("home", "away") for tap in ("home", "hot")
+        ]
         cases: List[Tuple[Any, Callable[[str, str, str], bool]]] = [
             ("time = day", lambda t, w, p: t == "day"),
             ("day", lambda t, w, p: t == "day"),
@@ -222,7 +224,9 @@ class Machines(Folder):
         return document["behaviours"], document["services"]
 
     def test_what_may_be_left_out(self) -> None:
-        ((found,), _) = self.behaviours({"name": "m", "steps": [["off", "a", "on"], {"from": "on", "on": "a", "to": ["on", "stuck"]}]})
+        ((found,), _) = self.behaviours(
+            {"name": "m", "steps": [["off", "a", "on"], {"from": "on", "on": "a", "to": ["on", "stuck"]}]}
+        )
         self.assertEqual((found["states"], found["start"], found["final"]), (["off", "on", "stuck"], "off", ["off"]))
         self.assertEqual(found["steps"][1:], [["on", True, "a", "on"], ["on", True, "a", "stuck"]])
         ((found,), _) = self.behaviours({"name": "m", "start": "on", "final": True, "steps": [["off", "a", "on"]]})
@@ -238,7 +242,10 @@ class Machines(Folder):
         behaviours, told = self.behaviours(lamp, services=services)
         self.assertEqual([each["name"] for each in behaviours], ["lamp-hall", "lamp-room1", "lamp-room2"])
         self.assertEqual(behaviours[2]["states"], ["off", "room2-lit"])
-        self.assertEqual([(each["name"], each["behaviour"]) for each in told], [("l1", "lamp-hall"), ("l2", "lamp-hall"), ("k-1", "lamp-room1"), ("k-2", "lamp-room2")])
+        self.assertEqual(
+            [(each["name"], each["behaviour"]) for each in told],
+            [("l1", "lamp-hall"), ("l2", "lamp-hall"), ("k-1", "lamp-room1"), ("k-2", "lamp-room2")],
+        )
 
     def test_the_least_version(self) -> None:
         machine = {"steps": [["x", "a", "x"]]}
@@ -255,7 +262,14 @@ class Machines(Folder):
         steps = [["x", "s", "a", "x"], ["x", "t", "a", "x"], ["x", "s and t", "a", "y"], ["x", "a", "x"]]
         machine = {"states": ["x", "y"], "steps": steps}
         environment = {"states": ["s", "t"], "otherwise": "stays"}
-        found = self.expand({"environment": environment, "behaviours": [{"name": "m", "count": 1, **machine}], "target": machine, "limit": 262144})
+        found = self.expand(
+            {
+                "environment": environment,
+                "behaviours": [{"name": "m", "count": 1, **machine}],
+                "target": machine,
+                "limit": 262144,
+            }
+        )
         self.assertEqual(found["target"]["steps"], [["x", True, "a", "x"]])
         self.assertNotIn("limit", found)
         self.assertEqual(found["services"], [{"name": "m", "behaviour": "m"}])
@@ -281,7 +295,9 @@ class Plans(Folder):
     def test_guards_make_a_choice_clear(self) -> None:
         plan = {"choice": [[{"do": "a", "when": "s"}, "b"], ["a", "c"]]}
         found = self.target(plan=plan)
-        self.assertCountEqual(found["steps"][:2], [["start", ["s"], "a", "after-a"], ["start", ["t"], "a", "after-a-2"]])
+        self.assertCountEqual(
+            found["steps"][:2], [["start", ["s"], "a", "after-a"], ["start", ["t"], "a", "after-a-2"]]
+        )
         after = {state: sorted(step[2] for step in found["steps"] if step[0] == state) for state in found["states"]}
         self.assertEqual((after["after-a"], after["after-a-2"]), (["b", "c"], ["c"]))
 
@@ -322,7 +338,12 @@ class Mistakes(Folder):
         home = (SHORT / "home.json").read_text(encoding="utf-8")
         house = (SHORT / "house.json").read_text(encoding="utf-8")
         for text, old, new, message in (
-            (home, '"on": "dim", "to": "day"', '"on": "dim", "to": «"dya"»', 'is no state of the environment; did you mean "day"?'),
+            (
+                home,
+                '"on": "dim", "to": "day"',
+                '"on": "dim", "to": «"dya"»',
+                'is no state of the environment; did you mean "day"?',
+            ),
             (home, '"when": "day"', '"when": "dusk or «dya»"', 'is no state of the environment; did you mean "day"?'),
             (home, '"when": "day"', '"when": "day «dusk»"', "isn't understood"),
             (home, '"when": "day"', '"when": «"day and"»', "isn't understood at its end"),
@@ -341,7 +362,12 @@ class Mistakes(Folder):
             (house, '"when": "home and not day"', '"when": "«whose» = day"', 'did you mean "who"?'),
             (house, '"with": {"calm": "air = calm"}', '"with": {«"clam"»: "x", "calm": "calm"}', "is no parameter of"),
             (house, ', "with": {"calm": "air = calm"}', "", 'needs "calm"'),
-            (house, '"who": ["home", "asleep", "away"]', '"who": ' + json.dumps([f"w{i}" for i in range(11)]), "66 combinations"),
+            (
+                house,
+                '"who": ["home", "asleep", "away"]',
+                '"who": ' + json.dumps([f"w{i}" for i in range(11)]),
+                "66 combinations",
+            ),
             (house, '"target": {\n', '"target": {"steps": [],\n', "either a plan or steps"),
             (house, '"count": 2', '"count": «0»', "1 to 32"),
         ):
@@ -358,9 +384,16 @@ class Mistakes(Folder):
                     self.assertEqual(span.place, (before.count("\n") + 1, len(before) - before.rfind("\n")))
 
     def test_warnings_point_into_it_too(self) -> None:
-        house = (SHORT / "house.json").read_text(encoding="utf-8").replace('"away", "clean", "docked"', '"away and home", "clean", "docked"')
+        house = (
+            (SHORT / "house.json")
+            .read_text(encoding="utf-8")
+            .replace('"away", "clean", "docked"', '"away and home", "clean", "docked"')
+        )
         Path("s.json").write_text(house, encoding="utf-8")
-        found = {each.span.source.text[each.span.start : each.span.end]: each.message for each in all_findings(read("s.json"))}
+        found = {
+            each.span.source.text[each.span.start : each.span.end]: each.message
+            for each in all_findings(read("s.json"))
+        }
         self.assertEqual(found['"away and home"'], "this guard never holds")
         self.assertIn("no service can ever take it", found['"clean"'])
 
@@ -412,7 +445,10 @@ class Command(Folder):
             file, line, column = places[f"/behaviours/1/steps/{number}"].rsplit(":", 2)
             self.assertEqual(file, str(SHORT / "home.json"))
             self.assertTrue(text[int(line) - 1][int(column) - 1 :].startswith(f'["{step[0]}"'))
-        self.assertEqual(len([each for each in places if "/steps/" in each]), sum(len(m["steps"]) for m in (document["environment"], *document["behaviours"], document["target"])))
+        self.assertEqual(
+            len([each for each in places if "/steps/" in each]),
+            sum(len(m["steps"]) for m in (document["environment"], *document["behaviours"], document["target"])),
+        )
 
     def test_statuses(self) -> None:
         Path("s.json").write_text('{"roman": "short"}', encoding="utf-8")
@@ -429,7 +465,9 @@ class Command(Folder):
     def test_the_linter_and_the_program_take_either_form(self) -> None:
         lint = [sys.executable, str(TOP / "tools" / "roman-lint"), "--program", PROGRAM]
         self.assertIn("roman says: answer composition\n", run(*lint, str(SHORT / "home.json")).stdout)
-        Path("s.json").write_text((SHORT / "home.json").read_text(encoding="utf-8").replace('"dusk"]', '"dsk"]', 1), encoding="utf-8")
+        Path("s.json").write_text(
+            (SHORT / "home.json").read_text(encoding="utf-8").replace('"dusk"]', '"dsk"]', 1), encoding="utf-8"
+        )
         done = run(*lint, "s.json")
         self.assertEqual(done.returncode, 3)
         self.assertIn("s.json:8:61: error: ", done.stdout)

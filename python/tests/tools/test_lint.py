@@ -11,12 +11,12 @@ import unittest
 from pathlib import Path
 from typing import Iterator, List, Set, Tuple
 
-from . import PROGRAM, TOP
-from .broken import Broken, seeds
-
 from roman_tools.documents import read
 from roman_tools.findings import Finding, Level
 from roman_tools.lint import all_findings, lint
+
+from . import PROGRAM, TOP
+from .broken import Broken, seeds
 
 Row = Tuple[str, str, str]
 """A refusal without its document, a text of the sample, and what stands in its place: the faulty word between
@@ -195,7 +195,10 @@ def of_two() -> Iterator[Row]:
         wrong = f'«[{{"name": "a", {machine}, {{"name": "b", {machine}]»'
         yield f"{kind} system 0 targets {number}", '"targets": [', f'"targets": {wrong}, "note": ['
     loops = '"states": ["x", "x-x"], "start": "x", "final": [], "steps": '
-    for line, steps in (("count system 0 targets 2", "[]"), ("repeated system 0 targets 4", '[["x", true, "on", "x"]]')):
+    for line, steps in (
+        ("count system 0 targets 2", "[]"),
+        ("repeated system 0 targets 4", '[["x", true, "on", "x"]]'),
+    ):
         wrong = "«[" + ", ".join(f'{{"name": "{name}", {loops}{steps}}}' for name in "ab") + "]»"
         yield line, '"targets": [', f'"targets": {wrong}, "note": ['
 
@@ -397,11 +400,16 @@ class Warnings(Folder):
         loops = '["day", "brighten", "day"], ["day", "sweep", "day"]'
         text = text.replace('["day", "brighten", "day"]', loops)
         self.only(text, '"sweep"', 'the target never allows "sweep"')
-        text = text.replace('["quiet", true, "brighten", "bright"]', '["quiet", true, "brighten", "bright"], ["quiet", true, "sweep", "quiet"]')
+        text = text.replace(
+            '["quiet", true, "brighten", "bright"]',
+            '["quiet", true, "brighten", "bright"], ["quiet", true, "sweep", "quiet"]',
+        )
         self.only(text, '"sweep"', 'the target allows "sweep", and no service can ever take it')
 
     def test_the_targets_action_without_a_step_of_the_environment(self) -> None:
-        text = self.home('["day", "dim", "day"],\n      ["dusk", "dim", "day"]', "").replace('"dusk"],\n      \n', '"dusk"]\n')
+        text = self.home('["day", "dim", "day"],\n      ["dusk", "dim", "day"]', "").replace(
+            '"dusk"],\n      \n', '"dusk"]\n'
+        )
         found = self.warnings(text)
         self.assertIn('"dim": the environment has no step on "dim", so nobody is ever asked for it', found)
         self.assertIn('"served": the target stops in "served", which isn\'t final: nothing is allowed there', found)
@@ -418,7 +426,10 @@ class Warnings(Folder):
         self.only(text, '"asleep"', 'the target never comes into "asleep"')
 
     def test_guards_that_never_hold(self) -> None:
-        text = self.home('["off", true, "brighten", "on"]', '["off", true, "brighten", "on"], ["on", {"all": [["day"], ["dusk"]]}, "boil", "on"]')
+        text = self.home(
+            '["off", true, "brighten", "on"]',
+            '["off", true, "brighten", "on"], ["on", {"all": [["day"], ["dusk"]]}, "boil", "on"]',
+        )
         self.only(text, '{"all": [["day"], ["dusk"]]}', "this guard never holds")
         text = self.home('["dusk", "dim", "day"]', '["dusk", "boil", "day"]')
         text = text.replace('["on", true, "dim", "off"]', '["on", true, "dim", "off"], ["on", ["dusk"], "dim", "on"]')
@@ -440,7 +451,10 @@ class Warnings(Folder):
         self.assertEqual(self.warnings(text.replace(lamp, lamp + ', "rests": false')), [])
 
     def test_a_target_that_stops(self) -> None:
-        text = self.home('["quiet", true, "brighten", "bright"]', '["quiet", true, "brighten", "bright"], ["bright", true, "pour", "stuck"]')
+        text = self.home(
+            '["quiet", true, "brighten", "bright"]',
+            '["quiet", true, "brighten", "bright"], ["bright", true, "pour", "stuck"]',
+        )
         text = text.replace('"states": ["quiet",', '"states": ["stuck", "quiet",')
         self.only(text, '"stuck"', 'the target stops in "stuck", which isn\'t final: nothing is allowed there')
 
@@ -527,7 +541,9 @@ class Random(Folder):
         for seed, kind in seeds(fixed=200, fresh=100).items():
             broken = Broken(random.Random(seed))
             broken.write(Path("."))
-            done = subprocess.run([PROGRAM, "synth", "broken.json"], capture_output=True, text=True, timeout=60, check=False)
+            done = subprocess.run(
+                [PROGRAM, "synth", "broken.json"], capture_output=True, text=True, timeout=60, check=False
+            )
             with self.subTest(seed=seed, kind=kind):
                 checker = read("broken.json")
                 found = all_findings(checker)

@@ -24,7 +24,14 @@ class Echo(unittest.TestCase):
 
     def echo(self, system: str, session: str) -> "subprocess.CompletedProcess[str]":
         return subprocess.run(
-            [TALK, system], input=session, cwd=TOP, env=environment("/"), capture_output=True, text=True, timeout=120, check=False
+            [TALK, system],
+            input=session,
+            cwd=TOP,
+            env=environment("/"),
+            capture_output=True,
+            text=True,
+            timeout=120,
+            check=False,
         )
 
     def test_each_line_of_the_samples_beside_its_reply(self) -> None:
@@ -72,7 +79,12 @@ class Terminal(unittest.TestCase):
         leader, terminal = pty.openpty()
         self.leader = leader
         self.running = subprocess.Popen(
-            [TALK, "samples/workshop.json"], cwd=TOP, env=environment(self.home), stdin=terminal, stdout=terminal, stderr=terminal
+            [TALK, "samples/workshop.json"],
+            cwd=TOP,
+            env=environment(self.home),
+            stdin=terminal,
+            stdout=terminal,
+            stderr=terminal,
         )
         os.close(terminal)
         self.addCleanup(os.close, leader)

@@ -13,8 +13,15 @@ TOOLS = ("roman-lint", "roman-expand", "roman-draw", "roman-talk")
 def tool(name: str, system: str, output: Any) -> Tuple[int, str]:
     """The status of a tool, and what it says beside its output."""
     done = subprocess.run(
-        [str(TOP / "tools" / name), system], cwd=TOP, env={**os.environ, "ROMAN": PROGRAM}, input=b"report\n" * 100,
-        stdout=output, stderr=subprocess.PIPE, timeout=120, check=False)
+        [str(TOP / "tools" / name), system],
+        cwd=TOP,
+        env={**os.environ, "ROMAN": PROGRAM},
+        input=b"report\n" * 100,
+        stdout=output,
+        stderr=subprocess.PIPE,
+        timeout=120,
+        check=False,
+    )
     return done.returncode, done.stderr.decode()
 
 
@@ -36,8 +43,11 @@ class Ends(unittest.TestCase):
 
     def test_what_can_not_be_read_is_named(self) -> None:
         for name in TOOLS:
-            for system, why in (("samples", "Is a directory"), ("gone", "No such file or directory"),
-                                ("/proc/self/mem", "Input/output error")):
+            for system, why in (
+                ("samples", "Is a directory"),
+                ("gone", "No such file or directory"),
+                ("/proc/self/mem", "Input/output error"),
+            ):
                 with self.subTest(name, system=system):
                     status, said = tool(name, system, subprocess.DEVNULL)
                     self.assertEqual(status, 1 if name == "roman-draw" else 5)

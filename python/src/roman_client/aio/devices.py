@@ -39,9 +39,7 @@ State = Callable[[Call], Awaitable[Told]]
 class FunctionDevice(Device):
     """A device made of coroutine functions."""
 
-    def __init__(
-        self, act: Act, state: Optional[State], timeout: Optional[float], repeatable: bool
-    ) -> None:
+    def __init__(self, act: Act, state: Optional[State], timeout: Optional[float], repeatable: bool) -> None:
         self._act = act
         self._state = state
         self.timeout = timeout

@@ -7,21 +7,9 @@ import functools
 import inspect
 import logging
 from types import TracebackType
-from typing import (
-    Any,
-    Awaitable,
-    Callable,
-    Coroutine,
-    FrozenSet,
-    Mapping,
-    Optional,
-    Set,
-    Type,
-    Union,
-)
+from typing import Any, Awaitable, Callable, Coroutine, FrozenSet, Mapping, Optional, Set, Type, Union
 
 from .. import protocol
-from ..devices import Call, DeviceTimeout
 from ..core import (
     Append,
     AskBack,
@@ -37,6 +25,7 @@ from ..core import (
     TakeSnapshot,
     Tell,
 )
+from ..devices import Call, DeviceTimeout
 from ..documents import PathLike
 from ..errors import InsideRequest, NotBegun, SessionOver
 from ..journal import Journal
@@ -146,14 +135,10 @@ class Dispatcher:
         """Has an action served, as `roman_client.Dispatcher.request` does."""
         return await self._in_turn(lambda: self.core.request(action, key))
 
-    async def record(
-        self, action: str, service: str, state: str, environment: str, key: Optional[str] = None
-    ) -> Done:
+    async def record(self, action: str, service: str, state: str, environment: str, key: Optional[str] = None) -> Done:
         """Takes a request as served, with that outcome, and asks no device: so a request that was in doubt
         is settled where it was done."""
-        return await self._in_turn(
-            lambda: self.core.record(action, service, (state, environment), key)
-        )
+        return await self._in_turn(lambda: self.core.record(action, service, (state, environment), key))
 
     # Changes.
 
@@ -179,9 +164,7 @@ class Dispatcher:
         loose: bool = False,
     ) -> Repair:
         """A new service joins, with its device."""
-        return await self._in_turn(
-            lambda: self.core.join(service, behaviour, state, loose, as_device(device))
-        )
+        return await self._in_turn(lambda: self.core.join(service, behaviour, state, loose, as_device(device)))
 
     async def jump(self, service: str, state: str) -> None:
         """A service is in that state now, whatever its transitions say."""

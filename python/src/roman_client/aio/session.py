@@ -9,18 +9,7 @@ from typing import Any, Callable, Optional, Type
 from .. import protocol
 from ..documents import PathLike
 from ..errors import NotBegun
-from ..protocol import (
-    LONGEST,
-    Conversation,
-    Effect,
-    Event,
-    Exchange,
-    Program,
-    Start,
-    Steps,
-    Stop,
-    Value,
-)
+from ..protocol import LONGEST, Conversation, Effect, Event, Exchange, Program, Start, Steps, Stop, Value
 from ..replies import Explanation, Move, Offer, Repair, Report
 from ..snapshots import Snapshot
 from .streams import Streams, run
@@ -109,9 +98,7 @@ class Session:
         """A service is gone."""
         return await self.tell(protocol.die(service))
 
-    async def join(
-        self, service: str, behaviour: str, state: str, *, loose: bool = False
-    ) -> Repair:
+    async def join(self, service: str, behaviour: str, state: str, *, loose: bool = False) -> Repair:
         """A new service joins, in that state of a behaviour of the catalogue."""
         return await self.tell(protocol.join(service, behaviour, state, loose=loose))
 

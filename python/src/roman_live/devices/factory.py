@@ -2,8 +2,8 @@
 
 from __future__ import annotations
 
-from ..mqtt_api import Connection
 from ..config import CommandReach, DeviceEntry, HttpReach, MqttReach
+from ..mqtt_api import Connection
 from .base import Listener, Reach
 from .command import Command, KeptCommand
 from .http import Http
@@ -11,9 +11,7 @@ from .mqtt import Mqtt
 from .python import PythonDevice
 
 
-def make_reach(
-    service: str, entry: DeviceEntry, listener: Listener, broker: Connection | None
-) -> Reach:
+def make_reach(service: str, entry: DeviceEntry, listener: Listener, broker: Connection | None) -> Reach:
     """The reach of a service."""
     reach = entry.reach
     if isinstance(reach, MqttReach):

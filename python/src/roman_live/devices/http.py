@@ -7,6 +7,7 @@ from typing import Any, Optional
 from urllib.parse import urlsplit
 
 import aiohttp
+
 from roman_client import Call, DeviceFailed
 
 from ..config import HttpReach

@@ -8,8 +8,8 @@ from typing import Any, Dict, Optional
 
 from roman_client import Call, DeviceFailed
 
-from ..mqtt_api import Connection
 from ..config import MqttReach
+from ..mqtt_api import Connection
 from .base import Answer, Listener, Reach, answer_of, json_of
 
 
@@ -23,9 +23,7 @@ class Mqtt(Reach):
     reached = "mqtt"
     by_broker = True
 
-    def __init__(
-        self, service: str, listener: Listener, entry: MqttReach, broker: Connection
-    ) -> None:
+    def __init__(self, service: str, listener: Listener, entry: MqttReach, broker: Connection) -> None:
         super().__init__(service, listener)
         self._entry = entry
         self._broker = broker

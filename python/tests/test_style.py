@@ -1,0 +1,22 @@
+"""The form of the packages, of their tests and of the examples: types, names that nothing uses, and layout."""
+
+import subprocess
+import sys
+from pathlib import Path
+
+import pytest
+
+PYTHON = Path(__file__).resolve().parents[1]
+
+CHECKERS = {
+    "mypy": ["/usr/bin/mypy", "src", "tests", "examples"],
+    "flake8": [sys.executable, "-m", "flake8"],
+    "isort": [sys.executable, "-m", "isort", "--check", "."],
+    "black": ["/usr/bin/black", "--check", "--quiet", "."],
+}
+
+
+@pytest.mark.parametrize("checker", CHECKERS)
+def test_a_checker_has_no_complaint(checker: str) -> None:
+    done = subprocess.run(CHECKERS[checker], cwd=PYTHON, capture_output=True, text=True, timeout=800, check=False)
+    assert (done.returncode, done.stderr) == (0, ""), done.stdout
