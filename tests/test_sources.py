@@ -1,11 +1,12 @@
 """What holds of the sources as a whole, and no proof says."""
 
-import hashlib
 import re
 import unittest
 from collections import Counter, defaultdict
 from pathlib import Path
-from typing import Dict, Iterator, List, Set, Tuple
+from typing import Dict, Iterator, List
+
+from definitions import Definition, digests, is_declared, promises, rests_on
 
 from . import TOP
 
@@ -15,22 +16,17 @@ WORD = re.compile(r"[^\s(){}\[\],;.λ→∙×⊎≡:=|`]+")
 LEMMA = re.compile(r" *(pub )?(?:abbrev )?(pub )?([^\s:(){}◌]+) :(?: |$)", re.M)
 MODULE = re.compile(r"(?: *--.*\n)* *module (?:.*\n)*?.*\bwhere\n")
 DEFINED = re.compile(r"^(?:abbrev pub|unfoldable pub|pub record|pub data) +([A-Za-z_]+)", re.M)
-IMPORTED = re.compile(r"^use Rattle\.(roman_\w+\.specs[\w.]*)\.\{([^}]*)\}", re.M)
 COMMON = re.compile(r"use Rattle\.(roman_\w+)\.proofs\.Common\.\{(.*)\}$")
 TAKEN = re.compile(r"use (\S+)\.\{(.*)\}$")
 PASSED_ON = re.compile(r"(?:unfoldable )?pub use \S+\.\{(.*)\}$")
-HEAD = re.compile(r"(?:abbrev |unfoldable )?(?:pub )?(?:record |data )?([^\s:(){}]+)")
-
-# A definition by its page, as `use` writes it without `Rattle.`, and its name.
-Definition = Tuple[str, str]
 
 # What readers are sent to, and on how many definitions it rests. Of the headline it is what is promised of sessions and
 # of `synth`, the meaning of documents included.
 RESTS_ON: Dict[Definition, int] = {
-    ("roman_model.specs.Composition", "Great"): 23,
-    ("roman_model.specs.Several", "GreatAll"): 23,
-    ("roman_top.specs.Headline", "KeepsPromise"): 247,
-    ("roman_top.specs.HeadlineTargets", "KeepsTargets"): 272,
+    Definition("roman_model.specs.Composition", "Great"): 23,
+    Definition("roman_model.specs.Several", "GreatAll"): 23,
+    Definition("roman_top.specs.Headline", "KeepsPromise"): 258,
+    Definition("roman_top.specs.HeadlineTargets", "KeepsTargets"): 283,
 }
 
 # The pages of what is computed of a system, and of what a session keeps. Beside the meaning of documents the headline
@@ -39,17 +35,14 @@ NOT_IN_HEADLINE = {
     "roman_model.specs.Arena", "roman_model.specs.CompleteLists", "roman_model.specs.Offers", "roman_model.specs.Play",
     "roman_model.specs.SystemArena", "roman_session.specs.Rulings", "roman_session.specs.Situations", "roman_session.specs.Steps",
 }
-DOCUMENTS = ("roman_library.specs.Documents", "library_of")
-ENTRY = ("roman_model.specs.Arena", "Entry")
+DOCUMENTS = Definition("roman_library.specs.Documents", "library_of")
+ENTRY = Definition("roman_model.specs.Arena", "Entry")
 
 
 PROMISES = {"served": "Served", "headline": "HasHeadline", "complete": "AnswersWherePossible", "input": ""}
 """The public clauses of `serve`, each with the definition that it begins with. None of them asks for anything."""
 PAGES = TOP / "tests" / "pages.sha256"
-"""Digests of the pages of the headline. Where one has to change, this renews them:
-`sha256sum $(cut -c67- tests/pages.sha256) > pages && mv pages tests/pages.sha256`."""
-HEADLINE = ["System", "Composition", "Several", "Outcomes", "States", "Events", "Refutations", "Turns", "Words", "Afresh",
-            "HeadlineTurns", "HeadlineTargets", "HeadlineJobs", "Headline"]
+"""Digests of what each page has of the promises. `tools/pages` renews them."""
 
 
 def sources(part: str, ending: str) -> Iterator[Path]:
@@ -73,55 +66,21 @@ def declarations(page: str, depth: int = 0) -> Iterator[str]:
             yield declaration
 
 
-def definitions() -> Dict[Definition, Set[Definition]]:
-    """Each definition of the pages in `specs`, and those that its text names, of its own page or brought in by `use`."""
-    texts: Dict[Definition, str] = defaultdict(str)
-    brought_in: Dict[str, Dict[str, Definition]] = defaultdict(dict)
-    for file in sources("specs", ".antt"):
-        page = ".".join(file.relative_to(CRATES).with_suffix("").parts)
-        content = file.read_text(encoding="utf-8")
-        for found in IMPORTED.finditer(content):
-            brought_in[page].update({name: (found[1], name) for name in re.split(r",\s*", found[2].strip())})
-        name = ""
-        for line in content.splitlines():
-            if re.match(r"use |pub mod |--", line) or not line:
-                continue
-            # A line that begins at the margin begins a definition, or a further case of the one above it.
-            head = HEAD.match(line) if re.match(r"[^\s)\]}|]", line) else None
-            name = head[1] if head else name
-            texts[page, name] += re.sub(r'"[^"]*"', "", line) + "\n"
-    return {(page, name): {found for word in words(text) for found in [brought_in[page].get(word, (page, word))] if found in texts}
-            for (page, name), text in texts.items()}
-
-
-def rests_on(root: Definition, named: Dict[Definition, Set[Definition]]) -> Set[Definition]:
-    """The definitions to which this one leads, itself among them."""
-    found, left = {root}, [root]
-    while left:
-        for other in named[left.pop()] - found:
-            found.add(other)
-            left.append(other)
-    return found
-
-
 class Promises(unittest.TestCase):
-    """The clauses of `serve`, and the pages of the headline that say what a session answers, change only together with
-    this file, or with the digests beside it. What a document means is no part of this: its definitions are many."""
+    """The clauses of `serve`, those of the outside and the laws, and the definitions that they rest on, change only
+    together with this file or with the digests beside it. So none is weakened unseen."""
 
     def test_the_clauses_of_serve(self) -> None:
-        heads = [found[0] for file in sources("src", ".rt")
-                 for found in re.finditer(r"^pub fn serve<.*?^\{$", file.read_text(encoding="utf-8"), re.M | re.S)]
-        self.assertEqual(len(heads), 1)
-        clauses = re.findall(r"^    (requires|ensures) (?:(\w+) )?\{ (\w*)", heads[0], re.M)
+        serve = [source for one, source in promises().items() if one.name == "serve"]
+        self.assertEqual(len(serve), 1)
+        clauses = re.findall(r"^    (requires|ensures) (?:(\w+) )?\{ (\w*)", serve[0].text, re.M)
         self.assertEqual(clauses, [("ensures", name, definition) for name, definition in PROMISES.items()])
 
-    def test_the_pages_of_the_headline(self) -> None:
-        lines = PAGES.read_text(encoding="utf-8").splitlines()
-        self.assertEqual([line.rpartition("/")[2][:-5] for line in lines], HEADLINE)
-        for line in lines:
-            digest, page = line.split("  ")
-            with self.subTest(page):
-                self.assertEqual(hashlib.sha256((TOP / page).read_bytes()).hexdigest(), digest)
+    def test_the_digests_of_the_pages(self) -> None:
+        kept, now = (dict(line.split("  ")[::-1] for line in text.splitlines())
+                     for text in (PAGES.read_text(encoding="utf-8"), digests()))
+        changed = {page for page in {*kept, *now} if kept.get(page) != now.get(page)}
+        self.assertEqual(changed, set(), "If the change is meant, tools/pages renews the digests")
 
 
 class Sources(unittest.TestCase):
@@ -197,11 +156,10 @@ class Sources(unittest.TestCase):
         self.assertEqual(uncited, [])
 
     def test_what_readers_are_sent_to_rests_on_few_definitions(self) -> None:
-        named = definitions()
-        self.assertEqual({root: len(rests_on(root, named)) for root in RESTS_ON}, RESTS_ON)
+        counts = {root: sum(not is_declared(found) for found in rests_on([root])) for root in RESTS_ON}
+        self.assertEqual(counts, RESTS_ON)
 
     def test_the_headline_names_nothing_that_is_computed(self) -> None:
-        named = definitions()
-        for root in (("roman_top.specs.Headline", "KeepsPromise"), ("roman_top.specs.HeadlineTargets", "KeepsTargets")):
-            beside = rests_on(root, named) - rests_on(DOCUMENTS, named)
-            self.assertEqual({found for found in beside if found[0] in NOT_IN_HEADLINE}, {ENTRY})
+        for root in (Definition("roman_top.specs.Headline", "KeepsPromise"), Definition("roman_top.specs.HeadlineTargets", "KeepsTargets")):
+            beside = rests_on([root]) - rests_on([DOCUMENTS])
+            self.assertEqual({found for found in beside if found.page in NOT_IN_HEADLINE}, {ENTRY})
