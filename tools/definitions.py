@@ -38,7 +38,7 @@ class Definition(NamedTuple):
 @dataclass
 class Source:
     """Where a definition stands: its file and the number of its first line, the comment before it and its lines. It
-    names definitions of this repository directly, and words of others."""
+    names definitions of this repository directly, and words of libraries."""
 
     file: Path
     line: int
@@ -49,7 +49,8 @@ class Source:
 
     @property
     def text(self) -> str:
-        return "\n".join(self.lines)
+        """The lines without comments."""
+        return "\n".join(line for line in self.lines if not re.match(r" *(--|//)", line))
 
 
 Sources = Dict[Definition, Source]
@@ -70,7 +71,7 @@ def on_page(file: Path) -> Iterator[Tuple[str, Source]]:
     pattern = HEAD
     source = Source(file, 0, "", [])
     for number, line in enumerate(file.read_text(encoding="utf-8").splitlines(), 1):
-        if line.lstrip().startswith("--"):
+        if line.startswith("--") or pattern is HEAD_IN_MUTUAL and line.startswith("  --"):
             comment.append(line.strip(" -"))
         elif MUTUAL.match(line):
             pattern = HEAD_IN_MUTUAL
@@ -87,7 +88,7 @@ def on_page(file: Path) -> Iterator[Tuple[str, Source]]:
 
 
 def in_source(file: Path) -> Iterator[Tuple[str, Source]]:
-    """The public types and constants of a source, without the comments inside."""
+    """The public types and constants of a source."""
     comment: List[str] = []
     left = iter(enumerate(file.read_text(encoding="utf-8").splitlines(), 1))
     for number, line in left:
@@ -96,7 +97,7 @@ def in_source(file: Path) -> Iterator[Tuple[str, Source]]:
             source = Source(file, number, " ".join(comment), [line])
             while not re.match(rf"{head[1]}\S.*;$|{head[1]}}}", line):
                 line = next(left)[1]
-                source.lines += [] if line.lstrip().startswith("//") else [line]
+                source.lines.append(line)
             yield head[2], source
         if line.lstrip().startswith("///"):
             comment.append(line.strip(" /"))
@@ -172,7 +173,7 @@ def definitions() -> Sources:
 @lru_cache(maxsize=None)
 def promises() -> Sources:
     """The clauses of `serve` and of the traits that it is called with, and those of the laws: public functions that take
-    nothing. Comments are left out."""
+    nothing."""
     known = definitions()
     found: Sources = {one: source for one, source in known.items() if one.name in OUTSIDE and one.page.startswith("roman_io.src.")}
     for one, source in found.items():
@@ -180,8 +181,7 @@ def promises() -> Sources:
     for file in sorted(CRATES.glob("*/src/**/*.rt")):
         text = file.read_text(encoding="utf-8")
         for match in PROMISE.finditer(text):
-            lines = [line for line in (match[2] or match[4] or "").splitlines() if line.strip() and not line.lstrip().startswith("//")]
-            source = Source(file, text.count("\n", 0, match.start()) + 1, "", lines)
+            source = Source(file, text.count("\n", 0, match.start()) + 1, "", (match[2] or match[4] or "").splitlines())
             find_names(source, page_of(file), Imports(text), {}, known)
             found[Definition(page_of(file), match[1] or match[3])] = source
     return found

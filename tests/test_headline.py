@@ -1,0 +1,63 @@
+"""docs/HEADLINE.md, which tools/headline writes: it is in step with the sources, and its links lead somewhere."""
+
+import re
+import subprocess
+import unittest
+from collections import Counter
+from html.parser import HTMLParser
+from typing import List, Optional, Tuple
+
+from . import TOP
+
+TOOL = TOP / "tools" / "headline"
+PAGE = TOP / "docs" / "HEADLINE.md"
+LINK = re.compile(r"\]\((\.\./crates/[^)#]*)#L(\d+)\)")
+
+
+class Places(HTMLParser):
+    """The places of a page, and those to which its links lead."""
+
+    def __init__(self, page: str) -> None:
+        super().__init__()
+        self.places: List[str] = []
+        self.led_to: List[str] = []
+        self.feed(page)
+
+    def handle_starttag(self, tag: str, attrs: List[Tuple[str, Optional[str]]]) -> None:
+        for name, value in attrs:
+            if name == "id" and value:
+                self.places.append(value)
+            if tag == "a" and name == "href" and value and value.startswith("#"):
+                self.led_to.append(value[1:])
+
+
+class Headline(unittest.TestCase):
+    def done(self, *words: str) -> "subprocess.CompletedProcess[str]":
+        return subprocess.run([str(TOOL), *words], capture_output=True, text=True, check=False, timeout=60)
+
+    def test_it_is_in_step_with_the_sources(self) -> None:
+        self.assertEqual(self.done("--check").returncode, 0, "tools/headline writes it anew")
+
+    def test_each_source_is_where_the_page_says(self) -> None:
+        page = PAGE.read_text(encoding="utf-8")
+        places = LINK.findall(page)
+        self.assertGreater(len(places), 200)
+        for (file, line), name in zip(places, re.findall(r"^### .*`(.*)`$", page, re.M)):
+            self.assertIn(name, (PAGE.parent / file).read_text(encoding="utf-8").splitlines()[int(line) - 1])
+
+    def test_each_link_leads_to_one_place(self) -> None:
+        done = self.done("--html")
+        self.assertEqual((done.returncode, done.stderr), (0, ""))
+        page = Places(done.stdout)
+        self.assertEqual({*page.led_to} - {*page.places}, set())
+        self.assertEqual([place for place, count in Counter(page.places).items() if count > 1], [])
+
+    def test_both_forms_have_the_same_definitions(self) -> None:
+        names = [re.findall(pattern, text) for pattern, text in (
+            (r'<h3><a id="([^"]*)"', self.done("--html").stdout),
+            (r'### <a id="([^"]*)"', PAGE.read_text(encoding="utf-8")))]
+        self.assertEqual(*names)
+
+
+if __name__ == "__main__":
+    unittest.main()
