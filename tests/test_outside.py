@@ -271,6 +271,7 @@ class Install(Tree):
         *(f"share/man/man1/roman{name}.1" for name in ("", "-draw", "-expand", "-lint", "-live", "-talk")),
         "share/doc/roman/samples/live/roman-live.service",
         "share/doc/roman/roman-live.md",
+        "share/doc/roman/HEADLINE.html",
         "share/roman/schema/system.schema.json",
         "share/roman/schema/costs.schema.json",
         "share/roman/schema/short.schema.json",
