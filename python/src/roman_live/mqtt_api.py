@@ -6,8 +6,9 @@ import asyncio
 import contextlib
 import json
 import logging
-import sys
-from typing import Any, Callable, Dict, Iterator, List, Optional
+import ssl
+from collections import deque
+from typing import Any, Callable
 
 import paho.mqtt.client as mqtt  # type: ignore[import]
 
@@ -18,91 +19,80 @@ LOG = logging.getLogger("roman_live.mqtt_api")
 KEEPALIVE = 15
 """After how many seconds of silence the broker is asked whether it is there."""
 
+SHORTEST_PAUSE, LONGEST_PAUSE = 1.0, 30.0
+"""How many seconds pass between two attempts to connect. The pause doubles from one failure to the next."""
+
 MOST_WAITING = 1000
 """How many messages may wait for a connection."""
 
 REFUSED = 128
-"""What a broker answers, in place of a level, where it refuses a subscription."""
+"""A broker's answer, in place of a level, to a subscription that it refuses."""
 
 GONE = {"gone": True}
 """The state that is published for a home that no longer runs, in the same form as for a device that is gone."""
 
 FIRST_WAIT = 5.0
-"""How many seconds are waited at the beginning for the broker, and then for its word that it knows what is
-listened to."""
+"""How many seconds to wait for the broker at the start, for its confirmation of subscriptions, and at the end."""
+
+Listener = Callable[[bytes, bool], None]
 
 
-class Client(mqtt.Client):  # type: ignore[misc]
-    """A client of paho that outlasts every end of its connection. Its thread would end at errors that aren't a
-    ConnectionError, as those of TLS and of a network that is gone: they are told to `failed`, and become one."""
-
-    def __init__(self, failed: Callable[[OSError], None]) -> None:
-        super().__init__(*_called_as_before())
-        self._failed = failed
-
-    def _sock_recv(self, size: int) -> Any:
-        with self._lost():
-            return super()._sock_recv(size)
-
-    def _sock_send(self, data: Any) -> Any:
-        with self._lost():
-            return super()._sock_send(data)
-
-    @contextlib.contextmanager
-    def _lost(self) -> Iterator[None]:
-        try:
-            yield
-        except (BlockingIOError, ConnectionError):
-            raise
-        except OSError as error:
-            self._failed(error)
-            raise ConnectionError(str(error)) from error
-
-
-def _called_as_before() -> List[Any]:
-    """What paho 2 is told, so that it calls back as paho 1 does, which knows no such word."""
+def new_client(**words: Any) -> Any:
+    """A client of paho 1, or one of paho 2 that calls back as paho 1 does. Only `reconnect` connects it."""
     versions = getattr(mqtt, "CallbackAPIVersion", None)
-    return [] if versions is None else [versions.VERSION1]
+    return mqtt.Client(*([] if versions is None else [versions.VERSION1]), reconnect_on_failure=False, **words)
 
 
 class Connection:
-    """A connection that is made again whenever it is lost, with its subscriptions. Its end is told on the topic
-    of the home's state: by `close`, or by the broker where it ends otherwise."""
+    """A connection that is restored whenever it is lost, with its subscriptions. Its end is published on the topic
+    of the home's state: by `close`, or by the broker if it ends otherwise.
+
+    The client runs in the loop by paho's interface for external loops. Only `reconnect`, which blocks, runs in a
+    thread, and nothing else calls the client meanwhile."""
 
     def __init__(self, broker: Broker, changed: Callable[[bool, str], None]) -> None:
-        """`changed` is told whether all is well with the connection, and in words what happened to it."""
+        """`changed` receives whether the connection is in order, and a text that says what happened to it."""
         self.broker = broker
         self.connected = False
         self.state_topic = self.topic("state")
         self._changed = changed
-        self._why: Optional[str] = None
-        self._topics: Dict[str, List[Callable[[bytes, bool], None]]] = {}
-        self._loop: Optional[asyncio.AbstractEventLoop] = None
-        self._first = asyncio.Event()
-        self._asked: Dict[int, str] = {}
+        self._why: str | None = None
+        self._listeners: dict[str, list[Listener]] = {}
+        self._unsent: deque[tuple[str, str]] = deque(maxlen=MOST_WAITING)
+        self._asked: dict[int, str] = {}
         self._agreed = asyncio.Event()
         self._agreed.set()
-        self._client = Client(self._on_error)
-        self._client.on_connect = self._on_connect
-        self._client.on_connect_fail = self._on_connect_fail
-        self._client.on_disconnect = self._on_disconnect
-        self._client.on_message = self._on_message
-        self._client.on_subscribe = self._on_subscribe
-        self._client.reconnect_delay_set(1, 30)
-        self._client.max_queued_messages_set(MOST_WAITING)
-        if broker.username is not None:
-            self._client.username_pw_set(broker.username, broker.password)
-        if broker.tls is not None:
-            self._client.tls_set_context(broker.tls.context())
-        self._client.will_set(self.state_topic, json.dumps(GONE), qos=1, retain=True)
+        self._first = asyncio.Event()
+        self._lost = asyncio.Event()
+        self._pause = SHORTEST_PAUSE
+        self._socket: Any = None
+        self._task: asyncio.Task[None] | None = None
+        self._client = self._prepare(new_client())
+
+    def _prepare(self, client: Any) -> Any:
+        client.on_connect = self._on_connect
+        client.on_disconnect = self._on_disconnect
+        client.on_message = self._on_message
+        client.on_subscribe = self._on_subscribe
+        client.on_socket_close = self._on_socket_close
+        client.on_socket_register_write = self._on_socket_register_write
+        client.on_socket_unregister_write = self._on_socket_unregister_write
+        if self.broker.username is not None:
+            client.username_pw_set(self.broker.username, self.broker.password)
+        if self.broker.tls is not None:
+            client.tls_set_context(self.broker.tls.context())
+        client.max_queued_messages_set(MOST_WAITING)
+        client.will_set(self.state_topic, json.dumps(GONE), qos=1, retain=True)
+        client.connect_async(self.broker.host, self.broker.port, KEEPALIVE)
+        return client
 
     def topic(self, name: str) -> str:
         """A topic of this home."""
         return f"{self.broker.prefix}/{name}"
 
-    def subscribe(self, topic: str, listener: Callable[[bytes, bool], None]) -> None:
-        """Has a listener told each message on a topic, and whether it was a retained one."""
-        self._topics.setdefault(topic, []).append(listener)
+    def subscribe(self, topic: str, listener: Listener) -> None:
+        """Calls a listener with each message on a topic, and with whether it was a retained one."""
+        self._listeners.setdefault(topic, []).append(listener)
         if self.connected:
             self._subscribe(topic)
 
@@ -113,109 +103,160 @@ class Connection:
             self._agreed.clear()
 
     async def agreed(self) -> None:
-        """Waits a little until the broker knows all that is listened to. A message that comes before is lost."""
-        with contextlib.suppress(asyncio.TimeoutError):
-            await asyncio.wait_for(self._agreed.wait(), FIRST_WAIT)
+        """Waits up to FIRST_WAIT until the broker has confirmed all subscriptions. Earlier messages are lost."""
+        await _wait(self._agreed, FIRST_WAIT)
 
     def publish(self, topic: str, value: Any) -> None:
-        """Publishes JSON, where there is no connection as soon as there is one."""
-        self._client.publish(topic, json.dumps(value), qos=1)
+        """Publishes JSON, as soon as there is a connection."""
+        text = json.dumps(value)
+        if self.connected:
+            self._client.publish(topic, text, qos=1)
+        else:
+            self._unsent.append((topic, text))
 
     def publish_now(self, topic: str, value: Any, retain: bool = False) -> bool:
-        """Publishes JSON at once, or not at all. False where there is no connection. It isn't sent again after
-        a connection was lost, nor kept by the broker for a listener that is away."""
+        """Publishes JSON at once, or not at all: then, without a connection, it returns False. The message isn't
+        sent again after the connection was lost, and the broker doesn't keep it for a listener that is away."""
         if not self.connected:
             return False
         sent = self._client.publish(topic, json.dumps(value), qos=0, retain=retain)
         return bool(sent.rc == mqtt.MQTT_ERR_SUCCESS)
 
     async def open(self) -> None:
-        """Connects, and waits a little for that."""
-        self._loop = asyncio.get_running_loop()
-        self._client.connect_async(self.broker.host, self.broker.port, KEEPALIVE)
-        self._client.loop_start()
+        """Connects. Returns after FIRST_WAIT if the broker isn't there by then."""
+        self._task = asyncio.create_task(self._stay_connected())
+        if not await _wait(self._first, FIRST_WAIT) and self._why is None:
+            self._changed(False, self._unreached())
+
+    async def close(self) -> None:
+        """Disconnects, and publishes that: the broker doesn't publish the last will of those who disconnect."""
+        self.publish_now(self.state_topic, GONE, retain=True)
+        self.connected = False  # So that the end isn't reported as a loss.
+        if self._socket is not None:
+            self._client.disconnect()
+            await _wait(self._lost, FIRST_WAIT)
+        if self._task is not None:
+            self._task.cancel()
+            await asyncio.wait([self._task])
+
+    async def _stay_connected(self) -> None:
+        """Connects, and connects again after each loss."""
+        while True:
+            self._lost.clear()
+            try:
+                await asyncio.to_thread(self._client.reconnect)
+            except (OSError, UnicodeError) as error:  # A host that is no name gives a UnicodeError.
+                self._fail(error)
+            else:
+                self._watch()
+                while not await _wait(self._lost, 1.0):
+                    self._client.loop_misc()
+            await asyncio.sleep(self._pause)
+            self._pause = min(2 * self._pause, LONGEST_PAUSE)
+
+    def _watch(self) -> None:
+        loop = asyncio.get_running_loop()
+        self._socket = self._client.socket()
+        loop.add_reader(self._socket, self._read)
+        loop.add_writer(self._socket, self._write)
+
+    def _read(self) -> None:
+        """Reads what has come. A socket of TLS may have more in store than the system has, so it is asked."""
+        watched = self._socket
+        self._run(self._client.loop_read)
+        while self._socket is watched and isinstance(watched, ssl.SSLSocket) and watched.pending():
+            self._run(self._client.loop_read)
+
+    def _write(self) -> None:
+        self._run(self._client.loop_write)
+
+    def _run(self, step: Callable[[], Any]) -> None:
+        """Has the client read or write. What it raises, as errors of TLS, ends the connection."""
         try:
-            await asyncio.wait_for(self._first.wait(), FIRST_WAIT)
-        except asyncio.TimeoutError:
-            if self._why is None:
-                self._changed(False, self._unreached())
+            step()
+        except Exception as error:
+            self._unwatch()
+            self._end()
+            self._fail(error)
+
+    def _unwatch(self) -> None:
+        loop = asyncio.get_running_loop()
+        loop.remove_reader(self._socket)
+        loop.remove_writer(self._socket)
+        self._socket = None
+
+    def _end(self) -> None:
+        self.connected = False
+        self._asked.clear()
+        self._agreed.set()
+        self._lost.set()
 
     def _unreached(self) -> str:
         return f"the broker at {self.broker.host}:{self.broker.port} can't be reached"
 
-    async def close(self) -> None:
-        """Disconnects, and says so: the broker keeps its last will from those who disconnect."""
-        self.publish_now(self.state_topic, GONE, retain=True)
-        self.connected = False  # So that it isn't told as a loss.
-        self._client.disconnect()
-        await asyncio.to_thread(self._client.loop_stop)
-
-    # In the thread of the client.
-
-    def _soon(self, call: Callable[..., None], *words: Any) -> None:
-        if self._loop is not None and not self._loop.is_closed():
-            self._loop.call_soon_threadsafe(call, *words)
-
-    def _on_connect(self, client: Any, data: Any, flags: Any, code: int) -> None:
-        self._soon(self._connected, code)
-
-    def _on_connect_fail(self, client: Any, data: Any) -> None:
-        error = sys.exc_info()[1]  # It is called where this is handled.
-        if isinstance(error, OSError):
-            self._on_error(error)
-
-    def _on_error(self, error: OSError) -> None:
-        self._soon(self._failed, error.strerror or str(error))
-
-    def _on_disconnect(self, client: Any, data: Any, code: int) -> None:
-        self._soon(self._disconnected, code)
-
-    def _on_subscribe(self, client: Any, data: Any, number: int, levels: Any) -> None:
-        self._soon(self._subscribed, number, REFUSED in levels)
-
-    def _on_message(self, client: Any, data: Any, message: Any) -> None:
-        self._soon(self._message, message.topic, message.payload, bool(message.retain))
-
-    # In that of the loop.
-
-    def _connected(self, code: int) -> None:
-        if code != 0:
-            self._miss(f"the broker refuses: {mqtt.connack_string(code)}")
-            return
-        self.connected = True
-        self._why = None
-        for topic in self._topics:
-            self._subscribe(topic)
-        self._first.set()
-        self._changed(True, "the broker is there")
-
-    def _failed(self, why: str) -> None:
-        """There is no connection."""
-        self._miss(f"{self._unreached()}: {why}")
+    def _fail(self, error: Exception) -> None:
+        self._miss(f"{self._unreached()}: {getattr(error, 'strerror', None) or error}")
 
     def _miss(self, why: str) -> None:
-        """There is none for that reason. It is tried again and again, and said once for each reason."""
+        """Reports why there is no connection, once for each reason, though every attempt may fail for it."""
         if why != self._why:
             self._why = why
             self._changed(False, why)
 
-    def _disconnected(self, code: int) -> None:
-        self._asked.clear()
-        self._agreed.set()
-        if self.connected:
-            self.connected = False
+    # Calls of the client. Those that name a socket concern only the one that the loop watches: `reconnect` makes
+    # some in its thread, for the old socket and for the new one.
+
+    def _on_socket_close(self, client: Any, data: Any, closed: Any) -> None:
+        if closed is self._socket:
+            self._unwatch()
+
+    def _on_socket_register_write(self, client: Any, data: Any, watched: Any) -> None:
+        if watched is self._socket:
+            asyncio.get_running_loop().add_writer(watched, self._write)
+
+    def _on_socket_unregister_write(self, client: Any, data: Any, watched: Any) -> None:
+        if watched is self._socket:
+            asyncio.get_running_loop().remove_writer(watched)
+
+    def _on_connect(self, client: Any, data: Any, flags: Any, code: int) -> None:
+        if code != 0:
+            self._miss(f"the broker refuses: {mqtt.connack_string(code)}")
+            return
+        self.connected = True
+        self._pause = SHORTEST_PAUSE
+        self._why = None
+        for topic in self._listeners:
+            self._subscribe(topic)
+        while self._unsent:
+            topic, text = self._unsent.popleft()
+            self._client.publish(topic, text, qos=1)
+        self._first.set()
+        self._changed(True, "the broker is there")
+
+    def _on_disconnect(self, client: Any, data: Any, code: int) -> None:
+        was_connected = self.connected
+        self._end()
+        if was_connected:
             self._changed(False, "the broker is gone")
 
-    def _subscribed(self, number: int, refused: bool) -> None:
+    def _on_subscribe(self, client: Any, data: Any, number: int, levels: Any) -> None:
         topic = self._asked.pop(number, None)
-        if refused and topic is not None:
+        if REFUSED in levels and topic is not None:
             self._changed(False, f"the broker doesn't let this home listen to {topic}")
         if not self._asked:
             self._agreed.set()
 
-    def _message(self, topic: str, payload: bytes, retained: bool) -> None:
-        for listener in self._topics.get(topic, ()):
+    def _on_message(self, client: Any, data: Any, message: Any) -> None:
+        for listener in self._listeners.get(message.topic, ()):
             try:
-                listener(payload, retained)
+                listener(message.payload, bool(message.retain))
             except Exception:
-                LOG.exception("a message on %s", topic)
+                LOG.exception("a message on %s", message.topic)
+
+
+async def _wait(event: asyncio.Event, seconds: float) -> bool:
+    """Waits for an event, and returns whether it came in that time."""
+    with contextlib.suppress(TimeoutError):
+        async with asyncio.timeout(seconds):
+            await event.wait()
+    return event.is_set()

@@ -2,6 +2,7 @@
 
 import asyncio
 import json
+import ssl
 import subprocess
 import tempfile
 import unittest
@@ -11,10 +12,14 @@ from unittest import mock
 
 import paho.mqtt.client as mqtt  # type: ignore[import]
 
+from roman_live import mqtt_api
 from roman_live.config import Broker, Tls
-from roman_live.mqtt_api import REFUSED, Client, Connection
+from roman_live.mqtt_api import REFUSED, Connection, new_client
 
 from .machinery import PATIENCE, Mosquitto
+
+KEY = "-newkey ec -pkeyopt ec_paramgen_curve:prime256v1"
+"""The words of openssl for a new key."""
 
 
 class Later(unittest.IsolatedAsyncioTestCase):
@@ -53,14 +58,14 @@ class Versions(unittest.TestCase):
         begin = mqtt.Client.__init__
         words: List[object] = []
 
-        def begun(client: mqtt.Client, *given: object) -> None:
+        def begun(client: mqtt.Client, *given: object, **named: object) -> None:
             words.append(given)
-            begin(client)
+            begin(client, **named)
 
         versions = mock.Mock(VERSION1="as paho 1")
         with mock.patch.object(mqtt.Client, "__init__", begun):
             with mock.patch.object(mqtt, "CallbackAPIVersion", versions, create=True):
-                Client(lambda error: None)
+                new_client()
         self.assertEqual(words, [("as paho 1",)])
 
 
@@ -68,7 +73,6 @@ class Refused(unittest.IsolatedAsyncioTestCase):
     async def test_it_is_said_which_topic(self) -> None:
         said: List[Tuple[bool, str]] = []
         connection = Connection(Broker(), lambda connected, text: said.append((connected, text)))
-        connection._loop = asyncio.get_running_loop()
         connection._asked = {1: "home/window/answer", 2: "home/lamp/answer"}
         connection._agreed.clear()
         connection._on_subscribe(None, None, 1, [REFUSED])
@@ -88,17 +92,20 @@ class Unknown(unittest.IsolatedAsyncioTestCase):
         said: List[str] = []
         connection = Connection(Broker(port=broker.port), lambda connected, text: said.append(text))
         refused = connection._on_connect
-        times: List[int] = []
+        times: "asyncio.Queue[int]" = asyncio.Queue()
 
         def counted(client: object, data: object, flags: object, code: int) -> None:
-            times.append(code)
+            times.put_nowait(code)
             refused(client, data, flags, code)
 
         connection._client.on_connect = counted
-        await connection.open()
+        with mock.patch.multiple(mqtt_api, FIRST_WAIT=0.0):
+            await connection.open()
         self.addAsyncCleanup(connection.close)
-        self.assertGreater(len(times), 1)
-        self.assertEqual(said, ["the broker refuses: Connection Refused: not authorised."])
+        for _ in range(2):
+            self.assertEqual(await asyncio.wait_for(times.get(), PATIENCE), mqtt.CONNACK_REFUSED_NOT_AUTHORIZED)
+        self.assertEqual(said[-1], "the broker refuses: Connection Refused: not authorised.")
+        self.assertEqual(len(said), len(set(said)))
 
 
 class Encrypted(unittest.IsolatedAsyncioTestCase):
@@ -108,10 +115,10 @@ class Encrypted(unittest.IsolatedAsyncioTestCase):
         folder = tempfile.TemporaryDirectory()
         self.addCleanup(folder.cleanup)
         self.folder = Path(folder.name)
-        self.openssl("req -x509 -newkey rsa:2048 -nodes -keyout ca.key -out ca.pem -days 2 -subj /CN=home")
+        self.openssl(f"req -x509 {KEY} -nodes -keyout ca.key -out ca.pem -days 2 -subj /CN=home")
         (self.folder / "names").write_text("subjectAltName = IP:127.0.0.1\n", encoding="ascii")
         for name in ("broker", "live"):
-            self.openssl(f"req -newkey rsa:2048 -nodes -keyout {name}.key -out {name}.asked -subj /CN={name}")
+            self.openssl(f"req {KEY} -nodes -keyout {name}.key -out {name}.asked -subj /CN={name}")
             self.openssl(
                 f"x509 -req -in {name}.asked -CA ca.pem -CAkey ca.key -CAcreateserial -days 2"
                 f" -extfile names -out {name}.pem"
@@ -150,8 +157,32 @@ class Encrypted(unittest.IsolatedAsyncioTestCase):
         self.assertFalse(connection.connected)
         ((_, text),) = self.said
         self.assertRegex(text, "can't be reached: .*certificate required")
-        assert connection._client._thread is not None
-        self.assertTrue(connection._client._thread.is_alive(), "so that it tries again")
+        again = asyncio.Event()
+        loop = asyncio.get_running_loop()
+        with mock.patch.object(connection._client, "reconnect", lambda: loop.call_soon_threadsafe(again.set)):
+            await asyncio.wait_for(again.wait(), PATIENCE)
+
+    async def test_messages_that_come_in_one_record(self) -> None:
+        """The system says nothing of those that the socket has decrypted already."""
+        messages = [b"\x30\x09\x00\x04lamp" + b"%03d" % number for number in range(3)]
+
+        async def broker(reader: asyncio.StreamReader, writer: asyncio.StreamWriter) -> None:
+            await reader.readexactly(2)
+            writer.write(b"\x20\x02\x00\x00" + b"".join(messages))
+            await reader.read()
+            writer.close()
+
+        context = ssl.create_default_context(ssl.Purpose.CLIENT_AUTH)
+        context.load_cert_chain(self.folder / "broker.pem", self.folder / "broker.key")
+        async with await asyncio.start_server(broker, "127.0.0.1", 0, ssl=context) as server:
+            port = server.sockets[0].getsockname()[1]
+            heard: "asyncio.Queue[bytes]" = asyncio.Queue()
+            connection = Connection(Broker(port=port, tls=Tls(self.folder / "ca.pem")), lambda connected, text: None)
+            connection.subscribe("lamp", lambda payload, retained: heard.put_nowait(payload))
+            await connection.open()
+            got = [await asyncio.wait_for(heard.get(), PATIENCE) for _ in messages]
+            await connection.close()
+        self.assertEqual(got, [b"000", b"001", b"002"])
 
 
 if __name__ == "__main__":
