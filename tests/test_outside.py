@@ -275,6 +275,7 @@ class Install(Tree):
         "share/roman/schema/system.schema.json",
         "share/roman/schema/costs.schema.json",
         "share/roman/schema/short.schema.json",
+        "share/roman/schema/home.schema.json",
         "bin/roman-lint",
         "bin/roman-expand",
         "bin/roman-talk",

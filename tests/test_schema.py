@@ -358,7 +358,7 @@ class Schemas(unittest.TestCase):
         self.assertFalse(part_of("behaviour").is_valid({"file": "lamp.json"}))
 
     def test_each_member_is_described(self) -> None:
-        for name in ("system.schema.json", "costs.schema.json"):
+        for name in ("system.schema.json", "costs.schema.json", "home.schema.json"):
             value = json.loads((TOP / "schema" / name).read_text(encoding="utf-8"))
             self.assertEqual(list(undescribed(value, name)), [])
 
@@ -398,7 +398,7 @@ def undescribed(value: Any, where: str) -> Iterator[str]:
     for word in ("items", "then", "else"):
         if isinstance(value.get(word), dict):
             yield from undescribed(value[word], where)
-    for name, member in value.get("$defs", {}).items():
+    for name, member in {**value.get("$defs", {}), **value.get("definitions", {})}.items():
         yield from undescribed(member, f"{where} {name}")
 
 

@@ -13,6 +13,8 @@ from urllib.parse import urlsplit
 
 import tomllib
 
+from .toml_lines import located
+
 Value = TypeVar("Value")
 
 LONGEST_HORIZON = 64
@@ -20,7 +22,7 @@ LONGEST_HORIZON = 64
 
 
 class HomeFileError(Exception):
-    """A home file can't be read, or says what can't be. The text names the file, and the line or the key."""
+    """A home file can't be read, or isn't valid. The text names the file, the line, and the table with the key."""
 
 
 class PolicyName(Enum):
@@ -158,7 +160,8 @@ class HomeFile:
         """Reads a home file. Raises HomeFileError."""
         place = Path(os.path.abspath(path))
         try:
-            value = tomllib.loads(place.read_text(encoding="utf-8"))
+            content = place.read_text(encoding="utf-8")
+            value = tomllib.loads(content)
         except OSError as error:
             raise HomeFileError(f"{path}: {error.strerror}") from None
         except (tomllib.TOMLDecodeError, UnicodeDecodeError) as error:
@@ -166,7 +169,7 @@ class HomeFile:
         try:
             return _home_file(place, Table("", value))
         except HomeFileError as error:
-            raise HomeFileError(f"{path}: {error}") from None
+            raise HomeFileError(f"{path}: {located(content, str(error))}") from None
 
 
 class Table:
