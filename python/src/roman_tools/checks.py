@@ -66,6 +66,8 @@ class Checker:
         self.version = 0
         self.short = False
         """Whether the document is in the short form."""
+        self.patterns: Dict[str, str] = {}
+        """The behaviours that are made from patterns, each with its pattern."""
         self.system: Optional[System] = None
         """The system, where nothing is refused."""
 
@@ -347,7 +349,8 @@ class Checker:
                 self.known(part, other, at, f"a state of {part.title}", states),
             )
             if None not in found:
-                machine.steps.append(Step(*found, step.span, guard.span))  # type: ignore[arg-type]
+                is_off = isinstance(guard, Constant) and guard.constant is False
+                machine.steps.append(Step(*found, step.span, guard.span, is_off))  # type: ignore[arg-type]
         return machine, states
 
     def choices(self, part: Part, machine: Machine, env_states: Names) -> None:
@@ -440,11 +443,11 @@ class Checker:
         targets = self.read_targets(part, environment, env_states, actions)
         if self.findings or environment is None:
             return
-        limit_value = value.get("limit")
+        limit_place = value.get("limit") or value.get("roman") or value
         self.system = System(
             self.version,
             limit,
-            limit_value.span if limit_value else None,
+            limit_place.span,
             environment[0],
             [machine for machine, _ in machines],
             [each for each in services if each],

@@ -11,8 +11,9 @@ from typing import Iterator, Optional
 from roman_client import Document
 
 from .checks import Checker
+from .findings import Finding
 from .reader import Members, Shelf
-from .short_form import Expander, is_short
+from .short_form import Expander, has_short_words, is_short
 from .systems import System
 from .writer import written
 
@@ -26,6 +27,9 @@ def read(name: str, shelf: Optional[Shelf] = None) -> Checker:
         return checker
     if not (isinstance(value, Members) and is_short(value)):
         checker.check(value)
+        if checker.findings and isinstance(value, Members) and has_short_words(value):
+            checker.findings = [unnamed_form(value, checker.findings[0])]
+            checker.parts.clear()
         return checker
     checker.short = True
     plain = Expander(checker).expand(value)
@@ -34,6 +38,16 @@ def read(name: str, shelf: Optional[Shelf] = None) -> Checker:
     # The numbers of steps in a refusal would be those of the plain document, which nobody sees.
     checker.findings = [dataclasses.replace(each, refusal=None) for each in checker.findings]
     return checker
+
+
+def unnamed_form(value: Members, first: Finding) -> Finding:
+    """The one finding in a document of the short form that names a version of the plain one. The program refuses it
+    for the first of the others."""
+    version = value.get("roman")
+    span = value.span.head if version is None else version.span
+    return dataclasses.replace(
+        first, span=span, message='this is a document in the short form: "roman": "short" is due here'
+    )
 
 
 def looked_up(system: System) -> Document:

@@ -4,8 +4,8 @@ from __future__ import annotations
 
 import difflib
 import enum
-from dataclasses import dataclass
-from typing import Any, Dict, Iterable, List, Optional
+from dataclasses import dataclass, field, replace
+from typing import Any, Dict, Iterable, List, Optional, Sequence, Tuple
 
 from .reader import Span
 
@@ -43,11 +43,26 @@ class Finding:
     level: Level
     message: str
     refusal: Optional[Refusal] = None
+    part: Optional[Tuple[str, int]] = field(default=None, compare=False)
+    """The kind and the number of the part that it is about, if several parts share its place."""
+    cause: Optional[Finding] = field(default=None, compare=False)
+    """The finding that it follows from, or repeats."""
+    consequences: int = field(default=0, compare=False)
+    """How many findings follow from it, or repeat it."""
 
     @property
     def heading(self) -> str:
         """`FILE:LINE:COLUMN: error: MESSAGE`, the form that editors know from compilers."""
-        return f"{self.span}: {self.level.value}: {self.message}"
+        return f"{self.span}: {self.level.value}: {self.message}{self.more}"
+
+    @property
+    def more(self) -> str:
+        """How many findings follow from it, or repeat it, in words."""
+        if not self.consequences:
+            return ""
+        if self.level is Level.ERROR:
+            return f" (and {self.consequences} more like it)"
+        return f" (and {self.consequences} that {'follows' if self.consequences == 1 else 'follow'} from it)"
 
     def shown(self) -> List[str]:
         """The heading, the line, and a mark below the word."""
@@ -69,6 +84,7 @@ class Finding:
             "endColumn": end_column,
             "severity": self.level.value,
             "message": printable(self.message),
+            "follows": self.cause is not None,
         }
         if self.refusal is not None:
             found["refusal"] = str(self.refusal)
@@ -88,7 +104,31 @@ def in_order(findings: Iterable[Finding]) -> List[Finding]:
     return sorted(unrepeated, key=lambda each: (files.index(each.span.source), each.span.start))
 
 
-def meant(word: str, known: Iterable[str]) -> str:
+def grouped(findings: Sequence[Finding], causes: Dict[Finding, Finding]) -> List[Finding]:
+    """Findings with what they follow from: warnings with consequences first, each before its own."""
+    followers: Dict[Finding, List[Finding]] = {}
+    for each, cause in causes.items():
+        followers.setdefault(cause, []).append(each)
+    groups = [(each, followers.get(each, [])) for each in findings if each not in causes]
+    groups.sort(key=lambda group: group[0].level is Level.WARNING and not group[1])
+    found: List[Finding] = []
+    for each, rest in groups:
+        found.append(replace(each, consequences=len(rest)))
+        found += [replace(follower, cause=each) for follower in findings if follower in rest]
+    return found
+
+
+def repeats(findings: Sequence[Finding]) -> Dict[Finding, Finding]:
+    """The errors with the message of an earlier one, each with that one."""
+    first: Dict[str, Finding] = {}
+    found = {}
+    for each in findings:
+        if each.level is Level.ERROR and first.setdefault(each.message, each) is not each:
+            found[each] = first[each.message]
+    return found
+
+
+def meant(word: str, known: Iterable[str], nearness: float = 0.6) -> str:
     """`; did you mean "..."?` where a known word is near."""
-    near = difflib.get_close_matches(word, list(known), n=1, cutoff=0.6)
+    near = difflib.get_close_matches(word, list(known), n=1, cutoff=nearness)
     return f'; did you mean "{near[0]}"?' if near else ""

@@ -41,11 +41,19 @@ def parser() -> Lark:
 class Space:
     """The states of an environment, as guards see them: by their names, and by the values of variables."""
 
-    def __init__(self, states: List[str], variables: Dict[str, List[str]], values: List[Dict[str, str]]) -> None:
+    def __init__(
+        self,
+        states: List[str],
+        variables: Dict[str, List[str]],
+        values: List[Dict[str, str]],
+        elsewhere: Dict[str, str],
+    ) -> None:
         self.states = states
         self.variables = variables
         self.values = values
         """For each state the value of each variable."""
+        self.elsewhere = elsewhere
+        """Words that are states of a behaviour, each with its name."""
         self.everything = (1 << len(states)) - 1
 
     def where(self, variable: str, value: str) -> int:
@@ -94,7 +102,7 @@ class Space:
             report(span, f'"{variable}" is no variable{meant(variable, self.variables)}')
             return self.everything
         if value not in self.variables[variable]:
-            near = meant(value, self.variables[variable])
+            near = self.known_as(value) or meant(value, self.variables[variable])
             report(span, f'"{value}" is no value of "{variable}"{near}')
             return self.everything
         return self.where(variable, value)
@@ -114,8 +122,28 @@ class Space:
             return self.everything
         values = [value for each in self.variables.values() for value in each]
         what = "state of the environment" if not self.variables else "state and no value of a variable"
-        report(span, f'"{word}" is no {what}{meant(word, [*self.states, *values])}')
+        report(span, f'"{word}" is no {what}{self.known_as(word) or meant(word, [*self.states, *values])}')
         return self.everything
+
+    def known_as(self, word: str) -> str:
+        """What a word is that guards can't see."""
+        if word not in self.elsewhere:
+            return ""
+        return f'; it is a state of behaviour "{self.elsewhere[word]}", and guards see the environment alone'
+
+    def words(self, mask: int) -> str:
+        """A formula for these states: by the values of each variable if that is possible, else by their names."""
+        numbers = [number for number in range(len(self.states)) if mask >> number & 1]
+        parts, product = [], self.everything
+        for variable, values in self.variables.items():
+            found = [each for each in values if any(self.values[number][variable] == each for number in numbers)]
+            product &= self.joined([self.where(variable, each) for each in found], False)
+            if len(found) < len(values):
+                test = " or ".join(f"{variable} = {each}" for each in found)
+                parts.append(f"({test})" if len(found) > 1 else test)
+        if product == mask and parts:
+            return " and ".join(parts) if len(parts) > 1 else parts[0].strip("()")
+        return " or ".join(self.states[number] for number in numbers) or "never"
 
     # Formulas.
 
@@ -149,6 +177,35 @@ class Space:
         if tree.data == "negation":
             return self.everything & ~masks[0]
         return self.joined(masks, tree.data == "both")
+
+
+def words_of(guard: Value) -> str:
+    """A guard as a formula, whichever form it has."""
+    if isinstance(guard, Text):
+        return guard.text
+    if isinstance(guard, Constant):
+        return "" if guard.constant else "never"
+    if isinstance(guard, Items):
+        return " or ".join(inner(each) for each in guard.items) or "never"
+    if not isinstance(guard, Members):
+        return "?"
+    parts = []
+    for word, member in guard.last.items():
+        listed = member.value.items if isinstance(member.value, Items) else [member.value]
+        if word == "not":
+            parts.append(f"not {inner(member.value)}")
+        elif word in ("all", "any"):
+            parts.append((" and " if word == "all" else " or ").join(inner(each) for each in listed))
+        else:
+            tests = [f"{word} = {each.text}" for each in listed if isinstance(each, Text)]
+            parts.append(" or ".join(tests) if len(guard.last) == 1 or len(tests) == 1 else f"({' or '.join(tests)})")
+    return " and ".join(parts)
+
+
+def inner(guard: Value) -> str:
+    """A guard as a part of a formula."""
+    words = words_of(guard)
+    return f"({words})" if " " in words else words
 
 
 def spot(text: Text, token: Token) -> Span:

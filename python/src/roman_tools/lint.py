@@ -1,7 +1,8 @@
 """roman-lint FILE: what is wrong with a document, and what is probably not meant, each with its place.
 
 The last line is what the program says itself, and the program decides. The status is 3 where there are
-errors, 1 where there are warnings under --strict, 5 where the file can't be read, and 0 otherwise.
+errors, 4 if the system is larger than its limit, 1 where there are warnings under --strict, 5 where the file can't
+be read, and 0 otherwise.
 """
 
 from __future__ import annotations
@@ -13,12 +14,12 @@ import sys
 from typing import List, Optional, Sequence, Tuple
 
 from . import finished, program
-from .cautions import Judge, of_text
+from .cautions import judged, of_text
 from .checks import Checker
 from .documents import plain_file, read
-from .findings import Finding, Level, in_order
+from .findings import Finding, Level, grouped, in_order, repeats
 
-CLEAN, WARNED, WRONG, UNREADABLE = 0, 1, 3, 5
+CLEAN, WARNED, WRONG, LARGE, UNREADABLE = 0, 1, 3, 4, 5
 
 
 def lint(name: str) -> List[Finding]:
@@ -27,11 +28,11 @@ def lint(name: str) -> List[Finding]:
 
 
 def all_findings(checker: Checker) -> List[Finding]:
-    """The errors of a document that was read, and its warnings."""
-    findings = [*checker.findings, *of_text(checker)]
-    if checker.system is not None:
-        findings += Judge(checker.system).findings()
-    return in_order(findings)
+    """The errors of a document that was read, and its warnings: causes first, each with what follows from it."""
+    findings = in_order([*checker.findings, *of_text(checker)])
+    if checker.system is None:
+        return grouped(findings, repeats(findings))
+    return [*findings, *judged(checker.system)]
 
 
 def said(words: argparse.Namespace, checker: Checker) -> Optional[str]:
@@ -68,6 +69,7 @@ def main(arguments: Optional[Sequence[str]] = None) -> int:
     words = argparse.ArgumentParser(prog="roman-lint", description=(__doc__ or "").split("\n\n")[1])
     words.add_argument("file", metavar="FILE")
     words.add_argument("--json", action="store_true", help="write a JSON value, for editors")
+    words.add_argument("--all", action="store_true", help="show what follows from a finding, or repeats it, too")
     words.add_argument("--strict", action="store_true", help="end with status 1 where there are warnings")
     words.add_argument("--program", metavar="ROMAN", help="the program that has the last word")
     words.add_argument("--no-program", action="store_true", help="don't ask the program")
@@ -85,11 +87,14 @@ def main(arguments: Optional[Sequence[str]] = None) -> int:
         print(json.dumps(value, indent=2, ensure_ascii=True))
     else:
         for each in findings:
-            print(*each.shown(), sep="\n")
+            if each.cause is None or asked.all:
+                print(*each.shown(), sep="\n")
         print(f"{plural(errors, 'error')}, {plural(warnings, 'warning')}")
         print(f"roman says: {answer}" if answer else "roman isn't here to say what it thinks of it")
     if errors:
         return WRONG
+    if checker.system is not None and checker.system.cells > checker.system.limit:
+        return LARGE
     return WARNED if warnings and asked.strict else CLEAN
 
 

@@ -6,7 +6,7 @@ import itertools
 from dataclasses import dataclass, field
 from typing import Dict, FrozenSet, List, Optional, Sequence, Set, Tuple
 
-from .reader import Span
+from .reader import Span, Value
 
 Place = int
 """The number of an action's place in a plan; -1 is before all of them."""
@@ -31,6 +31,8 @@ class Request:
     guard: int
     name: Optional[str]
     span: Span
+    written: Optional[Value] = None
+    """The guard as it is written."""
 
 
 @dataclass
@@ -97,7 +99,12 @@ class Way:
     guard: int
     action: str
     to: str
-    span: Span
+    request: Request
+    """The first request of those that it comes from."""
+
+    @property
+    def span(self) -> Span:
+        return self.request.span
 
 
 @dataclass
@@ -119,7 +126,7 @@ class Maker:
         self.start = start
         self.size = size
         self.given_finals = finals
-        self.ways: Dict[State, List[Tuple[str, int, State, Span]]] = {}
+        self.ways: Dict[State, List[Tuple[str, int, State, Request]]] = {}
         self.explore()
 
     def explore(self) -> None:
@@ -134,7 +141,7 @@ class Maker:
             self.ways[state] = self.ways_of(state)
             waiting += [to for _, _, to, _ in self.ways[state]]
 
-    def ways_of(self, state: State) -> List[Tuple[str, int, State, Span]]:
+    def ways_of(self, state: State) -> List[Tuple[str, int, State, Request]]:
         """For each action the sets of places to which it leads, with the environment states in which it does."""
         places = sorted(set().union(*(self.plan.after.get(place, set()) for place in state)))
         requests = [(place, self.plan.requests[place]) for place in places]
@@ -147,7 +154,7 @@ class Maker:
                 if to:
                     guards[to] = guards.get(to, 0) | part
             for to, guard in guards.items():
-                found.append((action, guard, to, self.plan.requests[min(to)].span))
+                found.append((action, guard, to, self.plan.requests[min(to)]))
         return found
 
     def name(self, state: State) -> Optional[str]:
@@ -219,7 +226,9 @@ class Maker:
             made.states[title] = self.plan.requests[min(state)].span if min(state) >= 0 else None
             if self.is_final(state):
                 made.finals.append(title)
-            made.ways += [Way(title, guard, action, titles[to], span) for action, guard, to, span in self.ways[state]]
+            made.ways += [
+                Way(title, guard, action, titles[to], request) for action, guard, to, request in self.ways[state]
+            ]
         return made
 
     def action_of(self, state: State) -> str:

@@ -18,10 +18,11 @@ from typing import Any, Dict, Iterator, List, Optional, Sequence, Tuple
 from jsonschema import Draft202012Validator  # type: ignore[import]
 from jsonschema.exceptions import ValidationError  # type: ignore[import]
 
+from .actions import Actions
 from .checks import Checker
 from .findings import Finding, Level, meant
-from .formulas import Space
-from .plans import Maker, Plan, Request, Shape, TooLarge
+from .formulas import Space, words_of
+from .plans import Maker, Plan, Request, Shape, TooLarge, Way
 from .reader import Constant, Items, Member, Members, Number, Span, Text, Value
 
 SHORT = "short"
@@ -65,6 +66,18 @@ def plain(value: Value) -> Any:
     return {name: plain(member.value) for name, member in value.last.items()}
 
 
+def word_of(value: Optional[Value]) -> Optional[str]:
+    """A text, or true or false as a word; None for any other value."""
+    if isinstance(value, Constant) and value.constant is not None:
+        return "true" if value.constant else "false"
+    return value.text if isinstance(value, Text) else None
+
+
+def member_text(value: Value, name: str) -> str:
+    """The text of a member; an empty one if there is no such member."""
+    return word_of(value.get(name) if isinstance(value, Members) else None) or ""
+
+
 def texts(value: Optional[Value]) -> List[Text]:
     """A text, or the texts of a list."""
     if isinstance(value, Items):
@@ -91,6 +104,13 @@ def filled(value: Value, given: Dict[str, str], report: Any) -> Value:
     return value
 
 
+@dataclass(frozen=True)
+class Worded(Items):
+    """A guard of the plain form with its words in the short one."""
+
+    words: str
+
+
 @dataclass
 class Template:
     """A behaviour with parameters, and what it was made into so far."""
@@ -108,9 +128,15 @@ class Expander:
 
     def __init__(self, checker: Checker) -> None:
         self.checker = checker
-        self.space = Space([], {}, [])
+        self.space = Space([], {}, [], {})
+        self.elsewhere: Dict[str, str] = {}
+        """The states of behaviours, each with a behaviour that has it."""
         self.seen: Dict[str, Text] = {}
         """The actions of the document as they come up, for an environment that doesn't list them."""
+        self.moved: Dict[str, Span] = {}
+        """The actions on which the environment has a step, with the first one of each."""
+        self.planned: Dict[str, Span] = {}
+        """The actions that plans request, with the first place of each."""
 
     def report(self, span: Span, message: str) -> None:
         self.checker.findings.append(Finding(span, Level.ERROR, message))
@@ -131,9 +157,12 @@ class Expander:
             return None
         at = document.span
         self.collect(document)
+        self.elsewhere = states_of_behaviours(document)
         environment = self.environment(document.get("environment"), at.head)
         behaviours, services = self.behaviours(document)
         targets = self.targets(document)
+        if not self.checker.findings:
+            self.check_requests(texts(environment.get("actions")), behaviours, services)
         if self.checker.findings:
             return None
         several = len(targets) > 1
@@ -141,7 +170,7 @@ class Expander:
         version = 3 if several else 2 if loose else 1
         return members(
             at,
-            roman=Number(at.head, str(version)),
+            roman=Number(span_of(document, "roman"), str(version)),
             limit=document.get("limit"),
             environment=environment,
             behaviours=Items(at.head, behaviours),
@@ -210,6 +239,27 @@ class Expander:
             for word in ("choice", "loop", "maybe"):
                 self.collect_plan(value.get(word))
 
+    def check_requests(self, known: Sequence[Text], behaviours: Sequence[Value], services: Sequence[Value]) -> None:
+        """Notes the actions of plans on which the environment has no step, or no service has. Those that aren't in
+        the environment's list of actions, and unknown behaviours, are noted with the plain document."""
+        kinds = {member_text(each, "behaviour") for each in services}
+        if not kinds <= {member_text(each, "name") for each in behaviours}:
+            return
+        listed = {each.text for each in known}
+        served: Dict[str, Span] = {}
+        idle: Dict[str, str] = {}
+        for behaviour in behaviours:
+            name = member_text(behaviour, "name")
+            for step in items_of(behaviour.get("steps") if isinstance(behaviour, Members) else None):
+                action = items_of(step)[2]
+                if isinstance(action, Text) and name in kinds:
+                    served.setdefault(action.text, action.span)
+                elif isinstance(action, Text):
+                    idle.setdefault(action.text, name)
+        planned = {action: span for action, span in self.planned.items() if action in listed}
+        for span, message in Actions(planned, self.moved, served, idle).faults():
+            self.report(span, message)
+
     # The environment.
 
     def environment(self, value: Optional[Value], at: Span) -> Members:
@@ -224,11 +274,13 @@ class Expander:
             for one, action, other in self.moves(step, states):
                 key = (one.text, action.text, other.text)
                 triples.setdefault(key, Items(step.span, [one, action, other]))
+                self.moved.setdefault(action.text, action.span)
         if is_word(value.get("otherwise"), STAYS):
             taken = {(one, action) for one, action, _ in triples}
             for action, one in itertools.product(actions, states):
                 if (one.text, action.text) not in taken:
                     triples[one.text, action.text, one.text] = Items(action.span, [one, action, one])
+                    self.moved.setdefault(action.text, action.span)
         where = value.span
         return members(
             where,
@@ -243,7 +295,7 @@ class Expander:
         variables = value.get("variables")
         if not isinstance(variables, Members):
             states = texts(value.get("states"))
-            self.space = Space([each.text for each in states], {}, [{} for _ in states])
+            self.space = Space([each.text for each in states], {}, [{} for _ in states], self.elsewhere)
             return states
         names = list(variables.last)
         lists = [texts(variables.get(name)) for name in names]
@@ -256,7 +308,7 @@ class Expander:
             states.append(text(each[-1].span, "-".join(one.text for one in each)))
             values.append({name: one.text for name, one in zip(names, each)})
         known = {name: [one.text for one in each] for name, each in zip(names, lists)}
-        self.space = Space([each.text for each in states], known, values)
+        self.space = Space([each.text for each in states], known, values, self.elsewhere)
         return states
 
     def env_start(self, value: Members, states: Sequence[Text]) -> Text:
@@ -390,9 +442,7 @@ class Expander:
                 if name not in arguments:
                     near = meant(name, arguments)
                     self.report(member.name.span, f'"{name}" is no parameter of "{template.name}"{near}')
-                filled_value = filled(member.value, given, self.report)
-                assert isinstance(filled_value, Text)
-                arguments[name] = filled_value.text
+                arguments[name] = word_of(filled(member.value, given, self.report))
         missing = [name for name, value in arguments.items() if value is None]
         if missing:
             message = f'behaviour "{template.name}" needs "{missing[0]}", by "with": {{"{missing[0]}": ..}}'
@@ -406,6 +456,7 @@ class Expander:
             if len(name) > 32 or name in template.made.values():
                 name = f"{template.name}-{len(template.made) + 1}"
             template.made[key] = name
+            self.checker.patterns[name] = template.name
             value = filled(template.value, values, self.report)
             assert isinstance(value, Members)
             template.values.append(self.machine(value, name))
@@ -418,6 +469,9 @@ class Expander:
         start = value.get("start")
         if not states:
             found: Dict[str, Text] = {start.text: start} if isinstance(start, Text) else {}
+            named = {each.text for step in steps for each in (step.items[0], step.items[3]) if isinstance(each, Text)}
+            if isinstance(start, Text) and named and start.text not in named:
+                self.report(start.span, f'"{start.text}" stands in no step{meant(start.text, named)}')
             for step in steps:
                 for each in (step.items[0], step.items[3]):
                     assert isinstance(each, Text)
@@ -452,15 +506,17 @@ class Expander:
                 yield Items(step.span, [one, guard, action, other])
 
     def told(self, guard: Optional[Value], step: Value) -> Value:
-        """A guard as a plain one."""
+        """A guard as a plain one. One that is written as false stays so, since it is meant."""
         if guard is None:
             return Constant(step.span, True)
-        return self.listed(self.space.guard(guard, self.report), guard.span)
+        if word_of(guard) == "false":
+            return Constant(guard.span, False)
+        return self.listed(self.space.guard(guard, self.report), guard.span, words_of(guard))
 
-    def listed(self, mask: int, at: Span) -> Value:
+    def listed(self, mask: int, at: Span, words: str) -> Value:
         if mask == self.space.everything:
             return Constant(at, True)
-        return Items(at, [text(at, name) for i, name in enumerate(self.space.states) if mask >> i & 1])
+        return Worded(at, [text(at, name) for i, name in enumerate(self.space.states) if mask >> i & 1], words)
 
     # Targets.
 
@@ -490,18 +546,7 @@ class Expander:
         states = [text(span or first.span, name) for name, span in made.states.items()]
         if isinstance(final, Constant):
             final = Items(final.span, list(states))
-        steps = [
-            Items(
-                way.span,
-                [
-                    text(way.span, way.state),
-                    self.listed(way.guard, way.span),
-                    text(way.span, way.action),
-                    text(way.span, way.to),
-                ],
-            )
-            for way in made.ways
-        ]
+        steps = [self.way(way) for way in made.ways]
         return members(
             value.span,
             name=value.get("name"),
@@ -511,19 +556,36 @@ class Expander:
             steps=Items(at.head, list(steps)),
         )
 
+    def way(self, way: Way) -> Items:
+        """A step of a plan's machine. Its guard has the words of its request, unless another request shares its
+        states of the environment."""
+        written = way.request.written
+        is_own = written is not None and way.guard == way.request.guard
+        words = words_of(written) if written is not None and is_own else self.space.words(way.guard)
+        at = way.span if written is None else written.span
+        state, action, to = (text(way.span, each) for each in (way.state, way.action, way.to))
+        return Items(way.span, [state, self.listed(way.guard, at, words), action, to])
+
+    def request(
+        self, plan: Plan, actions: Sequence[Text], guard: Optional[Value], name: Optional[str], at: Span
+    ) -> Shape:
+        """A place of a plan at which one of these actions may be requested."""
+        for action in actions:
+            self.planned.setdefault(action.text, action.span)
+        mask = self.space.everything if guard is None else self.space.guard(guard, self.report)
+        return plan.one(Request(tuple(each.text for each in actions), mask, name, at, guard))
+
     def shape(self, plan: Plan, value: Value) -> Shape:
         """A piece of a plan."""
         if isinstance(value, Text):
-            return plan.one(Request((value.text,), self.space.everything, None, value.span))
+            return self.request(plan, [value], None, None, value.span)
         if isinstance(value, Items):
             return plan.sequence([self.shape(plan, each) for each in value.items])
         assert isinstance(value, Members)
         if "do" in value.last:
-            when, to = value.get("when"), value.get("to")
-            guard = self.space.everything if when is None else self.space.guard(when, self.report)
-            actions = tuple(each.text for each in texts(value.get("do")))
+            to = value.get("to")
             name = to.text if isinstance(to, Text) else None
-            return plan.one(Request(actions, guard, name, span_of(value, "do")))
+            return self.request(plan, texts(value.get("do")), value.get("when"), name, span_of(value, "do"))
         if "choice" in value.last:
             return plan.choice([self.shape(plan, each) for each in items_of(value.get("choice"))])
         inner = self.shape(plan, value.get("loop") or value.get("maybe") or value)
@@ -534,8 +596,41 @@ def parameters(value: Members) -> Dict[str, Optional[str]]:
     """The parameters of a behaviour with what they are where nothing is given."""
     listed = value.get("parameters")
     if isinstance(listed, Members):
-        return {name: m.value.text if isinstance(m.value, Text) else None for name, m in listed.last.items()}
+        return {name: word_of(member.value) for name, member in listed.last.items()}
     return {each.text: None for each in texts(listed)}
+
+
+def states_of_behaviours(document: Members) -> Dict[str, str]:
+    """The states of the behaviours, each with the name of the first one that has it."""
+    found: Dict[str, str] = {}
+    for behaviour in items_of(document.get("behaviours")):
+        name = behaviour.get("name") if isinstance(behaviour, Members) else None
+        if not isinstance(behaviour, Members) or not isinstance(name, Text):
+            continue
+        states = texts(behaviour.get("states"))
+        for step in items_of(behaviour.get("steps")):
+            if isinstance(step, Members):
+                states += [*texts(step.get("from")), *texts(step.get("to"))]
+            else:
+                items = items_of(step)
+                states += [each for each in (*items[:1], *items[-1:]) if isinstance(each, Text)]
+        for state in states:
+            found.setdefault(state.text, name.text)
+    return found
+
+
+def has_short_words(document: Members) -> bool:
+    """Whether a document has members that the short form alone knows."""
+    targets = [document.get("target"), *items_of(document.get("targets"))]
+    parts: List[Tuple[Sequence[Optional[Value]], Tuple[str, ...]]] = [
+        ([document.get("environment")], ("variables", "otherwise")),
+        (items_of(document.get("behaviours")), ("parameters", "count")),
+        (items_of(document.get("services")), ("with", "count")),
+        (targets, ("plan",)),
+    ]
+    return any(
+        isinstance(part, Members) and any(word in part.last for word in words) for some, words in parts for part in some
+    )
 
 
 def items_of(value: Optional[Value]) -> List[Value]:

@@ -2,6 +2,8 @@
 
 from __future__ import annotations
 
+import re
+import textwrap
 from dataclasses import dataclass, field
 from typing import Any, Dict, Iterable, List, Optional, Sequence, Set, Tuple
 
@@ -9,6 +11,10 @@ from .checks import Checker, Part
 from .findings import Finding
 from .pictures import CHOICE, FADED, GUARD, PLAIN, WRONG, coloured, folded, graph, html, marked
 from .reader import Constant, Items, Members, Number, Span, Text, Value
+from .short_form import Worded
+
+WIDEST = 30
+"""How many characters of a loop's label stand in a line, if it can be broken."""
 
 LABELS = 4
 """How many actions an arrow shows; of more it shows the first ones."""
@@ -35,6 +41,8 @@ class Drawn:
 
 def guard_text(value: Value) -> str:
     """A guard in words; none where it is always true."""
+    if isinstance(value, Worded):
+        return value.words
     if isinstance(value, Constant):
         return "" if value.constant else "never"
     if isinstance(value, Items):
@@ -130,7 +138,7 @@ class Picture:
     def machine(self, part: Part) -> None:
         """A machine as a cluster: its states, where it starts, where it may be left, its steps."""
         key = key_of(part)
-        mine = [each for each in self.findings if within(each.span, part.value.span)]
+        mine = [each for each in self.findings if is_about(each, part)]
         self.told.update(mine)
         wrong = {each.span: each for each in mine}
         names = listed(part, "states")
@@ -161,7 +169,11 @@ class Picture:
             cluster.node(f"{key}  start", shape="point", width="0.12", label="")
             if start is not None and word_of(start) in (*states, *used):
                 cluster.edge(f"{key}  start", f"{key} {word_of(start)}")
-            for (state, to, marks), labels in self.arrows(steps, wrong).items():
+            arrows = self.arrows(steps, wrong)
+            cluster.attr(
+                margin=room_of(each for (one, other, _), labels in arrows.items() if one == other for each in labels)
+            )
+            for (state, to, marks), labels in arrows.items():
                 options = arrow_options(marks, labels)
                 cluster.edge(f"{key} {state}", f"{key} {to}", **options)
 
@@ -195,17 +207,10 @@ class Picture:
         if not isinstance(value, Items) or len(value.items) not in (3, 4):
             return None
         one, *guards, action, other = value.items
-        text = self.guard_words(guards[0]) if guards else ""
+        text = guard_text(guards[0]) if guards else ""
         holds = held(guards[0], self.states) if guards else self.states
         spans = [value.span, *(each.span for each in value.items)]
         return Drawn(word_of(one), word_of(other), word_of(action), text, holds, spans)
-
-    def guard_words(self, guard: Value) -> str:
-        """A guard in words; in a short document those of its formula."""
-        written = guard.span.source.text[guard.span.start : guard.span.end]
-        if self.checker.short and written.startswith('"'):
-            return written[1:-1]
-        return guard_text(guard)
 
     def arrows(self, steps: Sequence[Drawn], wrong: Dict[Span, Finding]) -> Dict[Arrow, List[str]]:
         """The arrows with their labels: those with equal ends and marks as one, and on each state one loop,
@@ -215,7 +220,7 @@ class Picture:
             marks = "guard" if step.guard else ""
             marks += "choice" if has_choice(step, steps) else ""
             marks += "wrong" if is_wrong(step, wrong) else ""
-            label = label_of(step.action, step.guard, marks)
+            label = label_of(step.action, step.guard, marks, step.state == step.to)
             found.setdefault((step.state, step.to, marks), {})[label] = None
         merged: Dict[Arrow, Dict[str, None]] = {}
         loops: Dict[str, List[str]] = {}
@@ -265,6 +270,11 @@ def within(inner: Span, outer: Span) -> bool:
     return inner.source is outer.source and outer.start <= inner.start and inner.end <= outer.end
 
 
+def is_about(finding: Finding, part: Part) -> bool:
+    """Whether something is found in a part. The behaviours that are made from one pattern share its place."""
+    return within(finding.span, part.value.span) and finding.part in (None, (part.word, part.number))
+
+
 def note(finding: Finding) -> str:
     """A finding in a picture: its line and its message."""
     return f"{finding.level.value}, line {finding.span.place[0]}: {finding.message}"
@@ -295,16 +305,28 @@ def has_choice(one: Drawn, steps: Iterable[Drawn]) -> bool:
 
 def is_wrong(step: Drawn, wrong: Dict[Span, Finding]) -> bool:
     """Whether something is found in a step that isn't drawn at one of its states."""
-    return any(within(span, step.spans[0]) for span in wrong)
+    return any(within(span, each) for span in wrong for each in step.spans)
 
 
-def label_of(action: str, guard: str, marks: str) -> str:
+def label_of(action: str, guard: str, marks: str, is_loop: bool = False) -> str:
+    """The label of an arrow. That of a loop is broken into lines, since it stands above its state."""
     colour = WRONG if "wrong" in marks else CHOICE if "choice" in marks else PLAIN
     text = coloured(action, colour)
     if guard:
         shown = guard if len(guard) <= 80 else guard[:76].rsplit(" ", 1)[0] + " .."
-        text += f' <FONT COLOR="{GUARD}"><I>[{html(shown)}]</I></FONT>'
+        rows = [f"[{shown}]"]
+        if is_loop:
+            rows = textwrap.wrap(rows[0], WIDEST, initial_indent=" " * len(action), break_on_hyphens=False)
+        words = "<BR/>".join(html(row.lstrip()) for row in rows)
+        text += f' <FONT COLOR="{GUARD}"><I>{words}</I></FONT>'
     return text
+
+
+def room_of(labels: Iterable[str]) -> str:
+    """How far a machine's frame stands from its states: Graphviz leaves no room at their sides for labels of loops."""
+    rows = [row for label in labels for row in re.sub("<FONT[^>]*>|</?(FONT|I)>", "", label).split("<BR/>")]
+    widest = max((len(row) for row in rows), default=0)
+    return str(max(8, 3 * widest - 36))
 
 
 def arrow_options(marks: str, labels: Sequence[str]) -> Dict[str, str]:

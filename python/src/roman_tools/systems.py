@@ -2,6 +2,7 @@
 
 from __future__ import annotations
 
+import math
 from dataclasses import dataclass, field
 from typing import Dict, Iterator, List, Optional, Set
 
@@ -36,6 +37,8 @@ class Step:
     to: int
     span: Span
     guard_span: Span
+    is_off: bool = False
+    """Whether the guard is written as false."""
 
 
 @dataclass
@@ -96,7 +99,8 @@ class System:
 
     version: int
     limit: int
-    limit_span: Optional[Span]
+    limit_span: Span
+    """Where the limit stands, or would stand."""
     environment: Environment
     behaviours: List[Machine]
     services: List[Service]
@@ -105,12 +109,9 @@ class System:
     @property
     def cells(self) -> int:
         """How many pairs with an action it has."""
-        product = len(self.environment.states) * len(self.combined_actions())
-        for target in self.targets:
-            product *= len(target.states)
-        for service in self.services:
-            product *= len(self.behaviours[service.behaviour].states)
-        return product
+        target = math.prod(len(each.states) for each in self.targets)
+        services = math.prod(len(self.behaviours[each.behaviour].states) for each in self.services)
+        return target * len(self.environment.states) * services * len(self.combined_actions())
 
     def combined_actions(self) -> List[str]:
         """The actions of its sessions. Those of several targets name their target."""

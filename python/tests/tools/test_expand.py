@@ -277,7 +277,7 @@ class Machines(Folder):
 
 class Plans(Folder):
     def target(self, **target: Any) -> Any:
-        behaviour = {"name": "m", "steps": [["x", action, "x"] for action in "abc"]}
+        behaviour = {"name": "m", "count": 1, "steps": [["x", action, "x"] for action in "abc"]}
         environment = {"states": ["s", "t"], "actions": ["a", "b", "c"], "otherwise": "stays"}
         return self.expand({"environment": environment, "behaviours": [behaviour], "target": target})["target"]
 
@@ -394,7 +394,8 @@ class Mistakes(Folder):
             each.span.source.text[each.span.start : each.span.end]: each.message
             for each in all_findings(read("s.json"))
         }
-        self.assertEqual(found['"away and home"'], "this guard never holds")
+        message = 'this guard never holds, so behaviour "robot" (service "robot") never takes "clean" by this step'
+        self.assertEqual(found['"away and home"'], message)
         self.assertIn("no service can ever take it", found['"clean"'])
 
     def test_a_plan_that_grows_too_large(self) -> None:

@@ -412,7 +412,10 @@ class Warnings(Folder):
         )
         found = self.warnings(text)
         self.assertIn('"dim": the environment has no step on "dim", so nobody is ever asked for it', found)
-        self.assertIn('"served": the target stops in "served", which isn\'t final: nothing is allowed there', found)
+        stuck = 'the target can go no further in "served", and isn\'t final there: if the environment is in "day"'
+        stuck += " (or in 1 other states)"
+        why = ', the environment has no step on "dim"; the way there: brighten, boil, pour'
+        self.assertIn(f'["served", true, "dim", "quiet"]: {stuck}{why}', found)
 
     def test_states_that_nobody_comes_into(self) -> None:
         text = self.home('"states": ["day", "dusk"]', '"states": ["day", "dusk", "night"]')
@@ -430,11 +433,18 @@ class Warnings(Folder):
             '["off", true, "brighten", "on"]',
             '["off", true, "brighten", "on"], ["on", {"all": [["day"], ["dusk"]]}, "boil", "on"]',
         )
-        self.only(text, '{"all": [["day"], ["dusk"]]}', "this guard never holds")
+        message = 'this guard never holds, so behaviour "lamp" (service "ceiling") never takes "boil" by this step'
+        self.only(text, '{"all": [["day"], ["dusk"]]}', message)
+        self.assertEqual(self.warnings(text.replace('{"all": [["day"], ["dusk"]]}', "false")), [])
         text = self.home('["dusk", "dim", "day"]', '["dusk", "boil", "day"]')
         text = text.replace('["on", true, "dim", "off"]', '["on", true, "dim", "off"], ["on", ["dusk"], "dim", "on"]')
-        message = 'where this guard holds the environment has no step on "dim"'
-        self.only(text, '["dusk"]', message)
+        message = (
+            'if this guard holds, the environment has no step on "dim", so behaviour "lamp" (service "ceiling")'
+            " never takes this step"
+        )
+        stuck = 'the target can go no further in "served", and isn\'t final there: if the environment is in "dusk",'
+        stuck += ' the environment has no step on "dim"; the way there: brighten, boil, pour'
+        self.assertEqual(self.warnings(text), [f'["day", "dim", "day"]: {stuck}', f'["dusk"]: {message}'])
 
     def test_services_that_never_serve(self) -> None:
         stone = '{"name": "stone", "states": ["x"], "start": "x", "final": ["x"], "steps": []}, {'
@@ -456,11 +466,17 @@ class Warnings(Folder):
             '["quiet", true, "brighten", "bright"], ["bright", true, "pour", "stuck"]',
         )
         text = text.replace('"states": ["quiet",', '"states": ["stuck", "quiet",')
-        self.only(text, '"stuck"', 'the target stops in "stuck", which isn\'t final: nothing is allowed there')
+        message = 'the target can go no further in "stuck", and isn\'t final there: no step leaves it'
+        message += "; the way there: brighten, pour"
+        self.only(text, '"stuck"', message)
 
     def test_more_cells_than_the_limit(self) -> None:
         text = self.home('"roman": 1', '"roman": 1, "limit": 575')
-        self.only(text, "575", "the system has 576 cells, and its limit is 575")
+        message = (
+            "the target, the environment, the services and the actions make 4 × 2 × 3·2·3 × 4 = 576 cells,"
+            ' and the limit is 575; write "limit": 600'
+        )
+        self.only(text, "575", message)
         self.assertEqual(self.warnings(text.replace("575", "576")), [])
 
 
