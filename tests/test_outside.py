@@ -248,6 +248,42 @@ class Roman(Tree):
                 done = self.roman("run", f"{folder}samples/greenhouse.json", f"{folder}samples/greenhouse.session", env=self.toolchain())
                 self.assertEqual((done.returncode, done.stdout), (0, replies), done.stderr)
 
+    def test_short_documents_before_the_build(self) -> None:
+        """All words of the guide that take one."""
+        guide = (TOP / "docs" / "GUIDE.md").read_text(encoding="utf-8")
+        named = re.findall(r"`\./roman (synth samples/short/\w+\.json)`", guide)
+        self.assertIn("synth samples/short/house.json", named)
+        for words in named:
+            with self.subTest(words):
+                done = self.roman(*words.split(), env=self.toolchain())
+                self.assertEqual(done.returncode, 0, done.stderr)
+                self.assertIn("\nanswer composition\n", done.stdout)
+
+    def test_short_documents_after_the_build(self) -> None:
+        self.build()
+        done = self.roman("synth", "samples/short/house.json")
+        self.assertEqual((done.returncode, done.stderr), (0, ""))
+        self.assertIn("\nanswer composition\n", done.stdout)
+        done = self.roman("run", "samples/short/home.json", input="do brighten\n")
+        self.assertEqual((done.returncode, done.stdout, done.stderr), (0, "offer window ceiling\n", ""))
+
+    def test_no_composition_at_a_terminal(self) -> None:
+        """The standard error says the first step of the explanation; away from a terminal it says nothing."""
+        self.build()
+        leader, terminal = pty.openpty()
+        try:
+            done = self.roman("synth", "samples/flaky.json", capture_output=False, stdout=subprocess.PIPE, stderr=terminal)
+            told = os.read(leader, 4096).decode().replace("\r\n", "\n")
+        finally:
+            os.close(leader)
+            os.close(terminal)
+        self.assertEqual(done.returncode, 1)
+        self.assertTrue(done.stdout.endswith("answer none\nend\n"))
+        self.assertTrue(told.startswith("why: target off, environment e; f1: off\n  on is requested\n"), told)
+        self.assertIn("roman-draw samples/flaky.json --why --text", told)
+        done = self.roman("synth", "samples/flaky.json")
+        self.assertEqual((done.returncode, done.stderr), (1, ""))
+
     def test_a_pipe_after_the_build(self) -> None:
         self.build()
         done = self.roman(*self.live, input="do on\n")

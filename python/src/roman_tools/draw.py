@@ -15,7 +15,7 @@ import sys
 from pathlib import Path
 from typing import Any, Optional, Sequence
 
-from . import explanations, finished, offers_picture, program
+from . import explanations, finished, offers_picture, program, why
 from .documents import looked_up, plain_file, read
 from .lint import all_findings
 from .pictures import Wrong, svg
@@ -51,6 +51,17 @@ def play_of(system: System, name: str) -> explanations.Play:
     return explanations.Play(looked_up(system), explanation)
 
 
+def why_of(system: System, name: str, asked: argparse.Namespace) -> explanations.Play:
+    """The program's explanation of the starting states."""
+    found = program.find(asked.program)
+    if found is None:
+        raise Wrong("the program isn't here, which explains it; ./build makes it")
+    play = why.explained(found, system)
+    if play is None:
+        raise Wrong(f"there is a composition from the starting states of {name}, so nothing is to be explained")
+    return play
+
+
 def offers_of(system: System, roman: Optional[str]) -> Any:
     """What is offered from the start, by the program's own certificate."""
     found = program.find(roman)
@@ -65,8 +76,11 @@ def offers_of(system: System, roman: Optional[str]) -> Any:
 
 def drawn(asked: argparse.Namespace) -> str:
     """What is asked for, as a text."""
-    if asked.explanation is not None:
-        play = play_of(system_of(asked.system), asked.explanation)
+    if asked.explanation is not None or asked.why:
+        system = system_of(asked.system)
+        play = why_of(system, asked.system, asked) if asked.why else play_of(system, asked.explanation)
+        if asked.first:
+            return "\n".join([*why.first_step(play, asked.system), ""])
         if asked.text:
             return play.text(asked.all)
         picture = play.picture(asked.all)
@@ -82,8 +96,10 @@ def main(arguments: Optional[Sequence[str]] = None) -> int:
     words.add_argument("system", metavar="SYSTEM")
     kinds = words.add_mutually_exclusive_group()
     kinds.add_argument("--explanation", metavar="FILE", help="draw the last explanation in FILE")
+    kinds.add_argument("--why", action="store_true", help="draw why there is no composition from the starting states")
     kinds.add_argument("--offers", action="store_true", help="draw what can happen when offers are followed")
     words.add_argument("--all", action="store_true", help="the whole game of an explanation")
+    words.add_argument("--first", action="store_true", help="write the first step of an explanation in words")
     words.add_argument("--text", action="store_true", help="write the explanation in words")
     words.add_argument("-o", metavar="SVG", dest="out", help="write to this file")
     words.add_argument("--dot", action="store_true", help="write the text for Graphviz")

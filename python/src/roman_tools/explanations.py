@@ -44,6 +44,10 @@ class Reply:
     to: int
 
 
+Step = Tuple[int, Optional[Reply], List[Reply]]
+"""An entry of a line of play, the answer that is followed, and the other ones."""
+
+
 class Play:
     """An explanation with the ways from each answer to the entry that it leads to."""
 
@@ -132,14 +136,28 @@ class Play:
 
     # What happens.
 
-    def unrested(self, number: int) -> List[str]:
-        """The services that may not be left where the target may."""
+    def unrested(self, number: int) -> str:
+        """Which services keep the target from being left."""
         told = []
         for seat, state in enumerate(self.entries[number].states):
             kind = self.kinds[seat]
             if kind is not None and kind[1] and state not in kind[0].final:
-                told.append(f"{self.names[seat]} in {state}")
-        return told or ["a service"]
+                told.append(f"{self.names[seat]} (in {state})")
+        names = " and ".join(told) or "a service"
+        return f"{names} {'are' if len(told) > 1 else 'is'} in no final state"
+
+    def is_forced(self, number: int) -> bool:
+        """Whether nobody has a choice at an entry: the target allows one request alone, and one service can take it,
+        in one way."""
+        entry = self.entries[number]
+        able = [each.service for each in entry.answers if each.outcome is not None]
+        if entry.request is None or len(able) != 1 or entry.environment not in self.document.environment.states:
+            return False
+        kind = self.kinds[self.seats[able[0]]]
+        if kind is None or len(self.document.allowed(entry.target, entry.environment)) != 1:
+            return False
+        state = entry.states[self.seats[able[0]]]
+        return len(list(self.document.outcomes(kind[0].name, state, entry.environment, entry.request))) == 1
 
     def answers(self, number: int) -> List[Reply]:
         """What may be answered at an entry. Services that are alike, and may answer alike, are one."""
@@ -169,7 +187,7 @@ class Play:
             lengths[number] = 0 if self.entries[number].request is None else 1 + (min(rest) if rest else 0)
         return lengths
 
-    def line(self) -> List[Tuple[int, Optional[Reply], List[Reply]]]:
+    def line(self) -> List[Step]:
         """One line of play, the shortest: each entry with the answer that is followed, and the other ones."""
         lengths = self.lengths()
         number = len(self.entries) - 1
@@ -182,18 +200,29 @@ class Play:
                 return line
             number = chosen.to
 
-    def shown(self, everything: bool) -> List[Tuple[int, List[Reply], List[Reply]]]:
-        """The entries that are shown, from the present pair on, with the answers that are followed and those that
-        are only named."""
-        if not everything:
-            return [(number, [one] if one else [], rest) for number, one, rest in self.line()]
+    def whole(self) -> List[Step]:
+        """All entries of the game, from the present pair on."""
         waiting, seen = [len(self.entries) - 1], []
         while waiting:
             number = waiting.pop(0)
             if number not in seen:
                 seen.append(number)
                 waiting += [each.to for each in self.answers(number)]
-        return [(number, self.answers(number), []) for number in seen]
+        return [(number, None, []) for number in seen]
+
+    def chained(self) -> List[List[Step]]:
+        """The shortest line of play, with steps in a row in which nobody has a choice as one."""
+        chains: List[List[Step]] = []
+        for step in self.line():
+            if chains and self.is_forced(chains[-1][-1][0]) and self.is_forced(step[0]):
+                chains[-1].append(step)
+            else:
+                chains.append([step])
+        return chains
+
+    def served(self, chain: Sequence[Step]) -> str:
+        """The requests of a chain, each with who serves it."""
+        return ", ".join(f"{self.entries[number].request} by {reply.names[0]}" for number, reply, _ in chain if reply)
 
     def changes(self, number: int) -> List[str]:
         """What is different from the present pair, service by service."""
@@ -223,22 +252,33 @@ class Play:
     def text(self, everything: bool) -> str:
         return "\n".join(self.text_lines(everything)) + "\n"
 
+    def first_step(self) -> List[str]:
+        """The lines up to the first request at which somebody has a choice, or nobody can take it."""
+        lines = list(self.text_lines(False))
+        starts = [at for at, line in enumerate(lines) if not line.startswith(" ")] + [len(lines)]
+        return lines[: starts[2 if len(self.chained()[0]) > 1 else 1]]
+
     def text_lines(self, everything: bool) -> Iterator[str]:
-        for place, (number, answers, rest) in enumerate(self.shown(everything)):
+        chains = [[step] for step in self.whole()] if everything else self.chained()
+        for place, chain in enumerate(chains):
+            number, answer, rest = chain[0]
             entry = self.entries[number]
             where = f"target {entry.target}, environment {entry.environment}"
             changed = self.present() if place == 0 else self.changes(number)
             title = f"[{number}] " if everything else ""
             yield f"{title}{where}" + (f"; {', '.join(changed)}" if changed else "")
+            if len(chain) > 1:
+                yield f"  nobody has a choice: {self.served(chain)}"
+                continue
             if entry.request is None:
-                yield f"  the target may be left, and may not: {', '.join(self.unrested(number))}"
+                yield f"  the target may be left here, but {self.unrested(number)}"
                 continue
             yield f"  {entry.request} is requested"
             for words in self.helpless(number):
                 yield f"    {words}"
-            for answer in answers:
-                to = f", on to [{answer.to}]" if everything else ""
-                yield f"    {' or '.join(answer.names)} may answer: {self.answer_text(number, answer)}{to}"
+            for each in self.answers(number) if everything else [answer] if answer else []:
+                to = f", on to [{each.to}]" if everything else ""
+                yield f"    {' or '.join(each.names)} may answer: {self.answer_text(number, each)}{to}"
             if rest:
                 yield f"    {', '.join(n for each in rest for n in each.names)} would lose too"
 
@@ -254,38 +294,55 @@ class Play:
     # As a picture.
 
     def picture(self, everything: bool) -> Any:
-        """The pairs as boxes, the requests of the opponent as diamonds, the services' answers as arrows."""
+        """The pairs as boxes, the requests of the opponent as diamonds, the services' answers as arrows. Steps in a
+        row in which nobody has a choice are one dotted arrow."""
         picture = graph("TB")
         picture.node("start", shape="point", width="0.12", label="", tooltip="the present pair")
         picture.edge("start", f"p{len(self.entries) - 1}")
-        for place, (number, answers, rest) in enumerate(self.shown(everything)):
+        chains = [[step] for step in self.whole()] if everything else self.chained()
+        for place, chain in enumerate(chains):
+            number, answer, rest = chain[0]
             self.pair(picture, number, place == 0)
-            if self.entries[number].request is None:
-                continue
-            request = self.entries[number].request
-            picture.node(f"r{number}", label=request, shape="diamond", color=GUARD, fontcolor=GUARD)
-            picture.edge(f"p{number}", f"r{number}", color=GUARD, arrowhead="none")
-            told = self.helpless(number)
-            if rest:
-                told.append(f"would lose too: {', '.join(n for each in rest for n in each.names)}")
-            if told:
-                label = marked([coloured(each, FADED) for each in told])
-                picture.node(f"x{number}", label=label, shape="plaintext")
-                picture.edge(f"r{number}", f"x{number}", style="dotted", arrowhead="tee", color=FADED)
-            for answer in answers:
-                words = [html(" or ".join(answer.names)), coloured(self.answer_text(number, answer), CHOICE)]
-                picture.edge(
-                    f"r{number}", f"p{answer.to}", label=marked(words), color=CHOICE, dir="both", arrowtail="dot"
-                )
+            if len(chain) > 1:
+                self.chain(picture, chain)
+            elif self.entries[number].request is not None:
+                answers = self.answers(number) if everything else [answer] if answer else []
+                self.request(picture, number, answers, rest)
         return picture
+
+    def chain(self, picture: Any, chain: Sequence[Step]) -> None:
+        """Steps in which nobody has a choice."""
+        last = chain[-1][1]
+        assert last is not None
+        words = [
+            coloured(f"{self.entries[number].request} by {reply.names[0]}", GUARD)
+            for number, reply, _ in chain
+            if reply
+        ]
+        label = marked([coloured("nobody has a choice:", FADED), *words])
+        picture.edge(f"p{chain[0][0]}", f"p{last.to}", label=label, style="dotted", color=GUARD)
+
+    def request(self, picture: Any, number: int, answers: Sequence[Reply], rest: Sequence[Reply]) -> None:
+        """The request of an entry, who can't take it, and the answers that are followed."""
+        picture.node(f"r{number}", label=self.entries[number].request, shape="diamond", color=GUARD, fontcolor=GUARD)
+        picture.edge(f"p{number}", f"r{number}", color=GUARD, arrowhead="none")
+        told = self.helpless(number)
+        if rest:
+            told.append(f"would lose too: {', '.join(n for each in rest for n in each.names)}")
+        if told:
+            label = marked([coloured(each, FADED) for each in told])
+            picture.node(f"x{number}", label=label, shape="plaintext")
+            picture.edge(f"r{number}", f"x{number}", style="dotted", arrowhead="tee", color=FADED)
+        for answer in answers:
+            words = [html(" or ".join(answer.names)), coloured(self.answer_text(number, answer), CHOICE)]
+            picture.edge(f"r{number}", f"p{answer.to}", label=marked(words), color=CHOICE, dir="both", arrowtail="dot")
 
     def pair(self, picture: Any, number: int, is_present: bool) -> None:
         entry = self.entries[number]
         lines = [f"<B>{html(entry.target)}</B> · {html(entry.environment)}"]
         lines += [coloured(each, PLAIN, True) for each in (self.present() if is_present else self.changes(number))]
         if entry.request is None:
-            lines.append(coloured("the target may be left, and may not:", WRONG))
-            lines += [coloured(each, WRONG) for each in self.unrested(number)]
+            lines.append(coloured(f"the target may be left here, but {self.unrested(number)}", WRONG))
         options = {"penwidth": "2.4"} if is_present else {}
         picture.node(f"p{number}", label=marked(lines), shape="box", style="rounded", **options)
 

@@ -18,6 +18,7 @@ from .cautions import judged, of_text
 from .checks import Checker
 from .documents import plain_file, read
 from .findings import Finding, Level, grouped, in_order, repeats
+from .why import explained, first_step
 
 CLEAN, WARNED, WRONG, LARGE, UNREADABLE = 0, 1, 3, 4, 5
 
@@ -35,24 +36,27 @@ def all_findings(checker: Checker) -> List[Finding]:
     return [*findings, *judged(checker.system)]
 
 
-def said(words: argparse.Namespace, checker: Checker) -> Optional[str]:
-    """What the program says of the document, in a line; of a short one, what it says of the plain one."""
+def said(words: argparse.Namespace, checker: Checker) -> List[str]:
+    """What the program says of the document, in a line, and why it has no composition: of a short one, what it says of
+    the plain one. Nothing if the program isn't here."""
     found = None if words.no_program else program.find(words.program)
     if found is None:
-        return None
+        return []
     if checker.short and checker.system is None:
-        return "nothing, since no plain document comes of it"
+        return ["nothing, since no plain document comes of it"]
     try:
         with contextlib.ExitStack() as stack:
             file = words.file
             if checker.short and checker.system is not None:
                 file = stack.enter_context(plain_file(checker.system))
             done = program.run(found, "synth", file)
+        lines = done.stdout.splitlines()
+        told = [line for line in lines if line.startswith(("refused ", "limit ", "answer "))]
+        answer = (told or done.stderr.splitlines() or [f"status {done.returncode}"])[-1]
+        play = None if answer != "answer none" or checker.system is None else explained(found, checker.system)
+        return [answer, *(first_step(play, words.file) if play else [])]
     except OSError as error:
-        return f"can't be called: {error.strerror}"
-    lines = done.stdout.splitlines()
-    told = [line for line in lines if line.startswith(("refused ", "limit ", "answer "))]
-    return (told or done.stderr.splitlines() or [f"status {done.returncode}"])[-1]
+        return [f"can't be called: {error.strerror}"]
 
 
 def counts(findings: Sequence[Finding]) -> Tuple[int, int]:
@@ -76,21 +80,22 @@ def main(arguments: Optional[Sequence[str]] = None) -> int:
     asked = words.parse_args(arguments)
     try:
         checker = read(asked.file)
+        findings = all_findings(checker)
     except OSError as error:
-        print(f"roman-lint: {asked.file}: {error.strerror}", file=sys.stderr)
+        print(f"roman-lint: {error.filename}: {error.strerror}", file=sys.stderr)
         return UNREADABLE
-    findings = all_findings(checker)
     answer = said(asked, checker)
     errors, warnings = counts(findings)
     if asked.json:
-        value = {"findings": [each.value() for each in findings], "roman": answer}
+        value = {"findings": [each.value() for each in findings], "roman": answer[0] if answer else None}
         print(json.dumps(value, indent=2, ensure_ascii=True))
     else:
         for each in findings:
             if each.cause is None or asked.all:
                 print(*each.shown(), sep="\n")
         print(f"{plural(errors, 'error')}, {plural(warnings, 'warning')}")
-        print(f"roman says: {answer}" if answer else "roman isn't here to say what it thinks of it")
+        print(f"roman says: {answer[0]}" if answer else "roman isn't here to say what it thinks of it")
+        print(*answer[1:], sep="\n", end="\n" if answer[1:] else "")
     if errors:
         return WRONG
     if checker.system is not None and checker.system.cells > checker.system.limit:

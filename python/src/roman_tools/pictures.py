@@ -3,13 +3,12 @@
 from __future__ import annotations
 
 from html import escape
-from typing import Sequence
+from typing import TYPE_CHECKING, Sequence
 
 from . import need
 
-need("graphviz")
-
-import graphviz  # type: ignore[import]  # noqa: E402
+if TYPE_CHECKING:
+    import graphviz  # type: ignore[import]
 
 PLAIN = "#222222"
 CHOICE = "#c2410c"
@@ -24,7 +23,10 @@ class Wrong(Exception):
 
 
 def graph(direction: str, **options: str) -> "graphviz.Digraph":
-    """An empty picture."""
+    """An empty picture. What is written in words needs no Graphviz."""
+    need("graphviz")
+    import graphviz
+
     picture = graphviz.Digraph("roman")
     picture.attr(rankdir=direction, nodesep="0.35", ranksep="0.55", **options)
     picture.attr("graph", fontname=FONT, fontsize="13", style="rounded", color="#9ca3af")
@@ -35,6 +37,8 @@ def graph(direction: str, **options: str) -> "graphviz.Digraph":
 
 def svg(picture: "graphviz.Digraph") -> str:
     """The picture as an SVG."""
+    import graphviz
+
     try:
         drawn: str = picture.pipe(format="svg", encoding="utf-8")
         return drawn

@@ -23,6 +23,7 @@ def find(given: Optional[str] = None) -> Optional[str]:
     return str(beside) if os.access(beside, os.X_OK) else shutil.which("roman")
 
 
-def run(program: str, *words: str) -> "subprocess.CompletedProcess[str]":
-    """What the program writes for these words. OSError where it can't be started."""
-    return subprocess.run([program, *words], capture_output=True, text=True, errors="replace", check=False)
+def run(program: str, *words: str, text: str = "") -> "subprocess.CompletedProcess[str]":
+    """What the program writes for these words, and for that text at its standard input. OSError where it can't be
+    started."""
+    return subprocess.run([program, *words], input=text, capture_output=True, text=True, errors="replace", check=False)

@@ -269,9 +269,10 @@ class Explanations(unittest.TestCase):
     def test_the_service_that_can_not_rest_is_named(self) -> None:
         done = self.game("lamp", "lost off e on: final\nend\n")
         self.assertEqual(done.returncode, 0, done.stderr)
-        self.assertIn("l1 in on", done.stdout)
+        self.assertIn("l1 (in on) is in no final state", done.stdout)
         self.assertNotIn("diamond", done.stdout)
-        self.assertIn("may not: l1 in on\n", self.game("lamp", "lost off e on: final\nend\n", "--text").stdout)
+        text = self.game("lamp", "lost off e on: final\nend\n", "--text").stdout
+        self.assertIn("the target may be left here, but l1 (in on) is in no final state\n", text)
 
     def test_an_svg(self) -> None:
         done = draw("samples/web.json", "--explanation", "samples/web.replies")
@@ -339,6 +340,7 @@ class Guide(unittest.TestCase):
                 "samples/workshop.replies",
             ],
         }
+
         guide = (TOP / "docs" / "GUIDE.md").read_text(encoding="utf-8")
         for name, words in drawings.items():
             with self.subTest(name):
