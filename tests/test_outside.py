@@ -18,7 +18,7 @@ from . import PROGRAM, TOP
 
 Ended = "subprocess.CompletedProcess[str]"
 
-TOOLS = ("roman-lint", "roman-expand", "roman-talk", "roman-draw")
+TOOLS = ("roman-lint", "roman-expand", "roman-talk", "roman-draw", "roman-advice")
 NAMES = ("roman", "roman-live", *TOOLS)
 """The commands that are installed."""
 
@@ -304,7 +304,7 @@ class Install(Tree):
     places = (
         "bin/roman",
         "bin/roman-draw",
-        *(f"share/man/man1/roman{name}.1" for name in ("", "-draw", "-expand", "-lint", "-live", "-talk")),
+        *(f"share/man/man1/roman{name}.1" for name in ("", "-advice", "-draw", "-expand", "-lint", "-live", "-talk")),
         "share/doc/roman/samples/live/roman-live.service",
         "share/doc/roman/roman-live.md",
         "share/doc/roman/HEADLINE.html",
@@ -316,6 +316,7 @@ class Install(Tree):
         "bin/roman-expand",
         "bin/roman-talk",
         "bin/roman-draw",
+        "bin/roman-advice",
         *(f"share/roman/python/roman_tools/{file.name}" for file in (TOP / "python/src/roman_tools").glob("*.*")),
         *(f"share/roman/python/roman_client/{file.name}" for file in (TOP / "python/src/roman_client").glob("*.py")),
         "share/roman/python/roman_client/aio/__init__.py",

@@ -28,13 +28,14 @@ _roman_tool() {
     local options word=${COMP_WORDS[COMP_CWORD]} before=${COMP_WORDS[COMP_CWORD - 1]}
     COMPREPLY=()
     case ${COMP_WORDS[0]} in
-        *lint) options="--json --strict --program --no-program --help" ;;
-        *expand) options="-o --map --help" ;;
-        *draw) options="--explanation --offers --all --text -o --dot --program --help" ;;
+        *lint) options="--json --all --strict --program --no-program --help" ;;
+        *expand) options="-o --map --costs --help" ;;
+        *draw) options="--explanation --why --offers --all --first --text -o --dot --program --help" ;;
         *talk) options="--program --help" ;;
+        *advice) options="--from --all --program --help" ;;
     esac
     case $before:$word in
-        -o:* | --map:* | --program:* | --explanation:*) _roman_files "" ;;
+        -o:* | --map:* | --costs:* | --from:* | --program:* | --explanation:*) _roman_files "" ;;
         *:-*) COMPREPLY=($(compgen -W "$options" -- "$word")) ;;
         *) _roman_files .json ;;
     esac
@@ -55,4 +56,4 @@ _roman_live() {
 
 complete -F _roman roman ./roman
 complete -F _roman_live roman-live
-complete -F _roman_tool roman-lint roman-expand roman-draw roman-talk
+complete -F _roman_tool roman-lint roman-expand roman-draw roman-talk roman-advice

@@ -23,24 +23,30 @@ complete -c roman -k -n '__roman_file 3 run' -a '(__fish_complete_suffix .sessio
 complete -c roman -k -n '__roman_file 3 check' -a '(__fish_complete_suffix .cert)'
 complete -c roman -k -n '__roman_file 3 advise' -a '(__fish_complete_suffix .costs)'
 
-for tool in roman-lint roman-expand roman-draw roman-talk
+for tool in roman-lint roman-expand roman-draw roman-talk roman-advice
     complete -c $tool -k -a '(__fish_complete_suffix .json)'
 end
-for tool in roman-lint roman-draw roman-talk
+for tool in roman-lint roman-draw roman-talk roman-advice
     complete -c $tool -l program -r -d 'the program that answers'
 end
 for tool in roman-expand roman-draw
     complete -c $tool -s o -r -d 'write to this file'
 end
 complete -c roman-lint -l json -d 'write a JSON value, for editors'
+complete -c roman-lint -l all -d 'show what follows from a finding, too'
 complete -c roman-lint -l strict -d 'end with status 1 where there are warnings'
 complete -c roman-lint -l no-program -d 'do not ask the program'
 complete -c roman-expand -l map -r -d 'write where each name and step comes from'
+complete -c roman-expand -l costs -r -d 'write the plain form of these costs'
 complete -c roman-draw -l explanation -r -d 'draw the last explanation in a file'
+complete -c roman-draw -l why -d 'draw why there is no composition'
 complete -c roman-draw -l offers -d 'draw what can happen when offers are followed'
 complete -c roman-draw -l all -d 'the whole game of an explanation'
+complete -c roman-draw -l first -d 'write the first step of an explanation'
 complete -c roman-draw -l text -d 'write the explanation in words'
 complete -c roman-draw -l dot -d 'write the text for Graphviz'
+complete -c roman-advice -l from -r -d 'take what advise wrote from a file'
+complete -c roman-advice -l all -d 'show all rows'
 
 complete -c roman-live -k -a '(__fish_complete_suffix .toml)'
 complete -c roman-live -n 'test (__roman_words) -eq 1' -a ask -d 'ask a running home for an action'

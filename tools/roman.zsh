@@ -1,4 +1,4 @@
-#compdef roman roman-draw roman-lint roman-expand roman-live roman-talk
+#compdef roman roman-advice roman-draw roman-lint roman-expand roman-live roman-talk
 # Completion of roman's commands, of its tools and of file names for zsh. It needs no other file.
 
 _roman_tool() {
@@ -6,21 +6,25 @@ _roman_tool() {
     local program='--program[the program that answers]:program:_files'
     case $service in
         *lint)
-            options=('--json[write a JSON value, for editors]' '--strict[end with status 1 where there are warnings]'
+            options=('--json[write a JSON value, for editors]' '--all[show what follows from a finding, too]'
+                '--strict[end with status 1 where there are warnings]'
                 $program "--no-program[don't ask the program]")
             ;;
         *expand)
-            options=('-o[write to this file]:file:_files' '--map[write where each name and step comes from]:file:_files')
+            options=('-o[write to this file]:file:_files' '--map[write where each name and step comes from]:file:_files'
+                '--costs[write the plain form of these costs]:file:_files')
             ;;
         *draw)
             options=('--explanation[draw the last explanation in a file]:file:_files'
+                '--why[draw why there is no composition]' '--first[write the first step of an explanation]'
                 '--offers[draw what can happen when offers are followed]' '--all[the whole game of an explanation]'
                 '--text[write the explanation in words]' '-o[write to this file]:file:_files'
                 '--dot[write the text for Graphviz]' $program)
             ;;
         *talk) options=($program) ;;
+        *advice) options=('--from[take what advise wrote from a file]:file:_files' '--all[show all rows]' $program) ;;
     esac
-    _arguments $options ':system:_files -g "*.json"'
+    _arguments $options ':system:_files -g "*.json"' ':costs:_files -g "*.costs"'
 }
 
 _roman_live() {

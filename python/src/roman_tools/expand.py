@@ -1,7 +1,8 @@
 """roman-expand FILE: the plain document of a short one.
 
 The plain document is of the least version, and says everything in the shortest way; expanding it again gives
-the same text. Mistakes are shown where they stand in the short one. The status is 3 where there are some, 5
+the same text. With --costs it writes the plain costs of a file of costs instead, in which items may name patterns and
+services. Mistakes are shown where they stand in the short one. The status is 3 where there are some, 5
 where the file can't be read, 7 where what it writes can't be written, and 0 otherwise. Part files are put in
 place.
 """
@@ -15,8 +16,9 @@ from pathlib import Path
 from typing import Optional, Sequence
 
 from . import finished
+from .costs import Reader
 from .documents import read
-from .findings import in_order
+from .findings import Level, in_order
 from .lint import CLEAN, UNREADABLE, WRONG
 from .writer import written
 
@@ -28,13 +30,20 @@ def main(arguments: Optional[Sequence[str]] = None) -> int:
     words.add_argument(
         "--map", metavar="MAP", help="write to this file where each name and step of the plain document comes from"
     )
+    words.add_argument(
+        "--costs", metavar="COSTS", help="write the plain form of these costs in place of the document's"
+    )
     asked = words.parse_args(arguments)
     try:
         checker = read(asked.file)
+        reader = None
+        if checker.system is not None and asked.costs is not None:
+            reader = Reader(checker, checker.system, asked.costs)
+            checker.findings += [each for each in reader.read().findings if each.level is Level.ERROR]
     except OSError as error:
         print(f"roman-expand: {error.filename}: {error.strerror}", file=sys.stderr)
         return UNREADABLE
-    if checker.system is None:
+    if checker.system is None or checker.findings:
         for each in in_order(checker.findings):
             print(*each.shown(), sep="\n", file=sys.stderr)
         return WRONG
@@ -42,10 +51,11 @@ def main(arguments: Optional[Sequence[str]] = None) -> int:
     if asked.map is not None:
         places = {pointer: str(span) for pointer, span in document.places.items()}
         Path(asked.map).write_text(json.dumps(places, indent=1) + "\n", encoding="utf-8")
+    text = document.text if reader is None else reader.plain()
     if asked.out is None:
-        sys.stdout.write(document.text)
+        sys.stdout.write(text)
     else:
-        Path(asked.out).write_text(document.text, encoding="utf-8")
+        Path(asked.out).write_text(text, encoding="utf-8")
     return CLEAN
 
 

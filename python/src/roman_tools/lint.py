@@ -1,4 +1,6 @@
-"""roman-lint FILE: what is wrong with a document, and what is probably not meant, each with its place.
+"""roman-lint FILE [COSTS]: what is wrong with a document, and what is probably not meant, each with its place.
+
+With a file of costs, as `advise` reads it, its mistakes are shown too, and the behaviours that have no cost in it.
 
 The last line is what the program says itself, and the program decides. The status is 3 where there are
 errors, 4 if the system is larger than its limit, 1 where there are warnings under --strict, 5 where the file can't
@@ -16,6 +18,7 @@ from typing import List, Optional, Sequence, Tuple
 from . import finished, program
 from .cautions import judged, of_text
 from .checks import Checker
+from .costs import Reader
 from .documents import plain_file, read
 from .findings import Finding, Level, grouped, in_order, repeats
 from .why import explained, first_step
@@ -38,20 +41,21 @@ def all_findings(checker: Checker) -> List[Finding]:
 
 def said(words: argparse.Namespace, checker: Checker) -> List[str]:
     """What the program says of the document, in a line, and why it has no composition: of a short one, what it says of
-    the plain one. Nothing if the program isn't here."""
+    the plain one, and with a file of costs what it says of both. Nothing if the program isn't here."""
     found = None if words.no_program else program.find(words.program)
     if found is None:
         return []
     if checker.short and checker.system is None:
         return ["nothing, since no plain document comes of it"]
+    costs = None if checker.short else words.costs
     try:
         with contextlib.ExitStack() as stack:
             file = words.file
             if checker.short and checker.system is not None:
                 file = stack.enter_context(plain_file(checker.system))
-            done = program.run(found, "synth", file)
+            done = program.run(found, "advise", file, costs, "1") if costs else program.run(found, "synth", file)
         lines = done.stdout.splitlines()
-        told = [line for line in lines if line.startswith(("refused ", "limit ", "answer "))]
+        told = [line for line in lines if line.startswith(("refused ", "limit ", "answer ", "worst "))]
         answer = (told or done.stderr.splitlines() or [f"status {done.returncode}"])[-1]
         play = None if answer != "answer none" or checker.system is None else explained(found, checker.system)
         return [answer, *(first_step(play, words.file) if play else [])]
@@ -72,6 +76,7 @@ def plural(count: int, word: str) -> str:
 def main(arguments: Optional[Sequence[str]] = None) -> int:
     words = argparse.ArgumentParser(prog="roman-lint", description=(__doc__ or "").split("\n\n")[1])
     words.add_argument("file", metavar="FILE")
+    words.add_argument("costs", metavar="COSTS", nargs="?", help="a file of costs for the document")
     words.add_argument("--json", action="store_true", help="write a JSON value, for editors")
     words.add_argument("--all", action="store_true", help="show what follows from a finding, or repeats it, too")
     words.add_argument("--strict", action="store_true", help="end with status 1 where there are warnings")
@@ -81,6 +86,8 @@ def main(arguments: Optional[Sequence[str]] = None) -> int:
     try:
         checker = read(asked.file)
         findings = all_findings(checker)
+        if asked.costs is not None and checker.system is not None:
+            findings += in_order(Reader(checker, checker.system, asked.costs).read().findings)
     except OSError as error:
         print(f"roman-lint: {error.filename}: {error.strerror}", file=sys.stderr)
         return UNREADABLE

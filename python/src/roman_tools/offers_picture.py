@@ -25,12 +25,16 @@ class Pair:
 class Arena:
     """The pairs of a document, and those of them that are lost."""
 
-    def __init__(self, document: Document, certificate: str) -> None:
+    def __init__(self, document: Document, lost: Set[int]) -> None:
         self.document = document
-        lines = certificate.splitlines()[2:-1]
-        self.lost: Set[int] = {int(line.split()[0]) for line in lines}
+        self.lost = lost
         states = tuple(service.state for service in document.services)
         self.start = Pair(document.start, document.environment.start, states)
+
+    @classmethod
+    def of_certificate(cls, document: Document, certificate: str) -> Arena:
+        """The pairs, of which a certificate lists those that are lost."""
+        return cls(document, {int(line.split()[0]) for line in certificate.splitlines()[2:-1]})
 
     def number(self, pair: Pair) -> int:
         """A pair's number in certificates: the target's state first, the last service's changing fastest."""
@@ -75,7 +79,7 @@ class Arena:
 def picture(document: Document, certificate: str) -> Any:
     """The related pairs that come from the start when offered services are used, and in red what a service that
     isn't offered may lead to."""
-    arena = Arena(document, certificate)
+    arena = Arena.of_certificate(document, certificate)
     if not arena.is_related(arena.start):
         raise Wrong("there is no composition from the start, so nothing is offered there")
     drawn = graph("LR")
