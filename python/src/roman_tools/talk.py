@@ -11,6 +11,7 @@ import argparse
 import atexit
 import contextlib
 import os
+import re
 import readline
 import subprocess
 import sys
@@ -18,7 +19,19 @@ import tempfile
 from pathlib import Path
 from typing import Callable, Dict, Iterator, List, Optional, Sequence, Tuple
 
-from roman_client import Document, NoComposition, Offer, ProgramEnded, Refusal, Report, RomanError, Session
+from roman_client import (
+    Busy,
+    Document,
+    Idle,
+    NoComposition,
+    Offer,
+    ProgramEnded,
+    Refusal,
+    Related,
+    Report,
+    RomanError,
+    Session,
+)
 
 from . import explanations, finished, program
 from .checks import Checker
@@ -50,22 +63,108 @@ WIDTH = 30
 """How wide the column of the lines is, beside their replies."""
 
 
+STUCK = "the target can go no further here, and isn't final"
+
+
+def due(action: Optional[str], offered: Sequence[str], used: Optional[str], allowed: Sequence[str]) -> str:
+    """Which line is due: the request that is open, to whom it is offered, who serves it; else what is allowed."""
+    if used is not None:
+        return f"{action} is open: saw, with the states of {used} and of the environment, or abort"
+    if action is not None:
+        return f"{action} is open: use {' or '.join(offered)}, or abort"
+    requests = " or ".join(allowed)
+    return f"no request is open: do {requests}" if requests else "no request is open, and the target allows none"
+
+
+OUT_OF_TURN = ("error busy", "error idle", "error related")
+
+
+def out_of_turn(reply: str, line: str) -> str:
+    """What is shown below one of these refusals."""
+    return f"there is a composition, so nothing is to be explained; {line}" if reply == "error related" else line
+
+
 # A session that comes in.
 
 
-def beside(lines: Sequence[str], replies: Sequence[str]) -> Iterator[str]:
-    """Each line beside its reply. Comments and blank lines have none; those to `report` and `explain` go on up to
-    the line `end`."""
+class Follower:
+    """Where a session stands, by its lines and their replies."""
+
+    def __init__(self, document: Document) -> None:
+        self.document = document
+        self.target = document.start
+        self.environment = document.environment.start
+        self.action: Optional[str] = None
+        self.offered: Tuple[str, ...] = ()
+        self.used: Optional[str] = None
+
+    def hear(self, line: Sequence[str], reply: Sequence[str]) -> None:
+        """Takes a line and the words of its reply."""
+        if reply[0] == "offer":
+            self.action, self.offered = line[1], tuple(reply[1:])
+        elif reply[0] == "using":
+            self.used = reply[1]
+        elif reply[0] in ("now", "aborted"):
+            self.action, self.offered, self.used = None, (), None
+            if reply[0] == "now":
+                self.target, self.environment = reply[1:3]
+        elif line[0] == "jumpenv" and reply[0] == "jumped":
+            self.environment = line[1]
+
+    @property
+    def allowed(self) -> Tuple[str, ...]:
+        return self.document.allowed(self.target, self.environment)
+
+    def due(self) -> str:
+        return due(self.action, self.offered, self.used, self.allowed)
+
+    def hint(self, reply: str) -> Optional[str]:
+        """What is shown below a reply, if anything."""
+        if reply in OUT_OF_TURN:
+            return out_of_turn(reply, self.due())
+        if reply.startswith("now ") and not self.allowed and not self.document.is_final(self.target):
+            return STUCK
+        return None
+
+    def help(self) -> List[str]:
+        """What a line may be now."""
+        words = turn_words(self.action, self.used) or [word for word in EVENTS if word not in ("use", "saw", "abort")]
+        return [*help_lines(words), f"  now: {self.due()}"]
+
+
+def turn_words(action: Optional[str], used: Optional[str]) -> List[str]:
+    """The words with which a line may begin while a request is open."""
+    if action is None:
+        return []
+    return ["use" if used is None else "saw", "abort", "report", "help", "quit"]
+
+
+def help_lines(words: Sequence[str]) -> List[str]:
+    """What lines that begin with these words do."""
+    return [f"  {word + ' ' + EVENTS[word][0]:36} {EVENTS[word][1]}" for word in words]
+
+
+def beside(lines: Sequence[str], replies: Sequence[str], follower: Follower) -> Iterator[str]:
+    """Each line beside its reply, and below one that is out of turn which is due. Comments and blank lines have
+    none; those to `report` and `explain` go on up to the line `end`."""
     rest = iter(replies)
     for line in lines:
         words = line.split()
         if not words or words[0].startswith("#"):
             yield line
             continue
+        if words == ["help"]:
+            yield line
+            yield from follower.help()
+            continue
         first = next(rest, None)
         if first is None:
             return
         yield f"{line:{WIDTH}} {first}"
+        follower.hear(words, first.split())
+        hint = follower.hint(first)
+        if hint is not None:
+            yield f"{'':{WIDTH}} ({hint})"
         goes_on = words[0] in ("report", "explain") and not first.startswith("error ")
         while goes_on:
             more = next(rest, "end")
@@ -84,14 +183,15 @@ def document_of(checker: Checker) -> Iterator[str]:
             yield file
 
 
-def echo(checker: Checker, roman: str, data: bytes) -> int:
-    """Runs a session that is whole, and shows it beside the replies."""
+def echo(checker: Checker, system: System, roman: str, data: bytes) -> int:
+    """Runs a session that is whole, and shows it beside the replies. The program gets no `help`, which it hasn't."""
     with document_of(checker) as file, tempfile.TemporaryFile() as session:
-        session.write(data)
+        session.write(re.sub(rb"^[ \t]*help[ \t]*(?=\r?$)", b"", data, flags=re.M))
         session.seek(0)
         done = subprocess.run([roman, "run", file], stdin=session, stdout=subprocess.PIPE, check=False)
     lines = data.decode("utf-8", "replace").splitlines()
-    for line in beside(lines, done.stdout.decode("utf-8", "replace").splitlines()):
+    replies = done.stdout.decode("utf-8", "replace").splitlines()
+    for line in beside(lines, replies, Follower(looked_up(system))):
         print(line)
     return done.returncode
 
@@ -127,10 +227,8 @@ class Talk:
 
     def events(self) -> List[str]:
         """The words with which a line may begin now."""
-        if self.used is not None:
-            return ["saw", "abort", "report", "help", "quit"]
         if self.offer is not None:
-            return ["use", "abort", "report", "help", "quit"]
+            return turn_words(self.offer.action, self.used)
         refused = {"use", "saw", "abort", "explain" if self.report.composition else "do"}
         if all(service.frozen for service in self.report.services):
             refused.add("freeze")
@@ -171,7 +269,7 @@ class Talk:
     def help(self) -> str:
         """What a line may be now."""
         now = self.events()
-        lines = [f"  {word + ' ' + EVENTS[word][0]:36} {EVENTS[word][1]}" for word in now]
+        lines = help_lines(now)
         for word in now:
             names = self.names([word])
             if names and word in ("do", "use", "saw"):
@@ -184,7 +282,13 @@ class Talk:
                 else "and the target allows no request"
             )
             lines.append(f"  now: there is no composition (explain says why), {then}")
+        elif self.is_stuck:
+            lines.append(f"  now: {STUCK}")
         return "\n".join(lines)
+
+    @property
+    def is_stuck(self) -> bool:
+        return not self.report.final and not self.allowed()
 
     # What is said.
 
@@ -204,6 +308,9 @@ class Talk:
             return self.said(event, given)
         except NoComposition as refusal:
             return refusal.reply
+        except (Busy, Idle, Related) as refusal:
+            action, offered = (self.offer.action, self.offer.services) if self.offer else (None, ())
+            return f"{refusal.reply}\n{out_of_turn(refusal.reply, due(action, offered, self.used, self.allowed()))}"
         except Refusal as refusal:
             return refusal.reply + self.unknown(event, given)
         except ValueError as error:
@@ -237,7 +344,7 @@ class Talk:
         if event == "explain":
             return self.explained()
         if event == "report":
-            return shown(session.report())
+            return shown(session.report(), self.document)
         told = self.changed(event, given)
         self.offer = self.used = None
         self.report = session.report()
@@ -248,7 +355,8 @@ class Talk:
         session = self.session
         if event == "saw":
             move = session.saw(given[0], given[1])
-            return f"now {move.target} {move.environment}"
+            stuck = not self.document.is_final(move.target) and not self.document.allowed(move.target, move.environment)
+            return f"now {move.target} {move.environment}" + (f"\n{STUCK}" if stuck else "")
         if event == "abort":
             session.abort()
             return "aborted"
@@ -280,7 +388,7 @@ class Talk:
             return f"{explanation}\nend"
 
 
-def shown(report: Report) -> str:
+def shown(report: Report, document: Document) -> str:
     """A report for people."""
     finality = "may be left" if report.final else "is under way"
     lines = [f"target {report.target} ({finality}), environment {report.environment}"]
@@ -289,6 +397,8 @@ def shown(report: Report) -> str:
         lines.append(f"  {each.name}: {each.state}" + (f" ({', '.join(notes)})" if notes else ""))
     if not report.composition:
         lines.append("there is no composition; explain says why")
+    elif not report.final and not document.allowed(report.target, report.environment):
+        lines.append(STUCK)
     lines += [f"  do {action}: {' '.join(services)}" for action, services in report.offers.items()]
     return "\n".join(lines)
 
@@ -319,7 +429,7 @@ def talk_at_terminal(checker: Checker, system: System, roman: str) -> int:
     with document_of(checker) as file, Session(file, program=roman) as session:
         talk = Talk(looked_up(system), session)
         prepare(talk)
-        print(shown(session.opening))
+        print(shown(session.opening, talk.document))
         print("help says what a line may be; the tab key completes names")
         while True:
             try:
@@ -360,7 +470,7 @@ def main(arguments: Optional[Sequence[str]] = None) -> int:
             return UNREADABLE
         if sys.stdin.isatty():
             return talk_at_terminal(checker, checker.system, roman)
-        return echo(checker, roman, sys.stdin.buffer.read())
+        return echo(checker, checker.system, roman, sys.stdin.buffer.read())
     except OSError as error:
         if error.filename is None:
             raise  # What it writes can't be written.

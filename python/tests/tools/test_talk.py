@@ -55,7 +55,7 @@ class Echo(unittest.TestCase):
 
     def test_lines_that_are_refused_and_what_comes_after_quit(self) -> None:
         done = self.echo("samples/lamp.json", "explain\nfly\nquit\ndo on\n")
-        lines = [line.split(None, 1) for line in done.stdout.splitlines()]
+        lines = [line.split(None, 1) for line in done.stdout.splitlines() if not line.startswith(" ")]
         self.assertEqual(lines, [["explain", "error related"], ["fly", "error line"], ["quit", "bye"]])
 
     def test_a_short_document_and_one_that_is_wrong(self) -> None:
