@@ -158,7 +158,7 @@ class Guide(unittest.TestCase):
             r"\./roman run .* \| diff": self.check_words,
             r'\{"name":"belt"': lambda block: self.check_json(block, "depot"),
             r"\$ tools/roman-lint ": self.check_findings,
-            r"\$ tools/roman-draw ": self.check_told,
+            r"\$ tools/roman-(draw|advice) ": self.check_told,
             r"\$ echo explain \| ": self.check_play,
             r"> do ": self.check_talk,
             r"set makeprg=": self.check_vim,

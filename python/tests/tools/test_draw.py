@@ -330,6 +330,9 @@ class Offers(unittest.TestCase):
         self.assertIn("no composition", done.stderr)
 
 
+RECIPES = ("jam", "retry", "sensor", "anyone", "away", "gripper", "shared")
+
+
 class Guide(unittest.TestCase):
     def test_the_drawings_of_the_guide_are_those_of_now(self) -> None:
         drawings: Dict[str, List[str]] = {
@@ -340,7 +343,7 @@ class Guide(unittest.TestCase):
                 "samples/workshop.replies",
             ],
         }
-
+        drawings.update({f"recipe-{name}.svg": [f"samples/short/{name}.json"] for name in RECIPES})
         guide = (TOP / "docs" / "GUIDE.md").read_text(encoding="utf-8")
         for name, words in drawings.items():
             with self.subTest(name):
