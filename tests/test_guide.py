@@ -65,7 +65,7 @@ class Guide(unittest.TestCase):
         """What an example for Python writes."""
         path = {**os.environ, "PYTHONPATH": str(TOP / "python" / "src")}
         with tempfile.TemporaryDirectory() as folder:
-            words = {'"./roman"': repr(PROGRAM), '"home.journal"': repr(f"{folder}/journal")}
+            words = {'"./roman"': repr(PROGRAM), '"home.db"': repr(f"{folder}/home.db")}
             for shown, here in words.items():
                 example = example.replace(shown, here)
             done = run(sys.executable, "-c", example, env=path)

@@ -7,7 +7,20 @@ calls for asyncio are in `roman_client.aio`.
 
 import logging
 
-from .devices import NOT_DONE, Act, Back, Call, Device, DeviceFailed, DeviceTimeout, Outcome, Verdict, device
+from .devices import (
+    NOT_DONE,
+    Act,
+    Back,
+    Call,
+    Device,
+    DeviceFailed,
+    DeviceLost,
+    DeviceTimeout,
+    Did,
+    Outcome,
+    Verdict,
+    device,
+)
 from .dispatcher import Dispatcher
 from .documents import Document, DocumentError, Environment, Machine
 from .errors import (
@@ -19,6 +32,7 @@ from .errors import (
     Impossible,
     InDoubt,
     InsideRequest,
+    KeyTaken,
     NameTaken,
     NoComposition,
     NoReply,
@@ -40,7 +54,8 @@ from .errors import (
     UnknownName,
 )
 from .notices import Asked, Changed, Done, Failure, Notice, Recovery, Restarted
-from .policies import Choice, LeastCost, Policy, first_offered
+from .policies import Choice, Chosen, LeastCost, Policy, first_offered
+from .position import Frozen, Position
 from .replies import Answer, Explanation, Lost, Move, Offer, Repair, Report, Service
 from .session import Session
 from .snapshots import Snapshot
@@ -56,9 +71,12 @@ __all__ = [
     "Call",
     "Changed",
     "Choice",
+    "Chosen",
     "Device",
     "DeviceFailed",
+    "DeviceLost",
     "DeviceTimeout",
+    "Did",
     "Dispatcher",
     "Document",
     "DocumentError",
@@ -66,11 +84,13 @@ __all__ = [
     "Environment",
     "Explanation",
     "Failure",
+    "Frozen",
     "Full",
     "Idle",
     "Impossible",
     "InDoubt",
     "InsideRequest",
+    "KeyTaken",
     "LeastCost",
     "Lost",
     "Machine",
@@ -88,6 +108,7 @@ __all__ = [
     "Outcome",
     "OverLimit",
     "Policy",
+    "Position",
     "ProgramEnded",
     "Recovery",
     "Refusal",

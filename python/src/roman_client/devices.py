@@ -20,6 +20,10 @@ class DeviceTimeout(DeviceFailed):
     """A device didn't answer by its deadline. What it answers later isn't looked at."""
 
 
+class DeviceLost(DeviceFailed):
+    """The connection to a device was lost after it was asked, so that it may have done it."""
+
+
 class Verdict(enum.Enum):
     """What became of a call that was under way when a dispatcher was killed."""
 
@@ -30,9 +34,17 @@ class Verdict(enum.Enum):
 
 NOT_DONE = Verdict.NOT_DONE
 
-Told = Union[Outcome, Verdict, None]
-"""What a device tells of such a call: its state now and that of the environment; that it wasn't done; or
-None, where it can't tell."""
+
+@dataclass(frozen=True)
+class Did:
+    """For devices that know that they did a call: their state now, and that of the environment."""
+
+    outcome: Outcome
+
+
+Told = Union[Outcome, Did, Verdict, None]
+"""What a device tells of such a call: its state now and that of the environment; the same as `Did`, if it knows that
+it did the call; NOT_DONE if it didn't and never will; or None if it can't tell."""
 
 
 @dataclass(frozen=True)
@@ -56,11 +68,13 @@ class Device:
     else is said here.
 
     `timeout` is how many seconds it may take, None for ever. `repeatable` says that it may safely be asked
-    twice for one thing.
+    twice for one thing. If `late_is_doubt`, a device that is late or lost (`DeviceTimeout`, `DeviceLost`) is asked
+    by `state` whether it did the call, and no other device does it before that is known.
     """
 
     timeout: Optional[float] = None
     repeatable: bool = False
+    late_is_doubt: bool = False
 
     def serve(self, call: Call) -> Outcome:
         """Carries out an action, and gives its outcome. Where it can't, it raises an exception, as
@@ -82,11 +96,19 @@ State = Callable[[Call], Told]
 class FunctionDevice(Device):
     """A device made of functions."""
 
-    def __init__(self, act: Act, state: Optional[State], timeout: Optional[float], repeatable: bool) -> None:
+    def __init__(
+        self,
+        act: Act,
+        state: Optional[State],
+        timeout: Optional[float],
+        repeatable: bool,
+        late_is_doubt: bool = False,
+    ) -> None:
         self._act = act
         self._state = state
         self.timeout = timeout
         self.repeatable = repeatable
+        self.late_is_doubt = late_is_doubt
 
     def serve(self, call: Call) -> Outcome:
         return self._act(call.request)
@@ -101,10 +123,11 @@ def device(
     state: Optional[State] = None,
     timeout: Optional[float] = None,
     repeatable: bool = False,
+    late_is_doubt: bool = False,
 ) -> Device:
     """A device made of a function from the requested action to its outcome, and of what `Device` has
     besides."""
-    return FunctionDevice(act, state, timeout, repeatable)
+    return FunctionDevice(act, state, timeout, repeatable, late_is_doubt)
 
 
 Back = Callable[[str], Union[bool, str, None]]

@@ -11,30 +11,18 @@ from types import TracebackType
 from typing import Any, Callable, FrozenSet, Mapping, Optional, Tuple, Type, Union
 
 from . import protocol
-from .core import (
-    Append,
-    AskBack,
-    AskState,
-    Choose,
-    Dispatching,
-    Notify,
-    Posted,
-    Reread,
-    Restore,
-    Rotate,
-    Serve,
-    TakeSnapshot,
-    Tell,
-)
+from .core import Dispatching, Posted
 from .devices import Act, Back, Call, Device, DeviceTimeout, FunctionDevice
 from .documents import PathLike
+from .effects import AskBack, AskState, Begin, Choose, Commit, Notify, Restore, Serve
 from .errors import InsideRequest, SessionOver
-from .journal import Journal
 from .notices import Done, Failure, Notice, Recovery, Watch
-from .policies import Policy, first_offered
-from .protocol import Effect, Event, Steps, Value
+from .policies import Chosen, Policy, first_offered
+from .position import Frozen
+from .protocol import Effect, Event, Steps, Tell, Value
 from .replies import Explanation, Repair, Report
 from .session import Session
+from .store import Store
 
 LOG = logging.getLogger("roman_client.dispatcher")
 
@@ -66,7 +54,7 @@ class Dispatcher:
     ) -> None:
         """For a session between two requests. There is a device for each of its services.
 
-        `store` is the name of a journal. Where there is one, the session goes on from it, in place of its
+        `store` is the name of a database. Where there is one, the session goes on from it, in place of its
         own states, and `recovered` says what became of a request that was under way. Raises `StoreLocked`
         where another dispatcher is at work on it, and `StoreBroken` where it isn't one for this document.
         `on_failure` is told each `Failure`, and `watch` everything.
@@ -78,11 +66,11 @@ class Dispatcher:
         self._watch = watch
         self._turn = threading.Lock()
         self._inside = threading.local()
-        self._journal = None if store is None else Journal(store)
+        self._store = None if store is None else Store(store)
         self.core: Dispatching[Device] = Dispatching(
             {name: as_device(each) for name, each in devices.items()},
             back is not None,
-            self._journal,
+            self._store,
         )
         try:
             self._in_turn(lambda: self.core.begin(session.core.document))
@@ -93,14 +81,19 @@ class Dispatcher:
     # What it knows.
 
     @property
+    def devices(self) -> dict[str, Device]:
+        """The devices by service."""
+        return self.core.devices
+
+    @property
     def failed(self) -> FrozenSet[str]:
         """The services that are frozen since they failed, or were when the dispatcher began."""
-        return frozenset(self.core.failed)
+        return self.core.failed
 
     @property
     def served(self) -> int:
         """How many requests were served, over all runs with this store."""
-        return self.core.served
+        return self.core.position.served
 
     @property
     def under_way(self) -> Optional[Call]:
@@ -125,34 +118,47 @@ class Dispatcher:
 
     # Requests.
 
-    def request(self, action: str, key: Optional[str] = None) -> Done:
+    def request(self, action: str, key: Optional[str] = None, source: str | None = None) -> Done:
         """Has an action served. Raises `NoComposition`, and `NotAllowed` or `UnknownName` for an action that
         the target doesn't allow here, or that isn't there.
 
-        With a `key` of its own a request can be made again when the dispatcher was killed meanwhile. Where
-        it was served, that is given, and nobody is asked; where that is in doubt, `InDoubt` is raised. The
-        last thousand keys are kept.
+        With a `key` of its own, of at most 256 bytes, a request can be made again when the dispatcher was killed
+        meanwhile. If it was served, its `Done` is given again, and no device is asked; if that is in doubt, `InDoubt`
+        is raised, and `KeyTaken` if the key is that of another action. The last thousand keys are kept. `source` is
+        who asks, for the history.
         """
-        return self._in_turn(lambda: self.core.request(action, key))
+        return self._in_turn(lambda: self.core.request(action, key, source))
 
-    def record(self, action: str, service: str, state: str, environment: str, key: Optional[str] = None) -> Done:
+    def record(
+        self,
+        action: str,
+        service: str,
+        state: str,
+        environment: str,
+        key: Optional[str] = None,
+        source: str | None = None,
+    ) -> Done:
         """Takes a request as served, with that outcome, and asks no device: so a request that was in doubt
-        is settled where it was done."""
-        return self._in_turn(lambda: self.core.record(action, service, (state, environment), key))
+        is settled if it was done. It counts once with one key."""
+        return self._in_turn(lambda: self.core.record(action, service, (state, environment), key, source))
 
     # Changes.
 
-    def thaw(self, service: str, state: Optional[str] = None) -> Repair:
+    def change(self, event: Event[Value], source: str | None = None) -> Value:
+        """Makes a change of `roman_client.protocol`, with its source for the history."""
+        return self._in_turn(lambda: self.core.event(event, source=source))
+
+    def thaw(self, service: str, state: Optional[str] = None, source: str | None = None) -> Repair:
         """A frozen service is back, in that state, or in the one that it had."""
-        return self._in_turn(lambda: self.core.thaw(service, state))
+        return self._in_turn(lambda: self.core.thaw(service, state, source))
 
     def freeze(self, service: str) -> Repair:
-        """Takes a service out of use, until `thaw`."""
-        return self._in_turn(lambda: self.core.event(protocol.freeze(service)))
+        """Takes a service out of use by hand, until `thaw`; also one that is frozen since it failed."""
+        return self.change(protocol.freeze(service))
 
     def die(self, service: str) -> Repair:
         """A service is gone."""
-        return self._in_turn(lambda: self.core.event(protocol.die(service)))
+        return self.change(protocol.die(service))
 
     def join(
         self,
@@ -162,30 +168,31 @@ class Dispatcher:
         device: Union[Device, Act],
         *,
         loose: bool = False,
+        source: str | None = None,
     ) -> Repair:
         """A new service joins, with its device."""
-        return self._in_turn(lambda: self.core.join(service, behaviour, state, loose, as_device(device)))
+        return self._in_turn(lambda: self.core.join(service, behaviour, state, loose, as_device(device), source))
 
     def jump(self, service: str, state: str) -> None:
         """A service is in that state now, whatever its transitions say."""
-        self._in_turn(lambda: self.core.event(protocol.jump(service, state)))
+        self.change(protocol.jump(service, state))
 
     def jumpenv(self, environment: str) -> None:
         """The environment is in that state now, whatever its transitions say."""
-        self._in_turn(lambda: self.core.event(protocol.jumpenv(environment)))
+        self.change(protocol.jumpenv(environment))
 
-    def post(self, event: Event[Value]) -> Future[Value]:
-        """Has a change of `roman_client.protocol` made, as `jumpenv("dusk")`, without waiting for it: at
-        once, or where a request is open in its turn. It can be called by devices and policies, too."""
-        future = self._posted(lambda: self.core.event(event))
+    def post(self, event: Event[Value], cause: Frozen = Frozen.BY_HAND, source: str | None = None) -> Future[Value]:
+        """Has a change of `roman_client.protocol` made, as `jumpenv("dusk")`, without waiting for it: at once, or in
+        its turn if a request is open. It can be called by devices and policies, too. A freeze has that cause."""
+        future = self._posted(event, cause, source)
         if not self._is_inside():
             self._drain()
         return future
 
     def close(self) -> None:
         """Lets go of the store. The session goes on."""
-        if self._journal is not None:
-            self._journal.close()
+        if self._store is not None:
+            self._store.close()
 
     def __enter__(self) -> Dispatcher:
         return self
@@ -210,7 +217,7 @@ class Dispatcher:
         finally:
             self._drain()
 
-    def _posted(self, steps: Callable[[], Steps[Value]]) -> Future[Value]:
+    def _posted(self, event: Event[Value], cause: Frozen, source: str | None) -> Future[Value]:
         future: Future[Value] = Future()
 
         def settle(value: Value, error: Optional[BaseException]) -> None:
@@ -221,7 +228,7 @@ class Dispatcher:
             else:
                 future.set_exception(error)
 
-        self.core.inbox.append(Posted(steps, settle))
+        self.core.inbox.append(Posted(event, cause, source, settle))
         return future
 
     def _drain(self) -> None:
@@ -264,20 +271,16 @@ class Dispatcher:
         assert self._back is not None
         return self._by(self.core.devices[effect.service], functools.partial(self._back, effect.service))
 
-    def _choose(self, effect: Choose) -> str:
+    def _choose(self, effect: Choose) -> str | Chosen:
         return self._within(lambda: self.policy(effect.choice))
 
-    def _append(self, effect: Append) -> None:
-        assert self._journal is not None
-        self._journal.append(*effect.entries, keep=effect.keep)
+    def _begin(self, effect: Begin) -> None:
+        assert self._store is not None
+        self._store.begin(effect.stored)
 
-    def _rotate(self, effect: Rotate) -> None:
-        assert self._journal is not None
-        self._journal.rotate(effect.head)
-
-    def _reread(self, effect: Reread) -> None:
-        assert self._journal is not None
-        self._journal.reread()
+    def _commit(self, effect: Commit) -> None:
+        assert self._store is not None
+        self._store.commit(effect.position, effect.entries)
 
     def _notify(self, effect: Notify) -> None:
         self._told(self._watch, effect.notice)
@@ -295,15 +298,13 @@ class Dispatcher:
 
     _performers: Mapping[Type[Effect], Callable[[Any, Any], Any]] = {
         Tell: _tell,
-        TakeSnapshot: lambda self, effect: self.session.snapshot(),
         Restore: lambda self, effect: self.session.restore(effect.snapshot),
         Serve: _serve,
         AskState: _state,
         AskBack: _ask_back,
         Choose: _choose,
-        Append: _append,
-        Rotate: _rotate,
-        Reread: _reread,
+        Begin: _begin,
+        Commit: _commit,
         Notify: _notify,
     }
 

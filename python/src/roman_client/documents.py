@@ -12,10 +12,10 @@ import math
 import os
 from dataclasses import dataclass
 from pathlib import Path
-from typing import Any, Dict, FrozenSet, Iterator, List, Mapping, NamedTuple, Optional, Sequence, Tuple, Union
+from typing import Any, Dict, FrozenSet, Iterator, List, Mapping, NamedTuple, Optional, Protocol, Sequence, Tuple, Union
 
 from .errors import RomanError
-from .replies import Report, Service
+from .replies import Service
 
 PathLike = Union[str, "os.PathLike[str]"]
 
@@ -94,6 +94,22 @@ class Machine:
             if step.state == state and step.action == action and holds(step.guard, environment)
         )
         return tuple(dict.fromkeys(found))
+
+
+class States(Protocol):
+    """Where a session stands, as a report says it."""
+
+    @property
+    def target(self) -> str:
+        """The state of the target."""
+
+    @property
+    def environment(self) -> str:
+        """The state of the environment."""
+
+    @property
+    def services(self) -> Sequence[Service]:
+        """The services that are present."""
 
 
 class Document:
@@ -255,7 +271,7 @@ class Document:
 
     # Other starting states, and writing.
 
-    def with_states(self, report: Report) -> Document:
+    def with_states(self, report: States) -> Document:
         """The document whose starting states are those of a report of a session that began with this one:
         its services are those that are present, with their states, frozen and loose as they are."""
         value = dict(self.value)

@@ -159,6 +159,10 @@ class InDoubt(RomanError):
     """The request with this key was under way when the dispatcher was killed, and may have been served."""
 
 
+class KeyTaken(RomanError):
+    """The key of a request is that of another one."""
+
+
 class InsideRequest(RomanError):
     """A call from inside of a device or a policy that would wait for the request that it is part of. `post`
     is for that."""

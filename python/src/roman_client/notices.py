@@ -18,6 +18,14 @@ class Failure:
     error: Optional[BaseException]
     outcome: Any
 
+    @property
+    def text(self) -> str:
+        """How it failed, in words."""
+        if self.error is not None:
+            return str(self.error) or type(self.error).__name__
+        words = self.outcome if isinstance(self.outcome, (tuple, list)) else (repr(self.outcome),)
+        return f"answered {' '.join(map(str, words))}, which can't be"
+
 
 @dataclass(frozen=True)
 class Done:

@@ -5,7 +5,7 @@ from __future__ import annotations
 import json
 import os
 from dataclasses import dataclass
-from typing import Callable, Dict, Iterable, Mapping, Sequence, Tuple, Union
+from typing import Callable, Dict, Iterable, Mapping, NamedTuple, Sequence, Tuple, Union
 
 from .documents import PathLike
 
@@ -20,8 +20,16 @@ class Choice:
     behaviours: Mapping[str, str]
 
 
-Policy = Callable[[Choice], str]
-"""Names one of the offered services. Whichever it names, the next request will have an offer."""
+class Chosen(NamedTuple):
+    """A policy's choice with its reason, for the history of a store."""
+
+    service: str
+    reason: str | None
+
+
+Policy = Callable[[Choice], Union[str, Chosen]]
+"""Names one of the offered services, with a reason or without. Whichever it names, the next request will have an
+offer."""
 
 
 def first_offered(choice: Choice) -> str:

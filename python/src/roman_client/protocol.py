@@ -202,6 +202,14 @@ class Stop(Effect):
 Steps = Generator[Effect, Any, Value]
 """What is to be done, up to a value."""
 
+
+@dataclass(frozen=True)
+class Tell(Effect, Generic[Value]):
+    """Send a line to a session. Gives the value of the reply."""
+
+    event: Event[Value]
+
+
 LAST_WORDS = ("refused", "limit", "usage:")
 """With one of these a line begins in place of a reply where the program is about to end."""
 

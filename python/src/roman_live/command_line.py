@@ -17,7 +17,7 @@ from .asking import ask
 from .config import HomeFile, HomeFileError
 from .home import Home
 from .http_api import Server
-from .requests import Requests
+from .mqtt_requests import MqttRequests
 from .systemd import Supervisor, begin_log, complain, greet
 
 LOG = logging.getLogger("roman_live")
@@ -67,7 +67,7 @@ def main(words: Optional[Sequence[str]] = None) -> int:
         given = parser().parse_args(words)
         begin_log(logging.INFO if given.verbose else logging.WARNING)
         if given.check:
-            asyncio.run(Home(HomeFile.read(given.home), simulate=given.simulate).check())
+            asyncio.run(Home.check(HomeFile.read(given.home), simulate=given.simulate))
             print(f"{given.home}: nothing is wrong")
             return DONE
         asyncio.run(run(HomeFile.read(given.home), given.simulate))
@@ -82,19 +82,18 @@ def main(words: Optional[Sequence[str]] = None) -> int:
         return INTERRUPTED  # Whoever asked waits no more; the request goes on.
 
 
-async def begun(home: Home, ending: asyncio.Event) -> bool:
-    """Begins a home. False where it was to end before that was done, since a device takes its time."""
-    beginning = asyncio.ensure_future(home.begin())
+async def begun(file: HomeFile, simulate: bool, ending: asyncio.Event) -> Home | None:
+    """Starts a home. None if it is to end before that is done, since a device takes its time."""
+    beginning = asyncio.ensure_future(Home.start(file, simulate=simulate))
     ended = asyncio.ensure_future(ending.wait())
     await asyncio.wait({beginning, ended}, return_when=asyncio.FIRST_COMPLETED)
     ended.cancel()
-    if not beginning.done():
-        beginning.cancel()
-        with contextlib.suppress(asyncio.CancelledError):
-            await beginning
-        return False
-    await beginning
-    return True
+    if beginning.done():
+        return await beginning
+    beginning.cancel()
+    with contextlib.suppress(asyncio.CancelledError):
+        await (await beginning).close()
+    return None
 
 
 async def run(file: HomeFile, simulate: bool) -> None:
@@ -105,12 +104,12 @@ async def run(file: HomeFile, simulate: bool) -> None:
         ends.append(signal.SIGHUP)
     for each in ends:
         asyncio.get_running_loop().add_signal_handler(each, ending.set)
-    home = Home(file, simulate=simulate)
-    server = Server(home, file.page)
-    if not await begun(home, ending):
+    home = await begun(file, simulate, ending)
+    if home is None:
         return
+    server = Server(home, file.page)
     try:
-        await Requests(home).begin()
+        await MqttRequests(home).begin()
         await server.begin()
         supervisor = Supervisor()
         supervisor.ready(server.url)
@@ -120,9 +119,9 @@ async def run(file: HomeFile, simulate: bool) -> None:
         greet(f"{file.document.name} is at {server.url}/")
         await supervisor.watch(ending)
         supervisor.stopping()
-        if not simulate and home.open:
+        if not simulate and home.requests.open:
             LOG.warning("a device is at work, and has %g seconds to come to its end", PATIENCE)
-        if not simulate and not await home.settle(PATIENCE):
+        if not simulate and not await home.requests.settle(PATIENCE):
             LOG.warning("a device is still at work; the next start finds out what came of it")
             logging.shutdown()
             os._exit(DONE)

@@ -25,6 +25,10 @@ class HomeFileError(Exception):
     """A home file can't be read, or isn't valid. The text names the file, the line, and the table with the key."""
 
 
+LATE = ("failure", "doubt")
+"""What a device that is late has done: nothing that counts, or perhaps its call."""
+
+
 class PolicyName(Enum):
     """Which of the offered services is taken."""
 
@@ -128,12 +132,15 @@ REACHED: Mapping[type, str] = {
 
 @dataclass(frozen=True)
 class DeviceEntry:
-    """How a service is reached, how many seconds it may take, and whether it may safely be asked twice for
-    one thing."""
+    """How a service is reached; how many seconds it may take, if the home file says so; whether it may safely be asked
+    twice for one thing; whether a call is in doubt if it is late; and after how many seconds it is asked for its state
+    again and again."""
 
     reach: Reach
-    seconds: float
-    repeat: bool
+    seconds: Optional[float] = None
+    repeat: bool = False
+    late_is_doubt: bool = False
+    poll: Optional[float] = None
 
     @property
     def reached(self) -> str:
@@ -369,7 +376,7 @@ def _policy(table: Optional[Table], folder: Path) -> Policy:
 def _journal(table: Optional[Table], folder: Path) -> Optional[Path]:
     if table is None:
         return None
-    path = table.need("path", text, 'path = "home.journal"')
+    path = table.need("path", text, 'path = "home.db"')
     table.end()
     return folder / path
 
@@ -444,11 +451,14 @@ def _devices(table: Optional[Table], folder: Path) -> Dict[str, DeviceEntry]:
 def _device(table: Table, folder: Path) -> DeviceEntry:
     kinds = ("mqtt", "http", "command", "python")
     kind = table.need("reach", one_of(kinds), "reach = " + " or ".join(f'"{each}"' for each in kinds))
-    limit = table.take("seconds", seconds, 10.0)
+    limit = table.take("seconds", seconds, None)
     repeat = table.take("repeat", flag, False)
+    late = table.take("late", one_of(LATE), LATE[0])
+    # What moves by itself is reported over MQTT.
+    poll = None if kind == "mqtt" else table.take("poll", seconds, None)
     reach = _READERS[kind](table, folder)
     table.end()
-    return DeviceEntry(reach, limit, repeat)
+    return DeviceEntry(reach, limit, repeat, late == "doubt", poll)
 
 
 def _mqtt(table: Table, folder: Path) -> Reach:

@@ -25,6 +25,14 @@ class Moved(RomanError):
     """Something moved by itself while a service was chosen."""
 
 
+class Expired(RomanError):
+    """A request waited too long for its turn."""
+
+
+class Cancelled(RomanError):
+    """A request was cancelled while it waited for its turn."""
+
+
 class Ending(RomanError):
     """The home is about to end, and takes no requests any more."""
 

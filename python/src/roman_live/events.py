@@ -4,7 +4,7 @@ from __future__ import annotations
 
 import asyncio
 import logging
-import time
+import secrets
 from collections import deque
 from dataclasses import dataclass, field
 from datetime import datetime, timezone
@@ -14,6 +14,9 @@ LOG = logging.getLogger("roman_live")
 
 KEPT = 200
 """How many events are kept."""
+
+LONGEST_NUMBER = 18
+"""The most digits of the number of an event."""
 
 BEHIND = 1000
 """How many messages may wait for a listener, before it is let go."""
@@ -26,7 +29,7 @@ def now() -> str:
 
 @dataclass(frozen=True)
 class Event:
-    """Something that happened: its number, time, kind, a text for people, and what else belongs to it."""
+    """Something that happened: its number, time, kind, a text for people, and further details."""
 
     number: int
     time: str
@@ -47,11 +50,11 @@ class Event:
 
 @dataclass(frozen=True)
 class Message:
-    """What a listener is sent: `event` or `state`, its JSON, and the number of an event."""
+    """What a listener is sent: `event` or `state`, its JSON, and the mark of an event."""
 
     name: str
     value: Any
-    number: Optional[int] = None
+    mark: Optional[str] = None
 
 
 Listener = asyncio.Queue[Optional[Message]]
@@ -59,10 +62,11 @@ Listener = asyncio.Queue[Optional[Message]]
 
 
 class EventLog:
-    """The last events. Numbers grow over restarts, too."""
+    """The last events. They are numbered from 1 in each `run` of a home, whatever the clock does."""
 
     def __init__(self) -> None:
-        self._next = int(time.time() * 1000)
+        self.run = secrets.token_hex(8)
+        self._next = 1
         self._kept: Deque[Event] = deque(maxlen=KEPT)
         self._listeners: Set[Listener] = set()
 
@@ -72,8 +76,12 @@ class EventLog:
         event = Event(self._next, now(), kind, text, details)
         self._next += 1
         self._kept.append(event)
-        self.send(Message("event", event.to_json(), event.number))
+        self.send(self.message(event))
         return event
+
+    def message(self, event: Event) -> Message:
+        """The message that tells of an event. Its mark names the event also for other runs."""
+        return Message("event", {**event.to_json(), "run": self.run}, f"{self.run}-{event.number}")
 
     def send(self, message: Message) -> None:
         """Sends a message to all listeners. One that is far behind is let go."""
@@ -84,10 +92,12 @@ class EventLog:
             else:
                 listener.put_nowait(message)
 
-    def after(self, number: int) -> List[Event]:
-        """The kept events after that one. All, where it isn't the number of one."""
-        first = self._kept[0].number if self._kept else self._next
-        return [each for each in self._kept if each.number > number or not first - 1 <= number < self._next]
+    def after(self, mark: str) -> List[Event]:
+        """The kept events after the one with that mark. All, if this run has none with it."""
+        run, _, number = mark.partition("-")
+        known = run == self.run and number.isdecimal() and len(number) <= LONGEST_NUMBER
+        last = int(number) if known else 0
+        return [each for each in self._kept if each.number > last or last >= self._next]
 
     def listen(self) -> Listener:
         """A new listener."""

@@ -15,17 +15,23 @@ from urllib.parse import urlsplit
 
 from aiohttp import web
 
-from roman_client import InDoubt, NoComposition, NotAllowed, Refusal, StoreFailed
+from roman_client import InDoubt, KeyTaken, NoComposition, NotAllowed, Refusal, StoreFailed
 
 from .config import Page, is_loopback
-from .errors import TROUBLE, Busy, NoDevice, NoPage, Nowhere, UnknownAction, in_words
+from .errors import TROUBLE, Busy, Cancelled, Expired, NoDevice, NoPage, Nowhere, UnknownAction, in_words
 from .events import Message
 from .home import Home
 from .pictures import picture
+from .requests import CANCELLED, EXPIRED, PATIENCE
 from .states import explanation_to_json, failures_to_json
 
 LONGEST_BODY = 65_536
 """The most bytes of a body."""
+
+LONGEST_WAIT = 86_400
+"""The most seconds that a request waits for its turn."""
+
+NO_EXPIRY = f"expires has to be a number of seconds, at most {LONGEST_WAIT}"
 
 COOKIE = "roman_live_token"
 
@@ -58,6 +64,7 @@ class Server:
                 web.get("/events", self._get_events),
                 web.get("/metrics", self._get_metrics),
                 web.post("/requests", self._post_request),
+                web.delete("/requests/{key}", self._delete_request),
                 web.post("/services/{service}/{change:freeze|thaw|die|jump}", self._post_change),
                 web.post("/join", self._post_join),
                 web.post("/environment/jump", self._post_environment),
@@ -175,8 +182,8 @@ class Server:
         listener = self.home.events.listen()
         closing = asyncio.ensure_future(self._closing.wait())
         try:
-            for event in self.home.events.after(int(last) if last.isdecimal() else -1):
-                await response.write(_sent(Message("event", event.to_json(), event.number)))
+            for event in self.home.events.after(last):
+                await response.write(_sent(self.home.events.message(event)))
             await response.write(_sent(Message("state", await self.home.shown.state())))
             while not self._closing.is_set():
                 waiting = asyncio.ensure_future(listener.get())
@@ -200,32 +207,44 @@ class Server:
 
     async def _post_request(self, request: web.Request) -> web.Response:
         body = await _body(request)
-        action, key = _text(body, "action"), _optional_text(body, "key")
-        return await answer(self.home, action, key, _flag(body, "wait", True))
+        action, key, wait = _text(body, "action"), _optional_text(body, "key"), _flag(body, "wait", True)
+        expires = expiry(body.get("expires"))
+        if expires is None:
+            raise web.HTTPBadRequest(text=NO_EXPIRY)
+        status, value = await result(self.home, action, key, wait, expires=expires, source=_source(request))
+        return _json(value, status)
+
+    async def _delete_request(self, request: web.Request) -> web.Response:
+        """Cancels what waits with a key."""
+        cancelled = self.home.requests.cancel(request.match_info["key"])
+        if not cancelled:
+            return _json({"error": "no request with this key waits"}, HTTPStatus.NOT_FOUND)
+        return _json({"cancelled": cancelled})
 
     async def _post_change(self, request: web.Request) -> web.Response:
         body = await _body(request)
         service, change = request.match_info["service"], request.match_info["change"]
+        source = _source(request)
         if change == "jump":
-            return await self._changed(self.home.jump(service, _text(body, "state")))
-        changes = {"freeze": self.home.freeze, "thaw": self.home.thaw, "die": self.home.die}
-        return await self._changed(changes[change](service))
+            return await self._changed(self.home.fleet.jump(service, _text(body, "state"), source))
+        changes = {"freeze": self.home.fleet.freeze, "thaw": self.home.fleet.thaw, "die": self.home.fleet.die}
+        return await self._changed(changes[change](service, source))
 
     async def _post_join(self, request: web.Request) -> web.Response:
         body = await _body(request)
         service, behaviour = _text(body, "service"), _text(body, "behaviour")
-        joined = self.home.join(service, behaviour, _text(body, "state"), _flag(body, "loose", False))
-        return await self._changed(joined)
+        state, loose = _text(body, "state"), _flag(body, "loose", False)
+        return await self._changed(self.home.fleet.join(service, behaviour, state, loose, _source(request)))
 
     async def _post_environment(self, request: web.Request) -> web.Response:
         body = await _body(request)
-        return await self._changed(self.home.jump_environment(_text(body, "state")))
+        return await self._changed(self.home.fleet.jump_environment(_text(body, "state"), _source(request)))
 
     async def _post_record(self, request: web.Request) -> web.Response:
         body = await _body(request)
         action, service, key = _text(body, "action"), _text(body, "service"), _optional_text(body, "key")
         outcome = _text(body, "state"), _text(body, "environment")
-        return await self._changed(self.home.record(action, service, outcome, key))
+        return await self._changed(self.home.requests.record(action, service, outcome, key, _source(request)))
 
     async def _post_outcome(self, request: web.Request) -> web.Response:
         body = await _body(request)
@@ -234,7 +253,7 @@ class Server:
         if not _flag(body, "fail", False):
             outcome = (_text(body, "state"), _text(body, "environment"))
         try:
-            await self.home.answer(service, outcome)
+            await self.home.requests.answer(service, outcome)
         except LookupError as error:
             return _json({"error": str(error.args[0])}, HTTPStatus.CONFLICT)
         return await self._state()
@@ -245,7 +264,7 @@ class Server:
             await asyncio.shield(asyncio.ensure_future(change))
         except Refusal as refusal:
             return _json({"error": refusal.reply}, HTTPStatus.CONFLICT)
-        except (NoDevice, Nowhere) as error:
+        except (KeyTaken, NoDevice, Nowhere) as error:
             return _json({"error": str(error)}, HTTPStatus.CONFLICT)
         except (TypeError, ValueError) as error:
             return _json({"error": str(error)}, HTTPStatus.BAD_REQUEST)
@@ -260,20 +279,37 @@ class Server:
         return _json(await self.home.shown.state())
 
 
-async def answer(home: Home, action: str, key: Optional[str], wait: bool) -> web.Response:
-    """What came of a request, as the HTTP API says it."""
-    status, value = await result(home, action, key, wait)
-    return _json(value, status)
+def expiry(value: Any) -> Optional[float]:
+    """How many seconds a request waits at most. None if the value is no such number."""
+    if value is None:
+        return PATIENCE
+    known = isinstance(value, (int, float)) and not isinstance(value, bool) and 0 <= value <= LONGEST_WAIT
+    return float(value) if known else None
 
 
-async def result(home: Home, action: str, key: Optional[str], wait: bool) -> Tuple[HTTPStatus, Dict[str, Any]]:
-    """Has an action served, and gives the status and the JSON of what came of it."""
+def _source(request: web.Request) -> str:
+    """Who asks, for the history."""
+    return f"http {request.remote}"
+
+
+async def result(
+    home: Home, action: str, key: Optional[str], wait: bool, *, expires: float = PATIENCE, source: Optional[str] = None
+) -> Tuple[HTTPStatus, Dict[str, Any]]:
+    """Has an action served, and gives the status and the JSON of the result."""
     try:
-        return HTTPStatus.OK, await home.request(action, key, wait)
+        return HTTPStatus.OK, await home.requests.serve(action, key, wait, expires=expires, source=source)
     except UnknownAction as error:
         return HTTPStatus.NOT_FOUND, {"error": str(error), "actions": list(home.document.actions)}
     except Busy:
         return HTTPStatus.CONFLICT, {"error": "busy"}
+    except Expired as error:
+        return HTTPStatus.REQUEST_TIMEOUT, {"error": EXPIRED, "text": str(error)}
+    except Cancelled as error:
+        return HTTPStatus.CONFLICT, {"error": CANCELLED, "text": str(error)}
+    except KeyTaken as error:
+        return HTTPStatus.CONFLICT, {"error": "key taken", "text": str(error)}
+    except ValueError as error:
+        return HTTPStatus.BAD_REQUEST, {"error": str(error)}
     except NoComposition as refusal:
         explanation = refusal.explanation
         return HTTPStatus.CONFLICT, {
@@ -309,8 +345,8 @@ def _json(value: Any, status: int = HTTPStatus.OK) -> web.Response:
 
 def _sent(message: Message) -> bytes:
     """A message as an event that the server sends."""
-    number = "" if message.number is None else f"id: {message.number}\n"
-    return f"{number}event: {message.name}\ndata: {json.dumps(message.value)}\n\n".encode()
+    mark = "" if message.mark is None else f"id: {message.mark}\n"
+    return f"{mark}event: {message.name}\ndata: {json.dumps(message.value)}\n\n".encode()
 
 
 async def _body(request: web.Request) -> Mapping[str, Any]:

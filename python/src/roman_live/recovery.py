@@ -5,7 +5,7 @@ from __future__ import annotations
 import asyncio
 import contextlib
 from datetime import datetime, timedelta, timezone
-from typing import Awaitable, Callable, Dict, Optional, Set
+from typing import Awaitable, Callable, Dict, Optional
 
 from .devices import Answer
 from .registry import Knowledge
@@ -29,7 +29,7 @@ class Returning:
     def __init__(
         self,
         known: Knowledge,
-        held: Callable[[], Set[str]],
+        held: Callable[[], frozenset[str]],
         told: Callable[[str], Awaitable[Optional[Answer]]],
         back: Callable[[str, Answer], Awaitable[bool]],
         changed: Callable[[], None],
@@ -83,6 +83,13 @@ class Returning:
             self._known[service].next_try = None
         if task is not None and task is not asyncio.current_task():
             task.cancel()
+
+    async def close(self) -> None:
+        """Stops asking."""
+        tasks = list(self.tasks.values())
+        for task in tasks:
+            task.cancel()
+        await asyncio.gather(*tasks, return_exceptions=True)
 
     async def _return(self, service: str) -> None:
         """Asks a service with growing pauses, and at once where it said something, until it is back."""

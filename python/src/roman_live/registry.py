@@ -1,19 +1,17 @@
-"""What is known of the services and of the environment."""
+"""The known states of services and environment."""
 
 from __future__ import annotations
 
 from dataclasses import dataclass
-from typing import Dict, List, Optional
 
-from roman_client import Report
+from roman_client import Document, Done, Failure, Report
 
 from .events import now
 
 
 @dataclass
 class Known:
-    """What is known of a service: among it how many `calls` it was given in this run, and its `failures` since
-    it last served."""
+    """A service: among others how many `calls` it was given in this run, and its `failures` since it last served."""
 
     behaviour: str
     state: str
@@ -23,14 +21,18 @@ class Known:
     dead: bool = False
     calls: int = 0
     failures: int = 0
-    last_error: Optional[str] = None
-    next_try: Optional[str] = None
+    last_error: str | None = None
+    next_try: str | None = None
 
 
-class Knowledge(Dict[str, Known]):
-    """What is known of each service, by its name, and in which state the environment is."""
+class Knowledge(dict[str, Known]):
+    """The services by name, and the state of the environment."""
 
-    environment = ""
+    def __init__(self, document: Document, opening: Report) -> None:
+        super().__init__()
+        self.environment = opening.environment
+        for service in document.services:
+            self.learn(service.name, service.behaviour, service.state, service.loose)
 
     def learn(self, name: str, behaviour: str, state: str, loose: bool) -> None:
         """A service is there."""
@@ -55,6 +57,37 @@ class Knowledge(Dict[str, Known]):
         for name, known in self.items():
             known.dead = name not in present
 
-    def present(self) -> List[str]:
+    def served(self, done: Done) -> None:
+        """A request was served."""
+        self.environment = done.environment
+        known = self[done.service]
+        known.failures, known.last_error = 0, None
+        self.now_in(done.service, done.state)
+
+    def failed(self, failure: Failure) -> None:
+        """A service failed, and is frozen."""
+        known = self[failure.service]
+        known.failures += 1
+        known.last_error = failure.text
+        known.frozen, known.since = True, now()
+
+    def changed(self, words: tuple[str, ...]) -> None:
+        """A change was made, by hand or by itself."""
+        word, *rest = words
+        if word == "jumpenv":
+            self.environment = rest[0]
+            return
+        service = rest[0]
+        if word == "join":
+            self.learn(service, rest[1], rest[2], len(rest) == 4)
+        elif word == "jump":
+            self.now_in(service, rest[1])
+        known = self[service]
+        if word in ("freeze", "thaw"):
+            known.frozen, known.since = word == "freeze", now()
+        elif word == "die":
+            known.dead, known.since = True, now()
+
+    def present(self) -> list[str]:
         """The services that aren't dead."""
         return [name for name, known in self.items() if not known.dead]

@@ -56,14 +56,7 @@ def explanation_to_json(explanation: Explanation) -> Dict[str, Any]:
 
 def failures_to_json(failures: Sequence[Failure]) -> List[Dict[str, str]]:
     """Which services failed at a request, and how."""
-    return [{"service": each.service, "error": error_of(each)} for each in failures]
-
-
-def error_of(failure: Failure) -> str:
-    """How a service failed, in words."""
-    if failure.error is not None:
-        return str(failure.error) or type(failure.error).__name__
-    return f"answered {' '.join(map(str, failure.outcome))}, which can't be"
+    return [{"service": each.service, "error": each.text} for each in failures]
 
 
 def done_to_json(done: Done, number: Optional[int]) -> Dict[str, Any]:

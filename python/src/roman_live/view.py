@@ -31,12 +31,8 @@ class Shown:
         self._home = home
         self.listener: Optional[Callable[[str], None]] = None
         """Is told in a line how it is with the home, whenever that may have changed."""
-        self._report: Report
+        self._report = home.session.opening
         self._explained: Optional[Tuple[Report, Optional[Explanation]]] = None
-
-    def begin(self, report: Report) -> None:
-        """Begins with that report, which is shown where there is no newer one."""
-        self._report = report
 
     async def state(self) -> Dict[str, Any]:
         """The present state as JSON."""
@@ -58,11 +54,11 @@ class Shown:
             "explanation": None if explanation is None else explanation_to_json(explanation),
             "counts": {
                 "served": self._home.dispatcher.served,
-                "waiting": max(0, self._home.open - 1),
+                "waiting": max(0, self._home.requests.open - 1),
                 "frozen": sum(each["status"] == "frozen" for each in services),
                 "dead": sum(each["status"] == "dead" for each in services),
             },
-            "broker": None if self._home.broker is None else self._home.broker.connected,
+            "broker": None if self._home.fleet.broker is None else self._home.fleet.broker.connected,
         }
 
     async def figures(self) -> bytes:
@@ -82,13 +78,13 @@ class Shown:
         try:
             self._report = await self._home.reply(self._home.session.report())
         except SessionOver:
-            if not self._home.open:
+            if not self._home.requests.open:
                 self._report = await self._home.dispatcher.report()
         return self._report
 
     async def _explanation(self, report: Report) -> Optional[Explanation]:
         """Why there is no composition, where there is none and no request is open."""
-        if report.composition or self._home.open:
+        if report.composition or self._home.requests.open:
             return None
         if self._explained is None or self._explained[0] != report:
             try:
@@ -102,20 +98,20 @@ class Shown:
         known = self._home.known[service]
         if known.dead:
             return "dead"
-        if self._home.call is not None and self._home.call[0].service == service:
+        if self._home.activity.call is not None and self._home.activity.call[0].service == service:
             return "under way"
         return "frozen" if known.frozen else "ready"
 
     def _service_to_json(self, name: str) -> Dict[str, Any]:
         known = self._home.known[name]
-        device = self._home.devices.get(name)
+        device = self._home.fleet.devices.get(name)
         return {
             "name": name,
             "behaviour": known.behaviour,
             "state": known.state,
             "states": list(self._home.document.behaviours[known.behaviour].states),
             "status": self._status(name),
-            "by_hand": known.frozen and name in self._home.kept.held,
+            "by_hand": known.frozen and name in self._home.fleet.held(),
             "loose": known.loose,
             "reached": None if device is None else device.reach.reached,
             "since": known.since,
@@ -125,11 +121,11 @@ class Shown:
 
     def _request_to_json(self, report: Report) -> Optional[Dict[str, Any]]:
         """What is under way; with simulated devices the possible outcomes, too."""
-        if self._home.call is None:
+        if self._home.activity.call is None:
             return None
-        call, since = self._home.call
+        call, since = self._home.activity.call
         shown: Dict[str, Any] = {
-            "id": self._home.number(call),
+            "id": self._home.fleet.number(call),
             "action": call.request,
             "service": call.service,
             "since": since,
@@ -152,8 +148,10 @@ class Shown:
             try:
                 if self._home.events.listeners:
                     self._home.events.send(Message("state", await self.state()))
-                if self._home.broker is not None:
-                    self._home.broker.publish_now(self._home.broker.state_topic, await self._summary(), retain=True)
+                if self._home.fleet.broker is not None:
+                    self._home.fleet.broker.publish_now(
+                        self._home.fleet.broker.state_topic, await self._summary(), retain=True
+                    )
                 if self.listener is not None:
                     self.listener(self._line(await self._present_report()))
             except TROUBLE as error:
@@ -166,7 +164,7 @@ class Shown:
         frozen = [each.name for each in report.services if each.frozen]
         if frozen:
             words.append(f"frozen: {', '.join(frozen)}")
-        if self._home.broker is not None and not self._home.broker.connected:
+        if self._home.fleet.broker is not None and not self._home.fleet.broker.connected:
             words.append("the broker is away")
         return "; ".join(words)
 

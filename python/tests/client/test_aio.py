@@ -3,6 +3,7 @@
 import asyncio
 import inspect
 import os
+import shutil
 import signal
 import sys
 import tempfile
@@ -14,7 +15,7 @@ from typing import Any, AsyncIterator, Awaitable, Callable, Dict, List, Optional
 import roman_client as roman
 from roman_client import NOT_DONE, Verdict, aio, protocol
 
-from . import PROGRAM, sample
+from . import PROGRAM, copy_store, sample
 from .test_pipes import BEGIN, LONG, OPENING
 
 States = Tuple[str, str]
@@ -321,9 +322,8 @@ class Dispatchers(unittest.IsolatedAsyncioTestCase):
                 async with aio.Dispatcher(session, {"l1": kills}, store=store, watch=notices.append) as dispatcher:
                     done = await dispatcher.request("on", key="a")
                     self.assertEqual(done.target, "on")
-                    other = aio.Dispatcher(session, {"l1": works}, store=store)
                     with self.assertRaises(roman.StoreLocked):
-                        await other.begin()
+                        aio.Dispatcher(session, {"l1": works}, store=store)
             self.assertEqual([type(each) for each in notices][-1], roman.Done)
             async with lamp() as session:
                 async with aio.Dispatcher(session, {"l1": works}, store=store) as dispatcher:
@@ -333,12 +333,8 @@ class Dispatchers(unittest.IsolatedAsyncioTestCase):
                     self.assertEqual(dispatcher.served, 2)
 
     async def test_what_was_under_way(self) -> None:
-        cut = b""
-
         async def works_and_copies(action: str) -> States:
-            nonlocal cut
-            with open(store, "rb") as file:
-                cut = file.read()
+            copy_store(store, f"{folder}/cut")
             return await works(action)
 
         async def tells(call: roman.Call) -> Any:
@@ -354,8 +350,7 @@ class Dispatchers(unittest.IsolatedAsyncioTestCase):
                 (NOT_DONE, Verdict.NOT_DONE),
                 (None, Verdict.IN_DOUBT),
             ):
-                with open(store, "wb") as file:
-                    file.write(cut)
+                shutil.copy(f"{folder}/cut", store)
                 async with lamp() as session:
                     device = aio.device(works, state=tells)
                     async with aio.Dispatcher(session, {"l1": device}, store=store) as dispatcher:

@@ -1,22 +1,24 @@
 """The store of a dispatcher: what it goes on from, wherever it was cut off."""
 
-import json
-import os
+from __future__ import annotations
+
+import contextlib
 import resource
 import shutil
-import tempfile
-import unittest
-from contextlib import contextmanager
+import sqlite3
+from collections.abc import Callable, Iterator
 from pathlib import Path
-from typing import Any, Dict, Iterator, List, Optional, Tuple, Union
+from typing import Any
 from unittest import mock
 
-import roman_client as roman
-from roman_client import NOT_DONE, Call, Device, Dispatcher, Session, Verdict, core
-from roman_client.devices import Outcome, Told
-from roman_client.journal import Journal
+import pytest
 
-from . import PROGRAM, sample
+import roman_client as roman
+from roman_client import NOT_DONE, Call, Device, Did, Dispatcher, Frozen, Session, Verdict, core
+from roman_client.devices import Outcome, Told
+from roman_client.store import Store, reading
+
+from . import PROGRAM, copy_store, sample
 
 OUTCOMES = {
     ("window", "brighten"): ("open", "day"),
@@ -27,543 +29,871 @@ OUTCOMES = {
     ("kettle", "pour"): ("empty", "dusk"),
 }
 
+JOURNALS = Path(__file__).parent / "journals"
+
 
 class Home(Device):
-    """A service of the home. It keeps copies of the journal as it was when the service was asked."""
+    """A service of the home. `told` is what it tells of a call, and `broken` how it fails."""
 
-    def __init__(self, told: Union[Told, BaseException] = None, repeatable: bool = False) -> None:
+    def __init__(self, told: Told | BaseException = None, repeatable: bool = False) -> None:
         self.told = told
         self.repeatable = repeatable
-        self.calls: List[Call] = []
-        self.copy: Optional[Tuple[Path, Path]] = None
+        self.calls: list[Call] = []
+        self.asked: list[Call] = []
+        self.answer: Any = None
+        self.before: Callable[[Call], Any] = lambda call: None
 
     def serve(self, call: Call) -> Outcome:
         self.calls.append(call)
-        if self.copy is not None:
-            shutil.copy(*self.copy)
-        if len(self.calls) == 3 and call.service == "ceiling":
-            raise roman.DeviceFailed("burnt out")
-        return OUTCOMES[call.service, call.action]
+        self.before(call)
+        if isinstance(self.answer, BaseException):
+            raise self.answer
+        answer: Outcome = self.answer or OUTCOMES[call.service, call.action]
+        return answer
 
     def state(self, call: Call) -> Told:
+        self.asked.append(call)
         if isinstance(self.told, BaseException):
             raise self.told
         return self.told
 
 
-class Stores(unittest.TestCase):
-    def setUp(self) -> None:
-        folder = tempfile.TemporaryDirectory()
-        self.addCleanup(folder.cleanup)
-        self.folder = Path(folder.name)
-        self.store = self.folder / "journal"
+class Stores:
+    """A store, and the devices of its dispatchers."""
+
+    def __init__(self, folder: Path) -> None:
+        self.folder = folder
+        self.path = folder / "store"
         self.devices = {name: Home() for name in ("window", "ceiling", "kettle")}
 
-    @contextmanager
-    def dispatcher(self, store: Optional[Path] = None, devices: Any = None, **words: Any) -> Iterator[Dispatcher]:
+    @contextlib.contextmanager
+    def dispatcher(self, path: Path | None = None, devices: Any = None, **words: Any) -> Iterator[Dispatcher]:
         with Session(sample("home.json"), program=PROGRAM, timeout=60) as session:
-            with Dispatcher(session, devices or self.devices, store=store or self.store, **words) as dispatcher:
+            with Dispatcher(session, devices or self.devices, store=path or self.path, **words) as dispatcher:
                 yield dispatcher
 
-    def lines(self) -> List[Any]:
-        return [json.loads(line) for line in self.store.read_text(encoding="utf-8").splitlines()]
+    def devices_that_tell(self, told: Any = NOT_DONE, repeatable: bool = False) -> dict[str, Home]:
+        return {name: Home(told, repeatable) for name in self.devices}
 
-
-class GoingOn(Stores):
-    def test_it_goes_on(self) -> None:
-        with self.dispatcher() as dispatcher:
-            dispatcher.freeze("window")
-            self.assertEqual(dispatcher.request("brighten").service, "ceiling")
-            dispatcher.jumpenv("dusk")
-            dispatcher.join("lamp2", "lamp", "on", Home(), loose=True)
-            report, served = dispatcher.report(), dispatcher.served
-        with self.assertRaisesRegex(ValueError, "lamp2"), self.dispatcher():
-            pass
-        self.devices["lamp2"] = Home()
-        with self.dispatcher() as dispatcher:
-            self.assertEqual(dispatcher.report(), report)
-            self.assertEqual((dispatcher.served, served), (1, 1))
-            self.assertEqual(dispatcher.failed, frozenset())
-            self.assertIsNone(dispatcher.recovered)
-            dispatcher.die("lamp2")
-        del self.devices["lamp2"]
-        with self.dispatcher() as dispatcher:
-            self.assertEqual(len(dispatcher.report().services), 3)
-
-    def test_a_service_that_joined_again(self) -> None:
-        """It has its device when the program has ended, and when the journal is read."""
-        with self.dispatcher() as dispatcher:
-            dispatcher.die("window")
-            dispatcher.join("window", "blind", "ajar", self.devices["window"])
-            dispatcher.freeze("ceiling")
-            dispatcher.session.close()
-            self.assertEqual(dispatcher.request("brighten").service, "window")
-            report = dispatcher.report()
-        with self.dispatcher() as dispatcher:
-            self.assertEqual(dispatcher.report(), report)
-            for action in ("boil", "pour"):
-                dispatcher.request(action)
-            self.assertEqual(dispatcher.request("dim").service, "window")
-
-    def test_an_event_a_line(self) -> None:
-        with self.dispatcher() as dispatcher:
-            dispatcher.request("brighten")
-            dispatcher.jump("window", "ajar")
-        head, begun, answered, changed = self.lines()
-        self.assertEqual(head["journal"], 1)
-        self.assertEqual(begun["call"]["service"], "window")
-        self.assertEqual(answered["outcome"], ["open", "day"])
-        self.assertEqual(changed["words"], ["jump", "window", "ajar"])
-
-    def test_the_disk_comes_before_the_device(self) -> None:
-        seen = []
-        fsync = os.fsync
-
-        def synced(file: int) -> None:
-            fsync(file)
-            if os.readlink(f"/proc/self/fd/{file}") == str(self.store):
-                seen.append(self.lines()[-1].get("event"))
-
-        def served(call: Call) -> Outcome:
-            seen.append("asked")
-            return OUTCOMES[call.service, call.action]
-
-        with self.dispatcher() as dispatcher:
-            with mock.patch("os.fsync", synced), mock.patch.object(self.devices["window"], "serve", served):
-                dispatcher.request("brighten")
-        self.assertEqual(seen, ["begun", "asked", "answered"])
-
-    def test_wherever_it_is_cut_off(self) -> None:
-        """At each byte of a journal, what stands there whole is what the dispatcher goes on from."""
-        stands: List[Tuple[int, Tuple[Any, ...]]] = []
-
-        def note(dispatcher: Dispatcher) -> None:
-            report = dispatcher.report()
-            stands.append((len(self.lines()), (report, dispatcher.served, dispatcher.failed)))
-
-        self.devices["ceiling"].calls = [Call("ceiling", "", "", 0)]
-        with self.dispatcher() as dispatcher:
-            note(dispatcher)
-            dispatcher.freeze("window")
-            note(dispatcher)
-            for action in ("brighten", "boil", "pour"):
-                dispatcher.request(action)
-                note(dispatcher)
-            dispatcher.jumpenv("day")
-            note(dispatcher)
-            with self.assertRaises(roman.NoComposition):
-                dispatcher.request("dim")
-            note(dispatcher)
-            dispatcher.thaw("ceiling", "on")
-            note(dispatcher)
-        whole = self.store.read_bytes()
-        ends = [place + 1 for place, byte in enumerate(whole) if byte == 10]
-        told = dict(stands)
-        compared = 0
-        for number, end in enumerate(ends, 1):
-            after = ends[number] if number < len(ends) else end
-            for cut in {end, (end + after) // 2, max(end, after - 1)}:
-                copy = self.folder / "copy"
-                copy.write_bytes(whole[:cut])
-                told_devices = {name: Home(told=NOT_DONE) for name in self.devices}
-                with self.subTest(number=number, cut=cut), self.dispatcher(copy, told_devices) as dispatcher:
-                    if number in told:
-                        report, served, failed = told[number]
-                        now = (dispatcher.report(), dispatcher.served, dispatcher.failed)
-                        self.assertEqual(now, (report, served, failed))
-                        compared += 1
-                    elif dispatcher.recovered is not None:
-                        self.assertEqual(dispatcher.recovered.verdict, Verdict.NOT_DONE)
-        self.assertGreaterEqual(compared, 2 * len(told) - 1)
-
-    def test_it_begins_anew_after_so_many_events(self) -> None:
-        with mock.patch.object(core, "ROTATE_AFTER", 10), self.dispatcher() as dispatcher:
-            for _ in range(12):
-                self.devices["ceiling"].calls.clear()
-                for action in ("brighten", "boil", "pour"):
-                    dispatcher.request(action, key=f"{action}{dispatcher.served}")
-                dispatcher.jumpenv("day")
-                dispatcher.request("dim")
-                self.assertLess(len(self.lines()), 13)
-            for _ in range(30):
-                dispatcher.jumpenv("day")
-                self.assertLess(len(self.lines()), 13)
-            report = dispatcher.report()
-        self.assertFalse(Path(f"{self.store}.new").exists())
-        with self.dispatcher() as dispatcher:
-            self.assertEqual((dispatcher.served, dispatcher.report()), (48, report))
-            self.assertEqual(dispatcher.request("brighten", key="brighten4").action, "brighten")
-            self.assertEqual(dispatcher.served, 48)
-            self.assertEqual(dispatcher.core.calls, 48)
-
-    def test_keys(self) -> None:
-        with self.dispatcher() as dispatcher:
-            done = dispatcher.request("brighten", key="a")
-            self.assertEqual(dispatcher.request("brighten", key="a"), done)
-            self.assertEqual(len(self.devices["window"].calls), 1)
-        with self.dispatcher() as dispatcher:
-            self.assertEqual(dispatcher.request("brighten", key="a"), done)
-        with self.dispatcher() as dispatcher, mock.patch.object(core, "KEYS", 1):
-            dispatcher.request("boil", key="b")
-            with self.assertRaises(roman.NotAllowed):
-                dispatcher.request("brighten", key="a")
-
-    def test_failures_are_kept_with_a_key(self) -> None:
-        with self.dispatcher() as dispatcher:
-            with mock.patch.object(self.devices["window"], "serve", lambda call: None):
-                dispatcher.request("brighten", key="a")
-        with self.dispatcher() as dispatcher:
-            (failure,) = dispatcher.request("brighten", key="a").failures
-            self.assertEqual((failure.service, failure.outcome), ("window", "None"))
-
-    def test_two_on_one_journal(self) -> None:
-        with self.dispatcher():
-            with self.assertRaisesRegex(roman.StoreLocked, "another dispatcher"):
-                with self.dispatcher():
-                    pass
-        with self.dispatcher():
-            pass
-
-    def test_what_is_no_journal(self) -> None:
-        with self.dispatcher() as dispatcher:
-            dispatcher.request("brighten")
-        whole = self.store.read_bytes()
-        lines = whole.splitlines(True)
-        broken = [
-            b"",
-            b"{}\n",
-            b"\n" + whole,
-            whole.replace(b'"journal":1', b'"journal":2'),
-            lines[0] + b"{}\n" + b"".join(lines[1:]),
-            lines[0] + lines[2],
-            lines[0] + lines[1].replace(b"window", b"widow"),
-            lines[0] + b'{"event":"changed","words":["jump","window"]}\n',
-            lines[0] + b'{"event":"changed","words":["jump","window","broken"]}\n',
-            whole.replace(b'"shut","ajar"]', b'"shut"]'),
-        ]
-        for text in broken:
-            self.store.write_bytes(text)
-            with self.subTest(text[-80:]), self.assertRaises(roman.StoreBroken):
-                with self.dispatcher():
-                    pass
-            self.assertEqual(self.store.read_bytes(), text)
-        self.store.unlink()
-        self.store.mkdir()
-        with self.assertRaises(roman.StoreBroken), self.dispatcher():
-            pass
-
-    def test_a_store_that_can_not_be_made(self) -> None:
-        with self.assertRaisesRegex(roman.StoreFailed, "No such file"):
-            with self.dispatcher(self.folder / "gone" / "journal"):
-                pass
-
-
-class UnderWay(Stores):
-    """What becomes of a call that was under way at a kill, by what its device tells."""
+    def rows(self, query: str, path: Path | None = None) -> list[Any]:
+        with reading(path or self.path) as database:
+            return database.execute(query).fetchall()
 
     def cut_off(self, action: str, *before: str) -> Path:
-        """A journal as it was when a device was at work."""
+        """A store as it is while a device is at work."""
         copy = self.folder / "copy"
         with self.dispatcher() as dispatcher:
             for each in before:
                 dispatcher.request(each)
             for device in self.devices.values():
-                device.copy = (self.store, copy)
+                device.before = lambda call: copy_store(self.path, copy)
             dispatcher.request(action, key="a")
         return copy
 
-    def recovered(
-        self, told: Union[Told, BaseException], *, repeatable: bool = False, action: str = "brighten"
-    ) -> Tuple[roman.Recovery, roman.Report, Dict[str, Home]]:
-        before = ("brighten",) if action == "boil" else ()
-        copy = self.cut_off(action, *before)
-        devices = {name: Home(told, repeatable) for name in self.devices}
-        with self.dispatcher(copy, devices) as dispatcher:
-            recovery = dispatcher.recovered
-            assert recovery is not None
-            self.assertEqual(recovery.call.request, action)
-            self.assertIsNone(dispatcher.under_way)
-            done = recovery.verdict is Verdict.DONE
-            self.assertEqual(dispatcher.served, len(before) + done)
-            failed = {recovery.call.service} if recovery.verdict is Verdict.IN_DOUBT else set()
-            self.assertEqual(dispatcher.failed, failed)
-            calls = sum(len(device.calls) for device in devices.values())
-            self.assertEqual(calls, repeatable)
-            if done:
-                self.assertEqual(dispatcher.request(action, key="a"), recovery.done)
-            elif recovery.verdict is Verdict.IN_DOUBT:
-                with self.assertRaises(roman.InDoubt):
-                    dispatcher.request(action, key="a")
-            report = dispatcher.report()
-        with self.dispatcher(copy, devices) as dispatcher:
-            self.assertIsNone(dispatcher.recovered)
-            self.assertEqual(dispatcher.report(), report)
-        return recovery, report, devices
 
-    def test_it_was_done(self) -> None:
-        recovery, report, _ = self.recovered(("open", "day"))
-        self.assertEqual(recovery.verdict, Verdict.DONE)
-        assert recovery.done is not None
-        self.assertEqual((recovery.done.service, recovery.done.target), ("window", "bright"))
-        self.assertEqual(report.target, "bright")
+@pytest.fixture
+def stores(tmp_path: Path) -> Stores:
+    return Stores(tmp_path)
 
-    def test_it_was_not_done(self) -> None:
-        recovery, report, _ = self.recovered(NOT_DONE)
-        self.assertEqual(recovery.verdict, Verdict.NOT_DONE)
-        self.assertEqual(report.target, "quiet")
 
-    def test_it_is_where_it_was(self) -> None:
-        recovery, _, _ = self.recovered(("shut", "day"))
-        self.assertEqual(recovery.verdict, Verdict.NOT_DONE)
+# What it goes on from.
 
-    def test_it_can_not_tell(self) -> None:
-        doubtful: List[Any] = [
-            None,
-            ("ajar", "day"),
-            ("open", "dusk"),
-            ("gone", "day"),
-            ("open",),
-            roman.DeviceFailed("no answer"),
+
+def test_it_goes_on(stores: Stores) -> None:
+    with stores.dispatcher() as dispatcher:
+        dispatcher.freeze("window")
+        assert dispatcher.request("brighten").service == "ceiling"
+        dispatcher.jumpenv("dusk")
+        dispatcher.join("lamp2", "lamp", "on", Home(), loose=True)
+        report, served = dispatcher.report(), dispatcher.served
+    with pytest.raises(ValueError, match="lamp2"), stores.dispatcher():
+        pass
+    stores.devices["lamp2"] = Home()
+    with stores.dispatcher() as dispatcher:
+        assert dispatcher.report() == report
+        assert (dispatcher.served, served, dispatcher.failed, dispatcher.recovered) == (1, 1, frozenset(), None)
+        dispatcher.die("lamp2")
+    del stores.devices["lamp2"]
+    with stores.dispatcher() as dispatcher:
+        assert len(dispatcher.report().services) == 3
+
+
+def test_a_service_that_joined_again(stores: Stores) -> None:
+    """It has its device after the program ended, and after a start; the services keep their order."""
+    with stores.dispatcher() as dispatcher:
+        dispatcher.die("window")
+        dispatcher.join("window", "blind", "ajar", stores.devices["window"])
+        dispatcher.freeze("ceiling")
+        dispatcher.session.close()
+        assert dispatcher.request("brighten").service == "window"
+        report = dispatcher.report()
+    with stores.dispatcher() as dispatcher:
+        assert dispatcher.report() == report
+        for action in ("boil", "pour"):
+            dispatcher.request(action)
+        assert dispatcher.request("dim").service == "window"
+
+
+def test_a_device_is_asked_when_its_call_is_on_the_disk(stores: Stores) -> None:
+    seen: list[Any] = []
+
+    def results() -> Any:
+        return stores.rows("SELECT service, result FROM calls")
+
+    with stores.dispatcher() as dispatcher:
+        stores.devices["window"].before = lambda call: seen.append(results())
+        dispatcher.request("brighten")
+    assert seen == [[("window", None)]]
+    assert results() == [("window", "served")]
+
+
+def test_each_commit_is_synced(stores: Stores) -> None:
+    with stores.dispatcher() as dispatcher:
+        database = dispatcher._store._connection()  # type: ignore[union-attr]
+        assert database.execute("PRAGMA synchronous").fetchall() == [(2,)]
+        assert database.execute("PRAGMA journal_mode").fetchall() == [("wal",)]
+
+
+def log_of(store: Path) -> bytes:
+    """What a store has written, and not yet moved into its database."""
+    log = Path(f"{store}-wal")
+    return log.read_bytes() if log.exists() else b""
+
+
+class Watched(Store):
+    """A store that keeps a copy, as it is after each commit."""
+
+    copies: list[tuple[Path, Path]]
+
+    def commit(self, *words: Any) -> None:
+        super().commit(*words)
+        self.keep()
+
+    def begin(self, *words: Any) -> None:
+        super().begin(*words)
+        self.copies = []
+        self.keep()
+
+    def keep(self) -> None:
+        copy = Path(f"{self.path}.{len(self.copies)}")
+        shutil.copy(self.path, copy)
+        Path(f"{copy}-wal").write_bytes(log_of(self.path))
+        self.copies.append((copy, Path(f"{copy}-wal")))
+
+
+def play(stores: Stores) -> tuple[list[tuple[int, Any]], list[tuple[Path, Path]]]:
+    """Requests, failures and changes. Gives where all stood between two of them, with how many commits there were, and
+    the copies of all commits."""
+    stands: list[tuple[int, Any]] = []
+    with mock.patch("roman_client.dispatcher.Store", Watched), stores.dispatcher() as dispatcher:
+        copies = dispatcher._store.copies  # type: ignore[union-attr]
+
+        def note() -> None:
+            stands.append((len(copies) - 1, (dispatcher.report(), dispatcher.served, dispatcher.failed)))
+
+        note()
+        dispatcher.freeze("window")
+        note()
+        for action in ("brighten", "boil", "pour"):
+            dispatcher.request(action)
+            note()
+        dispatcher.jumpenv("day")
+        note()
+        stores.devices["ceiling"].answer = roman.DeviceFailed("burnt out")
+        with pytest.raises(roman.NoComposition):
+            dispatcher.request("dim")
+        note()
+        dispatcher.jump("ceiling", "on")
+        note()
+        dispatcher.thaw("ceiling")
+        note()
+    return stands, copies
+
+
+def test_wherever_it_is_cut_off(stores: Stores) -> None:
+    """After each commit, and in the middle of each, it goes on from a commit."""
+    stands, copies = play(stores)
+    told = dict(stands)
+    previous = None
+    for number, (copy, log) in enumerate(copies):
+        whole, start = log.read_bytes(), 0 if previous is None else previous
+        previous = len(whole)
+        for cut in sorted({len(whole), (start + len(whole)) // 2, len(whole) - 1, start}):
+            for rest in (b"", b"\0" * (len(whole) - cut), b"\xff" * (len(whole) - cut)):
+                here = stores.folder / "here"
+                shutil.copy(copy, here)
+                Path(f"{here}-wal").write_bytes(whole[:cut] + rest)
+                newest = number if cut == len(whole) else number - 1
+                if newest < 0:
+                    continue
+                with stores.dispatcher(here, stores.devices_that_tell()) as dispatcher:
+                    if newest in told:
+                        now = dispatcher.report(), dispatcher.served, dispatcher.failed
+                        assert now == told[newest], (number, cut)
+                    elif dispatcher.recovered is not None:
+                        assert dispatcher.recovered.verdict is Verdict.NOT_DONE
+                for file in stores.folder.glob("here*"):
+                    file.unlink()
+
+
+def test_the_keys_of_the_last_requests(stores: Stores) -> None:
+    with mock.patch.object(core, "KEYS", 3), stores.dispatcher() as dispatcher:
+        for number in range(3):
+            for action in ("brighten", "boil", "pour"):
+                dispatcher.request(action, key=f"{action}{number}")
+            dispatcher.jumpenv("day")
+            dispatcher.request("dim")
+        report = dispatcher.report()
+    assert stores.rows("SELECT key FROM keys ORDER BY place") == [("brighten2",), ("boil2",), ("pour2",)]
+    with stores.dispatcher() as dispatcher:
+        assert (dispatcher.served, dispatcher.report(), dispatcher.core.position.calls) == (12, report, 12)
+        assert dispatcher.request("brighten", key="brighten2").action == "brighten"
+        assert dispatcher.served == 12
+
+
+def test_the_history_has_a_bound(stores: Stores) -> None:
+    with mock.patch("roman_client.store.HISTORY", 5), stores.dispatcher() as dispatcher:
+        for _ in range(4):
+            for action in ("brighten", "boil", "pour"):
+                dispatcher.request(action)
+            dispatcher.jumpenv("day")
+            dispatcher.request("dim")
+        for state in ("ajar", "shut") * 5:
+            dispatcher.jump("window", state)
+    assert stores.rows("SELECT min(number), max(number) FROM calls") == [(12, 16)]
+    assert stores.rows("SELECT count(*) FROM changes") == [(5,)]
+
+
+def test_the_history_says_who_asked_and_who_served_and_why(stores: Stores) -> None:
+    def policy(choice: roman.Choice) -> roman.Chosen:
+        return roman.Chosen(choice.offered[0], "it is the first")
+
+    stores.devices["window"].answer = roman.DeviceFailed("stuck")
+    with stores.dispatcher(policy=policy) as dispatcher:
+        dispatcher.request("brighten", key="a", source="the page")
+        dispatcher.change(roman.protocol.freeze("kettle"), source="the cleaner")
+    calls = stores.rows("SELECT requested, service, key, source, reason, result, state, error, request FROM calls")
+    assert calls == [
+        ("brighten", "window", "a", "the page", "it is the first", "failed", None, "stuck", 1),
+        ("brighten", "ceiling", "a", "the page", "it is the first", "served", "on", None, 1),
+    ]
+    assert stores.rows("SELECT words, cause, source FROM changes") == [("freeze kettle", "by hand", "the cleaner")]
+    assert stores.rows("SELECT count(*) FROM calls WHERE ended >= begun AND begun > 1e9") == [(2,)]
+
+
+# Keys.
+
+
+def test_a_key_is_served_once(stores: Stores) -> None:
+    with stores.dispatcher() as dispatcher:
+        done = dispatcher.request("brighten", key="a")
+        assert dispatcher.request("brighten", key="a") == done
+        assert len(stores.devices["window"].calls) == 1
+    with stores.dispatcher() as dispatcher:
+        assert dispatcher.request("brighten", key="a") == done
+        assert len(stores.devices["window"].calls) == 1
+
+
+def test_a_key_of_another_request(stores: Stores) -> None:
+    with stores.dispatcher() as dispatcher:
+        dispatcher.request("brighten", key="a")
+        calls: list[Callable[[], Any]] = [
+            lambda: dispatcher.request("boil", key="a"),
+            lambda: dispatcher.record("boil", "kettle", "hot", "day", key="a"),
+            lambda: dispatcher.record("brighten", "ceiling", "on", "day", key="a"),
         ]
-        for told in doubtful:
-            with self.subTest(told):
-                self.begin_anew()
-                recovery, report, _ = self.recovered(told)
-                self.assertEqual(recovery.verdict, Verdict.IN_DOUBT)
-                self.assertEqual(report.target, "quiet")
-                self.assertTrue(report.services[0].frozen)
+        for call in calls:
+            with pytest.raises(roman.KeyTaken, match="a"):
+                call()
+        assert dispatcher.served == 1
+        dispatcher.request("boil", key="b")
 
-    def begin_anew(self) -> None:
-        for file in self.folder.iterdir():
-            file.unlink()
-        self.devices = {name: Home() for name in self.devices}
 
-    def test_it_is_safe_to_repeat(self) -> None:
-        recovery, report, devices = self.recovered(None, repeatable=True)
-        self.assertEqual(recovery.verdict, Verdict.DONE)
-        self.assertEqual(devices["window"].calls, [recovery.call])
+def test_a_key_has_at_most_256_bytes(stores: Stores) -> None:
+    with stores.dispatcher() as dispatcher:
+        for key in ("k" * 257, "ü" * 129):
+            with pytest.raises(ValueError, match="256 bytes"):
+                dispatcher.request("brighten", key=key)
+        dispatcher.request("brighten", key="k" * 256)
+        assert dispatcher.served == 1
 
-    def test_it_is_repeated_and_makes_no_sense(self) -> None:
-        self.begin_anew()
-        with mock.patch.dict(OUTCOMES, {("window", "brighten"): ("open", "day")}):
-            copy = self.cut_off("brighten")
-        devices = {name: Home(repeatable=True) for name in self.devices}
-        with mock.patch.dict(OUTCOMES, {("window", "brighten"): ("ajar", "day")}):
-            with self.dispatcher(copy, devices) as dispatcher:
-                assert dispatcher.recovered is not None
-                self.assertEqual(dispatcher.recovered.verdict, Verdict.IN_DOUBT)
-                with self.assertRaises(roman.InDoubt):
-                    dispatcher.request("brighten", key="a")
-                self.assertEqual(sum(len(each.calls) for each in devices.values()), 1)
 
-    def test_an_interrupt_while_a_device_is_at_work(self) -> None:
-        interrupt = mock.Mock(side_effect=KeyboardInterrupt)
-        with self.dispatcher() as dispatcher:
-            with mock.patch.object(self.devices["window"], "serve", interrupt):
-                with self.assertRaises(KeyboardInterrupt):
-                    dispatcher.request("brighten", key="a")
-            self.assertEqual(dispatcher.failed, {"window"})
-            with self.assertRaises(roman.InDoubt):
-                dispatcher.request("brighten", key="a")
+def test_what_is_recorded_twice_with_one_key_counts_once(stores: Stores) -> None:
+    with stores.dispatcher() as dispatcher:
+        done = dispatcher.record("brighten", "window", "open", "day", key="a")
+        assert dispatcher.record("brighten", "window", "open", "day", key="a") == done
+        assert (dispatcher.served, dispatcher.request("brighten", key="a")) == (1, done)
+    with stores.dispatcher() as dispatcher:
+        assert dispatcher.record("brighten", "window", "open", "day", key="a") == done
+        assert dispatcher.served == 1
 
-    def test_a_state_that_says_nothing(self) -> None:
-        """A state that the action may leave as it is tells nothing of whether it was done."""
-        copy = self.folder / "copy"
 
-        def arm(action: str) -> Outcome:
-            shutil.copy(self.store, copy)
-            return "worn", "full"
+def test_failures_are_kept_with_a_key(stores: Stores) -> None:
+    stores.devices["window"].answer = "nonsense"
+    with stores.dispatcher() as dispatcher:
+        dispatcher.request("brighten", key="a")
+    with stores.dispatcher() as dispatcher:
+        (failure,) = dispatcher.request("brighten", key="a").failures
+        assert (failure.service, failure.text) == ("window", "answered 'nonsense', which can't be")
 
-        with self.workshop(self.store, roman.device(arm)) as dispatcher:
-            self.assertEqual(dispatcher.request("clean").service, "arm1")
-        whole = copy.read_bytes()
-        for told, verdict in (
-            (("fresh", "full"), Verdict.IN_DOUBT),
-            (("worn", "full"), Verdict.DONE),
-        ):
-            copy.write_bytes(whole)
-            with self.subTest(told), self.workshop(copy, Home(told)) as dispatcher:
-                assert dispatcher.recovered is not None
-                self.assertEqual(dispatcher.recovered.verdict, verdict)
 
-    @contextmanager
-    def workshop(self, store: Path, device: Device) -> Iterator[Dispatcher]:
-        with Session(sample("workshop.json"), program=PROGRAM, timeout=60) as session:
-            devices = {name: device for name in ("arm1", "arm2", "arm3")}
-            with Dispatcher(session, devices, store=store) as dispatcher:
-                yield dispatcher
+# Frozen, and why.
 
-    def test_a_doubt_is_settled(self) -> None:
-        copy = self.cut_off("brighten")
-        with self.dispatcher(copy, {name: Home() for name in self.devices}) as dispatcher:
-            with self.assertRaises(roman.NotOffered):
-                dispatcher.record("brighten", "window", "open", "day", key="a")
+
+def test_why_a_service_is_frozen(stores: Stores) -> None:
+    stores.devices["window"].answer = roman.DeviceFailed("stuck")
+    with stores.dispatcher() as dispatcher:
+        dispatcher.request("brighten")
+        dispatcher.freeze("kettle")
+        assert dispatcher.failed == {"window"}
+    with stores.dispatcher() as dispatcher:
+        assert dispatcher.failed == {"window"}
+        assert dispatcher.core.position.frozen(Frozen.BY_HAND) == {"kettle"}
+        repair = dispatcher.freeze("window")  # From now on it isn't asked whether it is back.
+        report = dispatcher.report()
+        assert repair.lost == report.pairs - report.related
+        assert dispatcher.failed == frozenset()
+        with pytest.raises(roman.AlreadyFrozen):
+            dispatcher.freeze("window")
+    with stores.dispatcher() as dispatcher:
+        assert dispatcher.core.position.frozen(Frozen.BY_HAND) == {"window", "kettle"}
+        dispatcher.thaw("window")
+        assert dispatcher.core.position.frozen(*Frozen) == {"kettle"}
+
+
+def test_a_freeze_and_its_cause_are_one_commit(stores: Stores) -> None:
+    """Whichever commit is the last one, a service is frozen by hand exactly if it is frozen."""
+    with mock.patch("roman_client.dispatcher.Store", Watched), stores.dispatcher() as dispatcher:
+        copies = dispatcher._store.copies  # type: ignore[union-attr]
+        for _ in range(2):
+            dispatcher.freeze("window")
             dispatcher.thaw("window")
-            for wrong in (("ajar", "day"), ("gone", "day"), ("", "day")):
-                with self.assertRaises((roman.Refusal, ValueError)):
-                    dispatcher.record("brighten", "window", *wrong)
-            done = dispatcher.record("brighten", "window", "open", "day", key="a")
-            self.assertEqual((done.target, dispatcher.served), ("bright", 1))
-            self.assertEqual(dispatcher.request("brighten", key="a"), done)
-            report = dispatcher.report()
-        with self.dispatcher(copy, {name: Home() for name in self.devices}) as dispatcher:
-            self.assertEqual((dispatcher.report(), dispatcher.served), (report, 1))
-            self.assertEqual(dispatcher.request("brighten", key="a"), done)
-
-    def test_an_interrupt_at_any_moment(self) -> None:
-        """A KeyboardInterrupt while the journal is written: the next call puts it right."""
-        for number in range(2):
-            self.begin_anew()
-            devices = {name: Home(("open", "day") if number else NOT_DONE) for name in self.devices}
-            with self.subTest(number), self.dispatcher(devices=devices) as dispatcher:
-                append = Journal.append
-                seen: List[int] = []
-
-                def interrupted(journal: Journal, *entries: Any, **words: Any) -> None:
-                    seen.append(0)
-                    append(journal, *entries, **words)
-                    if len(seen) == number + 1:
-                        raise KeyboardInterrupt
-
-                with mock.patch.object(Journal, "append", interrupted):
-                    with self.assertRaises(KeyboardInterrupt):
-                        dispatcher.request("brighten", key="a")
-                self.assertEqual(dispatcher.request("brighten", key="a").target, "bright")
-                self.assertEqual(dispatcher.served, 1)
-                self.assertEqual(len(devices["window"].calls), 1)
+    found = []
+    for copy, _ in copies:
+        with stores.dispatcher(copy) as dispatcher:
+            (window,) = (each for each in dispatcher.report().services if each.name == "window")
+            assert (dispatcher.core.position.frozen(Frozen.BY_HAND) == {"window"}) is window.frozen
+            found.append(window.frozen)
+    assert found == [False, True, False, True, False]
 
 
-class FullDisk(Stores):
-    """Where the journal can't be written nothing is asked, and nothing that was done is lost."""
+# One dispatcher, and its own files.
 
-    @contextmanager
-    def full(self, more: int) -> Iterator[None]:
-        """No file may grow beyond so many bytes more than the journal has."""
-        before = resource.getrlimit(resource.RLIMIT_FSIZE)
-        limit = self.store.stat().st_size + more
-        resource.setrlimit(resource.RLIMIT_FSIZE, (limit, before[1]))
+
+def test_two_on_one_store(stores: Stores) -> None:
+    with stores.dispatcher():
+        with pytest.raises(roman.StoreLocked, match="another dispatcher"), stores.dispatcher():
+            pass
+    with stores.dispatcher():
+        pass
+
+
+@pytest.mark.parametrize("gone", ["store", "store.lock"])
+def test_a_store_that_is_removed_while_it_is_in_use(stores: Stores, gone: str) -> None:
+    """Another dispatcher may begin then. The first one asks no device any more."""
+    with stores.dispatcher() as first:
+        for file in stores.folder.glob(f"{gone}*"):
+            file.unlink()
+        with pytest.raises(roman.StoreFailed, match="No such file"):
+            first.request("brighten")
+        with stores.dispatcher() as second:
+            with pytest.raises(roman.StoreFailed, match="was replaced"):
+                first.request("brighten")
+            assert [each.calls for each in stores.devices.values()] == [[], [], []]
+            second.request("brighten")
+
+
+def test_a_reader_is_no_hindrance(stores: Stores) -> None:
+    with stores.dispatcher() as dispatcher, reading(stores.path) as database:
+        database.execute("BEGIN")
+        assert database.execute("SELECT served FROM home").fetchall() == [(0,)]
+        dispatcher.request("brighten")
+        assert database.execute("SELECT served FROM home").fetchall() == [(0,)]
+        database.execute("COMMIT")
+        assert database.execute("SELECT served FROM home").fetchall() == [(1,)]
+
+
+def test_what_is_no_store(stores: Stores) -> None:
+    with stores.dispatcher() as dispatcher:
+        dispatcher.request("brighten")
+    whole = stores.path.read_bytes()
+    for text in (b"", b"{}\n", b"\n" + whole, whole[:100], whole[:4096] + b"\0" * (len(whole) - 4096)):
+        stores.path.write_bytes(text)
+        with pytest.raises(roman.StoreBroken), stores.dispatcher():
+            pass
+        assert stores.path.read_bytes() == text
+    for change in (
+        "PRAGMA user_version = 2",
+        "PRAGMA application_id = 7",
+        "UPDATE home SET document = '{}'",
+        "UPDATE services SET name = 'widow' WHERE name = 'window'; UPDATE services SET state = 'up'",
+        "UPDATE services SET frozen = 'perhaps'",
+        "UPDATE home SET target = 'nowhere'",
+        "DELETE FROM home",
+        "DROP TABLE keys",
+    ):
+        stores.path.write_bytes(whole)
+        with contextlib.closing(sqlite3.connect(stores.path)) as database:
+            database.executescript(change)
+        with pytest.raises((roman.StoreBroken, ValueError)), stores.dispatcher():
+            pass
+    stores.path.unlink()
+    stores.path.mkdir()
+    with pytest.raises(roman.StoreBroken), stores.dispatcher():
+        pass
+
+
+def test_a_store_of_another_document(stores: Stores) -> None:
+    with stores.dispatcher():
+        pass
+    with Session(sample("lamp.json"), program=PROGRAM) as session:
+        with pytest.raises(roman.StoreBroken, match="of another document"):
+            Dispatcher(session, {"l1": Home()}, store=stores.path)
+
+
+def test_a_store_that_can_not_be_made(stores: Stores) -> None:
+    with pytest.raises(roman.StoreFailed, match="No such file"), stores.dispatcher(stores.folder / "gone" / "store"):
+        pass
+
+
+@pytest.mark.parametrize("ends_at", ["connect", "link", "rename"])
+def test_a_beginning_that_is_cut_off(stores: Stores, ends_at: str) -> None:
+    """Until the store is whole there is none, and what was begun is no hindrance."""
+    where = "sqlite3.connect" if ends_at == "connect" else f"os.{ends_at}"
+    shutil.copy(JOURNALS / "home.journal", stores.path)
+    stores.devices["lamp2"] = Home()
+    with mock.patch(where, side_effect=OSError(5, "Input/output error")):
+        with pytest.raises(roman.StoreFailed, match="Input/output error"), stores.dispatcher():
+            pass
+    with stores.dispatcher() as dispatcher:
+        assert dispatcher.served == 4
+
+
+# What was under way.
+
+
+def recovered(
+    stores: Stores, told: Any, *, repeatable: bool = False, action: str = "brighten"
+) -> tuple[roman.Recovery, roman.Report, dict[str, Home]]:
+    before = ("brighten",) if action == "boil" else ()
+    copy = stores.cut_off(action, *before)
+    devices = stores.devices_that_tell(told, repeatable)
+    with stores.dispatcher(copy, devices) as dispatcher:
+        recovery = dispatcher.recovered
+        assert recovery is not None
+        assert recovery.call.request == action
+        assert dispatcher.under_way is None
+        done = recovery.verdict is Verdict.DONE
+        assert dispatcher.served == len(before) + done
+        assert dispatcher.failed == ({recovery.call.service} if recovery.verdict is Verdict.IN_DOUBT else set())
+        assert sum(len(device.calls) for device in devices.values()) == repeatable
+        if done:
+            assert dispatcher.request(action, key="a") == recovery.done
+        elif recovery.verdict is Verdict.IN_DOUBT:
+            with pytest.raises(roman.InDoubt):
+                dispatcher.request(action, key="a")
+        report = dispatcher.report()
+    with stores.dispatcher(copy, devices) as dispatcher:
+        assert dispatcher.recovered is None
+        assert dispatcher.report() == report
+    return recovery, report, devices
+
+
+@pytest.mark.parametrize("told", [("open", "day"), Did(("open", "day"))])
+def test_it_was_done(stores: Stores, told: Any) -> None:
+    recovery, report, _ = recovered(stores, told)
+    assert recovery.verdict is Verdict.DONE
+    assert recovery.done is not None
+    assert (recovery.done.service, recovery.done.target, report.target) == ("window", "bright", "bright")
+
+
+@pytest.mark.parametrize("told", [NOT_DONE, ("shut", "day")])
+def test_it_was_not_done(stores: Stores, told: Any) -> None:
+    recovery, report, _ = recovered(stores, told)
+    assert (recovery.verdict, report.target) == (Verdict.NOT_DONE, "quiet")
+
+
+@pytest.mark.parametrize(
+    "told",
+    [
+        None,
+        ("ajar", "day"),
+        ("open", "dusk"),
+        ("gone", "day"),
+        ("open",),
+        roman.DeviceFailed("no answer"),
+        Did(("shut", "day")),  # It did it, and was moved since then.
+        Did(("gone", "day")),
+    ],
+)
+def test_it_can_not_tell(stores: Stores, told: Any) -> None:
+    recovery, report, _ = recovered(stores, told)
+    assert (recovery.verdict, report.target, report.services[0].frozen) == (Verdict.IN_DOUBT, "quiet", True)
+
+
+def test_it_is_safe_to_repeat(stores: Stores) -> None:
+    recovery, _, devices = recovered(stores, None, repeatable=True)
+    assert recovery.verdict is Verdict.DONE
+    assert devices["window"].calls == [recovery.call]
+
+
+def test_it_is_repeated_and_makes_no_sense(stores: Stores) -> None:
+    copy = stores.cut_off("brighten")
+    devices = stores.devices_that_tell(repeatable=True)
+    devices["window"].answer = ("ajar", "day")
+    with stores.dispatcher(copy, devices) as dispatcher:
+        assert dispatcher.recovered is not None
+        assert dispatcher.recovered.verdict is Verdict.IN_DOUBT
+        with pytest.raises(roman.InDoubt):
+            dispatcher.request("brighten", key="a")
+        assert sum(len(each.calls) for each in devices.values()) == 1
+
+
+def test_failures_before_it_are_not_lost(stores: Stores) -> None:
+    """The first device has failed when the second one is at work: its failure is told with the request."""
+    stores.devices["window"].answer = roman.DeviceFailed("stuck")
+    copy = stores.folder / "copy"
+    with stores.dispatcher() as dispatcher:
+        stores.devices["ceiling"].before = lambda call: copy_store(stores.path, copy)
+        dispatcher.request("brighten", key="a")
+    with stores.dispatcher(copy, stores.devices_that_tell(("on", "day"))) as dispatcher:
+        (failure,) = dispatcher.request("brighten", key="a").failures
+        assert (failure.service, failure.text) == ("window", "stuck")
+
+
+def test_an_interrupt_while_a_device_is_at_work(stores: Stores) -> None:
+    stores.devices["window"].answer = KeyboardInterrupt()
+    with stores.dispatcher() as dispatcher:
+        with pytest.raises(KeyboardInterrupt):
+            dispatcher.request("brighten", key="a")
+        assert dispatcher.failed == {"window"}
+        with pytest.raises(roman.InDoubt):
+            dispatcher.request("brighten", key="a")
+
+
+@contextlib.contextmanager
+def workshop(store: Path, device: Device) -> Iterator[Dispatcher]:
+    with Session(sample("workshop.json"), program=PROGRAM, timeout=60) as session:
+        with Dispatcher(session, {name: device for name in ("arm1", "arm2", "arm3")}, store=store) as dispatcher:
+            yield dispatcher
+
+
+def test_a_state_that_says_nothing(stores: Stores) -> None:
+    """A state that the action may leave as it is tells nothing of whether it was done, unless the device says so."""
+    copy = stores.folder / "copy"
+
+    def arm(action: str) -> Outcome:
+        copy_store(stores.path, copy)
+        return "worn", "full"
+
+    with workshop(stores.path, roman.device(arm)) as dispatcher:
+        assert dispatcher.request("clean").service == "arm1"
+    whole = copy.read_bytes()
+    cases: list[tuple[Any, Verdict]] = [
+        (("fresh", "full"), Verdict.IN_DOUBT),
+        (Did(("fresh", "full")), Verdict.DONE),
+        (("worn", "full"), Verdict.DONE),
+    ]
+    for told, verdict in cases:
+        copy.write_bytes(whole)
+        with workshop(copy, Home(told)) as dispatcher:
+            assert dispatcher.recovered is not None
+            assert dispatcher.recovered.verdict is verdict
+
+
+def test_a_doubt_is_settled(stores: Stores) -> None:
+    copy = stores.cut_off("brighten")
+    with stores.dispatcher(copy, stores.devices_that_tell(None)) as dispatcher:
+        with pytest.raises(roman.NotOffered):
+            dispatcher.record("brighten", "window", "open", "day", key="a")
+        dispatcher.thaw("window")
+        for wrong in (("ajar", "day"), ("gone", "day"), ("", "day")):
+            with pytest.raises((roman.Refusal, ValueError)):
+                dispatcher.record("brighten", "window", *wrong)
+        done = dispatcher.record("brighten", "window", "open", "day", key="a")
+        assert (done.target, dispatcher.served) == ("bright", 1)
+        assert dispatcher.request("brighten", key="a") == done
+        report = dispatcher.report()
+    with stores.dispatcher(copy, stores.devices_that_tell(None)) as dispatcher:
+        assert (dispatcher.report(), dispatcher.served) == (report, 1)
+        assert dispatcher.request("brighten", key="a") == done
+
+
+@pytest.mark.parametrize("commit", [1, 2])
+@pytest.mark.parametrize("written", [False, True])
+def test_an_interrupt_while_it_is_written(stores: Stores, commit: int, written: bool) -> None:
+    """A KeyboardInterrupt at a commit, which is written or isn't: the next call puts it right."""
+    commits: list[int] = []
+    plain = Store.commit
+
+    def interrupted(store: Store, *words: Any) -> None:
+        commits.append(0)
+        if len(commits) == commit and not written:
+            raise KeyboardInterrupt
+        plain(store, *words)
+        if len(commits) == commit:
+            raise KeyboardInterrupt
+
+    with stores.dispatcher() as dispatcher:
+        with mock.patch.object(Store, "commit", interrupted), pytest.raises(KeyboardInterrupt):
+            dispatcher.request("brighten", key="a")
+        assert dispatcher.request("brighten", key="a").target == "bright"
+        assert (dispatcher.served, len(stores.devices["window"].calls)) == (1, 1)
+        report = dispatcher.report()
+    assert stores.rows("SELECT count(*) FROM calls WHERE result IS NULL") == [(0,)]
+    with stores.dispatcher() as dispatcher:
+        assert (dispatcher.recovered, dispatcher.report(), dispatcher.served) == (None, report, 1)
+
+
+# Late devices.
+
+
+def late(stores: Stores, error: BaseException, told: Any) -> Home:
+    window = stores.devices["window"]
+    window.late_is_doubt, window.answer, window.told = True, error, told
+    return window
+
+
+@pytest.mark.parametrize("error", [roman.DeviceTimeout("late"), roman.DeviceLost("gone")])
+def test_a_late_device_is_asked_before_another_one(stores: Stores, error: BaseException) -> None:
+    with stores.dispatcher() as dispatcher:
+        window = late(stores, error, Did(("open", "day")))
+        done = dispatcher.request("brighten", key="a")
+        assert (done.service, done.failures, window.asked) == ("window", (), window.calls)
+        assert (stores.devices["ceiling"].calls, dispatcher.failed) == ([], frozenset())
+        window.told = NOT_DONE
+        for action in ("boil", "pour"):
+            dispatcher.request(action)
+        dispatcher.jumpenv("day")
+        with pytest.raises(roman.NoComposition) as refusal:
+            dispatcher.request("dim")
+        assert [each.service for each in refusal.value.failures] == ["window"]
+
+
+@pytest.mark.parametrize("told", [None, Did(("shut", "day")), roman.DeviceFailed("no answer")])
+def test_a_late_device_that_can_not_tell_is_in_doubt(stores: Stores, told: Any) -> None:
+    with stores.dispatcher() as dispatcher:
+        late(stores, roman.DeviceTimeout("late"), told)
+        for _ in range(2):
+            with pytest.raises(roman.InDoubt, match="window"):
+                dispatcher.request("brighten", key="a")
+        assert stores.devices["ceiling"].calls == []
+        assert dispatcher.failed == {"window"}
+    with stores.dispatcher() as dispatcher:
+        assert dispatcher.core.position.places["window"].frozen is Frozen.IN_DOUBT
+        with pytest.raises(roman.InDoubt):
+            dispatcher.request("brighten", key="a")
+
+
+@pytest.mark.parametrize("error", [roman.DeviceFailed("no"), OSError("broken")])
+def test_a_device_that_says_that_it_failed_is_not_late(stores: Stores, error: BaseException) -> None:
+    with stores.dispatcher() as dispatcher:
+        window = late(stores, error, None)
+        assert dispatcher.request("brighten").service == "ceiling"
+        assert window.asked == []
+
+
+# A full disk.
+
+
+@contextlib.contextmanager
+def full(stores: Stores, commits: int) -> Iterator[None]:
+    """After so many commits no file may grow any more."""
+    before = resource.getrlimit(resource.RLIMIT_FSIZE)
+    left = commits
+    plain = Store.commit
+
+    def limited(store: Store, *words: Any) -> None:
+        nonlocal left
+        if left <= 0:
+            resource.setrlimit(resource.RLIMIT_FSIZE, (len(log_of(stores.path)), before[1]))
+        left -= 1
         try:
-            yield
+            plain(store, *words)
         finally:
             resource.setrlimit(resource.RLIMIT_FSIZE, before)
 
-    def test_before_the_device_is_asked(self) -> None:
-        with self.dispatcher() as dispatcher:
-            whole = self.store.read_bytes()
-            with self.full(more=40):
-                for _ in range(2):
-                    with self.assertRaisesRegex(roman.StoreFailed, "journal: "):
-                        dispatcher.request("brighten")
-            self.assertEqual(self.devices["window"].calls, [])
-            self.assertEqual(self.store.read_bytes(), whole)
-            self.assertEqual(dispatcher.request("brighten").target, "bright")
+    with mock.patch.object(Store, "commit", limited):
+        yield
 
-    def test_after_the_device_answered(self) -> None:
-        with self.dispatcher() as dispatcher:
-            with self.full(more=160):
-                with self.assertRaises(roman.StoreFailed) as caught:
-                    dispatcher.request("brighten", key="a")
-                done = caught.exception.done
-                assert done is not None
-                self.assertEqual((done.target, dispatcher.served), ("bright", 1))
-                with self.assertRaises(roman.StoreFailed):
-                    dispatcher.request("boil")
-                self.assertEqual(self.devices["kettle"].calls, [])
-                self.assertEqual(dispatcher.request("brighten", key="a"), done)
-                self.assertEqual(dispatcher.report().target, "bright")
-            cut = self.folder / "cut"
-            shutil.copy(self.store, cut)
-            self.assertEqual(dispatcher.request("boil").target, "boiled")
-            report = dispatcher.report()
-        with self.dispatcher() as dispatcher:
-            self.assertEqual((dispatcher.report(), dispatcher.served), (report, 2))
-        devices = {name: Home(("open", "day")) for name in self.devices}
-        with self.dispatcher(cut, devices) as dispatcher:
-            assert dispatcher.recovered is not None
-            self.assertEqual(dispatcher.recovered.verdict, Verdict.DONE)
 
-    def test_at_a_change(self) -> None:
-        with self.dispatcher() as dispatcher:
-            with self.full(more=10):
-                with self.assertRaises(roman.StoreFailed):
-                    dispatcher.jumpenv("dusk")
-            dispatcher.freeze("window")
-            report = dispatcher.report()
-            self.assertEqual(report.environment, "dusk")
-        with self.dispatcher() as dispatcher:
-            self.assertEqual(dispatcher.report(), report)
-
-    def test_one_that_is_back_elsewhere_is_thawed_all_the_same(self) -> None:
-        with self.dispatcher() as dispatcher:
-            dispatcher.freeze("window")
-            with self.full(more=10), self.assertRaises(roman.StoreFailed):
-                dispatcher.thaw("window", "open")
-            dispatcher.jumpenv("dusk")
-            report = dispatcher.report()
-            window = report.services[0]
-            self.assertEqual((window.name, window.state, window.frozen), ("window", "open", False))
-        with self.dispatcher() as dispatcher:
-            self.assertEqual(dispatcher.report(), report)
-
-    def test_whoever_watches_is_told_what_happened_all_the_same(self) -> None:
-        notices: List[Any] = []
-        with self.dispatcher(watch=notices.append) as dispatcher:
-            dispatcher.freeze("kettle")
-            notices.clear()
-            with self.full(more=10), self.assertRaises(roman.StoreFailed):
-                dispatcher.thaw("kettle")
-            self.assertEqual(notices.pop(), roman.Changed(("thaw", "kettle")))
-            with self.full(more=200), self.assertRaises(roman.StoreFailed) as caught:
+def test_a_full_disk_before_the_device_is_asked(stores: Stores) -> None:
+    with stores.dispatcher() as dispatcher:
+        for _ in range(2):
+            with full(stores, 0), pytest.raises(roman.StoreFailed, match="store: "):
                 dispatcher.request("brighten")
-            self.assertEqual(notices.pop(), caught.exception.done)
-            with self.full(more=10), self.assertRaises(roman.StoreFailed) as caught:
-                dispatcher.record("boil", "kettle", "hot", "dusk")
-            self.assertEqual(notices.pop(), caught.exception.done)
-            self.assertEqual(dispatcher.served, 2)
+        assert stores.devices["window"].calls == []
+        assert dispatcher.request("brighten").target == "bright"
 
-    def test_one_that_fails_meanwhile(self) -> None:
-        failures: List[roman.Failure] = []
-        for answer in (roman.DeviceFailed("stuck"), ("hot", "day")):
-            with self.subTest(answer):
-                self.store.unlink(missing_ok=True)
-                serve = mock.Mock(side_effect=[answer])
-                with mock.patch.object(self.devices["window"], "serve", serve):
-                    with self.dispatcher(on_failure=failures.append) as dispatcher:
-                        with self.full(more=150), self.assertRaises(roman.StoreFailed):
-                            dispatcher.request("brighten")
-                        self.assertEqual(failures.pop().service, "window")
-                        self.assertEqual(dispatcher.failed, {"window"})
-                        self.assertEqual(dispatcher.request("brighten").service, "ceiling")
 
-    def test_one_that_joins_meanwhile_has_its_device(self) -> None:
-        with self.dispatcher() as dispatcher:
-            dispatcher.freeze("window")
-            with self.full(more=10), self.assertRaises(roman.StoreFailed):
-                dispatcher.join("blind", "blind", "shut", Home())
-            dispatcher.die("ceiling")
-            self.assertEqual(dispatcher.core.devices.keys(), {"window", "ceiling", "kettle", "blind"})
+def test_a_full_disk_after_the_device_answered(stores: Stores) -> None:
+    cut = stores.folder / "cut"
+    with stores.dispatcher() as dispatcher:
+        with full(stores, 1), pytest.raises(roman.StoreFailed) as caught:
+            dispatcher.request("brighten", key="a")
+        done = caught.value.done
+        assert done is not None
+        assert (done.target, dispatcher.served) == ("bright", 1)
+        copy_store(stores.path, cut)
+        for action, key in (("boil", None), ("brighten", "a")):  # Not even what is known is told.
+            with full(stores, 0), pytest.raises(roman.StoreFailed):
+                dispatcher.request(action, key=key)
+        assert stores.devices["kettle"].calls == []
+        assert dispatcher.request("brighten", key="a") == done
+        assert dispatcher.report().target == "bright"
+        assert dispatcher.request("boil").target == "boiled"
+        report = dispatcher.report()
+    with stores.dispatcher() as dispatcher:
+        assert (dispatcher.report(), dispatcher.served) == (report, 2)
+    with stores.dispatcher(cut, stores.devices_that_tell(("open", "day"))) as dispatcher:
+        assert dispatcher.recovered is not None
+        assert dispatcher.recovered.verdict is Verdict.DONE
 
-    def test_an_interrupt_meanwhile(self) -> None:
-        with self.dispatcher() as dispatcher:
-            with mock.patch.object(self.devices["window"], "serve", side_effect=KeyboardInterrupt):
-                with self.full(more=130), self.assertRaises(KeyboardInterrupt):
-                    dispatcher.request("brighten")
-            self.assertEqual(dispatcher.request("brighten").service, "ceiling")
 
-    def test_where_it_would_begin_anew(self) -> None:
-        with self.dispatcher() as dispatcher, mock.patch.object(core, "ROTATE_AFTER", 2):
-            with mock.patch("os.rename", side_effect=OSError(28, "No space left on device")):
-                with self.assertLogs("roman_client", "WARNING") as logged:
-                    for action in ("brighten", "boil", "pour"):
-                        dispatcher.request(action)
-            self.assertIn("No space left", logged.output[0])
-            self.assertEqual(len(self.lines()), 7)
-            dispatcher.jumpenv("day")
-            self.assertEqual(len(self.lines()), 1)
+def test_a_full_disk_at_a_change(stores: Stores) -> None:
+    with stores.dispatcher() as dispatcher:
+        with full(stores, 0), pytest.raises(roman.StoreFailed):
+            dispatcher.jumpenv("dusk")
+        dispatcher.freeze("window")
+        with full(stores, 0), pytest.raises(roman.StoreFailed):
+            dispatcher.thaw("window", "open")
+        dispatcher.freeze("kettle")
+        report = dispatcher.report()
+        window = report.services[0]
+        assert (report.environment, window.state, window.frozen) == ("dusk", "open", False)
+    with stores.dispatcher() as dispatcher:
+        assert dispatcher.report() == report
+
+
+def test_a_full_disk_is_no_reason_to_tell_nothing(stores: Stores) -> None:
+    notices: list[Any] = []
+    with stores.dispatcher(watch=notices.append) as dispatcher:
+        dispatcher.freeze("kettle")
+        with full(stores, 0), pytest.raises(roman.StoreFailed):
+            dispatcher.thaw("kettle")
+        assert notices.pop() == roman.Changed(("thaw", "kettle"))
+        with full(stores, 1), pytest.raises(roman.StoreFailed) as caught:
+            dispatcher.request("brighten")
+        assert notices.pop() == caught.value.done
+        with full(stores, 1), pytest.raises(roman.StoreFailed) as caught:
+            dispatcher.record("boil", "kettle", "hot", "dusk")
+        assert notices.pop() == caught.value.done
+        assert dispatcher.served == 2
+
+
+@pytest.mark.parametrize("answer", [roman.DeviceFailed("stuck"), ("hot", "day")])
+def test_one_that_fails_while_the_disk_is_full(stores: Stores, answer: Any) -> None:
+    failures: list[roman.Failure] = []
+    stores.devices["window"].answer = answer
+    with stores.dispatcher(on_failure=failures.append) as dispatcher:
+        with full(stores, 1), pytest.raises(roman.StoreFailed):
+            dispatcher.request("brighten")
+        assert failures.pop().service == "window"
+        assert dispatcher.failed == {"window"}
+        assert dispatcher.request("brighten").service == "ceiling"
+    assert stores.rows("SELECT service, result FROM calls") == [("window", "failed"), ("ceiling", "served")]
+
+
+def test_one_that_joins_while_the_disk_is_full_has_its_device(stores: Stores) -> None:
+    with stores.dispatcher() as dispatcher:
+        dispatcher.freeze("window")
+        with full(stores, 0), pytest.raises(roman.StoreFailed):
+            dispatcher.join("blind", "blind", "shut", Home())
+        dispatcher.die("ceiling")
+        assert dispatcher.core.devices.keys() == {"window", "ceiling", "kettle", "blind"}
+    assert [name for (name,) in stores.rows("SELECT name FROM services ORDER BY place")] == [
+        "window",
+        "kettle",
+        "blind",
+    ]
+
+
+def test_an_interrupt_while_the_disk_is_full(stores: Stores) -> None:
+    stores.devices["window"].answer = KeyboardInterrupt()
+    with stores.dispatcher() as dispatcher:
+        with full(stores, 1), pytest.raises(KeyboardInterrupt):
+            dispatcher.request("brighten")
+        assert dispatcher.request("brighten").service == "ceiling"
+
+
+# A journal of the form before.
+
+
+def test_a_journal_is_taken_over_once(stores: Stores, caplog: pytest.LogCaptureFixture) -> None:
+    shutil.copy(JOURNALS / "home.journal", stores.path)
+    stores.devices["lamp2"] = Home()
+    for number in range(2):
+        caplog.clear()
+        with stores.dispatcher() as dispatcher:
             report = dispatcher.report()
-        with self.dispatcher() as dispatcher:
-            self.assertEqual((dispatcher.report(), dispatcher.served), (report, 3))
+            assert (report.target, report.environment, dispatcher.served) == ("quiet", "day", 4)
+            assert [(each.name, each.state, each.frozen) for each in report.services] == [
+                ("window", "shut", False),
+                ("ceiling", "off", False),
+                ("kettle", "empty", False),
+                ("lamp2", "off", True),
+            ]
+            assert (dispatcher.failed, dispatcher.core.position.calls) == (frozenset(), 6)
+            assert dispatcher.core.position.places["lamp2"].frozen is Frozen.BY_HAND
+            first = dispatcher.request("brighten", key="first")
+            assert (first.service, [each.service for each in first.failures]) == ("ceiling", ["window"])
+            assert dispatcher.request("dim", key="third").service == "ceiling"
+        assert sum("was a journal" in each for each in caplog.messages) == (number == 0)
+    assert Path(f"{stores.path}.old").read_bytes() == (JOURNALS / "home.journal").read_bytes()
 
 
-if __name__ == "__main__":
-    unittest.main()
+@pytest.mark.parametrize("told, verdict", [(NOT_DONE, Verdict.NOT_DONE), (("open", "day"), Verdict.DONE)])
+def test_a_journal_with_a_call_under_way(stores: Stores, told: Any, verdict: Verdict) -> None:
+    shutil.copy(JOURNALS / "under-way.journal", stores.path)
+    devices = {name: Home(told) for name in (*stores.devices, "lamp2")}
+    with stores.dispatcher(devices=devices) as dispatcher:
+        assert dispatcher.recovered is not None
+        assert (dispatcher.recovered.verdict, dispatcher.recovered.call.number) == (verdict, 7)
+        assert [len(each.asked) for each in devices.values()] == [1, 0, 0, 0]
+
+
+@pytest.mark.parametrize("held", [[], ["lamp2"], ["window"]])
+def test_what_a_home_stored_beside_its_journal(stores: Stores, held: list[str]) -> None:
+    """A service is frozen by hand if it is frozen, and was noted as such."""
+    shutil.copy(JOURNALS / "home.journal", stores.path)
+    beside = Path(f"{stores.path}.live")
+    beside.write_text(f'{{"first": 1234, "held": {str(held).replace(chr(39), chr(34))}}}', encoding="utf-8")
+    stores.devices["lamp2"] = Home()
+    with stores.dispatcher() as dispatcher:
+        assert dispatcher.core.position.frozen(Frozen.BY_HAND) == {"lamp2"}.intersection(held)
+        assert dispatcher.failed == {"lamp2"}.difference(held)
+    assert stores.rows("SELECT first FROM home") == [(1234,)]
+    assert not beside.exists()
+
+
+@pytest.mark.parametrize("tear", [lambda last: last[:-5], lambda last: b"", lambda last: last + b"\0" * 512])
+@pytest.mark.parametrize("zeros", [False, True])
+def test_a_journal_whose_last_line_is_torn(stores: Stores, tear: Callable[[bytes], bytes], zeros: bool) -> None:
+    """Its pages may come to the disk in any order, so that zeros or garbage stand before what is whole."""
+    *lines, last = (JOURNALS / "under-way.journal").read_bytes().splitlines(keepends=True)
+    torn = tear(last)
+    if zeros:
+        torn = b"\0" * (len(torn) // 2) + torn[len(torn) // 2 :]
+    stores.path.write_bytes(b"".join(lines) + torn)
+    devices = {name: Home(NOT_DONE) for name in (*stores.devices, "lamp2")}
+    with stores.dispatcher(devices=devices) as dispatcher:
+        assert (dispatcher.served, dispatcher.report().target) == (4, "quiet")
+
+
+def test_a_journal_that_is_broken_before_its_end(stores: Stores) -> None:
+    whole = (JOURNALS / "home.journal").read_bytes()
+    lines = whole.splitlines(keepends=True)
+    for text in (
+        lines[0] + b"\0\0\n" + b"".join(lines[1:]),
+        whole.replace(b'"journal":1', b'"journal":2'),
+        lines[0] + b"{}\n" + b"".join(lines[1:]),
+        lines[0] + lines[6],
+        lines[0] + lines[3].replace(b"window", b"widow"),
+        lines[0] + b'{"event":"changed","words":["jump","window"]}\n',
+        lines[0] + b'{"event":"changed","words":["jump","window","broken"]}\n',
+        whole.replace(b'"shut","ajar"]', b'"shut"]'),
+    ):
+        stores.path.write_bytes(text)
+        with pytest.raises(roman.StoreBroken), stores.dispatcher():
+            pass
+        assert stores.path.read_bytes() == text

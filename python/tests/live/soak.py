@@ -97,7 +97,7 @@ async def serve(home: Home, requests: int) -> int:
     while served < requests:
         action = WORLD.draw()
         try:
-            done = await home.request(action)
+            done = await home.requests.serve(action)
         except NoComposition:
             refused += 1
             await asyncio.sleep(0.005)
@@ -132,8 +132,7 @@ async def soak(requests: int, folder: Path) -> List[str]:
     policy = '[policy]\nchoose = "round robin"\n'
     home_file = folder / "home.toml"
     home_file.write_text(f'document = "home.json"\n{policy}{journal}{"".join(tables)}', encoding="utf-8")
-    home = Home(HomeFile.read(home_file))
-    await home.begin()
+    home = await Home.start(HomeFile.read(home_file))
     begun = time.monotonic()
     pids: Set[Optional[int]] = {home.session.pid}
     watching = asyncio.ensure_future(watch(home, pids))

@@ -13,6 +13,7 @@ from roman_client import Call, DeviceFailed
 from roman_live.config import CommandReach
 from roman_live.devices import Answer
 from roman_live.devices.command import KeptCommand
+from roman_live.processes import Processes
 
 from .machinery import PATIENCE
 
@@ -77,7 +78,7 @@ class Kept(unittest.IsolatedAsyncioTestCase):
         (self.folder / "device.py").write_text(DEVICE, encoding="utf-8")
         entry = CommandReach((sys.executable, "device.py"), True, self.folder, self.numbered)
         self.heard = Heard()
-        self.device = KeptCommand("window", self.heard, entry)
+        self.device = KeptCommand("window", self.heard, entry, Processes(self.folder / "commands"), None)
         self.addAsyncCleanup(self.device.close)
         self.calls = 0
 

@@ -6,15 +6,14 @@ import signal
 import socket
 import tempfile
 import unittest
+from dataclasses import replace
 from pathlib import Path
 from typing import Any, Dict, List, Optional
 from unittest import mock
 
-from roman_client import Call, DeviceFailed, InDoubt, StoreLocked
-from roman_client.journal import Journal
-from roman_live import errors
-from roman_live import home as homes
-from roman_live import recovery
+from roman_client import Call, DeviceFailed, Frozen, InDoubt, StoreLocked
+from roman_client.store import Store
+from roman_live import errors, fleet, recovery
 from roman_live.config import HomeFile, HomeFileError
 from roman_live.devices import Answer, Listener, Reach
 from roman_live.home import Home
@@ -49,7 +48,7 @@ class Played(Reach):
         self.test.states[self.service] = state
         return Answer(state, environment)
 
-    async def tell(self, number: Optional[int]) -> Optional[Answer]:
+    async def tell(self, number: Optional[int], call: Optional[Call] = None) -> Optional[Answer]:
         self.test.told.append(self.service)
         waited = self.test.mute.get(self.service)
         if waited is not None:
@@ -86,13 +85,12 @@ class InProcess(unittest.IsolatedAsyncioTestCase):
         file = self.folder / "home.toml"
         head = f'document = "{sample(name)}.json"\nprogram = "{PROGRAM}"\n'
         file.write_text(f"{head}{more}\n{devices}", encoding="utf-8")
-        self.home = Home(HomeFile.read(file))
-        with mock.patch.object(homes, "make_reach", self.play):
-            await self.home.begin()
+        with mock.patch.object(fleet, "make_reach", self.play):
+            self.home = await Home.start(HomeFile.read(file))
         self.addAsyncCleanup(self.home.close)
         return self.home
 
-    def play(self, service: str, entry: Any, listener: Listener, broker: Any) -> Reach:
+    def play(self, service: str, entry: Any, listener: Listener, *words: Any) -> Reach:
         """What each service is reached by."""
         return Played(service, listener, self)
 
@@ -111,7 +109,7 @@ class InProcess(unittest.IsolatedAsyncioTestCase):
 class Policies(InProcess):
     async def served_by(self, more: str, actions: List[str]) -> List[str]:
         home = await self.begin("depot", more)
-        return [(await home.request(each))["served_by"] for each in actions]
+        return [(await home.requests.serve(each))["served_by"] for each in actions]
 
     async def test_first(self) -> None:
         self.assertEqual(await self.served_by("", ["load", "ship"]), ["belt", "drone"])
@@ -138,7 +136,7 @@ class Policies(InProcess):
     async def test_round_robin(self) -> None:
         home = await self.begin("home", '[policy]\nchoose = "round robin"')
         cycle = ["brighten", "boil", "pour", "dim"]
-        served = [(await home.request(each))["served_by"] for each in cycle * 3]
+        served = [(await home.requests.serve(each))["served_by"] for each in cycle * 3]
         self.assertEqual(served[::4], ["window", "ceiling", "window"])
 
     async def test_costs_that_cannot_be_read(self) -> None:
@@ -173,10 +171,10 @@ class Beginning(InProcess):
         file = self.folder / "home.toml"
         file.write_text(f'document = "mine.json"\nprogram = "{PROGRAM}"\n', encoding="utf-8")
         with self.assertRaisesRegex(HomeFileError, "home.toml: document: /.*/mine.json: No such file or directory$"):
-            await Home(HomeFile.read(file)).begin()
+            await Home.start(HomeFile.read(file))
         (self.folder / "mine.json").write_text('{"roman": 1}', encoding="utf-8")
         with self.assertRaisesRegex(HomeFileError, "home.toml: document: mine.json: .*; roman-lint /.*/mine.json says"):
-            await Home(HomeFile.read(file)).begin()
+            await Home.start(HomeFile.read(file))
 
     async def test_a_port_that_is_taken(self) -> None:
         with socket.create_server(("127.0.0.1", 0)) as taken:
@@ -193,7 +191,7 @@ class Beginning(InProcess):
         (self.folder / "mine.json").write_text(wrong, encoding="utf-8")
         (self.folder / "home.toml").write_text(f'document = "mine.json"\nprogram = "{PROGRAM}"\n', encoding="utf-8")
         with self.assertRaisesRegex(HomeFileError, "home.toml: document: .* refused .*; roman-lint /.*/mine.json says"):
-            await Home(HomeFile.read(self.folder / "home.toml")).begin()
+            await Home.start(HomeFile.read(self.folder / "home.toml"))
 
     async def test_a_journal_of_another_document(self) -> None:
         journal = '[journal]\npath = "journal"'
@@ -205,37 +203,36 @@ class Beginning(InProcess):
         journal = '[journal]\npath = "journal"'
         with mock.patch.dict(SERVICES, home=(*HOME, "spare")):
             home = await self.begin("home", journal)
-        await home.join("spare", "lamp", "off", False)
+        await home.fleet.join("spare", "lamp", "off", False)
         await home.close()
-        with self.assertRaisesRegex(HomeFileError, "no device for the service spare, which the journal has"):
+        with self.assertRaisesRegex(HomeFileError, "no device for the service spare, which the store has"):
             await self.begin("home", journal)
 
     async def test_beside_a_home_that_is_just_beginning(self) -> None:
-        """What that one keeps beside its journal stays as it is, though the journal isn't there yet."""
-        beginning = Journal(self.folder / "journal")
+        """No device is made, and nothing is written, though the store isn't there yet."""
+        beginning = Store(self.folder / "journal")
         self.addCleanup(beginning.close)
-        kept = self.folder / "journal.live"
-        kept.write_text("its own", encoding="utf-8")
-        with self.assertRaisesRegex(StoreLocked, "does this home run already?"):
-            await self.begin("home", '[journal]\npath = "journal"')
-        self.assertEqual(kept.read_text(encoding="utf-8"), "its own")
+        with mock.patch.object(self, "play", side_effect=AssertionError):
+            with self.assertRaisesRegex(StoreLocked, "does this home run already?"):
+                await self.begin("home", '[journal]\npath = "journal"')
+        self.assertEqual({each.name for each in self.folder.iterdir()}, {"home.toml", "journal.lock"})
 
     async def test_a_service_that_joined_again(self) -> None:
         """It is asked after the next start, too."""
         journal = '[journal]\npath = "journal"'
         home = await self.begin("home", journal)
-        await home.die("window")
-        await home.join("window", "blind", "shut", False)
+        await home.fleet.die("window")
+        await home.fleet.join("window", "blind", "shut", False)
         await home.close()
         home = await self.begin("home", journal)
-        await home.freeze("ceiling")
-        self.assertEqual((await home.request("brighten"))["served_by"], "window")
+        await home.fleet.freeze("ceiling")
+        self.assertEqual((await home.requests.serve("brighten"))["served_by"], "window")
 
     async def test_a_request_in_doubt_that_was_done(self) -> None:
         journal = '[journal]\npath = "journal"'
         home = await self.begin("home", journal)
         self.gates["window"] = asyncio.Event()
-        asked = asyncio.ensure_future(home.request("brighten", "a"))
+        asked = asyncio.ensure_future(home.requests.serve("brighten", "a"))
         await self.until(lambda: self.asked)
         await home.close()
         self.assertIsInstance((await asyncio.gather(asked, return_exceptions=True))[0], BaseException)
@@ -243,41 +240,41 @@ class Beginning(InProcess):
         home = await self.begin("home", journal)
         await self.until(lambda: not home.known["window"].frozen)
         with self.assertRaises(InDoubt):
-            await home.request("brighten", "a")
-        await home.jump("window", "shut")  # Where it was before.
-        await home.record("brighten", "window", ("open", "day"), "a")
-        self.assertEqual((await home.request("brighten", "a"))["served_by"], "window")
+            await home.requests.serve("brighten", "a")
+        await home.fleet.jump("window", "shut")  # Where it was before.
+        await home.requests.record("brighten", "window", ("open", "day"), "a")
+        self.assertEqual((await home.requests.serve("brighten", "a"))["served_by"], "window")
         self.assertEqual(((await home.shown.state())["target"]["state"], self.asked), ("bright", ["window"]))
 
     async def test_a_service_that_is_new_in_the_document(self) -> None:
         journal = '[journal]\npath = "journal"'
         home = await self.begin("home", journal)
-        await home.die("ceiling")
+        await home.fleet.die("ceiling")
         await home.close()
         with self.assertLogs("roman_live", "WARNING") as logged:
             home = await self.begin("home", journal)
         self.assertEqual(len(logged.output), 1)
-        self.assertIn("ceiling isn't there by the journal", logged.output[0])
-        self.assertIn("missing", [each.kind for each in home.events.after(-1)])
+        self.assertIn("ceiling isn't there by the store", logged.output[0])
+        self.assertIn("missing", [each.kind for each in home.events.after("")])
 
     async def test_each_event_is_logged(self) -> None:
         home = await self.begin("home")
         with self.assertLogs("roman_live", "INFO") as logged:
-            await home.request("brighten")
-            home.late("kettle", "says something")
+            await home.requests.serve("brighten")
+            home.fleet.late("kettle", "says something")
         self.assertIn("INFO:roman_live:window is asked to brighten", logged.output)
         self.assertIn("INFO:roman_live:kettle says something", logged.output)
 
     async def test_each_event_is_logged_once(self) -> None:
         home = await self.begin("home")
         with self.assertLogs("roman_live", "INFO") as logged:
-            home._broker_changed(False, "the broker is gone")
+            home.fleet._broker_changed(False, "the broker is gone")
         self.assertEqual(logged.output, ["WARNING:roman_live:the broker is gone"])
 
     async def test_what_is_known_by_the_journal_is_no_news(self) -> None:
         journal = '[journal]\npath = "journal"'
         home = await self.begin("home", journal)
-        await home.request("brighten")
+        await home.requests.serve("brighten")
         await home.close()
         with self.assertLogs(level="INFO") as logged:
             await self.begin("home", journal)
@@ -292,7 +289,7 @@ class Checked(InProcess):
         file = self.folder / "home.toml"
         text = file.read_text(encoding="utf-8")
         file.write_text(text + more, encoding="utf-8")
-        await Home(HomeFile.read(file)).check()
+        await Home.check(HomeFile.read(file))
 
     async def test_nothing_is_wrong_and_nobody_is_asked(self) -> None:
         with self.assertLogs("roman_live", "WARNING"):  # There is no broker.
@@ -308,10 +305,10 @@ class Checked(InProcess):
         await (await self.begin("home", journal)).close()
         with self.assertRaisesRegex(HomeFileError, "of another document"):
             await self.begin("depot", journal)
-        with self.assertRaisesRegex(HomeFileError, "journal.path is '/.*/journal', the journal of another document"):
+        with self.assertRaisesRegex(HomeFileError, "journal.path is '/.*/journal', the store of another document"):
             await self.check()
         (self.folder / "journal").write_text("hello\n", encoding="utf-8")
-        with self.assertRaisesRegex(HomeFileError, "journal.path is '/.*/journal', which is no journal"):
+        with self.assertRaisesRegex(HomeFileError, "journal.path: /.*/journal is neither a store nor a journal"):
             await self.check()
 
     async def test_a_table_that_the_journal_needs(self) -> None:
@@ -319,18 +316,16 @@ class Checked(InProcess):
         journal = '[journal]\npath = "journal"'
         with mock.patch.dict(SERVICES, home=(*HOME, "spare")):
             home = await self.begin("home", journal)
-        await home.join("spare", "lamp", "off", False)
-        await home.jump("spare", "on")
+        await home.fleet.join("spare", "lamp", "off", False)
+        await home.fleet.jump("spare", "on")
         with (self.folder / "journal").open("ab") as file:
             file.write(b'{"event":"chan')  # It is being written.
         await self.check()
         text = (self.folder / "home.toml").read_text(encoding="utf-8")
         (self.folder / "home.toml").write_text(text.partition("[devices.spare]")[0], encoding="utf-8")
-        with self.assertRaisesRegex(
-            HomeFileError, "no device for the service spare, which the journal has; .* is gone"
-        ):
+        with self.assertRaisesRegex(HomeFileError, "no device for the service spare, which the store has; .* is gone"):
             await self.check()
-        await home.die("spare")
+        await home.fleet.die("spare")
         await self.check()
 
     async def test_a_command_that_is_not_there(self) -> None:
@@ -357,7 +352,7 @@ class ShortForm(InProcess):
         self.assertEqual(home.document.version, 1)
         cycle = ["brighten", "boil", "pour", "dim"]
         self.assertEqual(
-            [(await home.request(each))["served_by"] for each in cycle],
+            [(await home.requests.serve(each))["served_by"] for each in cycle],
             ["window", "kettle", "kettle", "window"],
         )
         self.assertEqual((await home.shown.state())["document"], "home.json")
@@ -365,10 +360,10 @@ class ShortForm(InProcess):
     async def test_its_journal_is_taken_up(self) -> None:
         journal = '[journal]\npath = "journal"'
         home = await self.begin("short/home", journal)
-        await home.request("brighten")
+        await home.requests.serve("brighten")
         await home.close()
         home = await self.begin("short/home", journal)
-        self.assertEqual((await home.request("boil"))["served_by"], "kettle")
+        self.assertEqual((await home.requests.serve("boil"))["served_by"], "kettle")
 
     async def test_mistakes_stand_where_they_were_written(self) -> None:
         text = Path(sample("short/home.json")).read_text(encoding="utf-8")
@@ -376,7 +371,7 @@ class ShortForm(InProcess):
         (self.folder / "mine.json").write_text(wrong, encoding="utf-8")
         (self.folder / "home.toml").write_text(f'document = "mine.json"\nprogram = "{PROGRAM}"\n', encoding="utf-8")
         with self.assertRaises(HomeFileError) as raised:
-            await Home(HomeFile.read(self.folder / "home.toml")).begin()
+            await Home.start(HomeFile.read(self.folder / "home.toml"))
         line = wrong[: wrong.index('"dya"')].count("\n") + 1
         self.assertRegex(str(raised.exception), f'\nmine.json:{line}:[0-9]+: error: .*dya.*"day"')
 
@@ -393,7 +388,7 @@ class AskedBack(InProcess):
         self.states["window"] = "shut"
         self.broken.add("window")
         with mock.patch.object(recovery, "pause_until", quick):
-            done = await home.request("brighten")
+            done = await home.requests.serve("brighten")
             self.assertEqual(done["failures"], [{"service": "window", "error": "broken"}])
             await self.until(lambda: len(pauses) >= 9)
             shown = await self.service("window")
@@ -407,17 +402,17 @@ class AskedBack(InProcess):
     async def test_one_that_is_frozen_by_hand_meanwhile_stays_so(self) -> None:
         home = await self.begin("home")
         self.broken.add("window")
-        await home.request("brighten")
+        await home.requests.serve("brighten")
         self.gates["kettle"] = asyncio.Event()
-        boiling = asyncio.ensure_future(home.request("boil"))
+        boiling = asyncio.ensure_future(home.requests.serve("boil"))
         await self.until(lambda: "kettle" in self.asked)
-        freezing = asyncio.ensure_future(home.freeze("window"))
+        freezing = asyncio.ensure_future(home.fleet.freeze("window"))
         await asyncio.sleep(0.01)
-        home.moved("window", Answer("shut"))
+        home.fleet.moved("window", Answer("shut"))
         await asyncio.sleep(0.01)
         self.gates["kettle"].set()
         await asyncio.gather(boiling, freezing)
-        await home.request("pour")
+        await home.requests.serve("pour")
         shown = await self.service("window")
         self.assertEqual((shown["status"], shown["by_hand"]), ("frozen", True))
 
@@ -425,13 +420,13 @@ class AskedBack(InProcess):
         self.seconds = 3600.0
         home = await self.begin("home")
         self.broken.add("window")
-        await home.request("brighten")
-        await home.freeze("kettle")
+        await home.requests.serve("brighten")
+        await home.fleet.freeze("kettle")
         self.broken.clear()
         self.mute["kettle"] = asyncio.Event()
-        thawing = asyncio.ensure_future(home.thaw("kettle"))
+        thawing = asyncio.ensure_future(home.fleet.thaw("kettle"))
         await self.until(lambda: self.told[-1] == "kettle")
-        home.moved("window", Answer("ajar"))
+        home.fleet.moved("window", Answer("ajar"))
         await self.until(lambda: not home.known["window"].frozen)
         self.mute["kettle"].set()
         await thawing
@@ -439,38 +434,40 @@ class AskedBack(InProcess):
 
     async def test_one_that_is_thawed_by_hand_tells_the_environment_too(self) -> None:
         home = await self.begin("home")
-        await home.freeze("window")
+        await home.fleet.freeze("window")
         self.states["window"], self.environment = "ajar", "dusk"
-        await home.thaw("window")
+        await home.fleet.thaw("window")
         self.assertEqual((await self.service("window"))["state"], "ajar")
         self.assertEqual((await home.shown.state())["environment"], "dusk")
 
     async def test_one_that_is_nowhere_stays_frozen(self) -> None:
         home = await self.begin("home")
-        await home.freeze("window")
+        await home.fleet.freeze("window")
         for state, environment, wrong in (
             ("stuck", None, "window says it is in stuck, which is none of blind's states: shut, ajar, open"),
             ("ajar", "noon", "window says the environment is in noon, which is none of its states: day, dusk"),
         ):
             self.states["window"], self.environment = state, environment
             with self.assertRaisesRegex(errors.Nowhere, f"^{wrong}$"):
-                await home.thaw("window")
+                await home.fleet.thaw("window")
         self.assertEqual((await self.service("window"))["status"], "frozen")
         self.states["window"], self.environment = "stuck", None
-        home.kept.release(["window"])
-        self.assertFalse(await home._back("window", Answer("stuck")))
+        position = home.dispatcher.core.position
+        place = replace(position.places["window"], frozen=Frozen.FAILED)
+        home.dispatcher.core.position = position.with_place("window", place)
+        self.assertFalse(await home.fleet.back("window", Answer("stuck")))
         self.assertIn("none of blind's states", (await self.service("window"))["last_error"])
 
     async def test_one_that_cannot_tell_stays_frozen(self) -> None:
         home = await self.begin("home")
         self.broken.add("window")
-        await home.request("brighten")
+        await home.requests.serve("brighten")
         self.broken.clear()
-        home.late("window", "says something")
+        home.fleet.late("window", "says something")
         await self.until(lambda: self.told.count("window") >= 2)
         await asyncio.sleep(0.05)
         self.assertEqual((await self.service("window"))["status"], "frozen")
-        await home.thaw("window")
+        await home.fleet.thaw("window")
         self.assertEqual((await self.service("window"))["status"], "ready")
 
 
@@ -479,12 +476,12 @@ class ProgramHangs(InProcess):
 
     def kinds(self) -> Dict[str, str]:
         """The newest text of each kind of event."""
-        return {each.kind: each.text for each in self.home.events.after(-1)}
+        return {each.kind: each.text for each in self.home.events.after("")}
 
     async def test_a_request_goes_on_with_another_program(self) -> None:
         home = await self.begin("home", "program_seconds = 3")
         os.kill(home.session.pid, signal.SIGSTOP)
-        self.assertEqual((await asyncio.wait_for(home.request("brighten"), 60))["served_by"], "window")
+        self.assertEqual((await asyncio.wait_for(home.requests.serve("brighten"), 60))["served_by"], "window")
         self.assertEqual(self.kinds()["restarted"], "the program was started again: no whole reply within 3.0 seconds")
 
     async def test_the_state_comes_from_another_program(self) -> None:
@@ -514,9 +511,9 @@ class ProgramHangs(InProcess):
         more = f'program_seconds = 3\n[policy]\nchoose = "least worst"\ncosts = "{costs}"'
         with self.program("advise"):
             home = await self.begin("depot", more)
-        await home.request("load")
+        await home.requests.serve("load")
         with self.assertLogs("roman_live", "WARNING") as logged:
-            done = await asyncio.wait_for(home.request("ship"), 60)
+            done = await asyncio.wait_for(home.requests.serve("ship"), 60)
         self.assertEqual(done["served_by"], "van")
         self.assertEqual(logged.output, ["WARNING:roman_live:advise gave nothing within 3.0 seconds"])
 
@@ -529,7 +526,7 @@ class ProgramAway(InProcess):
         home = await self.begin("home")
         self.states["window"] = "shut"
         self.broken.add("window")
-        await home.request("brighten")
+        await home.requests.serve("brighten")
         self.words = home.session.core.words
         home.session.core.words = ("/nowhere",)
         os.kill(home.session.pid, signal.SIGKILL)
@@ -541,10 +538,10 @@ class ProgramAway(InProcess):
     async def test_a_device_that_is_back_is_asked_again(self) -> None:
         self.broken.clear()
         with self.assertLogs("roman_live", "WARNING") as logged:
-            self.home.late("window", "says something")
+            self.home.fleet.late("window", "says something")
             await self.until(lambda: any("can't be thawed" in each for each in logged.output))
         self.there()
-        self.home.late("window", "says something")
+        self.home.fleet.late("window", "says something")
         await self.until(lambda: not self.home.known["window"].frozen)
 
     async def test_requests_are_answered(self) -> None:
@@ -571,11 +568,11 @@ class ProgramAway(InProcess):
     async def test_the_state_is_told_when_it_is_there_again(self) -> None:
         listener = self.home.events.listen()
         with self.assertLogs("roman_live", "WARNING") as logged:
-            self.home.late("kettle", "says something")
+            self.home.fleet.late("kettle", "says something")
             self.home.dirty.set()
             await self.until(lambda: any("can't be had" in each for each in logged.output))
         self.there()
-        await self.home.request("boil")
+        await self.home.requests.serve("boil")
         while (message := await asyncio.wait_for(listener.get(), 60)) is not None:
             if message.name == "state" and message.value["target"]["state"] == "boiled":
                 break
@@ -586,12 +583,12 @@ class MovedByItself(InProcess):
         self.states["window"] = "ajar"
         home = await self.begin("home")
         await self.until(lambda: home.known["window"].state == "ajar")
-        self.assertEqual((await home.request("brighten"))["state"], "open")
+        self.assertEqual((await home.requests.serve("brighten"))["state"], "open")
 
     async def test_the_beginning_does_not_wait_for_one_that_does_not_tell(self) -> None:
         self.mute["window"] = asyncio.Event()
         self.seconds = 3600.0
-        with mock.patch.object(homes, "FIRST_WORD", 0.1):
+        with mock.patch.object(fleet, "FIRST_WORD", 0.1):
             home = await asyncio.wait_for(self.begin("home"), 60)
         self.states["window"] = "ajar"
         self.mute["window"].set()
@@ -604,33 +601,33 @@ class MovedByItself(InProcess):
             home = await self.begin("home")
         text = "window doesn't tell where it is: no answer within 0.1 seconds"
         self.assertEqual(logged.output, [f"WARNING:roman_live:{text}"])
-        self.assertIn(text, [each.text for each in home.events.after(-1)])
+        self.assertIn(text, [each.text for each in home.events.after("")])
         self.assertEqual((await self.service("window"))["last_error"], "no answer within 0.1 seconds")
         self.mute["window"].set()
         self.states["window"] = "shut"
-        await home._compare("window")
+        await home.fleet.compare("window")
         self.assertEqual((await self.service("window"))["last_error"], None)
 
     async def test_what_is_told_counts_for_nothing_where_it_is_asked_meanwhile(self) -> None:
         home = await self.begin("home")
         self.states["window"] = "ajar"
         self.mute["window"] = asyncio.Event()
-        comparing = asyncio.ensure_future(home._compare("window"))
+        comparing = asyncio.ensure_future(home.fleet.compare("window"))
         await self.until(lambda: self.told.count("window") == 2)
-        self.assertEqual((await home.request("brighten"))["state"], "open")
+        self.assertEqual((await home.requests.serve("brighten"))["state"], "open")
         self.states["window"] = "ajar"  # What it said before it was asked.
         self.mute["window"].set()
         await comparing
-        await home.request("boil")
+        await home.requests.serve("boil")
         self.assertEqual((await self.service("window"))["state"], "open")
 
     async def test_what_is_said_before_the_answer_is_older_than_it(self) -> None:
         home = await self.begin("home")
         self.gates["window"] = asyncio.Event()
-        request = asyncio.ensure_future(home.request("brighten"))
+        request = asyncio.ensure_future(home.requests.serve("brighten"))
         await self.until(lambda: self.asked)
-        home.moved("window", Answer("ajar"))
-        home.moved("ceiling", Answer("on"))
+        home.fleet.moved("window", Answer("ajar"))
+        home.fleet.moved("ceiling", Answer("on"))
         self.gates["window"].set()
         self.assertEqual((await request)["state"], "open")
         await self.until(lambda: home.known["ceiling"].state == "on")
@@ -638,27 +635,27 @@ class MovedByItself(InProcess):
 
     async def test_what_moves_while_a_service_is_chosen_is_heeded(self) -> None:
         home = await self.begin("home")
-        policy, chosen = home._policy, []
+        policy, chosen = home.chooser.policy, []
 
         async def slow(choice: Any) -> str:
             chosen.append(choice.offered)
             if len(chosen) == 1:
-                home.environment_moved("dusk")
+                home.fleet.environment_moved("dusk")
             return await policy(choice)
 
-        home._policy = slow
-        done = await home.request("brighten")
+        home.chooser.policy = slow
+        done = await home.requests.serve("brighten")
         self.assertEqual(done["served_by"], "ceiling")
         self.assertEqual(chosen, [("window", "ceiling"), ("ceiling",)])
 
     async def test_a_second_request_waits_or_is_told(self) -> None:
         home = await self.begin("home")
         self.gates["window"] = asyncio.Event()
-        first = asyncio.ensure_future(home.request("brighten"))
+        first = asyncio.ensure_future(home.requests.serve("brighten"))
         await self.until(lambda: self.asked)
         with self.assertRaises(errors.Busy):
-            await home.request("boil", wait=False)
-        second = asyncio.ensure_future(home.request("boil"))
+            await home.requests.serve("boil", wait=False)
+        second = asyncio.ensure_future(home.requests.serve("boil"))
         self.assertEqual((await self.service("window"))["status"], "under way")
         first.cancel()
         await asyncio.sleep(0.02)

@@ -21,10 +21,28 @@ SCHEMA = Draft7Validator(json.loads((TOP / "schema" / "home.schema.json").read_t
 HOMES = [tomllib.loads(GOOD), {"document": "h", "mqtt": {"tls": {}}, "devices": {}}]
 ONLY_THE_PROGRAM = re.compile(r"can't be (read|used)|whose first line is empty|, and so is |Invalid|Expected|Cannot")
 """What no schema says: faults of other files, and topics with two uses."""
-ODD: list[Any] = [True, False, 0, 1, 12, 1.5, 86401, -1, "", "day", "token", "mqtt", "http", "least cost", "a/+", "a#"]
+ODD: list[Any] = [
+    True,
+    False,
+    0,
+    1,
+    12,
+    1.5,
+    86401,
+    -1,
+    "",
+    "day",
+    "token",
+    "mqtt",
+    "http",
+    "doubt",
+    "least cost",
+    "a/+",
+    "a#",
+]
 ODD += ["http://x", "ftp://x", "a:b", "0.0.0.0", "::1", [], ["x"], ["x", 1], {}, {"reach": "http", "url": "http://x"}]
 KEYS = "choose costs requests path host port token_file username password_file prefix tls ca_file certificate_file "
-KEYS += "key_file reach seconds repeat ask answer url command lines numbered call document program policy journal x"
+KEYS += "key_file reach seconds repeat ask answer url command lines numbered call late poll document program policy journal x"
 
 
 def places(value: Any) -> list[tuple[Any, Any]]:

@@ -99,6 +99,15 @@ WRONG = (
     (f'{DEVICE}"command"\ncommand = ["x"]\nnumbered = true', "devices.fan.numbered is true, and lines isn't"),
     (f'{DEVICE}"python"\ncall = "fan"', "devices.fan.call is 'fan', and not a module and a name"),
     (f'{DEVICE}"http"\nurl = "http://x"\nlines = true', "devices.fan.lines isn't known; known are reach"),
+    (
+        f'{DEVICE}"http"\nurl = "http://x"\nlate = "never"',
+        "devices.fan.late is 'never', and not one of 'failure', 'doubt'",
+    ),
+    (f'{DEVICE}"http"\nurl = "http://x"\npoll = 0', "devices.fan.poll is 0, and not a number of seconds"),
+    (
+        'document = "h"\n[mqtt]\n[devices.fan]\nreach = "mqtt"\nask = "a"\nanswer = "b"\npoll = 1',
+        "devices.fan.poll isn't known",
+    ),
 )
 
 
@@ -138,7 +147,7 @@ class HomeFiles(unittest.TestCase):
         )
         window, fan = home.devices["window"], home.devices["fan"]
         self.assertEqual((window.seconds, window.repeat, window.reached), (2.5, True, "mqtt"))
-        self.assertEqual((fan.seconds, fan.repeat), (10.0, False))
+        self.assertEqual((fan.seconds, fan.repeat, fan.late_is_doubt, fan.poll), (None, False, False, None))
 
     def test_a_broker_over_tls(self) -> None:
         home = self.read('document = "h"\n[mqtt]\nhost = "broker"\ntls = {}')

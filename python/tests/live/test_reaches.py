@@ -21,6 +21,7 @@ from roman_live.devices import Answer, Reach
 from roman_live.devices.command import Command, KeptCommand
 from roman_live.devices.http import Http
 from roman_live.devices.python import PythonDevice
+from roman_live.processes import Processes
 
 from .machinery import PATIENCE, free_port
 from .test_commands import Heard
@@ -31,7 +32,9 @@ CALL = Call("lamp", "brighten", "brighten", 1)
 class Commands(unittest.IsolatedAsyncioTestCase):
     async def run_one(self, script: str) -> Optional[Answer]:
         entry = CommandReach((sys.executable, "-c", script), False, Path.cwd())
-        return await asyncio.wait_for(Command("lamp", Heard(), entry).tell(None), PATIENCE)
+        with tempfile.TemporaryDirectory() as folder:
+            device = Command("lamp", Heard(), entry, Processes(Path(folder) / "commands"), None)
+            return await asyncio.wait_for(device.tell(None), PATIENCE)
 
     async def test_one_that_leaves_something_running(self) -> None:
         script = "import subprocess; subprocess.Popen(['sleep', '20']); print('on day')"
@@ -84,10 +87,10 @@ class Unended(unittest.IsolatedAsyncioTestCase):
                 await asyncio.sleep(0.01)
 
     async def test_one_call_each(self) -> None:
-        await self.given_up(Command("lamp", Heard(), self.entry(False)))
+        await self.given_up(Command("lamp", Heard(), self.entry(False), Processes(self.folder / "commands"), None))
 
     async def test_one_that_is_kept(self) -> None:
-        device = KeptCommand("lamp", Heard(), self.entry(True))
+        device = KeptCommand("lamp", Heard(), self.entry(True), Processes(self.folder / "commands"), None)
         await self.given_up(device)
         await asyncio.wait_for(device.close(), PATIENCE)
 

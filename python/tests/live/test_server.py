@@ -162,9 +162,11 @@ class Api(Served):
         shown = self.events({})
         kinds = [each["kind"] for each in shown]
         self.assertEqual(kinds, ["begun", "asked", "served"])
-        last = {"Last-Event-ID": str(shown[1]["id"])}
+        run, number = shown[1]["run"], shown[1]["id"]
+        last = {"Last-Event-ID": f"{run}-{number}"}
         self.assertEqual([each["kind"] for each in self.events(last)], ["served"])
-        self.assertEqual(len(self.events({"Last-Event-ID": "7"})), 3)
+        for unknown in ("7", f"{run}-999", f"another-{number}", f"{run}-" + "9" * 5000, run):
+            self.assertEqual(len(self.events({"Last-Event-ID": unknown})), 3)
 
     def events(self, headers: Dict[str, str]) -> List[Dict[str, Any]]:
         """The events before the first state."""
@@ -267,7 +269,7 @@ class FullDisk(Served):
 
     def test_it_goes_on_when_there_is_room(self) -> None:
         self.assertEqual(self.live.post("/requests", {"action": "brighten"})[0], 200)
-        self.limit((self.folder / "journal").stat().st_size)
+        self.limit((self.folder / "journal-wal").stat().st_size)
         status, value = self.live.post("/requests", {"action": "boil"})
         self.assertEqual(status, 503)
         self.assertIn("journal", value["error"])

@@ -5,7 +5,7 @@ from __future__ import annotations
 from typing import Awaitable, Callable, Optional, Union
 
 from ..devices import Call, Outcome, Told
-from ..policies import Choice
+from ..policies import Choice, Chosen
 
 
 class Device:
@@ -13,11 +13,12 @@ class Device:
     coroutine function does as well.
 
     `timeout` is how many seconds it may take, None for ever; then it is cancelled. `repeatable` says that
-    it may safely be asked twice for one thing.
+    it may safely be asked twice for one thing, and `late_is_doubt` what it says there.
     """
 
     timeout: Optional[float] = None
     repeatable: bool = False
+    late_is_doubt: bool = False
 
     async def serve(self, call: Call) -> Outcome:
         """Carries out an action, and gives its outcome. Where it can't, it raises an exception, as
@@ -39,11 +40,19 @@ State = Callable[[Call], Awaitable[Told]]
 class FunctionDevice(Device):
     """A device made of coroutine functions."""
 
-    def __init__(self, act: Act, state: Optional[State], timeout: Optional[float], repeatable: bool) -> None:
+    def __init__(
+        self,
+        act: Act,
+        state: Optional[State],
+        timeout: Optional[float],
+        repeatable: bool,
+        late_is_doubt: bool = False,
+    ) -> None:
         self._act = act
         self._state = state
         self.timeout = timeout
         self.repeatable = repeatable
+        self.late_is_doubt = late_is_doubt
 
     async def serve(self, call: Call) -> Outcome:
         return await self._act(call.request)
@@ -58,10 +67,11 @@ def device(
     state: Optional[State] = None,
     timeout: Optional[float] = None,
     repeatable: bool = False,
+    late_is_doubt: bool = False,
 ) -> Device:
     """A device made of a coroutine function from the requested action to its outcome, and of what `Device`
     has besides."""
-    return FunctionDevice(act, state, timeout, repeatable)
+    return FunctionDevice(act, state, timeout, repeatable, late_is_doubt)
 
 
 def as_device(given: Union[Device, Act]) -> Device:
@@ -69,7 +79,7 @@ def as_device(given: Union[Device, Act]) -> Device:
     return given if isinstance(given, Device) else FunctionDevice(given, None, None, False)
 
 
-Policy = Callable[[Choice], Union[str, Awaitable[str]]]
+Policy = Callable[[Choice], Union[str, Chosen, Awaitable[Union[str, Chosen]]]]
 """Names one of the offered services, at once or later."""
 
 IsBack = Union[bool, str, None]

@@ -10,29 +10,17 @@ from types import TracebackType
 from typing import Any, Awaitable, Callable, Coroutine, FrozenSet, Mapping, Optional, Set, Type, Union
 
 from .. import protocol
-from ..core import (
-    Append,
-    AskBack,
-    AskState,
-    Choose,
-    Dispatching,
-    Notify,
-    Posted,
-    Reread,
-    Restore,
-    Rotate,
-    Serve,
-    TakeSnapshot,
-    Tell,
-)
+from ..core import Dispatching, Posted
 from ..devices import Call, DeviceTimeout
 from ..documents import PathLike
+from ..effects import AskBack, AskState, Begin, Choose, Commit, Notify, Restore, Serve
 from ..errors import InsideRequest, NotBegun, SessionOver
-from ..journal import Journal
 from ..notices import Done, Failure, Notice, Recovery, Watch
 from ..policies import first_offered
-from ..protocol import Effect, Event, Steps, Value
+from ..position import Frozen
+from ..protocol import Effect, Event, Steps, Tell, Value
 from ..replies import Explanation, Repair, Report
+from ..store import Store
 from .devices import Act, Back, Device, Policy, as_device
 from .session import Session
 from .streams import run
@@ -56,34 +44,31 @@ class Dispatcher:
         policy: Policy = first_offered,
         back: Optional[Back] = None,
         on_failure: Optional[Callable[[Failure], None]] = None,
-        store: Union[PathLike, Journal, None] = None,
+        store: Union[PathLike, Store, None] = None,
         watch: Optional[Watch] = None,
     ) -> None:
         """The words are those of `roman_client.Dispatcher`. The session has begun when this begins. The store may
-        be a journal that is open; it is closed with this."""
+        be one that is open; it is closed with this."""
         self.session = session
         self.policy = policy
-        self._devices = {name: as_device(each) for name, each in devices.items()}
         self._back = back
         self._on_failure = on_failure
         self._watch = watch
-        self._store = store
-        self._journal = store if isinstance(store, Journal) else None
-        self._core: Optional[Dispatching[Device]] = None
-        self._turn: Optional[asyncio.Lock] = None
+        self._store = store if isinstance(store, Store) or store is None else Store(store)
+        self._core: Dispatching[Device] = Dispatching(
+            {name: as_device(each) for name, each in devices.items()}, back is not None, self._store
+        )
+        self._begun = False
+        self._turn = asyncio.Lock()
         self._inside: Optional["asyncio.Task[Any]"] = None
         self._draining: Set["asyncio.Task[None]"] = set()
 
     async def begin(self) -> Dispatcher:
-        """Takes the session as it stands, or has it go on from the store. Raises `StoreLocked` where another
-        dispatcher is at work on it, and `StoreBroken` where it isn't one for this document."""
-        self._turn = asyncio.Lock()
-        if self._store is not None and not isinstance(self._store, Journal):
-            self._journal = Journal(self._store)
-        core = Dispatching(self._devices, self._back is not None, self._journal)
-        self._core = core
+        """Takes the session as it stands, or has it go on from the store. Raises `StoreBroken` if that isn't one for
+        this document."""
+        self._begun = True
         try:
-            await self._in_turn(lambda: core.begin(self.session.core.document))
+            await self._in_turn(lambda: self._core.begin(self.session.core.document))
         except BaseException:
             await self.close()
             raise
@@ -94,19 +79,24 @@ class Dispatcher:
     @property
     def core(self) -> Dispatching[Device]:
         """What it knows and does, whatever the transport."""
-        if self._core is None:
+        if not self._begun:
             raise NotBegun("the dispatcher wasn't begun")
         return self._core
 
     @property
+    def devices(self) -> dict[str, Device]:
+        """The devices by service, to add some before it begins."""
+        return self._core.devices
+
+    @property
     def failed(self) -> FrozenSet[str]:
         """The services that are frozen since they failed, or were when the dispatcher began."""
-        return frozenset(self.core.failed)
+        return self.core.failed
 
     @property
     def served(self) -> int:
         """How many requests were served, over all runs with this store."""
-        return self.core.served
+        return self.core.position.served
 
     @property
     def under_way(self) -> Optional[Call]:
@@ -131,28 +121,40 @@ class Dispatcher:
 
     # Requests.
 
-    async def request(self, action: str, key: Optional[str] = None) -> Done:
+    async def request(self, action: str, key: Optional[str] = None, source: str | None = None) -> Done:
         """Has an action served, as `roman_client.Dispatcher.request` does."""
-        return await self._in_turn(lambda: self.core.request(action, key))
+        return await self._in_turn(lambda: self.core.request(action, key, source))
 
-    async def record(self, action: str, service: str, state: str, environment: str, key: Optional[str] = None) -> Done:
+    async def record(
+        self,
+        action: str,
+        service: str,
+        state: str,
+        environment: str,
+        key: Optional[str] = None,
+        source: str | None = None,
+    ) -> Done:
         """Takes a request as served, with that outcome, and asks no device: so a request that was in doubt
         is settled where it was done."""
-        return await self._in_turn(lambda: self.core.record(action, service, (state, environment), key))
+        return await self._in_turn(lambda: self.core.record(action, service, (state, environment), key, source))
 
     # Changes.
 
-    async def thaw(self, service: str, state: Optional[str] = None) -> Repair:
+    async def change(self, event: Event[Value], source: str | None = None) -> Value:
+        """Makes a change of `roman_client.protocol`, with its source for the history."""
+        return await self._in_turn(lambda: self.core.event(event, source=source))
+
+    async def thaw(self, service: str, state: Optional[str] = None, source: str | None = None) -> Repair:
         """A frozen service is back, in that state, or in the one that it had."""
-        return await self._in_turn(lambda: self.core.thaw(service, state))
+        return await self._in_turn(lambda: self.core.thaw(service, state, source))
 
     async def freeze(self, service: str) -> Repair:
-        """Takes a service out of use, until `thaw`."""
-        return await self._in_turn(lambda: self.core.event(protocol.freeze(service)))
+        """Takes a service out of use by hand, until `thaw`; also one that is frozen since it failed."""
+        return await self.change(protocol.freeze(service))
 
     async def die(self, service: str) -> Repair:
         """A service is gone."""
-        return await self._in_turn(lambda: self.core.event(protocol.die(service)))
+        return await self.change(protocol.die(service))
 
     async def join(
         self,
@@ -162,22 +164,26 @@ class Dispatcher:
         device: Union[Device, Act],
         *,
         loose: bool = False,
+        source: str | None = None,
     ) -> Repair:
         """A new service joins, with its device."""
-        return await self._in_turn(lambda: self.core.join(service, behaviour, state, loose, as_device(device)))
+        return await self._in_turn(lambda: self.core.join(service, behaviour, state, loose, as_device(device), source))
 
     async def jump(self, service: str, state: str) -> None:
         """A service is in that state now, whatever its transitions say."""
-        await self._in_turn(lambda: self.core.event(protocol.jump(service, state)))
+        await self.change(protocol.jump(service, state))
 
     async def jumpenv(self, environment: str) -> None:
         """The environment is in that state now, whatever its transitions say."""
-        await self._in_turn(lambda: self.core.event(protocol.jumpenv(environment)))
+        await self.change(protocol.jumpenv(environment))
 
-    def post(self, event: Event[Value]) -> "asyncio.Future[Value]":
-        """Has a change of `roman_client.protocol` made, as `jumpenv("dusk")`, without waiting for it: soon,
-        or where a request is open in its turn. It can be called by devices and policies, too."""
-        future = self._posted(lambda: self.core.event(event))
+    def post(
+        self, event: Event[Value], cause: Frozen = Frozen.BY_HAND, source: str | None = None
+    ) -> "asyncio.Future[Value]":
+        """Has a change of `roman_client.protocol` made, as `jumpenv("dusk")`, without waiting for it: soon, or in its
+        turn if a request is open. It can be called by devices and policies, too. A freeze has that cause."""
+        future: "asyncio.Future[Value]" = asyncio.get_running_loop().create_future()
+        self.core.inbox.append(Posted(event, cause, source, functools.partial(settle, future)))
         self._drain_later()
         return future
 
@@ -185,8 +191,8 @@ class Dispatcher:
         """Lets go of the store. The session goes on."""
         if self._draining:
             await asyncio.wait(set(self._draining))
-        if self._journal is not None:
-            self._journal.close()
+        if self._store is not None:
+            self._store.close()
 
     async def __aenter__(self) -> Dispatcher:
         return await self.begin()
@@ -206,15 +212,10 @@ class Dispatcher:
         if self._inside is not None and self._inside is asyncio.current_task():
             raise InsideRequest("the request of this device or policy is open: call post")
         try:
-            async with self._lock():
+            async with self._turn:
                 return await run(self.core.turn(steps), self._perform)
         finally:
             self._drain_later()
-
-    def _posted(self, steps: Callable[[], Steps[Value]]) -> "asyncio.Future[Value]":
-        future: "asyncio.Future[Value]" = asyncio.get_running_loop().create_future()
-        self.core.inbox.append(Posted(steps, functools.partial(settle, future)))
-        return future
 
     def _drain_later(self) -> None:
         """Has done what was posted, if there is anything."""
@@ -225,13 +226,8 @@ class Dispatcher:
 
     async def _drain(self) -> None:
         """Does what was posted, once it has the turn."""
-        async with self._lock():
+        async with self._turn:
             await run(self.core.turn(_nothing), self._perform)
-
-    def _lock(self) -> asyncio.Lock:
-        if self._turn is None:
-            raise NotBegun("the dispatcher wasn't begun")
-        return self._turn
 
     async def _within(self, work: Coroutine[Any, Any, Value], timeout: Optional[float]) -> Value:
         """Awaits what is the owner's, which can't wait for its own request, until its deadline."""
@@ -257,9 +253,6 @@ class Dispatcher:
     async def _tell(self, effect: Tell[Any]) -> Any:
         return await self.session.tell(effect.event)
 
-    async def _snapshot(self, effect: TakeSnapshot) -> Any:
-        return await self.session.snapshot()
-
     async def _restore(self, effect: Restore) -> None:
         await self.session.restore(effect.snapshot)
 
@@ -279,18 +272,13 @@ class Dispatcher:
     async def _choose(self, effect: Choose) -> Any:
         return await self._within(_value(self.policy, effect.choice), None)
 
-    async def _append(self, effect: Append) -> None:
-        assert self._journal is not None
-        write = functools.partial(self._journal.append, *effect.entries, keep=effect.keep)
-        await _in_a_thread(write)
+    async def _begin_store(self, effect: Begin) -> None:
+        assert self._store is not None
+        await _in_a_thread(functools.partial(self._store.begin, effect.stored))
 
-    async def _rotate(self, effect: Rotate) -> None:
-        assert self._journal is not None
-        await _in_a_thread(functools.partial(self._journal.rotate, effect.head))
-
-    async def _reread(self, effect: Reread) -> None:
-        assert self._journal is not None
-        self._journal.reread()
+    async def _commit(self, effect: Commit) -> None:
+        assert self._store is not None
+        await _in_a_thread(functools.partial(self._store.commit, effect.position, effect.entries))
 
     async def _notify(self, effect: Notify) -> None:
         self._told(self._watch, effect.notice)
@@ -308,15 +296,13 @@ class Dispatcher:
 
     _performers: Mapping[Type[Effect], Callable[[Any, Any], Awaitable[Any]]] = {
         Tell: _tell,
-        TakeSnapshot: _snapshot,
         Restore: _restore,
         Serve: _serve,
         AskState: _state,
         AskBack: _ask_back,
         Choose: _choose,
-        Append: _append,
-        Rotate: _rotate,
-        Reread: _reread,
+        Begin: _begin_store,
+        Commit: _commit,
         Notify: _notify,
     }
 

@@ -4,7 +4,7 @@ from __future__ import annotations
 
 import json
 from dataclasses import dataclass
-from typing import Any, Optional, Protocol, Tuple
+from typing import Any, Optional, Protocol
 
 from roman_client import Call, DeviceFailed
 
@@ -42,12 +42,15 @@ class Listener(Protocol):
 
 
 class Reach:
-    """How a service is reached. `by_broker` says that what it says unasked is lost while the broker is gone, and
-    `holds` has the files that a process holds open that it starts."""
+    """How a service is reached. `by_broker` says that what it says unasked is lost while the broker is gone. A device
+    that brings its own deadline, or may be repeated, or is doubtful if it is late, says so as `roman_client.Device`
+    does."""
 
     reached = ""
     by_broker = False
-    holds: Tuple[int, ...] = ()
+    timeout: Optional[float] = None
+    repeatable = False
+    late_is_doubt = False
 
     def __init__(self, service: str, listener: Listener) -> None:
         self.service = service
@@ -68,8 +71,8 @@ class Reach:
         cancelled at any time; then what is answered later is taken for nothing."""
         raise NotImplementedError
 
-    async def tell(self, number: Optional[int]) -> Optional[Answer]:
-        """Where the device is now, and whether the call with that number was done; None where it can't
+    async def tell(self, number: Optional[int], call: Optional[Call] = None) -> Optional[Answer]:
+        """The present state of the device, and whether that call was done, which had that number; None if it can't
         tell."""
         return None
 

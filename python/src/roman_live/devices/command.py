@@ -10,9 +10,10 @@ import shutil
 import signal
 from typing import Any, Dict, Iterator, Optional, Set, Tuple
 
-from roman_client import Call, DeviceFailed
+from roman_client import Call, DeviceFailed, DeviceLost
 
 from ..config import CommandReach
+from ..processes import Processes, lock, unlock
 from .base import LONGEST_ANSWER, STATE_WORD, Answer, Listener, Reach, short
 
 REST = 0.5
@@ -29,24 +30,37 @@ class Command(Reach):
 
     reached = "command"
 
-    def __init__(self, service: str, listener: Listener, entry: CommandReach) -> None:
+    def __init__(
+        self, service: str, listener: Listener, entry: CommandReach, processes: Processes, before: Optional[int]
+    ) -> None:
         super().__init__(service, listener)
         self._entry = entry
+        self._processes = processes
+        self._before = before
         self._left: Optional[asyncio.SubprocessTransport] = None
 
     def hindrance(self) -> Optional[str]:
         return _hindrance(self._entry)
 
     async def ask(self, number: int, call: Call) -> Answer:
-        return await self._run(call.action, number)
+        self._check_free()
+        with self._processes.at_work(number) as file:
+            return await self._run(call.action, number, (file,))
 
-    async def tell(self, number: Optional[int]) -> Optional[Answer]:
-        return await self._run(STATE_WORD, number)
+    async def tell(self, number: Optional[int], call: Optional[Call] = None) -> Optional[Answer]:
+        self._check_free()
+        return await self._run(STATE_WORD, number, ())
 
-    async def _run(self, word: str, number: Optional[int]) -> Answer:
-        """Runs the command once. What is still running when this is cancelled is ended."""
+    def _check_free(self) -> None:
+        """Raises DeviceFailed while an earlier command is at work."""
         if self._left is not None and self._left.get_returncode() is None:
             raise DeviceFailed(STILL)
+        if self._before is not None:
+            _check_ended(self._processes, self._before)
+            self._before = None
+
+    async def _run(self, word: str, number: Optional[int], holds: Tuple[int, ...]) -> Answer:
+        """Runs the command once. What is still running when this is cancelled is ended."""
         loop = asyncio.get_running_loop()
         with _naming(self._entry):
             transport, written = await loop.subprocess_exec(
@@ -54,7 +68,7 @@ class Command(Reach):
                 *self._entry.command,
                 word,
                 stdin=asyncio.subprocess.DEVNULL,
-                **_around(self._entry, number, self.holds),
+                **_around(self._entry, number, holds),
             )
         try:
             await written.ended
@@ -113,9 +127,14 @@ class KeptCommand(Reach):
 
     reached = "command"
 
-    def __init__(self, service: str, listener: Listener, entry: CommandReach) -> None:
+    def __init__(
+        self, service: str, listener: Listener, entry: CommandReach, processes: Processes, before: Optional[int]
+    ) -> None:
         super().__init__(service, listener)
         self._entry = entry
+        self._processes = processes
+        self._before = before
+        self._file = -1
         self._process: Optional[asyncio.subprocess.Process] = None
         self._left: Optional[asyncio.subprocess.Process] = None
         self._listening: Set[asyncio.Task[None]] = set()
@@ -126,49 +145,65 @@ class KeptCommand(Reach):
     def hindrance(self) -> Optional[str]:
         return _hindrance(self._entry)
 
+    def _close_file(self) -> None:
+        """Closes the file of the locks of a command that has ended."""
+        if self._file >= 0:
+            os.close(self._file)
+            self._file = -1
+
     async def close(self) -> None:
         if self._process is not None:
             await self._drop(self._process)
+        self._close_file()
         if self._listening:
             _, deaf = await asyncio.wait(self._listening, timeout=REST)
             for task in deaf:
                 task.cancel()
 
     async def ask(self, number: int, call: Call) -> Answer:
-        return await self._exchange(number, call.action)
-
-    async def tell(self, number: Optional[int]) -> Optional[Answer]:
-        self._last -= 1  # Numbers below 0 are those of no call.
-        return await self._exchange(self._last, STATE_WORD)
-
-    async def _exchange(self, number: int, word: str) -> Answer:
-        """Writes a line, and waits for the one that answers it."""
         async with self._turn:
             process = await self._running()
-            answer: asyncio.Future[Answer] = asyncio.get_running_loop().create_future()
-            self._waiting = number, answer
-            try:
-                assert process.stdin is not None
-                line = f"{number} {word}\n" if self._entry.numbered else f"{word}\n"
-                process.stdin.write(line.encode())
-                await process.stdin.drain()
-                return await answer
-            except OSError as error:
+            lock(self._file, number)  # Until it answers. One that is late holds it until it ends.
+            answer = await self._exchange(process, number, call.action)
+            unlock(self._file, number)
+            return answer
+
+    async def tell(self, number: Optional[int], call: Optional[Call] = None) -> Optional[Answer]:
+        async with self._turn:
+            self._last -= 1  # Numbers below 0 are those of no call.
+            return await self._exchange(await self._running(), self._last, STATE_WORD)
+
+    async def _exchange(self, process: asyncio.subprocess.Process, number: int, word: str) -> Answer:
+        """Writes a line, and waits for the one that answers it."""
+        answer: asyncio.Future[Answer] = asyncio.get_running_loop().create_future()
+        self._waiting = number, answer
+        try:
+            assert process.stdin is not None
+            line = f"{number} {word}\n" if self._entry.numbered else f"{word}\n"
+            process.stdin.write(line.encode())
+            await process.stdin.drain()
+            return await answer
+        except OSError as error:
+            await self._drop(process)
+            raise DeviceFailed(f"can't be reached: {error}") from None
+        except asyncio.CancelledError:
+            if not self._entry.numbered or word == STATE_WORD:
                 await self._drop(process)
-                raise DeviceFailed(f"can't be reached: {error}") from None
-            except asyncio.CancelledError:
-                if not self._entry.numbered or word == STATE_WORD:
-                    await self._drop(process)
-                raise
-            finally:
-                self._waiting = None
+            raise
+        finally:
+            self._waiting = None
 
     async def _running(self) -> asyncio.subprocess.Process:
         """The command, which is started where it doesn't run."""
         if self._left is not None and self._left.returncode is None:
             raise DeviceFailed(STILL)
+        if self._before is not None:
+            _check_ended(self._processes, self._before)
+            self._before = None
         if self._process is None or self._process.returncode is not None:
-            self._process = await _start(self._entry, self.holds)
+            self._close_file()
+            self._file = self._processes.open()
+            self._process = await _start(self._entry, (self._file,))
             listening = asyncio.ensure_future(self._listen(self._process))
             self._listening.add(listening)
             listening.add_done_callback(self._listening.discard)
@@ -183,12 +218,12 @@ class KeptCommand(Reach):
                 if process is not self._process:
                     return
                 if not line.endswith(b"\n"):
-                    raise DeviceFailed("ended in place of an answer" if self._awaited(None) else "ended")
+                    raise DeviceLost("ended in place of an answer" if self._awaited(None) else "ended")
                 self._hear(line.strip())
         except DeviceFailed as error:
-            await self._fail(process, str(error))
+            await self._fail(process, error)
         except ValueError:
-            await self._fail(process, f"wrote a line of more than {LONGEST_ANSWER} bytes")
+            await self._fail(process, DeviceFailed(f"wrote a line of more than {LONGEST_ANSWER} bytes"))
 
     def _hear(self, line: bytes) -> None:
         """A line. Raises DeviceFailed where it isn't known whose it is."""
@@ -224,16 +259,16 @@ class KeptCommand(Reach):
             return None
         return self._waiting[1] if number in (None, self._waiting[0]) else None
 
-    async def _fail(self, process: asyncio.subprocess.Process, text: str) -> None:
+    async def _fail(self, process: asyncio.subprocess.Process, error: DeviceFailed) -> None:
         """Ends the command, and says why to the one who waits for an answer; where nobody does, as what came
         late."""
         if process is not self._process:
             return
         answer = self._awaited(None)
         if answer is not None:
-            answer.set_exception(DeviceFailed(text))
+            answer.set_exception(error)
         else:
-            self.listener.late(self.service, text)
+            self.listener.late(self.service, str(error))
         await self._drop(process)
 
     async def _drop(self, process: asyncio.subprocess.Process) -> None:
@@ -288,6 +323,12 @@ async def _start(entry: CommandReach, holds: Tuple[int, ...]) -> asyncio.subproc
             limit=LONGEST_ANSWER,
             **_around(entry, None, holds),
         )
+
+
+def _check_ended(processes: Processes, number: int) -> None:
+    """Raises DeviceFailed while the command of a call of an earlier run is at work."""
+    if processes.is_at_work(number):
+        raise DeviceFailed("is still at work on a call of an earlier run of this home")
 
 
 def _kill(group: int) -> bool:

@@ -8,7 +8,7 @@ from urllib.parse import urlsplit
 
 import aiohttp
 
-from roman_client import Call, DeviceFailed
+from roman_client import Call, DeviceFailed, DeviceLost
 
 from ..config import HttpReach
 from ..errors import unreached
@@ -47,7 +47,7 @@ class Http(Reach):
             raise DeviceFailed(f"answered to {short(value['id'])}, and was asked {number}")
         return answer_of(value)
 
-    async def tell(self, number: Optional[int]) -> Optional[Answer]:
+    async def tell(self, number: Optional[int], call: Optional[Call] = None) -> Optional[Answer]:
         about = {} if number is None else {"id": str(number)}
         return answer_of(await self._exchange("GET", about, None))
 
@@ -64,8 +64,8 @@ class Http(Reach):
         except aiohttp.ClientConnectorError as error:
             raise DeviceFailed(f"{self._shown}: {unreached(error)}") from None
         except aiohttp.ClientError as error:
-            raise DeviceFailed(f"{self._shown}: {error or type(error).__name__}") from None
-        if status != 200:
+            raise DeviceLost(f"{self._shown}: {error or type(error).__name__}") from None
+        if not 200 <= status < 300:
             raise DeviceFailed(f"{self._shown}: status {status}: {short(data)}")
         return json_of(data)
 

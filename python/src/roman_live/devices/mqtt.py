@@ -6,7 +6,7 @@ import asyncio
 import time
 from typing import Any, Dict, Optional
 
-from roman_client import Call, DeviceFailed
+from roman_client import Call, DeviceFailed, DeviceLost
 
 from ..config import MqttReach
 from ..mqtt_api import Connection
@@ -36,7 +36,7 @@ class Mqtt(Reach):
     async def ask(self, number: int, call: Call) -> Answer:
         return await self._exchange({"id": number, "action": call.action})
 
-    async def tell(self, number: Optional[int]) -> Optional[Answer]:
+    async def tell(self, number: Optional[int], call: Optional[Call] = None) -> Optional[Answer]:
         # Numbers below 0 are those of no call.
         self._last = min(self._last - 1, -int(time.time() * 1000))
         asked: Dict[str, Any] = {"id": self._last, "action": None}
@@ -85,7 +85,7 @@ class Mqtt(Reach):
         if isinstance(value, dict) and value.get("gone") is True:
             for answer in self._waiting.values():
                 if not answer.done():
-                    answer.set_exception(DeviceFailed("is gone"))
+                    answer.set_exception(DeviceLost("is gone"))
             self.listener.gone(self.service)
             return
         self.listener.moved(self.service, answer_of(value))

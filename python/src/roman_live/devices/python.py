@@ -7,6 +7,7 @@ import importlib
 import inspect
 import sys
 import threading
+from dataclasses import replace
 from typing import Any, Awaitable, Callable, Optional
 
 import roman_client
@@ -19,8 +20,9 @@ from .base import Answer, Listener, Reach
 
 class PythonDevice(Reach):
     """A function of the requested action, a `roman_client.Device` or an `aio.Device`, or the class of one.
-    What isn't for asyncio runs in a thread. A device tells its present state where it has a method
-    `present`, which gives the state, or it and that of the environment."""
+    What isn't for asyncio runs in a thread. A device is asked by `state` about a call, and tells its present state by
+    a method `present`, if it has one, which gives the state, or it and that of the environment. Its deadline counts
+    unless the home file has one."""
 
     reached = "python"
 
@@ -28,6 +30,10 @@ class PythonDevice(Reach):
         super().__init__(service, listener)
         self._device = _load(entry, f"devices.{service}.call is '{entry.module}:{entry.name}', which")
         self._at_work = False
+        if isinstance(self._device, (roman_client.Device, aio.Device)):
+            self.timeout = self._device.timeout
+            self.repeatable = self._device.repeatable
+            self.late_is_doubt = self._device.late_is_doubt
 
     async def ask(self, number: int, call: Call) -> Answer:
         if isinstance(self._device, (roman_client.Device, aio.Device)):
@@ -36,7 +42,11 @@ class PythonDevice(Reach):
             value = await self._value(self._device, call.request)
         return _answer(value)
 
-    async def tell(self, number: Optional[int]) -> Optional[Answer]:
+    async def tell(self, number: Optional[int], call: Optional[Call] = None) -> Optional[Answer]:
+        if call is not None and isinstance(self._device, (roman_client.Device, aio.Device)):
+            told = _told(await self._value(self._device.state, call))
+            if told is not None:
+                return told
         present = getattr(self._device, "present", None)
         if present is None:
             return None
@@ -104,6 +114,17 @@ def _load(entry: PythonReach, which: str) -> Any:
     if not callable(found) and not isinstance(found, (roman_client.Device, aio.Device)):
         raise HomeFileError(f"{which} is neither a function nor a device")
     return found
+
+
+def _told(value: Any) -> Answer | None:
+    """What a device tells of a call."""
+    if value is None:
+        return None
+    if value is roman_client.NOT_DONE:
+        return Answer("", None, False)
+    if isinstance(value, roman_client.Did):
+        return replace(_answer(value.outcome), done=True)
+    return _answer(value)
 
 
 def _answer(value: Any) -> Answer:

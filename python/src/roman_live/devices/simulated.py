@@ -27,7 +27,7 @@ class Simulated(Reach):
         finally:
             self._outcome = None
 
-    async def tell(self, number: Optional[int]) -> Optional[Answer]:
+    async def tell(self, number: Optional[int], call: Optional[Call] = None) -> Optional[Answer]:
         return Answer(self._present(self.service))
 
     @property

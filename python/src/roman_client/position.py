@@ -1,0 +1,83 @@
+"""Where a session stands, as a dispatcher keeps it."""
+
+from __future__ import annotations
+
+import enum
+from collections.abc import Mapping
+from dataclasses import dataclass, field, replace
+
+from .replies import Report, Service
+
+
+class Frozen(enum.Enum):
+    """Why a service is frozen."""
+
+    BY_HAND = "by hand"
+    FAILED = "failed"
+    IN_DOUBT = "in doubt"
+    GONE = "gone"
+    BEGINNING = "from the beginning"
+
+
+@dataclass(frozen=True)
+class Place:
+    """A service: its behaviour, its state, and why it is frozen, None if it isn't."""
+
+    behaviour: str
+    state: str
+    loose: bool
+    frozen: Frozen | None = None
+
+
+@dataclass(frozen=True)
+class Position:
+    """The states of target, environment and services, in the order of a report, with the number of requests
+    served, the number of the newest call, and that of the newest change."""
+
+    target: str
+    environment: str
+    places: Mapping[str, Place] = field(default_factory=dict)
+    served: int = 0
+    calls: int = 0
+    changes: int = 0
+
+    @classmethod
+    def of_report(cls, report: Report) -> Position:
+        """The position of a session that begins with this report."""
+        places = {
+            each.name: Place(each.behaviour, each.state, each.loose, Frozen.BEGINNING if each.frozen else None)
+            for each in report.services
+        }
+        return cls(report.target, report.environment, places)
+
+    @property
+    def services(self) -> tuple[Service, ...]:
+        """The services as a report shows them."""
+        return tuple(
+            Service(name, each.behaviour, each.state, each.frozen is not None, each.loose)
+            for name, each in self.places.items()
+        )
+
+    def frozen(self, *causes: Frozen) -> frozenset[str]:
+        """The services that are frozen for one of these causes."""
+        return frozenset(name for name, each in self.places.items() if each.frozen in causes)
+
+    def with_place(self, service: str, place: Place) -> Position:
+        """The position with a service in that place."""
+        return replace(self, places={**self.places, service: place})
+
+    def after(self, words: tuple[str, ...], cause: Frozen) -> Position:
+        """The position after a change that the program accepted. A freeze has that cause."""
+        word, *rest = words
+        position = replace(self, changes=self.changes + 1)
+        if word == "jumpenv":
+            return replace(position, environment=rest[0])
+        service = rest[0]
+        if word == "die":
+            return replace(position, places={name: each for name, each in self.places.items() if name != service})
+        if word == "join":
+            return position.with_place(service, Place(rest[1], rest[2], len(rest) == 4))
+        place = self.places[service]
+        if word == "jump":
+            return position.with_place(service, replace(place, state=rest[1]))
+        return position.with_place(service, replace(place, frozen=cause if word == "freeze" else None))

@@ -1,0 +1,496 @@
+"""The store of a dispatcher: a database that has its newest position, and what has happened.
+
+Each commit is one transaction, which is on the disk when the call returns. A lock on a file beside the database
+keeps a second dispatcher from it.
+"""
+
+from __future__ import annotations
+
+import contextlib
+import fcntl
+import json
+import os
+import sqlite3
+import time
+from collections.abc import Iterator, Mapping, Sequence
+from dataclasses import dataclass, field
+from pathlib import Path
+from typing import Any
+
+from .devices import Call, DeviceFailed, Outcome, Verdict
+from .documents import Document, DocumentError, PathLike
+from .errors import StoreBroken, StoreFailed, StoreLocked
+from .notices import Done, Failure
+from .position import Frozen, Place, Position
+from .takeover import Journal, is_database
+
+APPLICATION = 0x726F6D61
+"""What marks a database as one of this client."""
+
+VERSION = 1
+"""The version of the schema."""
+
+HISTORY = 100_000
+"""How many calls, and how many changes, the history keeps."""
+
+SCHEMA = """
+CREATE TABLE home (
+    one INTEGER PRIMARY KEY CHECK (one = 1),
+    document TEXT NOT NULL,
+    target TEXT NOT NULL,
+    environment TEXT NOT NULL,
+    served INTEGER NOT NULL,
+    calls INTEGER NOT NULL,
+    changes INTEGER NOT NULL,
+    first INTEGER NOT NULL,
+    starts INTEGER NOT NULL
+) STRICT;
+CREATE TABLE services (
+    place INTEGER PRIMARY KEY,
+    name TEXT NOT NULL UNIQUE,
+    behaviour TEXT NOT NULL,
+    state TEXT NOT NULL,
+    loose INTEGER NOT NULL,
+    frozen TEXT
+) STRICT;
+CREATE TABLE keys (
+    place INTEGER PRIMARY KEY,
+    key TEXT NOT NULL UNIQUE,
+    answer TEXT NOT NULL
+) STRICT;
+CREATE TABLE calls (
+    number INTEGER PRIMARY KEY,
+    request INTEGER NOT NULL,
+    requested TEXT NOT NULL,
+    action TEXT NOT NULL,
+    service TEXT NOT NULL,
+    key TEXT,
+    source TEXT,
+    reason TEXT,
+    begun REAL NOT NULL,
+    ended REAL,
+    result TEXT,
+    state TEXT,
+    environment TEXT,
+    target TEXT,
+    error TEXT
+) STRICT;
+CREATE INDEX under_way ON calls (number) WHERE result IS NULL;
+CREATE TABLE changes (
+    number INTEGER PRIMARY KEY,
+    time REAL NOT NULL,
+    words TEXT NOT NULL,
+    cause TEXT,
+    source TEXT
+) STRICT;
+"""
+
+SERVED, RECORDED, FAILED, NOT_DONE, IN_DOUBT = "served", "recorded", "failed", "not done", "in doubt"
+"""What may come of a call. That of one that is under way is NULL."""
+
+Kept = Done | Call
+"""What is kept for the key of a request: how it was served, or the call that is in doubt."""
+
+
+@dataclass(frozen=True)
+class CallBegun:
+    """A device is about to be asked. `request` is the number of the first call for the same request, `source` who
+    made it, and `reason` why the policy chose this service."""
+
+    call: Call
+    request: int
+    source: str | None = None
+    reason: str | None = None
+
+
+@dataclass(frozen=True)
+class CallEnded:
+    """What came of a call, with the outcome and the state of the target if it was served."""
+
+    number: int
+    result: str
+    outcome: Outcome | None = None
+    target: str | None = None
+    error: str | None = None
+
+
+@dataclass(frozen=True)
+class ChangeMade:
+    """A change with its number, and the words of its line."""
+
+    number: int
+    words: tuple[str, ...]
+    cause: Frozen | None = None
+    source: str | None = None
+
+
+@dataclass(frozen=True)
+class KeyKept:
+    """What is kept for a key. `dropped` are keys that aren't kept any more."""
+
+    key: str
+    kept: Kept
+    dropped: tuple[str, ...] = ()
+
+
+Entry = CallBegun | CallEnded | ChangeMade | KeyKept
+
+
+@dataclass(frozen=True)
+class Stored:
+    """What a dispatcher goes on from: the document, the position, the call that is under way with the number of its
+    request and the failures at it, and what is kept for keys, the oldest first."""
+
+    document: Document
+    position: Position
+    under_way: Call | None = None
+    request: int = 0
+    failures: tuple[Failure, ...] = ()
+    keys: Mapping[str, Kept] = field(default_factory=dict)
+
+
+class Store:
+    """A database that is open. `stored` is what it had when it was opened, None if it is new; `journal` is one of an
+    older form, which `begin` replaces. `first` is a number to count calls from that no other store has."""
+
+    def __init__(self, path: PathLike) -> None:
+        """Opens and locks a store. Raises `StoreLocked`, `StoreBroken`, or `StoreFailed` if the file of the lock can't
+        be made."""
+        self.path = Path(os.path.abspath(path))
+        self.stored: Stored | None = None
+        self.journal: Journal | None = None
+        self.first = time.time_ns() // 1000  # No call is over in a microsecond.
+        self.starts = 1
+        self._database: sqlite3.Connection | None = None
+        self._written = Position("", "")
+        self._files: dict[str, tuple[int, int]] = {}
+        self._lock = _locked(self.path)
+        try:
+            self._open()
+        except BaseException:
+            self.close()
+            raise
+
+    def _open(self) -> None:
+        """Reads what is there."""
+        if not self.path.exists():
+            return
+        if not is_database(self.path):
+            self.journal = Journal.read(self.path)
+            self.first = self.journal.first or self.first
+            return
+        try:
+            self._connect()
+            self.stored = read(self._connection(), self.path)
+            self._written = self.stored.position
+            self._begin_run()
+        except sqlite3.DatabaseError as error:
+            raise _broken(self.path, error) from error
+
+    def _connect(self) -> None:
+        """Opens the database, and remembers which files it is."""
+        self._database = _connected(self.path)
+        for name in (str(self.path), _lock_of(self.path)):
+            found = os.stat(name)
+            self._files[name] = (found.st_dev, found.st_ino)
+
+    def _begin_run(self) -> None:
+        """Counts this start."""
+        database = self._connection()
+        ((self.first, starts),) = database.execute("SELECT first, starts FROM home")
+        self.starts = starts + 1
+        try:
+            database.execute("UPDATE home SET starts = ?", (self.starts,))
+        except sqlite3.OperationalError as error:
+            raise StoreFailed(f"{self.path}: {error}") from error
+
+    def begin(self, stored: Stored) -> None:
+        """Makes the database. A journal of an older form is kept beside it, with the ending `.old`. Raises
+        `StoreFailed`."""
+        fresh = Path(f"{self.path}.new")
+        try:
+            fresh.unlink(missing_ok=True)
+            with contextlib.closing(sqlite3.connect(fresh, isolation_level=None)) as database:
+                database.execute("PRAGMA synchronous = FULL")
+                database.executescript(
+                    f"BEGIN; PRAGMA application_id = {APPLICATION}; PRAGMA user_version = {VERSION};{SCHEMA}"
+                )
+                self._fill(database, stored)
+                database.execute("COMMIT")
+            if self.journal is not None:
+                with contextlib.suppress(FileExistsError):
+                    os.link(self.path, f"{self.path}.old")
+            os.rename(fresh, self.path)
+            _sync_folder(self.path.parent)
+            self._connect()
+        except (OSError, sqlite3.Error) as error:
+            raise StoreFailed(f"{self.path}: {getattr(error, 'strerror', None) or error}") from error
+        if self.journal is not None:
+            self.journal.forget()
+        self.stored, self.journal, self._written = stored, None, stored.position
+
+    def _fill(self, database: sqlite3.Connection, stored: Stored) -> None:
+        """Writes all that a new database has."""
+        value = json.dumps(stored.document.value)
+        row = (1, value, "", "", 0, 0, 0, self.first, self.starts)
+        database.execute("INSERT INTO home VALUES (?, ?, ?, ?, ?, ?, ?, ?, ?)", row)
+        _write_position(database, Position("", ""), stored.position)
+        for key, kept in stored.keys.items():
+            _write_entry(database, KeyKept(key, kept))
+        if stored.under_way is not None:
+            _write_entry(database, CallBegun(stored.under_way, stored.request))
+
+    def commit(self, position: Position, entries: Sequence[Entry]) -> None:
+        """Writes the position and what has happened, and returns when they are on the disk. An entry that has been
+        written already changes nothing. Raises `StoreFailed`."""
+        database = self._connection()
+        self._check_there()
+        try:
+            with _transaction(database):
+                for entry in entries:
+                    _write_entry(database, entry)
+                _write_position(database, self._written, position)
+        except sqlite3.Error as error:
+            raise StoreFailed(f"{self.path}: {error}") from error
+        self._written = position
+
+    def last_calls(self) -> dict[str, int]:
+        """The number of the last call of each service, as far as the history has it."""
+        if self._database is None:
+            return {}
+        return dict(self._database.execute("SELECT service, max(number) FROM calls GROUP BY service"))
+
+    def _check_there(self) -> None:
+        """Raises `StoreFailed` if a file was removed or replaced: then another dispatcher may be at work."""
+        for name, file in self._files.items():
+            try:
+                found = os.stat(name)
+            except OSError as error:
+                raise StoreFailed(f"{name}: {error.strerror}") from None
+            if (found.st_dev, found.st_ino) != file:
+                raise StoreFailed(f"{name} was replaced while it was in use")
+
+    def _connection(self) -> sqlite3.Connection:
+        if self._database is None:
+            raise StoreFailed(f"{self.path} wasn't begun")
+        return self._database
+
+    def close(self) -> None:
+        """Closes the database, and releases its lock."""
+        if self._database is not None:
+            with contextlib.suppress(sqlite3.Error):
+                self._database.close()
+            self._database = None
+        if self._lock >= 0:
+            os.close(self._lock)
+            self._lock = -1
+
+
+# Opening.
+
+
+def _lock_of(path: Path) -> str:
+    return f"{path}.lock"
+
+
+def _locked(path: Path) -> int:
+    """The lock of a store, which ends with this process at the latest."""
+    name = _lock_of(path)
+    try:
+        lock = os.open(name, os.O_RDWR | os.O_CREAT | os.O_CLOEXEC, 0o644)
+    except OSError as error:
+        raise StoreFailed(f"{name}: {error.strerror}") from error
+    try:
+        fcntl.flock(lock, fcntl.LOCK_EX | fcntl.LOCK_NB)
+    except OSError:
+        os.close(lock)
+        raise StoreLocked(f"another dispatcher is at work on {path}") from None
+    return lock
+
+
+def _connected(path: Path) -> sqlite3.Connection:
+    """A connection for the one writer."""
+    database = sqlite3.connect(path, isolation_level=None, check_same_thread=False)
+    try:
+        database.execute("PRAGMA journal_mode = WAL")
+        database.execute("PRAGMA synchronous = FULL")
+    except BaseException:
+        database.close()
+        raise
+    return database
+
+
+@contextlib.contextmanager
+def reading(path: PathLike) -> Iterator[sqlite3.Connection]:
+    """A connection that only reads, also while a dispatcher is at work. Raises `StoreBroken`."""
+    place = Path(os.path.abspath(path))
+    try:
+        with contextlib.closing(sqlite3.connect(f"{place.as_uri()}?mode=ro", uri=True)) as database:
+            yield database
+    except sqlite3.Error as error:
+        raise _broken(place, error) from error
+
+
+@contextlib.contextmanager
+def _transaction(database: sqlite3.Connection) -> Iterator[None]:
+    database.execute("BEGIN IMMEDIATE")
+    try:
+        yield
+        database.execute("COMMIT")
+    except BaseException:
+        if database.in_transaction:
+            database.execute("ROLLBACK")
+        raise
+
+
+def _sync_folder(path: Path) -> None:
+    folder = os.open(path, os.O_RDONLY | os.O_CLOEXEC)
+    try:
+        os.fsync(folder)
+    finally:
+        os.close(folder)
+
+
+def _broken(path: Path, error: Exception) -> StoreBroken:
+    return StoreBroken(f"{path}: {error}")
+
+
+# Reading.
+
+
+def read(database: sqlite3.Connection, path: Path) -> Stored:
+    """What a database has. Raises `StoreBroken`."""
+    try:
+        _check_version(database)
+        ((document, *numbers),) = database.execute(
+            "SELECT document, target, environment, served, calls, changes FROM home"
+        )
+        rows = database.execute("SELECT name, behaviour, state, loose, frozen FROM services ORDER BY place")
+        places = {
+            name: Place(behaviour, state, bool(loose), None if frozen is None else Frozen(frozen))
+            for name, behaviour, state, loose, frozen in rows
+        }
+        target, environment, served, calls, changes = numbers
+        position = Position(target, environment, places, served, calls, changes)
+        keys = {
+            key: _kept_of(json.loads(answer))
+            for key, answer in database.execute("SELECT key, answer FROM keys ORDER BY place")
+        }
+        under_way, request, failures = _open_call(database)
+        return Stored(Document(json.loads(document)), position, under_way, request, failures, keys)
+    except (DocumentError, KeyError, TypeError, ValueError, RecursionError) as error:
+        raise StoreBroken(f"{path}: {error!r}") from error
+    except sqlite3.Error as error:
+        raise _broken(path, error) from error
+
+
+def _check_version(database: sqlite3.Connection) -> None:
+    ((application,),) = database.execute("PRAGMA application_id")
+    ((version,),) = database.execute("PRAGMA user_version")
+    if application != APPLICATION:
+        raise ValueError("it is the database of another program")
+    if version != VERSION:
+        raise ValueError(f"its schema has the version {version}, and this program knows {VERSION}")
+
+
+def _open_call(database: sqlite3.Connection) -> tuple[Call | None, int, tuple[Failure, ...]]:
+    """The call that is under way, the number of its request, and the failures at that before."""
+    row = database.execute(
+        "SELECT service, action, requested, number, key, request FROM calls WHERE result IS NULL"
+    ).fetchone()
+    if row is None:
+        return None, 0, ()
+    *words, request = row
+    failed = database.execute(
+        "SELECT service, requested, error FROM calls WHERE request = ? AND result = ? ORDER BY number",
+        (request, FAILED),
+    )
+    failures = tuple(Failure(service, action, DeviceFailed(error), None) for service, action, error in failed)
+    return Call(*words), request, failures
+
+
+# Writing.
+
+
+def _write_position(database: sqlite3.Connection, before: Position, now: Position) -> None:
+    """Writes what has changed of a position."""
+    database.execute(
+        "UPDATE home SET target = ?, environment = ?, served = ?, calls = ?, changes = ?",
+        (now.target, now.environment, now.served, now.calls, now.changes),
+    )
+    if now.places is before.places:
+        return
+    known = before.places
+    if list(now.places) != list(known):
+        database.execute("DELETE FROM services")
+        known = {}
+    for name, place in now.places.items():
+        if known.get(name) is not place:
+            frozen = None if place.frozen is None else place.frozen.value
+            database.execute(
+                "INSERT INTO services (name, behaviour, state, loose, frozen) VALUES (?, ?, ?, ?, ?) "
+                "ON CONFLICT (name) DO UPDATE "
+                "SET state = excluded.state, loose = excluded.loose, frozen = excluded.frozen",
+                (name, place.behaviour, place.state, place.loose, frozen),
+            )
+
+
+def _write_entry(database: sqlite3.Connection, entry: Entry) -> None:
+    """Writes something that has happened."""
+    if isinstance(entry, CallBegun):
+        _write_begun(database, entry)
+    elif isinstance(entry, CallEnded):
+        state, environment = entry.outcome or (None, None)
+        database.execute(
+            "UPDATE calls SET ended = ?, result = ?, state = ?, environment = ?, target = ?, error = ? "
+            "WHERE number = ?",
+            (time.time(), entry.result, state, environment, entry.target, entry.error, entry.number),
+        )
+    elif isinstance(entry, ChangeMade):
+        cause = None if entry.cause is None else entry.cause.value
+        row = (entry.number, time.time(), " ".join(entry.words), cause, entry.source)
+        database.execute("INSERT OR REPLACE INTO changes VALUES (?, ?, ?, ?, ?)", row)
+        database.execute("DELETE FROM changes WHERE number <= ?", (entry.number - HISTORY,))
+    else:
+        for key in entry.dropped:
+            database.execute("DELETE FROM keys WHERE key = ?", (key,))
+        # A key that is kept anew becomes the youngest one.
+        answer = json.dumps(_kept_to_json(entry.kept), separators=(",", ":"))
+        database.execute("INSERT OR REPLACE INTO keys (key, answer) VALUES (?, ?)", (entry.key, answer))
+
+
+def _write_begun(database: sqlite3.Connection, entry: CallBegun) -> None:
+    call = entry.call
+    row = (call.number, entry.request, call.request, call.action, call.service, call.key, entry.source, entry.reason)
+    database.execute(
+        "INSERT OR REPLACE INTO calls (number, request, requested, action, service, key, source, reason, begun) "
+        "VALUES (?, ?, ?, ?, ?, ?, ?, ?, ?)",
+        (*row, time.time()),
+    )
+    database.execute("DELETE FROM calls WHERE number <= ?", (call.number - HISTORY,))
+
+
+# What is kept for keys, as JSON.
+
+
+def _kept_to_json(kept: Kept) -> dict[str, Any]:
+    if isinstance(kept, Call):
+        doubt = {"service": kept.service, "action": kept.action, "request": kept.request}
+        return {"doubt": {**doubt, "number": kept.number, "key": kept.key}}
+    done = {"action": kept.action, "service": kept.service, "state": kept.state, "target": kept.target}
+    failures = [[each.service, each.action, each.text] for each in kept.failures]
+    return {"done": {**done, "environment": kept.environment, "failures": failures}}
+
+
+def _kept_of(value: Any) -> Kept:
+    if "doubt" in value:
+        doubt = value["doubt"]
+        return Call(doubt["service"], doubt["action"], doubt["request"], doubt["number"], doubt["key"])
+    done = value["done"]
+    failures = tuple(Failure(service, action, DeviceFailed(error), None) for service, action, error in done["failures"])
+    return Done(done["action"], done["service"], done["state"], done["target"], done["environment"], failures)
+
+
+def result_of(verdict: Verdict) -> str:
+    """What came of a call, by what was found out."""
+    return {Verdict.DONE: SERVED, Verdict.NOT_DONE: NOT_DONE, Verdict.IN_DOUBT: IN_DOUBT}[verdict]

@@ -1,0 +1,412 @@
+"""The devices of a home: how each service is reached, what devices report, and changes of services."""
+
+from __future__ import annotations
+
+import asyncio
+import contextlib
+import logging
+from collections.abc import Callable
+from dataclasses import dataclass
+from typing import Any
+
+from roman_client import (
+    NOT_DONE,
+    Call,
+    DeviceFailed,
+    DeviceTimeout,
+    Did,
+    Document,
+    Frozen,
+    Refusal,
+    StoreFailed,
+    aio,
+    protocol,
+)
+from roman_client.devices import Outcome, Told
+from roman_client.protocol import Event
+
+from .activity import Activity
+from .background import Background
+from .config import DeviceEntry, HomeFile, HomeFileError
+from .devices import Answer, Reach, Simulated
+from .devices.factory import make_reach
+from .errors import TROUBLE, NoDevice, Nowhere
+from .events import EventLog
+from .mqtt_api import Connection
+from .processes import Processes
+from .recovery import Returning
+from .registry import Knowledge
+
+LOG = logging.getLogger("roman_live")
+
+FIRST_WORD = 10.0
+"""How many seconds the start waits for the states of the devices. A device that takes longer reports it later."""
+
+COMPARED = 3
+"""How often a device is asked for its state after the broker was gone: it may reach the broker later than the home."""
+
+DEADLINE = 10.0
+"""How many seconds a device may take, unless the home file or the device gives another number."""
+
+BY_ITSELF = "the device"
+"""The source, for the history, of a change that a device reported."""
+
+
+class HomeDevice(aio.Device):
+    """A service as the dispatcher sees it."""
+
+    def __init__(self, fleet: Fleet, reach: Reach, entry: DeviceEntry | None) -> None:
+        """A simulated device has no entry, and no deadline."""
+        self.reach = reach
+        self.poll = None if entry is None else entry.poll
+        self.timeout = None if entry is None else entry.seconds or reach.timeout or DEADLINE
+        self.repeatable = reach.repeatable or entry is not None and entry.repeat
+        self.late_is_doubt = reach.late_is_doubt or entry is not None and entry.late_is_doubt
+        self._fleet = fleet
+
+    async def serve(self, call: Call) -> Outcome:
+        answer = await self.reach.ask(self._fleet.number(call), call)
+        return self._fleet.outcome(call, answer)
+
+    async def state(self, call: Call) -> Told:
+        answer = await self.reach.tell(self._fleet.number(call), call)
+        if answer is None:
+            return None
+        if answer.done is False:
+            return NOT_DONE
+        outcome = self._fleet.outcome(call, answer)
+        return Did(outcome) if answer.done else outcome
+
+
+@dataclass(frozen=True)
+class Earlier:
+    """What earlier runs with the store left: the number that calls count from, the last call of each service, and the
+    locks of their commands."""
+
+    first: int
+    last: dict[str, int]
+    processes: Processes
+
+    def number(self, service: str) -> int | None:
+        """The number of the last call of a service."""
+        last = self.last.get(service)
+        return None if last is None else self.first + last
+
+
+class Fleet:
+    """The devices of a home. It is the listener of its devices."""
+
+    def __init__(
+        self,
+        file: HomeFile,
+        document: Document,
+        dispatcher: aio.Dispatcher,
+        known: Knowledge,
+        activity: Activity,
+        events: EventLog,
+        earlier: Earlier,
+        changed: Callable[[], None],
+        *,
+        simulate: bool,
+    ) -> None:
+        """Makes a device for each service of the home file, and gives it to the dispatcher. `changed` is called when
+        what is shown of a service has changed. With `simulate` a person plays all services of the document. Raises
+        HomeFileError."""
+        self.document = document
+        self.known = known
+        self.broker = None if file.mqtt is None or simulate else Connection(file.mqtt, self._broker_changed)
+        self.background = Background()
+        self.devices: dict[str, HomeDevice] = {}
+        self._file = file
+        self._dispatcher = dispatcher
+        self._activity = activity
+        self._events = events
+        self._earlier = earlier
+        self._changed = changed
+        self._simulate = simulate
+        self._ready = False
+        self._turns: dict[str, asyncio.Lock] = {}
+        self.returning = Returning(known, self.held, self.told, self.back, changed, by_hand=simulate)
+        for name in [each.name for each in document.services] if simulate else file.devices:
+            self._add(name)
+        for service in document.services:
+            if service.name not in self.devices:
+                raise HomeFileError(f"{file.path}: devices.{service.name} is missing; the document has this service")
+
+    def _add(self, service: str) -> HomeDevice:
+        """Makes the device of a service. Raises NoDevice if the home file has none."""
+        if self._simulate:
+            device = HomeDevice(self, Simulated(service, self, lambda name: self.known[name].state), None)
+        else:
+            entry = self._file.devices.get(service)
+            if entry is None:
+                raise NoDevice(f"the home file has no table [devices.{service}], so it can't be reached")
+            before = self._earlier.number(service)
+            reach = make_reach(service, entry, self, self.broker, self._earlier.processes, before)
+            device = HomeDevice(self, reach, entry)
+        self.devices[service] = self._dispatcher.devices[service] = device
+        return device
+
+    # Beginning and end.
+
+    async def open(self) -> None:
+        """Connects to the broker, and opens all devices."""
+        if self.broker is not None:
+            await self.broker.open()
+        for device in self.devices.values():
+            await device.reach.open()
+
+    async def begin(self) -> None:
+        """Asks all devices for their states, waits a little for that, and watches them from then on."""
+        self._ready = True
+        if not self._simulate:
+            comparing = [self.background.run(self.compare(name)) for name in self.known.present()]
+            if comparing:
+                await asyncio.wait(comparing, timeout=FIRST_WORD)
+            for name, device in self.devices.items():
+                if device.poll is not None:
+                    self.background.run(self._poll(name, device.poll))
+        self.returning.let_all(at_once=True)
+
+    async def close(self) -> None:
+        """Closes all devices."""
+        await self.background.close()
+        await self.returning.close()
+
+    async def disconnect(self) -> None:
+        """Closes all devices, and the connection to the broker."""
+        for device in self.devices.values():
+            await device.reach.close()
+        if self.broker is not None:
+            await self.broker.close()
+
+    # Calls.
+
+    def number(self, call: Call) -> int:
+        """The number of a call for its device, which no other call has, nor one of another store."""
+        return self._earlier.first + call.number
+
+    @property
+    def newest(self) -> int:
+        """The number of the newest call."""
+        return self._earlier.first + self._dispatcher.core.position.calls
+
+    async def end_earlier(self, call: Call) -> None:
+        """Waits until no command of an earlier run is at work on a call, at most until its deadline."""
+        device = self.devices.get(call.service)
+        seconds = DEADLINE if device is None or device.timeout is None else device.timeout
+        await self._earlier.processes.end(self.number(call), seconds)
+
+    def outcome(self, call: Call, answer: Answer) -> Outcome:
+        """The outcome that an answer means. If it doesn't say the environment, that is as it was; or as it must be, if
+        it can't stay. Raises DeviceFailed if that leaves a choice."""
+        if answer.environment is not None:
+            return answer.state, answer.environment
+        possible = self.document.environment.after(self.known.environment, call.action)
+        if self.known.environment in possible:
+            return answer.state, self.known.environment
+        if len(possible) != 1:
+            raise DeviceFailed(f"didn't say the environment, which may be {' or '.join(possible)}")
+        return answer.state, possible[0]
+
+    # Changes by hand.
+
+    def held(self) -> frozenset[str]:
+        """The services that were frozen by hand, and aren't asked back."""
+        return self._dispatcher.core.position.frozen(Frozen.BY_HAND)
+
+    async def freeze(self, service: str, source: str | None = None) -> None:
+        """Takes a service out of use, until `thaw`."""
+        async with self._turn(service):
+            await self._dispatcher.change(protocol.freeze(service), source)
+
+    async def thaw(self, service: str, source: str | None = None) -> None:
+        """Takes a service into use again: in the state that its device tells, if it does."""
+        answer = None
+        if service in self.known and self.known[service].frozen:
+            with contextlib.suppress(Exception):
+                answer = await self.told(service)
+        async with self._turn(service):
+            await self._thaw(service, answer, source)
+
+    async def _thaw(self, service: str, answer: Answer | None, source: str | None) -> None:
+        """Thaws a service, with what its device says of itself and of the environment. Raises Nowhere."""
+        state = environment = None
+        if answer is not None:
+            state, environment = answer.state, answer.environment
+            self._check_place(service, answer)
+        if environment is not None and environment != self.known.environment:
+            with contextlib.suppress(StoreFailed):  # It is written with what follows, or that says why not.
+                await self.jump_environment(environment, source)
+        await self._dispatcher.thaw(service, state, source)
+
+    def _turn(self, service: str) -> asyncio.Lock:
+        """The lock of a service. An unknown one has none, and is refused by the program."""
+        if service not in self.known:
+            return asyncio.Lock()
+        return self._turns.setdefault(service, asyncio.Lock())
+
+    def _check_place(self, service: str, answer: Answer) -> None:
+        """Raises Nowhere if a device names a state that the document hasn't."""
+        behaviour = self.document.behaviours[self.known[service].behaviour]
+        environment = self.document.environment
+        if answer.state not in behaviour.states:
+            known = f"none of {behaviour.name}'s states: {', '.join(behaviour.states)}"
+            raise Nowhere(f"{service} says it is in {answer.state}, which is {known}")
+        if answer.environment is not None and answer.environment not in environment.states:
+            known = f"none of its states: {', '.join(environment.states)}"
+            raise Nowhere(f"{service} says the environment is in {answer.environment}, which is {known}")
+
+    async def die(self, service: str, source: str | None = None) -> None:
+        """A service is gone for good."""
+        await self._dispatcher.change(protocol.die(service), source)
+
+    async def join(self, service: str, behaviour: str, state: str, loose: bool, source: str | None = None) -> None:
+        """A new service joins. Raises NoDevice if the home file doesn't say how it is reached."""
+        device = self.devices.get(service)
+        if device is None:
+            device = self._add(service)
+            await device.reach.open()
+        await self._dispatcher.join(service, behaviour, state, device, loose=loose, source=source)
+
+    async def jump(self, service: str, state: str, source: str | None = None) -> None:
+        """A service is in that state now."""
+        await self._dispatcher.change(protocol.jump(service, state), source)
+
+    async def jump_environment(self, state: str, source: str | None = None) -> None:
+        """The environment is in that state now."""
+        await self._dispatcher.change(protocol.jumpenv(state), source)
+
+    # What devices report.
+
+    def moved(self, service: str, answer: Answer) -> None:
+        known = self.known.get(service)
+        if known is None or known.dead or not self._ready:
+            return
+        if known.frozen and service not in self.held():
+            self.background.run(self.back(service, answer))
+            return
+        if service == self._activity.chosen:
+            return  # It is asked, and its answer says where it is after this.
+        self._place(service, answer)
+
+    def answered(self, service: str) -> None:
+        if service == self._activity.chosen:
+            self._activity.chosen = None
+
+    def gone(self, service: str) -> None:
+        known = self.known.get(service)
+        if known is None or known.dead or known.frozen or not self._ready:
+            return
+        known.last_error = "is gone"
+        self._events.add("gone", f"{service} is gone", service=service)
+        if service != self._activity.chosen:
+            self._post(protocol.freeze(service))
+
+    def late(self, service: str, text: str) -> None:
+        self._events.add("late", f"{service} {text}", service=service)
+        self.returning.poke(service)
+
+    def environment_moved(self, state: str) -> None:
+        """The environment is in that state by itself."""
+        if state != self.known.environment or self._activity.moving:
+            self._post(protocol.jumpenv(state))
+
+    def _place(self, service: str, answer: Answer) -> None:
+        """A service is there now by itself."""
+        if answer.environment is not None:
+            self.environment_moved(answer.environment)
+        if answer.state != self.known[service].state or self._activity.moving:
+            self._post(protocol.jump(service, answer.state))
+
+    def _post(self, event: Event[Any]) -> None:
+        """Makes a change in its turn. Until it is made no service is chosen."""
+        self._activity.moving += 1
+        future = self._dispatcher.post(event, Frozen.GONE, BY_ITSELF)
+
+        def made(future: asyncio.Future[Any]) -> None:
+            self._activity.moving -= 1
+            error = None if future.cancelled() else future.exception()
+            if error is not None:
+                self._events.add("wrong", str(error))
+
+        future.add_done_callback(made)
+
+    def _broker_changed(self, connected: bool, text: str) -> None:
+        self._events.add("broker", text, level=logging.INFO if connected else logging.WARNING, connected=connected)
+        self._changed()
+        if not connected or not self._ready:
+            return
+        self.returning.poke_all()
+        for name in self.known.present():
+            if self.devices[name].reach.by_broker:
+                self.background.run(self.compare(name, COMPARED))
+
+    # Asking for states.
+
+    async def told(self, service: str) -> Answer | None:
+        """The present state of a device. Raises an exception if it doesn't tell it by its deadline."""
+        device = self.devices[service]
+        try:
+            async with asyncio.timeout(device.timeout):
+                return await device.reach.tell(None)
+        except TimeoutError:
+            raise DeviceTimeout(f"no answer within {device.timeout} seconds") from None
+
+    async def compare(self, service: str, times: int = 1) -> None:
+        """Asks a device for its state, since it may have moved unnoticed."""
+        for _ in range(times):
+            if await self._look(service):
+                return
+        if self.devices[service].reach.by_broker and self.broker is not None and not self.broker.connected:
+            return  # That has been said.
+        text = f"{service} doesn't tell where it is: {self.known[service].last_error}"
+        self._events.add("silent", text, level=logging.WARNING, service=service)
+
+    async def _look(self, service: str) -> bool:
+        """Asks a device once for its state. What it says counts for nothing if it is given a call meanwhile, whose
+        answer is newer. False if it doesn't tell."""
+        known = self.known[service]
+        calls = known.calls
+        if known.frozen or known.dead or service == self._activity.chosen:
+            return True
+        try:
+            answer = await self.told(service)
+        except Exception as error:
+            known.last_error = str(error) or type(error).__name__
+            return known.calls != calls
+        if answer is not None and known.calls == calls and service != self._activity.chosen:
+            known.last_error = None
+            self._place(service, answer)
+        return True
+
+    async def _poll(self, service: str, seconds: float) -> None:
+        """Asks a device for its state again and again, so that moves by hand are noticed."""
+        told = True
+        while True:
+            await asyncio.sleep(seconds)
+            if service in self.known:
+                before, told = told, await self._look(service)
+                if before and not told:
+                    text = f"{service} doesn't tell where it is: {self.known[service].last_error}"
+                    self._events.add("silent", text, level=logging.WARNING, service=service)
+
+    async def back(self, service: str, answer: Answer) -> bool:
+        """A service that was frozen is back: it is thawed, unless that was done meanwhile, or it was frozen by hand.
+        False if that can't be."""
+        try:
+            async with self._turn(service):
+                if not self.known[service].frozen or service in self.held():
+                    return True
+                await self._thaw(service, answer, BY_ITSELF)
+        except Nowhere as error:
+            self.known[service].last_error = str(error)
+            return False
+        except (Refusal, TypeError, ValueError) as error:
+            self.known[service].last_error = f"says it is in {answer.state}: {error}"
+            return False
+        except TROUBLE as error:
+            LOG.warning("%s can't be thawed: %s", service, error)
+            return False
+        self._events.add("back", f"{service} is back in {answer.state}", service=service, state=answer.state)
+        return True

@@ -1,0 +1,75 @@
+"""A small home that is ended at every point, again and again, and goes on: nothing is done twice, lost or believed
+wrongly."""
+
+from __future__ import annotations
+
+import os
+
+import pytest
+
+from .small_home import Faults, Manner, Run, Universe, beginning
+
+REQUESTS = ("request one", "freeze t1", "request two", "thaw t1", "request three")
+
+HELD = ("request one", "freeze t1", "freeze t2", "thaw t2", "request two", "request three")
+
+HOMES = {
+    "two that tell": (Manner(), Manner()),
+    "two that tell their state": (Manner("plain"), Manner("plain")),
+    "a mute one": (Manner("mute"), Manner()),
+    "one that is repeatable": (Manner("mute", repeatable=True), Manner()),
+    "one that fails": (Manner(fails=1), Manner()),
+    "two that fail": (Manner(fails=1), Manner(fails=1)),
+    "one that is late": (Manner(late=1, late_is_doubt=True), Manner()),
+    "one that acts late": (Manner(late=1, acts_late=True, late_is_doubt=True), Manner()),
+    "a mute one that is late": (Manner("mute", late=1, acts_late=True, late_is_doubt=True), Manner()),
+}
+
+ENDS = int(os.environ.get("ROMAN_ENDS", "3"))
+"""How often a home is ended. Each more makes some fifty times as many runs, of which most leave nothing new."""
+
+
+def explore(manners: dict[str, Manner], script: tuple[str, ...], ends: int) -> int:
+    """Lets a home go on from all universes that so many ends leave. Gives how many runs there were."""
+    universes = [beginning(manners)]
+    seen = {universes[0].identity()}
+    runs = 0
+    for number in range(ends + 1):
+        left: list[Universe] = []
+        for universe in universes:
+            run = Run(universe, manners, script)
+            run.go()
+            run.check()
+            runs += 1
+            if number == ends:
+                continue
+            for each in run.left:
+                if (identity := each.identity()) not in seen:
+                    seen.add(identity)
+                    left.append(each)
+        universes = left
+    return runs
+
+
+@pytest.mark.parametrize("script", [REQUESTS, HELD], ids=["requests", "held"])
+@pytest.mark.parametrize("home", HOMES)
+def test_a_home_that_is_ended(home: str, script: tuple[str, ...]) -> None:
+    manners = dict(zip(("t1", "t2"), HOMES[home]))
+    assert explore(manners, script, ENDS) > 50
+
+
+@pytest.mark.parametrize("kind", ["ended before", "ended after", "full"])
+@pytest.mark.parametrize("home", HOMES)
+def test_a_home_whose_program_ends_or_whose_disk_is_full(home: str, kind: str) -> None:
+    """At each effect, and then the home is ended at each effect after that."""
+    manners = dict(zip(("t1", "t2"), HOMES[home]))
+    plain = Run(beginning(manners), manners, REQUESTS)
+    plain.go()
+    for at in range(2, plain.effects + 1):
+        run = Run(beginning(manners), manners, REQUESTS, Faults(at, kind))
+        run.go()
+        run.check()
+        for universe in {each.identity(): each for each in run.left}.values():
+            after = Run(universe, manners, REQUESTS)
+            after.go()
+            after.check()
