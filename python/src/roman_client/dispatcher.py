@@ -12,7 +12,7 @@ from typing import Any, Callable, FrozenSet, Mapping, Optional, Tuple, Type, Uni
 
 from . import protocol
 from .core import Dispatching, Posted
-from .devices import Act, Back, Call, Device, DeviceTimeout, FunctionDevice
+from .devices import Act, Back, Call, Device, DeviceFailed, DeviceTimeout, FunctionDevice
 from .documents import PathLike
 from .effects import AskBack, AskState, Begin, Choose, Commit, Notify, Restore, Serve
 from .errors import InsideRequest, SessionOver
@@ -66,6 +66,7 @@ class Dispatcher:
         self._watch = watch
         self._turn = threading.Lock()
         self._inside = threading.local()
+        self._late: dict[tuple[type[Effect], str], threading.Thread] = {}
         self._store = None if store is None else Store(store)
         self.core: Dispatching[Device] = Dispatching(
             {name: as_device(each) for name, each in devices.items()},
@@ -261,15 +262,15 @@ class Dispatcher:
 
     def _serve(self, effect: Serve) -> Any:
         device = self.core.devices[effect.call.service]
-        return self._by(device, lambda: device.serve(effect.call))
+        return self._by(effect, effect.call.service, lambda: device.serve(effect.call))
 
     def _state(self, effect: AskState) -> Any:
         device = self.core.devices[effect.call.service]
-        return self._by(device, lambda: device.state(effect.call))
+        return self._by(effect, effect.call.service, lambda: device.state(effect.call))
 
     def _ask_back(self, effect: AskBack) -> Any:
         assert self._back is not None
-        return self._by(self.core.devices[effect.service], functools.partial(self._back, effect.service))
+        return self._by(effect, effect.service, functools.partial(self._back, effect.service))
 
     def _choose(self, effect: Choose) -> str | Chosen:
         return self._within(lambda: self.policy(effect.choice))
@@ -308,10 +309,15 @@ class Dispatcher:
         Notify: _notify,
     }
 
-    def _by(self, device: Device, call: Callable[[], Value]) -> Value:
-        """Calls a device, and waits until its deadline."""
-        if device.timeout is None:
+    def _by(self, effect: Effect, service: str, call: Callable[[], Value]) -> Value:
+        """Calls a device for an effect, and waits until its deadline. One that was late isn't called for the same
+        before it has come to its end, so that no threads pile up."""
+        timeout = self.core.devices[service].timeout
+        if timeout is None:
             return self._within(call)
+        late = self._late.get((type(effect), service))
+        if late is not None and late.is_alive():
+            raise DeviceFailed("is still at work on an earlier call")
         answers: queue.SimpleQueue[Tuple[Any, Optional[BaseException]]] = queue.SimpleQueue()
 
         def answer() -> None:
@@ -320,11 +326,13 @@ class Dispatcher:
             except BaseException as error:
                 answers.put((None, error))
 
-        threading.Thread(target=answer, name="device", daemon=True).start()
+        thread = threading.Thread(target=answer, name="device", daemon=True)
+        thread.start()
         try:
-            value, error = answers.get(timeout=device.timeout)
+            value, error = answers.get(timeout=timeout)
         except queue.Empty:
-            raise DeviceTimeout(f"no answer within {device.timeout} seconds") from None
+            self._late[type(effect), service] = thread
+            raise DeviceTimeout(f"no answer within {timeout} seconds") from None
         if error is not None:
             raise error
         result: Value = value

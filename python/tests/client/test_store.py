@@ -6,6 +6,7 @@ import contextlib
 import resource
 import shutil
 import sqlite3
+import threading
 from collections.abc import Callable, Iterator
 from pathlib import Path
 from typing import Any
@@ -772,7 +773,7 @@ def test_a_full_disk_is_no_reason_to_tell_nothing(stores: Stores) -> None:
         with full(stores, 0), pytest.raises(roman.StoreFailed):
             dispatcher.thaw("kettle")
         assert notices.pop() == roman.Changed(("thaw", "kettle"))
-        with full(stores, 1), pytest.raises(roman.StoreFailed) as caught:
+        with full(stores, 2), pytest.raises(roman.StoreFailed) as caught:
             dispatcher.request("brighten")
         assert notices.pop() == caught.value.done
         with full(stores, 1), pytest.raises(roman.StoreFailed) as caught:
@@ -897,3 +898,20 @@ def test_a_journal_that_is_broken_before_its_end(stores: Stores) -> None:
         with pytest.raises(roman.StoreBroken), stores.dispatcher():
             pass
         assert stores.path.read_bytes() == text
+
+
+def test_a_device_that_hangs_has_one_thread(stores: Stores) -> None:
+    """Though it is taken back before each request, and hangs again."""
+    hangs = threading.Event()
+    stores.devices["window"].timeout = 0.02
+    stores.devices["window"].before = lambda call: hangs.wait()
+    before = threading.active_count()
+    with stores.dispatcher(back=lambda service: True) as dispatcher:
+        for _ in range(5):
+            for action in ("brighten", "boil", "pour"):
+                dispatcher.request(action)
+            dispatcher.jumpenv("day")
+            dispatcher.request("dim")
+        assert threading.active_count() == before + 1
+        assert len(stores.devices["window"].calls) == 1
+        hangs.set()

@@ -1,7 +1,8 @@
 """A kettle that is reached over HTTP: kettle.py PORT. It fails now and then, with status 500.
 
 POST {"id": .., "action": ..} has it act; GET tells its state, and with ?id= whether that call was done. While it
-acts it tells nothing: what it is at work on isn't done, and soon is.
+acts it tells nothing: what it is at work on isn't done, and soon is. A call of which it has told that it wasn't done
+may still be on its way: it is refused from then on.
 """
 
 import json
@@ -28,12 +29,16 @@ class Kettle(BaseHTTPRequestHandler):
 
     state = "empty"
     last: Optional[int] = None
+    refused: set[int] = set()
     at_work = threading.Lock()
 
     def do_GET(self) -> None:
         about = parse_qs(urlsplit(self.path).query).get("id")
         with Kettle.at_work:
-            self.answer(200, state=Kettle.state, done=about == [str(Kettle.last)])
+            done = about == [str(Kettle.last)]
+            if about is not None and not done:
+                Kettle.refused.add(int(about[0]))
+            self.answer(200, state=Kettle.state, done=done)
 
     def do_POST(self) -> None:
         asked = json.loads(self.rfile.read(int(self.headers["Content-Length"])))
@@ -41,6 +46,9 @@ class Kettle(BaseHTTPRequestHandler):
             self.act(asked)
 
     def act(self, asked: Any) -> None:
+        if asked["id"] in Kettle.refused:
+            self.answer(200, id=asked["id"], error="that call was given up")
+            return
         time.sleep(SECONDS)
         if random.random() < FAILURES:
             self.answer(500, error="the fuse is out")

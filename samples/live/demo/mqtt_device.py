@@ -10,7 +10,7 @@ import random
 import sys
 import time
 from pathlib import Path
-from typing import Any, Dict, Optional, Sequence, Tuple
+from typing import Any, Dict, List, Optional, Sequence, Tuple
 
 import paho.mqtt.client as mqtt  # type: ignore[import]
 
@@ -36,7 +36,7 @@ class Device:
     def __init__(self, port: int, name: str, steps: Steps) -> None:
         self.steps = steps
         self.file = Path(f"{name}.state")
-        self.state, self.last = self.remembered()
+        self.state, self.last, self.refused = self.remembered()
         self.asks, self.answers = f"demo/{name}/ask", f"demo/{name}/answer"
         paho2 = getattr(mqtt, "CallbackAPIVersion", None)
         self.client = mqtt.Client(paho2.VERSION2) if paho2 else mqtt.Client()
@@ -45,12 +45,15 @@ class Device:
         self.client.on_message = self.asked
         self.client.connect(os.environ.get("DEMO_BROKER", "127.0.0.1"), port)
 
-    def remembered(self) -> Tuple[str, Optional[int]]:
-        """Where it stood when it ended, and the last call that it carried out."""
+    def remembered(self) -> Tuple[str, Optional[int], List[int]]:
+        """Its state when it ended, the last call that it carried out, and those that it refuses."""
         if not self.file.exists():
-            return next(iter(self.steps))[0], None
-        state, last = json.loads(self.file.read_text(encoding="utf-8"))
-        return state, last
+            return next(iter(self.steps))[0], None, []
+        state, last, refused = json.loads(self.file.read_text(encoding="utf-8"))
+        return state, last, refused
+
+    def remember(self) -> None:
+        self.file.write_text(json.dumps([self.state, self.last, self.refused]), encoding="utf-8")
 
     def say(self, **answer: Any) -> None:
         self.client.publish(self.answers, json.dumps(answer), qos=1)
@@ -64,7 +67,10 @@ class Device:
         asked = json.loads(message.payload)
         number, action = asked["id"], asked["action"]
         if action is None:
-            self.say(id=number, state=self.state, done=asked.get("about") == self.last)
+            self.tell(number, asked.get("about"))
+            return
+        if number in self.refused:
+            self.say(id=number, error="that call was given up")
             return
         time.sleep(SECONDS)
         if random.random() < FAILURES:
@@ -73,8 +79,16 @@ class Device:
             self.say(id=number, error=f"can't {action}, being {self.state}")
         else:
             self.state, self.last = random.choice(self.steps[self.state, action]), number
-            self.file.write_text(json.dumps([self.state, self.last]), encoding="utf-8")
+            self.remember()
             self.say(id=number, state=self.state)
+
+    def tell(self, number: int, about: Optional[int]) -> None:
+        """Tells its state, and whether it did a call. One that it didn't do may still be on its way: it is refused from
+        then on."""
+        if about is not None and about != self.last and about not in self.refused:
+            self.refused.append(about)
+            self.remember()
+        self.say(id=number, state=self.state, done=about == self.last)
 
     def fail(self, number: int) -> None:
         """Fails in one of three ways."""

@@ -1,0 +1,91 @@
+"""Homes in this process, with devices that are played."""
+
+from __future__ import annotations
+
+import asyncio
+import contextlib
+from collections.abc import AsyncIterator, Callable
+from pathlib import Path
+from typing import Any
+from unittest import mock
+
+from roman_client import Call
+from roman_live import fleet
+from roman_live.config import HomeFile
+from roman_live.devices import Answer, Listener, Reach
+from roman_live.home import Home
+
+from . import PROGRAM, sample
+from .machinery import PATIENCE
+
+START = {"window": "shut", "ceiling": "off", "kettle": "empty"}
+AFTER = {
+    ("window", "brighten"): "open",
+    ("window", "dim"): "shut",
+    ("ceiling", "brighten"): "on",
+    ("ceiling", "dim"): "off",
+    ("kettle", "boil"): "hot",
+    ("kettle", "pour"): "empty",
+}
+
+
+class Played(Reach):
+    """A device of the sample home. It acts once `gate` is set, or raises `error`; `told` is what it tells of a call."""
+
+    reached = "played"
+
+    def __init__(self, service: str, listener: Listener) -> None:
+        super().__init__(service, listener)
+        self.state = START.get(service, "off")
+        self.gate = asyncio.Event()
+        self.gate.set()
+        self.asked = asyncio.Event()
+        self.calls: list[Call] = []
+        self.error: Exception | None = None
+        self.told: Callable[[], Answer | None] = lambda: Answer(self.state)
+
+    async def ask(self, number: int, call: Call) -> Answer:
+        self.calls.append(call)
+        self.asked.set()
+        await self.gate.wait()
+        if self.error is not None:
+            raise self.error
+        self.state = AFTER[self.service, call.action]
+        return Answer(self.state, "day")
+
+    async def tell(self, number: int | None, call: Call | None = None) -> Answer | None:
+        return Answer(self.state) if call is None else self.told()
+
+
+class Playhouse:
+    """A folder with a home file, whose home is started once or again. Its devices outlast it."""
+
+    def __init__(self, folder: Path, more: str = "", device: str = "") -> None:
+        self.devices: dict[str, Played] = {}
+        self.file = folder / "home.toml"
+        head = f'document = "{sample("home.json")}"\nprogram = "{PROGRAM}"\n{more}\n[journal]\npath = "home.db"\n'
+        tables = (f'[devices.{name}]\nreach = "http"\nurl = "http://x"\n{device}\n' for name in START)
+        self.file.write_text(head + "".join(tables), encoding="utf-8")
+
+    def make(self, service: str, entry: Any, listener: Listener, *words: Any) -> Reach:
+        """Makes a device, or gives the one that is there another listener."""
+        device = self.devices.setdefault(service, Played(service, listener))
+        device.listener = listener
+        return device
+
+    @contextlib.asynccontextmanager
+    async def home(self) -> AsyncIterator[Home]:
+        """A home that runs."""
+        with mock.patch.object(fleet, "make_reach", self.make):
+            home = await Home.start(HomeFile.read(self.file))
+        try:
+            yield home
+        finally:
+            await home.close()
+
+
+async def until(holds: Callable[[], Any]) -> None:
+    """Waits until something holds."""
+    async with asyncio.timeout(PATIENCE):
+        while not holds():
+            await asyncio.sleep(0.01)
