@@ -1,19 +1,23 @@
 """roman-live and the program that are killed at random moments of many requests.
 
-ROMAN_LIVE_KILLS says how often, a few times where it isn't set; there are twenty requests a kill, however fast
-the machine is.
+ROMAN_LIVE_KILLS says how often: a hundred times if it isn't set, a thousand times in the nightly form. Whatever is
+killed, and when: each request is served once, in its turn, and none is lost.
 """
+
+from __future__ import annotations
 
 import http.client
 import os
 import random
 import signal
-import tempfile
+import sys
 import threading
 import time
-import unittest
+from collections.abc import Iterator
 from contextlib import suppress
 from pathlib import Path
+
+import pytest
 
 from roman_client import Document
 
@@ -22,33 +26,22 @@ from .machinery import PATIENCE, Live, Mosquitto, until
 from .test_devices import CYCLE
 from .world import HttpDevices, MqttDevices, World
 
-KILLS = int(os.environ.get("ROMAN_LIVE_KILLS", "6"))
-A_KILL = 20
-REQUESTS = A_KILL * KILLS
+KILLS = int(os.environ.get("ROMAN_LIVE_KILLS", "100"))
+MOST_REQUESTS = 6
+"""The most requests between two kills."""
 
+SLOW = """#!/bin/bash
+# A kettle that takes up to seconds for an action.
+[ "$1" = "?" ] || sleep "$(shuf -n 1 -e 0 0 0.1 0.5 2)"
+exec "{python}" "{world}" "{url}/kettle" "$1"
+"""
 
-class Kills(unittest.TestCase):
-    """Whatever is killed, and when: each request is served once, in its turn, and none is lost."""
-
-    def setUp(self) -> None:
-        folder = tempfile.TemporaryDirectory()
-        self.addCleanup(folder.cleanup)
-        self.folder = Path(folder.name)
-        self.world = World(Document.load(sample("home.json")), seed=5)
-        self.world.failing = 0.02
-        broker = Mosquitto(self.folder)
-        self.addCleanup(broker.stop)
-        served = HttpDevices(self.world)
-        self.addCleanup(served.close)
-        MqttDevices(self.world, broker.port, ["window"])
-        self.live = Live(
-            self.folder,
-            f"""
-document = "{sample("home.json")}"
+HOME = """
+document = "{document}"
 [mqtt]
-port = {broker.port}
+port = {broker}
 [journal]
-path = "journal"
+path = "home.db"
 [devices.window]
 reach = "mqtt"
 ask = "window/ask"
@@ -56,29 +49,33 @@ answer = "window/answer"
 seconds = 60
 [devices.ceiling]
 reach = "http"
-url = "{served.url}/ceiling"
+url = "{url}/ceiling"
 seconds = 60
 [devices.kettle]
-reach = "http"
-url = "{served.url}/kettle"
+reach = "command"
+command = ["./slow"]
 seconds = 60
-""",
-        )
-        self.ending = threading.Event()
-        self.addCleanup(self.ending.set)
-        self.strange: list[str] = []
+"""
+
+
+class Person:
+    """One who makes one request after the other, each again until it is known to be served, as many as `limit`."""
+
+    def __init__(self, live: Live) -> None:
+        self.live = live
         self.asked = 0
         self.limit = 0
+        self.ending = threading.Event()
+        self.strange = ""
+        self.thread = threading.Thread(target=self.ask_all, daemon=True)
+        self.thread.start()
 
     def ask_all(self) -> None:
-        """Makes one request after the other, each again until it is known to be served, as many as may be made
-        by now."""
-        while self.asked < REQUESTS and not self.ending.is_set():
+        while not self.ending.is_set() and not self.strange:
             if self.asked == self.limit:
                 time.sleep(0.001)
                 continue
-            action = CYCLE[self.asked % 4]
-            body = {"action": action, "key": str(self.asked)}
+            body = {"action": CYCLE[self.asked % 4], "key": str(self.asked)}
             try:
                 status, value = self.live.post("/requests", body)
             except (OSError, http.client.HTTPException):
@@ -89,47 +86,104 @@ seconds = 60
             elif value["error"] == "no composition":
                 time.sleep(0.1)  # A device failed, and is asked again soon.
             elif status != 503:
-                self.strange.append(f"{self.asked}: {status} {value}")
-                return
+                self.strange = f"{self.asked}: {status} {value}"
 
-    def check(self) -> None:
-        self.assertEqual(self.strange, [])
-        self.assertEqual(self.world.wrong, [])
-        played = [action for _, action in self.world.played]
-        self.assertEqual(played, [CYCLE[each % 4] for each in range(REQUESTS)])
-        state = self.live.state()
-        self.assertEqual(state["counts"]["served"], REQUESTS)
-        shown = {each["name"]: each["state"] for each in state["services"]}
-        self.assertEqual(shown, self.world.states)
-
-    def test_both(self) -> None:
-        chance = random.Random(17)
-        self.live.start()
-        asking = threading.Thread(target=self.ask_all, daemon=True)
-        asking.start()
-        kills = {"roman-live": 0, "the program": 0}
-        for number in range(KILLS):
-            goal = self.limit + chance.randrange(A_KILL)
-            self.limit += A_KILL
-            until(lambda: self.asked >= goal or not asking.is_alive(), "the requests")
-            time.sleep(chance.random() * chance.choice((0.002, 0.01, 0.1)))
-            if number % 2:
-                programs = until(self.live.programs, "the program")
-                kills["the program"] += len(programs)
-                for each in programs:
-                    with suppress(ProcessLookupError):
-                        os.kill(each, signal.SIGKILL)
-            else:
-                kills["roman-live"] += 1
-                self.live.kill()
-                self.live.start(wait=chance.random() < 0.7)
-        asking.join(PATIENCE + 5 * A_KILL)
-        self.assertFalse(asking.is_alive(), "the requests didn't come to their end")
-        self.check()
-        self.assertEqual(kills["roman-live"], KILLS - KILLS // 2)
-        self.assertGreaterEqual(kills["the program"], KILLS // 2)
-        self.assertEqual(self.live.stop(), 0)
+    def reach(self, count: int) -> None:
+        """Waits until so many requests are served."""
+        until(lambda: self.asked >= count or self.strange, f"request {count}")
 
 
-if __name__ == "__main__":
-    unittest.main()
+class Killer:
+    """Kills the home, its program or both, once or twice in a row."""
+
+    def __init__(self, live: Live, chance: random.Random) -> None:
+        self.live = live
+        self.chance = chance
+        self.kills = 0
+
+    def kill(self) -> None:
+        """Kills something at a random moment."""
+        time.sleep(self.chance.random() * self.chance.choice((0.002, 0.01, 0.1, 0.5)))
+        {0: self.home, 1: self.program, 2: self.both, 3: self.twice, 4: self.end}[self.kills % 5]()
+
+    def home(self) -> None:
+        self.kills += 1
+        self.live.kill()
+        self.live.start(wait=self.chance.random() < 0.7)
+
+    def program(self) -> None:
+        self.kills += 1
+        for each in until(self.live.programs, "the program"):
+            with suppress(ProcessLookupError):
+                os.kill(each, signal.SIGKILL)
+
+    def both(self) -> None:
+        for each in self.live.programs():
+            with suppress(ProcessLookupError):
+                os.kill(each, signal.SIGKILL)
+        self.home()
+
+    def twice(self) -> None:
+        """The next home is killed, too, while it begins."""
+        self.kills += 1
+        self.live.kill()
+        self.live.start(wait=False)
+        time.sleep(self.chance.random() * 2)
+        self.home()
+
+    def end(self) -> None:
+        """It is killed, and the next one is ended as systemd does while it begins."""
+        self.kills += 1
+        self.live.kill()
+        self.live.start(wait=False)
+        time.sleep(self.chance.random() * 2)
+        self.live.process.terminate()
+        self.live.process.wait(PATIENCE)
+        self.live.start(wait=self.chance.random() < 0.7)
+
+
+@pytest.fixture
+def world() -> World:
+    world = World(Document.load(sample("home.json")), seed=5)
+    world.failing = 0.02
+    return world
+
+
+@pytest.fixture
+def live(tmp_path: Path, world: World) -> Iterator[Live]:
+    """A home with a window over MQTT, a ceiling over HTTP, and a kettle that is a slow command."""
+    broker = Mosquitto(tmp_path)
+    served = HttpDevices(world)
+    window = MqttDevices(world, broker.port, ["window"])
+    slow = tmp_path / "slow"
+    slow.write_text(SLOW.format(python=sys.executable, world=Path(__file__).parent / "world.py", url=served.url), encoding="utf-8")
+    slow.chmod(0o755)
+    home = HOME.format(document=sample("home.json"), broker=broker.port, url=served.url)
+    yield Live(tmp_path, home)
+    window.close()
+    served.close()
+    broker.stop()
+
+
+@pytest.mark.timeout(60 + 30 * KILLS)
+def test_whatever_is_killed_each_request_is_served_once(live: Live, world: World) -> None:
+    chance = random.Random(17)
+    live.start()
+    person, killer = Person(live), Killer(live, chance)
+    try:
+        while killer.kills < KILLS and not person.strange:
+            count = chance.randrange(1, MOST_REQUESTS)
+            person.limit += count
+            person.reach(person.limit - chance.randrange(count + 1))
+            killer.kill()
+        person.reach(person.limit)
+        until(live.answers, "its page")
+    finally:
+        person.ending.set()
+    assert (person.strange, world.wrong) == ("", [])
+    assert [action for _, action in world.played] == [CYCLE[each % 4] for each in range(person.limit)]
+    until(lambda: not live.state()["counts"]["frozen"], "the frozen ones")
+    state = live.state()
+    assert state["counts"]["served"] == person.limit
+    assert {each["name"]: each["state"] for each in state["services"]} == world.states
+    assert live.stop() == 0

@@ -38,6 +38,7 @@ class World:
         self.states = {each.name: each.state for each in document.services}
         self.environment = document.environment.start
         self.done: Dict[int, Told] = {}
+        self.refused: Set[int] = set()
         self.played: List[Tuple[str, str]] = []
         self.asked: List[Tuple[str, str]] = []
         self.wrong: List[str] = []
@@ -76,6 +77,8 @@ class World:
             if number is not None and number in self.done:
                 self.wrong.append(f"call {number} came twice")
                 return self.done[number]
+            if number in self.refused:
+                return {"id": number, "error": "that call was given up"}
             outcomes = list(
                 self.document.outcomes(self.behaviours[service], self.states[service], self.environment, action)
             )
@@ -101,6 +104,8 @@ class World:
             told: Told = {"state": self.states[service], "environment": self.environment}
             if number is not None:
                 told["done"] = number in self.done
+                if number not in self.done:
+                    self.refused.add(number)
             return told
 
 
