@@ -2,13 +2,15 @@
 
 from __future__ import annotations
 
+import difflib
 import ipaddress
 import os
 import ssl
 from dataclasses import dataclass, field
 from enum import Enum
+from functools import partial
 from pathlib import Path
-from typing import Any, Callable, Dict, Iterable, Mapping, Optional, Sequence, Tuple, TypeVar, Union
+from typing import Any, Callable, Dict, Iterable, List, Mapping, Optional, Sequence, Tuple, TypeVar, Union
 from urllib.parse import urlsplit
 
 import tomllib
@@ -27,6 +29,10 @@ class HomeFileError(Exception):
 
 LATE = ("failure", "doubt")
 """What a device that is late has done: nothing that counts, or perhaps its call."""
+
+
+class Unusable(HomeFileError):
+    """A value that is needed is wrong, which is collected already."""
 
 
 class PolicyName(Enum):
@@ -164,7 +170,7 @@ class HomeFile:
 
     @classmethod
     def read(cls, path: Union[str, "os.PathLike[str]"]) -> HomeFile:
-        """Reads a home file. Raises HomeFileError."""
+        """Reads a home file. Raises HomeFileError with all that is wrong, a line for each."""
         place = Path(os.path.abspath(path))
         try:
             content = place.read_text(encoding="utf-8")
@@ -173,19 +179,24 @@ class HomeFile:
             raise HomeFileError(f"{path}: {error.strerror}") from None
         except (tomllib.TOMLDecodeError, UnicodeDecodeError) as error:
             raise HomeFileError(f"{path}: {error}") from None
-        try:
-            return _home_file(place, Table("", value))
-        except HomeFileError as error:
-            raise HomeFileError(f"{path}: {located(content, str(error))}") from None
+        table = Table("", value, [])
+        home = table.attempt(lambda: _home_file(place, table), None)
+        if home is None or table.errors:
+            raise HomeFileError("\n".join(f"{path}: {located(content, each)}" for each in table.errors))
+        return home
 
 
 class Table:
-    """A table of the file. What is read of it is taken out, so that what is left is unknown."""
+    """A table of the file. What is read of it is taken out, so that what is left is unknown. Wrong values are
+    collected in `errors`, which all tables of a file share."""
 
-    def __init__(self, name: str, value: Any) -> None:
+    def __init__(self, name: str, value: Any, errors: List[str]) -> None:
         if not isinstance(value, dict):
             raise HomeFileError(f"{name} isn't a table")
         self.name = name
+        self.errors = errors
+        self.is_wrong = False
+        """Whether one of its values is wrong."""
         self._rest: Dict[str, Any] = dict(value)
         self._known: Dict[str, None] = {}
 
@@ -197,9 +208,19 @@ class Table:
         """The error that says what is wrong with a key."""
         return HomeFileError(f"{self.key(key)} {what}")
 
+    def attempt(self, read: Callable[[], Value], otherwise: Value) -> Value:
+        """What a function reads. If it raises HomeFileError, that is collected, and another value is taken."""
+        try:
+            return read()
+        except Unusable:
+            return otherwise
+        except HomeFileError as error:
+            self.errors.append(str(error))
+            return otherwise
+
     def take(self, key: str, read: Callable[[Any], Value], otherwise: Value) -> Value:
-        """The value of a key, or another one where it isn't there. `read` raises ValueError with what is
-        allowed."""
+        """The value of a key, or another one where it isn't there, or is wrong. `read` raises ValueError with what
+        is allowed."""
         self._known[key] = None
         if key not in self._rest:
             return otherwise
@@ -207,13 +228,20 @@ class Table:
         try:
             return read(value)
         except ValueError as error:
-            raise self.wrong(key, f"is {value!r}, and not {error}") from None
+            self.is_wrong = True
+            self.errors.append(str(self.wrong(key, f"is {value!r}, and not {error}")))
+            return otherwise
 
     def need(self, key: str, read: Callable[[Any], Value], example: str) -> Value:
         """The value of a key that has to be there."""
+        is_there = key in self._rest
         value = self.take(key, read, None)
+        if value is None and is_there:
+            raise Unusable()
         if value is None:
-            raise self.wrong(key, f"is missing, as in {example}")
+            near = difflib.get_close_matches(key, self._rest, 1)
+            meant = f"; is {self.key(near[0])} meant for it?" if near else ""
+            raise self.wrong(key, f"is missing, as in {example}{meant}")
         return value
 
     def table(self, key: str) -> Optional[Table]:
@@ -221,7 +249,7 @@ class Table:
         self._known[key] = None
         if key not in self._rest:
             return None
-        return Table(self.key(key), self._rest.pop(key))
+        return Table(self.key(key), self._rest.pop(key), self.errors)
 
     def items(self) -> Iterable[Tuple[str, Any]]:
         """All that is left."""
@@ -229,9 +257,11 @@ class Table:
         return rest.items()
 
     def end(self) -> None:
-        """Raises HomeFileError where something is left."""
+        """Collects an error for each key that is left, with the key that is probably meant."""
         for key in self._rest:
-            raise self.wrong(key, f"isn't known; known are {', '.join(self._known)}")
+            near = difflib.get_close_matches(key, self._known, 1)
+            meant = f"; did you mean {near[0]}?" if near else ""
+            self.errors.append(str(self.wrong(key, f"isn't known{meant}; known are {', '.join(self._known)}")))
 
 
 def text(value: Any) -> str:
@@ -322,20 +352,22 @@ def is_loopback(host: str) -> bool:
 
 
 def _home_file(path: Path, table: Table) -> HomeFile:
+    """The home as the file describes it, with usual values for what is wrong."""
     folder = path.parent
+    usual: Optional[Broker] = Broker()
     home = HomeFile(
         path,
-        folder / table.need("document", text, 'document = "home.json"'),
+        table.attempt(lambda: folder / table.need("document", text, 'document = "home.json"'), folder),
         table.take("program", text, os.environ.get("ROMAN", "roman")),
-        _policy(table.table("policy"), folder),
-        _journal(table.table("journal"), folder),
-        _page(table.table("page"), folder),
-        _broker(table.table("mqtt"), folder),
-        _devices(table.table("devices"), folder),
+        table.attempt(lambda: _policy(table.table("policy"), folder), Policy()),
+        table.attempt(lambda: _journal(table.table("journal"), folder), None),
+        table.attempt(lambda: _page(table.table("page"), folder), Page()),
+        table.attempt(lambda: _broker(table.table("mqtt"), folder), usual),
+        table.attempt(lambda: _devices(table.table("devices"), folder), {}),
         table.take("program_seconds", seconds, 120.0),
     )
     table.end()
-    _check_topics(home)
+    table.attempt(lambda: _check_topics(home), None)
     return home
 
 
@@ -363,6 +395,8 @@ def _policy(table: Optional[Table], folder: Path) -> Policy:
     costs = table.take("costs", text, None)
     requests = table.take("requests", whole(1, LONGEST_HORIZON), None)
     table.end()
+    if table.is_wrong:
+        raise Unusable()
     if choose in (PolicyName.LEAST_COST, PolicyName.LEAST_WORST):
         if costs is None:
             raise table.wrong("costs", f"is missing, which {choose.value!r} needs: a file of costs")
@@ -406,7 +440,7 @@ def _broker(table: Optional[Table], folder: Path) -> Optional[Broker]:
         tls,
     )
     table.end()
-    if broker.password is not None and broker.username is None:
+    if broker.password is not None and broker.username is None and not table.is_wrong:
         raise table.wrong("username", "is missing, whose password password_file has")
     return broker
 
@@ -445,10 +479,16 @@ def _secret(table: Table, key: str, folder: Path) -> Optional[str]:
 def _devices(table: Optional[Table], folder: Path) -> Dict[str, DeviceEntry]:
     if table is None:
         return {}
-    return {name: _device(Table(table.key(name), value), folder) for name, value in table.items()}
+    found: Dict[str, DeviceEntry] = {}
+    for name, value in table.items():
+        entry = table.attempt(partial(_device, table, name, value, folder), None)
+        if entry is not None:
+            found[name] = entry
+    return found
 
 
-def _device(table: Table, folder: Path) -> DeviceEntry:
+def _device(devices: Table, name: str, value: Any, folder: Path) -> DeviceEntry:
+    table = Table(devices.key(name), value, devices.errors)
     kinds = ("mqtt", "http", "command", "python")
     kind = table.need("reach", one_of(kinds), "reach = " + " or ".join(f'"{each}"' for each in kinds))
     limit = table.take("seconds", seconds, None)
