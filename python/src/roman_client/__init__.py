@@ -22,7 +22,7 @@ from .devices import (
     device,
 )
 from .dispatcher import Dispatcher
-from .documents import Document, DocumentError, Environment, Machine
+from .documents import Document, DocumentError, Environment, Machine, ShortForm
 from .errors import (
     AlreadyFrozen,
     BadLine,
@@ -120,6 +120,7 @@ __all__ = [
     "Service",
     "Session",
     "SessionOver",
+    "ShortForm",
     "Snapshot",
     "StoreBroken",
     "StoreError",

@@ -36,6 +36,10 @@ class DocumentError(RomanError, ValueError):
     """A document can't be read or written, or isn't of the form of one."""
 
 
+class ShortForm(DocumentError):
+    """A document is in the short form, which the program doesn't read."""
+
+
 class Step(NamedTuple):
     """A transition of a behaviour or a target."""
 
@@ -187,6 +191,9 @@ class Document:
         value = read_json(top / path)
         if not isinstance(value, dict):
             raise DocumentError(f"{os.fspath(path)} is no object")
+        if value.get("roman") == "short":
+            name = os.fspath(path)
+            raise ShortForm(f"{name} is in the short form; roman-expand {name} -o plain.json writes the plain one")
         try:
             placed = dict(_in_place(value, top))
             return cls(placed)

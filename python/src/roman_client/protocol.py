@@ -15,8 +15,8 @@ from dataclasses import dataclass
 from pathlib import Path
 from typing import Any, Callable, Generator, Generic, List, Mapping, Optional, Sequence, Tuple, TypeVar, Union
 
-from .documents import Document, DocumentError, PathLike
-from .errors import REFUSALS, UnexpectedReply
+from .documents import Document, DocumentError, PathLike, ShortForm
+from .errors import REFUSALS, ProgramEnded, UnexpectedReply
 from .replies import Explanation, Move, Offer, Repair, Report, explanation_of, report_of
 from .snapshots import Snapshot
 
@@ -243,12 +243,17 @@ class Conversation:
 
     def start(self) -> Steps[Report]:
         """Starts the program on the document, and gives its first report. The document is kept for later,
-        where it can be read from here."""
+        where it can be read from here. Raises `ShortForm` if it is in the short form, and the program refuses that."""
         try:
             self.document = Document.load(self.system, self.folder)
         except DocumentError as error:
             self.unread = error
-        return (yield from self._begin(self.system))
+        try:
+            return (yield from self._begin(self.system))
+        except ProgramEnded as ended:
+            if isinstance(self.unread, ShortForm):
+                raise self.unread from ended
+            raise
 
     def resume(self, snapshot: Snapshot) -> Steps[Report]:
         """Goes on from a snapshot, in a program of its own. Gives the report of the states there."""

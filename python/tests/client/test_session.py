@@ -279,6 +279,16 @@ class GoingOn(unittest.TestCase):
 
 
 class Ends(unittest.TestCase):
+    def test_a_document_in_the_short_form(self) -> None:
+        """One line says what to do, unless the program expands it, as ./roman does."""
+        name = sample("short/house.json")
+        said = f"{name} is in the short form; roman-expand {name} -o plain.json writes the plain one"
+        with self.assertRaises(roman.ShortForm) as raised:
+            Session(name, program=PROGRAM, timeout=60)
+        self.assertEqual(str(raised.exception), said)
+        with self.assertRaises(roman.ShortForm):
+            roman.Document.load(name)
+
     def test_a_document_that_is_refused(self) -> None:
         with tempfile.TemporaryDirectory() as folder:
             Path(folder, "empty.json").write_text("{}", encoding="utf-8")
