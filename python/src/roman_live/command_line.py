@@ -116,6 +116,9 @@ async def run(file: HomeFile, simulate: bool) -> None:
         if supervisor.listens:
             home.shown.listener = supervisor.status
             home.dirty.set()
+        opening = await home.shown.opening()
+        if opening is not None:
+            LOG.warning("%s", opening)
         greet(f"{file.document.name} is at {server.url}/")
         await supervisor.watch(ending)
         supervisor.stopping()

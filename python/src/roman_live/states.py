@@ -6,6 +6,13 @@ from typing import Any, Dict, List, Optional, Sequence
 
 from roman_client import Document, Done, Explanation, Failure, Report
 
+STUCK = "the target can go no further here, and isn't final"
+
+
+def is_stuck(document: Document, report: Report) -> bool:
+    """Whether the target allows nothing in a state that isn't final."""
+    return not report.final and not document.allowed(report.target, report.environment)
+
 
 def target_to_json(document: Document, report: Report) -> Dict[str, Any]:
     """The target's state, and the states of all targets."""
@@ -13,6 +20,7 @@ def target_to_json(document: Document, report: Report) -> Dict[str, Any]:
     return {
         "state": report.target,
         "final": report.final,
+        "stuck": is_stuck(document, report),
         "targets": [{"name": each.name, "state": state} for each, state in parts],
     }
 

@@ -13,7 +13,8 @@ from roman_client import Explanation, Report, RomanError, SessionOver
 from .errors import TROUBLE
 from .events import Message, now
 from .mqtt_api import GONE
-from .states import actions_to_json, explanation_to_json, target_to_json
+from .opening import without_composition
+from .states import STUCK, actions_to_json, explanation_to_json, is_stuck, target_to_json
 
 if TYPE_CHECKING:
     from .home import Home
@@ -33,6 +34,7 @@ class Shown:
         """Is told in a line how it is with the home, whenever that may have changed."""
         self._report = home.session.opening
         self._explained: Optional[Tuple[Report, Optional[Explanation]]] = None
+        self._stuck = False
 
     async def state(self) -> Dict[str, Any]:
         """The present state as JSON."""
@@ -80,6 +82,10 @@ class Shown:
         except SessionOver:
             if not self._home.requests.open:
                 self._report = await self._home.dispatcher.report()
+        stuck = is_stuck(self._home.document, self._report)
+        if stuck and not self._stuck:
+            self._home.events.add("stuck", STUCK, level=logging.WARNING, target=self._report.target)
+        self._stuck = stuck
         return self._report
 
     async def _explanation(self, report: Report) -> Optional[Explanation]:
@@ -140,6 +146,12 @@ class Shown:
             ]
         return shown
 
+    async def opening(self) -> Optional[str]:
+        """Why there is no composition at the start, if there is none."""
+        report = await self._present_report()
+        explanation = await self._explanation(report)
+        return None if explanation is None else without_composition(explanation, str(self._home.file.document))
+
     async def publish(self) -> None:
         """Sends listeners and the broker the state whenever it has changed."""
         while True:
@@ -161,6 +173,8 @@ class Shown:
     def _line(self, report: Report) -> str:
         """How it is with the home, in a line."""
         words = ["there is a composition" if report.composition else "there is no composition"]
+        if is_stuck(self._home.document, report):
+            words.append(STUCK)
         frozen = [each.name for each in report.services if each.frozen]
         if frozen:
             words.append(f"frozen: {', '.join(frozen)}")
