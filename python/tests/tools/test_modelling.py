@@ -143,3 +143,17 @@ def test_a_recipe_without_what_it_is_about(name: str, folder: Path) -> None:
     document = recipe(name)
     WITHOUT[name](document)
     assert answer(document) == "none"
+
+
+def offers_after(name: str, lines: str) -> str:
+    """The reply to the last line of a session on a recipe."""
+    shown = tool("roman-talk", str(SHORT / f"{name}.json"), text=lines).stdout.splitlines()
+    return shown[-1].split(None, 2)[2]
+
+
+def test_the_recipes_offers() -> None:
+    """What the guide says of them: the arm that can turn, and the drill that is hot."""
+    assert offers_after("gripper", "do grip\n") == "offer new"
+    for state, offer in (("hot", "offer drill"), ("cool", "offer drill clamp")):
+        lines = f"do hold\nuse clamp\nsaw shut always\ndo drill\nuse drill\nsaw {state} always\ndo pause\n"
+        assert offers_after("anyone", lines) == offer
