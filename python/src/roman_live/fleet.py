@@ -4,6 +4,7 @@ from __future__ import annotations
 
 import asyncio
 import contextlib
+import difflib
 import logging
 from collections.abc import Callable
 from dataclasses import dataclass
@@ -129,9 +130,21 @@ class Fleet:
         self.returning = Returning(known, self.held, self.told, self.back, changed, by_hand=simulate)
         for name in [each.name for each in document.services] if simulate else file.devices:
             self._add(name)
-        for service in document.services:
-            if service.name not in self.devices:
-                raise HomeFileError(f"{file.path}: devices.{service.name} is missing; the document has this service")
+        missing = self._missing()
+        if missing:
+            raise HomeFileError("\n".join(missing))
+
+    def _missing(self) -> list[str]:
+        """An error for each service of the document without a device, with the table that is probably meant for it."""
+        names = [each.name for each in self.document.services]
+        spare = [name for name in self.devices if name not in names]
+        errors = []
+        for name in names:
+            if name not in self.devices:
+                near = difflib.get_close_matches(name, spare, 1)
+                meant = f"; is devices.{near[0]} meant for it?" if near else ""
+                errors.append(f"{self._file.path}: devices.{name} is missing; the document has this service{meant}")
+        return errors
 
     def _add(self, service: str) -> HomeDevice:
         """Makes the device of a service. Raises NoDevice if the home file has none."""

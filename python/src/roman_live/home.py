@@ -7,7 +7,7 @@ import logging
 import shutil
 import tempfile
 from collections.abc import Awaitable
-from dataclasses import dataclass
+from dataclasses import dataclass, replace
 from pathlib import Path
 from typing import TypeVar
 
@@ -42,7 +42,7 @@ from .policies import make_policy
 from .processes import Processes
 from .registry import Knowledge
 from .requests import Requests
-from .short_form import is_short, plain_text
+from .short_form import is_short, plain_costs, plain_text
 from .view import Shown
 
 LOG = logging.getLogger("roman_live")
@@ -97,6 +97,19 @@ def _plain_folder(file: HomeFile, temporary: Path) -> Path:
     return folder
 
 
+def _plain_policy(file: HomeFile, temporary: Path) -> Policy:
+    """The policy, with the costs of the plain document. Raises HomeFileError."""
+    if file.policy.costs is None or not is_short(file.document):
+        return file.policy
+    try:
+        text = plain_costs(file.document, file.policy.costs)
+    except DocumentError as error:
+        raise HomeFileError(f"{file.path}: policy.costs: {error}") from None
+    place = temporary / "plain.costs"
+    place.write_text(text, encoding="utf-8")
+    return replace(file.policy, costs=place)
+
+
 def _program(file: HomeFile) -> str:
     """The program. If it is a path, that counts from the home file."""
     return str(file.path.parent / file.program) if "/" in file.program else file.program
@@ -138,7 +151,7 @@ class Home:
         self.dirty = asyncio.Event()
         self.activity = Activity()
         self.known = Knowledge(opened.document, opened.session.opening)
-        policy = Policy() if simulate else file.policy
+        policy = Policy() if simulate else _plain_policy(file, Path(opened.folder.name))
         choose = make_policy(policy, opened.session, opened.program, file.program_seconds)
         self.chooser = Chooser(choose, policy.choose.value, self.activity)
         self.dispatcher = aio.Dispatcher(opened.session, {}, policy=self.chooser, store=store, watch=self._watch)
@@ -207,12 +220,19 @@ class Home:
                     home = cls(file, opened, store, simulate=simulate)
                 finally:
                     store.close()
-            for service, device in home.fleet.devices.items():
-                hindrance = device.reach.hindrance()
-                if hindrance is not None:
-                    raise HomeFileError(f"{file.path}: devices.{service}.command can't be run: {hindrance}")
-            if file.journal is not None and not simulate:
-                check_store(file.journal, opened.document, home.fleet.devices)
+            hindrances = {name: device.reach.hindrance() for name, device in home.fleet.devices.items()}
+            errors = [
+                f"{file.path}: devices.{name}.command can't be run: {hindrance}"
+                for name, hindrance in hindrances.items()
+                if hindrance is not None
+            ]
+            try:
+                if file.journal is not None and not simulate:
+                    check_store(file.journal, opened.document, home.fleet.devices)
+            except HomeFileError as error:
+                errors.append(str(error))
+            if errors:
+                raise HomeFileError("\n".join(errors))
         finally:
             await opened.close()
 

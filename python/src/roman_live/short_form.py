@@ -40,3 +40,25 @@ def plain_text(document: Path) -> str:
         shown = [line for each in in_order(checker.findings) for line in each.shown()]
         raise DocumentError("\n".join(["it can't be expanded", *shown]))
     return written(checker.system).text
+
+
+def plain_costs(document: Path, costs: Path) -> str:
+    """The costs by the behaviours of the plain form of a document, of a file in which items may name patterns and
+    services. Raises DocumentError with all that is wrong in it."""
+    from roman_tools.costs import Reader
+    from roman_tools.documents import read
+    from roman_tools.findings import Level, in_order
+    from roman_tools.reader import Shelf
+
+    try:
+        checker = read(document.name, Shelf(document.parent))
+        assert checker.system is not None
+        reader = Reader(checker, checker.system, str(costs))
+        errors = [each for each in reader.read().findings if each.level is Level.ERROR]
+    except OSError as error:
+        raise DocumentError(f"{error.filename}: {error.strerror}") from None
+    if errors:
+        raise DocumentError(
+            "\n".join(["they can't be read", *(line for each in in_order(errors) for line in each.shown())])
+        )
+    return reader.plain()
