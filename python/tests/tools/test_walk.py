@@ -91,3 +91,13 @@ def test_one_target_of_several_is_stuck(folder: Path) -> None:
 def test_a_parameter_that_is_false_on_purpose(value: str, folder: Path) -> None:
     Path("cell.json").write_text(edited(CELL, ('"screws": false', f'"screws": {value}')), encoding="utf-8")
     assert lint("cell.json") == []
+
+
+def test_a_state_of_a_behaviour_that_nothing_leaves(folder: Path) -> None:
+    """It is nearly another state: a letter is left out."""
+    text = edited(
+        CELL, ('"rolling", "stop", "still"', '"rolling", "stop", "stil"'), ('"limit": 500000', '"limit": 700000')
+    )
+    Path("cell.json").write_text(text, encoding="utf-8")
+    message = 'no step of behaviour "conveyor" leaves "stil", which isn\'t final; did you mean "still"?'
+    assert [each.message for each in lint("cell.json")] == [message]
