@@ -161,6 +161,8 @@ class Store:
         self.journal: Journal | None = None
         self.first = time.time_ns() // 1000  # No call is over in a microsecond.
         self.starts = 1
+        self.pace = 1.0
+        """How many seconds the last commit took."""
         self._database: sqlite3.Connection | None = None
         self._written = Position("", "")
         self._files: dict[str, tuple[int, int]] = {}
@@ -245,6 +247,7 @@ class Store:
         written already changes nothing. Raises `StoreFailed`."""
         database = self._connection()
         self._check_there()
+        begun = time.perf_counter()
         try:
             with _transaction(database):
                 for entry in entries:
@@ -253,6 +256,7 @@ class Store:
         except sqlite3.Error as error:
             raise StoreFailed(f"{self.path}: {error}") from error
         self._written = position
+        self.pace = time.perf_counter() - begun
 
     def last_calls(self) -> dict[str, int]:
         """The number of the last call of each service, as far as the history has it."""

@@ -76,7 +76,8 @@ class EventLog:
         event = Event(self._next, now(), kind, text, details)
         self._next += 1
         self._kept.append(event)
-        self.send(self.message(event))
+        if self._listeners:
+            self.send(self.message(event))
         return event
 
     def message(self, event: Event) -> Message:

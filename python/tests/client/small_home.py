@@ -257,6 +257,10 @@ class Run:
     def go(self) -> None:
         """Goes on until all steps of the script are acknowledged, and all devices are back."""
         self.begin()
+        self.take_rest()
+
+    def take_rest(self) -> None:
+        """Takes the steps that aren't acknowledged."""
         while self.universe.step < len(self.script):
             told = self.take(self.script[self.universe.step])
             self.universe = replace(

@@ -4,8 +4,12 @@ wrongly."""
 from __future__ import annotations
 
 import os
+from dataclasses import replace
 
 import pytest
+from hypothesis import settings
+from hypothesis import strategies as st
+from hypothesis.stateful import RuleBasedStateMachine, initialize, rule
 
 from .small_home import Faults, Manner, Run, Universe, beginning
 
@@ -55,7 +59,7 @@ def explore(manners: dict[str, Manner], script: tuple[str, ...], ends: int) -> i
 @pytest.mark.parametrize("home", HOMES)
 def test_a_home_that_is_ended(home: str, script: tuple[str, ...]) -> None:
     manners = dict(zip(("t1", "t2"), HOMES[home]))
-    assert explore(manners, script, ENDS) > 50
+    assert explore(manners, script, ENDS) > 20
 
 
 @pytest.mark.parametrize("kind", ["ended before", "ended after", "full"])
@@ -73,3 +77,63 @@ def test_a_home_whose_program_ends_or_whose_disk_is_full(home: str, kind: str) -
             after = Run(universe, manners, REQUESTS)
             after.go()
             after.check()
+
+
+MANNERS = st.builds(
+    Manner,
+    tells=st.sampled_from(("tells", "plain", "mute")),
+    fails=st.integers(0, 2),
+    late=st.integers(0, 2),
+    acts_late=st.booleans(),
+    repeatable=st.booleans(),
+    late_is_doubt=st.just(True),
+)
+
+
+class Lives(RuleBasedStateMachine):
+    """A home with random devices, that is asked, frozen and thawed, and is ended at random effects."""
+
+    @initialize(one=MANNERS, other=MANNERS)
+    def begin(self, one: Manner, other: Manner) -> None:
+        self.manners = {"t1": one, "t2": other}
+        self.script: list[str] = []
+        self.live_on(beginning(self.manners))
+
+    def live_on(self, universe: Universe) -> None:
+        """Another home begins, and takes the steps that aren't acknowledged."""
+        self.run = Run(universe, self.manners, tuple(self.script))
+        self.run.go()
+        self.run.check()
+
+    def step(self, step: str, fault: Faults, cut: float) -> None:
+        """Takes a step, with a fault at one of its effects. The home is ended at one of them, if `cut` is below 1."""
+        self.script.append(step)
+        self.run.script = tuple(self.script)
+        self.run.left.clear()
+        self.run.faults = replace(fault, at=self.run.effects + fault.at)
+        self.run.take_rest()
+        self.run.check()
+        while cut < 1 and self.run.left:
+            left = self.run.left[int(cut * len(self.run.left))]
+            self.live_on(left)
+            cut = 10 * cut % 1 if cut > 0.5 else 1.0  # Sometimes twice, and more often.
+
+    faults = st.builds(Faults, st.integers(1, 15), st.sampled_from(("", "", "ended before", "ended after", "full")))
+    cuts = st.floats(0, 2)
+
+    @rule(fault=faults, cut=cuts)
+    def request(self, fault: Faults, cut: float) -> None:
+        self.step(f"request {len(self.script)}", fault, cut)
+
+    @rule(word=st.sampled_from(("freeze", "thaw")), service=st.sampled_from(("t1", "t2")), fault=faults, cut=cuts)
+    def change(self, word: str, service: str, fault: Faults, cut: float) -> None:
+        other = "t2" if service == "t1" else "t1"
+        if word == "freeze" and self.run.is_held(other):
+            return  # One is left to serve.
+        self.step(f"{word} {service}", fault, cut)
+
+
+Lives.TestCase.settings = settings(
+    max_examples=int(os.environ.get("ROMAN_LIVES", "60")), stateful_step_count=12, deadline=None
+)
+TestLives = Lives.TestCase

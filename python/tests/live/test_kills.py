@@ -156,7 +156,9 @@ def live(tmp_path: Path, world: World) -> Iterator[Live]:
     served = HttpDevices(world)
     window = MqttDevices(world, broker.port, ["window"])
     slow = tmp_path / "slow"
-    slow.write_text(SLOW.format(python=sys.executable, world=Path(__file__).parent / "world.py", url=served.url), encoding="utf-8")
+    slow.write_text(
+        SLOW.format(python=sys.executable, world=Path(__file__).parent / "world.py", url=served.url), encoding="utf-8"
+    )
     slow.chmod(0o755)
     home = HOME.format(document=sample("home.json"), broker=broker.port, url=served.url)
     yield Live(tmp_path, home)

@@ -46,7 +46,7 @@ def demo() -> ModuleType:
     assert spec is not None and spec.loader is not None
     module = importlib.util.module_from_spec(spec)
     spec.loader.exec_module(module)
-    module.FAILURES = module.SECONDS = 0.0
+    vars(module).update(FAILURES=0.0, SECONDS=0.0)
     return module
 
 

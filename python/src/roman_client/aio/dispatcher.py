@@ -27,6 +27,9 @@ from .streams import run
 
 LOG = logging.getLogger("roman_client.dispatcher")
 
+AT_ONCE = 0.0005
+"""If the last commit took fewer seconds, the next one isn't worth a thread."""
+
 
 class Dispatcher:
     """Serves requests by devices, as `roman_client.Dispatcher` does.
@@ -270,7 +273,11 @@ class Dispatcher:
         return await self._within(_value(self._back, effect.service), timeout)
 
     async def _choose(self, effect: Choose) -> Any:
-        return await self._within(_value(self.policy, effect.choice), None)
+        self._inside = asyncio.current_task()
+        try:
+            return await _value(self.policy, effect.choice)
+        finally:
+            self._inside = None
 
     async def _begin_store(self, effect: Begin) -> None:
         assert self._store is not None
@@ -278,7 +285,10 @@ class Dispatcher:
 
     async def _commit(self, effect: Commit) -> None:
         assert self._store is not None
-        await _in_a_thread(functools.partial(self._store.commit, effect.position, effect.entries))
+        if self._store.pace < AT_ONCE:
+            self._store.commit(effect.position, effect.entries)
+        else:
+            await _in_a_thread(functools.partial(self._store.commit, effect.position, effect.entries))
 
     async def _notify(self, effect: Notify) -> None:
         self._told(self._watch, effect.notice)

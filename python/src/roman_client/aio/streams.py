@@ -58,21 +58,12 @@ class Streams:
             raise
 
     async def _in_time(self, reply: Coroutine[Any, Any, List[str]]) -> List[str]:
-        """A reply within the timeout. Whoever is cancelled just when it comes is cancelled, which
-        asyncio.wait_for forgets before Python 3.12."""
-        if self._timeout is None:
-            return await reply
-        task = asyncio.ensure_future(reply)
+        """A reply within the timeout."""
         try:
-            await asyncio.wait({task}, timeout=self._timeout)
-        finally:
-            if not task.done():
-                task.cancel()
-            elif not task.cancelled():
-                task.exception()  # So that nobody misses it.
-        if not task.done():
-            raise NoReply(f"no whole reply within {self._timeout} seconds")
-        return task.result()
+            async with asyncio.timeout(self._timeout):
+                return await reply
+        except TimeoutError:
+            raise NoReply(f"no whole reply within {self._timeout} seconds") from None
 
     async def _exchange(self, exchange: Exchange) -> List[str]:
         assert self.process.stdin is not None
