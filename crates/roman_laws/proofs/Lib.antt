@@ -4,6 +4,7 @@ pub mod OutcomeLemmas
 pub mod Examples
 pub mod TextExamples
 pub mod ControllerLemmas
+pub mod FailingLemmas
 pub mod ReducedLemmas
 pub mod LosingLemmas
 pub mod RequestLemmas

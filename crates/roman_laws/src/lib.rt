@@ -5,15 +5,17 @@
 //! `specs/Greatest` has the greatest ND-simulation against removal lists, depths and replays, and
 //! `specs/Following` runs that follow the offers. `specs/Outcomes` characterises the tests of a system
 //! by its steps, and `specs/Numbers` has the numbers of pairs. `specs/Controllers` has controllers,
-//! and those that realise the target. `specs/Losing` has the effect of losing services, and
-//! `specs/Reduced` has systems without some of their services. `specs/Requests` has the requests of
-//! each of several targets and the services that serve them. `specs/Repairs` has the greatest part of
-//! a removal list that a change can keep.
+//! and those that realise the target. `specs/Failing` has the failure of controllers at pairs that
+//! aren't related. `specs/Losing` has the effect of losing services, and `specs/Reduced` has systems
+//! without some of their services. `specs/Requests` has the requests of each of several targets and
+//! the services that serve them. `specs/Repairs` has the greatest part of a removal list that a change
+//! can keep.
 #![tactic(auto)]
 
 mod definitions;
 
 ghost use Rattle.roman_laws.specs.Controllers.{ControllersTakeOffers};
+ghost use Rattle.roman_laws.specs.Failing.{EveryControllerFails};
 ghost use Rattle.roman_laws.specs.Losing.{LeastFailingSuffice, LosingNeverHelps};
 ghost use Rattle.roman_laws.specs.Reduced.{ReducedAreSystems};
 ghost use Rattle.roman_laws.specs.Repairs.{RepairsKeepTheMost, ReplaysKeepTheMost};
@@ -30,6 +32,14 @@ pub use definitions::{
 #[tactic(auto, using(crate::proofs::ControllerLemmas::generator_all))]
 pub fn controllers_take_offers()
     ensures controllers { ControllersTakeOffers }
+{}
+
+/// At a pair that isn't related every controller can fail within a number of requests that is known
+/// beforehand. The least such number is the depth of the pair. The history in which a controller fails
+/// is possible and finite, so no assumption on how often outcomes come excludes it.
+#[tactic(auto, using(crate::proofs::FailingLemmas::every_fails))]
+pub fn fairness_buys_nothing()
+    ensures fails { EveryControllerFails }
 {}
 
 /// A pair that is related with more services frozen is related with fewer. A pair that is related
