@@ -1,5 +1,5 @@
 -- The lists of a document: their values, and their refusals.
-use Rattle.roman_document_laws.proofs.Common.{◌≡◌, ℕ, ◌≤◌, inl, inr, List, [], ◌∷◌, ◌++◌, length, codes, Result, Ok, Err, refl, ◌∙◌, arith, Data, Texts, ◌>>=◌, NamedEnv, NamedBeh, counted_items, PartError, behaviour_in, catalogue_in, service_of, services_of, behaviour_step, service_step, placed, refusal_of, Service, MAX_BEHAVIOURS, MAX_SERVICES, refused_list, BreaksService, ReadsServices, ReadsBehaviours, DocumentListsAreRead, Part, Refusal, same_ok, Refused, kind_of, Count}
+use Rattle.roman_document_laws.proofs.Common.{◌≡◌, ℕ, ◌≤◌, inl, inr, List, length, codes, Result, Ok, Err, refl, arith, Data, Texts, NamedEnv, NamedBeh, counted_items, PartError, behaviour_in, catalogue_in, service_of, services_of, behaviour_step, service_step, placed, refusal_of, Service, MAX_BEHAVIOURS, MAX_SERVICES, refused_list, BreaksService, ReadsServices, ReadsBehaviours, DocumentListsAreRead, Part, Refusal, same_ok, Refused, kind_of, Count}
 use Rattle.roman_document_laws.proofs.ListLemmas.{same_err, IsExact, exact_as, exact_same, IsStep, appends, IsListing, list_exact}
 use Rattle.roman_parts.specs.declared.error.List.{List as Place}
 use Rattle.roman_parts.specs.declared.error.List.TheVariants as list

@@ -5,3 +5,5 @@ mod PartReadLemmas
 mod PartWriterLemmas
 mod DocumentReadLemmas
 mod DocumentWriterLemmas
+mod AcceptedLemmas
+mod SeveralLemmas

@@ -164,7 +164,7 @@ one_at_place : (ms : List Move) (m n : Move) → Rises IsMoveBefore ms → IsIn 
 one_at_place [] m n h i j f a t = absurd i
 one_at_place (x ∷ xs) m n h i j f a t = grind (arith, at_one_place, (one_at_place xs m n h.1))
 
-first_of : (ns : List ℕ) → ns ≢ [] → (n : ℕ) × IsIn n ns
+pub first_of : (ns : List ℕ) → ns ≢ [] → (n : ℕ) × IsIn n ns
 first_of [] some = absurd (some refl)
 first_of (n ∷ ns) some = (n, inl refl)
 

@@ -1,5 +1,5 @@
 -- Lists of names, final states and steps: their values, and their refusals.
-use Rattle.roman_document_laws.proofs.Common.{AllZip-long, ◌≡◌, ◌≢◌, ℕ, ◌<◌, ◌≤◌, ◌⊎◌, ◌&&◌, ◌↔◌, inl, inr, Bool, true, false, List, [], ◌∷◌, ◌++◌, length, Option, Some, None, nat_le, codes, Result, Ok, Err, IsTrue, slice_get, refl, sym, ap, ◌∙◌, subst, arith, get_or, is_none, IsFalse, leb-true, true≢false, AllZip, and_parts, and_from, both_ways, le-leb, cases_order, same_Some, slice_get-get_or, get_or_from_slice_get, Data, Items, no_items, item, items_len, items_of, IsIn, HasNoRepeats, MAX_STEPS, by_test, from_push, get_in, any_true, in_push, in_append_left, ◌>>=◌, each_item, pushing, text_of, list_of, member_of, kind_of, AreItems, is_name, place_of, Kind, Miss, same_ok, place_of-absent, guarded_states, names_of, place_in, name_in, finals_of, name_step, counted_items, looked, found, check, items_at, IsPlace, BreaksPlace, IsTripleItem, IsMoveItem, IsNewName, BreaksName, BreaksTriple, BreaksMove, ReadsList, AreNames, ListsAreRead, triples_of, moves_of, three_of, four_of, triple_item, move_item, PartError, bytes_eq, position-Some, bytes_eq-Decides, Refused, none_is, there_some, none_absent}
+use Rattle.roman_document_laws.proofs.Common.{AllZip-long, ◌≡◌, ◌≢◌, ℕ, ◌<◌, ◌≤◌, ◌&&◌, ◌↔◌, inl, inr, Bool, true, false, List, [], ◌∷◌, ◌++◌, length, Option, Some, None, nat_le, codes, Result, Ok, Err, IsTrue, slice_get, refl, sym, ap, ◌∙◌, subst, arith, get_or, is_none, IsFalse, leb-true, true≢false, AllZip, and_parts, and_from, both_ways, le-leb, cases_order, same_Some, slice_get-get_or, get_or_from_slice_get, Data, Items, no_items, item, items_len, items_of, IsIn, HasNoRepeats, MAX_STEPS, by_test, from_push, get_in, any_true, in_push, in_append_left, ◌>>=◌, each_item, pushing, text_of, list_of, member_of, kind_of, AreItems, is_name, place_of, Kind, Miss, same_ok, place_of-absent, guarded_states, names_of, place_in, name_in, finals_of, name_step, counted_items, looked, found, check, items_at, IsPlace, BreaksPlace, IsTripleItem, IsMoveItem, IsNewName, BreaksName, BreaksTriple, BreaksMove, ReadsList, AreNames, ListsAreRead, triples_of, moves_of, three_of, four_of, triple_item, move_item, PartError, bytes_eq, position-Some, bytes_eq-Decides, Refused, none_is, there_some, none_absent}
 use Rattle.roman_read.specs.declared.rules.Kind.TheVariants as kind
 use Rattle.roman_document_laws.proofs.ListLemmas.{same_err, IsExact, exact_as, exact_then, exact_and, exact_map, exact_same, listed, items_listed, items_count, IsStep, appends, IsListing, list_exact}
 use Rattle.roman_parts.specs.declared.error.List.{List as Place}
@@ -24,7 +24,7 @@ exact_found rule list i (Some y) = record { gives = λ x. (λ h. ap Some (same_o
 itself : (name : List ℕ) → IsTrue (bytes_eq name name)
 itself name = (bytes_eq-Decides name name).1 refl
 
-in_place : (names : List (List ℕ)) (text : List ℕ) (k : ℕ) → place_of names text ≡ Some k → (slice_get names k ≡ Some text) × ((j : ℕ) → j < k → slice_get names j ≡ Some text → ⊥)
+pub in_place : (names : List (List ℕ)) (text : List ℕ) (k : ℕ) → place_of names text ≡ Some k → (slice_get names k ≡ Some text) × ((j : ℕ) → j < k → slice_get names j ≡ Some text → ⊥)
 in_place names text k h = grind (arith, both_ways, (bytes_eq-Decides text (get_or names k [])), get_or_from_slice_get, (itself text), (position-Some (bytes_eq text) names k), (slice_get-get_or names k))
 
 -- a name occurs first at only one place

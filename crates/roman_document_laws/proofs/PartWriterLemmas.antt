@@ -214,12 +214,17 @@ single_said : (env_states : List (List ℕ)) (b : Beh) → IsDeterministic b →
 unfolding single_of
 single_said env_states b single = ap (refuse_choice env_states b.steps) (no_choice_in b single)
 
-target_said : (env : NamedEnv) (t : NamedTarget) → IsSayableEnv env → IsSayableTarget env t → target_of env (target_value env t) ≡ Ok t
-target_said env t env_is is =
-    let d = target_value env t in
+-- a value with the members of a target, and maybe others, is read as that target
+pub target_said_by : (env : NamedEnv) (t : NamedTarget) (d : Data) → IsTrue (is_some (as_object d)) → member_of d (codes "states") ≡ Ok (names_value t.states) → member_of d (codes "start") ≡ Ok (place_value t.states t.beh.start) →
+    member_of d (codes "final") ≡ Ok (places_value t.states t.beh.finals) → member_of d (codes "steps") ≡ Ok (list_value (map (move_value env.states env.actions t.states) t.beh.steps)) →
+    IsSayableEnv env → IsSayableTarget env t → target_of env d ≡ Ok t
+target_said_by env t d object has_states has_start has_finals has_steps env_is is =
     let known : IsBeh env.env t.beh = is.known env.env refl refl in
     let start : t.beh.start < length t.states = omega (arith, known.start, is.state_count) in
-    grind (arith, (target_read env d t.states t.beh.start t.beh.finals t.beh.steps refl (names_said list.States _ MAX_STATES d t.states (record { value = names_value t.states; there = refl; list = refl }) is.states) (start_said d t.states t.beh.start refl is.states.once start) (finals_said env.env t.states t.beh d is.states.once is.state_count known (record { value = places_value t.states t.beh.finals; there = refl; list = refl })) (moves_said env t.states t.beh d env_is is.states.once is.state_count is.known is.form is.few (record { value = list_value (map (move_value env.states env.actions t.states) t.beh.steps); there = refl; list = refl })) (single_said env.states t.beh is.single)), (same_beh t.states t.beh is.state_count), (normal_beh_is env.env.states env.env.actions t.beh is.known is.form))
+    grind (arith, (target_read env d t.states t.beh.start t.beh.finals t.beh.steps object (names_said list.States _ MAX_STATES d t.states (record { value = names_value t.states; there = has_states; list = refl }) is.states) (start_said d t.states t.beh.start has_start is.states.once start) (finals_said env.env t.states t.beh d is.states.once is.state_count known (record { value = places_value t.states t.beh.finals; there = has_finals; list = refl })) (moves_said env t.states t.beh d env_is is.states.once is.state_count is.known is.form is.few (record { value = list_value (map (move_value env.states env.actions t.states) t.beh.steps); there = has_steps; list = refl })) (single_said env.states t.beh is.single)), (same_beh t.states t.beh is.state_count), (normal_beh_is env.env.states env.env.actions t.beh is.known is.form))
+
+target_said : (env : NamedEnv) (t : NamedTarget) → IsSayableEnv env → IsSayableTarget env t → target_of env (target_value env t) ≡ Ok t
+target_said env t = target_said_by env t (target_value env t) refl refl refl refl refl
 
 pub parts_said : PartsAreSaid
 parts_said = record { environment = env_said; behaviour = beh_said; target = target_said }

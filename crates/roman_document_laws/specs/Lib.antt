@@ -4,3 +4,5 @@ pub mod PartReads
 pub mod PartWriter
 pub mod DocumentReads
 pub mod DocumentWriter
+pub mod SeveralWriter
+pub mod Accepted

@@ -1,17 +1,22 @@
 //! Laws for readers: what documents and the normal forms of their parts mean, said by properties
-//! alone. The crate depends on the definitions of documents, and no crate depends on it. Each law is
-//! the contract of a function that computes nothing.
+//! alone. The crate depends on the definitions of documents, and the program doesn't depend on it. Each
+//! law is the contract of a function that computes nothing.
 //!
 //! `specs/Normals` has the properties of normal forms. `specs/Listed` has lists whose items are read
 //! one by one, `specs/PartReads` the lists of parts, and `specs/DocumentReads` those of documents.
-//! `specs/PartWriter` and `specs/DocumentWriter` have a writer, which is only a definition.
+//! `specs/PartWriter`, `specs/DocumentWriter` and `specs/SeveralWriter` have a writer, which is only a
+//! definition. `specs/Accepted` has what is known of accepted documents.
 #![tactic(auto)]
 
+ghost use Rattle.roman_document_laws.specs.Accepted.{AcceptedCanBeSaid, AcceptedNamesAreClear, AcceptedSeveralCanBeSaid, PartsCanBeSaid};
 ghost use Rattle.roman_document_laws.specs.DocumentReads.{DocumentListsAreRead};
 ghost use Rattle.roman_document_laws.specs.DocumentWriter.{LibrariesAreSaid};
 ghost use Rattle.roman_document_laws.specs.Normals.{NormalFormsAreNormal, NormalFormsAreUnique};
 ghost use Rattle.roman_document_laws.specs.PartReads.{ListsAreRead};
 ghost use Rattle.roman_document_laws.specs.PartWriter.{PartsAreSaid};
+ghost use Rattle.roman_document_laws.specs.SeveralWriter.{SeveralAreSaid};
+
+use roman_library::targets_are_combined;
 
 /// In a normal form the triples, steps, final states and guards rise without repeats, and no guard is
 /// empty. Its numbers, steps and final states are those of the original record. Two normal forms with
@@ -32,9 +37,31 @@ pub fn lists_are_read()
 {}
 
 /// Each environment, behaviour, target and library within the limits of documents is the meaning of
-/// some JSON value: of the value that the definition of a writer gives.
-#[tactic(auto, using(crate::proofs::PartWriterLemmas::parts_said, crate::proofs::DocumentWriterLemmas::libraries_said))]
+/// some JSON value: of the value that the definition of a writer gives. The same holds for each library
+/// that combines several targets within the limits.
+#[tactic(auto, using(crate::proofs::PartWriterLemmas::parts_said, crate::proofs::DocumentWriterLemmas::libraries_said, crate::proofs::SeveralLemmas::several_said))]
 pub fn parts_are_said()
     ensures said { PartsAreSaid }
     ensures libraries { LibrariesAreSaid }
+    ensures several { SeveralAreSaid }
 {}
+
+/// The converse: each environment, behaviour and target that a value means is within these limits, and
+/// so is the library of each accepted document with one target. If the document names several targets,
+/// these are within the limits, with the services and the limit of its library.
+#[tactic(auto, using(crate::proofs::AcceptedLemmas::parts_can))]
+pub fn accepted_can_be_said()
+    ensures parts { PartsCanBeSaid }
+    ensures libraries { AcceptedCanBeSaid }
+    ensures several { AcceptedSeveralCanBeSaid }
+{
+    targets_are_combined();
+}
+
+/// In the library of each accepted document no name stands for two actions, states, behaviours or
+/// services, and the target is deterministic. This also holds if it combines several targets.
+pub fn accepted_names_are_clear()
+    ensures clear { AcceptedNamesAreClear }
+{
+    targets_are_combined();
+}
