@@ -1,18 +1,86 @@
 //! States a law for readers on the repairs of `roman_repair`: they keep as many entries as can be
-//! kept. The law has a crate of its own, above `roman_repair`, because it rests on a law of
-//! `roman_laws`. No other crate uses it.
+//! kept. Each call has its own function here, which makes the call and promises this of it. The law
+//! has a crate of its own, above `roman_repair`, because it rests on a law of `roman_laws`. No other
+//! crate uses it.
+//!
+//! After each call the tally's `kept` is the greatest number of entries of the renamed old list that
+//! can be kept. No longer part of that list, in its order, is a removal list of the changed system.
+//! Each part of it that is a removal list of that system is part of the first `kept` entries of the
+//! new list.
 #![tactic(auto)]
 
-ghost use Rattle.roman_repair_laws.specs.Calls.{CallsKeepTheMost};
+ghost use Rattle.std.specs.Prelude.{◌<◌, length, map, slice_get, IfOk, IsFalse, IsTrue};
+ghost use Rattle.roman_model.specs.Change.{CanChange, Die, Freeze, Join, Thaw};
+ghost use Rattle.roman_model.specs.Lists.{IsIn};
+ghost use Rattle.roman_model.specs.System as model;
+ghost use Rattle.roman_model.specs.SystemArena.{is_ready};
+ghost use Rattle.roman_joint.specs.NamedSys.{seat_of, system_of};
+ghost use Rattle.roman_relation.specs.Greatest.{IsRelation};
+ghost use Rattle.roman_repair_laws.specs.Calls.{CallKeepsTheMost};
 
+use roman_io::Steps;
+use roman_joint::Seat;
 use roman_laws::repairs_keep_the_most;
+use roman_relation::Relation;
+use roman_repair::{JoinError, Tally, die, freeze, join, thaw};
+use std::sync::ledger::Ledger;
 
-/// After a freeze, a thaw, a join or a death the tally's `kept` is the greatest number of entries
-/// of the renamed old list that can be kept. No longer part of that list, in its order, is a
-/// removal list of the changed system. Each part of it that is a removal list of that system is part
-/// of the first `kept` entries of the new list.
-pub fn calls_keep_the_most()
-    ensures kept { CallsKeepTheMost }
+/// Freezes a service by [`freeze`], which keeps the most entries.
+pub fn freeze_keeps_the_most<L: Ledger>(
+    relation: &mut Relation,
+    k: u8,
+    steps: &mut Steps<L>,
+) -> Tally
+    requires relation { IsRelation relation.old.joint relation.old.order }
+    requires ready { IsTrue (is_ready (slice_get (system_of relation.old.joint).seats k)) }
+    ensures kept { CallKeepsTheMost (Freeze k) relation.old.joint relation.old.order relation.new.order result }
 {
     repairs_keep_the_most();
+    relation.joint.known(); // the system is well formed
+    freeze(relation, k, steps)
+}
+
+/// Thaws a service by [`thaw`], which keeps the most entries.
+pub fn thaw_keeps_the_most<L: Ledger>(relation: &mut Relation, k: u8, steps: &mut Steps<L>) -> Tally
+    requires relation { IsRelation relation.old.joint relation.old.order }
+    requires place { k < length relation.old.joint.seats }
+    requires frozen { IsFalse (is_ready (slice_get (system_of relation.old.joint).seats k)) }
+    ensures kept { CallKeepsTheMost (Thaw k) relation.old.joint relation.old.order relation.new.order result }
+{
+    repairs_keep_the_most();
+    relation.joint.known(); // the system is well formed
+    thaw(relation, k, steps)
+}
+
+/// Adds a service by [`join`], which keeps the most entries.
+///
+/// Fails exactly as `join` does.
+pub fn join_keeps_the_most<L: Ledger>(
+    relation: &mut Relation,
+    seat: Seat,
+    steps: &mut Steps<L>,
+) -> Result<Tally, JoinError>
+    requires relation { IsRelation relation.old.joint relation.old.order }
+    requires behaviour { seat.behaviour < length relation.old.joint.catalogue }
+    requires name { IsIn seat.name (map (λ other. other.name) relation.old.joint.seats) → ⊥ }
+    requires ready { IsFalse seat.frozen }
+    ensures kept { IfOk result (λ tally. CallKeepsTheMost (Join (seat_of relation.old.joint.catalogue seat)) relation.old.joint relation.old.order relation.new.order tally) }
+{
+    repairs_keep_the_most();
+    relation.joint.known(); // the system is well formed
+    let tally = join(relation, seat, steps)?;
+    relation.joint.known(); // and so is the system that the service has joined
+    Ok(tally)
+}
+
+/// Removes a service by [`die`], which keeps the most entries.
+pub fn die_keeps_the_most<L: Ledger>(relation: &mut Relation, k: u8, steps: &mut Steps<L>) -> Tally
+    requires relation { IsRelation relation.old.joint relation.old.order }
+    requires seat { k < length relation.old.joint.seats }
+    ensures kept { (seat : model.Seat) → CanChange (Die k seat) (system_of relation.old.joint) →
+        CallKeepsTheMost (Die k seat) relation.old.joint relation.old.order relation.new.order result }
+{
+    repairs_keep_the_most();
+    relation.joint.known(); // the system is well formed
+    die(relation, k, steps)
 }
