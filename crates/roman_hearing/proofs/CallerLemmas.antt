@@ -13,3 +13,7 @@ pub use Rattle.roman_hearing.proofs.SeveralLemmas.{means_all, parts_are, parts_i
 pub use Rattle.roman_hearing.proofs.HearingLines.{answered_heard}
 -- How a session that is read from a source ends.
 pub use Rattle.roman_hearing.proofs.HearingEnds.{short_out}
+-- The library that begins in the present states has the present services.
+pub use Rattle.roman_hearing.proofs.ReportLemmas.{services_again}
+-- Two parts of a list with the same elements are equal, and so are two counts of the same pairs.
+pub use Rattle.roman_hearing.proofs.FixedLemmas.{count_fixed, sublists_same}

@@ -3,7 +3,7 @@ use Rattle.roman_hearing.proofs.Common.{◌≡◌, ◌≤◌, ℕ, List, [], ◌
 use Rattle.roman_text.specs.declared.report.ReportLine.TheVariants as line
 
 -- two sublists of a list without repeats are equal if they have the same elements
-sublists_same : {X : Type 0} (zs xs ys : List X) → HasNoRepeats zs → IsSublist xs zs → IsSublist ys zs → ((x : X) → IsIn x xs ↔ IsIn x ys) → xs ≡ ys
+pub sublists_same : {X : Type 0} (zs xs ys : List X) → HasNoRepeats zs → IsSublist xs zs → IsSublist ys zs → ((x : X) → IsIn x xs ↔ IsIn x ys) → xs ≡ ys
 sublists_same zs [] [] once p q same = refl
 sublists_same zs [] (y ∷ ys) once p q same = absurd ((same y).1 (inl refl))
 sublists_same zs (x ∷ xs) [] once p q same = absurd ((same x).0 (inl refl))
@@ -16,7 +16,7 @@ sublists_same {X} (z ∷ zs) (x ∷ xs) (y ∷ ys) (new, once) (inl (e, p)) (inl
 rising_same : (n : ℕ) (xs ys : List ℕ) → IsSublist xs (below n) → IsSublist ys (below n) → ((k : ℕ) → IsIn k xs ↔ IsIn k ys) → xs ≡ ys
 rising_same n xs ys p q same = sublists_same (below n) xs ys (HasNoRepeats-below n) p q same
 
-count_fixed : (s : Sys) (IsAsSaid : Pair → Type 0) (n m : ℕ) → Counts s IsAsSaid n → Counts s IsAsSaid m → n ≡ m
+pub count_fixed : (s : Sys) (IsAsSaid : Pair → Type 0) (n m : ℕ) → Counts s IsAsSaid n → Counts s IsAsSaid m → n ≡ m
 count_fixed s IsAsSaid n m one other =
     let few : length one.pairs ≤ length other.pairs = no_longer one.pairs other.pairs one.once (λ p i. (other.each p).1 ((one.each p).0 i)) in
     let many : length other.pairs ≤ length one.pairs = no_longer other.pairs one.pairs other.once (λ p i. (one.each p).1 ((other.each p).0 i)) in

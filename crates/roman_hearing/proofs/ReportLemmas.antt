@@ -2,7 +2,7 @@
 use Rattle.roman_hearing.proofs.Common.{◌≡◌, ℕ, ◌<◌, List, [], ◌∷◌, map, refl, ap, arith, NamedBeh, NamedSys, seat_of, system_of, Beh, IsBeh, IsSys, IsPair, Env, Situation, IsSituation, lines_text, report_text, afresh, services_in, shown, Seat, AllZip, seat_of_service, parts_of, start_pair_of, ReportsAreAfresh}
 
 -- the present services give the same seats again, and begin in the same states
-services_again : (catalogue : List NamedBeh) (seats : List Seat) (bs : List ℕ) → AllZip (λ seat b. b < seat.beh.states) (map (seat_of catalogue) seats) bs →
+pub services_again : (catalogue : List NamedBeh) (seats : List Seat) (bs : List ℕ) → AllZip (λ seat b. b < seat.beh.states) (map (seat_of catalogue) seats) bs →
     (map seat_of_service (services_in seats bs) ≡ seats) × (map (λ x. x.state) (services_in seats bs) ≡ bs)
 services_again catalogue [] [] zip = (refl, refl)
 services_again catalogue [] (b ∷ bs) zip = absurd zip

@@ -21,3 +21,4 @@ pub mod TargetLemmas
 pub mod MadeLemmas
 pub mod JobLemmas
 pub mod HeadlineLemmas
+pub mod CallerLemmas

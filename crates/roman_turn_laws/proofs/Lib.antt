@@ -1,0 +1,9 @@
+pub mod Common
+pub mod StartLemmas
+pub mod ResumedLemmas
+pub mod CalmLemmas
+pub mod FixedLemmas
+pub mod SoundLemmas
+pub mod PresentLemmas
+pub mod LossLemmas
+pub mod TargetLemmas
