@@ -4,9 +4,9 @@
 pub use Rattle.roman_hearing.proofs.KnownLemmas.{steps_known}
 -- Steps leave all parts but the services.
 pub use Rattle.roman_hearing.proofs.KeepLemmas.{line_keeps}
--- Each step is a turn, and reports are right by the greatest ND-simulation.
+-- Each step is a turn, and open requests can be served.
 pub use Rattle.roman_hearing.proofs.TurnLemmas.{steps_turns}
-pub use Rattle.roman_hearing.proofs.WordLemmas.{open_great, reports_great}
+pub use Rattle.roman_hearing.proofs.OfferLemmas.{open_great}
 -- The system of a document with several targets combines them.
 pub use Rattle.roman_hearing.proofs.SeveralLemmas.{means_all, parts_are, parts_in}
 -- The lines that are answered.

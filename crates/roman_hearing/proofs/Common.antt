@@ -1,16 +1,15 @@
 -- What the proof pages of this crate cite from elsewhere, passed on from one place. Declares nothing.
-pub use Rattle.std.proofs.Common.{All, Bool, Err, IfOk, IfSome, IsErrOf, IsFalse, IsTrue, List, None, Ok, OnOk, Option, Result, Some, [], ap, append-nil, append_assoc, ap₂, arith, codes, cond, drop, eq-eqb, eqb-true, false, filter, find, get_or, if◌then◌else◌, inl, inr, is_none, is_ok, le-leb, leb-true, length, length-append, length-take, length-take-le, ltb, ltb-false, ltb-true, map, min, nat_le, nat_lt, not, ok_or, refl, rules, slice_get, slice_set, subst, suc, sym, take, take-append-drop, take_at, true, zero, ℕ, ◌&&◌, ◌++◌, ◌+◌, ◌-◌, ◌<◌, ◌==◌, ◌↔◌, ◌∙◌, ◌∷◌, ◌≡◌, ◌≤◌, ◌⊎◌}
+pub use Rattle.std.proofs.Common.{All, Bool, Err, IfOk, IfSome, IsErrOf, IsFalse, IsTrue, List, None, Ok, OnOk, Option, Result, Some, [], ap, append-nil, append_assoc, ap₂, arith, codes, cond, drop, eq-eqb, eqb-true, false, get_or, if◌then◌else◌, inl, inr, is_none, is_ok, le-leb, leb-true, length, length-append, length-take, length-take-le, ltb, ltb-false, ltb-true, map, min, nat_le, nat_lt, not, ok_or, refl, rules, slice_get, slice_set, subst, suc, sym, take, take-append-drop, take_at, true, zero, ℕ, ◌&&◌, ◌++◌, ◌+◌, ◌-◌, ◌<◌, ◌==◌, ◌↔◌, ◌∙◌, ◌∷◌, ◌≡◌, ◌≤◌, ◌⊎◌}
 pub use Rattle.std.proofs.Math.Seq.{take-append-add}
 pub use Rattle.std.proofs.lemmas.Bool.{and_from, and_parts, both_ways, cond-false, cond-true, false≢true, lt-leb, lt-ltb, not-false, not-true, or_cases, or_from, or_left, or_parts, or_right}
 pub use Rattle.std.proofs.lemmas.List.{length-map, nil_from_length, take_all, take_min}
 pub use Rattle.std.proofs.lemmas.List.Elements.{All-get_or}
 pub use Rattle.std.proofs.lemmas.List.Folds.{list_any-append}
 pub use Rattle.std.proofs.lemmas.List.Quantifiers.{position-Some}
-pub use Rattle.std.proofs.lemmas.Option.{get_or_from_slice_get, none-some, same_Some, slice_get-get_or, slice_get_within}
+pub use Rattle.std.proofs.lemmas.Option.{get_or_from_slice_get, same_Some, slice_get-get_or}
 pub use Rattle.std.proofs.lemmas.Result.{err_from_is_err_and}
 pub use Rattle.std.proofs.lemmas.Slice.Eq.{bytes_eq-Decides}
-pub use Rattle.std.specs.List.{AllZip, flat_map, list_any}
-pub use Rattle.std.specs.Option.{option_to_list}
+pub use Rattle.std.specs.List.{flat_map, list_any}
 pub use Rattle.std.specs.Str.{bytes_eq}
 pub use Rattle.std.specs.Str.Lines.{strip_carriage_return}
 pub use Rattle.roman_generator.specs.declared.sight.Sight.{Sight}
@@ -25,24 +24,21 @@ pub use Rattle.roman_joint.specs.declared.seat.Seat.{Seat}
 pub use Rattle.roman_library.proofs.CallerLemmas.{libraries_known, targets_combined}
 pub use Rattle.roman_library.specs.Library.{PlainLibrary}
 pub use Rattle.roman_library.specs.Targets.{CombinesTargets, PlainTargets}
-pub use Rattle.roman_model.proofs.CallerLemmas.{HasNoRepeats-below, HasNoRepeats-filter, IsPair-grown, IsPair-turned, IsPair-without, allowed_in, allowed_in_range, any_false, any_true, before_is, by_test, combined_is_all, empty_is, explanation_is_least, explanation_is_order, filter_in, filter_sublist, find_found, find_some, flat_map_same, flat_map_same_in, from_allowed, from_map, from_outcome, from_pairs, from_push, get_in, great_related, in_append_left, in_append_right, in_below, in_filter, in_flat_map, in_listed, in_map, in_mask, in_pairs, justified_is, length-pairs, listed_in, listed_number, new_once, no_longer, number_listed, offers_are, order_goes_on, order_middle, order_new, outcome_in, pairs_once, related_great, renaming_keeps, replay_sublist, same_numbers_is, same_numbers_itself, same_test, sublist_in, sublist_none, system_is_same, there_is}
-pub use Rattle.roman_model.specs.Arena.{Entry, IsOrder, is_beaten, is_justified, is_listed, replay}
+pub use Rattle.roman_model.proofs.CallerLemmas.{HasNoRepeats-below, IsPair-grown, IsPair-turned, IsPair-without, allowed_in, any_false, any_true, by_test, combined_is_all, empty_is, flat_map_same_in, from_allowed, from_map, from_outcome, get_in, great_related, in_mask, listed_number, no_longer, number_listed, order_goes_on, outcome_in, related_great, renaming_keeps, replay_sublist, same_numbers_is, same_numbers_itself, same_test, sublist_in, there_is}
+pub use Rattle.roman_model.specs.Arena.{Entry, is_beaten, replay}
 pub use Rattle.roman_model.specs.Change.{CanChange, after, rename}
 pub use Rattle.roman_model.specs.Combined.{IsSeveral, combined, combined_beh, combined_seat, couple_all, target_sizes}
 pub use Rattle.roman_model.specs.CompleteLists.{IsComplete}
 pub use Rattle.roman_model.specs.Composition.{Great}
 pub use Rattle.roman_model.specs.Counting.{Counts}
-pub use Rattle.roman_model.specs.Explanation.{Names, answer, answers, entries_before, entry_lines, explain_text, explanation, lost_line, name_at, ready_seats, rests_on, seat_names}
+pub use Rattle.roman_model.specs.Explanation.{explain_text, name_at, seat_names}
 pub use Rattle.roman_model.specs.Lines.{IsLine, ended_lines, lines, text_of_lines}
-pub use Rattle.roman_model.specs.Lists.{HasNoRepeats, IsIn, IsSublist, below, is_empty, product_of}
-pub use Rattle.roman_model.specs.Numbers.{count}
-pub use Rattle.roman_model.specs.Offers.{is_related, offers, related_count}
+pub use Rattle.roman_model.specs.Lists.{HasNoRepeats, IsIn, IsSublist, below, product_of}
+pub use Rattle.roman_model.specs.Offers.{is_related, offers}
 pub use Rattle.roman_model.specs.Several.{GreatAll}
-pub use Rattle.roman_model.specs.System.{Beh, Env, IsBeh, IsPair, IsSys, Pair, Sys, has}
-pub use Rattle.roman_model.specs.SystemArena.{arena, is_allowed, is_ready, outcomes, same_numbers}
+pub use Rattle.roman_model.specs.System.{Beh, IsBeh, IsPair, Pair, Sys, has}
+pub use Rattle.roman_model.specs.SystemArena.{arena, is_allowed, outcomes, same_numbers}
 pub use Rattle.roman_model.specs.declared.limits.TheConstants.{MAX_SERVICES, MAX_SESSION_BYTES, MAX_STATES}
-pub use Rattle.roman_model.specs.declared.reason.Reason.{Reason}
-pub use Rattle.roman_model.specs.declared.reason.Reason.TheVariants.{Act, Final}
 pub use Rattle.roman_model.specs.declared.request.Request.{Request}
 pub use Rattle.roman_multi.proofs.CallerLemmas.{all_in, are_allowed, good_count, machines_known}
 pub use Rattle.roman_multi.specs.Combining.{PlainCombined, combined_behaviour, machines, requests_in}
@@ -51,15 +47,18 @@ pub use Rattle.roman_parts.specs.Named.{IsBehaviour, NamedBeh, NamedEnv}
 pub use Rattle.roman_read.proofs.CallerLemmas.{bind_ok, same_ok}
 pub use Rattle.roman_read.specs.Items.{◌>>=◌}
 pub use Rattle.roman_read.specs.Names.{is_name, place_of}
-pub use Rattle.roman_session.proofs.CallerLemmas.{asked_is, cells_with, checked, died_is, env_jumped_is, frozen_is, handed_is, joining_idle, jumped_is, jumped_pair, mapped_at, moved_pair, name_is_new, outcomes_related, requests_offered, seat_is, seen_is, states_named, thawed_is}
+pub use Rattle.roman_session.proofs.CallerLemmas.{asked_is, cells_with, checked, died_is, env_jumped_is, frozen_is, handed_is, joining_idle, jumped_is, jumped_pair, lost_counted, mapped_at, moved_pair, name_is_new, offers_serving, outcomes_related, refutes, reports_both, requests_offered, seat_is, seen_is, states_named, thawed_is}
 pub use Rattle.roman_session.specs.Answering.{AnsweredOn, next_of}
 pub use Rattle.roman_session.specs.Joins.{CanJoin}
-unfoldable pub use Rattle.roman_session.specs.Reports.{lines_text, report_text}
+pub use Rattle.roman_session.specs.Reports.{report_text}
 pub use Rattle.roman_session.specs.Rulings.{check_idle, delegation, demand, join_of, named, offered_action, seat_at, service_named, state_named, with_room}
 unfoldable pub use Rattle.roman_session.specs.Rulings.{aborted, asked, died, env_jumped, frozen, handed, joining, jumped, seen, thawed, unexplained}
 pub use Rattle.roman_session.specs.Situations.{IsPhase, IsSituation, Situation, is_idle, present_system}
-pub use Rattle.roman_session.specs.Steps.{Aborts, Asks, CanBe, Changes, Changing, Dies, Does, EnvJumps, Explains, Freezes, Hands, Joins, Jumps, Sees, StepBy, Thaws, dying, freezing, growing, pair_after, parts_after, service_at, thawing}
+pub use Rattle.roman_session.specs.States.{IsGreat, IsOpenGreat, MayAsk, ServesHere, State}
+pub use Rattle.roman_session.specs.Steps.{Aborts, Asks, CanBe, Changes, Changing, Dies, Does, EnvJumps, Explains, Freezes, Hands, Joins, Jumps, Sees, StepBy, Thaws, dying, freezing, growing, pair_after, parts_after, service_at, shown, thawing}
 unfoldable pub use Rattle.roman_session.specs.Steps.{Step, offer_text}
+pub use Rattle.roman_session.specs.Turns.{ComesTo, Needs, Place, Refuses, Unless}
+pub use Rattle.roman_session.specs.Words.{AreServing, CountsLost, IsReady, OffersServing, Refutes, Replies}
 pub use Rattle.roman_session.specs.declared.events.Handing.{Handing}
 pub use Rattle.roman_session.specs.declared.events.Joining.{Joining}
 pub use Rattle.roman_session.specs.declared.events.Jump.{Jump}
@@ -67,7 +66,6 @@ pub use Rattle.roman_session.specs.declared.next.Next.{Next}
 pub use Rattle.roman_session.specs.declared.next.Next.TheVariants.{More, Quit}
 pub use Rattle.roman_session.specs.declared.phase.Phase.{Phase}
 pub use Rattle.roman_session.specs.declared.phase.Phase.TheVariants.{Delegated, Idle, Offered}
-pub use Rattle.roman_start.specs.Starts.{parts_of, seat_of_service, start_pair_of}
 pub use Rattle.roman_text.proofs.CallerLemmas.{Gathered-empty, Gathered-put, Gathered-then, WrotePrefix-gathered, ended_lines-append, ended_lines-newline, ended_lines-part, kept-again, kept-append, kept-nil, lines_are, lines_none, lines_only, lines_rest, unfinished-newline, unfinished-nil, unfinished-part}
 pub use Rattle.roman_text.specs.Lines.{kept, unfinished}
 pub use Rattle.roman_text.specs.Replies.{reply_text}
@@ -77,17 +75,12 @@ pub use Rattle.roman_text.specs.declared.errors.LineError.{LineError}
 pub use Rattle.roman_text.specs.declared.errors.LineError.TheVariants.{Form}
 pub use Rattle.roman_text.specs.declared.replies.Reply.{Reply}
 pub use Rattle.roman_text.specs.declared.report.ReportLine.{ReportLine}
-pub use Rattle.roman_hearing.specs.Afresh.{afresh, services_in}
 pub use Rattle.roman_hearing.specs.Events.{LinesAreRead, Reads}
 pub use Rattle.roman_hearing.specs.Hearing.{Cursor, GaveQuit, IsCutOff, IsHeardOut, StopsShort, StreamState, Tells, TellsPrefix, TellsPrefixOfAll, cursor, ends_session, has_quit, heard_lines, is_heard_out, prefix_of, stream_state}
 pub use Rattle.roman_hearing.specs.HearingBytes.{FailsIn, FallsShort, HearsBytes, HearsPiece, HearsRest, IsHearing, ReaderState, StopsAtQuit, TellsOnPage, reader_state}
-pub use Rattle.roman_hearing.specs.Known.{AreBehaviours, AreNamed, IsKnownSituation, StepsStayKnown, shown}
-pub use Rattle.roman_hearing.specs.Laws.{NotOfferedFails, OpenIsGreat, ReportsAreAfresh, ReportsAreFixed, StepsAreTurns}
-pub use Rattle.roman_hearing.specs.Refutations.{AreLost, IsLost, MayAnswer, WinsBy}
+pub use Rattle.roman_hearing.specs.Known.{AreBehaviours, AreNamed, IsKnownSituation, StepsStayKnown}
+pub use Rattle.roman_hearing.specs.Laws.{NotOfferedFails, OpenIsGreat, ReportsAreFixed, StepsAreTurns}
 pub use Rattle.roman_hearing.specs.Several.{MeansAll, SeveralAreServed, several_with}
-pub use Rattle.roman_hearing.specs.States.{IsGreat, IsOpenGreat, MayAsk, ServesHere, State, start_state}
 pub use Rattle.roman_hearing.specs.Told.{Answers, Told, until_quit}
-pub use Rattle.roman_hearing.specs.Turns.{ComesTo, Needs, Place, Refuses, Unless}
-pub use Rattle.roman_hearing.specs.Words.{AreServing, CountsLost, IsReady, OffersServing, Refutes, Replies, ReportsGreat, lines_of_answers}
 pub use Rattle.roman_hearing.specs.declared.hearing.HearError.{HearError}
 pub use Rattle.roman_hearing.specs.declared.hearing.HearError.TheVariants.{ReadFault, TooLong, WriteFault}

@@ -1,5 +1,4 @@
 pub mod Common
-pub mod ReportLemmas
 pub mod HearingLines
 pub mod HearingLemmas
 pub mod WithinLemmas
@@ -8,8 +7,7 @@ pub mod KeepLemmas
 pub mod KnownLemmas
 pub mod SeveralLemmas
 pub mod EventLemmas
-pub mod RefutationLemmas
-pub mod WordLemmas
+pub mod OfferLemmas
 pub mod FixedLemmas
 pub mod TurnLemmas
 pub mod HearingGoing

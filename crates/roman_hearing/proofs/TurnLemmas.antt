@@ -1,11 +1,9 @@
 -- Each step of a session is a turn.
-use Rattle.roman_hearing.proofs.Common.{◌≡◌, ℕ, ◌+◌, ◌<◌, ◌≤◌, Bool, true, false, not, List, [], map, length, get_or, Option, None, Some, ok_or, is_none, is_ok, Result, Ok, Err, IsTrue, IsFalse, inl, inr, slice_get, nat_lt, nat_le, refl, sym, ap, ◌∙◌, subst, arith, ltb-true, leb-true, bytes_eq, false≢true, both_ways, not-true, not-false, lt-ltb, length-map, position-Some, get_or_from_slice_get, slice_get-get_or, same_Some, IsIn, Sys, has, is_allowed, Great, seat_names, is_related, offers, MAX_SERVICES, allowed_in, from_allowed, related_great, great_related, number_listed, get_in, listed_number, is_name, place_of, reply_text, LineShape, nothing, ask, hand, saw, abort, freeze, thaw, die, join, jump, jump_env, report, explain, quit, shape_of, LineError, Reply, seat_of, system_of, cells, seat_name, beh_name, states_of_behaviour, names_in, joined_system, Situation, present_system, is_idle, IsPhase, named, seat_at, asked, handed, seen, aborted, jumped, env_jumped, frozen, thawed, died, joining, join_of, unexplained, demand, check_idle, offered_action, delegation, with_room, Asks, Hands, Sees, Aborts, Jumps, EnvJumps, Changing, Changes, Freezes, Thaws, Dies, Joins, freezing, thawing, dying, growing, Explains, Does, StepBy, Step, parts_after, offer_text, Handing, Joining, Phase, Idle, Offered, Delegated, name_is_new, seat_is, cells_with, State, IsGreat, MayAsk, ServesHere, shown, IsKnownSituation, Counts, IsReady, Refutes, Replies, OffersServing, CountsLost, bytes_eq-Decides, ◌>>=◌, Needs, Unless, Place, ComesTo, Refuses, StepsAreTurns}
+use Rattle.roman_hearing.proofs.Common.{◌≡◌, ℕ, ◌+◌, ◌<◌, ◌≤◌, Bool, true, false, not, List, [], map, length, get_or, Option, None, Some, ok_or, is_none, is_ok, Result, Ok, Err, IsTrue, IsFalse, inl, inr, slice_get, nat_lt, nat_le, refl, sym, ap, ◌∙◌, subst, arith, ltb-true, leb-true, bytes_eq, false≢true, both_ways, not-true, not-false, lt-ltb, length-map, position-Some, get_or_from_slice_get, slice_get-get_or, same_Some, IsIn, Sys, has, is_allowed, Great, seat_names, is_related, offers, MAX_SERVICES, allowed_in, from_allowed, related_great, great_related, number_listed, get_in, listed_number, is_name, place_of, reply_text, LineShape, nothing, ask, hand, saw, abort, freeze, thaw, die, join, jump, jump_env, report, explain, quit, shape_of, LineError, Reply, seat_of, system_of, cells, seat_name, beh_name, states_of_behaviour, names_in, joined_system, Situation, present_system, is_idle, IsPhase, named, seat_at, asked, handed, seen, aborted, jumped, env_jumped, frozen, thawed, died, joining, join_of, unexplained, demand, check_idle, offered_action, delegation, with_room, Asks, Hands, Sees, Aborts, Jumps, EnvJumps, Changing, Changes, Freezes, Thaws, Dies, Joins, freezing, thawing, dying, growing, Explains, Does, StepBy, Step, parts_after, offer_text, Handing, Joining, Phase, Idle, Offered, Delegated, name_is_new, seat_is, cells_with, State, IsGreat, MayAsk, ServesHere, shown, IsKnownSituation, Counts, IsReady, Refutes, Replies, OffersServing, CountsLost, bytes_eq-Decides, ◌>>=◌, Needs, Unless, Place, ComesTo, Refuses, StepsAreTurns, refutes, offers_serving, lost_counted, reports_both}
 use Rattle.roman_model.specs.System.{Seat}
 use Rattle.std.proofs.lemmas.Bool.{le-leb}
 use Rattle.roman_text.specs.declared.replies.Reply.TheVariants as reply
-use Rattle.roman_hearing.proofs.RefutationLemmas.{refutes}
 use Rattle.roman_hearing.proofs.WithinLemmas.{seat_within}
-use Rattle.roman_hearing.proofs.WordLemmas.{offers_serving, lost_counted, reports_both}
 
 -- Names
 

@@ -4,7 +4,6 @@ use Rattle.roman_joint.specs.NamedSys.{NamedSys}
 use Rattle.roman_parts.specs.Named.{IsBehaviour}
 use Rattle.roman_session.specs.Situations.{Situation, IsSituation}
 use Rattle.roman_session.specs.Steps.{Step}
-use Rattle.roman_hearing.specs.States.{State}
 
 -- each behaviour of the catalogue is well formed over the environment, as in every library
 abbrev pub AreBehaviours : NamedSys → Type 0
@@ -14,10 +13,6 @@ AreBehaviours parts = All (IsBehaviour parts.environment) parts.catalogue
 pub record AreNamed (parts : NamedSys) : Type 0 where
   pub behaviours : AreBehaviours parts
   pub environment : length parts.environment.states ≡ parts.environment.env.states
-
--- the state of a situation: all but its removal list
-abbrev pub shown : Situation → State
-shown s = record { parts = s.parts; here = s.here; phase = s.phase }
 
 -- the situation is well formed, and so are its behaviours and the names of its environment
 pub record IsKnownSituation (s : Situation) : Type 0 where

@@ -8,14 +8,14 @@ use Rattle.roman_text.specs.Shapes.{shape_of}
 use Rattle.roman_session.specs.Situations.{Situation, present_system, IsSituation}
 use Rattle.roman_session.specs.Rulings.{asked, seen}
 use Rattle.roman_generator.specs.declared.sight.Sight.{Sight}
-use Rattle.roman_session.specs.Steps.{Moves, Step}
+use Rattle.roman_session.specs.Steps.{Moves, Step, shown}
 use Rattle.roman_session.specs.Reports.{report_text}
 use Rattle.roman_start.specs.Starts.{parts_of, start_pair_of}
-use Rattle.roman_hearing.specs.Afresh.{afresh}
-use Rattle.roman_hearing.specs.Known.{shown, IsKnownSituation}
-use Rattle.roman_hearing.specs.States.{State, IsOpenGreat}
-use Rattle.roman_hearing.specs.Turns.{TurnsInto}
-use Rattle.roman_hearing.specs.Words.{ReportsGreat}
+use Rattle.roman_session.specs.Afresh.{afresh}
+use Rattle.roman_hearing.specs.Known.{IsKnownSituation}
+use Rattle.roman_session.specs.States.{State, IsOpenGreat}
+use Rattle.roman_session.specs.Turns.{TurnsInto}
+use Rattle.roman_session.specs.Words.{ReportsGreat}
 
 -- some seat is offered for a request that isn't refused
 abbrev pub RequestsAreOffered : Type 0

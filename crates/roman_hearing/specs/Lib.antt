@@ -1,10 +1,5 @@
 pub mod Told
 pub mod Known
-pub mod States
-pub mod Refutations
-pub mod Words
-pub mod Afresh
-pub mod Turns
 pub mod Events
 pub mod Laws
 pub mod Several

@@ -18,13 +18,13 @@ pub fn outcomes_are_related()
 
 /// A service that isn't offered for an allowed action has no outcome, or an outcome whose pair isn't
 /// related.
-#[tactic(auto, using(crate::proofs::WordLemmas::not_offered_fails))]
+#[tactic(auto, using(crate::proofs::OfferLemmas::not_offered_fails))]
 pub fn services_not_offered_fail()
     ensures fails { NotOfferedFails }
 {}
 
 /// The report equals the report of a new synthesis from the present services and the present states.
-#[tactic(auto, using(crate::proofs::ReportLemmas::reports_afresh))]
+#[tactic(auto, using(roman_session::proofs::CallerLemmas::reports_afresh))]
 pub fn reports_are_afresh()
     ensures afresh { ReportsAreAfresh }
 {}
@@ -60,7 +60,7 @@ pub fn steps_are_turns()
 {}
 
 /// An open request can be served, and its delegate is a service that serves it.
-#[tactic(auto, using(crate::proofs::WordLemmas::open_great))]
+#[tactic(auto, using(crate::proofs::OfferLemmas::open_great))]
 pub fn open_is_great()
     ensures great { OpenIsGreat }
 {}

@@ -4,9 +4,8 @@
 //! `specs/Hearing` defines which lines of a stream are answered and what is written by then.
 //! `specs/Told` defines the replies to a list of lines, by the steps of `roman_session`. The laws say
 //! that each step from a well-formed situation leads to a well-formed one (`specs/Known`), and that
-//! each step is a turn (`specs/Turns`). A turn leads to the state of the line's event
-//! (`specs/States`), and its text is right for that event (`specs/Words`). Both are said by the
-//! greatest ND-simulation, by steps and by names alone.
+//! each step is a turn of `roman_session`: it leads to the state of the line's event, and its text is
+//! right for that event, in terms of the greatest ND-simulation, steps and names.
 #![tactic(auto)]
 
 mod hearing;

@@ -5,6 +5,10 @@ pub use Rattle.roman_session.proofs.RulingLemmas.{asked_is, cells_with, checked,
 pub use Rattle.roman_session.proofs.RulingLemmas.{jumped_is, seen_is, thawed_is}
 -- What follows from offers and outcomes.
 pub use Rattle.roman_session.proofs.StepLemmas.{moved_pair, outcomes_related, requests_offered}
+-- Offers, counts, reports and explanations are right by the greatest ND-simulation.
+pub use Rattle.roman_session.proofs.ReportLemmas.{reports_afresh}
+pub use Rattle.roman_session.proofs.RefutationLemmas.{refutes}
+pub use Rattle.roman_session.proofs.WordLemmas.{lost_counted, offers_serving, reports_both, reports_great}
 -- What the fields of a session and the calls of its parts say of the situation.
 pub use Rattle.roman_session.proofs.SituationLemmas.{jumped_pair, mapped_at, states_named}
 -- Places of names.

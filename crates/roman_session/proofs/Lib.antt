@@ -1,6 +1,9 @@
 pub mod Common
 pub mod RulingLemmas
 pub mod StepLemmas
+pub mod ReportLemmas
+pub mod RefutationLemmas
+pub mod WordLemmas
 pub mod SituationLemmas
 pub mod NameLemmas
 pub mod LineLemmas

@@ -3,6 +3,11 @@ pub mod Rulings
 pub mod Joins
 pub mod Serving
 pub mod Reports
+pub mod States
+pub mod Refutations
+pub mod Words
+pub mod Afresh
+pub mod Turns
 pub mod Steps
 pub mod Starts
 pub mod Layout

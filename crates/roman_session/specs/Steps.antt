@@ -21,11 +21,16 @@ use Rattle.roman_joint.specs.Names.{seat_name, names_in}
 use Rattle.roman_session.specs.Situations.{Situation, present_system}
 use Rattle.roman_session.specs.Rulings.{seat_at, asked, handed, seen, aborted, jumped, env_jumped, frozen, thawed, died, join_of, unexplained}
 use Rattle.roman_session.specs.Reports.{report_text}
+use Rattle.roman_session.specs.States.{State}
 use Rattle.roman_session.specs.declared.events.Handing.{Handing}
 use Rattle.roman_session.specs.declared.events.Joining.{Joining}
 use Rattle.roman_session.specs.declared.events.Jump.{Jump}
 use Rattle.roman_generator.specs.declared.sight.Sight.{Sight}
 use Rattle.roman_session.specs.declared.phase.Phase.TheVariants.{Idle, Offered, Delegated}
+
+-- the state of a situation: all but its removal list
+abbrev pub shown : Situation → State
+shown s = record { parts = s.parts; here = s.here; phase = s.phase }
 
 -- ---- what each event does, if it isn't refused
 

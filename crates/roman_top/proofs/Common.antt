@@ -19,15 +19,12 @@ pub use Rattle.roman_cost.specs.Tables.{seat_costs}
 pub use Rattle.roman_cost.specs.declared.costs.Listed.{Listed}
 pub use Rattle.roman_cost.specs.declared.error.AdviceError.{AdviceError}
 pub use Rattle.roman_cost.specs.declared.limits.TheConstants.{MAX_VALUES}
-pub use Rattle.roman_hearing.proofs.CallerLemmas.{answered_heard, line_keeps, means_all, open_great, parts_are, parts_in, reports_great, short_out, steps_known, steps_turns}
+pub use Rattle.roman_hearing.proofs.CallerLemmas.{answered_heard, line_keeps, means_all, open_great, parts_are, parts_in, short_out, steps_known, steps_turns}
 pub use Rattle.roman_hearing.specs.Events.{LinesAreRead}
 pub use Rattle.roman_hearing.specs.Hearing.{CausedBy, GaveQuit, GoesOn, IsCutOff, IsHeardOut, StopsShort, StreamState, TellsPrefixOfAll, cursor, heard_lines, is_heard_out, stream_state}
-pub use Rattle.roman_hearing.specs.Known.{AreBehaviours, IsKnownSituation, shown}
+pub use Rattle.roman_hearing.specs.Known.{AreBehaviours, IsKnownSituation}
 pub use Rattle.roman_hearing.specs.Several.{MeansAll, several_with}
-pub use Rattle.roman_hearing.specs.States.{IsOpenGreat, IsState, MayAsk, State, start_state}
 pub use Rattle.roman_hearing.specs.Told.{Answers, until_quit}
-pub use Rattle.roman_hearing.specs.Turns.{Needs, TurnsInto}
-pub use Rattle.roman_hearing.specs.Words.{OffersServing, Replies, ReportsGreat}
 pub use Rattle.roman_hearing.specs.declared.hearing.HearError.{HearError}
 pub use Rattle.roman_io.proofs.CallerLemmas.{Gave-nil, Gave-told, Wrote-nil}
 pub use Rattle.roman_io.specs.Faults.{HasCause, Rose}
@@ -75,12 +72,15 @@ pub use Rattle.roman_multi.specs.Combining.{PlainCombined, combined_state_names,
 unfoldable pub use Rattle.roman_multi.specs.Combining.{combined_parts}
 pub use Rattle.roman_parts.specs.declared.error.PartError.{PartError}
 pub use Rattle.roman_relation.specs.Greatest.{IsRelation}
-pub use Rattle.roman_session.proofs.CallerLemmas.{is_within}
+pub use Rattle.roman_session.proofs.CallerLemmas.{is_within, reports_great}
 pub use Rattle.roman_session.specs.Answering.{Answered}
 pub use Rattle.roman_session.specs.Reports.{report_text}
 pub use Rattle.roman_session.specs.Situations.{IsSituation, Situation, present_system}
 pub use Rattle.roman_session.specs.Starts.{IsStart}
-pub use Rattle.roman_session.specs.Steps.{Step, is_quit}
+pub use Rattle.roman_session.specs.States.{IsOpenGreat, IsState, MayAsk, State, start_state}
+pub use Rattle.roman_session.specs.Steps.{Step, is_quit, shown}
+pub use Rattle.roman_session.specs.Turns.{Needs, TurnsInto}
+pub use Rattle.roman_session.specs.Words.{OffersServing, Replies, ReportsGreat}
 pub use Rattle.roman_session.specs.declared.phase.Phase.TheVariants.{Idle}
 pub use Rattle.roman_start.proofs.CallerLemmas.{behaviours_within, names_once, start_pair}
 pub use Rattle.roman_start.specs.Seating.{IsSeated}

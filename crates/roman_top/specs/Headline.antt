@@ -2,8 +2,8 @@
 use Rattle.std.specs.Prelude.{ℕ, List, Option, Some, IfSome}
 use Rattle.roman_io.specs.Sink.{Wrote}
 use Rattle.roman_library.specs.Library.{PlainLibrary}
-use Rattle.roman_hearing.specs.States.{start_state, IsState}
-use Rattle.roman_hearing.specs.Words.{ReportsGreat}
+use Rattle.roman_session.specs.States.{start_state, IsState}
+use Rattle.roman_session.specs.Words.{ReportsGreat}
 use Rattle.roman_top.specs.Command.{Synth, Run, Command, On}
 use Rattle.roman_top.specs.Faults.{IsFree}
 use Rattle.roman_top.specs.HeadlineJobs.{KeepsText}

@@ -6,7 +6,7 @@ use Rattle.roman_model.specs.System.{Pair}
 use Rattle.roman_model.specs.Numbers.{sizes_of, count}
 use Rattle.roman_joint.specs.NamedSys.{system_of}
 use Rattle.roman_library.specs.Library.{PlainLibrary}
-use Rattle.roman_hearing.specs.States.{State, start_state, IsGreat}
+use Rattle.roman_session.specs.States.{State, start_state, IsGreat}
 use Rattle.roman_make.specs.Made.{made}
 use Rattle.roman_top.specs.HeadlineTurns.{Turn, AreTurns, after_turns}
 use Rattle.roman_top.specs.Made.{stage_line, stages, made_line}

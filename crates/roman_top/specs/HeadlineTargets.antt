@@ -20,9 +20,9 @@ use Rattle.roman_library.specs.Library.{PlainLibrary}
 use Rattle.roman_library.specs.Targets.{PlainTargets, NamesTargets}
 use Rattle.roman_session.specs.declared.phase.Phase.TheVariants.{Idle, Offered, Delegated}
 use Rattle.roman_hearing.specs.Several.{several_with}
-use Rattle.roman_hearing.specs.States.{State, start_state, MayAsk, ServesHere}
-use Rattle.roman_hearing.specs.Turns.{Needs, Place, Refuses}
-use Rattle.roman_hearing.specs.Words.{Replies}
+use Rattle.roman_session.specs.States.{State, start_state, MayAsk, ServesHere}
+use Rattle.roman_session.specs.Turns.{Needs, Place, Refuses}
+use Rattle.roman_session.specs.Words.{Replies}
 use Rattle.roman_top.specs.Command.{Synth, Run, Command, On}
 use Rattle.roman_top.specs.HeadlineTurns.{Turn, Means, HasAnsweredLines}
 use Rattle.roman_top.specs.World.{World}

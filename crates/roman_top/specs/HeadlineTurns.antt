@@ -12,8 +12,8 @@ use Rattle.roman_library.specs.Documents.{library_of}
 use Rattle.roman_library.specs.Library.{PlainLibrary}
 use Rattle.roman_start.specs.Starts.{parts_of}
 use Rattle.roman_hearing.specs.Events.{Reads}
-use Rattle.roman_hearing.specs.States.{State, start_state, IsState}
-use Rattle.roman_hearing.specs.Turns.{TurnsInto}
+use Rattle.roman_session.specs.States.{State, start_state, IsState}
+use Rattle.roman_session.specs.Turns.{TurnsInto}
 use Rattle.roman_top.specs.Command.{Command}
 use Rattle.roman_top.specs.Run.{IsSessionText}
 use Rattle.roman_top.specs.World.{World}

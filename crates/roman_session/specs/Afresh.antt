@@ -3,7 +3,7 @@ use Rattle.std.specs.Prelude.{ℕ, List, [], ◌∷◌}
 use Rattle.roman_joint.specs.declared.seat.Seat.{Seat}
 use Rattle.roman_library.specs.Library.{PlainLibrary}
 use Rattle.roman_library.specs.declared.library.Service.{Service}
-use Rattle.roman_hearing.specs.States.{State}
+use Rattle.roman_session.specs.States.{State}
 
 -- the services, each in its present state
 abbrev pub services_in : List Seat → List ℕ → List Service

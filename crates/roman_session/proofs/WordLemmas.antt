@@ -1,8 +1,8 @@
 -- Offers, counts and reports are right by the greatest ND-simulation.
-use Rattle.roman_hearing.proofs.Common.{◌≡◌, ℕ, ◌+◌, Bool, List, [], ◌∷◌, ◌++◌, map, length, cond, true, false, IsTrue, ◌↔◌, refl, sym, ◌∙◌, length-append, arith, not, IsFalse, ◌⊎◌, both_ways, or_cases, not-true, length-map, IsIn, below, IsSublist, Sys, Pair, IsSys, IsPair, arena, is_allowed, outcomes, Entry, is_beaten, IsComplete, Great, is_related, offers, related_count, filter_sublist, filter_in, in_filter, in_below, allowed_in, from_allowed, related_great, great_related, in_listed, listed_in, from_map, system_is_same, sublist_none, HasNoRepeats-filter, allowed_in_range, from_pairs, in_pairs, pairs_once, length-pairs, offers_are, order_new, new_once, in_map, by_test, empty_is, any_true, in_mask, system_of, Situation, present_system, IsPhase, IsSituation, report_text, Phase, Idle, Offered, Delegated, shown, State, IsGreat, MayAsk, start_state, IsOpenGreat, afresh, Counts, flat_map, count, OpenIsGreat, NotOfferedFails, AreServing, ReportsGreat}
+use Rattle.roman_session.proofs.Common.{◌≡◌, ℕ, ◌+◌, Bool, List, [], ◌∷◌, ◌++◌, map, length, cond, true, false, IsTrue, ◌↔◌, refl, sym, ◌∙◌, length-append, arith, ◌⊎◌, both_ways, length-map, IsIn, below, IsSublist, Sys, Pair, IsSys, IsPair, arena, is_allowed, Entry, IsComplete, Great, is_related, offers, related_count, filter_sublist, filter_in, in_filter, in_below, allowed_in, from_allowed, related_great, great_related, in_listed, listed_in, from_map, system_is_same, sublist_none, HasNoRepeats-filter, allowed_in_range, from_pairs, in_pairs, pairs_once, length-pairs, offers_are, order_new, new_once, in_map, system_of, Situation, IsSituation, report_text, shown, State, IsGreat, MayAsk, start_state, afresh, Counts, flat_map, count, AreServing, ReportsGreat}
 use Rattle.std.specs.List.{filter}
 use Rattle.roman_text.specs.declared.report.ReportLine.TheVariants as line
-use Rattle.roman_hearing.proofs.ReportLemmas.{reports_afresh, afresh_known}
+use Rattle.roman_session.proofs.ReportLemmas.{reports_afresh, afresh_known}
 
 -- the services that serve
 
@@ -17,33 +17,6 @@ offers_serving s a sys pair allowed = record {
   order = picked_order (is_allowed (system_of s.parts) s.here a) _ (length (system_of s.parts).seats);
   exact = (offers_are (system_of s.parts) sys).offered s.here pair a allowed;
 }
-
--- services that aren't offered
-
--- a seat that is beaten has no outcome, or an outcome whose pair isn't related
-beaten_fails : (s : Sys) (p : Pair) (a k : ℕ) → IsTrue (is_beaten (arena s) (λ q. not (is_related s q)) p a k) →
-    (outcomes s p a k ≡ []) ⊎ ((q : Pair) × IsIn q (outcomes s p a k) × IsFalse (is_related s q))
-beaten_fails s p a k beaten = grind (arith, any_true, empty_is, not-true, or_cases)
-
-pub not_offered_fails : NotOfferedFails
-not_offered_fails s p a k l allowed out =
-    by_test (is_beaten (arena s) (λ q. not (is_related s q)) p a k) (beaten_fails s p a k)
-    (λ unbeaten. absurd (out (in_mask (arena s) (λ q. not (is_related s q)) p a k allowed l unbeaten)))
-
--- open requests
-
-open_by : (s : Situation) (phase : Phase) → IsSituation s → IsPhase s phase → IsOpenGreat (shown s) phase
-open_by s Idle is is_open = tt
-open_by s (Offered a) is is_open = (related_great (present_system s) s.here is.parts.system is.here is_open.0, from_allowed (present_system s) s.here a is_open.1)
-open_by s (Delegated a k) is is_open = (
-  related_great (present_system s) s.here is.parts.system is.here is_open.0.0,
-  from_allowed (present_system s) s.here a is_open.0.1,
-  (((offers_serving (shown s) a is.parts.system is.here is_open.0.1).exact k).0 is_open.1).1,
-)
-
--- The greatest ND-simulation serves open requests.
-pub open_great : OpenIsGreat
-open_great s is = open_by s s.phase is is.phase
 
 -- counts
 

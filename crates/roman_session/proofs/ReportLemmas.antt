@@ -1,5 +1,5 @@
 -- The report of a session equals the report of the library that begins in the present states of the session.
-use Rattle.roman_hearing.proofs.Common.{◌≡◌, ℕ, ◌<◌, List, [], ◌∷◌, map, refl, ap, arith, NamedBeh, NamedSys, seat_of, system_of, Beh, IsBeh, IsSys, IsPair, Env, Situation, IsSituation, lines_text, report_text, afresh, services_in, shown, Seat, AllZip, seat_of_service, parts_of, start_pair_of, ReportsAreAfresh}
+use Rattle.roman_session.proofs.Common.{◌≡◌, ℕ, ◌<◌, List, [], ◌∷◌, map, refl, ap, arith, NamedBeh, NamedSys, seat_of, system_of, Beh, IsBeh, IsSys, IsPair, Env, Situation, IsSituation, lines_text, report_text, afresh, services_in, shown, Seat, AllZip, seat_of_service, parts_of, start_pair_of}
 
 -- the present services give the same seats again, and begin in the same states
 pub services_again : (catalogue : List NamedBeh) (seats : List Seat) (bs : List ℕ) → AllZip (λ seat b. b < seat.beh.states) (map (seat_of catalogue) seats) bs →
@@ -26,7 +26,7 @@ start_unsaid : (s : Situation) → report_text s.parts s.here ≡ report_text (b
 unfolding report_text lines_text
 start_unsaid s = refl
 
-pub reports_afresh : ReportsAreAfresh
+pub reports_afresh : (s : Situation) → IsSituation s → report_text s.parts s.here ≡ report_text (parts_of (afresh (shown s))) (start_pair_of (afresh (shown s)))
 reports_afresh s is = let (seats, states) = services_again s.parts.catalogue s.parts.seats s.here.bs is.here.bs in grind (arith, start_unsaid)
 
 -- The steps don't depend on the starting states of the library

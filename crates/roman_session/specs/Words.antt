@@ -18,8 +18,8 @@ use Rattle.roman_text.specs.declared.report.ReportLine.TheVariants as line
 use Rattle.roman_joint.specs.NamedSys.{system_of}
 use Rattle.roman_joint.specs.Names.{seat_name, names_in}
 use Rattle.roman_session.specs.Reports.{lines_text, service_lines}
-use Rattle.roman_hearing.specs.States.{State, IsGreat, MayAsk, ServesHere}
-use Rattle.roman_hearing.specs.Refutations.{AreLost, WinsBy}
+use Rattle.roman_session.specs.States.{State, IsGreat, MayAsk, ServesHere}
+use Rattle.roman_session.specs.Refutations.{AreLost, WinsBy}
 
 -- the text is that reply
 abbrev pub Replies : Reply → List ℕ → Type 0

@@ -15,9 +15,9 @@ use Rattle.roman_joint.specs.Changes.{with_frozen}
 use Rattle.roman_joint.specs.Names.{seat_name, beh_name, states_of_behaviour, names_in}
 use Rattle.roman_joint.specs.declared.seat.Seat.{Seat}
 use Rattle.roman_session.specs.declared.phase.Phase.TheVariants.{Idle, Offered, Delegated}
-use Rattle.roman_hearing.specs.States.{State, start_state, IsGreat, MayAsk, ServesHere}
-use Rattle.roman_hearing.specs.Afresh.{afresh}
-use Rattle.roman_hearing.specs.Words.{Replies, OffersServing, CountsLost, ReportsGreat, IsReady, Refutes}
+use Rattle.roman_session.specs.States.{State, start_state, IsGreat, MayAsk, ServesHere}
+use Rattle.roman_session.specs.Afresh.{afresh}
+use Rattle.roman_session.specs.Words.{Replies, OffersServing, CountsLost, ReportsGreat, IsReady, Refutes}
 
 -- ---- conditions
 

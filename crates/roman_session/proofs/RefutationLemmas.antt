@@ -1,5 +1,5 @@
 -- The explanation of a pair that isn't related is a removal list in terms of steps, and the opponent who plays by it wins.
-use Rattle.roman_hearing.proofs.Common.{◌≡◌, ℕ, zero, suc, ◌+◌, ◌<◌, Bool, not, List, [], ◌∷◌, ◌++◌, length, codes, Option, None, Some, IsTrue, IsFalse, inl, inr, slice_get, refl, sym, ap, ◌∙◌, subst, arith, append_assoc, filter, find, list_any, false≢true, both_ways, or_cases, or_parts, not-true, cond-true, cond-false, not-false, IsIn, below, is_empty, text_of_lines, Sys, Pair, IsSys, arena, outcomes, is_ready, Entry, is_beaten, is_listed, is_justified, IsOrder, Great, explain_text, Names, entries_before, answer, ready_seats, answers, rests_on, explanation, lost_line, entry_lines, by_test, empty_is, filter_in, in_filter, filter_sublist, in_below, listed_in, in_listed, from_allowed, from_outcome, outcome_in, system_is_same, find_some, find_found, in_append_right, in_append_left, from_push, in_flat_map, flat_map_same, justified_is, order_middle, before_is, explanation_is_order, explanation_is_least, names_in, Situation, present_system, IsSituation, shown, IsReady, Refutes, lines_of_answers, option_to_list, none-some, slice_get_within, Reason, Final, Act, MayAnswer, IsLost, AreLost, WinsBy, ◌≤◌}
+use Rattle.roman_session.proofs.Common.{◌≡◌, ℕ, zero, suc, ◌+◌, ◌<◌, Bool, not, List, [], ◌∷◌, ◌++◌, length, codes, Option, None, Some, IsTrue, IsFalse, inl, inr, slice_get, refl, sym, ap, ◌∙◌, subst, arith, append_assoc, filter, find, list_any, false≢true, both_ways, or_cases, or_parts, not-true, cond-true, cond-false, not-false, IsIn, below, is_empty, text_of_lines, Sys, Pair, IsSys, arena, outcomes, is_ready, Entry, is_beaten, is_listed, is_justified, IsOrder, Great, explain_text, Names, entries_before, answer, ready_seats, answers, rests_on, explanation, lost_line, entry_lines, by_test, empty_is, filter_in, in_filter, filter_sublist, in_below, listed_in, in_listed, from_allowed, from_outcome, outcome_in, system_is_same, find_some, find_found, in_append_right, in_append_left, from_push, in_flat_map, flat_map_same, justified_is, order_middle, before_is, explanation_is_order, explanation_is_least, names_in, Situation, present_system, IsSituation, shown, IsReady, Refutes, lines_of_answers, option_to_list, none-some, slice_get_within, Reason, Final, Act, MayAnswer, IsLost, AreLost, WinsBy, ◌≤◌}
 
 -- Losing more
 
