@@ -33,7 +33,7 @@ RESTS_ON: Dict[Definition, int] = {
 # needs none of them, but for the entries of an explanation.
 NOT_IN_HEADLINE = {
     "roman_model.specs.Arena", "roman_model.specs.CompleteLists", "roman_model.specs.Offers", "roman_model.specs.Play",
-    "roman_model.specs.SystemArena", "roman_session.specs.Rulings", "roman_session.specs.Situations", "roman_session.specs.Steps",
+    "roman_model.specs.SystemArena", "roman_session.specs.Situations", "roman_session.specs.Steps",
 }
 DOCUMENTS = Definition("roman_library.specs.Documents", "library_of")
 ENTRY = Definition("roman_model.specs.Arena", "Entry")

@@ -5,15 +5,12 @@ pub use Rattle.roman_hearing.proofs.KnownLemmas.{steps_known}
 -- Steps leave all parts but the services.
 pub use Rattle.roman_hearing.proofs.KeepLemmas.{line_keeps}
 -- Each step is a turn, and open requests can be served.
-pub use Rattle.roman_hearing.proofs.TurnLemmas.{steps_turns}
-pub use Rattle.roman_hearing.proofs.OfferLemmas.{open_great}
+pub use Rattle.roman_hearing.proofs.TurnLemmas.{open_great, steps_turns}
 -- The system of a document with several targets combines them.
 pub use Rattle.roman_hearing.proofs.SeveralLemmas.{means_all, parts_are, parts_in}
 -- The lines that are answered.
 pub use Rattle.roman_hearing.proofs.HearingLines.{answered_heard}
 -- How a session that is read from a source ends.
 pub use Rattle.roman_hearing.proofs.HearingEnds.{short_out}
--- The library that begins in the present states has the present services.
-pub use Rattle.roman_hearing.proofs.ReportLemmas.{services_again}
 -- Two parts of a list with the same elements are equal, and so are two counts of the same pairs.
 pub use Rattle.roman_hearing.proofs.FixedLemmas.{count_fixed, sublists_same}

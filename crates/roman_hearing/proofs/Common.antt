@@ -1,32 +1,30 @@
 -- What the proof pages of this crate cite from elsewhere, passed on from one place. Declares nothing.
-pub use Rattle.std.proofs.Common.{All, Bool, Err, IfOk, IfSome, IsErrOf, IsFalse, IsTrue, List, None, Ok, OnOk, Option, Result, Some, [], ap, append-nil, append_assoc, ap₂, arith, codes, cond, drop, eq-eqb, eqb-true, false, get_or, if◌then◌else◌, inl, inr, is_none, is_ok, le-leb, leb-true, length, length-append, length-take, length-take-le, ltb, ltb-false, ltb-true, map, min, nat_le, nat_lt, not, ok_or, refl, rules, slice_get, slice_set, subst, suc, sym, take, take-append-drop, take_at, true, zero, ℕ, ◌&&◌, ◌++◌, ◌+◌, ◌-◌, ◌<◌, ◌==◌, ◌↔◌, ◌∙◌, ◌∷◌, ◌≡◌, ◌≤◌, ◌⊎◌}
+pub use Rattle.std.proofs.Common.{All, Bool, Err, IfOk, IfSome, IsErrOf, IsFalse, IsTrue, List, None, Ok, OnOk, Option, Result, Some, [], ap, append-nil, append_assoc, ap₂, arith, codes, cond, drop, eq-eqb, eqb-true, false, if◌then◌else◌, inl, inr, le-leb, length, length-append, length-take, length-take-le, ltb, ltb-false, ltb-true, map, min, nat_le, nat_lt, not, refl, rules, slice_get, slice_set, subst, suc, sym, take, take-append-drop, take_at, true, zero, ℕ, ◌&&◌, ◌++◌, ◌+◌, ◌-◌, ◌<◌, ◌==◌, ◌↔◌, ◌∙◌, ◌∷◌, ◌≡◌, ◌≤◌, ◌⊎◌}
 pub use Rattle.std.proofs.Math.Seq.{take-append-add}
-pub use Rattle.std.proofs.lemmas.Bool.{and_from, and_parts, both_ways, cond-false, cond-true, false≢true, lt-leb, lt-ltb, not-false, not-true, or_cases, or_from, or_left, or_parts, or_right}
+pub use Rattle.std.proofs.lemmas.Bool.{and_from, and_parts, both_ways, cases_lt, cond-false, cond-true, false≢true, lt-leb, not-true, or_cases, or_from, or_left, or_parts, or_right}
 pub use Rattle.std.proofs.lemmas.List.{length-map, nil_from_length, take_all, take_min}
 pub use Rattle.std.proofs.lemmas.List.Elements.{All-get_or}
 pub use Rattle.std.proofs.lemmas.List.Folds.{list_any-append}
-pub use Rattle.std.proofs.lemmas.List.Quantifiers.{position-Some}
-pub use Rattle.std.proofs.lemmas.Option.{get_or_from_slice_get, same_Some, slice_get-get_or}
+pub use Rattle.std.proofs.lemmas.Option.{get_or_from_slice_get, slice_get_within}
 pub use Rattle.std.proofs.lemmas.Result.{err_from_is_err_and}
-pub use Rattle.std.proofs.lemmas.Slice.Eq.{bytes_eq-Decides}
-pub use Rattle.std.specs.List.{flat_map, list_any}
+pub use Rattle.std.specs.List.{flat_map, list_any, remove}
 pub use Rattle.std.specs.Str.{bytes_eq}
 pub use Rattle.std.specs.Str.Lines.{strip_carriage_return}
-pub use Rattle.roman_generator.specs.declared.sight.Sight.{Sight}
 pub use Rattle.roman_io.proofs.CallerLemmas.{Gave-nil, Gave-then, Wrote-then, WrotePrefix-after, WrotePrefix-append, gave_at_most, had_all, had_more}
 pub use Rattle.roman_io.specs.Sink.{Wrote, WrotePrefix}
 pub use Rattle.roman_io.specs.Source.{EndsAt, Gave, GaveAtMost, Had}
 pub use Rattle.roman_io.specs.declared.failed.Failed.{Failed}
 pub use Rattle.roman_joint.proofs.CallerLemmas.{beh_read, frozen_known, frozen_system, gone_known, gone_system, joined_known, joined_system, seat_read}
+pub use Rattle.roman_joint.specs.Changes.{with_frozen}
 pub use Rattle.roman_joint.specs.NamedSys.{IsNamedSys, NamedSys, beh_at, cells, seat_of, system_of}
 pub use Rattle.roman_joint.specs.Names.{beh_name, names_in, seat_name, states_of_behaviour}
 pub use Rattle.roman_joint.specs.declared.seat.Seat.{Seat}
 pub use Rattle.roman_library.proofs.CallerLemmas.{libraries_known, targets_combined}
 pub use Rattle.roman_library.specs.Library.{PlainLibrary}
 pub use Rattle.roman_library.specs.Targets.{CombinesTargets, PlainTargets}
-pub use Rattle.roman_model.proofs.CallerLemmas.{HasNoRepeats-below, IsPair-grown, IsPair-turned, IsPair-without, allowed_in, any_false, any_true, by_test, combined_is_all, empty_is, flat_map_same_in, from_allowed, from_map, from_outcome, get_in, great_related, in_mask, listed_number, no_longer, number_listed, order_goes_on, outcome_in, related_great, renaming_keeps, replay_sublist, same_numbers_is, same_numbers_itself, same_test, sublist_in, there_is}
+pub use Rattle.roman_model.proofs.CallerLemmas.{HasNoRepeats-below, IsPair-grown, IsPair-turned, IsPair-without, allowed_in, any_false, any_true, by_test, combined_is_all, empty_is, flat_map_same_in, from_allowed, from_map, from_outcome, get_in, great_related, in_mask, no_longer, order_goes_on, outcome_in, outcome_pair, related_great, renaming_keeps, replay_sublist, same_numbers_is, same_numbers_itself, same_test, sublist_in, there_is}
 pub use Rattle.roman_model.specs.Arena.{Entry, is_beaten, replay}
-pub use Rattle.roman_model.specs.Change.{CanChange, after, rename}
+pub use Rattle.roman_model.specs.Change.{CanChange, Change, Die, Freeze, Join, Thaw, after, rename}
 pub use Rattle.roman_model.specs.Combined.{IsSeveral, combined, combined_beh, combined_seat, couple_all, target_sizes}
 pub use Rattle.roman_model.specs.CompleteLists.{IsComplete}
 pub use Rattle.roman_model.specs.Composition.{Great}
@@ -36,7 +34,7 @@ pub use Rattle.roman_model.specs.Lines.{IsLine, ended_lines, lines, text_of_line
 pub use Rattle.roman_model.specs.Lists.{HasNoRepeats, IsIn, IsSublist, below, product_of}
 pub use Rattle.roman_model.specs.Offers.{is_related, offers}
 pub use Rattle.roman_model.specs.Several.{GreatAll}
-pub use Rattle.roman_model.specs.System.{Beh, IsBeh, IsPair, Pair, Sys, has}
+pub use Rattle.roman_model.specs.System.{Beh, IsBeh, IsPair, Pair, SStep, Sys, TStep, has}
 pub use Rattle.roman_model.specs.SystemArena.{arena, is_allowed, outcomes, same_numbers}
 pub use Rattle.roman_model.specs.declared.limits.TheConstants.{MAX_SERVICES, MAX_SESSION_BYTES, MAX_STATES}
 pub use Rattle.roman_model.specs.declared.request.Request.{Request}
@@ -44,24 +42,18 @@ pub use Rattle.roman_multi.proofs.CallerLemmas.{all_in, are_allowed, good_count,
 pub use Rattle.roman_multi.specs.Combining.{PlainCombined, combined_behaviour, machines, requests_in}
 unfoldable pub use Rattle.roman_multi.specs.Combining.{combined_parts}
 pub use Rattle.roman_parts.specs.Named.{IsBehaviour, NamedBeh, NamedEnv}
-pub use Rattle.roman_read.proofs.CallerLemmas.{bind_ok, same_ok}
-pub use Rattle.roman_read.specs.Items.{◌>>=◌}
 pub use Rattle.roman_read.specs.Names.{is_name, place_of}
-pub use Rattle.roman_session.proofs.CallerLemmas.{asked_is, cells_with, checked, died_is, env_jumped_is, frozen_is, handed_is, joining_idle, jumped_is, jumped_pair, lost_counted, mapped_at, moved_pair, name_is_new, offers_serving, outcomes_related, refutes, reports_both, requests_offered, seat_is, seen_is, states_named, thawed_is}
+pub use Rattle.roman_session.proofs.CallerLemmas.{delegation_serves, explains, great_tests, hand_opens, in_place, jumped_pair, lost_counted, mapped_at, may_tests, no_place, offered_tests, offers_said, place_there, ready_tests, reports, requests_offered, seen_great, states_named}
 pub use Rattle.roman_session.specs.Answering.{AnsweredOn, next_of}
-pub use Rattle.roman_session.specs.Joins.{CanJoin}
 pub use Rattle.roman_session.specs.Reports.{report_text}
-pub use Rattle.roman_session.specs.Rulings.{check_idle, delegation, demand, join_of, named, offered_action, seat_at, service_named, state_named, with_room}
-unfoldable pub use Rattle.roman_session.specs.Rulings.{aborted, asked, died, env_jumped, frozen, handed, joining, jumped, seen, thawed, unexplained}
-pub use Rattle.roman_session.specs.Situations.{IsPhase, IsSituation, Situation, is_idle, present_system}
-pub use Rattle.roman_session.specs.States.{IsGreat, IsOpenGreat, MayAsk, ServesHere, State}
-pub use Rattle.roman_session.specs.Steps.{Aborts, Asks, CanBe, Changes, Changing, Dies, Does, EnvJumps, Explains, Freezes, Hands, Joins, Jumps, Sees, StepBy, Thaws, dying, freezing, growing, pair_after, parts_after, service_at, shown, thawing}
-unfoldable pub use Rattle.roman_session.specs.Steps.{Step, offer_text}
-pub use Rattle.roman_session.specs.Turns.{ComesTo, Needs, Place, Refuses, Unless}
-pub use Rattle.roman_session.specs.Words.{AreServing, CountsLost, IsReady, OffersServing, Refutes, Replies}
-pub use Rattle.roman_session.specs.declared.events.Handing.{Handing}
-pub use Rattle.roman_session.specs.declared.events.Joining.{Joining}
-pub use Rattle.roman_session.specs.declared.events.Jump.{Jump}
+pub use Rattle.roman_session.specs.Rules.{Tests}
+pub use Rattle.roman_session.specs.Serving.{offer_text}
+pub use Rattle.roman_session.specs.Situations.{IsPhase, IsSituation, Situation, present_system}
+pub use Rattle.roman_session.specs.States.{IsGreat, IsOpenGreat, State}
+pub use Rattle.roman_session.specs.Steps.{IsAt, IsRepair, StepBy, shown}
+unfoldable pub use Rattle.roman_session.specs.Steps.{Step}
+pub use Rattle.roman_session.specs.Turns.{Needs, Place, Refuses, TurnsInto, Unless, with_services}
+pub use Rattle.roman_session.specs.Words.{AreServing, CountsLost, IsReady}
 pub use Rattle.roman_session.specs.declared.next.Next.{Next}
 pub use Rattle.roman_session.specs.declared.next.Next.TheVariants.{More, Quit}
 pub use Rattle.roman_session.specs.declared.phase.Phase.{Phase}

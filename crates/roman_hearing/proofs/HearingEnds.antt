@@ -1,5 +1,5 @@
 -- How a session that is read from a source ends.
-use Rattle.roman_hearing.proofs.Common.{◌≡◌, ℕ, ◌+◌, ◌<◌, ◌≤◌, false, List, [], ◌∷◌, ◌++◌, length, take, drop, nat_le, Option, Result, Ok, Err, IsTrue, refl, sym, ap, ◌∙◌, subst, arith, append_assoc, append-nil, length-append, take-append-drop, ◌-◌, ltb, OnOk, IsErrOf, length-take, take_at, le-leb, cond-true, cond-false, or_from, or_left, or_right, lt-leb, Gave, GaveAtMost, EndsAt, Had, Gave-then, gave_at_most, WrotePrefix-append, had_more, had_all, lines, ended_lines, text_of_lines, MAX_SESSION_BYTES, by_test, unfinished, kept, lines_none, kept-nil, lines_are, lines_only, Situation, Told, AreBehaviours, has_quit, is_heard_out, heard_lines, cursor, Tells, TellsPrefix, prefix_of, GaveQuit, StreamState, IsHeardOut, IsCutOff, StopsShort, TellsPrefixOfAll, reader_state, IsHearing, StopsAtQuit, FallsShort, FailsIn, HearsPiece, HearsRest, take-append-add, HearError, ReadFault, WriteFault, TooLong}
+use Rattle.roman_hearing.proofs.Common.{◌≡◌, ℕ, ◌+◌, ◌<◌, ◌≤◌, false, List, [], ◌∷◌, ◌++◌, length, take, drop, nat_le, Option, Result, Ok, Err, IsTrue, refl, sym, ap, ◌∙◌, subst, arith, append_assoc, append-nil, length-append, take-append-drop, ◌-◌, ltb, OnOk, IsErrOf, length-take, take_at, le-leb, cond-true, cond-false, or_from, or_left, or_right, lt-leb, Gave, GaveAtMost, EndsAt, Had, Gave-then, gave_at_most, WrotePrefix-append, had_more, had_all, lines, ended_lines, text_of_lines, MAX_SESSION_BYTES, by_test, unfinished, kept, lines_none, kept-nil, lines_are, lines_only, Situation, Told, AreNamed, has_quit, is_heard_out, heard_lines, Tells, TellsPrefix, prefix_of, GaveQuit, StreamState, IsHeardOut, IsCutOff, StopsShort, TellsPrefixOfAll, reader_state, IsHearing, StopsAtQuit, FallsShort, FailsIn, HearsPiece, HearsRest, take-append-add, HearError, ReadFault, WriteFault, TooLong}
 use Rattle.roman_hearing.proofs.HearingLines.{ended_more, lines_more, quit_left, told_stops}
 use Rattle.roman_hearing.proofs.HearingSteps.{told_more}
 use Rattle.roman_hearing.proofs.HearingLemmas.{whole_told}
@@ -37,7 +37,7 @@ pub record Ends (old new : StreamState) (r : Result (Unit {0}) HearError) : Type
   pub too_long : IsErrOf r TooLong → IsCutOff old new.cursor
   pub untroubled : IsErrOf r ReadFault → ⊥
   pub write_fault : IsErrOf r WriteFault → StopsShort old new
-  pub prefix : IsErrOf r WriteFault → AreBehaviours old.cursor.situation.parts → TellsPrefixOfAll old new.cursor.written
+  pub prefix : IsErrOf r WriteFault → AreNamed old.cursor.situation.parts → TellsPrefixOfAll old new.cursor.written
 
 -- at most one piece is taken past the limit
 pub gave_pieces : (before mid now : Option (List ℕ)) (taken into : List ℕ) (room n : ℕ) → Gave before mid taken → Gave mid now (take n into) → room + length taken ≡ MAX_SESSION_BYTES → length into ≤ 4096 →
@@ -160,14 +160,14 @@ module _ (old new : StreamState) (mid : Option (List ℕ)) (taken got : List ℕ
       let parts : taken ++ got ≡ whole ++ (unfinished fails.heard ++ rest) = grind (arith, append_assoc) in
       grind (arith, (Gave-then old.rest mid new.rest taken got first second), part_fits, (length-append fails.heard fails.past), (length-append whole (unfinished fails.heard)))
 
-  prefixes_all : AreBehaviours old.cursor.situation.parts → FailsIn old.cursor (taken ++ take room got) new.cursor → TellsPrefixOfAll old new.cursor.written
-  prefixes_all behaviours fails =
+  prefixes_all : AreNamed old.cursor.situation.parts → FailsIn old.cursor (taken ++ take room got) new.cursor → TellsPrefixOfAll old new.cursor.written
+  prefixes_all named fails =
       let (after, had) = had_after in
       let rest : List ℕ = fails.past ++ (drop room got ++ after) in
       let session : (taken ++ got) ++ after ≡ fails.heard ++ rest = part_split after fails.heard fails.past fails.split in
       let few : length fails.heard ≤ MAX_SESSION_BYTES = omega (arith, part_fits, ap length fails.split, length-append fails.heard fails.past) in
       let (more, e) = heard_more fails.heard rest few in
-      let (text, last, told) = told_more old.cursor.situation new.cursor.situation (ended_lines fails.heard) more fails.fails.tells.text behaviours fails.fails.known fails.fails.tells.told in
+      let (text, last, told) = told_more old.cursor.situation new.cursor.situation (ended_lines fails.heard) more fails.fails.tells.text named fails.fails.known fails.fails.tells.told in
       record {
         session = (taken ++ got) ++ after;
         had = had;
@@ -184,5 +184,5 @@ module _ (old new : StreamState) (mid : Option (List ℕ)) (taken got : List ℕ
         too_long = λ is. let (hearing, more) = at TooLong cc in cut_off held hearing more;
         untroubled = λ is. at ReadFault cc;
         write_fault = λ is. stops_short (at WriteFault cc);
-        prefix = λ is behaviours. prefixes_all behaviours (at WriteFault cc);
+        prefix = λ is named. prefixes_all named (at WriteFault cc);
       }

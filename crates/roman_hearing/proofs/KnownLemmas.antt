@@ -1,73 +1,100 @@
 -- Steps lead from well-formed situations to well-formed ones.
-use Rattle.roman_hearing.proofs.Common.{◌≡◌, ℕ, ◌<◌, List, Result, Ok, Err, inl, inr, slice_set, refl, sym, subst, arith, Sys, IsPair, number_listed, LineShape, ask, hand, saw, abort, freeze, thaw, die, join, jump, jump_env, explain, shape_of, LineError, Reply, Situation, present_system, IsPhase, IsSituation, asked, handed, seen, aborted, jumped, env_jumped, frozen, thawed, died, join_of, unexplained, Asks, Hands, Sees, Aborts, Jumps, EnvJumps, Changing, Changes, Freezes, Thaws, Dies, Joins, Explains, Does, StepBy, Step, parts_after, Handing, Jump, Sight, asked_is, handed_is, jumped_is, env_jumped_is, jumped_pair, moved_pair, AreBehaviours, AreNamed, StepsStayKnown, Idle, Offered, Pair, Phase}
-use Rattle.roman_joint.specs.NamedSys as joint
-use Rattle.roman_hearing.proofs.KeepLemmas.{line_keeps}
+use Rattle.roman_hearing.proofs.Common.{Change, Entry, Err, Idle, IsComplete, IsKnownSituation, IsNamedSys, IsPair, IsPhase, IsRepair, IsSituation, LineError, LineShape, List, Ok, Pair, Result, Situation, State, Step, StepBy, StepsStayKnown, abort, allowed_in, arith, ask, die, explain, freeze, great_related, hand, hand_opens, inl, inr, join, jump, jump_env, jumped_pair, length-map, nothing, outcome_in, outcome_pair, present_system, quit, refl, report, saw, seat_of, shape_of, shown, slice_get_within, subst, sym, system_of, thaw, there_is, ℕ, ◌<◌, ◌≡◌}
+use Rattle.roman_hearing.proofs.KeepLemmas.{line_keeps, named_stay, needs_elim, unless_elim}
 use Rattle.roman_hearing.proofs.ChangeLemmas.{CanMake, freezes_can, thaws_can, dies_can, joins_can}
-use Rattle.roman_hearing.proofs.WithinLemmas.{named_within, seat_within, state_within}
+use Rattle.roman_hearing.proofs.WithinLemmas.{behaviour_within, new_state_within, seat_within, state_within}
 
--- events that change little
+-- a situation from its state and its list
+abbrev pub situation_of : State → List (Entry Pair) → Situation
+situation_of s list = record { parts = s.parts; here = s.here; phase = s.phase; list = list }
 
-does_known : {X : Type 0} (Act : Situation → X → List ℕ → Situation → Type 0) (old new : Situation) (r : Result X Reply) (text : List ℕ) → IsSituation old →
-    ((x : X) → r ≡ Ok x → Act old x text new → IsSituation new) → Does Act old r text new → IsSituation new
-does_known Act old new (Err refusal) text is act step = subst IsSituation (sym step.1) is
-does_known Act old new (Ok x) text is act step = act x refl step
+module _ (old new : Situation) (text : List ℕ) (known : IsKnownSituation old) where
+  abbrev is : IsSituation old
+  is = known.situation
 
--- the pair and the phase change
-moves_known : (old new : Situation) (here : Pair) (phase : Phase) → IsSituation old → IsPair (present_system old) here → IsPhase (record old { here = here; phase = phase }) phase →
-    new ≡ record old { here = here; phase = phase } → IsSituation new
-moves_known old new here phase is pair opens same = subst IsSituation (sym same) (record { parts = is.parts; here = pair; list = is.list; phase = opens })
+  -- the new situation is well formed by its state and its list
+  goes : (next : State) → shown new ≡ next → IsComplete (system_of next.parts) new.list → IsNamedSys next.parts → IsPair (system_of next.parts) next.here → IsPhase (situation_of next new.list) next.phase → IsSituation new
+  goes next same list parts pair phase =
+      let well : IsSituation (situation_of next new.list) = record { parts = parts; here = pair; list = list; phase = phase } in
+      subst (λ (t : State). IsSituation (situation_of t new.list)) (sym same) well
 
-hands_known : (old new : Situation) (service text : List ℕ) (x : Handing) → IsSituation old → handed old service ≡ Ok x → Hands old x text new → IsSituation new
-hands_known old new service text x is ok hands = grind (arith, handed_is, number_listed)
+  goes_idle : (next : State) → shown new ≡ next → IsComplete (system_of next.parts) new.list → IsNamedSys next.parts → IsPair (system_of next.parts) next.here → next.phase ≡ Idle → IsSituation new
+  goes_idle next same list parts pair idle = goes next same list parts pair (subst (IsPhase (situation_of next new.list)) (sym idle) tt)
 
-sees_known : (old new : Situation) (x : Sight) (text : List ℕ) → IsSituation old → Sees old x text new → IsSituation new
-sees_known old new x text is (inl moves) = grind (arith, moved_pair)
-sees_known old new x text is (inr (never, says, same)) = subst IsSituation (sym same) is
+  -- events that leave the list
 
--- jumps
+  left : new.list ≡ old.list → IsComplete (present_system old) new.list
+  left list = subst (IsComplete (present_system old)) (sym list) is.list
 
-jumps_known : (old new : Situation) (service state text : List ℕ) (x : Jump) → IsSituation old → AreBehaviours old.parts → jumped old service state ≡ Ok x → Jumps old x text new → IsSituation new
-jumps_known old new service state text x is behaviours ok jumps =
-    let ruling = jumped_is old service state x ok in
-    let l = seat_within old service x.seat ruling.seat in
-    moves_known old new (record old.here { bs = slice_set old.here.bs x.seat x.state }) old.phase is (jumped_pair old x.seat x.state is l (state_within old x.seat x.state state is behaviours l ruling.state)) (rw ruling.idle tt) jumps.1
+  same_state : new.list ≡ old.list → shown new ≡ shown old → IsSituation new
+  same_state list same = goes (shown old) same (left list) is.parts is.here is.phase
 
-env_jumps_known : (old new : Situation) (env text : List ℕ) (e : ℕ) → IsSituation old → AreNamed old.parts → env_jumped old env ≡ Ok e → EnvJumps old e text new → IsSituation new
-env_jumps_known old new env text e is are ok jumps =
-    let ruling = env_jumped_is old env e ok in
-    let less : e < (present_system old).env.states = omega (arith, named_within old.parts.environment.states env e ruling.named, are.environment) in
-    let next : Situation = record old { here = record old.here { e = e } } in
-    grind arith
+  stays : {Said : Type 0} → new.list ≡ old.list → Said × (shown new ≡ shown old) → IsSituation new
+  stays list (says, same) = same_state list same
 
--- changes of the services
+  -- changes of the services
 
-changes_known : (old new : Situation) (x : Changing) (text : List ℕ) → IsSituation old → CanMake old x → Changes old x text new → IsSituation new
-changes_known old new x text is can changes =
-    let pair : IsPair (joint.system_of (parts_after old x)) x.here = subst (λ (s : Sys). IsPair s x.here) (sym can.same) (can.pair is.here) in
-    grind arith
+  repaired : {change : Change} (next : State) → IsRepair old change text new → shown new ≡ next → IsComplete (system_of next.parts) new.list
+  repaired next repair same =
+      subst (λ (t : State). IsComplete (system_of t.parts) new.list) same (subst (IsComplete (present_system new)) (sym repair.list) repair.complete)
 
--- any line
+  stops : {change : Change} {Said : Type 0} → IsRepair old change text new → Said × (shown new ≡ shown old) → IsSituation new
+  stops repair (says, same) = goes (shown old) same (repaired (shown old) repair same) is.parts is.here is.phase
 
-line_known : (old new : Situation) (shape : Result LineShape LineError) (text : List ℕ) → IsSituation old → AreNamed old.parts → StepBy old shape text new → IsSituation new
-line_known old new (Ok (ask action)) text is are step = does_known Asks old new (asked old action) text is (λ a ok asks. let ruling = asked_is old action a ok in moves_known old new old.here (Offered a) is is.here (ruling.related, ruling.allowed) asks.1) step
-line_known old new (Ok (hand service)) text is are step = does_known Hands old new (handed old service) text is (λ x ok. hands_known old new service text x is ok) step
-line_known old new (Ok (saw state env)) text is are step = does_known Sees old new (seen old state env) text is (λ x ok. sees_known old new x text is) step
-line_known old new (Ok abort) text is are step = does_known Aborts old new (aborted old) text is (λ x ok aborts. moves_known old new old.here Idle is is.here tt aborts.1) step
-line_known old new (Ok (freeze service)) text is are step = does_known Freezes old new (frozen old service) text is (λ k ok. changes_known old new _ text is (freezes_can old is.parts service k ok)) step
-line_known old new (Ok (thaw service)) text is are step = does_known Thaws old new (thawed old service) text is (λ k ok. changes_known old new _ text is (thaws_can old is.parts service k ok)) step
-line_known old new (Ok (die service)) text is are step = does_known Dies old new (died old service) text is (λ k ok. changes_known old new _ text is (dies_can old is.parts service k ok)) step
-line_known old new (Ok (join service behaviour state loose)) text is are step =
-    does_known Joins old new (join_of old service behaviour state loose) text is (λ x ok. changes_known old new _ text is (joins_can old is.parts service behaviour state loose x are.behaviours ok)) step
-line_known old new (Ok (jump service state)) text is are step =
-    does_known Jumps old new (jumped old service state) text is (λ x ok. jumps_known old new service state text x is are.behaviours ok) step
-line_known old new (Ok (jump_env env)) text is are step = does_known EnvJumps old new (env_jumped old env) text is (λ e ok. env_jumps_known old new env text e is are ok) step
-line_known old new (Ok explain) text is are step = does_known Explains old new (unexplained old) text is (λ x ok explains. subst IsSituation (sym explains.1) is) step
-line_known old new _ text is are step = subst IsSituation (sym step.1) is
+  makes : {change made : Change} (next : State) → IsRepair old change text new → CanMake old made next → next.phase ≡ Idle → shown new ≡ next → IsSituation new
+  makes next repair can idle same = goes_idle next same (repaired next repair same) can.known can.pair idle
+
+  -- any event
+
+  event_known : (event : Result LineShape LineError) → StepBy old event text new → IsSituation new
+  event_known (Err why) (turn, list) = stays list turn
+  event_known (Ok nothing) ((says, same), list) = same_state list same
+  event_known (Ok (ask action)) (turn, list) =
+      needs_elim (stays list) (λ (a, at). needs_elim (stays list) (λ idle. needs_elim (stays list) (λ great. needs_elim (stays list) (λ may (says, same).
+      goes _ same (left list) is.parts is.here (great_related (present_system old) old.here is.parts.system great, allowed_in (present_system old) old.here a is.parts.system may))))) turn
+  event_known (Ok (hand service)) (turn, list) =
+      needs_elim (stays list) (λ (k, at). needs_elim (stays list) (λ (a, asked). needs_elim (stays list) (λ serves (says, same).
+      goes _ same (left list) is.parts is.here (hand_opens old a k is asked serves (seat_within old service k at))))) turn
+  event_known (Ok (saw state env)) (turn, list) =
+      needs_elim (stays list) (λ (a, k, handed). needs_elim (stays list) (λ (b, at). needs_elim (stays list) (λ (e, named). needs_elim (stays list) (λ possible (t, target, (says, same)).
+      goes_idle _ same (left list) is.parts (outcome_pair _ _ _ _ _ is.parts.system is.here (outcome_in _ _ _ _ _ _ _ is.parts.system target possible)) refl)))) turn
+  event_known (Ok abort) (turn, list) = unless_elim (stays list) (λ busy (says, same). goes_idle _ same (left list) is.parts is.here refl) turn
+  event_known (Ok (freeze service)) (turn, inl same) = subst IsSituation (sym same) is
+  event_known (Ok (freeze service)) (turn, inr (j, there, repair)) =
+      needs_elim (stops repair) (λ (k, at). needs_elim (stops repair) (λ idle. needs_elim (stops repair) (λ ready (says, same).
+      makes _ repair (freezes_can old is k (seat_within old service k at)) idle same))) turn
+  event_known (Ok (thaw service)) (turn, inl same) = subst IsSituation (sym same) is
+  event_known (Ok (thaw service)) (turn, inr (j, there, repair)) =
+      needs_elim (stops repair) (λ (k, at). needs_elim (stops repair) (λ idle. unless_elim (stops repair) (λ frozen (says, same).
+      makes _ repair (thaws_can old is k (seat_within old service k at)) idle same))) turn
+  event_known (Ok (die service)) (turn, inl same) = subst IsSituation (sym same) is
+  event_known (Ok (die service)) (turn, inr (j, there, (gone, seated, repair))) =
+      needs_elim (stops repair) (λ (k, at). needs_elim (stops repair) (λ idle (says, same).
+      let l = seat_within old service k at in
+      let (seat, is_seat) = there_is (present_system old).seats k (omega (arith, l, length-map old.parts.seats (seat_of old.parts.catalogue))) in
+      makes _ repair (dies_can old is k seat l is_seat) idle same)) turn
+  event_known (Ok (join service behaviour state loose)) (turn, inl same) = subst IsSituation (sym same) is
+  event_known (Ok (join service behaviour state loose)) (turn, inr (joined, seats, repair)) =
+      needs_elim (stops repair) (λ good. needs_elim (stops repair) (λ (i, at). needs_elim (stops repair) (λ (b, named). needs_elim (stops repair) (λ idle.
+      unless_elim (stops repair) (λ free. needs_elim (stops repair) (λ few. needs_elim (stops repair) (λ fits (says, same).
+      let place = behaviour_within old i behaviour at in
+      makes _ repair (joins_can old is _ b known.named.behaviours place (new_state_within old i b state known.named.behaviours place named) free few fits) idle same))))))) turn
+  event_known (Ok (jump service state)) (turn, list) =
+      needs_elim (stays list) (λ (k, at). needs_elim (stays list) (λ (b, named). needs_elim (stays list) (λ idle (says, same).
+      let l = seat_within old service k at in
+      goes_idle _ same (left list) is.parts (jumped_pair old k b is l (state_within old k b state is known.named.behaviours l named)) idle))) turn
+  event_known (Ok (jump_env env)) (turn, list) =
+      needs_elim (stays list) (λ (e, named). needs_elim (stays list) (λ idle (says, same).
+      let less : e < (present_system old).env.states = omega (arith, slice_get_within old.parts.environment.states e env named, known.named.environment) in
+      goes_idle _ same (left list) is.parts (record { t = is.here.t; e = less; bs = is.here.bs }) idle)) turn
+  event_known (Ok report) ((says, same), list) = same_state list same
+  event_known (Ok explain) (turn, (told, list)) = unless_elim (stays list) (λ lost (says, same). same_state list same) turn
+  event_known (Ok quit) ((says, same), list) = same_state list same
 
 -- Steps lead from well-formed situations to well-formed ones.
 pub steps_known : StepsStayKnown
 unfolding Step
 steps_known old new line text known step = record {
-  situation = line_known old new (shape_of line) text known.situation known.named step;
-  named = subst AreNamed (sym (line_keeps old new line text step)) (record { behaviours = known.named.behaviours; environment = known.named.environment });
+  situation = event_known old new text known (shape_of line) step;
+  named = named_stay old new (line_keeps old new line text step) known.named;
 }

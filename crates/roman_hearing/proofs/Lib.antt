@@ -7,7 +7,6 @@ pub mod KeepLemmas
 pub mod KnownLemmas
 pub mod SeveralLemmas
 pub mod EventLemmas
-pub mod OfferLemmas
 pub mod FixedLemmas
 pub mod TurnLemmas
 pub mod HearingGoing

@@ -4,27 +4,25 @@ use Rattle.roman_model.specs.Lists.{IsIn}
 use Rattle.roman_model.specs.System.{Sys, Pair}
 use Rattle.roman_model.specs.SystemArena.{outcomes, is_allowed}
 use Rattle.roman_model.specs.Offers.{is_related, offers}
-use Rattle.roman_text.specs.Shapes.{shape_of}
+use Rattle.roman_text.specs.Shapes.{saw, shape_of}
+use Rattle.roman_session.specs.declared.phase.Phase.TheVariants.{Delegated}
 use Rattle.roman_session.specs.Situations.{Situation, present_system, IsSituation}
-use Rattle.roman_session.specs.Rulings.{asked, seen}
-use Rattle.roman_generator.specs.declared.sight.Sight.{Sight}
-use Rattle.roman_session.specs.Steps.{Moves, Step, shown}
+use Rattle.roman_session.specs.Steps.{Step, shown}
 use Rattle.roman_session.specs.Reports.{report_text}
 use Rattle.roman_start.specs.Starts.{parts_of, start_pair_of}
 use Rattle.roman_session.specs.Afresh.{afresh}
-use Rattle.roman_hearing.specs.Known.{IsKnownSituation}
-use Rattle.roman_session.specs.States.{State, IsOpenGreat}
+use Rattle.roman_session.specs.States.{State, IsGreat, MayAsk, IsOpenGreat}
 use Rattle.roman_session.specs.Turns.{TurnsInto}
 use Rattle.roman_session.specs.Words.{ReportsGreat}
 
--- some seat is offered for a request that isn't refused
+-- some seat is offered for each action that the target allows at a related pair
 abbrev pub RequestsAreOffered : Type 0
-RequestsAreOffered = (s : Situation) (action : List ℕ) (a : ℕ) → IsSituation s → asked s action ≡ Ok a → offers (present_system s) s.here a ≢ []
+RequestsAreOffered = (s : Situation) (a : ℕ) → IsSituation s → IsGreat (shown s) → MayAsk (shown s) a → offers (present_system s) s.here a ≢ []
 
--- after a possible outcome the current pair is related
+-- after an outcome of a delegated request is seen, the current pair is related
 abbrev pub OutcomesAreRelated : Type 0
-OutcomesAreRelated = (old new : Situation) (state env text : List ℕ) (x : Sight) → IsSituation old → seen old state env ≡ Ok x → Moves old x text new →
-    IsTrue (is_related (present_system new) new.here)
+OutcomesAreRelated = (old new : Situation) (state env text : List ℕ) (a k : ℕ) → IsSituation old → old.phase ≡ Delegated a k →
+    TurnsInto (shown old) (Ok (saw state env)) text (shown new) → IsGreat (shown new)
 
 -- a seat that isn't offered for an allowed action has no outcome, or an outcome whose pair isn't related
 abbrev pub NotOfferedFails : Type 0
@@ -40,10 +38,9 @@ ReportsAreAfresh =
 abbrev pub ReportsAreFixed : Type 0
 ReportsAreFixed = (s : State) (one other : List ℕ) → ReportsGreat s one → ReportsGreat s other → one ≡ other
 
--- each step from a well-formed situation is a turn: its states are those to which the event leads, and its text answers the event
+-- each step is a turn: its states are those to which the event leads, and its text answers the event
 abbrev pub StepsAreTurns : Type 0
-StepsAreTurns = (old new : Situation) (line text : List ℕ) → IsKnownSituation old → Step old line text new →
-    TurnsInto (shown old) (shape_of line) text (shown new)
+StepsAreTurns = (old new : Situation) (line text : List ℕ) → Step old line text new → TurnsInto (shown old) (shape_of line) text (shown new)
 
 -- in every situation the open request can be served, and its delegate serves it
 abbrev pub OpenIsGreat : Type 0

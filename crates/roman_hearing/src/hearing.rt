@@ -68,6 +68,7 @@ pub fn hear<S: Source, O: Sink, L: Ledger>(
     ensures borrowed { S.borrowed source.new ≡ S.borrowed source.old }
     ensures texts { S.texts source.new ≡ S.texts source.old }
 {
+    session.names_environment(); // each environment state has a name
     let mut splitter = Splitter::new();
     let mut page = Page::new();
     let mut piece = [0u8; PIECE_BYTES];

@@ -6,19 +6,19 @@ ghost use Rattle.roman_hearing.specs.Several.{SeveralAreServed};
 
 use roman_text::spell_events;
 
-/// At least one service is offered for a request that isn't refused.
+/// At least one service is offered for each action that the target allows at a related pair.
 pub fn requests_are_offered()
     ensures offered { RequestsAreOffered }
 {}
 
-/// After a possible outcome the current pair is related.
+/// After an outcome of a delegated request is seen, the current pair is related.
 pub fn outcomes_are_related()
     ensures related { OutcomesAreRelated }
 {}
 
 /// A service that isn't offered for an allowed action has no outcome, or an outcome whose pair isn't
 /// related.
-#[tactic(auto, using(crate::proofs::OfferLemmas::not_offered_fails))]
+#[tactic(auto, using(crate::proofs::TurnLemmas::not_offered_fails))]
 pub fn services_not_offered_fail()
     ensures fails { NotOfferedFails }
 {}
@@ -60,7 +60,7 @@ pub fn steps_are_turns()
 {}
 
 /// An open request can be served, and its delegate is a service that serves it.
-#[tactic(auto, using(crate::proofs::OfferLemmas::open_great))]
+#[tactic(auto, using(crate::proofs::TurnLemmas::open_great))]
 pub fn open_is_great()
     ensures great { OpenIsGreat }
 {}

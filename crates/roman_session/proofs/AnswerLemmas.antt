@@ -1,17 +1,7 @@
 -- What follows from the step of an answer.
-use Rattle.roman_session.proofs.Common.{◌≡◌, ℕ, List, [], ◌++◌, Option, Result, Ok, Err, refl, sym, ap, ◌∙◌, subst, arith, Puts, Puts-after_Gathered, reply_text, Reply, Situation, IsSituation, asked, Does, offer_text, Phase, Offered, Asks, Gathered, Gathers, Gathered-put, LineShape, ask, shape_of, LineError, Step, StepOn, StepBy, Answered, AnsweredOn, DoneOn, NamesSome, SeenStaysRelated}
+use Rattle.roman_session.proofs.Common.{◌≡◌, ℕ, List, [], ◌++◌, Option, Result, Ok, Err, inl, inr, refl, sym, ap, subst, Puts, Puts-after_Gathered, reply_text, Situation, present_system, IsSituation, IsPhase, Delegated, Gathered, Gathers, Gathered-put, LineShape, saw, shape_of, LineError, Step, StepOn, StepBy, Answered, AnsweredOn, DoneOn, SeenStaysGreat, IsGreat, shown, related_great, TurnsInto}
 use Rattle.roman_text.specs.declared.replies.Reply.TheVariants as reply
-use Rattle.roman_session.proofs.StepLemmas.{requests_offered, outcomes_related}
-
--- the line that offers services doesn't depend on the phase
-offer_kept : (s : Situation) (phase : Phase) (a : ℕ) → offer_text (record s { phase = phase }) a ≡ offer_text s a
-unfolding offer_text
-offer_kept s phase a = refl
-
--- the reply to a request that isn't refused is the line of its offers
-pub asks_said : (old new : Situation) (action : List ℕ) (a : ℕ) → asked old action ≡ Ok a → new ≡ record old { phase = Offered a } → StepOn old (ask action) (offer_text new a) new
-asks_said old new action a ok becomes =
-    subst (λ (r : Result ℕ Reply). Does Asks old r (offer_text new a) new) (sym ok) (ap (λ (s : Situation). offer_text s a) becomes ∙ offer_kept old (Offered a) a, becomes)
+use Rattle.roman_session.proofs.StepLemmas.{delegation_serves}
 
 -- ---- pages
 
@@ -36,10 +26,6 @@ answered_whole old new line before mid after held holds x result empty a puts = 
 
 -- ---- what the reply says
 
--- the reply to a request names at least one service
-pub names_some : (old : Situation) (line : List ℕ) → IsSituation old → NamesSome old line
-names_some old line is action a shape ok = requests_offered old action a is ok
-
 -- the step of a line is the step of its shape
 pub step_by_shape : (old new : Situation) (line text : List ℕ) (shape : LineShape) → shape_of line ≡ Ok shape → StepOn old shape text new → Step old line text new
 unfolding Step
@@ -48,9 +34,24 @@ step_by_shape old new line text shape is by_shape = subst (λ (r : Result LineSh
 -- a line without a shape is refused
 pub step_unshaped : (old : Situation) (line : List ℕ) (why : LineError) → shape_of line ≡ Err why → Step old line (reply_text reply.ErrorLine) old
 unfolding Step
-step_unshaped old line why is = subst (λ (r : Result LineShape LineError). StepBy old r (reply_text reply.ErrorLine) old) (sym is) (refl, refl)
+step_unshaped old line why is = subst (λ (r : Result LineShape LineError). StepBy old r (reply_text reply.ErrorLine) old) (sym is) ((refl, refl), refl)
 
--- after a possible outcome the pair is related
-pub stays_related : (old new : Situation) (line text : List ℕ) → IsSituation old → Step old line text new → SeenStaysRelated old line new
+-- the pair of an open delegation is related
+stays_great : (old new : Situation) (a k : ℕ) → IsSituation old → old.phase ≡ Delegated a k → shown new ≡ shown old → IsGreat (shown new)
+stays_great old new a k is handed same =
+    let phase = subst (IsPhase old) handed is.phase in
+    subst IsGreat (sym same) (related_great (present_system old) old.here is.parts.system is.here phase.0.0)
+
+-- the pair is related after an outcome of the delegate was seen
+pub seen_great : (old new : Situation) (state env text : List ℕ) (a k : ℕ) → IsSituation old → old.phase ≡ Delegated a k → TurnsInto (shown old) (Ok (saw state env)) text (shown new) → IsGreat (shown new)
+seen_great old new state env text a k is handed (inr (none, refused)) = absurd (none (a, k, handed))
+seen_great old new state env text a k is handed (inl ((b, l, delegated), inr (none, (says, same)))) = stays_great old new a k is handed same
+seen_great old new state env text a k is handed (inl ((b, l, delegated), inl (there, inr (none, (says, same))))) = stays_great old new a k is handed same
+seen_great old new state env text a k is handed (inl ((b, l, delegated), inl (there, inl (named, inr (none, (says, same)))))) = stays_great old new a k is handed same
+seen_great old new state env text a k is handed (inl ((b, l, delegated), inl (there, inl (named, inl (possible, (t, target, (says, becomes))))))) =
+    let phase = subst (IsPhase old) delegated is.phase in
+    subst IsGreat (sym becomes) ((delegation_serves old b l is phase t named.0 target).1 _ possible)
+
+pub stays_related : (old new : Situation) (line text : List ℕ) → IsSituation old → Step old line text new → SeenStaysGreat old line new
 unfolding Step
-stays_related old new line text is step state env x shape ok can = grind (arith, outcomes_related)
+stays_related old new line text is step state env a k shape handed = seen_great old new state env text a k is handed (subst (λ (r : Result LineShape LineError). StepBy old r text new) shape step).0

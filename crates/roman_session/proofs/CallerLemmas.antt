@@ -1,17 +1,18 @@
 -- The lemmas of this crate that proofs of other crates may cite. All else in proofs/ can be renamed freely.
 
--- What holds if an event isn't refused.
-pub use Rattle.roman_session.proofs.RulingLemmas.{asked_is, cells_with, checked, died_is, env_jumped_is, frozen_is, handed_is, joining_idle}
-pub use Rattle.roman_session.proofs.RulingLemmas.{jumped_is, seen_is, thawed_is}
 -- What follows from offers and outcomes.
-pub use Rattle.roman_session.proofs.StepLemmas.{moved_pair, outcomes_related, requests_offered}
--- Offers, counts, reports and explanations are right by the greatest ND-simulation.
+pub use Rattle.roman_session.proofs.AnswerLemmas.{seen_great}
+pub use Rattle.roman_session.proofs.StepLemmas.{delegation_serves, requests_offered}
+-- The steps of events, and the tests of their conditions.
+pub use Rattle.roman_session.proofs.RuleLemmas.{explains, great_tests, hand_opens, may_tests, offered_tests, offers_said, ready_tests, reports}
+-- Offers, counts and reports are right by the greatest ND-simulation.
 pub use Rattle.roman_session.proofs.ReportLemmas.{reports_afresh}
-pub use Rattle.roman_session.proofs.RefutationLemmas.{refutes}
-pub use Rattle.roman_session.proofs.WordLemmas.{lost_counted, offers_serving, reports_both, reports_great}
+-- The library that begins in the present states has the present services.
+pub use Rattle.roman_session.proofs.ReportLemmas.{services_again}
+pub use Rattle.roman_session.proofs.WordLemmas.{lost_counted, offers_serving, reports_great}
 -- What the fields of a session and the calls of its parts say of the situation.
 pub use Rattle.roman_session.proofs.SituationLemmas.{jumped_pair, mapped_at, states_named}
 -- Places of names.
-pub use Rattle.roman_session.proofs.NameLemmas.{name_is_new}
--- A session after its services changed.
-pub use Rattle.roman_session.proofs.ChangedLemmas.{is_within, seat_is}
+pub use Rattle.roman_session.proofs.NameLemmas.{in_place, no_place, place_there}
+-- Cells within the limit.
+pub use Rattle.roman_session.proofs.ChangedLemmas.{is_within}

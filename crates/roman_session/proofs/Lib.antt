@@ -1,13 +1,13 @@
 pub mod Common
-pub mod RulingLemmas
-pub mod StepLemmas
 pub mod ReportLemmas
 pub mod RefutationLemmas
 pub mod WordLemmas
+pub mod StepLemmas
 pub mod SituationLemmas
 pub mod NameLemmas
 pub mod LineLemmas
 pub mod BeginLemmas
+pub mod RuleLemmas
 pub mod AnswerLemmas
 pub mod ChangedLemmas
 pub mod CallerLemmas

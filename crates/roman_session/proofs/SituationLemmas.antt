@@ -1,5 +1,5 @@
 -- What the fields of a session and the calls of its parts say of the situation.
-use Rattle.roman_session.proofs.Common.{◌≤◌, Vec, Global, vec_capacity, ◌≡◌, ℕ, ◌<◌, Bool, List, [], Option, Some, IfSome, IsTrue, IsFalse, map, length, slice_get, slice_set, slice_index, sym, ap, ◌∙◌, subst, arith, ◌↔◌, slice_index_or, MAX_SERVICES, number, sizes_of, pair_at, has, Sys, Pair, IsPair, HasBits, get_or_from_slice_get, slice_get-map, length-map, get_or-set_same, both_ways, is_ready, outcomes, IsIn, is_related, offers, Great, related_great, great_related, offer_is, there_is, not_empty_in, ne_not_empty, by_test, outcome_seat, states_set, states_below, AreBelow-index, moved, NamedBeh, NamedSys, Seat, IsSeatBehaviour, seat_name, names_in, states_long, Situation, present_system, IsPhase, IsSituation, IsOpen, service_at, situation_in, IsSession, Phase, Idle, Offered, Delegated, Inside, option_map, seat_names}
+use Rattle.roman_session.proofs.Common.{◌≤◌, Vec, Global, vec_capacity, ◌≡◌, ℕ, ◌<◌, Bool, List, [], Option, Some, IfSome, IsTrue, map, length, slice_get, slice_set, slice_index, sym, ap, ◌∙◌, subst, arith, ◌↔◌, slice_index_or, MAX_SERVICES, number, sizes_of, pair_at, has, Sys, Pair, IsPair, HasBits, get_or_from_slice_get, slice_get-map, length-map, get_or-set_same, both_ways, is_ready, outcomes, IsIn, is_related, offers, Great, related_great, great_related, offer_is, there_is, not_empty_in, ne_not_empty, by_test, outcome_seat, states_set, states_below, AreBelow-index, moved, NamedBeh, NamedSys, Seat, IsSeatBehaviour, seat_name, names_in, states_long, Situation, present_system, IsPhase, IsSituation, IsOpen, service_at, situation_in, IsSession, Phase, Idle, Offered, Delegated, Inside, option_map, seat_names, get_or, slice_get-get_or, beh_states, states_of_behaviour}
 use Rattle.roman_model.specs.System.{Seat as Seat'}
 use Rattle.roman_joint.specs.NamedSys as joint
 
@@ -52,6 +52,11 @@ mapped_at f xs k x d h = get_or_from_slice_get (map f xs) k (f x) d (slice_get-m
 pub states_named : (n : NamedSys) (k : ℕ) (beh : NamedBeh) → IsSeatBehaviour n k beh → (seat_names (names_in n) k).states ≡ beh.states
 states_named n k beh of = grind (arith, mapped_at)
 
+-- the names of the states of a behaviour of the catalogue
+pub behaviour_states : (s : Situation) (behs : List NamedBeh) (i : ℕ) (beh : NamedBeh) → behs ≡ s.parts.catalogue → i < length behs → beh ≡ get_or behs i beh → beh.states ≡ states_of_behaviour s.parts.catalogue i
+behaviour_states s behs i beh same l is =
+    sym (mapped_at beh_states s.parts.catalogue i beh [] (subst (λ (behs : List NamedBeh). slice_get behs i ≡ Some beh) same (slice_get-get_or behs i beh l ∙ ap Some (sym is))))
+
 -- an offered seat is the seat of a present service
 pub offered_within : (s : Situation) (a k : ℕ) → IsSituation s → IsIn k (offers (present_system s) s.here a) → k < length s.parts.seats
 offered_within s a k is i =
@@ -78,10 +83,9 @@ related_is s n p r is same at there =
     (λ no. by_test t (λ yes. absurd (both_ways r no (great.1 (related_great (present_system s) s.here is.parts.system is.here yes)))) (λ other. no ∙ sym other))
 
 -- a current pair that isn't related is outside the greatest relation
-pub unrelated_there : (s : Situation) (n : NamedSys) (p : ℕ) → IsSituation s → n ≡ s.parts → pair_at (sizes_of (present_system s)) p ≡ s.here → IsFalse (is_related (present_system s) s.here) →
+pub unrelated_there : (s : Situation) (n : NamedSys) (p : ℕ) → n ≡ s.parts → pair_at (sizes_of (present_system s)) p ≡ s.here → (Great (present_system s) s.here → ⊥) →
     Great (joint.system_of n) (pair_at (sizes_of (joint.system_of n)) p) → ⊥
-unrelated_there s n p is same at unrelated great =
-    both_ways (is_related (present_system s) s.here) unrelated (great_related (present_system s) s.here is.parts.system (holds_here Great s n p same at great))
+unrelated_there s n p same at lost great = lost (holds_here Great s n p same at great)
 
 -- a delegate is ready
 pub delegate_ready : (s : Situation) (a k : ℕ) → IsSituation s → IsIn k (offers (present_system s) s.here a) → IsTrue (is_ready (slice_get (present_system s).seats k))
@@ -95,6 +99,10 @@ pub phase_kept : (s : Situation) (new phase : Phase) → IsPhase s phase → IsP
 phase_kept s new Idle h = tt
 phase_kept s new (Offered a) h = h
 phase_kept s new (Delegated a k) h = h
+
+-- the name of a present service stands at its place
+pub name_there : (n : NamedSys) (s : Situation) (k : ℕ) (seat : Seat) → n ≡ s.parts → slice_get n.seats k ≡ Some seat → slice_get (map seat_name s.parts.seats) k ≡ Some seat.name
+name_there n s k seat same h = slice_get-map seat_name s.parts.seats k ∙ ap (option_map seat_name) (subst (λ (n : NamedSys). slice_get n.seats k ≡ Some seat) same h)
 
 -- the name of a present service
 pub service_named_at : (n : NamedSys) (s : Situation) (k : ℕ) (seat : Seat) → n ≡ s.parts → slice_get n.seats k ≡ Some seat → seat.name ≡ service_at s k

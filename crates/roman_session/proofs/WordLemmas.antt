@@ -1,7 +1,6 @@
 -- Offers, counts and reports are right by the greatest ND-simulation.
-use Rattle.roman_session.proofs.Common.{◌≡◌, ℕ, ◌+◌, Bool, List, [], ◌∷◌, ◌++◌, map, length, cond, true, false, IsTrue, ◌↔◌, refl, sym, ◌∙◌, length-append, arith, ◌⊎◌, both_ways, length-map, IsIn, below, IsSublist, Sys, Pair, IsSys, IsPair, arena, is_allowed, Entry, IsComplete, Great, is_related, offers, related_count, filter_sublist, filter_in, in_filter, in_below, allowed_in, from_allowed, related_great, great_related, in_listed, listed_in, from_map, system_is_same, sublist_none, HasNoRepeats-filter, allowed_in_range, from_pairs, in_pairs, pairs_once, length-pairs, offers_are, order_new, new_once, in_map, system_of, Situation, IsSituation, report_text, shown, State, IsGreat, MayAsk, start_state, afresh, Counts, flat_map, count, AreServing, ReportsGreat}
+use Rattle.roman_session.proofs.Common.{◌≡◌, ℕ, ◌+◌, Bool, List, [], ◌++◌, map, length, cond, true, false, IsTrue, ◌↔◌, refl, sym, ◌∙◌, length-append, arith, both_ways, length-map, IsIn, below, IsSublist, Sys, Pair, IsSys, IsPair, arena, is_allowed, Entry, IsComplete, Great, is_related, offers, related_count, filter_sublist, filter_in, in_filter, in_below, allowed_in, from_allowed, related_great, great_related, in_listed, listed_in, from_map, system_is_same, sublist_none, HasNoRepeats-filter, allowed_in_range, from_pairs, in_pairs, pairs_once, length-pairs, offers_are, order_new, new_once, in_map, system_of, Situation, IsSituation, report_text, shown, State, IsGreat, MayAsk, start_state, afresh, Counts, flat_map, AreServing, ReportsGreat}
 use Rattle.std.specs.List.{filter}
-use Rattle.roman_text.specs.declared.report.ReportLine.TheVariants as line
 use Rattle.roman_session.proofs.ReportLemmas.{reports_afresh, afresh_known}
 
 -- the services that serve

@@ -1,14 +1,14 @@
 -- How a session answers a line, and what was written.
-use Rattle.std.specs.Prelude.{◌≡◌, ◌≢◌, ℕ, List, [], ◌++◌, Option, Result, Ok, IsTrue, if◌then◌else◌}
-use Rattle.roman_model.specs.Offers.{is_related, offers}
+use Rattle.std.specs.Prelude.{◌≡◌, ◌≢◌, ℕ, List, [], ◌++◌, Option, Result, Ok, if◌then◌else◌}
+use Rattle.roman_model.specs.Offers.{offers}
 use Rattle.roman_io.specs.Sink.{Puts}
 use Rattle.roman_text.specs.Pages.{Gathers}
-use Rattle.roman_text.specs.Shapes.{LineShape, ask, saw, shape_of}
+use Rattle.roman_text.specs.Shapes.{LineShape, saw, shape_of}
 use Rattle.roman_text.specs.declared.errors.LineError.{LineError}
 use Rattle.roman_session.specs.Situations.{Situation, present_system}
-use Rattle.roman_session.specs.Rulings.{asked, seen}
-use Rattle.roman_session.specs.Steps.{Step, StepOn, CanBe, is_quit}
-use Rattle.roman_generator.specs.declared.sight.Sight.{Sight}
+use Rattle.roman_session.specs.States.{IsGreat, MayAsk}
+use Rattle.roman_session.specs.Steps.{Step, StepOn, shown, is_quit}
+use Rattle.roman_session.specs.declared.phase.Phase.TheVariants.{Delegated}
 use Rattle.roman_session.specs.declared.next.Next.{Next}
 use Rattle.roman_session.specs.declared.next.Next.TheVariants.{More, Quit}
 
@@ -32,14 +32,13 @@ pub record DoneOn {T E : Type 0} (old : Situation) (shape : LineShape) (new : Si
   pub step : StepOn old shape text new
   pub gathers : Gathers before after holds (held ++ text) result
 
--- at least one service is offered for a request that isn't refused
-abbrev pub NamesSome : Situation → List ℕ → Type 0
-NamesSome old line = (action : List ℕ) (a : ℕ) → shape_of line ≡ Ok (ask action) → asked old action ≡ Ok a → offers (present_system old) old.here a ≢ []
+-- at least one service is offered for each action that the target allows at a related pair
+abbrev pub NamesSome : Situation → Type 0
+NamesSome old = (a : ℕ) → IsGreat (shown old) → MayAsk (shown old) a → offers (present_system old) old.here a ≢ []
 
--- after a possible outcome the new pair is related
-abbrev pub SeenStaysRelated : Situation → List ℕ → Situation → Type 0
-SeenStaysRelated old line new =
-    (state env : List ℕ) (x : Sight) → shape_of line ≡ Ok (saw state env) → seen old state env ≡ Ok x → CanBe old x → IsTrue (is_related (present_system new) new.here)
+-- after an outcome of a delegated request is seen, the new pair is related
+abbrev pub SeenStaysGreat : Situation → List ℕ → Situation → Type 0
+SeenStaysGreat old line new = (state env : List ℕ) (a k : ℕ) → shape_of line ≡ Ok (saw state env) → old.phase ≡ Delegated a k → IsGreat (shown new)
 
 -- whether a session goes on after an event: it ends exactly at `quit`
 abbrev pub next_after : Result LineShape LineError → Next

@@ -1,6 +1,4 @@
 pub mod Situations
-pub mod Rulings
-pub mod Joins
 pub mod Serving
 pub mod Reports
 pub mod States
@@ -9,6 +7,7 @@ pub mod Words
 pub mod Afresh
 pub mod Turns
 pub mod Steps
+pub mod Rules
 pub mod Starts
 pub mod Layout
 pub mod Answering

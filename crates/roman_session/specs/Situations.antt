@@ -1,5 +1,5 @@
 -- The situation of a session between two lines.
-use Rattle.std.specs.Prelude.{ℕ, Bool, true, false, List, IsTrue}
+use Rattle.std.specs.Prelude.{ℕ, List, IsTrue}
 use Rattle.roman_model.specs.Lists.{IsIn}
 use Rattle.roman_model.specs.System.{Sys, Pair, IsPair}
 use Rattle.roman_model.specs.SystemArena.{is_allowed}
@@ -24,12 +24,6 @@ abbrev pub present_system : Situation → Sys
 present_system s = joint.system_of s.parts
 
 -- ---- phases
-
--- no request is open
-abbrev pub is_idle : Phase → Bool
-is_idle Idle = true
-is_idle (Offered a) = false
-is_idle (Delegated a k) = false
 
 -- the current pair is related, and the target allows the action there
 abbrev pub IsOpen : Situation → ℕ → Type 0

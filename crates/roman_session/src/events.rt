@@ -1,5 +1,4 @@
-//! What accepted events name. No call returns these types: they are public because the definitions of
-//! steps and the laws on them speak of them.
+//! What accepted events name.
 
 use roman_joint::Seat;
 

@@ -2,7 +2,8 @@
 //!
 //! A session holds the services now present with the greatest relation of their system, the present
 //! states of the target, the environment and the services, and the open request. Contracts see a
-//! session as a situation, and an answer as one step from a situation to another (`specs/Steps`).
+//! session as a situation, and an answer as one step from a situation to another: a turn of its state
+//! (`specs/Turns`), and what the event does with its removal list (`specs/Steps`).
 #![tactic(auto)]
 
 mod events;
@@ -10,7 +11,6 @@ mod next;
 mod phase;
 mod session;
 
-pub use events::{Handing, Joining, Jump};
 pub use next::Next;
 pub use phase::Phase;
 pub use roman_joint::JointError as BuildError;

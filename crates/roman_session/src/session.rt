@@ -10,16 +10,19 @@ ghost use Rattle.roman_radix.specs.Radix.{moved};
 ghost use Rattle.roman_rules.specs.Bits.{HasBits};
 ghost use Rattle.roman_joint.specs.NamedSys as named;
 ghost use Rattle.roman_relation.specs.Greatest.{IsRelation};
-ghost use Rattle.roman_session.specs.Situations.{Situation, present_system, is_idle, IsOpen, IsPhase, IsSituation};
+ghost use Rattle.roman_session.specs.Situations.{Situation, present_system, IsOpen, IsPhase, IsSituation};
+ghost use Rattle.roman_session.specs.States.{ServesHere};
+ghost use Rattle.roman_session.specs.Steps.{shown};
+ghost use Rattle.roman_session.specs.Rules.{Tests};
 
 mod answering;
 mod building;
 mod changes;
+mod checks;
 mod jumps;
 mod naming;
 mod reports;
 mod requests;
-mod rulings;
 
 use crate::phase::Phase;
 use roman_generator::offers;
@@ -120,6 +123,13 @@ impl Session {
         let _phase = self.phase;
     }
 
+    /// Does nothing. Its contract states that each environment state has a name.
+    pub fn names_environment(&self)
+        ensures { length self.now.parts.environment.states ≡ self.now.parts.environment.env.states }
+    {
+        let _names = self.joint().environment().states();
+    }
+
     /// Returns the greatest relation of the system with the services now present.
     fn relation(&self) -> &Relation
         ensures joint { result.now.joint ≡ self.now.parts }
@@ -179,16 +189,17 @@ impl Session {
 
     /// Returns whether no request is open.
     fn is_idle(&self) -> bool
-        ensures { result ≡ is_idle self.now.phase }
+        ensures { Tests result (self.now.phase ≡ Phase.Idle) }
     {
         matches!(self.phase, Phase::Idle)
     }
 
-    /// Returns whether the service at place `k` is offered for the requested action `a`.
+    /// Returns whether the service at place `k` is offered for the requested action `a`: whether it
+    /// serves the action.
     fn is_offered(&self, a: u8, k: u8) -> bool
         requires asked { self.now.phase ≡ Phase.Offered a }
         requires seat { k < length self.now.parts.seats }
-        ensures { result ≡ has (offers (present_system self.now) self.now.here a) k }
+        ensures { Tests result (ServesHere (shown self.now) a k) }
     {
         self.known(); // there are at most 32 seats
         self.offered(a).has(k)

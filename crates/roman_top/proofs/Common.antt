@@ -1,12 +1,12 @@
 -- What the proof pages of this crate cite from elsewhere, passed on from one place. Declares nothing.
-pub use Rattle.std.proofs.Common.{Bool, Err, IfSome, IsErrOf, IsFalse, IsSome, IsTrue, List, None, Ok, OnOk, Option, Result, Some, [], add-one, ap, append_assoc, ap₂, arith, codes, decimal, drop, drop-cons, false, filter, get_or, if◌then◌else◌, inl, inr, length, ltb-true, map, nat_le, not, refl, remove, rules, slice_get, slice_set, subst, suc, sym, take, true, zero, ℕ, ◌*◌, ◌++◌, ◌+◌, ◌-◌, ◌<◌, ◌↔◌, ◌∙◌, ◌∷◌, ◌≡◌, ◌≢◌, ◌≤◌, ◌⊎◌}
+pub use Rattle.std.proofs.Common.{Bool, Err, IfSome, IsErrOf, IsFalse, IsSome, IsTrue, List, None, Ok, OnOk, Option, Result, Some, [], add-one, ap, append_assoc, ap₂, arith, codes, decimal, drop, drop-cons, false, filter, get_or, if◌then◌else◌, inl, inr, length, ltb-true, map, nat_le, not, refl, rules, slice_get, slice_set, subst, suc, sym, take, true, zero, ℕ, ◌*◌, ◌++◌, ◌+◌, ◌-◌, ◌<◌, ◌↔◌, ◌∙◌, ◌∷◌, ◌≡◌, ◌≢◌, ◌≤◌, ◌⊎◌}
 pub use Rattle.std.proofs.Math.Nat.{div-lt_iff_lt-mul}
 pub use Rattle.std.proofs.lemmas.Bool.{and_from, both_ways, cases_lt, cond-false, cond-true, false≢true, le-ltb, leb-true, lt-ltb, not-false, not-true, not_from_false, or_cases, or_left, or_parts, or_right}
 pub use Rattle.std.proofs.lemmas.List.{append-nil, drop_all, get_or-drop, length-drop, length-map, take_more}
 pub use Rattle.std.proofs.lemmas.List.Concat.{flat_map-append, length-flat_map}
 pub use Rattle.std.proofs.lemmas.Option.{get_or_from_slice_get, slice_get-get_or, slice_get_within}
 pub use Rattle.std.proofs.lemmas.Result.{err_from_is_err_and}
-pub use Rattle.std.specs.List.{filter_map, flat_map, list_any}
+pub use Rattle.std.specs.List.{filter_map, flat_map, list_any, remove}
 pub use Rattle.std.specs.Option.{option_map}
 pub use Rattle.roman_check.specs.Checks.{HaveVerdict}
 pub use Rattle.roman_check.specs.Verdicts.{fault_of, verdict_of}

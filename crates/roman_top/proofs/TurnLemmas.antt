@@ -54,7 +54,7 @@ turns_of P library s now (line ∷ ls) text read tell from known told = by_test 
     (λ quits.
     let (said, more, mid, split, step, (none, same)) = subst (λ (ls : List (List ℕ)). Answers s ls text now) (cond-true (is_quit (shape_of line)) (line ∷ []) (line ∷ until_quit ls) quits) told in
     let (onward, next) = goes_on s mid line said from known step in
-    let turn = steps_turns s mid line said known step in
+    let turn = steps_turns s mid line said step in
     record {
       turns = turn_of s line said mid ∷ [];
       are = (state_known library s from known, refl, refl, read line, turn, inl (quit_is (shape_of line) quits, state_known library mid onward next, refl));
@@ -67,7 +67,7 @@ turns_of P library s now (line ∷ ls) text read tell from known told = by_test 
     (λ goes.
     let (said, more, mid, split, step, rest) = subst (λ (ls : List (List ℕ)). Answers s ls text now) (cond-false (is_quit (shape_of line)) (line ∷ []) (line ∷ until_quit ls) goes) told in
     let (onward, next) = goes_on s mid line said from known step in
-    let turn = steps_turns s mid line said known step in
+    let turn = steps_turns s mid line said step in
     let others = turns_of P library mid now ls more read tell onward next rest in
     record {
       turns = turn_of s line said mid ∷ others.turns;

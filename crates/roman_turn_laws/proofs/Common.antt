@@ -13,14 +13,15 @@ pub use Rattle.roman_document_laws.specs.Accepted.{AcceptedCanBeSaid, AcceptedNa
 pub use Rattle.roman_document_laws.specs.DocumentWriter.{IsSayable, LibrariesAreSaid}
 pub use Rattle.roman_document_laws.specs.PartWriter.{IsSayableTarget}
 pub use Rattle.roman_document_laws.specs.SeveralWriter.{AreSayable, SeveralAreSaid, combined_library}
-pub use Rattle.roman_hearing.proofs.CallerLemmas.{count_fixed, services_again, sublists_same}
-pub use Rattle.roman_hearing.specs.Afresh.{afresh, services_in}
+pub use Rattle.roman_hearing.proofs.CallerLemmas.{count_fixed, sublists_same}
+pub use Rattle.roman_session.proofs.CallerLemmas.{services_again}
+pub use Rattle.roman_session.specs.Afresh.{afresh, services_in}
 pub use Rattle.roman_hearing.specs.Events.{IsComment, Reads}
 pub use Rattle.roman_hearing.specs.Laws.{ReportsAreFixed}
-pub use Rattle.roman_hearing.specs.Refutations.{AreLost, IsLost, MayAnswer, WinsBy}
-pub use Rattle.roman_hearing.specs.States.{IsGreat, IsState, MayAsk, ServesHere, State, start_state}
-pub use Rattle.roman_hearing.specs.Turns.{ComesTo, Needs, Place, Refuses, TurnsInto, Unless, with_services}
-pub use Rattle.roman_hearing.specs.Words.{AreServing, CountsLost, IsReady, OffersServing, Refutes, Replies, ReportsGreat}
+pub use Rattle.roman_session.specs.Refutations.{AreLost, IsLost, MayAnswer, WinsBy}
+pub use Rattle.roman_session.specs.States.{IsGreat, IsState, MayAsk, ServesHere, State, start_state}
+pub use Rattle.roman_session.specs.Turns.{ComesTo, Needs, Place, Refuses, TurnsInto, Unless, with_services}
+pub use Rattle.roman_session.specs.Words.{AreServing, CountsLost, IsReady, OffersServing, Refutes, Replies, ReportsGreat}
 pub use Rattle.roman_io.specs.Shelf.{Texts}
 pub use Rattle.roman_joint.proofs.CallerLemmas.{beh_read, frozen_known, frozen_system, gone_known, gone_system, joined_known, joined_system}
 pub use Rattle.roman_joint.specs.Changes.{with_frozen}

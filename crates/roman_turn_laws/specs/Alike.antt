@@ -1,7 +1,7 @@
 -- States that differ at most in where the environment and the target of their parts start.
 use Rattle.std.specs.Prelude.{◌≡◌, ℕ}
 use Rattle.roman_joint.specs.NamedSys.{NamedSys}
-use Rattle.roman_hearing.specs.States.{State}
+use Rattle.roman_session.specs.States.{State}
 
 -- the parts, with other starting states of the environment and the target
 abbrev pub starting_at : ℕ → ℕ → NamedSys → NamedSys

@@ -7,8 +7,8 @@ use Rattle.roman_text.specs.declared.errors.LineError.{LineError}
 use Rattle.roman_text.specs.declared.replies.Reply.TheVariants as reply
 use Rattle.roman_joint.specs.NamedSys.{system_of}
 use Rattle.roman_library.specs.Library.{PlainLibrary}
-use Rattle.roman_hearing.specs.States.{State, IsGreat, MayAsk, ServesHere}
-use Rattle.roman_hearing.specs.Words.{Replies}
+use Rattle.roman_session.specs.States.{State, IsGreat, MayAsk, ServesHere}
+use Rattle.roman_session.specs.Words.{Replies}
 use Rattle.roman_top.specs.HeadlineTurns.{Turn, AreTurns, after_turns}
 
 -- the event changes the services, or moves a state by itself

@@ -8,10 +8,10 @@ use Rattle.roman_text.specs.declared.replies.Reply.TheVariants as reply
 use Rattle.roman_library.specs.Documents.{library_of}
 use Rattle.roman_library.specs.Library.{PlainLibrary}
 use Rattle.roman_session.specs.declared.phase.Phase.TheVariants.{Idle}
-use Rattle.roman_hearing.specs.Afresh.{afresh}
-use Rattle.roman_hearing.specs.States.{State, start_state, IsState}
-use Rattle.roman_hearing.specs.Turns.{TurnsInto}
-use Rattle.roman_hearing.specs.Words.{Replies, Refutes}
+use Rattle.roman_session.specs.Afresh.{afresh}
+use Rattle.roman_session.specs.States.{State, start_state, IsState}
+use Rattle.roman_session.specs.Turns.{TurnsInto}
+use Rattle.roman_session.specs.Words.{Replies, Refutes}
 use Rattle.roman_top.specs.HeadlineTurns.{Turn, AreTurns}
 use Rattle.roman_turn_laws.specs.Alike.{DifferInStarts}
 

@@ -6,8 +6,8 @@ use Rattle.roman_text.specs.Shapes.{freeze, thaw, die}
 use Rattle.roman_joint.specs.NamedSys.{system_of}
 use Rattle.roman_joint.specs.Names.{seat_name}
 use Rattle.roman_library.specs.Library.{PlainLibrary}
-use Rattle.roman_hearing.specs.States.{State, IsGreat}
-use Rattle.roman_hearing.specs.Turns.{TurnsInto}
+use Rattle.roman_session.specs.States.{State, IsGreat}
+use Rattle.roman_session.specs.Turns.{TurnsInto}
 use Rattle.roman_turn_laws.specs.Present.{IsReached}
 
 -- the service with that name is loose, or in a final state

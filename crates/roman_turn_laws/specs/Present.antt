@@ -12,8 +12,8 @@ use Rattle.roman_library.specs.Documents.{library_in}
 use Rattle.roman_library.specs.Library.{PlainLibrary}
 use Rattle.roman_library.specs.Targets.{PlainTargets, NamesTargets}
 use Rattle.roman_start.specs.Starts.{parts_of}
-use Rattle.roman_hearing.specs.Afresh.{afresh}
-use Rattle.roman_hearing.specs.States.{State, start_state}
+use Rattle.roman_session.specs.Afresh.{afresh}
+use Rattle.roman_session.specs.States.{State, start_state}
 use Rattle.roman_top.specs.HeadlineTurns.{Turn, AreTurns, Means, after_turns}
 
 -- the document means the library, and some lines of a session lead from the library's state to this one

@@ -8,10 +8,10 @@ use Rattle.roman_joint.specs.Names.{seat_name}
 use Rattle.roman_text.specs.declared.errors.LineError.{LineError}
 use Rattle.roman_library.specs.Library.{PlainLibrary}
 use Rattle.roman_session.specs.declared.phase.Phase.TheVariants.{Idle, Offered, Delegated}
-use Rattle.roman_hearing.specs.Afresh.{afresh}
-use Rattle.roman_hearing.specs.States.{State, start_state, IsState}
-use Rattle.roman_hearing.specs.Turns.{TurnsInto}
-use Rattle.roman_hearing.specs.Words.{OffersServing}
+use Rattle.roman_session.specs.Afresh.{afresh}
+use Rattle.roman_session.specs.States.{State, start_state, IsState}
+use Rattle.roman_session.specs.Turns.{TurnsInto}
+use Rattle.roman_session.specs.Words.{OffersServing}
 use Rattle.roman_top.specs.HeadlineTurns.{Turn, AreTurns}
 use Rattle.roman_turn_laws.specs.Alike.{DifferInStarts}
 

@@ -1,13 +1,14 @@
 //! The replies to lines.
-ghost use Rattle.std.specs.Prelude.{◌≡◌, ◌++◌, Ok, IsFalse, IfOk};
+ghost use Rattle.std.specs.Prelude.{◌≡◌, ◌++◌, Ok, IfOk};
 ghost use Rattle.roman_io.specs.Faults.{HasCause};
 ghost use Rattle.roman_text.specs.Pages.{Gathers};
 ghost use Rattle.roman_model.specs.Explanation.{explain_text};
-ghost use Rattle.roman_model.specs.Offers.{is_related};
 ghost use Rattle.roman_joint.specs.Names.{names_in};
 ghost use Rattle.roman_text.specs.Shapes.{explain, shape_of_event};
 ghost use Rattle.roman_session.specs.Situations.{present_system, IsPhase};
-ghost use Rattle.roman_session.specs.Answering.{Answered, AnsweredOn, DoneOn, NamesSome, SeenStaysRelated, next_after, next_of};
+ghost use Rattle.roman_session.specs.States.{IsGreat};
+ghost use Rattle.roman_session.specs.Steps.{shown};
+ghost use Rattle.roman_session.specs.Answering.{Answered, AnsweredOn, DoneOn, NamesSome, SeenStaysGreat, next_after, next_of};
 
 use super::Session;
 use crate::next::Next;
@@ -44,8 +45,8 @@ impl Session {
         ensures cause { HasCause (O.faults out.old) (O.faults out.new) result }
 
         // An `offer` names a service, and after a possible outcome the current pair is related.
-        ensures offered { NamesSome self.old line.now }
-        ensures related { SeenStaysRelated self.old line.now self.new }
+        ensures offered { NamesSome self.old }
+        ensures related { SeenStaysGreat self.old line.now self.new }
         ensures phase { IsPhase self.new self.new.phase }
     {
         self.known(); // the situation is well formed
@@ -105,7 +106,10 @@ impl Session {
             Event::Abort => self.answer_abort(page, out),
             Event::Jump { service, state } => self.answer_jump(service, state, page, out),
             Event::JumpEnv(env) => self.answer_jump_env(env, page, out),
-            Event::Report => self.push_report(page, out),
+            Event::Report => {
+                self.known(); // the situation is well formed
+                self.push_report(page, out)
+            }
             Event::Quit => page.push_reply(&Reply::Bye, out),
             Event::Freeze(service) => self.answer_freeze(service, page, out, steps),
             Event::Thaw(service) => self.answer_thaw(service, page, out, steps),
@@ -122,7 +126,7 @@ impl Session {
 
     /// Answers `explain`. Pushes a refusal on the page. Writes an explanation to the sink, after the
     /// bytes that the page held.
-    #[tactic(auto, using(crate::proofs::AnswerLemmas::done), unfolding(crate::specs::Rulings::unexplained))]
+    #[tactic(auto, using(crate::proofs::AnswerLemmas::done))]
     fn answer_question<O: Sink, L: Ledger>(
         &mut self,
         page: &mut Page,
@@ -132,7 +136,8 @@ impl Session {
         ensures step { DoneOn self.old explain self.new (O.written out.old) (O.written out.new) page.old page.new result }
         ensures cause { HasCause (O.faults out.old) (O.faults out.new) result }
     {
-        if self.composes() {
+        self.known(); // the situation is well formed
+        if self.is_great() {
             return page.push_reply(&Reply::ErrorRelated, out);
         }
         self.explain(page, out, steps)
@@ -146,7 +151,7 @@ impl Session {
         out: &mut O,
         steps: &mut Steps<L>,
     ) -> Result<(), Failed>
-        requires { IsFalse (is_related (present_system self.old) self.old.here) }
+        requires { IsGreat (shown self.old) → ⊥ }
         ensures gathers { let s = self.old in
             Gathers (O.written out.old) (O.written out.new) page.new (page.old ++ explain_text (present_system s) (names_in s.parts) s.list s.here) result }
         ensures stays { self.new ≡ self.old }

@@ -3,9 +3,7 @@ ghost use Rattle.std.specs.Prelude.{◌≡◌};
 ghost use Rattle.roman_io.specs.Faults.{HasCause};
 ghost use Rattle.roman_text.specs.Replies.{reply_text};
 ghost use Rattle.roman_text.specs.Shapes.{freeze, thaw, die, join};
-ghost use Rattle.roman_session.specs.Rulings.{with_room};
-ghost use Rattle.roman_session.specs.Joins.{CanJoin};
-ghost use Rattle.roman_session.specs.Steps.{Does, Joins};
+ghost use Rattle.roman_session.specs.Rules.{AddsService, IsNewcomer};
 ghost use Rattle.roman_session.specs.Answering.{DoneOn};
 
 use super::{Session, number_of};
@@ -39,7 +37,7 @@ impl Session {
         ensures step { DoneOn self.old (freeze service.now) self.new (O.written out.old) (O.written out.new) page.old page.new result }
         ensures cause { HasCause (O.faults out.old) (O.faults out.new) result }
     {
-        let k = match self.frozen(service) {
+        let k = match self.check_freeze(service) {
             Ok(k) => k,
             Err(refusal) => return page.push_reply(&refusal, out),
         };
@@ -59,7 +57,7 @@ impl Session {
         ensures step { DoneOn self.old (thaw service.now) self.new (O.written out.old) (O.written out.new) page.old page.new result }
         ensures cause { HasCause (O.faults out.old) (O.faults out.new) result }
     {
-        let k = match self.thawed(service) {
+        let k = match self.check_thaw(service) {
             Ok(k) => k,
             Err(refusal) => return page.push_reply(&refusal, out),
         };
@@ -79,7 +77,7 @@ impl Session {
         ensures step { DoneOn self.old (die service.now) self.new (O.written out.old) (O.written out.new) page.old page.new result }
         ensures cause { HasCause (O.faults out.old) (O.faults out.new) result }
     {
-        let k = match self.died(service) {
+        let k = match self.check_die(service) {
             Ok(k) => k,
             Err(refusal) => return page.push_reply(&refusal, out),
         };
@@ -92,7 +90,6 @@ impl Session {
 
     /// Answers `join S B STATE` or `join S B STATE loose`, and pushes the reply on a page. A refusal
     /// changes nothing.
-    #[tactic(auto, using(crate::proofs::AnswerLemmas::done, crate::proofs::RulingLemmas::joining_idle))]
     pub(super) fn answer_join<O: Sink, L: Ledger>(
         &mut self,
         service: &[u8],
@@ -106,7 +103,7 @@ impl Session {
         ensures step { DoneOn self.old (join service.now behaviour.now state.now loose) self.new (O.written out.old) (O.written out.new) page.old page.new result }
         ensures cause { HasCause (O.faults out.old) (O.faults out.new) result }
     {
-        let joining = match self.joining(service, behaviour, state, loose) {
+        let joining = match self.check_join(service, behaviour, state, loose) {
             Ok(joining) => joining,
             Err(refusal) => return page.push_reply(&refusal, out),
         };
@@ -117,8 +114,8 @@ impl Session {
     /// the phase `Idle`.
     fn join_seat<L: Ledger>(&mut self, joining: Joining, steps: &mut Steps<L>) -> Reply
         requires idle { self.old.phase ≡ Phase.Idle }
-        requires can { CanJoin self.old.parts joining }
-        ensures { Does Joins self.old (with_room self.old joining) (reply_text result) self.new }
+        requires can { IsNewcomer self.old.parts joining }
+        ensures { AddsService self.old joining (reply_text result) self.new }
     {
         match join(&mut self.relation, joining.seat, steps) {
             Ok(tally) => {

@@ -21,7 +21,7 @@ impl Session {
         ensures step { DoneOn self.old (jump service.now state.now) self.new (O.written out.old) (O.written out.new) page.old page.new result }
         ensures cause { HasCause (O.faults out.old) (O.faults out.new) result }
     {
-        let Jump { seat, state } = match self.jumped(service, state) {
+        let Jump { seat, state } = match self.check_jump(service, state) {
             Ok(jump) => jump,
             Err(refusal) => return page.push_reply(&refusal, out),
         };
@@ -30,7 +30,6 @@ impl Session {
     }
 
     /// Answers `jumpenv E`, and pushes the reply on a page. A refusal changes nothing.
-    #[tactic(auto, using(crate::proofs::AnswerLemmas::done, crate::proofs::RulingLemmas::env_jumped_is))]
     pub(super) fn answer_jump_env<O: Sink>(
         &mut self,
         env: &[u8],
@@ -40,7 +39,7 @@ impl Session {
         ensures step { DoneOn self.old (jump_env env.now) self.new (O.written out.old) (O.written out.new) page.old page.new result }
         ensures cause { HasCause (O.faults out.old) (O.faults out.new) result }
     {
-        let env = match self.env_jumped(env) {
+        let env = match self.check_jump_env(env) {
             Ok(env) => env,
             Err(refusal) => return page.push_reply(&refusal, out),
         };

@@ -1,7 +1,9 @@
 //! Looks up names.
-ghost use Rattle.std.specs.Prelude.{◌≡◌, ◌<◌, ◌≤◌, length, IfOk, IfSome, slice_get};
+ghost use Rattle.std.specs.Prelude.{◌<◌, ◌≤◌, map, length, IfOk, IfSome, slice_get};
+ghost use Rattle.roman_model.specs.Explanation.{seat_names};
+ghost use Rattle.roman_joint.specs.Names.{seat_name, names_in};
 ghost use Rattle.roman_session.specs.Situations.{present_system};
-ghost use Rattle.roman_session.specs.Rulings.{named, service_named, state_named};
+ghost use Rattle.roman_session.specs.Rules.{FindsPlace};
 
 use super::Session;
 use roman_read::NameTable;
@@ -10,7 +12,7 @@ use roman_text::Reply;
 /// Returns the number of a name in the table, or `ErrorName` if the table lacks it.
 pub(super) fn place(names: &NameTable, name: &[u8]) -> Result<u8, Reply>
     requires { length names.now ≤ 64 }
-    ensures place { result ≡ named names.now name.now }
+    ensures finds { FindsPlace names.now name.now result }
     ensures within { IfOk result (λ i. i < length names.now) }
 {
     match names.find(name) {
@@ -23,7 +25,7 @@ impl Session {
     /// Returns the number of the environment state with this name, or `ErrorName` if there is
     /// none.
     pub(super) fn env_place(&self, name: &[u8]) -> Result<u8, Reply>
-        ensures place { result ≡ named self.now.parts.environment.states name.now }
+        ensures finds { FindsPlace self.now.parts.environment.states name.now result }
         ensures within { IfOk result (λ e. e < (present_system self.now).env.states) }
     {
         place(self.joint().environment().states(), name)
@@ -31,7 +33,7 @@ impl Session {
 
     /// Returns the place of the present service with this name, or `ErrorName` if there is none.
     pub(super) fn service_place(&self, name: &[u8]) -> Result<u8, Reply>
-        ensures place { result ≡ service_named self.now name.now }
+        ensures finds { FindsPlace (map seat_name self.now.parts.seats) name.now result }
         ensures within { IfOk result (λ k. k < length self.now.parts.seats) }
     {
         for k in 0..self.joint().seats() {
@@ -46,7 +48,7 @@ impl Session {
     /// if there is none.
     pub(super) fn state_place(&self, k: u8, name: &[u8]) -> Result<u8, Reply>
         requires { k < length self.now.parts.seats }
-        ensures place { result ≡ state_named self.now k name.now }
+        ensures finds { FindsPlace (seat_names (names_in self.now.parts) k).states name.now result }
         ensures within { IfOk result (λ b. IfSome (slice_get (present_system self.now).seats k) (λ seat. b < seat.beh.states)) }
     {
         self.known(); // behaviours are over the environment

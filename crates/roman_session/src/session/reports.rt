@@ -5,8 +5,7 @@ ghost use Rattle.roman_io.specs.Sink.{Puts};
 ghost use Rattle.roman_text.specs.Pages.{Gathers};
 ghost use Rattle.roman_session.specs.Situations.{IsOpen};
 ghost use Rattle.roman_session.specs.Reports.{report_head, services_from, services_and_answer, offer_line, offers_and_end, lines_text, report_text};
-ghost use Rattle.roman_session.specs.Serving.{served_line};
-ghost use Rattle.roman_session.specs.Steps.{offer_text};
+ghost use Rattle.roman_session.specs.Serving.{served_line, offer_text};
 
 use super::Session;
 use crate::phase::Phase;

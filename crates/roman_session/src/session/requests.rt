@@ -22,10 +22,11 @@ impl Session {
         ensures step { DoneOn self.old (ask action.now) self.new (O.written out.old) (O.written out.new) page.old page.new result }
         ensures cause { HasCause (O.faults out.old) (O.faults out.new) result }
     {
-        let a = match self.asked(action) {
+        let a = match self.check_ask(action) {
             Ok(a) => a,
             Err(refusal) => return page.push_reply(&refusal, out),
         };
+        self.known(); // the situation is well formed
         self.offer(a);
         self.push_offered(a, page, out)
     }
@@ -40,7 +41,7 @@ impl Session {
         ensures step { DoneOn self.old (hand service.now) self.new (O.written out.old) (O.written out.new) page.old page.new result }
         ensures cause { HasCause (O.faults out.old) (O.faults out.new) result }
     {
-        let Handing { action, seat } = match self.handed(service) {
+        let Handing { action, seat } = match self.check_hand(service) {
             Ok(handing) => handing,
             Err(refusal) => return page.push_reply(&refusal, out),
         };
@@ -59,7 +60,7 @@ impl Session {
         ensures step { DoneOn self.old abort self.new (O.written out.old) (O.written out.new) page.old page.new result }
         ensures cause { HasCause (O.faults out.old) (O.faults out.new) result }
     {
-        if let Err(refusal) = self.aborted() {
+        if let Err(refusal) = self.check_abort() {
             return page.push_reply(&refusal, out);
         }
         self.set_phase(Phase::Idle);
@@ -77,7 +78,7 @@ impl Session {
         ensures step { DoneOn self.old (saw state.now env.now) self.new (O.written out.old) (O.written out.new) page.old page.new result }
         ensures cause { HasCause (O.faults out.old) (O.faults out.new) result }
     {
-        let sight = match self.seen(state, env) {
+        let sight = match self.check_saw(state, env) {
             Ok(sight) => sight,
             Err(refusal) => return page.push_reply(&refusal, out),
         };

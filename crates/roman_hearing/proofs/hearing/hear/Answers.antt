@@ -22,7 +22,7 @@ returns-then-count-eq0 g c =
       too_long = ends.too_long;
       read_fault = λ is. absurd (ends.untroubled is);
       write_fault = ends.write_fault;
-      prefix = ends.prefix;
+      prefix = λ is behaviours. ends.prefix is (record { behaviours = behaviours; environment = c.names_environment.ensures });
       reads = record { rose = λ is. absurd (ends.untroubled is); stayed = λ is. c.in-Ok.ensures.cause.stays ∙ known.reads };
       writes = search rules;
       taken = gave_pieces _ (g.S.Source.rest c.takes.source) _ known.taken c.take.new.into c.takes.room c.in-Ok.count known.gave moves known.room (omega (arith, known.piece, c.take.auto.into));
@@ -99,7 +99,7 @@ returns-in-Err g c =
       too_long = ends.too_long;
       read_fault = λ is. absurd (ends.untroubled is);
       write_fault = ends.write_fault;
-      prefix = ends.prefix;
+      prefix = λ is behaviours. ends.prefix is (record { behaviours = behaviours; environment = c.names_environment.ensures });
       reads = record { rose = λ is. absurd (ends.untroubled is); stayed = λ is. c.in-Ok.ensures.cause.stays ∙ known.reads };
       writes = search rules;
       taken = gave_pieces _ (g.S.Source.rest c.takes.source) _ known.taken c.take.new.into c.takes.room c.in-Ok.count known.gave moves known.room (omega (arith, known.piece, c.take.auto.into));

@@ -1,4 +1,4 @@
-use Rattle.roman_hearing.proofs.Common.{sym, ap, ◌∙◌, arith, shape_of}
+use Rattle.roman_hearing.proofs.Common.{sym, ap, ◌∙◌, shape_of}
 use Rattle.roman_hearing.proofs.HearingLemmas.{answered_on_alike}
 use Rattle.roman_hearing.proofs.hearing.hear_line.Goals as goal
 

@@ -1,6 +1,6 @@
-use Rattle.roman_session.proofs.Common.{◌∙◌, arith}
+use Rattle.roman_session.proofs.Common.{inl, inr, ◌∙◌, arith}
 use Rattle.roman_session.proofs.AnswerLemmas.{done}
-use Rattle.roman_session.proofs.ChangedLemmas.{died_pair, died_now}
+use Rattle.roman_session.proofs.ChangedLemmas.{seat_at, seat_is, died_pair, died_now}
 use Rattle.roman_session.proofs.SituationLemmas.{state_there}
 use Rattle.roman_session.proofs.session.Session.answer_die.Goals as goal
 
@@ -15,18 +15,22 @@ number_of-self-inside-requires g c =
 
 pub invariant_of-self : goal.invariant_of-self
 invariant_of-self g c =
-    let ruled = c.in-Ok.ensures in
+    let can = c.in-Ok.ensures in
     let made = c.die-tally.ensures in
     let rest = c.remove-state in
     let died =
-    died_now _ _ _ rest.new.self _ _ _ _ _ _ c.self.invariant c.self.view_is ruled.died ruled.within made.joint made.repaired c.known.ensures rest.ensures.items c.deref.ensures.value c.number_of-self-inside.ensures rest.ensures.capacity c.kept.ensures in
+    died_now _ _ _ rest.new.self _ _ _ _ _ c.self.invariant c.self.view_is can.checks.idle can.within made.joint made.repaired c.known.ensures rest.ensures.items c.deref.ensures.value c.number_of-self-inside.ensures rest.ensures.capacity c.kept.ensures in
     died.session
 
 pub returns-clause-step : goal.returns-clause-step
 returns-clause-step g c =
-    let ruled = c.in-Ok.ensures in
-    let made = c.die-tally.ensures in
+    let s = c.args.self.now in
+    let k = c.in-Ok.k in
+    let can = c.in-Ok.ensures in
+    let tally = c.die-tally.ensures in
     let rest = c.remove-state in
     let died =
-    died_now _ _ _ rest.new.self _ _ _ _ _ _ c.self.invariant c.self.view_is ruled.died ruled.within made.joint made.repaired c.known.ensures rest.ensures.items c.deref.ensures.value c.number_of-self-inside.ensures rest.ensures.capacity c.kept.ensures in
-    done _ _ _ _ _ _ _ _ _ c.push_reply-2.ensures.gathers died.step
+    died_now _ _ _ rest.new.self _ _ _ _ _ c.self.invariant c.self.view_is can.checks.idle can.within tally.joint tally.repaired c.known.ensures rest.ensures.items c.deref.ensures.value c.number_of-self-inside.ensures rest.ensures.capacity c.kept.ensures in
+    let made = died.made in
+    done _ _ _ _ _ _ _ _ _ c.push_reply-2.ensures.gathers
+    (inl ((k, can.checks.at), inl (can.checks.idle, (made.counts, made.becomes))), inr (k, can.checks.at, (seat_at s k, seat_is s k can.within, made.repair)))

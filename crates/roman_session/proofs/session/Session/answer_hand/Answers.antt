@@ -1,20 +1,17 @@
-use Rattle.roman_session.proofs.Common.{ℕ, ◌++◌, List, Result, codes, sym, ap, subst, Reply, offers, present_system, Does, Handing, with_newline, number_listed, Hands}
+use Rattle.roman_session.proofs.Common.{◌≡◌, ℕ, ◌++◌, List, codes, inl, sym, ap, ◌∙◌, with_newline, same_Some, Situation, shown}
 use Rattle.roman_session.proofs.AnswerLemmas.{done}
-use Rattle.roman_session.proofs.RulingLemmas.{handed_is}
-use Rattle.roman_session.proofs.SituationLemmas.{offered_open, service_named_at}
+use Rattle.roman_session.proofs.RuleLemmas.{hand_opens}
+use Rattle.roman_session.proofs.SituationLemmas.{name_there}
 use Rattle.roman_session.proofs.session.Session.answer_hand.Goals as goal
 
 pub set_phase-requires-clause-phase : goal.set_phase-requires-clause-phase
-set_phase-requires-clause-phase g c =
-    let s = c.args.self.now in
-    let x = c.in-Ok.handing in
-    let handed = handed_is s c.args.service.now x (sym c.in-Ok.ensures.handed) in
-    (offered_open s x.action c.known.ensures handed.phase, number_listed (offers (present_system s) s.here x.action) x.seat handed.offered)
+set_phase-requires-clause-phase g c = hand_opens _ _ _ c.known.ensures c.in-Ok.ensures.checks.asked c.in-Ok.ensures.checks.serves c.in-Ok.ensures.seat
 
 pub returns-clause-step : goal.returns-clause-step
 returns-clause-step g c =
     let s = c.args.self.now in
-    let name = service_named_at c.joint.result.now s c.in-Ok.handing.seat c.seat.result.now c.joint.ensures c.seat.ensures in
-    let hands = subst (λ (r : Result Handing Reply). Does Hands s r (with_newline (codes "using " ++ c.seat.result.now.name)) c.set_phase.new.self) c.in-Ok.ensures.handed
-    (ap (λ (name : List ℕ). with_newline (codes "using " ++ name)) name, c.set_phase.ensures) in
-    done _ _ _ _ _ _ _ _ _ c.push_using-pushed.ensures.gathers hands
+    let x = c.in-Ok.handing in
+    let can = c.in-Ok.ensures.checks in
+    let name : c.seat.result.now.name ≡ c.args.service.now = same_Some _ _ (sym (name_there c.joint.result.now s x.seat c.seat.result.now c.joint.ensures c.seat.ensures) ∙ can.at) in
+    done _ _ _ _ _ _ _ _ _ c.push_using-pushed.ensures.gathers
+    (inl ((x.seat, can.at), inl ((x.action, can.asked), inl (can.serves, (ap (λ (name : List ℕ). with_newline (codes "using " ++ name)) name, ap shown c.set_phase.ensures)))), ap (λ (s : Situation). s.list) c.set_phase.ensures)

@@ -1,6 +1,8 @@
-use Rattle.roman_session.proofs.Common.{ℕ, List, IsTrue, slice_get, slice_set, sym, subst, is_allowed, is_ready, Situation, present_system, HasMoved, situation_in, SStep}
+use Rattle.roman_session.proofs.AnswerLemmas.{done}
+use Rattle.roman_session.proofs.RuleLemmas.{sees, sees_never, sees_moved}
+use Rattle.roman_session.proofs.Common.{ℕ, List, IsTrue, slice_get, slice_set, sym, ap, refl, subst, is_allowed, is_ready, Situation, present_system, situation_in, SStep, rules}
 use Rattle.roman_session.proofs.SituationLemmas.{delegate_ready, offered_within}
-use Rattle.roman_session.proofs.StepLemmas.{moved_pair}
+use Rattle.roman_session.proofs.StepLemmas.{HasMoved, moved_pair}
 use Rattle.roman_session.proofs.session.Session.answer_sight.Goals as goal
 
 pub next_target-requires-clause-allowed : goal.next_target-requires-clause-allowed
@@ -25,3 +27,11 @@ move_to-requires-clause-pair g c =
 
 pub move_to-requires-clause-seat : goal.move_to-requires-clause-seat
 move_to-requires-clause-seat g c = offered_within _ _ _ c.known.ensures c.in-Ok.ensures.phase.1
+
+pub returns-in_default-clause-step : goal.returns-in_default-clause-step
+returns-in_default-clause-step g c =
+    done _ _ _ _ _ _ _ _ _ c.push_reply-in_default.ensures.gathers (sees _ _ _ _ _ _ c.in-Ok.ensures.checks (sees_never c.self.inside c.args.self.now c.in-Ok.sight _ _ c.self.view_is c.deref.ensures.value c.in_default.ensures.none) refl)
+
+pub returns-clause-step : goal.returns-clause-step
+returns-clause-step g c =
+    done _ _ _ _ _ _ _ _ _ c.push_now.ensures.gathers (sees _ _ _ _ _ _ c.in-Ok.ensures.checks (sees_moved c.self.inside c.args.self.now _ c.in-Ok.sight c.in-Some.to _ _ _ c.self.view_is c.deref.ensures.value c.in-Some.ensures.moves c.move_to.ensures (search rules)) (ap (λ (s : Situation). s.list) c.move_to.ensures))

@@ -1,6 +1,5 @@
-use Rattle.roman_session.proofs.Common.{◌≤◌, Err, vec_capacity, ap, sym, ◌∙◌, subst, arith, Situation, CanJoin, situation_in, NamedSys}
-use Rattle.roman_session.proofs.RulingLemmas.{cells_with}
-use Rattle.roman_session.proofs.ChangedLemmas.{moved_fields, joined_pair, joined_now, has_place, has_room, is_within, joins_by, limit_by}
+use Rattle.roman_session.proofs.Common.{◌≤◌, Err, vec_capacity, ap, sym, ◌∙◌, subst, arith, Situation, IsNewcomer, NamedSys}
+use Rattle.roman_session.proofs.ChangedLemmas.{moved_fields, joined_pair, joined_now, has_place, has_room, is_within, joins_by, full_by, limit_by}
 use Rattle.roman_session.proofs.SituationLemmas.{parts_shown}
 use Rattle.roman_session.proofs.session.Session.join_seat.Goals as goal
 
@@ -15,7 +14,7 @@ invariant_of-self g c =
     let a = c.self.inside in
     let x = c.args.joining in
     let idle = ap (λ (s : Situation). s.phase) c.self.view_is ∙ c.requires.idle in
-    let can = subst (λ (n : NamedSys). CanJoin n x) (sym (parts_shown a c.args.self.now c.self.view_is)) c.requires.can in
+    let can = subst (λ (n : NamedSys). IsNewcomer n x) (sym (parts_shown a c.args.self.now c.self.view_is)) c.requires.can in
     let made = c.in-Ok.ensures in
     let pushed = c.push_reserved in
     let start = c.number_of-self-inside in
@@ -28,17 +27,21 @@ returns-in-Ok g c =
     let s = c.args.self.now in
     let x = c.args.joining in
     let idle = ap (λ (s : Situation). s.phase) c.self.view_is ∙ c.requires.idle in
-    let can = subst (λ (n : NamedSys). CanJoin n x) (sym (parts_shown a s c.self.view_is)) c.requires.can in
+    let can = subst (λ (n : NamedSys). IsNewcomer n x) (sym (parts_shown a s c.self.view_is)) c.requires.can in
     let made = c.in-Ok.ensures in
     let pushed = c.push_reserved in
     let start = c.number_of-self-inside in
     let room : vec_capacity a.states ≤ vec_capacity pushed.new.self = omega (arith, pushed.ensures.capacity) in
     let done = joined_now a c.join.new.relation pushed.new.self c.deref.result.now start.result x c.in-Ok.tally c.self.invariant idle can made.joint made.repaired c.known.ensures pushed.ensures.items c.deref.ensures.value start.ensures room in
     let few = has_place a c.self.invariant (λ full. absurd (cc (made.full.1 full))) in
-    let fits = is_within (cells_with (situation_in a) x) a.relation.joint.limit (λ past. absurd (cc (made.limit.1 (few, past)))) in
+    let fits = is_within _ a.relation.joint.limit (λ past. absurd (cc (made.limit.1 (few, past)))) in
     joins_by a (moved_fields a c.join.new.relation pushed.new.self start.result) s x c.in-Ok.tally c.kept.result c.self.view_is few fits c.kept.ensures done
 
 pub returns-in-Err-Limit : goal.returns-in-Err-Limit
 returns-in-Err-Limit g c =
     let (few, past) = c.in-Err-Limit.ensures.limit.0 (ap Err c.in-Err-Limit.field-0-is) in
     limit_by c.self.inside c.join.new.relation c.args.self.now c.args.joining c.self.view_is few past c.in-Err-Limit.ensures.refused.0
+
+pub returns-in-Err-Full : goal.returns-in-Err-Full
+returns-in-Err-Full g c =
+    full_by c.self.inside c.join.new.relation c.args.self.now c.args.joining c.self.view_is (c.in-Err-Full.ensures.full.0 (ap Err c.in-Err-Full.field-0-is)) c.in-Err-Full.ensures.refused.0

@@ -1,4 +1,4 @@
-use Rattle.roman_session.proofs.Common.{ℕ, ◌<◌, List, Option, IfSome, length, slice_get, sym, ap, ◌∙◌, subst, arith, Beh, NamedSys, IsSeatBehaviour, behaves, present_system, named, IfOk-weaker, seat_in}
+use Rattle.roman_session.proofs.Common.{ℕ, ◌<◌, List, Option, IfSome, length, slice_get, sym, ap, ◌∙◌, subst, arith, Beh, NamedSys, IsSeatBehaviour, behaves, present_system, FindsPlace, IfOk-weaker, seat_in}
 use Rattle.roman_model.specs.System.{Seat}
 use Rattle.roman_session.proofs.SituationLemmas.{states_named}
 use Rattle.roman_session.proofs.session.Session.state_place.Goals as goal
@@ -10,11 +10,11 @@ place-requires c =
     let seat = is.parts.system.seats of.seat (seat_in (present_system c.args.self.now).seats c.args.k of.seat of.seated) in
     omega (arith, seat.states.1, ap (λ (b : Beh). b.states) of.is, c.states.ensures.count, ap length c.states.ensures.names)
 
-pub returns-clause-place : goal.returns-clause-place
-returns-clause-place c =
+pub returns-clause-finds : goal.returns-clause-finds
+returns-clause-finds c =
     let beh = c.behaviour.result.now in
     let of = subst (λ (n : NamedSys). IsSeatBehaviour n c.args.k beh) c.joint.ensures c.behaviour.ensures in
-    c.place.ensures.place ∙ ap (λ (names : List (List ℕ)). named names c.args.name.now) (c.states.ensures.names ∙ sym (states_named c.args.self.now.parts c.args.k beh of))
+    subst (λ (names : List (List ℕ)). FindsPlace names c.args.name.now c.place.result) (c.states.ensures.names ∙ sym (states_named c.args.self.now.parts c.args.k beh of)) c.place.ensures.finds
 
 pub returns-clause-within : goal.returns-clause-within
 returns-clause-within c =
